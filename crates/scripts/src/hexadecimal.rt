@@ -1,0 +1,54 @@
+//! Bytes as hexadecimal digits.
+
+ghost use Rattle.std.specs.Prelude.{◌<◌};
+
+use hex::FromHexError;
+use std::alloc::{AllocError, Global};
+
+/// The bytes that a word spells: an even number of lower-case hexadecimal digits, or `-` for no
+/// bytes. `None` for any other word.
+pub fn bytes_of(alloc: Global, word: &[u8]) -> Result<Option<Vec<u8>>, AllocError> {
+    match word {
+        [] => Ok(None),
+        [b'-'] => Ok(Some(Vec::new(alloc))),
+        _ if !is_lower_hex(word) => Ok(None),
+        _ => match hex::decode(alloc, word) {
+            Ok(bytes) => Ok(Some(bytes)),
+            Err(FromHexError::OutOfMemory) => Err(AllocError),
+            Err(_) => Ok(None),
+        },
+    }
+}
+
+/// Whether there are lower-case hexadecimal digits alone.
+pub(crate) fn is_lower_hex(word: &[u8]) -> bool {
+    word.iter()
+        .all(|byte| matches!(*byte, b'0'..=b'9' | b'a'..=b'f'))
+}
+
+/// Adds the bytes as lower-case hexadecimal digits.
+pub(crate) fn push_hex(text: &mut String, bytes: &[u8]) -> Result<(), AllocError> {
+    for byte in bytes {
+        text.push(digit(*byte / 16))?;
+        text.push(digit(*byte % 16))?;
+    }
+    Ok(())
+}
+
+fn digit(value: u8) -> char
+    requires { value < 16 }
+{
+    if value < 10 {
+        char::from(b'0' + value)
+    } else {
+        char::from(b'a' + (value - 10))
+    }
+}
+
+/// Adds letters and digits as they are.
+pub(crate) fn push_plain(text: &mut String, bytes: &[u8]) -> Result<(), AllocError> {
+    for byte in bytes {
+        text.push(char::from(*byte))?;
+    }
+    Ok(())
+}

@@ -1,0 +1,56 @@
+//! Numbers.
+
+ghost use Rattle.std.specs.Prelude.{◌≡◌, ◌<◌, ◌^◌, ◌+◌, ◌-◌, ◌*◌, ◌↔◌, IsSome, IfSome};
+ghost use Rattle.std.specs.List.{AllByRecursion};
+ghost use Rattle.scripts.specs.Numbers.{decimal, decimal_from, IsDecimal, IsDigit};
+
+/// The number that a word spells: decimal digits without leading zeros, 0 itself excepted. `None`
+/// for any other word, and for a number of 2^64 or above.
+pub fn number_of(word: &[u8]) -> Option<u64>
+    ensures exactly { IsSome result ↔ IsDecimal word.now × (decimal word.now < 2 ^ 64) }
+    ensures some { IfSome result (λ n. n ≡ decimal word.now) }
+{
+    match word {
+        [] => None,
+        [b'0', _, ..] => None,
+        _ => digits_from(0, word),
+    }
+}
+
+/// The same below 2^32.
+pub fn counter_of(word: &[u8]) -> Option<u32>
+    ensures exactly { IsSome result ↔ IsDecimal word.now × (decimal word.now < 2 ^ 32) }
+    ensures some { IfSome result (λ n. n ≡ decimal word.now) }
+{
+    let number = number_of(word)?;
+    if number > u64::from(u32::MAX) {
+        return None;
+    }
+    Some(number as u32)
+}
+
+// The number that digits spell behind a number.
+#[tactic(auto, using(crate::proofs::NumberLaws::grows))]
+fn digits_from(number: u64, digits: &[u8]) -> Option<u64>
+    ensures exactly { IsSome result ↔ AllByRecursion IsDigit digits.now × (decimal_from number digits.now < 2 ^ 64) }
+    ensures some { IfSome result (λ n. n ≡ decimal_from number digits.now) }
+{
+    match digits {
+        [] => Some(number),
+        [digit, rest @ ..] => match with_digit(number, *digit) {
+            None => None,
+            Some(number) => digits_from(number, rest),
+        },
+    }
+}
+
+// The number that one digit behind a number makes.
+fn with_digit(number: u64, digit: u8) -> Option<u64>
+    ensures exactly { IsSome result ↔ IsDigit digit × (number * 10 + (digit - 48) < 2 ^ 64) }
+    ensures some { IfSome result (λ n. n ≡ number * 10 + (digit - 48)) }
+{
+    if !digit.is_ascii_digit() {
+        return None;
+    }
+    number.checked_mul(10)?.checked_add(u64::from(digit - b'0'))
+}

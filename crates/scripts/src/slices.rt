@@ -1,0 +1,102 @@
+//! Slices.
+
+ghost use Rattle.std.specs.Prelude.{◌≤◌, length, IfOk, IfSome};
+
+use crate::name::{name_of, push_name};
+use crate::number::number_of;
+use crate::splitting::plain_front;
+use std::alloc::{AllocError, Global};
+use types::{MAX_INNER_LEVELS, MAX_MEMBERS, Member, Nested, SliceSet};
+
+/// The slices that a word spells, as `2[B,1[C,D],2[E,F]]`: a threshold, and in brackets the members,
+/// each a name or again slices. `None` for any other word, and for slices that break a rule.
+pub fn slices_of(alloc: Global, word: &[u8]) -> Result<Option<Nested>, AllocError> {
+    match set_at(alloc, MAX_INNER_LEVELS, word)? {
+        Some((set, [])) => Nested::new(alloc, set),
+        _ => Ok(None),
+    }
+}
+
+// The set at the front of a text, with no more levels of inner sets than so many, and the rest.
+#[cycle(reading)]
+fn set_at(
+    alloc: Global,
+    levels: usize,
+    text: &[u8],
+) -> Result<Option<(SliceSet, &[u8])>, AllocError>
+    ensures { IfOk result (λ o. IfSome o (λ r. length r.1.now ≤ length text.now)) }
+{
+    let Some((threshold, mut rest)) = threshold_at(text) else {
+        return Ok(None);
+    };
+    let mut members = Vec::new(alloc);
+    while members.len() < MAX_MEMBERS {
+        let Some((member, after)) = member_at(alloc, levels, rest)? else {
+            return Ok(None);
+        };
+        members.push(member)?;
+        match after {
+            [b',', more @ ..] => rest = more,
+            [b']', more @ ..] => return Ok(Some((SliceSet::new(threshold, members), more))),
+            _ => return Ok(None),
+        }
+    }
+    Ok(None)
+}
+
+// The threshold at the front of a text, and what stands behind its bracket.
+fn threshold_at(text: &[u8]) -> Option<(u8, &[u8])>
+    ensures { IfSome result (λ r. length r.1.now ≤ length text.now) }
+{
+    let (digits, rest) = plain_front(text);
+    let threshold = u8::try_from(number_of(digits)?).ok()?;
+    match rest {
+        [b'[', rest @ ..] => Some((threshold, rest)),
+        _ => None,
+    }
+}
+
+// The member at the front of a text, and the rest.
+#[cycle(reading)]
+fn member_at(
+    alloc: Global,
+    levels: usize,
+    text: &[u8],
+) -> Result<Option<(Member, &[u8])>, AllocError>
+    ensures { IfOk result (λ o. IfSome o (λ r. length r.1.now ≤ length text.now)) }
+{
+    let (word, rest) = plain_front(text);
+    match rest {
+        [b'[', ..] if levels > 0 => match set_at(alloc, levels - 1, text)? {
+            Some((set, rest)) => Ok(Some((Member::Set(set), rest))),
+            None => Ok(None),
+        },
+        _ => match name_of(word) {
+            Some(name) => Ok(Some((Member::Node(name), rest))),
+            None => Ok(None),
+        },
+    }
+}
+
+/// Adds the slices. Where memory is wanting, a part may have been added.
+pub fn push_slices(text: &mut String, slices: &Nested) -> Result<(), AllocError> {
+    push_set(text, slices.set())
+}
+
+fn push_set(text: &mut String, set: &SliceSet) -> Result<(), AllocError> {
+    let threshold = set.threshold();
+    write!(text, "{threshold}[")?;
+    let members = set.members();
+    let mut first = true;
+    for member in members {
+        if !first {
+            text.push(',')?;
+        }
+        first = false;
+        match member {
+            Member::Node(name) => push_name(text, name)?,
+            Member::Set(inner) => push_set(text, inner)?,
+        }
+    }
+    text.push(']')
+}

@@ -1,0 +1,6 @@
+pub mod Bools
+pub mod Written
+pub mod StatementRules
+pub mod Weights
+pub mod NestedRules
+pub mod VoteLaws

@@ -1,0 +1,32 @@
+-- Values, and the sets of them that a nomination has.
+use Rattle.std.specs.Prelude.{◌≡◌, ℕ, ◌<◌, ◌≤◌, Bool, true, ◌&&◌, nat_le, List, [], ◌∷◌, length}
+use Rattle.std.specs.Ordering.{is_lt}
+use Rattle.std.specs.declared.cmp.Ordering.TheVariants.{Less}
+use Rattle.types.specs.Orders.{bytes_cmp}
+
+-- one to 256 bytes
+abbrev pub IsValue : List ℕ → Type 0
+IsValue v = (0 < length v) × (length v ≤ 256)
+
+-- each value is below the next
+abbrev pub Ascending : List (List ℕ) → Type 0
+Ascending [] = Unit {0}
+Ascending (x ∷ []) = Unit {0}
+Ascending (x ∷ y ∷ ys) = (bytes_cmp x y ≡ Less) × Ascending (y ∷ ys)
+
+abbrev pub most_nominated : ℕ
+most_nominated = 16
+
+-- one set of a nomination
+pub record IsNominationSet (xs : List (List ℕ)) : Type 0 where
+  pub few : length xs ≤ most_nominated
+  pub ascending : Ascending xs
+
+-- ---- the same as tests
+abbrev pub is_ascending : List (List ℕ) → Bool
+is_ascending [] = true
+is_ascending (x ∷ []) = true
+is_ascending (x ∷ y ∷ ys) = is_lt (bytes_cmp x y) && is_ascending (y ∷ ys)
+
+abbrev pub is_nomination_set : List (List ℕ) → Bool
+is_nomination_set xs = nat_le (length xs) most_nominated && is_ascending xs

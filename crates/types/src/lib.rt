@@ -1,0 +1,22 @@
+//! The subject's own types: names of nodes, values, ballots, slices, statements and envelopes, each
+//! well formed by construction. Everything else stands on this crate, and it stands on nothing.
+#![tactic(auto)]
+
+mod ballot;
+mod envelope;
+mod kind;
+mod nested;
+mod node_id;
+mod statement;
+mod value;
+mod values;
+mod votes;
+
+pub use ballot::Ballot;
+pub use envelope::Envelope;
+pub use kind::Kind;
+pub use nested::{MAX_INNER_LEVELS, MAX_MEMBERS, MAX_NAMES, Member, Nested, SliceSet};
+pub use node_id::NodeId;
+pub use statement::Statement;
+pub use value::{MAX_VALUE_LENGTH, Value};
+pub use values::{MAX_NOMINATED, Values};

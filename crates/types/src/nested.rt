@@ -1,0 +1,222 @@
+//! Slices: a threshold over names and inner sets.
+
+ghost use Rattle.std.specs.Prelude.{◌≡◌, ◌++◌, ◌&&◌, ◌==◌, IfOk, OnOk, IfSome, IsSome, ◌↔◌};
+ghost use Rattle.std.specs.List.{AllByRecursion, list_any};
+ghost use Rattle.types.specs.Trees.{Slices, names_in, IsName, IsNested, has_threshold, is_shaped, all_differ};
+ghost use Rattle.types.specs.Shape.{members_of};
+
+use crate::node_id::NodeId;
+use std::alloc::{AllocError, Global};
+use std::marker::Model;
+
+/// The most members of one set (this host's profile).
+pub const MAX_MEMBERS: usize = 64;
+
+/// The most names in one tree (this host's profile).
+pub const MAX_NAMES: usize = 256;
+
+/// The most levels of inner sets below the outermost one (this host's profile).
+pub const MAX_INNER_LEVELS: usize = 2;
+
+/// One level of slices: a threshold over its members.
+#[cycle(slices)]
+#[derive(Drop)]
+pub struct SliceSet {
+    threshold: u8,
+    members: Vec<Member>,
+}
+
+/// A node, or again a set.
+#[cycle(slices)]
+#[derive(Drop)]
+pub enum Member {
+    Node(NodeId),
+    Set(SliceSet),
+}
+
+impl Model for SliceSet {
+    ghost use Rattle.types.specs.Trees.{Slices, slices_code};
+
+    ghost Value = { Slices };
+
+    ghost coded = { slices_code };
+
+    ghost use Rattle.types.specs.Trees.{weight_of};
+    ghost use Rattle.types.specs.Shape.{members_of};
+
+    ghost view = { λ a. record { threshold = a.threshold; members = members_of a.members.items } };
+
+    ghost size = { λ s. weight_of s.members };
+
+    ghost use Rattle.std.proofs.Common.{arith};
+    ghost use Rattle.types.specs.ShapeFalls.{most_le};
+
+    ghost size_decreases = { λ a h. omega (arith, most_le a.members.items) };
+}
+
+impl SliceSet {
+    /// A threshold over members, with no rule kept.
+    pub fn new(threshold: u8, members: Vec<Member>) -> SliceSet
+        ensures threshold { result.threshold ≡ threshold }
+        ensures members { result.members ≡ members_of members.items }
+    {
+        SliceSet { threshold, members }
+    }
+
+    /// How many members have to agree.
+    pub fn threshold(&self) -> u8
+        ensures { result ≡ self.now.threshold }
+    {
+        self.threshold
+    }
+
+    /// The members, in the order in which they were given.
+    pub fn members(&self) -> &[Member]
+        ensures { members_of result.now ≡ self.now.members }
+    {
+        &self.members
+    }
+}
+
+/// Whether each set of the tree has at most 64 members and a threshold of one to all of them, and
+/// there are no more levels of inner sets than so many.
+fn keeps_shape(set: &SliceSet, levels: usize) -> bool
+    ensures { result ≡ (has_threshold set.now.threshold set.now.members && is_shaped levels set.now.members) }
+{
+    let members = set.members();
+    if !is_threshold(set.threshold(), members) {
+        return false;
+    }
+    for member in members {
+        if let Member::Set(inner) = member {
+            if levels == 0 || !keeps_shape(inner, levels - 1) {
+                return false;
+            }
+        }
+    }
+    true
+}
+
+#[tactic(auto, using(crate::proofs::NestedRules::counted))]
+fn is_threshold(threshold: u8, members: &[Member]) -> bool
+    ensures { result ≡ has_threshold threshold (members_of members.now) }
+{
+    threshold > 0 && threshold as usize <= members.len() && members.len() <= MAX_MEMBERS
+}
+
+/// Adds the names of the tree to a list, in order.
+fn push_names(set: &SliceSet, names: &mut Vec<NodeId>) -> Result<(), AllocError>
+    ensures ok { OnOk result (names.new.items ≡ names.old.items ++ names_in set.now.members) }
+    ensures fit { OnOk result (AllByRecursion IsName (names_in set.now.members)) }
+{
+    let members = set.members();
+    for member in members {
+        match member {
+            Member::Node(node) => {
+                let _words = node.words();
+                names.push(*node)?;
+            }
+            Member::Set(inner) => push_names(inner, names)?,
+        }
+    }
+    Ok(())
+}
+
+/// Whether no name stands twice in the list.
+fn all_differ(names: &[NodeId]) -> bool
+    ensures { result ≡ all_differ names.now }
+{
+    match names {
+        [] => true,
+        [first, rest @ ..] => !has(rest, *first) && all_differ(rest),
+    }
+}
+
+fn has(names: &[NodeId], name: NodeId) -> bool
+    ensures { result ≡ list_any (λ w. w == name) names.now }
+{
+    names.iter().any(|other| *other == name)
+}
+
+/// A copy of a set, with all that stands in it.
+fn copy_of_set(alloc: Global, set: &SliceSet) -> Result<SliceSet, AllocError>
+    ensures { IfOk result (λ s. s ≡ set.now) }
+{
+    let members = set.members();
+    let mut copies = Vec::with_capacity(alloc, members.len())?;
+    for member in members {
+        match member {
+            Member::Node(node) => copies.push(Member::Node(*node))?,
+            Member::Set(inner) => copies.push(Member::Set(copy_of_set(alloc, inner)?))?,
+        }
+    }
+    Ok(SliceSet {
+        threshold: set.threshold(),
+        members: copies,
+    })
+}
+
+/// Slices that keep the rules: at each level at most 64 members and a threshold of one to all of
+/// them, at most two levels of inner sets, at most 256 names, and no name twice in the tree (this
+/// host's profile of the nested slices of the Stellar Consensus Protocol draft).
+#[derive(Drop)]
+pub struct Nested {
+    set: SliceSet,
+}
+
+impl Model for Nested {
+    ghost use Rattle.types.specs.Trees.{Slices, slices_code, IsNested};
+
+    ghost Value = { Slices };
+
+    ghost coded = { slices_code };
+
+    ghost view = { λ a. a.set };
+
+    ghost invariant = { λ a. IsNested a.set };
+}
+
+impl Nested {
+    /// Slices of this set, or `None` where it breaks one of the rules. It takes memory for the list of
+    /// the names.
+    #[tactic(auto, using(crate::proofs::NestedRules::nested, crate::proofs::NestedRules::nested_shape, crate::proofs::NestedRules::nested_names))]
+    pub fn new(alloc: Global, set: SliceSet) -> Result<Option<Nested>, AllocError>
+        ensures exactly { IfOk result (λ o. IsSome o ↔ IsNested set) }
+        ensures some { IfOk result (λ o. IfSome o (λ n. n ≡ set)) }
+    {
+        if !keeps_shape(&set, MAX_INNER_LEVELS) {
+            return Ok(None);
+        }
+        let mut names = Vec::new(alloc);
+        push_names(&set, &mut names)?;
+        if names.len() > MAX_NAMES || !all_differ(&names) {
+            return Ok(None);
+        }
+        Ok(Some(Nested { set }))
+    }
+
+    /// Slices that are known to keep the rules.
+    pub fn of(set: SliceSet) -> Nested
+        requires { IsNested set }
+        ensures { result ≡ set }
+    {
+        Nested { set }
+    }
+
+    /// A copy.
+    pub fn try_copy(&self, alloc: Global) -> Result<Nested, AllocError>
+        ensures { IfOk result (λ n. n ≡ self.now) }
+    {
+        Ok(Nested {
+            set: copy_of_set(alloc, &self.set)?,
+        })
+    }
+
+    /// The outermost set.
+    pub fn set(&self) -> &SliceSet
+        ensures value { result.now ≡ self.now }
+        ensures rules { IsNested self.now }
+    {
+        &self.set
+    }
+}

@@ -1,0 +1,86 @@
+//! A list of values.
+
+ghost use Rattle.std.specs.Prelude.{◌≡◌, ◌++◌, ◌∷◌, [], IfOk, OnOk, OnErr};
+ghost use Rattle.std.specs.List.{AllByRecursion};
+ghost use Rattle.types.specs.Nominations.{IsValue, is_ascending, is_nomination_set};
+
+use crate::value::Value;
+use std::alloc::{AllocError, Global};
+use std::marker::Model;
+
+/// The most values in one set of a nomination (this host's profile).
+pub const MAX_NOMINATED: usize = 16;
+
+/// A list of values, seen by contracts as the list of their bytes.
+#[derive(Debug, Drop)]
+pub struct Values {
+    items: Vec<Value>,
+}
+
+impl Model for Values {
+    ghost use Rattle.std.specs.Prelude.{ℕ, List};
+    ghost use Rattle.std.specs.List.{AllByRecursion};
+    ghost use Rattle.types.specs.Nominations.{IsValue};
+
+    ghost Value = { List (List ℕ) };
+
+    ghost view = { λ a. a.items.items };
+
+    ghost invariant = { λ a. AllByRecursion IsValue a.items.items };
+}
+
+impl Values {
+    /// No values. It takes no memory.
+    pub fn empty(alloc: Global) -> Values
+        ensures { result ≡ [] }
+    {
+        Values {
+            items: Vec::new(alloc),
+        }
+    }
+
+    /// Adds a value at the end. Where memory is wanting the list stays as it was.
+    pub fn push(&mut self, value: Value) -> Result<(), AllocError>
+        ensures ok { OnOk result (self.new ≡ self.old ++ value ∷ []) }
+        ensures err { OnErr result (self.new ≡ self.old) }
+    {
+        self.items.push(value)?;
+        Ok(())
+    }
+
+    /// The values, in their order.
+    pub fn as_slice(&self) -> &[Value]
+        ensures value { result.now ≡ self.now }
+        ensures widths { AllByRecursion IsValue self.now }
+    {
+        &self.items
+    }
+
+    /// A copy.
+    pub fn try_copy(&self, alloc: Global) -> Result<Values, AllocError>
+        ensures { IfOk result (λ v. v ≡ self.now) }
+    {
+        Ok(Values {
+            items: Vec::from_slice(alloc, self.as_slice())?,
+        })
+    }
+
+    /// Whether they are a set of a nomination: at most 16 values, strictly ascending.
+    pub fn is_nomination_set(&self) -> bool
+        ensures { result ≡ is_nomination_set self.now }
+    {
+        self.items.len() <= MAX_NOMINATED && is_ascending(&self.items)
+    }
+}
+
+fn is_ascending(items: &[Value]) -> bool
+    ensures { result ≡ is_ascending items.now }
+{
+    match items {
+        [first, rest @ ..] => match rest {
+            [second, ..] => first < second && is_ascending(rest),
+            [] => true,
+        },
+        [] => true,
+    }
+}
