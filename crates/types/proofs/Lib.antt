@@ -4,3 +4,4 @@ pub mod StatementRules
 pub mod Weights
 pub mod NestedRules
 pub mod VoteLaws
+pub mod NameOrder

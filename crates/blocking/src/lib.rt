@@ -1,0 +1,27 @@
+//! Whether a set of nodes blocks slices: no set apart from it satisfies them, so nothing can be
+//! agreed on against it (Mazières 2015, of v-blocking sets).
+//!
+//! Slices of any kind will do, as long as they keep the laws of [`slices::SliceFamily`].
+#![tactic(auto)]
+
+ghost use Rattle.std.specs.Prelude.{IsTrue, ◌↔◌};
+ghost use Rattle.protocol.specs.Satisfaction.{Blocks};
+ghost use Rattle.protocol.specs.Sets.{IsAscending, among};
+
+use slices::SliceFamily;
+use types::NodeId;
+
+#[cfg(test)]
+mod tests;
+
+/// Whether the nodes block the slices: no set of nodes apart from them satisfies the slices
+/// (Mazières 2015, of v-blocking sets).
+///
+/// The nodes are ascending, none twice; nodes that the slices do not name make no difference. It takes
+/// no memory and changes nothing.
+pub fn blocks<F: SliceFamily>(slices: &F, nodes: &[NodeId]) -> bool
+    requires { IsAscending nodes.now }
+    ensures { IsTrue result ↔ Blocks F.sat slices.now (among nodes.now) }
+{
+    slices.blocked_by(nodes)
+}

@@ -1,0 +1,13 @@
+//! Whom a node may come to depend on: the nodes that its slices name, those that their slices name,
+//! and so on, as far as the rows of a table tell (this host's profile).
+//!
+//! What a node concludes from its table rests on the rows of these nodes alone. Rows of strangers
+//! stay in the table, since their senders may be reached later.
+#![tactic(auto)]
+
+mod of_table;
+mod sweep;
+#[cfg(test)]
+mod tests;
+
+pub use of_table::reach;

@@ -1,0 +1,76 @@
+//! The reach of a node in one table.
+
+ghost use Rattle.std.specs.Prelude.{◌≡◌, ℕ, IfOk, OnOk, option_map, true};
+ghost use Rattle.types.specs.declared.kind.Kind.{Kind};
+ghost use Rattle.protocol.specs.Backing.{slices_by};
+ghost use Rattle.protocol.specs.Quorums.{NamesWithin};
+ghost use Rattle.protocol.specs.Reach.{reached};
+ghost use Rattle.protocol.specs.Rows.{has_single_rows};
+ghost use Rattle.protocol.specs.Satisfaction.{names};
+ghost use Rattle.protocol.specs.Sets.{IsAscending, among};
+ghost use Rattle.closure.specs.Sweeps.{AreNoted, named_by, named_in};
+
+use crate::sweep::Sweep;
+use latest::Table;
+use slices::SliceFamily;
+use std::alloc::{AllocError, Global};
+use types::{Envelope, Kind, Nested, NodeId};
+
+/// All nodes that a node reaches, ascending, none twice: the node itself, the names of its configured
+/// slices, and the names in any row, of either kind, whose sender is reached (this host's profile).
+///
+/// The answer contains all names of its members' slices, so a quorum test may be cut to it. Rows of
+/// nodes that are not reached are not looked at. The table stays as it was, and an error says that
+/// memory is short.
+pub fn reach(
+    alloc: Global,
+    table: &Table,
+    node: &NodeId,
+    slices: &Nested,
+) -> Result<Vec<NodeId>, AllocError>
+    ensures ascending { IfOk result (λ v. IsAscending v.items) }
+    ensures exactly { IfOk result (λ v. (u : ℕ) → among v.items u ≡ reached node.now slices.now table.now u) }
+    ensures closed { IfOk result (λ v. (kind : Kind) → NamesWithin names (slices_by node.now slices.now table.now kind) (among v.items)) }
+{
+    has_one_row_of_each_kind(table);
+    let mut sweep = Sweep::new(alloc);
+    sweep.note(node)?;
+    sweep.note_all(&slices.names(alloc)?)?;
+    while let Some(next) = sweep.take() {
+        note_rows_of(alloc, table, &next, &mut sweep)?;
+    }
+    Ok(sweep.into_nodes())
+}
+
+/// A table has at most one row of each sender and kind: whoever looks up both kinds of a sender has
+/// seen all its rows.
+fn has_one_row_of_each_kind(table: &Table)
+    ensures { has_single_rows table.now ≡ true }
+{
+    table.rows();
+}
+
+/// Notes the names in the rows of a node, of either kind.
+fn note_rows_of(
+    alloc: Global,
+    table: &Table,
+    node: &NodeId,
+    sweep: &mut Sweep,
+) -> Result<(), AllocError>
+    requires { IsAscending sweep.old.found }
+    ensures { OnOk result (AreNoted sweep.old sweep.new (named_by table.now node.now)) }
+{
+    note_row(alloc, table.row(node, Kind::Nomination), sweep)?;
+    note_row(alloc, table.row(node, Kind::Ballot), sweep)
+}
+
+/// Notes the names in a row, if there is one.
+fn note_row(alloc: Global, row: Option<&Envelope>, sweep: &mut Sweep) -> Result<(), AllocError>
+    requires { IsAscending sweep.old.found }
+    ensures { OnOk result (AreNoted sweep.old sweep.new (named_in (option_map (λ r. r.now) row.entry))) }
+{
+    match row {
+        None => Ok(()),
+        Some(row) => sweep.note_all(&row.slices().names(alloc)?),
+    }
+}

@@ -1,0 +1,73 @@
+//! A sweep: nodes are found, and what each of them names is found in turn.
+
+ghost use Rattle.std.specs.Prelude.{◌≡◌, [], OnOk, MatchOption};
+ghost use Rattle.protocol.specs.Sets.{among, IsAscending};
+ghost use Rattle.closure.specs.Sweeps.{AreNoted, IsTaken, just};
+
+use std::alloc::{AllocError, Global};
+use std::marker::Model;
+use types::NodeId;
+
+/// The nodes that were found, and those of them whose rows were not looked at yet.
+#[derive(Drop)]
+pub struct Sweep {
+    found: Vec<NodeId>,
+    pending: Vec<NodeId>,
+}
+
+impl Model for Sweep {
+    ghost use Rattle.closure.specs.Sweeps.{Swept};
+
+    ghost Value = { Swept };
+
+    ghost view = { λ a. record { found = a.found.items; pending = a.pending.items } };
+}
+
+impl Sweep {
+    /// A sweep that has found nothing.
+    pub fn new(alloc: Global) -> Sweep
+        ensures { result ≡ record { found = []; pending = [] } }
+    {
+        Sweep {
+            found: Vec::new(alloc),
+            pending: Vec::new(alloc),
+        }
+    }
+
+    /// Notes a node, which is pending unless it was found before.
+    pub fn note(&mut self, node: &NodeId) -> Result<(), AllocError>
+        requires { IsAscending self.old.found }
+        ensures { OnOk result (AreNoted self.old self.new (just node.now)) }
+    {
+        if let Err(place) = self.found.binary_search(node) {
+            self.found.insert(place, *node)?;
+            self.pending.push(*node)?;
+        }
+        Ok(())
+    }
+
+    /// Notes each of the nodes.
+    pub fn note_all(&mut self, nodes: &[NodeId]) -> Result<(), AllocError>
+        requires { IsAscending self.old.found }
+        ensures { OnOk result (AreNoted self.old self.new (among nodes.now)) }
+    {
+        for node in nodes {
+            self.note(node)?;
+        }
+        Ok(())
+    }
+
+    /// Takes a pending node, if there is one.
+    pub fn take(&mut self) -> Option<NodeId>
+        ensures { MatchOption result ((self.old.pending ≡ []) × (self.new ≡ self.old)) (λ u. IsTaken self.old self.new u) }
+    {
+        self.pending.pop()
+    }
+
+    /// All that was found.
+    pub fn into_nodes(self) -> Vec<NodeId>
+        ensures { result.items ≡ self.found }
+    {
+        self.found
+    }
+}

@@ -1,0 +1,118 @@
+//! Whom a node reaches in small tables.
+
+use crate::reach;
+use latest::Table;
+use std::alloc::Global;
+use std::test::Fail;
+use types::{Ballot, Envelope, Kind, Member, Nested, NodeId, SliceSet, Statement, Value, Values};
+
+const A: u64 = 65;
+
+const B: u64 = 66;
+
+const C: u64 = 67;
+
+const D: u64 = 68;
+
+const Z: u64 = 90;
+
+/// A sender, the kind of its statement, and the one node of its slices.
+type Row = (u64, Kind, u64);
+
+fn name(letter: u64) -> NodeId {
+    NodeId::from_words(letter, 0, 0, 0)
+}
+
+fn slices(alloc: Global, threshold: u8, letters: &[u64]) -> Result<Nested, Fail> {
+    let mut members = Vec::new(alloc);
+    for letter in letters {
+        members.push(Member::Node(name(*letter)))?;
+    }
+    Ok(Nested::new(alloc, SliceSet::new(threshold, members))?.ok_or("slices")?)
+}
+
+fn statement(alloc: Global, kind: Kind) -> Result<Statement, Fail> {
+    let value = Value::new(b"x").ok_or("value")?;
+    if kind == Kind::Ballot {
+        return Ok(Statement::Externalize {
+            commit: Ballot { counter: 1, value },
+            high_counter: 1,
+        });
+    }
+    let mut voted = Values::empty(alloc);
+    voted.push(value)?;
+    Ok(Statement::Nominate {
+        voted,
+        accepted: Values::empty(alloc),
+    })
+}
+
+fn table(alloc: Global, rows: &[Row]) -> Result<Table, Fail> {
+    let mut table = Table::new(alloc);
+    for (sender, kind, named) in rows {
+        let body = statement(alloc, *kind)?;
+        let announced = slices(alloc, 1, &[*named])?;
+        let envelope = Envelope::new(name(*sender), 1, announced, body).ok_or("envelope")?;
+        table.offer(envelope);
+    }
+    Ok(table)
+}
+
+/// The names of these letters, in their order.
+fn names(alloc: Global, letters: &[u64]) -> Result<Vec<NodeId>, Fail> {
+    let mut names = Vec::new(alloc);
+    for letter in letters {
+        names.push(name(*letter))?;
+    }
+    Ok(names)
+}
+
+const RING: [Row; 3] = [
+    (A, Kind::Ballot, B),
+    (B, Kind::Ballot, C),
+    (C, Kind::Ballot, A),
+];
+
+const RING_AND_STRANGER: [Row; 4] = [
+    (Z, Kind::Ballot, A),
+    (A, Kind::Ballot, B),
+    (B, Kind::Ballot, C),
+    (C, Kind::Ballot, A),
+];
+
+#[test]
+fn what_one_name_leads_to(rt: HostRuntime) -> Result<(), Fail> {
+    let alloc = rt.alloc();
+    let cases: [(&[Row], &[u64]); 5] = [
+        (&[], &[A, B]),
+        (&RING, &[A, B, C]),
+        (&RING_AND_STRANGER, &[A, B, C]),
+        (
+            &[(B, Kind::Nomination, C), (B, Kind::Ballot, D)],
+            &[A, B, C, D],
+        ),
+        (
+            &[(C, Kind::Ballot, D), (A, Kind::Nomination, Z)],
+            &[A, B, Z],
+        ),
+    ];
+    for (rows, expected) in cases {
+        let nodes = reach(
+            alloc,
+            &table(alloc, rows)?,
+            &name(A),
+            &slices(alloc, 1, &[B])?,
+        )?;
+        assert_eq!(rt; nodes, names(alloc, expected)?);
+    }
+    Ok(())
+}
+
+#[test]
+fn a_member_leads_to_a_stranger(rt: HostRuntime) -> Result<(), Fail> {
+    let alloc = rt.alloc();
+    let table = table(alloc, &[(D, Kind::Ballot, Z)])?;
+    let nodes = reach(alloc, &table, &name(A), &slices(alloc, 2, &[B, C, D])?)?;
+    assert_eq!(rt; nodes, names(alloc, &[A, B, C, D, Z])?);
+    Ok(())
+}

@@ -1,0 +1,238 @@
+-- The laws of whole envelopes and whole texts.
+use Rattle.std.proofs.Common.{◌≡◌, ◌≢◌, ℕ, ◌<◌, ◌≤◌, Bool, true, false, cond, eqb, ltb, List, [], ◌∷◌, ◌++◌, length, Some, None, Result, Ok, Err, refl, sym, ap, subst, ◌∙◌, append_assoc, arith, inl, inr}
+use Rattle.std.specs.Int.{w64, to_be_bytes}
+use Rattle.std.proofs.lemmas.Bool.{ltb-false, ltb-true, le-ltb, eqb-true}
+use Rattle.std.proofs.lemmas.Bool.Decides.{nat_tests}
+use Rattle.std.proofs.lemmas.List.{append-nil, nil_from_length}
+use Rattle.codec.specs.declared.error.Fault.{Fault}
+use Rattle.codec.specs.declared.error.Fault.TheVariants.{Truncated, TrailingBytes, Version, Kind, Limit}
+use Rattle.types.specs.Trees.{IsName, IsNested}
+use Rattle.types.proofs.StatementRules.{keeps_rules}
+use Rattle.types.specs.declared.statement.Statement.{Statement}
+use Rattle.types.specs.declared.statement.Statement.TheVariants.{Nominate, Prepare, Commit, Externalize}
+use Rattle.types.specs.Statements.{Sent, IsEnvelope, IsWellFormed, HasWidths}
+use Rattle.codec.specs.Formats.{ValidThen, ValidJudged}
+use Rattle.codec.specs.Faults.{version_fault, kind_fault, statement_fault}
+use Rattle.codec.specs.Steps.{◌>>=◌}
+use Rattle.codec.specs.Spelling.{byte, name, slices, body, kind, spelling, Spells, HasOneSpelling}
+use Rattle.codec.specs.Reading.{Fields, sent_of, version_at, kind_at, envelope_at, decoded}
+use Rattle.codec.specs.Grammar.{HasFields, HasKind, IsLong, IsVersion, ShowsVersion, IsKind, ShowsKind, ShowsFault, BreaksOff, IsFault, HasOneAnswer}
+use Rattle.codec.proofs.FieldLaws.{IsBytes, ok_is, bind_ok, passed, passed_true, chosen}
+use Rattle.codec.proofs.FormatLaws.{ValidAs, bind_err, err_is, Laws, Laws-then, Laws-judged, Laws-as, Laws-when, Laws-byte}
+use Rattle.codec.proofs.NameLaws.{Laws-name, Laws-long}
+use Rattle.codec.proofs.TreeLaws.{Laws-slices, never_cut, none_cut}
+use Rattle.codec.proofs.BodyLaws.{Laws-statement, statement_stands, well_formed_stands}
+use Rattle.codec.proofs.Lengths.{spelling_is_short}
+
+-- ---- envelopes
+version_cut : (v : ℕ) → version_fault v ≢ Some Truncated
+version_cut v = cut (eqb v 1)
+  where
+    other : Version ≢ Truncated
+    other e = cc
+
+    cut : (b : Bool) → cond b None (Some Version) ≢ Some Truncated
+    cut true = none_cut
+    cut false = never_cut true Version None other none_cut
+
+Laws-version : Laws version_at byte IsVersion ShowsVersion
+unfolding version_at
+Laws-version = Laws-judged Laws-byte version_fault version_cut
+
+kind_cut : (k : ℕ) → kind_fault k ≢ Some Truncated
+kind_cut k = never_cut (eqb k 0) Kind _ other (never_cut (ltb 4 k) Kind None other none_cut)
+  where
+    other : Kind ≢ Truncated
+    other e = cc
+
+Laws-kind : Laws kind_at byte IsKind ShowsKind
+unfolding kind_at
+Laws-kind = Laws-judged Laws-byte kind_fault kind_cut
+
+abbrev IsFields : Fields → Type 0
+IsFields = ValidThen IsVersion (λ v. ValidThen IsKind (λ k. ValidThen IsName (λ u. ValidThen IsLong (λ n. ValidThen IsNested (λ q. ValidJudged (HasKind k) statement_fault)))))
+
+version_is : (v : ℕ) → IsVersion v → v ≡ 1
+version_is v h = one (eqb v 1) refl h.1
+  where
+    one : (b : Bool) → eqb v 1 ≡ b → cond b None (Some Version) ≡ None → v ≡ 1
+    one true e h = eqb-true v 1 e
+    one false e h = absurd cc
+
+spelled : (x : Fields) → IsFields x → spelling (sent_of x) ≡ (x.0 ∷ []) ++ ((x.1.0 ∷ []) ++ (name x.1.1.0 ++ (to_be_bytes w64 x.1.1.1.0 ++ (slices x.1.1.1.1.0 ++ body x.1.1.1.1.1))))
+spelled x v =
+    let rest = name x.1.1.0 ++ (to_be_bytes w64 x.1.1.1.0 ++ (slices x.1.1.1.1.0 ++ body x.1.1.1.1.1)) in
+    ap (λ (t : List ℕ). 1 ∷ kind x.1.1.1.1.1 ∷ t) (three (name x.1.1.0) (to_be_bytes w64 x.1.1.1.0) (slices x.1.1.1.1.0) (body x.1.1.1.1.1))
+    ∙ ap (λ (k : ℕ). 1 ∷ k ∷ rest) v.1.1.1.1.1.0.0
+    ∙ ap (λ (k : ℕ). k ∷ x.1.0 ∷ rest) (sym (version_is x.0 v.0))
+  where
+    three : (a b c d : List ℕ) → a ++ b ++ c ++ d ≡ a ++ (b ++ (c ++ d))
+    three a b c d = simp append_assoc
+
+pub Laws-fields : Laws envelope_at spelling (ValidAs IsFields sent_of) ShowsFault
+unfolding envelope_at
+Laws-fields =
+    Laws-as (Laws-then Laws-version (λ v h. Laws-then Laws-kind (λ k g. Laws-then Laws-name (λ u p. Laws-then Laws-long (λ n q. Laws-then Laws-slices (λ s r. Laws-statement k g)))))) sent_of spelling spelled
+
+has_widths : (s : Statement) → HasFields s → HasWidths s
+has_widths (Nominate v a) h = (h.0.1, h.1.1)
+has_widths (Prepare b p x y z) h = h
+has_widths (Commit b x y z) h = h
+has_widths (Externalize b x) h = h
+
+has_fields : (s : Statement) → HasWidths s → IsWellFormed s → HasFields s
+has_fields (Nominate v a) h r = ((r.voted_set.few, h.0), (r.accepted_set.few, h.1))
+has_fields (Prepare b p x y z) h r = h
+has_fields (Commit b x y z) h r = h
+has_fields (Externalize b x) h r = h
+
+is_envelope : (e : Sent) → ValidAs IsFields sent_of e → IsEnvelope e
+is_envelope e v =
+    let s = v.0.1.1.1.1.1 in
+    let f = v.1.1.1.1 in
+    subst IsEnvelope v.2 (record {
+      sender = v.1.1.1.0;
+      slot = f.0;
+      slices = f.1.0;
+      widths = has_widths s f.1.1.0.1;
+      rules = keeps_rules s (statement_stands s f.1.1.1);
+    })
+
+kind_of : (s : Statement) → IsKind (kind s)
+kind_of (Nominate v a) = (tt, refl)
+kind_of (Prepare b p x y z) = (tt, refl)
+kind_of (Commit b x y z) = (tt, refl)
+kind_of (Externalize b x) = (tt, refl)
+
+from_envelope : (e : Sent) → IsEnvelope e → ValidAs IsFields sent_of e
+from_envelope e h =
+    ((1, (kind e.body, (e.sender, (e.slot, (e.slices, e.body))))), ((tt, refl), (kind_of e.body, (h.sender, (h.slot, (h.slices, ((refl, has_fields e.body h.widths h.rules), well_formed_stands e.body h.rules)))))), refl)
+
+pub Laws-envelope : Laws envelope_at spelling IsEnvelope ShowsFault
+Laws-envelope = Laws-when Laws-fields IsEnvelope is_envelope from_envelope
+
+-- ---- whole texts
+abbrev ended : Sent × List ℕ → Result Sent Fault
+ended e = cond (eqb (length e.1) 0) (Ok e.0) (Err TrailingBytes)
+
+pub is_spelled : (bytes : List ℕ) (e : Sent) → IsBytes bytes → decoded bytes ≡ Ok e → Spells bytes e
+unfolding decoded
+is_spelled bytes e fits h =
+    let g = passed (ltb 65536 (length bytes)) Limit (envelope_at bytes >>= ended) e h in
+    let a = bind_ok (envelope_at bytes) ended e g.1 in
+    let p = Laws-envelope.takes bytes a.0 fits a.1 in
+    let k = passed_true (eqb (length a.0.1) 0) TrailingBytes (Ok a.0.0) e a.2 in
+    let none : a.0.1 ≡ [] = nil_from_length a.0.1 (eqb-true (length a.0.1) 0 k.0) in
+    let whole : bytes ≡ spelling a.0.0 = p.0.parts ∙ ap (λ (t : List ℕ). spelling a.0.0 ++ t) none ∙ append-nil (spelling a.0.0) in
+    subst (Spells bytes) (ok_is a.0.0 e k.1) (record { envelope = p.1; text = whole })
+
+pub is_read : (bytes : List ℕ) (e : Sent) → Spells bytes e → decoded bytes ≡ Ok e
+unfolding decoded
+is_read bytes e h =
+    let short : ltb 65536 (length bytes) ≡ false = le-ltb _ _ (omega (arith, ap length h.text, spelling_is_short e h.envelope)) in
+    let text : bytes ≡ spelling e ++ [] = h.text ∙ sym (append-nil (spelling e)) in
+    let read : envelope_at bytes ≡ Ok (e, []) = ap envelope_at text ∙ Laws-envelope.again e [] h.envelope in
+    rw (short, read) refl
+
+trailing : (a : Sent × List ℕ) (f : Fault) (b : Bool) → eqb (length a.1) 0 ≡ b → cond b (Ok a.0) (Err TrailingBytes) ≡ Err f → (0 < length a.1) × (f ≡ TrailingBytes)
+trailing a f true e h = absurd (no_ok a.0 f h)
+  where
+    no_ok : (x : Sent) (d : Fault) → Ok x ≡ Err d → ⊥
+    no_ok x d e = cc
+trailing a f false e h = (some (length a.1) e, sym (err_is {A = Sent} TrailingBytes f (Err TrailingBytes) refl h))
+  where
+    some : (n : ℕ) → eqb n 0 ≡ false → 0 < n
+    some n e = grind (arith, nat_tests)
+
+read_one_way : (bytes : List ℕ) (f : Fault) (e : Sent) (rest : List ℕ) → envelope_at bytes ≡ Err f → bytes ≡ spelling e ++ rest → IsEnvelope e → ⊥
+read_one_way bytes f e rest err text valid = no (envelope_at bytes) f (e, rest) err (ap envelope_at text ∙ Laws-envelope.again e rest valid)
+  where
+    no : (r : Result (Sent × List ℕ) Fault) (f : Fault) (x : Sent × List ℕ) → r ≡ Err f → r ≡ Ok x → ⊥
+    no (Ok y) f x p q = cc
+    no (Err d) f x p q = cc
+
+breaks_off : (bytes : List ℕ) (f : Fault) → envelope_at bytes ≡ Err f → f ≡ Truncated → BreaksOff bytes
+breaks_off bytes f err t =
+    (λ g d. Laws-envelope.never d.0 g d.3 (sym (err_is {A = Sent × List ℕ} f g (envelope_at bytes) err (ap envelope_at d.2 ∙ Laws-envelope.shown d.0 d.1 g d.3)) ∙ t), λ rest d. read_one_way bytes f d.0 rest err d.2 d.1)
+
+pub is_fault : (bytes : List ℕ) (f : Fault) → IsBytes bytes → decoded bytes ≡ Err f → IsFault bytes f
+unfolding decoded
+is_fault bytes f fits h =
+    elim (chosen (ltb 65536 (length bytes)) (Err Limit) (envelope_at bytes >>= ended) (Err f) h) [
+      | inl g ↦ inl (ltb-true _ _ g.0, sym (err_is {A = Sent} Limit f (Err Limit) refl g.1))
+      | inr g ↦
+          let short : length bytes ≤ 65536 = ltb-false _ _ g.0 in
+          elim (bind_err (envelope_at bytes) ended f g.1) [
+            | inl err ↦ elim (Laws-envelope.fails bytes f fits err) [
+              | inl t ↦ inr (short, inr (inr (breaks_off bytes f err t, t)))
+              | inr d ↦ inr (short, inl (d.front, d.rest, d.parts, d.shows))
+            ]
+            | inr a ↦
+                let p = Laws-envelope.takes bytes a.0 fits a.1 in
+                let q = trailing a.0 f (eqb (length a.0.1) 0) refl a.2 in
+                inr (short, inr (inl ((a.0.1, (a.0.0, p.1, p.0.parts), q.0), q.1)))
+          ]
+    ]
+
+-- ---- a fault of a text is what reading it gives, so a text has one fault at most
+over : (n : ℕ) → 65536 < n → ltb 65536 n ≡ true
+over n h = grind (arith, nat_tests)
+
+not_empty : (n : ℕ) → 0 < n → eqb n 0 ≡ false
+not_empty n h = grind (arith, nat_tests)
+
+ends_inside : (bytes : List ℕ) → IsBytes bytes → BreaksOff bytes → (r : Result (Sent × List ℕ) Fault) → envelope_at bytes ≡ r → r ≡ Err Truncated
+ends_inside bytes fits off (Ok x) e =
+    let p = Laws-envelope.takes bytes x fits e in absurd (off.1 x.1 (x.0, p.1, p.0.parts))
+ends_inside bytes fits off (Err g) e =
+    elim (Laws-envelope.fails bytes g fits e) [
+      | inl t ↦ ap (λ (h : Fault). Err h) t
+      | inr d ↦ absurd (off.0 g (d.front, d.rest, d.parts, d.shows))
+    ]
+
+pub fault_is : (bytes : List ℕ) (f : Fault) → IsBytes bytes → IsFault bytes f → decoded bytes ≡ Err f
+unfolding decoded
+fault_is bytes f fits (inl h) = rw (over (length bytes) h.0, h.1) refl
+fault_is bytes f fits (inr (short, inl d)) =
+    rw (le-ltb _ _ short, ap envelope_at d.2 ∙ Laws-envelope.shown d.0 d.1 f d.3) refl
+fault_is bytes f fits (inr (short, inr (inl (d, e)))) =
+    let read : envelope_at bytes ≡ Ok (d.1.0, d.0) = ap envelope_at d.1.2 ∙ Laws-envelope.again d.1.0 d.0 d.1.1 in
+    rw (le-ltb _ _ short, read, not_empty (length d.0) d.2, e) refl
+fault_is bytes f fits (inr (short, inr (inr (off, e)))) =
+    rw (le-ltb _ _ short, ends_inside bytes fits off (envelope_at bytes) refl, e) refl
+
+-- ---- one spelling
+pub one_spelling : (e : Sent) → IsEnvelope e → HasOneSpelling e
+one_spelling e h =
+    let spelled : Spells (spelling e) e = record { envelope = h; text = refl } in
+    record {
+      spelled = spelled;
+      short = spelling_is_short e h;
+      no_other = λ bytes s. s.text;
+      of_no_other = λ d s. ok_is d e (sym (is_read (spelling e) d s) ∙ is_read (spelling e) e spelled);
+    }
+
+-- ---- one answer
+not_both : (e : Sent) (f : Fault) → Ok e ≡ Err f → ⊥
+not_both e f h = cc
+
+answered : (text : List ℕ) → IsBytes text → (r : Result Sent Fault) → decoded text ≡ r → HasOneAnswer text
+answered text fits (Ok e) h = inl (
+  e,
+  record {
+    spelled = is_spelled text e fits h;
+    no_other = λ d s. ok_is d e (sym (is_read text d s) ∙ h);
+    no_fault = λ f g. not_both e f (sym h ∙ fault_is text f fits g);
+  },
+)
+answered text fits (Err f) h = inr (
+  f,
+  record {
+    shown = is_fault text f fits h;
+    no_other = λ g d. err_is {A = Sent} g f (decoded text) (fault_is text g fits d) h;
+    not_spelled = λ e s. not_both e f (sym (is_read text e s) ∙ h);
+  },
+)
+
+pub one_answer : (text : List ℕ) → IsBytes text → HasOneAnswer text
+one_answer text fits = answered text fits (decoded text) refl

@@ -1,0 +1,9 @@
+pub mod FieldLaws
+pub mod FormatLaws
+pub mod NameLaws
+pub mod TreeLaws
+pub mod MemberLoop
+pub mod ValueLoop
+pub mod BodyLaws
+pub mod Lengths
+pub mod EnvelopeLaws

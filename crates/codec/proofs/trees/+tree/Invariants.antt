@@ -1,0 +1,21 @@
+use Rattle.std.proofs.Common.{◌≡◌, ◌+◌, ◌-◌, ◌*◌, ◌++◌}
+use Rattle.types.specs.Shape.{members_of}
+use Rattle.types.specs.Trees.{names_in}
+use Rattle.codec.specs.Reading.{members_at, inner_at}
+use Rattle.codec.proofs.MemberLoop.{with_front}
+use Rattle.codec.proofs.trees.+tree.Given as goal
+
+abbrev pub decreases-read_member : goal.decreases-read_member
+decreases-read_member l = 3 * l.levels
+
+abbrev pub decreases-read_members : goal.decreases-read_members
+decreases-read_members l = 3 * l.levels + 1
+
+abbrev pub decreases-read_set : goal.decreases-read_set
+decreases-read_set l = 3 * l.levels + 2
+
+abbrev pub invariant-read_members-loop : goal.invariant-read_members-loop
+invariant-read_members-loop l = record {
+  read : with_front (members_of l.members.items) (members_at (inner_at l.levels) (l.count - l.counter) l.seen.items l.reader) ≡ members_at (inner_at l.levels) l.count l.fn.seen.items l.fn.reader;
+  names : l.seen.items ≡ l.fn.seen.items ++ names_in (members_of l.members.items);
+}

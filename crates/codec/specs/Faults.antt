@@ -1,0 +1,41 @@
+-- What is said of a part once it is read: its fault, or None where it stands. Where several could be named, the first is.
+use Rattle.std.specs.Prelude.{ℕ, List, length, Option, Some, None, Bool, nat_lt, ◌==◌, if◌then◌else◌}
+use Rattle.std.specs.List.{list_any}
+use Rattle.codec.specs.declared.error.Fault.{Fault}
+use Rattle.codec.specs.declared.error.Fault.TheVariants.{Version, Kind, Limit, BadSlices, BadStatement}
+use Rattle.types.specs.Trees.{most_members, most_names}
+use Rattle.types.specs.Nominations.{most_nominated}
+use Rattle.types.specs.declared.statement.Statement.{Statement}
+use Rattle.types.specs.Statements.{is_well_formed}
+
+-- a version other than 1
+abbrev pub version_fault : ℕ → Option Fault
+version_fault v = if v == 1 then None else Some Version
+
+-- a kind other than 1 to 4
+abbrev pub kind_fault : ℕ → Option Fault
+kind_fault k = if k == 0 then Some Kind else if nat_lt 4 k then Some Kind else None
+
+-- a threshold that is 0 or above the count; then a count above 64
+abbrev pub header_fault : ℕ × ℕ → Option Fault
+header_fault h = if h.0 == 0 then Some BadSlices else if nat_lt h.1 h.0 then Some BadSlices else if nat_lt most_members h.1 then Some Limit else None
+
+-- whether a name stands in a list
+abbrev pub is_among : List ℕ → ℕ → Bool
+is_among names u = list_any (λ w. w == u) names
+
+-- a name behind as many as a tree may have; then one that stood in the tree before
+abbrev pub name_fault : List ℕ → ℕ → Option Fault
+name_fault seen u = if length seen == most_names then Some Limit else if is_among seen u then Some BadSlices else None
+
+-- a length of a value that is 0 or above 256
+abbrev pub length_fault : ℕ → Option Fault
+length_fault n = if n == 0 then Some Limit else if nat_lt 256 n then Some Limit else None
+
+-- a count of a nomination set above 16
+abbrev pub count_fault : ℕ → Option Fault
+count_fault n = if nat_lt most_nominated n then Some Limit else None
+
+-- a statement that breaks the rules of its kind
+abbrev pub statement_fault : Statement → Option Fault
+statement_fault s = if is_well_formed s then None else Some BadStatement

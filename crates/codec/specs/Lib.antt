@@ -1,0 +1,9 @@
+pub mod Spelling
+pub mod Formats
+pub mod Faults
+pub mod Parts
+pub mod Grammar
+pub mod Answers
+pub mod Steps
+pub mod Reading
+pub mod Kinds

@@ -1,0 +1,25 @@
+-- One member of a set: a name or an inner set.
+use Rattle.std.specs.Prelude.{ℕ, List, [], ◌∷◌, ◌⊎◌}
+use Rattle.std.proofs.Common.{inl, inr}
+use Rattle.types.specs.Trees.{Members, node, inner, Slices, names_in}
+use Rattle.types.specs.declared.nested.Member.{Member}
+use Rattle.types.specs.declared.nested.Member.TheVariants.{Node, Set}
+
+-- a name or an inner set
+abbrev pub Part : Type 0
+Part = ℕ ⊎ Slices
+
+-- what a member in memory is seen as
+abbrev pub part_of : Member → Part
+part_of (Node u) = inl u
+part_of (Set s) = inr s
+
+-- the names in it
+abbrev pub part_names : Part → List ℕ
+part_names (inl u) = u ∷ []
+part_names (inr q) = names_in q.members
+
+-- a member before others
+abbrev pub put : Part → Members → Members
+put (inl u) rest = node u rest
+put (inr q) rest = inner q.threshold q.members rest

@@ -1,0 +1,115 @@
+//! Envelopes that are read from bytes.
+
+ghost use Rattle.std.specs.Prelude.{◌≡◌, ℕ, List, IfOk, IfErr, Ok, Err, Some, None};
+ghost use Rattle.codec.specs.Reading.{Gives, IsBytes, version_at, envelope_at, decoded};
+ghost use Rattle.codec.specs.Spelling.{Spells, HasOneSpelling};
+ghost use Rattle.codec.specs.Answers.{Refuses};
+ghost use Rattle.codec.specs.Grammar.{IsFault, HasOneAnswer};
+ghost use Rattle.codec.specs.declared.error.CodecError.TheVariants as errors;
+ghost use Rattle.codec.specs.declared.error.Fault.{Fault};
+ghost use Rattle.codec.specs.declared.error.Fault.TheVariants.{BadStatement};
+ghost use Rattle.codec.specs.Faults.{statement_fault};
+ghost use Rattle.types.specs.Statements.{Sent, IsEnvelope};
+
+use crate::error::{CodecError, Fault};
+use crate::reader::Reader;
+use crate::statements::{read_kind, read_statement};
+use crate::trees::read_slices;
+use std::alloc::Global;
+use types::{Envelope, Nested, NodeId, Statement};
+
+/// The most bytes that are read as an envelope (this host's profile). Every envelope's spelling is
+/// shorter.
+pub const MAX_BYTES: usize = 65536;
+
+/// The first byte of each envelope (this host's profile).
+pub const VERSION: u8 = 1;
+
+/// The envelope that the bytes spell, all of the bytes.
+///
+/// The format is that of this host's profile: version 1, the kind of statement, the sender, the slot,
+/// the slices and the fields of the statement, all numbers big-endian. An envelope comes back only
+/// where it keeps every rule of slices and statements. The time grows with the bytes and with the square
+/// of the names, of which at most 256 are read.
+///
+/// # Errors
+///
+/// `CodecError::Fault` with the first fault from left to right, a length above `MAX_BYTES` before
+/// all; `CodecError::NoMemory` where a growth was refused.
+pub fn decode(alloc: Global, bytes: &[u8]) -> Result<Envelope, CodecError>
+    // What is answered is spelled so.
+    ensures found { IfOk result (Spells bytes.now) }
+    // What is spelled so is answered, unless memory runs out.
+    ensures only { (e : Sent) → Spells bytes.now e → Gives (λ v. v) result (Ok e) }
+    // A refusal names a fault that the text has.
+    ensures fault { IfErr result (Refuses bytes.now) }
+    // A text that has a fault is refused by it, unless memory runs out: so no text has two.
+    ensures named { (f : Fault) → IsFault bytes.now f → Gives (λ v. v) result (Err f) }
+{
+    read_text(alloc, bytes)
+}
+
+/// Each envelope has exactly one spelling, of at most `MAX_BYTES` bytes, and it is the spelling of no
+/// other envelope: with what `decode` promises, an envelope's spelling decodes to it.
+pub fn one_spelling()
+    ensures { (e : Sent) → IsEnvelope e → HasOneSpelling e }
+{}
+
+/// Each text is either the spelling of exactly one envelope or has exactly one fault: so the faults
+/// leave no choice of an answer, and want of memory is all that can keep `decode` from it.
+pub fn one_answer()
+    ensures { (text : List ℕ) → IsBytes text → HasOneAnswer text }
+{}
+
+#[tactic(auto, unfolding(crate::specs::Reading::decoded))]
+fn read_text(alloc: Global, bytes: &[u8]) -> Result<Envelope, CodecError>
+    ensures { Gives (λ e. e) result (decoded bytes.now) }
+{
+    if bytes.len() > MAX_BYTES {
+        return Err(CodecError::Fault(Fault::Limit));
+    }
+    let mut reader = Reader::new(bytes);
+    let envelope = read_envelope(alloc, &mut reader)?;
+    if !reader.is_empty() {
+        return Err(CodecError::Fault(Fault::TrailingBytes));
+    }
+    Ok(envelope)
+}
+
+#[tactic(auto, unfolding(crate::specs::Reading::envelope_at, crate::specs::Reading::statement_at))]
+fn read_envelope(alloc: Global, reader: &mut Reader) -> Result<Envelope, CodecError>
+    ensures { Gives (λ x. (x, reader.new)) result (envelope_at reader.old) }
+{
+    read_version(reader)?;
+    let kind = read_kind(reader)?;
+    let sender = reader.name()?;
+    let slot = reader.u64()?;
+    let slices = read_slices(alloc, reader)?;
+    let body = read_statement(alloc, reader, kind)?;
+    well_formed(sender, slot, slices, body)
+}
+
+/// The envelope of these parts, where its statement keeps the rules of its kind.
+#[tactic(auto, using(crate::proofs::BodyLaws::well_formed_stands, crate::proofs::BodyLaws::ill_formed_falls))]
+fn well_formed(
+    sender: NodeId,
+    slot: u64,
+    slices: Nested,
+    body: Statement,
+) -> Result<Envelope, CodecError>
+    ensures ok { IfOk result (λ e. (statement_fault body ≡ None) × (e ≡ record { sender = sender; slot = slot; slices = slices; body = body })) }
+    ensures err { IfErr result (λ e. (statement_fault body ≡ Some BadStatement) × (e ≡ errors.Fault BadStatement)) }
+{
+    Envelope::new(sender, slot, slices, body).ok_or(CodecError::Fault(Fault::BadStatement))
+}
+
+#[tactic(auto, unfolding(crate::specs::Reading::version_at))]
+fn read_version(reader: &mut Reader) -> Result<u8, CodecError>
+    ensures { Gives (λ x. (x, reader.new)) result (version_at reader.old) }
+{
+    let version = reader.byte()?;
+    if version != VERSION {
+        return Err(CodecError::Fault(Fault::Version));
+    }
+    Ok(version)
+}

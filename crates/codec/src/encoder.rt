@@ -1,0 +1,157 @@
+//! Envelopes that are written as bytes.
+
+ghost use Rattle.std.specs.Prelude.{◌≡◌, ◌≤◌, ◌++◌, length, OnOk, IfOk};
+ghost use Rattle.types.specs.Trees.{HasThreshold, HaveThresholds};
+ghost use Rattle.types.specs.Nominations.{most_nominated};
+ghost use Rattle.types.specs.Statements.{IsWellFormed};
+ghost use Rattle.std.specs.Int.{w32, to_be_bytes};
+ghost use Rattle.codec.specs.Spelling.{name, value, ballot, optional, nominated, slices, body, spelling};
+
+use crate::decoder::VERSION;
+use crate::statements::StatementKind;
+use std::alloc::{AllocError, Global};
+use types::{Ballot, Envelope, Member, NodeId, SliceSet, Statement, Value, Values};
+
+/// The one spelling of an envelope, in the format of this host's profile: at most `MAX_BYTES` bytes,
+/// which `decode` answers with the same envelope.
+///
+/// # Errors
+///
+/// `AllocError` where memory is wanting, and only there.
+pub fn encode(alloc: Global, envelope: &Envelope) -> Result<Vec<u8>, AllocError>
+    ensures { IfOk result (λ v. v.items ≡ spelling envelope.now) }
+{
+    let mut out = Vec::new(alloc);
+    out.push(VERSION)?;
+    out.push(StatementKind::of(envelope.body()).byte())?;
+    put_name(&mut out, envelope.sender())?;
+    out.extend_from_slice(&envelope.slot().to_be_bytes())?;
+    put_set(&mut out, envelope.slices().set())?;
+    put_statement(&mut out, envelope.body())?;
+    Ok(out)
+}
+
+fn put_name(out: &mut Vec<u8>, node: &NodeId) -> Result<(), AllocError>
+    ensures { OnOk result (out.new.items ≡ out.old.items ++ name node.now) }
+{
+    let (first, second, third, fourth) = node.words();
+    out.extend_from_slice(&first.to_be_bytes())?;
+    out.extend_from_slice(&second.to_be_bytes())?;
+    out.extend_from_slice(&third.to_be_bytes())?;
+    out.extend_from_slice(&fourth.to_be_bytes())?;
+    Ok(())
+}
+
+fn put_set(out: &mut Vec<u8>, set: &SliceSet) -> Result<(), AllocError>
+    requires outer { HasThreshold set.now.threshold set.now.members }
+    requires inner { HaveThresholds set.now.members }
+    ensures { OnOk result (out.new.items ≡ out.old.items ++ slices set.now) }
+{
+    let members = set.members();
+    out.push(set.threshold())?;
+    out.push(members.len() as u8)?;
+    for member in members {
+        match member {
+            Member::Node(node) => {
+                out.push(0)?;
+                put_name(out, node)?;
+            }
+            Member::Set(inner) => {
+                out.push(1)?;
+                put_set(out, inner)?;
+            }
+        }
+    }
+    Ok(())
+}
+
+fn put_statement(out: &mut Vec<u8>, statement: &Statement) -> Result<(), AllocError>
+    requires { IsWellFormed statement.now }
+    ensures { OnOk result (out.new.items ≡ out.old.items ++ body statement.now) }
+{
+    match statement {
+        Statement::Nominate { voted, accepted } => {
+            put_nominated(out, voted)?;
+            put_nominated(out, accepted)
+        }
+        Statement::Prepare {
+            ballot,
+            prepared,
+            aborted_counter,
+            high_counter,
+            commit_counter,
+        } => {
+            put_ballot(out, ballot)?;
+            put_optional(out, prepared)?;
+            put_counter(out, *aborted_counter)?;
+            put_counter(out, *high_counter)?;
+            put_counter(out, *commit_counter)
+        }
+        Statement::Commit {
+            ballot,
+            prepared_counter,
+            high_counter,
+            commit_counter,
+        } => {
+            put_ballot(out, ballot)?;
+            put_counter(out, *prepared_counter)?;
+            put_counter(out, *high_counter)?;
+            put_counter(out, *commit_counter)
+        }
+        Statement::Externalize {
+            commit,
+            high_counter,
+        } => {
+            put_ballot(out, commit)?;
+            put_counter(out, *high_counter)
+        }
+    }
+}
+
+fn put_nominated(out: &mut Vec<u8>, values: &Values) -> Result<(), AllocError>
+    requires { length values.now ≤ most_nominated }
+    ensures { OnOk result (out.new.items ≡ out.old.items ++ nominated values.now) }
+{
+    let items = values.as_slice();
+    out.push(items.len() as u8)?;
+    for item in items {
+        put_value(out, item)?;
+    }
+    Ok(())
+}
+
+fn put_optional(out: &mut Vec<u8>, prepared: &Option<Ballot>) -> Result<(), AllocError>
+    ensures { OnOk result (out.new.items ≡ out.old.items ++ optional prepared.now) }
+{
+    match prepared {
+        None => {
+            out.push(0)?;
+            Ok(())
+        }
+        Some(prepared) => {
+            out.push(1)?;
+            put_ballot(out, prepared)
+        }
+    }
+}
+
+fn put_ballot(out: &mut Vec<u8>, item: &Ballot) -> Result<(), AllocError>
+    ensures { OnOk result (out.new.items ≡ out.old.items ++ ballot item.now) }
+{
+    put_counter(out, item.counter)?;
+    put_value(out, &item.value)
+}
+
+fn put_value(out: &mut Vec<u8>, item: &Value) -> Result<(), AllocError>
+    ensures { OnOk result (out.new.items ≡ out.old.items ++ value item.now) }
+{
+    let bytes = item.as_bytes();
+    out.extend_from_slice(&(bytes.len() as u16).to_be_bytes())?;
+    out.extend_from_slice(bytes)
+}
+
+fn put_counter(out: &mut Vec<u8>, counter: u32) -> Result<(), AllocError>
+    ensures { OnOk result (out.new.items ≡ out.old.items ++ to_be_bytes w32 counter) }
+{
+    out.extend_from_slice(&counter.to_be_bytes())
+}

@@ -1,0 +1,93 @@
+//! Why bytes are no envelope.
+
+ghost use Rattle.std.specs.Prelude.{◌≡◌};
+ghost use Rattle.codec.specs.Answers.{fault_number, error_number};
+ghost use Rattle.codec.specs.declared.error.CodecError.TheVariants.{NoMemory};
+
+use std::alloc::{AllocError, AllocFailed};
+use thiserror::Error;
+
+/// What is wrong with bytes that are no envelope: the first fault from left to right. The faults and
+/// their numbers are those of this host's profile.
+#[derive(Clone, Copy, Debug, PartialEq, Eq, Error)]
+pub enum Fault {
+    /// The bytes end inside a field.
+    #[error("the bytes end inside an envelope")]
+    Truncated,
+    /// An envelope is there, and bytes follow it.
+    #[error("there are bytes after the envelope")]
+    TrailingBytes,
+    /// The first byte is not 1.
+    #[error("the version is not 1")]
+    Version,
+    /// The second byte is not 1 to 4.
+    #[error("the kind of statement is not 1 to 4")]
+    Kind,
+    /// The bytes are more than 65,536, a set has more than 64 members, the slices have more than 256
+    /// names, a value has no byte or more than 256, or a set of a nomination has more than 16 values.
+    #[error("something is longer than its limit")]
+    Limit,
+    /// A threshold is 0 or above the count of members, a member is neither a name nor a set, an inner
+    /// set stands too deep, or a name stands twice.
+    #[error("the slices break a rule")]
+    BadSlices,
+    /// The statement breaks a rule of its kind.
+    #[error("the statement breaks a rule of its kind")]
+    BadStatement,
+}
+
+impl Fault {
+    /// The number by which the fault is known, 1 to 7.
+    pub fn number(&self) -> u8
+        ensures { result ≡ fault_number self.now }
+    {
+        match self {
+            Fault::Truncated => 1,
+            Fault::TrailingBytes => 2,
+            Fault::Version => 3,
+            Fault::Kind => 4,
+            Fault::Limit => 5,
+            Fault::BadSlices => 6,
+            Fault::BadStatement => 7,
+        }
+    }
+}
+
+/// Why bytes were not decoded.
+#[derive(Clone, Copy, Debug, PartialEq, Eq, Error)]
+pub enum CodecError {
+    /// The bytes are no envelope.
+    #[error("{0}")]
+    Fault(Fault),
+    /// Memory was wanting. It says nothing of the bytes.
+    #[error("memory is wanting")]
+    NoMemory,
+}
+
+impl CodecError {
+    /// The number by which the error is known: that of the fault, or 8 for want of memory.
+    pub fn number(&self) -> u8
+        ensures { result ≡ error_number self.now }
+    {
+        match self {
+            CodecError::Fault(fault) => fault.number(),
+            CodecError::NoMemory => 8,
+        }
+    }
+}
+
+impl From<AllocError> for CodecError {
+    ghost from_gives = { λ _ e. e ≡ NoMemory };
+
+    fn from(_error: AllocError) -> CodecError {
+        CodecError::NoMemory
+    }
+}
+
+impl<T: Drop> From<AllocFailed<T>> for CodecError {
+    ghost from_gives = { λ _ e. e ≡ NoMemory };
+
+    fn from(_error: AllocFailed<T>) -> CodecError {
+        CodecError::NoMemory
+    }
+}

@@ -1,0 +1,20 @@
+//! Envelopes as bytes and back. Each envelope has exactly one spelling, of at most 65,536 bytes, and
+//! bytes that spell none are refused by the fault that comes first from left to right.
+//!
+//! `specs/Spelling.antt` has the spelling, `specs/Grammar.antt` what shows which fault; the decoder
+//! and the encoder are proved against these two.
+#![tactic(auto)]
+
+mod decoder;
+mod encoder;
+mod error;
+mod reader;
+mod statements;
+mod trees;
+
+pub use decoder::{MAX_BYTES, decode, one_answer, one_spelling};
+pub use encoder::encode;
+pub use error::{CodecError, Fault};
+
+#[cfg(test)]
+mod tests;

@@ -1,0 +1,155 @@
+//! Statements that are read from the front.
+
+ghost use Rattle.std.specs.Prelude.{◌≡◌};
+ghost use Rattle.codec.specs.Kinds.{kind_number};
+ghost use Rattle.codec.specs.Spelling.{kind};
+ghost use Rattle.codec.specs.Reading.{Gives, kind_at, values_at, nominated_at, nominate_at, prepare_at, commit_at, externalize_at, body_at};
+
+use crate::error::{CodecError, Fault};
+use crate::reader::Reader;
+use std::alloc::Global;
+use types::{MAX_NOMINATED, Statement, Values};
+
+/// The four kinds of statements, each with the byte that stands for it.
+#[derive(Clone, Copy)]
+pub enum StatementKind {
+    Nominate,
+    Prepare,
+    Commit,
+    Externalize,
+}
+
+impl StatementKind {
+    /// The byte that stands for the kind, 1 to 4.
+    pub fn byte(self) -> u8
+        ensures { result ≡ kind_number self }
+    {
+        match self {
+            StatementKind::Nominate => 1,
+            StatementKind::Prepare => 2,
+            StatementKind::Commit => 3,
+            StatementKind::Externalize => 4,
+        }
+    }
+
+    /// The kind of a statement.
+    pub fn of(statement: &Statement) -> StatementKind
+        ensures { kind_number result ≡ kind statement.now }
+    {
+        match statement {
+            Statement::Nominate { .. } => StatementKind::Nominate,
+            Statement::Prepare { .. } => StatementKind::Prepare,
+            Statement::Commit { .. } => StatementKind::Commit,
+            Statement::Externalize { .. } => StatementKind::Externalize,
+        }
+    }
+}
+
+/// The byte of a kind.
+#[tactic(auto, unfolding(crate::specs::Reading::kind_at))]
+pub fn read_kind(reader: &mut Reader) -> Result<StatementKind, CodecError>
+    ensures { Gives (λ x. (kind_number x, reader.new)) result (kind_at reader.old) }
+{
+    match reader.byte()? {
+        1 => Ok(StatementKind::Nominate),
+        2 => Ok(StatementKind::Prepare),
+        3 => Ok(StatementKind::Commit),
+        4 => Ok(StatementKind::Externalize),
+        _ => Err(CodecError::Fault(Fault::Kind)),
+    }
+}
+
+/// A statement of the kind, whether or not it keeps the rules of its kind.
+#[tactic(auto, unfolding(crate::specs::Reading::body_at))]
+pub fn read_statement(
+    alloc: Global,
+    reader: &mut Reader,
+    kind: StatementKind,
+) -> Result<Statement, CodecError>
+    ensures { Gives (λ x. (x, reader.new)) result (body_at (kind_number kind) reader.old) }
+{
+    match kind {
+        StatementKind::Nominate => read_nominate(alloc, reader),
+        StatementKind::Prepare => read_prepare(reader),
+        StatementKind::Commit => read_commit(reader),
+        StatementKind::Externalize => read_externalize(reader),
+    }
+}
+
+#[tactic(auto, unfolding(crate::specs::Reading::nominate_at))]
+fn read_nominate(alloc: Global, reader: &mut Reader) -> Result<Statement, CodecError>
+    ensures { Gives (λ x. (x, reader.new)) result (nominate_at reader.old) }
+{
+    let voted = read_nominated(alloc, reader)?;
+    let accepted = read_nominated(alloc, reader)?;
+    Ok(Statement::Nominate { voted, accepted })
+}
+
+/// One set of a nomination: a count, and so many values.
+#[tactic(auto, unfolding(crate::specs::Reading::nominated_at))]
+fn read_nominated(alloc: Global, reader: &mut Reader) -> Result<Values, CodecError>
+    ensures { Gives (λ x. (x, reader.new)) result (nominated_at reader.old) }
+{
+    let count = reader.byte()?;
+    if count as usize > MAX_NOMINATED {
+        return Err(CodecError::Fault(Fault::Limit));
+    }
+    read_values(alloc, reader, count)
+}
+
+fn read_values(alloc: Global, reader: &mut Reader, count: u8) -> Result<Values, CodecError>
+    ensures { Gives (λ x. (x, reader.new)) result (values_at count reader.old) }
+{
+    let mut values = Values::empty(alloc);
+    for _ in 0..count {
+        let value = reader.value()?;
+        values.push(value)?;
+    }
+    Ok(values)
+}
+
+#[tactic(auto, unfolding(crate::specs::Reading::prepare_at))]
+fn read_prepare(reader: &mut Reader) -> Result<Statement, CodecError>
+    ensures { Gives (λ x. (x, reader.new)) result (prepare_at reader.old) }
+{
+    let ballot = reader.ballot()?;
+    let prepared = reader.optional_ballot()?;
+    let aborted_counter = reader.u32()?;
+    let high_counter = reader.u32()?;
+    let commit_counter = reader.u32()?;
+    Ok(Statement::Prepare {
+        ballot,
+        prepared,
+        aborted_counter,
+        high_counter,
+        commit_counter,
+    })
+}
+
+#[tactic(auto, unfolding(crate::specs::Reading::commit_at))]
+fn read_commit(reader: &mut Reader) -> Result<Statement, CodecError>
+    ensures { Gives (λ x. (x, reader.new)) result (commit_at reader.old) }
+{
+    let ballot = reader.ballot()?;
+    let prepared_counter = reader.u32()?;
+    let high_counter = reader.u32()?;
+    let commit_counter = reader.u32()?;
+    Ok(Statement::Commit {
+        ballot,
+        prepared_counter,
+        high_counter,
+        commit_counter,
+    })
+}
+
+#[tactic(auto, unfolding(crate::specs::Reading::externalize_at))]
+fn read_externalize(reader: &mut Reader) -> Result<Statement, CodecError>
+    ensures { Gives (λ x. (x, reader.new)) result (externalize_at reader.old) }
+{
+    let commit = reader.ballot()?;
+    let high_counter = reader.u32()?;
+    Ok(Statement::Externalize {
+        commit,
+        high_counter,
+    })
+}

@@ -1,0 +1,126 @@
+//! Slices that are read from the front, with the names so far.
+
+ghost use Rattle.std.specs.Prelude.{◌≡◌, [], ◌∷◌, ◌++◌, IfOk};
+ghost use Rattle.codec.specs.Reading.{Gives, IsBytes, header_at, new_name_at, member_at, members_at, set_with, inner_at, slices_at};
+ghost use Rattle.codec.specs.Faults.{is_among};
+ghost use Rattle.codec.specs.Parts.{part_of, part_names};
+ghost use Rattle.types.specs.Shape.{members_of};
+ghost use Rattle.types.specs.Trees.{names_in};
+
+use crate::error::{CodecError, Fault};
+use crate::reader::Reader;
+use std::alloc::Global;
+use types::{MAX_INNER_LEVELS, MAX_MEMBERS, MAX_NAMES, Member, Nested, NodeId, SliceSet};
+
+/// The slices of an envelope.
+#[tactic(auto, unfolding(crate::specs::Reading::slices_at))]
+pub fn read_slices(alloc: Global, reader: &mut Reader) -> Result<Nested, CodecError>
+    ensures { Gives (λ x. (x, reader.new)) result (slices_at reader.old) }
+{
+    let mut seen = Vec::new(alloc);
+    let set = read_set(alloc, reader, MAX_INNER_LEVELS, &mut seen)?;
+    Ok(Nested::of(set))
+}
+
+/// A threshold, a count and so many members, with so many levels of inner sets left.
+#[cycle(tree)]
+#[tactic(auto, unfolding(crate::specs::Reading::set_with))]
+fn read_set(
+    alloc: Global,
+    reader: &mut Reader,
+    levels: usize,
+    seen: &mut Vec<NodeId>,
+) -> Result<SliceSet, CodecError>
+    ensures read { Gives (λ x. (x, reader.new)) result (set_with (inner_at levels) seen.old.items reader.old) }
+    ensures names { IfOk result (λ x. seen.new.items ≡ seen.old.items ++ names_in x.members) }
+    // What a reader holds are bytes, which `read_slices` has to know to show the rules of slices.
+    ensures bytes { IsBytes reader.old }
+{
+    let (threshold, count) = read_header(reader)?;
+    let members = read_members(alloc, reader, levels, count, seen)?;
+    Ok(SliceSet::new(threshold, members))
+}
+
+/// A threshold and a count of members that a set may have.
+#[tactic(auto, unfolding(crate::specs::Reading::header_at))]
+fn read_header(reader: &mut Reader) -> Result<(u8, u8), CodecError>
+    ensures read { Gives (λ x. ((x.0, x.1), reader.new)) result (header_at reader.old) }
+    ensures bytes { IsBytes reader.old }
+{
+    let threshold = reader.byte()?;
+    let count = reader.byte()?;
+    if threshold == 0 || threshold > count {
+        return Err(CodecError::Fault(Fault::BadSlices));
+    }
+    if count as usize > MAX_MEMBERS {
+        return Err(CodecError::Fault(Fault::Limit));
+    }
+    Ok((threshold, count))
+}
+
+/// So many members.
+#[cycle(tree)]
+fn read_members(
+    alloc: Global,
+    reader: &mut Reader,
+    levels: usize,
+    count: u8,
+    seen: &mut Vec<NodeId>,
+) -> Result<Vec<Member>, CodecError>
+    ensures read { Gives (λ x. (members_of x.items, reader.new)) result (members_at (inner_at levels) count seen.old.items reader.old) }
+    ensures names { IfOk result (λ x. seen.new.items ≡ seen.old.items ++ names_in (members_of x.items)) }
+{
+    let mut members = Vec::new(alloc);
+    for _ in 0..count {
+        let member = read_member(alloc, reader, levels, seen)?;
+        members.push(member)?;
+    }
+    Ok(members)
+}
+
+/// A name or an inner set, where a level is left for one.
+#[cycle(tree)]
+#[tactic(auto, unfolding(crate::specs::Reading::member_at, crate::specs::Reading::inner_at))]
+fn read_member(
+    alloc: Global,
+    reader: &mut Reader,
+    levels: usize,
+    seen: &mut Vec<NodeId>,
+) -> Result<Member, CodecError>
+    ensures read { Gives (λ x. (part_of x, reader.new)) result (member_at (inner_at levels) seen.old.items reader.old) }
+    ensures names { IfOk result (λ x. seen.new.items ≡ seen.old.items ++ part_names (part_of x)) }
+{
+    match reader.byte()? {
+        0 => Ok(Member::Node(read_new_name(reader, seen)?)),
+        1 => {
+            if levels == 0 {
+                return Err(CodecError::Fault(Fault::BadSlices));
+            }
+            Ok(Member::Set(read_set(alloc, reader, levels - 1, seen)?))
+        }
+        _ => Err(CodecError::Fault(Fault::BadSlices)),
+    }
+}
+
+/// A name that may join those seen, and joins them.
+#[tactic(auto, unfolding(crate::specs::Reading::new_name_at))]
+fn read_new_name(reader: &mut Reader, seen: &mut Vec<NodeId>) -> Result<NodeId, CodecError>
+    ensures read { Gives (λ x. (x, reader.new)) result (new_name_at seen.old.items reader.old) }
+    ensures names { IfOk result (λ x. seen.new.items ≡ seen.old.items ++ x ∷ []) }
+{
+    let name = reader.name()?;
+    if seen.len() == MAX_NAMES {
+        return Err(CodecError::Fault(Fault::Limit));
+    }
+    if is_among(seen, name) {
+        return Err(CodecError::Fault(Fault::BadSlices));
+    }
+    seen.push(name)?;
+    Ok(name)
+}
+
+fn is_among(names: &[NodeId], name: NodeId) -> bool
+    ensures { result ≡ is_among names.now name }
+{
+    names.iter().any(|other| *other == name)
+}

@@ -1,0 +1,149 @@
+-- What the code of a table rests on: its rows with their index.
+use Rattle.std.proofs.Common.{◌≡◌, ◌≢◌, ◌↔◌, ℕ, ◌<◌, ◌≤◌, true, false, List, [], ◌∷◌, ◌++◌, length, get_or, set, map, Option, Some, None, option_map, if◌then◌else◌, refl, sym, ◌∙◌, ap, ap₂, subst}
+use Rattle.std.specs.Prelude.{IfSome}
+use Rattle.std.specs.List.{slice_get}
+use Rattle.std.proofs.lemmas.Bool.{true≢false}
+use Rattle.std.proofs.lemmas.List.{length-map}
+use Rattle.std.proofs.lemmas.Option.{slice_get-map, slice_get_read, slice_get_past}
+use Rattle.types.specs.declared.kind.Kind.{Kind}
+use Rattle.types.specs.Statements.{Sent, kind_of}
+use Rattle.protocol.specs.Newer.{is_newer}
+use Rattle.protocol.specs.Rows.{has_single_rows, is_row_of, row, with_row, replaces, is_taken, offered, table_after}
+use Rattle.protocol.proofs.Tables.{single-with, table_after-push}
+use Rattle.latest.specs.declared.table.Offer.{Offer}
+use Rattle.latest.specs.declared.table.Offer.TheVariants.{Replaced, Stale, NoMemory}
+use Rattle.latest.specs.declared.places.Places.{Places}
+use Rattle.latest.specs.Senders.{senders}
+use Rattle.latest.specs.Places.{IsIndexed, ascends, found, index_of, noted, place_of, places_of}
+use Rattle.latest.proofs.Indexes.{place-within, place-nowhere, index-ascends, found-index, index-push, index-set, with_row-set, with_row-push}
+
+pub indexed-empty : IsIndexed [] []
+unfolding index_of senders
+indexed-empty = record { single = refl; indexed = refl }
+
+pub indexed-ascends : (rows : List Sent) (index : List Places) → IsIndexed rows index → ascends index ≡ true
+indexed-ascends rows index h = ap ascends h.indexed ∙ index-ascends rows
+
+pub indexed-found : (rows : List Sent) (index : List Places) (u : ℕ) (k : Kind) → IsIndexed rows index → found index u k ≡ place_of rows u k
+indexed-found rows index u k h = ap (λ ps. found ps u k) h.indexed ∙ found-index rows u k
+
+pub indexed-sender : (rows : List Sent) (index : List Places) (n : ℕ) → IsIndexed rows index → option_map (λ (p : Places). p.sender) (slice_get index n) ≡ slice_get (senders rows) n
+unfolding index_of
+indexed-sender rows index n h =
+    ap (λ ps. option_map (λ (p : Places). p.sender) (slice_get ps n)) h.indexed
+    ∙ (ap (option_map (λ (p : Places). p.sender)) (slice_get-map (places_of rows) (senders rows) n) ∙ back (slice_get (senders rows) n))
+  where
+    back : (o : Option ℕ) → option_map (λ (p : Places). p.sender) (option_map (places_of rows) o) ≡ o
+    back None = refl
+    back (Some u) = refl
+
+-- ---- a row by its place
+pub placed-within : (rows : List Sent) (u : ℕ) (k : Kind) (o : Option ℕ) → o ≡ place_of rows u k → IfSome o (λ i. i < length rows)
+placed-within rows u k None e = tt
+placed-within [] u k (Some i) e = cc
+placed-within (x ∷ xs) u k (Some i) e = (place-within (is_row_of u k) (x ∷ xs) i x (sym e)).0
+
+pub row-placed : (rows : List Sent) (u : ℕ) (k : Kind) (i : ℕ) (x : Sent) → place_of rows u k ≡ Some i → x ≡ get_or rows i x → row rows u k ≡ Some x
+unfolding row
+row-placed rows u k i x h e = (place-within (is_row_of u k) rows i x h).1 ∙ ap (λ (y : Sent). Some y) (sym e)
+
+pub row-nowhere : (rows : List Sent) (u : ℕ) (k : Kind) → place_of rows u k ≡ None → row rows u k ≡ None
+unfolding row
+row-nowhere rows u k h = place-nowhere (is_row_of u k) rows h
+
+pub taken-placed : (rows : List Sent) (e : Sent) (i : ℕ) (x : Sent) → place_of rows e.sender (kind_of e.body) ≡ Some i → x ≡ get_or rows i x → is_taken rows e ≡ is_newer e.body x.body
+unfolding is_taken
+taken-placed rows e i x h s = ap (replaces e) (row-placed rows e.sender (kind_of e.body) i x h s)
+
+pub taken-nowhere : (rows : List Sent) (e : Sent) → place_of rows e.sender (kind_of e.body) ≡ None → is_taken rows e ≡ true
+unfolding is_taken
+taken-nowhere rows e h = ap (replaces e) (row-nowhere rows e.sender (kind_of e.body) h)
+
+pub offered-taken : (rows : List Sent) (e : Sent) → is_taken rows e ≡ true → offered rows e ≡ with_row e rows
+unfolding offered
+offered-taken rows e h = ap (λ b. if b then with_row e rows else rows) h
+
+pub offered-stale : (rows : List Sent) (e : Sent) → is_taken rows e ≡ false → offered rows e ≡ rows
+unfolding offered
+offered-stale rows e h = ap (λ b. if b then with_row e rows else rows) h
+
+-- ---- what a row more, and a row replaced, leave indexed
+pub indexed-set : (rows : List Sent) (index : List Places) (e : Sent) (i : ℕ) → IsIndexed rows index → place_of rows e.sender (kind_of e.body) ≡ Some i → IsIndexed (set rows i e) index
+indexed-set rows index e i h p = record {
+  single = ap has_single_rows (sym (with_row-set rows e i p)) ∙ single-with e rows h.single;
+  indexed = h.indexed ∙ sym (index-set rows i e e (place-within (is_row_of e.sender (kind_of e.body)) rows i e p).2);
+}
+
+pub indexed-push : (rows : List Sent) (index : List Places) (e : Sent) → IsIndexed rows index → place_of rows e.sender (kind_of e.body) ≡ None → IsIndexed (rows ++ e ∷ []) (noted index e.sender (kind_of e.body) (length rows))
+indexed-push rows index e h p = record {
+  single = ap has_single_rows (sym (with_row-push rows e p)) ∙ single-with e rows h.single;
+  indexed = ap (λ ps. noted ps e.sender (kind_of e.body) (length rows)) h.indexed ∙ index-push rows e p;
+}
+
+-- ---- as the code reads them, where the rows are what the table is now
+pub found-read : (rows now : List Sent) (index ps : List Places) (u : ℕ) (k : Kind) → IsIndexed rows index → rows ≡ now → ps ≡ index → found ps u k ≡ place_of now u k
+found-read rows now index ps u k h r p = ap (λ qs. found qs u k) p ∙ (indexed-found rows index u k h ∙ ap (λ xs. place_of xs u k) r)
+
+senders-read : (rows now : List Sent) (index ps : List Places) (n : ℕ) → IsIndexed rows index → rows ≡ now → ps ≡ index → option_map (λ (p : Places). p.sender) (slice_get ps n) ≡ slice_get (senders now) n
+senders-read rows now index ps n h r p =
+    ap (λ qs. option_map (λ (q : Places). q.sender) (slice_get qs n)) p ∙ (indexed-sender rows index n h ∙ ap (λ xs. slice_get (senders xs) n) r)
+
+pub sender-read : (rows now : List Sent) (index ps : List Places) (n : ℕ) (x : Places) → IsIndexed rows index → rows ≡ now → ps ≡ index → n < length ps → x ≡ get_or ps n x → Some x.sender ≡ slice_get (senders now) n
+sender-read rows now index ps n x h r p l e =
+    sym (ap (option_map (λ (q : Places). q.sender)) (slice_get_read ps (length ps) n x refl l e)) ∙ senders-read rows now index ps n h r p
+
+pub no_sender-read : (rows now : List Sent) (index ps : List Places) (n : ℕ) → IsIndexed rows index → rows ≡ now → ps ≡ index → length ps ≤ n → None ≡ slice_get (senders now) n
+no_sender-read rows now index ps n h r p l =
+    sym (ap (option_map (λ (q : Places). q.sender)) (slice_get_past ps n l)) ∙ senders-read rows now index ps n h r p
+
+pub row-read : (rows now : List Sent) (u : ℕ) (k : Kind) (i : ℕ) (x : Sent) → rows ≡ now → Some i ≡ place_of now u k → x ≡ get_or rows i x → Some x ≡ row now u k
+row-read rows now u k i x r h e = sym (row-placed now u k i x (sym h) (e ∙ ap (λ xs. get_or xs i x) r))
+
+pub taken-read : (rows now : List Sent) (e x : Sent) (i : ℕ) → rows ≡ now → place_of now e.sender (kind_of e.body) ≡ Some i → x ≡ get_or rows i x → is_newer e.body x.body ≡ is_taken now e
+taken-read rows now e x i r h s = sym (taken-placed now e i x h (s ∙ ap (λ xs. get_or xs i x) r))
+
+pub set-read : (rows now : List Sent) (index : List Places) (e : Sent) (i : ℕ) → IsIndexed rows index → rows ≡ now → place_of now e.sender (kind_of e.body) ≡ Some i → IsIndexed (set rows i e) index
+set-read rows now index e i h r p = indexed-set rows index e i h (ap (λ xs. place_of xs e.sender (kind_of e.body)) r ∙ p)
+
+pub replaced-read : (rows now : List Sent) (e : Sent) (i : ℕ) → rows ≡ now → place_of now e.sender (kind_of e.body) ≡ Some i → set rows i e ≡ with_row e now
+replaced-read rows now e i r p = ap (λ xs. set xs i e) r ∙ sym (with_row-set now e i p)
+
+pub push-read : (rows now more : List Sent) (index noted_index : List Places) (e : Sent) (u : ℕ) (k : Kind) (n : ℕ)
+    → IsIndexed rows index → rows ≡ now → place_of now e.sender (kind_of e.body) ≡ None
+    → u ≡ e.sender → k ≡ kind_of e.body → n ≡ length rows → more ≡ rows ++ e ∷ [] → noted_index ≡ noted index u k n → IsIndexed more noted_index
+push-read rows now more index noted_index e u k n h r p a b c d f =
+    subst (λ xs. IsIndexed xs noted_index) (sym d) (subst (λ ps. IsIndexed (rows ++ e ∷ []) ps) (sym (f ∙ same)) (indexed-push rows index e h (ap (λ xs. place_of xs e.sender (kind_of e.body)) r ∙ p)))
+  where
+    same : noted index u k n ≡ noted index e.sender (kind_of e.body) (length rows)
+    same = ap (λ w. noted index w k n) a ∙ (ap (λ j. noted index e.sender j n) b ∙ ap (noted index e.sender (kind_of e.body)) c)
+
+-- ---- what an answer to an offer says
+abbrev pub IsAnswer : List Sent → Sent → Offer → List Sent → Type 0
+IsAnswer old e Replaced new = (is_taken old e ≡ true) × (new ≡ with_row e old)
+IsAnswer old e Stale new = (is_taken old e ≡ false) × (new ≡ old)
+IsAnswer old e NoMemory new = (place_of old e.sender (kind_of e.body) ≡ None) × (new ≡ old)
+
+pub answer-stale : (old : List Sent) (e : Sent) (o : Offer) (new : List Sent) → IsAnswer old e o new → (o ≡ Stale) ↔ (is_taken old e ≡ false)
+answer-stale old e Replaced new h = (λ s. cc, λ f. absurd (true≢false (sym h.0 ∙ f)))
+answer-stale old e Stale new h = (λ s. h.0, λ f. refl)
+answer-stale old e NoMemory new h = (λ s. cc, λ f. absurd (true≢false (sym (taken-nowhere old e h.0) ∙ f)))
+
+pub answer-table : (old : List Sent) (e : Sent) (o : Offer) (new : List Sent) → IsAnswer old e o new → o ≢ NoMemory → new ≡ offered old e
+answer-table old e Replaced new h n = h.1 ∙ sym (offered-taken old e h.0)
+answer-table old e Stale new h n = h.1 ∙ sym (offered-stale old e h.0)
+answer-table old e NoMemory new h n = absurd (n refl)
+
+pub answer-memory : (old : List Sent) (e : Sent) (o : Offer) (new : List Sent) → IsAnswer old e o new → o ≡ NoMemory → row old e.sender (kind_of e.body) ≡ None
+answer-memory old e Replaced new h m = cc
+answer-memory old e Stale new h m = cc
+answer-memory old e NoMemory new h m = row-nowhere old e.sender (kind_of e.body) h.0
+
+pub answer-whole : (old : List Sent) (e : Sent) (o : Offer) (new : List Sent) → IsAnswer old e o new → (taken : List Sent) → old ≡ table_after taken → o ≢ NoMemory → new ≡ table_after (taken ++ e ∷ [])
+answer-whole old e o new h taken t n = answer-table old e o new h n ∙ (ap (λ es. offered es e) t ∙ sym (table_after-push taken e))
+
+pub nowhere-read : (now : List Sent) (e : Sent) (u : ℕ) (k : Kind) → u ≡ e.sender → k ≡ kind_of e.body → None ≡ place_of now u k → place_of now e.sender (kind_of e.body) ≡ None
+nowhere-read now e u k a b h = sym (h ∙ ap₂ (λ w j. place_of now w j) a b)
+
+pub senders-counted : (rows now : List Sent) (index : List Places) → IsIndexed rows index → rows ≡ now → length index ≡ length (senders now)
+unfolding index_of
+senders-counted rows now index h e = ap length h.indexed ∙ length-map (senders rows) (places_of rows) ∙ ap (λ r. length (senders r)) e

@@ -1,0 +1,68 @@
+-- Where in a list of rows the rows of a sender stand.
+use Rattle.std.specs.Prelude.{◌≡◌, ◌≢◌, ◌<◌, ◌≤◌, ℕ, suc, length, slice_index_or, Result, Ok, Err, Bool, true, List, [], ◌∷◌, ◌==◌, ◌&&◌, nat_lt, cond, map, Option, Some, None, option_map, if◌then◌else◌}
+use Rattle.std.specs.List.{list_all, prefix_len}
+use Rattle.types.specs.declared.kind.Kind.{Kind}
+use Rattle.types.specs.declared.kind.Kind.TheVariants.{Nomination}
+use Rattle.types.specs.Statements.{Sent}
+use Rattle.protocol.specs.Rows.{is_row_of, has_single_rows}
+use Rattle.latest.specs.declared.places.Places.{Places}
+use Rattle.latest.specs.Senders.{senders}
+
+-- the index of the first element that passes the test
+abbrev pub place_by : {X : Type 0} → (X → Bool) → List X → Option ℕ
+place_by test [] = None
+place_by test (x ∷ xs) = cond (test x) (Some 0) (option_map suc (place_by test xs))
+
+-- the place of a sender's row of a kind
+abbrev pub place_of : List Sent → ℕ → Kind → Option ℕ
+place_of rows u k = place_by (is_row_of u k) rows
+
+-- the places of both its rows
+abbrev pub places_of : List Sent → ℕ → Places
+places_of rows u = record { sender = u; nomination = place_of rows u Nomination; ballot = place_of rows u Kind.Ballot }
+
+-- the places of all senders, ascending by name
+unfoldable pub index_of : List Sent → List Places
+index_of rows = map (places_of rows) (senders rows)
+
+-- ---- one place more
+abbrev pub place_in : Places → Kind → Option ℕ
+place_in p Nomination = p.nomination
+place_in p Kind.Ballot = p.ballot
+
+abbrev pub with_place : Places → Kind → ℕ → Places
+with_place p Nomination n = record p { nomination = Some n }
+with_place p Kind.Ballot n = record p { ballot = Some n }
+
+-- the places of a sender with a single row
+abbrev pub only_place : ℕ → Kind → ℕ → Places
+only_place u k n = with_place (record { sender = u; nomination = None; ballot = None }) k n
+
+-- each sender of an index is below all later ones
+abbrev pub ascends : List Places → Bool
+ascends [] = true
+ascends (p ∷ ps) = list_all (λ q. nat_lt p.sender q.sender) ps && ascends ps
+
+-- how many senders are below a name
+abbrev pub count_below : List Places → ℕ → ℕ
+count_below index u = prefix_len (λ p. nat_lt p.sender u) index
+
+-- where the sender is, or where it belongs
+abbrev pub IsSearched : List Places → ℕ → Result ℕ ℕ → Type 0
+IsSearched index u (Ok i) = (i ≡ count_below index u) × (i < length index) × ((d : Places) → (slice_index_or index i d).sender ≡ u)
+IsSearched index u (Err i) = (i ≡ count_below index u) × (i ≤ length index) × ((d : Places) → i < length index → (slice_index_or index i d).sender ≢ u)
+
+-- the place that an index has for a sender's row of a kind
+abbrev pub found : List Places → ℕ → Kind → Option ℕ
+found [] u k = None
+found (p ∷ ps) u k = if p.sender == u then place_in p k else found ps u k
+
+-- an index in which a sender's row of a kind has this place
+abbrev pub noted : List Places → ℕ → Kind → ℕ → List Places
+noted [] u k n = only_place u k n ∷ []
+noted (p ∷ ps) u k n = if nat_lt p.sender u then p ∷ noted ps u k n else (if p.sender == u then with_place p k n ∷ ps else only_place u k n ∷ p ∷ ps)
+
+-- rows with their index
+pub record IsIndexed (rows : List Sent) (index : List Places) : Type 0 where
+  pub single : has_single_rows rows ≡ true
+  pub indexed : index ≡ index_of rows

@@ -1,0 +1,14 @@
+//! The newest statements of nodes: a table that keeps one row of each sender and kind.
+#![tactic(auto)]
+
+mod newer;
+mod places;
+mod senders;
+mod table;
+
+pub use newer::is_newer;
+pub use senders::senders_are_those_with_a_row;
+pub use table::{Offer, Table};
+
+#[cfg(test)]
+mod tests;

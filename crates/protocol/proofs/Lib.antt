@@ -1,0 +1,12 @@
+pub mod SetLaws
+pub mod SatisfactionLaws
+pub mod QuorumLaws
+pub mod WorkedSlices
+pub mod Order
+pub mod Tables
+pub mod Histories
+pub mod WorkedRows
+pub mod BlockingLaws
+pub mod ClosureLaws
+pub mod ReachLaws
+pub mod WorkedReach

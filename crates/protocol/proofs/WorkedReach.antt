@@ -1,0 +1,68 @@
+-- Who is reached, in small tables: a ring of three, a stranger that names a member, and a stranger that a member names.
+use Rattle.std.proofs.Common.{◌≡◌, ℕ, Bool, true, false, List, [], ◌∷◌, map, refl}
+use Rattle.types.specs.declared.statement.Statement.TheVariants.{Nominate}
+use Rattle.types.specs.Statements.{Sent}
+use Rattle.types.specs.Trees.{Slices, node, none}
+use Rattle.protocol.specs.Sets.{some_set, every_set}
+use Rattle.protocol.specs.Closures.{in_least}
+use Rattle.protocol.specs.Reach.{reached}
+
+abbrev A : ℕ
+A = 65
+
+abbrev B : ℕ
+B = 66
+
+abbrev C : ℕ
+C = 67
+
+abbrev D : ℕ
+D = 68
+
+abbrev Z : ℕ
+Z = 90
+
+abbrev X : ℕ
+X = 88
+
+-- the slices 1[u]
+abbrev just : ℕ → Slices
+just u = record { threshold = 1; members = node u none }
+
+-- the slices 2[B,C,D]
+abbrev two_of_three : Slices
+two_of_three = record { threshold = 2; members = node B (node C (node D none)) }
+
+-- a row of a node that has slices 1[named]
+abbrev names_one : ℕ → ℕ → Sent
+names_one u named = record { sender = u; slot = 1; slices = just named; body = Nominate ((X ∷ []) ∷ []) [] }
+
+-- which of A, B, C, D, Z and X are reached by A
+abbrev reaches : Slices → List Sent → List Bool
+reaches configured table = map (reached A configured table) (A ∷ B ∷ C ∷ D ∷ Z ∷ X ∷ [])
+
+-- A has 1[B], B has 1[C], C has 1[A]
+abbrev ring : List Sent
+ring = names_one A B ∷ names_one B C ∷ names_one C A ∷ []
+
+pub ring_reaches_its_three : reaches (just B) ring ≡ true ∷ true ∷ true ∷ false ∷ false ∷ false ∷ []
+unfolding some_set every_set in_least reached
+ring_reaches_its_three = refl
+
+pub stranger_that_names_a_member : reaches (just B) (names_one Z A ∷ ring) ≡ true ∷ true ∷ true ∷ false ∷ false ∷ false ∷ []
+unfolding some_set every_set in_least reached
+stranger_that_names_a_member = refl
+
+pub stranger_that_a_member_names : reaches two_of_three (names_one D Z ∷ []) ≡ true ∷ true ∷ true ∷ true ∷ true ∷ false ∷ []
+unfolding some_set every_set in_least reached
+stranger_that_a_member_names = refl
+
+-- a row of the node itself counts, beside its configured slices
+pub own_row_counts : reaches (just B) (names_one A Z ∷ []) ≡ true ∷ true ∷ false ∷ false ∷ true ∷ false ∷ []
+unfolding some_set every_set in_least reached
+own_row_counts = refl
+
+-- it reaches itself, though nothing names it
+pub alone_reaches_itself : reaches (just B) [] ≡ true ∷ true ∷ false ∷ false ∷ false ∷ false ∷ []
+unfolding some_set every_set in_least reached
+alone_reaches_itself = refl

@@ -1,0 +1,5 @@
+use Rattle.protocol.proofs.ClosureLaws.{closures_derived}
+use Rattle.protocol.proofs.closures.closures_are_derived.Goals as goal
+
+pub returns : goal.returns
+returns c = closures_derived

@@ -1,0 +1,5 @@
+use Rattle.protocol.proofs.ClosureLaws.{closures_least}
+use Rattle.protocol.proofs.closures.closures_are_least.Goals as goal
+
+pub returns : goal.returns
+returns c = closures_least

@@ -1,0 +1,5 @@
+use Rattle.protocol.proofs.ReachLaws.{reach_names}
+use Rattle.protocol.proofs.closures.reach_holds_names.Goals as goal
+
+pub returns : goal.returns
+returns c = reach_names

@@ -1,0 +1,5 @@
+use Rattle.protocol.proofs.SatisfactionLaws.{blocking_counted}
+use Rattle.protocol.proofs.quorums.blocking_is_counted.Goals as goal
+
+pub returns : goal.returns
+returns c = blocking_counted

@@ -1,0 +1,5 @@
+use Rattle.protocol.proofs.QuorumLaws.{cut_claim}
+use Rattle.protocol.proofs.quorums.quorum_cut.Goals as goal
+
+pub returns : goal.returns
+returns c = cut_claim

@@ -1,0 +1,5 @@
+use Rattle.protocol.proofs.QuorumLaws.{quorums_found}
+use Rattle.protocol.proofs.quorums.quorums_are_found.Goals as goal
+
+pub returns : goal.returns
+returns c = quorums_found

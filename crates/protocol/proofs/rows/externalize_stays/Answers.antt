@@ -1,0 +1,5 @@
+use Rattle.protocol.proofs.Tables.{externalize_row-stays}
+use Rattle.protocol.proofs.rows.externalize_stays.Goals as goal
+
+pub returns : goal.returns
+returns c = externalize_row-stays

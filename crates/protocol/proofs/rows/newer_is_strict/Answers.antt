@@ -1,0 +1,5 @@
+use Rattle.protocol.proofs.Order.{newer-itself, newer-along}
+use Rattle.protocol.proofs.rows.newer_is_strict.Goals as goal
+
+pub returns : goal.returns
+returns c = record { itself = newer-itself; along = newer-along }

@@ -1,0 +1,5 @@
+use Rattle.protocol.proofs.Tables.{single-after}
+use Rattle.protocol.proofs.rows.rows_are_single.Goals as goal
+
+pub returns : goal.returns
+returns c = single-after

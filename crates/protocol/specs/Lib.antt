@@ -1,0 +1,10 @@
+pub mod Sets
+pub mod Satisfaction
+pub mod Quorums
+pub mod Weights
+pub mod Newer
+pub mod Rows
+pub mod History
+pub mod Backing
+pub mod Closures
+pub mod Reach

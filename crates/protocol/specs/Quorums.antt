@@ -1,0 +1,55 @@
+-- Quorums of a partial map from names to slices, for slices of any kind.
+use Rattle.std.specs.Prelude.{◌≡◌, ℕ, List, Bool, false, not, ◌&&◌, ◌||◌, Option, Some, None, IsTrue, ◌↔◌}
+use Rattle.std.specs.List.{list_all}
+use Rattle.types.specs.Trees.{Slices}
+use Rattle.protocol.specs.Sets.{Names, among, both, some_set, AreWithin}
+use Rattle.protocol.specs.Satisfaction.{sat, names}
+
+-- a node has slices, and the set satisfies them
+abbrev pub is_satisfied : {Q : Type 0} → (Q → Names → Bool) → Option Q → Names → Bool
+is_satisfied sat None set = false
+is_satisfied sat (Some q) set = sat q set
+
+-- a quorum: not empty, and each node in it has slices that the whole set satisfies
+pub record Quorum {Q : Type 0} (sat : Q → Names → Bool) (slices_at : ℕ → Option Q) (set : Names) : Type 0 where
+  pub some : (u : ℕ) × IsTrue (set u)
+  pub each : (u : ℕ) → IsTrue (set u) → IsTrue (is_satisfied sat (slices_at u) set)
+
+-- some quorum within the supporters contains the node
+pub record HasQuorum {Q : Type 0} (sat : Q → Names → Bool) (slices_at : ℕ → Option Q) (supporters : Names) (node : ℕ) : Type 0 where
+  pub set : Names
+  pub quorum : Quorum sat slices_at set
+  pub within : AreWithin set supporters
+  pub member : IsTrue (set node)
+
+-- the same as a test, over the sets of the listed names
+unfoldable pub has_quorum : {Q : Type 0} → (Q → Names → Bool) → (ℕ → Option Q) → List ℕ → Names → ℕ → Bool
+has_quorum sat slices_at all supporters node =
+    some_set all (λ set. set node && list_all (λ u. not (set u) || (supporters u && is_satisfied sat (slices_at u) set)) all)
+
+-- every node that has slices is listed
+abbrev pub Lists : {Q : Type 0} → List ℕ → (ℕ → Option Q) → Type 0
+Lists {Q} all slices_at = (u : ℕ) (q : Q) → slices_at u ≡ Some q → IsTrue (among all u)
+
+-- the test finds exactly the quorums that exist
+abbrev pub QuorumsAreFound : Type 0
+QuorumsAreFound = (slices_at : ℕ → Option Slices) (all : List ℕ) (supporters : Names) (node : ℕ) → Lists all slices_at
+    → IsTrue (has_quorum sat slices_at all supporters node) ↔ HasQuorum sat slices_at supporters node
+
+-- the part of a set that lies in a region
+abbrev pub cut : Names → Names → Names
+cut region set = both region set
+
+-- a region holds all names of these nodes' slices
+abbrev pub HoldsNamesOf : {Q : Type 0} → (Q → List ℕ) → (ℕ → Option Q) → (nodes region : Names) → Type 0
+HoldsNamesOf {Q} names slices_at nodes region = (u : ℕ) (q : Q) → IsTrue (nodes u) → slices_at u ≡ Some q → AreWithin (among (names q)) region
+
+-- a region holds all names of its members' slices
+abbrev pub NamesWithin : {Q : Type 0} → (Q → List ℕ) → (ℕ → Option Q) → Names → Type 0
+NamesWithin names slices_at region = HoldsNamesOf names slices_at region region
+
+-- a quorum, cut to a set that contains the names of its members' slices, is a quorum as soon as one name is left
+abbrev pub Cut : Type 0
+Cut = (slices_at : ℕ → Option Slices) (set region : Names) → Quorum sat slices_at set
+    → HoldsNamesOf names slices_at (cut region set) region
+    → (u : ℕ) → IsTrue (cut region set u) → Quorum sat slices_at (cut region set)

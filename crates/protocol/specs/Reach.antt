@@ -1,0 +1,56 @@
+-- The reach of a node: whom it may come to depend on, by its own slices and by the rows of a table.
+use Rattle.std.specs.Prelude.{◌≡◌, ℕ, List, [], ◌∷◌, map, IsTrue, ◌↔◌}
+use Rattle.std.specs.List.{Contains}
+use Rattle.types.specs.Trees.{Slices}
+use Rattle.types.specs.declared.kind.Kind.{Kind}
+use Rattle.types.specs.Statements.{Sent}
+use Rattle.protocol.specs.Sets.{Names, among, AreWithin}
+use Rattle.protocol.specs.Satisfaction.{names}
+use Rattle.protocol.specs.Quorums.{NamesWithin}
+use Rattle.protocol.specs.Backing.{slices_by}
+use Rattle.protocol.specs.Closures.{Rule, in_least}
+
+-- where the sender of a row is in, so are the names of its slices
+abbrev pub rule_of : Sent → Rule
+rule_of e = record { sources = e.sender ∷ []; gives = names e.slices }
+
+-- the rules of a node: one by its configured slices, and one by each row of the table, of either kind
+abbrev pub rules_of : ℕ → Slices → List Sent → List Rule
+rules_of own configured table = record { sources = own ∷ []; gives = names configured } ∷ map rule_of table
+
+-- the nodes that a node reaches: itself, the names of its configured slices, and the names in any row whose sender is reached
+unfoldable pub reached : ℕ → Slices → List Sent → Names
+reached own configured table = in_least (rules_of own configured table) own
+
+-- a node is named in the slices of another: in the configured ones of the node itself, or in those of a row
+pub data IsNamed (own : ℕ) (configured : Slices) (table : List Sent) (by u : ℕ) : Type 0 where
+  in_configuration : own ≡ by → IsTrue (among (names configured) u) → IsNamed own configured table by u
+  in_row : (e : Sent) → Contains table e → e.sender ≡ by → IsTrue (among (names e.slices) u) → IsNamed own configured table by u
+
+-- a chain from a node to another: each next one is named in the slices of the one before
+pub data Chain (own : ℕ) (configured : Slices) (table : List Sent) : ℕ → Type 0 where
+  here : Chain own configured table own
+  next : {by u : ℕ} → Chain own configured table by → IsNamed own configured table by u → Chain own configured table u
+
+-- a set contains the node and the names of its configured slices, and of each row whose sender is in it the names
+pub record HoldsReach (own : ℕ) (configured : Slices) (table : List Sent) (set : Names) : Type 0 where
+  pub itself : IsTrue (set own)
+  pub configuration : AreWithin (among (names configured)) set
+  pub rows : (e : Sent) → Contains table e → IsTrue (set e.sender) → AreWithin (among (names e.slices)) set
+
+-- it is such a set, and lies in each of them
+pub record IsLeastReach (own : ℕ) (configured : Slices) (table : List Sent) (set : Names) : Type 0 where
+  pub holds : HoldsReach own configured table set
+  pub least : (other : Names) → HoldsReach own configured table other → AreWithin set other
+
+-- the reach is the least such set
+abbrev pub ReachIsLeast : Type 0
+ReachIsLeast = (own : ℕ) (configured : Slices) (table : List Sent) → IsLeastReach own configured table (reached own configured table)
+
+-- a node is reached exactly where a chain leads to it
+abbrev pub ReachFollowsChains : Type 0
+ReachFollowsChains = (own : ℕ) (configured : Slices) (table : List Sent) (u : ℕ) → IsTrue (reached own configured table u) ↔ Chain own configured table u
+
+-- the reach holds all names of its members' slices, by the configuration and by the rows of either kind
+abbrev pub ReachHoldsNames : Type 0
+ReachHoldsNames = (own : ℕ) (configured : Slices) (table : List Sent) (kind : Kind) → NamesWithin names (slices_by own configured table kind) (reached own configured table)

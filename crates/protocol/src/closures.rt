@@ -1,0 +1,33 @@
+//! Laws of closures, and of the reach of a node.
+
+ghost use Rattle.protocol.specs.Closures.{ClosuresAreDerived, ClosuresAreLeast};
+ghost use Rattle.protocol.specs.Reach.{ReachFollowsChains, ReachHoldsNames, ReachIsLeast};
+
+/// The closure of a name contains it, keeps each rule, and lies in every set that does both.
+pub fn closures_are_least()
+    ensures { ClosuresAreLeast }
+{}
+
+/// A name is in a closure exactly where it is derived: it is the first name, or a rule gives it whose
+/// sources are all derived.
+pub fn closures_are_derived()
+    ensures { ClosuresAreDerived }
+{}
+
+/// The reach of a node contains it, the names of its configured slices, and the names in any row
+/// whose sender is reached; and it lies in every set that does (this host's profile).
+pub fn reach_is_least()
+    ensures { ReachIsLeast }
+{}
+
+/// A node is reached exactly where a chain leads to it, each next node being named in the slices of
+/// the one before, by the configuration or by a row.
+pub fn reach_follows_chains()
+    ensures { ReachFollowsChains }
+{}
+
+/// The reach holds all names of its members' slices, by the configuration and by the rows of either
+/// kind. So a quorum test may be cut to it.
+pub fn reach_holds_names()
+    ensures { ReachHoldsNames }
+{}

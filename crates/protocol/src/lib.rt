@@ -1,0 +1,20 @@
+//! The protocol's own words: sets of names, satisfaction, quorums and blocking sets, newer statements
+//! and the rows of a table, as definitions in `specs/`, and the theorems that speak of them alone.
+//!
+//! There is no program here. Each function is a law: it does nothing, and its contract is a theorem
+//! about the definitions that every crate above cites.
+#![tactic(auto)]
+
+mod closures;
+mod quorums;
+mod rows;
+
+pub use closures::{
+    closures_are_derived, closures_are_least, reach_follows_chains, reach_holds_names,
+    reach_is_least,
+};
+pub use quorums::{blocking_is_counted, quorum_cut, quorums_are_found};
+pub use rows::{
+    externalize_stays, newer_is_strict, offers_change_one_row, rows_are_single,
+    rows_follow_from_all_offers, statements_are_ordered,
+};

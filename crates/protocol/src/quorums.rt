@@ -1,0 +1,21 @@
+//! Laws of quorums and blocking sets.
+
+ghost use Rattle.protocol.specs.Satisfaction.{BlockingIsCounted};
+ghost use Rattle.protocol.specs.Quorums.{QuorumsAreFound, Cut};
+
+/// A set blocks slices, no set apart from it satisfying them, exactly when counting down the tree
+/// finds fewer members left than the threshold (Mazières 2015, of v-blocking sets).
+pub fn blocking_is_counted()
+    ensures { BlockingIsCounted }
+{}
+
+/// A quorum that contains a node exists exactly when one is found among the sets of the nodes that
+/// have slices (Mazières 2015, of quorums).
+pub fn quorums_are_found()
+    ensures { QuorumsAreFound }
+{}
+
+/// A quorum, cut to a set that contains the names of its members' slices, is a quorum or empty.
+pub fn quorum_cut()
+    ensures { Cut }
+{}

@@ -1,0 +1,4 @@
+pub mod Forms
+pub mod ScriptLemmas
+pub mod InputLemmas
+mod Supporting

@@ -1,0 +1,23 @@
+-- The command line as clap is told of it.
+use Rattle.std.specs.Prelude.{Bool, List, true, codes}
+use Rattle.clap.specs.Words.{App, Rule, new_app, new_rule, takes, with_rule, with_subcommand}
+use Rattle.scphost.specs.Words.{Text}
+
+abbrev pub file_rule : Rule
+file_rule = record (new_rule (codes "FILE")) { required = true }
+
+abbrev pub table_command : App
+table_command = with_rule (new_app (codes "table")) file_rule
+
+abbrev pub bare_command : App
+bare_command =
+    let new = new_app (codes "scphost") in
+    record new { top = record new.top { no_binary_name = true; subcommand_required = true } }
+
+-- the whole command line
+unfoldable pub whole_command : App
+whole_command = with_subcommand bare_command table_command.top
+
+-- clap takes the words
+unfoldable pub clap_takes : List Text → Bool
+clap_takes words = takes whole_command words

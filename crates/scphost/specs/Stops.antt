@@ -1,0 +1,37 @@
+-- How a run may end before its end, and the status of each.
+use Rattle.std.specs.Prelude.{◌≡◌, ◌⊎◌, ◌==◌, ℕ, [], ◌∷◌, IsTrue, Result, MatchResult}
+use Rattle.std.specs.List.{list_any}
+use Rattle.scphost.specs.declared.call.Usage.{Usage}
+use Rattle.scphost.specs.declared.call.Usage.TheVariants as usage
+use Rattle.scphost.specs.declared.input.ReadError.{ReadError}
+use Rattle.scphost.specs.declared.input.ReadError.TheVariants as read
+use Rattle.scphost.specs.declared.run.Stop.{Stop}
+use Rattle.scphost.specs.declared.run.Stop.TheVariants as stop
+
+abbrev pub stop_of_read : ReadError → Stop
+stop_of_read read.CannotRead = stop.CannotRead
+stop_of_read read.TooLong = stop.TooLong
+stop_of_read read.NoMemory = stop.NoMemory
+
+-- the exit status: 2 for a script at fault, 3 for want of memory, 4 for a write that failed
+abbrev pub status_of : Stop → ℕ
+status_of stop.CannotRead = 2
+status_of stop.TooLong = 2
+status_of (stop.BadLine number) = 2
+status_of stop.NoMemory = 3
+status_of stop.CannotWrite = 4
+
+-- the status is one of those that the command line has
+abbrev pub IsStatus : ℕ → Type 0
+IsStatus status = IsTrue (list_any (λ known. known == status) (0 ∷ 2 ∷ 3 ∷ 4 ∷ []))
+
+-- the status of a run
+abbrev pub IsStatusOf : Result (Unit {0}) Stop → ℕ → Type 0
+IsStatusOf ran status = MatchResult ran (λ _. status ≡ 0) (λ stop. status ≡ status_of stop)
+
+-- the status that answers words that are no call: help was written or not, or the words are at
+-- fault, or there was no memory
+abbrev pub IsRefusal : Usage → ℕ → Type 0
+IsRefusal (usage.Help text) status = (status ≡ 0) ⊎ (status ≡ 4)
+IsRefusal (usage.Bad text) status = status ≡ 2
+IsRefusal usage.NoMemory status = status ≡ 3

@@ -1,0 +1,93 @@
+//! Carrying out a call: its files are run, and the status is answered.
+
+ghost use Rattle.std.specs.Prelude.{◌≡◌};
+ghost use Rattle.scphost.specs.Stops.{IsRefusal, IsStatus, IsStatusOf, status_of};
+
+use crate::call::{Call, Usage};
+use crate::run::{Stop, run_script};
+use crate::table_run::TableRun;
+use std::alloc::Global;
+use std::io::{Read, Write};
+
+/// The status of a call that was carried out.
+pub const DONE: u8 = 0;
+
+/// The status of bad usage and of a script at fault.
+pub const FAULT: u8 = 2;
+
+/// The status where there was no memory.
+pub const NO_MEMORY: u8 = 3;
+
+/// The status where a write failed.
+pub const NO_WRITE: u8 = 4;
+
+/// Carries out a call on the files that it names, in their order, of which the second is empty
+/// where it names one, and answers the exit status.
+///
+/// What the call prints goes to `out`, and one line on what ended it early to `err`: status 2 for
+/// a file that cannot be read, is too long or has a bad line, 3 for want of memory, 4 for a write
+/// to `out` that failed. What lines before a bad one printed is written by then. A write to `err`
+/// that fails changes nothing.
+pub fn perform<A: AllocGlobal, R: Read, T: Read, W: Write, E: Write>(
+    rt: &A,
+    call: &Call,
+    first: &mut R,
+    _second: &mut T,
+    out: &mut W,
+    err: &mut E,
+) -> u8
+    ensures { IsStatus result }
+{
+    let alloc = rt.alloc();
+    match call {
+        Call::Table { file } => {
+            let ran = run_script(alloc, &mut TableRun::new(), first, out);
+            answer(ran, file.as_str(), err)
+        }
+    }
+}
+
+/// Answers words that are no call: prints the text where it belongs, and gives the exit status.
+pub fn refuse<W: Write, E: Write>(usage: &Usage, out: &mut W, err: &mut E) -> u8
+    ensures { IsRefusal usage.now result }
+{
+    match usage {
+        Usage::Help(text) => match write!(out, "{text}").and_then(|()| out.flush()) {
+            Ok(()) => DONE,
+            Err(_) => report(Stop::CannotWrite, "", err),
+        },
+        Usage::Bad(text) => {
+            let _ = write!(err, "{text}");
+            FAULT
+        }
+        Usage::NoMemory => report(Stop::NoMemory, "", err),
+    }
+}
+
+// The status of a run of the named file.
+fn answer<E: Write>(ran: Result<(), Stop>, file: &str, err: &mut E) -> u8
+    ensures { IsStatusOf ran result }
+{
+    match ran {
+        Ok(()) => DONE,
+        Err(stop) => report(stop, file, err),
+    }
+}
+
+/// Says on `err` why the run of the named file ended, and gives the exit status.
+pub fn report<E: Write>(stop: Stop, file: &str, err: &mut E) -> u8
+    ensures { result ≡ status_of stop }
+{
+    let _ = match stop {
+        Stop::CannotRead => writeln!(err, "cannot read {file}"),
+        Stop::TooLong => writeln!(err, "file too long"),
+        Stop::BadLine(number) => writeln!(err, "bad script line {number}"),
+        Stop::NoMemory => writeln!(err, "no memory"),
+        Stop::CannotWrite => writeln!(err, "cannot write"),
+    };
+    match stop {
+        Stop::CannotRead | Stop::TooLong | Stop::BadLine(_) => FAULT,
+        Stop::NoMemory => NO_MEMORY,
+        Stop::CannotWrite => NO_WRITE,
+    }
+}

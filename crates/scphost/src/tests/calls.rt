@@ -1,0 +1,77 @@
+//! The forms of the command line, and what is answered to other words.
+
+use crate::call::{Call, Usage, read_call};
+use std::alloc::Global;
+use std::process::Abort;
+
+// The words call `table` on the file.
+fn calls_table<A: Abort>(rt: &A, alloc: Global, words: &[&str], wanted: &str) {
+    match read_call(alloc, words) {
+        Ok(Call::Table { file }) => assert!(rt; file.as_str() == wanted, "{wanted}"),
+        Err(_usage) => assert!(rt; false, "refused: {wanted}"),
+    }
+}
+
+// The words are answered by a help text that has this part.
+fn helps<A: Abort>(rt: &A, alloc: Global, words: &[&str], part: &str) {
+    match read_call(alloc, words) {
+        Err(Usage::Help(text)) => assert!(rt; text.contains(part), "{text}"),
+        _other => assert!(rt; false, "no help: {part}"),
+    }
+}
+
+// The words are refused by a text that has this part.
+fn refuses<A: Abort>(rt: &A, alloc: Global, words: &[&str], part: &str) {
+    match read_call(alloc, words) {
+        Err(Usage::Bad(text)) => assert!(rt; text.contains(part), "{text}"),
+        _other => assert!(rt; false, "not refused: {part}"),
+    }
+}
+
+#[test]
+fn reads_each_form(rt: HostRuntime) {
+    let alloc = rt.alloc();
+    calls_table(&rt, alloc, &["table", "rows.txt"], "rows.txt");
+    calls_table(&rt, alloc, &["table", "-"], "-");
+    calls_table(&rt, alloc, &["table", ""], "");
+    calls_table(&rt, alloc, &["table", "--", "rows.txt"], "rows.txt");
+    calls_table(&rt, alloc, &["table", "--", "-x"], "-x");
+    calls_table(&rt, alloc, &["table", "--", "--"], "--");
+}
+
+#[test]
+fn helps_who_asks(rt: HostRuntime) {
+    let alloc = rt.alloc();
+    let whole = "Usage: scphost <COMMAND>";
+    helps(&rt, alloc, &["--help"], whole);
+    helps(&rt, alloc, &["-h"], whole);
+    helps(&rt, alloc, &["help"], whole);
+    let of_table = "Usage: scphost table <FILE>";
+    helps(&rt, alloc, &["table", "--help"], of_table);
+    helps(&rt, alloc, &["table", "-h", "rows.txt"], of_table);
+    helps(&rt, alloc, &["help", "table"], of_table);
+}
+
+#[test]
+fn refuses_other_words(rt: HostRuntime) {
+    let alloc = rt.alloc();
+    refuses(&rt, alloc, &[], "requires a subcommand");
+    refuses(&rt, alloc, &["table"], "<FILE>");
+    refuses(&rt, alloc, &["table", "--"], "<FILE>");
+    refuses(&rt, alloc, &["table", "a", "b"], "unexpected argument 'b'");
+    refuses(
+        &rt,
+        alloc,
+        &["tabel", "a"],
+        "unrecognized subcommand 'tabel'",
+    );
+    refuses(&rt, alloc, &["table", "-x"], "unexpected argument '-x'");
+    refuses(&rt, alloc, &["table", "--x"], "unexpected argument '--x'");
+    refuses(
+        &rt,
+        alloc,
+        &["--", "table", "a"],
+        "unexpected argument 'table'",
+    );
+    refuses(&rt, alloc, &["table", "a", "--"], "bad usage\n");
+}

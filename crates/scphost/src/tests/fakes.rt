@@ -1,0 +1,117 @@
+//! A reader, a writer and a runner of lines that fail when they are told to.
+
+use crate::run::LineRunner;
+use crate::script::LineError;
+use std::alloc::Global;
+use std::io;
+use std::io::{ErrorKind, Read, Write};
+
+/// Gives its bytes a few at a time, and fails at one of its calls.
+#[derive(Drop)]
+pub struct FakeReader<'a> {
+    bytes: &'a [u8],
+    at_most: usize,
+    calls: u32,
+    fails_at: u32,
+}
+
+impl<'a> FakeReader<'a> {
+    /// Gives at most `at_most` bytes a call, and fails at call number `fails_at`, or never at 0.
+    pub fn new(bytes: &'a [u8], at_most: usize, fails_at: u32) -> FakeReader<'a> {
+        FakeReader {
+            bytes,
+            at_most,
+            calls: 0,
+            fails_at,
+        }
+    }
+}
+
+impl Read for FakeReader<'_> {
+    fn read(&mut self, buf: &mut [u8]) -> io::Result<usize> {
+        self.calls = self.calls.saturating_add(1);
+        if self.calls == self.fails_at {
+            return Err(io::Error::from(ErrorKind::Other));
+        }
+        let count = buf.len().min(self.at_most).min(self.bytes.len());
+        buf[..count].copy_from_slice(&self.bytes[..count]);
+        self.bytes = &self.bytes[count..];
+        Ok(count)
+    }
+}
+
+/// Keeps what is written, takes it a few bytes at a time, and fails at one of its calls.
+#[derive(Drop)]
+pub struct FakeWriter {
+    /// What was written.
+    pub written: Vec<u8>,
+    /// How many calls of `write` and `flush` there were.
+    pub calls: u32,
+    /// Whether there was a call after the one that failed.
+    pub called_after_failure: bool,
+    at_most: usize,
+    fails_at: u32,
+}
+
+impl FakeWriter {
+    /// Takes at most `at_most` bytes a call, and fails at call number `fails_at`, or never at 0.
+    pub fn new(alloc: Global, at_most: usize, fails_at: u32) -> FakeWriter {
+        FakeWriter {
+            written: Vec::new(alloc),
+            calls: 0,
+            called_after_failure: false,
+            at_most,
+            fails_at,
+        }
+    }
+
+    fn call(&mut self) -> io::Result<()> {
+        self.calls = self.calls.saturating_add(1);
+        if self.fails_at != 0 && self.calls > self.fails_at {
+            self.called_after_failure = true;
+        }
+        if self.calls == self.fails_at {
+            return Err(io::Error::from(ErrorKind::Other));
+        }
+        Ok(())
+    }
+}
+
+impl Write for FakeWriter {
+    fn write(&mut self, buf: &[u8]) -> io::Result<usize> {
+        self.call()?;
+        let count = buf.len().min(self.at_most);
+        self.written.extend_from_slice(&buf[..count])?;
+        Ok(count)
+    }
+
+    fn flush(&mut self) -> io::Result<()> {
+        self.call()
+    }
+}
+
+/// Prints the last field of a line, except for three words: `quiet` prints nothing, `bad` is a bad
+/// line, and at `full` there is no memory.
+#[derive(Drop)]
+pub struct LastField {}
+
+impl LineRunner for LastField {
+    fn line(&mut self, alloc: Global, fields: &[&[u8]]) -> Result<Option<String>, LineError> {
+        let last = match fields.last() {
+            Some(field) => *field,
+            None => return Err(LineError::Bad),
+        };
+        match last {
+            b"quiet" => Ok(None),
+            b"bad" => Err(LineError::Bad),
+            b"full" => Err(LineError::NoMemory),
+            _ => match std::str::from_utf8(last) {
+                Ok(text) => match String::from_str(alloc, text) {
+                    Ok(text) => Ok(Some(text)),
+                    Err(_) => Err(LineError::NoMemory),
+                },
+                Err(_) => Err(LineError::Bad),
+            },
+        }
+    }
+}

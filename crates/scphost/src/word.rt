@@ -1,0 +1,37 @@
+//! Words of the command line.
+
+use std::alloc::{AllocError, Global};
+use std::marker::Model;
+
+/// A word of the command line as it was typed, such as the name of a file.
+#[derive(Drop)]
+pub struct Word {
+    text: String,
+}
+
+impl Model for Word {
+    ghost use Rattle.std.specs.Prelude.{ℕ, List, string_bytes};
+
+    ghost Value = { List ℕ };
+
+    ghost view = { λ w. string_bytes w.text };
+}
+
+impl Word {
+    ghost use Rattle.std.specs.Prelude.{◌≡◌, IfOk};
+
+    /// A copy of `text`. Fails only for want of memory.
+    pub fn new(alloc: Global, text: &str) -> Result<Word, AllocError>
+        ensures { IfOk result (λ w. w ≡ text.now) }
+    {
+        let text = String::from_str(alloc, text)?;
+        Ok(Word { text })
+    }
+
+    /// The word's text.
+    pub fn as_str(&self) -> &str
+        ensures { result.now ≡ self.now }
+    {
+        self.text.as_str()
+    }
+}

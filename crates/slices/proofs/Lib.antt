@@ -1,0 +1,3 @@
+pub mod MemberLaws
+pub mod SetLists
+pub mod WeighingLaws

@@ -1,0 +1,14 @@
+use Rattle.std.proofs.Common.{◌≡◌, ◌++◌, drop}
+use Rattle.types.specs.Trees.{names_in}
+use Rattle.types.specs.Shape.{members_of}
+use Rattle.slices.proofs.nested.+push_names.Given as goal
+
+abbrev pub decreases-push_names : goal.decreases-push_names
+decreases-push_names l = goal.size-push_names l
+
+abbrev pub invariant-loop-member : goal.invariant-loop-member
+invariant-loop-member l =
+    record {
+      shape : members_of l.members ≡ l.set.members;
+      pushed : l.names.items ++ names_in (members_of (drop l.member-index l.members)) ≡ l.fn.names.items ++ names_in l.set.members;
+    }

@@ -1,0 +1,15 @@
+//! Slices of nodes: which sets of nodes satisfy them, which block them, which nodes they name, and
+//! how much each name weighs.
+//!
+//! Everything above knows slices by the trait [`SliceFamily`] and its laws alone. A set of nodes is
+//! an ascending slice.
+#![tactic(auto)]
+
+mod family;
+mod nested;
+mod sets;
+mod weight;
+
+pub use family::SliceFamily;
+pub use sets::is_among;
+pub use weight::Weight;
