@@ -1,4 +1,1 @@
 pub mod Forms
-pub mod ScriptLemmas
-pub mod InputLemmas
-mod Supporting

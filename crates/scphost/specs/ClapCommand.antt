@@ -1,6 +1,7 @@
 -- The command line as clap is told of it.
 use Rattle.std.specs.Prelude.{Bool, List, true, codes}
-use Rattle.clap.specs.Words.{App, Rule, new_app, new_rule, takes, with_rule, with_subcommand}
+use Rattle.clap.specs.Words.{App, Kinds, Rule, fault_of, new_app, new_rule, takes, with_rule}
+use Rattle.clap.specs.Words.{with_subcommand}
 use Rattle.scphost.specs.Words.{Text}
 
 abbrev pub file_rule : Rule
@@ -21,3 +22,7 @@ whole_command = with_subcommand bare_command table_command.top
 -- clap takes the words
 unfoldable pub clap_takes : List Text → Bool
 clap_takes words = takes whole_command words
+
+-- the kinds of error that clap may answer the words with: none where it takes them
+unfoldable pub clap_faults : List Text → Kinds
+clap_faults words = fault_of whole_command words

@@ -1,17 +1,10 @@
--- How a run may end before its end, and the status of each.
+-- The exit status of each way to end.
 use Rattle.std.specs.Prelude.{◌≡◌, ◌⊎◌, ◌==◌, ℕ, [], ◌∷◌, IsTrue, Result, MatchResult}
 use Rattle.std.specs.List.{list_any}
 use Rattle.scphost.specs.declared.call.Usage.{Usage}
 use Rattle.scphost.specs.declared.call.Usage.TheVariants as usage
-use Rattle.scphost.specs.declared.input.ReadError.{ReadError}
-use Rattle.scphost.specs.declared.input.ReadError.TheVariants as read
-use Rattle.scphost.specs.declared.run.Stop.{Stop}
-use Rattle.scphost.specs.declared.run.Stop.TheVariants as stop
-
-abbrev pub stop_of_read : ReadError → Stop
-stop_of_read read.CannotRead = stop.CannotRead
-stop_of_read read.TooLong = stop.TooLong
-stop_of_read read.NoMemory = stop.NoMemory
+use Rattle.scripts.specs.declared.run.Stop.{Stop}
+use Rattle.scripts.specs.declared.run.Stop.TheVariants as stop
 
 -- the exit status: 2 for a script at fault, 3 for want of memory, 4 for a write that failed
 abbrev pub status_of : Stop → ℕ

@@ -1,11 +1,11 @@
 //! The command line: which words are a call, and what is answered to all others.
 
-ghost use Rattle.std.specs.Prelude.{◌≡◌, ◌⊎◌, List, true, map, IfOk, Ok, Err, IsOkUnless, option_map};
+ghost use Rattle.std.specs.Prelude.{◌≡◌, ◌⊎◌, List, [], true, map, IfOk, OnOk, Ok, Err, IsOkUnless, option_map};
 ghost use Rattle.std.specs.List.{list_all};
 ghost use Rattle.clap.specs.Words.{app_of, kind_of};
 ghost use Rattle.clap.specs.declared.error.kind.ErrorKind.TheVariants.{OutOfMemory};
 ghost use Rattle.scphost.specs.Words.{is_plain as plain_word, operands_in};
-ghost use Rattle.scphost.specs.ClapCommand.{whole_command, clap_takes};
+ghost use Rattle.scphost.specs.ClapCommand.{whole_command, clap_faults, clap_takes};
 ghost use Rattle.scphost.specs.CommandLine.{IsCall, call_in, call_with, table_with};
 ghost use Rattle.scphost.specs.declared.call.Call.{Call};
 ghost use Rattle.scphost.specs.declared.call.Usage.TheVariants.{NoMemory};
@@ -52,6 +52,7 @@ impl From<AllocError> for Usage {
 #[tactic(auto, using(crate::proofs::Forms::takes_call, crate::proofs::Forms::call_in_sound, crate::proofs::Forms::call_in_complete))]
 pub fn read_call<S: AsStr>(alloc: Global, words: &[S]) -> Result<Call, Usage>
     ensures sound { IfOk result (IsCall (map S.text words.now)) }
+    ensures agreed { OnOk result (clap_faults (map S.text words.now) ≡ []) }
     ensures complete { (call : Call) → IsCall (map S.text words.now) call
         → (result ≡ Ok call) ⊎ (result ≡ Err Usage.NoMemory) }
 {
@@ -64,7 +65,8 @@ pub fn read_call<S: AsStr>(alloc: Global, words: &[S]) -> Result<Call, Usage>
 
 // Gives the words to clap, of which only its refusal counts.
 fn ask_clap<S: AsStr>(alloc: Global, words: &[S]) -> Result<(), Usage>
-    ensures { clap_takes (map S.text words.now) ≡ true → IsOkUnless result NoMemory }
+    ensures agrees { OnOk result (clap_faults (map S.text words.now) ≡ []) }
+    ensures taken { clap_takes (map S.text words.now) ≡ true → IsOkUnless result NoMemory }
 {
     let command = command_line(alloc)?;
     match command.try_get_matches_from(words) {

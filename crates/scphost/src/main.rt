@@ -2,19 +2,14 @@
 #![tactic(auto)]
 
 mod call;
-mod input;
-mod listener;
 mod perform;
-mod run;
-mod script;
-mod table_run;
 #[cfg(test)]
 mod tests;
 mod word;
 
 use call::{Call, Usage, read_call};
 use perform::{perform, refuse, report};
-use run::Stop;
+use scripts::Stop;
 use std::io::{ErrorKind, Write};
 use std::process::ExitCode;
 use std::rt::{Env, Files};

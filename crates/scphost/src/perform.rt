@@ -4,10 +4,10 @@ ghost use Rattle.std.specs.Prelude.{◌≡◌};
 ghost use Rattle.scphost.specs.Stops.{IsRefusal, IsStatus, IsStatusOf, status_of};
 
 use crate::call::{Call, Usage};
-use crate::run::{Stop, run_script};
-use crate::table_run::TableRun;
+use scripts::{Stop, run_script};
 use std::alloc::Global;
 use std::io::{Read, Write};
+use tables::TableRun;
 
 /// The status of a call that was carried out.
 pub const DONE: u8 = 0;

@@ -1,1 +1,3 @@
 mod NumberLaws
+pub mod ScriptLemmas
+pub mod InputLemmas

@@ -1,13 +1,18 @@
-//! The words of scripts and of printed lines: names, numbers, values, ballots, slices and statements
-//! as text, read and printed.
+//! Scripts and table files: reading a file whole, its lines and their fields, running them one by
+//! one, and the words in them.
 //!
-//! Each word has a reading function, which answers `None` for what is no such word, and a printing
-//! one, which adds the shortest form to a text. What is printed is read back as the same.
+//! A script is read whole before its first line is run. What runs the lines of one kind of script
+//! implements [`LineRunner`]; [`run_script`] does the rest. Each word has a reading function, which
+//! answers `None` for what is no such word, and a printing one, which adds the shortest form to a text.
+//! What is printed is read back as the same.
 #![tactic(auto)]
 
 mod hexadecimal;
+mod input;
 mod name;
 mod number;
+mod run;
+mod script;
 mod slices;
 mod splitting;
 mod statement;
@@ -16,8 +21,11 @@ mod tests;
 mod value;
 
 pub use hexadecimal::bytes_of;
+pub use input::{LONGEST_SCRIPT, ReadError, read_whole};
 pub use name::{name_of, push_name};
 pub use number::{counter_of, number_of};
+pub use run::{LineRunner, Stop, run_script};
+pub use script::{Line, LineError, Lines, fields_of};
 pub use slices::{push_slices, slices_of};
 pub use statement::{push_statement, statement_of};
 pub use value::{ballot_of, push_ballot, push_value, value_of};

@@ -1,7 +1,6 @@
 //! A reader, a writer and a runner of lines that fail when they are told to.
 
-use crate::run::LineRunner;
-use crate::script::LineError;
+use scripts::{LineError, LineRunner};
 use std::alloc::Global;
 use std::io;
 use std::io::{ErrorKind, Read, Write};

@@ -1,7 +1,6 @@
 //! Lines and fields at their edges, and the limit of a script.
 
-use crate::input::{LONGEST_SCRIPT, ReadError, read_whole};
-use crate::script::{LineError, Lines, fields_of};
+use scripts::{LONGEST_SCRIPT, LineError, Lines, ReadError, fields_of, read_whole};
 use std::io;
 use std::io::Read;
 use std::test::Fail;

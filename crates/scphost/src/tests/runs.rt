@@ -3,8 +3,8 @@
 use super::fakes::{FakeReader, FakeWriter, LastField};
 use crate::call::{Call, Usage};
 use crate::perform::{perform, refuse, report};
-use crate::run::{Stop, run_script};
 use crate::word::Word;
+use scripts::{Stop, run_script};
 use std::alloc::Global;
 use std::io;
 use std::process::Abort;

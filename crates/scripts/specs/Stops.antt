@@ -1,0 +1,10 @@
+-- How a read that fails ends a run.
+use Rattle.scripts.specs.declared.input.ReadError.{ReadError}
+use Rattle.scripts.specs.declared.input.ReadError.TheVariants as read
+use Rattle.scripts.specs.declared.run.Stop.{Stop}
+use Rattle.scripts.specs.declared.run.Stop.TheVariants as stop
+
+abbrev pub stop_of_read : ReadError → Stop
+stop_of_read read.CannotRead = stop.CannotRead
+stop_of_read read.TooLong = stop.TooLong
+stop_of_read read.NoMemory = stop.NoMemory

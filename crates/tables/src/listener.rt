@@ -1,0 +1,232 @@
+//! One node at one slot: the rows of the envelopes that it took, and what follows from them.
+
+ghost use Rattle.std.specs.Prelude.{◌≡◌, ◌≢◌, ◌↔◌, ℕ, IsTrue, IfOk, [], false, true, filter, OnOk, ◌++◌, ◌∷◌};
+ghost use Rattle.types.specs.declared.kind.Kind.{Kind};
+ghost use Rattle.protocol.specs.Sets.{among, IsAscending};
+ghost use Rattle.protocol.specs.Backing.{slices_by, backing_prepare};
+ghost use Rattle.protocol.specs.Rows.{is_taken, offered};
+ghost use Rattle.tables.specs.Listeners.{IsBacked, IsReach};
+
+use closure::reach;
+use latest::{Offer, Table};
+use quorum::{SlicesOf, in_quorum_within};
+use std::alloc::{AllocError, Global};
+use std::marker::Model;
+use types::{Ballot, Envelope, Kind, Nested, NodeId};
+
+/// What became of an envelope.
+#[derive(Clone, Copy, Debug, PartialEq, Eq)]
+pub enum Taken {
+    /// It is its sender's row of its kind now.
+    Replaced,
+    /// It is not newer than the row that stands.
+    Stale,
+    /// It is about another slot.
+    OtherSlot,
+    /// There was no memory for it.
+    NoMemory,
+}
+
+/// One node, its slot and slices, and the table of the envelopes that it took.
+///
+/// The nodes that it reaches are kept from one question to the next, until a row changes.
+#[derive(Drop)]
+pub struct Listener {
+    own: NodeId,
+    slot: u64,
+    configured: Nested,
+    table: Table,
+    known_reach: Option<Vec<NodeId>>,
+}
+
+impl Model for Listener {
+    ghost use Rattle.tables.specs.Listeners.{Heard};
+    ghost use Rattle.types.specs.Trees.{members_code};
+    ghost use Rattle.std.specs.Coded.{codes};
+
+    ghost Value = { Heard };
+
+    ghost coded = { Prim.hlevel (codes, members_code) };
+
+    ghost use Rattle.std.specs.Prelude.{IfSome};
+    ghost use Rattle.tables.specs.Listeners.{IsReach};
+
+    ghost view = { λ s. record { own = s.own; slot = s.slot; configured = s.configured; rows = s.table } };
+
+    ghost invariant = { λ s. IfSome s.known_reach (λ v. IsReach s.own s.configured s.table v.items) };
+}
+
+impl Listener {
+    /// A listener that has taken nothing. It takes no memory.
+    pub fn new(alloc: Global, own: NodeId, slot: u64, configured: Nested) -> Listener
+        ensures { result ≡ record { own = own; slot = slot; configured = configured; rows = [] } }
+    {
+        Listener {
+            own,
+            slot,
+            configured,
+            table: Table::new(alloc),
+            known_reach: None,
+        }
+    }
+
+    /// The slot that it is about.
+    pub fn slot(&self) -> u64
+        ensures { result ≡ self.now.slot }
+    {
+        self.slot
+    }
+
+    /// The rows.
+    pub fn table(&self) -> &Table
+        ensures { result.now ≡ self.now.rows }
+    {
+        &self.table
+    }
+
+    /// Offers an envelope to the table. Where the answer is not [`Taken::Replaced`], nothing changed.
+    pub fn take(&mut self, envelope: Envelope) -> Taken
+        ensures other { (result ≡ Taken.OtherSlot) ↔ (envelope.slot ≢ self.old.slot) }
+        ensures stale { result ≡ Taken.Stale → is_taken self.old.rows envelope ≡ false }
+        ensures replaced { result ≡ Taken.Replaced → self.new ≡ record self.old { rows = offered self.old.rows envelope } }
+        ensures newer { result ≡ Taken.Replaced → is_taken self.old.rows envelope ≡ true }
+        ensures unchanged { result ≢ Taken.Replaced → self.new ≡ self.old }
+    {
+        if envelope.slot() != self.slot {
+            return Taken::OtherSlot;
+        }
+        match self.table.offer(envelope) {
+            Offer::Replaced => {
+                self.known_reach = None;
+                Taken::Replaced
+            }
+            Offer::Stale => Taken::Stale,
+            Offer::NoMemory => Taken::NoMemory,
+        }
+    }
+
+    /// All nodes that the node reaches, ascending, none twice: itself, the names of its configured
+    /// slices, and the names in any row whose sender is reached.
+    pub fn reach(&self, alloc: Global) -> Result<Vec<NodeId>, AllocError>
+        ensures { IfOk result (λ v. IsReach self.now.own self.now.configured self.now.rows v.items) }
+    {
+        reach(alloc, &self.table, &self.own, &self.configured)
+    }
+
+    /// Whether the node is in a quorum whose ballot rows all vote for or accept that the ballot is
+    /// prepared (Mazières 2015, of quorums). The node's own slices are the configured ones; every
+    /// other node's are those of its ballot row. What contracts see of the listener stays as it was.
+    pub fn is_backed(&mut self, alloc: Global, ballot: &Ballot) -> Result<bool, AllocError>
+        ensures answer { IfOk result (λ b. IsTrue b ↔ IsBacked self.old ballot.now) }
+        ensures unchanged { self.new ≡ self.old }
+    {
+        let region = self.take_reach(alloc)?;
+        let answer = self.is_backed_within(alloc, ballot, &region);
+        self.keep_reach(region);
+        answer
+    }
+
+    // The reach that is known, or else found anew. It is not known afterwards.
+    fn take_reach(&mut self, alloc: Global) -> Result<Vec<NodeId>, AllocError>
+        ensures reach { IfOk result (λ v. IsReach self.old.own self.old.configured self.old.rows v.items) }
+        ensures unchanged { self.new ≡ self.old }
+    {
+        match self.known_reach.take() {
+            Some(region) => Ok(region),
+            None => self.reach(alloc),
+        }
+    }
+
+    // Keeps the reach for the next question.
+    fn keep_reach(&mut self, region: Vec<NodeId>)
+        requires { IsReach self.old.own self.old.configured self.old.rows region.items }
+        ensures { self.new ≡ self.old }
+    {
+        self.known_reach = Some(region);
+    }
+
+    // The answer by the rows of the nodes that the node reaches.
+    fn is_backed_within(
+        &self,
+        alloc: Global,
+        ballot: &Ballot,
+        region: &[NodeId],
+    ) -> Result<bool, AllocError>
+        requires { IsReach self.now.own self.now.configured self.now.rows region.now }
+        ensures { IfOk result (λ b. IsTrue b ↔ IsBacked self.now ballot.now) }
+    {
+        let supporters = supporters_of(alloc, &self.table, ballot)?;
+        let known = KnownSlices {
+            own: &self.own,
+            configured: &self.configured,
+            table: &self.table,
+        };
+        in_quorum_within(alloc, &self.own, &supporters, &known, region)
+    }
+}
+
+// The slices that a node knows of: its own, and those of ballot rows.
+#[derive(Drop)]
+struct KnownSlices<'a> {
+    own: &'a NodeId,
+    configured: &'a Nested,
+    table: &'a Table,
+}
+
+impl<'a> SlicesOf for KnownSlices<'a> {
+    ghost use Rattle.protocol.specs.Backing.{slices_by};
+    ghost use Rattle.types.specs.declared.kind.Kind.{Kind};
+
+    type Family = Nested;
+
+    ghost slices_at = { λ s. slices_by s.own.now s.configured.now s.table.now Kind.Ballot };
+
+    fn slices(&self, node: &NodeId) -> Option<&Nested> {
+        if *self.own == *node {
+            return Some(self.configured);
+        }
+        match self.table.row(node, Kind::Ballot) {
+            Some(row) => Some(row.slices()),
+            None => None,
+        }
+    }
+}
+
+// The senders whose ballot row backs the ballot, ascending.
+fn supporters_of(alloc: Global, table: &Table, ballot: &Ballot) -> Result<Vec<NodeId>, AllocError>
+    ensures ascending { IfOk result (λ v. IsAscending v.items) }
+    ensures all { IfOk result (λ v. among v.items ≡ backing_prepare table.now ballot.now) }
+{
+    let mut supporters = Vec::new(alloc);
+    for place in 0..table.sender_count() {
+        if let Some(sender) = table.sender(place) {
+            push_backing(&mut supporters, table, sender, ballot)?;
+        }
+    }
+    Ok(supporters)
+}
+
+// Adds the sender where its ballot row backs the ballot.
+fn push_backing(
+    supporters: &mut Vec<NodeId>,
+    table: &Table,
+    sender: &NodeId,
+    ballot: &Ballot,
+) -> Result<(), AllocError>
+    ensures { OnOk result (supporters.new.items ≡ supporters.old.items ++ filter (backing_prepare table.now ballot.now) (sender.now ∷ [])) }
+{
+    if backs(table, sender, ballot) {
+        supporters.push(*sender)?;
+    }
+    Ok(())
+}
+
+// Whether the sender's ballot row votes for or accepts that the ballot is prepared.
+fn backs(table: &Table, sender: &NodeId, ballot: &Ballot) -> bool
+    ensures { result ≡ backing_prepare table.now ballot.now sender.now }
+{
+    match table.row(sender, Kind::Ballot) {
+        Some(row) => row.body().votes_or_accepts_prepare(ballot),
+        None => false,
+    }
+}
