@@ -1,8 +1,9 @@
 //! Whom a node reaches in small tables.
 
 use crate::reach;
-use latest::Table;
+use latest::{Offer, Table};
 use std::alloc::Global;
+use std::process::Abort;
 use std::test::Fail;
 use types::{Ballot, Envelope, Kind, Member, Nested, NodeId, SliceSet, Statement, Value, Values};
 
@@ -47,13 +48,13 @@ fn statement(alloc: Global, kind: Kind) -> Result<Statement, Fail> {
     })
 }
 
-fn table(alloc: Global, rows: &[Row]) -> Result<Table, Fail> {
+fn table(rt: &impl Abort, alloc: Global, rows: &[Row]) -> Result<Table, Fail> {
     let mut table = Table::new(alloc);
     for (sender, kind, named) in rows {
         let body = statement(alloc, *kind)?;
         let announced = slices(alloc, 1, &[*named])?;
         let envelope = Envelope::new(name(*sender), 1, announced, body).ok_or("envelope")?;
-        table.offer(envelope);
+        assert_eq!(rt; table.offer(envelope), Offer::Replaced);
     }
     Ok(table)
 }
@@ -99,7 +100,7 @@ fn what_one_name_leads_to(rt: HostRuntime) -> Result<(), Fail> {
     for (rows, expected) in cases {
         let nodes = reach(
             alloc,
-            &table(alloc, rows)?,
+            &table(&rt, alloc, rows)?,
             &name(A),
             &slices(alloc, 1, &[B])?,
         )?;
@@ -111,7 +112,7 @@ fn what_one_name_leads_to(rt: HostRuntime) -> Result<(), Fail> {
 #[test]
 fn a_member_leads_to_a_stranger(rt: HostRuntime) -> Result<(), Fail> {
     let alloc = rt.alloc();
-    let table = table(alloc, &[(D, Kind::Ballot, Z)])?;
+    let table = table(&rt, alloc, &[(D, Kind::Ballot, Z)])?;
     let nodes = reach(alloc, &table, &name(A), &slices(alloc, 2, &[B, C, D])?)?;
     assert_eq!(rt; nodes, names(alloc, &[A, B, C, D, Z])?);
     Ok(())
