@@ -10,7 +10,7 @@ use crate::family::SliceFamily;
 use crate::sets::is_among;
 use crate::weight::Weight;
 use std::alloc::{AllocError, Global};
-use types::{Member, Nested, NodeId, SliceSet};
+use types::{Member, Nested, NodeId, SliceSet, push_names};
 
 impl SliceFamily for Nested {
     ghost use Rattle.protocol.specs.Satisfaction.{sat, is_blocked, names};
@@ -100,20 +100,6 @@ fn leaves_too_few(set: &SliceSet, blocked: usize) -> bool
         None => true,
         Some(spare) => spare < blocked,
     }
-}
-
-/// Puts the names of a tree behind those that are there, in the order of the tree.
-fn push_names(set: &SliceSet, names: &mut Vec<NodeId>) -> Result<(), AllocError>
-    ensures { OnOk result (names.new.items ≡ names.old.items ++ names_in set.now.members) }
-{
-    let members = set.members();
-    for member in members {
-        match member {
-            Member::Node(node) => names.push(*node)?,
-            Member::Set(inner) => push_names(inner, names)?,
-        }
-    }
-    Ok(())
 }
 
 /// The weight of a node in one set of a tree, by its first member that has the node.

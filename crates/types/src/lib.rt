@@ -15,7 +15,7 @@ mod votes;
 pub use ballot::Ballot;
 pub use envelope::Envelope;
 pub use kind::Kind;
-pub use nested::{MAX_INNER_LEVELS, MAX_MEMBERS, MAX_NAMES, Member, Nested, SliceSet};
+pub use nested::{MAX_INNER_LEVELS, MAX_MEMBERS, MAX_NAMES, Member, Nested, SliceSet, push_names};
 pub use node_id::NodeId;
 pub use statement::Statement;
 pub use value::{MAX_VALUE_LENGTH, Value};

@@ -104,8 +104,9 @@ fn is_threshold(threshold: u8, members: &[Member]) -> bool
     threshold > 0 && threshold as usize <= members.len() && members.len() <= MAX_MEMBERS
 }
 
-/// Adds the names of the tree to a list, in order.
-fn push_names(set: &SliceSet, names: &mut Vec<NodeId>) -> Result<(), AllocError>
+/// Adds the names of the tree to a list, in the order of the tree, as often as they stand in it. Where
+/// memory is wanting, some may have been added.
+pub fn push_names(set: &SliceSet, names: &mut Vec<NodeId>) -> Result<(), AllocError>
     ensures ok { OnOk result (names.new.items ≡ names.old.items ++ names_in set.now.members) }
     ensures fit { OnOk result (AllByRecursion IsName (names_in set.now.members)) }
 {
