@@ -6,6 +6,9 @@
 #![tactic(auto)]
 
 mod closures;
+mod extremes;
+mod headline;
+mod limits;
 mod quorums;
 mod rows;
 
@@ -13,6 +16,9 @@ pub use closures::{
     closures_are_derived, closures_are_least, reach_follows_chains, reach_holds_names,
     reach_is_least,
 };
+pub use extremes::extremes_are_exact;
+pub use headline::{agree, isolation, journals_are_runs, prefix, quiet, verdicts_are_determined};
+pub use limits::four_passes_are_enough;
 pub use quorums::{blocking_is_counted, quorum_cut, quorums_are_found};
 pub use rows::{
     externalize_stays, newer_is_strict, offers_change_one_row, rows_are_single,

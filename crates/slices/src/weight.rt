@@ -28,7 +28,7 @@ impl Model for Weight {
 
 impl Weight {
     /// All of it: 1/1.
-    pub(crate) fn whole() -> Weight
+    pub fn whole() -> Weight
         ensures { result ≡ whole }
     {
         Weight {
@@ -38,7 +38,7 @@ impl Weight {
     }
 
     /// `threshold` of `count` parts of this weight. Neither number may be above 2^56.
-    pub(crate) fn part(self, threshold: u8, count: u8) -> Weight
+    pub fn part(self, threshold: u8, count: u8) -> Weight
         requires numerator { self.numerator ≤ 2 ^ 56 }
         requires denominator { self.denominator ≤ 2 ^ 56 }
         ensures { result ≡ part_of threshold count self }

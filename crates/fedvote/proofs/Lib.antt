@@ -1,0 +1,2 @@
+pub mod VotingLaws
+pub mod TestLaws

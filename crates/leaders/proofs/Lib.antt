@@ -1,0 +1,4 @@
+pub mod Choice
+pub mod HashLaws
+pub mod LeaderLaws
+pub mod Room

@@ -1,0 +1,31 @@
+use Rattle.std.proofs.Common.{◌≡◌, ℕ, sym, subst, ◌∙◌, arith, ap}
+use Rattle.types.specs.Trees.{Slices, member_count, depth_of}
+use Rattle.protocol.specs.Weights.{Fraction}
+use Rattle.slices.specs.Weighing.{part_of, whole}
+use Rattle.leaders.specs.Leaders.{IsLeader}
+use Rattle.leaders.specs.Walk.{best_among, is_drawn, priority_in, HasRoom}
+use Rattle.leaders.proofs.Room.{whole_has_room}
+use Rattle.leaders.proofs.Choice.{leads}
+use Rattle.leaders.proofs.LeaderLaws.{leader_is}
+use Rattle.leaders.proofs.walk.leader.Goals as goal
+
+pub best_in-requires-clause-room : goal.best_in-requires-clause-room
+best_in-requires-clause-room c =
+    let levels = ap (λ (q : Slices). depth_of q.members) c.set.ensures.value in
+    subst (λ (f : Fraction). HasRoom f (depth_of c.set.result.now.members)) (sym c.whole.ensures)
+    (whole_has_room (depth_of c.set.result.now.members) (omega (arith, levels, c.set.ensures.rules.levels)))
+
+pub returns-clause-first : goal.returns-clause-first
+returns-clause-first c =
+    let slot = c.args.slot in
+    let round = c.args.round in
+    let best = λ (q : Slices) (f : Fraction) (v : ℕ). best_among (is_drawn slot round) (priority_in slot round) (part_of q.threshold (member_count q.members) f) q.members v in
+    let value : c.best_in.result.node ≡ best c.args.slices.now whole c.args.node.now =
+    c.best_in.ensures.node ∙ ap (λ (q : Slices). best q c.whole.result c.new-own.result.node) c.set.ensures.value
+    ∙ ap (λ (f : Fraction). best c.args.slices.now f c.new-own.result.node) c.whole.ensures
+    ∙ ap (λ (v : ℕ). best c.args.slices.now whole v) c.new-own.ensures.node in
+    subst (IsLeader slot round c.args.node.now c.args.slices.now) (sym value)
+    (leads slot round c.args.node.now c.args.slices.now c.set.ensures.rules.names_differ)
+
+pub returns-clause-computed : goal.returns-clause-computed
+returns-clause-computed c = leader_is c.args.slot c.args.round c.args.node.now c.args.slices.now c.best_in.result.node (returns-clause-first c)

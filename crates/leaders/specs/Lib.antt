@@ -1,0 +1,4 @@
+pub mod Hashes
+pub mod Leaders
+pub mod Purposes
+pub mod Walk

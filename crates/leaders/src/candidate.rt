@@ -1,0 +1,54 @@
+//! Neighbours that may lead.
+
+ghost use Rattle.std.specs.Prelude.{◌≡◌, ◌&&◌, ◌||◌, ◌==◌, nat_lt, if◌then◌else◌};
+ghost use Rattle.leaders.specs.Walk.{priority_in, better, is_drawn};
+ghost use Rattle.leaders.specs.Leaders.{goes_before};
+
+use crate::draw::{Draw, Purpose};
+use slices::Weight;
+use types::NodeId;
+
+/// A neighbour and its priority in a round.
+#[derive(Clone, Copy)]
+pub(crate) struct Candidate {
+    pub(crate) priority: u64,
+    pub(crate) node: NodeId,
+}
+
+impl Candidate {
+    /// A node, with its priority in the round.
+    pub(crate) fn new(draw: Draw, node: &NodeId) -> Candidate
+        ensures node { result.node ≡ node.now }
+        ensures priority { result.priority ≡ priority_in draw.slot draw.round node.now }
+    {
+        Candidate {
+            priority: draw.hash(Purpose::Priority, node),
+            node: *node,
+        }
+    }
+
+    /// Whether it goes before another candidate: its priority is greater, or it is the same and its
+    /// name is greater.
+    fn goes_before(&self, other: &Candidate) -> bool
+        ensures { result ≡ (nat_lt other.now.priority self.now.priority || ((self.now.priority == other.now.priority) && nat_lt other.now.node self.now.node)) }
+    {
+        self.priority > other.priority || self.priority == other.priority && self.node > other.node
+    }
+
+    /// The better of this candidate and a node of this weight, where that is a neighbour.
+    pub(crate) fn or_node(self, draw: Draw, node: &NodeId, weight: Weight) -> Candidate
+        requires { self.priority ≡ priority_in draw.slot draw.round self.node }
+        ensures node { result.node ≡ better (is_drawn draw.slot draw.round) (priority_in draw.slot draw.round) node.now weight self.node }
+        ensures priority { result.priority ≡ priority_in draw.slot draw.round result.node }
+    {
+        if !draw.is_neighbour(node, weight) {
+            return self;
+        }
+        let other = Candidate::new(draw, node);
+        if other.goes_before(&self) {
+            other
+        } else {
+            self
+        }
+    }
+}

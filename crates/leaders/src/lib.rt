@@ -1,0 +1,13 @@
+//! Which node leads a round of nomination (the Stellar Consensus Protocol draft, of neighbors and
+//! leaders; the bytes that are hashed are this host's profile).
+#![tactic(auto)]
+
+mod candidate;
+mod draw;
+mod laws;
+#[cfg(test)]
+mod tests;
+mod walk;
+
+pub use laws::{leaders_are_known, leaders_are_unique, nodes_are_their_own_neighbours};
+pub use walk::leader;

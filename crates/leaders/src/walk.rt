@@ -1,0 +1,52 @@
+//! The walk over all names of a tree.
+
+ghost use Rattle.std.specs.Prelude.{◌≡◌};
+ghost use Rattle.types.specs.Trees.{member_count, depth_of, HasThreshold, HaveThresholds};
+ghost use Rattle.slices.specs.Weighing.{part_of};
+ghost use Rattle.leaders.specs.Leaders.{IsLeader, leader_of};
+ghost use Rattle.leaders.specs.Walk.{best_among, is_drawn, priority_in, HasRoom};
+
+use crate::candidate::Candidate;
+use crate::draw::Draw;
+use slices::Weight;
+use types::{Member, Nested, NodeId, SliceSet};
+
+/// The node that leads a round of nomination, as this node with these slices sees it: of its
+/// neighbours in the round the one with the greatest priority, and of several the one with the
+/// greatest name. It takes no memory, and makes at most two hashes for each name of the slices and
+/// one more.
+///
+/// A node is a neighbour where the first hash, 64 bits, lies below the share of all hashes that its
+/// weight is; the node itself weighs all and so is always a neighbour. The second hash is the
+/// priority (the Stellar Consensus Protocol draft, of neighbors and leaders; the hashes are this
+/// host's profile: the first eight bytes of the SHA-256 digest of slot, a tag of 1 or 2, round and
+/// name, 45 bytes with all numbers big-endian).
+pub fn leader(slot: u64, round: u32, node: &NodeId, slices: &Nested) -> NodeId
+    ensures first { IsLeader slot round node.now slices.now result }
+    ensures computed { result ≡ leader_of slot round node.now slices.now }
+{
+    let draw = Draw { slot, round };
+    let own = Candidate::new(draw, node);
+    best_in(draw, slices.set(), Weight::whole(), own).node
+}
+
+/// The best of a candidate and of the neighbours among the names of a set that weighs so much.
+fn best_in(draw: Draw, set: &SliceSet, outer: Weight, own: Candidate) -> Candidate
+    requires threshold { HasThreshold set.now.threshold set.now.members }
+    requires inner_sets { HaveThresholds set.now.members }
+    requires room { HasRoom outer (depth_of set.now.members) }
+    requires priority { own.priority ≡ priority_in draw.slot draw.round own.node }
+    ensures node { result.node ≡ best_among (is_drawn draw.slot draw.round) (priority_in draw.slot draw.round) (part_of set.now.threshold (member_count set.now.members) outer) set.now.members own.node }
+    ensures priority { result.priority ≡ priority_in draw.slot draw.round result.node }
+{
+    let members = set.members();
+    let weight = outer.part(set.threshold(), members.len() as u8);
+    let mut best = own;
+    for member in members {
+        best = match member {
+            Member::Node(node) => best.or_node(draw, node, weight),
+            Member::Set(inner) => best_in(draw, inner, weight, best),
+        };
+    }
+    best
+}

@@ -1,0 +1,110 @@
+-- The tests of equality are exact.
+use Rattle.std.proofs.Common.{◌≡◌, ℕ, Bool, true, ◌==◌, List, [], ◌∷◌, Option, Some, None, refl, sym, ap, ap₂}
+use Rattle.std.proofs.lemmas.Bool.{and_parts, and_from, eqb-true, eq-eqb, false≢true}
+use Rattle.std.specs.Cmp.Lexicographic.{same_text}
+use Rattle.types.specs.declared.ballot.Ballot.{Ballot}
+use Rattle.types.specs.declared.statement.Statement.{Statement}
+use Rattle.types.specs.declared.statement.Statement.TheVariants.{Nominate, Prepare, Commit, Externalize}
+use Rattle.types.specs.Votes.{same_value}
+use Rattle.protocol.specs.States.{Phase, Votes}
+use Rattle.protocol.specs.States.Phase.{Preparing, Committing, Externalized}
+use Rattle.protocol.specs.Sameness.{same_values, same_ballot, same_option, same_phase, same_statement, same_sent, same_votes}
+
+pub eqb-refl : (n : ℕ) → (n == n) ≡ true
+eqb-refl n = eq-eqb n n refl
+
+pub same_value-refl : (x : List ℕ) → same_value x x ≡ true
+same_value-refl [] = refl
+same_value-refl (n ∷ ns) = and_from (n == n) (same_value ns ns) (eqb-refl n) (same_value-refl ns)
+
+pub same_value-true : (x y : List ℕ) → same_value x y ≡ true → x ≡ y
+same_value-true x y h = same_text x y (sym h)
+
+same_values-refl : (xs : List (List ℕ)) → same_values xs xs ≡ true
+same_values-refl [] = refl
+same_values-refl (x ∷ xs) = and_from (same_value x x) (same_values xs xs) (same_value-refl x) (same_values-refl xs)
+
+same_values-true : (xs ys : List (List ℕ)) → same_values xs ys ≡ true → xs ≡ ys
+same_values-true [] [] h = refl
+same_values-true [] (y ∷ ys) h = absurd (false≢true h)
+same_values-true (x ∷ xs) [] h = absurd (false≢true h)
+same_values-true (x ∷ xs) (y ∷ ys) h = let p = and_parts (same_value x y) (same_values xs ys) h in ap₂ (λ (a : List ℕ) (b : List (List ℕ)). a ∷ b) (same_value-true x y p.0) (same_values-true xs ys p.1)
+
+same_ballot-refl : (b : Ballot) → same_ballot b b ≡ true
+same_ballot-refl b = and_from (b.counter == b.counter) (same_value b.value b.value) (eqb-refl b.counter) (same_value-refl b.value)
+
+same_ballot-true : (a b : Ballot) → same_ballot a b ≡ true → a ≡ b
+same_ballot-true a b h = let p = and_parts (a.counter == b.counter) (same_value a.value b.value) h in λ i. record { counter = (eqb-true a.counter b.counter p.0) i; value = (same_value-true a.value b.value p.1) i }
+
+same_option-refl : {A : Type 0} (f : A → A → Bool) → ((a : A) → f a a ≡ true) → (o : Option A) → same_option f o o ≡ true
+same_option-refl f r None = refl
+same_option-refl f r (Some a) = r a
+
+same_option-true : {A : Type 0} (f : A → A → Bool) → ((a b : A) → f a b ≡ true → a ≡ b) → (o p : Option A) → same_option f o p ≡ true → o ≡ p
+same_option-true f t None None h = refl
+same_option-true f t None (Some b) h = absurd (false≢true h)
+same_option-true f t (Some a) None h = absurd (false≢true h)
+same_option-true {A} f t (Some a) (Some b) h = ap {B = Option A} Some (t a b h)
+
+same_phase-refl : (p : Phase) → same_phase p p ≡ true
+same_phase-refl Preparing = refl
+same_phase-refl Committing = refl
+same_phase-refl Externalized = refl
+
+same_phase-true : (p q : Phase) → same_phase p q ≡ true → p ≡ q
+same_phase-true Preparing Preparing h = refl
+same_phase-true Preparing Committing h = absurd (false≢true h)
+same_phase-true Preparing Externalized h = absurd (false≢true h)
+same_phase-true Committing Preparing h = absurd (false≢true h)
+same_phase-true Committing Committing h = refl
+same_phase-true Committing Externalized h = absurd (false≢true h)
+same_phase-true Externalized Preparing h = absurd (false≢true h)
+same_phase-true Externalized Committing h = absurd (false≢true h)
+same_phase-true Externalized Externalized h = refl
+
+same_statement-refl : (s : Statement) → same_statement s s ≡ true
+same_statement-refl (Nominate v a) = and_from (same_values v v) (same_values a a) (same_values-refl v) (same_values-refl a)
+same_statement-refl (Prepare b p a h c) = and_from _ _ (and_from _ _ (and_from _ _ (and_from _ _ (same_ballot-refl b) (same_option-refl same_ballot same_ballot-refl p)) (eqb-refl a)) (eqb-refl h)) (eqb-refl c)
+same_statement-refl (Commit b p h c) = and_from _ _ (and_from _ _ (and_from _ _ (same_ballot-refl b) (eqb-refl p)) (eqb-refl h)) (eqb-refl c)
+same_statement-refl (Externalize b h) = and_from _ _ (same_ballot-refl b) (eqb-refl h)
+
+pub same_sent-refl : (o : Option Statement) → same_sent o o ≡ true
+same_sent-refl o = same_option-refl same_statement same_statement-refl o
+
+pub same_votes-refl : (w : Votes) → same_votes w w ≡ true
+unfolding same_votes
+same_votes-refl w =
+    and_from _ _ (and_from _ _ (and_from _ _ (and_from _ _ (and_from _ _ (and_from _ _ (and_from _ _ (and_from _ _ (and_from _ _ (and_from _ _ (and_from _ _
+    (same_values-refl w.voted) (same_values-refl w.accepts)) (same_values-refl w.confirms)) (same_phase-refl w.phase))
+    (same_option-refl same_ballot same_ballot-refl w.ballot)) (same_option-refl same_ballot same_ballot-refl w.prepared)) (eqb-refl w.aborted))
+    (same_option-refl same_ballot same_ballot-refl w.high)) (same_option-refl same_ballot same_ballot-refl w.commit))
+    (eqb-refl w.lo)) (eqb-refl w.hi)) (eqb-refl w.armed)
+
+pub same_votes-true : (u w : Votes) → same_votes u w ≡ true → u ≡ w
+unfolding same_votes
+same_votes-true u w h =
+    let p11 = and_parts _ (u.armed == w.armed) h in
+    let p10 = and_parts _ (u.hi == w.hi) p11.0 in
+    let p9 = and_parts _ (u.lo == w.lo) p10.0 in
+    let p8 = and_parts _ (same_option same_ballot u.commit w.commit) p9.0 in
+    let p7 = and_parts _ (same_option same_ballot u.high w.high) p8.0 in
+    let p6 = and_parts _ (u.aborted == w.aborted) p7.0 in
+    let p5 = and_parts _ (same_option same_ballot u.prepared w.prepared) p6.0 in
+    let p4 = and_parts _ (same_option same_ballot u.ballot w.ballot) p5.0 in
+    let p3 = and_parts _ (same_phase u.phase w.phase) p4.0 in
+    let p2 = and_parts _ (same_values u.confirms w.confirms) p3.0 in
+    let p1 = and_parts (same_values u.voted w.voted) (same_values u.accepts w.accepts) p2.0 in
+    λ i. record {
+      voted = (same_values-true u.voted w.voted p1.0) i;
+      accepts = (same_values-true u.accepts w.accepts p1.1) i;
+      confirms = (same_values-true u.confirms w.confirms p2.1) i;
+      phase = (same_phase-true u.phase w.phase p3.1) i;
+      ballot = (same_option-true same_ballot same_ballot-true u.ballot w.ballot p4.1) i;
+      prepared = (same_option-true same_ballot same_ballot-true u.prepared w.prepared p5.1) i;
+      aborted = (eqb-true u.aborted w.aborted p6.1) i;
+      high = (same_option-true same_ballot same_ballot-true u.high w.high p7.1) i;
+      commit = (same_option-true same_ballot same_ballot-true u.commit w.commit p8.1) i;
+      lo = (eqb-true u.lo w.lo p9.1) i;
+      hi = (eqb-true u.hi w.hi p10.1) i;
+      armed = (eqb-true u.armed w.armed p11.1) i;
+    }

@@ -1,0 +1,165 @@
+-- Balloting: the rules by which a ballot is begun, prepared, committed and externalized.
+use Rattle.std.specs.Prelude.{ℕ, ◌+◌, max, Bool, true, false, not, ◌&&◌, ◌||◌, ◌==◌, nat_lt, List, [], ◌∷◌, Option, Some, None, filter, if◌then◌else◌}
+use Rattle.std.specs.Ordering.{is_lt}
+use Rattle.types.specs.declared.kind.Kind.{Kind}
+use Rattle.types.specs.declared.ballot.Ballot.{Ballot}
+use Rattle.types.specs.Orders.{bytes_cmp}
+use Rattle.types.specs.Votes.{same_value, accepts_prepare, votes_or_accepts_prepare, accepts_ends, votes_or_accepts_ends}
+use Rattle.protocol.specs.Views.{Seen, accepted, confirmed}
+use Rattle.protocol.specs.States.Phase.{Preparing, Committing, Externalized}
+use Rattle.protocol.specs.States.{Phase, Votes, below, ballot_at, high_counter, position}
+use Rattle.protocol.specs.Candidates.{named, commits, greatest, lowest, combine}
+
+-- ---- the federated tests of ballots, at this moment
+-- prepare of the ballot is accepted
+abbrev pub is_accepted : Seen → Votes → Ballot → Bool
+is_accepted seen w t = accepted seen Kind.Ballot (position w) (λ s. votes_or_accepts_prepare s t) (λ s. accepts_prepare s t)
+
+-- prepare of the ballot is confirmed
+abbrev pub is_confirmed : Seen → Votes → Ballot → Bool
+is_confirmed seen w t = confirmed seen Kind.Ballot (position w) (λ s. accepts_prepare s t)
+
+-- commit of the value on the whole interval is accepted
+abbrev pub commit_accepted : Seen → Votes → List ℕ → ℕ → ℕ → Bool
+commit_accepted seen w x lo hi = accepted seen Kind.Ballot (position w) (λ s. votes_or_accepts_ends s x lo hi) (λ s. accepts_ends s x lo hi)
+
+-- commit of the value on the whole interval is confirmed
+abbrev pub commit_confirmed : Seen → Votes → List ℕ → ℕ → ℕ → Bool
+commit_confirmed seen w x lo hi = confirmed seen Kind.Ballot (position w) (λ s. accepts_ends s x lo hi)
+
+-- ---- the first ballot
+-- Start, without a ballot: counter 1 with the combined confirmed value; where nothing is confirmed, the greatest named ballot whose prepare is accepted.
+unfoldable pub started : Seen → Votes → Option (List ℕ) → Votes
+started seen w (Some x) = record w { ballot = Some (ballot_at 1 x) }
+started seen w None = record w { ballot = greatest None (filter (is_accepted seen w) (named seen w)) }
+
+-- a ballot that is there stays
+abbrev pub start_from : Seen → Votes → Option Ballot → Votes
+start_from seen w (Some b) = w
+start_from seen w None = started seen w (combine w.confirms)
+
+-- the first ballot is set where there is none
+unfoldable pub start : Seen → Votes → Votes
+start seen w = start_from seen w w.ballot
+
+-- ---- accepted as prepared
+-- where the highest accepted ballot goes from one value to another, all ballots below the old one are aborted, and the old one too where its value is the greater
+unfoldable pub aborted_by : Option Ballot → Option Ballot → ℕ → ℕ
+aborted_by None new a = a
+aborted_by (Some o) None a = a
+aborted_by (Some o) (Some p) a = if same_value o.value p.value then a else max a (if is_lt (bytes_cmp o.value p.value) then o.counter else o.counter + 1)
+
+-- in COMMIT only ballots of the ballot's value count
+abbrev pub may_be_prepared : Phase → List ℕ → Ballot → Bool
+may_be_prepared Committing x t = same_value t.value x
+may_be_prepared Preparing x t = true
+may_be_prepared Externalized x t = true
+
+-- Accept prepared: the greatest of the highest accepted ballot and the named ballots whose prepare is accepted.
+unfoldable pub accept_prepared : Seen → Ballot → Votes → Votes
+accept_prepared seen b w =
+    let p = greatest w.prepared (filter (λ t. may_be_prepared w.phase b.value t && is_accepted seen w t) (named seen w)) in
+    record w { prepared = p; aborted = aborted_by w.prepared p w.aborted }
+
+-- ---- confirmed as prepared, in PREPARE
+-- the greatest of the highest confirmed ballot and the named ballots whose prepare is confirmed
+unfoldable pub raise_high : Seen → Votes → Votes
+raise_high seen w = record w { high = greatest w.high (filter (is_confirmed seen w) (named seen w)) }
+
+-- the ballot is never below the highest confirmed one
+abbrev pub at_least : Option Ballot → Ballot → Ballot
+at_least None b = b
+at_least (Some h) b = if below b h then h else b
+
+-- the ballot becomes the highest confirmed one where that is above it
+unfoldable pub follow_high : Ballot → Votes → Votes
+follow_high b w = record w { ballot = Some (at_least w.high b) }
+
+-- the highest accepted ballot is above this one and of another value
+abbrev pub is_overtaken : Option Ballot → Ballot → Bool
+is_overtaken None t = false
+is_overtaken (Some p) t = below t p && not (same_value p.value t.value)
+
+-- a ballot is aborted: overtaken, or its counter below the aborted one
+unfoldable pub is_aborted : Votes → Ballot → Bool
+is_aborted w t = is_overtaken w.prepared t || nat_lt t.counter w.aborted
+
+-- the ballot whose commit is voted for is reset where it is aborted
+abbrev pub cleared : Votes → Option Ballot → Option Ballot
+cleared w None = None
+cleared w (Some c) = if is_aborted w c then None else Some c
+
+-- where there is none, it becomes the ballot, once that is confirmed as prepared at its counter and is not aborted
+abbrev pub chosen : Votes → Option Ballot → Option Ballot → Option Ballot
+chosen w None c = c
+chosen w (Some b) None = if (high_counter w b == b.counter) && not (is_aborted w b) then Some b else None
+chosen w (Some b) (Some c) = Some c
+
+-- the ballot whose commit is voted for is reset, and then set
+unfoldable pub set_commit : Votes → Votes
+set_commit w = record w { commit = chosen w w.ballot (cleared w w.commit) }
+
+-- Confirm prepared: the highest confirmed ballot, the ballot, and the ballot whose commit is voted for, in this order.
+unfoldable pub confirm_prepared : Seen → Ballot → Votes → Votes
+confirm_prepared seen b w = set_commit (follow_high b (raise_high seen w))
+
+-- ---- accepted as committed
+-- the least commit counter of the value from which on the interval up to hi is accepted
+unfoldable pub accepted_from : Seen → Votes → Ballot → ℕ
+accepted_from seen w t = lowest (λ lo. commit_accepted seen w t.value lo t.counter) t.value t.counter (commits seen w)
+
+-- in PREPARE: the greatest counter, over all values, that is accepted as committed, confirmed as prepared and not aborted
+unfoldable pub first_committed : Seen → Votes → Option Ballot
+first_committed seen w = greatest None (filter (λ t. commit_accepted seen w t.value t.counter t.counter && is_confirmed seen w t && not (is_aborted w t)) (commits seen w))
+
+-- in COMMIT: the greatest counter of the ballot's value above hi that is accepted as committed
+unfoldable pub next_committed : Seen → Ballot → Votes → Option Ballot
+next_committed seen b w = greatest None (filter (λ t. same_value t.value b.value && nat_lt w.hi t.counter && commit_accepted seen w t.value t.counter t.counter) (commits seen w))
+
+-- the phase becomes COMMIT, with the interval, and nothing stays below its end
+unfoldable pub enter_commit : Seen → Ballot → Votes → Option Ballot → Votes
+enter_commit seen b w None = w
+enter_commit seen b w (Some t) = record w {
+  phase = Committing;
+  ballot = Some (ballot_at (max b.counter t.counter) t.value);
+  prepared = greatest w.prepared (t ∷ []);
+  high = greatest w.high (t ∷ []);
+  lo = accepted_from seen w t;
+  hi = t.counter;
+}
+
+-- in COMMIT a greater end moves the interval, the ballot's counter and the highest accepted ballot
+unfoldable pub widen_commit : Seen → Ballot → Votes → Option Ballot → Votes
+widen_commit seen b w None = w
+widen_commit seen b w (Some t) = record w {
+  ballot = Some (ballot_at (max b.counter t.counter) t.value);
+  prepared = greatest w.prepared (t ∷ []);
+  lo = accepted_from seen w t;
+  hi = t.counter;
+}
+
+-- Accept commit, by the phase in which the rule begins.
+unfoldable pub accept_commit : Phase → Seen → Ballot → Votes → Votes
+accept_commit Preparing seen b w = enter_commit seen b w (first_committed seen w)
+accept_commit Committing seen b w = widen_commit seen b w (next_committed seen b w)
+accept_commit Externalized seen b w = w
+
+-- ---- confirmed as committed
+-- the greatest commit counter of the ballot's value that is confirmed as committed
+unfoldable pub confirmed_commit : Seen → Ballot → Votes → Option Ballot
+confirmed_commit seen b w = greatest None (filter (λ t. same_value t.value b.value && commit_confirmed seen w t.value t.counter t.counter) (commits seen w))
+
+-- the phase becomes EXTERNALIZE, with the confirmed interval
+unfoldable pub externalize : Seen → Votes → Option Ballot → Votes
+externalize seen w None = w
+externalize seen w (Some t) = record w {
+  phase = Externalized;
+  lo = lowest (λ lo. commit_confirmed seen w t.value lo t.counter) t.value t.counter (commits seen w);
+  hi = t.counter;
+}
+
+-- Confirm commit, in COMMIT.
+unfoldable pub confirm_commit : Phase → Seen → Ballot → Votes → Votes
+confirm_commit Preparing seen b w = w
+confirm_commit Committing seen b w = externalize seen w (confirmed_commit seen b w)
+confirm_commit Externalized seen b w = w

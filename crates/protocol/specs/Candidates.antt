@@ -1,0 +1,99 @@
+-- What the rules choose from: named ballots and commit counters, and the greatest and least of them.
+use Rattle.std.specs.Prelude.{ℕ, zero, suc, ◌+◌, ◌-◌, Bool, not, ◌&&◌, nat_lt, length, take, List, [], ◌∷◌, ◌++◌, Option, Some, None, filter, flat_map, option_to_list, if◌then◌else◌}
+use Rattle.std.specs.Ordering.{is_lt}
+use Rattle.types.specs.declared.kind.Kind.{Kind}
+use Rattle.types.specs.declared.ballot.Ballot.{Ballot}
+use Rattle.types.specs.declared.statement.Statement.{Statement}
+use Rattle.types.specs.declared.statement.Statement.TheVariants.{Nominate, Prepare, Commit, Externalize}
+use Rattle.types.specs.Orders.{bytes_cmp}
+use Rattle.types.specs.Nominations.{most_nominated}
+use Rattle.types.specs.Votes.{same_value, has_value}
+use Rattle.protocol.specs.Views.{Seen}
+use Rattle.protocol.specs.States.{Votes, below, ballot_at, position}
+
+-- ---- named ballots
+-- the ballots that a statement names
+abbrev pub named_by : Statement → List Ballot
+named_by (Nominate voted accepted) = []
+named_by (Prepare b p a h c) = b ∷ option_to_list p
+named_by (Commit b p h c) = b ∷ ballot_at p b.value ∷ ballot_at h b.value ∷ []
+named_by (Externalize b h) = b ∷ ballot_at h b.value ∷ []
+
+-- the counters at which a statement speaks of commit, each with its value
+abbrev pub committed_by : Statement → List Ballot
+committed_by (Nominate voted accepted) = []
+committed_by (Prepare b p a h c) = ballot_at c b.value ∷ ballot_at h b.value ∷ []
+committed_by (Commit b p h c) = ballot_at c b.value ∷ ballot_at h b.value ∷ []
+committed_by (Externalize b h) = b ∷ ballot_at h b.value ∷ []
+
+-- the counter is from 1 on
+abbrev pub is_counted : Ballot → Bool
+is_counted b = nat_lt 0 b.counter
+
+-- of these statements the named ballots with a counter from 1 on
+abbrev pub named_in : List Statement → List Ballot
+named_in statements = filter is_counted (flat_map named_by statements)
+
+-- and the commit counters from 1 on
+abbrev pub committed_in : List Statement → List Ballot
+committed_in statements = filter is_counted (flat_map committed_by statements)
+
+-- named are the ballots in the ballot rows of reached senders and in the node's own position, and no others
+unfoldable pub named : Seen → Votes → List Ballot
+named seen w = named_in (seen.rows Kind.Ballot ++ option_to_list (position w))
+
+-- so are the commit counters
+unfoldable pub commits : Seen → Votes → List Ballot
+commits seen w = committed_in (seen.rows Kind.Ballot ++ option_to_list (position w))
+
+-- the values that a nomination votes for or accepts
+abbrev pub values_by : Statement → List (List ℕ)
+values_by (Nominate voted accepted) = voted ++ accepted
+values_by (Prepare b p a h c) = []
+values_by (Commit b p h c) = []
+values_by (Externalize b h) = []
+
+-- ---- greatest and least
+-- the greatest of these ballots and of the one that is there
+unfoldable pub greatest : Option Ballot → List Ballot → Option Ballot
+greatest best [] = best
+greatest None (b ∷ bs) = greatest (Some b) bs
+greatest (Some a) (b ∷ bs) = greatest (Some (if below a b then b else a)) bs
+
+-- the least counter of this value from which the test holds; lo itself, where none below it does
+unfoldable pub lowest : (ℕ → Bool) → List ℕ → ℕ → List Ballot → ℕ
+lowest test x lo [] = lo
+lowest test x lo (t ∷ ts) = lowest test x (if same_value t.value x && nat_lt t.counter lo && test t.counter then t.counter else lo) ts
+
+-- the least number from n on that passes, or n + fuel where none before it does
+unfoldable pub least_from : ℕ → ℕ → (ℕ → Bool) → ℕ
+least_from zero n test = n
+least_from (suc fuel) n test = if test n then n else least_from fuel (n + 1) test
+
+-- the greatest of this value and those
+unfoldable pub greatest_value : List ℕ → List (List ℕ) → List ℕ
+greatest_value x [] = x
+greatest_value x (y ∷ ys) = greatest_value (if is_lt (bytes_cmp x y) then y else x) ys
+
+-- what a set of values is combined to: the greatest of them
+unfoldable pub combine : List (List ℕ) → Option (List ℕ)
+combine [] = None
+combine (x ∷ xs) = Some (greatest_value x xs)
+
+-- ---- sets of values, ascending
+unfoldable pub with_value : List ℕ → List (List ℕ) → List (List ℕ)
+with_value x [] = x ∷ []
+with_value x (y ∷ ys) = if is_lt (bytes_cmp x y) then x ∷ y ∷ ys else (if same_value y x then y ∷ ys else y ∷ with_value x ys)
+
+-- a set with these values too
+abbrev pub all_with : List (List ℕ) → List (List ℕ) → List (List ℕ)
+all_with [] xs = xs
+all_with (y ∷ ys) xs = with_value y (all_with ys xs)
+
+-- these values as a set
+abbrev pub as_set : List (List ℕ) → List (List ℕ)
+as_set xs = all_with xs []
+
+-- new values are added in byte order until there are sixteen
+unfoldable pub filled : List (List ℕ) → List (List ℕ) → List (List ℕ)
+filled old new = all_with (take (most_nominated - length old) (filter (λ x. not (has_value old x)) (as_set new))) old

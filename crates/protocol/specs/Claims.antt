@@ -1,0 +1,61 @@
+-- The claims that isolation is made of, each in the words of its own layer.
+use Rattle.std.specs.Prelude.{◌≡◌, ℕ, not, ◌||◌, List, [], ◌++◌, filter, IsTrue, IsFalse}
+use Rattle.std.specs.List.{list_all}
+use Rattle.types.specs.declared.kind.Kind.{Kind}
+use Rattle.types.specs.Statements.{Sent}
+use Rattle.protocol.specs.Sets.{Names, within}
+use Rattle.protocol.specs.Satisfaction.{names}
+use Rattle.protocol.specs.Rows.{row}
+use Rattle.protocol.specs.Reach.{reached}
+use Rattle.protocol.specs.Nodes.{Node, NodeEvent, Out, step, Calm}
+use Rattle.protocol.specs.Nodes.NodeEvent.{Propose, Take, NominationTimer, BallotTimer}
+use Rattle.protocol.specs.Networks.{Host}
+use Rattle.protocol.specs.Hosts.{Entry}
+use Rattle.protocol.specs.Isolation.{closure}
+
+-- a set is closed for a node: it has its name, the names of its slices, its leaders, and what senders in the set announced to it
+pub record IsClosedFor (R : Names) (n : Node) : Type 0 where
+  pub has : IsTrue (R n.name)
+  pub own : IsTrue (within (names n.slices) R)
+  pub leaders : IsTrue (within n.given.leaders R)
+  pub rows : IsTrue (list_all (λ e. not (R e.sender) || within (names e.slices) R) n.table)
+
+-- after an event a node gave nothing out, and all is as it was but for rows of senders outside the set
+pub record IsQuiet (R : Names) (old new : Node) (os : List Out) : Type 0 where
+  pub outs : os ≡ []
+  pub given : new.given ≡ old.given
+  pub votes : new.votes ≡ old.votes
+  pub rows : (u : ℕ) (k : Kind) → IsTrue (R u) → row new.table u k ≡ row old.table u k
+
+-- Quiet: a calm node that takes an envelope whose sender is outside a set that is closed for it is quiet
+abbrev pub Quiet : Type 0
+Quiet = (R : Names) (n : Node) (e : Sent) → IsClosedFor R n → Calm n → IsFalse (R e.sender) → IsQuiet R n (step n (Take e)).0 (step n (Take e)).1
+
+-- Prefix, of a run: the closure of each beginning lies in that of the whole run
+abbrev pub PrefixOfRun : Type 0
+PrefixOfRun = (hosts : List Host) (i v : ℕ) (front rest : List Entry) (u : ℕ) → IsTrue (closure hosts i v front u) → IsTrue (closure hosts i v (front ++ rest) u)
+
+-- Prefix, of reach: whom a node reaches lies in each set that is closed for it
+abbrev pub PrefixOfReach : Type 0
+PrefixOfReach = (R : Names) (n : Node) → IsClosedFor R n → (u : ℕ) → IsTrue (reached n.name n.slices n.table u) → IsTrue (R u)
+
+-- ---- agreement of two worlds
+-- a node, with the rows of senders in a set alone
+abbrev pub node_within : Names → Node → Node
+node_within R n = record n { table = filter (λ e. R e.sender) n.table }
+
+-- an event of a member that is kept: an envelope is of a member, whose announced names are members too
+abbrev pub IsOfMembers : Names → NodeEvent → Type 0
+IsOfMembers R (Propose x) = Unit {0}
+IsOfMembers R (Take e) = IsTrue (R e.sender) × IsTrue (within (names e.slices) R)
+IsOfMembers R (NominationTimer r) = Unit {0}
+IsOfMembers R (BallotTimer c) = Unit {0}
+
+-- two nodes are one in state, and their tables agree on the rows of members
+abbrev pub AgreeOn : Names → Node → Node → Type 0
+AgreeOn R n m = node_within R n ≡ node_within R m
+
+-- Agree: two nodes that agree on a set that is closed for both still do after a kept event, and both give out the same
+abbrev pub Agree : Type 0
+Agree = (R : Names) (n m : Node) (e : NodeEvent) → IsClosedFor R n → IsClosedFor R m → IsOfMembers R e → AgreeOn R n m
+    → AgreeOn R (step n e).0 (step m e).0 × ((step n e).1 ≡ (step m e).1)

@@ -1,0 +1,75 @@
+-- Hosts of many networks: journals, whole runs and histories.
+use Rattle.std.specs.Prelude.{ℕ, ◌==◌, List, [], ◌∷◌, Option, Some, None, map, if◌then◌else◌}
+use Rattle.protocol.specs.Nodes.{Out}
+use Rattle.protocol.specs.Networks.{Event, Reading, Step, read, Host, Budgets, Net, Reply, net_step}
+use Rattle.protocol.specs.Networks.Refusal.{NoSuchNetwork}
+use Rattle.protocol.specs.Networks.Reply.{Done, Refused}
+
+-- an applied event, with what it gave out
+pub record Entry : Type 0 where
+  pub event : Step
+  pub outs : List Out
+
+-- a refused event is not journalled; every other one is
+abbrev pub entered : Step → Reply → List Entry → List Entry
+entered e (Refused n) es = es
+entered e (Done os) es = record { event = e; outs = os } ∷ es
+
+-- the journal of a network
+unfoldable pub journal : Net → List Step → List Entry
+journal net [] = []
+journal net (e ∷ es) = entered e (net_step net e).1 (journal (net_step net e).0 es)
+
+-- ---- a host: networks by number
+abbrev pub net_at : List Net → ℕ → Option Net
+net_at [] g = None
+net_at (n ∷ ns) g = if n.number == g then Some n else net_at ns g
+
+-- an event of a network that is not there is refused
+abbrev pub reply_at : Option Net → Step → Reply
+reply_at None e = Refused NoSuchNetwork
+reply_at (Some n) e = (net_step n e).1
+
+-- the replies to a whole history, in order
+unfoldable pub host_run : List Net → List (ℕ × Step) → List Reply
+host_run nets [] = []
+host_run nets (c ∷ cs) = reply_at (net_at nets c.0) c.1 ∷ host_run (map (λ n. if n.number == c.0 then (net_step n c.1).0 else n) nets) cs
+
+-- the applied events of one network, with what they gave out
+unfoldable pub applied : ℕ → List (ℕ × Step) → List Reply → List Entry
+applied g [] rs = []
+applied g (c ∷ cs) [] = []
+applied g (c ∷ cs) (r ∷ rs) = if c.0 == g then entered c.1 r (applied g cs rs) else applied g cs rs
+
+-- ---- configurations and histories
+-- a network where nothing has happened
+abbrev pub new_net : ℕ → List Host → Budgets → Net
+new_net g hosts budgets = record { number = g; hosts = hosts; budgets = budgets; slots = []; events = 0; bytes = 0 }
+
+-- a network as it is configured
+pub record Config : Type 0 where
+  pub number : ℕ
+  pub hosts : List Host
+  pub budgets : Budgets
+
+-- the networks of a host, before any event
+abbrev pub nets : List Config → List Net
+nets configs = map (λ c. new_net c.number c.hosts c.budgets) configs
+
+-- the hosted nodes of a network; none where the network is not there
+abbrev pub hosts_of : List Config → ℕ → List Host
+hosts_of [] g = []
+hosts_of (c ∷ cs) g = if c.number == g then c.hosts else hosts_of cs g
+
+-- a host history: configurations, and events of any networks in any order
+pub record History : Type 0 where
+  pub configs : List Config
+  pub calls : List (ℕ × Event)
+
+-- what the events of a history are, by a decoder of envelopes
+abbrev pub steps_of : (List ℕ → Reading) → List (ℕ × Event) → List (ℕ × Step)
+steps_of decode calls = map (λ c. (c.0, read decode c.1)) calls
+
+-- the applied events of one network
+abbrev pub entries : (List ℕ → Reading) → History → ℕ → List Entry
+entries decode h g = applied g (steps_of decode h.calls) (host_run (nets h.configs) (steps_of decode h.calls))

@@ -1,0 +1,87 @@
+-- Isolation: the closure of a run, what of a run concerns it, and that nothing else changes what its members do.
+use Rattle.std.specs.Prelude.{◌≡◌, ℕ, Bool, true, false, ◌&&◌, ◌==◌, List, [], ◌∷◌, ◌++◌, Option, Some, None, filter_map, flat_map, map, if◌then◌else◌, is_some, IsTrue}
+use Rattle.types.specs.declared.kind.Kind.{Kind}
+use Rattle.protocol.specs.Sets.{Names}
+use Rattle.protocol.specs.Satisfaction.{names}
+use Rattle.protocol.specs.Closures.{Rule, in_least}
+use Rattle.protocol.specs.Nodes.{NodeEvent, Out}
+use Rattle.protocol.specs.Nodes.NodeEvent.{Propose, Take, NominationTimer, BallotTimer}
+use Rattle.protocol.specs.Networks.{Host, Reading, Step, slices_of}
+use Rattle.protocol.specs.Networks.Reading.{Read, Fault}
+use Rattle.protocol.specs.Networks.Step.{Opens, Closes, Asks, Delivers, Hears, NominationTimes, BallotTimes}
+use Rattle.protocol.specs.Hosts.{Entry, History, hosts_of, entries}
+
+-- ---- the closure of a run
+-- where a hosted node is in, so are the names of its configured slices
+abbrev pub host_rule : Host → Rule
+host_rule h = record { sources = h.name ∷ []; gives = names h.slices }
+
+-- where receiver and sender of a delivery at the slot are in, so are the names that it announces; a Hear announces nothing new
+abbrev pub announced : ℕ → Step → List Rule
+announced i (Delivers u size (Read e)) = if e.slot == i then record { sources = u ∷ e.sender ∷ []; gives = names e.slices } ∷ [] else []
+announced i _ = []
+
+-- the least set that contains v and keeps the rules of the hosted nodes and of all deliveries of the whole run
+unfoldable pub closure : List Host → ℕ → ℕ → List Entry → Names
+closure hosts i v run = in_least (map host_rule hosts ++ flat_map (λ x. announced i x.event) run) v
+
+-- ---- kept steps
+-- what is kept of a run: of a Hear not what it hands over
+pub data Kept : Type 0 where
+  Opened : Kept
+  Closed : Kept
+  Told : ℕ → NodeEvent → Kept
+  Heard : ℕ → ℕ → Kind → ℕ → Kept
+
+-- a step is kept where the test holds
+abbrev pub when_kept : Bool → Kept → Option Kept
+when_kept true k = Some k
+when_kept false k = None
+
+-- at the slot: its opening and closing, what happens to members, and what members send to members
+abbrev pub kept : Names → ℕ → Step → Option Kept
+kept R i (Opens j) = when_kept (j == i) Opened
+kept R i (Closes j) = when_kept (j == i) Closed
+kept R i (Asks j u x) = when_kept ((j == i) && R u) (Told u (Propose x))
+kept R i (Delivers u size (Read e)) = when_kept ((e.slot == i) && R u && R e.sender) (Told u (Take e))
+kept R i (Delivers u size (Fault n)) = None
+kept R i (Hears j u from kind k) = when_kept ((j == i) && R u && R from) (Heard u from kind k)
+kept R i (NominationTimes j u r) = when_kept ((j == i) && R u) (Told u (NominationTimer r))
+kept R i (BallotTimes j u n) = when_kept ((j == i) && R u) (Told u (BallotTimer n))
+
+-- the kept steps of a run, in order
+unfoldable pub kept_of : Names → ℕ → List Entry → List Kept
+kept_of R i run = filter_map (λ x. kept R i x.event) run
+
+-- ---- what a node gave out
+-- the event is one of this node at this slot
+abbrev pub is_of : ℕ → ℕ → Step → Bool
+is_of i u (Opens j) = false
+is_of i u (Closes j) = false
+is_of i u (Asks j w x) = (j == i) && (w == u)
+is_of i u (Delivers w size (Read e)) = (e.slot == i) && (w == u)
+is_of i u (Delivers w size (Fault n)) = false
+is_of i u (Hears j w from kind k) = (j == i) && (w == u)
+is_of i u (NominationTimes j w r) = (j == i) && (w == u)
+is_of i u (BallotTimes j w n) = (j == i) && (w == u)
+
+-- all that a node gave out at a slot, in order, over all openings of the slot
+unfoldable pub outs_of : ℕ → ℕ → List Entry → List Out
+outs_of i u run = flat_map (λ x. if is_of i u x.event then x.outs else []) run
+
+-- ---- the theorem
+-- both worlds host the same members, with the same slices, and v is one of them
+pub record SameCast (R : Names) (v : ℕ) (one other : List Host) : Type 0 where
+  pub hosted : IsTrue (is_some (slices_of one v))
+  pub same : (u : ℕ) → IsTrue (R u) → slices_of one u ≡ slices_of other u
+
+-- For any two host histories, whatever networks, strangers and interleavings they hold: if the closure of v in the first has
+-- the same hosted members in both and its kept steps are the same in both, then each hosted member gives out the same in both.
+-- It holds for every decoder of envelopes, and so for the codec's.
+abbrev pub Isolation : Type 0
+Isolation = (decode : List ℕ → Reading) (one other : History) (g i v : ℕ) →
+    let R = closure (hosts_of one.configs g) i v (entries decode one g) in
+    SameCast R v (hosts_of one.configs g) (hosts_of other.configs g)
+    → kept_of R i (entries decode one g) ≡ kept_of R i (entries decode other g)
+    → (u : ℕ) → IsTrue (R u) → IsTrue (is_some (slices_of (hosts_of one.configs g) u))
+    → outs_of i u (entries decode one g) ≡ outs_of i u (entries decode other g)

@@ -1,0 +1,42 @@
+-- The leader of a round of nomination (after the Stellar Consensus Protocol draft; the hash is this host's profile).
+use Rattle.std.specs.Prelude.{ℕ, zero, suc, ◌*◌, ◌^◌, ◌/◌, ◌%◌, Bool, false, ◌&&◌, ◌||◌, ◌==◌, nat_lt, List, [], ◌∷◌, ◌++◌, Option, Some, None, filter, take, if◌then◌else◌}
+use Rattle.std.specs.Int.{w64, from_be_bytes}
+use Rattle.sha2.specs.Sha256.{sha256}
+use Rattle.types.specs.Trees.{Slices}
+use Rattle.protocol.specs.Satisfaction.{names}
+use Rattle.protocol.specs.Weights.{Fraction, weight}
+
+-- a number in so many bytes, big-endian
+unfoldable pub in_bytes : ℕ → ℕ → List ℕ
+in_bytes zero n = []
+in_bytes (suc width) n = in_bytes width (n / 256) ++ (n % 256) ∷ []
+
+-- slot, tag, round and name: 45 bytes
+unfoldable pub preimage : ℕ → ℕ → ℕ → ℕ → List ℕ
+preimage slot tag round u = in_bytes 8 slot ++ in_bytes 1 tag ++ in_bytes 4 round ++ in_bytes 32 u
+
+-- the first eight bytes of its SHA-256 digest, as a big-endian number
+unfoldable pub hash : ℕ → ℕ → ℕ → ℕ → ℕ
+hash slot tag round u = from_be_bytes w64 (take 8 (sha256 (preimage slot tag round u)))
+
+-- a name is near where its first hash is below its weight
+abbrev pub is_near : Option Fraction → ℕ → Bool
+is_near None h = false
+is_near (Some f) h = nat_lt (h * f.denominator) (f.numerator * 2 ^ 64)
+
+-- the neighbours of a node in a round: itself, and the named nodes that are near
+unfoldable pub neighbours : ℕ → ℕ → ℕ → Slices → List ℕ
+neighbours slot round own configured = own ∷ filter (λ u. is_near (weight configured u) (hash slot 1 round u)) (names configured)
+
+-- the second has the greater second hash; at a tie it is the greater name
+abbrev pub beats : ℕ → ℕ → ℕ → ℕ → Bool
+beats slot round u w = nat_lt (hash slot 2 round u) (hash slot 2 round w) || ((hash slot 2 round u == hash slot 2 round w) && nat_lt u w)
+
+-- the best of these and of the one that is there
+unfoldable pub best : (ℕ → ℕ → Bool) → ℕ → List ℕ → ℕ
+best beats u [] = u
+best beats u (w ∷ ws) = best beats (if beats u w then w else u) ws
+
+-- the leader: the best of the neighbours
+unfoldable pub leader : ℕ → ℕ → ℕ → Slices → ℕ
+leader slot round own configured = best (beats slot round) own (neighbours slot round own configured)

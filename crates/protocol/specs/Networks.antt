@@ -1,0 +1,241 @@
+-- Networks: their events and refusals, and what each event does.
+use Rattle.std.specs.Prelude.{ℕ, zero, suc, ◌+◌, Bool, true, false, not, ◌||◌, ◌==◌, nat_lt, length, slice_get, List, [], ◌∷◌, ◌++◌, Option, Some, None, filter, filter_map, map, if◌then◌else◌, is_none, is_some}
+use Rattle.types.specs.Trees.{Slices}
+use Rattle.types.specs.declared.kind.Kind.{Kind}
+use Rattle.types.specs.Statements.{Sent, kind_of}
+use Rattle.protocol.specs.Rows.{is_kind}
+use Rattle.protocol.specs.Nodes.{Node, NodeEvent, Out, fresh, step}
+use Rattle.protocol.specs.Nodes.NodeEvent.{Propose, Take, NominationTimer, BallotTimer}
+use Rattle.protocol.specs.Nodes.Out.{ArmNomination, ArmBallot, Emit, Decided}
+
+-- ---- events
+-- an event of a network, as it comes: a delivery is bytes
+pub data Event : Type 0 where
+  OpenSlot : ℕ → Event
+  CloseSlot : ℕ → Event
+  -- a slot, a node, and the value that it is to propose
+  Ask : ℕ → ℕ → List ℕ → Event
+  -- a node, and the bytes that reach it
+  Deliver : ℕ → List ℕ → Event
+  -- at a slot, a node hears from a node its emission of a kind with this number
+  Hear : ℕ → ℕ → ℕ → Kind → ℕ → Event
+  NominationTimeout : ℕ → ℕ → ℕ → Event
+  BallotTimeout : ℕ → ℕ → ℕ → Event
+
+-- what bytes say: an envelope, or the number of a fault
+pub data Reading : Type 0 where
+  Read : Sent → Reading
+  Fault : ℕ → Reading
+
+-- an event whose bytes have been read, and are kept as their number and what they say
+pub data Step : Type 0 where
+  Opens : ℕ → Step
+  Closes : ℕ → Step
+  Asks : ℕ → ℕ → List ℕ → Step
+  Delivers : ℕ → ℕ → Reading → Step
+  Hears : ℕ → ℕ → ℕ → Kind → ℕ → Step
+  NominationTimes : ℕ → ℕ → ℕ → Step
+  BallotTimes : ℕ → ℕ → ℕ → Step
+
+-- what an event is, by a decoder of envelopes
+abbrev pub read : (List ℕ → Reading) → Event → Step
+read decode (OpenSlot i) = Opens i
+read decode (CloseSlot i) = Closes i
+read decode (Ask i u x) = Asks i u x
+read decode (Deliver u bytes) = Delivers u (length bytes) (decode bytes)
+read decode (Hear i u from kind k) = Hears i u from kind k
+read decode (NominationTimeout i u r) = NominationTimes i u r
+read decode (BallotTimeout i u n) = BallotTimes i u n
+
+-- ---- networks
+-- a hosted node, as it is configured
+pub record Host : Type 0 where
+  pub name : ℕ
+  pub slices : Slices
+
+-- the most journal events, delivered bytes and open slots of a network
+pub record Budgets : Type 0 where
+  pub events : ℕ
+  pub bytes : ℕ
+  pub slots : ℕ
+
+-- a hosted node at a slot, and what it has emitted since the slot was opened
+pub record Place : Type 0 where
+  pub node : Node
+  pub told : List Sent
+
+-- an open slot
+pub record Slot : Type 0 where
+  pub number : ℕ
+  pub places : List Place
+
+-- a network, with the events and the delivered bytes of its journal so far
+pub record Net : Type 0 where
+  pub number : ℕ
+  pub hosts : List Host
+  pub budgets : Budgets
+  pub slots : List Slot
+  pub events : ℕ
+  pub bytes : ℕ
+
+-- ---- looking up
+abbrev pub slices_of : List Host → ℕ → Option Slices
+slices_of [] u = None
+slices_of (h ∷ hs) u = if h.name == u then Some h.slices else slices_of hs u
+
+-- the nodes at an open slot
+abbrev pub places_at : List Slot → ℕ → Option (List Place)
+places_at [] i = None
+places_at (s ∷ ss) i = if s.number == i then Some s.places else places_at ss i
+
+-- the node of a name among them
+abbrev pub place_of : List Place → ℕ → Option Place
+place_of [] u = None
+place_of (p ∷ ps) u = if p.node.name == u then Some p else place_of ps u
+
+-- the node of a name, where the slot is open
+abbrev pub known : Option (List Place) → ℕ → Option Place
+known None u = None
+known (Some ps) u = place_of ps u
+
+-- what is emitted, of all that is given out
+abbrev pub emission_of : Out → Option Sent
+emission_of (ArmNomination r) = None
+emission_of (ArmBallot n) = None
+emission_of (Emit e) = Some e
+emission_of (Decided x) = None
+
+-- all that is emitted, in order
+abbrev pub emissions : List Out → List Sent
+emissions os = filter_map emission_of os
+
+-- the k-th emission of the kind since the slot was opened, k from 1
+abbrev pub emission : Option Place → Kind → ℕ → Option Sent
+emission None kind k = None
+emission (Some p) kind zero = None
+emission (Some p) kind (suc k) = slice_get (filter (λ e. is_kind kind (kind_of e.body)) p.told) k
+
+-- ---- what an event does
+-- the node's step at its place
+unfoldable pub moved : NodeEvent → Place → Place
+moved e p = record { node = (step p.node e).0; told = p.told ++ emissions (step p.node e).1 }
+
+-- what the node's step gives out
+abbrev pub outs_at : NodeEvent → Option Place → List Out
+outs_at e None = []
+outs_at e (Some p) = (step p.node e).1
+
+-- the step of one node among those of a slot
+abbrev pub act_in : ℕ → NodeEvent → List Place → List Place
+act_in u e ps = map (λ p. if p.node.name == u then moved e p else p) ps
+
+-- a step of one node at one slot
+unfoldable pub act : Net → ℕ → ℕ → NodeEvent → Net × List Out
+act net i u e = (
+  record net { slots = map {B = Slot} (λ (s : Slot). if s.number == i then record s { places = act_in u e s.places } else s) net.slots },
+  outs_at e (known (places_at net.slots i) u),
+)
+
+-- nothing happens where there is nothing to hand over
+abbrev pub act_known : Net → ℕ → ℕ → Option Sent → Net × List Out
+act_known net i u None = (net, [])
+act_known net i u (Some e) = act net i u (Take e)
+
+-- opening a slot makes each hosted node anew
+unfoldable pub opened : List Host → ℕ → List Place
+opened hosts i = map (λ h. record { node = fresh i h.name h.slices; told = [] }) hosts
+
+-- what an event does that is not refused; a closed slot is forgotten, and a Hear hands over what was emitted
+unfoldable pub effect : Net → Step → Net × List Out
+effect net (Opens i) = (record net { slots = net.slots ++ record { number = i; places = opened net.hosts i } ∷ [] }, [])
+effect net (Closes i) = (record net { slots = filter (λ s. not (s.number == i)) net.slots }, [])
+effect net (Asks i u x) = act net i u (Propose x)
+effect net (Delivers u size (Read e)) = act net e.slot u (Take e)
+effect net (Delivers u size (Fault n)) = (net, [])
+effect net (Hears i u from kind k) = act_known net i u (emission (known (places_at net.slots i) from) kind k)
+effect net (NominationTimes i u r) = act net i u (NominationTimer r)
+effect net (BallotTimes i u n) = act net i u (BallotTimer n)
+
+-- ---- refusals
+pub data Refusal : Type 0 where
+  NoSuchNetwork : Refusal
+  NoSuchNode : Refusal
+  SlotNotOpen : Refusal
+  SlotOpenAlready : Refusal
+  TooManySlots : Refusal
+  BadEnvelope : ℕ → Refusal
+  HostedSender : Refusal
+  NotEmitted : Refusal
+  JournalFull : Refusal
+  BytesFull : Refusal
+  BadValue : Refusal
+  ProposedAlready : Refusal
+
+-- the network hosts the name
+abbrev pub is_hosted : Net → ℕ → Bool
+is_hosted net u = is_some (slices_of net.hosts u)
+
+-- the slot is open
+abbrev pub is_open : Net → ℕ → Bool
+is_open net i = is_some (places_at net.slots i)
+
+-- the node has been told to propose a value
+abbrev pub has_input : Option Place → Bool
+has_input None = false
+has_input (Some p) = is_some p.node.given.input
+
+-- a value has 1 to 256 bytes
+abbrev pub is_bad_value : List ℕ → Bool
+is_bad_value x = (length x == 0) || nat_lt 256 (length x)
+
+-- the name is not hosted
+abbrev pub is_hosted_not : Net → ℕ → Bool × Refusal
+is_hosted_not net u = (not (is_hosted net u), NoSuchNode)
+
+-- the slot is not open
+abbrev pub is_open_not : Net → ℕ → Bool × Refusal
+is_open_not net i = (not (is_open net i), SlotNotOpen)
+
+-- the journal's budget is used up
+abbrev pub is_full : Net → Bool × Refusal
+is_full net = (not (nat_lt net.events net.budgets.events), JournalFull)
+
+-- what is tested of an event, in this order, each with the refusal where it holds
+abbrev pub tests : Net → Step → List (Bool × Refusal)
+tests net (Opens i) = (is_open net i, SlotOpenAlready) ∷ (not (nat_lt (length net.slots) net.budgets.slots), TooManySlots) ∷ is_full net ∷ []
+tests net (Closes i) = is_open_not net i ∷ is_full net ∷ []
+tests net (Asks i u x) = is_hosted_not net u ∷ is_open_not net i ∷ (is_bad_value x, BadValue) ∷ (has_input (known (places_at net.slots i) u), ProposedAlready) ∷ is_full net ∷ []
+tests net (Delivers u size (Fault n)) = is_hosted_not net u ∷ (true, BadEnvelope n) ∷ []
+tests net (Delivers u size (Read e)) = is_hosted_not net u ∷ (is_hosted net e.sender, HostedSender) ∷ is_open_not net e.slot ∷ is_full net ∷ (nat_lt net.budgets.bytes (net.bytes + size), BytesFull) ∷ []
+tests net (Hears i u from kind k) =
+    (not (is_hosted net u) || not (is_hosted net from) || (u == from), NoSuchNode) ∷ is_open_not net i ∷ (is_none (emission (known (places_at net.slots i) from) kind k), NotEmitted) ∷ is_full net ∷ []
+tests net (NominationTimes i u r) = is_hosted_not net u ∷ is_open_not net i ∷ is_full net ∷ []
+tests net (BallotTimes i u n) = is_hosted_not net u ∷ is_open_not net i ∷ is_full net ∷ []
+
+-- the first test that holds refuses
+abbrev pub first_that : List (Bool × Refusal) → Option Refusal
+first_that [] = None
+first_that (t ∷ ts) = if t.0 then Some t.1 else first_that ts
+
+-- ---- a step of a network
+pub data Reply : Type 0 where
+  Done : List Out → Reply
+  Refused : Refusal → Reply
+
+-- only what is delivered counts as bytes
+abbrev pub size_of : Step → ℕ
+size_of (Delivers u size d) = size
+size_of _ = 0
+
+-- counted in the journal
+abbrev pub counted : Step → Net → Net
+counted e net = record net { events = net.events + 1; bytes = net.bytes + size_of e }
+
+-- a refused event changes nothing; another one is counted and does what it does
+abbrev pub replied : Net → Step → Option Refusal → Net × Reply
+replied net e (Some n) = (net, Refused n)
+replied net e None = (counted e (effect net e).0, Done (effect net e).1)
+
+-- the first refusal that applies, with the state unchanged; else what the event does
+unfoldable pub net_step : Net → Step → Net × Reply
+net_step net e = replied net e (first_that (tests net e))

@@ -1,0 +1,148 @@
+-- One node at one slot: its events, settling, and what it gives out.
+use Rattle.std.specs.Prelude.{◌≡◌, ℕ, zero, suc, ◌+◌, Bool, true, false, not, ◌&&◌, ◌==◌, nat_lt, List, [], ◌∷◌, ◌++◌, Option, Some, None, if◌then◌else◌, is_none, is_some}
+use Rattle.types.specs.Trees.{Slices}
+use Rattle.types.specs.declared.ballot.Ballot.{Ballot}
+use Rattle.types.specs.declared.statement.Statement.{Statement}
+use Rattle.types.specs.Statements.{Sent}
+use Rattle.protocol.specs.Rows.{with_row, is_taken}
+use Rattle.protocol.specs.Views.{seen}
+use Rattle.protocol.specs.States.{Phase, Given, Votes, no_votes, counter_of, sent_vote, sent_nomination}
+use Rattle.protocol.specs.States.Phase.{Preparing, Committing, Externalized}
+use Rattle.protocol.specs.Leaders.{leader}
+use Rattle.protocol.specs.Passes.{pass, raised, most_counter}
+use Rattle.protocol.specs.Sameness.{same_votes, same_sent}
+
+-- a node at a slot
+pub record Node : Type 0 where
+  pub name : ℕ
+  pub slot : ℕ
+  -- configured
+  pub slices : Slices
+  pub given : Given
+  pub votes : Votes
+  -- the newest envelope of each sender and kind
+  pub table : List Sent
+
+-- what happens to a node: a proposal, an envelope, and its two timers
+pub data NodeEvent : Type 0 where
+  Propose : List ℕ → NodeEvent
+  Take : Sent → NodeEvent
+  NominationTimer : ℕ → NodeEvent
+  BallotTimer : ℕ → NodeEvent
+
+-- what a node gives out: a timer to be armed, an envelope to be sent, the value that it externalizes
+pub data Out : Type 0 where
+  ArmNomination : ℕ → Out
+  ArmBallot : ℕ → Out
+  Emit : Sent → Out
+  Decided : List ℕ → Out
+
+-- a node to which nothing has happened
+unfoldable pub fresh : ℕ → ℕ → Slices → Node
+fresh slot name configured = record {
+  name = name;
+  slot = slot;
+  slices = configured;
+  given = record { input = None; round = 0; leaders = []; fired = 0 };
+  votes = no_votes;
+  table = [];
+}
+
+-- ---- settling
+-- one more pass; its table, and so what it sees, is the same in all passes after one event
+abbrev pub passed : Node → Votes → Votes
+passed n w = pass n.name (seen n.name n.slices n.given.leaders n.table) n.given w
+
+-- passes until one changes nothing; none, where each of so many changes something
+unfoldable pub settle : ℕ → (Votes → Votes) → Votes → Option Votes
+settle zero f w = None
+settle (suc n) f w = if same_votes (f w) w then Some w else settle n f (f w)
+
+-- so many passes are tried after an event
+abbrev pub most_passes : ℕ
+most_passes = 64
+
+-- ---- the event's own change
+abbrev pub is_externalized : Phase → Bool
+is_externalized Preparing = false
+is_externalized Committing = false
+is_externalized Externalized = true
+
+-- the next round begins with its leader; earlier leaders stay
+abbrev pub in_round : Node → ℕ → Node
+in_round n r = record n { given = record n.given { round = r; leaders = n.given.leaders ++ leader n.slot r n.name n.slices ∷ [] } }
+
+-- the input is set, and round 1 begins
+abbrev pub proposed : Node → List ℕ → Node
+proposed n x = in_round (record n { given = record n.given { input = Some x } }) 1
+
+-- a nomination timer is live in its own round, from round 1 on, until a ballot is confirmed as prepared
+abbrev pub is_round_live : Node → ℕ → Bool
+is_round_live n r = (r == n.given.round) && nat_lt 0 r && is_none n.votes.high && nat_lt r most_counter
+
+-- a ballot timer is live at the counter of the ballot for which it was armed, until a value is externalized
+abbrev pub is_counter_live : Node → ℕ → Bool
+is_counter_live n c = not (is_externalized n.votes.phase) && is_some n.votes.ballot && (c == n.votes.armed) && (c == counter_of n.votes.ballot) && nat_lt c most_counter
+
+-- the ballot goes up by one counter, its value chosen as after a raise
+abbrev pub bumped : Votes → Option Ballot → Votes
+bumped w None = w
+bumped w (Some b) = record w { ballot = Some (raised w b (b.counter + 1)) }
+
+-- one more ballot timer has fired, and the ballot is one counter up
+abbrev pub timed_out : Node → Node
+timed_out n = record n { given = record n.given { fired = n.given.fired + 1 }; votes = bumped n.votes n.votes.ballot }
+
+-- none for a stale envelope, and for a timer that is not live
+unfoldable pub change : Node → NodeEvent → Option Node
+change n (Propose x) = Some (proposed n x)
+change n (Take e) = if is_taken n.table e then Some (record n { table = with_row e n.table }) else None
+change n (NominationTimer r) = if is_round_live n r then Some (in_round n (r + 1)) else None
+change n (BallotTimer c) = if is_counter_live n c then Some (timed_out n) else None
+
+-- ---- what is given out
+abbrev pub when : Bool → Out → List Out
+when true o = o ∷ []
+when false o = []
+
+-- a statement is sent where it is not the one that would have been sent before
+abbrev pub emitted : Node → Option Statement → Option Statement → List Out
+emitted n old None = []
+emitted n old (Some s) = if same_sent old (Some s) then [] else Emit (record { sender = n.name; slot = n.slot; slices = n.slices; body = s }) ∷ []
+
+-- the value of the ballot is externalized
+abbrev pub decided : Option Ballot → List Out
+decided None = []
+decided (Some b) = Decided b.value ∷ []
+
+-- from the node before the event and the node after it, in order
+unfoldable pub outs : Node → Node → List Out
+outs old new =
+    when (not (new.given.round == old.given.round) && is_none new.votes.high) (ArmNomination new.given.round)
+    ++ when (not (new.votes.armed == old.votes.armed) && (new.votes.armed == counter_of new.votes.ballot) && not (is_externalized new.votes.phase)) (ArmBallot new.votes.armed)
+    ++ emitted new (sent_nomination old.votes) (sent_nomination new.votes)
+    ++ emitted new (sent_vote old.votes) (sent_vote new.votes)
+    ++ (if is_externalized new.votes.phase && not (is_externalized old.votes.phase) then decided new.votes.ballot else [])
+
+-- ---- a step
+abbrev pub settled : Node → Option Votes → Option Node
+settled n None = None
+settled n (Some w) = Some (record n { votes = w })
+
+-- the node after its passes; none where the limit is met
+abbrev pub after_change : Option Node → Option Node
+after_change None = None
+after_change (Some n) = settled n (settle most_passes (passed n) n.votes)
+
+-- where nothing changes, or the limit of passes is met, the node stays as it was and gives nothing out
+abbrev pub answered : Node → Option Node → Node × List Out
+answered old None = (old, [])
+answered old (Some new) = (new, outs old new)
+
+-- One event of a node: its own change, then passes until one changes nothing, then what is given out.
+unfoldable pub step : Node → NodeEvent → Node × List Out
+step n e = answered n (after_change (change n e))
+
+-- one more pass would change nothing
+abbrev pub Calm : Node → Type 0
+Calm n = passed n n.votes ≡ n.votes

@@ -1,0 +1,110 @@
+-- One pass: all rules in their order, and at last those of counters.
+use Rattle.std.specs.Prelude.{ℕ, ◌+◌, ◌-◌, min, Bool, true, false, not, ◌==◌, nat_le, List, Option, Some, None, if◌then◌else◌}
+use Rattle.types.specs.declared.kind.Kind.{Kind}
+use Rattle.types.specs.declared.ballot.Ballot.{Ballot}
+use Rattle.types.specs.declared.statement.Statement.{Statement}
+use Rattle.types.specs.declared.statement.Statement.TheVariants.{Nominate, Prepare, Commit, Externalize}
+use Rattle.protocol.specs.Views.{Seen, passes}
+use Rattle.protocol.specs.States.{Phase, Given, Votes, ballot_at, position}
+use Rattle.protocol.specs.States.Phase.{Preparing, Committing, Externalized}
+use Rattle.protocol.specs.Candidates.{combine, least_from}
+use Rattle.protocol.specs.Nominating.{nominate}
+use Rattle.protocol.specs.Balloting.{start, accept_prepared, confirm_prepared, accept_commit, confirm_commit}
+
+-- ---- counters
+-- the ballot counter is at least n; an EXTERNALIZE counts as infinite
+abbrev pub counts : ℕ → Statement → Bool
+counts n (Nominate voted accepted) = false
+counts n (Prepare b p a h c) = nat_le n b.counter
+counts n (Commit b p h c) = nat_le n b.counter
+counts n (Externalize b h) = true
+
+-- the value of a ballot, else that one
+abbrev pub value_or : Option Ballot → List ℕ → List ℕ
+value_or None x = x
+value_or (Some b) x = b.value
+
+-- a value that is known, else that one
+abbrev pub known_or : Option (List ℕ) → List ℕ → List ℕ
+known_or None x = x
+known_or (Some y) x = y
+
+-- the value of a raised ballot in PREPARE: that of the highest confirmed ballot, else the combined confirmed value, else that of the highest accepted ballot; in COMMIT it stays
+abbrev pub raised_value : Phase → Votes → List ℕ → List ℕ
+raised_value Preparing w x = value_or w.high (known_or (combine w.confirms) (value_or w.prepared x))
+raised_value Committing w x = x
+raised_value Externalized w x = x
+
+-- the ballot at this counter; its value is chosen anew only where that is another counter
+abbrev pub raised : Votes → Ballot → ℕ → Ballot
+raised w b n = if n == b.counter then b else ballot_at n (raised_value w.phase w b.value)
+
+-- counters have 32 bits
+abbrev pub most_counter : ℕ
+most_counter = 4294967295
+
+-- no counter is raised above a thousand and the timers that have fired
+abbrev pub cap : ℕ → ℕ
+cap fired = min (1000 + fired) most_counter
+
+-- the lowest counter, from the ballot's on, at which those with greater counters do not block, but not above the cap
+unfoldable pub raised_counter : Seen → Given → Ballot → Votes → ℕ
+raised_counter seen g b w = least_from (cap g.fired - b.counter) b.counter (λ n. not (seen.blocking Kind.Ballot (passes (counts (n + 1)) (position w)) (counts (n + 1))))
+
+-- Raise: the ballot goes to that counter.
+unfoldable pub raise : Seen → Given → Ballot → Votes → Votes
+raise seen g b w = record w { ballot = Some (raised w b (raised_counter seen g b w)) }
+
+-- Arm: where all members of some quorum that contains the node have counters of at least the ballot's.
+unfoldable pub arm : Seen → Ballot → Votes → Votes
+arm seen b w = if seen.quorum Kind.Ballot (passes (counts b.counter) (position w)) (counts b.counter) then record w { armed = b.counter } else w
+
+-- ---- the rules in order
+-- a rule that needs the ballot
+abbrev pub with_ballot : (Ballot → Votes → Votes) → Votes → Option Ballot → Votes
+with_ballot f w None = w
+with_ballot f w (Some b) = f b w
+
+-- it changes nothing where there is no ballot
+abbrev pub on_ballot : (Ballot → Votes → Votes) → Votes → Votes
+on_ballot f w = with_ballot f w w.ballot
+
+-- a rule of PREPARE alone
+abbrev pub while_preparing : Phase → (Votes → Votes) → Votes → Votes
+while_preparing Preparing f w = f w
+while_preparing Committing f w = w
+while_preparing Externalized f w = w
+
+-- a rule of PREPARE and COMMIT
+abbrev pub while_open : Phase → (Votes → Votes) → Votes → Votes
+while_open Preparing f w = f w
+while_open Committing f w = f w
+while_open Externalized f w = w
+
+-- by the phase in which the rule begins
+abbrev pub in_prepare : (Votes → Votes) → Votes → Votes
+in_prepare f w = while_preparing w.phase f w
+
+-- by the phase in which the rule begins
+abbrev pub unless_over : (Votes → Votes) → Votes → Votes
+unless_over f w = while_open w.phase f w
+
+-- prepared and committed, each rule with what the one before it made
+unfoldable pub voting : Seen → Votes → Votes
+voting seen w1 =
+    let w2 = on_ballot (accept_prepared seen) w1 in
+    let w3 = in_prepare (on_ballot (confirm_prepared seen)) w2 in
+    let w4 = on_ballot (λ b w. accept_commit w.phase seen b w) w3 in
+    on_ballot (λ b w. confirm_commit w.phase seen b w) w4
+
+-- the counters: raised first, then armed
+unfoldable pub counting : Seen → Given → Votes → Votes
+counting seen g w = on_ballot (arm seen) (on_ballot (raise seen g) w)
+
+-- all rules: nomination, the first ballot, voting, and counters unless a value was externalized by then
+unfoldable pub pass_rules : ℕ → Seen → Given → Votes → Votes
+pass_rules own seen g w = unless_over (counting seen g) (voting seen (start seen (nominate own seen g w)))
+
+-- One pass. After EXTERNALIZE none changes anything.
+unfoldable pub pass : ℕ → Seen → Given → Votes → Votes
+pass own seen g w = unless_over (pass_rules own seen g) w

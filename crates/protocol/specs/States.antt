@@ -1,0 +1,126 @@
+-- The state of a node at a slot, its own position, and what it sends.
+use Rattle.std.specs.Prelude.{ℕ, ◌-◌, min, Bool, ◌&&◌, ◌||◌, not, nat_le, nat_lt, length, List, [], Option, Some, None, option_map, if◌then◌else◌}
+use Rattle.std.specs.Ordering.{is_lt, is_gt}
+use Rattle.types.specs.declared.ballot.Ballot.{Ballot}
+use Rattle.types.specs.declared.statement.Statement.{Statement}
+use Rattle.types.specs.declared.statement.Statement.TheVariants.{Nominate, Prepare, Commit, Externalize}
+use Rattle.types.specs.Orders.{bytes_cmp, ballot_cmp}
+use Rattle.types.specs.Votes.{same_value}
+
+-- the phases of balloting
+pub data Phase : Type 0 where
+  Preparing : Phase
+  Committing : Phase
+  Externalized : Phase
+
+-- what events alone set: the input, the round of nomination, its leaders so far, and how many ballot timers have fired
+pub record Given : Type 0 where
+  pub input : Option (List ℕ)
+  pub round : ℕ
+  pub leaders : List ℕ
+  pub fired : ℕ
+
+-- what passes change
+pub record Votes : Type 0 where
+  -- nomination: the values voted for, accepted and confirmed, each set ascending
+  pub voted : List (List ℕ)
+  pub accepts : List (List ℕ)
+  pub confirms : List (List ℕ)
+  pub phase : Phase
+  pub ballot : Option Ballot
+  -- the highest ballot accepted as prepared, and the counter below which all ballots are accepted as aborted
+  pub prepared : Option Ballot
+  pub aborted : ℕ
+  -- the highest ballot confirmed as prepared, and the lowest of those whose commit is voted for
+  pub high : Option Ballot
+  pub commit : Option Ballot
+  -- in COMMIT the counters from lo to hi are accepted as committed, in EXTERNALIZE they are confirmed
+  pub lo : ℕ
+  pub hi : ℕ
+  -- the counter for which the ballot timer was last armed
+  pub armed : ℕ
+
+-- nothing is voted for yet
+abbrev pub no_votes : Votes
+no_votes = record {
+  voted = [];
+  accepts = [];
+  confirms = [];
+  phase = Preparing;
+  ballot = None;
+  prepared = None;
+  aborted = 0;
+  high = None;
+  commit = None;
+  lo = 0;
+  hi = 0;
+  armed = 0;
+}
+
+-- ---- ballots
+abbrev pub below : Ballot → Ballot → Bool
+below a b = is_lt (ballot_cmp a b)
+
+-- the ballot of a counter and a value
+abbrev pub ballot_at : ℕ → List ℕ → Ballot
+ballot_at n x = record { counter = n; value = x }
+
+-- the counter of a ballot; 0 where there is none
+abbrev pub counter_of : Option Ballot → ℕ
+counter_of None = 0
+counter_of (Some b) = b.counter
+
+-- ---- the node's own position
+-- the counter of the highest confirmed ballot, where that has the ballot's value; else 0
+abbrev pub counter_for : Ballot → Option Ballot → ℕ
+counter_for b None = 0
+counter_for b (Some h) = if same_value h.value b.value then h.counter else 0
+
+-- the high counter of the ballot
+unfoldable pub high_counter : Votes → Ballot → ℕ
+high_counter w b = counter_for b w.high
+
+-- the counter from which on commit is voted for, where that has the ballot's value and is not above the high counter; else 0
+abbrev pub counter_up_to : ℕ → Ballot → Option Ballot → ℕ
+counter_up_to most b None = 0
+counter_up_to most b (Some c) = if same_value c.value b.value && nat_le c.counter most then c.counter else 0
+
+-- the commit counter of the ballot: 0 where commit is not voted for
+unfoldable pub commit_counter : Votes → Ballot → ℕ
+commit_counter w b = counter_up_to (high_counter w b) b w.commit
+
+-- the ballot statement of the state as it is
+unfoldable pub position_in : Phase → Votes → Ballot → Statement
+position_in Preparing w b = Prepare b w.prepared w.aborted (high_counter w b) (commit_counter w b)
+position_in Committing w b = Commit b (counter_of w.prepared) w.hi w.lo
+position_in Externalized w b = Externalize (ballot_at w.lo b.value) w.hi
+
+-- a node without a ballot has no position
+unfoldable pub position : Votes → Option Statement
+position w = option_map (position_in w.phase w) w.ballot
+
+-- the position in nomination
+unfoldable pub nominated : Votes → Option Statement
+nominated w = Some (Nominate w.voted w.accepts)
+
+-- ---- what is sent
+-- the highest accepted ballot as it is sent: where it is above the ballot, the greatest of its value that is not
+unfoldable pub lowered : Ballot → Ballot → Ballot
+lowered b p =
+    if below b p
+    then (if not (is_gt (bytes_cmp p.value b.value)) then ballot_at b.counter p.value else ballot_at (b.counter - 1) p.value)
+    else p
+
+-- the ballot statement that is sent: in PREPARE nothing in it is above the ballot
+unfoldable pub sent_in : Phase → Votes → Ballot → Statement
+sent_in Preparing w b = Prepare b (option_map (lowered b) w.prepared) (min w.aborted b.counter) (high_counter w b) (commit_counter w b)
+sent_in Committing w b = Commit b (counter_of w.prepared) w.hi w.lo
+sent_in Externalized w b = Externalize (ballot_at w.lo b.value) w.hi
+
+-- nothing is sent without a ballot
+unfoldable pub sent_vote : Votes → Option Statement
+sent_vote w = option_map (sent_in w.phase w) w.ballot
+
+-- a nomination is sent as soon as one of its sets is not empty
+unfoldable pub sent_nomination : Votes → Option Statement
+sent_nomination w = if nat_lt 0 (length w.voted) || nat_lt 0 (length w.accepts) then Some (Nominate w.voted w.accepts) else None

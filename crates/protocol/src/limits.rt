@@ -1,0 +1,13 @@
+//! The limit of passes: no event meets it.
+
+ghost use Rattle.protocol.specs.Limits.{NeverLimited, WithinFour, RunsReach};
+
+/// Four passes are enough for each event of a node that events lead to, the last of which changes
+/// nothing: so no event is undone by the limit of 64 passes. And each node in a network's run is one
+/// that events lead to.
+#[tactic(auto, using(crate::proofs::SettleLaws::never_limited, crate::proofs::SettleLaws::within_four, crate::proofs::ReachedNodes::runs_reach))]
+pub fn four_passes_are_enough()
+    ensures limit { NeverLimited }
+    ensures four { WithinFour }
+    ensures runs { RunsReach }
+{}
