@@ -1,4 +1,6 @@
 -- Each applied event moves what R sees as the machine of the kept steps says.
+use Rattle.types.specs.declared.event.NodeEvent.{NodeEvent}
+use Rattle.types.specs.declared.event.Out.{Out}
 use Rattle.std.proofs.Common.{◌≡◌, ℕ, Bool, true, false, not, ◌&&◌, ◌==◌, Option, Some, None, List, [], ◌++◌, option_map, if◌then◌else◌, refl, sym, ◌∙◌, ap, ap₂, subst, inl, inr, append-nil}
 use Rattle.std.proofs.Math.Path.{fun_ext}
 use Rattle.std.proofs.lemmas.Bool.{cases_Bool, and_parts, and_from, or_left, true≢false, not_from_false, eqb-true}
@@ -6,8 +8,8 @@ use Rattle.types.specs.Trees.{Slices}
 use Rattle.types.specs.Statements.{Sent}
 use Rattle.protocol.specs.Sets.{Names, within}
 use Rattle.protocol.specs.Satisfaction.{names}
-use Rattle.protocol.specs.Nodes.{Node, NodeEvent, Out}
-use Rattle.protocol.specs.Nodes.NodeEvent.{Take}
+use Rattle.protocol.specs.Nodes.{Node}
+use Rattle.types.specs.declared.event.NodeEvent.TheVariants.{Take}
 use Rattle.protocol.specs.Networks.{Place, Net, places_at, emissions, known, moved, outs_at, act}
 use Rattle.protocol.specs.Isolation.{Kept}
 use Rattle.protocol.specs.Isolation.Kept.{Told}

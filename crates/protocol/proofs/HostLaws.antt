@@ -1,9 +1,10 @@
 -- Isolation over two whole host histories.
+use Rattle.types.specs.declared.event.Refusal.{Refusal}
+use Rattle.types.specs.declared.event.NodeEvent.{NodeEvent}
 use Rattle.std.proofs.Common.{◌≡◌, ℕ, Bool, true, false, ◌==◌, Option, Some, None, List, [], ◌∷◌, map, if◌then◌else◌, is_some, refl, sym, ◌∙◌, ap, ap₂, subst, inl, inr, ◌⊎◌}
 use Rattle.std.proofs.lemmas.Bool.{false≢true, eqb-true}
 use Rattle.types.specs.Statements.{Sent}
-use Rattle.protocol.specs.Nodes.{NodeEvent}
-use Rattle.protocol.specs.Networks.{Host, Budgets, Net, Step, Reply, Refusal, slices_of, effect, act, act_known, emission, known, places_at, tests, first_that, replied, net_step}
+use Rattle.protocol.specs.Networks.{Host, Budgets, Net, Step, Reply, slices_of, effect, act, act_known, emission, known, places_at, tests, first_that, replied, net_step}
 use Rattle.protocol.specs.Networks.Reading.{Read, Fault}
 use Rattle.protocol.specs.Networks.Step.{Opens, Closes, Asks, Delivers, Hears, NominationTimes, BallotTimes}
 use Rattle.protocol.specs.Hosts.{Entry, Config, entered, journal, net_at, reply_at, host_run, applied, nets, new_net, hosts_of, steps_of, entries}

@@ -1,4 +1,6 @@
 -- One step of a node: of what is kept the same on the rows of R alone (Agree), and of what is not kept nothing (Quiet).
+use Rattle.types.specs.declared.event.NodeEvent.{NodeEvent}
+use Rattle.types.specs.declared.event.Out.{Out}
 use Rattle.std.proofs.Common.{◌≡◌, ℕ, zero, suc, ◌+◌, Bool, true, false, not, cond, ◌&&◌, ◌==◌, Option, Some, None, List, [], ◌∷◌, ◌++◌, filter, option_map, if◌then◌else◌, is_none, refl, sym, ◌∙◌, ap, ap₂, subst, inl, inr}
 use Rattle.std.specs.List.{list_all}
 use Rattle.std.proofs.lemmas.Bool.{and_from, and_parts, cases_Bool, eqb-true, not_from_false, or_left}
@@ -15,9 +17,9 @@ use Rattle.protocol.specs.States.{Votes, counter_of, sent_vote, sent_nomination}
 use Rattle.protocol.specs.Passes.{pass}
 use Rattle.protocol.specs.Leaders.{leader, best, neighbours, is_near, hash, beats}
 use Rattle.protocol.specs.Sameness.{same_votes, same_sent}
-use Rattle.protocol.specs.Nodes.{Node, NodeEvent, Out, passed, settle, change, when, emitted, decided, outs, settled, after_change, answered, step, Calm, is_externalized, in_round, timed_out}
-use Rattle.protocol.specs.Nodes.NodeEvent.{Propose, Take, NominationTimer, BallotTimer}
-use Rattle.protocol.specs.Nodes.Out.{ArmNomination, ArmBallot, Emit, Decided}
+use Rattle.protocol.specs.Nodes.{Node, passed, settle, change, when, emitted, decided, outs, settled, after_change, answered, step, Calm, is_externalized, in_round, timed_out}
+use Rattle.types.specs.declared.event.NodeEvent.TheVariants.{Propose, Take, NominationTimer, BallotTimer}
+use Rattle.types.specs.declared.event.Out.TheVariants.{ArmNomination, ArmBallot, Emit, Externalized as Decided}
 use Rattle.protocol.specs.Networks.{emissions}
 use Rattle.protocol.proofs.SamenessLaws.{eqb-refl, same_sent-refl, same_votes-refl, same_votes-true}
 use Rattle.protocol.proofs.ViewLaws.{cut, announces_in, row-cut, Closed, seen-cut}

@@ -1,9 +1,10 @@
 -- Each node in a network's run is reached.
+use Rattle.types.specs.declared.event.Refusal.{Refusal}
+use Rattle.types.specs.declared.event.NodeEvent.{NodeEvent}
 use Rattle.std.proofs.Common.{ℕ, Bool, true, false, not, cond, ◌==◌, Option, Some, None, List, [], ◌∷◌, ◌++◌, map, filter, if◌then◌else◌}
 use Rattle.types.specs.Statements.{Sent}
-use Rattle.protocol.specs.Nodes.{NodeEvent}
-use Rattle.protocol.specs.Nodes.NodeEvent.{Propose, Take, NominationTimer, BallotTimer}
-use Rattle.protocol.specs.Networks.{Net, Slot, Place, Host, Step, moved, act_in, act, act_known, opened, effect, net_step, emission, known, places_at, first_that, tests, replied, Refusal}
+use Rattle.types.specs.declared.event.NodeEvent.TheVariants.{Propose, Take, NominationTimer, BallotTimer}
+use Rattle.protocol.specs.Networks.{Net, Slot, Place, Host, Step, moved, act_in, act, act_known, opened, effect, net_step, emission, known, places_at, first_that, tests, replied}
 use Rattle.protocol.specs.Networks.Step.{Opens, Closes, Asks, Delivers, Hears, NominationTimes, BallotTimes}
 use Rattle.protocol.specs.Networks.Reading.{Read, Fault}
 use Rattle.protocol.specs.Limits.{Reached, AllReached, RunsReach}

@@ -1,4 +1,7 @@
 -- A whole run, as R sees it, is a run of the machine of the kept steps; so two runs with the same kept steps give a member the same outs.
+use Rattle.types.specs.declared.event.Refusal.{Refusal}
+use Rattle.types.specs.declared.event.NodeEvent.{NodeEvent}
+use Rattle.types.specs.declared.event.Out.{Out}
 use Rattle.std.proofs.Common.{◌≡◌, ℕ, Bool, true, false, not, ◌&&◌, ◌==◌, Option, Some, None, List, [], ◌∷◌, ◌++◌, map, flat_map, length, nat_lt, if◌then◌else◌, is_some, refl, sym, ◌∙◌, ap, ap₂, subst}
 use Rattle.std.specs.List.{list_all, AllByRecursion, cons_option}
 use Rattle.std.proofs.Math.Path.{fun_ext}
@@ -8,11 +11,10 @@ use Rattle.types.specs.Statements.{Sent}
 use Rattle.protocol.specs.Sets.{Names, within}
 use Rattle.protocol.specs.Satisfaction.{names}
 use Rattle.protocol.specs.Closures.{keeps}
-use Rattle.protocol.specs.Nodes.{NodeEvent, Out}
-use Rattle.protocol.specs.Nodes.NodeEvent.{Propose, Take, NominationTimer, BallotTimer}
-use Rattle.protocol.specs.Networks.{Host, Budgets, Place, Net, Step, Refusal, slices_of, places_at, known, act, act_known, effect, emission, tests, first_that, is_full, counted, replied, net_step}
+use Rattle.types.specs.declared.event.NodeEvent.TheVariants.{Propose, Take, NominationTimer, BallotTimer}
+use Rattle.protocol.specs.Networks.{Host, Budgets, Place, Net, Step, slices_of, places_at, known, act, act_known, effect, emission, tests, first_that, is_full, counted, replied, net_step}
 use Rattle.protocol.specs.Networks.Reading.{Read, Fault}
-use Rattle.protocol.specs.Networks.Refusal.{SlotOpenAlready, TooManySlots}
+use Rattle.types.specs.declared.event.Refusal.TheVariants.{SlotOpenAlready, TooManySlots}
 use Rattle.protocol.specs.Networks.Step.{Opens, Closes, Asks, Delivers, Hears, NominationTimes, BallotTimes}
 use Rattle.protocol.specs.Hosts.{Entry, entered, journal, new_net}
 use Rattle.protocol.specs.Isolation.{Kept, when_kept, kept, is_of, kept_of, outs_of, host_rule, announced, closure, SameCast}

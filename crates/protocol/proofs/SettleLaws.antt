@@ -1,4 +1,5 @@
 -- Settling: no event of a reached node meets the limit of passes.
+use Rattle.types.specs.declared.event.NodeEvent.{NodeEvent}
 use Rattle.std.proofs.Common.{◌≡◌, ℕ, zero, suc, ◌+◌, Bool, true, false, List, Option, Some, None, if◌then◌else◌, is_none, is_some, refl, sym, ◌∙◌, ap, subst, inl, inr, ◌⊎◌, arith}
 use Rattle.std.proofs.lemmas.Bool.{cases_Bool}
 use Rattle.types.specs.Trees.{Slices}
@@ -12,8 +13,8 @@ use Rattle.protocol.specs.Nominating.{nominate}
 use Rattle.protocol.specs.Balloting.{started, start}
 use Rattle.protocol.specs.States.Phase.{Preparing, Committing, Externalized}
 use Rattle.protocol.specs.Sameness.{same_votes}
-use Rattle.protocol.specs.Nodes.{Node, NodeEvent, fresh, passed, settle, change, settled, after_change, answered, step, bumped, timed_out}
-use Rattle.protocol.specs.Nodes.NodeEvent.{Propose, Take, NominationTimer, BallotTimer}
+use Rattle.protocol.specs.Nodes.{Node, fresh, passed, settle, change, settled, after_change, answered, step, bumped, timed_out}
+use Rattle.types.specs.declared.event.NodeEvent.TheVariants.{Propose, Take, NominationTimer, BallotTimer}
 use Rattle.protocol.specs.Limits.{Reached, NeverLimited, WithinFour}
 use Rattle.protocol.specs.Limits.Reached.{begin, next}
 use Rattle.protocol.proofs.SamenessLaws.{same_votes-refl}

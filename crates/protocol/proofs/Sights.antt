@@ -1,4 +1,6 @@
 -- What R sees of a network at a slot, and how each event moves it.
+use Rattle.types.specs.declared.event.NodeEvent.{NodeEvent}
+use Rattle.types.specs.declared.event.Out.{Out}
 use Rattle.std.proofs.Common.{◌≡◌, ℕ, Bool, true, false, not, ◌&&◌, ◌||◌, ◌==◌, Option, Some, None, List, [], ◌∷◌, ◌++◌, map, option_map, if◌then◌else◌, refl, sym, ◌∙◌, ap, inl, inr}
 use Rattle.std.specs.List.{list_all}
 use Rattle.std.proofs.lemmas.Bool.{cases_Bool, and_parts, and_from, or_left, or_right, true≢false, not_from_false, eqb-true, eq-eqb}
@@ -6,8 +8,8 @@ use Rattle.types.specs.Trees.{Slices}
 use Rattle.types.specs.Statements.{Sent}
 use Rattle.protocol.specs.Sets.{Names, within}
 use Rattle.protocol.specs.Satisfaction.{names}
-use Rattle.protocol.specs.Nodes.{NodeEvent, Out, step, Calm, fresh}
-use Rattle.protocol.specs.Nodes.NodeEvent.{Take}
+use Rattle.protocol.specs.Nodes.{step, Calm, fresh}
+use Rattle.types.specs.declared.event.NodeEvent.TheVariants.{Take}
 use Rattle.protocol.specs.Networks.{Place, Slot, Net, places_at, place_of, emissions, emission, known, moved, outs_at, act_in, act}
 use Rattle.protocol.specs.Isolation.{Kept}
 use Rattle.protocol.specs.Isolation.Kept.{Opened, Closed, Told, Heard}

@@ -1,9 +1,9 @@
 -- Isolation of two runs; and that a verdict is determined.
+use Rattle.types.specs.declared.event.Out.{Out}
 use Rattle.std.proofs.Common.{◌≡◌, ℕ, zero, suc, ◌<◌, true, List, [], ◌∷◌, map, take, slice_get, is_some, refl, sym, ◌∙◌, ap, ap₂, subst, inl, inr, arith, IsTrue}
 use Rattle.std.specs.List.{AllByRecursion, Contains}
 use Rattle.std.proofs.lemmas.Bool.{cases_order, true≢false}
 use Rattle.protocol.specs.Sets.{Names, IsAscending}
-use Rattle.protocol.specs.Nodes.{Out}
 use Rattle.protocol.specs.Networks.{Host, slices_of}
 use Rattle.protocol.specs.Hosts.{Entry}
 use Rattle.protocol.specs.Isolation.{Kept, closure, kept_of, outs_of, SameCast}

@@ -1,13 +1,13 @@
 -- Networks and their histories, computed from the definitions.
+use Rattle.types.specs.declared.event.Out.{Out}
 use Rattle.std.proofs.Common.{◌≡◌, ℕ, Bool, true, false, Some, None, List, [], ◌∷◌, ◌++◌, not, ◌==◌, map, filter, flat_map, refl}
 use Rattle.types.specs.declared.kind.Kind.{Kind}
 use Rattle.types.specs.declared.kind.Kind.TheVariants.{Nomination}
 use Rattle.types.specs.declared.statement.Statement.TheVariants.{Nominate, Prepare, Externalize}
-use Rattle.protocol.specs.Nodes.{Out}
-use Rattle.protocol.specs.Nodes.Out.{ArmNomination, ArmBallot, Emit, Decided}
+use Rattle.types.specs.declared.event.Out.TheVariants.{ArmNomination, ArmBallot, Emit, Externalized as Decided}
 use Rattle.protocol.specs.Networks.{Host, Step, Reply}
 use Rattle.protocol.specs.Networks.Reading.{Read, Fault}
-use Rattle.protocol.specs.Networks.Refusal.{NoSuchNetwork, NoSuchNode, SlotNotOpen, SlotOpenAlready, TooManySlots, BadEnvelope, HostedSender, NotEmitted, JournalFull, BytesFull, BadValue, ProposedAlready}
+use Rattle.types.specs.declared.event.Refusal.TheVariants.{NoSuchNetwork, NoSuchNode, SlotNotOpen, SlotOpenAlready, TooManySlots, BadEnvelope, HostedSender, NotEmitted, JournalFull, BytesFull, BadValue, ProposedAlready}
 use Rattle.protocol.specs.Networks.Step.{Opens, Closes, Asks, Delivers, Hears}
 use Rattle.protocol.specs.Networks.Reply.{Done, Refused}
 use Rattle.protocol.specs.Hosts.{Config, Entry, new_net, nets, journal, host_run}

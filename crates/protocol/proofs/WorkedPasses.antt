@@ -1,9 +1,10 @@
 -- An event that needs four passes, three of which change something.
+use Rattle.types.specs.declared.event.NodeEvent.{NodeEvent}
 use Rattle.std.proofs.Common.{◌≡◌, ℕ, Bool, true, false, Option, Some, None, List, [], ◌∷◌, is_some, refl}
 use Rattle.types.specs.Trees.{Slices, node, inner, none}
 use Rattle.types.specs.declared.statement.Statement.TheVariants.{Nominate, Prepare}
-use Rattle.protocol.specs.Nodes.{Node, NodeEvent, fresh, passed, settle, change, step}
-use Rattle.protocol.specs.Nodes.NodeEvent.{Take}
+use Rattle.protocol.specs.Nodes.{Node, fresh, passed, settle, change, step}
+use Rattle.types.specs.declared.event.NodeEvent.TheVariants.{Take}
 use Rattle.protocol.proofs.Everything.{everything, A, B, C, x, y, at, just, by}
 
 -- A itself, and one of B and C

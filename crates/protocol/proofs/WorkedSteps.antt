@@ -5,8 +5,8 @@ use Rattle.types.specs.declared.statement.Statement.TheVariants.{Nominate, Prepa
 use Rattle.types.specs.declared.kind.Kind.{Kind}
 use Rattle.protocol.specs.Rows.{row}
 use Rattle.protocol.specs.Nodes.{Node, fresh, change, step}
-use Rattle.protocol.specs.Nodes.NodeEvent.{Take}
-use Rattle.protocol.specs.Nodes.Out.{ArmBallot, Emit, Decided}
+use Rattle.types.specs.declared.event.NodeEvent.TheVariants.{Take}
+use Rattle.types.specs.declared.event.Out.TheVariants.{ArmBallot, Emit, Externalized as Decided}
 use Rattle.protocol.specs.Networks.{Step}
 use Rattle.protocol.specs.Networks.Step.{Opens, Asks, BallotTimes}
 use Rattle.protocol.specs.Networks.Reply.{Done}

@@ -1,4 +1,6 @@
 -- The claims that isolation is made of, each in the words of its own layer.
+use Rattle.types.specs.declared.event.NodeEvent.{NodeEvent}
+use Rattle.types.specs.declared.event.Out.{Out}
 use Rattle.std.specs.Prelude.{◌≡◌, ℕ, not, ◌||◌, List, [], ◌++◌, filter, IsTrue, IsFalse}
 use Rattle.std.specs.List.{list_all}
 use Rattle.types.specs.declared.kind.Kind.{Kind}
@@ -7,8 +9,8 @@ use Rattle.protocol.specs.Sets.{Names, within}
 use Rattle.protocol.specs.Satisfaction.{names}
 use Rattle.protocol.specs.Rows.{row}
 use Rattle.protocol.specs.Reach.{reached}
-use Rattle.protocol.specs.Nodes.{Node, NodeEvent, Out, step, Calm}
-use Rattle.protocol.specs.Nodes.NodeEvent.{Propose, Take, NominationTimer, BallotTimer}
+use Rattle.protocol.specs.Nodes.{Node, step, Calm}
+use Rattle.types.specs.declared.event.NodeEvent.TheVariants.{Propose, Take, NominationTimer, BallotTimer}
 use Rattle.protocol.specs.Networks.{Host}
 use Rattle.protocol.specs.Hosts.{Entry}
 use Rattle.protocol.specs.Isolation.{closure}

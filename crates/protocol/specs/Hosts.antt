@@ -1,8 +1,9 @@
 -- Hosts of many networks: journals, whole runs and histories.
+use Rattle.types.specs.declared.event.Event.{Event}
+use Rattle.types.specs.declared.event.Out.{Out}
 use Rattle.std.specs.Prelude.{ℕ, ◌==◌, List, [], ◌∷◌, Option, Some, None, map, if◌then◌else◌}
-use Rattle.protocol.specs.Nodes.{Out}
-use Rattle.protocol.specs.Networks.{Event, Reading, Step, read, Host, Budgets, Net, Reply, net_step}
-use Rattle.protocol.specs.Networks.Refusal.{NoSuchNetwork}
+use Rattle.protocol.specs.Networks.{Reading, Step, read, Host, Budgets, Net, Reply, net_step}
+use Rattle.types.specs.declared.event.Refusal.TheVariants.{NoSuchNetwork}
 use Rattle.protocol.specs.Networks.Reply.{Done, Refused}
 
 -- an applied event, with what it gave out

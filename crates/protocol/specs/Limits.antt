@@ -1,8 +1,9 @@
 -- Beyond the rules: no event meets the limit of passes.
+use Rattle.types.specs.declared.event.NodeEvent.{NodeEvent}
 use Rattle.std.specs.Prelude.{◌≡◌, ℕ, List, IsTrue, Some, is_some}
 use Rattle.std.specs.List.{AllByRecursion}
 use Rattle.types.specs.Trees.{Slices}
-use Rattle.protocol.specs.Nodes.{Node, NodeEvent, fresh, passed, settle, most_passes, change, step}
+use Rattle.protocol.specs.Nodes.{Node, fresh, passed, settle, most_passes, change, step}
 use Rattle.protocol.specs.Networks.{Slot}
 use Rattle.protocol.specs.Hosts.{Entry, Config}
 use Rattle.protocol.specs.Runs.{state_of}

@@ -1,27 +1,20 @@
 -- Networks: their events and refusals, and what each event does.
+use Rattle.types.specs.declared.event.NodeEvent.{NodeEvent}
+use Rattle.types.specs.declared.event.Out.{Out}
 use Rattle.std.specs.Prelude.{ℕ, zero, suc, ◌+◌, Bool, true, false, not, ◌||◌, ◌==◌, nat_lt, length, slice_get, List, [], ◌∷◌, ◌++◌, Option, Some, None, filter, filter_map, map, if◌then◌else◌, is_none, is_some}
 use Rattle.types.specs.Trees.{Slices}
 use Rattle.types.specs.declared.kind.Kind.{Kind}
+use Rattle.types.specs.declared.event.Event.{Event}
+use Rattle.types.specs.declared.event.Event.TheVariants.{OpenSlot, CloseSlot, Propose as Ask, Deliver, Hear, NominationTimer as NominationTimeout, BallotTimer as BallotTimeout}
+use Rattle.types.specs.declared.event.Refusal.{Refusal}
+use Rattle.types.specs.declared.event.Refusal.TheVariants.{NoSuchNetwork, NoSuchNode, SlotNotOpen, SlotOpenAlready, TooManySlots, BadEnvelope, HostedSender, NotEmitted, JournalFull, BytesFull, BadValue, ProposedAlready}
 use Rattle.types.specs.Statements.{Sent, kind_of}
 use Rattle.protocol.specs.Rows.{is_kind}
-use Rattle.protocol.specs.Nodes.{Node, NodeEvent, Out, fresh, step}
-use Rattle.protocol.specs.Nodes.NodeEvent.{Propose, Take, NominationTimer, BallotTimer}
-use Rattle.protocol.specs.Nodes.Out.{ArmNomination, ArmBallot, Emit, Decided}
+use Rattle.protocol.specs.Nodes.{Node, fresh, step}
+use Rattle.types.specs.declared.event.NodeEvent.TheVariants.{Propose, Take, NominationTimer, BallotTimer}
+use Rattle.types.specs.declared.event.Out.TheVariants.{ArmNomination, ArmBallot, Emit, Externalized as Decided}
 
 -- ---- events
--- an event of a network, as it comes: a delivery is bytes
-pub data Event : Type 0 where
-  OpenSlot : ℕ → Event
-  CloseSlot : ℕ → Event
-  -- a slot, a node, and the value that it is to propose
-  Ask : ℕ → ℕ → List ℕ → Event
-  -- a node, and the bytes that reach it
-  Deliver : ℕ → List ℕ → Event
-  -- at a slot, a node hears from a node its emission of a kind with this number
-  Hear : ℕ → ℕ → ℕ → Kind → ℕ → Event
-  NominationTimeout : ℕ → ℕ → ℕ → Event
-  BallotTimeout : ℕ → ℕ → ℕ → Event
-
 -- what bytes say: an envelope, or the number of a fault
 pub data Reading : Type 0 where
   Read : Sent → Reading
@@ -157,20 +150,6 @@ effect net (NominationTimes i u r) = act net i u (NominationTimer r)
 effect net (BallotTimes i u n) = act net i u (BallotTimer n)
 
 -- ---- refusals
-pub data Refusal : Type 0 where
-  NoSuchNetwork : Refusal
-  NoSuchNode : Refusal
-  SlotNotOpen : Refusal
-  SlotOpenAlready : Refusal
-  TooManySlots : Refusal
-  BadEnvelope : ℕ → Refusal
-  HostedSender : Refusal
-  NotEmitted : Refusal
-  JournalFull : Refusal
-  BytesFull : Refusal
-  BadValue : Refusal
-  ProposedAlready : Refusal
-
 -- the network hosts the name
 abbrev pub is_hosted : Net → ℕ → Bool
 is_hosted net u = is_some (slices_of net.hosts u)

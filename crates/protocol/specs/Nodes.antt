@@ -3,6 +3,10 @@ use Rattle.std.specs.Prelude.{◌≡◌, ℕ, zero, suc, ◌+◌, Bool, true, fa
 use Rattle.types.specs.Trees.{Slices}
 use Rattle.types.specs.declared.ballot.Ballot.{Ballot}
 use Rattle.types.specs.declared.statement.Statement.{Statement}
+use Rattle.types.specs.declared.event.NodeEvent.{NodeEvent}
+use Rattle.types.specs.declared.event.NodeEvent.TheVariants.{Propose, Take, NominationTimer, BallotTimer}
+use Rattle.types.specs.declared.event.Out.{Out}
+use Rattle.types.specs.declared.event.Out.TheVariants.{ArmNomination, ArmBallot, Emit, Externalized as Decided}
 use Rattle.types.specs.Statements.{Sent}
 use Rattle.protocol.specs.Rows.{with_row, is_taken}
 use Rattle.protocol.specs.Views.{seen}
@@ -22,20 +26,6 @@ pub record Node : Type 0 where
   pub votes : Votes
   -- the newest envelope of each sender and kind
   pub table : List Sent
-
--- what happens to a node: a proposal, an envelope, and its two timers
-pub data NodeEvent : Type 0 where
-  Propose : List ℕ → NodeEvent
-  Take : Sent → NodeEvent
-  NominationTimer : ℕ → NodeEvent
-  BallotTimer : ℕ → NodeEvent
-
--- what a node gives out: a timer to be armed, an envelope to be sent, the value that it externalizes
-pub data Out : Type 0 where
-  ArmNomination : ℕ → Out
-  ArmBallot : ℕ → Out
-  Emit : Sent → Out
-  Decided : List ℕ → Out
 
 -- a node to which nothing has happened
 unfoldable pub fresh : ℕ → ℕ → Slices → Node

@@ -1,10 +1,11 @@
 -- What a journal determines: refusals, outs, marks and decisions as functions of the configuration, the entries before, and the event.
+use Rattle.types.specs.declared.event.Refusal.{Refusal}
+use Rattle.types.specs.declared.event.Out.{Out}
 use Rattle.std.specs.Prelude.{◌≡◌, ℕ, suc, List, [], ◌∷◌, ◌++◌, length, take, slice_get, filter, filter_map, map, Option, Some, None}
 use Rattle.types.specs.Statements.{Sent, kind_of}
 use Rattle.protocol.specs.Rows.{is_kind}
-use Rattle.protocol.specs.Nodes.{Out}
-use Rattle.protocol.specs.Nodes.Out.{ArmNomination, ArmBallot, Emit, Decided}
-use Rattle.protocol.specs.Networks.{Step, Net, Place, Refusal, emissions, known, places_at, tests, first_that, effect, net_step}
+use Rattle.types.specs.declared.event.Out.TheVariants.{ArmNomination, ArmBallot, Emit, Externalized as Decided}
+use Rattle.protocol.specs.Networks.{Step, Net, Place, emissions, known, places_at, tests, first_that, effect, net_step}
 use Rattle.protocol.specs.Networks.Reading.{Read, Fault}
 use Rattle.protocol.specs.Networks.Step.{Opens, Closes, Asks, Delivers, Hears, NominationTimes, BallotTimes}
 use Rattle.protocol.specs.Hosts.{Entry, Config, new_net, journal}

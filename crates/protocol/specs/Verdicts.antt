@@ -1,8 +1,8 @@
 -- What a comparison of one network in two worlds answers.
+use Rattle.types.specs.declared.event.Out.{Out}
 use Rattle.std.specs.Prelude.{◌≡◌, ◌≢◌, ℕ, ◌<◌, ◌⊎◌, List, take, slice_get, map, IsTrue, IsFalse, is_some}
 use Rattle.std.specs.List.{AllByRecursion, Contains}
 use Rattle.protocol.specs.Sets.{Names, IsAscending}
-use Rattle.protocol.specs.Nodes.{Out}
 use Rattle.protocol.specs.Networks.{Host, slices_of}
 use Rattle.protocol.specs.Hosts.{Config, Entry}
 use Rattle.protocol.specs.Runs.{IsRun}

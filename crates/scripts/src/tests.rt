@@ -2,6 +2,7 @@ use crate::*;
 use std::alloc::{AllocError, Global};
 use std::process::Abort;
 use std::test::Fail;
+use types::Bytes;
 
 fn printed_name(alloc: Global, word: &[u8]) -> Result<Option<String>, AllocError> {
     let Some(name) = name_of(word) else {
@@ -216,7 +217,10 @@ fn bytes(rt: HostRuntime) -> Result<(), Fail> {
     ] {
         let read = bytes_of(rt.alloc(), word)?;
         match read {
-            Some(bytes) => assert_eq!(rt; Some(bytes.as_slice()) == wanted, true),
+            Some(bytes) => {
+                let copy = Bytes::new(bytes).try_copy(rt.alloc())?;
+                assert_eq!(rt; Some(copy.as_slice()) == wanted, true)
+            }
             None => assert_eq!(rt; wanted.is_none(), true),
         }
     }

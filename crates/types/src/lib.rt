@@ -3,7 +3,9 @@
 #![tactic(auto)]
 
 mod ballot;
+mod bytes;
 mod envelope;
+mod event;
 mod kind;
 mod nested;
 mod node_id;
@@ -13,7 +15,9 @@ mod values;
 mod votes;
 
 pub use ballot::Ballot;
+pub use bytes::Bytes;
 pub use envelope::Envelope;
+pub use event::{Event, NodeEvent, Out, Refusal};
 pub use kind::Kind;
 pub use nested::{MAX_INNER_LEVELS, MAX_MEMBERS, MAX_NAMES, Member, Nested, SliceSet, push_names};
 pub use node_id::NodeId;

@@ -1,0 +1,107 @@
+//! What happens to a node and to a network, what they give out, and why an event is refused.
+
+use crate::bytes::Bytes;
+use crate::envelope::Envelope;
+use crate::kind::Kind;
+use crate::node_id::NodeId;
+use crate::value::Value;
+
+/// What happens to one node at one slot.
+#[derive(Drop)]
+pub enum NodeEvent {
+    /// The node is to propose a value.
+    Propose(Value),
+    /// An envelope reaches it.
+    Take(Envelope),
+    /// The nomination timer of this round fires.
+    NominationTimer(u32),
+    /// The ballot timer that was armed for this counter fires.
+    BallotTimer(u32),
+}
+
+/// What one node at one slot gives out.
+#[derive(Drop)]
+pub enum Out {
+    /// The timer of this round of nomination is to be armed.
+    ArmNomination(u32),
+    /// The ballot timer is to be armed for this counter.
+    ArmBallot(u32),
+    /// This envelope is to be sent.
+    Emit(Envelope),
+    /// This value is what the slot decides.
+    Externalized(Value),
+}
+
+/// What happens to a network, as it comes: the bytes of a delivery and of a proposal are not read yet.
+#[derive(Drop)]
+pub enum Event {
+    /// The slot is opened: each hosted node begins anew there.
+    OpenSlot {
+        slot: u64,
+    },
+    /// The slot is closed, and its nodes' states are forgotten.
+    CloseSlot {
+        slot: u64,
+    },
+    /// A hosted node is to propose a value.
+    Propose {
+        slot: u64,
+        node: NodeId,
+        value: Bytes,
+    },
+    /// Bytes reach a hosted node.
+    Deliver {
+        node: NodeId,
+        bytes: Bytes,
+    },
+    /// A hosted node hears from another one its emission of a kind with this number, from 1 on since
+    /// the slot was opened.
+    Hear {
+        slot: u64,
+        node: NodeId,
+        from: NodeId,
+        kind: Kind,
+        number: u64,
+    },
+    /// A hosted node's nomination timer of this round fires.
+    NominationTimer {
+        slot: u64,
+        node: NodeId,
+        round: u32,
+    },
+    /// A hosted node's ballot timer for this counter fires.
+    BallotTimer {
+        slot: u64,
+        node: NodeId,
+        counter: u32,
+    },
+}
+
+/// Why a network refuses an event (this host's profile). A refused event changes nothing.
+#[derive(Clone, Copy, Debug, PartialEq, Eq)]
+pub enum Refusal {
+    /// There is no such network.
+    NoSuchNetwork,
+    /// The node is not hosted, or would hear itself.
+    NoSuchNode,
+    /// The slot is not open.
+    SlotNotOpen,
+    /// The slot is open already.
+    SlotOpenAlready,
+    /// As many slots are open as the budget has.
+    TooManySlots,
+    /// The bytes are no envelope, with the number of their fault.
+    BadEnvelope(u8),
+    /// The sender of the envelope is hosted: its emissions are heard, not delivered.
+    HostedSender,
+    /// The node has no such emission.
+    NotEmitted,
+    /// The journal has as many events as the budget has.
+    JournalFull,
+    /// The delivered bytes would exceed the budget.
+    BytesFull,
+    /// A value has 1 to 256 bytes.
+    BadValue,
+    /// The node has a proposal already.
+    ProposedAlready,
+}
