@@ -1,5 +1,5 @@
 /* Makes the allocation fail whose number FAIL_ALLOCATION gives, counted from 1 over malloc, calloc,
-   realloc and aligned_alloc, and then writes one byte to the file that FAILED_MARK names. */
+   realloc, aligned_alloc and posix_memalign, and then writes one byte to the file that FAILED_MARK names. */
 #define _GNU_SOURCE
 #include <dlfcn.h>
 #include <errno.h>
