@@ -7,10 +7,11 @@ use Rattle.types.specs.declared.statement.Statement.{Statement}
 use Rattle.protocol.proofs.Tests.{takes_prepare, backs_commit, takes_commit}
 use Rattle.types.specs.declared.kind.Kind.{Kind}
 use Rattle.protocol.specs.Views.{Seen, accepted, confirmed}
-use Rattle.protocol.specs.States.{Votes, below, counter_of, ballot_at, position}
+use Rattle.types.specs.declared.state.Votes.{Votes}
+use Rattle.protocol.specs.States.{below, counter_of, ballot_at, position}
 use Rattle.protocol.specs.Candidates.{greatest, committed_by, commits, lowest}
 use Rattle.protocol.specs.Balloting.{is_confirmed, commit_accepted, commit_confirmed, is_aborted, accept_commit, confirm_commit, enter_commit, first_committed, accepted_from, widen_commit, next_committed, confirmed_commit, externalize}
-use Rattle.protocol.specs.States.Phase.{Preparing, Committing, Externalized}
+use Rattle.types.specs.declared.state.Phase.TheVariants.{Preparing, Committing, Externalized}
 use Rattle.protocol.specs.Extremes.{IsIn}
 use Rattle.protocol.proofs.BallotOrder.{below-self, not_below-counter, one_value}
 use Rattle.protocol.proofs.Above.{above, Under, under-trans, greatest-keeps, greatest-above, greatest-from, in-filter, from-filter, lowest-low}

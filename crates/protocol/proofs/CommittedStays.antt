@@ -8,10 +8,12 @@ use Rattle.protocol.proofs.Tests.{backs_prepare, takes_prepare, backs_commit, ta
 use Rattle.types.specs.declared.statement.Statement.TheVariants.{Commit}
 use Rattle.types.specs.declared.kind.Kind.{Kind}
 use Rattle.protocol.specs.Views.{Seen, passes, accepted}
-use Rattle.protocol.specs.States.{Phase, Votes, below, counter_of, ballot_at, position}
+use Rattle.types.specs.declared.state.Phase.{Phase}
+use Rattle.types.specs.declared.state.Votes.{Votes}
+use Rattle.protocol.specs.States.{below, counter_of, ballot_at, position}
 use Rattle.protocol.specs.Candidates.{greatest, committed_by, commits}
 use Rattle.protocol.specs.Balloting.{aborted_by, is_accepted, commit_accepted, may_be_prepared, accept_prepared, accept_commit, widen_commit, next_committed, accepted_from}
-use Rattle.protocol.specs.States.Phase.{Committing}
+use Rattle.types.specs.declared.state.Phase.TheVariants.{Committing}
 use Rattle.protocol.specs.Extremes.{IsIn}
 use Rattle.protocol.proofs.Above.{above, Under, under-trans, aborted-by, greatest-from, from-filter}
 use Rattle.protocol.proofs.RuleMoves.{own_named, own_commits, named-parts, named-row, named-own, commits-parts, commits-row, position-committing, accepted-from, accept_prepared-still, accept_prepared-moves}

@@ -13,7 +13,8 @@ use Rattle.protocol.specs.Satisfaction.{names}
 use Rattle.protocol.specs.Weights.{weight}
 use Rattle.protocol.specs.Rows.{row, is_kind, is_row_of, with_row, is_taken, replaces}
 use Rattle.protocol.specs.Views.{Seen}
-use Rattle.protocol.specs.States.{Votes, counter_of, sent_vote, sent_nomination}
+use Rattle.types.specs.declared.state.Votes.{Votes}
+use Rattle.protocol.specs.States.{counter_of, sent_vote, sent_nomination}
 use Rattle.protocol.specs.Passes.{pass}
 use Rattle.protocol.specs.Leaders.{leader, best, neighbours, is_near, hash, beats}
 use Rattle.protocol.specs.Sameness.{same_votes, same_sent}

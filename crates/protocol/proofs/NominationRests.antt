@@ -7,7 +7,7 @@ use Rattle.protocol.proofs.Tests.{backs_value, takes_value, Fair, quorum_own, qu
 use Rattle.types.specs.declared.statement.Statement.TheVariants.{Nominate}
 use Rattle.types.specs.declared.kind.Kind.TheVariants.{Nomination}
 use Rattle.protocol.specs.Views.{Seen, accepted, confirmed, passes}
-use Rattle.protocol.specs.States.{Given}
+use Rattle.types.specs.declared.state.Given.{Given}
 use Rattle.protocol.specs.Candidates.{with_value, as_set, all_with, filled, values_by}
 use Rattle.protocol.proofs.NominationSets.{Ascending, with-has, with-kept, with-from, with-ascending, with-new, all-ascending, all-has, all-same, all-longer, sources, echoes, new_voted, new_accepts, new_confirms, QuietAt, quiet-from}
 use Rattle.protocol.proofs.BallotOrder.{less, less-self}

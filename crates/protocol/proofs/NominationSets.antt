@@ -6,7 +6,9 @@ use Rattle.protocol.proofs.Tests.{backs_value, takes_value}
 use Rattle.types.specs.declared.statement.Statement.TheVariants.{Nominate}
 use Rattle.types.specs.declared.kind.Kind.TheVariants.{Nomination}
 use Rattle.protocol.specs.Views.{Seen, accepted, confirmed}
-use Rattle.protocol.specs.States.{Given, Votes, nominated}
+use Rattle.types.specs.declared.state.Given.{Given}
+use Rattle.types.specs.declared.state.Votes.{Votes}
+use Rattle.protocol.specs.States.{nominated}
 use Rattle.protocol.specs.Candidates.{with_value, all_with, filled, values_by}
 use Rattle.protocol.specs.Nominating.{echo, accept_values, confirm_values, nominate}
 use Rattle.protocol.proofs.BallotOrder.{less, less-total, less-trans, less-asym, less-self}

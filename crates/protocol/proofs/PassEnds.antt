@@ -2,12 +2,14 @@
 use Rattle.std.proofs.Common.{◌≡◌, ℕ, false, Some, None, is_none, refl, sym, ◌∙◌, ap, subst, inl, inr, ◌⊎◌}
 use Rattle.types.specs.declared.ballot.Ballot.{Ballot}
 use Rattle.protocol.specs.Views.{Seen}
-use Rattle.protocol.specs.States.{Given, Votes, position}
+use Rattle.types.specs.declared.state.Given.{Given}
+use Rattle.types.specs.declared.state.Votes.{Votes}
+use Rattle.protocol.specs.States.{position}
 use Rattle.protocol.specs.Candidates.{greatest}
 use Rattle.protocol.specs.Nominating.{nominate}
 use Rattle.protocol.specs.Balloting.{start, accept_prepared, raise_high, follow_high, set_commit, accept_commit, confirm_commit, started}
 use Rattle.protocol.specs.Passes.{arm, pass, while_open}
-use Rattle.protocol.specs.States.Phase.{Preparing, Committing, Externalized}
+use Rattle.types.specs.declared.state.Phase.TheVariants.{Preparing, Committing, Externalized}
 use Rattle.protocol.proofs.Tests.{Fair}
 use Rattle.protocol.proofs.RuleMoves.{position-armed, follow_high-still, set_commit-still, Risen, risen-up, arm-moves, arm-still}
 use Rattle.protocol.proofs.PreparedStays.{Sound, Ready, ready}

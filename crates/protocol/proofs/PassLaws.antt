@@ -8,11 +8,14 @@ use Rattle.protocol.proofs.Tests.{backs_prepare, takes_prepare, Fair}
 use Rattle.protocol.specs.Passes.{counts, raised_value, raised, raise, arm, on_ballot, in_prepare, counting, pass, while_open, pass_rules, voting}
 use Rattle.types.specs.declared.kind.Kind.{Kind}
 use Rattle.protocol.specs.Views.{Seen, passes, accepted, confirmed}
-use Rattle.protocol.specs.States.{Phase, Given, Votes, ballot_at, high_counter, position}
+use Rattle.types.specs.declared.state.Phase.{Phase}
+use Rattle.types.specs.declared.state.Given.{Given}
+use Rattle.types.specs.declared.state.Votes.{Votes}
+use Rattle.protocol.specs.States.{ballot_at, high_counter, position}
 use Rattle.protocol.specs.Candidates.{greatest, named_by, named}
 use Rattle.protocol.specs.Balloting.{aborted_by, may_be_prepared, start, accept_prepared, raise_high, follow_high, is_aborted, set_commit, accept_commit, confirm_commit, confirm_prepared}
 use Rattle.protocol.specs.Nominating.{nominate}
-use Rattle.protocol.specs.States.Phase.{Preparing, Committing, Externalized}
+use Rattle.types.specs.declared.state.Phase.TheVariants.{Preparing, Committing, Externalized}
 use Rattle.protocol.proofs.RuleMoves.{position-armed, position-preparing, position-committing, Fixed, Risen, raise-moves, raise-still, arm-moves}
 use Rattle.protocol.proofs.PreparedStays.{Sound}
 use Rattle.protocol.proofs.CommitMoves.{entering}

@@ -7,9 +7,11 @@ use Rattle.protocol.proofs.Tests.{implies, backs_prepare, takes_prepare, Fair, q
 use Rattle.types.specs.declared.statement.Statement.TheVariants.{Prepare}
 use Rattle.types.specs.declared.kind.Kind.{Kind}
 use Rattle.protocol.specs.Views.{Seen, passes}
-use Rattle.protocol.specs.States.{Phase, Votes, below, counter_of, high_counter, commit_counter, position}
+use Rattle.types.specs.declared.state.Phase.{Phase}
+use Rattle.types.specs.declared.state.Votes.{Votes}
+use Rattle.protocol.specs.States.{below, counter_of, high_counter, commit_counter, position}
 use Rattle.protocol.specs.Balloting.{aborted_by, is_accepted, is_confirmed, may_be_prepared, accept_prepared, raise_high, follow_high, is_aborted, set_commit}
-use Rattle.protocol.specs.States.Phase.{Preparing, Committing}
+use Rattle.types.specs.declared.state.Phase.TheVariants.{Preparing, Committing}
 use Rattle.protocol.specs.Extremes.{IsIn}
 use Rattle.protocol.proofs.BallotOrder.{below-self, not_above-value}
 use Rattle.protocol.proofs.Above.{above, Under, above-trans, under-trans, aborted-by}

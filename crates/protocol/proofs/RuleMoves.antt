@@ -9,10 +9,13 @@ use Rattle.protocol.specs.Passes.{counts, raised, cap, raise, arm, raised_counte
 use Rattle.types.specs.declared.statement.Statement.TheVariants.{Nominate, Prepare, Commit, Externalize}
 use Rattle.types.specs.declared.kind.Kind.{Kind}
 use Rattle.protocol.specs.Views.{Seen, passes, accepted}
-use Rattle.protocol.specs.States.{Phase, Given, Votes, below, counter_of, high_counter, commit_counter, position_in, position}
+use Rattle.types.specs.declared.state.Phase.{Phase}
+use Rattle.types.specs.declared.state.Given.{Given}
+use Rattle.types.specs.declared.state.Votes.{Votes}
+use Rattle.protocol.specs.States.{below, counter_of, high_counter, commit_counter, position_in, position}
 use Rattle.protocol.specs.Candidates.{greatest, least_from, named_by, committed_by, named, commits}
 use Rattle.protocol.specs.Balloting.{aborted_by, is_accepted, is_confirmed, may_be_prepared, accept_prepared, raise_high, follow_high, is_aborted, set_commit}
-use Rattle.protocol.specs.States.Phase.{Preparing, Committing, Externalized}
+use Rattle.types.specs.declared.state.Phase.TheVariants.{Preparing, Committing, Externalized}
 use Rattle.protocol.specs.Extremes.{IsIn}
 use Rattle.protocol.proofs.BallotOrder.{below-self, less, less-self, below-parts, below-counter}
 use Rattle.protocol.proofs.Above.{above, Under, greatest-keeps, greatest-above, greatest-still, greatest-from, in-filter, from-filter, flat_map-append, flat_map-left, flat_map-right, aborted-same, least_from-low, least_from-ends, least_from-still}

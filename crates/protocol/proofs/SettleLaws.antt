@@ -6,12 +6,14 @@ use Rattle.types.specs.Trees.{Slices}
 use Rattle.types.specs.declared.ballot.Ballot.{Ballot}
 use Rattle.protocol.specs.Rows.{with_row, is_taken}
 use Rattle.protocol.specs.Views.{Seen, seen}
-use Rattle.protocol.specs.States.{Phase, Given, Votes}
+use Rattle.types.specs.declared.state.Phase.{Phase}
+use Rattle.types.specs.declared.state.Given.{Given}
+use Rattle.types.specs.declared.state.Votes.{Votes}
 use Rattle.protocol.specs.Candidates.{combine}
 use Rattle.protocol.specs.Passes.{raised, pass}
 use Rattle.protocol.specs.Nominating.{nominate}
 use Rattle.protocol.specs.Balloting.{started, start}
-use Rattle.protocol.specs.States.Phase.{Preparing, Committing, Externalized}
+use Rattle.types.specs.declared.state.Phase.TheVariants.{Preparing, Committing, Externalized}
 use Rattle.protocol.specs.Sameness.{same_votes}
 use Rattle.protocol.specs.Nodes.{Node, fresh, passed, settle, change, settled, after_change, answered, step, bumped, timed_out}
 use Rattle.types.specs.declared.event.NodeEvent.TheVariants.{Propose, Take, NominationTimer, BallotTimer}

@@ -6,8 +6,10 @@ use Rattle.types.specs.declared.ballot.Ballot.{Ballot}
 use Rattle.types.specs.Orders.{bytes_cmp}
 use Rattle.types.specs.Votes.{same_value, accepts_prepare, votes_or_accepts_prepare, accepts_ends, votes_or_accepts_ends}
 use Rattle.protocol.specs.Views.{Seen, accepted, confirmed}
-use Rattle.protocol.specs.States.Phase.{Preparing, Committing, Externalized}
-use Rattle.protocol.specs.States.{Phase, Votes, below, ballot_at, high_counter, position}
+use Rattle.types.specs.declared.state.Phase.TheVariants.{Preparing, Committing, Externalized}
+use Rattle.types.specs.declared.state.Phase.{Phase}
+use Rattle.types.specs.declared.state.Votes.{Votes}
+use Rattle.protocol.specs.States.{below, ballot_at, high_counter, position}
 use Rattle.protocol.specs.Candidates.{named, commits, greatest, lowest, combine}
 
 -- ---- the federated tests of ballots, at this moment

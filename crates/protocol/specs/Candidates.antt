@@ -9,7 +9,8 @@ use Rattle.types.specs.Orders.{bytes_cmp}
 use Rattle.types.specs.Nominations.{most_nominated}
 use Rattle.types.specs.Votes.{same_value, has_value}
 use Rattle.protocol.specs.Views.{Seen}
-use Rattle.protocol.specs.States.{Votes, below, ballot_at, position}
+use Rattle.types.specs.declared.state.Votes.{Votes}
+use Rattle.protocol.specs.States.{below, ballot_at, position}
 
 -- ---- named ballots
 -- the ballots that a statement names

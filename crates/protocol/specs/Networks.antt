@@ -7,7 +7,7 @@ use Rattle.types.specs.declared.kind.Kind.{Kind}
 use Rattle.types.specs.declared.event.Event.{Event}
 use Rattle.types.specs.declared.event.Event.TheVariants.{OpenSlot, CloseSlot, Propose as Ask, Deliver, Hear, NominationTimer as NominationTimeout, BallotTimer as BallotTimeout}
 use Rattle.types.specs.declared.event.Refusal.{Refusal}
-use Rattle.types.specs.declared.event.Refusal.TheVariants.{NoSuchNetwork, NoSuchNode, SlotNotOpen, SlotOpenAlready, TooManySlots, BadEnvelope, HostedSender, NotEmitted, JournalFull, BytesFull, BadValue, ProposedAlready}
+use Rattle.types.specs.declared.event.Refusal.TheVariants.{NoSuchNode, SlotNotOpen, SlotOpenAlready, TooManySlots, BadEnvelope, HostedSender, NotEmitted, JournalFull, BytesFull, BadValue, ProposedAlready}
 use Rattle.types.specs.Statements.{Sent, kind_of}
 use Rattle.protocol.specs.Rows.{is_kind}
 use Rattle.protocol.specs.Nodes.{Node, fresh, step}

@@ -10,8 +10,11 @@ use Rattle.types.specs.declared.event.Out.TheVariants.{ArmNomination, ArmBallot,
 use Rattle.types.specs.Statements.{Sent}
 use Rattle.protocol.specs.Rows.{with_row, is_taken}
 use Rattle.protocol.specs.Views.{seen}
-use Rattle.protocol.specs.States.{Phase, Given, Votes, no_votes, counter_of, sent_vote, sent_nomination}
-use Rattle.protocol.specs.States.Phase.{Preparing, Committing, Externalized}
+use Rattle.types.specs.declared.state.Phase.{Phase}
+use Rattle.types.specs.declared.state.Given.{Given}
+use Rattle.types.specs.declared.state.Votes.{Votes}
+use Rattle.protocol.specs.States.{no_votes, counter_of, sent_vote, sent_nomination}
+use Rattle.types.specs.declared.state.Phase.TheVariants.{Preparing, Committing, Externalized}
 use Rattle.protocol.specs.Leaders.{leader}
 use Rattle.protocol.specs.Passes.{pass, raised, most_counter}
 use Rattle.protocol.specs.Sameness.{same_votes, same_sent}

@@ -4,7 +4,9 @@ use Rattle.types.specs.declared.kind.Kind.TheVariants.{Nomination}
 use Rattle.types.specs.Votes.{accepts_nominate, votes_or_accepts_nominate}
 use Rattle.protocol.specs.Sets.{among}
 use Rattle.protocol.specs.Views.{Seen, accepted, confirmed}
-use Rattle.protocol.specs.States.{Given, Votes, nominated}
+use Rattle.types.specs.declared.state.Given.{Given}
+use Rattle.types.specs.declared.state.Votes.{Votes}
+use Rattle.protocol.specs.States.{nominated}
 use Rattle.protocol.specs.Candidates.{values_by, all_with, filled}
 
 -- what a leader proposes counts for itself too

@@ -4,8 +4,9 @@ use Rattle.types.specs.declared.ballot.Ballot.{Ballot}
 use Rattle.types.specs.declared.statement.Statement.{Statement}
 use Rattle.types.specs.declared.statement.Statement.TheVariants.{Nominate, Prepare, Commit, Externalize}
 use Rattle.types.specs.Votes.{same_value}
-use Rattle.protocol.specs.States.{Phase, Votes}
-use Rattle.protocol.specs.States.Phase.{Preparing, Committing, Externalized}
+use Rattle.types.specs.declared.state.Phase.{Phase}
+use Rattle.types.specs.declared.state.Votes.{Votes}
+use Rattle.types.specs.declared.state.Phase.TheVariants.{Preparing, Committing, Externalized}
 
 -- two lists have the same values, in order
 abbrev pub same_values : List (List ℕ) → List (List ℕ) → Bool

@@ -4,41 +4,11 @@ use Rattle.std.specs.Ordering.{is_lt, is_gt}
 use Rattle.types.specs.declared.ballot.Ballot.{Ballot}
 use Rattle.types.specs.declared.statement.Statement.{Statement}
 use Rattle.types.specs.declared.statement.Statement.TheVariants.{Nominate, Prepare, Commit, Externalize}
+use Rattle.types.specs.declared.state.Phase.{Phase}
+use Rattle.types.specs.declared.state.Phase.TheVariants.{Preparing, Committing, Externalized}
+use Rattle.types.specs.declared.state.Votes.{Votes}
 use Rattle.types.specs.Orders.{bytes_cmp, ballot_cmp}
 use Rattle.types.specs.Votes.{same_value}
-
--- the phases of balloting
-pub data Phase : Type 0 where
-  Preparing : Phase
-  Committing : Phase
-  Externalized : Phase
-
--- what events alone set: the input, the round of nomination, its leaders so far, and how many ballot timers have fired
-pub record Given : Type 0 where
-  pub input : Option (List ℕ)
-  pub round : ℕ
-  pub leaders : List ℕ
-  pub fired : ℕ
-
--- what passes change
-pub record Votes : Type 0 where
-  -- nomination: the values voted for, accepted and confirmed, each set ascending
-  pub voted : List (List ℕ)
-  pub accepts : List (List ℕ)
-  pub confirms : List (List ℕ)
-  pub phase : Phase
-  pub ballot : Option Ballot
-  -- the highest ballot accepted as prepared, and the counter below which all ballots are accepted as aborted
-  pub prepared : Option Ballot
-  pub aborted : ℕ
-  -- the highest ballot confirmed as prepared, and the lowest of those whose commit is voted for
-  pub high : Option Ballot
-  pub commit : Option Ballot
-  -- in COMMIT the counters from lo to hi are accepted as committed, in EXTERNALIZE they are confirmed
-  pub lo : ℕ
-  pub hi : ℕ
-  -- the counter for which the ballot timer was last armed
-  pub armed : ℕ
 
 -- nothing is voted for yet
 abbrev pub no_votes : Votes

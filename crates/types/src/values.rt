@@ -1,6 +1,6 @@
 //! A list of values.
 
-ghost use Rattle.std.specs.Prelude.{◌≡◌, ◌++◌, ◌∷◌, [], IfOk, OnOk, OnErr};
+ghost use Rattle.std.specs.Prelude.{◌≡◌, ◌↔◌, ◌++◌, ◌∷◌, [], IfOk, IsTrue, OnOk, OnErr};
 ghost use Rattle.std.specs.List.{AllByRecursion};
 ghost use Rattle.types.specs.Nominations.{IsValue, is_ascending, is_nomination_set};
 
@@ -65,6 +65,13 @@ impl Values {
         })
     }
 
+    /// Whether they are the same values, in the same order.
+    pub fn is_same(&self, other: &Values) -> bool
+        ensures { IsTrue result ↔ self.now ≡ other.now }
+    {
+        are_same(&self.items, &other.items)
+    }
+
     /// Whether they are a set of a nomination: at most 16 values, strictly ascending.
     pub fn is_nomination_set(&self) -> bool
         ensures { result ≡ is_nomination_set self.now }
@@ -82,5 +89,17 @@ fn is_ascending(items: &[Value]) -> bool
             [] => true,
         },
         [] => true,
+    }
+}
+
+fn are_same(items: &[Value], others: &[Value]) -> bool
+    ensures { IsTrue result ↔ items.now ≡ others.now }
+{
+    match items {
+        [] => others.is_empty(),
+        [first, rest @ ..] => match others {
+            [] => false,
+            [other, others @ ..] => first.is_same(other) && are_same(rest, others),
+        },
     }
 }

@@ -1,0 +1,227 @@
+//! The state of one node at one slot, beside its table.
+
+ghost use Rattle.std.specs.Prelude.{◌≡◌, ◌↔◌, ◌++◌, ◌∷◌, [], IfOk, IsTrue, OnErr, OnOk};
+
+use crate::ballot::Ballot;
+use crate::node_id::NodeId;
+use crate::value::Value;
+use crate::values::Values;
+use std::alloc::{AllocError, Global};
+use std::marker::Model;
+
+/// The phase of balloting (the Stellar Consensus Protocol draft, of the ballot protocol).
+#[derive(Clone, Copy, Debug, PartialEq, Eq)]
+pub enum Phase {
+    /// No commit is accepted yet.
+    Preparing,
+    /// An interval of counters is accepted as committed.
+    Committing,
+    /// An interval of counters is confirmed as committed.
+    Externalized,
+}
+
+/// The leaders of the rounds so far, in the order in which they became leaders; a node that led
+/// several rounds stands there as often. Contracts see it as the list of their names.
+#[derive(Debug, Drop)]
+pub struct Leaders {
+    nodes: Vec<NodeId>,
+}
+
+impl Model for Leaders {
+    ghost use Rattle.std.specs.Prelude.{ℕ, List};
+
+    ghost Value = { List ℕ };
+
+    ghost view = { λ a. a.nodes.items };
+}
+
+impl Leaders {
+    /// No leaders. It takes no memory.
+    pub fn none(alloc: Global) -> Leaders
+        ensures { result ≡ [] }
+    {
+        Leaders {
+            nodes: Vec::new(alloc),
+        }
+    }
+
+    /// Adds the leader of one more round. Where memory is wanting the list stays as it was.
+    pub fn push(&mut self, node: NodeId) -> Result<(), AllocError>
+        ensures ok { OnOk result (self.new ≡ self.old ++ node ∷ []) }
+        ensures err { OnErr result (self.new ≡ self.old) }
+    {
+        self.nodes.push(node)?;
+        Ok(())
+    }
+
+    /// The leaders, in their order.
+    pub fn as_slice(&self) -> &[NodeId]
+        ensures { result.now ≡ self.now }
+    {
+        &self.nodes
+    }
+
+    /// A copy. An error says that memory is short.
+    pub fn try_copy(&self, alloc: Global) -> Result<Leaders, AllocError>
+        ensures { IfOk result (λ l. l ≡ self.now) }
+    {
+        Ok(Leaders {
+            nodes: Vec::from_slice(alloc, self.as_slice())?,
+        })
+    }
+}
+
+/// What events alone set.
+#[derive(Debug, Drop)]
+pub struct Given {
+    /// What the node is to propose.
+    pub input: Option<Value>,
+    /// The round of nomination, from 1 on; 0 before the first.
+    pub round: u32,
+    pub leaders: Leaders,
+    /// How many ballot timers have fired.
+    pub fired: u32,
+}
+
+impl Given {
+    /// Nothing has happened yet. It takes no memory.
+    pub fn nothing(alloc: Global) -> Given
+        ensures { result ≡ record { input = None; round = 0; leaders = []; fired = 0 } }
+    {
+        Given {
+            input: None,
+            round: 0,
+            leaders: Leaders::none(alloc),
+            fired: 0,
+        }
+    }
+
+    /// A copy. An error says that memory is short.
+    pub fn try_copy(&self, alloc: Global) -> Result<Given, AllocError>
+        ensures { IfOk result (λ g. g ≡ self.now) }
+    {
+        Ok(Given {
+            input: self.input,
+            round: self.round,
+            leaders: self.leaders.try_copy(alloc)?,
+            fired: self.fired,
+        })
+    }
+}
+
+/// What a node has voted for, accepted and confirmed: all that the rules change.
+#[derive(Debug, Drop)]
+pub struct Votes {
+    /// The values that it votes to nominate, ascending.
+    pub voted: Values,
+    /// The values that it accepts as nominated, ascending.
+    pub accepts: Values,
+    /// The values that it confirms as nominated, ascending.
+    pub confirms: Values,
+    pub phase: Phase,
+    pub ballot: Option<Ballot>,
+    /// The highest ballot that it accepts as prepared.
+    pub prepared: Option<Ballot>,
+    /// It accepts all ballots with a counter below this one as aborted.
+    pub aborted: u32,
+    /// The highest ballot that it confirms as prepared.
+    pub high: Option<Ballot>,
+    /// The lowest ballot for which it votes to commit.
+    pub commit: Option<Ballot>,
+    /// The least counter of the interval: accepted as committed in [`Phase::Committing`], confirmed as
+    /// committed in [`Phase::Externalized`], and 0 before.
+    pub lo: u32,
+    /// The greatest counter of the interval.
+    pub hi: u32,
+    /// The counter for which the ballot timer was last armed.
+    pub armed: u32,
+}
+
+impl Votes {
+    /// No votes. It takes no memory.
+    pub fn none(alloc: Global) -> Votes
+        ensures { result ≡ record { voted = []; accepts = []; confirms = []; phase = Phase.Preparing; ballot = None; prepared = None; aborted = 0; high = None; commit = None; lo = 0; hi = 0; armed = 0 } }
+    {
+        Votes {
+            voted: Values::empty(alloc),
+            accepts: Values::empty(alloc),
+            confirms: Values::empty(alloc),
+            phase: Phase::Preparing,
+            ballot: None,
+            prepared: None,
+            aborted: 0,
+            high: None,
+            commit: None,
+            lo: 0,
+            hi: 0,
+            armed: 0,
+        }
+    }
+
+    /// A copy. An error says that memory is short.
+    pub fn try_copy(&self, alloc: Global) -> Result<Votes, AllocError>
+        ensures { IfOk result (λ w. w ≡ self.now) }
+    {
+        Ok(Votes {
+            voted: self.voted.try_copy(alloc)?,
+            accepts: self.accepts.try_copy(alloc)?,
+            confirms: self.confirms.try_copy(alloc)?,
+            phase: self.phase,
+            ballot: self.ballot,
+            prepared: self.prepared,
+            aborted: self.aborted,
+            high: self.high,
+            commit: self.commit,
+            lo: self.lo,
+            hi: self.hi,
+            armed: self.armed,
+        })
+    }
+
+    /// Whether all votes are the same.
+    pub fn is_same(&self, other: &Votes) -> bool
+        ensures { IsTrue result ↔ self.now ≡ other.now }
+    {
+        self.has_same_values(other) && self.has_same_ballots(other) && self.has_same_counters(other)
+    }
+
+    fn has_same_values(&self, other: &Votes) -> bool
+        ensures { IsTrue result ↔ (self.now.voted ≡ other.now.voted) × (self.now.accepts ≡ other.now.accepts) × (self.now.confirms ≡ other.now.confirms) }
+    {
+        self.voted.is_same(&other.voted)
+            && self.accepts.is_same(&other.accepts)
+            && self.confirms.is_same(&other.confirms)
+    }
+
+    fn has_same_ballots(&self, other: &Votes) -> bool
+        ensures { IsTrue result ↔ (self.now.ballot ≡ other.now.ballot) × (self.now.prepared ≡ other.now.prepared) × (self.now.high ≡ other.now.high) × (self.now.commit ≡ other.now.commit) }
+    {
+        is_same(&self.ballot, &other.ballot)
+            && is_same(&self.prepared, &other.prepared)
+            && is_same(&self.high, &other.high)
+            && is_same(&self.commit, &other.commit)
+    }
+
+    fn has_same_counters(&self, other: &Votes) -> bool
+        ensures { IsTrue result ↔ (self.now.phase ≡ other.now.phase) × (self.now.aborted ≡ other.now.aborted) × (self.now.lo ≡ other.now.lo) × (self.now.hi ≡ other.now.hi) × (self.now.armed ≡ other.now.armed) }
+    {
+        self.phase == other.phase
+            && self.aborted == other.aborted
+            && self.lo == other.lo
+            && self.hi == other.hi
+            && self.armed == other.armed
+    }
+}
+
+/// Whether both are there and the same, or neither is.
+fn is_same(one: &Option<Ballot>, other: &Option<Ballot>) -> bool
+    ensures { IsTrue result ↔ one.now ≡ other.now }
+{
+    match one {
+        None => other.is_none(),
+        Some(one) => match other {
+            None => false,
+            Some(other) => one.is_same(other),
+        },
+    }
+}
