@@ -5,10 +5,14 @@
 //! [`quorum::SlicesOf`]: nothing here knows what the statement is or where the slices come from.
 #![tactic(auto)]
 
+mod question;
+mod sight;
 #[cfg(test)]
 mod tests;
 mod votes;
 mod voting;
 
+pub use question::Question;
+pub use sight::{Sight, is_accepted, is_confirmed};
 pub use votes::Votes;
 pub use voting::{accepts, confirms};

@@ -12,7 +12,8 @@ use Rattle.protocol.specs.Closures.{in_least}
 use Rattle.protocol.specs.Reach.{reached}
 use Rattle.protocol.specs.Views.{rows_seen, led_by, quorum_passes, blocking_passes, seen}
 use Rattle.protocol.specs.States.{high_counter, commit_counter, position_in, position, nominated, lowered, sent_in, sent_vote, sent_nomination}
-use Rattle.protocol.specs.Candidates.{named, commits, greatest, lowest, least_from, greatest_value, combine, with_value, filled}
+use Rattle.protocol.specs.Candidates.{named, commits, greatest, lowest, least_from, greatest_value, combine, filled}
+use Rattle.types.specs.Nominations.{with_value}
 use Rattle.protocol.specs.Nominating.{echo, accept_values, confirm_values, nominate}
 use Rattle.protocol.specs.Balloting.{started, start, aborted_by, accept_prepared, raise_high, follow_high, is_aborted, set_commit, confirm_prepared, accepted_from, first_committed, next_committed, enter_commit, widen_commit, accept_commit, confirmed_commit, externalize, confirm_commit}
 use Rattle.protocol.specs.Passes.{raised_counter, raise, arm, voting, counting, pass_rules, pass}

@@ -8,7 +8,8 @@ use Rattle.types.specs.declared.statement.Statement.TheVariants.{Nominate}
 use Rattle.types.specs.declared.kind.Kind.TheVariants.{Nomination}
 use Rattle.protocol.specs.Views.{Seen, accepted, confirmed, passes}
 use Rattle.types.specs.declared.state.Given.{Given}
-use Rattle.protocol.specs.Candidates.{with_value, as_set, all_with, filled, values_by}
+use Rattle.types.specs.Nominations.{with_value}
+use Rattle.protocol.specs.Candidates.{as_set, all_with, filled, values_by}
 use Rattle.protocol.proofs.NominationSets.{Ascending, with-has, with-kept, with-from, with-ascending, with-new, all-ascending, all-has, all-same, all-longer, sources, echoes, new_voted, new_accepts, new_confirms, QuietAt, quiet-from}
 use Rattle.protocol.proofs.BallotOrder.{less, less-self}
 use Rattle.protocol.proofs.SamenessLaws.{same_value-true, same_value-refl}

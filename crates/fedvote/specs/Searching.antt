@@ -1,0 +1,44 @@
+-- What a search among the rows of a table asks for: the next candidate from a bound on.
+use Rattle.std.specs.Prelude.{◌≡◌, ℕ, nat_lt, min, Bool, true, List, [], ◌∷◌, Option, Some, None, filter, filter_map, if◌then◌else◌}
+use Rattle.std.specs.List.{AllByRecursion}
+use Rattle.types.specs.declared.ballot.Ballot.{Ballot}
+use Rattle.types.specs.declared.kind.Kind.{Kind}
+use Rattle.types.specs.declared.statement.Statement.{Statement}
+use Rattle.types.specs.declared.statement.Statement.TheVariants.{Nominate, Prepare, Commit, Externalize}
+use Rattle.protocol.specs.States.{below}
+use Rattle.protocol.specs.Candidates.{greatest}
+use Rattle.protocol.specs.Views.{Seen}
+
+-- below the bound, where there is one
+abbrev pub is_under : Option Ballot → Ballot → Bool
+is_under None t = true
+is_under (Some bound) t = below t bound
+
+-- the greatest of these ballots that is below the bound
+abbrev pub next_under : Option Ballot → List Ballot → Option Ballot
+next_under bound ts = greatest None (filter (is_under bound) ts)
+
+-- the counter of a ballot statement; that of an EXTERNALIZE counts as infinite
+abbrev pub counter_by : Statement → Option ℕ
+counter_by (Nominate voted accepted) = None
+counter_by (Prepare b p a h c) = Some b.counter
+counter_by (Commit b p h c) = Some b.counter
+counter_by (Externalize b h) = None
+
+-- the lesser of a number and of what is there
+abbrev pub lesser : ℕ → Option ℕ → Option ℕ
+lesser k None = Some k
+lesser k (Some n) = Some (min k n)
+
+-- the least of these numbers that is above n
+unfoldable pub least_above : ℕ → List ℕ → Option ℕ
+least_above n [] = None
+least_above n (k ∷ ks) = if nat_lt n k then lesser k (least_above n ks) else least_above n ks
+
+-- the least counter above n that a statement has
+abbrev pub next_counter : ℕ → List Statement → Option ℕ
+next_counter n statements = least_above n (filter_map counter_by statements)
+
+-- tests that agree on the rows that are seen get one answer
+pub record IsHonest (seen : Seen) : Type 0 where
+  pub blocking : (kind : Kind) (own : Bool) (test other : Statement → Bool) → AllByRecursion (λ s. test s ≡ other s) (seen.rows kind) → seen.blocking kind own test ≡ seen.blocking kind own other

@@ -1,0 +1,9 @@
+//! Nomination: which values a node votes for, accepts and confirms as nominated (the Stellar Consensus
+//! Protocol draft, of the nomination protocol).
+//!
+//! Each rule is one function of what the node sees and of its votes, and gives the votes after it.
+#![tactic(auto)]
+
+mod rules;
+
+pub use rules::nominate;
