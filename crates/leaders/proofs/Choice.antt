@@ -1,5 +1,5 @@
 -- The best name that the walk finds is the leader.
-use Rattle.std.proofs.Common.{◌≡◌, ◌≢◌, ℕ, suc, ◌*◌, ◌^◌, ◌<◌, Bool, true, false, ◌==◌, ◌&&◌, ◌||◌, nat_lt, cond, List, [], ◌∷◌, ◌++◌, length, get_or, map, Option, Some, None, option_map, refl, sym, ◌∙◌, ap, subst, inl, inr, arith}
+use Rattle.std.proofs.Common.{◌≡◌, ◌≢◌, ℕ, suc, ◌*◌, ◌<◌, Bool, true, false, ◌==◌, cond, List, [], ◌∷◌, ◌++◌, length, get_or, map, Option, Some, None, option_map, refl, sym, ◌∙◌, ap, subst, inl, inr, arith}
 use Rattle.std.specs.Prelude.{AllPairs}
 use Rattle.std.specs.Option.{option_or}
 use Rattle.std.proofs.lemmas.Bool.{cases_Bool, eqb-true, ne_eqb, false≢true}
@@ -11,10 +11,12 @@ use Rattle.protocol.specs.Satisfaction.{names}
 use Rattle.protocol.specs.Weights.{Fraction, weight}
 use Rattle.slices.specs.Weighing.{whole, part_of, share_in}
 use Rattle.slices.proofs.WeighingLaws.{share_of_is}
-use Rattle.leaders.specs.Hashes.{hash}
-use Rattle.leaders.specs.Leaders.{neighbour_tag, is_below_some, neighbours, goes_before, IsLeader}
-use Rattle.leaders.specs.Walk.{better, best_among, is_drawn, priority_in}
-use Rattle.leaders.proofs.HashLaws.{hash_below}
+use Rattle.protocol.specs.Sets.{among}
+use Rattle.protocol.specs.Leaders.{hash, is_near, neighbours, beats}
+use Rattle.leaders.specs.Leaders.{IsLeader, weight_for}
+use Rattle.leaders.specs.Walk.{better, best_among, is_drawn}
+use Rattle.leaders.proofs.Order.{Beats, IsOrder, rounds_are_orders}
+use Rattle.leaders.proofs.Near.{near, own_neighbour}
 
 -- ---- the names of a tree with their weights, as a list
 abbrev Weighed : Type 0
@@ -28,22 +30,22 @@ weighed f (inner k own rest) = weighed (part_of k (member_count own) f) own ++ w
 abbrev Drawn : Type 0
 Drawn = ℕ → Fraction → Bool
 
-abbrev best_of : Drawn → (ℕ → ℕ) → List Weighed → ℕ → ℕ
-best_of drawn priority [] best = best
-best_of drawn priority (x ∷ xs) best = best_of drawn priority xs (better drawn priority x.0 x.1 best)
+abbrev best_of : Drawn → Beats → List Weighed → ℕ → ℕ
+best_of drawn beats [] best = best
+best_of drawn beats (x ∷ xs) best = best_of drawn beats xs (better drawn beats x.0 x.1 best)
 
-best_of-append : (drawn : Drawn) (priority : ℕ → ℕ) (xs ys : List Weighed) (best : ℕ) → best_of drawn priority (xs ++ ys) best ≡ best_of drawn priority ys (best_of drawn priority xs best)
-best_of-append drawn priority [] ys best = refl
-best_of-append drawn priority (x ∷ xs) ys best = best_of-append drawn priority xs ys (better drawn priority x.0 x.1 best)
+best_of-append : (drawn : Drawn) (beats : Beats) (xs ys : List Weighed) (best : ℕ) → best_of drawn beats (xs ++ ys) best ≡ best_of drawn beats ys (best_of drawn beats xs best)
+best_of-append drawn beats [] ys best = refl
+best_of-append drawn beats (x ∷ xs) ys best = best_of-append drawn beats xs ys (better drawn beats x.0 x.1 best)
 
-best_among_is : (drawn : Drawn) (priority : ℕ → ℕ) (f : Fraction) (ms : Members) (best : ℕ) → best_among drawn priority f ms best ≡ best_of drawn priority (weighed f ms) best
-best_among_is drawn priority f none best = refl
-best_among_is drawn priority f (node u rest) best = best_among_is drawn priority f rest (better drawn priority u f best)
-best_among_is drawn priority f (inner k own rest) best =
+best_among_is : (drawn : Drawn) (beats : Beats) (f : Fraction) (ms : Members) (best : ℕ) → best_among drawn beats f ms best ≡ best_of drawn beats (weighed f ms) best
+best_among_is drawn beats f none best = refl
+best_among_is drawn beats f (node u rest) best = best_among_is drawn beats f rest (better drawn beats u f best)
+best_among_is drawn beats f (inner k own rest) best =
     let g = part_of k (member_count own) f in
-    best_among_is drawn priority f rest (best_among drawn priority g own best)
-    ∙ ap (λ (b : ℕ). best_of drawn priority (weighed f rest) b) (best_among_is drawn priority g own best)
-    ∙ sym (best_of-append drawn priority (weighed g own) (weighed f rest) best)
+    best_among_is drawn beats f rest (best_among drawn beats g own best)
+    ∙ ap (λ (b : ℕ). best_of drawn beats (weighed f rest) b) (best_among_is drawn beats g own best)
+    ∙ sym (best_of-append drawn beats (weighed g own) (weighed f rest) best)
 
 -- ---- looking up a weight
 abbrev found : List Weighed → ℕ → Option Fraction
@@ -118,72 +120,60 @@ found_later x xs u f h e = elim (cases_Bool (x.0 == u)) [
   | inr s ↦ rw s e
 ]
 
-better_keeps : (drawn : Drawn) (priority : ℕ → ℕ) (P : ℕ → Type 0) (u : ℕ) (f : Fraction) (best : ℕ) → P best → (drawn u f ≡ true → P u) → P (better drawn priority u f best)
-better_keeps drawn priority P u f best p h = elim (cases_Bool (drawn u f)) [
-  | inl d ↦ elim (cases_Bool (goes_before priority u best)) [
+better_keeps : (drawn : Drawn) (beats : Beats) (P : ℕ → Type 0) (u : ℕ) (f : Fraction) (best : ℕ) → P best → (drawn u f ≡ true → P u) → P (better drawn beats u f best)
+better_keeps drawn beats P u f best p h = elim (cases_Bool (drawn u f)) [
+  | inl d ↦ elim (cases_Bool (beats u best)) [
     | inl b ↦ rw (d, b) (h d)
     | inr b ↦ rw (d, b) p
   ]
   | inr d ↦ rw d p
 ]
 
-best_keeps : (drawn : Drawn) (priority : ℕ → ℕ) (P : ℕ → Type 0) (xs : List Weighed) (best : ℕ) → Differ xs → P best
-    → ((u : ℕ) (f : Fraction) → found xs u ≡ Some f → drawn u f ≡ true → P u) → P (best_of drawn priority xs best)
-best_keeps drawn priority P [] best d p h = p
-best_keeps drawn priority P (x ∷ xs) best d p h =
-    best_keeps drawn priority P xs (better drawn priority x.0 x.1 best) d.1
-    (better_keeps drawn priority P x.0 x.1 best p (λ t. h x.0 x.1 (rw (own x.0) refl) t))
+best_keeps : (drawn : Drawn) (beats : Beats) (P : ℕ → Type 0) (xs : List Weighed) (best : ℕ) → Differ xs → P best
+    → ((u : ℕ) (f : Fraction) → found xs u ≡ Some f → drawn u f ≡ true → P u) → P (best_of drawn beats xs best)
+best_keeps drawn beats P [] best d p h = p
+best_keeps drawn beats P (x ∷ xs) best d p h =
+    best_keeps drawn beats P xs (better drawn beats x.0 x.1 best) d.1
+    (better_keeps drawn beats P x.0 x.1 best p (λ t. h x.0 x.1 (rw (own x.0) refl) t))
     (λ u f e t. h u f (found_later x xs u f d.0 e) t)
   where
     own : (u : ℕ) → (u == u) ≡ true
     own u = grind (arith, nat_tests)
 
 -- ---- and no name that is drawn goes before it
-pub stays_behind : (priority : ℕ → ℕ) (w u best : ℕ) → goes_before priority w best ≡ false → goes_before priority u best ≡ true → goes_before priority w u ≡ false
-stays_behind priority w u best h k = behind (priority w) (priority u) (priority best) w u best h k
-  where
-    behind : (pw pu pb w u b : ℕ) → (nat_lt pb pw || ((pw == pb) && nat_lt b w)) ≡ false → (nat_lt pb pu || ((pu == pb) && nat_lt b u)) ≡ true → (nat_lt pu pw || ((pw == pu) && nat_lt u w)) ≡ false
-    behind pw pu pb w u b h k = grind (arith, nat_tests)
-
-pub not_before_itself : (priority : ℕ → ℕ) (u : ℕ) → goes_before priority u u ≡ false
-not_before_itself priority u = itself (priority u) u
-  where
-    itself : (p u : ℕ) → (nat_lt p p || ((p == p) && nat_lt u u)) ≡ false
-    itself p u = grind (arith, nat_tests)
-
-better_stays : (drawn : Drawn) (priority : ℕ → ℕ) (u : ℕ) (f : Fraction) (best w : ℕ) → goes_before priority w best ≡ false → goes_before priority w (better drawn priority u f best) ≡ false
-better_stays drawn priority u f best w h = elim (cases_Bool (drawn u f)) [
-  | inl d ↦ elim (cases_Bool (goes_before priority u best)) [
-    | inl b ↦ rw (d, b) (stays_behind priority w u best h b)
+better_stays : (drawn : Drawn) (beats : Beats) (o : IsOrder beats) (u : ℕ) (f : Fraction) (best w : ℕ) → beats w best ≡ false → beats w (better drawn beats u f best) ≡ false
+better_stays drawn beats o u f best w h = elim (cases_Bool (drawn u f)) [
+  | inl d ↦ elim (cases_Bool (beats u best)) [
+    | inl b ↦ rw (d, b) (o.behind w u best h b)
     | inr b ↦ rw (d, b) h
   ]
   | inr d ↦ rw d h
 ]
 
-best_stays : (drawn : Drawn) (priority : ℕ → ℕ) (xs : List Weighed) (best w : ℕ) → goes_before priority w best ≡ false → goes_before priority w (best_of drawn priority xs best) ≡ false
-best_stays drawn priority [] best w h = h
-best_stays drawn priority (x ∷ xs) best w h = best_stays drawn priority xs (better drawn priority x.0 x.1 best) w (better_stays drawn priority x.0 x.1 best w h)
+best_stays : (drawn : Drawn) (beats : Beats) (o : IsOrder beats) (xs : List Weighed) (best w : ℕ) → beats w best ≡ false → beats w (best_of drawn beats xs best) ≡ false
+best_stays drawn beats o [] best w h = h
+best_stays drawn beats o (x ∷ xs) best w h = best_stays drawn beats o xs (better drawn beats x.0 x.1 best) w (better_stays drawn beats o x.0 x.1 best w h)
 
-better_covers : (drawn : Drawn) (priority : ℕ → ℕ) (u : ℕ) (f : Fraction) (best : ℕ) → drawn u f ≡ true → goes_before priority u (better drawn priority u f best) ≡ false
-better_covers drawn priority u f best d = elim (cases_Bool (goes_before priority u best)) [
-  | inl b ↦ rw (d, b) (not_before_itself priority u)
+better_covers : (drawn : Drawn) (beats : Beats) (o : IsOrder beats) (u : ℕ) (f : Fraction) (best : ℕ) → drawn u f ≡ true → beats u (better drawn beats u f best) ≡ false
+better_covers drawn beats o u f best d = elim (cases_Bool (beats u best)) [
+  | inl b ↦ rw (d, b) (o.itself u)
   | inr b ↦ rw (d, b) b
 ]
 
 some_is : (f g : Fraction) → ◌≡◌ {A = Option Fraction} (Some f) (Some g) → f ≡ g
 some_is f g e = cc
 
-best_covers : (drawn : Drawn) (priority : ℕ → ℕ) (xs : List Weighed) (best w : ℕ) (f : Fraction) → found xs w ≡ Some f → drawn w f ≡ true → goes_before priority w (best_of drawn priority xs best) ≡ false
-best_covers drawn priority [] best w f e d = cc
-best_covers drawn priority (x ∷ xs) best w f e d = elim (cases_Bool (x.0 == w)) [
-  | inl s ↦ best_stays drawn priority xs (better drawn priority x.0 x.1 best) w (here (eqb-true x.0 w s) (some_is x.1 f (rw s at e)))
-  | inr s ↦ best_covers drawn priority xs (better drawn priority x.0 x.1 best) w f (rw s at e) d
+best_covers : (drawn : Drawn) (beats : Beats) (o : IsOrder beats) (xs : List Weighed) (best w : ℕ) (f : Fraction) → found xs w ≡ Some f → drawn w f ≡ true → beats w (best_of drawn beats xs best) ≡ false
+best_covers drawn beats o [] best w f e d = cc
+best_covers drawn beats o (x ∷ xs) best w f e d = elim (cases_Bool (x.0 == w)) [
+  | inl s ↦ best_stays drawn beats o xs (better drawn beats x.0 x.1 best) w (here (eqb-true x.0 w s) (some_is x.1 f (rw s at e)))
+  | inr s ↦ best_covers drawn beats o xs (better drawn beats x.0 x.1 best) w f (rw s at e) d
 ]
   where
-    here : x.0 ≡ w → x.1 ≡ f → goes_before priority w (better drawn priority x.0 x.1 best) ≡ false
+    here : x.0 ≡ w → x.1 ≡ f → beats w (better drawn beats x.0 x.1 best) ≡ false
     here same weight =
         let drawn_here : drawn x.0 x.1 ≡ true = subst (λ (u : ℕ). drawn u x.1 ≡ true) (sym same) (subst (λ (g : Fraction). drawn w g ≡ true) (sym weight) d) in
-        subst (λ (u : ℕ). goes_before priority u (better drawn priority x.0 x.1 best) ≡ false) same (better_covers drawn priority x.0 x.1 best drawn_here)
+        subst (λ (u : ℕ). beats u (better drawn beats x.0 x.1 best) ≡ false) same (better_covers drawn beats o x.0 x.1 best drawn_here)
 
 -- ---- the leader
 -- all names of slices with their weights
@@ -203,48 +193,40 @@ found_is_weight q u h =
     ∙ whole-part q.threshold (member_count q.members) (share_in q.members u)
     ∙ share_of_is q u h
 
--- a node is a neighbour of its own
-pub own_neighbour : (slot round v : ℕ) (q : Slices) → neighbours slot round v q v ≡ true
-own_neighbour slot round v q = rw (own v) (below (hash slot neighbour_tag round v) (hash_below slot neighbour_tag round v))
-  where
-    own : (u : ℕ) → (u == u) ≡ true
-    own u = grind (arith, nat_tests)
-
-    below : (h : ℕ) → h < 2 ^ 64 → nat_lt (h * 1) (1 * 2 ^ 64) ≡ true
-    below h l = grind (arith, nat_tests)
-
-other_neighbour : (slot round v : ℕ) (q : Slices) (u : ℕ) (f : Fraction) → weight q u ≡ Some f → is_drawn slot round u f ≡ true → neighbours slot round v q u ≡ true
+-- a name that is drawn is a neighbour
+other_neighbour : (slot round v : ℕ) (q : Slices) (u : ℕ) (f : Fraction) → weight q u ≡ Some f → is_drawn slot round u f ≡ true → among (neighbours slot round v q) u ≡ true
 other_neighbour slot round v q u f e d = elim (cases_Bool (u == v)) [
-  | inl s ↦ subst (λ (w : ℕ). neighbours slot round v q w ≡ true) (sym (eqb-true u v s)) (own_neighbour slot round v q)
-  | inr s ↦ rw (s, e) d
+  | inl s ↦ subst (λ (w : ℕ). among (neighbours slot round v q) w ≡ true) (sym (eqb-true u v s)) (own_neighbour slot round v q)
+  | inr s ↦ near slot round v q u ∙ rw (s, e) d
 ]
 
--- a neighbour is the node itself or a name that is drawn
-behind_some : (slot round u best : ℕ) (q : Slices) (o : Option Fraction) → AllPairs (λ v w. v ≢ w) (names q) → weight q u ≡ o
-    → is_below_some (hash slot neighbour_tag round u) o ≡ true → goes_before (priority_in slot round) u (best_of (is_drawn slot round) (priority_in slot round) (all_weighed q) best) ≡ false
-behind_some slot round u best q None differ e h = absurd (false≢true h)
-behind_some slot round u best q (Some f) differ e h = best_covers (is_drawn slot round) (priority_in slot round) (all_weighed q) best u f (found_is_weight q u differ ∙ e) h
+-- no name that is near beats the best that is found
+unbeaten_by : (slot round u best : ℕ) (q : Slices) (o : Option Fraction) → AllPairs (λ v w. v ≢ w) (names q) → weight q u ≡ o
+    → is_near o (hash slot 1 round u) ≡ true → beats slot round u (best_of (is_drawn slot round) (beats slot round) (all_weighed q) best) ≡ false
+unbeaten_by slot round u best q None differ e h = absurd (false≢true h)
+unbeaten_by slot round u best q (Some f) differ e h =
+    best_covers (is_drawn slot round) (beats slot round) (rounds_are_orders slot round) (all_weighed q) best u f (found_is_weight q u differ ∙ e) h
 
 pub leads : (slot round v : ℕ) (q : Slices) → AllPairs (λ u w. u ≢ w) (names q)
-    → IsLeader slot round v q (best_among (is_drawn slot round) (priority_in slot round) (part_of q.threshold (member_count q.members) whole) q.members v)
+    → IsLeader slot round v q (best_among (is_drawn slot round) (beats slot round) (part_of q.threshold (member_count q.members) whole) q.members v)
 leads slot round v q differ =
-    subst (IsLeader slot round v q) (sym (best_among_is drawn priority (part_of q.threshold (member_count q.members) whole) q.members v)) (record {
-      neighbour = best_keeps drawn priority (λ u. neighbours slot round v q u ≡ true) (all_weighed q) v apart (own_neighbour slot round v q)
+    subst (IsLeader slot round v q) (sym (best_among_is drawn (beats slot round) (part_of q.threshold (member_count q.members) whole) q.members v)) (record {
+      neighbour = best_keeps drawn (beats slot round) (λ u. among (neighbours slot round v q) u ≡ true) (all_weighed q) v apart (own_neighbour slot round v q)
           (λ u f e d. other_neighbour slot round v q u f (sym (found_is_weight q u differ) ∙ e) d);
-      first = λ w h. behind w h;
+      unbeaten = λ w h. unbeaten w (sym (near slot round v q w) ∙ h);
     })
   where
     drawn : Drawn
     drawn = is_drawn slot round
 
-    priority : ℕ → ℕ
-    priority = priority_in slot round
+    order : IsOrder (beats slot round)
+    order = rounds_are_orders slot round
 
     apart : Differ (all_weighed q)
     apart = differ_from (all_weighed q) (subst (λ (us : List ℕ). AllPairs (λ u w. u ≢ w) us) (sym (names-weighed (part_of q.threshold (member_count q.members) whole) q.members)) differ)
 
-    behind : (w : ℕ) → neighbours slot round v q w ≡ true → goes_before priority w (best_of drawn priority (all_weighed q) v) ≡ false
-    behind w h = elim (cases_Bool (w == v)) [
-      | inl s ↦ best_stays drawn priority (all_weighed q) v w (subst (λ (u : ℕ). goes_before priority u v ≡ false) (sym (eqb-true w v s)) (not_before_itself priority v))
-      | inr s ↦ behind_some slot round w v q (weight q w) differ refl (rw s at h)
+    unbeaten : (w : ℕ) → is_near (weight_for v q w) (hash slot 1 round w) ≡ true → beats slot round w (best_of drawn (beats slot round) (all_weighed q) v) ≡ false
+    unbeaten w h = elim (cases_Bool (w == v)) [
+      | inl s ↦ best_stays drawn (beats slot round) order (all_weighed q) v w (subst (λ (u : ℕ). beats slot round u v ≡ false) (sym (eqb-true w v s)) (order.itself v))
+      | inr s ↦ unbeaten_by slot round w v q (weight q w) differ refl (rw s at h)
     ]

@@ -1,4 +1,3 @@
-pub mod Hashes
 pub mod Leaders
 pub mod Purposes
 pub mod Walk

@@ -1,8 +1,8 @@
 //! Neighbours that may lead.
 
 ghost use Rattle.std.specs.Prelude.{◌≡◌, ◌&&◌, ◌||◌, ◌==◌, nat_lt, if◌then◌else◌};
-ghost use Rattle.leaders.specs.Walk.{priority_in, better, is_drawn};
-ghost use Rattle.leaders.specs.Leaders.{goes_before};
+ghost use Rattle.protocol.specs.Leaders.{hash, beats};
+ghost use Rattle.leaders.specs.Walk.{better, is_drawn};
 
 use crate::draw::{Draw, Purpose};
 use slices::Weight;
@@ -19,7 +19,7 @@ impl Candidate {
     /// A node, with its priority in the round.
     pub(crate) fn new(draw: Draw, node: &NodeId) -> Candidate
         ensures node { result.node ≡ node.now }
-        ensures priority { result.priority ≡ priority_in draw.slot draw.round node.now }
+        ensures priority { result.priority ≡ hash draw.slot 2 draw.round node.now }
     {
         Candidate {
             priority: draw.hash(Purpose::Priority, node),
@@ -27,9 +27,9 @@ impl Candidate {
         }
     }
 
-    /// Whether it goes before another candidate: its priority is greater, or it is the same and its
-    /// name is greater.
-    fn goes_before(&self, other: &Candidate) -> bool
+    /// Whether it beats another candidate: its priority is greater, or it is the same and its name is
+    /// greater.
+    fn beats(&self, other: &Candidate) -> bool
         ensures { result ≡ (nat_lt other.now.priority self.now.priority || ((self.now.priority == other.now.priority) && nat_lt other.now.node self.now.node)) }
     {
         self.priority > other.priority || self.priority == other.priority && self.node > other.node
@@ -37,18 +37,14 @@ impl Candidate {
 
     /// The better of this candidate and a node of this weight, where that is a neighbour.
     pub(crate) fn or_node(self, draw: Draw, node: &NodeId, weight: Weight) -> Candidate
-        requires { self.priority ≡ priority_in draw.slot draw.round self.node }
-        ensures node { result.node ≡ better (is_drawn draw.slot draw.round) (priority_in draw.slot draw.round) node.now weight self.node }
-        ensures priority { result.priority ≡ priority_in draw.slot draw.round result.node }
+        requires { self.priority ≡ hash draw.slot 2 draw.round self.node }
+        ensures node { result.node ≡ better (is_drawn draw.slot draw.round) (beats draw.slot draw.round) node.now weight self.node }
+        ensures priority { result.priority ≡ hash draw.slot 2 draw.round result.node }
     {
         if !draw.is_neighbour(node, weight) {
             return self;
         }
         let other = Candidate::new(draw, node);
-        if other.goes_before(&self) {
-            other
-        } else {
-            self
-        }
+        if other.beats(&self) { other } else { self }
     }
 }

@@ -1,10 +1,10 @@
 //! The hashes of one round, and what they decide.
 
-ghost use Rattle.std.specs.Prelude.{◌≡◌, take};
+ghost use Rattle.std.specs.Prelude.{◌≡◌, Some, take};
 ghost use Rattle.std.specs.Int.{w64, from_be_bytes};
-ghost use Rattle.leaders.specs.Hashes.{hash};
-ghost use Rattle.leaders.specs.Leaders.{neighbour_tag, is_below};
+ghost use Rattle.protocol.specs.Leaders.{hash, is_near};
 ghost use Rattle.leaders.specs.Purposes.{tag_of};
+ghost use Rattle.leaders.specs.Walk.{is_drawn};
 
 use sha2::{Digest, Sha256};
 use slices::Weight;
@@ -56,7 +56,7 @@ impl Draw {
 
     /// Whether a node of this weight is a neighbour.
     pub(crate) fn is_neighbour(self, node: &NodeId, weight: Weight) -> bool
-        ensures { result ≡ is_below (hash self.slot neighbour_tag self.round node.now) weight }
+        ensures { result ≡ is_drawn self.slot self.round node.now weight }
     {
         let hash = self.hash(Purpose::Neighbour, node);
         is_below(hash, weight)
@@ -74,7 +74,7 @@ fn first_word(digest: &[u8; 32]) -> u64
 
 /// Whether a hash lies below a share of all hashes of 64 bits.
 fn is_below(hash: u64, weight: Weight) -> bool
-    ensures { result ≡ is_below hash weight }
+    ensures { result ≡ is_near (Some weight) hash }
 {
     let scaled_hash = hash as u128 * weight.denominator() as u128;
     scaled_hash < weight.numerator() as u128 * (1 << 64)

@@ -1,12 +1,13 @@
 //! Laws of neighbours and leaders.
 
-ghost use Rattle.leaders.specs.Leaders.{NodesAreTheirOwnNeighbours, LeadersAreUnique, LeadersAreKnown};
+ghost use Rattle.leaders.specs.Leaders.{NeighboursAreNear, LeadersAreUnique, LeadersAreKnown};
 
-/// Each node is a neighbour of its own in each round, so there is always a leader (the Stellar
-/// Consensus Protocol draft, of neighbors).
-#[tactic(auto, using(crate::proofs::LeaderLaws::own))]
-pub fn nodes_are_their_own_neighbours()
-    ensures { NodesAreTheirOwnNeighbours }
+/// A node's neighbours are those whose first hash lies below their weight. The node itself weighs all
+/// and so is one in each round: there is always a leader (the Stellar Consensus Protocol draft, of
+/// neighbors).
+#[tactic(auto, using(crate::proofs::Near::near))]
+pub fn neighbours_are_near()
+    ensures { NeighboursAreNear }
 {}
 
 /// A round has one leader at most, as a node sees it.

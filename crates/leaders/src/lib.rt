@@ -9,5 +9,5 @@ mod laws;
 mod tests;
 mod walk;
 
-pub use laws::{leaders_are_known, leaders_are_unique, nodes_are_their_own_neighbours};
+pub use laws::{leaders_are_known, leaders_are_unique, neighbours_are_near};
 pub use walk::leader;

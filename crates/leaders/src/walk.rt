@@ -3,8 +3,9 @@
 ghost use Rattle.std.specs.Prelude.{◌≡◌};
 ghost use Rattle.types.specs.Trees.{member_count, depth_of, HasThreshold, HaveThresholds};
 ghost use Rattle.slices.specs.Weighing.{part_of};
-ghost use Rattle.leaders.specs.Leaders.{IsLeader, leader_of};
-ghost use Rattle.leaders.specs.Walk.{best_among, is_drawn, priority_in, HasRoom};
+ghost use Rattle.protocol.specs.Leaders.{hash, beats, leader};
+ghost use Rattle.leaders.specs.Leaders.{IsLeader};
+ghost use Rattle.leaders.specs.Walk.{best_among, is_drawn, HasRoom};
 
 use crate::candidate::Candidate;
 use crate::draw::Draw;
@@ -22,8 +23,8 @@ use types::{Member, Nested, NodeId, SliceSet};
 /// host's profile: the first eight bytes of the SHA-256 digest of slot, a tag of 1 or 2, round and
 /// name, 45 bytes with all numbers big-endian).
 pub fn leader(slot: u64, round: u32, node: &NodeId, slices: &Nested) -> NodeId
-    ensures first { IsLeader slot round node.now slices.now result }
-    ensures computed { result ≡ leader_of slot round node.now slices.now }
+    ensures best { IsLeader slot round node.now slices.now result }
+    ensures computed { result ≡ leader slot round node.now slices.now }
 {
     let draw = Draw { slot, round };
     let own = Candidate::new(draw, node);
@@ -35,9 +36,9 @@ fn best_in(draw: Draw, set: &SliceSet, outer: Weight, own: Candidate) -> Candida
     requires threshold { HasThreshold set.now.threshold set.now.members }
     requires inner_sets { HaveThresholds set.now.members }
     requires room { HasRoom outer (depth_of set.now.members) }
-    requires priority { own.priority ≡ priority_in draw.slot draw.round own.node }
-    ensures node { result.node ≡ best_among (is_drawn draw.slot draw.round) (priority_in draw.slot draw.round) (part_of set.now.threshold (member_count set.now.members) outer) set.now.members own.node }
-    ensures priority { result.priority ≡ priority_in draw.slot draw.round result.node }
+    requires priority { own.priority ≡ hash draw.slot 2 draw.round own.node }
+    ensures node { result.node ≡ best_among (is_drawn draw.slot draw.round) (beats draw.slot draw.round) (part_of set.now.threshold (member_count set.now.members) outer) set.now.members own.node }
+    ensures priority { result.priority ≡ hash draw.slot 2 draw.round result.node }
 {
     let members = set.members();
     let weight = outer.part(set.threshold(), members.len() as u8);

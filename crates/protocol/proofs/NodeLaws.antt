@@ -115,7 +115,7 @@ leader-in R slot round v q i w = pick v (neighbours slot round v q) i (and_from 
 
     pick : (u : ℕ) (us : List ℕ) → R u ≡ true → within us R ≡ true → R (best (beats slot round) u us) ≡ true
     pick u [] j h = j
-    pick u (x ∷ xs) j h = let p = and_parts (R x) (within xs R) h in pick (if beats slot round u x then x else u) xs (choose (beats slot round u x) p.0) p.1
+    pick u (x ∷ xs) j h = let p = and_parts (R x) (within xs R) h in pick (if beats slot round x u then x else u) xs (choose (beats slot round x u) p.0) p.1
       where
         choose : (b : Bool) → R x ≡ true → R (if b then x else u) ≡ true
         choose true h = h

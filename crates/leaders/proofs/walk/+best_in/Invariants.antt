@@ -2,7 +2,8 @@ use Rattle.std.proofs.Common.{◌≡◌, drop}
 use Rattle.types.specs.Trees.{member_count}
 use Rattle.types.specs.Shape.{members_of}
 use Rattle.slices.specs.Weighing.{part_of}
-use Rattle.leaders.specs.Walk.{best_among, is_drawn, priority_in}
+use Rattle.protocol.specs.Leaders.{hash, beats}
+use Rattle.leaders.specs.Walk.{best_among, is_drawn}
 use Rattle.leaders.proofs.walk.+best_in.Given as goal
 
 abbrev pub decreases-best_in : goal.decreases-best_in
@@ -13,7 +14,7 @@ invariant-loop-member l = record {
   shape : members_of l.members ≡ l.set.members;
   weighs : l.weight ≡ part_of l.set.threshold (member_count l.set.members) l.fn.outer;
   so_far :
-      best_among (is_drawn l.draw.slot l.draw.round) (priority_in l.draw.slot l.draw.round) l.weight (members_of (drop l.member-index l.members)) l.best.node
-      ≡ best_among (is_drawn l.draw.slot l.draw.round) (priority_in l.draw.slot l.draw.round) l.weight l.set.members l.fn.own.node;
-  priority : l.best.priority ≡ priority_in l.draw.slot l.draw.round l.best.node;
+      best_among (is_drawn l.draw.slot l.draw.round) (beats l.draw.slot l.draw.round) l.weight (members_of (drop l.member-index l.members)) l.best.node
+      ≡ best_among (is_drawn l.draw.slot l.draw.round) (beats l.draw.slot l.draw.round) l.weight l.set.members l.fn.own.node;
+  priority : l.best.priority ≡ hash l.draw.slot 2 l.draw.round l.best.node;
 }

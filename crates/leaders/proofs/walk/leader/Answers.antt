@@ -3,7 +3,8 @@ use Rattle.types.specs.Trees.{Slices, member_count, depth_of}
 use Rattle.protocol.specs.Weights.{Fraction}
 use Rattle.slices.specs.Weighing.{part_of, whole}
 use Rattle.leaders.specs.Leaders.{IsLeader}
-use Rattle.leaders.specs.Walk.{best_among, is_drawn, priority_in, HasRoom}
+use Rattle.protocol.specs.Leaders.{beats}
+use Rattle.leaders.specs.Walk.{best_among, is_drawn, HasRoom}
 use Rattle.leaders.proofs.Room.{whole_has_room}
 use Rattle.leaders.proofs.Choice.{leads}
 use Rattle.leaders.proofs.LeaderLaws.{leader_is}
@@ -15,11 +16,11 @@ best_in-requires-clause-room c =
     subst (λ (f : Fraction). HasRoom f (depth_of c.set.result.now.members)) (sym c.whole.ensures)
     (whole_has_room (depth_of c.set.result.now.members) (omega (arith, levels, c.set.ensures.rules.levels)))
 
-pub returns-clause-first : goal.returns-clause-first
-returns-clause-first c =
+pub returns-clause-best : goal.returns-clause-best
+returns-clause-best c =
     let slot = c.args.slot in
     let round = c.args.round in
-    let best = λ (q : Slices) (f : Fraction) (v : ℕ). best_among (is_drawn slot round) (priority_in slot round) (part_of q.threshold (member_count q.members) f) q.members v in
+    let best = λ (q : Slices) (f : Fraction) (v : ℕ). best_among (is_drawn slot round) (beats slot round) (part_of q.threshold (member_count q.members) f) q.members v in
     let value : c.best_in.result.node ≡ best c.args.slices.now whole c.args.node.now =
     c.best_in.ensures.node ∙ ap (λ (q : Slices). best q c.whole.result c.new-own.result.node) c.set.ensures.value
     ∙ ap (λ (f : Fraction). best c.args.slices.now f c.new-own.result.node) c.whole.ensures
@@ -28,4 +29,4 @@ returns-clause-first c =
     (leads slot round c.args.node.now c.args.slices.now c.set.ensures.rules.names_differ)
 
 pub returns-clause-computed : goal.returns-clause-computed
-returns-clause-computed c = leader_is c.args.slot c.args.round c.args.node.now c.args.slices.now c.best_in.result.node (returns-clause-first c)
+returns-clause-computed c = leader_is c.args.slot c.args.round c.args.node.now c.args.slices.now c.best_in.result.node (returns-clause-best c)

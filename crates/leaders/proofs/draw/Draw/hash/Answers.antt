@@ -1,5 +1,5 @@
-use Rattle.std.proofs.Common.{◌∙◌, arith}
-use Rattle.leaders.specs.Purposes.{tag_of}
+use Rattle.std.proofs.Common.{ℕ, ap, ◌∙◌, arith}
+use Rattle.protocol.specs.Leaders.{hash}
 use Rattle.leaders.proofs.HashLaws.{hash_is}
 use Rattle.leaders.proofs.draw.Draw.hash.Goals as goal
 
@@ -15,5 +15,6 @@ returns c =
     let seven = c.update-7.ensures _ six in
     let digest = c.finalize.ensures _ seven in
     c.first_word.ensures
-    ∙ hash_is c.args.self.slot (tag_of c.args.purpose) c.args.self.round c.args.node.now word.0 word.1 word.2 word.3 c.tag.result c.to_be_bytes.result c.to_be_bytes-2.result c.to_be_bytes-3.result c.to_be_bytes-4.result c.to_be_bytes-5.result c.to_be_bytes-6.result c.finalize.result
-    c.words-first.ensures.value (omega arith) (omega arith) (omega arith) c.to_be_bytes.ensures c.tag.ensures c.to_be_bytes-2.ensures c.to_be_bytes-3.ensures c.to_be_bytes-4.ensures c.to_be_bytes-5.ensures c.to_be_bytes-6.ensures digest
+    ∙ hash_is c.args.self.slot c.tag.result c.args.self.round c.args.node.now word.0 word.1 word.2 word.3 c.to_be_bytes.result c.to_be_bytes-2.result c.to_be_bytes-3.result c.to_be_bytes-4.result c.to_be_bytes-5.result c.to_be_bytes-6.result c.finalize.result
+    c.words-first.ensures.value (omega arith) (omega arith) (omega arith) (omega arith) c.to_be_bytes.ensures c.to_be_bytes-2.ensures c.to_be_bytes-3.ensures c.to_be_bytes-4.ensures c.to_be_bytes-5.ensures c.to_be_bytes-6.ensures digest
+    ∙ ap (λ (tag : ℕ). hash c.args.self.slot tag c.args.self.round c.args.node.now) c.tag.ensures
