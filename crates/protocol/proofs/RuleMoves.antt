@@ -5,7 +5,8 @@ use Rattle.std.proofs.lemmas.Bool.Decides.{nat_tests}
 use Rattle.types.specs.declared.ballot.Ballot.{Ballot}
 use Rattle.types.specs.declared.statement.Statement.{Statement}
 use Rattle.protocol.proofs.Tests.{takes_prepare, Fair, quorum_own, quorum_more, blocking_more}
-use Rattle.protocol.specs.Passes.{counts, raised, cap, raise, arm, raised_counter}
+use Rattle.protocol.specs.Timers.{cap}
+use Rattle.protocol.specs.Passes.{counts, raised, raise, arm, raised_counter}
 use Rattle.types.specs.declared.statement.Statement.TheVariants.{Nominate, Prepare, Commit, Externalize}
 use Rattle.types.specs.declared.kind.Kind.{Kind}
 use Rattle.protocol.specs.Views.{Seen, passes, accepted}

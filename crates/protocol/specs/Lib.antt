@@ -14,6 +14,7 @@ pub mod Candidates
 pub mod Extremes
 pub mod Nominating
 pub mod Balloting
+pub mod Timers
 pub mod Passes
 pub mod Leaders
 pub mod Sameness

@@ -1,5 +1,5 @@
 -- One node at one slot: its events, settling, and what it gives out.
-use Rattle.std.specs.Prelude.{◌≡◌, ℕ, zero, suc, ◌+◌, Bool, true, false, not, ◌&&◌, ◌==◌, nat_lt, List, [], ◌∷◌, ◌++◌, Option, Some, None, if◌then◌else◌, is_none, is_some}
+use Rattle.std.specs.Prelude.{◌≡◌, ℕ, zero, suc, ◌+◌, Bool, true, false, not, ◌&&◌, ◌==◌, List, [], ◌∷◌, ◌++◌, Option, Some, None, option_map, if◌then◌else◌, is_none, is_some}
 use Rattle.types.specs.Trees.{Slices}
 use Rattle.types.specs.declared.ballot.Ballot.{Ballot}
 use Rattle.types.specs.declared.statement.Statement.{Statement}
@@ -16,7 +16,8 @@ use Rattle.types.specs.declared.state.Votes.{Votes}
 use Rattle.protocol.specs.States.{no_votes, counter_of, sent_vote, sent_nomination}
 use Rattle.types.specs.declared.state.Phase.TheVariants.{Preparing, Committing, Externalized}
 use Rattle.protocol.specs.Leaders.{leader}
-use Rattle.protocol.specs.Passes.{pass, raised, most_counter}
+use Rattle.protocol.specs.Passes.{pass, raised}
+use Rattle.protocol.specs.Timers.{is_nomination_timer_live, is_ballot_timer_live}
 use Rattle.protocol.specs.Sameness.{same_votes, same_sent}
 
 -- a node at a slot
@@ -69,13 +70,13 @@ in_round n r = record n { given = record n.given { round = r; leaders = n.given.
 abbrev pub proposed : Node → List ℕ → Node
 proposed n x = in_round (record n { given = record n.given { input = Some x } }) 1
 
--- a nomination timer is live in its own round, from round 1 on, until a ballot is confirmed as prepared
+-- the nomination timer of this number is live
 abbrev pub is_round_live : Node → ℕ → Bool
-is_round_live n r = (r == n.given.round) && nat_lt 0 r && is_none n.votes.high && nat_lt r most_counter
+is_round_live n r = is_nomination_timer_live r n.given.round (is_some n.votes.high)
 
--- a ballot timer is live at the counter of the ballot for which it was armed, until a value is externalized
+-- the ballot timer of this number is live
 abbrev pub is_counter_live : Node → ℕ → Bool
-is_counter_live n c = not (is_externalized n.votes.phase) && is_some n.votes.ballot && (c == n.votes.armed) && (c == counter_of n.votes.ballot) && nat_lt c most_counter
+is_counter_live n c = is_ballot_timer_live c n.votes.armed (option_map (λ b. b.counter) n.votes.ballot) (is_externalized n.votes.phase)
 
 -- the ballot goes up by one counter, its value chosen as after a raise
 abbrev pub bumped : Votes → Option Ballot → Votes

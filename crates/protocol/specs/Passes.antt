@@ -1,5 +1,5 @@
 -- One pass: all rules in their order, and at last those of counters.
-use Rattle.std.specs.Prelude.{ℕ, ◌+◌, ◌-◌, min, Bool, true, false, not, ◌==◌, nat_le, List, Option, Some, None, if◌then◌else◌}
+use Rattle.std.specs.Prelude.{ℕ, ◌+◌, ◌-◌, Bool, true, false, not, ◌==◌, nat_le, List, Option, Some, None, if◌then◌else◌}
 use Rattle.types.specs.declared.kind.Kind.{Kind}
 use Rattle.types.specs.declared.ballot.Ballot.{Ballot}
 use Rattle.types.specs.declared.statement.Statement.{Statement}
@@ -12,6 +12,7 @@ use Rattle.protocol.specs.States.{ballot_at, position}
 use Rattle.types.specs.declared.state.Phase.TheVariants.{Preparing, Committing, Externalized}
 use Rattle.protocol.specs.Candidates.{combine, least_from}
 use Rattle.protocol.specs.Nominating.{nominate}
+use Rattle.protocol.specs.Timers.{cap}
 use Rattle.protocol.specs.Balloting.{start, accept_prepared, confirm_prepared, accept_commit, confirm_commit}
 
 -- ---- counters
@@ -41,14 +42,6 @@ raised_value Externalized w x = x
 -- the ballot at this counter; its value is chosen anew only where that is another counter
 abbrev pub raised : Votes → Ballot → ℕ → Ballot
 raised w b n = if n == b.counter then b else ballot_at n (raised_value w.phase w b.value)
-
--- counters have 32 bits
-abbrev pub most_counter : ℕ
-most_counter = 4294967295
-
--- no counter is raised above a thousand and the timers that have fired
-abbrev pub cap : ℕ → ℕ
-cap fired = min (1000 + fired) most_counter
 
 -- the lowest counter, from the ballot's on, at which those with greater counters do not block, but not above the cap
 unfoldable pub raised_counter : Seen → Given → Ballot → Votes → ℕ

@@ -2,8 +2,8 @@
 //! nomination or the ballot counter for which they were armed. Nothing here knows of time.
 #![tactic(auto)]
 
-ghost use Rattle.std.specs.Prelude.{◌≡◌, ◌↔◌, IsTrue};
-ghost use Rattle.timers.specs.Timers.{NominationTimerIsLive, BallotTimerIsLive, cap};
+ghost use Rattle.std.specs.Prelude.{◌≡◌};
+ghost use Rattle.protocol.specs.Timers.{is_nomination_timer_live, is_ballot_timer_live, cap};
 
 #[cfg(test)]
 mod tests;
@@ -15,7 +15,7 @@ pub const FREE_RAISE: u32 = 1_000;
 /// from 1), no ballot is confirmed prepared yet, and there is a next round, the last one being
 /// 4,294,967,295 (this host's profile).
 pub fn nomination_is_live(timer: u32, round: u32, confirmed_prepared: bool) -> bool
-    ensures { IsTrue result ↔ NominationTimerIsLive timer round confirmed_prepared }
+    ensures { result ≡ is_nomination_timer_live timer round confirmed_prepared }
 {
     timer == round && timer > 0 && !confirmed_prepared && timer < u32::MAX
 }
@@ -25,7 +25,7 @@ pub fn nomination_is_live(timer: u32, round: u32, confirmed_prepared: bool) -> b
 /// 4,294,967,295 (this host's profile). `counter` is the current ballot's, `None` where there is no
 /// ballot yet.
 pub fn ballot_is_live(timer: u32, armed: u32, counter: Option<u32>, externalized: bool) -> bool
-    ensures { IsTrue result ↔ BallotTimerIsLive timer armed counter externalized }
+    ensures { result ≡ is_ballot_timer_live timer armed counter externalized }
 {
     let of_ballot = match counter {
         Some(number) => number == timer,
