@@ -54,6 +54,17 @@ fn is_satisfied(trust: Trust, set: Set) -> bool {
     }
 }
 
+/// All names of the slices.
+fn names_of(trust: Trust) -> Set {
+    match trust {
+        Trust::Unknown => 0,
+        Trust::OnlyB => B,
+        Trust::BothAAndC => A | C,
+        Trust::TwoOfABC => A | B | C,
+        Trust::AAndBOrD => A | B | D,
+    }
+}
+
 fn flat(alloc: Global, threshold: u8, bits: &[Set]) -> Result<SliceSet, AllocError> {
     let mut members = Vec::new(alloc);
     for bit in bits {
@@ -151,6 +162,18 @@ fn nodes_of(alloc: Global, set: Set) -> Result<Vec<NodeId>, AllocError> {
     Ok(nodes)
 }
 
+/// The nodes of a set that is not empty, in order: the names of slices that name them all.
+fn ascending_of(rt: &impl Abort, alloc: Global, set: Set) -> Result<Vec<NodeId>, AllocError>
+    ensures { IfOk result (λ v. IsAscending v.items) }
+{
+    let mut members = Vec::new(alloc);
+    for node in nodes_of(alloc, set)? {
+        members.push(Member::Node(node))?;
+    }
+    let slices = Nested::new(alloc, SliceSet::new(1, members))?;
+    slices.expect(rt, "one node at least").names(alloc)
+}
+
 /// Whether all of these nodes are among those.
 fn are_among(these: &[NodeId], those: &[NodeId]) -> bool
     requires { IsAscending those.now }
@@ -173,15 +196,26 @@ fn holds(alloc: Global, slices: &Option<Nested>, nodes: &[NodeId]) -> Result<boo
     }
 }
 
-/// Whether the nodes hold all names of everybody's slices.
-fn holds_all(alloc: Global, world: &World, nodes: &[NodeId]) -> Result<bool, AllocError>
+/// Whether the nodes hold all names of this node's slices, where it is one of them.
+fn holds_for(alloc: Global, row: &Row, nodes: &[NodeId]) -> Result<bool, AllocError>
+    requires { IsAscending nodes.now }
+    ensures { IfOk result (λ b. IsTrue b → IsTrue (among nodes.now row.now.node) → (q : Slices) → row.now.slices ≡ Some q → AreWithin (among (names q)) (among nodes.now)) }
+{
+    if !is_among(nodes, &row.node) {
+        return Ok(true);
+    }
+    holds(alloc, &row.slices, nodes)
+}
+
+/// Whether the nodes hold all names of each other's slices.
+fn is_reach(alloc: Global, world: &World, nodes: &[NodeId]) -> Result<bool, AllocError>
     requires { IsAscending nodes.now }
     ensures { IfOk result (λ b. IsTrue b → NamesWithin names (⟦<World as SlicesOf>⟧.slices_at world.now) (among nodes.now)) }
 {
-    let a = holds(alloc, &world.a.slices, nodes)?;
-    let b = holds(alloc, &world.b.slices, nodes)?;
-    let c = holds(alloc, &world.c.slices, nodes)?;
-    let d = holds(alloc, &world.d.slices, nodes)?;
+    let a = holds_for(alloc, &world.a, nodes)?;
+    let b = holds_for(alloc, &world.b, nodes)?;
+    let c = holds_for(alloc, &world.c, nodes)?;
+    let d = holds_for(alloc, &world.d, nodes)?;
     Ok(a & b & c & d)
 }
 
@@ -192,6 +226,17 @@ struct Trusts {
     b: Trust,
     c: Trust,
     d: Trust,
+}
+
+impl Trusts {
+    fn of(self, bit: Set) -> Trust {
+        match bit {
+            A => self.a,
+            B => self.b,
+            C => self.c,
+            _ => self.d,
+        }
+    }
 }
 
 /// A set is a quorum within the supporters, and holds the node.
@@ -221,19 +266,30 @@ fn slow_blocks(trust: Trust, set: Set) -> bool {
     blocks
 }
 
-/// Whether both answers for one position of the voters are those of the slow program.
-fn agrees(
+/// Whether the set holds all names of each other's slices.
+fn slow_reach(trusts: Trusts, set: Set) -> bool {
+    let mut holds = true;
+    for bit in [A, B, C, D] {
+        holds = holds && (!has(set, bit) || has(set, names_of(trusts.of(bit))));
+    }
+    holds
+}
+
+/// Whether both answers of a node for one position of the voters are those of the slow program, which
+/// goes over all nodes.
+fn agrees_at(
     alloc: Global,
     trusts: Trusts,
     world: &World,
     reach: &[NodeId],
+    asked: Set,
     backing: Set,
     accepting: Set,
 ) -> Result<bool, AllocError>
     requires ascending { IsAscending reach.now }
     requires closed { NamesWithin names (⟦<World as SlicesOf>⟧.slices_at world.now) (among reach.now) }
 {
-    let node = name(A);
+    let node = name(asked);
     if !is_among(reach, &node) {
         return Ok(false);
     }
@@ -242,36 +298,71 @@ fn agrees(
         accepting: nodes_of(alloc, accepting)?,
     };
     let confirmed = confirms(alloc, &node, world, &votes, reach)?;
-    let same = confirmed == slow_quorum(trusts, accepting, A);
+    let same = confirmed == slow_quorum(trusts, accepting, asked);
     match world.slices(&node) {
         None => Ok(same),
         Some(own) => {
             let accepted = accepts(alloc, &node, own, world, &votes, reach)?;
-            let slow = slow_quorum(trusts, backing, A) || slow_blocks(trusts.a, accepting);
-            Ok(same && accepted == slow)
+            let blocked = slow_blocks(trusts.of(asked), accepting);
+            Ok(same && accepted == (slow_quorum(trusts, backing, asked) || blocked))
         }
     }
 }
 
-/// Whether both answers are those of the slow program, wherever the voters stand.
+/// Whether a node's answers are those of the slow program, wherever the voters stand.
+fn agrees_for(
+    alloc: Global,
+    trusts: Trusts,
+    world: &World,
+    reach: &[NodeId],
+    asked: Set,
+) -> Result<bool, AllocError>
+    requires ascending { IsAscending reach.now }
+    requires closed { NamesWithin names (⟦<World as SlicesOf>⟧.slices_at world.now) (among reach.now) }
+{
+    for backing in 0..16 {
+        for accepting in 0..16 {
+            if has(backing, accepting)
+                && !agrees_at(alloc, trusts, world, reach, asked, backing, accepting)?
+            {
+                return Ok(false);
+            }
+        }
+    }
+    Ok(true)
+}
+
+/// Whether the answers of all nodes of the region are those of the slow program, if the region is a
+/// reach. Nodes outside it have slices and vote too.
+fn agrees_within(
+    rt: &impl Abort,
+    alloc: Global,
+    trusts: Trusts,
+    world: &World,
+    region: Set,
+) -> Result<bool, AllocError> {
+    let reach = ascending_of(rt, alloc, region)?;
+    if !is_reach(alloc, world, &reach)? {
+        return Ok(!slow_reach(trusts, region));
+    }
+    for asked in [A, B, C, D] {
+        if has(region, asked) && !agrees_for(alloc, trusts, world, &reach, asked)? {
+            return Ok(false);
+        }
+    }
+    Ok(slow_reach(trusts, region))
+}
+
+/// Whether all answers are those of the slow program, whatever the reach.
 fn agrees_throughout(
     rt: &impl Abort,
     alloc: Global,
     trusts: Trusts,
     world: &World,
 ) -> Result<bool, AllocError> {
-    let everybody = Nested::new(alloc, flat(alloc, 1, &[A, B, C, D])?)?;
-    let reach = everybody.expect(rt, "all nodes").names(alloc)?;
-    if !holds_all(alloc, world, &reach)? {
-        return Ok(false);
-    }
-    for backing in 0..16 {
-        for accepting in 0..16 {
-            if has(backing, accepting)
-                && !agrees(alloc, trusts, world, &reach, backing, accepting)?
-            {
-                return Ok(false);
-            }
+    for region in 1..16 {
+        if !agrees_within(rt, alloc, trusts, world, region)? {
+            return Ok(false);
         }
     }
     Ok(true)
@@ -298,7 +389,8 @@ fn both_answers_are_those_of_the_definitions(rt: HostRuntime) -> Result<(), Fail
                         c: row_of(&rt, alloc, C, c)?,
                         d: row_of(&rt, alloc, D, d)?,
                     };
-                    assert!(rt; agrees_throughout(&rt, alloc, Trusts { a, b, c, d }, &world)?);
+                    let trusts = Trusts { a, b, c, d };
+                    assert!(rt; agrees_throughout(&rt, alloc, trusts, &world)?);
                 }
             }
         }

@@ -1,6 +1,6 @@
 use Rattle.protocol.specs.Sets.{among}
 use Rattle.fedvote.proofs.TestLaws.{four_held}
-use Rattle.fedvote.proofs.tests.holds_all.Goals as goal
+use Rattle.fedvote.proofs.tests.is_reach.Goals as goal
 
 pub returns : goal.returns
 returns c =
