@@ -6,13 +6,13 @@ use Rattle.protocol.specs.Leaders.{hash, beats}
 abbrev pub Beats : Type 0
 Beats = ℕ → ℕ → Bool
 
--- none beats itself, who beats the best is not beaten by one that the best is not beaten by, and of two one beats the other
+-- none beats itself; who does not beat the best beats none that does; of two, one beats the other
 pub record IsOrder (beats : Beats) : Type 0 where
   pub itself : (u : ℕ) → beats u u ≡ false
   pub behind : (w u best : ℕ) → beats w best ≡ false → beats u best ≡ true → beats w u ≡ false
   pub same : (u w : ℕ) → beats u w ≡ false → beats w u ≡ false → u ≡ w
 
--- the same of numbers with names
+-- the same of priorities and names
 beats_itself : (p u : ℕ) → (nat_lt p p || ((p == p) && nat_lt u u)) ≡ false
 beats_itself p u = grind (arith, nat_tests)
 

@@ -17,7 +17,7 @@ abbrev pub weight_for : (v : ℕ) → Slices → (u : ℕ) → Option Fraction
 weight_for v q u = if u == v then Some whole else weight q u
 
 -- ---- laws
--- the neighbours are the nodes that are near by what they weigh for the node: it is always one itself, since it weighs all
+-- the neighbours are the nodes that are near by what they weigh for the node, which weighs all for itself
 abbrev pub NeighboursAreNear : Type 0
 NeighboursAreNear = (slot round v : ℕ) (q : Slices) (u : ℕ) → among (neighbours slot round v q) u ≡ is_near (weight_for v q u) (hash slot 1 round u)
 
