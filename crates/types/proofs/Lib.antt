@@ -5,3 +5,4 @@ pub mod Weights
 pub mod NestedRules
 pub mod VoteLaws
 pub mod NameOrder
+pub mod Insertions

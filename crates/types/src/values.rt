@@ -1,7 +1,7 @@
 //! A list of values.
 
-ghost use Rattle.std.specs.Prelude.{◌≡◌, ◌↔◌, ◌++◌, ◌∷◌, [], IfOk, IsTrue, OnOk, OnErr};
-ghost use Rattle.std.specs.List.{AllByRecursion};
+ghost use Rattle.std.specs.Prelude.{◌≡◌, ◌≤◌, ◌↔◌, ◌++◌, ◌∷◌, [], length, IfOk, IfSome, IsTrue, MatchOption, OnOk, OnErr};
+ghost use Rattle.std.specs.List.{AllByRecursion, insert};
 ghost use Rattle.types.specs.Nominations.{IsValue, is_ascending, is_nomination_set, with_value};
 
 use crate::value::Value;
@@ -54,8 +54,10 @@ impl Values {
         ensures ok { OnOk result (self.new ≡ with_value value self.old) }
         ensures err { OnErr result (self.new ≡ self.old) }
     {
-        let _value = value;
-        Err(AllocError)
+        if let Some(place) = missing_at(&self.items, &value) {
+            self.items.insert(place, value)?;
+        }
+        Ok(())
     }
 
     /// The values, in their order.
@@ -88,6 +90,23 @@ impl Values {
     {
         self.items.len() <= MAX_NOMINATED && is_ascending(&self.items)
     }
+}
+
+/// Where the value is to stand in an ascending list, unless it is there already.
+fn missing_at(items: &[Value], value: &Value) -> Option<usize>
+    ensures within { IfSome result (λ place. place ≤ length items.now) }
+    ensures place { MatchOption result (with_value value.now items.now ≡ items.now) (λ place. with_value value.now items.now ≡ insert items.now place value.now) }
+{
+    for index in 0..items.len() {
+        let other = &items[index];
+        if value < other {
+            return Some(index);
+        }
+        if other == value {
+            return None;
+        }
+    }
+    Some(items.len())
 }
 
 fn is_ascending(items: &[Value]) -> bool
