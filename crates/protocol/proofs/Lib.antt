@@ -41,6 +41,9 @@ pub mod NominationSets
 pub mod NominationRests
 pub mod SettleLaws
 pub mod ReachedNodes
+pub mod SendableVotes
+pub mod SentLaws
+pub mod ReachedLaws
 pub mod WorkedPasses
 pub mod VerdictLaws
 pub mod LeastLaws

@@ -126,7 +126,7 @@ abbrev pub if_node : (Node → Type 0) → Option Node → Type 0
 if_node P None = Unit {0}
 if_node P (Some n) = P n
 
-if_node-if : (P : Node → Type 0) (b : Bool) (n : Node) → P n → if_node P (if b then Some n else None)
+pub if_node-if : (P : Node → Type 0) (b : Bool) (n : Node) → P n → if_node P (if b then Some n else None)
 if_node-if P true n h = h
 if_node-if P false n h = tt
 
@@ -158,7 +158,7 @@ good-settled R (Some n) g = go (settle 64 (passed n) n.votes)
     go None = tt
     go (Some w) = record { closed = record { has = g.closed.has; own = g.closed.own; rows = g.closed.rows }; leaders = g.leaders }
 
-answered-node : (P : Node → Type 0) (n : Node) (o : Option Node) → P n → if_node P o → P (answered n o).0
+pub answered-node : (P : Node → Type 0) (n : Node) (o : Option Node) → P n → if_node P o → P (answered n o).0
 answered-node P n None h k = h
 answered-node P n (Some m) h k = k
 

@@ -131,7 +131,7 @@ pub record Counted (s : Seen) (g : Given) (w : Votes) (b : Ballot) : Type 0 wher
   pub confirms : u.confirms ≡ w.confirms
   pub high : u.high ≡ w.high
 
-raised-counter : (w : Votes) (b : Ballot) (n : ℕ) → (raised w b n).counter ≡ n
+pub raised-counter : (w : Votes) (b : Ballot) (n : ℕ) → (raised w b n).counter ≡ n
 raised-counter w b n = go (n == b.counter) refl
   where
     go : (c : Bool) → (n == b.counter) ≡ c → (if c then b else ballot_at n (raised_value w.phase w b.value)).counter ≡ n

@@ -1,9 +1,11 @@
--- Beyond the rules: no event meets the limit of passes.
+-- Beyond the rules: no event meets the limit of passes, and what else holds of each node that events lead to.
 use Rattle.types.specs.declared.event.NodeEvent.{NodeEvent}
-use Rattle.std.specs.Prelude.{◌≡◌, ℕ, List, IsTrue, Some, is_some}
+use Rattle.std.specs.Prelude.{◌≡◌, ℕ, ◌≤◌, List, IsTrue, IfSome, Some, is_some}
 use Rattle.std.specs.List.{AllByRecursion}
 use Rattle.types.specs.Trees.{Slices}
-use Rattle.protocol.specs.Nodes.{Node, fresh, passed, settle, most_passes, change, step}
+use Rattle.types.specs.Statements.{IsWellFormed}
+use Rattle.protocol.specs.Nodes.{Node, fresh, passed, settle, most_passes, change, step, Calm}
+use Rattle.protocol.specs.States.{counter_of, sent_nomination, sent_vote}
 use Rattle.protocol.specs.Networks.{Slot}
 use Rattle.protocol.specs.Hosts.{Entry, Config}
 use Rattle.protocol.specs.Runs.{state_of}
@@ -32,3 +34,15 @@ AllReached slots = AllByRecursion (λ s. AllByRecursion (λ p. Reached p.node) s
 -- after any entries, of whatever configuration
 abbrev pub RunsReach : Type 0
 RunsReach = (config : Config) (before : List Entry) → AllReached (state_of config before).slots
+
+-- one more pass of a reached node would change nothing
+abbrev pub ReachedAreCalm : Type 0
+ReachedAreCalm = (n : Node) → Reached n → Calm n
+
+-- of a reached node no more ballot timers have fired than its ballot's counter says
+abbrev pub TimersAreCounted : Type 0
+TimersAreCounted = (n : Node) → Reached n → n.given.fired ≤ counter_of n.votes.ballot
+
+-- the nomination and the ballot statement that a reached node sends are well formed
+abbrev pub SendsWellFormed : Type 0
+SendsWellFormed = (n : Node) → Reached n → IfSome (sent_nomination n.votes) IsWellFormed × IfSome (sent_vote n.votes) IsWellFormed
