@@ -1,17 +1,23 @@
 //! How the ballot's counter rises, and for which counter the ballot timer is armed.
 
-ghost use Rattle.std.specs.Prelude.{◌≡◌, IfOk};
-ghost use Rattle.protocol.specs.Passes.{arm, known_or, raise, raised, raised_value, value_or};
-ghost use Rattle.protocol.specs.Candidates.{combine, greatest_value};
+ghost use Rattle.std.specs.Prelude.{◌≡◌, ◌+◌, ◌-◌, ◌++◌, ◌<◌, IfOk, not, option_to_list};
+ghost use Rattle.types.specs.declared.kind.Kind.{Kind};
+ghost use Rattle.protocol.specs.Views.{passes};
+ghost use Rattle.protocol.specs.Passes.{arm, counts, known_or, raise, raised, raised_value, most_counter, value_or};
+ghost use Rattle.protocol.specs.Candidates.{combine, greatest_value, least_from};
+ghost use Rattle.fedvote.specs.Searching.{counter_by, lesser, next_counter};
 
-use fedvote::Sight;
+use crate::positions::position;
+use fedvote::{Question, Sight};
 use std::alloc::{AllocError, Global};
-use types::{Ballot, Given, Phase, Value, Values, Votes};
+use timers::cap;
+use types::{Ballot, Given, Kind, Phase, Statement, Value, Values, Votes};
 
 /// Raises the ballot to the lowest counter, from its own on, at which those with greater counters do
 /// not block, but not above the cap; its value is chosen anew only where the counter changes (the
 /// Stellar Consensus Protocol draft, of ballot synchronization; the cap is this host's profile).
 /// `ballot` is the node's. An error says that memory is short.
+#[tactic(auto, unfolding(protocol::specs::Passes::raise, protocol::specs::Passes::raised_counter))]
 pub fn raise<S: Sight>(
     alloc: Global,
     sight: &S,
@@ -21,12 +27,101 @@ pub fn raise<S: Sight>(
 ) -> Result<Votes, AllocError>
     ensures { IfOk result (λ w. w ≡ raise (S.seen sight.now) given.now ballot votes) }
 {
-    Err(AllocError)
+    let position = position(&votes);
+    let most = cap(given.fired);
+    let counter = raised_counter(alloc, sight, &position, ballot.counter, most)?;
+    let raised = raised(&votes, ballot, counter);
+    Ok(Votes {
+        ballot: Some(raised),
+        ..votes
+    })
+}
+
+/// The lowest counter from this one on at which those with greater counters do not block, at most the
+/// cap. Between counters that appear nobody's answer changes, so only those are tried.
+fn raised_counter<S: Sight>(
+    alloc: Global,
+    sight: &S,
+    position: &Option<Statement>,
+    from: u32,
+    most: u32,
+) -> Result<u32, AllocError>
+    ensures { IfOk result (λ n. n ≡ least_from (most - from) from (λ k. not ((S.seen sight.now).blocking Kind.Ballot (passes (counts (k + 1)) position.now) (counts (k + 1))))) }
+{
+    let mut number = from;
+    while number < most {
+        if !is_behind(alloc, sight, position, number)? {
+            return Ok(number);
+        }
+        number = match next_counter(sight, position, number) {
+            None => most,
+            Some(next) => next.min(most),
+        };
+    }
+    Ok(number)
+}
+
+/// Whether those with counters above this one block the node's slices.
+fn is_behind<S: Sight>(
+    alloc: Global,
+    sight: &S,
+    position: &Option<Statement>,
+    number: u32,
+) -> Result<bool, AllocError>
+    requires { number < most_counter }
+    ensures { IfOk result (λ b. b ≡ (S.seen sight.now).blocking Kind.Ballot (passes (counts (number + 1)) position.now) (counts (number + 1))) }
+{
+    let question = Question::HasCounter(number + 1);
+    sight.blocking(alloc, Kind::Ballot, question.passes(position), &question)
+}
+
+/// The least counter above this one that the position or a ballot row of a reached sender has.
+#[tactic(auto, unfolding(fedvote::specs::Searching::least_above))]
+fn next_counter<S: Sight>(sight: &S, position: &Option<Statement>, above: u32) -> Option<u32>
+    ensures { result ≡ next_counter above (option_to_list position.now ++ (S.seen sight.now).rows Kind.Ballot) }
+{
+    let next = sight.next_counter(above);
+    match position {
+        None => next,
+        Some(statement) => match counter_by(statement) {
+            None => next,
+            Some(counter) => {
+                if above < counter {
+                    lesser(counter, next)
+                } else {
+                    next
+                }
+            }
+        },
+    }
+}
+
+/// The counter of a ballot statement; that of an EXTERNALIZE counts as infinite.
+fn counter_by(statement: &Statement) -> Option<u32>
+    ensures { result ≡ counter_by statement.now }
+{
+    match statement {
+        Statement::Nominate { .. } | Statement::Externalize { .. } => None,
+        Statement::Prepare { ballot, .. } | Statement::Commit { ballot, .. } => {
+            Some(ballot.counter)
+        }
+    }
+}
+
+/// The lesser of a counter and of what is there.
+fn lesser(counter: u32, other: Option<u32>) -> Option<u32>
+    ensures { result ≡ lesser counter other }
+{
+    match other {
+        None => Some(counter),
+        Some(other) => Some(counter.min(other)),
+    }
 }
 
 /// Arms the ballot timer for the ballot's counter where all members of some quorum that contains the
 /// node have counters of at least that (the Stellar Consensus Protocol draft, of ballot
 /// synchronization). `ballot` is the node's. An error says that memory is short.
+#[tactic(auto, unfolding(protocol::specs::Passes::arm))]
 pub fn arm<S: Sight>(
     alloc: Global,
     sight: &S,
@@ -35,7 +130,16 @@ pub fn arm<S: Sight>(
 ) -> Result<Votes, AllocError>
     ensures { IfOk result (λ w. w ≡ arm (S.seen sight.now) ballot votes) }
 {
-    Err(AllocError)
+    let question = Question::HasCounter(ballot.counter);
+    let own_passes = question.passes(&position(&votes));
+    if sight.quorum(alloc, Kind::Ballot, own_passes, &question)? {
+        Ok(Votes {
+            armed: ballot.counter,
+            ..votes
+        })
+    } else {
+        Ok(votes)
+    }
 }
 
 /// The node's ballot at this counter; its value is chosen anew only where that is another counter: in

@@ -1,0 +1,152 @@
+-- The raise: the lowest counter at which greater counters do not block, found over the counters that appear.
+use Rattle.std.proofs.Common.{◌≡◌, ℕ, zero, suc, ◌+◌, ◌-◌, ◌<◌, ◌≤◌, min, Bool, true, false, not, nat_lt, nat_le, List, [], ◌∷◌, ◌++◌, Option, Some, None, if◌then◌else◌, filter_map, option_to_list, refl, sym, ◌∙◌, subst, ap, inl, inr, ◌⊎◌, arith}
+use Rattle.std.specs.List.{AllByRecursion}
+use Rattle.std.proofs.lemmas.Bool.{cases_Bool, true≢false, false≢true}
+use Rattle.std.proofs.lemmas.Bool.Decides.{nat_tests}
+use Rattle.types.specs.declared.kind.Kind.{Kind}
+use Rattle.types.specs.declared.statement.Statement.{Statement}
+use Rattle.types.specs.declared.statement.Statement.TheVariants.{Nominate, Prepare, Commit, Externalize}
+use Rattle.protocol.specs.Views.{Seen, passes}
+use Rattle.protocol.specs.Passes.{counts}
+use Rattle.protocol.specs.Candidates.{least_from}
+use Rattle.fedvote.specs.Searching.{counter_by, lesser, least_above, next_counter, IsHonest}
+
+-- ---- the least number
+-- a number is the least where all before it fail, and it passes unless it is the last
+pub least_is : (fuel n m : ℕ) (test : ℕ → Bool) → n ≤ m → m ≤ n + fuel → ((k : ℕ) → n ≤ k → k < m → test k ≡ false) → (m < n + fuel → test m ≡ true) → least_from fuel n test ≡ m
+unfolding least_from
+least_is zero n m test low high f h = omega arith
+least_is (suc fuel) n m test low high f h = go (test n) refl (λ k. least_is fuel (n + 1) m test k (omega arith) (λ j a b. f j (omega arith) b) (λ j. h (omega arith)))
+  where
+    at_or_on : (n m : ℕ) → n ≤ m → (n ≡ m) ⊎ (n < m)
+    at_or_on n m h = grind arith
+
+    go : (b : Bool) → test n ≡ b → (n + 1 ≤ m → least_from fuel (n + 1) test ≡ m) → (if b then n else least_from fuel (n + 1) test) ≡ m
+    go true e ih = elim (at_or_on n m low) [ inl q ↦ q | inr q ↦ absurd (true≢false (sym e ∙ f n (omega arith) (omega (arith, q)))) ]
+    go false e ih = elim (at_or_on n m low) [ inl q ↦ absurd (true≢false (sym (h (omega (arith, q))) ∙ ap test (sym q) ∙ e)) | inr q ↦ ih (omega (arith, q)) ]
+
+-- ---- counters that appear
+-- none above n is below m
+abbrev NoneTo : ℕ → ℕ → Option ℕ → Type 0
+NoneTo n m None = Unit {0}
+NoneTo n m (Some k) = m ≤ k
+
+-- between two neighbours the test is the same
+same_count : (n k j : ℕ) → n ≤ k → (nat_lt n j ≡ true → k < j) → nat_le (n + 1) j ≡ nat_le (k + 1) j
+same_count n k j a f = go (nat_lt n j) refl f
+  where
+    go : (b : Bool) → nat_lt n j ≡ b → (b ≡ true → k < j) → nat_le (n + 1) j ≡ nat_le (k + 1) j
+    go true e f = let h : k < j = f refl in grind (arith, nat_tests)
+    go false e f = grind (arith, nat_tests)
+
+split : (n m j : ℕ) (o : Option ℕ) → NoneTo n m (if nat_lt n j then lesser j o else o) → (nat_lt n j ≡ true → m ≤ j) × NoneTo n m o
+split n m j o h = go (nat_lt n j) refl o h
+  where
+    go : (b : Bool) → nat_lt n j ≡ b → (o : Option ℕ) → NoneTo n m (if b then lesser j o else o) → (b ≡ true → m ≤ j) × NoneTo n m o
+    go true e None h = (λ q. h, tt)
+    go true e (Some k) h = (λ q. omega arith, omega arith)
+    go false e o h = (λ q. absurd (false≢true q), h)
+
+-- who counts more than n counts more than k, where no counter lies between
+pub counts_alike : (n m k : ℕ) (ss : List Statement) → n ≤ k → k < m → NoneTo n m (next_counter n ss) → AllByRecursion (λ s. counts (n + 1) s ≡ counts (k + 1) s) ss
+unfolding least_above
+counts_alike n m k [] a b h = tt
+counts_alike n m k (Nominate v w ∷ ss) a b h = (refl, counts_alike n m k ss a b h)
+counts_alike n m k (Prepare x p i j c ∷ ss) a b h = let r = split n m x.counter (next_counter n ss) h in
+    (same_count n k x.counter a (λ e. let q = r.0 e in omega arith), counts_alike n m k ss a b r.1)
+counts_alike n m k (Commit x p i c ∷ ss) a b h = let r = split n m x.counter (next_counter n ss) h in
+    (same_count n k x.counter a (λ e. let q = r.0 e in omega arith), counts_alike n m k ss a b r.1)
+counts_alike n m k (Externalize x i ∷ ss) a b h = (refl, counts_alike n m k ss a b h)
+
+-- the next is above
+next_above : (n : ℕ) (js : List ℕ) (m : ℕ) → least_above n js ≡ Some m → n < m
+unfolding least_above
+next_above n [] m e = cc
+next_above n (j ∷ js) m e = go (nat_lt n j) refl (least_above n js) (λ k q. next_above n js k q) e
+  where
+    go : (b : Bool) → nat_lt n j ≡ b → (p : Option ℕ) → ((k : ℕ) → p ≡ Some k → n < k) → (if b then lesser j p else p) ≡ Some m → n < m
+    go true x None f e = let q : j ≡ m = cc in grind (arith, nat_tests)
+    go true x (Some k) f e = let q : min j k ≡ m = cc in let r = f k refl in grind (arith, nat_tests)
+    go false x p f e = f m e
+
+-- ---- who blocks
+module _ (seen : Seen) (position : Option Statement) where
+  -- those with greater counters block
+  abbrev pub blocks : ℕ → Bool
+  blocks k = seen.blocking Kind.Ballot (passes (counts (k + 1)) position) (counts (k + 1))
+
+  -- the statements with whose counters the answer may change: the node's own and those in the rows
+  abbrev pub heard : List Statement
+  heard = option_to_list position ++ seen.rows Kind.Ballot
+
+-- the position's own test is the same too
+own_alike : (position : Option Statement) (rows : List Statement) (test other : Statement → Bool) → AllByRecursion (λ s. test s ≡ other s) (option_to_list position ++ rows) → (passes test position ≡ passes other position) × AllByRecursion (λ s. test s ≡ other s) rows
+own_alike None rows test other h = (refl, h)
+own_alike (Some s) rows test other h = (h.0, h.1)
+
+-- while greater counters block, they do so up to the next one
+still_blocking : (seen : Seen) → IsHonest seen → (position : Option Statement) (n m k : ℕ) → n ≤ k → k < m → NoneTo n m (next_counter n (heard seen position)) → blocks seen position n ≡ true → blocks seen position k ≡ true
+still_blocking seen honest position n m k a b h e =
+    let r = own_alike position (seen.rows Kind.Ballot) (counts (n + 1)) (counts (k + 1)) (counts_alike n m k (heard seen position) a b h) in
+    sym (honest.blocking Kind.Ballot (passes (counts (k + 1)) position) (counts (n + 1)) (counts (k + 1)) r.1)
+    ∙ subst (λ own. seen.blocking Kind.Ballot own (counts (n + 1)) ≡ true) r.0 e
+
+-- ---- the search
+-- all from the old counter to this one block
+pub record Raised (seen : Seen) (position : Option Statement) (from most n : ℕ) : Type 0 where
+  pub low : from ≤ n
+  pub high : n ≤ from + (most - from)
+  pub block : (k : ℕ) → from ≤ k → k < n → blocks seen position k ≡ true
+
+pub not_raised : (seen : Seen) (position : Option Statement) (from most : ℕ) → Raised seen position from most from
+not_raised seen position from most = record { low = omega arith; high = omega arith; block = λ k a b. absurd (omega arith) }
+
+not_true : (b : Bool) → b ≡ true → not b ≡ false
+not_true b e = rw e refl
+
+not_false : (b : Bool) → b ≡ false → not b ≡ true
+not_false b e = rw e refl
+
+-- where greater counters do not block, or at the cap, the search is over
+pub raised_far : (seen : Seen) (position : Option Statement) (from most n : ℕ) → Raised seen position from most n → (n < most → blocks seen position n ≡ false) → n ≡ least_from (most - from) from (λ k. not (blocks seen position k))
+raised_far seen position from most n r h =
+    sym (least_is (most - from) from n (λ k. not (blocks seen position k)) r.low r.high (λ k a b. not_true _ (r.block k a b)) (λ a. not_false _ (h (omega (arith, r.low, r.high)))))
+
+-- the next number to look at
+abbrev pub next_number : ℕ → Option ℕ → ℕ
+next_number most None = most
+next_number most (Some m) = min m most
+
+none_to : (n most : ℕ) (o : Option ℕ) → NoneTo n (next_number most o) o
+none_to n most None = tt
+none_to n most (Some m) = omega arith
+
+number_low : (n most : ℕ) (o : Option ℕ) → next_number most o ≤ most
+number_low n most None = omega arith
+number_low n most (Some m) = omega arith
+
+number_up : (n most : ℕ) (o : Option ℕ) → n < most → ((m : ℕ) → o ≡ Some m → n < m) → n < next_number most o
+number_up n most None h f = h
+number_up n most (Some m) h f = let q = f m refl in omega arith
+
+-- it is greater
+pub goes_up : (n most : ℕ) (ss : List Statement) → n < most → n < next_number most (next_counter n ss)
+goes_up n most ss h = number_up n most (next_counter n ss) h (λ m e. next_above n (filter_map counter_by ss) m e)
+
+-- and up to it all block
+pub raised_on : (seen : Seen) → IsHonest seen → (position : Option Statement) (from most n : ℕ) → Raised seen position from most n → n < most → blocks seen position n ≡ true → Raised seen position from most (next_number most (next_counter n (heard seen position)))
+raised_on seen honest position from most n r h e =
+    let o = next_counter n (heard seen position) in
+    let u = goes_up n most (heard seen position) h in
+    let w = number_low n most o in
+    record {
+      low = omega (arith, r.low, u);
+      high = omega (arith, r.low, r.high, u, w, h);
+      block = λ k a b. elim (before k n) [
+        | inl q ↦ r.block k a q
+        | inr q ↦ still_blocking seen honest position n (next_number most o) k q b (none_to n most o) e
+      ];
+    }
+  where
+    before : (k n : ℕ) → (k < n) ⊎ (n ≤ k)
+    before k n = grind arith
