@@ -1,7 +1,7 @@
 -- The raise: the lowest counter at which greater counters do not block, found over the counters that appear.
 use Rattle.std.proofs.Common.{◌≡◌, ℕ, zero, suc, ◌+◌, ◌-◌, ◌<◌, ◌≤◌, min, Bool, true, false, not, nat_lt, nat_le, List, [], ◌∷◌, ◌++◌, Option, Some, None, if◌then◌else◌, filter_map, option_to_list, refl, sym, ◌∙◌, subst, ap, inl, inr, ◌⊎◌, arith}
 use Rattle.std.specs.List.{AllByRecursion}
-use Rattle.std.proofs.lemmas.Bool.{cases_Bool, true≢false, false≢true}
+use Rattle.std.proofs.lemmas.Bool.{true≢false, false≢true}
 use Rattle.std.proofs.lemmas.Bool.Decides.{nat_tests}
 use Rattle.types.specs.declared.kind.Kind.{Kind}
 use Rattle.types.specs.declared.statement.Statement.{Statement}
@@ -130,21 +130,21 @@ number_up n most None h f = h
 number_up n most (Some m) h f = let q = f m refl in omega arith
 
 -- it is greater
-pub goes_up : (n most : ℕ) (ss : List Statement) → n < most → n < next_number most (next_counter n ss)
-goes_up n most ss h = number_up n most (next_counter n ss) h (λ m e. next_above n (filter_map counter_by ss) m e)
+pub goes_up : (n most : ℕ) (ss : List Statement) (o : Option ℕ) → o ≡ next_counter n ss → n < most → n < next_number most o
+goes_up n most ss o is h = number_up n most o h (λ m e. next_above n (filter_map counter_by ss) m (sym is ∙ e))
 
 -- and up to it all block
-pub raised_on : (seen : Seen) → IsHonest seen → (position : Option Statement) (from most n : ℕ) → Raised seen position from most n → n < most → blocks seen position n ≡ true → Raised seen position from most (next_number most (next_counter n (heard seen position)))
-raised_on seen honest position from most n r h e =
-    let o = next_counter n (heard seen position) in
-    let u = goes_up n most (heard seen position) h in
+pub raised_on : (seen : Seen) → IsHonest seen → (position : Option Statement) (from most n : ℕ) (o : Option ℕ) → Raised seen position from most n → o ≡ next_counter n (heard seen position) → n < most → blocks seen position n ≡ true → Raised seen position from most (next_number most o)
+raised_on seen honest position from most n o r is h e =
+    let u = goes_up n most (heard seen position) o is h in
     let w = number_low n most o in
+    let none : NoneTo n (next_number most o) (next_counter n (heard seen position)) = subst (λ p. NoneTo n (next_number most o) p) is (none_to n most o) in
     record {
       low = omega (arith, r.low, u);
       high = omega (arith, r.low, r.high, u, w, h);
       block = λ k a b. elim (before k n) [
         | inl q ↦ r.block k a q
-        | inr q ↦ still_blocking seen honest position n (next_number most o) k q b (none_to n most o) e
+        | inr q ↦ still_blocking seen honest position n (next_number most o) k q b none e
       ];
     }
   where

@@ -1,9 +1,9 @@
 //! How the ballot's counter rises, and for which counter the ballot timer is armed.
 
-ghost use Rattle.std.specs.Prelude.{◌≡◌, ◌+◌, ◌-◌, ◌++◌, ◌<◌, IfOk, not, option_to_list};
+ghost use Rattle.std.specs.Prelude.{◌≡◌, ◌+◌, ◌-◌, ◌++◌, IfOk, not, option_to_list};
 ghost use Rattle.types.specs.declared.kind.Kind.{Kind};
 ghost use Rattle.protocol.specs.Views.{passes};
-ghost use Rattle.protocol.specs.Passes.{arm, counts, known_or, raise, raised, raised_value, most_counter, value_or};
+ghost use Rattle.protocol.specs.Passes.{arm, counts, known_or, raise, raised, raised_value, value_or};
 ghost use Rattle.protocol.specs.Candidates.{combine, greatest_value, least_from};
 ghost use Rattle.fedvote.specs.Searching.{counter_by, lesser, next_counter};
 
@@ -50,7 +50,7 @@ fn raised_counter<S: Sight>(
 {
     let mut number = from;
     while number < most {
-        if !is_behind(alloc, sight, position, number)? {
+        if !is_blocked_from(alloc, sight, position, number + 1)? {
             return Ok(number);
         }
         number = match next_counter(sight, position, number) {
@@ -61,17 +61,16 @@ fn raised_counter<S: Sight>(
     Ok(number)
 }
 
-/// Whether those with counters above this one block the node's slices.
-fn is_behind<S: Sight>(
+/// Whether those with counters from this one on block the node's slices.
+fn is_blocked_from<S: Sight>(
     alloc: Global,
     sight: &S,
     position: &Option<Statement>,
-    number: u32,
+    counter: u32,
 ) -> Result<bool, AllocError>
-    requires { number < most_counter }
-    ensures { IfOk result (λ b. b ≡ (S.seen sight.now).blocking Kind.Ballot (passes (counts (number + 1)) position.now) (counts (number + 1))) }
+    ensures { IfOk result (λ b. b ≡ (S.seen sight.now).blocking Kind.Ballot (passes (counts counter) position.now) (counts counter)) }
 {
-    let question = Question::HasCounter(number + 1);
+    let question = Question::HasCounter(counter);
     sight.blocking(alloc, Kind::Ballot, question.passes(position), &question)
 }
 
