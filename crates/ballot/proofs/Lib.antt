@@ -1,1 +1,2 @@
 mod RaiseLaws
+pub mod LowestLaws

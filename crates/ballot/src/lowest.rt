@@ -1,0 +1,31 @@
+//! The least counter of an interval.
+
+ghost use Rattle.std.specs.Prelude.{◌≡◌, IfOk};
+ghost use Rattle.protocol.specs.States.{ballot_at};
+ghost use Rattle.protocol.specs.Candidates.{lowest};
+
+use crate::search::{Candidates, Check};
+use std::alloc::{AllocError, Global};
+use types::Ballot;
+
+/// The least counter among this ballot's and those of the candidates of its value that pass. It tries
+/// them from this ballot down to the last, since one may pass below one that fails. An error says that
+/// memory is short.
+pub(crate) fn lowest_of<C: Candidates, T: Check>(
+    alloc: Global,
+    candidates: &C,
+    test: &T,
+    end: Ballot,
+) -> Result<u32, AllocError>
+    ensures { IfOk result (λ n. n ≡ lowest (λ k. T.holds test.now (ballot_at k end.value)) end.value end.counter (C.listed candidates.now)) }
+{
+    let mut least = end.counter;
+    let mut bound = end;
+    while let Some(next) = candidates.next(Some(bound)) {
+        if next.value == end.value && test.check(alloc, next)? {
+            least = next.counter;
+        }
+        bound = next;
+    }
+    Ok(least)
+}
