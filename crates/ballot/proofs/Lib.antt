@@ -1,2 +1,4 @@
 mod RaiseLaws
+pub mod SearchLaws
+pub mod ChoosingLaws
 pub mod LowestLaws

@@ -7,8 +7,10 @@
 mod committed;
 mod counters;
 mod first;
+mod named;
 mod positions;
 mod prepared;
+mod search;
 
 pub use committed::{accept_commit, confirm_commit};
 pub use counters::{arm, raise, raised};

@@ -1,0 +1,64 @@
+//! The greatest of some candidates that passes a test: they are tried from the greatest down.
+
+ghost use Rattle.std.specs.Prelude.{◌≡◌, Bool, IfOk, List, filter};
+ghost use Rattle.types.specs.declared.ballot.Ballot.{Ballot};
+ghost use Rattle.protocol.specs.Candidates.{greatest};
+ghost use Rattle.fedvote.specs.Searching.{next_under};
+ghost use Rattle.ballot.specs.Choosing.{is_above};
+
+use std::alloc::{AllocError, Global};
+use types::Ballot;
+
+/// Ballots among which a rule chooses; `listed` is what contracts speak of, in no order.
+pub(crate) trait Candidates {
+    ghost listed: { Self → List Ballot };
+
+    /// The greatest candidate below the bound, where there is one. It takes no memory.
+    fn next(&self, bound: Option<Ballot>) -> Option<Ballot>
+        ensures { result ≡ next_under bound (listed self.now) };
+}
+
+/// A test of candidates; `holds` is what contracts speak of.
+pub(crate) trait Check {
+    ghost holds: { Self → Ballot → Bool };
+
+    /// Whether the candidate passes. An error says that memory is short.
+    fn check(&self, alloc: Global, candidate: Ballot) -> Result<bool, AllocError>
+        ensures { IfOk result (λ b. b ≡ holds self.now candidate) };
+}
+
+/// The greatest of the candidates that pass and of the ballot that is there, if one is. None is tried
+/// that is not above that ballot, nor any below the first that passes. An error says that memory is
+/// short.
+pub(crate) fn greatest_of<C: Candidates, T: Check>(
+    alloc: Global,
+    candidates: &C,
+    test: &T,
+    there: Option<Ballot>,
+) -> Result<Option<Ballot>, AllocError>
+    ensures { IfOk result (λ r. r ≡ greatest there (filter (T.holds test.now) (C.listed candidates.now))) }
+{
+    let mut bound = None;
+    loop {
+        let Some(next) = candidates.next(bound) else {
+            return Ok(there);
+        };
+        if !is_above(&there, &next) {
+            return Ok(there);
+        }
+        if test.check(alloc, next)? {
+            return Ok(Some(next));
+        }
+        bound = Some(next);
+    }
+}
+
+/// Whether the ballot is above the one that is there, if one is.
+fn is_above(there: &Option<Ballot>, ballot: &Ballot) -> bool
+    ensures { result ≡ is_above there.now ballot.now }
+{
+    match there {
+        None => true,
+        Some(there) => *there < *ballot,
+    }
+}
