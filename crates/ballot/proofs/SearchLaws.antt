@@ -11,7 +11,7 @@ use Rattle.fedvote.specs.Searching.{is_under, next_under}
 use Rattle.ballot.specs.Choosing.{is_above}
 
 -- of two ballots neither of which is below the other both are one
-same_ballot : (g h : Ballot) → below g h ≡ false → below h g ≡ false → g ≡ h
+pub same_ballot : (g h : Ballot) → below g h ≡ false → below h g ≡ false → g ≡ h
 same_ballot g h a b =
     let c = one_counter g.counter h.counter (not_below-counter h g b) (not_below-counter g h a) in
     let x = one_value g h a b in
@@ -66,14 +66,14 @@ module _ (listed : List Ballot) (holds : Ballot → Bool) where
   ]
 
   -- the next candidate is one of the list under the bound
-  next_in : (bound : Option Ballot) (t : Ballot) → next_under bound listed ≡ Some t → IsIn t (filter (is_under bound) listed)
+  pub next_in : (bound : Option Ballot) (t : Ballot) → next_under bound listed ≡ Some t → IsIn t (filter (is_under bound) listed)
   next_in bound t e = elim (greatest-from None (filter (is_under bound) listed) t e) [
     | inl k ↦ cc
     | inr i ↦ i
   ]
 
   -- and none under the bound is above it
-  next_above : (bound : Option Ballot) (t : Ballot) → next_under bound listed ≡ Some t → (x : Ballot) → IsIn x (filter (is_under bound) listed) → below t x ≡ false
+  pub next_above : (bound : Option Ballot) (t : Ballot) → next_under bound listed ≡ Some t → (x : Ballot) → IsIn x (filter (is_under bound) listed) → below t x ≡ false
   next_above bound t e x i = subst (λ (o : Option Ballot). above o x ≡ false) e (greatest-above None (filter (is_under bound) listed) x i)
 
   pub none_left : (bound there : Option Ballot) → Tried bound → next_under bound listed ≡ None → greatest there (filter holds listed) ≡ there

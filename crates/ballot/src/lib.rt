@@ -7,6 +7,8 @@
 mod committed;
 mod counters;
 mod first;
+mod intervals;
+mod lowest;
 mod named;
 mod positions;
 mod prepared;

@@ -1,14 +1,15 @@
-use Rattle.std.proofs.Common.{◌≡◌, ◌∙◌, sym, true, false}
+use Rattle.std.proofs.Common.{◌∙◌, sym, Some}
 use Rattle.std.proofs.lemmas.Bool.{true≢false}
-use Rattle.ballot.proofs.LowestLaws.{comes_down, least_at_first, least_at_last, least_passes, least_fails}
+use Rattle.ballot.proofs.SearchLaws.{comes_down}
+use Rattle.ballot.proofs.LowestLaws.{least_at_last, least_passes, least_fails}
 use Rattle.ballot.proofs.lowest.lowest_of.Goals as goal
 use Rattle.ballot.proofs.lowest.lowest_of.Goals.{else-eq-via-then-eq+in_ok-check+else-branch, else-eq-via-else-eq}
 
 pub loop-next-smaller-then-branch : goal.loop-next-smaller-then-branch
-loop-next-smaller-then-branch g c = comes_down (g.C.Candidates.listed c.args.candidates.now) c.loop-next.bound c.in-Some.next (sym c.next.ensures ∙ c.in-Some.is)
+loop-next-smaller-then-branch g c = comes_down (g.C.Candidates.listed c.args.candidates.now) (g.T.Check.holds c.args.test.now) (Some c.loop-next.bound) c.in-Some.next (sym c.next.ensures ∙ c.in-Some.is)
 
 pub loop-next-smaller : goal.loop-next-smaller
-loop-next-smaller g c = comes_down (g.C.Candidates.listed c.args.candidates.now) c.loop-next.bound c.in-Some.next (sym c.next.ensures ∙ c.in-Some.is)
+loop-next-smaller g c = comes_down (g.C.Candidates.listed c.args.candidates.now) (g.T.Check.holds c.args.test.now) (Some c.loop-next.bound) c.in-Some.next (sym c.next.ensures ∙ c.in-Some.is)
 
 pub loop-next-preserved-then-branch : goal.loop-next-preserved-then-branch
 loop-next-preserved-then-branch g c = least_passes (g.C.Candidates.listed c.args.candidates.now) (g.T.Check.holds c.args.test.now) c.args.end c.loop-next.bound c.in-Some.next c.loop-next.least c.loop-next.invariant
