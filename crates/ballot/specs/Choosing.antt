@@ -1,5 +1,5 @@
 -- How the greatest of candidates is found one by one.
-use Rattle.std.specs.Prelude.{Bool, true, ◌&&◌, List, [], ◌∷◌, Option, Some, None, if◌then◌else◌}
+use Rattle.std.specs.Prelude.{◌≡◌, Bool, true, false, ◌&&◌, List, [], ◌∷◌, Option, Some, None, if◌then◌else◌}
 use Rattle.types.specs.declared.ballot.Ballot.{Ballot}
 use Rattle.protocol.specs.States.{below}
 use Rattle.protocol.specs.Candidates.{is_counted}
@@ -23,3 +23,8 @@ better best bound t = if is_counted t && is_under bound t then greater best t el
 abbrev pub best_of : Option Ballot → Option Ballot → List Ballot → Option Ballot
 best_of best bound [] = best
 best_of best bound (t ∷ ts) = best_of (better best bound t) bound ts
+
+-- what was there is not above what is there now
+abbrev pub StaysUnder : Option Ballot → Option Ballot → Type 0
+StaysUnder None now = Unit {0}
+StaysUnder (Some old) now = is_above now old ≡ false

@@ -4,6 +4,7 @@
 //! Each rule is one function of what the node sees and of its votes, and gives the votes after it.
 #![tactic(auto)]
 
+mod checks;
 mod committed;
 mod counters;
 mod first;

@@ -1,8 +1,13 @@
 //! What is accepted and confirmed as prepared.
 
-ghost use Rattle.std.specs.Prelude.{◌≡◌, IfOk};
-ghost use Rattle.protocol.specs.Balloting.{accept_prepared, confirm_prepared};
+ghost use Rattle.std.specs.Prelude.{◌≡◌, IfOk, None};
+ghost use Rattle.protocol.specs.Balloting.{aborted_by, accept_prepared, at_least, chosen, cleared, confirm_prepared, follow_high, is_aborted, is_overtaken, raise_high, set_commit};
+ghost use Rattle.ballot.specs.Choosing.{StaysUnder};
 
+use crate::checks::{MayBePrepared, PrepareAccepted, PrepareConfirmed};
+use crate::named::Named;
+use crate::positions::{high_counter, position};
+use crate::search::greatest_of;
 use fedvote::Sight;
 use std::alloc::{AllocError, Global};
 use types::{Ballot, Votes};
@@ -12,6 +17,7 @@ use types::{Ballot, Votes};
 /// highest accepted ballot goes to another value, lower ballots are aborted (the Stellar Consensus
 /// Protocol draft, of the prepare phase; the aborted counter is this host's profile). `ballot` is the
 /// node's. An error says that memory is short.
+#[tactic(auto, unfolding(protocol::specs::Balloting::accept_prepared))]
 pub fn accept_prepared<S: Sight>(
     alloc: Global,
     sight: &S,
@@ -20,13 +26,56 @@ pub fn accept_prepared<S: Sight>(
 ) -> Result<Votes, AllocError>
     ensures { IfOk result (λ w. w ≡ accept_prepared (S.seen sight.now) ballot votes) }
 {
-    Err(AllocError)
+    let own = position(&votes);
+    let named = Named { sight, own: &own };
+    let check = MayBePrepared {
+        accepted: PrepareAccepted { sight, own: &own },
+        phase: votes.phase,
+        value: &ballot.value,
+    };
+    let prepared = greatest_of(alloc, &named, &check, votes.prepared)?;
+    let aborted = aborted_by(&votes.prepared, &prepared, votes.aborted);
+    Ok(Votes {
+        prepared,
+        aborted,
+        ..votes
+    })
+}
+
+/// The aborted counter once the highest accepted ballot is the second one: where that has another value
+/// than the first, the first's counter, and one more where the first has the greater value, so that the
+/// first is aborted too; but never less than before.
+#[tactic(auto, unfolding(protocol::specs::Balloting::aborted_by))]
+fn aborted_by(old: &Option<Ballot>, now: &Option<Ballot>, aborted: u32) -> u32
+    requires { StaysUnder old.now now.now }
+    ensures { result ≡ aborted_by old.now now.now aborted }
+{
+    match old {
+        None => aborted,
+        Some(old) => match now {
+            None => aborted,
+            Some(now) => {
+                if old.value == now.value {
+                    aborted
+                } else {
+                    // Where the first has the greater value, this counter is above its counter.
+                    let _above = now.counter;
+                    aborted.max(if old.value < now.value {
+                        old.counter
+                    } else {
+                        old.counter + 1
+                    })
+                }
+            }
+        },
+    }
 }
 
 /// Confirms as prepared: the highest confirmed ballot, the ballot, which follows it, and the ballot
 /// whose commit is voted for, in this order; for [`types::Phase::Preparing`] (the Stellar Consensus
 /// Protocol draft, of the prepare phase; that the ballot follows is this host's profile). `ballot` is
 /// the node's. An error says that memory is short.
+#[tactic(auto, unfolding(protocol::specs::Balloting::confirm_prepared))]
 pub fn confirm_prepared<S: Sight>(
     alloc: Global,
     sight: &S,
@@ -35,5 +84,103 @@ pub fn confirm_prepared<S: Sight>(
 ) -> Result<Votes, AllocError>
     ensures { IfOk result (λ w. w ≡ confirm_prepared (S.seen sight.now) ballot votes) }
 {
-    Err(AllocError)
+    let votes = raise_high(alloc, sight, votes)?;
+    Ok(set_commit(follow_high(ballot, votes)))
+}
+
+/// The highest confirmed ballot becomes the greatest of itself and the named ballots whose prepare is
+/// confirmed. An error says that memory is short.
+#[tactic(auto, unfolding(protocol::specs::Balloting::raise_high))]
+fn raise_high<S: Sight>(alloc: Global, sight: &S, votes: Votes) -> Result<Votes, AllocError>
+    ensures { IfOk result (λ w. w ≡ raise_high (S.seen sight.now) votes) }
+{
+    let own = position(&votes);
+    let named = Named { sight, own: &own };
+    let check = PrepareConfirmed { sight, own: &own };
+    let high = greatest_of(alloc, &named, &check, votes.high)?;
+    Ok(Votes { high, ..votes })
+}
+
+/// The ballot becomes the highest confirmed one where that is above it.
+#[tactic(auto, unfolding(protocol::specs::Balloting::follow_high))]
+fn follow_high(ballot: Ballot, votes: Votes) -> Votes
+    ensures { result ≡ follow_high ballot votes }
+{
+    let ballot = Some(at_least(&votes.high, &ballot));
+    Votes { ballot, ..votes }
+}
+
+/// The ballot, or the highest confirmed one where that is above it.
+fn at_least(high: &Option<Ballot>, ballot: &Ballot) -> Ballot
+    ensures { result ≡ at_least high.now ballot.now }
+{
+    match high {
+        None => *ballot,
+        Some(high) => { if *ballot < *high { *high } else { *ballot } }
+    }
+}
+
+/// The ballot whose commit is voted for is reset where it is aborted; where there is none, it becomes
+/// the ballot once that is confirmed as prepared and is not aborted.
+#[tactic(auto, unfolding(protocol::specs::Balloting::set_commit))]
+fn set_commit(votes: Votes) -> Votes
+    ensures { result ≡ set_commit votes }
+{
+    let commit = match cleared(&votes) {
+        Some(commit) => Some(commit),
+        None => chosen(&votes),
+    };
+    Votes { commit, ..votes }
+}
+
+/// The ballot whose commit is voted for, unless it is aborted.
+fn cleared(votes: &Votes) -> Option<Ballot>
+    ensures { result ≡ cleared votes.now votes.now.commit }
+{
+    match &votes.commit {
+        None => None,
+        Some(commit) => {
+            if is_aborted(votes, commit) {
+                None
+            } else {
+                Some(*commit)
+            }
+        }
+    }
+}
+
+/// The ballot whose commit is to be voted for where there is none: the node's, once it is confirmed as
+/// prepared and is not aborted.
+fn chosen(votes: &Votes) -> Option<Ballot>
+    ensures { result ≡ chosen votes.now votes.now.ballot None }
+{
+    match votes.ballot {
+        None => None,
+        Some(ballot) => {
+            if high_counter(votes, ballot) == ballot.counter && !is_aborted(votes, &ballot) {
+                Some(ballot)
+            } else {
+                None
+            }
+        }
+    }
+}
+
+/// Whether a ballot is aborted: its counter is below the aborted one, or the highest accepted ballot is
+/// above it and has another value.
+#[tactic(auto, unfolding(protocol::specs::Balloting::is_aborted))]
+pub(crate) fn is_aborted(votes: &Votes, ballot: &Ballot) -> bool
+    ensures { result ≡ is_aborted votes.now ballot.now }
+{
+    is_overtaken(&votes.prepared, ballot) || ballot.counter < votes.aborted
+}
+
+/// Whether the highest accepted ballot is above this one and has another value.
+fn is_overtaken(prepared: &Option<Ballot>, ballot: &Ballot) -> bool
+    ensures { result ≡ is_overtaken prepared.now ballot.now }
+{
+    match prepared {
+        None => false,
+        Some(prepared) => *ballot < *prepared && prepared.value != ballot.value,
+    }
 }

@@ -1,0 +1,6 @@
+use Rattle.protocol.specs.Candidates.{named}
+use Rattle.ballot.proofs.first.greatest_accepted.Goals as goal
+
+pub returns : goal.returns
+unfolding named
+returns g c = simp c.position-own.ensures at c.greatest_of.ensures

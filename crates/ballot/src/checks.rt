@@ -1,0 +1,100 @@
+//! Whether prepare of a ballot is accepted or confirmed, by the node's own position and what it sees.
+
+ghost use Rattle.std.specs.Prelude.{◌≡◌, ◌&&◌, IfOk};
+ghost use Rattle.types.specs.Votes.{accepts_prepare, votes_or_accepts_prepare};
+ghost use Rattle.types.specs.declared.kind.Kind.{Kind};
+ghost use Rattle.protocol.specs.Views.{accepted, confirmed};
+ghost use Rattle.protocol.specs.Balloting.{may_be_prepared};
+
+use crate::search::Check;
+use fedvote::{Question, Sight, is_accepted, is_confirmed};
+use std::alloc::{AllocError, Global};
+use types::{Ballot, Kind, Phase, Statement, Value};
+
+/// Whether prepare of a ballot is accepted.
+#[derive(Drop)]
+pub(crate) struct PrepareAccepted<'a, S> {
+    pub sight: &'a S,
+    pub own: &'a Option<Statement>,
+}
+
+impl<'a, S: Sight> Check for PrepareAccepted<'a, S> {
+    ghost holds = { λ s t. accepted (S.seen s.sight.now) Kind.Ballot s.own.now (λ x. votes_or_accepts_prepare x t) (λ x. accepts_prepare x t) };
+
+    fn check(&self, alloc: Global, candidate: Ballot) -> Result<bool, AllocError> {
+        is_prepare_accepted(alloc, self.sight, self.own, &candidate)
+    }
+}
+
+/// Whether a node in this position accepts prepare of the ballot. An error says that memory is short.
+fn is_prepare_accepted<S: Sight>(
+    alloc: Global,
+    sight: &S,
+    own: &Option<Statement>,
+    ballot: &Ballot,
+) -> Result<bool, AllocError>
+    ensures { IfOk result (λ b. b ≡ accepted (S.seen sight.now) Kind.Ballot own.now (λ s. votes_or_accepts_prepare s ballot.now) (λ s. accepts_prepare s ballot.now)) }
+{
+    let backs = Question::VotesOrAcceptsPrepare(*ballot);
+    let accepts = Question::AcceptsPrepare(*ballot);
+    is_accepted(alloc, sight, Kind::Ballot, own, &backs, &accepts)
+}
+
+/// Whether prepare of a ballot is accepted that may be the highest accepted one: in
+/// [`Phase::Committing`] it must have the node's ballot's value.
+#[derive(Drop)]
+pub(crate) struct MayBePrepared<'a, S> {
+    pub accepted: PrepareAccepted<'a, S>,
+    pub phase: Phase,
+    pub value: &'a Value,
+}
+
+impl<'a, S: Sight> Check for MayBePrepared<'a, S> {
+    ghost holds = { λ s t. may_be_prepared s.phase s.value.now t && accepted (S.seen s.accepted.sight.now) Kind.Ballot s.accepted.own.now (λ x. votes_or_accepts_prepare x t) (λ x. accepts_prepare x t) };
+
+    fn check(&self, alloc: Global, candidate: Ballot) -> Result<bool, AllocError> {
+        if may_be_prepared(self.phase, self.value, &candidate) {
+            self.accepted.check(alloc, candidate)
+        } else {
+            Ok(false)
+        }
+    }
+}
+
+/// Whether a ballot may be the highest accepted one.
+fn may_be_prepared(phase: Phase, value: &Value, ballot: &Ballot) -> bool
+    ensures { result ≡ may_be_prepared phase value.now ballot.now }
+{
+    match phase {
+        Phase::Committing => ballot.value == *value,
+        Phase::Preparing | Phase::Externalized => true,
+    }
+}
+
+/// Whether prepare of a ballot is confirmed.
+#[derive(Drop)]
+pub(crate) struct PrepareConfirmed<'a, S> {
+    pub sight: &'a S,
+    pub own: &'a Option<Statement>,
+}
+
+impl<'a, S: Sight> Check for PrepareConfirmed<'a, S> {
+    ghost holds = { λ s t. confirmed (S.seen s.sight.now) Kind.Ballot s.own.now (λ x. accepts_prepare x t) };
+
+    fn check(&self, alloc: Global, candidate: Ballot) -> Result<bool, AllocError> {
+        is_prepare_confirmed(alloc, self.sight, self.own, &candidate)
+    }
+}
+
+/// Whether a node in this position confirms prepare of the ballot. An error says that memory is short.
+pub(crate) fn is_prepare_confirmed<S: Sight>(
+    alloc: Global,
+    sight: &S,
+    own: &Option<Statement>,
+    ballot: &Ballot,
+) -> Result<bool, AllocError>
+    ensures { IfOk result (λ b. b ≡ confirmed (S.seen sight.now) Kind.Ballot own.now (λ s. accepts_prepare s ballot.now)) }
+{
+    let accepts = Question::AcceptsPrepare(*ballot);
+    is_confirmed(alloc, sight, Kind::Ballot, own, &accepts)
+}
