@@ -2,3 +2,4 @@ mod RaiseLaws
 pub mod SearchLaws
 pub mod ChoosingLaws
 pub mod LowestLaws
+pub mod PreparedLaws

@@ -1,16 +1,14 @@
 -- To try candidates from the greatest down finds the greatest that passes.
-use Rattle.std.proofs.Common.{◌≡◌, ℕ, ◌<◌, ◌≤◌, Bool, true, false, cond, ◌&&◌, ◌||◌, ◌==◌, nat_lt, List, [], ◌∷◌, length, filter, Option, Some, None, refl, sym, ◌∙◌, subst, ap, inl, inr, arith}
+use Rattle.std.proofs.Common.{◌≡◌, ℕ, ◌<◌, ◌≤◌, Bool, true, false, cond, List, [], ◌∷◌, length, filter, Option, Some, None, refl, sym, ◌∙◌, subst, ap, inl, inr, arith}
 use Rattle.std.proofs.lemmas.Bool.{cases_Bool, true≢false}
-use Rattle.std.proofs.lemmas.Bool.Decides.{nat_tests}
-use Rattle.types.specs.Votes.{same_value}
 use Rattle.types.specs.declared.ballot.Ballot.{Ballot}
 use Rattle.protocol.specs.States.{below}
 use Rattle.protocol.specs.Candidates.{greatest}
 use Rattle.protocol.specs.Extremes.{IsIn}
-use Rattle.protocol.proofs.BallotOrder.{less, less-total, below-parts, below-self, below-trans, below-along, not_below-counter, one_value}
-use Rattle.protocol.proofs.Above.{above, greatest-keeps, greatest-above, greatest-still, greatest-from, in-filter, from-filter}
+use Rattle.protocol.proofs.BallotOrder.{below-self, below-trans, below-along, not_below-counter, one_value}
+use Rattle.protocol.proofs.Above.{above, greatest-above, greatest-still, greatest-from, in-filter, from-filter}
 use Rattle.fedvote.specs.Searching.{is_under, next_under}
-use Rattle.ballot.specs.Choosing.{is_above, StaysUnder}
+use Rattle.ballot.specs.Choosing.{is_above}
 
 -- of two ballots neither of which is below the other both are one
 pub same_ballot : (g h : Ballot) → below g h ≡ false → below h g ≡ false → g ≡ h
@@ -110,23 +108,3 @@ module _ (listed : List Ballot) (holds : Ballot → Bool) where
   comes_down bound t e =
       let r = from-filter (is_under bound) t listed (next_in bound t e) in
       fewer_by (is_under (Some t)) (is_under bound) (λ x h. under_along bound t x r.1 h) listed t r.0 r.1 (below-self t)
-
--- a ballot that is there is not given up for a lesser one
-pub never_falls : (old : Option Ballot) (ts : List Ballot) → StaysUnder old (greatest old ts)
-never_falls None ts = tt
-never_falls (Some a) ts = go (greatest (Some a) ts) (greatest-keeps (Some a) ts)
-  where
-    go : (o : Option Ballot) → above o a ≡ false → is_above o a ≡ false
-    go None h = h
-    go (Some b) h = h
-
--- a ballot that takes the place of one with a greater value has a greater counter
-pub counter_above : (old now : Option Ballot) (a b : Ballot) → old ≡ Some a → now ≡ Some b → StaysUnder old now → same_value a.value b.value ≡ false → less a.value b.value ≡ false → a.counter < b.counter
-counter_above old now a b e f u n l = above_from a.counter b.counter (less b.value a.value) (sym (below-parts b a) ∙ stays) (less-total a.value b.value l n)
-  where
-    stays : below b a ≡ false
-    stays = subst (λ (o : Option Ballot). is_above o a ≡ false) f (subst (λ (o : Option Ballot). StaysUnder o now) e u)
-
-    above_from : (m n : ℕ) (l : Bool) → (nat_lt n m || ((n == m) && l)) ≡ false → l ≡ true → m < n
-    above_from m n true h k = grind (arith, nat_tests)
-    above_from m n false h k = absurd (true≢false (sym k))

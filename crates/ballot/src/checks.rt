@@ -95,6 +95,6 @@ pub(crate) fn is_prepare_confirmed<S: Sight>(
 ) -> Result<bool, AllocError>
     ensures { IfOk result (λ b. b ≡ confirmed (S.seen sight.now) Kind.Ballot own.now (λ s. accepts_prepare s ballot.now)) }
 {
-    let accepts = Question::AcceptsPrepare(*ballot);
-    is_confirmed(alloc, sight, Kind::Ballot, own, &accepts)
+    let question = Question::AcceptsPrepare(*ballot);
+    is_confirmed(alloc, sight, Kind::Ballot, own, &question)
 }

@@ -1,6 +1,10 @@
 //! What is accepted and confirmed as prepared.
 
-ghost use Rattle.std.specs.Prelude.{◌≡◌, IfOk, None};
+ghost use Rattle.std.specs.Prelude.{◌≡◌, ◌+◌, IfOk, None, false, if◌then◌else◌};
+ghost use Rattle.std.specs.Ordering.{is_lt};
+ghost use Rattle.types.specs.Orders.{bytes_cmp};
+ghost use Rattle.types.specs.Votes.{same_value};
+ghost use Rattle.protocol.specs.States.{below};
 ghost use Rattle.protocol.specs.Balloting.{aborted_by, accept_prepared, at_least, chosen, cleared, confirm_prepared, follow_high, is_aborted, is_overtaken, raise_high, set_commit};
 ghost use Rattle.ballot.specs.Choosing.{StaysUnder};
 
@@ -42,32 +46,33 @@ pub fn accept_prepared<S: Sight>(
     })
 }
 
-/// The aborted counter once the highest accepted ballot is the second one: where that has another value
-/// than the first, the first's counter, and one more where the first has the greater value, so that the
-/// first is aborted too; but never less than before.
+/// The aborted counter once the highest accepted ballot is the second of these: where its value is
+/// another than before, the first ballot's counter or one more, but never less than the counter was.
 #[tactic(auto, unfolding(protocol::specs::Balloting::aborted_by))]
-fn aborted_by(old: &Option<Ballot>, now: &Option<Ballot>, aborted: u32) -> u32
-    requires { StaysUnder old.now now.now }
-    ensures { result ≡ aborted_by old.now now.now aborted }
+fn aborted_by(old: &Option<Ballot>, new: &Option<Ballot>, aborted: u32) -> u32
+    requires { StaysUnder old.now new.now }
+    ensures { result ≡ aborted_by old.now new.now aborted }
 {
-    match old {
-        None => aborted,
-        Some(old) => match now {
-            None => aborted,
-            Some(now) => {
-                if old.value == now.value {
-                    aborted
-                } else {
-                    // Where the first has the greater value, this counter is above its counter.
-                    let _above = now.counter;
-                    aborted.max(if old.value < now.value {
-                        old.counter
-                    } else {
-                        old.counter + 1
-                    })
-                }
-            }
-        },
+    match (old, new) {
+        (Some(old), Some(new)) if old.value != new.value => aborted.max(first_kept(old, new)),
+        _ => aborted,
+    }
+}
+
+/// The least counter whose ballots are not aborted when this ballot is replaced by one of another value
+/// that is not below it: its own, or the next one where it has the greater value, for then it is aborted
+/// itself.
+fn first_kept(old: &Ballot, new: &Ballot) -> u32
+    requires rises { below new.now old.now ≡ false }
+    requires differ { same_value old.now.value new.now.value ≡ false }
+    ensures { result ≡ (if is_lt (bytes_cmp old.now.value new.now.value) then old.now.counter else old.now.counter + 1) }
+{
+    if old.value < new.value {
+        old.counter
+    } else {
+        // The new one is not below but has the lesser value: its counter is greater.
+        let _greater = new.counter;
+        old.counter + 1
     }
 }
 

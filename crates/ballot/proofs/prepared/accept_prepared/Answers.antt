@@ -3,7 +3,7 @@ use Rattle.types.specs.declared.ballot.Ballot.{Ballot}
 use Rattle.protocol.specs.Candidates.{named}
 use Rattle.protocol.specs.Balloting.{accept_prepared, aborted_by}
 use Rattle.ballot.specs.Choosing.{StaysUnder}
-use Rattle.ballot.proofs.SearchLaws.{never_falls}
+use Rattle.ballot.proofs.PreparedLaws.{never_falls}
 use Rattle.ballot.proofs.prepared.accept_prepared.Goals as goal
 
 pub returns : goal.returns
