@@ -1,2 +1,3 @@
 pub mod VotingLaws
 pub mod TestLaws
+pub mod Bettering

@@ -5,6 +5,7 @@
 //! [`quorum::SlicesOf`]: nothing here knows what the statement is or where the slices come from.
 #![tactic(auto)]
 
+mod candidates;
 mod question;
 mod sight;
 #[cfg(test)]
@@ -12,6 +13,7 @@ mod tests;
 mod votes;
 mod voting;
 
+pub use candidates::{better_committed, better_named};
 pub use question::Question;
 pub use sight::{Sight, is_accepted, is_confirmed};
 pub use votes::Votes;

@@ -16,17 +16,9 @@ pub enum Question {
     /// Whether it accepts that this ballot is prepared.
     AcceptsPrepare(Ballot),
     /// Whether it votes for or accepts commit of the value at all counters of the interval.
-    VotesOrAcceptsCommit {
-        value: Value,
-        low: u32,
-        high: u32,
-    },
+    VotesOrAcceptsCommit { value: Value, low: u32, high: u32 },
     /// Whether it accepts commit of the value at all counters of the interval.
-    AcceptsCommit {
-        value: Value,
-        low: u32,
-        high: u32,
-    },
+    AcceptsCommit { value: Value, low: u32, high: u32 },
     /// Whether it votes for or accepts that this value is nominated.
     VotesOrAcceptsNominate(Value),
     /// Whether it accepts that this value is nominated.

@@ -1,0 +1,48 @@
+-- Ballots that better what is there, one after another, and all at once.
+use Rattle.std.proofs.Common.{◌≡◌, Bool, true, false, cond, List, [], ◌∷◌, ◌++◌, Option, Some, None, filter, if◌then◌else◌, refl, sym, ◌∙◌, ap}
+use Rattle.types.specs.declared.ballot.Ballot.{Ballot}
+use Rattle.protocol.specs.Candidates.{greatest, is_counted}
+use Rattle.protocol.specs.States.{below}
+use Rattle.fedvote.specs.Searching.{is_under, bettered}
+
+-- one ballot more
+pub greatest_then : (best : Option Ballot) (t : Ballot) (ts : List Ballot) → greatest (greatest best (t ∷ [])) ts ≡ greatest best (t ∷ ts)
+unfolding greatest
+greatest_then None t ts = refl
+greatest_then (Some a) t ts = refl
+
+greatest_none : (best : Option Ballot) → greatest best [] ≡ best
+unfolding greatest
+greatest_none None = refl
+greatest_none (Some a) = refl
+
+-- one ballot bettered first
+pub bettered_then : (best bound : Option Ballot) (t : Ballot) (ts : List Ballot) → bettered (bettered best bound (t ∷ [])) bound ts ≡ bettered best bound (t ∷ ts)
+bettered_then best bound t ts = counted (is_counted t)
+  where
+    rest : List Ballot
+    rest = filter (is_under bound) (filter is_counted ts)
+
+    under : (b : Bool) → greatest (greatest best (cond b (t ∷ []) [])) rest ≡ greatest best (cond b (t ∷ rest) rest)
+    under true = greatest_then best t rest
+    under false = ap (λ o. greatest o rest) (greatest_none best)
+
+    counted : (b : Bool) → greatest (greatest best (filter (is_under bound) (cond b (t ∷ []) []))) rest ≡ greatest best (filter (is_under bound) (cond b (t ∷ filter is_counted ts) (filter is_counted ts)))
+    counted true = under (is_under bound t)
+    counted false = ap (λ o. greatest o rest) (greatest_none best)
+
+-- nothing more
+pub bettered_none : (best bound : Option Ballot) → bettered best bound [] ≡ best
+bettered_none best bound = greatest_none best
+
+-- some ballots bettered first
+pub bettered_append : (best bound : Option Ballot) (ts us : List Ballot) → bettered (bettered best bound ts) bound us ≡ bettered best bound (ts ++ us)
+bettered_append best bound [] us = ap (λ o. bettered o bound us) (bettered_none best bound)
+bettered_append best bound (t ∷ ts) us =
+    ap (λ o. bettered o bound us) (sym (bettered_then best bound t ts))
+    ∙ bettered_append (bettered best bound (t ∷ [])) bound ts us
+    ∙ bettered_then best bound t (ts ++ us)
+
+-- one ballot bettered first, as the code has it
+pub one_first : (best bound first last : Option Ballot) (t : Ballot) (ts : List Ballot) → first ≡ bettered best bound (t ∷ []) → last ≡ bettered first bound ts → last ≡ bettered best bound (t ∷ ts)
+one_first best bound first last t ts e h = h ∙ ap (λ o. bettered o bound ts) e ∙ bettered_then best bound t ts

@@ -1,0 +1,142 @@
+//! The ballots that one statement adds to a search.
+
+ghost use Rattle.std.specs.Prelude.{◌≡◌, ◌∷◌, []};
+ghost use Rattle.protocol.specs.Candidates.{committed_by, greatest, is_counted, named_by};
+ghost use Rattle.protocol.specs.States.{ballot_at};
+ghost use Rattle.fedvote.specs.Searching.{bettered, is_under};
+
+use types::{Ballot, Statement};
+
+/// The greatest of the best ballot so far and of those that the statement names, below the bound and
+/// with a counter from 1 on (the Stellar Consensus Protocol draft, of the ballot protocol). It takes no
+/// memory.
+#[tactic(auto, using(crate::proofs::Bettering::bettered_then, crate::proofs::Bettering::bettered_none))]
+pub fn better_named(
+    best: Option<Ballot>,
+    bound: Option<Ballot>,
+    statement: &Statement,
+) -> Option<Ballot>
+    ensures { result ≡ bettered best bound (named_by statement.now) }
+{
+    match statement {
+        Statement::Nominate { .. } => best,
+        Statement::Prepare {
+            ballot,
+            prepared,
+            ..
+        } => {
+            let best = better(best, &bound, *ballot);
+            match prepared {
+                None => best,
+                Some(prepared) => better(best, &bound, *prepared),
+            }
+        }
+        Statement::Commit {
+            ballot,
+            prepared_counter,
+            high_counter,
+            ..
+        } => {
+            let best = better(best, &bound, *ballot);
+            better_ends(best, &bound, ballot, *prepared_counter, *high_counter)
+        }
+        Statement::Externalize {
+            commit,
+            high_counter,
+        } => {
+            let best = better(best, &bound, *commit);
+            better(best, &bound, ballot_at(commit, *high_counter))
+        }
+    }
+}
+
+/// The greatest of the best ballot so far and of those at the counters at which the statement speaks of
+/// commit, below the bound and with a counter from 1 on (the Stellar Consensus Protocol draft, of the
+/// ballot protocol). It takes no memory.
+#[tactic(auto, using(crate::proofs::Bettering::bettered_then, crate::proofs::Bettering::bettered_none))]
+pub fn better_committed(
+    best: Option<Ballot>,
+    bound: Option<Ballot>,
+    statement: &Statement,
+) -> Option<Ballot>
+    ensures { result ≡ bettered best bound (committed_by statement.now) }
+{
+    match statement {
+        Statement::Nominate { .. } => best,
+        Statement::Prepare {
+            ballot,
+            high_counter,
+            commit_counter,
+            ..
+        } => better_ends(best, &bound, ballot, *commit_counter, *high_counter),
+        Statement::Commit {
+            ballot,
+            high_counter,
+            commit_counter,
+            ..
+        } => better_ends(best, &bound, ballot, *commit_counter, *high_counter),
+        Statement::Externalize {
+            commit,
+            high_counter,
+        } => {
+            let best = better(best, &bound, *commit);
+            better(best, &bound, ballot_at(commit, *high_counter))
+        }
+    }
+}
+
+/// The greatest of the best ballot so far and of the two at these counters, with the ballot's value.
+#[tactic(auto, using(crate::proofs::Bettering::bettered_then, crate::proofs::Bettering::bettered_none))]
+fn better_ends(
+    best: Option<Ballot>,
+    bound: &Option<Ballot>,
+    ballot: &Ballot,
+    low: u32,
+    high: u32,
+) -> Option<Ballot>
+    ensures { result ≡ bettered best bound.now (ballot_at low ballot.now.value ∷ ballot_at high ballot.now.value ∷ []) }
+{
+    let best = better(best, bound, ballot_at(ballot, low));
+    better(best, bound, ballot_at(ballot, high))
+}
+
+/// The ballot at this counter, with the value of that one.
+fn ballot_at(ballot: &Ballot, counter: u32) -> Ballot
+    ensures { result ≡ ballot_at counter ballot.now.value }
+{
+    Ballot {
+        counter,
+        value: ballot.value,
+    }
+}
+
+/// The greatest of the best ballot so far and of this one, where it is below the bound and its counter
+/// is from 1 on.
+#[tactic(auto, unfolding(protocol::specs::Candidates::greatest))]
+fn better(best: Option<Ballot>, bound: &Option<Ballot>, ballot: Ballot) -> Option<Ballot>
+    ensures { result ≡ bettered best bound.now (ballot ∷ []) }
+{
+    if ballot.counter == 0 || !is_under(bound, &ballot) {
+        return best;
+    }
+    match best {
+        None => Some(ballot),
+        Some(old) => {
+            if old < ballot {
+                Some(ballot)
+            } else {
+                Some(old)
+            }
+        }
+    }
+}
+
+/// Whether the ballot is below the bound, where there is one.
+fn is_under(bound: &Option<Ballot>, ballot: &Ballot) -> bool
+    ensures { result ≡ is_under bound.now ballot.now }
+{
+    match bound {
+        None => true,
+        Some(bound) => ballot < bound,
+    }
+}
