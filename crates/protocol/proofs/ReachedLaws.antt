@@ -1,5 +1,5 @@
 -- Nodes that events lead to: calm, with no counter below the timers that have fired, and what they send is well formed.
-use Rattle.std.proofs.Common.{◌≡◌, ℕ, zero, suc, ◌+◌, ◌≤◌, Bool, true, false, not, ◌&&◌, ◌==◌, nat_lt, [], Option, Some, None, if◌then◌else◌, is_some, refl, subst, arith}
+use Rattle.std.proofs.Common.{◌≡◌, ℕ, zero, suc, ◌+◌, ◌≤◌, Bool, true, false, not, ◌&&◌, ◌==◌, nat_lt, [], Option, Some, None, if◌then◌else◌, is_some, option_map, refl, subst, arith}
 use Rattle.std.specs.Prelude.{IfSome}
 use Rattle.std.proofs.lemmas.Bool.{and_parts, false≢true}
 use Rattle.types.specs.Trees.{Slices}
@@ -12,7 +12,7 @@ use Rattle.protocol.specs.Rows.{with_row, is_taken}
 use Rattle.protocol.specs.Views.{seen}
 use Rattle.protocol.specs.States.{counter_of, sent_vote, sent_nomination}
 use Rattle.protocol.specs.Sameness.{same_votes}
-use Rattle.protocol.specs.Passes.{most_counter}
+use Rattle.protocol.specs.Timers.{is_counter, most_counter}
 use Rattle.protocol.specs.Nodes.{Node, fresh, passed, settle, change, settled, after_change, step, bumped, in_round, timed_out, is_externalized, is_counter_live, Calm}
 use Rattle.protocol.specs.Limits.{Reached, ReachedAreCalm, TimersAreCounted, SendsWellFormed}
 use Rattle.protocol.specs.Limits.Reached.{begin, next}
@@ -51,12 +51,15 @@ change-lawful n (Take e) h = if_node-if IsLawful (is_taken n.table e) (record n 
 change-lawful n (NominationTimer r) h = if_node-if IsLawful _ (in_round n (r + 1)) h
 change-lawful n (BallotTimer c) h = go (is_counter_live n c) refl
   where
+    counted : (o : Option Ballot) → is_counter (option_map (λ (b : Ballot). b.counter) o) c ≡ true → is_some o ≡ true
+    counted None e = absurd (false≢true e)
+    counted (Some b) e = refl
+
     has_ballot : is_counter_live n c ≡ true → is_some n.votes.ballot ≡ true
     has_ballot live =
-        let p = and_parts (not (is_externalized n.votes.phase) && is_some n.votes.ballot && (c == n.votes.armed) && (c == counter_of n.votes.ballot)) (nat_lt c most_counter) live in
-        let q = and_parts (not (is_externalized n.votes.phase) && is_some n.votes.ballot && (c == n.votes.armed)) (c == counter_of n.votes.ballot) p.0 in
-        let r = and_parts (not (is_externalized n.votes.phase) && is_some n.votes.ballot) (c == n.votes.armed) q.0 in
-        (and_parts (not (is_externalized n.votes.phase)) (is_some n.votes.ballot) r.0).1
+        let of_ballot = is_counter (option_map (λ (b : Ballot). b.counter) n.votes.ballot) c in
+        let p = and_parts (not (is_externalized n.votes.phase) && (c == n.votes.armed) && of_ballot) (nat_lt c most_counter) live in
+        counted n.votes.ballot (and_parts (not (is_externalized n.votes.phase) && (c == n.votes.armed)) of_ballot p.0).1
 
     go : (b : Bool) → is_counter_live n c ≡ b → if_node IsLawful (if b then Some (timed_out n) else None)
     go true live = timed_out-lawful n n.votes.ballot refl (has_ballot live) h

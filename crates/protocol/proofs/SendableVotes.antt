@@ -14,7 +14,8 @@ use Rattle.protocol.specs.States.{below, ballot_at, counter_of, position}
 use Rattle.protocol.specs.Candidates.{combine, commits, filled, all_with, as_set, greatest, lowest, named}
 use Rattle.protocol.specs.Nominating.{nominate}
 use Rattle.protocol.specs.Balloting.{started, start, accept_prepared, at_least, raise_high, follow_high, set_commit, confirm_prepared, is_accepted, is_confirmed, is_aborted, commit_accepted, commit_confirmed, accepted_from, first_committed, next_committed, enter_commit, widen_commit, accept_commit, confirmed_commit, externalize, confirm_commit}
-use Rattle.protocol.specs.Passes.{cap, counts, raised_value, raised, raised_counter, raise, arm, with_ballot, on_ballot, while_preparing, in_prepare, while_open, unless_over, voting, counting, pass_rules, pass}
+use Rattle.protocol.specs.Timers.{cap}
+use Rattle.protocol.specs.Passes.{counts, raised_value, raised, raised_counter, raise, arm, with_ballot, on_ballot, while_preparing, in_prepare, while_open, unless_over, voting, counting, pass_rules, pass}
 use Rattle.protocol.specs.Extremes.{IsIn}
 use Rattle.protocol.proofs.Above.{Under, greatest-from, from-filter, least_from-low, lowest-low}
 use Rattle.protocol.proofs.BallotOrder.{below-self, below-parts, below-counter, not_below-counter, less}

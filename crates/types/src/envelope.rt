@@ -1,7 +1,7 @@
 //! A statement with its sender.
 
 ghost use Rattle.std.specs.Prelude.{◌≡◌, ◌↔◌, IsSome, IfSome, IfOk};
-ghost use Rattle.types.specs.Statements.{IsWellFormed, HasWidths, IsEnvelope, Sent};
+ghost use Rattle.types.specs.Statements.{IsWellFormed, IsEnvelope, Sent};
 
 use crate::nested::Nested;
 use crate::node_id::NodeId;
@@ -35,10 +35,10 @@ impl Model for Envelope {
 impl Envelope {
     /// An envelope whose statement is known to be well formed.
     pub fn of(sender: NodeId, slot: u64, slices: Nested, body: Statement) -> Envelope
-        requires widths { HasWidths body }
-        requires rules { IsWellFormed body }
+        requires { IsWellFormed body }
         ensures { result ≡ record { sender = sender; slot = slot; slices = slices; body = body } }
     {
+        read_widths(&body);
         Envelope {
             sender,
             slot,
@@ -55,7 +55,6 @@ impl Envelope {
         if !body.is_well_formed() {
             return None;
         }
-        read_widths(&body);
         Some(Envelope::of(sender, slot, slices, body))
     }
 
