@@ -4,6 +4,8 @@
 //! Each rule is one function of what the node sees and of its votes, and gives the votes after it.
 #![tactic(auto)]
 
+mod choosing;
 mod rules;
+mod voting;
 
 pub use rules::nominate;

@@ -1,0 +1,2 @@
+pub mod ValueSets
+pub mod Chosen

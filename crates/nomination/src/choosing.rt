@@ -1,0 +1,54 @@
+//! Choosing values from a list, and adding them to a set.
+
+ghost use Rattle.std.specs.Prelude.{◌≡◌, List, ℕ, Bool, IfOk, filter, take};
+ghost use Rattle.protocol.specs.Candidates.{all_with};
+
+use std::alloc::{AllocError, Global};
+use types::{Value, Values};
+
+/// A test of values.
+pub trait ValueTest {
+    ghost passes: { Self → List ℕ → Bool };
+
+    /// Whether the value passes. An error says that memory is short.
+    fn test(&self, alloc: Global, value: &Value) -> Result<bool, AllocError>
+        ensures { IfOk result (λ b. b ≡ passes self.now value.now) };
+}
+
+/// The first of the values that pass, in their order, and at most so many; once there are as many, no
+/// other is tested. An error says that memory is short.
+pub fn choose<T: ValueTest>(
+    alloc: Global,
+    values: &[Value],
+    most: usize,
+    test: &T,
+) -> Result<Values, AllocError>
+    ensures { IfOk result (λ v. v ≡ take most (filter (T.passes test.now) values.now)) }
+{
+    let mut chosen = Values::empty(alloc);
+    let mut room = most;
+    for value in values {
+        if room == 0 {
+            return Ok(chosen);
+        }
+        if test.test(alloc, value)? {
+            chosen.push(*value)?;
+            room -= 1;
+        }
+    }
+    Ok(chosen)
+}
+
+/// A set with these values too. An error says that memory is short.
+pub fn with_all(set: Values, values: &[Value]) -> Result<Values, AllocError>
+    ensures { IfOk result (λ v. v ≡ all_with values.now set) }
+{
+    match values {
+        [] => Ok(set),
+        [first, rest @ ..] => {
+            let mut set = with_all(set, rest)?;
+            set.insert(*first)?;
+            Ok(set)
+        }
+    }
+}
