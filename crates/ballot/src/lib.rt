@@ -14,9 +14,11 @@ mod named;
 mod positions;
 mod prepared;
 mod search;
+mod sent;
 
 pub use committed::{accept_commit, confirm_commit};
 pub use counters::{arm, raise, raised};
 pub use first::start;
 pub use positions::position;
 pub use prepared::{accept_prepared, confirm_prepared};
+pub use sent::sent_vote;
