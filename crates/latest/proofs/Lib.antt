@@ -1,3 +1,4 @@
 pub mod Searches
 pub mod Indexes
 pub mod Tabled
+pub mod WaysBack

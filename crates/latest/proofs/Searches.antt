@@ -1,11 +1,11 @@
 -- What a search in an index finds, and what a place that is noted makes of it.
 use Rattle.std.proofs.Common.{◌≡◌, ◌≢◌, ℕ, zero, suc, ◌+◌, ◌<◌, ◌≤◌, Bool, true, false, cond, ltb, List, [], ◌∷◌, length, get_or, set, None, Ok, Err, if◌then◌else◌, refl, sym, ◌∙◌, ap, arith, subst}
-use Rattle.std.specs.List.{list_all, prefix_len, insert}
+use Rattle.std.specs.List.{list_all, prefix_len, insert, remove}
 use Rattle.std.specs.List.Sorted.{IsNonDecreasingBy}
 use Rattle.std.proofs.lemmas.Bool.{and_parts, and_from, ltb-true, ltb-false, lt-ltb, eq-eqb, ne_eqb}
 use Rattle.types.specs.declared.kind.Kind.{Kind}
 use Rattle.latest.specs.declared.places.Places.{Places}
-use Rattle.latest.specs.Places.{IsSearched, ascends, found, noted, place_in, only_place, with_place}
+use Rattle.latest.specs.Places.{IsSearched, ascends, forgotten, found, is_vacant, noted, place_in, only_place, with_place, without_place}
 
 -- ---- how many are below
 abbrev pub below : ℕ → Places → Bool
@@ -104,6 +104,49 @@ noted-new (p ∷ ps) u k n i e s = go i (below u p) refl (prefix-split u p ps i 
     go zero false h e s ih = let m : p.sender ≢ u = s p (omega arith) in rw (h, ne_eqb p.sender u m) refl
     go (suc j) false h e s ih = absurd (omega arith)
 
+-- ---- forgotten
+-- what is above all is not among them
+forgotten-above : (u : ℕ) (k : Kind) (ps : List Places) → list_all (λ q. ltb u q.sender) ps ≡ true → forgotten ps u k ≡ ps
+forgotten-above u k [] h = refl
+forgotten-above u k (p ∷ ps) h =
+    let a = and_parts (ltb u p.sender) (list_all (λ q. ltb u q.sender) ps) h in
+    let l : u < p.sender = ltb-true u p.sender a.0 in
+    rw (ne_eqb p.sender u (λ e. omega arith)) (ap (λ qs. p ∷ qs) (forgotten-above u k ps a.1))
+
+pub forgotten-nowhere : (ps : List Places) (u : ℕ) (k : Kind) (i : ℕ) → ascends ps ≡ true → i ≡ prefix_len (below u) ps → ((d : Places) → i < length ps → (get_or ps i d).sender ≢ u) → forgotten ps u k ≡ ps
+forgotten-nowhere [] u k i a e s = refl
+forgotten-nowhere (p ∷ ps) u k i a e s =
+    let parts = and_parts (list_all (λ q. ltb p.sender q.sender) ps) (ascends ps) a in
+    go i (below u p) refl (prefix-split u p ps i e (below u p) refl) s parts.0 (λ j. forgotten-nowhere ps u k j parts.1)
+  where
+    go : (i : ℕ) (b : Bool) → below u p ≡ b → i ≡ cond b (1 + prefix_len (below u) ps) 0 → ((d : Places) → i < length (p ∷ ps) → (get_or (p ∷ ps) i d).sender ≢ u) → list_all (λ q. ltb p.sender q.sender) ps ≡ true → ((j : ℕ) → j ≡ prefix_len (below u) ps → ((d : Places) → j < length ps → (get_or ps j d).sender ≢ u) → forgotten ps u k ≡ ps) → forgotten (p ∷ ps) u k ≡ p ∷ ps
+    go zero true h e s a ih = absurd (omega arith)
+    go (suc j) true h e s a ih =
+        let m : p.sender < u = ltb-true p.sender u h in
+        rw (ne_eqb p.sender u (λ q. omega arith)) (ap (λ qs. p ∷ qs) (ih j (omega arith) (λ d l. s d (omega arith))))
+    go zero false h e s a ih =
+        let n : p.sender ≢ u = s p (omega arith) in
+        let m : u ≤ p.sender = ltb-false p.sender u h in
+        rw (ne_eqb p.sender u n) (ap (λ qs. p ∷ qs) (forgotten-above u k ps (above-further u p.sender (omega arith) ps a)))
+    go (suc j) false h e s a ih = absurd (omega arith)
+
+pub forgotten-found : (ps : List Places) (u : ℕ) (k : Kind) (i : ℕ) (d : Places) → i ≡ prefix_len (below u) ps → i < length ps → (get_or ps i d).sender ≡ u → forgotten ps u k ≡ (if is_vacant (without_place (get_or ps i d) k) then remove ps i else set ps i (without_place (get_or ps i d) k))
+forgotten-found [] u k i d e l s = absurd (omega arith)
+forgotten-found (p ∷ ps) u k i d e l s = go i (below u p) refl (prefix-split u p ps i e (below u p) refl) l s (λ j. forgotten-found ps u k j d)
+  where
+    pushed : (b : Bool) (xs ys : List Places) → p ∷ (if b then xs else ys) ≡ (if b then p ∷ xs else p ∷ ys)
+    pushed true xs ys = refl
+    pushed false xs ys = refl
+
+    go : (i : ℕ) (b : Bool) → below u p ≡ b → i ≡ cond b (1 + prefix_len (below u) ps) 0 → i < length (p ∷ ps) → (get_or (p ∷ ps) i d).sender ≡ u → ((j : ℕ) → j ≡ prefix_len (below u) ps → j < length ps → (get_or ps j d).sender ≡ u → forgotten ps u k ≡ (if is_vacant (without_place (get_or ps j d) k) then remove ps j else set ps j (without_place (get_or ps j d) k))) → forgotten (p ∷ ps) u k ≡ (if is_vacant (without_place (get_or (p ∷ ps) i d) k) then remove (p ∷ ps) i else set (p ∷ ps) i (without_place (get_or (p ∷ ps) i d) k))
+    go zero true h e l s ih = absurd (omega arith)
+    go (suc j) true h e l s ih =
+        let m : p.sender < u = ltb-true p.sender u h in
+        ap (λ b. if b then (if is_vacant (without_place p k) then ps else without_place p k ∷ ps) else p ∷ forgotten ps u k) (ne_eqb p.sender u (λ q. omega arith))
+        ∙ (ap (λ qs. p ∷ qs) (ih j (omega arith) (omega arith) s) ∙ pushed (is_vacant (without_place (get_or ps j d) k)) (remove ps j) (set ps j (without_place (get_or ps j d) k)))
+    go zero false h e l s ih = ap (λ b. if b then (if is_vacant (without_place p k) then ps else without_place p k ∷ ps) else p ∷ forgotten ps u k) (eq-eqb p.sender u s)
+    go (suc j) false h e l s ih = absurd (omega arith)
+
 -- ---- as the code reads them
 pub found-read : (ps : List Places) (u : ℕ) (k : Kind) (i : ℕ) (x : Places) → IsSearched ps u (Ok i) → x ≡ get_or ps i x → found ps u k ≡ place_in x k
 found-read ps u k i x s e = found-at ps u k i x s.0 s.1 (s.2 x) ∙ ap (λ p. place_in p k) (sym e)
@@ -117,3 +160,20 @@ pub noted-inserted : (ps qs zs : List Places) (u : ℕ) (k : Kind) (n i : ℕ) (
 noted-inserted ps qs zs u k n i x q h e f =
     let s : IsSearched ps u (Err i) = subst (λ ys. IsSearched ys u (Err i)) q h in
     f ∙ (ap (insert ps i) e ∙ sym (noted-new ps u k n i s.0 s.2))
+
+-- what is left of the index, by what is left of the sender's places
+left-read : (ps qs : List Places) (u : ℕ) (k : Kind) (i : ℕ) (x y : Places) (b : Bool) → qs ≡ ps → IsSearched qs u (Ok i) → x ≡ get_or ps i x → y ≡ without_place x k → is_vacant y ≡ b → forgotten ps u k ≡ (if b then remove ps i else set ps i y)
+left-read ps qs u k i x y b q h e f v =
+    let s : IsSearched ps u (Ok i) = subst (λ zs. IsSearched zs u (Ok i)) q h in
+    let same : without_place (get_or ps i x) k ≡ y = sym (f ∙ ap (λ p. without_place p k) e) in
+    forgotten-found ps u k i x s.0 s.1 (s.2 x) ∙ (ap (λ z. if is_vacant z then remove ps i else set ps i z) same ∙ ap (λ c. if c then remove ps i else set ps i y) v)
+
+pub forgotten-removed : (ps qs zs : List Places) (u : ℕ) (k : Kind) (i : ℕ) (x y : Places) → qs ≡ ps → IsSearched qs u (Ok i) → x ≡ get_or ps i x → y ≡ without_place x k → is_vacant y ≡ true → zs ≡ remove ps i → zs ≡ forgotten ps u k
+forgotten-removed ps qs zs u k i x y q h e f v r = r ∙ sym (left-read ps qs u k i x y true q h e f v)
+
+pub forgotten-set : (ps qs : List Places) (u : ℕ) (k : Kind) (i : ℕ) (x y : Places) → qs ≡ ps → IsSearched qs u (Ok i) → x ≡ get_or ps i x → y ≡ without_place x k → is_vacant y ≡ false → set ps i y ≡ forgotten ps u k
+forgotten-set ps qs u k i x y q h e f v = sym (left-read ps qs u k i x y false q h e f v)
+
+pub forgotten-kept : (ps qs : List Places) (u : ℕ) (k : Kind) (i : ℕ) → ascends ps ≡ true → qs ≡ ps → IsSearched qs u (Err i) → ps ≡ forgotten ps u k
+forgotten-kept ps qs u k i a q h =
+    let s : IsSearched ps u (Err i) = subst (λ zs. IsSearched zs u (Err i)) q h in sym (forgotten-nowhere ps u k i a s.0 s.2)

@@ -12,7 +12,9 @@ use Rattle.protocol.specs.Rows.{has_single_rows, is_row_of, row, with_row, repla
 use Rattle.protocol.proofs.Tables.{single-with, table_after-push}
 use Rattle.latest.specs.declared.table.Offer.{Offer}
 use Rattle.latest.specs.declared.table.Offer.TheVariants.{Replaced, Stale, NoMemory}
+use Rattle.latest.specs.declared.table.Put.{Put}
 use Rattle.latest.specs.declared.places.Places.{Places}
+use Rattle.latest.specs.Puts.{IsPut, offer_of}
 use Rattle.latest.specs.Senders.{senders}
 use Rattle.latest.specs.Places.{IsIndexed, ascends, found, index_of, noted, place_of, places_of}
 use Rattle.latest.proofs.Indexes.{place-within, place-nowhere, index-ascends, found-index, index-push, index-set, with_row-set, with_row-push}
@@ -54,6 +56,10 @@ row-nowhere rows u k h = place-nowhere (is_row_of u k) rows h
 pub taken-placed : (rows : List Sent) (e : Sent) (i : ℕ) (x : Sent) → place_of rows e.sender (kind_of e.body) ≡ Some i → x ≡ get_or rows i x → is_taken rows e ≡ is_newer e.body x.body
 unfolding is_taken
 taken-placed rows e i x h s = ap (replaces e) (row-placed rows e.sender (kind_of e.body) i x h s)
+
+taken-first : (rows : List Sent) (e : Sent) → row rows e.sender (kind_of e.body) ≡ None → is_taken rows e ≡ true
+unfolding is_taken
+taken-first rows e h = ap (replaces e) h
 
 pub taken-nowhere : (rows : List Sent) (e : Sent) → place_of rows e.sender (kind_of e.body) ≡ None → is_taken rows e ≡ true
 unfolding is_taken
@@ -121,22 +127,36 @@ push-read rows now more index noted_index e u k n h r p a b c d f =
 abbrev pub IsAnswer : List Sent → Sent → Offer → List Sent → Type 0
 IsAnswer old e Replaced new = (is_taken old e ≡ true) × (new ≡ with_row e old)
 IsAnswer old e Stale new = (is_taken old e ≡ false) × (new ≡ old)
-IsAnswer old e NoMemory new = (place_of old e.sender (kind_of e.body) ≡ None) × (new ≡ old)
+IsAnswer old e NoMemory new = (row old e.sender (kind_of e.body) ≡ None) × (new ≡ old)
+
+pub put-answer : (old : List Sent) (e : Sent) (put : Put) (o : Offer) (new : List Sent) → IsPut old e put new → o ≡ offer_of put → IsAnswer old e o new
+put-answer old e put o new h q = subst (λ x. IsAnswer old e x new) (sym q) (go put h)
+  where
+    go : (put : Put) → IsPut old e put new → IsAnswer old e (offer_of put) new
+    go Put.Stale h = h
+    go Put.NoMemory h = h
+    go Put.Added h = (h.1, h.2)
+    go (Put.Replaced r) h = (h.1, h.2)
 
 pub answer-stale : (old : List Sent) (e : Sent) (o : Offer) (new : List Sent) → IsAnswer old e o new → (o ≡ Stale) ↔ (is_taken old e ≡ false)
 answer-stale old e Replaced new h = (λ s. cc, λ f. absurd (true≢false (sym h.0 ∙ f)))
 answer-stale old e Stale new h = (λ s. h.0, λ f. refl)
-answer-stale old e NoMemory new h = (λ s. cc, λ f. absurd (true≢false (sym (taken-nowhere old e h.0) ∙ f)))
+answer-stale old e NoMemory new h = (λ s. cc, λ f. absurd (true≢false (sym (taken-first old e h.0) ∙ f)))
 
 pub answer-table : (old : List Sent) (e : Sent) (o : Offer) (new : List Sent) → IsAnswer old e o new → o ≢ NoMemory → new ≡ offered old e
 answer-table old e Replaced new h n = h.1 ∙ sym (offered-taken old e h.0)
 answer-table old e Stale new h n = h.1 ∙ sym (offered-stale old e h.0)
 answer-table old e NoMemory new h n = absurd (n refl)
 
+pub answer-unchanged : (old : List Sent) (e : Sent) (o : Offer) (new : List Sent) → IsAnswer old e o new → o ≢ Replaced → new ≡ old
+answer-unchanged old e Replaced new h n = absurd (n refl)
+answer-unchanged old e Stale new h n = h.1
+answer-unchanged old e NoMemory new h n = h.1
+
 pub answer-memory : (old : List Sent) (e : Sent) (o : Offer) (new : List Sent) → IsAnswer old e o new → o ≡ NoMemory → row old e.sender (kind_of e.body) ≡ None
 answer-memory old e Replaced new h m = cc
 answer-memory old e Stale new h m = cc
-answer-memory old e NoMemory new h m = row-nowhere old e.sender (kind_of e.body) h.0
+answer-memory old e NoMemory new h m = h.0
 
 pub answer-whole : (old : List Sent) (e : Sent) (o : Offer) (new : List Sent) → IsAnswer old e o new → (taken : List Sent) → old ≡ table_after taken → o ≢ NoMemory → new ≡ table_after (taken ++ e ∷ [])
 answer-whole old e o new h taken t n = answer-table old e o new h n ∙ (ap (λ es. offered es e) t ∙ sym (table_after-push taken e))

@@ -1,5 +1,5 @@
 -- Where in a list of rows the rows of a sender stand.
-use Rattle.std.specs.Prelude.{◌≡◌, ◌≢◌, ◌<◌, ◌≤◌, ℕ, suc, length, slice_index_or, Result, Ok, Err, Bool, true, List, [], ◌∷◌, ◌==◌, ◌&&◌, nat_lt, cond, map, Option, Some, None, option_map, if◌then◌else◌}
+use Rattle.std.specs.Prelude.{◌≡◌, ◌≢◌, ◌<◌, ◌≤◌, ℕ, suc, length, slice_index_or, Result, Ok, Err, Bool, true, List, [], ◌∷◌, ◌==◌, ◌&&◌, nat_lt, cond, map, Option, Some, None, is_none, option_map, if◌then◌else◌}
 use Rattle.std.specs.List.{list_all, prefix_len}
 use Rattle.types.specs.declared.kind.Kind.{Kind}
 use Rattle.types.specs.declared.kind.Kind.TheVariants.{Nomination}
@@ -61,6 +61,20 @@ found (p ∷ ps) u k = if p.sender == u then place_in p k else found ps u k
 abbrev pub noted : List Places → ℕ → Kind → ℕ → List Places
 noted [] u k n = only_place u k n ∷ []
 noted (p ∷ ps) u k n = if nat_lt p.sender u then p ∷ noted ps u k n else (if p.sender == u then with_place p k n ∷ ps else only_place u k n ∷ p ∷ ps)
+
+-- ---- one place less
+abbrev pub without_place : Places → Kind → Places
+without_place p Nomination = record p { nomination = None }
+without_place p Kind.Ballot = record p { ballot = None }
+
+-- the sender has no row
+abbrev pub is_vacant : Places → Bool
+is_vacant p = is_none p.nomination && is_none p.ballot
+
+-- an index without the place of a sender's row of a kind; a sender that has no other row leaves it
+abbrev pub forgotten : List Places → ℕ → Kind → List Places
+forgotten [] u k = []
+forgotten (p ∷ ps) u k = if p.sender == u then (if is_vacant (without_place p k) then ps else without_place p k ∷ ps) else p ∷ forgotten ps u k
 
 -- rows with their index
 pub record IsIndexed (rows : List Sent) (index : List Places) : Type 0 where

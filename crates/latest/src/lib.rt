@@ -8,7 +8,7 @@ mod table;
 
 pub use newer::is_newer;
 pub use senders::senders_are_those_with_a_row;
-pub use table::{Offer, Table};
+pub use table::{Offer, Put, Table};
 
 #[cfg(test)]
 mod tests;

@@ -2,7 +2,7 @@
 
 ghost use Rattle.std.specs.Prelude.{◌≡◌, ◌≤◌, length, nat_lt, true, OnOk, OnErr};
 ghost use Rattle.latest.specs.declared.places.Places.{Places};
-ghost use Rattle.latest.specs.Places.{IsSearched, ascends, count_below, found, noted, only_place, place_in, with_place};
+ghost use Rattle.latest.specs.Places.{IsSearched, ascends, count_below, forgotten, found, is_vacant, noted, only_place, place_in, with_place, without_place};
 
 use std::alloc::AllocError;
 use types::{Kind, NodeId};
@@ -52,6 +52,29 @@ impl Places {
                 ..self
             },
         }
+    }
+
+    /// The same with no place for the row of a kind.
+    pub fn without_place(self, kind: Kind) -> Places
+        ensures { result ≡ without_place self kind }
+    {
+        match kind {
+            Kind::Nomination => Places {
+                nomination: None,
+                ..self
+            },
+            Kind::Ballot => Places {
+                ballot: None,
+                ..self
+            },
+        }
+    }
+
+    /// Whether the sender has no row.
+    fn is_vacant(&self) -> bool
+        ensures { result ≡ is_vacant self.now }
+    {
+        self.nomination.is_none() && self.ballot.is_none()
     }
 }
 
@@ -111,4 +134,19 @@ pub fn note(
         Err(at) => index.insert(at, Places::only(sender, kind, place))?,
     }
     Ok(())
+}
+
+/// Forgets the place of a row, and its sender where it has no other. It takes no memory.
+pub fn forget(index: &mut Vec<Places>, sender: &NodeId, kind: Kind)
+    requires { ascends index.old.items ≡ true }
+    ensures { index.new.items ≡ forgotten index.old.items sender.now kind }
+{
+    if let Ok(at) = search(index, sender) {
+        let places = index[at].without_place(kind);
+        if places.is_vacant() {
+            let _ = index.remove(at);
+        } else {
+            index[at] = places;
+        }
+    }
 }

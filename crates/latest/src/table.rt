@@ -1,15 +1,17 @@
 //! The table of newest rows.
 
 ghost use Rattle.std.specs.Prelude.{◌≡◌, ◌≢◌, ◌↔◌, ◌++◌, ◌∷◌, [], ◌<◌, List, IfOk, IfSome, OnErr, OnOk, IsTrue, None, Some, false, length, option_map, slice_get, true, vec_capacity, vec_len};
-ghost use Rattle.latest.specs.Places.{place_of};
+ghost use Rattle.latest.specs.Places.{ascends, forgotten, place_of};
+ghost use Rattle.latest.specs.Puts.{IsPut, offer_of, undone, with_known_row, without_last};
 ghost use Rattle.latest.specs.Senders.{senders};
 ghost use Rattle.protocol.specs.Rows.{has_single_rows, is_row_of, is_taken, offered, row, table_after, with_row};
 ghost use Rattle.types.specs.Statements.{Sent, kind_of};
 
 use crate::newer::is_newer;
-use crate::places::{Places, find, note};
+use crate::places::{Places, find, forget, note};
 use std::alloc::{AllocError, Global};
 use std::marker::Model;
+use std::mem;
 use types::{Envelope, Kind, NodeId};
 
 /// What a table made of an envelope.
@@ -21,6 +23,32 @@ pub enum Offer {
     Stale,
     /// There was no memory for a first row, and the table is as it was.
     NoMemory,
+}
+
+/// What a table made of an envelope, by which [`Table::undo`] leads back.
+#[derive(Drop)]
+pub enum Put {
+    /// It was not newer, and the table is as it was.
+    Stale,
+    /// There was no memory for a first row, and the table is as it was.
+    NoMemory,
+    /// It is its sender's first row of its kind, and the last of all.
+    Added,
+    /// It stands in the place of this row, than which it is newer.
+    Replaced(Envelope),
+}
+
+impl Put {
+    /// The answer without the way back.
+    fn offer(&self) -> Offer
+        ensures { result ≡ offer_of self.now }
+    {
+        match self {
+            Put::Stale => Offer::Stale,
+            Put::NoMemory => Offer::NoMemory,
+            Put::Added | Put::Replaced(_) => Offer::Replaced,
+        }
+    }
 }
 
 /// The newest envelopes of all senders: one row of each sender and kind (this host's profile).
@@ -73,16 +101,37 @@ impl Table {
         ensures memory { result ≡ Offer.NoMemory → row self.old envelope.sender (kind_of envelope.body) ≡ None }
         ensures whole { (taken : List Sent) → self.old ≡ table_after taken → result ≢ Offer.NoMemory → self.new ≡ table_after (taken ++ envelope ∷ []) }
     {
+        self.put(envelope).offer()
+    }
+
+    /// Takes an envelope as [`Table::offer`] does, and answers what leads back: for a step that may
+    /// still fail after it.
+    ///
+    /// It is stale exactly where it is not newer. Memory is asked for only where its sender has no row
+    /// of its kind.
+    pub fn put(&mut self, envelope: Envelope) -> Put
+        ensures put { IsPut self.old envelope result self.new }
+        ensures back { undone result self.new ≡ self.old }
+    {
         match self.place(envelope.sender(), envelope.body().kind()) {
-            Some(place) if !self.is_newer_than_row(place, &envelope) => Offer::Stale,
-            Some(place) => {
-                self.replace(place, envelope);
-                Offer::Replaced
-            }
+            Some(place) if !self.is_newer_than_row(place, &envelope) => Put::Stale,
+            Some(place) => Put::Replaced(self.replace(place, envelope)),
             None => match self.add(envelope) {
-                Ok(()) => Offer::Replaced,
-                Err(_) => Offer::NoMemory,
+                Ok(()) => Put::Added,
+                Err(_) => Put::NoMemory,
             },
+        }
+    }
+
+    /// Undoes what [`Table::put`] made of an envelope. It takes no memory, and cannot fail. Where the
+    /// table is as that call left it, it is then as it was before that call.
+    pub fn undo(&mut self, put: Put)
+        ensures { self.new ≡ undone put self.old }
+    {
+        match put {
+            Put::Stale | Put::NoMemory => {}
+            Put::Added => self.remove_last(),
+            Put::Replaced(row) => self.restore(row),
         }
     }
 
@@ -162,13 +211,32 @@ impl Table {
         is_newer(envelope.body(), self.rows[place].body())
     }
 
-    /// Puts an envelope in the place of its sender's row of its kind.
-    fn replace(&mut self, place: usize, envelope: Envelope)
+    /// Puts an envelope in the place of its sender's row of its kind, and answers that row.
+    fn replace(&mut self, place: usize, envelope: Envelope) -> Envelope
         requires within { place < length self.old }
         requires row { place_of self.old envelope.sender (kind_of envelope.body) ≡ Some place }
-        ensures { self.new ≡ with_row envelope self.old }
+        ensures table { self.new ≡ with_row envelope self.old }
+        ensures row { row self.old envelope.sender (kind_of envelope.body) ≡ Some result }
     {
-        self.rows[place] = envelope;
+        mem::replace(&mut self.rows[place], envelope)
+    }
+
+    /// Puts a row back in the place of its sender's row of its kind, where there is one.
+    fn restore(&mut self, row: Envelope)
+        ensures { self.new ≡ with_known_row row self.old }
+    {
+        if let Some(place) = self.place(row.sender(), row.body().kind()) {
+            let _ = self.replace(place, row);
+        }
+    }
+
+    /// Removes the last row, where there is one.
+    fn remove_last(&mut self)
+        ensures { self.new ≡ without_last self.old }
+    {
+        if let Some(row) = self.rows.pop() {
+            forget_row(&mut self.index, row);
+        }
     }
 
     /// Adds an envelope whose sender has no row of its kind. Where memory is wanting the table stays
@@ -186,6 +254,14 @@ impl Table {
         push_reserved(&mut self.rows, envelope);
         Ok(())
     }
+}
+
+/// Forgets the place of a row that is gone.
+fn forget_row(index: &mut Vec<Places>, row: Envelope)
+    requires { ascends index.old.items ≡ true }
+    ensures { index.new.items ≡ forgotten index.old.items row.sender (kind_of row.body) }
+{
+    forget(index, row.sender(), row.body().kind());
 }
 
 /// Adds an envelope where there is room for it.

@@ -1,6 +1,6 @@
 //! Offers and what a table holds after them.
 
-use crate::{Offer, Table, is_newer};
+use crate::{Offer, Put, Table, is_newer};
 use std::alloc::Global;
 use std::test::Fail;
 use types::{Ballot, Envelope, Kind, Member, Nested, NodeId, SliceSet, Statement, Value, Values};
@@ -136,6 +136,45 @@ fn senders_ascend(rt: HostRuntime) -> Result<(), Fail> {
             assert_eq!(rt; counter(&copy, sender), u32::try_from(sender).ok());
         }
         assert!(rt; copy.sender(4).is_none());
+    }
+    Ok(())
+}
+
+// Puts an envelope, undoes that, and says whether the rows that were there are there again.
+fn comes_back(
+    alloc: Global,
+    table: &mut Table,
+    sender: u64,
+    body: Statement,
+) -> Result<bool, Fail> {
+    let senders = table.sender_count();
+    let rows = table.len();
+    let old = counter(table, sender);
+    let put = table.put(envelope(alloc, sender, body)?);
+    table.undo(put);
+    Ok(table.sender_count() == senders && table.len() == rows && counter(table, sender) == old)
+}
+
+#[test]
+fn a_put_is_undone(rt: HostRuntime) -> Result<(), Fail> {
+    let alloc = rt.alloc();
+    let mut table = Table::new(alloc);
+    for sender in [5, 9, 2] {
+        assert!(rt; comes_back(alloc, &mut table, sender, prepare(3, b'x', None, 0)?)?);
+        let put = table.put(envelope(alloc, sender, prepare(3, b'x', None, 0)?)?);
+        assert!(rt; matches!(put, Put::Added));
+    }
+    assert!(rt; comes_back(alloc, &mut table, 9, nominate(alloc, b'x')?)?);
+    assert!(rt; comes_back(alloc, &mut table, 9, prepare(4, b'x', None, 0)?)?);
+    assert!(rt; comes_back(alloc, &mut table, 9, prepare(1, b'x', None, 0)?)?);
+    assert!(rt; table.row(&name(9), Kind::Nomination).is_none());
+    let put = table.put(envelope(alloc, 9, prepare(4, b'x', None, 0)?)?);
+    assert!(rt; matches!(&put, Put::Replaced(row) if *row.sender() == name(9)));
+    let put = table.put(envelope(alloc, 9, prepare(4, b'x', None, 0)?)?);
+    assert!(rt; matches!(put, Put::Stale));
+    assert_eq!(rt; counter(&table, 9), Some(4));
+    for (place, sender) in [2, 5, 9].into_iter().enumerate() {
+        assert_eq!(rt; table.sender(place).copied(), Some(name(sender)));
     }
     Ok(())
 }
