@@ -77,8 +77,8 @@ fn next_committed<S: Sight>(
     let test = WidensCommit {
         sight,
         own: &own,
-        value: ballot.value,
-        end: votes.hi,
+        value: &ballot.value,
+        hi: votes.hi,
     };
     greatest_of(alloc, &candidates, &test, None)
 }
@@ -222,7 +222,7 @@ fn confirmed_commit<S: Sight>(
     let test = CommitConfirmed {
         sight,
         own: &own,
-        value: ballot.value,
+        value: &ballot.value,
     };
     greatest_of(alloc, &candidates, &test, None)
 }

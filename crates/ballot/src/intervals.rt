@@ -7,42 +7,53 @@ ghost use Rattle.protocol.specs.Views.{confirmed};
 ghost use Rattle.protocol.specs.Balloting.{is_aborted};
 ghost use Rattle.ballot.specs.Intervals.{interval_accepted, interval_confirmed};
 
+use crate::checks::is_prepare_confirmed;
 use crate::prepared::is_aborted;
 use crate::search::Check;
 use fedvote::{Question, Sight, is_accepted, is_confirmed};
 use std::alloc::{AllocError, Global};
 use types::{Ballot, Kind, Statement, Value, Votes};
 
-/// Whether commit of the value is accepted on the whole interval, ends included. An error says that
-/// memory is short.
+/// Whether a node in this position accepts commit of the ballot's value on the whole interval from its
+/// counter to the high end, both included. An error says that memory is short.
 fn is_interval_accepted<S: Sight>(
     alloc: Global,
     sight: &S,
     own: &Option<Statement>,
-    value: Value,
-    low: u32,
+    low: &Ballot,
     high: u32,
 ) -> Result<bool, AllocError>
-    ensures { IfOk result (λ b. b ≡ interval_accepted (S.seen sight.now) own.now value low high) }
+    ensures { IfOk result (λ b. b ≡ interval_accepted (S.seen sight.now) own.now low.now.value low.now.counter high) }
 {
-    let backs = Question::VotesOrAcceptsCommit { value, low, high };
-    let accepts = Question::AcceptsCommit { value, low, high };
+    let backs = Question::VotesOrAcceptsCommit {
+        value: low.value,
+        low: low.counter,
+        high,
+    };
+    let accepts = Question::AcceptsCommit {
+        value: low.value,
+        low: low.counter,
+        high,
+    };
     is_accepted(alloc, sight, Kind::Ballot, own, &backs, &accepts)
 }
 
-/// Whether commit of the value is confirmed on the whole interval, ends included. An error says that
-/// memory is short.
+/// Whether a node in this position confirms commit of the ballot's value on the whole interval from its
+/// counter to the high end, both included. An error says that memory is short.
 fn is_interval_confirmed<S: Sight>(
     alloc: Global,
     sight: &S,
     own: &Option<Statement>,
-    value: Value,
-    low: u32,
+    low: &Ballot,
     high: u32,
 ) -> Result<bool, AllocError>
-    ensures { IfOk result (λ b. b ≡ interval_confirmed (S.seen sight.now) own.now value low high) }
+    ensures { IfOk result (λ b. b ≡ interval_confirmed (S.seen sight.now) own.now low.now.value low.now.counter high) }
 {
-    let accepts = Question::AcceptsCommit { value, low, high };
+    let accepts = Question::AcceptsCommit {
+        value: low.value,
+        low: low.counter,
+        high,
+    };
     is_confirmed(alloc, sight, Kind::Ballot, own, &accepts)
 }
 
@@ -58,8 +69,7 @@ impl<'a, S: Sight> Check for AcceptedUpTo<'a, S> {
     ghost holds = { λ s t. interval_accepted (S.seen s.sight.now) s.own.now t.value t.counter s.high };
 
     fn check(&self, alloc: Global, candidate: Ballot) -> Result<bool, AllocError> {
-        let Ballot { counter, value } = candidate;
-        is_interval_accepted(alloc, self.sight, self.own, value, counter, self.high)
+        is_interval_accepted(alloc, self.sight, self.own, &candidate, self.high)
     }
 }
 
@@ -75,13 +85,12 @@ impl<'a, S: Sight> Check for ConfirmedUpTo<'a, S> {
     ghost holds = { λ s t. interval_confirmed (S.seen s.sight.now) s.own.now t.value t.counter s.high };
 
     fn check(&self, alloc: Global, candidate: Ballot) -> Result<bool, AllocError> {
-        let Ballot { counter, value } = candidate;
-        is_interval_confirmed(alloc, self.sight, self.own, value, counter, self.high)
+        is_interval_confirmed(alloc, self.sight, self.own, &candidate, self.high)
     }
 }
 
-/// Whether the candidate is accepted as committed, confirmed as prepared and not aborted: such a one
-/// begins the interval.
+/// Whether the candidate is accepted as committed, confirmed as prepared and not aborted, so that the
+/// interval may end there when the phase becomes [`types::Phase::Committing`].
 #[derive(Drop)]
 pub(crate) struct EntersCommit<'a, S> {
     pub sight: &'a S,
@@ -90,59 +99,58 @@ pub(crate) struct EntersCommit<'a, S> {
 }
 
 impl<'a, S: Sight> Check for EntersCommit<'a, S> {
-    ghost holds = { λ s t. interval_accepted (S.seen s.sight.now) s.own.now t.value t.counter t.counter && confirmed (S.seen s.sight.now) Kind.Ballot s.own.now (λ p. accepts_prepare p t) && not (is_aborted s.votes.now t) };
+    ghost holds = { λ s t. interval_accepted (S.seen s.sight.now) s.own.now t.value t.counter t.counter && confirmed (S.seen s.sight.now) Kind.Ballot s.own.now (λ x. accepts_prepare x t) && not (is_aborted s.votes.now t) };
 
     fn check(&self, alloc: Global, candidate: Ballot) -> Result<bool, AllocError> {
-        let Ballot { counter, value } = candidate;
         if is_aborted(self.votes, &candidate) {
             return Ok(false);
         }
-        let accepts_prepare = Question::AcceptsPrepare(candidate);
+        let end = candidate.counter;
         Ok(
-            is_interval_accepted(alloc, self.sight, self.own, value, counter, counter)?
-                && is_confirmed(alloc, self.sight, Kind::Ballot, self.own, &accepts_prepare)?,
+            is_interval_accepted(alloc, self.sight, self.own, &candidate, end)?
+                && is_prepare_confirmed(alloc, self.sight, self.own, &candidate)?,
         )
     }
 }
 
-/// Whether the candidate is of the value, above the end of the interval, and accepted as committed: such
-/// a one is a new end of it.
+/// Whether the candidate is of the ballot's value, above the interval, and accepted as committed, so that
+/// the interval may end there.
 #[derive(Drop)]
 pub(crate) struct WidensCommit<'a, S> {
     pub sight: &'a S,
     pub own: &'a Option<Statement>,
-    pub value: Value,
-    pub end: u32,
+    pub value: &'a Value,
+    pub hi: u32,
 }
 
 impl<'a, S: Sight> Check for WidensCommit<'a, S> {
-    ghost holds = { λ s t. same_value t.value s.value && nat_lt s.end t.counter && interval_accepted (S.seen s.sight.now) s.own.now t.value t.counter t.counter };
+    ghost holds = { λ s t. same_value t.value s.value.now && nat_lt s.hi t.counter && interval_accepted (S.seen s.sight.now) s.own.now t.value t.counter t.counter };
 
     fn check(&self, alloc: Global, candidate: Ballot) -> Result<bool, AllocError> {
-        let Ballot { counter, value } = candidate;
-        if value == self.value && self.end < counter {
-            is_interval_accepted(alloc, self.sight, self.own, value, counter, counter)
+        let end = candidate.counter;
+        if candidate.value == *self.value && self.hi < end {
+            is_interval_accepted(alloc, self.sight, self.own, &candidate, end)
         } else {
             Ok(false)
         }
     }
 }
 
-/// Whether the candidate is of the value and confirmed as committed.
+/// Whether the candidate is of the ballot's value and confirmed as committed.
 #[derive(Drop)]
 pub(crate) struct CommitConfirmed<'a, S> {
     pub sight: &'a S,
     pub own: &'a Option<Statement>,
-    pub value: Value,
+    pub value: &'a Value,
 }
 
 impl<'a, S: Sight> Check for CommitConfirmed<'a, S> {
-    ghost holds = { λ s t. same_value t.value s.value && interval_confirmed (S.seen s.sight.now) s.own.now t.value t.counter t.counter };
+    ghost holds = { λ s t. same_value t.value s.value.now && interval_confirmed (S.seen s.sight.now) s.own.now t.value t.counter t.counter };
 
     fn check(&self, alloc: Global, candidate: Ballot) -> Result<bool, AllocError> {
-        let Ballot { counter, value } = candidate;
-        if value == self.value {
-            is_interval_confirmed(alloc, self.sight, self.own, value, counter, counter)
+        let end = candidate.counter;
+        if candidate.value == *self.value {
+            is_interval_confirmed(alloc, self.sight, self.own, &candidate, end)
         } else {
             Ok(false)
         }
