@@ -1,0 +1,30 @@
+-- One of so many passes, as the loop makes it.
+use Rattle.std.proofs.Common.{◌≡◌, ℕ, suc, ◌+◌, ◌-◌, ◌<◌, Bool, true, false, Option, Some, None, ⊥, if◌then◌else◌, refl, sym, ap, subst, ◌∙◌, inl, inr, arith}
+use Rattle.std.proofs.lemmas.Bool.{cases_Bool}
+use Rattle.types.specs.declared.state.Votes.{Votes}
+use Rattle.protocol.specs.Nodes.{settle}
+use Rattle.protocol.specs.Sameness.{same_votes}
+use Rattle.protocol.proofs.SamenessLaws.{same_votes-refl, same_votes-true}
+
+one : (n : ℕ) (f : Votes → Votes) (w : Votes) → settle (suc n) f w ≡ (if same_votes (f w) w then Some w else settle n f (f w))
+unfolding settle
+one n f w = refl
+
+settle-step : (i : ℕ) (f : Votes → Votes) (w : Votes) → i < 64 → settle (64 - i) f w ≡ (if same_votes (f w) w then Some w else settle (64 - (i + 1)) f (f w))
+settle-step i f w h = subst (λ n. settle n f w ≡ (if same_votes (f w) w then Some w else settle (64 - (i + 1)) f (f w))) (omega arith) (one (64 - (i + 1)) f w)
+
+-- a pass that changes nothing is the last
+pub settle-same : (i : ℕ) (f : Votes → Votes) (w : Votes) → i < 64 → f w ≡ w → settle (64 - i) f w ≡ Some w
+settle-same i f w h e = let same : same_votes (f w) w ≡ true = ap (λ (u : Votes). same_votes u w) e ∙ same_votes-refl w in settle-step i f w h ∙ rw same refl
+
+-- after every other pass those that are left go on
+pub settle-other : (i : ℕ) (f : Votes → Votes) (w : Votes) → i < 64 → (f w ≡ w → ⊥) → settle (64 - i) f w ≡ settle (64 - (i + 1)) f (f w)
+settle-other i f w h other = elim (cases_Bool (same_votes (f w) w)) [
+  | inl e ↦ absurd (other (same_votes-true (f w) w e))
+  | inr e ↦ settle-step i f w h ∙ rw e refl
+]
+
+-- no pass is left
+pub settle-end : (f : Votes → Votes) (w : Votes) → settle (64 - 64) f w ≡ None
+unfolding settle
+settle-end f w = refl

@@ -1,0 +1,9 @@
+//! One node at one slot: its events, the passes after each of them, and what it gives out (the Stellar
+//! Consensus Protocol draft; the order of the rules and the limit of passes are this host's profile).
+#![tactic(auto)]
+
+mod passing;
+mod settling;
+
+pub use passing::pass;
+pub use settling::settle;

@@ -1,0 +1,37 @@
+//! Passes, until one changes nothing.
+
+ghost use Rattle.std.specs.Prelude.{◌≡◌, IfOk, IfSome};
+ghost use Rattle.protocol.specs.Nodes.{settle};
+ghost use Rattle.protocol.specs.Passes.{pass};
+
+use crate::passing::pass;
+use fedvote::Sight;
+use std::alloc::{AllocError, Global};
+use types::{Given, NodeId, Votes};
+
+/// How many passes are tried after an event; none needs more than four.
+const MOST_PASSES: u32 = 64;
+
+/// The votes after passes, until one changes nothing; `None` where each of 64 changes something, which
+/// no event of a node makes (the limit is this host's profile). An error says that memory is short.
+pub fn settle<S: Sight>(
+    alloc: Global,
+    own: &NodeId,
+    sight: &S,
+    given: &Given,
+    votes: Votes,
+) -> Result<Option<Votes>, AllocError>
+    ensures value { IfOk result (λ o. o ≡ settle 64 (pass own.now (S.seen sight.now) given.now) votes) }
+    ensures calm { IfOk result (λ o. IfSome o (λ w. pass own.now (S.seen sight.now) given.now w ≡ w)) }
+{
+    let mut settled = votes;
+    for number in 0..MOST_PASSES {
+        let copy = settled.try_copy(alloc)?;
+        let next = pass(alloc, own, sight, given, copy)?;
+        if next.is_same(&settled) {
+            return Ok(Some(settled));
+        }
+        settled = next;
+    }
+    Ok(None)
+}
