@@ -2,8 +2,11 @@
 //! Consensus Protocol draft; the order of the rules and the limit of passes are this host's profile).
 #![tactic(auto)]
 
+mod configured;
+mod node;
 mod passing;
 mod settling;
 
+pub use node::Node;
 pub use passing::pass;
 pub use settling::settle;

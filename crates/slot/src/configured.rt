@@ -1,0 +1,27 @@
+//! What a node has from its beginning.
+
+ghost use Rattle.std.specs.Prelude.{◌≡◌, IfOk};
+
+use std::alloc::{AllocError, Global};
+use types::{Nested, NodeId};
+
+/// Who a node is, and at which slot: no event changes it.
+#[derive(Drop)]
+pub(crate) struct Configured {
+    pub name: NodeId,
+    pub slot: u64,
+    pub slices: Nested,
+}
+
+impl Configured {
+    /// A copy. An error says that memory is short.
+    pub(crate) fn try_copy(&self, alloc: Global) -> Result<Configured, AllocError>
+        ensures { IfOk result (λ c. c ≡ self.now) }
+    {
+        Ok(Configured {
+            name: self.name,
+            slot: self.slot,
+            slices: self.slices.try_copy(alloc)?,
+        })
+    }
+}
