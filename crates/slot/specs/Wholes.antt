@@ -1,11 +1,34 @@
 -- A node of the definitions, from the parts of the one here.
-use Rattle.std.specs.Prelude.{List}
-use Rattle.types.specs.Statements.{Sent}
+use Rattle.std.specs.Prelude.{◌≡◌, ℕ, ◌++◌, ◌∷◌, [], List, Option, Some, None, IfSome, if◌then◌else◌}
+use Rattle.types.specs.Statements.{Sent, IsWellFormed}
+use Rattle.types.specs.declared.event.Out.{Out}
+use Rattle.types.specs.declared.event.Out.TheVariants.{Emit}
 use Rattle.types.specs.declared.state.Given.{Given}
 use Rattle.types.specs.declared.state.Votes.{Votes}
+use Rattle.types.specs.declared.statement.Statement.{Statement}
+use Rattle.protocol.specs.Leaders.{leader}
+use Rattle.protocol.specs.Sameness.{same_sent}
+use Rattle.protocol.specs.States.{sent_nomination, sent_vote}
 use Rattle.protocol.specs.Nodes.{Node}
 use Rattle.slot.specs.declared.configured.Configured.{Configured}
 
 -- what is configured, what events gave, what the rules made, and the table
 abbrev pub whole : Configured → Given → Votes → List Sent → Node
 whole c given votes table = record { name = c.name; slot = c.slot; slices = c.slices; given = given; votes = votes; table = table }
+
+-- what is given as a round begins with its leader
+abbrev pub led : Configured → Given → ℕ → Given
+led c given round = record given { round = round; leaders = given.leaders ++ leader c.slot round c.name c.slices ∷ [] }
+
+-- a statement as the node sends it
+abbrev pub sent_by : Configured → Statement → Sent
+sent_by c statement = record { sender = c.name; slot = c.slot; slices = c.slices; body = statement }
+
+-- what the node emits where one statement would have been sent before and another is now
+abbrev pub emitted_by : Configured → Option Statement → Option Statement → List Out
+emitted_by c old None = []
+emitted_by c old (Some s) = if same_sent old (Some s) then [] else Emit (sent_by c s) ∷ []
+
+-- what these votes send is well formed
+abbrev pub SendWellFormed : Votes → Type 0
+SendWellFormed w = IfSome (sent_nomination w) IsWellFormed × IfSome (sent_vote w) IsWellFormed

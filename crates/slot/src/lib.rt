@@ -4,7 +4,9 @@
 
 mod configured;
 mod node;
+mod outs;
 mod passing;
+mod sent;
 mod settling;
 
 pub use node::Node;

@@ -37,3 +37,16 @@ impl Ballot {
         self.counter == other.counter && self.value.is_same(&other.value)
     }
 }
+
+/// Whether both are there and the same, or neither is.
+pub(crate) fn is_same(one: &Option<Ballot>, other: &Option<Ballot>) -> bool
+    ensures { IsTrue result ↔ one.now ≡ other.now }
+{
+    match one {
+        None => other.is_none(),
+        Some(one) => match other {
+            None => false,
+            Some(other) => one.is_same(other),
+        },
+    }
+}

@@ -2,7 +2,7 @@
 
 ghost use Rattle.std.specs.Prelude.{◌≡◌, ◌↔◌, ◌++◌, ◌∷◌, [], IfOk, IsTrue, OnErr, OnOk};
 
-use crate::ballot::Ballot;
+use crate::ballot::{Ballot, is_same};
 use crate::node_id::NodeId;
 use crate::value::Value;
 use crate::values::Values;
@@ -210,18 +210,5 @@ impl Votes {
             && self.lo == other.lo
             && self.hi == other.hi
             && self.armed == other.armed
-    }
-}
-
-/// Whether both are there and the same, or neither is.
-fn is_same(one: &Option<Ballot>, other: &Option<Ballot>) -> bool
-    ensures { IsTrue result ↔ one.now ≡ other.now }
-{
-    match one {
-        None => other.is_none(),
-        Some(one) => match other {
-            None => false,
-            Some(other) => one.is_same(other),
-        },
     }
 }

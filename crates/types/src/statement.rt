@@ -3,7 +3,7 @@
 ghost use Rattle.std.specs.Prelude.{◌≡◌, ◌↔◌, IsTrue, IfOk};
 ghost use Rattle.types.specs.Statements.{IsWellFormed, HasWidths, is_up_to, is_well_formed, kind_of};
 
-use crate::ballot::Ballot;
+use crate::ballot::{Ballot, is_same};
 use crate::kind::Kind;
 use crate::values::Values;
 use std::alloc::{AllocError, Global};
@@ -93,6 +93,107 @@ impl Statement {
                 high_counter: *high_counter,
             },
         })
+    }
+
+    /// Whether both say the same.
+    pub fn is_same(&self, other: &Statement) -> bool
+        ensures { IsTrue result ↔ self.now ≡ other.now }
+    {
+        match self {
+            Statement::Nominate { voted, accepted } => other.nominates(voted, accepted),
+            Statement::Prepare {
+                ballot,
+                prepared,
+                aborted_counter,
+                high_counter,
+                commit_counter,
+            } => {
+                let counters = (*aborted_counter, *high_counter, *commit_counter);
+                other.prepares(ballot, prepared, counters)
+            }
+            Statement::Commit {
+                ballot,
+                prepared_counter,
+                high_counter,
+                commit_counter,
+            } => other.commits(ballot, (*prepared_counter, *high_counter, *commit_counter)),
+            Statement::Externalize {
+                commit,
+                high_counter,
+            } => other.externalizes(commit, *high_counter),
+        }
+    }
+
+    /// Whether it is the NOMINATE of these sets.
+    fn nominates(&self, sought_voted: &Values, sought_accepted: &Values) -> bool
+        ensures { IsTrue result ↔ Statement.Nominate sought_voted.now sought_accepted.now ≡ self.now }
+    {
+        match self {
+            Statement::Nominate { voted, accepted } => {
+                sought_voted.is_same(voted) && sought_accepted.is_same(accepted)
+            }
+            _ => false,
+        }
+    }
+
+    /// Whether it is the PREPARE of these fields, whose counters are in message order.
+    fn prepares(
+        &self,
+        sought_ballot: &Ballot,
+        sought_prepared: &Option<Ballot>,
+        sought_counters: (u32, u32, u32),
+    ) -> bool
+        ensures { IsTrue result ↔ Statement.Prepare sought_ballot.now sought_prepared.now sought_counters.0 sought_counters.1 sought_counters.2 ≡ self.now }
+    {
+        match self {
+            Statement::Prepare {
+                ballot,
+                prepared,
+                aborted_counter,
+                high_counter,
+                commit_counter,
+            } => {
+                sought_ballot.is_same(ballot)
+                    && is_same(sought_prepared, prepared)
+                    && sought_counters.0 == *aborted_counter
+                    && sought_counters.1 == *high_counter
+                    && sought_counters.2 == *commit_counter
+            }
+            _ => false,
+        }
+    }
+
+    /// Whether it is the COMMIT of these fields, whose counters are in message order.
+    fn commits(&self, sought_ballot: &Ballot, sought_counters: (u32, u32, u32)) -> bool
+        ensures { IsTrue result ↔ Statement.Commit sought_ballot.now sought_counters.0 sought_counters.1 sought_counters.2 ≡ self.now }
+    {
+        match self {
+            Statement::Commit {
+                ballot,
+                prepared_counter,
+                high_counter,
+                commit_counter,
+            } => {
+                sought_ballot.is_same(ballot)
+                    && sought_counters.0 == *prepared_counter
+                    && sought_counters.1 == *high_counter
+                    && sought_counters.2 == *commit_counter
+            }
+            _ => false,
+        }
+    }
+
+    /// Whether it is the EXTERNALIZE of these fields.
+    fn externalizes(&self, sought_commit: &Ballot, sought_high_counter: u32) -> bool
+        ensures { IsTrue result ↔ Statement.Externalize sought_commit.now sought_high_counter ≡ self.now }
+    {
+        match self {
+            Statement::Externalize {
+                commit,
+                high_counter,
+            } => sought_commit.is_same(commit) && sought_high_counter == *high_counter,
+            _ => false,
+        }
     }
 
     /// Whether the statement keeps the rules of its kind.

@@ -1,0 +1,143 @@
+//! What a node gives out after an event.
+
+ghost use Rattle.std.specs.Prelude.{◌≡◌, ◌++◌, [], List, IfOk, IfSome, OnOk, not, ◌&&◌, if◌then◌else◌};
+ghost use Rattle.protocol.specs.Nodes.{decided, is_externalized, outs, when};
+ghost use Rattle.protocol.specs.States.{counter_of, sent_nomination, sent_vote};
+ghost use Rattle.slot.specs.Wholes.{emitted_by, whole, SendWellFormed};
+ghost use Rattle.types.specs.Statements.{IsWellFormed, Sent};
+
+use crate::configured::Configured;
+use crate::sent::{envelope_of, is_same_sent, sent_nomination, sent_vote};
+use std::alloc::{AllocError, Global};
+use types::{Ballot, Given, Out, Phase, Statement, Votes};
+
+/// What is given out where an event led from one state to another, in this order: the timer of a new
+/// round, the ballot timer that was armed, the nomination and the ballot statement where another one
+/// would have been sent before, and the value that is externalized now (this host's profile). An error
+/// says that memory is short.
+#[tactic(auto, unfolding(protocol::specs::Nodes::outs))]
+pub(crate) fn outs(
+    alloc: Global,
+    configured: &Configured,
+    old: (&Given, &Votes),
+    new: (&Given, &Votes),
+) -> Result<Vec<Out>, AllocError>
+    requires { SendWellFormed new.1.now }
+    ensures { IfOk result (λ v. (before after : List Sent) → v.items ≡ outs (whole configured.now old.0.now old.1.now before) (whole configured.now new.0.now new.1.now after)) }
+{
+    let (old_given, old_votes) = old;
+    let (given, votes) = new;
+    let mut given_out = Vec::new(alloc);
+    let is_round = given.round != old_given.round && votes.high.is_none();
+    push_when(&mut given_out, is_round, Out::ArmNomination(given.round))?;
+    let is_armed = votes.armed != old_votes.armed
+        && votes.armed == counter_of(votes.ballot)
+        && !is_externalized(votes.phase);
+    push_when(&mut given_out, is_armed, Out::ArmBallot(votes.armed))?;
+    push_nomination(alloc, &mut given_out, configured, old_votes, votes)?;
+    push_vote(alloc, &mut given_out, configured, old_votes, votes)?;
+    push_decided(&mut given_out, old_votes, votes)?;
+    Ok(given_out)
+}
+
+/// Adds it where that holds.
+fn push_when(given_out: &mut Vec<Out>, holds: bool, out: Out) -> Result<(), AllocError>
+    ensures { OnOk result (given_out.new.items ≡ given_out.old.items ++ when holds out) }
+{
+    if holds {
+        given_out.push(out)?;
+    }
+    Ok(())
+}
+
+/// Adds the nomination where another one would have been sent before.
+fn push_nomination(
+    alloc: Global,
+    given_out: &mut Vec<Out>,
+    configured: &Configured,
+    old: &Votes,
+    new: &Votes,
+) -> Result<(), AllocError>
+    requires { IfSome (sent_nomination new.now) IsWellFormed }
+    ensures { OnOk result (given_out.new.items ≡ given_out.old.items ++ emitted_by configured.now (sent_nomination old.now) (sent_nomination new.now)) }
+{
+    let before = sent_nomination(alloc, old)?;
+    let after = sent_nomination(alloc, new)?;
+    push_changed(alloc, given_out, configured, &before, after)
+}
+
+/// Adds the ballot statement where another one would have been sent before.
+fn push_vote(
+    alloc: Global,
+    given_out: &mut Vec<Out>,
+    configured: &Configured,
+    old: &Votes,
+    new: &Votes,
+) -> Result<(), AllocError>
+    requires { IfSome (sent_vote new.now) IsWellFormed }
+    ensures { OnOk result (given_out.new.items ≡ given_out.old.items ++ emitted_by configured.now (sent_vote old.now) (sent_vote new.now)) }
+{
+    let before = sent_vote(old);
+    let after = sent_vote(new);
+    push_changed(alloc, given_out, configured, &before, after)
+}
+
+/// Adds what is sent now where it is not what would have been sent before.
+fn push_changed(
+    alloc: Global,
+    given_out: &mut Vec<Out>,
+    configured: &Configured,
+    before: &Option<Statement>,
+    after: Option<Statement>,
+) -> Result<(), AllocError>
+    requires { IfSome after IsWellFormed }
+    ensures { OnOk result (given_out.new.items ≡ given_out.old.items ++ emitted_by configured.now before.now after) }
+{
+    if is_same_sent(before, &after) {
+        return Ok(());
+    }
+    match after {
+        None => Ok(()),
+        Some(statement) => {
+            let envelope = envelope_of(alloc, configured, statement)?;
+            given_out.push(Out::Emit(envelope))?;
+            Ok(())
+        }
+    }
+}
+
+/// Adds the value of the ballot where the phase has become [`Phase::Externalized`].
+fn push_decided(given_out: &mut Vec<Out>, old: &Votes, new: &Votes) -> Result<(), AllocError>
+    ensures { OnOk result (given_out.new.items ≡ given_out.old.items ++ (if is_externalized new.now.phase && not (is_externalized old.now.phase) then decided new.now.ballot else [])) }
+{
+    if !is_externalized(new.phase) || is_externalized(old.phase) {
+        return Ok(());
+    }
+    match new.ballot {
+        None => Ok(()),
+        Some(ballot) => {
+            given_out.push(Out::Externalized(ballot.value))?;
+            Ok(())
+        }
+    }
+}
+
+/// Whether a value is externalized.
+pub(crate) fn is_externalized(phase: Phase) -> bool
+    ensures { result ≡ is_externalized phase }
+{
+    match phase {
+        Phase::Preparing | Phase::Committing => false,
+        Phase::Externalized => true,
+    }
+}
+
+/// The counter of a ballot, 0 where there is none.
+fn counter_of(ballot: Option<Ballot>) -> u32
+    ensures { result ≡ counter_of ballot }
+{
+    match ballot {
+        None => 0,
+        Some(ballot) => ballot.counter,
+    }
+}
