@@ -1,0 +1,27 @@
+-- What a view keeps of a table, and when it is what the node sees.
+use Rattle.std.specs.Prelude.{◌≡◌, ℕ, ◌&&◌, List, filter, flat_map, map}
+use Rattle.types.specs.Trees.{Slices}
+use Rattle.types.specs.declared.kind.Kind.{Kind}
+use Rattle.types.specs.declared.statement.Statement.{Statement}
+use Rattle.types.specs.Statements.{Sent, kind_of}
+use Rattle.protocol.specs.Sets.{Names, among, IsAscending}
+use Rattle.protocol.specs.Satisfaction.{names}
+use Rattle.protocol.specs.Quorums.{NamesWithin}
+use Rattle.protocol.specs.Reach.{reached}
+use Rattle.protocol.specs.Rows.{is_kind}
+use Rattle.protocol.specs.Backing.{slices_by}
+use Rattle.protocol.specs.Candidates.{as_set, values_by}
+
+-- the statements in the rows of a kind whose senders are in a set
+abbrev pub statements_of : Names → Kind → List Sent → List Statement
+statements_of set kind table = map (λ e. e.body) (filter (λ e. is_kind kind (kind_of e.body) && set e.sender) table)
+
+-- the values that these statements vote for or accept as nominated, as a set
+abbrev pub values_in : List Statement → List (List ℕ)
+values_in statements = as_set (flat_map values_by statements)
+
+-- the list has the nodes that a node reaches, ascending, none twice; it holds all names of its members' slices
+pub record IsReach (own : ℕ) (configured : Slices) (table : List Sent) (reach : List ℕ) : Type 0 where
+  pub ascending : IsAscending reach
+  pub exactly : (u : ℕ) → among reach u ≡ reached own configured table u
+  pub closed : (kind : Kind) → NamesWithin names (slices_by own configured table kind) (among reach)

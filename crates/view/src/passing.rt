@@ -1,0 +1,73 @@
+//! Who passes a question, and who has which slices, by the rows of one kind.
+
+ghost use Rattle.std.specs.Prelude.{◌≡◌};
+ghost use Rattle.protocol.specs.Backing.{passing, slices_by};
+ghost use Rattle.protocol.specs.Views.{passing_with};
+ghost use Rattle.fedvote.specs.Questions.{asks};
+
+use fedvote::{Question, Votes};
+use latest::Table;
+use quorum::SlicesOf;
+use types::{Kind, Nested, NodeId};
+
+/// The slices that a node knows of: its own, which are configured, and those of the rows of one kind.
+#[derive(Drop)]
+pub(crate) struct KnownSlices<'a> {
+    pub(crate) own: &'a NodeId,
+    pub(crate) configured: &'a Nested,
+    pub(crate) table: &'a Table,
+    pub(crate) kind: Kind,
+}
+
+impl<'a> SlicesOf for KnownSlices<'a> {
+    type Family = Nested;
+
+    ghost slices_at = { λ s. slices_by s.own.now s.configured.now s.table.now s.kind };
+
+    fn slices(&self, node: &NodeId) -> Option<&Nested> {
+        if *self.own == *node {
+            return Some(self.configured);
+        }
+        match self.table.row(node, self.kind) {
+            Some(row) => Some(row.slices()),
+            None => None,
+        }
+    }
+}
+
+/// Those who pass a question: the node itself where its position does, another where its row does.
+#[derive(Drop)]
+pub(crate) struct Passing<'a> {
+    pub(crate) own: &'a NodeId,
+    pub(crate) own_passes: bool,
+    pub(crate) table: &'a Table,
+    pub(crate) kind: Kind,
+    pub(crate) question: &'a Question,
+}
+
+impl<'a> Votes for Passing<'a> {
+    ghost backing = { λ s. passing_with s.own.now s.table.now s.kind s.own_passes (asks s.question.now) };
+
+    ghost accepting = { λ s. passing_with s.own.now s.table.now s.kind s.own_passes (asks s.question.now) };
+
+    fn votes_or_accepts(&self, node: &NodeId) -> bool {
+        self.accepts(node)
+    }
+
+    fn accepts(&self, node: &NodeId) -> bool {
+        if *self.own == *node {
+            return self.own_passes;
+        }
+        row_passes(self.table, node, self.kind, self.question)
+    }
+}
+
+/// Whether the node's row passes; a node without one supports nothing.
+fn row_passes(table: &Table, node: &NodeId, kind: Kind, question: &Question) -> bool
+    ensures { result ≡ passing table.now kind (asks question.now) node.now }
+{
+    match table.row(node, kind) {
+        Some(row) => question.asks(row.body()),
+        None => false,
+    }
+}
