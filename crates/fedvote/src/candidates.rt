@@ -13,10 +13,10 @@ use types::{Ballot, Statement};
 #[tactic(auto, using(crate::proofs::Bettering::bettered_then, crate::proofs::Bettering::bettered_none))]
 pub fn better_named(
     best: Option<Ballot>,
-    bound: Option<Ballot>,
+    bound: &Option<Ballot>,
     statement: &Statement,
 ) -> Option<Ballot>
-    ensures { result ≡ bettered best bound (named_by statement.now) }
+    ensures { result ≡ bettered best bound.now (named_by statement.now) }
 {
     match statement {
         Statement::Nominate { .. } => best,
@@ -25,10 +25,10 @@ pub fn better_named(
             prepared,
             ..
         } => {
-            let best = better(best, &bound, *ballot);
+            let best = better(best, bound, *ballot);
             match prepared {
                 None => best,
-                Some(prepared) => better(best, &bound, *prepared),
+                Some(prepared) => better(best, bound, *prepared),
             }
         }
         Statement::Commit {
@@ -37,15 +37,15 @@ pub fn better_named(
             high_counter,
             ..
         } => {
-            let best = better(best, &bound, *ballot);
-            better_ends(best, &bound, ballot, *prepared_counter, *high_counter)
+            let best = better(best, bound, *ballot);
+            better_ends(best, bound, ballot, *prepared_counter, *high_counter)
         }
         Statement::Externalize {
             commit,
             high_counter,
         } => {
-            let best = better(best, &bound, *commit);
-            better(best, &bound, ballot_at(commit, *high_counter))
+            let best = better(best, bound, *commit);
+            better(best, bound, ballot_at(commit, *high_counter))
         }
     }
 }
@@ -56,10 +56,10 @@ pub fn better_named(
 #[tactic(auto, using(crate::proofs::Bettering::bettered_then, crate::proofs::Bettering::bettered_none))]
 pub fn better_committed(
     best: Option<Ballot>,
-    bound: Option<Ballot>,
+    bound: &Option<Ballot>,
     statement: &Statement,
 ) -> Option<Ballot>
-    ensures { result ≡ bettered best bound (committed_by statement.now) }
+    ensures { result ≡ bettered best bound.now (committed_by statement.now) }
 {
     match statement {
         Statement::Nominate { .. } => best,
@@ -68,19 +68,19 @@ pub fn better_committed(
             high_counter,
             commit_counter,
             ..
-        } => better_ends(best, &bound, ballot, *commit_counter, *high_counter),
+        } => better_ends(best, bound, ballot, *commit_counter, *high_counter),
         Statement::Commit {
             ballot,
             high_counter,
             commit_counter,
             ..
-        } => better_ends(best, &bound, ballot, *commit_counter, *high_counter),
+        } => better_ends(best, bound, ballot, *commit_counter, *high_counter),
         Statement::Externalize {
             commit,
             high_counter,
         } => {
-            let best = better(best, &bound, *commit);
-            better(best, &bound, ballot_at(commit, *high_counter))
+            let best = better(best, bound, *commit);
+            better(best, bound, ballot_at(commit, *high_counter))
         }
     }
 }

@@ -17,4 +17,4 @@ pub use candidates::{better_committed, better_named};
 pub use question::Question;
 pub use sight::{Sight, is_accepted, is_confirmed};
 pub use votes::Votes;
-pub use voting::{accepts, confirms};
+pub use voting::{accepts, confirms, is_blocked};

@@ -60,9 +60,11 @@ pub fn confirms<S: SlicesOf, V: Votes>(
     in_quorum(alloc, node, &supporters, slices_of)
 }
 
-/// Whether the set of all who accept the statement blocks the slices. Those whom the slices name
-/// decide it.
-fn is_blocked<F: SliceFamily, V: Votes>(
+/// Whether the set of all who accept the statement blocks the slices (Mazières 2015, of v-blocking
+/// sets).
+///
+/// Those whom the slices name decide it: nobody else is asked. An error says that memory is short.
+pub fn is_blocked<F: SliceFamily, V: Votes>(
     alloc: Global,
     slices: &F,
     votes: &V,

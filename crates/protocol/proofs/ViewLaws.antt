@@ -188,7 +188,7 @@ passing_with-cut : (R : Names) (v : ℕ) (table : List Sent) (k : Kind) (own : B
 passing_with-cut R v table k own test u i = ap (λ (o : Option Sent). if v == u then own else is_passed test o) (sym (row-cut R table u k i))
 
 -- whose slices are known is v or sent something
-lists : (v : ℕ) (q : Slices) (table : List Sent) (k : Kind) → Lists (v ∷ map (λ e. e.sender) table) (slices_by v q table k)
+pub lists : (v : ℕ) (q : Slices) (table : List Sent) (k : Kind) → Lists (v ∷ map (λ e. e.sender) table) (slices_by v q table k)
 lists v q table k u p h = go (v == u) (row table u k) refl refl h
   where
     go : (b : Bool) (o : Option Sent) → (v == u) ≡ b → row table u k ≡ o → (if b then Some q else option_map (λ e. e.slices) o) ≡ Some p → (b || among (map (λ e. e.sender) table) u) ≡ true
@@ -225,7 +225,7 @@ not_alike false true h = sym h
 not_alike false false h = refl
 
 -- sets that agree on the names block both or neither
-is_blocked-local : (q : Slices) (a b : Names) → ((u : ℕ) → among (names q) u ≡ true → a u ≡ b u) → is_blocked q a ≡ is_blocked q b
+pub is_blocked-local : (q : Slices) (a b : Names) → ((u : ℕ) → among (names q) u ≡ true → a u ≡ b u) → is_blocked q a ≡ is_blocked q b
 is_blocked-local q a b f = not_alike (is_blocked q a) (is_blocked q b)
     (sym (sat_outside q a) ∙ (sat_local q (outside a) (outside b) (λ u n. ap not (f u n)) ∙ sat_outside q b))
 
