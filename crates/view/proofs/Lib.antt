@@ -1,1 +1,3 @@
-mod Gathering
+pub mod Gathering
+pub mod Searches
+pub mod Sightings

@@ -1,5 +1,5 @@
 -- What a view keeps of a table, and when it is what the node sees.
-use Rattle.std.specs.Prelude.{◌≡◌, ℕ, ◌&&◌, List, filter, flat_map, map}
+use Rattle.std.specs.Prelude.{◌≡◌, ℕ, ◌&&◌, List, Option, Some, None, filter, flat_map, map}
 use Rattle.types.specs.Trees.{Slices}
 use Rattle.types.specs.declared.kind.Kind.{Kind}
 use Rattle.types.specs.declared.statement.Statement.{Statement}
@@ -11,6 +11,7 @@ use Rattle.protocol.specs.Reach.{reached}
 use Rattle.protocol.specs.Rows.{is_kind}
 use Rattle.protocol.specs.Backing.{slices_by}
 use Rattle.protocol.specs.Candidates.{as_set, values_by}
+use Rattle.fedvote.specs.Searching.{lesser}
 
 -- the statements in the rows of a kind whose senders are in a set
 abbrev pub statements_of : Names → Kind → List Sent → List Statement
@@ -25,3 +26,8 @@ pub record IsReach (own : ℕ) (configured : Slices) (table : List Sent) (reach 
   pub ascending : IsAscending reach
   pub exactly : (u : ℕ) → among reach u ≡ reached own configured table u
   pub closed : (kind : Kind) → NamesWithin names (slices_by own configured table kind) (among reach)
+
+-- the lesser of two numbers, where there are two
+abbrev pub lesser_of : Option ℕ → Option ℕ → Option ℕ
+lesser_of None o = o
+lesser_of (Some k) o = lesser k o

@@ -7,6 +7,7 @@
 
 mod passing;
 mod rows;
+mod searching;
 mod seeing;
 
 pub use seeing::View;

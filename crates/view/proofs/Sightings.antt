@@ -1,0 +1,70 @@
+-- What a view keeps is what the node sees, and its two tests are those of the definitions.
+use Rattle.std.proofs.Common.{◌≡◌, ℕ, Bool, false, List, ◌∷◌, map, IsTrue, ◌↔◌, refl, sym, ◌∙◌, ap, ap₂}
+use Rattle.std.proofs.Math.Path.{fun_ext}
+use Rattle.std.proofs.lemmas.Bool.{true≢false, false_from_ne_true}
+use Rattle.types.specs.Trees.{Slices}
+use Rattle.types.specs.declared.kind.Kind.{Kind}
+use Rattle.types.specs.declared.statement.Statement.{Statement}
+use Rattle.types.specs.Statements.{Sent}
+use Rattle.protocol.specs.Sets.{Names, among}
+use Rattle.protocol.specs.Satisfaction.{sat, is_blocked, Blocks}
+use Rattle.protocol.specs.Quorums.{HasQuorum}
+use Rattle.protocol.specs.Backing.{slices_by}
+use Rattle.protocol.specs.Reach.{reached}
+use Rattle.protocol.specs.Views.{rows_seen, led_by, passing_with, quorum_passes, blocking_passes, seen}
+use Rattle.protocol.proofs.FairSight.{seen-fair}
+use Rattle.protocol.proofs.QuorumLaws.{has_quorum-from, has_quorum-found}
+use Rattle.protocol.proofs.ReachLaws.{reach_least}
+use Rattle.protocol.proofs.SatisfactionLaws.{sat_monotone, sat_dual}
+use Rattle.protocol.proofs.SetLaws.{same_test}
+use Rattle.protocol.proofs.ViewLaws.{lists}
+use Rattle.view.specs.Watching.{statements_of}
+
+-- the parts of what is seen
+pub seen_rows : (own : ℕ) (q : Slices) (leaders : List ℕ) (table : List Sent) (k : Kind) → (seen own q leaders table).rows k ≡ rows_seen own q table k
+unfolding seen
+seen_rows own q leaders table k = refl
+
+pub seen_led : (own : ℕ) (q : Slices) (leaders : List ℕ) (table : List Sent) → (seen own q leaders table).led ≡ led_by leaders table
+unfolding seen
+seen_led own q leaders table = refl
+
+-- the statements of those in the reach are those that are seen
+pub statements_seen : (own : ℕ) (q : Slices) (table : List Sent) (reach : List ℕ) → ((u : ℕ) → among reach u ≡ reached own q table u) → (k : Kind) → statements_of (among reach) k table ≡ rows_seen own q table k
+unfolding rows_seen
+statements_seen own q table reach exactly k = ap (λ (set : Names). statements_of set k table) (fun_ext exactly)
+
+-- the node is in its own reach
+pub itself_reached : (own : ℕ) (q : Slices) (table : List Sent) (reach : List ℕ) → ((u : ℕ) → among reach u ≡ reached own q table u) → IsTrue (among reach own)
+itself_reached own q table reach exactly = exactly own ∙ (reach_least own q table).holds.itself
+
+-- no quorum passes where the node's own position does not
+pub own_fails : (own : ℕ) (q : Slices) (leaders : List ℕ) (table : List Sent) (k : Kind) (own_passes : Bool) (test : Statement → Bool) → own_passes ≡ false → false ≡ (seen own q leaders table).quorum k own_passes test
+own_fails own q leaders table k own_passes test fails =
+    sym (false_from_ne_true ((seen own q leaders table).quorum k own_passes test) (λ h. true≢false (sym ((seen-fair own q leaders table).own k own_passes test h) ∙ fails)))
+
+-- a quorum among those who pass, as the test
+pub quorum_tested : (own : ℕ) (q : Slices) (leaders : List ℕ) (table : List Sent) (k : Kind) (own_passes : Bool) (test : Statement → Bool) (b : Bool)
+    → IsTrue b ↔ HasQuorum sat (slices_by own q table k) (passing_with own table k own_passes test) own → b ≡ (seen own q leaders table).quorum k own_passes test
+unfolding seen quorum_passes
+quorum_tested own q leaders table k own_passes test b h =
+    let all = own ∷ map (λ (e : Sent). e.sender) table in
+    let slices_at = slices_by own q table k in
+    let passing = passing_with own table k own_passes test in
+    same_test b _
+    (λ i. has_quorum-from sat slices_at sat_monotone all passing own (lists own q table k) (h.0 i))
+    (λ i. h.1 (has_quorum-found sat slices_at all passing own i))
+
+-- those who pass block, as the test
+pub blocking_tested : (own : ℕ) (q : Slices) (leaders : List ℕ) (table : List Sent) (k : Kind) (own_passes : Bool) (test : Statement → Bool) (b : Bool)
+    → IsTrue b ↔ Blocks sat q (passing_with own table k own_passes test) → b ≡ (seen own q leaders table).blocking k own_passes test
+unfolding seen blocking_passes
+blocking_tested own q leaders table k own_passes test b h =
+    let dual = sat_dual q (passing_with own table k own_passes test) in
+    same_test b (is_blocked q (passing_with own table k own_passes test)) (λ i. dual.1 (h.0 i)) (λ i. h.1 (dual.0 i))
+
+-- what was kept, as it was read
+pub kept_statements : (own : ℕ) (q : Slices) (table rows : List Sent) (reach nodes : List ℕ) (k : Kind) (kept : List Statement) → ((u : ℕ) → among reach u ≡ reached own q table u) → nodes ≡ reach → rows ≡ table
+    → kept ≡ statements_of (among nodes) k rows → kept ≡ rows_seen own q table k
+kept_statements own q table rows reach nodes k kept exactly at of h =
+    h ∙ ap₂ (λ (us : List ℕ) (es : List Sent). statements_of (among us) k es) at of ∙ statements_seen own q table reach exactly k
