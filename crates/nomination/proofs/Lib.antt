@@ -1,2 +1,3 @@
 pub mod ValueSets
 pub mod Chosen
+pub mod TestLaws

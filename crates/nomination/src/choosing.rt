@@ -1,6 +1,7 @@
 //! Choosing values from a list, and adding them to a set.
 
-ghost use Rattle.std.specs.Prelude.{◌≡◌, List, ℕ, Bool, IfOk, filter, take};
+ghost use Rattle.std.specs.Prelude.{◌≡◌, List, ℕ, Bool, not, IfOk, filter, take};
+ghost use Rattle.types.specs.Votes.{has_value};
 ghost use Rattle.protocol.specs.Candidates.{all_with};
 
 use std::alloc::{AllocError, Global};
@@ -13,6 +14,20 @@ pub trait ValueTest {
     /// Whether the value passes. An error says that memory is short.
     fn test(&self, alloc: Global, value: &Value) -> Result<bool, AllocError>
         ensures { IfOk result (λ b. b ≡ passes self.now value.now) };
+}
+
+/// Whether a value is not in a set.
+#[derive(Drop)]
+pub struct IsNew<'a> {
+    pub set: &'a Values,
+}
+
+impl<'a> ValueTest for IsNew<'a> {
+    ghost passes = { λ t x. not (has_value t.set.now x) };
+
+    fn test(&self, _alloc: Global, value: &Value) -> Result<bool, AllocError> {
+        Ok(!self.set.has(value))
+    }
 }
 
 /// The first of the values that pass, in their order, and at most so many; once there are as many, no

@@ -6,6 +6,8 @@
 
 mod choosing;
 mod rules;
+#[cfg(test)]
+mod tests;
 mod voting;
 
 pub use rules::nominate;

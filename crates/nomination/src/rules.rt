@@ -2,13 +2,12 @@
 
 ghost use Rattle.std.specs.Prelude.{◌≡◌, ◌-◌, ◌++◌, IfOk, flat_map, length, option_to_list};
 ghost use Rattle.types.specs.Nominations.{most_nominated};
-ghost use Rattle.types.specs.declared.kind.Kind.{Kind};
-ghost use Rattle.protocol.specs.Candidates.{as_set, all_with, values_by};
+ghost use Rattle.protocol.specs.Candidates.{as_set, values_by};
 ghost use Rattle.protocol.specs.Sets.{among};
 ghost use Rattle.protocol.specs.Nominating.{accept_values, confirm_values, echo, nominate, own_input};
 
-use crate::choosing::{choose, with_all};
-use crate::voting::{IsConfirmed, IsNew, IsNewlyAccepted};
+use crate::choosing::{IsNew, choose, with_all};
+use crate::voting::{IsConfirmed, IsNewlyAccepted};
 use fedvote::Sight;
 use std::alloc::{AllocError, Global};
 use types::{Given, MAX_NOMINATED, NodeId, Value, Values, Votes};

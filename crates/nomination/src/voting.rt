@@ -1,4 +1,4 @@
-//! Federated voting on one value.
+//! Federated voting on nominating one value.
 
 ghost use Rattle.std.specs.Prelude.{◌≡◌, IfOk, not, ◌&&◌};
 ghost use Rattle.types.specs.Votes.{has_value};
@@ -7,21 +7,7 @@ ghost use Rattle.protocol.specs.Nominating.{is_value_accepted, is_value_confirme
 use crate::choosing::ValueTest;
 use fedvote::{Question, Sight};
 use std::alloc::{AllocError, Global};
-use types::{Kind, Value, Values, Votes};
-
-/// Whether a value is not in a set.
-#[derive(Drop)]
-pub struct IsNew<'a> {
-    pub set: &'a Values,
-}
-
-impl<'a> ValueTest for IsNew<'a> {
-    ghost passes = { λ t x. not (has_value t.set.now x) };
-
-    fn test(&self, _alloc: Global, value: &Value) -> Result<bool, AllocError> {
-        Ok(!self.set.has(value))
-    }
-}
+use types::{Kind, Value, Votes};
 
 /// Whether nominating a value is accepted, and was not before.
 #[derive(Drop)]
