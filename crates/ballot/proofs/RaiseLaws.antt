@@ -1,5 +1,5 @@
 -- The raise: the lowest counter at which greater counters do not block, found over the counters that appear.
-use Rattle.std.proofs.Common.{◌≡◌, ℕ, zero, suc, ◌+◌, ◌-◌, ◌<◌, ◌≤◌, min, Bool, true, false, not, nat_lt, nat_le, List, [], ◌∷◌, ◌++◌, Option, Some, None, if◌then◌else◌, filter_map, option_to_list, refl, sym, ◌∙◌, subst, ap, inl, inr, ◌⊎◌, arith}
+use Rattle.std.proofs.Common.{◌≡◌, ℕ, ◌+◌, ◌-◌, ◌<◌, ◌≤◌, min, Bool, true, false, not, nat_lt, nat_le, List, [], ◌∷◌, ◌++◌, Option, Some, None, if◌then◌else◌, filter_map, option_to_list, refl, sym, ◌∙◌, subst, inl, inr, ◌⊎◌, arith}
 use Rattle.std.specs.List.{AllByRecursion}
 use Rattle.std.proofs.lemmas.Bool.{true≢false, false≢true}
 use Rattle.std.proofs.lemmas.Bool.Decides.{nat_tests}
@@ -9,21 +9,23 @@ use Rattle.types.specs.declared.statement.Statement.TheVariants.{Nominate, Prepa
 use Rattle.protocol.specs.Views.{Seen, passes}
 use Rattle.protocol.specs.Passes.{counts}
 use Rattle.protocol.specs.Candidates.{least_from}
+use Rattle.protocol.specs.Extremes.{IsLeastFrom}
+use Rattle.protocol.proofs.LeastLaws.{least_from_is_exact}
 use Rattle.fedvote.specs.Searching.{counter_by, lesser, least_above, next_counter, IsHonest}
 
 -- ---- the least number
--- a number is the least where all before it fail, and it passes unless it is the last
-pub least_is : (fuel n m : ℕ) (test : ℕ → Bool) → n ≤ m → m ≤ n + fuel → ((k : ℕ) → n ≤ k → k < m → test k ≡ false) → (m < n + fuel → test m ≡ true) → least_from fuel n test ≡ m
-unfolding least_from
-least_is zero n m test low high f h = omega arith
-least_is (suc fuel) n m test low high f h = go (test n) refl (λ k. least_is fuel (n + 1) m test k (omega arith) (λ j a b. f j (omega arith) b) (λ j. h (omega arith)))
+-- there is one alone
+least_is_alone : (test : ℕ → Bool) (fuel n a b : ℕ) → IsLeastFrom test fuel n a → IsLeastFrom test fuel n b → a ≡ b
+least_is_alone test fuel n a b p q = elim (order a b) [
+  | inl h ↦ absurd (true≢false (sym (p.passes (omega (arith, h, q.high))) ∙ q.first a p.low h))
+  | inr r ↦ elim r [
+    | inl h ↦ absurd (true≢false (sym (q.passes (omega (arith, h, p.high))) ∙ p.first b q.low h))
+    | inr e ↦ e
+  ]
+]
   where
-    at_or_on : (n m : ℕ) → n ≤ m → (n ≡ m) ⊎ (n < m)
-    at_or_on n m h = grind arith
-
-    go : (b : Bool) → test n ≡ b → (n + 1 ≤ m → least_from fuel (n + 1) test ≡ m) → (if b then n else least_from fuel (n + 1) test) ≡ m
-    go true e ih = elim (at_or_on n m low) [ inl q ↦ q | inr q ↦ absurd (true≢false (sym e ∙ f n (omega arith) (omega (arith, q)))) ]
-    go false e ih = elim (at_or_on n m low) [ inl q ↦ absurd (true≢false (sym (h (omega (arith, q))) ∙ ap test (sym q) ∙ e)) | inr q ↦ ih (omega (arith, q)) ]
+    order : (a b : ℕ) → (a < b) ⊎ ((b < a) ⊎ (a ≡ b))
+    order a b = grind arith
 
 -- ---- counters that appear
 -- none above n is below m
@@ -110,7 +112,13 @@ not_false b e = rw e refl
 -- where greater counters do not block, or at the cap, the search is over
 pub raised_far : (seen : Seen) (position : Option Statement) (from most n : ℕ) → Raised seen position from most n → (n < most → blocks seen position n ≡ false) → n ≡ least_from (most - from) from (λ k. not (blocks seen position k))
 raised_far seen position from most n r h =
-    sym (least_is (most - from) from n (λ k. not (blocks seen position k)) r.low r.high (λ k a b. not_true _ (r.block k a b)) (λ a. not_false _ (h (omega (arith, r.low, r.high)))))
+    let test : ℕ → Bool = λ k. not (blocks seen position k) in
+    least_is_alone test (most - from) from n (least_from (most - from) from test) (record {
+      low = r.low;
+      high = r.high;
+      passes = λ a. not_false _ (h (omega (arith, r.low, r.high)));
+      first = λ k a b. not_true _ (r.block k a b);
+    }) (least_from_is_exact test (most - from) from)
 
 -- the next number to look at
 abbrev pub next_number : ℕ → Option ℕ → ℕ
