@@ -9,6 +9,7 @@ use types::{Value, Values};
 
 /// A test of values.
 pub trait ValueTest {
+    /// Which values pass.
     ghost passes: { Self → List ℕ → Bool };
 
     /// Whether the value passes. An error says that memory is short.

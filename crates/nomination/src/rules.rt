@@ -2,7 +2,8 @@
 
 ghost use Rattle.std.specs.Prelude.{◌≡◌, ◌-◌, ◌++◌, IfOk, flat_map, length, option_to_list};
 ghost use Rattle.types.specs.Nominations.{most_nominated};
-ghost use Rattle.protocol.specs.Candidates.{as_set, values_by};
+ghost use Rattle.types.specs.declared.kind.Kind.{Kind};
+ghost use Rattle.protocol.specs.Candidates.{all_with, as_set, values_by};
 ghost use Rattle.protocol.specs.Sets.{among};
 ghost use Rattle.protocol.specs.Nominating.{accept_values, confirm_values, echo, nominate, own_input};
 
@@ -69,10 +70,7 @@ pub(crate) fn accept_values<S: Sight>(
 ) -> Result<Votes, AllocError>
     ensures { IfOk result (λ w. w ≡ accept_values (S.seen sight.now) votes) }
 {
-    let candidates = with_all(
-        sight.nominated_values().try_copy(alloc)?,
-        votes.voted.as_slice(),
-    )?;
+    let candidates = candidates(alloc, sight, &votes)?;
     let is_accepted = IsNewlyAccepted {
         sight,
         votes: &votes,
@@ -81,6 +79,15 @@ pub(crate) fn accept_values<S: Sight>(
     let new = choose(alloc, candidates.as_slice(), room, &is_accepted)?;
     let accepts = with_all(votes.accepts, new.as_slice())?;
     Ok(Votes { accepts, ..votes })
+}
+
+/// The values of reached nominations and those that the node itself votes for, ascending. An error says
+/// that memory is short.
+fn candidates<S: Sight>(alloc: Global, sight: &S, votes: &Votes) -> Result<Values, AllocError>
+    ensures { IfOk result (λ v. v ≡ all_with votes.now.voted (as_set (flat_map values_by ((S.seen sight.now).rows Kind.Nomination)))) }
+{
+    let nominated = sight.nominated_values().try_copy(alloc)?;
+    with_all(nominated, votes.voted.as_slice())
 }
 
 /// Confirm: of the accepted values those that are confirmed are added (the Stellar Consensus Protocol

@@ -14,9 +14,8 @@ returns g c =
     let seen = g.S.Sight.seen c.args.sight.now in
     let rows = flat_map values_by (seen.rows Nomination) in
     let passes = λ (x : List ℕ). not (has_value w.accepts x) && is_value_accepted seen w x in
-    let copied = c.in_ok-try_copy.ensures ∙ c.nominated_values.ensures in
-    let candidates = c.as_slice-2.ensures.value ∙ c.in_ok-candidates.ensures ∙ ap (λ (xs : List (List ℕ)). all_with xs c.in_ok-try_copy.field-0) c.as_slice.ensures.value ∙ ap (all_with w.voted) copied in
-    let new = c.as_slice-3.ensures.value ∙ c.in_ok-new.ensures ∙ ap (λ (n : ℕ). take n (filter passes c.as_slice-2.result.now)) c.room_in-room.ensures
-    ∙ ap (λ (xs : List (List ℕ)). take (most_nominated - length w.accepts) (filter passes xs)) candidates
-    ∙ ap (take (most_nominated - length w.accepts)) (new_ones (is_value_accepted seen w) rows w.voted w.accepts) in
+    let room = most_nominated - length w.accepts in
+    let candidates = c.as_slice.ensures.value ∙ c.in_ok-candidates.ensures in
+    let new = c.as_slice-2.ensures.value ∙ c.in_ok-new.ensures ∙ ap (λ (n : ℕ). take n (filter passes c.as_slice.result.now)) c.room_in-room.ensures
+    ∙ ap (λ (xs : List (List ℕ)). take room (filter passes xs)) candidates ∙ ap (take room) (new_ones (is_value_accepted seen w) rows w.voted w.accepts) in
     ap (λ (xs : List (List ℕ)). record w { accepts = xs }) (c.in_ok-accepts.ensures ∙ ap (λ (xs : List (List ℕ)). all_with xs w.accepts) new)
