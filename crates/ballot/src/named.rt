@@ -110,11 +110,8 @@ fn better_committed(
             high_counter,
             commit_counter,
             ..
-        } => {
-            let best = better(best, bound, &at_counter(ballot, *commit_counter));
-            better(best, bound, &at_counter(ballot, *high_counter))
         }
-        Statement::Commit {
+        | Statement::Commit {
             ballot,
             high_counter,
             commit_counter,

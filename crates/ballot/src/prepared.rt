@@ -59,9 +59,9 @@ fn aborted_by(old: &Option<Ballot>, new: &Option<Ballot>, aborted: u32) -> u32
     }
 }
 
-/// The least counter whose ballots are not aborted when this ballot is replaced by one of another value
-/// that is not below it: its own, or the next one where it has the greater value, for then it is aborted
-/// itself.
+/// The least counter whose ballots are not aborted when this ballot gives way to one of another value,
+/// which is not below it: its own, or the next one where it has the greater value, for then it is
+/// aborted itself.
 fn first_kept(old: &Ballot, new: &Ballot) -> u32
     requires rises { below new.now old.now ≡ false }
     requires differ { same_value old.now.value new.now.value ≡ false }
