@@ -9,5 +9,7 @@ mod passing;
 mod rows;
 mod searching;
 mod seeing;
+#[cfg(test)]
+mod tests;
 
 pub use seeing::View;

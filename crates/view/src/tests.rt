@@ -1,0 +1,157 @@
+//! A node's view of a small table with a stranger in it.
+
+use crate::View;
+use fedvote::{Question, Sight};
+use latest::{Offer, Table};
+use std::alloc::Global;
+use std::process::Abort;
+use std::test::Fail;
+use types::{
+    Ballot, Envelope, Kind, Leaders, Member, Nested, NodeId, SliceSet, Statement, Value, Values,
+};
+
+const OWN: u64 = 1;
+
+const STRANGER: u64 = 9;
+
+fn name(number: u64) -> NodeId {
+    NodeId::from_words(0, 0, 0, number)
+}
+
+fn slices_of(alloc: Global, threshold: u8, numbers: &[u64]) -> Result<Nested, Fail> {
+    let mut members = Vec::new(alloc);
+    for number in numbers {
+        members.push(Member::Node(name(*number)))?;
+    }
+    Ok(Nested::new(alloc, SliceSet::new(threshold, members))?.ok_or("slices")?)
+}
+
+/// Two of the nodes 1, 2 and 3; of a stranger itself alone.
+fn announced(alloc: Global, sender: u64) -> Result<Nested, Fail> {
+    if sender == STRANGER {
+        slices_of(alloc, 1, &[STRANGER])
+    } else {
+        slices_of(alloc, 2, &[1, 2, 3])
+    }
+}
+
+fn ballot(counter: u32, letter: u8) -> Result<Ballot, Fail> {
+    let value = Value::new(&[letter]).ok_or("value")?;
+    Ok(Ballot { counter, value })
+}
+
+fn values(alloc: Global, letters: &[u8]) -> Result<Values, Fail> {
+    let mut values = Values::empty(alloc);
+    for letter in letters {
+        values.push(Value::new(&[*letter]).ok_or("value")?)?;
+    }
+    Ok(values)
+}
+
+/// Offers the sender's NOMINATE of one value, and its PREPARE of a ballot of that value, which it votes to
+/// commit from counter 1 to the one below the ballot's.
+fn offer(
+    rt: &impl Abort,
+    alloc: Global,
+    table: &mut Table,
+    sender: u64,
+    counter: u32,
+    letter: u8,
+) -> Result<(), Fail> {
+    let nominate = Statement::Nominate {
+        voted: values(alloc, &[letter])?,
+        accepted: Values::empty(alloc),
+    };
+    let prepare = Statement::Prepare {
+        ballot: ballot(counter, letter)?,
+        prepared: None,
+        aborted_counter: 0,
+        high_counter: counter.saturating_sub(1),
+        commit_counter: 1,
+    };
+    for body in [nominate, prepare] {
+        let slices = announced(alloc, sender)?;
+        let envelope = Envelope::new(name(sender), 1, slices, body).ok_or("statement")?;
+        assert_eq!(rt; table.offer(envelope), Offer::Replaced);
+    }
+    Ok(())
+}
+
+fn table_with_a_stranger(rt: &impl Abort, alloc: Global) -> Result<Table, Fail> {
+    let mut table = Table::new(alloc);
+    offer(rt, alloc, &mut table, STRANGER, 8, b'z')?;
+    offer(rt, alloc, &mut table, 3, 5, b'b')?;
+    offer(rt, alloc, &mut table, 2, 3, b'a')?;
+    Ok(table)
+}
+
+#[test]
+fn searches_see_no_strangers(rt: HostRuntime) -> Result<(), Fail> {
+    let alloc = rt.alloc();
+    let table = table_with_a_stranger(&rt, alloc)?;
+    let (own, slices) = (name(OWN), announced(alloc, OWN)?);
+    let leaders = Leaders::none(alloc);
+    let view = View::of(alloc, &own, &slices, &leaders, &table)?;
+    assert_eq!(rt; view.next_named(None), Some(ballot(5, b'b')?));
+    assert_eq!(rt;
+        view.next_named(Some(ballot(5, b'b')?)),
+        Some(ballot(3, b'a')?)
+    );
+    assert_eq!(rt; view.next_named(Some(ballot(3, b'a')?)), None);
+    assert_eq!(rt; view.next_committed(None), Some(ballot(4, b'b')?));
+    assert_eq!(rt;
+        view.next_committed(Some(ballot(2, b'a')?)),
+        Some(ballot(1, b'b')?)
+    );
+    assert_eq!(rt; view.next_counter(0), Some(3));
+    assert_eq!(rt; view.next_counter(3), Some(5));
+    assert_eq!(rt; view.next_counter(5), None);
+    Ok(())
+}
+
+#[test]
+fn values_of_leaders_count_where_they_are_strangers(rt: HostRuntime) -> Result<(), Fail> {
+    let alloc = rt.alloc();
+    let table = table_with_a_stranger(&rt, alloc)?;
+    let (own, slices) = (name(OWN), announced(alloc, OWN)?);
+    let mut leaders = Leaders::none(alloc);
+    for leader in [STRANGER, 2, STRANGER, 7] {
+        leaders.push(name(leader))?;
+    }
+    let view = View::of(alloc, &own, &slices, &leaders, &table)?;
+    assert!(rt;
+        view.nominated_values()
+            .is_same(&values(alloc, &[b'a', b'b'])?)
+    );
+    assert!(rt; view.led_values().is_same(&values(alloc, &[b'a', b'z'])?));
+    Ok(())
+}
+
+#[test]
+fn both_tests_count_the_own_position(rt: HostRuntime) -> Result<(), Fail> {
+    let alloc = rt.alloc();
+    let table = table_with_a_stranger(&rt, alloc)?;
+    let (own, slices) = (name(OWN), announced(alloc, OWN)?);
+    let leaders = Leaders::none(alloc);
+    let view = View::of(alloc, &own, &slices, &leaders, &table)?;
+    let cases = [
+        (3, true, true, true),
+        (4, true, true, true),
+        (6, true, false, false),
+        (3, false, false, true),
+        (4, false, false, false),
+    ];
+    for (counter, own_passes, quorum, blocking) in cases {
+        let question = Question::HasCounter(counter);
+        assert_eq!(rt;
+            view.quorum(alloc, Kind::Ballot, own_passes, &question)?,
+            quorum
+        );
+        assert_eq!(rt;
+            view.blocking(alloc, Kind::Ballot, own_passes, &question)?,
+            blocking
+        );
+        assert!(rt; !view.quorum(alloc, Kind::Nomination, own_passes, &question)?);
+    }
+    Ok(())
+}
