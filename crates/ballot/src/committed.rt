@@ -122,8 +122,8 @@ fn enter_commit<S: Sight>(
     let lo = accepted_from(alloc, sight, &votes, &first)?;
     let hi = first.counter;
     let ballot = up_to(&ballot, &first);
-    let prepared = greater(votes.prepared, &first);
-    let high = greater(votes.high, &first);
+    let prepared = raised_to(votes.prepared, &first);
+    let high = raised_to(votes.high, &first);
     Ok(Votes {
         phase: Phase::Committing,
         ballot: Some(ballot),
@@ -153,7 +153,7 @@ fn widen_commit<S: Sight>(
     let lo = accepted_from(alloc, sight, &votes, &next)?;
     let hi = next.counter;
     let ballot = up_to(&ballot, &next);
-    let prepared = greater(votes.prepared, &next);
+    let prepared = raised_to(votes.prepared, &next);
     Ok(Votes {
         ballot: Some(ballot),
         prepared,
@@ -173,9 +173,9 @@ fn up_to(ballot: &Ballot, end: &Ballot) -> Ballot
     }
 }
 
-/// The greater of the ballot that is there, if one is, and of this one.
+/// The ballot that is there, or this one where that is below it or where there is none.
 #[tactic(auto, unfolding(protocol::specs::Candidates::greatest))]
-fn greater(there: Option<Ballot>, ballot: &Ballot) -> Option<Ballot>
+fn raised_to(there: Option<Ballot>, ballot: &Ballot) -> Option<Ballot>
     ensures { result ≡ greatest there (ballot.now ∷ []) }
 {
     match there {
