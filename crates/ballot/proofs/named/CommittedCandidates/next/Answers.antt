@@ -3,8 +3,7 @@ use Rattle.types.specs.declared.ballot.Ballot.{Ballot}
 use Rattle.types.specs.declared.kind.Kind.{Kind}
 use Rattle.types.specs.declared.statement.Statement.{Statement}
 use Rattle.protocol.specs.Candidates.{committed_by, committed_in}
-use Rattle.fedvote.specs.Searching.{next_under}
-use Rattle.ballot.specs.Choosing.{best_of}
+use Rattle.fedvote.specs.Searching.{next_under, bettered}
 use Rattle.ballot.proofs.ChoosingLaws.{next_with}
 use Rattle.ballot.proofs.named.CommittedCandidates.next.Goals as goal
 
@@ -12,6 +11,6 @@ pub returns-in-Some : goal.returns-in-Some
 returns-in-Some g c =
     let rows = (g.S.Sight.seen c.args.self.now.sight.now).rows Kind.Ballot in
     c.better_committed.ensures
-    ∙ ap (λ (o : Option Ballot). best_of o c.args.bound (committed_by c.in-Some.own)) c.next_committed-best.ensures
+    ∙ ap (λ (o : Option Ballot). bettered o c.args.bound (committed_by c.in-Some.own)) c.next_committed-best.ensures
     ∙ next_with committed_by c.args.bound rows c.in-Some.own
     ∙ ap (λ (o : Option Statement). next_under c.args.bound (committed_in (rows ++ option_to_list o))) (sym c.in-Some.is)
