@@ -7,9 +7,7 @@ use Rattle.types.specs.declared.event.Out.TheVariants.{Emit}
 use Rattle.types.specs.declared.state.Given.{Given}
 use Rattle.types.specs.declared.state.Votes.{Votes}
 use Rattle.types.specs.declared.statement.Statement.{Statement}
-use Rattle.types.specs.declared.statement.Statement.TheVariants.{Nominate}
 use Rattle.protocol.specs.Sameness.{same_sent}
-use Rattle.protocol.specs.States.{sent_nomination}
 use Rattle.protocol.specs.Nodes.{emitted}
 use Rattle.protocol.proofs.SamenessLaws.{same_sent-refl, same_sent-true}
 use Rattle.slot.specs.declared.configured.Configured.{Configured}

@@ -2,6 +2,8 @@
 //! Consensus Protocol draft; the order of the rules and the limit of passes are this host's profile).
 #![tactic(auto)]
 
+mod answering;
+mod changes;
 mod configured;
 mod node;
 mod outs;

@@ -1,14 +1,20 @@
 //! A node at a slot.
 
-ghost use Rattle.std.specs.Prelude.{◌≡◌, IfOk};
-ghost use Rattle.protocol.specs.Nodes.{Calm, fresh, step};
+ghost use Rattle.std.specs.Prelude.{◌≡◌, IfOk, IfSome, List, OnErr, OnOk, Some, option_map};
+ghost use Rattle.protocol.specs.Nodes.{Calm, after_change, answered, fresh, outs, passed, settle, step};
 ghost use Rattle.protocol.specs.Limits.{Reached};
+ghost use Rattle.slot.specs.Wholes.{SendWellFormed, whole};
+ghost use Rattle.types.specs.Statements.{Sent};
+ghost use Rattle.types.specs.declared.event.NodeEvent.{NodeEvent};
 
+use crate::answering::{Answer, answer_to};
+use crate::changes::{bumped, fired, in_next_round, is_counter_live, is_round_live, proposed};
 use crate::configured::Configured;
-use latest::Table;
+use latest::{Put, Table};
 use std::alloc::{AllocError, Global};
 use std::marker::Model;
-use types::{Given, Nested, NodeEvent, NodeId, Out, Votes};
+use types::{Envelope, Given, Nested, NodeEvent, NodeId, Out, Value, Votes};
+use view::View;
 
 /// One node at one slot, and all that it knows there.
 ///
@@ -103,4 +109,175 @@ impl Node {
     {
         &self.table
     }
+
+    /// One more pass would change nothing.
+    pub fn calm(&self)
+        ensures { Calm self.now }
+    {
+        let _table = &self.table;
+    }
+
+    /// One event: its own change, then passes until one changes nothing, then what is given out, in
+    /// order (the Stellar Consensus Protocol draft; the order of events and outs is this host's
+    /// profile). A stale envelope and a timer that is not live change nothing and give nothing out.
+    ///
+    /// An error says that memory is short, and the node is as it was.
+    pub fn advance(&mut self, alloc: Global, event: NodeEvent) -> Result<Vec<Out>, AllocError>
+        ensures node { OnOk result (self.new ≡ (step self.old event).0) }
+        ensures outs { IfOk result (λ v. v.items ≡ (step self.old event).1) }
+        ensures err { OnErr result (self.new ≡ self.old) }
+    {
+        match event {
+            NodeEvent::Propose(value) => self.propose(alloc, value),
+            NodeEvent::Take(envelope) => self.take(alloc, envelope),
+            NodeEvent::NominationTimer(round) => self.nomination_timer(alloc, round),
+            NodeEvent::BallotTimer(counter) => self.ballot_timer(alloc, counter),
+        }
+    }
+
+    /// The node after one event, as by [`Node::advance`], and what it gives out; this node stays as it
+    /// is. An error says that memory is short.
+    pub fn step(&self, alloc: Global, event: NodeEvent) -> Result<(Node, Vec<Out>), AllocError>
+        ensures { IfOk result (λ r. (r.0, r.1.items) ≡ step self.now event) }
+    {
+        let mut node = self.try_copy(alloc)?;
+        let outs = node.advance(alloc, event)?;
+        Ok((node, outs))
+    }
+
+    /// The input is set, and round 1 begins.
+    fn propose(&mut self, alloc: Global, value: Value) -> Result<Vec<Out>, AllocError>
+        ensures node { OnOk result (self.new ≡ (step self.old (NodeEvent.Propose value)).0) }
+        ensures outs { IfOk result (λ v. v.items ≡ (step self.old (NodeEvent.Propose value)).1) }
+        ensures err { OnErr result (self.new ≡ self.old) }
+    {
+        let given = proposed(alloc, &self.configured, &self.given, value)?;
+        let votes = self.votes.try_copy(alloc)?;
+        self.settle(alloc, given, votes)
+    }
+
+    /// A nomination timer fires: the next round begins where it is live.
+    fn nomination_timer(&mut self, alloc: Global, round: u32) -> Result<Vec<Out>, AllocError>
+        ensures node { OnOk result (self.new ≡ (step self.old (NodeEvent.NominationTimer round)).0) }
+        ensures outs { IfOk result (λ v. v.items ≡ (step self.old (NodeEvent.NominationTimer round)).1) }
+        ensures err { OnErr result (self.new ≡ self.old) }
+    {
+        if !is_round_live(&self.given, &self.votes, round) {
+            return Ok(Vec::new(alloc));
+        }
+        let given = in_next_round(alloc, &self.configured, &self.given, round)?;
+        let votes = self.votes.try_copy(alloc)?;
+        self.settle(alloc, given, votes)
+    }
+
+    /// A ballot timer fires: the ballot goes one counter up where it is live.
+    fn ballot_timer(&mut self, alloc: Global, counter: u32) -> Result<Vec<Out>, AllocError>
+        ensures node { OnOk result (self.new ≡ (step self.old (NodeEvent.BallotTimer counter)).0) }
+        ensures outs { IfOk result (λ v. v.items ≡ (step self.old (NodeEvent.BallotTimer counter)).1) }
+        ensures err { OnErr result (self.new ≡ self.old) }
+    {
+        if !is_counter_live(&self.votes, counter) {
+            return Ok(Vec::new(alloc));
+        }
+        let given = fired(alloc, &self.given)?;
+        let votes = bumped(alloc, &self.votes)?;
+        self.settle(alloc, given, votes)
+    }
+
+    /// An envelope reaches the node: where it is newer than its sender's row of its kind, it is the row
+    /// now. Where a later growth finds no memory, or the limit of passes is met, it is taken back out.
+    fn take(&mut self, alloc: Global, envelope: Envelope) -> Result<Vec<Out>, AllocError>
+        ensures node { OnOk result (self.new ≡ (step self.old (NodeEvent.Take envelope)).0) }
+        ensures outs { IfOk result (λ v. v.items ≡ (step self.old (NodeEvent.Take envelope)).1) }
+        ensures err { OnErr result (self.new ≡ self.old) }
+    {
+        let votes = self.votes.try_copy(alloc)?;
+        let put = self.table.put(envelope);
+        match put {
+            Put::Stale => Ok(Vec::new(alloc)),
+            Put::NoMemory => Err(AllocError),
+            Put::Added | Put::Replaced(_) => {
+                let Node {
+                    configured,
+                    given,
+                    votes: old_votes,
+                    table,
+                } = self;
+                match answer_of(alloc, configured, table, given, old_votes, given, votes) {
+                    Ok(Some(Answer { votes, outs })) => {
+                        drop(put);
+                        *old_votes = votes;
+                        Ok(outs)
+                    }
+                    Ok(None) => {
+                        table.undo(put);
+                        Ok(Vec::new(alloc))
+                    }
+                    Err(error) => {
+                        table.undo(put);
+                        Err(error)
+                    }
+                }
+            }
+        }
+    }
+
+    /// Passes, from what an event gave and these votes on, and what is given out. Where the limit of
+    /// passes is met, which no event does, the node stays as it was, as where memory is wanting.
+    fn settle(
+        &mut self,
+        alloc: Global,
+        given: Given,
+        votes: Votes,
+    ) -> Result<Vec<Out>, AllocError>
+        requires { Reached (answered self.old (after_change (Some (record self.old { given = given; votes = votes })))).0 }
+        ensures node { OnOk result (self.new ≡ (answered self.old (after_change (Some (record self.old { given = given; votes = votes })))).0) }
+        ensures outs { IfOk result (λ v. v.items ≡ (answered self.old (after_change (Some (record self.old { given = given; votes = votes })))).1) }
+        ensures err { OnErr result (self.new ≡ self.old) }
+    {
+        let answer = answer_of(
+            alloc,
+            &self.configured,
+            &self.table,
+            &self.given,
+            &self.votes,
+            &given,
+            votes,
+        )?;
+        match answer {
+            None => Ok(Vec::new(alloc)),
+            Some(Answer { votes, outs }) => {
+                self.given = given;
+                self.votes = votes;
+                Ok(outs)
+            }
+        }
+    }
+}
+
+/// What passes make of what was given and these votes, by the rows of this table, and what is given out
+/// since the old state. `None` where the limit of passes is met. An error says that memory is short.
+fn answer_of(
+    alloc: Global,
+    configured: &Configured,
+    table: &Table,
+    old_given: &Given,
+    old_votes: &Votes,
+    given: &Given,
+    votes: Votes,
+) -> Result<Option<Answer>, AllocError>
+    requires { IfSome (settle 64 (passed (whole configured.now given.now votes table.now)) votes) SendWellFormed }
+    ensures votes { IfOk result (λ o. option_map (λ a. a.votes) o ≡ settle 64 (passed (whole configured.now given.now votes table.now)) votes) }
+    ensures outs { IfOk result (λ o. IfSome o (λ a. (before after : List Sent) → a.outs.items ≡ outs (whole configured.now old_given.now old_votes.now before) (whole configured.now given.now a.votes after))) }
+{
+    let view = View::of(
+        alloc,
+        &configured.name,
+        &configured.slices,
+        &given.leaders,
+        table,
+    )?;
+    answer_to(
+        alloc, configured, &view, old_given, old_votes, given, votes,
+    )
 }

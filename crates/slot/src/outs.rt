@@ -7,7 +7,8 @@ ghost use Rattle.slot.specs.Wholes.{emitted_by, whole, SendWellFormed};
 ghost use Rattle.types.specs.Statements.{IsWellFormed, Sent};
 
 use crate::configured::Configured;
-use crate::sent::{envelope_of, is_same_sent, sent_nomination, sent_vote};
+use crate::sent::{envelope_of, is_same_sent, sent_nomination};
+use ballot::sent_vote;
 use std::alloc::{AllocError, Global};
 use types::{Ballot, Given, Out, Phase, Statement, Votes};
 
@@ -19,14 +20,14 @@ use types::{Ballot, Given, Out, Phase, Statement, Votes};
 pub(crate) fn outs(
     alloc: Global,
     configured: &Configured,
-    old: (&Given, &Votes),
-    new: (&Given, &Votes),
+    old_given: &Given,
+    old_votes: &Votes,
+    given: &Given,
+    votes: &Votes,
 ) -> Result<Vec<Out>, AllocError>
-    requires { SendWellFormed new.1.now }
-    ensures { IfOk result (λ v. (before after : List Sent) → v.items ≡ outs (whole configured.now old.0.now old.1.now before) (whole configured.now new.0.now new.1.now after)) }
+    requires { SendWellFormed votes.now }
+    ensures { IfOk result (λ v. (before after : List Sent) → v.items ≡ outs (whole configured.now old_given.now old_votes.now before) (whole configured.now given.now votes.now after)) }
 {
-    let (old_given, old_votes) = old;
-    let (given, votes) = new;
     let mut given_out = Vec::new(alloc);
     let is_round = given.round != old_given.round && votes.high.is_none();
     push_when(&mut given_out, is_round, Out::ArmNomination(given.round))?;

@@ -1,14 +1,13 @@
 //! What a node sends, and whether it is the same as before.
 
 ghost use Rattle.std.specs.Prelude.{◌≡◌, ◌↔◌, IfOk, IsTrue};
-ghost use Rattle.protocol.specs.States.{lowered, sent_nomination, sent_vote};
+ghost use Rattle.protocol.specs.States.{sent_nomination};
 ghost use Rattle.slot.specs.Wholes.{sent_by};
 ghost use Rattle.types.specs.Statements.{IsWellFormed};
 
 use crate::configured::Configured;
-use ballot::position;
 use std::alloc::{AllocError, Global};
-use types::{Ballot, Envelope, Statement, Votes};
+use types::{Envelope, Statement, Votes};
 
 /// The nomination that is sent, as soon as one of its sets is not empty. An error says that memory is
 /// short.
@@ -23,53 +22,6 @@ pub(crate) fn sent_nomination(alloc: Global, votes: &Votes) -> Result<Option<Sta
         }))
     } else {
         Ok(None)
-    }
-}
-
-/// The ballot statement that is sent: in [`types::Phase::Preparing`] nothing in it is above the ballot;
-/// nothing is sent without a ballot. It takes no memory.
-pub(crate) fn sent_vote(votes: &Votes) -> Option<Statement>
-    ensures { result ≡ sent_vote votes.now }
-{
-    match position(votes) {
-        Some(Statement::Prepare {
-            ballot,
-            prepared,
-            aborted_counter,
-            high_counter,
-            commit_counter,
-        }) => Some(Statement::Prepare {
-            ballot,
-            prepared: match prepared {
-                None => None,
-                Some(prepared) => Some(lowered(ballot, prepared)),
-            },
-            aborted_counter: aborted_counter.min(ballot.counter),
-            high_counter,
-            commit_counter,
-        }),
-        other => other,
-    }
-}
-
-/// The highest accepted ballot as it is sent: where it is above the ballot, the greatest of its value
-/// that is not.
-#[tactic(auto, unfolding(protocol::specs::States::lowered))]
-fn lowered(ballot: Ballot, prepared: Ballot) -> Ballot
-    ensures { result ≡ lowered ballot prepared }
-{
-    if ballot < prepared {
-        let counter = if !(prepared.value > ballot.value) {
-            ballot.counter
-        } else {
-            ballot.counter.saturating_sub(1)
-        };
-        Ballot {
-            counter,
-            value: prepared.value,
-        }
-    } else {
-        prepared
     }
 }
 

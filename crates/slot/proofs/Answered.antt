@@ -1,0 +1,138 @@
+-- How an answer leads to the step's: the votes that settle, and what the node of them sends.
+use Rattle.std.proofs.Common.{◌≡◌, ℕ, ◌+◌, ◌<◌, Bool, true, false, not, ◌&&◌, ◌==◌, nat_lt, List, [], ◌++◌, ◌∷◌, Option, Some, None, option_map, is_some, if◌then◌else◌, refl, subst, ◌∙◌, sym, ap, inl, inr, ◌⊎◌, arith}
+use Rattle.std.specs.Prelude.{IfSome}
+use Rattle.std.proofs.lemmas.Bool.{and_parts, eqb-true, false≢true}
+use Rattle.std.proofs.lemmas.Bool.Decides.{nat_tests}
+use Rattle.types.specs.Statements.{Sent}
+use Rattle.types.specs.declared.ballot.Ballot.{Ballot}
+use Rattle.types.specs.declared.event.NodeEvent.{NodeEvent}
+use Rattle.types.specs.declared.event.NodeEvent.TheVariants.{Propose, Take, NominationTimer, BallotTimer}
+use Rattle.types.specs.declared.event.Out.{Out}
+use Rattle.types.specs.declared.state.Given.{Given}
+use Rattle.types.specs.declared.state.Votes.{Votes}
+use Rattle.protocol.specs.Rows.{is_taken, with_row}
+use Rattle.protocol.specs.States.{counter_of}
+use Rattle.protocol.specs.Timers.{is_nomination_timer_live, is_ballot_timer_live}
+use Rattle.protocol.specs.Nodes.{Node, passed, settle, change, settled, after_change, answered, step, in_round, timed_out, bumped, is_externalized}
+use Rattle.protocol.specs.Limits.{Reached}
+use Rattle.protocol.specs.Limits.Reached.{next}
+use Rattle.protocol.proofs.ReachedLaws.{reached-sends}
+use Rattle.latest.specs.declared.table.Put.{Put}
+use Rattle.latest.specs.declared.table.Put.TheVariants.{Stale, NoMemory, Added, Replaced}
+use Rattle.latest.specs.Puts.{IsPut}
+use Rattle.slot.specs.declared.configured.Configured.{Configured}
+use Rattle.slot.specs.Wholes.{whole, led, SendWellFormed}
+
+-- what an event changes leads to a reached node
+pub reached-after : (n m : Node) (e : NodeEvent) → Reached n → change n e ≡ Some m → Reached (answered n (after_change (Some m))).0
+unfolding step
+reached-after n m e r h = subst (λ (o : Option Node). Reached (answered n (after_change o)).0) h (next r e)
+
+-- what its votes send once they settle is well formed
+pub sends-after : (n m : Node) → Reached (answered n (after_change (Some m))).0 → IfSome (settle 64 (passed m) m.votes) SendWellFormed
+sends-after n m r = go (settle 64 (passed m) m.votes) r
+  where
+    go : (o : Option Votes) → Reached (answered n (settled m o)).0 → IfSome o SendWellFormed
+    go None r = tt
+    go (Some w) r = reached-sends r
+
+-- a step is the answer to its change
+pub step-is : (n : Node) (e : NodeEvent) (o : Option Node) → change n e ≡ o → step n e ≡ answered n (after_change o)
+unfolding step
+step-is n e o h = ap (λ (o : Option Node). answered n (after_change o)) h
+
+-- ---- the changes, part by part
+pub change-propose : (c : Configured) (given g : Given) (votes w : Votes) (table : List Sent) (n : Node) (x : List ℕ) → n ≡ whole c given votes table
+    → g ≡ led c (record given { input = Some x }) 1 → w ≡ votes → change n (Propose x) ≡ Some (record n { given = g; votes = w })
+unfolding change
+change-propose c given g votes w table n x e eg ew = ap (λ m. change m (Propose x)) e ∙ (λ i. Some (record (sym e i) { given = sym eg i; votes = sym ew i }))
+
+pub change-round : (c : Configured) (given g : Given) (votes w : Votes) (table : List Sent) (n : Node) (r : ℕ) → n ≡ whole c given votes table
+    → is_nomination_timer_live r given.round (is_some votes.high) ≡ true → g ≡ led c given (r + 1) → w ≡ votes → change n (NominationTimer r) ≡ Some (record n { given = g; votes = w })
+unfolding change
+change-round c given g votes w table n r e live eg ew =
+    ap (λ m. change m (NominationTimer r)) e
+    ∙ ap (λ b. if b then Some (in_round (whole c given votes table) (r + 1)) else None) live
+    ∙ (λ i. Some (record (sym e i) { given = sym eg i; votes = sym ew i }))
+
+pub change-no_round : (c : Configured) (given : Given) (votes : Votes) (table : List Sent) (n : Node) (r : ℕ) → n ≡ whole c given votes table
+    → is_nomination_timer_live r given.round (is_some votes.high) ≡ false → change n (NominationTimer r) ≡ None
+unfolding change
+change-no_round c given votes table n r e dead = ap (λ m. change m (NominationTimer r)) e ∙ ap (λ b. if b then Some (in_round (whole c given votes table) (r + 1)) else None) dead
+
+pub change-take : (c : Configured) (given : Given) (votes w : Votes) (table t : List Sent) (n : Node) (x : Sent) → n ≡ whole c given votes table
+    → is_taken table x ≡ true → t ≡ with_row x table → w ≡ votes → change n (Take x) ≡ Some (whole c given w t)
+unfolding change
+change-take c given votes w table t n x e taken et ew =
+    ap (λ m. change m (Take x)) e
+    ∙ ap (λ b. if b then Some (whole c given votes (with_row x table)) else None) taken
+    ∙ (λ i. Some (whole c given (sym ew i) (sym et i)))
+
+pub change-stale : (c : Configured) (given : Given) (votes : Votes) (table : List Sent) (n : Node) (x : Sent) → n ≡ whole c given votes table → is_taken table x ≡ false → change n (Take x) ≡ None
+unfolding change
+change-stale c given votes table n x e stale = ap (λ m. change m (Take x)) e ∙ ap (λ b. if b then Some (whole c given votes (with_row x table)) else None) stale
+
+-- the counter of a ballot, where there is one
+abbrev pub counter_in : Option Ballot → Option ℕ
+counter_in o = option_map (λ (b : Ballot). b.counter) o
+
+pub change-counter : (c : Configured) (given g : Given) (votes w : Votes) (table : List Sent) (n : Node) (k : ℕ) → n ≡ whole c given votes table
+    → is_ballot_timer_live k votes.armed (counter_in votes.ballot) (is_externalized votes.phase) ≡ true → g ≡ record given { fired = given.fired + 1 } → w ≡ bumped votes votes.ballot
+    → change n (BallotTimer k) ≡ Some (record n { given = g; votes = w })
+unfolding change
+change-counter c given g votes w table n k e live eg ew =
+    ap (λ m. change m (BallotTimer k)) e
+    ∙ ap (λ b. if b then Some (timed_out (whole c given votes table)) else None) live
+    ∙ (λ i. Some (record (sym e i) { given = sym eg i; votes = sym ew i }))
+
+pub change-no_counter : (c : Configured) (given : Given) (votes : Votes) (table : List Sent) (n : Node) (k : ℕ) → n ≡ whole c given votes table
+    → is_ballot_timer_live k votes.armed (counter_in votes.ballot) (is_externalized votes.phase) ≡ false → change n (BallotTimer k) ≡ None
+unfolding change
+change-no_counter c given votes table n k e dead = ap (λ m. change m (BallotTimer k)) e ∙ ap (λ b. if b then Some (timed_out (whole c given votes table)) else None) dead
+
+-- a ballot timer is live below the last counter alone
+pub live-below : (k armed : ℕ) (o : Option Ballot) (over : Bool) → is_ballot_timer_live k armed (counter_in o) over ≡ true → counter_of o < 4294967295
+live-below k armed None over h = omega arith
+live-below k armed (Some b) over h =
+    let p = and_parts (not over && (k == armed) && (b.counter == k)) (nat_lt k 4294967295) h in
+    let same : b.counter ≡ k = eqb-true b.counter k (and_parts (not over && (k == armed)) (b.counter == k) p.0).1 in
+    subst (λ (m : ℕ). m < 4294967295) (sym same) (under k p.1)
+  where
+    under : (m : ℕ) → nat_lt m 4294967295 ≡ true → m < 4294967295
+    under m e = grind (arith, nat_tests)
+
+-- ---- envelopes
+-- the table has the envelope
+abbrev pub is_kept : Put → Bool
+is_kept Stale = false
+is_kept NoMemory = false
+is_kept Added = true
+is_kept (Replaced r) = true
+
+kept-is_taken : (old new : List Sent) (x : Sent) (p : Put) → IsPut old x p new → is_kept p ≡ true → (is_taken old x ≡ true) × (new ≡ with_row x old)
+kept-is_taken old new x Stale h k = absurd (false≢true k)
+kept-is_taken old new x NoMemory h k = absurd (false≢true k)
+kept-is_taken old new x Added h k = (h.1, h.2)
+kept-is_taken old new x (Replaced r) h k = (h.1, h.2)
+
+pub change-put : (c : Configured) (given : Given) (votes w : Votes) (table t : List Sent) (n : Node) (x : Sent) (p : Put) → n ≡ whole c given votes table
+    → IsPut table x p t → (p ≡ Added) ⊎ ((y : Sent) × (p ≡ Replaced y)) → w ≡ votes → change n (Take x) ≡ Some (whole c given w t)
+change-put c given votes w table t n x p e put is ew =
+    let taken = kept-is_taken table t x p put (kept is) in
+    change-take c given votes w table t n x e taken.0 taken.1 ew
+  where
+    kept : (p ≡ Added) ⊎ ((y : Sent) × (p ≡ Replaced y)) → is_kept p ≡ true
+    kept (inl q) = ap is_kept q
+    kept (inr q) = ap is_kept q.1
+
+-- ---- whole steps
+-- the votes settle
+pub step-some : (n m : Node) (e : NodeEvent) (w : Votes) → change n e ≡ Some m → settle 64 (passed m) m.votes ≡ Some w → step n e ≡ answered n (Some (record m { votes = w }))
+step-some n m e w h s = step-is n e (Some m) h ∙ ap (λ (o : Option Votes). answered n (settled m o)) s
+
+-- the limit is met
+pub step-none : (n m : Node) (e : NodeEvent) → change n e ≡ Some m → settle 64 (passed m) m.votes ≡ None → step n e ≡ answered n None
+step-none n m e h s = step-is n e (Some m) h ∙ ap (λ (o : Option Votes). answered n (settled m o)) s
+
+pub reached-some : (n m : Node) (e : NodeEvent) (w : Votes) → Reached n → change n e ≡ Some m → settle 64 (passed m) m.votes ≡ Some w → Reached (record m { votes = w })
+reached-some n m e w r h s = subst (λ (p : Node × List Out). Reached p.0) (step-some n m e w h s) (next r e)

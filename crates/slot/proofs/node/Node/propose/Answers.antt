@@ -1,0 +1,30 @@
+use Rattle.std.proofs.Common.{◌≡◌, ◌∙◌, ◌≤◌, ◌<◌, ℕ, List, [], Option, Some, None, IfOk, OnOk, sym, ap, subst, arith}
+use Rattle.types.specs.declared.event.Out.{Out}
+use Rattle.types.specs.declared.event.NodeEvent.TheVariants.{Propose, Take, NominationTimer, BallotTimer}
+use Rattle.protocol.specs.Nodes.{Node, after_change, answered, step}
+use Rattle.protocol.specs.Limits.{Reached}
+use Rattle.slot.proofs.Answered.{reached-after, step-is, change-propose}
+use Rattle.slot.proofs.node.Node.propose.Goals as goal
+
+pub settle-requires : goal.settle-requires
+settle-requires c =
+    let n = c.args.self.now in
+    let i = c.self.inside in
+    let made = change-propose i.configured i.given c.in_ok-given.given i.votes c.in_ok-votes.votes i.table n c.args.value (sym c.self.view_is) c.in_ok-given.ensures c.in_ok-votes.ensures in
+    reached-after n (record n { given = c.in_ok-given.given; votes = c.in_ok-votes.votes }) (Propose c.args.value) (subst Reached c.self.view_is c.self.invariant) made
+
+pub returns-clause-node : goal.returns-clause-node
+returns-clause-node c =
+    let n = c.args.self.now in
+    let i = c.self.inside in
+    let made = change-propose i.configured i.given c.in_ok-given.given i.votes c.in_ok-votes.votes i.table n c.args.value (sym c.self.view_is) c.in_ok-given.ensures c.in_ok-votes.ensures in
+    let m : Node = record n { given = c.in_ok-given.given; votes = c.in_ok-votes.votes } in
+    subst (λ (p : Node × List Out). OnOk c.settle.result (c.settle.new.self ≡ p.0)) (sym (step-is n (Propose c.args.value) (Some m) made)) c.settle.ensures.node
+
+pub returns-clause-outs : goal.returns-clause-outs
+returns-clause-outs c =
+    let n = c.args.self.now in
+    let i = c.self.inside in
+    let made = change-propose i.configured i.given c.in_ok-given.given i.votes c.in_ok-votes.votes i.table n c.args.value (sym c.self.view_is) c.in_ok-given.ensures c.in_ok-votes.ensures in
+    let m : Node = record n { given = c.in_ok-given.given; votes = c.in_ok-votes.votes } in
+    subst (λ (p : Node × List Out). IfOk c.settle.result (λ v. v.items ≡ p.1)) (sym (step-is n (Propose c.args.value) (Some m) made)) c.settle.ensures.outs

@@ -1,0 +1,46 @@
+//! What passes make of a node that an event changed.
+
+ghost use Rattle.std.specs.Prelude.{◌≡◌, List, IfOk, IfSome, option_map};
+ghost use Rattle.protocol.specs.Nodes.{outs, settle};
+ghost use Rattle.protocol.specs.Passes.{pass};
+ghost use Rattle.slot.specs.Wholes.{whole, SendWellFormed};
+ghost use Rattle.types.specs.Statements.{Sent};
+
+use crate::configured::Configured;
+use crate::outs::outs;
+use crate::settling::settle;
+use fedvote::Sight;
+use std::alloc::{AllocError, Global};
+use types::{Given, Out, Votes};
+
+/// The votes after an event, and what the node gives out.
+#[derive(Drop)]
+pub(crate) struct Answer {
+    pub votes: Votes,
+    pub outs: Vec<Out>,
+}
+
+/// Passes, from what was given and these votes on, and what is given out since the old state. `None`
+/// where the limit of passes is met. An error says that memory is short.
+pub(crate) fn answer_to<S: Sight>(
+    alloc: Global,
+    configured: &Configured,
+    sight: &S,
+    old_given: &Given,
+    old_votes: &Votes,
+    given: &Given,
+    votes: Votes,
+) -> Result<Option<Answer>, AllocError>
+    requires { IfSome (settle 64 (pass configured.now.name (S.seen sight.now) given.now) votes) SendWellFormed }
+    ensures votes { IfOk result (λ o. option_map (λ a. a.votes) o ≡ settle 64 (pass configured.now.name (S.seen sight.now) given.now) votes) }
+    ensures outs { IfOk result (λ o. IfSome o (λ a. (before after : List Sent) → a.outs.items ≡ outs (whole configured.now old_given.now old_votes.now before) (whole configured.now given.now a.votes after))) }
+{
+    let settled = settle(alloc, &configured.name, sight, given, votes)?;
+    match settled {
+        None => Ok(None),
+        Some(votes) => {
+            let outs = outs(alloc, configured, old_given, old_votes, given, &votes)?;
+            Ok(Some(Answer { votes, outs }))
+        }
+    }
+}
