@@ -1,8 +1,7 @@
 -- Ballots that better what is there, one after another, and all at once.
-use Rattle.std.proofs.Common.{◌≡◌, Bool, true, false, cond, List, [], ◌∷◌, ◌++◌, Option, Some, None, filter, if◌then◌else◌, refl, sym, ◌∙◌, ap}
+use Rattle.std.proofs.Common.{◌≡◌, Bool, true, false, cond, List, [], ◌∷◌, ◌++◌, Option, Some, None, filter, refl, sym, ◌∙◌, ap}
 use Rattle.types.specs.declared.ballot.Ballot.{Ballot}
 use Rattle.protocol.specs.Candidates.{greatest, is_counted}
-use Rattle.protocol.specs.States.{below}
 use Rattle.fedvote.specs.Searching.{is_under, bettered}
 
 -- one ballot more

@@ -1,11 +1,10 @@
 -- Searches among statements, one after another.
-use Rattle.std.proofs.Common.{◌≡◌, ℕ, ◌+◌, ◌<◌, ◌≤◌, suc, add-one, drop, get_or, length, map, min, Bool, true, false, nat_lt, List, [], ◌∷◌, ◌++◌, Option, Some, None, filter_map, flat_map, if◌then◌else◌, refl, sym, ◌∙◌, ap, arith}
+use Rattle.std.proofs.Common.{◌≡◌, ℕ, ◌+◌, ◌<◌, ◌≤◌, suc, add-one, drop, get_or, length, map, min, Bool, true, false, nat_lt, List, [], ◌∷◌, Option, Some, None, filter_map, flat_map, if◌then◌else◌, refl, sym, ◌∙◌, ap, arith}
 use Rattle.std.specs.List.{cons_option}
 use Rattle.std.proofs.Math.Seq.{drop-cons}
 use Rattle.std.proofs.lemmas.List.{drop_all}
 use Rattle.types.specs.declared.ballot.Ballot.{Ballot}
 use Rattle.types.specs.declared.statement.Statement.{Statement}
-use Rattle.protocol.specs.Candidates.{named_by, committed_by}
 use Rattle.fedvote.specs.Searching.{bettered, counter_by, lesser, least_above, next_counter}
 use Rattle.fedvote.proofs.Bettering.{bettered_append, bettered_none}
 use Rattle.view.specs.Watching.{lesser_of}

@@ -1,4 +1,4 @@
-use Rattle.std.proofs.Common.{◌≡◌, ◌∙◌, ◌∷◌, [], ap, sym}
+use Rattle.std.proofs.Common.{◌∙◌, ◌∷◌, [], ap, sym}
 use Rattle.types.specs.declared.ballot.Ballot.{Ballot}
 use Rattle.types.specs.declared.statement.Statement.{Statement}
 use Rattle.protocol.specs.Candidates.{committed_by}

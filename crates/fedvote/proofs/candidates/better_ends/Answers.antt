@@ -1,4 +1,4 @@
-use Rattle.std.proofs.Common.{◌≡◌, ◌∙◌, ◌∷◌, [], ap₂}
+use Rattle.std.proofs.Common.{◌∙◌, ◌∷◌, [], ap₂}
 use Rattle.types.specs.declared.ballot.Ballot.{Ballot}
 use Rattle.fedvote.specs.Searching.{bettered}
 use Rattle.fedvote.proofs.Bettering.{one_first}
