@@ -1,6 +1,6 @@
 -- How an answer leads to the step's: the votes that settle, and what the node of them sends.
-use Rattle.std.proofs.Common.{◌≡◌, ℕ, ◌+◌, ◌<◌, Bool, true, false, not, ◌&&◌, ◌==◌, nat_lt, List, [], ◌++◌, ◌∷◌, Option, Some, None, option_map, is_some, if◌then◌else◌, refl, subst, ◌∙◌, sym, ap, inl, inr, ◌⊎◌, arith}
-use Rattle.std.specs.Prelude.{IfSome}
+use Rattle.std.proofs.Common.{◌≡◌, ℕ, ◌+◌, ◌<◌, Bool, true, false, not, ◌&&◌, ◌==◌, nat_lt, List, [], ◌++◌, ◌∷◌, Option, Some, None, Result, Ok, Err, Vec, Global, IfOk, OnOk, option_map, is_some, if◌then◌else◌, refl, subst, ◌∙◌, sym, ap, inl, inr, ◌⊎◌, arith}
+use Rattle.std.specs.Prelude.{IfSome, IsFalse}
 use Rattle.std.proofs.lemmas.Bool.{and_parts, eqb-true, false≢true}
 use Rattle.std.proofs.lemmas.Bool.Decides.{nat_tests}
 use Rattle.types.specs.Statements.{Sent}
@@ -10,13 +10,16 @@ use Rattle.types.specs.declared.event.NodeEvent.TheVariants.{Propose, Take, Nomi
 use Rattle.types.specs.declared.event.Out.{Out}
 use Rattle.types.specs.declared.state.Given.{Given}
 use Rattle.types.specs.declared.state.Votes.{Votes}
-use Rattle.protocol.specs.Rows.{is_taken, with_row}
+use Rattle.protocol.specs.Rows.{is_taken, row, with_row}
 use Rattle.protocol.specs.States.{counter_of}
 use Rattle.protocol.specs.Timers.{is_nomination_timer_live, is_ballot_timer_live}
 use Rattle.protocol.specs.Nodes.{Node, passed, settle, change, settled, after_change, answered, step, in_round, timed_out, bumped, is_externalized}
 use Rattle.protocol.specs.Limits.{Reached}
 use Rattle.protocol.specs.Limits.Reached.{next}
-use Rattle.protocol.proofs.ReachedLaws.{reached-sends}
+use Rattle.protocol.proofs.ReachedLaws.{reached-calm, reached-sends}
+use Rattle.protocol.proofs.ClaimLaws.{quiet_claim}
+use Rattle.protocol.specs.Claims.{IsClosedFor, IsQuiet}
+use Rattle.protocol.specs.Sets.{Names}
 use Rattle.latest.specs.declared.table.Put.{Put}
 use Rattle.latest.specs.declared.table.Put.TheVariants.{Stale, NoMemory, Added, Replaced}
 use Rattle.latest.specs.Puts.{IsPut}
@@ -136,3 +139,19 @@ step-none n m e h s = step-is n e (Some m) h ∙ ap (λ (o : Option Votes). answ
 
 pub reached-some : (n m : Node) (e : NodeEvent) (w : Votes) → Reached n → change n e ≡ Some m → settle 64 (passed m) m.votes ≡ Some w → Reached (record m { votes = w })
 reached-some n m e w r h s = subst (λ (p : Node × List Out). Reached p.0) (step-some n m e w h s) (next r e)
+
+-- ---- quiet
+-- an envelope from outside of a set that is closed for the node
+pub quiet-after : {E : Type 0} (n new : Node) (event : NodeEvent) (r : Result (Vec Out Global) E) → Reached n → OnOk r (new ≡ (step n event).0) → IfOk r (λ v. v.items ≡ (step n event).1)
+    → (R : Names) (x : Sent) → event ≡ Take x → IsClosedFor R n → IsFalse (R x.sender) → IfOk r (λ v. IsQuiet R n new v.items)
+quiet-after n new event (Ok v) h node outs R x is closed out =
+    let q = quiet_claim R n x closed (reached-calm h) out in
+    let same : new ≡ (step n (Take x)).0 = node ∙ ap (λ (e : NodeEvent). (step n e).0) is in
+    let items : v.items ≡ (step n (Take x)).1 = outs ∙ ap (λ (e : NodeEvent). (step n e).1) is in
+    record {
+      outs = items ∙ q.outs;
+      given = ap (λ (m : Node). m.given) same ∙ q.given;
+      votes = ap (λ (m : Node). m.votes) same ∙ q.votes;
+      rows = λ u k i. ap (λ (m : Node). row m.table u k) same ∙ q.rows u k i;
+    }
+quiet-after n new event (Err e) h node outs R x is closed out = tt

@@ -1,8 +1,10 @@
 //! A node at a slot.
 
-ghost use Rattle.std.specs.Prelude.{◌≡◌, IfOk, IfSome, List, OnErr, OnOk, Some, option_map};
+ghost use Rattle.std.specs.Prelude.{◌≡◌, IfOk, IfSome, IsFalse, List, OnErr, OnOk, Some, option_map};
 ghost use Rattle.protocol.specs.Nodes.{Calm, after_change, answered, fresh, outs, passed, settle, step};
+ghost use Rattle.protocol.specs.Claims.{IsClosedFor, IsQuiet};
 ghost use Rattle.protocol.specs.Limits.{Reached};
+ghost use Rattle.protocol.specs.Sets.{Names};
 ghost use Rattle.slot.specs.Wholes.{SendWellFormed, whole};
 ghost use Rattle.types.specs.Statements.{Sent};
 ghost use Rattle.types.specs.declared.event.NodeEvent.{NodeEvent};
@@ -126,6 +128,7 @@ impl Node {
         ensures node { OnOk result (self.new ≡ (step self.old event).0) }
         ensures outs { IfOk result (λ v. v.items ≡ (step self.old event).1) }
         ensures err { OnErr result (self.new ≡ self.old) }
+        ensures quiet { (R : Names) (e : Sent) → event ≡ NodeEvent.Take e → IsClosedFor R self.old → IsFalse (R e.sender) → IfOk result (λ v. IsQuiet R self.old self.new v.items) }
     {
         match event {
             NodeEvent::Propose(value) => self.propose(alloc, value),
@@ -190,6 +193,7 @@ impl Node {
         ensures node { OnOk result (self.new ≡ (step self.old (NodeEvent.Take envelope)).0) }
         ensures outs { IfOk result (λ v. v.items ≡ (step self.old (NodeEvent.Take envelope)).1) }
         ensures err { OnErr result (self.new ≡ self.old) }
+        ensures reached { Reached self.old }
     {
         let votes = self.votes.try_copy(alloc)?;
         let put = self.table.put(envelope);
