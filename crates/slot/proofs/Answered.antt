@@ -1,5 +1,5 @@
 -- How an answer leads to the step's: the votes that settle, and what the node of them sends.
-use Rattle.std.proofs.Common.{◌≡◌, ℕ, ◌+◌, ◌<◌, Bool, true, false, not, ◌&&◌, ◌==◌, nat_lt, List, [], ◌++◌, ◌∷◌, Option, Some, None, Result, Ok, Err, Vec, Global, IfOk, OnOk, option_map, is_some, if◌then◌else◌, refl, subst, ◌∙◌, sym, ap, inl, inr, ◌⊎◌, arith}
+use Rattle.std.proofs.Common.{◌≡◌, ℕ, ◌+◌, ◌<◌, Bool, true, false, not, ◌&&◌, ◌==◌, nat_lt, List, Option, Some, None, Result, Ok, Err, Vec, Global, IfOk, OnOk, option_map, is_some, if◌then◌else◌, subst, ◌∙◌, sym, ap, inl, inr, ◌⊎◌, arith}
 use Rattle.std.specs.Prelude.{IfSome, IsFalse}
 use Rattle.std.proofs.lemmas.Bool.{and_parts, eqb-true, false≢true}
 use Rattle.std.proofs.lemmas.Bool.Decides.{nat_tests}

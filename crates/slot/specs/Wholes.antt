@@ -1,5 +1,5 @@
 -- A node of the definitions, from the parts of the one here.
-use Rattle.std.specs.Prelude.{◌≡◌, ℕ, ◌++◌, ◌∷◌, [], List, Option, Some, None, IfSome, if◌then◌else◌}
+use Rattle.std.specs.Prelude.{ℕ, ◌++◌, ◌∷◌, [], List, Option, Some, None, IfSome, if◌then◌else◌}
 use Rattle.types.specs.Statements.{Sent, IsWellFormed}
 use Rattle.types.specs.declared.event.Out.{Out}
 use Rattle.types.specs.declared.event.Out.TheVariants.{Emit}

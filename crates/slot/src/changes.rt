@@ -72,12 +72,7 @@ fn in_round(configured: &Configured, given: Given, round: u32) -> Result<Given, 
     ensures { IfOk result (λ g. g ≡ led configured.now given round) }
 {
     let mut given = given;
-    let leader = leader(
-        configured.slot,
-        round,
-        &configured.name,
-        &configured.slices,
-    );
+    let leader = leader(configured.slot, round, &configured.name, &configured.slices);
     given.leaders.push(leader)?;
     given.round = round;
     Ok(given)

@@ -112,7 +112,7 @@ impl Node {
         &self.table
     }
 
-    /// One more pass would change nothing.
+    /// A law: one more pass would change nothing.
     pub fn calm(&self)
         ensures { Calm self.now }
     {
@@ -188,7 +188,8 @@ impl Node {
     }
 
     /// An envelope reaches the node: where it is newer than its sender's row of its kind, it is the row
-    /// now. Where a later growth finds no memory, or the limit of passes is met, it is taken back out.
+    /// now. It is taken back out where a later growth finds no memory, and where the limit of passes is
+    /// met, as the definition says; no event meets it.
     fn take(&mut self, alloc: Global, envelope: Envelope) -> Result<Vec<Out>, AllocError>
         ensures node { OnOk result (self.new ≡ (step self.old (NodeEvent.Take envelope)).0) }
         ensures outs { IfOk result (λ v. v.items ≡ (step self.old (NodeEvent.Take envelope)).1) }
@@ -209,6 +210,7 @@ impl Node {
                 } = self;
                 match answer_of(alloc, configured, table, given, old_votes, given, votes) {
                     Ok(Some(Answer { votes, outs })) => {
+                        // The row stays, and the way back is let go.
                         drop(put);
                         *old_votes = votes;
                         Ok(outs)
@@ -227,13 +229,8 @@ impl Node {
     }
 
     /// Passes, from what an event gave and these votes on, and what is given out. Where the limit of
-    /// passes is met, which no event does, the node stays as it was, as where memory is wanting.
-    fn settle(
-        &mut self,
-        alloc: Global,
-        given: Given,
-        votes: Votes,
-    ) -> Result<Vec<Out>, AllocError>
+    /// passes is met the node stays as it was, as the definition says; no event meets it.
+    fn settle(&mut self, alloc: Global, given: Given, votes: Votes) -> Result<Vec<Out>, AllocError>
         requires { Reached (answered self.old (after_change (Some (record self.old { given = given; votes = votes })))).0 }
         ensures node { OnOk result (self.new ≡ (answered self.old (after_change (Some (record self.old { given = given; votes = votes })))).0) }
         ensures outs { IfOk result (λ v. v.items ≡ (answered self.old (after_change (Some (record self.old { given = given; votes = votes })))).1) }
@@ -281,7 +278,5 @@ fn answer_of(
         &given.leaders,
         table,
     )?;
-    answer_to(
-        alloc, configured, &view, old_given, old_votes, given, votes,
-    )
+    answer_to(alloc, configured, &view, old_given, old_votes, given, votes)
 }

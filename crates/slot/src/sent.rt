@@ -48,10 +48,5 @@ pub(crate) fn envelope_of(
     ensures { IfOk result (λ e. e ≡ sent_by configured.now statement) }
 {
     let slices = configured.slices.try_copy(alloc)?;
-    Ok(Envelope::of(
-        configured.name,
-        configured.slot,
-        slices,
-        statement,
-    ))
+    Ok(Envelope::of(configured.name, configured.slot, slices, statement))
 }

@@ -4,7 +4,7 @@ use Rattle.std.proofs.lemmas.List.{append-nil}
 use Rattle.types.specs.declared.event.Out.{Out}
 use Rattle.types.specs.declared.event.Out.TheVariants.{Emit}
 use Rattle.types.specs.declared.statement.Statement.{Statement}
-use Rattle.slot.specs.Wholes.{emitted_by, sent_by}
+use Rattle.slot.specs.Wholes.{emitted_by}
 use Rattle.slot.proofs.Emissions.{emitted-same, emitted-other}
 use Rattle.slot.proofs.outs.push_changed.Goals as goal
 

@@ -1,4 +1,4 @@
-use Rattle.std.proofs.Common.{◌≡◌, ◌∙◌, sym}
+use Rattle.std.proofs.Common.{◌∙◌, sym}
 use Rattle.types.specs.declared.event.NodeEvent.TheVariants.{Take}
 use Rattle.slot.proofs.Answered.{quiet-after}
 use Rattle.slot.proofs.node.Node.advance.Goals as goal

@@ -1,7 +1,7 @@
-use Rattle.std.proofs.Common.{◌≡◌, ◌∙◌, ◌≤◌, ◌<◌, ℕ, List, [], Option, Some, None, IfOk, OnOk, sym, ap, subst, arith}
+use Rattle.std.proofs.Common.{◌≡◌, ◌∙◌, List, Some, None, IfOk, OnOk, sym, ap, subst, arith}
 use Rattle.types.specs.declared.event.Out.{Out}
-use Rattle.types.specs.declared.event.NodeEvent.TheVariants.{Propose, Take, NominationTimer, BallotTimer}
-use Rattle.protocol.specs.Nodes.{Node, after_change, answered, step}
+use Rattle.types.specs.declared.event.NodeEvent.TheVariants.{BallotTimer}
+use Rattle.protocol.specs.Nodes.{Node}
 use Rattle.protocol.specs.Limits.{Reached}
 use Rattle.protocol.proofs.ReachedLaws.{reached-fired}
 use Rattle.slot.proofs.Answered.{reached-after, step-is, change-counter, change-no_counter, live-below}

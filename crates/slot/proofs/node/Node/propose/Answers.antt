@@ -1,7 +1,7 @@
-use Rattle.std.proofs.Common.{◌≡◌, ◌∙◌, ◌≤◌, ◌<◌, ℕ, List, [], Option, Some, None, IfOk, OnOk, sym, ap, subst, arith}
+use Rattle.std.proofs.Common.{◌≡◌, List, Some, IfOk, OnOk, sym, subst}
 use Rattle.types.specs.declared.event.Out.{Out}
-use Rattle.types.specs.declared.event.NodeEvent.TheVariants.{Propose, Take, NominationTimer, BallotTimer}
-use Rattle.protocol.specs.Nodes.{Node, after_change, answered, step}
+use Rattle.types.specs.declared.event.NodeEvent.TheVariants.{Propose}
+use Rattle.protocol.specs.Nodes.{Node}
 use Rattle.protocol.specs.Limits.{Reached}
 use Rattle.slot.proofs.Answered.{reached-after, step-is, change-propose}
 use Rattle.slot.proofs.node.Node.propose.Goals as goal

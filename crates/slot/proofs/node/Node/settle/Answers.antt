@@ -1,7 +1,5 @@
-use Rattle.std.proofs.Common.{◌≡◌, ◌∙◌, ◌≤◌, ◌<◌, ℕ, List, [], Option, Some, None, IfOk, OnOk, sym, ap, subst, arith}
-use Rattle.types.specs.declared.event.Out.{Out}
-use Rattle.types.specs.declared.event.NodeEvent.TheVariants.{Propose, Take, NominationTimer, BallotTimer}
-use Rattle.protocol.specs.Nodes.{Node, after_change, answered, step}
+use Rattle.std.proofs.Common.{Some, sym, subst}
+use Rattle.protocol.specs.Nodes.{Node, after_change, answered}
 use Rattle.protocol.specs.Limits.{Reached}
 use Rattle.slot.specs.Wholes.{whole}
 use Rattle.slot.proofs.Answered.{sends-after}
