@@ -1,0 +1,596 @@
+//! Histories at random: the nodes and the plain slow program give the same answers and come to the same
+//! states.
+
+use crate::slow::{Ballot, NODES, Out, Phase, Row, Set, State, Statement, Trust, Votes, bit, has};
+use crate::trial::Trial;
+use leaders::leader;
+use scripts::{name_of, slices_of};
+use std::alloc::{AllocError, Global};
+use std::process::Abort;
+use std::test::Fail;
+use types::{Nested, NodeId};
+
+// ---- numbers at random
+
+#[derive(Clone, Copy)]
+struct Dice {
+    state: u64,
+}
+
+impl Dice {
+    /// A number below this one, which is not 0.
+    fn below(&mut self, sides: u32) -> u32 {
+        self.state = self
+            .state
+            .wrapping_mul(6364136223846793005)
+            .wrapping_add(1442695040888963407);
+        let mut number = (self.state / (1 << 33)) as u32;
+        if sides > 0 {
+            number %= sides;
+        }
+        number
+    }
+
+    fn from_to(&mut self, least: u32, greatest: u32) -> u32 {
+        let more = self.below(greatest.saturating_sub(least).saturating_add(1));
+        least.saturating_add(more)
+    }
+
+    fn is_one_in(&mut self, sides: u32) -> bool {
+        self.below(sides) == 0
+    }
+
+    /// A set of the first numbers.
+    fn set(&mut self, count: u32) -> Set {
+        let mut set = 0;
+        for number in NODES {
+            if (number as u32) < count && self.is_one_in(2) {
+                set |= bit(number);
+            }
+        }
+        set
+    }
+
+    fn number(&mut self, count: u32) -> u8 {
+        let chosen = self.below(count);
+        let mut number = 0;
+        for other in NODES {
+            if other as u32 == chosen {
+                number = other;
+            }
+        }
+        number
+    }
+
+    /// The first value comes more often than the others.
+    fn value(&mut self) -> u8 {
+        if self.is_one_in(2) { 0 } else { self.number(3) }
+    }
+
+    fn ballot(&mut self, most: u32) -> Ballot {
+        Ballot {
+            counter: self.from_to(1, most),
+            value: self.value(),
+        }
+    }
+
+    /// A statement that keeps the rules of its kind.
+    fn statement(&mut self) -> Statement {
+        match self.below(10) {
+            0 | 1 => {
+                let accepted = self.set(4);
+                Statement::Nominate {
+                    voted: self.set(4) | bit(self.number(4)),
+                    accepted,
+                }
+            }
+            2..=6 => {
+                let ballot = self.ballot(5);
+                let prepared = self.ballot(5);
+                let high = self.from_to(0, ballot.counter);
+                Statement::Prepare {
+                    ballot,
+                    prepared: if prepared <= ballot {
+                        Some(prepared)
+                    } else {
+                        None
+                    },
+                    aborted: if self.is_one_in(2) {
+                        0
+                    } else {
+                        self.from_to(0, ballot.counter)
+                    },
+                    high,
+                    commit: self.from_to(0, high),
+                }
+            }
+            7 | 8 => {
+                let ballot = self.ballot(5);
+                let high = self.from_to(1, ballot.counter);
+                Statement::Commit {
+                    ballot,
+                    prepared: self.from_to(0, 6),
+                    high,
+                    commit: self.from_to(1, high),
+                }
+            }
+            _ => {
+                let commit = self.ballot(4);
+                Statement::Externalize {
+                    commit,
+                    high: self.from_to(commit.counter, 6),
+                }
+            }
+        }
+    }
+
+    /// Slices over the first nodes.
+    fn trust(&mut self, count: u32) -> Trust {
+        let members = self.set(count) | bit(self.number(count));
+        let inner = if self.is_one_in(3) {
+            self.set(count) & !members
+        } else {
+            0
+        };
+        let mut entries = members.count_ones();
+        if inner != 0 {
+            entries = entries.saturating_add(1);
+        }
+        Trust {
+            threshold: self.from_to(1, entries),
+            members,
+            inner_threshold: self.from_to(1, inner.count_ones()),
+            inner,
+        }
+    }
+}
+
+/// Most of the first nodes.
+fn majority(count: u32) -> Trust {
+    let mut members = 0;
+    for node in NODES {
+        if (node as u32) < count {
+            members |= bit(node);
+        }
+    }
+    Trust {
+        threshold: (count / 2).saturating_add(1),
+        members,
+        inner_threshold: 1,
+        inner: 0,
+    }
+}
+
+// ---- words
+
+const LETTERS: [&str; 7] = ["A", "B", "C", "D", "E", "F", "G"];
+
+const WORDS: [&str; 4] = ["a", "b", "c", "d"];
+
+fn letter(node: u8) -> &'static str {
+    match LETTERS.get(node as usize) {
+        Some(letter) => letter,
+        None => "?",
+    }
+}
+
+fn word(value: u8) -> &'static str {
+    match WORDS.get(value as usize) {
+        Some(word) => word,
+        None => "?",
+    }
+}
+
+fn push_members(text: &mut String, members: Set) -> Result<bool, AllocError> {
+    let mut some = false;
+    for node in NODES {
+        if has(members, node) {
+            if some {
+                text.push(',')?;
+            }
+            text.push_str(letter(node))?;
+            some = true;
+        }
+    }
+    Ok(some)
+}
+
+fn push_trust(text: &mut String, trust: Trust) -> Result<(), AllocError> {
+    write!(text, "{}[", trust.threshold)?;
+    let some = push_members(text, trust.members)?;
+    if trust.inner != 0 {
+        if some {
+            text.push(',')?;
+        }
+        write!(text, "{}[", trust.inner_threshold)?;
+        push_members(text, trust.inner)?;
+        text.push(']')?;
+    }
+    text.push(']')
+}
+
+fn push_set(text: &mut String, set: Set, between: &str) -> Result<(), AllocError> {
+    let mut some = false;
+    for value in NODES {
+        if has(set, value) {
+            if some {
+                text.push_str(between)?;
+            }
+            text.push_str(word(value))?;
+            some = true;
+        }
+    }
+    Ok(())
+}
+
+fn push_ballot(text: &mut String, ballot: Ballot) -> Result<(), AllocError> {
+    write!(text, "{}:{}", ballot.counter, word(ballot.value))
+}
+
+fn push_known(text: &mut String, ballot: Option<Ballot>) -> Result<(), AllocError> {
+    match ballot {
+        None => text.push('-'),
+        Some(ballot) => push_ballot(text, ballot),
+    }
+}
+
+fn push_statement(text: &mut String, statement: Statement) -> Result<(), AllocError> {
+    match statement {
+        Statement::Nominate { voted, accepted } => {
+            text.push_str("nom(")?;
+            push_set(text, voted, "+")?;
+            text.push('|')?;
+            push_set(text, accepted, "+")?;
+        }
+        Statement::Prepare {
+            ballot,
+            prepared,
+            aborted,
+            high,
+            commit,
+        } => {
+            text.push_str("prep(")?;
+            push_ballot(text, ballot)?;
+            text.push(',')?;
+            push_known(text, prepared)?;
+            write!(text, ",{aborted},{high},{commit}")?;
+        }
+        Statement::Commit {
+            ballot,
+            prepared,
+            high,
+            commit,
+        } => {
+            text.push_str("comm(")?;
+            push_ballot(text, ballot)?;
+            write!(text, ",{prepared},{high},{commit}")?;
+        }
+        Statement::Externalize { commit, high } => {
+            text.push_str("ext(")?;
+            push_ballot(text, commit)?;
+            write!(text, ",{high}")?;
+        }
+    }
+    text.push(')')
+}
+
+/// What the slow program gives out, in the words of the node.
+fn words_of(alloc: Global, outs: &[Out]) -> Result<String, AllocError> {
+    let mut text = String::new(alloc);
+    text.push_str("ok")?;
+    for out in outs {
+        match *out {
+            Out::ArmNomination(round) => write!(text, " arm-nomination {round}")?,
+            Out::ArmBallot(counter) => write!(text, " arm-ballot {counter}")?,
+            Out::Emit(statement) => {
+                text.push_str(" emit ")?;
+                push_statement(&mut text, statement)?;
+            }
+            Out::Externalized(value) => {
+                text.push_str(" externalized ")?;
+                text.push_str(word(value))?;
+            }
+        }
+    }
+    Ok(text)
+}
+
+/// The state of the slow program, in the words of the node.
+fn state_of(alloc: Global, state: &State) -> Result<String, AllocError> {
+    let mut text = String::new(alloc);
+    write!(text, "round {} fired {} leaders", state.round, state.fired)?;
+    for leader in state.leaders.as_slice() {
+        text.push(' ')?;
+        text.push_str(letter(*leader))?;
+    }
+    if let Some(input) = state.input {
+        text.push_str(" input ")?;
+        text.push_str(word(input))?;
+    }
+    push_votes(&mut text, state.votes)?;
+    Ok(text)
+}
+
+fn push_votes(text: &mut String, votes: Votes) -> Result<(), AllocError> {
+    for (name, set) in [
+        (" voted", votes.voted),
+        (" accepts", votes.accepts),
+        (" confirms", votes.confirms),
+    ] {
+        text.push_str(name)?;
+        if set != 0 {
+            text.push(' ')?;
+        }
+        push_set(text, set, " ")?;
+    }
+    text.push_str(match votes.phase {
+        Phase::Preparing => " preparing",
+        Phase::Committing => " committing",
+        Phase::Externalized => " externalized",
+    })?;
+    for (name, ballot) in [
+        (" ballot ", votes.ballot),
+        (" prepared ", votes.prepared),
+        (" high ", votes.high),
+        (" commit ", votes.commit),
+    ] {
+        text.push_str(name)?;
+        push_known(text, ballot)?;
+    }
+    write!(
+        text,
+        " aborted {} lo {} hi {} armed {}",
+        votes.aborted, votes.lo, votes.hi, votes.armed
+    )
+}
+
+// ---- histories
+
+/// One node twice, and the newest that it emitted of each kind.
+#[derive(Drop)]
+struct Twin {
+    slow: State,
+    real: Trial,
+    name: NodeId,
+    slices: Nested,
+    nominated: Option<Statement>,
+    balloted: Option<Statement>,
+}
+
+/// What happens to a node.
+#[derive(Clone, Copy)]
+enum Happening {
+    Said { sender: u8, row: Row },
+    Proposed(u8),
+    NominationTimer(u32),
+    BallotTimer(u32),
+}
+
+impl Twin {
+    fn new(rt: &impl Abort, alloc: Global, node: u8, trust: Trust) -> Result<Twin, AllocError> {
+        let mut words = String::new(alloc);
+        push_trust(&mut words, trust)?;
+        let words = words.as_str().as_bytes();
+        let name = letter(node).as_bytes();
+        Ok(Twin {
+            slow: State::new(alloc, node, trust),
+            real: Trial::new(rt, alloc, name, words)?,
+            name: name_of(name).expect(rt, "a name"),
+            slices: slices_of(alloc, words)?.expect(rt, "slices"),
+            nominated: None,
+            balloted: None,
+        })
+    }
+
+    /// The leader of a round, by number.
+    fn leader(&self, round: u32) -> u8 {
+        let chosen = leader(1, round, &self.name, &self.slices);
+        let mut number = 0;
+        for node in NODES {
+            if name_of(letter(node).as_bytes()) == Some(chosen) {
+                number = node;
+            }
+        }
+        number
+    }
+
+    fn line(alloc: Global, happening: Happening) -> Result<String, AllocError> {
+        let mut line = String::new(alloc);
+        match happening {
+            Happening::Said { sender, row } => {
+                write!(line, "say {} ", letter(sender))?;
+                push_trust(&mut line, row.trust)?;
+                line.push(' ')?;
+                push_statement(&mut line, row.said)?;
+            }
+            Happening::Proposed(value) => write!(line, "propose {}", word(value))?,
+            Happening::NominationTimer(round) => write!(line, "ntimer {round}")?,
+            Happening::BallotTimer(counter) => write!(line, "btimer {counter}")?,
+        }
+        Ok(line)
+    }
+
+    fn slow_outs(&mut self, alloc: Global, happening: Happening) -> Result<Vec<Out>, AllocError> {
+        match happening {
+            Happening::Said { sender, row } => self.slow.take(alloc, sender, row),
+            Happening::Proposed(value) => {
+                let leader = self.leader(1);
+                self.slow.propose(alloc, value, leader)
+            }
+            Happening::NominationTimer(round) => {
+                let leader = self.leader(round.saturating_add(1));
+                self.slow.nomination_timer(alloc, round, leader)
+            }
+            Happening::BallotTimer(counter) => self.slow.ballot_timer(alloc, counter),
+        }
+    }
+
+    /// Both take the event, and answer the same.
+    fn meet(
+        &mut self,
+        rt: &impl Abort,
+        alloc: Global,
+        happening: Happening,
+    ) -> Result<(), AllocError> {
+        let line = Twin::line(alloc, happening)?;
+        let outs = self.slow_outs(alloc, happening)?;
+        let expected = words_of(alloc, &outs)?;
+        let answer = self.real.answer(rt, alloc, line.as_str().as_bytes())?;
+        assert_eq!(rt; answer.as_str(), expected.as_str());
+        assert_eq!(rt;
+            self.real.state(alloc)?.as_str(),
+            state_of(alloc, &self.slow)?.as_str()
+        );
+        for out in outs.as_slice() {
+            if let Out::Emit(statement) = *out {
+                match statement {
+                    Statement::Nominate { .. } => self.nominated = Some(statement),
+                    _ => self.balloted = Some(statement),
+                }
+            }
+        }
+        Ok(())
+    }
+
+    fn emitted(&self, dice: &mut Dice) -> Option<Row> {
+        let chosen = if dice.is_one_in(3) {
+            self.nominated
+        } else {
+            self.balloted
+        };
+        match chosen {
+            None => None,
+            Some(said) => Some(Row {
+                trust: self.slow.trust,
+                said,
+            }),
+        }
+    }
+}
+
+/// A few nodes.
+#[derive(Drop)]
+struct History {
+    twins: Vec<Twin>,
+    dice: Dice,
+}
+
+impl History {
+    fn new(rt: &impl Abort, alloc: Global, seed: u64) -> Result<History, AllocError> {
+        let mut dice = Dice { state: seed };
+        let count = dice.from_to(1, 6);
+        let alike = dice.is_one_in(2);
+        let mut twins = Vec::new(alloc);
+        for node in NODES {
+            if (node as u32) < count {
+                let trust = if alike {
+                    majority(count)
+                } else {
+                    dice.trust(count)
+                };
+                twins.push(Twin::new(rt, alloc, node, trust)?)?;
+            }
+        }
+        Ok(History { twins, dice })
+    }
+
+    fn count(&self) -> u32 {
+        let mut count = 0u32;
+        for _ in self.twins.as_slice() {
+            count = count.saturating_add(1);
+        }
+        count
+    }
+
+    /// What another node emitted last, or else a statement at random, of a sender at random.
+    fn said(&mut self, node: u8) -> Happening {
+        let count = self.count();
+        let sender = self.dice.number(count);
+        if let Some(twin) = self.twins.get(sender as usize) {
+            if sender != node && !self.dice.is_one_in(3) {
+                if let Some(row) = twin.emitted(&mut self.dice) {
+                    return Happening::Said { sender, row };
+                }
+            }
+        }
+        let mut sender = self.dice.number(7);
+        if sender == node {
+            sender = if node == 6 { 0 } else { 6 };
+        }
+        let row = Row {
+            trust: self.dice.trust(7),
+            said: self.dice.statement(),
+        };
+        Happening::Said { sender, row }
+    }
+
+    fn happening(&mut self, node: u8) -> Happening {
+        let Some(twin) = self.twins.get(node as usize) else {
+            return Happening::NominationTimer(0);
+        };
+        let round = twin.slow.round;
+        let armed = twin.slow.votes.armed;
+        let proposed = twin.slow.input.is_some();
+        match self.dice.below(12) {
+            0 | 1 if !proposed => Happening::Proposed(self.dice.value()),
+            2 => Happening::NominationTimer(round),
+            3 => Happening::BallotTimer(armed),
+            4 if self.dice.is_one_in(4) => Happening::BallotTimer(self.dice.below(4)),
+            _ => self.said(node),
+        }
+    }
+
+    /// One event at one node, or the same statement of several senders there.
+    fn go_on(&mut self, rt: &impl Abort, alloc: Global) -> Result<(), AllocError> {
+        let count = self.count();
+        let node = self.dice.number(count);
+        let happening = self.happening(node);
+        let senders = if self.dice.is_one_in(4) {
+            self.dice.set(7)
+        } else {
+            0
+        };
+        let Some(twin) = self.twins.get_mut(node as usize) else {
+            return Ok(());
+        };
+        twin.meet(rt, alloc, happening)?;
+        if let Happening::Said { row, .. } = happening {
+            for sender in NODES {
+                if has(senders, sender) && sender != node {
+                    twin.meet(rt, alloc, Happening::Said { sender, row })?;
+                }
+            }
+        }
+        Ok(())
+    }
+}
+
+/// The most passes that an event of these histories takes, and how many nodes externalize.
+fn run(rt: &impl Abort, alloc: Global, from: u64, to: u64) -> Result<(u32, u32), AllocError> {
+    let mut most = 0;
+    let mut decided = 0u32;
+    for seed in from..to {
+        let mut history = History::new(rt, alloc, seed)?;
+        for _ in 0..30u32 {
+            history.go_on(rt, alloc)?;
+        }
+        for twin in history.twins.as_slice() {
+            if twin.slow.most_passes > most {
+                most = twin.slow.most_passes;
+            }
+            if twin.slow.votes.phase == Phase::Externalized {
+                decided = decided.saturating_add(1);
+            }
+        }
+    }
+    Ok((most, decided))
+}
+
+#[test]
+fn a_thousand_histories(rt: HostRuntime) -> Result<(), Fail> {
+    let (most, decided) = run(&rt, rt.alloc(), 0, 500)?;
+    println!(rt; "at most {most} passes an event, {decided} nodes externalized")?;
+    assert!(rt; most <= 4);
+    assert!(rt; decided > 0);
+    Ok(())
+}

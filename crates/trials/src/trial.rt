@@ -1,0 +1,158 @@
+//! One node, driven and answering in the words of scripts.
+
+use scripts::{
+    LineError, counter_of, fields_of, name_of, push_ballot, push_name, push_statement, push_value,
+    slices_of, statement_of, value_of,
+};
+use slot::Node;
+use std::alloc::{AllocError, Global};
+use std::process::Abort;
+use types::{Ballot, Envelope, NodeEvent, Out, Phase, Values, Votes};
+
+/// One node at slot 1.
+#[derive(Drop)]
+pub struct Trial {
+    node: Node,
+}
+
+impl Trial {
+    /// A node to which nothing has happened, from the words of its name and slices.
+    pub fn new(
+        rt: &impl Abort,
+        alloc: Global,
+        name: &[u8],
+        slices: &[u8],
+    ) -> Result<Trial, AllocError> {
+        let name = name_of(name).expect(rt, "a name");
+        let slices = slices_of(alloc, slices)?.expect(rt, "slices");
+        Ok(Trial {
+            node: Node::new(alloc, name, 1, slices),
+        })
+    }
+
+    /// What the node answers to a line: `say FROM SLICES STATEMENT`, `propose VALUE`, `ntimer ROUND` or
+    /// `btimer COUNTER`. The step beside the node and the step in place answer the same, and the former
+    /// leaves the node as it was.
+    pub fn answer(
+        &mut self,
+        rt: &impl Abort,
+        alloc: Global,
+        line: &[u8],
+    ) -> Result<String, AllocError> {
+        let before = self.state(alloc)?;
+        let (stepped, outs) = self.node.step(alloc, event_of(rt, alloc, line)?)?;
+        assert_eq!(rt; before.as_str(), self.state(alloc)?.as_str());
+        let beside = words_of(alloc, &outs)?;
+        let outs = self.node.advance(alloc, event_of(rt, alloc, line)?)?;
+        let answer = words_of(alloc, &outs)?;
+        assert_eq!(rt; beside.as_str(), answer.as_str());
+        assert_eq!(rt;
+            state_of(alloc, &stepped)?.as_str(),
+            self.state(alloc)?.as_str()
+        );
+        Ok(answer)
+    }
+
+    /// The state of the node beside its table, in words.
+    pub fn state(&self, alloc: Global) -> Result<String, AllocError> {
+        state_of(alloc, &self.node)
+    }
+}
+
+/// The event that a line tells.
+fn event_of(rt: &impl Abort, alloc: Global, line: &[u8]) -> Result<NodeEvent, AllocError> {
+    let fields = match fields_of(alloc, line) {
+        Ok(fields) => fields.expect(rt, "a line with fields"),
+        Err(LineError::NoMemory) => return Err(AllocError),
+        Err(LineError::Bad) => panic!(rt; "a good line"),
+    };
+    Ok(match fields.as_slice() {
+        [b"say", sender, slices, statement] => {
+            let sender = name_of(sender).expect(rt, "a name");
+            let slices = slices_of(alloc, slices)?.expect(rt, "slices");
+            let body = statement_of(alloc, statement)?.expect(rt, "a statement");
+            NodeEvent::Take(Envelope::new(sender, 1, slices, body).expect(rt, "well formed"))
+        }
+        [b"propose", value] => NodeEvent::Propose(value_of(value).expect(rt, "a value")),
+        [b"ntimer", round] => {
+            NodeEvent::NominationTimer(counter_of(round).expect(rt, "a round"))
+        }
+        [b"btimer", counter] => NodeEvent::BallotTimer(counter_of(counter).expect(rt, "a counter")),
+        _ => panic!(rt; "a known line"),
+    })
+}
+
+/// The words of what a node gives out.
+fn words_of(alloc: Global, outs: &[Out]) -> Result<String, AllocError> {
+    let mut text = String::new(alloc);
+    text.push_str("ok")?;
+    for out in outs {
+        match out {
+            Out::ArmNomination(round) => write!(text, " arm-nomination {round}")?,
+            Out::ArmBallot(counter) => write!(text, " arm-ballot {counter}")?,
+            Out::Emit(envelope) => {
+                text.push_str(" emit ")?;
+                push_statement(&mut text, envelope.body())?;
+            }
+            Out::Externalized(value) => {
+                text.push_str(" externalized ")?;
+                push_value(&mut text, value)?;
+            }
+        }
+    }
+    Ok(text)
+}
+
+/// The state of a node beside its table, in words.
+fn state_of(alloc: Global, node: &Node) -> Result<String, AllocError> {
+    let mut text = String::new(alloc);
+    let given = node.given();
+    write!(text, "round {} fired {} leaders", given.round, given.fired)?;
+    for leader in given.leaders.as_slice() {
+        text.push(' ')?;
+        push_name(&mut text, leader)?;
+    }
+    if let Some(input) = &given.input {
+        text.push_str(" input ")?;
+        push_value(&mut text, input)?;
+    }
+    push_votes(&mut text, node.votes())?;
+    Ok(text)
+}
+
+fn push_votes(text: &mut String, votes: &Votes) -> Result<(), AllocError> {
+    push_set(text, " voted", &votes.voted)?;
+    push_set(text, " accepts", &votes.accepts)?;
+    push_set(text, " confirms", &votes.confirms)?;
+    text.push_str(match votes.phase {
+        Phase::Preparing => " preparing",
+        Phase::Committing => " committing",
+        Phase::Externalized => " externalized",
+    })?;
+    push_known(text, " ballot ", &votes.ballot)?;
+    push_known(text, " prepared ", &votes.prepared)?;
+    push_known(text, " high ", &votes.high)?;
+    push_known(text, " commit ", &votes.commit)?;
+    write!(
+        text,
+        " aborted {} lo {} hi {} armed {}",
+        votes.aborted, votes.lo, votes.hi, votes.armed
+    )
+}
+
+fn push_set(text: &mut String, word: &str, values: &Values) -> Result<(), AllocError> {
+    text.push_str(word)?;
+    for value in values.as_slice() {
+        text.push(' ')?;
+        push_value(text, value)?;
+    }
+    Ok(())
+}
+
+fn push_known(text: &mut String, word: &str, ballot: &Option<Ballot>) -> Result<(), AllocError> {
+    text.push_str(word)?;
+    match ballot {
+        None => text.push('-'),
+        Some(ballot) => push_ballot(text, ballot),
+    }
+}
