@@ -1,12 +1,16 @@
-//! One node, and how it bears many events: `pace REACHED STRANGERS EVENTS`, for measuring.
+//! One node, and how it bears many events: `pace REACHED STRANGERS EVENTS`, for measuring; and how it
+//! bears want of memory: `pace story`.
 //!
 //! The node trusts 43 of 64 of so many nodes, up to 256, and each of them 43 of the 64 from itself on. Each
 //! has a nomination and a ballot in the node's table, and so many strangers have one ballot each. Then
 //! the reached nodes raise their ballots, one after another, in so many events. It prints how many
 //! statements the node sends meanwhile.
+//!
+//! The story is that of a stranger who becomes reached, with timers. An event that finds no memory is
+//! tried once more. It prints how many things the node gives out at each event.
 #![tactic(auto)]
 
-use scripts::number_of;
+use scripts::{counter_of, name_of, number_of, slices_of, statement_of};
 use slot::Node;
 use std::alloc::{AllocError, Global};
 use std::env;
@@ -29,34 +33,122 @@ struct Sizes {
     events: u64,
 }
 
+/// What a run is to do.
+#[derive(Clone, Copy)]
+enum Call {
+    Measure(Sizes),
+    Story,
+}
+
 fn main(rt: HostRuntime) -> ExitCode {
     let mut out = rt.stdout();
-    match sizes_of(&rt) {
-        None => ExitCode::from(2),
-        Some(sizes) => match sent_in(rt.alloc(), sizes) {
-            Err(_) => ExitCode::from(3),
-            Ok(sent) => match writeln!(out, "{sent}") {
-                Ok(()) => ExitCode::from(0),
-                Err(_) => ExitCode::from(4),
-            },
+    let Some(call) = call_of(&rt) else {
+        return ExitCode::from(2);
+    };
+    let printed = match call {
+        Call::Measure(sizes) => sent_in(rt.alloc(), sizes),
+        Call::Story => told(rt.alloc()),
+    };
+    match printed {
+        Err(_) => ExitCode::from(3),
+        Ok(number) => match writeln!(out, "{number}") {
+            Ok(()) => ExitCode::from(0),
+            Err(_) => ExitCode::from(4),
         },
     }
 }
 
-fn sizes_of<R: Env + AllocGlobal>(rt: &R) -> Option<Sizes> {
+fn call_of<R: Env + AllocGlobal>(rt: &R) -> Option<Call> {
     let Ok(words) = env::args(rt) else {
         return None;
     };
     let words: Vec<String> = words.skip(1).collect(rt.alloc()).ok()?;
     match words.as_slice() {
-        [reached, strangers, events] => Some(Sizes {
+        [_story] => Some(Call::Story),
+        [reached, strangers, events] => Some(Call::Measure(Sizes {
             reached: number_of(reached.as_str().as_bytes())?,
             strangers: number_of(strangers.as_str().as_bytes())?,
             events: number_of(events.as_str().as_bytes())?,
-        }),
+        })),
         _ => None,
     }
 }
+
+// ---- the story
+
+/// Each line: a sender with its slices and statement, or a ballot timer.
+const STORY: [(&str, &str, &str); 7] = [
+    ("B", "1[B]", "prep(9:m,9:m,6,0,0)"),
+    ("C", "1[C]", "prep(8:k,8:k,6,0,0)"),
+    ("Z", "1[Z]", "prep(5:q,-,0,0,0)"),
+    ("D", "1[Z]", "prep(1:k,-,0,0,0)"),
+    ("", "", "8"),
+    ("", "", "8"),
+    ("C", "1[C]", "prep(9:m,9:m,6,0,0)"),
+];
+
+/// How many things the node A with the slices `2[B,C,D]` gives out at each event: a digit each, from the
+/// first on.
+fn told(alloc: Global) -> Result<u64, AllocError> {
+    let mut node = match begun(alloc) {
+        Ok(node) => node,
+        Err(_) => begun(alloc)?,
+    };
+    let mut digits = 1u64;
+    for line in STORY {
+        let given_out = match tried(alloc, &mut node, line) {
+            Ok(given_out) => given_out,
+            Err(_) => tried(alloc, &mut node, line)?,
+        };
+        digits = digits.saturating_mul(10).saturating_add(given_out);
+    }
+    Ok(digits)
+}
+
+fn begun(alloc: Global) -> Result<Node, AllocError> {
+    let slices = slices_of(alloc, b"2[B,C,D]")?;
+    match (name_of(b"A"), slices) {
+        (Some(name), Some(slices)) => Ok(Node::new(alloc, name, 1, slices)),
+        _ => Err(AllocError),
+    }
+}
+
+fn tried(alloc: Global, node: &mut Node, line: (&str, &str, &str)) -> Result<u64, AllocError> {
+    match event_of(alloc, line)? {
+        None => Ok(9),
+        Some(event) => {
+            let outs = node.advance(alloc, event)?;
+            let mut number = 0u64;
+            for _ in outs.as_slice() {
+                number = number.saturating_add(1);
+            }
+            Ok(number)
+        }
+    }
+}
+
+fn event_of(alloc: Global, line: (&str, &str, &str)) -> Result<Option<NodeEvent>, AllocError> {
+    let (sender, slices, said) = line;
+    let said = said.as_bytes();
+    if let Some(counter) = counter_of(said) {
+        return Ok(Some(NodeEvent::BallotTimer(counter)));
+    }
+    let Some(sender) = name_of(sender.as_bytes()) else {
+        return Ok(None);
+    };
+    let Some(slices) = slices_of(alloc, slices.as_bytes())? else {
+        return Ok(None);
+    };
+    let Some(body) = statement_of(alloc, said)? else {
+        return Ok(None);
+    };
+    match Envelope::new(sender, 1, slices, body) {
+        None => Ok(None),
+        Some(envelope) => Ok(Some(NodeEvent::Take(envelope))),
+    }
+}
+
+// ---- measuring
 
 /// How many statements the node sends during the events.
 fn sent_in(alloc: Global, sizes: Sizes) -> Result<u64, AllocError> {
@@ -68,7 +160,13 @@ fn sent_in(alloc: Global, sizes: Sizes) -> Result<u64, AllocError> {
         take(alloc, &mut node, sizes, number, prepare(1))?;
     }
     for number in 0..sizes.strangers {
-        take(alloc, &mut node, sizes, number.saturating_add(1_000_000), prepare(1))?;
+        take(
+            alloc,
+            &mut node,
+            sizes,
+            number.saturating_add(1_000_000),
+            prepare(1),
+        )?;
     }
     let mut sent = 0u64;
     for number in 0..sizes.events {

@@ -587,8 +587,8 @@ fn run(rt: &impl Abort, alloc: Global, from: u64, to: u64) -> Result<(u32, u32),
 }
 
 #[test]
-fn a_thousand_histories(rt: HostRuntime) -> Result<(), Fail> {
-    let (most, decided) = run(&rt, rt.alloc(), 0, 500)?;
+fn three_thousand_histories(rt: HostRuntime) -> Result<(), Fail> {
+    let (most, decided) = run(&rt, rt.alloc(), 0, 3000)?;
     println!(rt; "at most {most} passes an event, {decided} nodes externalized")?;
     assert!(rt; most <= 4);
     assert!(rt; decided > 0);
