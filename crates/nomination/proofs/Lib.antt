@@ -1,3 +1,2 @@
-pub mod ValueSets
 pub mod Chosen
 pub mod TestLaws

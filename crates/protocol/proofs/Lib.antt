@@ -48,3 +48,4 @@ pub mod WorkedPasses
 pub mod VerdictLaws
 pub mod LeastLaws
 pub mod WorkedLeaders
+pub mod ValueSets

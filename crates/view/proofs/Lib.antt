@@ -1,3 +1,5 @@
 pub mod Gathering
 pub mod Searches
 pub mod Sightings
+pub mod SameRows
+pub mod FoundRows

@@ -1,12 +1,12 @@
 -- What a view keeps is what the node sees, and its two tests are those of the definitions.
-use Rattle.std.proofs.Common.{◌≡◌, ℕ, Bool, false, List, ◌∷◌, map, IsTrue, ◌↔◌, refl, sym, ◌∙◌, ap, ap₂}
-use Rattle.std.proofs.Math.Path.{fun_ext}
+use Rattle.std.proofs.Common.{◌≡◌, ℕ, Bool, false, List, ◌∷◌, map, IsTrue, ◌↔◌, refl, sym, ◌∙◌}
 use Rattle.std.proofs.lemmas.Bool.{true≢false, false_from_ne_true}
 use Rattle.types.specs.Trees.{Slices}
 use Rattle.types.specs.declared.kind.Kind.{Kind}
+use Rattle.types.specs.declared.kind.Kind.TheVariants.{Nomination}
 use Rattle.types.specs.declared.statement.Statement.{Statement}
 use Rattle.types.specs.Statements.{Sent}
-use Rattle.protocol.specs.Sets.{Names, among}
+use Rattle.protocol.specs.Sets.{among}
 use Rattle.protocol.specs.Satisfaction.{sat, is_blocked, Blocks}
 use Rattle.protocol.specs.Quorums.{HasQuorum}
 use Rattle.protocol.specs.Backing.{slices_by}
@@ -18,7 +18,7 @@ use Rattle.protocol.proofs.ReachLaws.{reach_least}
 use Rattle.protocol.proofs.SatisfactionLaws.{sat_monotone, sat_dual}
 use Rattle.protocol.proofs.SetLaws.{same_test}
 use Rattle.protocol.proofs.ViewLaws.{lists}
-use Rattle.view.specs.Watching.{statements_of}
+use Rattle.view.specs.Watching.{rows_by}
 
 -- the parts of what is seen
 pub seen_rows : (own : ℕ) (q : Slices) (leaders : List ℕ) (table : List Sent) (k : Kind) → (seen own q leaders table).rows k ≡ rows_seen own q table k
@@ -29,10 +29,10 @@ pub seen_led : (own : ℕ) (q : Slices) (leaders : List ℕ) (table : List Sent)
 unfolding seen
 seen_led own q leaders table = refl
 
--- the statements of those in the reach are those that are seen
-pub statements_seen : (own : ℕ) (q : Slices) (table : List Sent) (reach : List ℕ) → ((u : ℕ) → among reach u ≡ reached own q table u) → (k : Kind) → statements_of (among reach) k table ≡ rows_seen own q table k
-unfolding rows_seen
-statements_seen own q table reach exactly k = ap (λ (set : Names). statements_of set k table) (fun_ext exactly)
+-- the nomination rows of these nodes are those of leaders, where they lead
+pub leaders_rows : (leaders : List ℕ) (table : List Sent) → rows_by Nomination table leaders ≡ led_by leaders table
+unfolding led_by
+leaders_rows leaders table = refl
 
 -- the node is in its own reach
 pub itself_reached : (own : ℕ) (q : Slices) (table : List Sent) (reach : List ℕ) → ((u : ℕ) → among reach u ≡ reached own q table u) → IsTrue (among reach own)
@@ -62,9 +62,3 @@ unfolding seen blocking_passes
 blocking_tested own q leaders table k own_passes test b h =
     let dual = sat_dual q (passing_with own table k own_passes test) in
     same_test b (is_blocked q (passing_with own table k own_passes test)) (λ i. dual.1 (h.0 i)) (λ i. h.1 (dual.0 i))
-
--- what was kept, as it was read
-pub kept_statements : (own : ℕ) (q : Slices) (table rows : List Sent) (reach nodes : List ℕ) (k : Kind) (kept : List Statement) → ((u : ℕ) → among reach u ≡ reached own q table u) → nodes ≡ reach → rows ≡ table
-    → kept ≡ statements_of (among nodes) k rows → kept ≡ rows_seen own q table k
-kept_statements own q table rows reach nodes k kept exactly at of h =
-    h ∙ ap₂ (λ (us : List ℕ) (es : List Sent). statements_of (among us) k es) at of ∙ statements_seen own q table reach exactly k

@@ -1,21 +1,21 @@
 -- What a view keeps of a table, and when it is what the node sees.
-use Rattle.std.specs.Prelude.{◌≡◌, ℕ, ◌&&◌, List, Option, Some, None, filter, flat_map, map}
+use Rattle.std.specs.Prelude.{◌≡◌, ℕ, List, Option, Some, None, filter_map, flat_map, option_map}
 use Rattle.types.specs.Trees.{Slices}
 use Rattle.types.specs.declared.kind.Kind.{Kind}
 use Rattle.types.specs.declared.statement.Statement.{Statement}
-use Rattle.types.specs.Statements.{Sent, kind_of}
-use Rattle.protocol.specs.Sets.{Names, among, IsAscending}
+use Rattle.types.specs.Statements.{Sent}
+use Rattle.protocol.specs.Sets.{among, IsAscending}
 use Rattle.protocol.specs.Satisfaction.{names}
 use Rattle.protocol.specs.Quorums.{NamesWithin}
 use Rattle.protocol.specs.Reach.{reached}
-use Rattle.protocol.specs.Rows.{is_kind}
+use Rattle.protocol.specs.Rows.{row}
 use Rattle.protocol.specs.Backing.{slices_by}
 use Rattle.protocol.specs.Candidates.{as_set, values_by}
 use Rattle.fedvote.specs.Searching.{lesser}
 
--- the statements in the rows of a kind whose senders are in a set
-abbrev pub statements_of : Names → Kind → List Sent → List Statement
-statements_of set kind table = map (λ e. e.body) (filter (λ e. is_kind kind (kind_of e.body) && set e.sender) table)
+-- the statements in the rows of a kind that these nodes have
+abbrev pub rows_by : Kind → List Sent → List ℕ → List Statement
+rows_by kind table nodes = filter_map (λ u. option_map (λ e. e.body) (row table u kind)) nodes
 
 -- the values that these statements vote for or accept as nominated, as a set
 abbrev pub values_in : List Statement → List (List ℕ)

@@ -1,44 +1,38 @@
 //! What the rows of a table say: their statements, and the values in their nominations.
 
-ghost use Rattle.std.specs.Prelude.{◌≡◌, IfOk, OnOk, map, ◌&&◌};
-ghost use Rattle.types.specs.Statements.{kind_of};
-ghost use Rattle.types.specs.declared.kind.Kind.{Kind};
-ghost use Rattle.protocol.specs.Sets.{among, IsAscending};
-ghost use Rattle.protocol.specs.Rows.{is_kind};
+ghost use Rattle.std.specs.Prelude.{◌≡◌, IfOk, OnOk, map, true};
 ghost use Rattle.protocol.specs.Candidates.{all_with, values_by};
-ghost use Rattle.protocol.specs.Views.{led_by};
-ghost use Rattle.view.specs.Watching.{statements_of, values_in};
+ghost use Rattle.protocol.specs.Rows.{has_single_rows};
+ghost use Rattle.view.specs.Watching.{rows_by, values_in};
 
 use latest::Table;
-use slices::is_among;
 use std::alloc::{AllocError, Global};
-use types::{Envelope, Kind, Leaders, NodeId, Statement, Value, Values};
+use types::{Kind, NodeId, Statement, Value, Values};
 
-/// The statements in the rows of a kind whose senders are among the nodes, in the table's order.
+/// The statements in the rows of a kind that the nodes have, in the order of the nodes.
 pub(crate) fn statements_of<'a>(
     alloc: Global,
-    rows: &'a [Envelope],
     nodes: &[NodeId],
+    table: &'a Table,
     kind: Kind,
 ) -> Result<Vec<&'a Statement>, AllocError>
-    requires { IsAscending nodes.now }
-    ensures { IfOk result (λ v. map (λ s. s.now) v.items ≡ statements_of (among nodes.now) kind rows.now) }
+    ensures { IfOk result (λ v. map (λ s. s.now) v.items ≡ rows_by kind table.now nodes.now) }
 {
     let mut statements = Vec::new(alloc);
-    for row in rows {
-        if is_of(row, nodes, kind) {
+    for node in nodes {
+        if let Some(row) = table.row(node, kind) {
             statements.push(row.body())?;
         }
     }
     Ok(statements)
 }
 
-/// Whether the row is of this kind and its sender among the nodes.
-fn is_of(row: &Envelope, nodes: &[NodeId], kind: Kind) -> bool
-    requires { IsAscending nodes.now }
-    ensures { result ≡ (is_kind kind (kind_of row.now.body) && among nodes.now row.now.sender) }
+/// A table has at most one row of each sender and kind: whoever looks up a sender's row has seen all its
+/// rows of that kind.
+pub(crate) fn has_one_row_of_each_kind(table: &Table)
+    ensures { has_single_rows table.now ≡ true }
 {
-    kind == row.body().kind() && is_among(nodes, row.sender())
+    table.rows();
 }
 
 /// The values in these statements of nominations, ascending.
@@ -82,22 +76,4 @@ fn insert_all(values: &mut Values, more: &[Value]) -> Result<(), AllocError>
         left = rest;
     }
     Ok(())
-}
-
-/// The statements in the nomination rows of the leaders, in the order in which they became leaders.
-#[tactic(auto, unfolding(protocol::specs::Views::led_by))]
-pub(crate) fn led_by<'a>(
-    alloc: Global,
-    leaders: &[NodeId],
-    table: &'a Table,
-) -> Result<Vec<&'a Statement>, AllocError>
-    ensures { IfOk result (λ v. map (λ s. s.now) v.items ≡ led_by leaders.now table.now) }
-{
-    let mut statements = Vec::new(alloc);
-    for leader in leaders {
-        if let Some(row) = table.row(leader, Kind::Nomination) {
-            statements.push(row.body())?;
-        }
-    }
-    Ok(statements)
 }

@@ -1,13 +1,14 @@
 //! A node's view of its table.
 
-ghost use Rattle.std.specs.Prelude.{◌≡◌, IfOk, map};
+ghost use Rattle.std.specs.Prelude.{◌≡◌, IfOk, map, true};
 ghost use Rattle.types.specs.declared.kind.Kind.{Kind};
+ghost use Rattle.protocol.specs.Rows.{has_single_rows};
 ghost use Rattle.protocol.specs.Views.{led_by, rows_seen, seen};
-ghost use Rattle.view.specs.Watching.{IsReach, values_in};
+ghost use Rattle.view.specs.Watching.{IsReach, rows_by, values_in};
 ghost use Rattle.fedvote.proofs.Honesty.{seen_honest};
 
 use crate::passing::{KnownSlices, Passing};
-use crate::rows::{led_by, statements_of, values_in};
+use crate::rows::{has_one_row_of_each_kind, statements_of, values_in};
 use crate::searching::{next_committed, next_counter, next_named};
 use closure::reach;
 use fedvote::{Question, Sight, confirms, is_blocked};
@@ -19,7 +20,7 @@ use types::{Ballot, Kind, Leaders, Nested, NodeId, Statement, Values};
 /// the nomination rows of its leaders, reached or not (the Stellar Consensus Protocol draft, of federated
 /// voting; that strangers' rows are left out is this host's profile).
 ///
-/// Rows of strangers cost one look-up each when the view is made, and nothing afterwards.
+/// Rows of strangers are not looked at: each reached node's rows are looked up when the view is made.
 #[derive(Drop)]
 pub struct View<'a> {
     own: &'a NodeId,
@@ -31,7 +32,8 @@ pub struct View<'a> {
     nominated: Values,
     led: Values,
     ghost reached: { IsReach own.now slices.now table.now reach.items },
-    ghost ballots_seen: { map (λ s. s.now) ballots.items ≡ rows_seen own.now slices.now table.now Kind.Ballot },
+    ghost single: { has_single_rows table.now ≡ true },
+    ghost ballots_found: { map (λ s. s.now) ballots.items ≡ rows_by Kind.Ballot table.now reach.items },
     ghost nominated_seen: { nominated ≡ values_in (rows_seen own.now slices.now table.now Kind.Nomination) },
     ghost led_seen: { led ≡ values_in (led_by leaders.now table.now) },
 }
@@ -48,10 +50,11 @@ impl<'a> View<'a> {
         ensures { IfOk result (λ v. ⟦<View<'a> as Sight>⟧.seen v ≡ seen own.now slices.now leaders.now table.now) }
     {
         let reach = reach(alloc, table, own, slices)?;
-        let ballots = statements_of(alloc, table.rows(), &reach, Kind::Ballot)?;
-        let nominations = statements_of(alloc, table.rows(), &reach, Kind::Nomination)?;
+        has_one_row_of_each_kind(table);
+        let ballots = statements_of(alloc, &reach, table, Kind::Ballot)?;
+        let nominations = statements_of(alloc, &reach, table, Kind::Nomination)?;
         let nominated = values_in(alloc, &nominations)?;
-        let leading = led_by(alloc, leaders.as_slice(), table)?;
+        let leading = statements_of(alloc, leaders.as_slice(), table, Kind::Nomination)?;
         let led = values_in(alloc, &leading)?;
         Ok(View {
             own,

@@ -2,14 +2,15 @@ use Rattle.std.proofs.Common.{◌∙◌, Bor, List, ap, map, sym}
 use Rattle.types.specs.declared.kind.Kind.{Kind}
 use Rattle.types.specs.declared.statement.Statement.{Statement}
 use Rattle.fedvote.specs.Searching.{next_counter}
+use Rattle.view.proofs.FoundRows.{counter_found}
 use Rattle.view.proofs.Sightings.{seen_rows}
 use Rattle.view.proofs.seeing.ViewSight.next_counter.Goals as goal
 
 pub returns : goal.returns
 returns c =
     let view = c.args.self.now in
+    let search = λ (ss : List Statement). next_counter c.args.above ss in
     c.next_counter.ensures
-    ∙ ap (λ (ss : List Statement). next_counter c.args.above ss)
-    (ap (λ (xs : List (Bor Statement)). map (λ (s : Bor Statement). s.now) xs) c.deref.ensures.value
-    ∙ view.ballots_seen
-    ∙ sym (seen_rows view.own.now view.slices.now view.leaders.now view.table.now Kind.Ballot))
+    ∙ ap search (ap (λ (xs : List (Bor Statement)). map (λ (s : Bor Statement). s.now) xs) c.deref.ensures.value ∙ view.ballots_found)
+    ∙ counter_found view.own.now view.slices.now view.table.now view.reach.items view.reached.exactly view.single c.args.above
+    ∙ ap search (sym (seen_rows view.own.now view.slices.now view.leaders.now view.table.now Kind.Ballot))

@@ -3,14 +3,15 @@ use Rattle.types.specs.declared.kind.Kind.{Kind}
 use Rattle.types.specs.declared.statement.Statement.{Statement}
 use Rattle.protocol.specs.Candidates.{named_in}
 use Rattle.fedvote.specs.Searching.{next_under}
+use Rattle.view.proofs.FoundRows.{named_found}
 use Rattle.view.proofs.Sightings.{seen_rows}
 use Rattle.view.proofs.seeing.ViewSight.next_named.Goals as goal
 
 pub returns : goal.returns
 returns c =
     let view = c.args.self.now in
+    let search = λ (ss : List Statement). next_under c.args.bound (named_in ss) in
     c.next_named.ensures
-    ∙ ap (λ (ss : List Statement). next_under c.args.bound (named_in ss))
-    (ap (λ (xs : List (Bor Statement)). map (λ (s : Bor Statement). s.now) xs) c.deref.ensures.value
-    ∙ view.ballots_seen
-    ∙ sym (seen_rows view.own.now view.slices.now view.leaders.now view.table.now Kind.Ballot))
+    ∙ ap search (ap (λ (xs : List (Bor Statement)). map (λ (s : Bor Statement). s.now) xs) c.deref.ensures.value ∙ view.ballots_found)
+    ∙ named_found view.own.now view.slices.now view.table.now view.reach.items view.reached.exactly view.single c.args.bound
+    ∙ ap search (sym (seen_rows view.own.now view.slices.now view.leaders.now view.table.now Kind.Ballot))
