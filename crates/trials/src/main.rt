@@ -1,5 +1,5 @@
-//! One node, and how it bears many events: `pace REACHED STRANGERS EVENTS`, for measuring; and how it
-//! bears want of memory: `pace story`.
+//! One node, and how it bears many events: `trials REACHED STRANGERS EVENTS`, for measuring; and how it
+//! bears want of memory: `trials story`.
 //!
 //! The node trusts 43 of 64 of so many nodes, up to 256, and each of them 43 of the 64 from itself on. Each
 //! has a nomination and a ballot in the node's table, and so many strangers have one ballot each. Then
@@ -8,7 +8,23 @@
 //!
 //! The story is that of a stranger who becomes reached, with timers. An event that finds no memory is
 //! tried once more. It prints how many things the node gives out at each event.
+//!
+//! The tests cross crates: steps of a node told in the words of scripts, and histories at random compared
+//! with a plain slow program that follows the rules step by step.
 #![tactic(auto)]
+
+#[cfg(test)]
+mod histories;
+#[cfg(test)]
+mod slow;
+#[cfg(test)]
+mod statements;
+#[cfg(test)]
+mod stories;
+#[cfg(test)]
+mod trial;
+#[cfg(test)]
+mod wording;
 
 use scripts::{counter_of, name_of, number_of, slices_of, statement_of};
 use slot::Node;
