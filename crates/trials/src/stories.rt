@@ -171,6 +171,28 @@ fn a_statement_that_is_not_newer_is_sent(rt: HostRuntime) -> Result<(), Fail> {
     )
 }
 
+// B and C confirm with A that <5,x> is prepared, and later announce slices that nothing satisfies: then
+// that is confirmed no more, and their commit is not accepted, though A's highest confirmed ballot covers
+// it. E's row makes it so again.
+#[test]
+fn a_commit_waits_for_what_is_confirmed_at_the_moment(rt: HostRuntime) -> Result<(), Fail> {
+    tells(
+        &rt,
+        rt.alloc(),
+        b"2[B,C,D]",
+        &[
+            (b"say B 1[B] prep(5:x,5:x,0,0,0)", "ok"),
+            (
+                b"say C 1[C] prep(5:x,5:x,0,0,0)",
+                "ok arm-ballot 5 emit prep(5:x,5:x,0,5,5)",
+            ),
+            (b"say B 1[E] comm(5:x,5,5,5)", "ok"),
+            (b"say C 1[E] comm(5:x,5,5,5)", "ok"),
+            (b"say E 1[E] prep(5:x,5:x,0,0,0)", "ok emit comm(5:x,5,5,5)"),
+        ],
+    )
+}
+
 #[test]
 fn an_externalized_row_stays(rt: HostRuntime) -> Result<(), Fail> {
     tells(
