@@ -1,8 +1,9 @@
 //! Histories at random: the nodes and the plain slow program give the same answers and come to the same
 //! states.
 
-use crate::slow::{Out, Phase, State};
+use crate::slow::{Phase, State};
 use crate::statements::{Ballot, NODES, Row, Set, Statement, Trust, bit, has};
+use crate::steps::Out;
 use crate::trial::Trial;
 use crate::wording::{letter, push_statement, push_trust, state_of, word, words_of};
 use leaders::leader;

@@ -16,9 +16,13 @@
 #[cfg(test)]
 mod histories;
 #[cfg(test)]
+mod rules;
+#[cfg(test)]
 mod slow;
 #[cfg(test)]
 mod statements;
+#[cfg(test)]
+mod steps;
 #[cfg(test)]
 mod stories;
 #[cfg(test)]

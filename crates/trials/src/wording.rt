@@ -1,7 +1,8 @@
 //! What the plain slow program says, in the words of scripts.
 
-use crate::slow::{Out, Phase, State, Votes};
+use crate::slow::{Phase, State, Votes};
 use crate::statements::{Ballot, NODES, Set, Statement, Trust, has};
+use crate::steps::Out;
 use std::alloc::{AllocError, Global};
 
 const LETTERS: [&str; 7] = ["A", "B", "C", "D", "E", "F", "G"];

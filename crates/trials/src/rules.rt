@@ -1,0 +1,489 @@
+//! The rules of the plain slow program: nomination, balloting and counters, each as it is stated.
+
+use crate::slow::{Phase, State, Votes};
+use crate::statements::{Ask, Ballot, Kind, NODES, Set, Statement, VALUES, at, bit, has};
+use std::alloc::{AllocError, Global};
+
+impl State {
+    pub fn high_counter(votes: Votes, ballot: Ballot) -> u32 {
+        match votes.high {
+            Some(high) if high.value == ballot.value => high.counter,
+            _ => 0,
+        }
+    }
+
+    pub fn commit_counter(votes: Votes, ballot: Ballot) -> u32 {
+        match votes.commit {
+            Some(commit)
+                if commit.value == ballot.value
+                    && commit.counter <= State::high_counter(votes, ballot) => { commit.counter }
+            _ => 0,
+        }
+    }
+
+    pub fn statement(votes: Votes, prepared: Option<Ballot>, aborted: u32) -> Option<Statement> {
+        let Some(ballot) = votes.ballot else {
+            return None;
+        };
+        Some(match votes.phase {
+            Phase::Preparing => Statement::Prepare {
+                ballot,
+                prepared,
+                aborted,
+                high: State::high_counter(votes, ballot),
+                commit: State::commit_counter(votes, ballot),
+            },
+            Phase::Committing => Statement::Commit {
+                ballot,
+                prepared: match votes.prepared {
+                    Some(p) => p.counter,
+                    None => 0,
+                },
+                high: votes.hi,
+                commit: votes.lo,
+            },
+            Phase::Externalized => Statement::Externalize {
+                commit: at(votes.lo, ballot.value),
+                high: votes.hi,
+            },
+        })
+    }
+
+    pub fn position(votes: Votes) -> Option<Statement> {
+        State::statement(votes, votes.prepared, votes.aborted)
+    }
+
+    pub fn sent(votes: Votes) -> Option<Statement> {
+        let Some(ballot) = votes.ballot else {
+            return None;
+        };
+        let prepared = match votes.prepared {
+            Some(p) if p > ballot => {
+                if p.value <= ballot.value {
+                    Some(at(ballot.counter, p.value))
+                } else {
+                    Some(at(ballot.counter.saturating_sub(1), p.value))
+                }
+            }
+            other => other,
+        };
+        let aborted = if votes.aborted > ballot.counter {
+            ballot.counter
+        } else {
+            votes.aborted
+        };
+        State::statement(votes, prepared, aborted)
+    }
+
+    // ---- nomination
+
+    pub fn echo(&self, votes: Votes) -> Votes {
+        if self.round == 0 || votes.confirms != 0 {
+            return votes;
+        }
+        let mut voted = votes.voted;
+        for leader in self.leaders.as_slice() {
+            if let Some(row) = self.row(*leader, Kind::Nomination) {
+                if let Statement::Nominate {
+                    voted: theirs,
+                    accepted,
+                } = row.said
+                {
+                    voted |= theirs | accepted;
+                }
+            }
+            if *leader == self.own {
+                if let Some(input) = self.input {
+                    voted |= bit(input);
+                }
+            }
+        }
+        Votes { voted, ..votes }
+    }
+
+    pub fn accept_values(&self, votes: Votes) -> Votes {
+        let reach = self.reach();
+        let position = Some(Statement::Nominate {
+            voted: votes.voted,
+            accepted: votes.accepts,
+        });
+        let mut candidates = votes.voted | votes.accepts;
+        for node in NODES {
+            if let Some(row) = self.row(node, Kind::Nomination) {
+                if let Statement::Nominate { voted, accepted } = row.said {
+                    if has(reach, node) {
+                        candidates |= voted | accepted;
+                    }
+                }
+            }
+        }
+        let mut accepts = votes.accepts;
+        for value in VALUES {
+            let backs = Ask::BacksNominate(value);
+            let accepting = Ask::AcceptsNominate(value);
+            if has(candidates, value)
+                && self.accepted(Kind::Nomination, position, backs, accepting)
+            {
+                accepts |= bit(value);
+            }
+        }
+        Votes { accepts, ..votes }
+    }
+
+    pub fn confirm_values(&self, votes: Votes) -> Votes {
+        let position = Some(Statement::Nominate {
+            voted: votes.voted,
+            accepted: votes.accepts,
+        });
+        let mut confirms = votes.confirms;
+        for value in VALUES {
+            let accepting = Ask::AcceptsNominate(value);
+            if has(votes.accepts, value) && self.confirmed(Kind::Nomination, position, accepting) {
+                confirms |= bit(value);
+            }
+        }
+        Votes { confirms, ..votes }
+    }
+
+    pub fn nominate(&self, votes: Votes) -> Votes {
+        if votes.high.is_some() {
+            return votes;
+        }
+        self.confirm_values(self.accept_values(self.echo(votes)))
+    }
+
+    // ---- balloting
+
+    pub fn candidates(
+        &self,
+        alloc: Global,
+        votes: Votes,
+        of_commit: bool,
+    ) -> Result<Vec<Ballot>, AllocError> {
+        let mut all = Vec::new(alloc);
+        let mut said = self.seen(alloc, Kind::Balloting)?;
+        if let Some(own) = State::position(votes) {
+            said.push(own)?;
+        }
+        for statement in said.as_slice() {
+            if of_commit {
+                statement.push_commits(&mut all)?;
+            } else {
+                statement.push_named(&mut all)?;
+            }
+        }
+        let mut counted = Vec::new(alloc);
+        for ballot in all.as_slice() {
+            if ballot.counter >= 1 && !is_in(*ballot, &counted) {
+                counted.push(*ballot)?;
+            }
+        }
+        Ok(counted)
+    }
+
+    pub fn is_accepted(&self, votes: Votes, t: Ballot) -> bool {
+        let position = State::position(votes);
+        self.accepted(
+            Kind::Balloting,
+            position,
+            Ask::BacksPrepare(t),
+            Ask::AcceptsPrepare(t),
+        )
+    }
+
+    pub fn is_confirmed(&self, votes: Votes, t: Ballot) -> bool {
+        self.confirmed(
+            Kind::Balloting,
+            State::position(votes),
+            Ask::AcceptsPrepare(t),
+        )
+    }
+
+    pub fn commit_accepted(&self, votes: Votes, value: u8, low: u32, high: u32) -> bool {
+        self.accepted(
+            Kind::Balloting,
+            State::position(votes),
+            Ask::BacksCommit(value, low, high),
+            Ask::AcceptsCommit(value, low, high),
+        )
+    }
+
+    pub fn commit_confirmed(&self, votes: Votes, value: u8, low: u32, high: u32) -> bool {
+        self.confirmed(
+            Kind::Balloting,
+            State::position(votes),
+            Ask::AcceptsCommit(value, low, high),
+        )
+    }
+
+    pub fn start(&self, alloc: Global, votes: Votes) -> Result<Votes, AllocError> {
+        if votes.ballot.is_some() {
+            return Ok(votes);
+        }
+        if let Some(value) = combined(votes.confirms) {
+            return Ok(Votes {
+                ballot: Some(at(1, value)),
+                ..votes
+            });
+        }
+        let mut ballot = None;
+        for t in self.candidates(alloc, votes, false)?.as_slice() {
+            if self.is_accepted(votes, *t) {
+                ballot = greater(ballot, *t);
+            }
+        }
+        Ok(Votes { ballot, ..votes })
+    }
+
+    pub fn accept_prepared(&self, alloc: Global, votes: Votes) -> Result<Votes, AllocError> {
+        let Some(ballot) = votes.ballot else {
+            return Ok(votes);
+        };
+        let mut prepared = votes.prepared;
+        for t in self.candidates(alloc, votes, false)?.as_slice() {
+            let counts = votes.phase != Phase::Committing || t.value == ballot.value;
+            if counts && self.is_accepted(votes, *t) {
+                prepared = greater(prepared, *t);
+            }
+        }
+        let mut aborted = votes.aborted;
+        if let (Some(old), Some(new)) = (votes.prepared, prepared) {
+            if old.value != new.value {
+                let least = if old.value < new.value {
+                    old.counter
+                } else {
+                    old.counter.saturating_add(1)
+                };
+                if least > aborted {
+                    aborted = least;
+                }
+            }
+        }
+        Ok(Votes {
+            prepared,
+            aborted,
+            ..votes
+        })
+    }
+
+    pub fn is_aborted(votes: Votes, t: Ballot) -> bool {
+        let overtaken = match votes.prepared {
+            None => false,
+            Some(p) => p > t && p.value != t.value,
+        };
+        overtaken || votes.aborted > t.counter
+    }
+
+    pub fn confirm_prepared(&self, alloc: Global, votes: Votes) -> Result<Votes, AllocError> {
+        let Some(old_ballot) = votes.ballot else {
+            return Ok(votes);
+        };
+        if votes.phase != Phase::Preparing {
+            return Ok(votes);
+        }
+        let mut high = votes.high;
+        for t in self.candidates(alloc, votes, false)?.as_slice() {
+            if self.is_confirmed(votes, *t) {
+                high = greater(high, *t);
+            }
+        }
+        let ballot = match high {
+            Some(h) if h > old_ballot => h,
+            _ => old_ballot,
+        };
+        let votes = Votes {
+            high,
+            ballot: Some(ballot),
+            ..votes
+        };
+        let kept = match votes.commit {
+            Some(c) if !State::is_aborted(votes, c) => Some(c),
+            _ => None,
+        };
+        let sets = State::high_counter(votes, ballot) == ballot.counter
+            && !State::is_aborted(votes, ballot);
+        let commit = match kept {
+            Some(c) => Some(c),
+            None => { if sets { Some(ballot) } else { None } }
+        };
+        Ok(Votes { commit, ..votes })
+    }
+
+    pub fn accept_commit(&self, alloc: Global, votes: Votes) -> Result<Votes, AllocError> {
+        let Some(ballot) = votes.ballot else {
+            return Ok(votes);
+        };
+        if votes.phase == Phase::Externalized {
+            return Ok(votes);
+        }
+        let preparing = votes.phase == Phase::Preparing;
+        let commits = self.candidates(alloc, votes, true)?;
+        let mut end = None;
+        for t in commits.as_slice() {
+            let counts = if preparing {
+                self.is_confirmed(votes, *t) && !State::is_aborted(votes, *t)
+            } else {
+                t.value == ballot.value && t.counter > votes.hi
+            };
+            if counts && self.commit_accepted(votes, t.value, t.counter, t.counter) {
+                end = greater(end, *t);
+            }
+        }
+        let Some(end) = end else {
+            return Ok(votes);
+        };
+        let mut lo = end.counter;
+        for t in commits.as_slice() {
+            if t.value == end.value
+                && t.counter < lo
+                && self.commit_accepted(votes, t.value, t.counter, end.counter)
+            {
+                lo = t.counter;
+            }
+        }
+        let counter = if end.counter > ballot.counter {
+            end.counter
+        } else {
+            ballot.counter
+        };
+        Ok(Votes {
+            phase: Phase::Committing,
+            ballot: Some(at(counter, end.value)),
+            prepared: greater(votes.prepared, end),
+            high: if preparing {
+                greater(votes.high, end)
+            } else {
+                votes.high
+            },
+            lo,
+            hi: end.counter,
+            ..votes
+        })
+    }
+
+    pub fn confirm_commit(&self, alloc: Global, votes: Votes) -> Result<Votes, AllocError> {
+        let Some(ballot) = votes.ballot else {
+            return Ok(votes);
+        };
+        if votes.phase != Phase::Committing {
+            return Ok(votes);
+        }
+        let commits = self.candidates(alloc, votes, true)?;
+        let mut end = None;
+        for t in commits.as_slice() {
+            if t.value == ballot.value
+                && self.commit_confirmed(votes, t.value, t.counter, t.counter)
+            {
+                end = greater(end, *t);
+            }
+        }
+        let Some(end) = end else {
+            return Ok(votes);
+        };
+        let mut lo = end.counter;
+        for t in commits.as_slice() {
+            if t.value == end.value
+                && t.counter < lo
+                && self.commit_confirmed(votes, t.value, t.counter, end.counter)
+            {
+                lo = t.counter;
+            }
+        }
+        Ok(Votes {
+            phase: Phase::Externalized,
+            lo,
+            hi: end.counter,
+            ..votes
+        })
+    }
+
+    // ---- counters
+
+    pub fn cap(&self) -> u32 {
+        self.fired.saturating_add(1000)
+    }
+
+    pub fn raised(votes: Votes, ballot: Ballot, counter: u32) -> Ballot {
+        if counter == ballot.counter {
+            return ballot;
+        }
+        let value = if votes.phase != Phase::Preparing {
+            ballot.value
+        } else if let Some(high) = votes.high {
+            high.value
+        } else if let Some(value) = combined(votes.confirms) {
+            value
+        } else if let Some(prepared) = votes.prepared {
+            prepared.value
+        } else {
+            ballot.value
+        };
+        at(counter, value)
+    }
+
+    pub fn raise(&self, votes: Votes) -> Votes {
+        let Some(ballot) = votes.ballot else {
+            return votes;
+        };
+        let position = State::position(votes);
+        let mut counter = ballot.counter;
+        for _ in ballot.counter..self.cap() {
+            let above = Ask::Counts(counter.saturating_add(1));
+            if !self.blocks(self.passing(Kind::Balloting, position, above)) {
+                break;
+            }
+            counter = counter.saturating_add(1);
+        }
+        Votes {
+            ballot: Some(State::raised(votes, ballot, counter)),
+            ..votes
+        }
+    }
+
+    pub fn arm(&self, votes: Votes) -> Votes {
+        let Some(ballot) = votes.ballot else {
+            return votes;
+        };
+        let counts = Ask::Counts(ballot.counter);
+        let position = State::position(votes);
+        if self.has_quorum(
+            Kind::Balloting,
+            self.passing(Kind::Balloting, position, counts),
+        ) {
+            Votes {
+                armed: ballot.counter,
+                ..votes
+            }
+        } else {
+            votes
+        }
+    }
+}
+
+fn is_in(ballot: Ballot, ballots: &[Ballot]) -> bool {
+    for other in ballots {
+        if *other == ballot {
+            return true;
+        }
+    }
+    false
+}
+
+/// The greater of the ballot and of what is there.
+fn greater(best: Option<Ballot>, t: Ballot) -> Option<Ballot> {
+    match best {
+        Some(best) if best >= t => Some(best),
+        _ => Some(t),
+    }
+}
+
+/// The greatest value of a set.
+fn combined(values: Set) -> Option<u8> {
+    let mut greatest = None;
+    for value in VALUES {
+        if has(values, value) {
+            greatest = Some(value);
+        }
+    }
+    greatest
+}

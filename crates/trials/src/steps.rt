@@ -1,0 +1,147 @@
+//! The events of the plain slow program, the passes after each of them, and what it gives out.
+
+use crate::slow::{Phase, State, Votes};
+use crate::statements::{Kind, Row, Statement};
+use std::alloc::{AllocError, Global};
+
+/// What one node gives out.
+#[derive(Clone, Copy, PartialEq, Eq)]
+pub enum Out {
+    ArmNomination(u32),
+    ArmBallot(u32),
+    Emit(Statement),
+    Externalized(u8),
+}
+
+impl State {
+    pub fn pass(&self, alloc: Global, votes: Votes) -> Result<Votes, AllocError> {
+        if votes.phase == Phase::Externalized {
+            return Ok(votes);
+        }
+        let votes = self.start(alloc, self.nominate(votes))?;
+        let votes = self.accept_prepared(alloc, votes)?;
+        let votes = self.confirm_prepared(alloc, votes)?;
+        let votes = self.accept_commit(alloc, votes)?;
+        let votes = self.confirm_commit(alloc, votes)?;
+        if votes.phase == Phase::Externalized {
+            return Ok(votes);
+        }
+        Ok(self.arm(self.raise(votes)))
+    }
+
+    /// Passes until one changes nothing, and what is given out.
+    pub fn settled(
+        &mut self,
+        alloc: Global,
+        old_round: u32,
+        old: Votes,
+    ) -> Result<Vec<Out>, AllocError> {
+        self.look(alloc)?;
+        for number in 1..65u32 {
+            let next = self.pass(alloc, self.votes)?;
+            if number > self.most_passes {
+                self.most_passes = number;
+            }
+            if next == self.votes {
+                return self.outs(alloc, old_round, old);
+            }
+            self.votes = next;
+        }
+        Ok(Vec::new(alloc))
+    }
+
+    pub fn outs(&self, alloc: Global, old_round: u32, old: Votes) -> Result<Vec<Out>, AllocError> {
+        let new = self.votes;
+        let counter = match new.ballot {
+            Some(ballot) => ballot.counter,
+            None => 0,
+        };
+        let over = new.phase == Phase::Externalized;
+        let mut outs = Vec::new(alloc);
+        if self.round != old_round && new.high.is_none() {
+            outs.push(Out::ArmNomination(self.round))?;
+        }
+        if new.armed != old.armed && new.armed == counter && !over {
+            outs.push(Out::ArmBallot(new.armed))?;
+        }
+        if new.voted | new.accepts != 0 && (new.voted != old.voted || new.accepts != old.accepts) {
+            outs.push(Out::Emit(Statement::Nominate {
+                voted: new.voted,
+                accepted: new.accepts,
+            }))?;
+        }
+        if let Some(sent) = State::sent(new) {
+            if State::sent(old) != Some(sent) {
+                outs.push(Out::Emit(sent))?;
+            }
+        }
+        if let (Some(ballot), true) = (new.ballot, over && old.phase != Phase::Externalized) {
+            outs.push(Out::Externalized(ballot.value))?;
+        }
+        Ok(outs)
+    }
+
+    /// The input is set, and round 1 begins with its leader.
+    pub fn propose(
+        &mut self,
+        alloc: Global,
+        value: u8,
+        leader: u8,
+    ) -> Result<Vec<Out>, AllocError> {
+        let old_round = self.round;
+        self.input = Some(value);
+        self.round = 1;
+        self.leaders.push(leader)?;
+        self.settled(alloc, old_round, self.votes)
+    }
+
+    /// A statement reaches the node, with its sender's slices.
+    pub fn take(&mut self, alloc: Global, sender: u8, row: Row) -> Result<Vec<Out>, AllocError> {
+        let kind = row.said.kind();
+        if let Some(old) = self.row(sender, kind) {
+            if !row.said.is_newer(old.said) {
+                return Ok(Vec::new(alloc));
+            }
+        }
+        if let Some(rows) = self.rows.get_mut(sender as usize) {
+            match kind {
+                Kind::Nomination => rows.nomination = Some(row),
+                Kind::Balloting => rows.balloting = Some(row),
+            }
+        }
+        self.settled(alloc, self.round, self.votes)
+    }
+
+    /// The nomination timer of a round fires; `leader` is that of the next round.
+    pub fn nomination_timer(
+        &mut self,
+        alloc: Global,
+        round: u32,
+        leader: u8,
+    ) -> Result<Vec<Out>, AllocError> {
+        if round == 0 || round != self.round || self.votes.high.is_some() || round == u32::MAX {
+            return Ok(Vec::new(alloc));
+        }
+        self.round = round.saturating_add(1);
+        self.leaders.push(leader)?;
+        self.settled(alloc, round, self.votes)
+    }
+
+    /// The ballot timer of a counter fires.
+    pub fn ballot_timer(&mut self, alloc: Global, counter: u32) -> Result<Vec<Out>, AllocError> {
+        let old = self.votes;
+        let Some(ballot) = old.ballot else {
+            return Ok(Vec::new(alloc));
+        };
+        if old.phase == Phase::Externalized
+            || counter != old.armed
+            || counter != ballot.counter
+            || counter == u32::MAX
+        {
+            return Ok(Vec::new(alloc));
+        }
+        self.fired = self.fired.saturating_add(1);
+        self.votes.ballot = Some(State::raised(old, ballot, counter.saturating_add(1)));
+        self.settled(alloc, self.round, old)
+    }
+}
