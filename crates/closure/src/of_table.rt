@@ -28,9 +28,7 @@ pub fn reach(
     node: &NodeId,
     slices: &Nested,
 ) -> Result<Vec<NodeId>, AllocError>
-    ensures ascending { IfOk result (λ v. IsAscending v.items) }
-    ensures exactly { IfOk result (λ v. (u : ℕ) → among v.items u ≡ reached node.now slices.now table.now u) }
-    ensures closed { IfOk result (λ v. (kind : Kind) → NamesWithin names (slices_by node.now slices.now table.now kind) (among v.items)) }
+    ensures { IfOk result (λ v. IsReach node.now slices.now table.now v.items) }
 {
     has_one_row_of_each_kind(table);
     let mut sweep = Sweep::new(alloc);

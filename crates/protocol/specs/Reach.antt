@@ -4,7 +4,7 @@ use Rattle.std.specs.List.{Contains}
 use Rattle.types.specs.Trees.{Slices}
 use Rattle.types.specs.declared.kind.Kind.{Kind}
 use Rattle.types.specs.Statements.{Sent}
-use Rattle.protocol.specs.Sets.{Names, among, AreWithin}
+use Rattle.protocol.specs.Sets.{Names, among, AreWithin, IsAscending}
 use Rattle.protocol.specs.Satisfaction.{names}
 use Rattle.protocol.specs.Quorums.{NamesWithin}
 use Rattle.protocol.specs.Backing.{slices_by}
@@ -21,6 +21,12 @@ rules_of own configured table = record { sources = own ∷ []; gives = names con
 -- the nodes that a node reaches: itself, the names of its configured slices, and the names in any row whose sender is reached
 unfoldable pub reached : ℕ → Slices → List Sent → Names
 reached own configured table = in_least (rules_of own configured table) own
+
+-- the list has the nodes that a node reaches, ascending, none twice; it holds all names of its members' slices
+pub record IsReach (own : ℕ) (configured : Slices) (table : List Sent) (reach : List ℕ) : Type 0 where
+  pub ascending : IsAscending reach
+  pub exactly : (u : ℕ) → among reach u ≡ reached own configured table u
+  pub closed : (kind : Kind) → NamesWithin names (slices_by own configured table kind) (among reach)
 
 -- a node is named in the slices of another: in the configured ones of the node itself, or in those of a row
 pub data IsNamed (own : ℕ) (configured : Slices) (table : List Sent) (by u : ℕ) : Type 0 where

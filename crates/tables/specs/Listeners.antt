@@ -1,13 +1,11 @@
 -- A listener as contracts see it: who asks, and the rows of the envelopes that were taken.
-use Rattle.std.specs.Prelude.{◌≡◌, ℕ, List}
+use Rattle.std.specs.Prelude.{ℕ, List}
 use Rattle.types.specs.Trees.{Slices}
 use Rattle.types.specs.declared.ballot.Ballot.{Ballot}
 use Rattle.types.specs.declared.kind.Kind.{Kind}
 use Rattle.types.specs.Statements.{Sent}
-use Rattle.protocol.specs.Sets.{among, IsAscending}
-use Rattle.protocol.specs.Satisfaction.{sat, names}
-use Rattle.protocol.specs.Quorums.{HasQuorum, NamesWithin}
-use Rattle.protocol.specs.Reach.{reached}
+use Rattle.protocol.specs.Satisfaction.{sat}
+use Rattle.protocol.specs.Quorums.{HasQuorum}
 use Rattle.protocol.specs.Backing.{slices_by, backing_prepare}
 
 -- one node at one slot, its configured slices, and a table
@@ -20,9 +18,3 @@ pub record Heard : Type 0 where
 -- the node is in a quorum whose ballot rows all vote for or accept that the ballot is prepared
 abbrev pub IsBacked : Heard → Ballot → Type 0
 IsBacked heard b = HasQuorum sat (slices_by heard.own heard.configured heard.rows Kind.Ballot) (backing_prepare heard.rows b) heard.own
-
--- the list has the nodes that a node reaches, ascending, none twice; it holds all names of its members' slices
-pub record IsReach (own : ℕ) (configured : Slices) (rows : List Sent) (region : List ℕ) : Type 0 where
-  pub ascending : IsAscending region
-  pub exactly : (u : ℕ) → among region u ≡ reached own configured rows u
-  pub closed : (kind : Kind) → NamesWithin names (slices_by own configured rows kind) (among region)

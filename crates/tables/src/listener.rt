@@ -5,7 +5,8 @@ ghost use Rattle.types.specs.declared.kind.Kind.{Kind};
 ghost use Rattle.protocol.specs.Sets.{among, IsAscending};
 ghost use Rattle.protocol.specs.Backing.{slices_by, backing_prepare};
 ghost use Rattle.protocol.specs.Rows.{is_taken, offered};
-ghost use Rattle.tables.specs.Listeners.{IsBacked, IsReach};
+ghost use Rattle.protocol.specs.Reach.{IsReach};
+ghost use Rattle.tables.specs.Listeners.{IsBacked};
 
 use closure::reach;
 use latest::{Offer, Table};
@@ -49,7 +50,7 @@ impl Model for Listener {
     ghost coded = { Prim.hlevel (codes, members_code) };
 
     ghost use Rattle.std.specs.Prelude.{IfSome};
-    ghost use Rattle.tables.specs.Listeners.{IsReach};
+    ghost use Rattle.protocol.specs.Reach.{IsReach};
 
     ghost view = { λ s. record { own = s.own; slot = s.slot; configured = s.configured; rows = s.table } };
 

@@ -1,15 +1,9 @@
 -- What a view keeps of a table, and when it is what the node sees.
-use Rattle.std.specs.Prelude.{◌≡◌, ℕ, List, Option, Some, None, filter_map, flat_map, option_map}
-use Rattle.types.specs.Trees.{Slices}
+use Rattle.std.specs.Prelude.{ℕ, List, Option, Some, None, filter_map, flat_map, option_map}
 use Rattle.types.specs.declared.kind.Kind.{Kind}
 use Rattle.types.specs.declared.statement.Statement.{Statement}
 use Rattle.types.specs.Statements.{Sent}
-use Rattle.protocol.specs.Sets.{among, IsAscending}
-use Rattle.protocol.specs.Satisfaction.{names}
-use Rattle.protocol.specs.Quorums.{NamesWithin}
-use Rattle.protocol.specs.Reach.{reached}
 use Rattle.protocol.specs.Rows.{row}
-use Rattle.protocol.specs.Backing.{slices_by}
 use Rattle.protocol.specs.Candidates.{as_set, values_by}
 use Rattle.fedvote.specs.Searching.{lesser}
 
@@ -20,12 +14,6 @@ rows_by kind table nodes = filter_map (λ u. option_map (λ e. e.body) (row tabl
 -- the values that these statements vote for or accept as nominated, as a set
 abbrev pub values_in : List Statement → List (List ℕ)
 values_in statements = as_set (flat_map values_by statements)
-
--- the list has the nodes that a node reaches, ascending, none twice; it holds all names of its members' slices
-pub record IsReach (own : ℕ) (configured : Slices) (table : List Sent) (reach : List ℕ) : Type 0 where
-  pub ascending : IsAscending reach
-  pub exactly : (u : ℕ) → among reach u ≡ reached own configured table u
-  pub closed : (kind : Kind) → NamesWithin names (slices_by own configured table kind) (among reach)
 
 -- the lesser of two numbers, where there are two
 abbrev pub lesser_of : Option ℕ → Option ℕ → Option ℕ

@@ -4,7 +4,8 @@ ghost use Rattle.std.specs.Prelude.{◌≡◌, IfOk, map, true};
 ghost use Rattle.types.specs.declared.kind.Kind.{Kind};
 ghost use Rattle.protocol.specs.Rows.{has_single_rows};
 ghost use Rattle.protocol.specs.Views.{led_by, rows_seen, seen};
-ghost use Rattle.view.specs.Watching.{IsReach, rows_by, values_in};
+ghost use Rattle.protocol.specs.Reach.{IsReach};
+ghost use Rattle.view.specs.Watching.{rows_by, values_in};
 ghost use Rattle.fedvote.proofs.Honesty.{seen_honest};
 
 use crate::passing::{KnownSlices, Passing};
