@@ -15,12 +15,12 @@ use Rattle.protocol.specs.Sets.{Names, among, AreWithin, IsAscending}
 use Rattle.protocol.specs.Satisfaction.{names}
 use Rattle.protocol.specs.Rows.{row, has_single_rows}
 use Rattle.protocol.specs.Closures.{IsClosed}
-use Rattle.protocol.specs.Reach.{rules_of, reached, Chain, HoldsReach}
+use Rattle.protocol.specs.Reach.{rules_of, IsReach, Chain, HoldsReach}
 use Rattle.protocol.specs.Reach.IsNamed.{in_configuration, in_row}
 use Rattle.protocol.specs.Reach.Chain.{here, next}
 use Rattle.protocol.proofs.SetLaws.{among_head, among_tail}
 use Rattle.protocol.proofs.ClosureLaws.{given_by_rule, derived-in}
-use Rattle.protocol.proofs.ReachLaws.{derived_chain, reach_is, row_contained, row_found}
+use Rattle.protocol.proofs.ReachLaws.{derived_chain, reach_is, names_held, row_contained, row_found}
 use Rattle.closure.specs.Sweeps.{Swept, is_done, just, AreNoted, IsTaken, named_in, named_by}
 
 -- between two steps: what was looked at names nothing that is not found, and a chain leads to all that is found
@@ -112,8 +112,12 @@ module _ (own : ℕ) (configured : Slices) (table : List Sent) where
         w (in_one_row e (kind_of e.body) w (row_found table e single c) i);
   }
 
-  pub is_reach : (s : Swept) → IsUnderway own configured table s → s.pending ≡ [] → has_single_rows table ≡ true → (u : ℕ) → among s.found u ≡ reached own configured table u
-  is_reach s way over single u = ap (λ (set : Names). set u) (reach_is own configured table (among s.found) (holds_all s way over single) way.chains)
+  pub is_reach : (s : Swept) → IsUnderway own configured table s → s.pending ≡ [] → has_single_rows table ≡ true → IsReach own configured table s.found
+  is_reach s way over single = let held = holds_all s way over single in record {
+    ascending = way.ascending;
+    exactly = λ u. ap (λ (set : Names). set u) (reach_is own configured table (among s.found) held way.chains);
+    closed = names_held own configured table (among s.found) held;
+  }
 
   -- ---- how many names can be found: no more than there are in all
   pub all_named : List ℕ

@@ -2,12 +2,9 @@
 
 ghost use Rattle.std.specs.Prelude.{◌≡◌, ℕ, IfOk, OnOk, option_map, true};
 ghost use Rattle.types.specs.declared.kind.Kind.{Kind};
-ghost use Rattle.protocol.specs.Backing.{slices_by};
-ghost use Rattle.protocol.specs.Quorums.{NamesWithin};
-ghost use Rattle.protocol.specs.Reach.{reached};
+ghost use Rattle.protocol.specs.Reach.{IsReach};
 ghost use Rattle.protocol.specs.Rows.{has_single_rows};
-ghost use Rattle.protocol.specs.Satisfaction.{names};
-ghost use Rattle.protocol.specs.Sets.{IsAscending, among};
+ghost use Rattle.protocol.specs.Sets.{IsAscending};
 ghost use Rattle.closure.specs.Sweeps.{AreNoted, named_by, named_in};
 
 use crate::sweep::Sweep;

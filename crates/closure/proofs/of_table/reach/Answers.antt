@@ -1,11 +1,8 @@
 use Rattle.std.proofs.Common.{◌≡◌, ◌+◌, ◌∙◌, ℕ, List, length, ap, sym, subst, arith}
 use Rattle.protocol.specs.Sets.{among}
-use Rattle.protocol.specs.Satisfaction.{names}
-use Rattle.protocol.specs.Quorums.{NamesWithin}
-use Rattle.protocol.specs.Backing.{slices_by}
-use Rattle.protocol.proofs.ReachLaws.{names_held}
+use Rattle.protocol.specs.Reach.{IsReach}
 use Rattle.closure.specs.Sweeps.{Swept, just, AreNoted}
-use Rattle.closure.proofs.Underway.{begins, goes_on, holds_all, is_reach, found_bound}
+use Rattle.closure.proofs.Underway.{begins, goes_on, is_reach, found_bound}
 use Rattle.closure.proofs.of_table.reach.Goals as goal
 
 pub loop-next-init : goal.loop-next-init
@@ -27,15 +24,8 @@ loop-next-smaller c =
     let noted : length c.note_rows_of.new.sweep.found + length c.take.new.self.pending ≡ length c.take.new.self.found + length c.note_rows_of.new.sweep.pending = c.in_ok-note_rows_of.ensures.counted in
     omega (arith, bound, taken, same, noted)
 
-pub returns-clause-exactly : goal.returns-clause-exactly
-returns-clause-exactly c =
+pub returns : goal.returns
+returns c =
     let found : c.into_nodes.result.items ≡ c.loop-next.sweep.found = c.into_nodes.ensures ∙ ap (λ (s : Swept). s.found) c.in_default.ensures.1 in
-    λ u. ap (λ (xs : List ℕ). among xs u) found
-    ∙ is_reach c.args.node.now c.args.slices.now c.args.table.now c.loop-next.sweep c.loop-next.invariant c.in_default.ensures.0 c.has_one_row_of_each_kind.ensures u
-
-pub returns-clause-closed : goal.returns-clause-closed
-returns-clause-closed c =
-    let found : c.into_nodes.result.items ≡ c.loop-next.sweep.found = c.into_nodes.ensures ∙ ap (λ (s : Swept). s.found) c.in_default.ensures.1 in
-    let held = names_held c.args.node.now c.args.slices.now c.args.table.now (among c.loop-next.sweep.found)
-    (holds_all c.args.node.now c.args.slices.now c.args.table.now c.loop-next.sweep c.loop-next.invariant c.in_default.ensures.0 c.has_one_row_of_each_kind.ensures) in
-    λ kind. subst (λ (xs : List ℕ). NamesWithin names (slices_by c.args.node.now c.args.slices.now c.args.table.now kind) (among xs)) (sym found) (held kind)
+    subst (λ (xs : List ℕ). IsReach c.args.node.now c.args.slices.now c.args.table.now xs) (sym found)
+    (is_reach c.args.node.now c.args.slices.now c.args.table.now c.loop-next.sweep c.loop-next.invariant c.in_default.ensures.0 c.has_one_row_of_each_kind.ensures)
