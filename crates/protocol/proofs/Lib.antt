@@ -9,6 +9,7 @@ pub mod WorkedRows
 pub mod BlockingLaws
 pub mod ClosureLaws
 pub mod ReachLaws
+pub mod ReachStays
 pub mod WorkedReach
 pub mod Everything
 pub mod WorkedSteps

@@ -1,12 +1,13 @@
 -- The reach of a node: whom it may come to depend on, by its own slices and by the rows of a table.
-use Rattle.std.specs.Prelude.{◌≡◌, ℕ, List, [], ◌∷◌, map, IsTrue, ◌↔◌}
+use Rattle.std.specs.Prelude.{◌≡◌, ℕ, List, [], ◌∷◌, map, Some, IsTrue, IsFalse, ◌↔◌}
 use Rattle.std.specs.List.{Contains}
 use Rattle.types.specs.Trees.{Slices}
 use Rattle.types.specs.declared.kind.Kind.{Kind}
-use Rattle.types.specs.Statements.{Sent}
+use Rattle.types.specs.Statements.{Sent, kind_of}
 use Rattle.protocol.specs.Sets.{Names, among, AreWithin, IsAscending}
 use Rattle.protocol.specs.Satisfaction.{names}
 use Rattle.protocol.specs.Quorums.{NamesWithin}
+use Rattle.protocol.specs.Rows.{row, with_row}
 use Rattle.protocol.specs.Backing.{slices_by}
 use Rattle.protocol.specs.Closures.{Rule, in_least}
 
@@ -60,3 +61,13 @@ ReachFollowsChains = (own : ℕ) (configured : Slices) (table : List Sent) (u : 
 -- the reach holds all names of its members' slices, by the configuration and by the rows of either kind
 abbrev pub ReachHoldsNames : Type 0
 ReachHoldsNames = (own : ℕ) (configured : Slices) (table : List Sent) (kind : Kind) → NamesWithin names (slices_by own configured table kind) (reached own configured table)
+
+-- the reach stays where a row comes in the place of one with the same slices
+abbrev pub StaysWithSameSlices : Type 0
+StaysWithSameSlices = (own : ℕ) (configured : Slices) (table : List Sent) (reach : List ℕ) (e old : Sent)
+    → row table e.sender (kind_of e.body) ≡ Some old → old.slices ≡ e.slices → IsReach own configured table reach → IsReach own configured (with_row e table) reach
+
+-- the reach stays where a row comes whose sender is not reached
+abbrev pub StaysWithStrangers : Type 0
+StaysWithStrangers = (own : ℕ) (configured : Slices) (table : List Sent) (reach : List ℕ) (e : Sent)
+    → IsFalse (among reach e.sender) → IsReach own configured table reach → IsReach own configured (with_row e table) reach

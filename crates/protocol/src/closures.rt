@@ -1,7 +1,7 @@
 //! Laws of closures, and of the reach of a node.
 
 ghost use Rattle.protocol.specs.Closures.{ClosuresAreDerived, ClosuresAreLeast};
-ghost use Rattle.protocol.specs.Reach.{ReachFollowsChains, ReachHoldsNames, ReachIsLeast};
+ghost use Rattle.protocol.specs.Reach.{ReachFollowsChains, ReachHoldsNames, ReachIsLeast, StaysWithSameSlices, StaysWithStrangers};
 
 /// The closure of a name contains it, keeps each rule, and lies in every set that does both.
 pub fn closures_are_least()
@@ -30,4 +30,11 @@ pub fn reach_follows_chains()
 /// kind. So a quorum test may be cut to it.
 pub fn reach_holds_names()
     ensures { ReachHoldsNames }
+{}
+
+/// The reach of a node stays as it is where a row comes in the place of one with the same slices, and
+/// where a row comes whose sender is not reached.
+pub fn reach_stays()
+    ensures slices { StaysWithSameSlices }
+    ensures strangers { StaysWithStrangers }
 {}

@@ -15,7 +15,7 @@ mod rows;
 
 pub use closures::{
     closures_are_derived, closures_are_least, reach_follows_chains, reach_holds_names,
-    reach_is_least,
+    reach_is_least, reach_stays,
 };
 pub use extremes::extremes_are_exact;
 pub use headline::{agree, isolation, journals_are_runs, prefix, quiet, verdicts_are_determined};

@@ -1,0 +1,108 @@
+-- Rows that leave the reach of a node as it is.
+use Rattle.std.proofs.Common.{◌≡◌, ℕ, Bool, true, false, cond, ◌⊎◌, List, [], ◌∷◌, map, find, Some, if◌then◌else◌, refl, sym, ◌∙◌, ap, ap₂, subst, inl, inr}
+use Rattle.std.specs.List.{Contains}
+use Rattle.std.proofs.Math.Path.{fun_ext}
+use Rattle.std.proofs.lemmas.Bool.{true≢false}
+use Rattle.types.specs.Trees.{Slices}
+use Rattle.types.specs.Statements.{Sent, kind_of}
+use Rattle.protocol.specs.Sets.{Names, among, AreWithin}
+use Rattle.protocol.specs.Satisfaction.{names}
+use Rattle.protocol.specs.Quorums.{NamesWithin}
+use Rattle.protocol.specs.Rows.{is_row_of, row, with_row}
+use Rattle.protocol.specs.Backing.{slices_by}
+use Rattle.protocol.specs.Closures.{Rule, in_least}
+use Rattle.protocol.specs.Reach.{rule_of, reached, IsReach, StaysWithSameSlices, StaysWithStrangers}
+use Rattle.protocol.proofs.SetLaws.{same_test}
+use Rattle.protocol.proofs.ClosureLaws.{contains_head, contains_tail, contained_cases}
+use Rattle.protocol.proofs.Tables.{is_row_of-parts}
+use Rattle.protocol.proofs.ReachLaws.{reached-holds, reached-in, reach_names}
+
+-- what a list needs to be the reach in another table
+same_reach : (own : ℕ) (configured : Slices) (old new : List Sent) (us : List ℕ) → ((u : ℕ) → reached own configured old u ≡ reached own configured new u) → IsReach own configured old us → IsReach own configured new us
+same_reach own configured old new us same r =
+    let exactly : (u : ℕ) → among us u ≡ reached own configured new u = λ u. r.exactly u ∙ same u in
+    record {
+      ascending = r.ascending;
+      exactly = exactly;
+      closed = λ kind. subst (λ (set : Names). NamesWithin names (slices_by own configured new kind) set) (sym (fun_ext exactly)) (reach_names own configured new kind);
+    }
+
+-- ---- a row in the place of one with the same slices
+same_rule : (x e : Sent) → x.sender ≡ e.sender → x.slices ≡ e.slices → rule_of e ≡ rule_of x
+same_rule x e s q = ap₂ (λ (u : ℕ) (gives : List ℕ). record { sources = u ∷ []; gives = gives }) (sym s) (ap names (sym q))
+
+same_rules : (e old : Sent) (table : List Sent) → row table e.sender (kind_of e.body) ≡ Some old → old.slices ≡ e.slices → map rule_of (with_row e table) ≡ map rule_of table
+unfolding row with_row
+same_rules e old [] h q = cc
+same_rules e old (x ∷ xs) h q = go (is_row_of e.sender (kind_of e.body) x) refl h (same_rules e old xs)
+  where
+    go : (b : Bool) → is_row_of e.sender (kind_of e.body) x ≡ b → cond b (Some x) (find (is_row_of e.sender (kind_of e.body)) xs) ≡ Some old
+        → (row xs e.sender (kind_of e.body) ≡ Some old → old.slices ≡ e.slices → map rule_of (with_row e xs) ≡ map rule_of xs)
+        → map rule_of (if b then e ∷ xs else x ∷ with_row e xs) ≡ rule_of x ∷ map rule_of xs
+    go true i r ih =
+        let p = is_row_of-parts e.sender (kind_of e.body) x i in
+        let same : x ≡ old = cc in
+        ap (λ (r : Rule). r ∷ map rule_of xs) (same_rule x e p.0 (subst (λ (o : Sent). o.slices ≡ e.slices) (sym same) q))
+    go false i r ih = ap (λ (rs : List Rule). rule_of x ∷ rs) (ih r q)
+
+pub stays_with_same_slices : StaysWithSameSlices
+unfolding reached
+stays_with_same_slices own configured table us e old h q r =
+    same_reach own configured table (with_row e table) us
+    (λ u. ap (λ (rs : List Rule). in_least (record { sources = own ∷ []; gives = names configured } ∷ rs) own u) (sym (same_rules e old table h q))) r
+
+-- ---- a row of a sender that is not reached
+-- the rows of the new table are the envelope and rows of the old one
+came : (e x : Sent) (table : List Sent) → Contains (with_row e table) x → (e ≡ x) ⊎ Contains table x
+unfolding with_row
+came e x [] c = contained_cases x e [] c
+came e x (y ∷ ys) c = go (is_row_of e.sender (kind_of e.body) y) c (came e x ys)
+  where
+    go : (b : Bool) → Contains (if b then e ∷ ys else y ∷ with_row e ys) x → (Contains (with_row e ys) x → (e ≡ x) ⊎ Contains ys x) → (e ≡ x) ⊎ Contains (y ∷ ys) x
+    go true c ih = elim (contained_cases x e ys c) [ inl same ↦ inl same | inr i ↦ inr (contains_tail x y ys i) ]
+    go false c ih = elim (contained_cases x y (with_row e ys) c) [
+      | inl same ↦ inr (subst (λ z. Contains (y ∷ ys) z) same (contains_head y ys))
+      | inr i ↦ elim (ih i) [ inl same ↦ inl same | inr j ↦ inr (contains_tail x y ys j) ]
+    ]
+
+-- only a row of the envelope's sender went
+stayed : (e x : Sent) (table : List Sent) → Contains table x → (x.sender ≡ e.sender) ⊎ Contains (with_row e table) x
+unfolding with_row
+stayed e x [] c = inr (contains_tail x e [] c)
+stayed e x (y ∷ ys) c = go (is_row_of e.sender (kind_of e.body) y) refl (contained_cases x y ys c) (stayed e x ys)
+  where
+    go : (b : Bool) → is_row_of e.sender (kind_of e.body) y ≡ b → ((y ≡ x) ⊎ Contains ys x) → (Contains ys x → (x.sender ≡ e.sender) ⊎ Contains (with_row e ys) x)
+        → (x.sender ≡ e.sender) ⊎ Contains (if b then e ∷ ys else y ∷ with_row e ys) x
+    go true i (inl same) ih = inl (subst (λ (z : Sent). z.sender ≡ e.sender) same (is_row_of-parts e.sender (kind_of e.body) y i).0)
+    go true i (inr j) ih = inr (contains_tail x e ys j)
+    go false i (inl same) ih = inr (subst (λ z. Contains (y ∷ with_row e ys) z) same (contains_head y (with_row e ys)))
+    go false i (inr j) ih = elim (ih j) [ inl s ↦ inl s | inr k ↦ inr (contains_tail x y (with_row e ys) k) ]
+
+module _ (own : ℕ) (configured : Slices) (table : List Sent) (e : Sent) (stranger : reached own configured table e.sender ≡ false) where
+  with_it-in : AreWithin (reached own configured (with_row e table)) (reached own configured table)
+  with_it-in = let held = reached-holds own configured table in
+      reached-in own configured (with_row e table) (reached own configured table) (record {
+        itself = held.itself;
+        configuration = held.configuration;
+        rows = λ x c s. elim (came e x table c) [
+          | inl same ↦ absurd (true≢false (sym (subst (λ (z : Sent). reached own configured table z.sender ≡ true) (sym same) s) ∙ stranger))
+          | inr i ↦ held.rows x i s
+        ];
+      })
+
+  without_it-in : AreWithin (reached own configured table) (reached own configured (with_row e table))
+  without_it-in = let held = reached-holds own configured (with_row e table) in
+      reached-in own configured table (reached own configured (with_row e table)) (record {
+        itself = held.itself;
+        configuration = held.configuration;
+        rows = λ x c s. elim (stayed e x table c) [
+          | inl same ↦ absurd (true≢false (sym (subst (λ u. reached own configured table u ≡ true) same (with_it-in x.sender s)) ∙ stranger))
+          | inr i ↦ held.rows x i s
+        ];
+      })
+
+pub stays_with_strangers : StaysWithStrangers
+stays_with_strangers own configured table us e h r =
+    let stranger : reached own configured table e.sender ≡ false = sym (r.exactly e.sender) ∙ h in
+    same_reach own configured table (with_row e table) us
+    (λ u. same_test (reached own configured table u) (reached own configured (with_row e table) u) (without_it-in own configured table e stranger u) (with_it-in own configured table e stranger u)) r

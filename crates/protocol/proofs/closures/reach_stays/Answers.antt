@@ -1,0 +1,8 @@
+use Rattle.protocol.proofs.ReachStays.{stays_with_same_slices, stays_with_strangers}
+use Rattle.protocol.proofs.closures.reach_stays.Goals as goal
+
+pub returns-clause-slices : goal.returns-clause-slices
+returns-clause-slices c = stays_with_same_slices
+
+pub returns-clause-strangers : goal.returns-clause-strangers
+returns-clause-strangers c = stays_with_strangers
