@@ -18,7 +18,7 @@ use Rattle.protocol.proofs.RuleLists.{least-in, least-start, least-keeps}
 use Rattle.protocol.proofs.ViewLaws.{row-cut, reached-in}
 use Rattle.protocol.proofs.NodeLaws.{Good, IsFit, IsKept, cut_node, step-kept, step-quiet}
 
-good : (R : Names) (n : Node) → IsClosedFor R n → Good R n
+pub good : (R : Names) (n : Node) → IsClosedFor R n → Good R n
 good R n c = record { closed = record { has = c.has; own = c.own; rows = c.rows }; leaders = c.leaders }
 
 pub quiet_claim : Quiet

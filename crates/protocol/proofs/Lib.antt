@@ -45,6 +45,7 @@ pub mod ReachedNodes
 pub mod SendableVotes
 pub mod SentLaws
 pub mod ReachedLaws
+pub mod StrangerLaws
 pub mod WorkedPasses
 pub mod VerdictLaws
 pub mod LeastLaws

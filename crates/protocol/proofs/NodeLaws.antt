@@ -96,12 +96,12 @@ change-cut R n (Take e) k =
 change-cut R n (NominationTimer r) k = option_map-if (cut_node R) _ _
 change-cut R n (BallotTimer c) k = option_map-if (cut_node R) _ _
 
-all-push : {X : Type 0} (P : X → Bool) (xs : List X) (x : X) → list_all P xs ≡ true → P x ≡ true → list_all P (xs ++ x ∷ []) ≡ true
+pub all-push : {X : Type 0} (P : X → Bool) (xs : List X) (x : X) → list_all P xs ≡ true → P x ≡ true → list_all P (xs ++ x ∷ []) ≡ true
 all-push P [] x h p = and_from (P x) true p refl
 all-push P (y ∷ ys) x h p = let q = and_parts (P y) (list_all P ys) h in and_from (P y) (list_all P (ys ++ x ∷ [])) q.0 (all-push P ys x q.1 p)
 
 -- the leader is a neighbour, and so is in R
-leader-in : (R : Names) (slot round v : ℕ) (q : Slices) → R v ≡ true → within (names q) R ≡ true → R (leader slot round v q) ≡ true
+pub leader-in : (R : Names) (slot round v : ℕ) (q : Slices) → R v ≡ true → within (names q) R ≡ true → R (leader slot round v q) ≡ true
 unfolding leader neighbours best
 leader-in R slot round v q i w = pick v (neighbours slot round v q) i (and_from (R v) _ i (kept (names q) w))
   where
@@ -229,10 +229,13 @@ outs-none n taken =
     let a : (n.votes.armed == n.votes.armed) ≡ true = eqb-refl n.votes.armed in
     rw (r, a, emitted-same m (sent_nomination n.votes), emitted-same m (sent_vote n.votes), never (is_externalized n.votes.phase) (decided n.votes.ballot))
 
--- Quiet, for one event: an envelope from outside R changes at most rows outside R, and gives no outs
-pub step-quiet : (R : Names) (n : Node) (e : Sent) → Good R n → Calm n → R e.sender ≡ false → (cut_node R (step n (Take e)).0 ≡ cut_node R n) × ((step n (Take e)).1 ≡ [])
+-- an envelope from outside R that the table takes is a row more: nothing else changes, and nothing is given out
+pub step-outside : (R : Names) (n : Node) (e : Sent) → Good R n → Calm n → R e.sender ≡ false → is_taken n.table e ≡ true → step n (Take e) ≡ (record n { table = with_row e n.table }, [])
 unfolding step change settle
-step-quiet R n e g c o = go (is_taken n.table e)
+step-outside R n e g c o t =
+    ap (λ b. answered n (after_change (if b then Some m else None))) t
+    ∙ (ap (λ (w : Option Votes). answered n (settled m w)) at_once
+    ∙ ap {B = Node × List Out} (λ (os : List Out). (m, os)) (outs-none n (with_row e n.table)))
   where
     m : Node
     m = record n { table = with_row e n.table }
@@ -249,9 +252,17 @@ step-quiet R n e g c o = go (is_taken n.table e)
     at_once : settle 64 (passed m) n.votes ≡ Some n.votes
     at_once = ap (λ b. if b then Some n.votes else settle 63 (passed m) (passed m n.votes)) (ap (λ w. same_votes w n.votes) still ∙ same_votes-refl n.votes)
 
-    go : (b : Bool) → (cut_node R (answered n (after_change (if b then Some m else None))).0 ≡ cut_node R n) × ((answered n (after_change (if b then Some m else None))).1 ≡ [])
-    go false = (refl, refl)
-    go true = subst (λ (w : Option Votes). (cut_node R (answered n (settled m w)).0 ≡ cut_node R n) × ((answered n (settled m w)).1 ≡ [])) (sym at_once) (same_cut, outs-none n (with_row e n.table))
+-- what is stale changes nothing
+step-stale : (n : Node) (e : Sent) → is_taken n.table e ≡ false → step n (Take e) ≡ (n, [])
+unfolding step change
+step-stale n e f = ap (λ b. answered n (after_change (if b then Some (record n { table = with_row e n.table }) else None))) f
+
+-- Quiet, for one event: an envelope from outside R changes at most rows outside R, and gives no outs
+pub step-quiet : (R : Names) (n : Node) (e : Sent) → Good R n → Calm n → R e.sender ≡ false → (cut_node R (step n (Take e)).0 ≡ cut_node R n) × ((step n (Take e)).1 ≡ [])
+step-quiet R n e g c o = elim (cases_Bool (is_taken n.table e)) [
+  | inl t ↦ subst (λ (p : Node × List Out). (cut_node R p.0 ≡ cut_node R n) × (p.1 ≡ [])) (sym (step-outside R n e g c o t)) (ap {B = Node} (λ t. record n { table = t }) (cut-push_other R e n.table o), refl)
+  | inr f ↦ subst (λ (p : Node × List Out). (cut_node R p.0 ≡ cut_node R n) × (p.1 ≡ [])) (sym (step-stale n e f)) (refl, refl)
+]
 
 -- a step keeps the name and the slices
 abbrev pub IsSelf : Node → Node → Type 0

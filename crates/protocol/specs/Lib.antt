@@ -25,4 +25,5 @@ pub mod Isolation
 pub mod Claims
 pub mod Runs
 pub mod Limits
+pub mod Strangers
 pub mod Verdicts

@@ -21,7 +21,7 @@ pub use extremes::extremes_are_exact;
 pub use headline::{agree, isolation, journals_are_runs, prefix, quiet, verdicts_are_determined};
 pub use limits::four_passes_are_enough;
 pub use quorums::{blocking_is_counted, quorum_cut, quorums_are_found};
-pub use reached::reached_nodes_send_well_formed;
+pub use reached::{reached_nodes_send_well_formed, strangers_add_rows};
 pub use rows::{
     externalize_stays, newer_is_strict, offers_change_one_row, rows_are_single,
     rows_follow_from_all_offers, statements_are_ordered,
