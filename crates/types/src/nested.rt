@@ -1,6 +1,6 @@
 //! Slices: a threshold over names and inner sets.
 
-ghost use Rattle.std.specs.Prelude.{◌≡◌, ◌++◌, ◌&&◌, ◌==◌, IfOk, OnOk, IfSome, IsSome, ◌↔◌};
+ghost use Rattle.std.specs.Prelude.{◌≡◌, ◌++◌, ◌&&◌, ◌==◌, IfOk, OnOk, IfSome, IsSome, IsTrue, ◌↔◌};
 ghost use Rattle.std.specs.List.{AllByRecursion, list_any};
 ghost use Rattle.types.specs.Trees.{Slices, names_in, IsName, IsNested, has_threshold, is_shaped, all_differ};
 ghost use Rattle.types.specs.Shape.{members_of};
@@ -157,6 +157,27 @@ fn copy_of_set(alloc: Global, set: &SliceSet) -> Result<SliceSet, AllocError>
     })
 }
 
+/// Whether both are the same members, in the same order.
+fn are_same(members: &[Member], others: &[Member]) -> bool
+    ensures { IsTrue result ↔ members_of members.now ≡ members_of others.now }
+{
+    match members {
+        [] => others.is_empty(),
+        [Member::Node(node), rest @ ..] => match others {
+            [Member::Node(other), others @ ..] => node.is_same(other) && are_same(rest, others),
+            _ => false,
+        },
+        [Member::Set(set), rest @ ..] => match others {
+            [Member::Set(other), others @ ..] => {
+                set.threshold() == other.threshold()
+                    && are_same(set.members(), other.members())
+                    && are_same(rest, others)
+            }
+            _ => false,
+        },
+    }
+}
+
 /// Slices that keep the rules: at each level at most 64 members and a threshold of one to all of
 /// them, at most two levels of inner sets, at most 256 names, and no name twice in the tree (this
 /// host's profile of the nested slices of the Stellar Consensus Protocol draft).
@@ -211,6 +232,15 @@ impl Nested {
         Ok(Nested {
             set: copy_of_set(alloc, &self.set)?,
         })
+    }
+
+    /// Whether both are the same: one threshold over the same members, in the same order. It stops at
+    /// the first difference, and takes no memory.
+    pub fn is_same(&self, other: &Nested) -> bool
+        ensures { IsTrue result ↔ self.now ≡ other.now }
+    {
+        self.set.threshold() == other.set.threshold()
+            && are_same(self.set.members(), other.set.members())
     }
 
     /// The outermost set.
