@@ -1,5 +1,5 @@
 -- The blocking test looks at the rows that are seen alone.
-use Rattle.std.proofs.Common.{◌≡◌, ℕ, Bool, true, false, cond, ◌&&◌, ◌==◌, List, [], ◌∷◌, Some, filter, find, map, if◌then◌else◌, refl, sym, ◌∙◌, ap}
+use Rattle.std.proofs.Common.{◌≡◌, ℕ, Bool, true, false, not, cond, ◌&&◌, ◌==◌, List, [], ◌∷◌, Some, filter, find, map, if◌then◌else◌, refl, sym, ◌∙◌, ap}
 use Rattle.std.specs.List.{AllByRecursion}
 use Rattle.std.proofs.lemmas.Bool.{and_parts, and_from, eqb-true, true≢false}
 use Rattle.types.specs.Trees.{Slices}
@@ -9,9 +9,9 @@ use Rattle.types.specs.Statements.{Sent, kind_of}
 use Rattle.protocol.specs.Satisfaction.{names}
 use Rattle.protocol.specs.Sets.{Names, among}
 use Rattle.protocol.specs.Rows.{row, is_row_of, is_kind}
-use Rattle.protocol.specs.Backing.{is_passed}
+use Rattle.protocol.specs.Backing.{is_passed, passing}
 use Rattle.protocol.specs.Reach.{reached}
-use Rattle.protocol.specs.Views.{rows_seen, passing_with, blocking_passes, seen}
+use Rattle.protocol.specs.Views.{others_reached, rows_seen, passing_with, blocking_passes, seen}
 use Rattle.protocol.proofs.ReachLaws.{reach_least}
 use Rattle.protocol.proofs.ViewLaws.{is_blocked-local}
 use Rattle.fedvote.specs.Searching.{IsHonest}
@@ -46,8 +46,16 @@ names_reached own configured table u h = (reach_least own configured table).hold
 passing_agrees : (own : ℕ) (configured : Slices) (table : List Sent) (k : Kind) (own_passes : Bool) (test other : Statement → Bool) → AllByRecursion (λ s. test s ≡ other s) (rows_seen own configured table k)
     → (u : ℕ) → among (names configured) u ≡ true → passing_with own table k own_passes test u ≡ passing_with own table k own_passes other u
 unfolding rows_seen row
-passing_agrees own configured table k own_passes test other all u h =
-    ap (λ (b : Bool). if own == u then own_passes else b) (row_agrees test other (reached own configured table) k u (names_reached own configured table u h) table all)
+passing_agrees own configured table k own_passes test other all u h = go (own == u) refl
+  where
+    passed : (Statement → Bool) → Bool
+    passed t = passing table k t u
+
+    go : (itself : Bool) → (own == u) ≡ itself → (if itself then own_passes else passed test) ≡ (if itself then own_passes else passed other)
+    go true e = refl
+    go false e =
+        row_agrees test other (others_reached own configured table) k u
+        (and_from (not (own == u)) (reached own configured table u) (ap not e) (names_reached own configured table u h)) table all
 
 pub seen_honest : (own : ℕ) (configured : Slices) (leaders : List ℕ) (table : List Sent) → IsHonest (seen own configured leaders table)
 unfolding seen blocking_passes

@@ -15,7 +15,7 @@ use Rattle.protocol.specs.Rows.{row, is_row_of, is_kind}
 use Rattle.protocol.specs.Backing.{slices_by, is_passed}
 use Rattle.protocol.specs.Closures.{Rule, keeps, in_least}
 use Rattle.protocol.specs.Reach.{reached, rule_of}
-use Rattle.protocol.specs.Views.{rows_seen, led_by, passing_with, quorum_passes, blocking_passes, seen}
+use Rattle.protocol.specs.Views.{others_reached, rows_seen, led_by, passing_with, quorum_passes, blocking_passes, seen}
 use Rattle.protocol.proofs.SetLaws.{same_test, all_from, within-at, among_head, among_tail}
 use Rattle.protocol.proofs.SatisfactionLaws.{sat_local, sat_monotone, sat_outside}
 use Rattle.protocol.proofs.QuorumLaws.{has_quorum-from, has_quorum-found, quorum_agree}
@@ -154,10 +154,12 @@ reached-cut R v q table c u = same_test _ _ less more
 rows_seen-cut : (R : Names) (v : ℕ) (q : Slices) (table : List Sent) → Closed R v q table → (k : Kind) → rows_seen v q table k ≡ rows_seen v q (cut R table) k
 unfolding rows_seen
 rows_seen-cut R v q table c k =
-    let now : Sent → Bool = λ e. is_kind k (kind_of e.body) && reached v q table e.sender in
+    let now : Sent → Bool = λ e. is_kind k (kind_of e.body) && others_reached v q table e.sender in
+    let within_R : (e : Sent) → now e ≡ true → R e.sender ≡ true = λ e h.
+        reached-in R v q table c e.sender (and_parts (not (v == e.sender)) (reached v q table e.sender) (and_parts (is_kind k (kind_of e.body)) (others_reached v q table e.sender) h).1).1 in
     ap (map (λ (e : Sent). e.body))
-    (sym (filter_filter (λ (e : Sent). R e.sender) now (λ e h. reached-in R v q table c e.sender (and_parts (is_kind k (kind_of e.body)) (reached v q table e.sender) h).1) table)
-    ∙ ap (λ (p : Sent → Bool). filter p (cut R table)) (fun_ext (λ (e : Sent). ap (λ b. is_kind k (kind_of e.body) && b) (reached-cut R v q table c e.sender))))
+    (sym (filter_filter (λ (e : Sent). R e.sender) now within_R table)
+    ∙ ap (λ (p : Sent → Bool). filter p (cut R table)) (fun_ext (λ (e : Sent). ap (λ b. is_kind k (kind_of e.body) && (not (v == e.sender) && b)) (reached-cut R v q table c e.sender))))
 
 -- the leaders' rows
 led_by-cut : (R : Names) (table : List Sent) (leaders : List ℕ) → within leaders R ≡ true → led_by leaders table ≡ led_by leaders (cut R table)

@@ -1,5 +1,6 @@
 -- Steps of one validator, computed from the definitions.
 use Rattle.std.proofs.Common.{◌≡◌, ℕ, true, is_none, Some, None, List, [], ◌∷◌, ◌++◌, refl}
+use Rattle.types.specs.Statements.{Sent}
 use Rattle.types.specs.Trees.{Slices}
 use Rattle.types.specs.declared.statement.Statement.TheVariants.{Nominate, Prepare, Commit, Externalize}
 use Rattle.types.specs.declared.kind.Kind.{Kind}
@@ -126,3 +127,16 @@ externalize_row_stands = refl
 pub externalize_row_is_the_first : row with_externalize.table B Kind.Ballot ≡ Some (by B (just B) (Externalize (at 3 x) 3))
 unfolding everything
 externalize_row_is_the_first = refl
+
+-- ---- a row in the node's own name
+abbrev takes_all : List Sent → Node → Node
+takes_all [] n = n
+takes_all (e ∷ es) n = takes_all es (step n (Take e)).0
+
+abbrev blocked_below_six : Node
+blocked_below_six = takes_all (by B (just B) (Prepare (at 9 m) (Some (at 9 m)) 6 0 0) ∷ by C (just C) (Prepare (at 8 k) (Some (at 8 k)) 6 0 0) ∷ []) (fresh 1 A two_of_bcd)
+
+-- it names no candidate: the node's own position stands for it
+pub own_row_names_no_candidate : (step blocked_below_six (Take (by A (just A) (Prepare (at 5 q) None 0 0 0)))).1 ≡ []
+unfolding everything
+own_row_names_no_candidate = refl

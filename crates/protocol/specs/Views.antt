@@ -1,5 +1,5 @@
 -- What a node sees of its table: reached rows, the rows of its leaders, and the federated tests.
-use Rattle.std.specs.Prelude.{ℕ, Bool, false, ◌&&◌, ◌||◌, ◌==◌, List, ◌∷◌, Option, Some, None, filter, map, filter_map, option_map, if◌then◌else◌}
+use Rattle.std.specs.Prelude.{ℕ, Bool, false, not, ◌&&◌, ◌||◌, ◌==◌, List, ◌∷◌, Option, Some, None, filter, map, filter_map, option_map, if◌then◌else◌}
 use Rattle.types.specs.Trees.{Slices}
 use Rattle.types.specs.declared.kind.Kind.{Kind}
 use Rattle.types.specs.declared.kind.Kind.TheVariants.{Nomination}
@@ -14,7 +14,7 @@ use Rattle.protocol.specs.Reach.{reached}
 
 -- all that the rules read of a table; each of the two tests is told whether the node's own position passes
 pub record Seen : Type 0 where
-  -- the statements in the rows of reached senders
+  -- the statements in the rows of the others that are reached
   pub rows : Kind → List Statement
   -- the statements in the nomination rows of the leaders, reached or not
   pub led : List Statement
@@ -23,9 +23,13 @@ pub record Seen : Type 0 where
   -- those who pass block the node's slices
   pub blocking : Kind → Bool → (Statement → Bool) → Bool
 
--- the statements in the rows of reached senders
+-- the other nodes that a node reaches: its own position stands for the node itself
+abbrev pub others_reached : ℕ → Slices → List Sent → Names
+others_reached own configured table u = not (own == u) && reached own configured table u
+
+-- the statements in the rows of the others that are reached
 unfoldable pub rows_seen : ℕ → Slices → List Sent → Kind → List Statement
-rows_seen own configured table kind = map (λ e. e.body) (filter (λ e. is_kind kind (kind_of e.body) && reached own configured table e.sender) table)
+rows_seen own configured table kind = map (λ e. e.body) (filter (λ e. is_kind kind (kind_of e.body) && others_reached own configured table e.sender) table)
 
 -- the statements in the nomination rows of the leaders, in the order in which they became leaders
 unfoldable pub led_by : List ℕ → List Sent → List Statement
