@@ -1,2 +1,3 @@
 mod Noted
 mod Underway
+mod ReachKept

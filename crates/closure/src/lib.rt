@@ -5,9 +5,11 @@
 //! stay in the table, since their senders may be reached later.
 #![tactic(auto)]
 
+mod keeping;
 mod of_table;
 mod sweep;
 #[cfg(test)]
 mod tests;
 
+pub use keeping::keeps_reach;
 pub use of_table::reach;

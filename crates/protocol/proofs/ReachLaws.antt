@@ -129,7 +129,7 @@ row_found (x ∷ xs) e single c =
       ]
     ]
 
-slices_of_row : (o : Option Sent) (q : Slices) → option_map (λ e. e.slices) o ≡ Some q → (e : Sent) × (o ≡ Some e) × (e.slices ≡ q)
+pub slices_of_row : (o : Option Sent) (q : Slices) → option_map (λ e. e.slices) o ≡ Some q → (e : Sent) × (o ≡ Some e) × (e.slices ≡ q)
 slices_of_row None q h = cc
 slices_of_row (Some e) q h = (e, refl, cc)
 
