@@ -2,9 +2,9 @@
 
 ghost use Rattle.std.specs.Prelude.{◌≡◌, ◌<◌, ℕ, IfOk, IfSome, get_or, length, map, option_map};
 ghost use Rattle.protocol.specs.Rows.{row};
-ghost use Rattle.view.specs.Watching.{rows_by};
+ghost use Rattle.view.specs.Watching.{rows_of_others};
 
-use crate::rows::{rows_of, statements_in};
+use crate::rows::{rows_of, statements_of_others};
 use latest::Table;
 use std::alloc::{AllocError, Global};
 use std::marker::Model;
@@ -74,11 +74,16 @@ impl<'a> ReachedRows<'a> {
         self.rows[place]
     }
 
-    /// The statements in these rows, in the order of the nodes. An error says that memory is short.
-    pub(crate) fn statements(&self, alloc: Global) -> Result<Vec<&'a Statement>, AllocError>
-        ensures { IfOk result (λ v. map (λ s. s.now) v.items ≡ rows_by self.now.kind self.now.table self.now.nodes) }
+    /// The statements that others than this node have in these rows, in the order of the nodes. An error
+    /// says that memory is short.
+    pub(crate) fn statements_of_others(
+        &self,
+        alloc: Global,
+        own: &NodeId,
+    ) -> Result<Vec<&'a Statement>, AllocError>
+        ensures { IfOk result (λ v. map (λ s. s.now) v.items ≡ rows_of_others own.now self.now.kind self.now.table self.now.nodes) }
     {
-        statements_in(alloc, &self.rows)
+        statements_of_others(alloc, own, &self.rows)
     }
 }
 

@@ -1,9 +1,9 @@
 //! What the rows of a table say: their statements, and the values in their nominations.
 
-ghost use Rattle.std.specs.Prelude.{◌≡◌, IfOk, OnOk, map, option_map, true};
+ghost use Rattle.std.specs.Prelude.{◌≡◌, IfOk, OnOk, filter_map, map, option_map, true};
 ghost use Rattle.protocol.specs.Candidates.{all_with, values_by};
 ghost use Rattle.protocol.specs.Rows.{has_single_rows};
-ghost use Rattle.view.specs.Watching.{rows_at, rows_by, statements_in, values_in};
+ghost use Rattle.view.specs.Watching.{rows_at, rows_by, said_by_another, statements_in, values_in};
 
 use latest::Table;
 use std::alloc::{AllocError, Global};
@@ -39,6 +39,39 @@ pub(crate) fn statements_in<'a>(
         }
     }
     Ok(statements)
+}
+
+/// The statements in these rows that other nodes say, in their order.
+pub(crate) fn statements_of_others<'a>(
+    alloc: Global,
+    own: &NodeId,
+    rows: &[Option<&'a Envelope>],
+) -> Result<Vec<&'a Statement>, AllocError>
+    ensures { IfOk result (λ v. map (λ s. s.now) v.items ≡ filter_map (said_by_another own.now) (map (λ o. option_map (λ r. r.now) o) rows.now)) }
+{
+    let mut statements = Vec::new(alloc);
+    for row in rows {
+        if let Some(statement) = said_by_another(own, *row) {
+            statements.push(statement)?;
+        }
+    }
+    Ok(statements)
+}
+
+/// What the row says, where it is another node's.
+fn said_by_another<'a>(own: &NodeId, row: Option<&'a Envelope>) -> Option<&'a Statement>
+    ensures { option_map (λ s. s.now) result ≡ said_by_another own.now (option_map (λ r. r.now) row.entry) }
+{
+    match row {
+        None => None,
+        Some(row) => {
+            if *own == *row.sender() {
+                None
+            } else {
+                Some(row.body())
+            }
+        }
+    }
 }
 
 /// The statements in the rows of a kind that the nodes have, in the order of the nodes.

@@ -5,7 +5,7 @@ ghost use Rattle.types.specs.declared.kind.Kind.{Kind};
 ghost use Rattle.protocol.specs.Rows.{has_single_rows};
 ghost use Rattle.protocol.specs.Views.{led_by, rows_seen, seen};
 ghost use Rattle.protocol.specs.Reach.{IsReach};
-ghost use Rattle.view.specs.Watching.{rows_by, values_in};
+ghost use Rattle.view.specs.Watching.{rows_of_others, values_in};
 ghost use Rattle.fedvote.proofs.Honesty.{seen_honest};
 
 use crate::passing::{KnownSlices, Passing};
@@ -17,8 +17,8 @@ use latest::Table;
 use std::alloc::{AllocError, Global};
 use types::{Ballot, Kind, Leaders, Nested, NodeId, Statement, Values};
 
-/// What a node with these slices and leaders sees of a table: the rows of the nodes that it reaches, and
-/// the nomination rows of its leaders, reached or not (the Stellar Consensus Protocol draft, of federated
+/// What a node with these slices and leaders sees of a table: the rows of the other nodes that it reaches,
+/// and the nomination rows of its leaders, reached or not (the Stellar Consensus Protocol draft, of federated
 /// voting; that strangers' rows are left out is this host's profile).
 ///
 /// Rows of strangers are not looked at: each reached node's rows are looked up once, when the view is made,
@@ -40,7 +40,7 @@ pub struct View<'a> {
     ghost single: { has_single_rows table.now ≡ true },
     ghost ballots_kept: { ballot_rows ≡ record { nodes = reach.now; table = table.now; kind = Kind.Ballot } },
     ghost nominations_kept: { nomination_rows ≡ record { nodes = reach.now; table = table.now; kind = Kind.Nomination } },
-    ghost ballots_found: { map (λ s. s.now) ballots.items ≡ rows_by Kind.Ballot table.now reach.now },
+    ghost ballots_found: { map (λ s. s.now) ballots.items ≡ rows_of_others own.now Kind.Ballot table.now reach.now },
     ghost nominated_seen: { nominated ≡ values_in (rows_seen own.now slices.now table.now Kind.Nomination) },
     ghost led_seen: { led ≡ values_in (led_by leaders.now table.now) },
 }
@@ -62,8 +62,8 @@ impl<'a> View<'a> {
         has_one_row_of_each_kind(table);
         let ballot_rows = ReachedRows::of(alloc, reach, table, Kind::Ballot)?;
         let nomination_rows = ReachedRows::of(alloc, reach, table, Kind::Nomination)?;
-        let ballots = ballot_rows.statements(alloc)?;
-        let nominations = nomination_rows.statements(alloc)?;
+        let ballots = ballot_rows.statements_of_others(alloc, own)?;
+        let nominations = nomination_rows.statements_of_others(alloc, own)?;
         let nominated = values_in(alloc, &nominations)?;
         let leading = statements_of(alloc, leaders.as_slice(), table, Kind::Nomination)?;
         let led = values_in(alloc, &leading)?;

@@ -1,7 +1,7 @@
 use Rattle.std.proofs.Common.{◌∙◌, ℕ, Bor, List, ap, map}
 use Rattle.types.specs.declared.kind.Kind.TheVariants.{Nomination}
 use Rattle.types.specs.declared.statement.Statement.{Statement}
-use Rattle.view.specs.Watching.{Kept, rows_by, values_in}
+use Rattle.view.specs.Watching.{Kept, rows_by, rows_of_others, values_in}
 use Rattle.view.proofs.FoundRows.{values_found}
 use Rattle.view.proofs.Sightings.{leaders_rows}
 use Rattle.view.proofs.seeing.View.of.Goals as goal
@@ -14,7 +14,7 @@ invariant_of-result c =
     let reach = c.args.reach.now in
     let single = c.has_one_row_of_each_kind.ensures in
     let values = λ (xs : List (Bor Statement)). values_in (map (λ (s : Bor Statement). s.now) xs) in
-    let found = λ (k : Kept). rows_by k.kind k.table k.nodes in
+    let found = λ (k : Kept). rows_of_others own k.kind k.table k.nodes in
     record {
       reached = c.requires;
       single = single;
