@@ -1,7 +1,7 @@
 -- The rows that a look-up of each reached node finds are those that the node sees.
-use Rattle.std.proofs.Common.{◌≡◌, ℕ, Bool, true, ◌&&◌, ◌==◌, List, [], ◌∷◌, Option, Some, None, filter, map, option_map, refl, sym, ◌∙◌, ap, subst, inl, inr}
+use Rattle.std.proofs.Common.{◌≡◌, ℕ, Bool, true, false, not, ◌&&◌, ◌==◌, List, [], ◌∷◌, Option, Some, None, filter, map, if◌then◌else◌, refl, sym, ◌∙◌, ap, subst, inl, inr}
 use Rattle.std.specs.List.{Contains}
-use Rattle.std.proofs.lemmas.Bool.{cases_Bool, or_cases, or_left, or_right, and_parts, and_from, eqb-true, eq-eqb, false≢true}
+use Rattle.std.proofs.lemmas.Bool.{cases_Bool, or_cases, or_left, or_right, and_parts, and_from, eqb-true, eq-eqb, false≢true, not-true}
 use Rattle.types.specs.Trees.{Slices}
 use Rattle.types.specs.declared.ballot.Ballot.{Ballot}
 use Rattle.types.specs.declared.kind.Kind.{Kind}
@@ -11,12 +11,12 @@ use Rattle.protocol.specs.Candidates.{committed_in, named_in}
 use Rattle.protocol.specs.Sets.{among}
 use Rattle.protocol.specs.Reach.{reached}
 use Rattle.protocol.specs.Rows.{row, is_kind, is_row_of, has_single_rows}
-use Rattle.protocol.specs.Views.{rows_seen}
+use Rattle.protocol.specs.Views.{others_reached, rows_seen}
 use Rattle.protocol.proofs.ClosureLaws.{contained_cases, contains_head, contains_tail}
 use Rattle.protocol.proofs.ReachLaws.{mapped_from, mapped_to, row_contained, row_found}
 use Rattle.protocol.proofs.Tables.{is_kind-itself, is_row_of-parts, same_kind}
 use Rattle.fedvote.specs.Searching.{next_counter, next_under}
-use Rattle.view.specs.Watching.{rows_by, values_in}
+use Rattle.view.specs.Watching.{rows_of_others, said_by_another, values_in}
 use Rattle.view.proofs.SameRows.{AreSame, none_contained, found_from, found_to, kept_from, kept_to, same_committed, same_counter, same_named, same_values}
 
 among_from : (us : List ℕ) (u : ℕ) → Contains us u → among us u ≡ true
@@ -42,52 +42,62 @@ row_is (x ∷ xs) u k e h = elim (cases_Bool (is_row_of u k x)) [
   | inr o ↦ row_is xs u k e (rw o at h)
 ]
 
--- the statement of a row comes from it
-body_of : (o : Option Sent) (s : Statement) → option_map (λ e. e.body) o ≡ Some s → (e : Sent) × (o ≡ Some e) × (e.body ≡ s)
-body_of None s h = cc
-body_of (Some e) s h = (e, refl, cc)
+-- what another says comes from its row
+said_from : (own : ℕ) (o : Option Sent) (s : Statement) → said_by_another own o ≡ Some s → (e : Sent) × (o ≡ Some e) × ((own == e.sender) ≡ false) × (e.body ≡ s)
+said_from own None s h = cc
+said_from own (Some e) s h = go (own == e.sender) refl h
+  where
+    go : (b : Bool) → (own == e.sender) ≡ b → (if b then None else Some e.body) ≡ Some s → (x : Sent) × (Some e ≡ Some x) × ((own == x.sender) ≡ false) × (x.body ≡ s)
+    go true i h = cc
+    go false i h = (e, refl, i, cc)
+
+said_to : (own : ℕ) (e : Sent) (o : Option Sent) → o ≡ Some e → (own == e.sender) ≡ false → said_by_another own o ≡ Some e.body
+said_to own e o is other = ap (said_by_another own) is ∙ ap (λ b. if b then None else Some e.body) other
 
 module _ (own : ℕ) (q : Slices) (table : List Sent) (reach : List ℕ) (exactly : (u : ℕ) → among reach u ≡ reached own q table u) (single : has_single_rows table ≡ true) where
-  same_rows : (k : Kind) → AreSame (rows_by k table reach) (rows_seen own q table k)
+  same_rows : (k : Kind) → AreSame (rows_of_others own k table reach) (rows_seen own q table k)
   unfolding rows_seen
   same_rows k s = (λ c. over c, λ c. back c)
     where
       is_seen : Sent → Bool
-      is_seen e = is_kind k (kind_of e.body) && reached own q table e.sender
+      is_seen e = is_kind k (kind_of e.body) && others_reached own q table e.sender
 
       found : ℕ → Option Statement
-      found u = option_map (λ (e : Sent). e.body) (row table u k)
+      found u = said_by_another own (row table u k)
 
-      over : Contains (rows_by k table reach) s → Contains (map (λ (e : Sent). e.body) (filter is_seen table)) s
+      over : Contains (rows_of_others own k table reach) s → Contains (map (λ (e : Sent). e.body) (filter is_seen table)) s
       over c =
           let f = found_from found reach s c in
-          let b = body_of (row table f.0 k) s f.2 in
-          let r = row_contained table f.0 k b.0 b.1 in
-          let p = is_row_of-parts f.0 k b.0 (row_is table f.0 k b.0 b.1) in
-          let kind : is_kind k (kind_of b.0.body) ≡ true = subst (λ j. is_kind k j ≡ true) (sym p.1) (is_kind-itself k) in
-          let in_reach : reached own q table b.0.sender ≡ true = subst (λ u. reached own q table u ≡ true) (sym p.0) (sym (exactly f.0) ∙ among_from reach f.0 f.1) in
-          subst (λ t. Contains (map (λ (e : Sent). e.body) (filter is_seen table)) t) b.2
-          (mapped_to (λ (e : Sent). e.body) (filter is_seen table) b.0
-          (kept_to is_seen table b.0 r.0 (and_from (is_kind k (kind_of b.0.body)) (reached own q table b.0.sender) kind in_reach)))
+          let b = said_from own (row table f.0 k) s f.2 in
+          let e = b.0 in
+          let r = row_contained table f.0 k e b.1 in
+          let p = is_row_of-parts f.0 k e (row_is table f.0 k e b.1) in
+          let kind : is_kind k (kind_of e.body) ≡ true = subst (λ j. is_kind k j ≡ true) (sym p.1) (is_kind-itself k) in
+          let in_reach : reached own q table e.sender ≡ true = subst (λ u. reached own q table u ≡ true) (sym p.0) (sym (exactly f.0) ∙ among_from reach f.0 f.1) in
+          let other : others_reached own q table e.sender ≡ true = and_from (not (own == e.sender)) (reached own q table e.sender) (ap not b.2) in_reach in
+          subst (λ t. Contains (map (λ (x : Sent). x.body) (filter is_seen table)) t) b.3
+          (mapped_to (λ (x : Sent). x.body) (filter is_seen table) e
+          (kept_to is_seen table e r.0 (and_from (is_kind k (kind_of e.body)) (others_reached own q table e.sender) kind other)))
 
-      back : Contains (map (λ (e : Sent). e.body) (filter is_seen table)) s → Contains (rows_by k table reach) s
+      back : Contains (map (λ (e : Sent). e.body) (filter is_seen table)) s → Contains (rows_of_others own k table reach) s
       back c =
           let m = mapped_from (λ (e : Sent). e.body) (filter is_seen table) s c in
           let f = kept_from is_seen table m.0 m.1 in
-          let p = and_parts (is_kind k (kind_of m.0.body)) (reached own q table m.0.sender) f.1 in
+          let p = and_parts (is_kind k (kind_of m.0.body)) (others_reached own q table m.0.sender) f.1 in
+          let o = and_parts (not (own == m.0.sender)) (reached own q table m.0.sender) p.1 in
           let at : row table m.0.sender k ≡ Some m.0 = subst (λ j. row table m.0.sender j ≡ Some m.0) (sym (same_kind k (kind_of m.0.body) p.0)) (row_found table m.0 single f.0) in
-          found_to found reach m.0.sender s (among_to reach m.0.sender (exactly m.0.sender ∙ p.1)) (ap (λ (o : Option Sent). option_map (λ (e : Sent). e.body) o) at ∙ ap Some m.2)
+          found_to found reach m.0.sender s (among_to reach m.0.sender (exactly m.0.sender ∙ o.1)) (said_to own m.0 (row table m.0.sender k) at (not-true (own == m.0.sender) o.0) ∙ ap Some m.2)
 
   -- what a search among the rows that were found finds is what it finds among those that are seen
-  pub named_found : (bound : Option Ballot) → next_under bound (named_in (rows_by Kind.Ballot table reach)) ≡ next_under bound (named_in (rows_seen own q table Kind.Ballot))
+  pub named_found : (bound : Option Ballot) → next_under bound (named_in (rows_of_others own Kind.Ballot table reach)) ≡ next_under bound (named_in (rows_seen own q table Kind.Ballot))
   named_found bound = same_named bound _ _ (same_rows Kind.Ballot)
 
-  pub committed_found : (bound : Option Ballot) → next_under bound (committed_in (rows_by Kind.Ballot table reach)) ≡ next_under bound (committed_in (rows_seen own q table Kind.Ballot))
+  pub committed_found : (bound : Option Ballot) → next_under bound (committed_in (rows_of_others own Kind.Ballot table reach)) ≡ next_under bound (committed_in (rows_seen own q table Kind.Ballot))
   committed_found bound = same_committed bound _ _ (same_rows Kind.Ballot)
 
-  pub counter_found : (n : ℕ) → next_counter n (rows_by Kind.Ballot table reach) ≡ next_counter n (rows_seen own q table Kind.Ballot)
+  pub counter_found : (n : ℕ) → next_counter n (rows_of_others own Kind.Ballot table reach) ≡ next_counter n (rows_seen own q table Kind.Ballot)
   counter_found n = same_counter n _ _ (same_rows Kind.Ballot)
 
   -- and the values in them are those of the rows that are seen
-  pub values_found : (k : Kind) → values_in (rows_by k table reach) ≡ values_in (rows_seen own q table k)
+  pub values_found : (k : Kind) → values_in (rows_of_others own k table reach) ≡ values_in (rows_seen own q table k)
   values_found k = same_values _ _ (same_rows k)

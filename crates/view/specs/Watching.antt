@@ -1,5 +1,5 @@
--- What a view keeps of a table, and when it is what the node sees.
-use Rattle.std.specs.Prelude.{ℕ, List, Option, Some, None, filter_map, flat_map, option_map}
+-- What a view keeps of a table.
+use Rattle.std.specs.Prelude.{ℕ, ◌==◌, List, Option, Some, None, filter_map, flat_map, if◌then◌else◌, map, option_map}
 use Rattle.types.specs.declared.kind.Kind.{Kind}
 use Rattle.types.specs.declared.statement.Statement.{Statement}
 use Rattle.types.specs.Statements.{Sent}
@@ -7,9 +7,32 @@ use Rattle.protocol.specs.Rows.{row}
 use Rattle.protocol.specs.Candidates.{as_set, values_by}
 use Rattle.fedvote.specs.Searching.{lesser}
 
+-- the rows of a kind that some nodes have in a table, kept for look-ups
+pub record Kept : Type 0 where
+  pub nodes : List ℕ
+  pub table : List Sent
+  pub kind : Kind
+
+-- the rows of a kind that these nodes have, in the order of the nodes: nothing for a node without one
+abbrev pub rows_at : Kind → List Sent → List ℕ → List (Option Sent)
+rows_at kind table nodes = map (λ u. row table u kind) nodes
+
+-- the statements in these rows
+abbrev pub statements_in : List (Option Sent) → List Statement
+statements_in rows = filter_map (λ o. option_map (λ e. e.body) o) rows
+
 -- the statements in the rows of a kind that these nodes have
 abbrev pub rows_by : Kind → List Sent → List ℕ → List Statement
 rows_by kind table nodes = filter_map (λ u. option_map (λ e. e.body) (row table u kind)) nodes
+
+-- what an envelope says, where it is another node's
+abbrev pub said_by_another : ℕ → Option Sent → Option Statement
+said_by_another own None = None
+said_by_another own (Some e) = if own == e.sender then None else Some e.body
+
+-- the statements in the rows of a kind that the others of these nodes have
+abbrev pub rows_of_others : ℕ → Kind → List Sent → List ℕ → List Statement
+rows_of_others own kind table nodes = filter_map (λ u. said_by_another own (row table u kind)) nodes
 
 -- the values that these statements vote for or accept as nominated, as a set
 abbrev pub values_in : List Statement → List (List ℕ)

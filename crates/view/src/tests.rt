@@ -1,6 +1,8 @@
-//! A node's view of a small table with a stranger in it.
+//! A node's view of a small table with a stranger's rows and its own in it.
 
 use crate::View;
+use crate::reached::ReachedRows;
+use closure::reach;
 use fedvote::{Question, Sight};
 use latest::{Offer, Table};
 use std::alloc::Global;
@@ -77,21 +79,23 @@ fn offer(
     Ok(())
 }
 
-fn table_with_a_stranger(rt: &impl Abort, alloc: Global) -> Result<Table, Fail> {
+fn small_table(rt: &impl Abort, alloc: Global) -> Result<Table, Fail> {
     let mut table = Table::new(alloc);
     offer(rt, alloc, &mut table, STRANGER, 8, b'z')?;
     offer(rt, alloc, &mut table, 3, 5, b'b')?;
     offer(rt, alloc, &mut table, 2, 3, b'a')?;
+    offer(rt, alloc, &mut table, OWN, 7, b'c')?;
     Ok(table)
 }
 
 #[test]
-fn searches_see_no_strangers(rt: HostRuntime) -> Result<(), Fail> {
+fn searches_see_neither_strangers_nor_the_node_itself(rt: HostRuntime) -> Result<(), Fail> {
     let alloc = rt.alloc();
-    let table = table_with_a_stranger(&rt, alloc)?;
+    let table = small_table(&rt, alloc)?;
     let (own, slices) = (name(OWN), announced(alloc, OWN)?);
     let leaders = Leaders::none(alloc);
-    let view = View::of(alloc, &own, &slices, &leaders, &table)?;
+    let reached = reach(alloc, &table, &own, &slices)?;
+    let view = View::of(alloc, &own, &slices, &leaders, &table, &reached)?;
     assert_eq!(rt; view.next_named(None), Some(ballot(5, b'b')?));
     assert_eq!(rt;
         view.next_named(Some(ballot(5, b'b')?)),
@@ -112,13 +116,14 @@ fn searches_see_no_strangers(rt: HostRuntime) -> Result<(), Fail> {
 #[test]
 fn values_of_leaders_count_where_they_are_strangers(rt: HostRuntime) -> Result<(), Fail> {
     let alloc = rt.alloc();
-    let table = table_with_a_stranger(&rt, alloc)?;
+    let table = small_table(&rt, alloc)?;
     let (own, slices) = (name(OWN), announced(alloc, OWN)?);
     let mut leaders = Leaders::none(alloc);
     for leader in [STRANGER, 2, STRANGER, 7] {
         leaders.push(name(leader))?;
     }
-    let view = View::of(alloc, &own, &slices, &leaders, &table)?;
+    let reached = reach(alloc, &table, &own, &slices)?;
+    let view = View::of(alloc, &own, &slices, &leaders, &table, &reached)?;
     assert!(rt;
         view.nominated_values()
             .is_same(&values(alloc, &[b'a', b'b'])?)
@@ -128,12 +133,40 @@ fn values_of_leaders_count_where_they_are_strangers(rt: HostRuntime) -> Result<(
 }
 
 #[test]
+fn each_node_has_its_own_row(rt: HostRuntime) -> Result<(), Fail> {
+    let alloc = rt.alloc();
+    let table = small_table(&rt, alloc)?;
+    let (own, slices) = (name(OWN), announced(alloc, OWN)?);
+    let reached = reach(alloc, &table, &own, &slices)?;
+    let rows = ReachedRows::of(alloc, &reached, &table, Kind::Ballot)?;
+    let cases = [
+        (OWN, Some(7)),
+        (2, Some(3)),
+        (3, Some(5)),
+        (4, None),
+        (STRANGER, Some(8)),
+    ];
+    for (number, counter) in cases {
+        let found = match rows.row(&name(number)) {
+            Some(row) => match row.body() {
+                Statement::Prepare { ballot, .. } => Some(ballot.counter),
+                _ => return Err("kind".into()),
+            },
+            None => None,
+        };
+        assert_eq!(rt; found, counter);
+    }
+    Ok(())
+}
+
+#[test]
 fn both_tests_count_the_own_position(rt: HostRuntime) -> Result<(), Fail> {
     let alloc = rt.alloc();
-    let table = table_with_a_stranger(&rt, alloc)?;
+    let table = small_table(&rt, alloc)?;
     let (own, slices) = (name(OWN), announced(alloc, OWN)?);
     let leaders = Leaders::none(alloc);
-    let view = View::of(alloc, &own, &slices, &leaders, &table)?;
+    let reached = reach(alloc, &table, &own, &slices)?;
+    let view = View::of(alloc, &own, &slices, &leaders, &table, &reached)?;
     let cases = [
         (3, true, true, true),
         (4, true, true, true),
