@@ -5,7 +5,7 @@ use crate::reached::ReachedRows;
 use closure::reach;
 use fedvote::{Question, Sight};
 use latest::{Offer, Table};
-use std::alloc::Global;
+use std::alloc::{AllocError, Global};
 use std::process::Abort;
 use std::test::Fail;
 use types::{
@@ -132,31 +132,41 @@ fn values_of_leaders_count_where_they_are_strangers(rt: HostRuntime) -> Result<(
     Ok(())
 }
 
+/// The counter of the node's PREPARE, if it has one.
+fn counter_at(rows: &ReachedRows<'_>, number: u64) -> Option<u32> {
+    let Some(row) = rows.row(&name(number)) else {
+        return None;
+    };
+    match row.body() {
+        Statement::Prepare { ballot, .. } => Some(ballot.counter),
+        _ => None,
+    }
+}
+
 #[test]
 fn each_node_has_its_own_row(rt: HostRuntime) -> Result<(), Fail> {
     let alloc = rt.alloc();
     let table = small_table(&rt, alloc)?;
-    let (own, slices) = (name(OWN), announced(alloc, OWN)?);
-    let reached = reach(alloc, &table, &own, &slices)?;
+    let reached = reach(alloc, &table, &name(OWN), &announced(alloc, OWN)?)?;
     let rows = ReachedRows::of(alloc, &reached, &table, Kind::Ballot)?;
-    let cases = [
-        (OWN, Some(7)),
-        (2, Some(3)),
-        (3, Some(5)),
-        (4, None),
-        (STRANGER, Some(8)),
-    ];
-    for (number, counter) in cases {
-        let found = match rows.row(&name(number)) {
-            Some(row) => match row.body() {
-                Statement::Prepare { ballot, .. } => Some(ballot.counter),
-                _ => return Err("kind".into()),
-            },
-            None => None,
-        };
-        assert_eq!(rt; found, counter);
-    }
+    assert_eq!(rt; counter_at(&rows, OWN), Some(7));
+    assert_eq!(rt; counter_at(&rows, 2), Some(3));
+    assert_eq!(rt; counter_at(&rows, 3), Some(5));
+    assert_eq!(rt; counter_at(&rows, STRANGER), Some(8));
     Ok(())
+}
+
+/// Both tests, asked of ballots with at least this counter.
+fn asked<S: Sight>(
+    alloc: Global,
+    sight: &S,
+    counter: u32,
+    own_passes: bool,
+) -> Result<(bool, bool), AllocError> {
+    let question = Question::HasCounter(counter);
+    let quorum = sight.quorum(alloc, Kind::Ballot, own_passes, &question)?;
+    let blocking = sight.blocking(alloc, Kind::Ballot, own_passes, &question)?;
+    Ok((quorum, blocking))
 }
 
 #[test]
@@ -167,24 +177,10 @@ fn both_tests_count_the_own_position(rt: HostRuntime) -> Result<(), Fail> {
     let leaders = Leaders::none(alloc);
     let reached = reach(alloc, &table, &own, &slices)?;
     let view = View::of(alloc, &own, &slices, &leaders, &table, &reached)?;
-    let cases = [
-        (3, true, true, true),
-        (4, true, true, true),
-        (6, true, false, false),
-        (3, false, false, true),
-        (4, false, false, false),
-    ];
-    for (counter, own_passes, quorum, blocking) in cases {
-        let question = Question::HasCounter(counter);
-        assert_eq!(rt;
-            view.quorum(alloc, Kind::Ballot, own_passes, &question)?,
-            quorum
-        );
-        assert_eq!(rt;
-            view.blocking(alloc, Kind::Ballot, own_passes, &question)?,
-            blocking
-        );
-        assert!(rt; !view.quorum(alloc, Kind::Nomination, own_passes, &question)?);
-    }
+    assert_eq!(rt; asked(alloc, &view, 3, true)?, (true, true));
+    assert_eq!(rt; asked(alloc, &view, 4, true)?, (true, true));
+    assert_eq!(rt; asked(alloc, &view, 6, true)?, (false, false));
+    assert_eq!(rt; asked(alloc, &view, 3, false)?, (false, true));
+    assert_eq!(rt; asked(alloc, &view, 4, false)?, (false, false));
     Ok(())
 }
