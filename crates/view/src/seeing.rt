@@ -11,7 +11,6 @@ ghost use Rattle.fedvote.proofs.Honesty.{seen_honest};
 use crate::passing::{KnownSlices, Passing};
 use crate::rows::{has_one_row_of_each_kind, statements_of, values_in};
 use crate::searching::{next_committed, next_counter, next_named};
-use closure::reach;
 use fedvote::{Question, Sight, confirms, is_blocked};
 use latest::Table;
 use std::alloc::{AllocError, Global};
@@ -21,39 +20,42 @@ use types::{Ballot, Kind, Leaders, Nested, NodeId, Statement, Values};
 /// the nomination rows of its leaders, reached or not (the Stellar Consensus Protocol draft, of federated
 /// voting; that strangers' rows are left out is this host's profile).
 ///
-/// Rows of strangers are not looked at: each reached node's rows are looked up when the view is made.
+/// Rows of strangers are not looked at: each reached node's rows are looked up when the view is made. The
+/// reach is its owner's, who keeps it from event to event: to make a view costs no search for it.
 #[derive(Drop)]
 pub struct View<'a> {
     own: &'a NodeId,
     slices: &'a Nested,
     leaders: &'a Leaders,
     table: &'a Table,
-    reach: Vec<NodeId>,
+    reach: &'a [NodeId],
     ballots: Vec<&'a Statement>,
     nominated: Values,
     led: Values,
-    ghost reached: { IsReach own.now slices.now table.now reach.items },
+    ghost reached: { IsReach own.now slices.now table.now reach.now },
     ghost single: { has_single_rows table.now ≡ true },
-    ghost ballots_found: { map (λ s. s.now) ballots.items ≡ rows_by Kind.Ballot table.now reach.items },
+    ghost ballots_found: { map (λ s. s.now) ballots.items ≡ rows_by Kind.Ballot table.now reach.now },
     ghost nominated_seen: { nominated ≡ values_in (rows_seen own.now slices.now table.now Kind.Nomination) },
     ghost led_seen: { led ≡ values_in (led_by leaders.now table.now) },
 }
 
 impl<'a> View<'a> {
-    /// What the node sees of the table now. An error says that memory is short.
+    /// What the node sees of the table now, by the nodes that it reaches now. An error says that memory is
+    /// short.
     pub fn of(
         alloc: Global,
         own: &'a NodeId,
         slices: &'a Nested,
         leaders: &'a Leaders,
         table: &'a Table,
+        reach: &'a [NodeId],
     ) -> Result<View<'a>, AllocError>
+        requires { IsReach own.now slices.now table.now reach.now }
         ensures { IfOk result (λ v. ⟦<View<'a> as Sight>⟧.seen v ≡ seen own.now slices.now leaders.now table.now) }
     {
-        let reach = reach(alloc, table, own, slices)?;
         has_one_row_of_each_kind(table);
-        let ballots = statements_of(alloc, &reach, table, Kind::Ballot)?;
-        let nominations = statements_of(alloc, &reach, table, Kind::Nomination)?;
+        let ballots = statements_of(alloc, reach, table, Kind::Ballot)?;
+        let nominations = statements_of(alloc, reach, table, Kind::Nomination)?;
         let nominated = values_in(alloc, &nominations)?;
         let leading = statements_of(alloc, leaders.as_slice(), table, Kind::Nomination)?;
         let led = values_in(alloc, &leading)?;
@@ -96,7 +98,7 @@ impl<'a> Sight for View<'a> {
             kind,
             question,
         };
-        confirms(alloc, self.own, &known, &passing, &self.reach)
+        confirms(alloc, self.own, &known, &passing, self.reach)
     }
 
     fn blocking(

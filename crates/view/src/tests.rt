@@ -1,6 +1,7 @@
 //! A node's view of a small table with a stranger in it.
 
 use crate::View;
+use closure::reach;
 use fedvote::{Question, Sight};
 use latest::{Offer, Table};
 use std::alloc::Global;
@@ -91,7 +92,8 @@ fn searches_see_no_strangers(rt: HostRuntime) -> Result<(), Fail> {
     let table = table_with_a_stranger(&rt, alloc)?;
     let (own, slices) = (name(OWN), announced(alloc, OWN)?);
     let leaders = Leaders::none(alloc);
-    let view = View::of(alloc, &own, &slices, &leaders, &table)?;
+    let reached = reach(alloc, &table, &own, &slices)?;
+    let view = View::of(alloc, &own, &slices, &leaders, &table, &reached)?;
     assert_eq!(rt; view.next_named(None), Some(ballot(5, b'b')?));
     assert_eq!(rt;
         view.next_named(Some(ballot(5, b'b')?)),
@@ -118,7 +120,8 @@ fn values_of_leaders_count_where_they_are_strangers(rt: HostRuntime) -> Result<(
     for leader in [STRANGER, 2, STRANGER, 7] {
         leaders.push(name(leader))?;
     }
-    let view = View::of(alloc, &own, &slices, &leaders, &table)?;
+    let reached = reach(alloc, &table, &own, &slices)?;
+    let view = View::of(alloc, &own, &slices, &leaders, &table, &reached)?;
     assert!(rt;
         view.nominated_values()
             .is_same(&values(alloc, &[b'a', b'b'])?)
@@ -133,7 +136,8 @@ fn both_tests_count_the_own_position(rt: HostRuntime) -> Result<(), Fail> {
     let table = table_with_a_stranger(&rt, alloc)?;
     let (own, slices) = (name(OWN), announced(alloc, OWN)?);
     let leaders = Leaders::none(alloc);
-    let view = View::of(alloc, &own, &slices, &leaders, &table)?;
+    let reached = reach(alloc, &table, &own, &slices)?;
+    let view = View::of(alloc, &own, &slices, &leaders, &table, &reached)?;
     let cases = [
         (3, true, true, true),
         (4, true, true, true),

@@ -1,6 +1,4 @@
-use Rattle.std.proofs.Common.{ℕ, List, IsTrue, subst, sym}
 use Rattle.std.proofs.lemmas.Result.{IfOk-weaker}
-use Rattle.protocol.specs.Sets.{among}
 use Rattle.fedvote.specs.Questions.{asks}
 use Rattle.view.proofs.Sightings.{itself_reached, own_fails, quorum_tested}
 use Rattle.view.proofs.seeing.ViewSight.quorum.Goals as goal
@@ -13,8 +11,7 @@ returns-then-not-own_passes c =
 pub confirms-requires-clause-member : goal.confirms-requires-clause-member
 confirms-requires-clause-member c =
     let view = c.args.self.now in
-    subst {A = List ℕ} (λ (us : List ℕ). IsTrue (among us view.own.now)) (sym c.deref.ensures.value)
-    (itself_reached view.own.now view.slices.now view.table.now view.reach.items view.reached.exactly)
+    itself_reached view.own.now view.slices.now view.table.now view.reach.now view.reached.exactly
 
 pub returns : goal.returns
 returns c =
