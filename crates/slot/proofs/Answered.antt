@@ -1,6 +1,6 @@
 -- How an answer leads to the step's: the votes that settle, and what the node of them sends.
 use Rattle.std.proofs.Common.{◌≡◌, ℕ, ◌+◌, ◌<◌, Bool, true, false, not, ◌&&◌, ◌==◌, nat_lt, List, Option, Some, None, Result, Ok, Err, Vec, Global, IfOk, OnOk, option_map, is_some, if◌then◌else◌, subst, ◌∙◌, sym, ap, inl, inr, ◌⊎◌, arith}
-use Rattle.std.specs.Prelude.{IfSome, IsFalse}
+use Rattle.std.specs.Prelude.{IfSome, IsFalse, IsTrue}
 use Rattle.std.proofs.lemmas.Bool.{and_parts, eqb-true, false≢true}
 use Rattle.std.proofs.lemmas.Bool.Decides.{nat_tests}
 use Rattle.types.specs.Statements.{Sent}
@@ -17,6 +17,7 @@ use Rattle.protocol.specs.Nodes.{Node, passed, settle, change, settled, after_ch
 use Rattle.protocol.specs.Limits.{Reached}
 use Rattle.protocol.specs.Limits.Reached.{next}
 use Rattle.protocol.proofs.ReachedLaws.{reached-calm, reached-sends}
+use Rattle.protocol.proofs.SettleLaws.{never_limited}
 use Rattle.protocol.proofs.ClaimLaws.{quiet_claim}
 use Rattle.protocol.specs.Claims.{IsClosedFor, IsQuiet}
 use Rattle.protocol.specs.Sets.{Names}
@@ -26,14 +27,14 @@ use Rattle.latest.specs.Puts.{IsPut}
 use Rattle.slot.specs.declared.configured.Configured.{Configured}
 use Rattle.slot.specs.Wholes.{whole, led, SendWellFormed}
 
--- what an event changes leads to a reached node
-pub reached-after : (n m : Node) (e : NodeEvent) → Reached n → change n e ≡ Some m → Reached (answered n (after_change (Some m))).0
-unfolding step
-reached-after n m e r h = subst (λ (o : Option Node). Reached (answered n (after_change o)).0) h (next r e)
+-- the votes that an event changes settle within the limit
+pub settles-after : (n m : Node) (e : NodeEvent) → Reached n → change n e ≡ Some m → IsTrue (is_some (settle 64 (passed m) m.votes))
+settles-after n m e r h = never_limited n r e m h
 
--- what its votes send once they settle is well formed
-pub sends-after : (n m : Node) → Reached (answered n (after_change (Some m))).0 → IfSome (settle 64 (passed m) m.votes) SendWellFormed
-sends-after n m r = go (settle 64 (passed m) m.votes) r
+-- what they send once they settle is well formed
+pub sends-after : (n m : Node) (e : NodeEvent) → Reached n → change n e ≡ Some m → IfSome (settle 64 (passed m) m.votes) SendWellFormed
+unfolding step
+sends-after n m e r h = go (settle 64 (passed m) m.votes) (subst (λ (o : Option Node). Reached (answered n (after_change o)).0) h (next r e))
   where
     go : (o : Option Votes) → Reached (answered n (settled m o)).0 → IfSome o SendWellFormed
     go None r = tt
@@ -132,10 +133,6 @@ change-put c given votes w table t n x p e put is ew =
 -- the votes settle
 pub step-some : (n m : Node) (e : NodeEvent) (w : Votes) → change n e ≡ Some m → settle 64 (passed m) m.votes ≡ Some w → step n e ≡ answered n (Some (record m { votes = w }))
 step-some n m e w h s = step-is n e (Some m) h ∙ ap (λ (o : Option Votes). answered n (settled m o)) s
-
--- the limit is met
-pub step-none : (n m : Node) (e : NodeEvent) → change n e ≡ Some m → settle 64 (passed m) m.votes ≡ None → step n e ≡ answered n None
-step-none n m e h s = step-is n e (Some m) h ∙ ap (λ (o : Option Votes). answered n (settled m o)) s
 
 pub reached-some : (n m : Node) (e : NodeEvent) (w : Votes) → Reached n → change n e ≡ Some m → settle 64 (passed m) m.votes ≡ Some w → Reached (record m { votes = w })
 reached-some n m e w r h s = subst (λ (p : Node × List Out). Reached p.0) (step-some n m e w h s) (next r e)

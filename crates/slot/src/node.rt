@@ -1,11 +1,11 @@
 //! A node at a slot.
 
-ghost use Rattle.std.specs.Prelude.{◌≡◌, IfOk, IfSome, IsFalse, List, OnErr, OnOk, Some, option_map};
+ghost use Rattle.std.specs.Prelude.{◌≡◌, IfOk, IfSome, IsFalse, IsTrue, List, OnErr, OnOk, Some, is_some};
 ghost use Rattle.protocol.specs.Nodes.{Calm, after_change, answered, fresh, outs, passed, settle, step};
 ghost use Rattle.protocol.specs.Claims.{IsClosedFor, IsQuiet};
 ghost use Rattle.protocol.specs.Limits.{Reached};
 ghost use Rattle.protocol.specs.Sets.{Names};
-ghost use Rattle.slot.specs.Wholes.{SendWellFormed, whole};
+ghost use Rattle.slot.specs.Wholes.{IsChange, SendWellFormed, whole};
 ghost use Rattle.types.specs.Statements.{Sent};
 ghost use Rattle.types.specs.declared.event.NodeEvent.{NodeEvent};
 
@@ -130,6 +130,7 @@ impl Node {
         ensures err { OnErr result (self.new ≡ self.old) }
         ensures quiet { (R : Names) (e : Sent) → event ≡ NodeEvent.Take e → IsClosedFor R self.old → IsFalse (R e.sender) → IfOk result (λ v. IsQuiet R self.old self.new v.items) }
     {
+        self.reached();
         match event {
             NodeEvent::Propose(value) => self.propose(alloc, value),
             NodeEvent::Take(envelope) => self.take(alloc, envelope),
@@ -146,6 +147,13 @@ impl Node {
         let mut node = self.try_copy(alloc)?;
         let outs = node.advance(alloc, event)?;
         Ok((node, outs))
+    }
+
+    /// A law: events led to it.
+    fn reached(&self)
+        ensures { Reached self.now }
+    {
+        let _table = &self.table;
     }
 
     /// The input is set, and round 1 begins.
@@ -188,13 +196,11 @@ impl Node {
     }
 
     /// An envelope reaches the node: where it is newer than its sender's row of its kind, it is the row
-    /// now. It is taken back out where a later growth finds no memory, and where the limit of passes is
-    /// met, as the definition says; no event meets it.
+    /// now. It is taken back out where a later growth finds no memory.
     fn take(&mut self, alloc: Global, envelope: Envelope) -> Result<Vec<Out>, AllocError>
         ensures node { OnOk result (self.new ≡ (step self.old (NodeEvent.Take envelope)).0) }
         ensures outs { IfOk result (λ v. v.items ≡ (step self.old (NodeEvent.Take envelope)).1) }
         ensures err { OnErr result (self.new ≡ self.old) }
-        ensures reached { Reached self.old }
     {
         let votes = self.votes.try_copy(alloc)?;
         let put = self.table.put(envelope);
@@ -209,15 +215,11 @@ impl Node {
                     table,
                 } = self;
                 match answer_of(alloc, configured, table, given, old_votes, given, votes) {
-                    Ok(Some(Answer { votes, outs })) => {
+                    Ok(Answer { votes, outs }) => {
                         // The row stays, and the way back is let go.
                         drop(put);
                         *old_votes = votes;
                         Ok(outs)
-                    }
-                    Ok(None) => {
-                        table.undo(put);
-                        Ok(Vec::new(alloc))
                     }
                     Err(error) => {
                         table.undo(put);
@@ -228,15 +230,15 @@ impl Node {
         }
     }
 
-    /// Passes, from what an event gave and these votes on, and what is given out. Where the limit of
-    /// passes is met the node stays as it was, as the definition says; no event meets it.
+    /// Passes, from what an event gave and these votes on, and what is given out. An error says that
+    /// memory is short, and the node is as it was.
     fn settle(&mut self, alloc: Global, given: Given, votes: Votes) -> Result<Vec<Out>, AllocError>
-        requires { Reached (answered self.old (after_change (Some (record self.old { given = given; votes = votes })))).0 }
+        requires { IsChange self.old (record self.old { given = given; votes = votes }) }
         ensures node { OnOk result (self.new ≡ (answered self.old (after_change (Some (record self.old { given = given; votes = votes })))).0) }
         ensures outs { IfOk result (λ v. v.items ≡ (answered self.old (after_change (Some (record self.old { given = given; votes = votes })))).1) }
         ensures err { OnErr result (self.new ≡ self.old) }
     {
-        let answer = answer_of(
+        let Answer { votes, outs } = answer_of(
             alloc,
             &self.configured,
             &self.table,
@@ -245,19 +247,14 @@ impl Node {
             &given,
             votes,
         )?;
-        match answer {
-            None => Ok(Vec::new(alloc)),
-            Some(Answer { votes, outs }) => {
-                self.given = given;
-                self.votes = votes;
-                Ok(outs)
-            }
-        }
+        self.given = given;
+        self.votes = votes;
+        Ok(outs)
     }
 }
 
 /// What passes make of what was given and these votes, by the rows of this table, and what is given out
-/// since the old state. `None` where the limit of passes is met. An error says that memory is short.
+/// since the old state. An error says that memory is short.
 fn answer_of(
     alloc: Global,
     configured: &Configured,
@@ -266,10 +263,11 @@ fn answer_of(
     old_votes: &Votes,
     given: &Given,
     votes: Votes,
-) -> Result<Option<Answer>, AllocError>
-    requires { IfSome (settle 64 (passed (whole configured.now given.now votes table.now)) votes) SendWellFormed }
-    ensures votes { IfOk result (λ o. option_map (λ a. a.votes) o ≡ settle 64 (passed (whole configured.now given.now votes table.now)) votes) }
-    ensures outs { IfOk result (λ o. IfSome o (λ a. (before after : List Sent) → a.outs.items ≡ outs (whole configured.now old_given.now old_votes.now before) (whole configured.now given.now a.votes after))) }
+) -> Result<Answer, AllocError>
+    requires settles { IsTrue (is_some (settle 64 (passed (whole configured.now given.now votes table.now)) votes)) }
+    requires sends { IfSome (settle 64 (passed (whole configured.now given.now votes table.now)) votes) SendWellFormed }
+    ensures votes { IfOk result (λ a. settle 64 (passed (whole configured.now given.now votes table.now)) votes ≡ Some a.votes) }
+    ensures outs { IfOk result (λ a. (before after : List Sent) → a.outs.items ≡ outs (whole configured.now old_given.now old_votes.now before) (whole configured.now given.now a.votes after)) }
 {
     let view = View::of(
         alloc,

@@ -2,9 +2,8 @@ use Rattle.std.proofs.Common.{◌≡◌, ◌∙◌, List, Some, None, IfOk, OnOk
 use Rattle.types.specs.declared.event.Out.{Out}
 use Rattle.types.specs.declared.event.NodeEvent.TheVariants.{BallotTimer}
 use Rattle.protocol.specs.Nodes.{Node}
-use Rattle.protocol.specs.Limits.{Reached}
 use Rattle.protocol.proofs.ReachedLaws.{reached-fired}
-use Rattle.slot.proofs.Answered.{reached-after, step-is, change-counter, change-no_counter, live-below}
+use Rattle.slot.proofs.Answered.{step-is, change-counter, change-no_counter, live-below}
 use Rattle.slot.proofs.node.Node.ballot_timer.Goals as goal
 
 pub returns-then-not-is_counter_live-clause-node : goal.returns-then-not-is_counter_live-clause-node
@@ -29,7 +28,7 @@ settle-requires c =
     let n = c.args.self.now in
     let i = c.self.inside in
     let made = change-counter i.configured i.given c.in_ok-given.given i.votes c.in_ok-votes.votes i.table n c.args.counter (sym c.self.view_is) (sym c.is_counter_live.ensures ∙ c.if-not-is_counter_live.false) c.in_ok-given.ensures c.in_ok-votes.ensures in
-    reached-after n (record n { given = c.in_ok-given.given; votes = c.in_ok-votes.votes }) (BallotTimer c.args.counter) (subst Reached c.self.view_is c.self.invariant) made
+    record { event = BallotTimer c.args.counter; is = made }
 
 pub returns-clause-node : goal.returns-clause-node
 returns-clause-node c =

@@ -2,8 +2,7 @@ use Rattle.std.proofs.Common.{◌≡◌, ◌∙◌, List, Some, None, IfOk, OnOk
 use Rattle.types.specs.declared.event.Out.{Out}
 use Rattle.types.specs.declared.event.NodeEvent.TheVariants.{NominationTimer}
 use Rattle.protocol.specs.Nodes.{Node}
-use Rattle.protocol.specs.Limits.{Reached}
-use Rattle.slot.proofs.Answered.{reached-after, step-is, change-round, change-no_round}
+use Rattle.slot.proofs.Answered.{step-is, change-round, change-no_round}
 use Rattle.slot.proofs.node.Node.nomination_timer.Goals as goal
 
 pub returns-then-not-is_round_live-clause-node : goal.returns-then-not-is_round_live-clause-node
@@ -21,7 +20,7 @@ settle-requires c =
     let n = c.args.self.now in
     let i = c.self.inside in
     let made = change-round i.configured i.given c.in_ok-given.given i.votes c.in_ok-votes.votes i.table n c.args.round (sym c.self.view_is) (sym c.is_round_live.ensures ∙ c.if-not-is_round_live.false) c.in_ok-given.ensures c.in_ok-votes.ensures in
-    reached-after n (record n { given = c.in_ok-given.given; votes = c.in_ok-votes.votes }) (NominationTimer c.args.round) (subst Reached c.self.view_is c.self.invariant) made
+    record { event = NominationTimer c.args.round; is = made }
 
 pub returns-clause-node : goal.returns-clause-node
 returns-clause-node c =

@@ -2,8 +2,7 @@ use Rattle.std.proofs.Common.{◌≡◌, List, Some, IfOk, OnOk, sym, subst}
 use Rattle.types.specs.declared.event.Out.{Out}
 use Rattle.types.specs.declared.event.NodeEvent.TheVariants.{Propose}
 use Rattle.protocol.specs.Nodes.{Node}
-use Rattle.protocol.specs.Limits.{Reached}
-use Rattle.slot.proofs.Answered.{reached-after, step-is, change-propose}
+use Rattle.slot.proofs.Answered.{step-is, change-propose}
 use Rattle.slot.proofs.node.Node.propose.Goals as goal
 
 pub settle-requires : goal.settle-requires
@@ -11,7 +10,7 @@ settle-requires c =
     let n = c.args.self.now in
     let i = c.self.inside in
     let made = change-propose i.configured i.given c.in_ok-given.given i.votes c.in_ok-votes.votes i.table n c.args.value (sym c.self.view_is) c.in_ok-given.ensures c.in_ok-votes.ensures in
-    reached-after n (record n { given = c.in_ok-given.given; votes = c.in_ok-votes.votes }) (Propose c.args.value) (subst Reached c.self.view_is c.self.invariant) made
+    record { event = Propose c.args.value; is = made }
 
 pub returns-clause-node : goal.returns-clause-node
 returns-clause-node c =
