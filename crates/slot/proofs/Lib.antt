@@ -1,3 +1,4 @@
 pub mod Settles
 pub mod Emissions
+pub mod Sendings
 pub mod Answered

@@ -38,3 +38,10 @@ SendWellFormed w = IfSome (sent_nomination w) IsWellFormed × IfSome (sent_vote 
 pub record IsChange (old new : Node) : Type 0 where
   pub event : NodeEvent
   pub is : change old event ≡ Some new
+
+-- the envelope is the node's own: it carries the node's name, its slot and its configured slices, and its statement is well formed
+pub record IsSentBy (n : Node) (e : Sent) : Type 0 where
+  pub sender : e.sender ≡ n.name
+  pub slot : e.slot ≡ n.slot
+  pub slices : e.slices ≡ n.slices
+  pub rules : IsWellFormed e.body

@@ -1,13 +1,15 @@
 //! A node at a slot.
 
 ghost use Rattle.std.specs.Prelude.{◌≡◌, IfOk, IfSome, IsFalse, IsTrue, List, OnErr, OnOk, Some, is_some};
+ghost use Rattle.std.specs.List.{Contains};
 ghost use Rattle.protocol.specs.Nodes.{Calm, after_change, answered, fresh, outs, passed, settle, step};
 ghost use Rattle.protocol.specs.Claims.{IsClosedFor, IsQuiet};
 ghost use Rattle.protocol.specs.Limits.{Reached};
 ghost use Rattle.protocol.specs.Sets.{Names};
-ghost use Rattle.slot.specs.Wholes.{IsChange, SendWellFormed, whole};
+ghost use Rattle.slot.specs.Wholes.{IsChange, IsSentBy, SendWellFormed, whole};
 ghost use Rattle.types.specs.Statements.{Sent};
 ghost use Rattle.types.specs.declared.event.NodeEvent.{NodeEvent};
+ghost use Rattle.types.specs.declared.event.Out.TheVariants.{Emit};
 
 use crate::answering::{Answer, answer_to};
 use crate::changes::{bumped, fired, in_next_round, is_counter_live, is_round_live, proposed};
@@ -123,12 +125,17 @@ impl Node {
     /// order (the Stellar Consensus Protocol draft; the order of events and outs is this host's
     /// profile). A stale envelope and a timer that is not live change nothing and give nothing out.
     ///
+    /// Each envelope that is given out carries the node's own name, its slot and its configured slices,
+    /// and its statement is well formed: so it can be spelled, and what reads that spelling back reads
+    /// this envelope.
+    ///
     /// An error says that memory is short, and the node is as it was.
     pub fn advance(&mut self, alloc: Global, event: NodeEvent) -> Result<Vec<Out>, AllocError>
         ensures node { OnOk result (self.new ≡ (step self.old event).0) }
         ensures outs { IfOk result (λ v. v.items ≡ (step self.old event).1) }
         ensures err { OnErr result (self.new ≡ self.old) }
         ensures quiet { (R : Names) (e : Sent) → event ≡ NodeEvent.Take e → IsClosedFor R self.old → IsFalse (R e.sender) → IfOk result (λ v. IsQuiet R self.old self.new v.items) }
+        ensures emitted { IfOk result (λ v. (e : Sent) → Contains v.items (Emit e) → IsSentBy self.old e) }
     {
         self.reached();
         match event {
@@ -142,7 +149,8 @@ impl Node {
     /// The node after one event, as by [`Node::advance`], and what it gives out; this node stays as it
     /// is. An error says that memory is short.
     pub fn step(&self, alloc: Global, event: NodeEvent) -> Result<(Node, Vec<Out>), AllocError>
-        ensures { IfOk result (λ r. (r.0, r.1.items) ≡ step self.now event) }
+        ensures step { IfOk result (λ r. (r.0, r.1.items) ≡ step self.now event) }
+        ensures emitted { IfOk result (λ r. (e : Sent) → Contains r.1.items (Emit e) → IsSentBy self.now e) }
     {
         let mut node = self.try_copy(alloc)?;
         let outs = node.advance(alloc, event)?;
