@@ -25,6 +25,7 @@ use Rattle.latest.specs.declared.table.Put.{Put}
 use Rattle.latest.specs.declared.table.Put.TheVariants.{Stale, NoMemory, Added, Replaced}
 use Rattle.latest.specs.Puts.{IsPut}
 use Rattle.slot.specs.declared.configured.Configured.{Configured}
+use Rattle.slot.specs.Reaching.{is_put}
 use Rattle.slot.specs.Wholes.{whole, led, SendWellFormed}
 
 -- the votes that an event changes settle within the limit
@@ -106,14 +107,7 @@ live-below k armed (Some b) over h =
     under m e = grind (arith, nat_tests)
 
 -- ---- envelopes
--- the table has the envelope
-abbrev pub is_kept : Put → Bool
-is_kept Stale = false
-is_kept NoMemory = false
-is_kept Added = true
-is_kept (Replaced r) = true
-
-kept-is_taken : (old new : List Sent) (x : Sent) (p : Put) → IsPut old x p new → is_kept p ≡ true → (is_taken old x ≡ true) × (new ≡ with_row x old)
+kept-is_taken : (old new : List Sent) (x : Sent) (p : Put) → IsPut old x p new → is_put p ≡ true → (is_taken old x ≡ true) × (new ≡ with_row x old)
 kept-is_taken old new x Stale h k = absurd (false≢true k)
 kept-is_taken old new x NoMemory h k = absurd (false≢true k)
 kept-is_taken old new x Added h k = (h.1, h.2)
@@ -125,9 +119,9 @@ change-put c given votes w table t n x p e put is ew =
     let taken = kept-is_taken table t x p put (kept is) in
     change-take c given votes w table t n x e taken.0 taken.1 ew
   where
-    kept : (p ≡ Added) ⊎ ((y : Sent) × (p ≡ Replaced y)) → is_kept p ≡ true
-    kept (inl q) = ap is_kept q
-    kept (inr q) = ap is_kept q.1
+    kept : (p ≡ Added) ⊎ ((y : Sent) × (p ≡ Replaced y)) → is_put p ≡ true
+    kept (inl q) = ap is_put q
+    kept (inr q) = ap is_put q.1
 
 -- ---- whole steps
 -- the votes settle

@@ -2,3 +2,4 @@ pub mod Settles
 pub mod Emissions
 pub mod Sendings
 pub mod Answered
+pub mod Strangers

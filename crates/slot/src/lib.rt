@@ -8,6 +8,7 @@ mod configured;
 mod node;
 mod outs;
 mod passing;
+mod reaching;
 mod sent;
 mod settling;
 

@@ -6,6 +6,7 @@ ghost use Rattle.protocol.specs.Nodes.{Calm, after_change, answered, fresh, outs
 ghost use Rattle.protocol.specs.Claims.{IsClosedFor, IsQuiet};
 ghost use Rattle.protocol.specs.Limits.{Reached};
 ghost use Rattle.protocol.specs.Sets.{Names};
+ghost use Rattle.slot.specs.Reaching.{KnowsReach};
 ghost use Rattle.slot.specs.Wholes.{IsChange, IsSentBy, SendWellFormed, whole};
 ghost use Rattle.types.specs.Statements.{Sent};
 ghost use Rattle.types.specs.declared.event.NodeEvent.{NodeEvent};
@@ -14,6 +15,7 @@ ghost use Rattle.types.specs.declared.event.Out.TheVariants.{Emit};
 use crate::answering::{Answer, answer_to};
 use crate::changes::{bumped, fired, in_next_round, is_counter_live, is_round_live, proposed};
 use crate::configured::Configured;
+use crate::reaching::{add_row, is_stranger, put_row, take_reach};
 use latest::{Put, Table};
 use std::alloc::{AllocError, Global};
 use std::marker::Model;
@@ -22,13 +24,16 @@ use view::View;
 
 /// One node at one slot, and all that it knows there.
 ///
-/// Contracts see it as the node of the protocol's definitions. It is made and changed by events alone.
+/// The nodes that it reaches are kept from one event to the next, until a row comes that may change
+/// them: so a row of a stranger costs no pass, and one with the slices that its sender announced before
+/// costs no search. Contracts see it as the node of the protocol's definitions. It is made and changed by events alone.
 #[derive(Drop)]
 pub struct Node {
     configured: Configured,
     given: Given,
     votes: Votes,
     table: Table,
+    known_reach: Option<Vec<NodeId>>,
 }
 
 impl Model for Node {
@@ -36,7 +41,7 @@ impl Model for Node {
     ghost use Rattle.types.specs.Trees.{members_code};
     ghost use Rattle.slot.specs.Wholes.{whole};
     ghost use Rattle.protocol.specs.Nodes.{Node as Meant};
-    ghost use Rattle.protocol.specs.Limits.{Reached};
+    ghost use Rattle.slot.specs.Reaching.{IsSound};
 
     ghost Value = { Meant };
 
@@ -44,7 +49,7 @@ impl Model for Node {
 
     ghost view = { λ n. whole n.configured n.given n.votes n.table };
 
-    ghost invariant = { λ n. Reached (whole n.configured n.given n.votes n.table) };
+    ghost invariant = { λ n. IsSound n.configured n.given n.votes n.table n.known_reach };
 }
 
 impl Node {
@@ -57,6 +62,7 @@ impl Node {
             given: Given::nothing(alloc),
             votes: Votes::none(alloc),
             table: Table::new(alloc),
+            known_reach: None,
         }
     }
 
@@ -69,6 +75,7 @@ impl Node {
             given: self.given.try_copy(alloc)?,
             votes: self.votes.try_copy(alloc)?,
             table: self.table.try_copy(alloc)?,
+            known_reach: None,
         })
     }
 
@@ -203,15 +210,28 @@ impl Node {
         self.settle(alloc, given, votes)
     }
 
-    /// An envelope reaches the node: where it is newer than its sender's row of its kind, it is the row
-    /// now. It is taken back out where a later growth finds no memory.
+    /// An envelope reaches the node. That of a stranger is offered to the table, and nothing else
+    /// happens.
     fn take(&mut self, alloc: Global, envelope: Envelope) -> Result<Vec<Out>, AllocError>
         ensures node { OnOk result (self.new ≡ (step self.old (NodeEvent.Take envelope)).0) }
         ensures outs { IfOk result (λ v. v.items ≡ (step self.old (NodeEvent.Take envelope)).1) }
         ensures err { OnErr result (self.new ≡ self.old) }
     {
+        if is_stranger(&self.known_reach, envelope.sender()) {
+            return add_row(alloc, &mut self.table, envelope);
+        }
+        self.take_and_settle(alloc, envelope)
+    }
+
+    /// An envelope that is newer than its sender's row of its kind is the row now, and passes follow. It
+    /// is taken back out where a later growth finds no memory.
+    fn take_and_settle(&mut self, alloc: Global, envelope: Envelope) -> Result<Vec<Out>, AllocError>
+        ensures node { OnOk result (self.new ≡ (step self.old (NodeEvent.Take envelope)).0) }
+        ensures outs { IfOk result (λ v. v.items ≡ (step self.old (NodeEvent.Take envelope)).1) }
+        ensures err { OnErr result (self.new ≡ self.old) }
+    {
         let votes = self.votes.try_copy(alloc)?;
-        let put = self.table.put(envelope);
+        let put = put_row(&mut self.table, &mut self.known_reach, envelope);
         match put {
             Put::Stale => Ok(Vec::new(alloc)),
             Put::NoMemory => Err(AllocError),
@@ -221,8 +241,18 @@ impl Node {
                     given,
                     votes: old_votes,
                     table,
+                    known_reach,
                 } = self;
-                match answer_of(alloc, configured, table, given, old_votes, given, votes) {
+                match answer_of(
+                    alloc,
+                    configured,
+                    table,
+                    known_reach,
+                    given,
+                    old_votes,
+                    given,
+                    votes,
+                ) {
                     Ok(Answer { votes, outs }) => {
                         // The row stays, and the way back is let go.
                         drop(put);
@@ -231,6 +261,7 @@ impl Node {
                     }
                     Err(error) => {
                         table.undo(put);
+                        *known_reach = None;
                         Err(error)
                     }
                 }
@@ -250,6 +281,7 @@ impl Node {
             alloc,
             &self.configured,
             &self.table,
+            &mut self.known_reach,
             &self.given,
             &self.votes,
             &given,
@@ -262,11 +294,12 @@ impl Node {
 }
 
 /// What passes make of what was given and these votes, by the rows of this table, and what is given out
-/// since the old state. An error says that memory is short.
+/// since the old state. The reach is known afterwards, unless memory is short, as an error says.
 fn answer_of(
     alloc: Global,
     configured: &Configured,
     table: &Table,
+    known_reach: &mut Option<Vec<NodeId>>,
     old_given: &Given,
     old_votes: &Votes,
     given: &Given,
@@ -274,15 +307,22 @@ fn answer_of(
 ) -> Result<Answer, AllocError>
     requires settles { IsTrue (is_some (settle 64 (passed (whole configured.now given.now votes table.now)) votes)) }
     requires sends { IfSome (settle 64 (passed (whole configured.now given.now votes table.now)) votes) SendWellFormed }
+    requires reach { KnowsReach configured.now table.now known_reach.old }
     ensures votes { IfOk result (λ a. settle 64 (passed (whole configured.now given.now votes table.now)) votes ≡ Some a.votes) }
     ensures outs { IfOk result (λ a. (before after : List Sent) → a.outs.items ≡ outs (whole configured.now old_given.now old_votes.now before) (whole configured.now given.now a.votes after)) }
+    ensures reach { KnowsReach configured.now table.now known_reach.new }
 {
+    let region = take_reach(alloc, known_reach, configured, table)?;
     let view = View::of(
         alloc,
         &configured.name,
         &configured.slices,
         &given.leaders,
         table,
+        &region,
     )?;
-    answer_to(alloc, configured, &view, old_given, old_votes, given, votes)
+    let answer = answer_to(alloc, configured, &view, old_given, old_votes, given, votes);
+    drop(view);
+    *known_reach = Some(region);
+    answer
 }

@@ -19,7 +19,7 @@ returns-then-not-is_counter_live-clause-outs c =
 pub fired-requires : goal.fired-requires
 fired-requires c =
     let i = c.self.inside in
-    let low = reached-fired c.self.invariant in
+    let low = reached-fired c.self.invariant.events in
     let high = live-below c.args.counter i.votes.armed i.votes.ballot _ (sym c.is_counter_live.ensures ∙ c.if-not-is_counter_live.false) in
     omega (arith, low, high)
 

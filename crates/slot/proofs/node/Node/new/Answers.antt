@@ -13,4 +13,4 @@ unfolding fresh
 invariant_of-result c =
     let same : fresh c.args.slot c.args.name c.args.slices ≡ record { name = c.args.name; slot = c.args.slot; slices = c.args.slices; given = c.nothing.result; votes = c.none.result; table = c.new.result } =
     λ i. record { name = c.args.name; slot = c.args.slot; slices = c.args.slices; given = sym c.nothing.ensures i; votes = sym c.none.ensures i; table = sym c.new.ensures i } in
-    subst Reached same (begin c.args.slot c.args.name c.args.slices)
+    record { events = subst Reached same (begin c.args.slot c.args.name c.args.slices); reach = tt }

@@ -10,21 +10,27 @@ pub answer_of-requires-clause-settles : goal.answer_of-requires-clause-settles
 answer_of-requires-clause-settles c =
     let n = c.args.self.now in
     let m : Node = record n { given = c.args.given; votes = c.args.votes } in
-    let h = settles-after n m c.requires.event (subst Reached c.self.view_is c.self.invariant) c.requires.is in
+    let h = settles-after n m c.requires.event (subst Reached c.self.view_is c.self.invariant.events) c.requires.is in
     subst (λ (x : Node). IsTrue (is_some (settle 64 (passed (record x { given = c.args.given; votes = c.args.votes })) c.args.votes))) (sym c.self.view_is) h
 
 pub answer_of-requires-clause-sends : goal.answer_of-requires-clause-sends
 answer_of-requires-clause-sends c =
     let n = c.args.self.now in
     let m : Node = record n { given = c.args.given; votes = c.args.votes } in
-    let h = sends-after n m c.requires.event (subst Reached c.self.view_is c.self.invariant) c.requires.is in
+    let h = sends-after n m c.requires.event (subst Reached c.self.view_is c.self.invariant.events) c.requires.is in
     subst (λ (x : Node). IfSome (settle 64 (passed (record x { given = c.args.given; votes = c.args.votes })) c.args.votes) SendWellFormed) (sym c.self.view_is) h
 
 pub invariant_of-self : goal.invariant_of-self
-invariant_of-self c =
+invariant_of-self c = record { events = c.self.invariant.events; reach = c.answer_of.ensures.reach }
+
+pub invariant_of-self-2 : goal.invariant_of-self-2
+invariant_of-self-2 c =
     let n = c.args.self.now in
     let m : Node = record n { given = c.args.given; votes = c.args.votes } in
     let w = c.in_ok-votes.field-0.votes in
     let settled : settle 64 (passed m) c.args.votes ≡ Some w = subst (λ (x : Node). settle 64 (passed (record x { given = c.args.given; votes = c.args.votes })) c.args.votes ≡ Some w) c.self.view_is c.in_ok-votes.ensures.votes in
-    let reached = reached-some n m c.requires.event w (subst Reached c.self.view_is c.self.invariant) c.requires.is settled in
-    subst (λ (x : Node). Reached (record x { given = c.args.given; votes = w })) (sym c.self.view_is) reached
+    let reached = reached-some n m c.requires.event w (subst Reached c.self.view_is c.self.invariant.events) c.requires.is settled in
+    record {
+      events = subst (λ (x : Node). Reached (record x { given = c.args.given; votes = w })) (sym c.self.view_is) reached;
+      reach = c.answer_of.ensures.reach;
+    }
