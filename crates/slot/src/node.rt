@@ -15,7 +15,7 @@ ghost use Rattle.types.specs.declared.event.Out.TheVariants.{Emit};
 use crate::answering::{Answer, answer_to};
 use crate::changes::{bumped, fired, in_next_round, is_counter_live, is_round_live, proposed};
 use crate::configured::Configured;
-use crate::reaching::{add_row, is_stranger, put_row, take_reach};
+use crate::reaching::{add_row, copy_of_reach, is_stranger, put_row, take_reach};
 use latest::{Put, Table};
 use std::alloc::{AllocError, Global};
 use std::marker::Model;
@@ -75,7 +75,7 @@ impl Node {
             given: self.given.try_copy(alloc)?,
             votes: self.votes.try_copy(alloc)?,
             table: self.table.try_copy(alloc)?,
-            known_reach: None,
+            known_reach: copy_of_reach(alloc, &self.known_reach)?,
         })
     }
 

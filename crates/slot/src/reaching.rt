@@ -1,9 +1,10 @@
 //! The nodes that a node reaches, kept from one event to the next.
 
-ghost use Rattle.std.specs.Prelude.{◌≡◌, IfOk, IsTrue, None, OnErr, OnOk, []};
+ghost use Rattle.std.specs.Prelude.{◌≡◌, IfOk, IsTrue, List, None, OnErr, OnOk, []};
 ghost use Rattle.latest.specs.Puts.{IsPut, undone};
 ghost use Rattle.protocol.specs.Reach.{IsReach};
 ghost use Rattle.protocol.specs.Rows.{offered, with_row};
+ghost use Rattle.types.specs.Statements.{Sent};
 ghost use Rattle.slot.specs.declared.configured.Configured.{Configured};
 ghost use Rattle.slot.specs.Reaching.{KnownAscends, KnowsReach, is_put, is_stranger};
 
@@ -29,6 +30,19 @@ pub(crate) fn take_reach(
     match known_reach.take() {
         Some(region) => Ok(region),
         None => reach(alloc, table, &configured.name, &configured.slices),
+    }
+}
+
+/// A copy of what is known. An error says that memory is short.
+pub(crate) fn copy_of_reach(
+    alloc: Global,
+    known_reach: &Option<Vec<NodeId>>,
+) -> Result<Option<Vec<NodeId>>, AllocError>
+    ensures { IfOk result (λ o. (c : Configured) (table : List Sent) → KnowsReach c table known_reach.now → KnowsReach c table o) }
+{
+    match known_reach {
+        None => Ok(None),
+        Some(region) => Ok(Some(Vec::from_slice(alloc, region)?)),
     }
 }
 
