@@ -1,2 +1,2 @@
 pub mod Wholes
-pub mod Reaching
+pub mod Listening

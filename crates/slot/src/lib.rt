@@ -5,10 +5,10 @@
 mod answering;
 mod changes;
 mod configured;
+mod listener;
 mod node;
 mod outs;
 mod passing;
-mod reaching;
 mod sent;
 mod settling;
 

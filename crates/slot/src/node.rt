@@ -6,50 +6,48 @@ ghost use Rattle.protocol.specs.Nodes.{Calm, after_change, answered, fresh, outs
 ghost use Rattle.protocol.specs.Claims.{IsClosedFor, IsQuiet};
 ghost use Rattle.protocol.specs.Limits.{Reached};
 ghost use Rattle.protocol.specs.Sets.{Names};
-ghost use Rattle.slot.specs.Reaching.{KnowsReach};
-ghost use Rattle.slot.specs.Wholes.{IsChange, IsSentBy, SendWellFormed, whole};
+ghost use Rattle.slot.specs.Wholes.{IsChange, IsSentBy};
 ghost use Rattle.types.specs.Statements.{Sent};
 ghost use Rattle.types.specs.declared.event.NodeEvent.{NodeEvent};
 ghost use Rattle.types.specs.declared.event.Out.TheVariants.{Emit};
 
-use crate::answering::{Answer, answer_to};
+use crate::answering::Answer;
 use crate::changes::{bumped, fired, in_next_round, is_counter_live, is_round_live, proposed};
 use crate::configured::Configured;
-use crate::reaching::{add_row, copy_of_reach, is_stranger, put_row, take_reach};
+use crate::listener::Listener;
 use latest::{Put, Table};
 use std::alloc::{AllocError, Global};
 use std::marker::Model;
 use types::{Envelope, Given, Nested, NodeEvent, NodeId, Out, Value, Votes};
-use view::View;
 
 /// One node at one slot, and all that it knows there.
 ///
 /// The nodes that it reaches are kept from one event to the next, until a row comes that may change
 /// them: so a row of a stranger costs no pass, and one with the slices that its sender announced before
-/// costs no search. Contracts see it as the node of the protocol's definitions. It is made and changed by events alone.
+/// costs no search for them.
+///
+/// Contracts see it as the node of the protocol's definitions. It is made and changed by events alone.
 #[derive(Drop)]
 pub struct Node {
-    configured: Configured,
+    listener: Listener,
     given: Given,
     votes: Votes,
-    table: Table,
-    known_reach: Option<Vec<NodeId>>,
 }
 
 impl Model for Node {
     ghost use Rattle.std.specs.Coded.{codes};
     ghost use Rattle.types.specs.Trees.{members_code};
-    ghost use Rattle.slot.specs.Wholes.{whole};
+    ghost use Rattle.slot.specs.Listening.{node_of};
     ghost use Rattle.protocol.specs.Nodes.{Node as Meant};
-    ghost use Rattle.slot.specs.Reaching.{IsSound};
+    ghost use Rattle.protocol.specs.Limits.{Reached};
 
     ghost Value = { Meant };
 
     ghost coded = { Prim.hlevel (codes, members_code) };
 
-    ghost view = { λ n. whole n.configured n.given n.votes n.table };
+    ghost view = { λ n. node_of n.listener n.given n.votes };
 
-    ghost invariant = { λ n. IsSound n.configured n.given n.votes n.table n.known_reach };
+    ghost invariant = { λ n. Reached (node_of n.listener n.given n.votes) };
 }
 
 impl Node {
@@ -58,11 +56,9 @@ impl Node {
         ensures { result ≡ fresh slot name slices }
     {
         Node {
-            configured: Configured { name, slot, slices },
+            listener: Listener::new(alloc, Configured { name, slot, slices }),
             given: Given::nothing(alloc),
             votes: Votes::none(alloc),
-            table: Table::new(alloc),
-            known_reach: None,
         }
     }
 
@@ -71,11 +67,9 @@ impl Node {
         ensures { IfOk result (λ n. n ≡ self.now) }
     {
         Ok(Node {
-            configured: self.configured.try_copy(alloc)?,
+            listener: self.listener.try_copy(alloc)?,
             given: self.given.try_copy(alloc)?,
             votes: self.votes.try_copy(alloc)?,
-            table: self.table.try_copy(alloc)?,
-            known_reach: copy_of_reach(alloc, &self.known_reach)?,
         })
     }
 
@@ -83,21 +77,21 @@ impl Node {
     pub fn name(&self) -> &NodeId
         ensures { result.now ≡ self.now.name }
     {
-        &self.configured.name
+        &self.listener.configured().name
     }
 
     /// The slot that it is at.
     pub fn slot(&self) -> u64
         ensures { result ≡ self.now.slot }
     {
-        self.configured.slot
+        self.listener.configured().slot
     }
 
     /// Its own slices.
     pub fn slices(&self) -> &Nested
         ensures { result.now ≡ self.now.slices }
     {
-        &self.configured.slices
+        &self.listener.configured().slices
     }
 
     /// What events alone set.
@@ -118,14 +112,14 @@ impl Node {
     pub fn table(&self) -> &Table
         ensures { result.now ≡ self.now.table }
     {
-        &self.table
+        self.listener.table()
     }
 
     /// A law: one more pass would change nothing.
     pub fn calm(&self)
         ensures { Calm self.now }
     {
-        let _table = &self.table;
+        let _given = &self.given;
     }
 
     /// One event: its own change, then passes until one changes nothing, then what is given out, in
@@ -168,7 +162,7 @@ impl Node {
     fn reached(&self)
         ensures { Reached self.now }
     {
-        let _table = &self.table;
+        let _given = &self.given;
     }
 
     /// The input is set, and round 1 begins.
@@ -177,7 +171,7 @@ impl Node {
         ensures outs { IfOk result (λ v. v.items ≡ (step self.old (NodeEvent.Propose value)).1) }
         ensures err { OnErr result (self.new ≡ self.old) }
     {
-        let given = proposed(alloc, &self.configured, &self.given, value)?;
+        let given = proposed(alloc, self.listener.configured(), &self.given, value)?;
         let votes = self.votes.try_copy(alloc)?;
         self.settle(alloc, given, votes)
     }
@@ -191,7 +185,7 @@ impl Node {
         if !is_round_live(&self.given, &self.votes, round) {
             return Ok(Vec::new(alloc));
         }
-        let given = in_next_round(alloc, &self.configured, &self.given, round)?;
+        let given = in_next_round(alloc, self.listener.configured(), &self.given, round)?;
         let votes = self.votes.try_copy(alloc)?;
         self.settle(alloc, given, votes)
     }
@@ -217,8 +211,9 @@ impl Node {
         ensures outs { IfOk result (λ v. v.items ≡ (step self.old (NodeEvent.Take envelope)).1) }
         ensures err { OnErr result (self.new ≡ self.old) }
     {
-        if is_stranger(&self.known_reach, envelope.sender()) {
-            return add_row(alloc, &mut self.table, envelope);
+        if self.listener.is_stranger(envelope.sender()) {
+            self.listener.offer(envelope)?;
+            return Ok(Vec::new(alloc));
         }
         self.take_and_settle(alloc, envelope)
     }
@@ -231,28 +226,17 @@ impl Node {
         ensures err { OnErr result (self.new ≡ self.old) }
     {
         let votes = self.votes.try_copy(alloc)?;
-        let put = put_row(&mut self.table, &mut self.known_reach, envelope);
+        let put = self.listener.put(envelope);
         match put {
             Put::Stale => Ok(Vec::new(alloc)),
             Put::NoMemory => Err(AllocError),
             Put::Added | Put::Replaced(_) => {
                 let Node {
-                    configured,
+                    listener,
                     given,
                     votes: old_votes,
-                    table,
-                    known_reach,
                 } = self;
-                match answer_of(
-                    alloc,
-                    configured,
-                    table,
-                    known_reach,
-                    given,
-                    old_votes,
-                    given,
-                    votes,
-                ) {
+                match listener.answer(alloc, given, old_votes, given, votes) {
                     Ok(Answer { votes, outs }) => {
                         // The row stays, and the way back is let go.
                         drop(put);
@@ -260,8 +244,7 @@ impl Node {
                         Ok(outs)
                     }
                     Err(error) => {
-                        table.undo(put);
-                        *known_reach = None;
+                        listener.undo(put);
                         Err(error)
                     }
                 }
@@ -277,52 +260,11 @@ impl Node {
         ensures outs { IfOk result (λ v. v.items ≡ (answered self.old (after_change (Some (record self.old { given = given; votes = votes })))).1) }
         ensures err { OnErr result (self.new ≡ self.old) }
     {
-        let Answer { votes, outs } = answer_of(
-            alloc,
-            &self.configured,
-            &self.table,
-            &mut self.known_reach,
-            &self.given,
-            &self.votes,
-            &given,
-            votes,
-        )?;
+        let answer = self
+            .listener
+            .answer(alloc, &self.given, &self.votes, &given, votes)?;
         self.given = given;
-        self.votes = votes;
-        Ok(outs)
+        self.votes = answer.votes;
+        Ok(answer.outs)
     }
-}
-
-/// What passes make of what was given and these votes, by the rows of this table, and what is given out
-/// since the old state. The reach is known afterwards, unless memory is short, as an error says.
-fn answer_of(
-    alloc: Global,
-    configured: &Configured,
-    table: &Table,
-    known_reach: &mut Option<Vec<NodeId>>,
-    old_given: &Given,
-    old_votes: &Votes,
-    given: &Given,
-    votes: Votes,
-) -> Result<Answer, AllocError>
-    requires settles { IsTrue (is_some (settle 64 (passed (whole configured.now given.now votes table.now)) votes)) }
-    requires sends { IfSome (settle 64 (passed (whole configured.now given.now votes table.now)) votes) SendWellFormed }
-    requires reach { KnowsReach configured.now table.now known_reach.old }
-    ensures votes { IfOk result (λ a. settle 64 (passed (whole configured.now given.now votes table.now)) votes ≡ Some a.votes) }
-    ensures outs { IfOk result (λ a. (before after : List Sent) → a.outs.items ≡ outs (whole configured.now old_given.now old_votes.now before) (whole configured.now given.now a.votes after)) }
-    ensures reach { KnowsReach configured.now table.now known_reach.new }
-{
-    let region = take_reach(alloc, known_reach, configured, table)?;
-    let view = View::of(
-        alloc,
-        &configured.name,
-        &configured.slices,
-        &given.leaders,
-        table,
-        &region,
-    )?;
-    let answer = answer_to(alloc, configured, &view, old_given, old_votes, given, votes);
-    drop(view);
-    *known_reach = Some(region);
-    answer
 }

@@ -9,17 +9,17 @@ use Rattle.slot.proofs.node.Node.ballot_timer.Goals as goal
 pub returns-then-not-is_counter_live-clause-node : goal.returns-then-not-is_counter_live-clause-node
 returns-then-not-is_counter_live-clause-node c =
     let i = c.self.inside in
-    sym (ap (λ (p : Node × List Out). p.0) (step-is c.args.self.now (BallotTimer c.args.counter) None (change-no_counter i.configured i.given i.votes i.table c.args.self.now c.args.counter (sym c.self.view_is) (sym c.is_counter_live.ensures ∙ c.if-not-is_counter_live.true))))
+    sym (ap (λ (p : Node × List Out). p.0) (step-is c.args.self.now (BallotTimer c.args.counter) None (change-no_counter i.listener.configured i.given i.votes i.listener.table c.args.self.now c.args.counter (sym c.self.view_is) (sym c.is_counter_live.ensures ∙ c.if-not-is_counter_live.true))))
 
 pub returns-then-not-is_counter_live-clause-outs : goal.returns-then-not-is_counter_live-clause-outs
 returns-then-not-is_counter_live-clause-outs c =
     let i = c.self.inside in
-    c.new.ensures.items ∙ sym (ap (λ (p : Node × List Out). p.1) (step-is c.args.self.now (BallotTimer c.args.counter) None (change-no_counter i.configured i.given i.votes i.table c.args.self.now c.args.counter (sym c.self.view_is) (sym c.is_counter_live.ensures ∙ c.if-not-is_counter_live.true))))
+    c.new.ensures.items ∙ sym (ap (λ (p : Node × List Out). p.1) (step-is c.args.self.now (BallotTimer c.args.counter) None (change-no_counter i.listener.configured i.given i.votes i.listener.table c.args.self.now c.args.counter (sym c.self.view_is) (sym c.is_counter_live.ensures ∙ c.if-not-is_counter_live.true))))
 
 pub fired-requires : goal.fired-requires
 fired-requires c =
     let i = c.self.inside in
-    let low = reached-fired c.self.invariant.events in
+    let low = reached-fired c.self.invariant in
     let high = live-below c.args.counter i.votes.armed i.votes.ballot _ (sym c.is_counter_live.ensures ∙ c.if-not-is_counter_live.false) in
     omega (arith, low, high)
 
@@ -27,14 +27,14 @@ pub settle-requires : goal.settle-requires
 settle-requires c =
     let n = c.args.self.now in
     let i = c.self.inside in
-    let made = change-counter i.configured i.given c.in_ok-given.given i.votes c.in_ok-votes.votes i.table n c.args.counter (sym c.self.view_is) (sym c.is_counter_live.ensures ∙ c.if-not-is_counter_live.false) c.in_ok-given.ensures c.in_ok-votes.ensures in
+    let made = change-counter i.listener.configured i.given c.in_ok-given.given i.votes c.in_ok-votes.votes i.listener.table n c.args.counter (sym c.self.view_is) (sym c.is_counter_live.ensures ∙ c.if-not-is_counter_live.false) c.in_ok-given.ensures c.in_ok-votes.ensures in
     record { event = BallotTimer c.args.counter; is = made }
 
 pub returns-clause-node : goal.returns-clause-node
 returns-clause-node c =
     let n = c.args.self.now in
     let i = c.self.inside in
-    let made = change-counter i.configured i.given c.in_ok-given.given i.votes c.in_ok-votes.votes i.table n c.args.counter (sym c.self.view_is) (sym c.is_counter_live.ensures ∙ c.if-not-is_counter_live.false) c.in_ok-given.ensures c.in_ok-votes.ensures in
+    let made = change-counter i.listener.configured i.given c.in_ok-given.given i.votes c.in_ok-votes.votes i.listener.table n c.args.counter (sym c.self.view_is) (sym c.is_counter_live.ensures ∙ c.if-not-is_counter_live.false) c.in_ok-given.ensures c.in_ok-votes.ensures in
     let m : Node = record n { given = c.in_ok-given.given; votes = c.in_ok-votes.votes } in
     subst (λ (p : Node × List Out). OnOk c.settle.result (c.settle.new.self ≡ p.0)) (sym (step-is n (BallotTimer c.args.counter) (Some m) made)) c.settle.ensures.node
 
@@ -42,6 +42,6 @@ pub returns-clause-outs : goal.returns-clause-outs
 returns-clause-outs c =
     let n = c.args.self.now in
     let i = c.self.inside in
-    let made = change-counter i.configured i.given c.in_ok-given.given i.votes c.in_ok-votes.votes i.table n c.args.counter (sym c.self.view_is) (sym c.is_counter_live.ensures ∙ c.if-not-is_counter_live.false) c.in_ok-given.ensures c.in_ok-votes.ensures in
+    let made = change-counter i.listener.configured i.given c.in_ok-given.given i.votes c.in_ok-votes.votes i.listener.table n c.args.counter (sym c.self.view_is) (sym c.is_counter_live.ensures ∙ c.if-not-is_counter_live.false) c.in_ok-given.ensures c.in_ok-votes.ensures in
     let m : Node = record n { given = c.in_ok-given.given; votes = c.in_ok-votes.votes } in
     subst (λ (p : Node × List Out). IfOk c.settle.result (λ v. v.items ≡ p.1)) (sym (step-is n (BallotTimer c.args.counter) (Some m) made)) c.settle.ensures.outs

@@ -1,8 +1,8 @@
 use Rattle.std.proofs.Common.{ℕ, List, Option, Vec, Global, sym, subst}
 use Rattle.protocol.specs.Reach.{IsReach}
 use Rattle.protocol.specs.Rows.{with_row}
-use Rattle.slot.specs.Reaching.{KnowsReach}
-use Rattle.slot.proofs.reaching.stays_known.Goals as goal
+use Rattle.slot.specs.Listening.{KnowsReach}
+use Rattle.slot.proofs.listener.stays_known.Goals as goal
 
 pub returns-in-Some : goal.returns-in-Some
 returns-in-Some c = λ yes k known.
