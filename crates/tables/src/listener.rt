@@ -1,6 +1,7 @@
 //! One node at one slot: the rows of the envelopes that it took, and what follows from them.
 
-ghost use Rattle.std.specs.Prelude.{◌≡◌, ◌≢◌, ◌↔◌, ℕ, IsTrue, IfOk, [], false, true, filter, OnOk, ◌++◌, ◌∷◌};
+ghost use Rattle.std.specs.Prelude.{◌≡◌, ◌≢◌, ◌↔◌, ℕ, IsTrue, IfOk, IfSome, [], false, true, filter, OnOk, ◌++◌, ◌∷◌};
+ghost use Rattle.types.specs.Trees.{Slices};
 ghost use Rattle.types.specs.declared.kind.Kind.{Kind};
 ghost use Rattle.protocol.specs.Sets.{among, IsAscending};
 ghost use Rattle.protocol.specs.Backing.{slices_by, backing_prepare};
@@ -8,7 +9,7 @@ ghost use Rattle.protocol.specs.Rows.{is_taken, offered};
 ghost use Rattle.protocol.specs.Reach.{IsReach};
 ghost use Rattle.tables.specs.Listeners.{IsBacked};
 
-use closure::reach;
+use closure::{keeps_reach, reach};
 use latest::{Offer, Table};
 use quorum::{SlicesOf, in_quorum_within};
 use std::alloc::{AllocError, Global};
@@ -30,7 +31,8 @@ pub enum Taken {
 
 /// One node, its slot and slices, and the table of the envelopes that it took.
 ///
-/// The nodes that it reaches are kept from one question to the next, until a row changes.
+/// The nodes that it reaches are kept from one question to the next, until a row comes that may
+/// change them.
 #[derive(Drop)]
 pub struct Listener {
     own: NodeId,
@@ -96,9 +98,12 @@ impl Listener {
         if envelope.slot() != self.slot {
             return Taken::OtherSlot;
         }
+        let stays = stays_known(&self.known_reach, &self.table, &envelope);
         match self.table.offer(envelope) {
             Offer::Replaced => {
-                self.known_reach = None;
+                if !stays {
+                    self.known_reach = None;
+                }
                 Taken::Replaced
             }
             Offer::Stale => Taken::Stale,
@@ -163,6 +168,17 @@ impl Listener {
             table: &self.table,
         };
         in_quorum_within(alloc, &self.own, &supporters, &known, region)
+    }
+}
+
+// Whether a reach that is known surely stays as it is where the envelope is offered to the table.
+fn stays_known(known: &Option<Vec<NodeId>>, table: &Table, envelope: &Envelope) -> bool
+    requires { IfSome known.now (λ v. IsAscending v.items) }
+    ensures { IsTrue result → (own : ℕ) (configured : Slices) → IfSome known.now (λ v. IsReach own configured table.now v.items) → IfSome known.now (λ v. IsReach own configured (offered table.now envelope.now) v.items) }
+{
+    match known {
+        None => true,
+        Some(region) => keeps_reach(region, table, envelope),
     }
 }
 
