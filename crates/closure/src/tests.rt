@@ -1,6 +1,6 @@
 //! Whom a node reaches in small tables.
 
-use crate::reach;
+use crate::{keeps_reach, reach};
 use latest::{Offer, Table};
 use std::alloc::Global;
 use std::process::Abort;
@@ -48,13 +48,17 @@ fn statement(alloc: Global, kind: Kind) -> Result<Statement, Fail> {
     })
 }
 
+fn envelope(alloc: Global, row: &Row) -> Result<Envelope, Fail> {
+    let (sender, kind, named) = *row;
+    let body = statement(alloc, kind)?;
+    let announced = slices(alloc, 1, &[named])?;
+    Ok(Envelope::new(name(sender), 1, announced, body).ok_or("envelope")?)
+}
+
 fn table(rt: &impl Abort, alloc: Global, rows: &[Row]) -> Result<Table, Fail> {
     let mut table = Table::new(alloc);
-    for (sender, kind, named) in rows {
-        let body = statement(alloc, *kind)?;
-        let announced = slices(alloc, 1, &[*named])?;
-        let envelope = Envelope::new(name(*sender), 1, announced, body).ok_or("envelope")?;
-        assert_eq!(rt; table.offer(envelope), Offer::Replaced);
+    for row in rows {
+        assert_eq!(rt; table.offer(envelope(alloc, row)?), Offer::Replaced);
     }
     Ok(table)
 }
@@ -115,5 +119,25 @@ fn a_member_leads_to_a_stranger(rt: HostRuntime) -> Result<(), Fail> {
     let table = table(&rt, alloc, &[(D, Kind::Ballot, Z)])?;
     let nodes = reach(alloc, &table, &name(A), &slices(alloc, 2, &[B, C, D])?)?;
     assert_eq!(rt; nodes, names(alloc, &[A, B, C, D, Z])?);
+    Ok(())
+}
+
+#[test]
+fn what_leaves_a_reach_as_it_is(rt: HostRuntime) -> Result<(), Fail> {
+    let alloc = rt.alloc();
+    let table = table(&rt, alloc, &RING)?;
+    let nodes = reach(alloc, &table, &name(A), &slices(alloc, 1, &[B])?)?;
+    let cases: [(Row, bool); 4] = [
+        ((Z, Kind::Ballot, D), true),
+        ((A, Kind::Ballot, B), true),
+        ((A, Kind::Ballot, D), false),
+        ((A, Kind::Nomination, B), false),
+    ];
+    for (row, expected) in cases {
+        assert_eq!(rt;
+            keeps_reach(&nodes, &table, &envelope(alloc, &row)?),
+            expected
+        );
+    }
     Ok(())
 }
