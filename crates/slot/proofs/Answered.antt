@@ -1,6 +1,6 @@
 -- How an answer leads to the step's: the votes that settle, and what the node of them sends.
 use Rattle.std.proofs.Common.{◌≡◌, ℕ, ◌+◌, ◌<◌, Bool, true, false, not, ◌&&◌, ◌==◌, nat_lt, List, Option, Some, None, Result, Ok, Err, Vec, Global, IfOk, OnOk, option_map, is_some, if◌then◌else◌, subst, ◌∙◌, sym, ap, inl, inr, ◌⊎◌, arith}
-use Rattle.std.specs.Prelude.{IfSome, IsFalse}
+use Rattle.std.specs.Prelude.{IfSome, IsFalse, IsTrue}
 use Rattle.std.proofs.lemmas.Bool.{and_parts, eqb-true, false≢true}
 use Rattle.std.proofs.lemmas.Bool.Decides.{nat_tests}
 use Rattle.types.specs.Statements.{Sent}
@@ -17,23 +17,25 @@ use Rattle.protocol.specs.Nodes.{Node, passed, settle, change, settled, after_ch
 use Rattle.protocol.specs.Limits.{Reached}
 use Rattle.protocol.specs.Limits.Reached.{next}
 use Rattle.protocol.proofs.ReachedLaws.{reached-calm, reached-sends}
+use Rattle.protocol.proofs.SettleLaws.{never_limited}
 use Rattle.protocol.proofs.ClaimLaws.{quiet_claim}
 use Rattle.protocol.specs.Claims.{IsClosedFor, IsQuiet}
 use Rattle.protocol.specs.Sets.{Names}
 use Rattle.latest.specs.declared.table.Put.{Put}
 use Rattle.latest.specs.declared.table.Put.TheVariants.{Stale, NoMemory, Added, Replaced}
-use Rattle.latest.specs.Puts.{IsPut}
+use Rattle.latest.specs.Puts.{IsPut, undone}
 use Rattle.slot.specs.declared.configured.Configured.{Configured}
+use Rattle.slot.specs.Listening.{Heard, is_put, node_of}
 use Rattle.slot.specs.Wholes.{whole, led, SendWellFormed}
 
--- what an event changes leads to a reached node
-pub reached-after : (n m : Node) (e : NodeEvent) → Reached n → change n e ≡ Some m → Reached (answered n (after_change (Some m))).0
-unfolding step
-reached-after n m e r h = subst (λ (o : Option Node). Reached (answered n (after_change o)).0) h (next r e)
+-- the votes that an event changes settle within the limit
+pub settles-after : (n m : Node) (e : NodeEvent) → Reached n → change n e ≡ Some m → IsTrue (is_some (settle 64 (passed m) m.votes))
+settles-after n m e r h = never_limited n r e m h
 
--- what its votes send once they settle is well formed
-pub sends-after : (n m : Node) → Reached (answered n (after_change (Some m))).0 → IfSome (settle 64 (passed m) m.votes) SendWellFormed
-sends-after n m r = go (settle 64 (passed m) m.votes) r
+-- what they send once they settle is well formed
+pub sends-after : (n m : Node) (e : NodeEvent) → Reached n → change n e ≡ Some m → IfSome (settle 64 (passed m) m.votes) SendWellFormed
+unfolding step
+sends-after n m e r h = go (settle 64 (passed m) m.votes) (subst (λ (o : Option Node). Reached (answered n (after_change o)).0) h (next r e))
   where
     go : (o : Option Votes) → Reached (answered n (settled m o)).0 → IfSome o SendWellFormed
     go None r = tt
@@ -45,6 +47,10 @@ unfolding step
 step-is n e o h = ap (λ (o : Option Node). answered n (after_change o)) h
 
 -- ---- the changes, part by part
+-- a round begins with the same leader where the same is configured
+pub led-by : (k c : Configured) (g given : Given) (round : ℕ) → k ≡ c → g ≡ led k given round → g ≡ led c given round
+led-by k c g given round e is = is ∙ ap (λ (x : Configured). led x given round) e
+
 pub change-propose : (c : Configured) (given g : Given) (votes w : Votes) (table : List Sent) (n : Node) (x : List ℕ) → n ≡ whole c given votes table
     → g ≡ led c (record given { input = Some x }) 1 → w ≡ votes → change n (Propose x) ≡ Some (record n { given = g; votes = w })
 unfolding change
@@ -105,37 +111,38 @@ live-below k armed (Some b) over h =
     under m e = grind (arith, nat_tests)
 
 -- ---- envelopes
--- the table has the envelope
-abbrev pub is_kept : Put → Bool
-is_kept Stale = false
-is_kept NoMemory = false
-is_kept Added = true
-is_kept (Replaced r) = true
-
-kept-is_taken : (old new : List Sent) (x : Sent) (p : Put) → IsPut old x p new → is_kept p ≡ true → (is_taken old x ≡ true) × (new ≡ with_row x old)
-kept-is_taken old new x Stale h k = absurd (false≢true k)
-kept-is_taken old new x NoMemory h k = absurd (false≢true k)
-kept-is_taken old new x Added h k = (h.1, h.2)
-kept-is_taken old new x (Replaced r) h k = (h.1, h.2)
-
-pub change-put : (c : Configured) (given : Given) (votes w : Votes) (table t : List Sent) (n : Node) (x : Sent) (p : Put) → n ≡ whole c given votes table
-    → IsPut table x p t → (p ≡ Added) ⊎ ((y : Sent) × (p ≡ Replaced y)) → w ≡ votes → change n (Take x) ≡ Some (whole c given w t)
-change-put c given votes w table t n x p e put is ew =
-    let taken = kept-is_taken table t x p put (kept is) in
-    change-take c given votes w table t n x e taken.0 taken.1 ew
+-- a put that the table has is what an offer makes of it
+pub put-takes : (old new : List Sent) (x : Sent) (p : Put) → IsPut old x p new → (p ≡ Added) ⊎ ((y : Sent) × (p ≡ Replaced y)) → (is_taken old x ≡ true) × (new ≡ with_row x old)
+put-takes old new x p put is = go p put (kept is)
   where
-    kept : (p ≡ Added) ⊎ ((y : Sent) × (p ≡ Replaced y)) → is_kept p ≡ true
-    kept (inl q) = ap is_kept q
-    kept (inr q) = ap is_kept q.1
+    kept : (p ≡ Added) ⊎ ((y : Sent) × (p ≡ Replaced y)) → is_put p ≡ true
+    kept (inl q) = ap is_put q
+    kept (inr q) = ap is_put q.1
+
+    go : (p : Put) → IsPut old x p new → is_put p ≡ true → (is_taken old x ≡ true) × (new ≡ with_row x old)
+    go Stale h k = absurd (false≢true k)
+    go NoMemory h k = absurd (false≢true k)
+    go Added h k = (h.1, h.2)
+    go (Replaced r) h k = (h.1, h.2)
+
+pub change-put : (h k : Heard) (given : Given) (votes w : Votes) (n : Node) (x : Sent) (p : Put) → n ≡ node_of h given votes
+    → IsPut h.table x p k.table → k.configured ≡ h.configured → (p ≡ Added) ⊎ ((y : Sent) × (p ≡ Replaced y)) → w ≡ votes → change n (Take x) ≡ Some (node_of k given w)
+change-put h k given votes w n x p e put same is ew =
+    let taken = put-takes h.table k.table x p put is in
+    change-take h.configured given votes w h.table k.table n x e taken.0 taken.1 ew ∙ ap (λ (c : Configured). Some (whole c given w k.table)) (sym same)
+
+-- two listeners with the same parts
+pub heard-same : (h k : Heard) → k.configured ≡ h.configured → k.table ≡ h.table → k ≡ h
+heard-same h k c t = λ i. record { configured = c i; table = t i }
+
+-- a put that is undone after an answer
+pub put-undone : (h k a u : Heard) (p : Put) → u ≡ record a { table = undone p a.table } → a ≡ k → undone p k.table ≡ h.table → k.configured ≡ h.configured → u ≡ h
+put-undone h k a u p e same back c = e ∙ ap (λ (l : Heard). record l { table = undone p l.table }) same ∙ heard-same h (record k { table = undone p k.table }) c back
 
 -- ---- whole steps
 -- the votes settle
 pub step-some : (n m : Node) (e : NodeEvent) (w : Votes) → change n e ≡ Some m → settle 64 (passed m) m.votes ≡ Some w → step n e ≡ answered n (Some (record m { votes = w }))
 step-some n m e w h s = step-is n e (Some m) h ∙ ap (λ (o : Option Votes). answered n (settled m o)) s
-
--- the limit is met
-pub step-none : (n m : Node) (e : NodeEvent) → change n e ≡ Some m → settle 64 (passed m) m.votes ≡ None → step n e ≡ answered n None
-step-none n m e h s = step-is n e (Some m) h ∙ ap (λ (o : Option Votes). answered n (settled m o)) s
 
 pub reached-some : (n m : Node) (e : NodeEvent) (w : Votes) → Reached n → change n e ≡ Some m → settle 64 (passed m) m.votes ≡ Some w → Reached (record m { votes = w })
 reached-some n m e w r h s = subst (λ (p : Node × List Out). Reached p.0) (step-some n m e w h s) (next r e)

@@ -1,3 +1,5 @@
 pub mod Settles
 pub mod Emissions
+pub mod Sendings
 pub mod Answered
+pub mod Strangers

@@ -1,6 +1,7 @@
 -- A node of the definitions, from the parts of the one here.
-use Rattle.std.specs.Prelude.{ℕ, ◌++◌, ◌∷◌, [], List, Option, Some, None, IfSome, if◌then◌else◌}
+use Rattle.std.specs.Prelude.{◌≡◌, ℕ, ◌++◌, ◌∷◌, [], List, Option, Some, None, IfSome, if◌then◌else◌}
 use Rattle.types.specs.Statements.{Sent, IsWellFormed}
+use Rattle.types.specs.declared.event.NodeEvent.{NodeEvent}
 use Rattle.types.specs.declared.event.Out.{Out}
 use Rattle.types.specs.declared.event.Out.TheVariants.{Emit}
 use Rattle.types.specs.declared.state.Given.{Given}
@@ -9,7 +10,7 @@ use Rattle.types.specs.declared.statement.Statement.{Statement}
 use Rattle.protocol.specs.Leaders.{leader}
 use Rattle.protocol.specs.Sameness.{same_sent}
 use Rattle.protocol.specs.States.{sent_nomination, sent_vote}
-use Rattle.protocol.specs.Nodes.{Node}
+use Rattle.protocol.specs.Nodes.{Node, change}
 use Rattle.slot.specs.declared.configured.Configured.{Configured}
 
 -- what is configured, what events gave, what the rules made, and the table
@@ -32,3 +33,15 @@ emitted_by c old (Some s) = if same_sent old (Some s) then [] else Emit (sent_by
 -- what these votes send is well formed
 abbrev pub SendWellFormed : Votes → Type 0
 SendWellFormed w = IfSome (sent_nomination w) IsWellFormed × IfSome (sent_vote w) IsWellFormed
+
+-- some event's own change makes the one node of the other
+pub record IsChange (old new : Node) : Type 0 where
+  pub event : NodeEvent
+  pub is : change old event ≡ Some new
+
+-- the envelope is the node's own: it carries the node's name, its slot and its configured slices, and its statement is well formed
+pub record IsSentBy (n : Node) (e : Sent) : Type 0 where
+  pub sender : e.sender ≡ n.name
+  pub slot : e.slot ≡ n.slot
+  pub slices : e.slices ≡ n.slices
+  pub rules : IsWellFormed e.body

@@ -1,6 +1,6 @@
 //! What passes make of a node that an event changed.
 
-ghost use Rattle.std.specs.Prelude.{◌≡◌, List, IfOk, IfSome, option_map};
+ghost use Rattle.std.specs.Prelude.{◌≡◌, List, IfOk, IfSome, IsTrue, Some, is_some};
 ghost use Rattle.protocol.specs.Nodes.{outs, settle};
 ghost use Rattle.protocol.specs.Passes.{pass};
 ghost use Rattle.slot.specs.Wholes.{whole, SendWellFormed};
@@ -20,8 +20,8 @@ pub(crate) struct Answer {
     pub outs: Vec<Out>,
 }
 
-/// Passes, from what was given and these votes on, and what is given out since the old state. `None`
-/// where the limit of passes is met. An error says that memory is short.
+/// Passes, from what was given and these votes on, and what is given out since the old state. An error
+/// says that memory is short.
 pub(crate) fn answer_to<S: Sight>(
     alloc: Global,
     configured: &Configured,
@@ -30,17 +30,14 @@ pub(crate) fn answer_to<S: Sight>(
     old_votes: &Votes,
     given: &Given,
     votes: Votes,
-) -> Result<Option<Answer>, AllocError>
-    requires { IfSome (settle 64 (pass configured.now.name (S.seen sight.now) given.now) votes) SendWellFormed }
-    ensures votes { IfOk result (λ o. option_map (λ a. a.votes) o ≡ settle 64 (pass configured.now.name (S.seen sight.now) given.now) votes) }
-    ensures outs { IfOk result (λ o. IfSome o (λ a. (before after : List Sent) → a.outs.items ≡ outs (whole configured.now old_given.now old_votes.now before) (whole configured.now given.now a.votes after))) }
+) -> Result<Answer, AllocError>
+    requires settles { IsTrue (is_some (settle 64 (pass configured.now.name (S.seen sight.now) given.now) votes)) }
+    requires sends { IfSome (settle 64 (pass configured.now.name (S.seen sight.now) given.now) votes) SendWellFormed }
+    ensures votes { IfOk result (λ a. settle 64 (pass configured.now.name (S.seen sight.now) given.now) votes ≡ Some a.votes) }
+    ensures outs { IfOk result (λ a. (before after : List Sent) → a.outs.items ≡ outs (whole configured.now old_given.now old_votes.now before) (whole configured.now given.now a.votes after)) }
 {
     let settled = settle(alloc, &configured.name, sight, given, votes)?;
-    match settled {
-        None => Ok(None),
-        Some(votes) => {
-            let outs = outs(alloc, configured, old_given, old_votes, given, &votes)?;
-            Ok(Some(Answer { votes, outs }))
-        }
-    }
+    let Some(votes) = settled else { unreachable!() };
+    let outs = outs(alloc, configured, old_given, old_votes, given, &votes)?;
+    Ok(Answer { votes, outs })
 }

@@ -5,6 +5,7 @@
 mod answering;
 mod changes;
 mod configured;
+mod listener;
 mod node;
 mod outs;
 mod passing;

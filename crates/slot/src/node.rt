@@ -1,38 +1,43 @@
 //! A node at a slot.
 
-ghost use Rattle.std.specs.Prelude.{◌≡◌, IfOk, IfSome, IsFalse, List, OnErr, OnOk, Some, option_map};
+ghost use Rattle.std.specs.Prelude.{◌≡◌, IfOk, IfSome, IsFalse, IsTrue, List, OnErr, OnOk, Some, is_some};
+ghost use Rattle.std.specs.List.{Contains};
 ghost use Rattle.protocol.specs.Nodes.{Calm, after_change, answered, fresh, outs, passed, settle, step};
 ghost use Rattle.protocol.specs.Claims.{IsClosedFor, IsQuiet};
 ghost use Rattle.protocol.specs.Limits.{Reached};
 ghost use Rattle.protocol.specs.Sets.{Names};
-ghost use Rattle.slot.specs.Wholes.{SendWellFormed, whole};
+ghost use Rattle.slot.specs.Wholes.{IsChange, IsSentBy};
 ghost use Rattle.types.specs.Statements.{Sent};
 ghost use Rattle.types.specs.declared.event.NodeEvent.{NodeEvent};
+ghost use Rattle.types.specs.declared.event.Out.TheVariants.{Emit};
 
-use crate::answering::{Answer, answer_to};
+use crate::answering::Answer;
 use crate::changes::{bumped, fired, in_next_round, is_counter_live, is_round_live, proposed};
 use crate::configured::Configured;
+use crate::listener::Listener;
 use latest::{Put, Table};
 use std::alloc::{AllocError, Global};
 use std::marker::Model;
 use types::{Envelope, Given, Nested, NodeEvent, NodeId, Out, Value, Votes};
-use view::View;
 
 /// One node at one slot, and all that it knows there.
+///
+/// The nodes that it reaches are kept from one event to the next, until a row comes that may change
+/// them: so a row of a stranger costs no pass, and one with the slices that its sender announced before
+/// costs no search for them.
 ///
 /// Contracts see it as the node of the protocol's definitions. It is made and changed by events alone.
 #[derive(Drop)]
 pub struct Node {
-    configured: Configured,
+    listener: Listener,
     given: Given,
     votes: Votes,
-    table: Table,
 }
 
 impl Model for Node {
     ghost use Rattle.std.specs.Coded.{codes};
     ghost use Rattle.types.specs.Trees.{members_code};
-    ghost use Rattle.slot.specs.Wholes.{whole};
+    ghost use Rattle.slot.specs.Listening.{node_of};
     ghost use Rattle.protocol.specs.Nodes.{Node as Meant};
     ghost use Rattle.protocol.specs.Limits.{Reached};
 
@@ -40,9 +45,9 @@ impl Model for Node {
 
     ghost coded = { Prim.hlevel (codes, members_code) };
 
-    ghost view = { λ n. whole n.configured n.given n.votes n.table };
+    ghost view = { λ n. node_of n.listener n.given n.votes };
 
-    ghost invariant = { λ n. Reached (whole n.configured n.given n.votes n.table) };
+    ghost invariant = { λ n. Reached (node_of n.listener n.given n.votes) };
 }
 
 impl Node {
@@ -51,10 +56,9 @@ impl Node {
         ensures { result ≡ fresh slot name slices }
     {
         Node {
-            configured: Configured { name, slot, slices },
+            listener: Listener::new(alloc, Configured { name, slot, slices }),
             given: Given::nothing(alloc),
             votes: Votes::none(alloc),
-            table: Table::new(alloc),
         }
     }
 
@@ -63,10 +67,9 @@ impl Node {
         ensures { IfOk result (λ n. n ≡ self.now) }
     {
         Ok(Node {
-            configured: self.configured.try_copy(alloc)?,
+            listener: self.listener.try_copy(alloc)?,
             given: self.given.try_copy(alloc)?,
             votes: self.votes.try_copy(alloc)?,
-            table: self.table.try_copy(alloc)?,
         })
     }
 
@@ -74,21 +77,21 @@ impl Node {
     pub fn name(&self) -> &NodeId
         ensures { result.now ≡ self.now.name }
     {
-        &self.configured.name
+        &self.listener.configured().name
     }
 
     /// The slot that it is at.
     pub fn slot(&self) -> u64
         ensures { result ≡ self.now.slot }
     {
-        self.configured.slot
+        self.listener.configured().slot
     }
 
     /// Its own slices.
     pub fn slices(&self) -> &Nested
         ensures { result.now ≡ self.now.slices }
     {
-        &self.configured.slices
+        &self.listener.configured().slices
     }
 
     /// What events alone set.
@@ -109,19 +112,23 @@ impl Node {
     pub fn table(&self) -> &Table
         ensures { result.now ≡ self.now.table }
     {
-        &self.table
+        self.listener.table()
     }
 
     /// A law: one more pass would change nothing.
     pub fn calm(&self)
         ensures { Calm self.now }
     {
-        let _table = &self.table;
+        let _given = &self.given;
     }
 
     /// One event: its own change, then passes until one changes nothing, then what is given out, in
     /// order (the Stellar Consensus Protocol draft; the order of events and outs is this host's
     /// profile). A stale envelope and a timer that is not live change nothing and give nothing out.
+    ///
+    /// Each envelope that is given out carries the node's own name, its slot and its configured slices,
+    /// and its statement is well formed: so it can be spelled, and what reads that spelling back reads
+    /// this envelope.
     ///
     /// An error says that memory is short, and the node is as it was.
     pub fn advance(&mut self, alloc: Global, event: NodeEvent) -> Result<Vec<Out>, AllocError>
@@ -129,7 +136,9 @@ impl Node {
         ensures outs { IfOk result (λ v. v.items ≡ (step self.old event).1) }
         ensures err { OnErr result (self.new ≡ self.old) }
         ensures quiet { (R : Names) (e : Sent) → event ≡ NodeEvent.Take e → IsClosedFor R self.old → IsFalse (R e.sender) → IfOk result (λ v. IsQuiet R self.old self.new v.items) }
+        ensures emitted { IfOk result (λ v. (e : Sent) → Contains v.items (Emit e) → IsSentBy self.old e) }
     {
+        self.reached();
         match event {
             NodeEvent::Propose(value) => self.propose(alloc, value),
             NodeEvent::Take(envelope) => self.take(alloc, envelope),
@@ -141,11 +150,19 @@ impl Node {
     /// The node after one event, as by [`Node::advance`], and what it gives out; this node stays as it
     /// is. An error says that memory is short.
     pub fn step(&self, alloc: Global, event: NodeEvent) -> Result<(Node, Vec<Out>), AllocError>
-        ensures { IfOk result (λ r. (r.0, r.1.items) ≡ step self.now event) }
+        ensures step { IfOk result (λ r. (r.0, r.1.items) ≡ step self.now event) }
+        ensures emitted { IfOk result (λ r. (e : Sent) → Contains r.1.items (Emit e) → IsSentBy self.now e) }
     {
         let mut node = self.try_copy(alloc)?;
         let outs = node.advance(alloc, event)?;
         Ok((node, outs))
+    }
+
+    /// A law: events led to it.
+    fn reached(&self)
+        ensures { Reached self.now }
+    {
+        let _given = &self.given;
     }
 
     /// The input is set, and round 1 begins.
@@ -154,7 +171,7 @@ impl Node {
         ensures outs { IfOk result (λ v. v.items ≡ (step self.old (NodeEvent.Propose value)).1) }
         ensures err { OnErr result (self.new ≡ self.old) }
     {
-        let given = proposed(alloc, &self.configured, &self.given, value)?;
+        let given = proposed(alloc, self.listener.configured(), &self.given, value)?;
         let votes = self.votes.try_copy(alloc)?;
         self.settle(alloc, given, votes)
     }
@@ -168,7 +185,7 @@ impl Node {
         if !is_round_live(&self.given, &self.votes, round) {
             return Ok(Vec::new(alloc));
         }
-        let given = in_next_round(alloc, &self.configured, &self.given, round)?;
+        let given = in_next_round(alloc, self.listener.configured(), &self.given, round)?;
         let votes = self.votes.try_copy(alloc)?;
         self.settle(alloc, given, votes)
     }
@@ -187,40 +204,47 @@ impl Node {
         self.settle(alloc, given, votes)
     }
 
-    /// An envelope reaches the node: where it is newer than its sender's row of its kind, it is the row
-    /// now. It is taken back out where a later growth finds no memory, and where the limit of passes is
-    /// met, as the definition says; no event meets it.
+    /// An envelope reaches the node. That of a stranger is offered to the table, and nothing else
+    /// happens.
     fn take(&mut self, alloc: Global, envelope: Envelope) -> Result<Vec<Out>, AllocError>
         ensures node { OnOk result (self.new ≡ (step self.old (NodeEvent.Take envelope)).0) }
         ensures outs { IfOk result (λ v. v.items ≡ (step self.old (NodeEvent.Take envelope)).1) }
         ensures err { OnErr result (self.new ≡ self.old) }
-        ensures reached { Reached self.old }
+    {
+        if self.listener.is_stranger(envelope.sender()) {
+            self.listener.offer(envelope)?;
+            return Ok(Vec::new(alloc));
+        }
+        self.take_and_settle(alloc, envelope)
+    }
+
+    /// An envelope that is newer than its sender's row of its kind is the row now, and passes follow. It
+    /// is taken back out where a later growth finds no memory.
+    fn take_and_settle(&mut self, alloc: Global, envelope: Envelope) -> Result<Vec<Out>, AllocError>
+        ensures node { OnOk result (self.new ≡ (step self.old (NodeEvent.Take envelope)).0) }
+        ensures outs { IfOk result (λ v. v.items ≡ (step self.old (NodeEvent.Take envelope)).1) }
+        ensures err { OnErr result (self.new ≡ self.old) }
     {
         let votes = self.votes.try_copy(alloc)?;
-        let put = self.table.put(envelope);
+        let put = self.listener.put(envelope);
         match put {
             Put::Stale => Ok(Vec::new(alloc)),
             Put::NoMemory => Err(AllocError),
             Put::Added | Put::Replaced(_) => {
                 let Node {
-                    configured,
+                    listener,
                     given,
                     votes: old_votes,
-                    table,
                 } = self;
-                match answer_of(alloc, configured, table, given, old_votes, given, votes) {
-                    Ok(Some(Answer { votes, outs })) => {
+                match listener.answer(alloc, given, old_votes, given, votes) {
+                    Ok(Answer { votes, outs }) => {
                         // The row stays, and the way back is let go.
                         drop(put);
                         *old_votes = votes;
                         Ok(outs)
                     }
-                    Ok(None) => {
-                        table.undo(put);
-                        Ok(Vec::new(alloc))
-                    }
                     Err(error) => {
-                        table.undo(put);
+                        listener.undo(put);
                         Err(error)
                     }
                 }
@@ -228,55 +252,19 @@ impl Node {
         }
     }
 
-    /// Passes, from what an event gave and these votes on, and what is given out. Where the limit of
-    /// passes is met the node stays as it was, as the definition says; no event meets it.
+    /// Passes, from what an event gave and these votes on, and what is given out. An error says that
+    /// memory is short, and the node is as it was.
     fn settle(&mut self, alloc: Global, given: Given, votes: Votes) -> Result<Vec<Out>, AllocError>
-        requires { Reached (answered self.old (after_change (Some (record self.old { given = given; votes = votes })))).0 }
+        requires { IsChange self.old (record self.old { given = given; votes = votes }) }
         ensures node { OnOk result (self.new ≡ (answered self.old (after_change (Some (record self.old { given = given; votes = votes })))).0) }
         ensures outs { IfOk result (λ v. v.items ≡ (answered self.old (after_change (Some (record self.old { given = given; votes = votes })))).1) }
         ensures err { OnErr result (self.new ≡ self.old) }
     {
-        let answer = answer_of(
-            alloc,
-            &self.configured,
-            &self.table,
-            &self.given,
-            &self.votes,
-            &given,
-            votes,
-        )?;
-        match answer {
-            None => Ok(Vec::new(alloc)),
-            Some(Answer { votes, outs }) => {
-                self.given = given;
-                self.votes = votes;
-                Ok(outs)
-            }
-        }
+        let answer = self
+            .listener
+            .answer(alloc, &self.given, &self.votes, &given, votes)?;
+        self.given = given;
+        self.votes = answer.votes;
+        Ok(answer.outs)
     }
-}
-
-/// What passes make of what was given and these votes, by the rows of this table, and what is given out
-/// since the old state. `None` where the limit of passes is met. An error says that memory is short.
-fn answer_of(
-    alloc: Global,
-    configured: &Configured,
-    table: &Table,
-    old_given: &Given,
-    old_votes: &Votes,
-    given: &Given,
-    votes: Votes,
-) -> Result<Option<Answer>, AllocError>
-    requires { IfSome (settle 64 (passed (whole configured.now given.now votes table.now)) votes) SendWellFormed }
-    ensures votes { IfOk result (λ o. option_map (λ a. a.votes) o ≡ settle 64 (passed (whole configured.now given.now votes table.now)) votes) }
-    ensures outs { IfOk result (λ o. IfSome o (λ a. (before after : List Sent) → a.outs.items ≡ outs (whole configured.now old_given.now old_votes.now before) (whole configured.now given.now a.votes after))) }
-{
-    let view = View::of(
-        alloc,
-        &configured.name,
-        &configured.slices,
-        &given.leaders,
-        table,
-    )?;
-    answer_to(alloc, configured, &view, old_given, old_votes, given, votes)
 }

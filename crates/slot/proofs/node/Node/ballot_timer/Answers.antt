@@ -2,20 +2,19 @@ use Rattle.std.proofs.Common.{◌≡◌, ◌∙◌, List, Some, None, IfOk, OnOk
 use Rattle.types.specs.declared.event.Out.{Out}
 use Rattle.types.specs.declared.event.NodeEvent.TheVariants.{BallotTimer}
 use Rattle.protocol.specs.Nodes.{Node}
-use Rattle.protocol.specs.Limits.{Reached}
 use Rattle.protocol.proofs.ReachedLaws.{reached-fired}
-use Rattle.slot.proofs.Answered.{reached-after, step-is, change-counter, change-no_counter, live-below}
+use Rattle.slot.proofs.Answered.{step-is, change-counter, change-no_counter, live-below}
 use Rattle.slot.proofs.node.Node.ballot_timer.Goals as goal
 
 pub returns-then-not-is_counter_live-clause-node : goal.returns-then-not-is_counter_live-clause-node
 returns-then-not-is_counter_live-clause-node c =
     let i = c.self.inside in
-    sym (ap (λ (p : Node × List Out). p.0) (step-is c.args.self.now (BallotTimer c.args.counter) None (change-no_counter i.configured i.given i.votes i.table c.args.self.now c.args.counter (sym c.self.view_is) (sym c.is_counter_live.ensures ∙ c.if-not-is_counter_live.true))))
+    sym (ap (λ (p : Node × List Out). p.0) (step-is c.args.self.now (BallotTimer c.args.counter) None (change-no_counter i.listener.configured i.given i.votes i.listener.table c.args.self.now c.args.counter (sym c.self.view_is) (sym c.is_counter_live.ensures ∙ c.if-not-is_counter_live.true))))
 
 pub returns-then-not-is_counter_live-clause-outs : goal.returns-then-not-is_counter_live-clause-outs
 returns-then-not-is_counter_live-clause-outs c =
     let i = c.self.inside in
-    c.new.ensures.items ∙ sym (ap (λ (p : Node × List Out). p.1) (step-is c.args.self.now (BallotTimer c.args.counter) None (change-no_counter i.configured i.given i.votes i.table c.args.self.now c.args.counter (sym c.self.view_is) (sym c.is_counter_live.ensures ∙ c.if-not-is_counter_live.true))))
+    c.new.ensures.items ∙ sym (ap (λ (p : Node × List Out). p.1) (step-is c.args.self.now (BallotTimer c.args.counter) None (change-no_counter i.listener.configured i.given i.votes i.listener.table c.args.self.now c.args.counter (sym c.self.view_is) (sym c.is_counter_live.ensures ∙ c.if-not-is_counter_live.true))))
 
 pub fired-requires : goal.fired-requires
 fired-requires c =
@@ -28,14 +27,14 @@ pub settle-requires : goal.settle-requires
 settle-requires c =
     let n = c.args.self.now in
     let i = c.self.inside in
-    let made = change-counter i.configured i.given c.in_ok-given.given i.votes c.in_ok-votes.votes i.table n c.args.counter (sym c.self.view_is) (sym c.is_counter_live.ensures ∙ c.if-not-is_counter_live.false) c.in_ok-given.ensures c.in_ok-votes.ensures in
-    reached-after n (record n { given = c.in_ok-given.given; votes = c.in_ok-votes.votes }) (BallotTimer c.args.counter) (subst Reached c.self.view_is c.self.invariant) made
+    let made = change-counter i.listener.configured i.given c.in_ok-given.given i.votes c.in_ok-votes.votes i.listener.table n c.args.counter (sym c.self.view_is) (sym c.is_counter_live.ensures ∙ c.if-not-is_counter_live.false) c.in_ok-given.ensures c.in_ok-votes.ensures in
+    record { event = BallotTimer c.args.counter; is = made }
 
 pub returns-clause-node : goal.returns-clause-node
 returns-clause-node c =
     let n = c.args.self.now in
     let i = c.self.inside in
-    let made = change-counter i.configured i.given c.in_ok-given.given i.votes c.in_ok-votes.votes i.table n c.args.counter (sym c.self.view_is) (sym c.is_counter_live.ensures ∙ c.if-not-is_counter_live.false) c.in_ok-given.ensures c.in_ok-votes.ensures in
+    let made = change-counter i.listener.configured i.given c.in_ok-given.given i.votes c.in_ok-votes.votes i.listener.table n c.args.counter (sym c.self.view_is) (sym c.is_counter_live.ensures ∙ c.if-not-is_counter_live.false) c.in_ok-given.ensures c.in_ok-votes.ensures in
     let m : Node = record n { given = c.in_ok-given.given; votes = c.in_ok-votes.votes } in
     subst (λ (p : Node × List Out). OnOk c.settle.result (c.settle.new.self ≡ p.0)) (sym (step-is n (BallotTimer c.args.counter) (Some m) made)) c.settle.ensures.node
 
@@ -43,6 +42,6 @@ pub returns-clause-outs : goal.returns-clause-outs
 returns-clause-outs c =
     let n = c.args.self.now in
     let i = c.self.inside in
-    let made = change-counter i.configured i.given c.in_ok-given.given i.votes c.in_ok-votes.votes i.table n c.args.counter (sym c.self.view_is) (sym c.is_counter_live.ensures ∙ c.if-not-is_counter_live.false) c.in_ok-given.ensures c.in_ok-votes.ensures in
+    let made = change-counter i.listener.configured i.given c.in_ok-given.given i.votes c.in_ok-votes.votes i.listener.table n c.args.counter (sym c.self.view_is) (sym c.is_counter_live.ensures ∙ c.if-not-is_counter_live.false) c.in_ok-given.ensures c.in_ok-votes.ensures in
     let m : Node = record n { given = c.in_ok-given.given; votes = c.in_ok-votes.votes } in
     subst (λ (p : Node × List Out). IfOk c.settle.result (λ v. v.items ≡ p.1)) (sym (step-is n (BallotTimer c.args.counter) (Some m) made)) c.settle.ensures.outs
