@@ -7,12 +7,15 @@
 //! statements the node sends meanwhile.
 //!
 //! The story is that of a stranger who becomes reached, with timers. An event that finds no memory is
-//! tried once more. It prints how many things the node gives out at each event.
+//! tried once more. It prints how many things the node gives out at each event, and 8 for one that found no
+//! memory and left a trace in the node.
 //!
 //! The tests cross crates: steps of a node told in the words of scripts, and histories at random compared
 //! with a plain slow program that follows the rules step by step.
 #![tactic(auto)]
 
+#[cfg(test)]
+mod counts;
 #[cfg(test)]
 mod histories;
 #[cfg(test)]

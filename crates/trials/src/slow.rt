@@ -1,9 +1,8 @@
-//! A plain slow program for one node: each rule as it is stated, tried on every set of nodes and at every
-//! counter. Nodes are the letters A to G and values the letters a to d, and sets of either are bits.
+//! A plain slow program for one node: its state, and what it sees of its table, each federated test by
+//! trying every set of nodes. Nodes are the letters A to G and values the letters a to d, and sets of either
+//! are bits.
 
-use crate::statements::{
-    Ask, Ballot, Kind, NODES, Row, Set, Statement, Trust, VALUES, at, bit, has,
-};
+use crate::statements::{Ask, Ballot, Kind, NODES, Row, Set, Statement, Trust, bit, has};
 use std::alloc::{AllocError, Global};
 
 #[derive(Clone, Copy)]
@@ -100,6 +99,18 @@ impl State {
                 Kind::Balloting => rows.balloting,
             },
         }
+    }
+
+    pub fn row_count(&self) -> u32 {
+        let mut count = 0u32;
+        for node in NODES {
+            for kind in [Kind::Nomination, Kind::Balloting] {
+                if self.row(node, kind).is_some() {
+                    count = count.saturating_add(1);
+                }
+            }
+        }
+        count
     }
 
     pub fn trust_of(&self, node: u8, kind: Kind) -> Option<Trust> {

@@ -255,7 +255,7 @@ fn a_second_proposal_begins_the_first_round_again(rt: HostRuntime) -> Result<(),
     assert!(rt;
         state
             .as_str()
-            .starts_with("round 1 fired 0 leaders C C C input y voted")
+            .starts_with("rows 0 round 1 fired 0 leaders C C C input y voted")
     );
     Ok(())
 }
