@@ -169,3 +169,16 @@ fn leaders(rt: HostRuntime) -> Result<(), Fail> {
     }
     Ok(())
 }
+
+#[test]
+fn a_node_that_names_itself_alone_leads_each_round(rt: HostRuntime) -> Result<(), Fail> {
+    let alloc = rt.alloc();
+    let slices = Nested::new(alloc, flat(alloc, 1, b"A")?)?.expect(
+        &rt,
+        "slices that keep the rules",
+    );
+    for round in [1u32, 2, 3, 4, 5, 6, 7, 8, 9, 10, 4294967295] {
+        assert_eq!(rt; leader(1, round, &name(b'A'), &slices), name(b'A'));
+    }
+    Ok(())
+}

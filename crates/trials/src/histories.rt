@@ -1,11 +1,12 @@
 //! Histories at random: the nodes and the plain slow program give the same answers and come to the same
 //! states.
 
-use crate::slow::{Phase, State};
+use crate::counts::{Counts, Moment};
+use crate::slow::State;
 use crate::statements::{Ballot, NODES, Row, Set, Statement, Trust, bit, has};
 use crate::steps::Out;
 use crate::trial::Trial;
-use crate::wording::{letter, push_statement, push_trust, state_of, word, words_of};
+use crate::wording::{letter, push_statement, push_trust, rows_of, state_of, word, words_of};
 use leaders::leader;
 use scripts::{name_of, slices_of};
 use std::alloc::{AllocError, Global};
@@ -80,50 +81,57 @@ impl Dice {
     /// A statement that keeps the rules of its kind.
     fn statement(&mut self) -> Statement {
         match self.below(10) {
-            0 | 1 => {
-                let accepted = self.set(4);
-                Statement::Nominate {
-                    voted: self.set(4) | bit(self.number(4)),
-                    accepted,
-                }
-            }
-            2..=6 => {
-                let ballot = self.ballot(5);
-                let prepared = self.ballot(5);
-                let high = self.from_to(0, ballot.counter);
-                Statement::Prepare {
-                    ballot,
-                    prepared: if prepared <= ballot {
-                        Some(prepared)
-                    } else {
-                        None
-                    },
-                    aborted: if self.is_one_in(2) {
-                        0
-                    } else {
-                        self.from_to(0, ballot.counter)
-                    },
-                    high,
-                    commit: self.from_to(0, high),
-                }
-            }
-            7 | 8 => {
-                let ballot = self.ballot(5);
-                let high = self.from_to(1, ballot.counter);
-                Statement::Commit {
-                    ballot,
-                    prepared: self.from_to(0, 6),
-                    high,
-                    commit: self.from_to(1, high),
-                }
-            }
-            _ => {
-                let commit = self.ballot(4);
-                Statement::Externalize {
-                    commit,
-                    high: self.from_to(commit.counter, 6),
-                }
-            }
+            0 | 1 => self.nomination(),
+            2..=6 => self.prepare(),
+            7 | 8 => self.commit(),
+            _ => self.externalize(),
+        }
+    }
+
+    fn nomination(&mut self) -> Statement {
+        Statement::Nominate {
+            voted: self.set(4) | bit(self.number(4)),
+            accepted: self.set(4),
+        }
+    }
+
+    fn prepare(&mut self) -> Statement {
+        let ballot = self.ballot(5);
+        let prepared = self.ballot(5);
+        let high = self.from_to(0, ballot.counter);
+        Statement::Prepare {
+            ballot,
+            prepared: if prepared <= ballot {
+                Some(prepared)
+            } else {
+                None
+            },
+            aborted: if self.is_one_in(2) {
+                0
+            } else {
+                self.from_to(0, ballot.counter)
+            },
+            high,
+            commit: self.from_to(0, high),
+        }
+    }
+
+    fn commit(&mut self) -> Statement {
+        let ballot = self.ballot(5);
+        let high = self.from_to(1, ballot.counter);
+        Statement::Commit {
+            ballot,
+            prepared: self.from_to(0, 6),
+            high,
+            commit: self.from_to(1, high),
+        }
+    }
+
+    fn externalize(&mut self) -> Statement {
+        let commit = self.ballot(4);
+        Statement::Externalize {
+            commit,
+            high: self.from_to(commit.counter, 6),
         }
     }
 
@@ -230,18 +238,32 @@ impl Twin {
         Ok(line)
     }
 
-    fn slow_outs(&mut self, alloc: Global, happening: Happening) -> Result<Vec<Out>, AllocError> {
+    fn slow_outs(
+        &mut self,
+        rt: &impl Abort,
+        alloc: Global,
+        happening: Happening,
+    ) -> Result<Vec<Out>, AllocError> {
         match happening {
-            Happening::Said { sender, row } => self.slow.take(alloc, sender, row),
+            Happening::Said { sender, row } => self.slow.take(rt, alloc, sender, row),
             Happening::Proposed(value) => {
                 let leader = self.leader(1);
-                self.slow.propose(alloc, value, leader)
+                self.slow.propose(rt, alloc, value, leader)
             }
             Happening::NominationTimer(round) => {
                 let leader = self.leader(round.saturating_add(1));
-                self.slow.nomination_timer(alloc, round, leader)
+                self.slow.nomination_timer(rt, alloc, round, leader)
             }
-            Happening::BallotTimer(counter) => self.slow.ballot_timer(alloc, counter),
+            Happening::BallotTimer(counter) => self.slow.ballot_timer(rt, alloc, counter),
+        }
+    }
+
+    fn moment(&self) -> Moment {
+        Moment {
+            votes: self.slow.votes,
+            round: self.slow.round,
+            fired: self.slow.fired,
+            sent: self.balloted,
         }
     }
 
@@ -251,9 +273,11 @@ impl Twin {
         rt: &impl Abort,
         alloc: Global,
         happening: Happening,
+        counts: &mut Counts,
     ) -> Result<(), AllocError> {
+        let before = self.moment();
         let line = Twin::line(alloc, happening)?;
-        let outs = self.slow_outs(alloc, happening)?;
+        let outs = self.slow_outs(rt, alloc, happening)?;
         let expected = words_of(alloc, &outs)?;
         let answer = self.real.answer(rt, alloc, line.as_str().as_bytes())?;
         assert_eq!(rt; answer.as_str(), expected.as_str());
@@ -261,7 +285,13 @@ impl Twin {
             self.real.state(alloc)?.as_str(),
             state_of(alloc, &self.slow)?.as_str()
         );
-        for out in outs.as_slice() {
+        self.keep(&outs);
+        counts.note(before, self.moment());
+        Ok(())
+    }
+
+    fn keep(&mut self, outs: &[Out]) {
+        for out in outs {
             if let Out::Emit(statement) = *out {
                 match statement {
                     Statement::Nominate { .. } => self.nominated = Some(statement),
@@ -269,7 +299,12 @@ impl Twin {
                 }
             }
         }
-        Ok(())
+    }
+
+    /// Their tables have the same rows.
+    fn has_same_rows(&self, alloc: Global) -> Result<bool, AllocError> {
+        let rows = self.real.rows(alloc)?;
+        Ok(rows.as_str() == rows_of(alloc, &self.slow)?.as_str())
     }
 
     fn emitted(&self, dice: &mut Dice) -> Option<Row> {
@@ -322,7 +357,8 @@ impl History {
         count
     }
 
-    /// What another node emitted last, or else a statement at random, of a sender at random.
+    /// What another node emitted last, or else a statement at random, of a sender at random, which may be
+    /// the node itself.
     fn said(&mut self, node: u8) -> Happening {
         let count = self.count();
         let sender = self.dice.number(count);
@@ -334,7 +370,7 @@ impl History {
             }
         }
         let mut sender = self.dice.number(7);
-        if sender == node {
+        if sender == node && self.dice.is_one_in(2) {
             sender = if node == 6 { 0 } else { 6 };
         }
         let row = Row {
@@ -361,7 +397,12 @@ impl History {
     }
 
     /// One event at one node, or the same statement of several senders there.
-    fn go_on(&mut self, rt: &impl Abort, alloc: Global) -> Result<(), AllocError> {
+    fn go_on(
+        &mut self,
+        rt: &impl Abort,
+        alloc: Global,
+        counts: &mut Counts,
+    ) -> Result<(), AllocError> {
         let count = self.count();
         let node = self.dice.number(count);
         let happening = self.happening(node);
@@ -373,11 +414,11 @@ impl History {
         let Some(twin) = self.twins.get_mut(node as usize) else {
             return Ok(());
         };
-        twin.meet(rt, alloc, happening)?;
+        twin.meet(rt, alloc, happening, counts)?;
         if let Happening::Said { row, .. } = happening {
             for sender in NODES {
                 if has(senders, sender) && sender != node {
-                    twin.meet(rt, alloc, Happening::Said { sender, row })?;
+                    twin.meet(rt, alloc, Happening::Said { sender, row }, counts)?;
                 }
             }
         }
@@ -385,32 +426,30 @@ impl History {
     }
 }
 
-/// The most passes that an event of these histories takes, and how many nodes externalize.
-fn run(rt: &impl Abort, alloc: Global, from: u64, to: u64) -> Result<(u32, u32), AllocError> {
-    let mut most = 0;
-    let mut decided = 0u32;
+/// What these histories show. Their tables are compared at their ends.
+fn run(rt: &impl Abort, alloc: Global, from: u64, to: u64) -> Result<Counts, AllocError> {
+    let mut counts = Counts::none();
     for seed in from..to {
         let mut history = History::new(rt, alloc, seed)?;
         for _ in 0..30u32 {
-            history.go_on(rt, alloc)?;
+            history.go_on(rt, alloc, &mut counts)?;
         }
         for twin in history.twins.as_slice() {
-            if twin.slow.most_passes > most {
-                most = twin.slow.most_passes;
-            }
-            if twin.slow.votes.phase == Phase::Externalized {
-                decided = decided.saturating_add(1);
-            }
+            assert!(rt; twin.has_same_rows(alloc)?);
+            counts.passes = counts.passes.max(twin.slow.most_passes);
         }
     }
-    Ok((most, decided))
+    Ok(counts)
 }
 
 #[test]
 fn three_thousand_histories(rt: HostRuntime) -> Result<(), Fail> {
-    let (most, decided) = run(&rt, rt.alloc(), 0, 3000)?;
-    println!(rt; "at most {most} passes an event, {decided} nodes externalized")?;
-    assert!(rt; most <= 4);
-    assert!(rt; decided > 0);
+    let counts = run(&rt, rt.alloc(), 0, 3000)?;
+    println!(rt; "at most {} passes an event", counts.passes)?;
+    assert_eq!(rt; counts.passes, 4);
+    for (words, count) in counts.named() {
+        println!(rt; "{count} {words}")?;
+        assert!(rt; count > 0);
+    }
     Ok(())
 }

@@ -4,6 +4,13 @@ use crate::slow::{Phase, State, Votes};
 use crate::statements::{Ask, Ballot, Kind, NODES, Set, Statement, VALUES, at, bit, has};
 use std::alloc::{AllocError, Global};
 
+/// What is claimed of commit.
+#[derive(Clone, Copy, PartialEq, Eq)]
+pub enum Claim {
+    Accepted,
+    Confirmed,
+}
+
 impl State {
     pub fn high_counter(votes: Votes, ballot: Ballot) -> u32 {
         match votes.high {
@@ -111,7 +118,7 @@ impl State {
         for node in NODES {
             if let Some(row) = self.row(node, Kind::Nomination) {
                 if let Statement::Nominate { voted, accepted } = row.said {
-                    if has(reach, node) {
+                    if has(reach, node) && node != self.own {
                         candidates |= voted | accepted;
                     }
                 }
@@ -199,21 +206,31 @@ impl State {
         )
     }
 
-    pub fn commit_accepted(&self, votes: Votes, value: u8, low: u32, high: u32) -> bool {
-        self.accepted(
-            Kind::Balloting,
-            State::position(votes),
-            Ask::BacksCommit(value, low, high),
-            Ask::AcceptsCommit(value, low, high),
-        )
+    /// Whether commit of the value is accepted, or confirmed, at each counter of the interval.
+    pub fn has_commit(&self, votes: Votes, claim: Claim, value: u8, low: u32, high: u32) -> bool {
+        let position = State::position(votes);
+        let accepts = Ask::AcceptsCommit(value, low, high);
+        match claim {
+            Claim::Confirmed => self.confirmed(Kind::Balloting, position, accepts),
+            Claim::Accepted => {
+                let backs = Ask::BacksCommit(value, low, high);
+                self.accepted(Kind::Balloting, position, backs, accepts)
+            }
+        }
     }
 
-    pub fn commit_confirmed(&self, votes: Votes, value: u8, low: u32, high: u32) -> bool {
-        self.confirmed(
-            Kind::Balloting,
-            State::position(votes),
-            Ask::AcceptsCommit(value, low, high),
-        )
+    /// The least counter of these from which on that is so, up to this end.
+    pub fn commit_start(&self, votes: Votes, claim: Claim, commits: &[Ballot], end: Ballot) -> u32 {
+        let mut lo = end.counter;
+        for t in commits {
+            if t.value == end.value
+                && t.counter < lo
+                && self.has_commit(votes, claim, t.value, t.counter, end.counter)
+            {
+                lo = t.counter;
+            }
+        }
+        lo
     }
 
     pub fn start(&self, alloc: Global, votes: Votes) -> Result<Votes, AllocError> {
@@ -309,6 +326,22 @@ impl State {
         Ok(Votes { commit, ..votes })
     }
 
+    /// The greatest of these ballots that may end the interval that is accepted.
+    pub fn accepted_end(&self, votes: Votes, commits: &[Ballot], ballot: Ballot) -> Option<Ballot> {
+        let mut end = None;
+        for t in commits {
+            let counts = if votes.phase == Phase::Preparing {
+                self.is_confirmed(votes, *t) && !State::is_aborted(votes, *t)
+            } else {
+                t.value == ballot.value && t.counter > votes.hi
+            };
+            if counts && self.has_commit(votes, Claim::Accepted, t.value, t.counter, t.counter) {
+                end = greater(end, *t);
+            }
+        }
+        end
+    }
+
     pub fn accept_commit(&self, alloc: Global, votes: Votes) -> Result<Votes, AllocError> {
         let Some(ballot) = votes.ballot else {
             return Ok(votes);
@@ -316,31 +349,10 @@ impl State {
         if votes.phase == Phase::Externalized {
             return Ok(votes);
         }
-        let preparing = votes.phase == Phase::Preparing;
         let commits = self.candidates(alloc, votes, true)?;
-        let mut end = None;
-        for t in commits.as_slice() {
-            let counts = if preparing {
-                self.is_confirmed(votes, *t) && !State::is_aborted(votes, *t)
-            } else {
-                t.value == ballot.value && t.counter > votes.hi
-            };
-            if counts && self.commit_accepted(votes, t.value, t.counter, t.counter) {
-                end = greater(end, *t);
-            }
-        }
-        let Some(end) = end else {
+        let Some(end) = self.accepted_end(votes, &commits, ballot) else {
             return Ok(votes);
         };
-        let mut lo = end.counter;
-        for t in commits.as_slice() {
-            if t.value == end.value
-                && t.counter < lo
-                && self.commit_accepted(votes, t.value, t.counter, end.counter)
-            {
-                lo = t.counter;
-            }
-        }
         let counter = if end.counter > ballot.counter {
             end.counter
         } else {
@@ -350,15 +362,33 @@ impl State {
             phase: Phase::Committing,
             ballot: Some(at(counter, end.value)),
             prepared: greater(votes.prepared, end),
-            high: if preparing {
+            high: if votes.phase == Phase::Preparing {
                 greater(votes.high, end)
             } else {
                 votes.high
             },
-            lo,
+            lo: self.commit_start(votes, Claim::Accepted, &commits, end),
             hi: end.counter,
             ..votes
         })
+    }
+
+    /// The greatest of these ballots that may end the interval that is confirmed.
+    pub fn confirmed_end(
+        &self,
+        votes: Votes,
+        commits: &[Ballot],
+        ballot: Ballot,
+    ) -> Option<Ballot> {
+        let mut end = None;
+        for t in commits {
+            if t.value == ballot.value
+                && self.has_commit(votes, Claim::Confirmed, t.value, t.counter, t.counter)
+            {
+                end = greater(end, *t);
+            }
+        }
+        end
     }
 
     pub fn confirm_commit(&self, alloc: Global, votes: Votes) -> Result<Votes, AllocError> {
@@ -369,29 +399,12 @@ impl State {
             return Ok(votes);
         }
         let commits = self.candidates(alloc, votes, true)?;
-        let mut end = None;
-        for t in commits.as_slice() {
-            if t.value == ballot.value
-                && self.commit_confirmed(votes, t.value, t.counter, t.counter)
-            {
-                end = greater(end, *t);
-            }
-        }
-        let Some(end) = end else {
+        let Some(end) = self.confirmed_end(votes, &commits, ballot) else {
             return Ok(votes);
         };
-        let mut lo = end.counter;
-        for t in commits.as_slice() {
-            if t.value == end.value
-                && t.counter < lo
-                && self.commit_confirmed(votes, t.value, t.counter, end.counter)
-            {
-                lo = t.counter;
-            }
-        }
         Ok(Votes {
             phase: Phase::Externalized,
-            lo,
+            lo: self.commit_start(votes, Claim::Confirmed, &commits, end),
             hi: end.counter,
             ..votes
         })

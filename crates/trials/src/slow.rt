@@ -1,9 +1,8 @@
-//! A plain slow program for one node: each rule as it is stated, tried on every set of nodes and at every
-//! counter. Nodes are the letters A to G and values the letters a to d, and sets of either are bits.
+//! A plain slow program for one node: its state, and what it sees of its table, each federated test by
+//! trying every set of nodes. Nodes are the letters A to G and values the letters a to d, and sets of either
+//! are bits.
 
-use crate::statements::{
-    Ask, Ballot, Kind, NODES, Row, Set, Statement, Trust, VALUES, at, bit, has,
-};
+use crate::statements::{Ask, Ballot, Kind, NODES, Row, Set, Statement, Trust, bit, has};
 use std::alloc::{AllocError, Global};
 
 #[derive(Clone, Copy)]
@@ -102,6 +101,18 @@ impl State {
         }
     }
 
+    pub fn row_count(&self) -> u32 {
+        let mut count = 0u32;
+        for node in NODES {
+            for kind in [Kind::Nomination, Kind::Balloting] {
+                if self.row(node, kind).is_some() {
+                    count = count.saturating_add(1);
+                }
+            }
+        }
+        count
+    }
+
     pub fn trust_of(&self, node: u8, kind: Kind) -> Option<Trust> {
         if node == self.own {
             return Some(self.trust);
@@ -144,12 +155,12 @@ impl State {
         reach
     }
 
-    /// The statements of reached rows.
+    /// The statements in the rows of the others that are reached: the node's own position stands for it.
     pub fn seen(&self, alloc: Global, kind: Kind) -> Result<Vec<Statement>, AllocError> {
         let reach = self.reach();
         let mut seen = Vec::new(alloc);
         for node in NODES {
-            if has(reach, node) {
+            if has(reach, node) && node != self.own {
                 if let Some(row) = self.row(node, kind) {
                     seen.push(row.said)?;
                 }

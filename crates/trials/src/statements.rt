@@ -204,13 +204,25 @@ impl Statement {
         }
     }
 
-    /// Nominations and phases in order.
-    fn rank(self) -> u32 {
+    /// The phase and the fields in message order; of an EXTERNALIZE the phase alone.
+    fn order(self) -> (u32, Ballot, Option<Ballot>, u32, u32, u32) {
+        let none = at(0, 0);
         match self {
-            Statement::Nominate { .. } => 0,
-            Statement::Prepare { .. } => 1,
-            Statement::Commit { .. } => 2,
-            Statement::Externalize { .. } => 3,
+            Statement::Nominate { .. } => (0, none, None, 0, 0, 0),
+            Statement::Prepare {
+                ballot,
+                prepared,
+                aborted,
+                high,
+                commit,
+            } => (1, ballot, prepared, aborted, high, commit),
+            Statement::Commit {
+                ballot,
+                prepared,
+                high,
+                commit,
+            } => (2, ballot, None, prepared, high, commit),
+            Statement::Externalize { .. } => (3, none, None, 0, 0, 0),
         }
     }
 
@@ -228,42 +240,7 @@ impl Statement {
                     && old_accepted & !accepted == 0
                     && (voted != old_voted || accepted != old_accepted)
             }
-            (
-                Statement::Prepare {
-                    ballot,
-                    prepared,
-                    aborted,
-                    high,
-                    commit,
-                },
-                Statement::Prepare {
-                    ballot: old_ballot,
-                    prepared: old_prepared,
-                    aborted: old_aborted,
-                    high: old_high,
-                    commit: old_commit,
-                },
-            ) => {
-                (ballot, prepared, aborted, high, commit)
-                    > (old_ballot, old_prepared, old_aborted, old_high, old_commit)
-            }
-            (
-                Statement::Commit {
-                    ballot,
-                    prepared,
-                    high,
-                    commit,
-                },
-                Statement::Commit {
-                    ballot: old_ballot,
-                    prepared: old_prepared,
-                    high: old_high,
-                    commit: old_commit,
-                },
-            ) => {
-                (ballot, prepared, high, commit) > (old_ballot, old_prepared, old_high, old_commit)
-            }
-            _ => self.rank() > old.rank(),
+            _ => self.order() > old.order(),
         }
     }
 

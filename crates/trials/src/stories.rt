@@ -18,13 +18,14 @@ fn tells(rt: &impl Abort, alloc: Global, slices: &[u8], story: &[Told]) -> Resul
     Ok(())
 }
 
-// B and C block A, and both accept all ballots below 6 as aborted; Z, whom nobody reaches yet, names one
-// there, and nothing comes of it.
-const STRANGER: [Told; 3] = [
+// B and C block A, and both accept all ballots below 6 as aborted.
+const BLOCKED: [Told; 2] = [
     (b"say B 1[B] prep(9:m,9:m,6,0,0)", "ok"),
     (b"say C 1[C] prep(8:k,8:k,6,0,0)", "ok"),
-    (b"say Z 1[Z] prep(5:q,-,0,0,0)", "ok"),
 ];
+
+// Z, whom nobody reaches yet, names one of them, and nothing comes of it.
+const STRANGER: Told = (b"say Z 1[Z] prep(5:q,-,0,0,0)", "ok");
 
 // D's row makes Z reached: <5,q> is accepted through B and C and confirmed by A, B and C, and B and C
 // raise A to 8.
@@ -49,7 +50,8 @@ fn a_node_that_trusts_itself_decides_alone(rt: HostRuntime) -> Result<(), Fail> 
 #[test]
 fn strangers_name_no_candidates_until_they_are_reached(rt: HostRuntime) -> Result<(), Fail> {
     let mut story = Vec::new(rt.alloc());
-    story.extend_from_slice(&STRANGER)?;
+    story.extend_from_slice(&BLOCKED)?;
+    story.push(STRANGER)?;
     story.push(REACHED)?;
     story.push((b"btimer 8", "ok emit prep(9:q,5:q,0,5,5)"))?;
     story.push((b"btimer 8", "ok"))?;
@@ -57,6 +59,15 @@ fn strangers_name_no_candidates_until_they_are_reached(rt: HostRuntime) -> Resul
         b"say C 1[C] prep(9:m,9:m,6,0,0)",
         "ok arm-ballot 9 emit prep(9:q,9:m,6,0,0)",
     ))?;
+    tells(&rt, rt.alloc(), b"2[B,C,D]", &story)
+}
+
+// A itself names such a ballot: its own position stands for it, which names none.
+#[test]
+fn a_row_of_its_own_names_no_candidates(rt: HostRuntime) -> Result<(), Fail> {
+    let mut story = Vec::new(rt.alloc());
+    story.extend_from_slice(&BLOCKED)?;
+    story.push((b"say A 1[A] prep(5:q,-,0,0,0)", "ok"))?;
     tells(&rt, rt.alloc(), b"2[B,C,D]", &story)
 }
 
@@ -208,17 +219,199 @@ fn an_externalized_row_stays(rt: HostRuntime) -> Result<(), Fail> {
 
 #[test]
 fn rounds_begin_with_proposals_and_timers(rt: HostRuntime) -> Result<(), Fail> {
+    tells(
+        &rt,
+        rt.alloc(),
+        b"2[B,C,D]",
+        &[
+            (b"ntimer 0", "ok"),
+            (b"propose x", "ok arm-nomination 1"),
+            (b"ntimer 1", "ok arm-nomination 2"),
+            (b"ntimer 1", "ok"),
+            (b"ntimer 0", "ok"),
+            (b"ntimer 2", "ok arm-nomination 3"),
+            (b"ntimer 3", "ok arm-nomination 4 emit nom(x|)"),
+        ],
+    )
+}
+
+#[test]
+fn a_leader_votes_for_what_it_proposes(rt: HostRuntime) -> Result<(), Fail> {
+    tells(
+        &rt,
+        rt.alloc(),
+        b"2[B,D,E]",
+        &[
+            (b"propose x", "ok arm-nomination 1 emit nom(x|)"),
+            (b"ntimer 1", "ok arm-nomination 2"),
+        ],
+    )
+}
+
+// The round is 1 again, and the leaders so far stay.
+#[test]
+fn a_second_proposal_begins_the_first_round_again(rt: HostRuntime) -> Result<(), Fail> {
     let alloc = rt.alloc();
     let mut trial = Trial::new(&rt, alloc, b"A", b"2[B,C,D]")?;
-    let said = trial.answer(&rt, alloc, b"ntimer 0")?;
-    assert_eq!(rt; said.as_str(), "ok");
-    let said = trial.answer(&rt, alloc, b"propose x")?;
-    assert!(rt; said.as_str().starts_with("ok arm-nomination 1"));
-    let said = trial.answer(&rt, alloc, b"ntimer 1")?;
-    assert!(rt; said.as_str().starts_with("ok arm-nomination 2"));
-    for line in [b"ntimer 1", b"ntimer 0"] {
+    let story: [Told; 3] = [
+        (b"propose x", "ok arm-nomination 1"),
+        (b"ntimer 1", "ok arm-nomination 2"),
+        (b"propose y", "ok arm-nomination 1"),
+    ];
+    for (line, answer) in story {
         let said = trial.answer(&rt, alloc, line)?;
-        assert_eq!(rt; said.as_str(), "ok");
+        assert_eq!(rt; said.as_str(), answer);
     }
+    let state = trial.state(alloc)?;
+    assert!(rt;
+        state
+            .as_str()
+            .starts_with("rows 0 round 1 fired 0 leaders C C C input y voted")
+    );
     Ok(())
+}
+
+// B and C accept commit from 5 to 7. In the pass that enters COMMIT the interval ends at 5, since <7,x>
+// is not confirmed prepared, and that one is confirmed at once.
+#[test]
+fn the_pass_that_enters_commit_does_not_widen_it(rt: HostRuntime) -> Result<(), Fail> {
+    tells(
+        &rt,
+        rt.alloc(),
+        b"2[B,C,D]",
+        &[
+            (b"say B 1[B] comm(7:x,5,7,5)", "ok"),
+            (
+                b"say C 1[C] comm(7:x,5,7,5)",
+                "ok emit ext(5:x,5) externalized x",
+            ),
+        ],
+    )
+}
+
+#[test]
+fn a_commit_widens(rt: HostRuntime) -> Result<(), Fail> {
+    tells(
+        &rt,
+        rt.alloc(),
+        b"2[B,C,D]",
+        &[
+            (b"say B 1[B] prep(5:x,5:x,0,5,5)", "ok"),
+            (
+                b"say C 1[C] prep(5:x,5:x,0,5,5)",
+                "ok arm-ballot 5 emit comm(5:x,5,5,5)",
+            ),
+            (b"say B 1[B] comm(7:x,7,7,5)", "ok"),
+            (
+                b"say C 1[C] prep(7:x,7:x,0,7,5)",
+                "ok arm-ballot 7 emit comm(7:x,7,7,5)",
+            ),
+        ],
+    )
+}
+
+// B and C accept <1,k> as prepared, but are in no quorum with A: nothing is confirmed there, and the value
+// of the raise is the one whose nomination is.
+#[test]
+fn a_raise_takes_what_is_nominated(rt: HostRuntime) -> Result<(), Fail> {
+    tells(
+        &rt,
+        rt.alloc(),
+        b"2[B,C,D]",
+        &[
+            (b"say B 1[E] prep(1:k,1:k,0,0,0)", "ok"),
+            (
+                b"say C 1[E] prep(1:k,1:k,0,0,0)",
+                "ok emit prep(1:k,1:k,0,0,0)",
+            ),
+            (b"say B 1[B] nom(x|x)", "ok"),
+            (b"say C 1[C] nom(x|x)", "ok emit nom(|x)"),
+            (b"say B 1[E] prep(3:k,1:k,0,0,0)", "ok"),
+            (
+                b"say C 1[E] prep(3:k,1:k,0,0,0)",
+                "ok emit prep(3:x,1:k,0,0,0)",
+            ),
+        ],
+    )
+}
+
+#[test]
+fn the_greatest_counters_of_all(rt: HostRuntime) -> Result<(), Fail> {
+    tells(
+        &rt,
+        rt.alloc(),
+        b"2[B,C,D]",
+        &[
+            (b"say B 1[B] prep(4294967294:x,4294967294:x,0,0,0)", "ok"),
+            (
+                b"say C 1[C] prep(4294967294:x,4294967294:x,0,0,0)",
+                "ok arm-ballot 4294967294 emit prep(4294967294:x,4294967294:x,0,4294967294,4294967294)",
+            ),
+            (
+                b"btimer 4294967294",
+                "ok emit prep(4294967295:x,4294967294:x,0,4294967294,4294967294)",
+            ),
+            (b"say B 1[B] prep(4294967295:x,4294967294:x,0,0,0)", "ok"),
+            (
+                b"say C 1[C] prep(4294967295:x,4294967294:x,0,0,0)",
+                "ok arm-ballot 4294967295 emit prep(4294967295:x,4294967295:x,0,4294967294,4294967294)",
+            ),
+            (b"btimer 4294967295", "ok"),
+        ],
+    )
+}
+
+// D and E block A as B and C do, but sixteen values are accepted before.
+#[test]
+fn there_is_room_for_sixteen_values(rt: HostRuntime) -> Result<(), Fail> {
+    tells(
+        &rt,
+        rt.alloc(),
+        b"3[B,C,D,E]",
+        &[
+            (b"say B 1[B] nom(|a+b+c+d+e+f+g+h+i+j+k+l+m+n+o+p)", "ok"),
+            (
+                b"say C 1[C] nom(|a+b+c+d+e+f+g+h+i+j+k+l+m+n+o+p)",
+                "ok emit nom(|a+b+c+d+e+f+g+h+i+j+k+l+m+n+o+p)",
+            ),
+            (b"say D 1[D] nom(|0)", "ok"),
+            (b"say E 1[E] nom(|0)", "ok"),
+        ],
+    )
+}
+
+#[test]
+fn a_value_may_have_256_bytes(rt: HostRuntime) -> Result<(), Fail> {
+    let alloc = rt.alloc();
+    let mut value = String::new(alloc);
+    value.push('#')?;
+    for _ in 0..256u32 {
+        value.push_str("0f")?;
+    }
+    let value = value.as_str();
+    let mut line = String::new(alloc);
+    write!(line, "propose {value}")?;
+    let mut answer = String::new(alloc);
+    write!(
+        answer,
+        "ok emit nom({value}|{value}) emit ext(1:{value},1) externalized {value}"
+    )?;
+    let mut trial = Trial::new(&rt, alloc, b"A", b"1[A]")?;
+    let said = trial.answer(&rt, alloc, line.as_str().as_bytes())?;
+    assert_eq!(rt; said.as_str(), answer.as_str());
+    Ok(())
+}
+
+// B and C accept <0,y>, and block A.
+#[test]
+fn a_ballot_with_counter_0_is_no_candidate(rt: HostRuntime) -> Result<(), Fail> {
+    tells(
+        &rt,
+        rt.alloc(),
+        b"2[B,C,D]",
+        &[
+            (b"say B 1[E] prep(1:x,0:y,0,0,0)", "ok"),
+            (b"say C 1[E] prep(1:z,0:y,0,0,0)", "ok"),
+        ],
+    )
 }

@@ -1,13 +1,13 @@
 //! One node, driven and answering in the words of scripts.
 
 use scripts::{
-    LineError, counter_of, fields_of, name_of, push_ballot, push_name, push_statement, push_value,
-    slices_of, statement_of, value_of,
+    LineError, counter_of, fields_of, name_of, push_ballot, push_name, push_slices, push_statement,
+    push_value, slices_of, statement_of, value_of,
 };
 use slot::Node;
 use std::alloc::{AllocError, Global};
 use std::process::Abort;
-use types::{Ballot, Envelope, NodeEvent, Out, Phase, Values, Votes};
+use types::{Ballot, Envelope, Kind, NodeEvent, Out, Phase, Values, Votes};
 
 /// One node at slot 1.
 #[derive(Drop)]
@@ -42,9 +42,9 @@ impl Trial {
         let before = self.state(alloc)?;
         let (stepped, outs) = self.node.step(alloc, event_of(rt, alloc, line)?)?;
         assert_eq!(rt; before.as_str(), self.state(alloc)?.as_str());
-        let beside = words_of(alloc, &outs)?;
+        let beside = words_of(rt, alloc, &self.node, &outs)?;
         let outs = self.node.advance(alloc, event_of(rt, alloc, line)?)?;
-        let answer = words_of(alloc, &outs)?;
+        let answer = words_of(rt, alloc, &self.node, &outs)?;
         assert_eq!(rt; beside.as_str(), answer.as_str());
         assert_eq!(rt;
             state_of(alloc, &stepped)?.as_str(),
@@ -53,9 +53,25 @@ impl Trial {
         Ok(answer)
     }
 
-    /// The state of the node beside its table, in words.
+    /// The state of the node in words, with no more of its table than the number of rows.
     pub fn state(&self, alloc: Global) -> Result<String, AllocError> {
         state_of(alloc, &self.node)
+    }
+
+    /// The rows of its table in words, a line each, by sender and kind.
+    pub fn rows(&self, alloc: Global) -> Result<String, AllocError> {
+        let mut text = String::new(alloc);
+        let table = self.node.table();
+        for number in 0..table.sender_count() {
+            if let Some(sender) = table.sender(number) {
+                for kind in [Kind::Nomination, Kind::Ballot] {
+                    if let Some(row) = table.row(sender, kind) {
+                        push_row(&mut text, row)?;
+                    }
+                }
+            }
+        }
+        Ok(text)
     }
 }
 
@@ -82,8 +98,35 @@ fn event_of(rt: &impl Abort, alloc: Global, line: &[u8]) -> Result<NodeEvent, Al
     })
 }
 
-/// The words of what a node gives out.
-fn words_of(alloc: Global, outs: &[Out]) -> Result<String, AllocError> {
+fn push_row(text: &mut String, row: &Envelope) -> Result<(), AllocError> {
+    push_name(text, row.sender())?;
+    text.push(' ')?;
+    push_slices(text, row.slices())?;
+    text.push(' ')?;
+    push_statement(text, row.body())?;
+    text.push('\n')
+}
+
+/// Whether an envelope has the name, the slot and the slices of a node.
+fn is_from(alloc: Global, envelope: &Envelope, node: &Node) -> Result<bool, AllocError> {
+    let mut said = String::new(alloc);
+    push_slices(&mut said, envelope.slices())?;
+    let mut configured = String::new(alloc);
+    push_slices(&mut configured, node.slices())?;
+    Ok(
+        envelope.sender().is_same(node.name())
+            && envelope.slot() == node.slot()
+            && said.as_str() == configured.as_str(),
+    )
+}
+
+/// The words of what a node gives out, whose envelopes are its own.
+fn words_of(
+    rt: &impl Abort,
+    alloc: Global,
+    node: &Node,
+    outs: &[Out],
+) -> Result<String, AllocError> {
     let mut text = String::new(alloc);
     text.push_str("ok")?;
     for out in outs {
@@ -91,6 +134,7 @@ fn words_of(alloc: Global, outs: &[Out]) -> Result<String, AllocError> {
             Out::ArmNomination(round) => write!(text, " arm-nomination {round}")?,
             Out::ArmBallot(counter) => write!(text, " arm-ballot {counter}")?,
             Out::Emit(envelope) => {
+                assert!(rt; is_from(alloc, envelope, node)?);
                 text.push_str(" emit ")?;
                 push_statement(&mut text, envelope.body())?;
             }
@@ -103,10 +147,11 @@ fn words_of(alloc: Global, outs: &[Out]) -> Result<String, AllocError> {
     Ok(text)
 }
 
-/// The state of a node beside its table, in words.
+/// The state of a node in words, with no more of its table than the number of rows.
 fn state_of(alloc: Global, node: &Node) -> Result<String, AllocError> {
     let mut text = String::new(alloc);
     let given = node.given();
+    write!(text, "rows {} ", node.table().len())?;
     write!(text, "round {} fired {} leaders", given.round, given.fired)?;
     for leader in given.leaders.as_slice() {
         text.push(' ')?;

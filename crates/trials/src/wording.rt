@@ -1,7 +1,7 @@
 //! What the plain slow program says, in the words of scripts.
 
 use crate::slow::{Phase, State, Votes};
-use crate::statements::{Ballot, NODES, Set, Statement, Trust, has};
+use crate::statements::{Ballot, Kind, NODES, Set, Statement, Trust, has};
 use crate::steps::Out;
 use std::alloc::{AllocError, Global};
 
@@ -137,9 +137,27 @@ pub fn words_of(alloc: Global, outs: &[Out]) -> Result<String, AllocError> {
     Ok(text)
 }
 
+/// The rows of the slow program, in the words of the node.
+pub fn rows_of(alloc: Global, state: &State) -> Result<String, AllocError> {
+    let mut text = String::new(alloc);
+    for node in NODES {
+        for kind in [Kind::Nomination, Kind::Balloting] {
+            if let Some(row) = state.row(node, kind) {
+                write!(text, "{} ", letter(node))?;
+                push_trust(&mut text, row.trust)?;
+                text.push(' ')?;
+                push_statement(&mut text, row.said)?;
+                text.push('\n')?;
+            }
+        }
+    }
+    Ok(text)
+}
+
 /// The state of the slow program, in the words of the node.
 pub fn state_of(alloc: Global, state: &State) -> Result<String, AllocError> {
     let mut text = String::new(alloc);
+    write!(text, "rows {} ", state.row_count())?;
     write!(text, "round {} fired {} leaders", state.round, state.fired)?;
     for leader in state.leaders.as_slice() {
         text.push(' ')?;
