@@ -63,7 +63,7 @@ pub trait Sight {
     fn next_counter(&self, above: u32) -> Option<u32>
         ensures { result ≡ next_counter above ((seen self.now).rows Kind.Ballot) };
 
-    /// Questions that agree on all rows get one answer.
+    /// The blocking test gets one answer for questions that agree on the rows of reached senders.
     ghost honest: { (s : Self) → IsHonest (seen s) };
 }
 
