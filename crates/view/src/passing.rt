@@ -5,7 +5,7 @@ ghost use Rattle.protocol.specs.Backing.{passing, slices_by};
 ghost use Rattle.protocol.specs.Views.{passing_with};
 ghost use Rattle.fedvote.specs.Questions.{asks};
 
-use fedvote::{Question, Votes};
+use fedvote::{Question, Voters};
 use latest::Table;
 use quorum::SlicesOf;
 use types::{Kind, Nested, NodeId};
@@ -45,7 +45,7 @@ pub(crate) struct Passing<'a> {
     pub(crate) question: &'a Question,
 }
 
-impl<'a> Votes for Passing<'a> {
+impl<'a> Voters for Passing<'a> {
     ghost backing = { λ s. passing_with s.own.now s.table.now s.kind s.own_passes (asks s.question.now) };
 
     ghost accepting = { λ s. passing_with s.own.now s.table.now s.kind s.own_passes (asks s.question.now) };
