@@ -43,6 +43,6 @@ least_above n (k ∷ ks) = if nat_lt n k then lesser k (least_above n ks) else l
 abbrev pub next_counter : ℕ → List Statement → Option ℕ
 next_counter n statements = least_above n (filter_map counter_by statements)
 
--- tests that agree on the rows that are seen get one answer
+-- the blocking test gets one answer for questions that agree on the rows of the others that are reached
 pub record IsHonest (seen : Seen) : Type 0 where
   pub blocking : (kind : Kind) (own : Bool) (test other : Statement → Bool) → AllByRecursion (λ s. test s ≡ other s) (seen.rows kind) → seen.blocking kind own test ≡ seen.blocking kind own other

@@ -1,8 +1,10 @@
 //! Federated voting: when a node accepts a statement, and when it confirms it (the Stellar Consensus
 //! Protocol draft, of federated voting; Mazières 2015).
 //!
-//! Who votes for and who accepts the statement is said by [`Votes`], and who has which slices by
-//! [`quorum::SlicesOf`]: nothing here knows what the statement is or where the slices come from.
+//! [`accepts`] and [`confirms`] are told who votes for and who accepts a statement by [`Voters`], and who
+//! has which slices by [`quorum::SlicesOf`]: they know neither what the statement is nor where the
+//! slices come from. [`Sight`] is all that the rules read of a table, and [`Question`] what they ask of a
+//! statement there.
 #![tactic(auto)]
 
 mod candidates;
@@ -10,11 +12,11 @@ mod question;
 mod sight;
 #[cfg(test)]
 mod tests;
-mod votes;
+mod voters;
 mod voting;
 
 pub use candidates::{better_committed, better_named};
 pub use question::Question;
 pub use sight::{Sight, is_accepted, is_confirmed};
-pub use votes::Votes;
+pub use voters::Voters;
 pub use voting::{accepts, confirms, is_blocked};

@@ -15,9 +15,11 @@ pub enum Question {
     VotesOrAcceptsPrepare(Ballot),
     /// Whether it accepts that this ballot is prepared.
     AcceptsPrepare(Ballot),
-    /// Whether it votes for or accepts commit of the value at all counters of the interval.
+    /// Whether it votes for or accepts commit of the value at each counter from `low` to `high`; `low`
+    /// is at most `high`.
     VotesOrAcceptsCommit { value: Value, low: u32, high: u32 },
-    /// Whether it accepts commit of the value at all counters of the interval.
+    /// Whether it accepts commit of the value at each counter from `low` to `high`; `low` is at most
+    /// `high`.
     AcceptsCommit { value: Value, low: u32, high: u32 },
     /// Whether it votes for or accepts that this value is nominated.
     VotesOrAcceptsNominate(Value),

@@ -11,8 +11,9 @@ use crate::question::Question;
 use std::alloc::{AllocError, Global};
 use types::{Ballot, Kind, Statement, Values};
 
-/// What a node sees of its table at one moment: the rows of those it reaches, the rows of its leaders,
-/// and the two tests of federated voting (the Stellar Consensus Protocol draft, of federated voting).
+/// What a node sees of its table at one moment: the rows of the others that it reaches, the rows of its
+/// leaders, and the two tests of federated voting (the Stellar Consensus Protocol draft, of federated
+/// voting).
 ///
 /// The rules of nomination and balloting know the table by this alone. `seen` is what contracts speak
 /// of; an error says that memory is short.
@@ -41,7 +42,7 @@ pub trait Sight {
     ) -> Result<bool, AllocError>
         ensures { IfOk result (λ b. b ≡ (seen self.now).blocking kind own_passes (asks question.now)) };
 
-    /// The values that the nomination rows of reached senders vote for or accept, ascending.
+    /// The values that the nomination rows of the others that are reached vote for or accept, ascending.
     fn nominated_values(&self) -> &Values
         ensures { result.now ≡ as_set (flat_map values_by ((seen self.now).rows Kind.Nomination)) };
 
@@ -49,21 +50,22 @@ pub trait Sight {
     fn led_values(&self) -> &Values
         ensures { result.now ≡ as_set (flat_map values_by (seen self.now).led) };
 
-    /// The greatest ballot below the bound, if there is one, that the ballot rows of reached senders
-    /// name with a counter from 1 on.
+    /// The greatest ballot below the bound, if there is one, that the ballot rows of the others that are
+    /// reached name with a counter from 1 on.
     fn next_named(&self, bound: Option<Ballot>) -> Option<Ballot>
         ensures { result ≡ next_under bound (named_in ((seen self.now).rows Kind.Ballot)) };
 
     /// The greatest commit counter from 1 on, with its value, below the bound, if there is one, of the
-    /// ballot rows of reached senders.
+    /// ballot rows of the others that are reached.
     fn next_committed(&self, bound: Option<Ballot>) -> Option<Ballot>
         ensures { result ≡ next_under bound (committed_in ((seen self.now).rows Kind.Ballot)) };
 
-    /// The least counter above this one that a ballot row of a reached sender has.
+    /// The least counter above this one that a ballot row of another that is reached has.
     fn next_counter(&self, above: u32) -> Option<u32>
         ensures { result ≡ next_counter above ((seen self.now).rows Kind.Ballot) };
 
-    /// Questions that agree on all rows get one answer.
+    /// The blocking test gets one answer for questions that agree on the rows of the others that are
+    /// reached.
     ghost honest: { (s : Self) → IsHonest (seen s) };
 }
 

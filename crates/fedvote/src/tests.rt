@@ -6,7 +6,7 @@ ghost use Rattle.protocol.specs.Sets.{among, within, AreWithin, IsAscending};
 ghost use Rattle.protocol.specs.Satisfaction.{names};
 ghost use Rattle.protocol.specs.Quorums.{NamesWithin};
 
-use crate::{Votes, accepts, confirms};
+use crate::{Voters, accepts, confirms};
 use quorum::SlicesOf;
 use slices::{SliceFamily, is_among};
 use std::alloc::{AllocError, Global};
@@ -131,7 +131,7 @@ struct Position {
     accepting: Vec<NodeId>,
 }
 
-impl Votes for Position {
+impl Voters for Position {
     ghost backing = { λ t u. among t.backing.items u };
 
     ghost accepting = { λ t u. among t.accepting.items u };
@@ -293,16 +293,16 @@ fn agrees_at(
     if !is_among(reach, &node) {
         return Ok(false);
     }
-    let votes = Position {
+    let voters = Position {
         backing: nodes_of(alloc, backing)?,
         accepting: nodes_of(alloc, accepting)?,
     };
-    let confirmed = confirms(alloc, &node, world, &votes, reach)?;
+    let confirmed = confirms(alloc, &node, world, &voters, reach)?;
     let same = confirmed == slow_quorum(trusts, accepting, asked);
     match world.slices(&node) {
         None => Ok(same),
         Some(own) => {
-            let accepted = accepts(alloc, &node, own, world, &votes, reach)?;
+            let accepted = accepts(alloc, &node, own, world, &voters, reach)?;
             let blocked = slow_blocks(trusts.of(asked), accepting);
             Ok(same && accepted == (slow_quorum(trusts, backing, asked) || blocked))
         }

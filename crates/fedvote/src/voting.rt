@@ -6,7 +6,7 @@ ghost use Rattle.protocol.specs.Satisfaction.{Blocks};
 ghost use Rattle.protocol.specs.Quorums.{NamesWithin};
 ghost use Rattle.fedvote.specs.Voting.{Accepted, Confirmed};
 
-use crate::votes::Votes;
+use crate::voters::Voters;
 use blocking::blocks;
 use quorum::{SlicesOf, in_quorum};
 use slices::SliceFamily;
@@ -19,23 +19,23 @@ use types::NodeId;
 ///
 /// The reach is ascending, none twice, and holds the node and all names of its members' slices: nobody
 /// else is asked, and the answer is still that over all nodes. An error says that memory is short.
-pub fn accepts<S: SlicesOf, V: Votes>(
+pub fn accepts<S: SlicesOf, V: Voters>(
     alloc: Global,
     node: &NodeId,
     own: &S::Family,
     slices_of: &S,
-    votes: &V,
+    voters: &V,
     reach: &[NodeId],
 ) -> Result<bool, AllocError>
     requires ascending { IsAscending reach.now }
     requires member { IsTrue (among reach.now node.now) }
     requires closed { NamesWithin S.Family.names (S.slices_at slices_of.now) (among reach.now) }
     requires own { S.slices_at slices_of.now node.now ≡ Some own.now }
-    ensures { IfOk result (λ b. IsTrue b ↔ Accepted S.Family.sat (S.slices_at slices_of.now) (V.backing votes.now) (V.accepting votes.now) node.now) }
+    ensures { IfOk result (λ b. IsTrue b ↔ Accepted S.Family.sat (S.slices_at slices_of.now) (V.backing voters.now) (V.accepting voters.now) node.now) }
 {
-    let supporters = those_backing(alloc, reach, votes)?;
+    let supporters = those_backing(alloc, reach, voters)?;
     let has_quorum = in_quorum(alloc, node, &supporters, slices_of)?;
-    let blocked = is_blocked(alloc, own, votes)?;
+    let blocked = is_blocked(alloc, own, voters)?;
     Ok(has_quorum || blocked)
 }
 
@@ -44,19 +44,19 @@ pub fn accepts<S: SlicesOf, V: Votes>(
 ///
 /// The reach is ascending, none twice, and holds the node and all names of its members' slices: nobody
 /// else is asked, and the answer is still that over all nodes. An error says that memory is short.
-pub fn confirms<S: SlicesOf, V: Votes>(
+pub fn confirms<S: SlicesOf, V: Voters>(
     alloc: Global,
     node: &NodeId,
     slices_of: &S,
-    votes: &V,
+    voters: &V,
     reach: &[NodeId],
 ) -> Result<bool, AllocError>
     requires ascending { IsAscending reach.now }
     requires member { IsTrue (among reach.now node.now) }
     requires closed { NamesWithin S.Family.names (S.slices_at slices_of.now) (among reach.now) }
-    ensures { IfOk result (λ b. IsTrue b ↔ Confirmed S.Family.sat (S.slices_at slices_of.now) (V.accepting votes.now) node.now) }
+    ensures { IfOk result (λ b. IsTrue b ↔ Confirmed S.Family.sat (S.slices_at slices_of.now) (V.accepting voters.now) node.now) }
 {
-    let supporters = those_accepting(alloc, reach, votes)?;
+    let supporters = those_accepting(alloc, reach, voters)?;
     in_quorum(alloc, node, &supporters, slices_of)
 }
 
@@ -64,29 +64,29 @@ pub fn confirms<S: SlicesOf, V: Votes>(
 /// sets).
 ///
 /// Those whom the slices name decide it: nobody else is asked. An error says that memory is short.
-pub fn is_blocked<F: SliceFamily, V: Votes>(
+pub fn is_blocked<F: SliceFamily, V: Voters>(
     alloc: Global,
     slices: &F,
-    votes: &V,
+    voters: &V,
 ) -> Result<bool, AllocError>
-    ensures { IfOk result (λ b. IsTrue b ↔ Blocks F.sat slices.now (V.accepting votes.now)) }
+    ensures { IfOk result (λ b. IsTrue b ↔ Blocks F.sat slices.now (V.accepting voters.now)) }
 {
     let names = slices.names(alloc)?;
-    let accepting = those_accepting(alloc, &names, votes)?;
+    let accepting = those_accepting(alloc, &names, voters)?;
     Ok(blocks(slices, &accepting))
 }
 
 /// Those of the nodes that vote for the statement or accept it.
-fn those_backing<V: Votes>(
+fn those_backing<V: Voters>(
     alloc: Global,
     nodes: &[NodeId],
-    votes: &V,
+    voters: &V,
 ) -> Result<Vec<NodeId>, AllocError>
-    ensures { IfOk result (λ v. v.items ≡ filter (V.backing votes.now) nodes.now) }
+    ensures { IfOk result (λ v. v.items ≡ filter (V.backing voters.now) nodes.now) }
 {
     let mut backing = Vec::new(alloc);
     for node in nodes {
-        if votes.votes_or_accepts(node) {
+        if voters.votes_or_accepts(node) {
             backing.push(*node)?;
         }
     }
@@ -94,16 +94,16 @@ fn those_backing<V: Votes>(
 }
 
 /// Those of the nodes that accept the statement.
-fn those_accepting<V: Votes>(
+fn those_accepting<V: Voters>(
     alloc: Global,
     nodes: &[NodeId],
-    votes: &V,
+    voters: &V,
 ) -> Result<Vec<NodeId>, AllocError>
-    ensures { IfOk result (λ v. v.items ≡ filter (V.accepting votes.now) nodes.now) }
+    ensures { IfOk result (λ v. v.items ≡ filter (V.accepting voters.now) nodes.now) }
 {
     let mut accepting = Vec::new(alloc);
     for node in nodes {
-        if votes.accepts(node) {
+        if voters.accepts(node) {
             accepting.push(*node)?;
         }
     }

@@ -51,3 +51,4 @@ pub mod VerdictLaws
 pub mod LeastLaws
 pub mod WorkedLeaders
 pub mod ValueSets
+pub mod CombinedValues

@@ -23,7 +23,7 @@ use Rattle.protocol.proofs.SamenessLaws.{same_value-refl}
 use Rattle.protocol.proofs.SendableVotes.{IsSet, IsPlaced, IsSendable}
 
 -- ---- nominations
-in-order : (xs : List (List ℕ)) → Ascending xs → InOrder xs
+pub in-order : (xs : List (List ℕ)) → Ascending xs → InOrder xs
 in-order [] h = tt
 in-order (x ∷ []) h = tt
 in-order (x ∷ y ∷ ys) h = (is_less (bytes_cmp x y) (h.0 y (or_left (same_value y y) _ (same_value-refl y))), in-order (y ∷ ys) h.1)

@@ -12,6 +12,7 @@ pub mod Views
 pub mod States
 pub mod Candidates
 pub mod Extremes
+pub mod ValueSets
 pub mod Nominating
 pub mod Balloting
 pub mod Timers

@@ -12,6 +12,7 @@ mod limits;
 mod quorums;
 mod reached;
 mod rows;
+mod values;
 
 pub use closures::{
     closures_are_derived, closures_are_least, reach_follows_chains, reach_holds_names,
@@ -26,3 +27,4 @@ pub use rows::{
     externalize_stays, newer_is_strict, offers_change_one_row, rows_are_single,
     rows_follow_from_all_offers, statements_are_ordered,
 };
+pub use values::value_sets_are_exact;

@@ -6,3 +6,4 @@ pub mod NestedRules
 pub mod VoteLaws
 pub mod NameOrder
 pub mod Insertions
+pub mod Fronts

@@ -1,10 +1,8 @@
 //! A ballot.
 
 ghost use Rattle.std.specs.Prelude.{◌≡◌, IsTrue, ◌↔◌};
-ghost use Rattle.types.specs.Orders.{ballot_cmp};
 
 use crate::value::Value;
-use std::cmp::Ordering;
 
 /// A counter and a value, ordered by counter, then value.
 #[derive(Clone, Copy, Debug, PartialEq, Eq, PartialOrd, Ord)]
@@ -22,12 +20,6 @@ impl Ballot {
     {
         let _counter = self.counter;
         let _value = self.value.as_bytes();
-    }
-
-    pub fn compare(&self, other: &Ballot) -> Ordering
-        ensures { result ≡ ballot_cmp self.now other.now }
-    {
-        self.cmp(other)
     }
 
     /// Whether the two are one ballot.

@@ -1,6 +1,6 @@
 //! Slices: a threshold over names and inner sets.
 
-ghost use Rattle.std.specs.Prelude.{◌≡◌, ◌++◌, ◌&&◌, ◌==◌, IfOk, OnOk, IfSome, IsSome, IsTrue, ◌↔◌};
+ghost use Rattle.std.specs.Prelude.{◌≡◌, ◌++◌, ◌&&◌, ◌==◌, IfOk, OnErr, OnOk, IfSome, IsSome, IsTrue, ◌↔◌, length, take};
 ghost use Rattle.std.specs.List.{AllByRecursion, list_any};
 ghost use Rattle.types.specs.Trees.{Slices, names_in, IsName, IsNested, has_threshold, is_shaped, all_differ};
 ghost use Rattle.types.specs.Shape.{members_of};
@@ -105,10 +105,12 @@ fn is_threshold(threshold: u8, members: &[Member]) -> bool
 }
 
 /// Adds the names of the tree to a list, in the order of the tree, as often as they stand in it. Where
-/// memory is wanting, some may have been added.
+/// memory is wanting, some may have been added; those that the list had stay in front.
+#[tactic(auto, using(crate::proofs::Fronts::front_stays, crate::proofs::Fronts::front_through))]
 pub fn push_names(set: &SliceSet, names: &mut Vec<NodeId>) -> Result<(), AllocError>
     ensures ok { OnOk result (names.new.items ≡ names.old.items ++ names_in set.now.members) }
     ensures fit { OnOk result (AllByRecursion IsName (names_in set.now.members)) }
+    ensures err { OnErr result (take (length names.old.items) names.new.items ≡ names.old.items) }
 {
     let members = set.members();
     for member in members {

@@ -78,6 +78,7 @@ pub struct Given {
     pub input: Option<Value>,
     /// The round of nomination, from 1 on; 0 before the first.
     pub round: u32,
+    /// The leaders of the rounds so far.
     pub leaders: Leaders,
     /// How many ballot timers have fired.
     pub fired: u32,
@@ -118,7 +119,9 @@ pub struct Votes {
     pub accepts: Values,
     /// The values that it confirms as nominated, ascending.
     pub confirms: Values,
+    /// How far its balloting is.
     pub phase: Phase,
+    /// The ballot that it tries to prepare and to commit; none before the first.
     pub ballot: Option<Ballot>,
     /// The highest ballot that it accepts as prepared.
     pub prepared: Option<Ballot>,
@@ -126,7 +129,8 @@ pub struct Votes {
     pub aborted: u32,
     /// The highest ballot that it confirms as prepared.
     pub high: Option<Ballot>,
-    /// The lowest ballot for which it votes to commit.
+    /// The ballot from whose counter on it votes to commit, while its ballot has the same value and the
+    /// high counter is not below it.
     pub commit: Option<Ballot>,
     /// The least counter of the interval: accepted as committed in [`Phase::Committing`], confirmed as
     /// committed in [`Phase::Externalized`], and 0 before.

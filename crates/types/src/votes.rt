@@ -69,19 +69,12 @@ impl Statement {
         votes || self.accepts_prepare(ballot)
     }
 
-    /// Whether it accepts commit of the value at each counter from `low` to `high`.
+    /// Whether it accepts commit of the value, by the two ends of an interval: where `low <= high`,
+    /// whether it accepts it at each counter from `low` to `high`. A greater `low` means nothing.
     #[tactic(auto, using(crate::proofs::VoteLaws::accepts_whole, crate::proofs::VoteLaws::accepts_both))]
-    pub fn accepts_commit(&self, value: &Value, low: u32, high: u32) -> bool
-        requires { low ≤ high }
-        ensures { IsTrue result ↔ AcceptsCommit self.now value.now low high }
-    {
-        self.accepts_ends(value, low, high)
-    }
-
-    /// The same by the two ends, whichever is the greater: what is accepted at both is accepted between
-    /// them.
     pub fn accepts_ends(&self, value: &Value, low: u32, high: u32) -> bool
-        ensures { result ≡ accepts_ends self.now value.now low high }
+        ensures value { result ≡ accepts_ends self.now value.now low high }
+        ensures whole { low ≤ high → (IsTrue result ↔ AcceptsCommit self.now value.now low high) }
     {
         match self {
             Statement::Nominate { .. } => false,
@@ -98,18 +91,13 @@ impl Statement {
         }
     }
 
-    /// Whether it votes for or accepts commit of the value at each counter from `low` to `high`.
+    /// Whether it votes for or accepts commit of the value, by the two ends of an interval: where
+    /// `low <= high`, whether it does so at each counter from `low` to `high`. A greater `low` means
+    /// nothing.
     #[tactic(auto, using(crate::proofs::VoteLaws::votes_whole, crate::proofs::VoteLaws::votes_both))]
-    pub fn votes_or_accepts_commit(&self, value: &Value, low: u32, high: u32) -> bool
-        requires { low ≤ high }
-        ensures { IsTrue result ↔ VotesOrAcceptsCommit self.now value.now low high }
-    {
-        self.votes_or_accepts_ends(value, low, high)
-    }
-
-    /// The same by the two ends, whichever is the greater.
     pub fn votes_or_accepts_ends(&self, value: &Value, low: u32, high: u32) -> bool
-        ensures { result ≡ votes_or_accepts_ends self.now value.now low high }
+        ensures value { result ≡ votes_or_accepts_ends self.now value.now low high }
+        ensures whole { low ≤ high → (IsTrue result ↔ VotesOrAcceptsCommit self.now value.now low high) }
     {
         match self {
             Statement::Nominate { .. } => false,

@@ -9,7 +9,7 @@ use Rattle.fedvote.proofs.voting.confirms.Goals as goal
 pub in_quorum-requires : goal.in_quorum-requires
 in_quorum-requires g c =
     let kept = c.deref.ensures.value ∙ c.in_ok-supporters.ensures in
-    subst IsAscending (sym kept) (AllPairs-filter (λ u w. u < w) (g.V.Votes.accepting c.args.votes.now) c.args.reach.now c.requires.ascending)
+    subst IsAscending (sym kept) (AllPairs-filter (λ u w. u < w) (g.V.Voters.accepting c.args.voters.now) c.args.reach.now c.requires.ascending)
 
 pub returns : goal.returns
 returns g c =
@@ -18,5 +18,5 @@ returns g c =
     let node = c.args.node.now in
     let kept = c.deref.ensures.value ∙ c.in_ok-supporters.ensures in
     IfOk-weaker c.in_quorum.result _ _ (λ b h.
-    quorum_of_all sat g.S.Family.SliceFamily.names slices_at g.met.S.Family.SliceFamily.local (g.V.Votes.accepting c.args.votes.now) c.args.reach.now c.requires.closed node c.requires.member b
+    quorum_of_all sat g.S.Family.SliceFamily.names slices_at g.met.S.Family.SliceFamily.local (g.V.Voters.accepting c.args.voters.now) c.args.reach.now c.requires.closed node c.requires.member b
     (subst (λ (us : List ℕ). IsTrue b ↔ HasQuorum sat slices_at (among us) node) kept h)) c.in_quorum.ensures

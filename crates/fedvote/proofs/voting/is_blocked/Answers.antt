@@ -7,14 +7,14 @@ use Rattle.fedvote.proofs.voting.is_blocked.Goals as goal
 
 pub blocks-requires : goal.blocks-requires
 blocks-requires g c =
-    let accepting = g.V.Votes.accepting c.args.votes.now in
+    let accepting = g.V.Voters.accepting c.args.voters.now in
     let kept = c.deref-2.ensures.value ∙ (c.in_ok-accepting.ensures ∙ ap (filter accepting) c.deref.ensures.value) in
     subst IsAscending (sym kept) (AllPairs-filter (λ u w. u < w) accepting c.in_ok-names.names.items c.in_ok-names.ensures.ascending)
 
 pub returns : goal.returns
 returns g c =
     let sat = g.F.SliceFamily.sat in
-    let accepting = g.V.Votes.accepting c.args.votes.now in
+    let accepting = g.V.Voters.accepting c.args.voters.now in
     let kept = c.deref-2.ensures.value ∙ (c.in_ok-accepting.ensures ∙ ap (filter accepting) c.deref.ensures.value) in
     blocks_of_all sat g.F.SliceFamily.names g.met.F.SliceFamily.local c.args.slices.now accepting c.in_ok-names.names.items c.in_ok-names.ensures.all c.blocks-2.result
     (subst (λ (us : List ℕ). IsTrue c.blocks-2.result ↔ Blocks sat c.args.slices.now (among us)) kept c.blocks-2.ensures)

@@ -1,4 +1,4 @@
-use Rattle.std.proofs.Common.{◌≡◌, ◌++◌, drop}
+use Rattle.std.proofs.Common.{◌≡◌, ◌++◌, drop, length, take}
 use Rattle.std.specs.List.{AllByRecursion}
 use Rattle.types.specs.Shape.{members_of}
 use Rattle.types.specs.Trees.{names_in, IsName}
@@ -11,5 +11,6 @@ abbrev pub invariant-loop-member : goal.invariant-loop-member
 invariant-loop-member l = record {
   shape : members_of l.members ≡ l.set.members;
   pushed : l.names.items ++ names_in (members_of (drop l.member-index l.members)) ≡ l.fn.names.items ++ names_in l.set.members;
+  kept : take (length l.fn.names.items) l.names.items ≡ l.fn.names.items;
   fit : AllByRecursion IsName (names_in (members_of (drop l.member-index l.members))) → AllByRecursion IsName (names_in l.set.members);
 }

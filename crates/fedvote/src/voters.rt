@@ -6,7 +6,7 @@ ghost use Rattle.protocol.specs.Sets.{Names};
 use types::NodeId;
 
 /// Where each node stands on one statement (the Stellar Consensus Protocol draft, of federated voting).
-pub trait Votes {
+pub trait Voters {
     /// Those who vote for the statement or accept it.
     ghost backing: { Self → Names };
 

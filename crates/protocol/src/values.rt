@@ -1,0 +1,14 @@
+//! Sets of values, and what they are combined to.
+
+ghost use Rattle.protocol.specs.ValueSets.{CombinedToGreatest, MoreAreAdded, SetsAreAlone, SetsAreExact};
+
+/// A list's values as a set are ascending and exactly the values of the list, and no other ascending
+/// list has the same; a set with more values has its own and those. Values are combined to the one of
+/// them that is not below any, and to nothing only where there are none.
+#[tactic(auto, using(crate::proofs::CombinedValues::sets_are_exact, crate::proofs::CombinedValues::sets_are_alone, crate::proofs::CombinedValues::more_are_added, crate::proofs::CombinedValues::combined_to_greatest))]
+pub fn value_sets_are_exact()
+    ensures set { SetsAreExact }
+    ensures alone { SetsAreAlone }
+    ensures more { MoreAreAdded }
+    ensures combined { CombinedToGreatest }
+{}
