@@ -6,12 +6,12 @@ use Rattle.types.specs.Votes.{same_value}
 use Rattle.protocol.specs.States.{below, ballot_at}
 use Rattle.protocol.specs.Candidates.{lowest}
 use Rattle.protocol.specs.Extremes.{IsIn, IsLowest}
-use Rattle.protocol.proofs.BallotOrder.{below-counter, not_below-counter}
+use Rattle.protocol.proofs.BallotOrder.{below-counter, not_below-counter, one_ballot}
 use Rattle.protocol.proofs.SamenessLaws.{same_value-true}
 use Rattle.protocol.proofs.LeastLaws.{lowest_is_exact}
 use Rattle.protocol.proofs.Above.{above, greatest-above, in-filter, from-filter}
 use Rattle.fedvote.specs.Searching.{is_under, next_under}
-use Rattle.ballot.proofs.SearchLaws.{same_ballot, next_in, next_above}
+use Rattle.ballot.proofs.SearchLaws.{next_in, next_above}
 
 -- ---- what is lowest is one number
 not_over : (test : ℕ → Bool) (x : List ℕ) (lo : ℕ) (ts : List Ballot) (m n : ℕ) → IsLowest test x lo ts m → IsLowest test x lo ts n → m ≤ n
@@ -74,7 +74,7 @@ module _ (listed : List Ballot) (holds : Ballot → Bool) (end : Ballot) where
         ends = omega (arith, k, o);
         below = λ u i n v h. elim (cases_Bool (below u bound)) [
           | inl b ↦
-              let one = same_ballot u t n (next_above listed holds (Some bound) t e u (in-filter (is_under (Some bound)) u listed i b)) in
+              let one = one_ballot u t n (next_above listed holds (Some bound) t e u (in-filter (is_under (Some bound)) u listed i b)) in
               absurd (true≢false (sym h ∙ at_its_counter u v ∙ ap holds one ∙ f (subst (λ (y : Ballot). same_value y.value end.value ≡ true) one v)))
           | inr b ↦ is.below u i b v h
         ];

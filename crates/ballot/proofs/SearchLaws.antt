@@ -1,24 +1,13 @@
 -- To try candidates from the greatest down finds the greatest that passes.
-use Rattle.std.proofs.Common.{◌≡◌, ℕ, ◌<◌, ◌≤◌, Bool, true, false, cond, List, [], ◌∷◌, length, filter, Option, Some, None, refl, sym, ◌∙◌, subst, ap, inl, inr, arith}
+use Rattle.std.proofs.Common.{◌≡◌, ◌<◌, ◌≤◌, Bool, true, false, cond, List, [], ◌∷◌, length, filter, Option, Some, None, refl, sym, ◌∙◌, subst, ap, inl, inr, arith}
 use Rattle.std.proofs.lemmas.Bool.{cases_Bool, true≢false}
 use Rattle.types.specs.declared.ballot.Ballot.{Ballot}
 use Rattle.protocol.specs.States.{below}
 use Rattle.protocol.specs.Candidates.{greatest}
 use Rattle.protocol.specs.Extremes.{IsIn}
-use Rattle.protocol.proofs.BallotOrder.{below-self, below-trans, below-along, not_below-counter, one_value}
+use Rattle.protocol.proofs.BallotOrder.{below-self, below-trans, below-along, one_ballot}
 use Rattle.protocol.proofs.Above.{above, greatest-above, greatest-still, greatest-from, in-filter, from-filter}
 use Rattle.fedvote.specs.Searching.{is_under, next_under}
-use Rattle.ballot.specs.Choosing.{is_above}
-
--- of two ballots neither of which is below the other both are one
-pub same_ballot : (g h : Ballot) → below g h ≡ false → below h g ≡ false → g ≡ h
-same_ballot g h a b =
-    let c = one_counter g.counter h.counter (not_below-counter h g b) (not_below-counter g h a) in
-    let x = one_value g h a b in
-    λ i. record { counter = c i; value = x i }
-  where
-    one_counter : (m n : ℕ) → m ≤ n → n ≤ m → m ≡ n
-    one_counter m n h k = omega (arith, h, k)
 
 -- no more pass a test that is harder
 fewer : (p q : Ballot → Bool) → ((x : Ballot) → p x ≡ true → q x ≡ true) → (ts : List Ballot) → length (filter p ts) ≤ length (filter q ts)
@@ -80,26 +69,26 @@ module _ (listed : List Ballot) (holds : Ballot → Bool) where
   none_left bound there tried e =
       greatest-still there (filter holds listed) (λ x i. absurd (true≢false (subst (λ (o : Option Ballot). above o x ≡ false) e (greatest-above None (filter (is_under bound) listed) x (passing bound tried x i)))))
 
-  pub too_low : (bound there : Option Ballot) (t : Ballot) → Tried bound → next_under bound listed ≡ Some t → is_above there t ≡ false → greatest there (filter holds listed) ≡ there
+  pub too_low : (bound there : Option Ballot) (t : Ballot) → Tried bound → next_under bound listed ≡ Some t → above there t ≡ false → greatest there (filter holds listed) ≡ there
   too_low bound None t tried e low = absurd (true≢false low)
   too_low bound (Some a) t tried e low = greatest-still (Some a) (filter holds listed) (λ x i. below-trans a t x low (next_above bound t e x (passing bound tried x i)))
 
-  pub found : (bound there : Option Ballot) (t : Ballot) → Tried bound → next_under bound listed ≡ Some t → is_above there t ≡ true → holds t ≡ true → greatest there (filter holds listed) ≡ Some t
+  pub found : (bound there : Option Ballot) (t : Ballot) → Tried bound → next_under bound listed ≡ Some t → above there t ≡ true → holds t ≡ true → greatest there (filter holds listed) ≡ Some t
   found bound there t tried e up h =
       let inside = in-filter holds t listed (from-filter (is_under bound) t listed (next_in bound t e)).0 h in
       go (greatest there (filter holds listed)) refl (greatest-above there (filter holds listed) t inside) there refl up
     where
-      go : (o : Option Ballot) → greatest there (filter holds listed) ≡ o → above o t ≡ false → (a : Option Ballot) → there ≡ a → is_above a t ≡ true → o ≡ Some t
+      go : (o : Option Ballot) → greatest there (filter holds listed) ≡ o → above o t ≡ false → (a : Option Ballot) → there ≡ a → above a t ≡ true → o ≡ Some t
       go None q k a f u = absurd (true≢false k)
       go (Some g) q k a f u = elim (greatest-from there (filter holds listed) g q) [
-        | inl l ↦ absurd (true≢false (sym (subst (λ (o : Option Ballot). is_above o t ≡ true) (sym f ∙ l) u) ∙ k))
-        | inr i ↦ ap {B = Option Ballot} Some (same_ballot g t k (next_above bound t e g (passing bound tried g i)))
+        | inl l ↦ absurd (true≢false (sym (subst (λ (o : Option Ballot). above o t ≡ true) (sym f ∙ l) u) ∙ k))
+        | inr i ↦ ap {B = Option Ballot} Some (one_ballot g t k (next_above bound t e g (passing bound tried g i)))
       ]
 
   pub tried_next : (bound : Option Ballot) (t : Ballot) → Tried bound → next_under bound listed ≡ Some t → holds t ≡ false → Tried (Some t)
   tried_next bound t tried e n = record {
     fails = λ x i h. elim (cases_Bool (is_under bound x)) [
-      | inl u ↦ ap holds (same_ballot x t h (next_above bound t e x (in-filter (is_under bound) x listed i u))) ∙ n
+      | inl u ↦ ap holds (one_ballot x t h (next_above bound t e x (in-filter (is_under bound) x listed i u))) ∙ n
       | inr u ↦ tried.fails x i u
     ];
   }

@@ -1,10 +1,7 @@
 //! Whether prepare of a ballot is accepted or confirmed, by the node's own position and what it sees.
 
 ghost use Rattle.std.specs.Prelude.{◌≡◌, ◌&&◌, IfOk};
-ghost use Rattle.types.specs.Votes.{accepts_prepare, votes_or_accepts_prepare};
-ghost use Rattle.types.specs.declared.kind.Kind.{Kind};
-ghost use Rattle.protocol.specs.Views.{accepted, confirmed};
-ghost use Rattle.protocol.specs.Balloting.{may_be_prepared};
+ghost use Rattle.protocol.specs.Balloting.{may_be_prepared, prepare_accepted, prepare_confirmed};
 
 use crate::search::Check;
 use fedvote::{Question, Sight, is_accepted, is_confirmed};
@@ -19,7 +16,7 @@ pub(crate) struct PrepareAccepted<'a, S> {
 }
 
 impl<'a, S: Sight> Check for PrepareAccepted<'a, S> {
-    ghost holds = { λ s t. accepted (S.seen s.sight.now) Kind.Ballot s.own.now (λ x. votes_or_accepts_prepare x t) (λ x. accepts_prepare x t) };
+    ghost holds = { λ s t. prepare_accepted (S.seen s.sight.now) s.own.now t };
 
     fn check(&self, alloc: Global, candidate: Ballot) -> Result<bool, AllocError> {
         is_prepare_accepted(alloc, self.sight, self.own, &candidate)
@@ -33,7 +30,7 @@ fn is_prepare_accepted<S: Sight>(
     own: &Option<Statement>,
     ballot: &Ballot,
 ) -> Result<bool, AllocError>
-    ensures { IfOk result (λ b. b ≡ accepted (S.seen sight.now) Kind.Ballot own.now (λ s. votes_or_accepts_prepare s ballot.now) (λ s. accepts_prepare s ballot.now)) }
+    ensures { IfOk result (λ b. b ≡ prepare_accepted (S.seen sight.now) own.now ballot.now) }
 {
     let backs = Question::VotesOrAcceptsPrepare(*ballot);
     let accepts = Question::AcceptsPrepare(*ballot);
@@ -50,7 +47,7 @@ pub(crate) struct MayBePrepared<'a, S> {
 }
 
 impl<'a, S: Sight> Check for MayBePrepared<'a, S> {
-    ghost holds = { λ s t. may_be_prepared s.phase s.value.now t && accepted (S.seen s.accepted.sight.now) Kind.Ballot s.accepted.own.now (λ x. votes_or_accepts_prepare x t) (λ x. accepts_prepare x t) };
+    ghost holds = { λ s t. may_be_prepared s.phase s.value.now t && prepare_accepted (S.seen s.accepted.sight.now) s.accepted.own.now t };
 
     fn check(&self, alloc: Global, candidate: Ballot) -> Result<bool, AllocError> {
         if may_be_prepared(self.phase, self.value, &candidate) {
@@ -79,7 +76,7 @@ pub(crate) struct PrepareConfirmed<'a, S> {
 }
 
 impl<'a, S: Sight> Check for PrepareConfirmed<'a, S> {
-    ghost holds = { λ s t. confirmed (S.seen s.sight.now) Kind.Ballot s.own.now (λ x. accepts_prepare x t) };
+    ghost holds = { λ s t. prepare_confirmed (S.seen s.sight.now) s.own.now t };
 
     fn check(&self, alloc: Global, candidate: Ballot) -> Result<bool, AllocError> {
         is_prepare_confirmed(alloc, self.sight, self.own, &candidate)
@@ -93,7 +90,7 @@ pub(crate) fn is_prepare_confirmed<S: Sight>(
     own: &Option<Statement>,
     ballot: &Ballot,
 ) -> Result<bool, AllocError>
-    ensures { IfOk result (λ b. b ≡ confirmed (S.seen sight.now) Kind.Ballot own.now (λ s. accepts_prepare s ballot.now)) }
+    ensures { IfOk result (λ b. b ≡ prepare_confirmed (S.seen sight.now) own.now ballot.now) }
 {
     let question = Question::AcceptsPrepare(*ballot);
     is_confirmed(alloc, sight, Kind::Ballot, own, &question)

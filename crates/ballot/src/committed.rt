@@ -17,8 +17,8 @@ use types::{Ballot, Phase, Votes};
 /// Accepts commit. In [`types::Phase::Preparing`]: of the greatest counter, over all values, that is
 /// accepted as committed, confirmed as prepared and not aborted, with the widest interval below it, and
 /// the phase becomes [`types::Phase::Committing`]. In that phase: of a greater counter of the ballot's
-/// value (the Stellar Consensus Protocol draft, of the commit phase). `ballot` is the node's. An error
-/// says that memory is short.
+/// value (after the Stellar Consensus Protocol draft). `ballot` is the node's. An error says that memory
+/// is short, and the votes handed over are dropped.
 #[tactic(auto, unfolding(protocol::specs::Balloting::accept_commit))]
 pub fn accept_commit<S: Sight>(
     alloc: Global,
@@ -186,8 +186,8 @@ fn raised_to(there: Option<Ballot>, ballot: &Ballot) -> Option<Ballot>
 
 /// Confirms commit of the ballot's value, in [`types::Phase::Committing`]: of the greatest counter that
 /// is confirmed as committed, with the widest interval below it, and the phase becomes
-/// [`types::Phase::Externalized`] (the Stellar Consensus Protocol draft, of the commit phase). `ballot`
-/// is the node's. An error says that memory is short.
+/// [`types::Phase::Externalized`] (after the Stellar Consensus Protocol draft). `ballot` is the node's.
+/// An error says that memory is short, and the votes handed over are dropped.
 #[tactic(auto, unfolding(protocol::specs::Balloting::confirm_commit))]
 pub fn confirm_commit<S: Sight>(
     alloc: Global,

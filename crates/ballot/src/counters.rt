@@ -14,9 +14,10 @@ use timers::cap;
 use types::{Ballot, Given, Kind, Phase, Statement, Value, Values, Votes};
 
 /// Raises the ballot to the lowest counter, from its own on, at which those with greater counters do
-/// not block, but not above the cap; its value is chosen anew only where the counter changes (the
-/// Stellar Consensus Protocol draft, of ballot synchronization; the cap is this host's profile).
-/// `ballot` is the node's. An error says that memory is short.
+/// not block; the cap is the greatest to which it is raised, and a counter above the cap stays. The
+/// value is chosen anew only where the counter changes (after the Stellar Consensus Protocol draft; the
+/// cap is this host's profile). `ballot` is the node's. An error says that memory is short, and the
+/// votes handed over are dropped.
 #[tactic(auto, unfolding(protocol::specs::Passes::raise, protocol::specs::Passes::raised_counter))]
 pub fn raise<S: Sight>(
     alloc: Global,
@@ -38,7 +39,8 @@ pub fn raise<S: Sight>(
 }
 
 /// The lowest counter from this one on at which those with greater counters do not block, at most the
-/// cap. Between counters that appear nobody's answer changes, so only those are tried.
+/// cap, or this one where it is above the cap. Between counters that appear nobody's answer changes, so
+/// only those are tried.
 fn raised_counter<S: Sight>(
     alloc: Global,
     sight: &S,
@@ -118,8 +120,8 @@ fn lesser(counter: u32, other: Option<u32>) -> Option<u32>
 }
 
 /// Arms the ballot timer for the ballot's counter where all members of some quorum that contains the
-/// node have counters of at least that (the Stellar Consensus Protocol draft, of ballot
-/// synchronization). `ballot` is the node's. An error says that memory is short.
+/// node have counters of at least that (after the Stellar Consensus Protocol draft). `ballot` is the
+/// node's. An error says that memory is short, and the votes handed over are dropped.
 #[tactic(auto, unfolding(protocol::specs::Passes::arm))]
 pub fn arm<S: Sight>(
     alloc: Global,
@@ -143,8 +145,8 @@ pub fn arm<S: Sight>(
 
 /// The node's ballot at this counter; its value is chosen anew only where that is another counter: in
 /// [`types::Phase::Preparing`] that of the highest confirmed ballot, else the combined confirmed value,
-/// else that of the highest accepted ballot (the Stellar Consensus Protocol draft, of ballot
-/// synchronization). It takes no memory.
+/// else that of the highest accepted ballot, else its own; in the other phases the value stays (after
+/// the Stellar Consensus Protocol draft; the combination is this host's profile). It takes no memory.
 #[tactic(auto, unfolding(protocol::specs::Passes::raised))]
 pub fn raised(votes: &Votes, ballot: Ballot, counter: u32) -> Ballot
     ensures { result ≡ raised votes.now ballot counter }
@@ -209,11 +211,11 @@ pub(crate) fn combine(values: &Values) -> Option<Value>
 fn greatest_value(value: Value, others: &[Value]) -> Value
     ensures { result ≡ greatest_value value others.now }
 {
-    match others {
-        [] => value,
-        [other, others @ ..] => {
-            let greater = if value < *other { *other } else { value };
-            greatest_value(greater, others)
+    let mut greatest = value;
+    for other in others {
+        if greatest < *other {
+            greatest = *other;
         }
     }
+    greatest
 }

@@ -15,7 +15,8 @@ use types::{Ballot, Votes};
 
 /// Sets the first ballot where there is none: counter 1 with the combined confirmed value; where no
 /// value is confirmed, the greatest named ballot whose prepare is accepted, with its counter (the
-/// latter is this host's profile). An error says that memory is short.
+/// latter is this host's profile). An error says that memory is short, and the votes handed over are
+/// dropped.
 #[tactic(auto, unfolding(protocol::specs::Balloting::start))]
 pub fn start<S: Sight>(alloc: Global, sight: &S, votes: Votes) -> Result<Votes, AllocError>
     ensures { IfOk result (λ w. w ≡ start (S.seen sight.now) votes) }

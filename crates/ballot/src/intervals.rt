@@ -1,11 +1,8 @@
 //! Whether commit is accepted or confirmed, on intervals and at single counters.
 
 ghost use Rattle.std.specs.Prelude.{◌≡◌, ◌&&◌, IfOk, nat_lt, not};
-ghost use Rattle.types.specs.Votes.{accepts_prepare, same_value};
-ghost use Rattle.types.specs.declared.kind.Kind.{Kind};
-ghost use Rattle.protocol.specs.Views.{confirmed};
-ghost use Rattle.protocol.specs.Balloting.{is_aborted};
-ghost use Rattle.ballot.specs.Intervals.{interval_accepted, interval_confirmed};
+ghost use Rattle.types.specs.Votes.{same_value};
+ghost use Rattle.protocol.specs.Balloting.{interval_accepted, interval_confirmed, is_aborted, prepare_confirmed};
 
 use crate::checks::is_prepare_confirmed;
 use crate::prepared::is_aborted;
@@ -99,7 +96,7 @@ pub(crate) struct EntersCommit<'a, S> {
 }
 
 impl<'a, S: Sight> Check for EntersCommit<'a, S> {
-    ghost holds = { λ s t. interval_accepted (S.seen s.sight.now) s.own.now t.value t.counter t.counter && confirmed (S.seen s.sight.now) Kind.Ballot s.own.now (λ x. accepts_prepare x t) && not (is_aborted s.votes.now t) };
+    ghost holds = { λ s t. interval_accepted (S.seen s.sight.now) s.own.now t.value t.counter t.counter && prepare_confirmed (S.seen s.sight.now) s.own.now t && not (is_aborted s.votes.now t) };
 
     fn check(&self, alloc: Global, candidate: Ballot) -> Result<bool, AllocError> {
         if is_aborted(self.votes, &candidate) {

@@ -1,5 +1,5 @@
 //! Balloting: by which rules a ballot is begun, prepared, committed and externalized, and how its
-//! counter rises (the Stellar Consensus Protocol draft, of the ballot protocol).
+//! counter rises (after the Stellar Consensus Protocol draft).
 //!
 //! Each rule is one function of what the node sees and of its votes, and gives the votes after it.
 #![tactic(auto)]
@@ -19,6 +19,6 @@ mod sent;
 pub use committed::{accept_commit, confirm_commit};
 pub use counters::{arm, raise, raised};
 pub use first::start;
-pub use positions::position;
+pub use positions::{counter_of, position};
 pub use prepared::{accept_prepared, confirm_prepared};
 pub use sent::sent_vote;

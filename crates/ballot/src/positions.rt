@@ -73,7 +73,8 @@ pub(crate) fn commit_counter(votes: &Votes, ballot: Ballot) -> u32
     }
 }
 
-fn counter_of(ballot: Option<Ballot>) -> u32
+/// The counter of a ballot, or 0 where there is none. It takes no memory.
+pub fn counter_of(ballot: Option<Ballot>) -> u32
     ensures { result ≡ counter_of ballot }
 {
     match ballot {

@@ -4,9 +4,8 @@ ghost use Rattle.std.specs.Prelude.{◌≡◌, ◌+◌, IfOk, None, false, if◌
 ghost use Rattle.std.specs.Ordering.{is_lt};
 ghost use Rattle.types.specs.Orders.{bytes_cmp};
 ghost use Rattle.types.specs.Votes.{same_value};
-ghost use Rattle.protocol.specs.States.{below};
+ghost use Rattle.protocol.specs.States.{Under, below};
 ghost use Rattle.protocol.specs.Balloting.{aborted_by, accept_prepared, at_least, chosen, cleared, confirm_prepared, follow_high, is_aborted, is_overtaken, raise_high, set_commit};
-ghost use Rattle.ballot.specs.Choosing.{StaysUnder};
 
 use crate::checks::{MayBePrepared, PrepareAccepted, PrepareConfirmed};
 use crate::named::Named;
@@ -18,9 +17,9 @@ use types::{Ballot, Votes};
 
 /// Accepts as prepared the greatest of the highest accepted ballot and the named ballots whose prepare
 /// is accepted; in [`types::Phase::Committing`] only those of the ballot's value count. Where the
-/// highest accepted ballot goes to another value, lower ballots are aborted (the Stellar Consensus
-/// Protocol draft, of the prepare phase; the aborted counter is this host's profile). `ballot` is the
-/// node's. An error says that memory is short.
+/// highest accepted ballot goes to another value, lower ballots are aborted (after the Stellar
+/// Consensus Protocol draft; the aborted counter is this host's profile). `ballot` is the node's. An
+/// error says that memory is short, and the votes handed over are dropped.
 #[tactic(auto, unfolding(protocol::specs::Balloting::accept_prepared))]
 pub fn accept_prepared<S: Sight>(
     alloc: Global,
@@ -50,7 +49,7 @@ pub fn accept_prepared<S: Sight>(
 /// another than before, the first ballot's counter or one more, but never less than the counter was.
 #[tactic(auto, unfolding(protocol::specs::Balloting::aborted_by))]
 fn aborted_by(old: &Option<Ballot>, new: &Option<Ballot>, aborted: u32) -> u32
-    requires { StaysUnder old.now new.now }
+    requires { Under old.now new.now }
     ensures { result ≡ aborted_by old.now new.now aborted }
 {
     match (old, new) {
@@ -77,9 +76,9 @@ fn first_kept(old: &Ballot, new: &Ballot) -> u32
 }
 
 /// Confirms as prepared: the highest confirmed ballot, the ballot, which follows it, and the ballot
-/// whose commit is voted for, in this order; for [`types::Phase::Preparing`] (the Stellar Consensus
-/// Protocol draft, of the prepare phase; that the ballot follows is this host's profile). `ballot` is
-/// the node's. An error says that memory is short.
+/// whose commit is voted for, in this order; for [`types::Phase::Preparing`] (after the Stellar
+/// Consensus Protocol draft; that the ballot follows is this host's profile). `ballot` is the node's.
+/// An error says that memory is short, and the votes handed over are dropped.
 #[tactic(auto, unfolding(protocol::specs::Balloting::confirm_prepared))]
 pub fn confirm_prepared<S: Sight>(
     alloc: Global,

@@ -2,9 +2,9 @@
 
 ghost use Rattle.std.specs.Prelude.{◌≡◌, Bool, IfOk, List, filter};
 ghost use Rattle.types.specs.declared.ballot.Ballot.{Ballot};
+ghost use Rattle.protocol.specs.States.{above};
 ghost use Rattle.protocol.specs.Candidates.{greatest};
 ghost use Rattle.fedvote.specs.Searching.{next_under};
-ghost use Rattle.ballot.specs.Choosing.{is_above};
 
 use std::alloc::{AllocError, Global};
 use types::Ballot;
@@ -55,7 +55,7 @@ pub(crate) fn greatest_of<C: Candidates, T: Check>(
 
 /// Whether the ballot is above the one that is there, if one is.
 fn is_above(there: &Option<Ballot>, ballot: &Ballot) -> bool
-    ensures { result ≡ is_above there.now ballot.now }
+    ensures { result ≡ above there.now ballot.now }
 {
     match there {
         None => true,

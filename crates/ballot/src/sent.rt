@@ -9,8 +9,8 @@ use types::{Ballot, Phase, Statement, Votes};
 
 /// The ballot statement that is sent; a node without a ballot sends none. In [`Phase::Preparing`] the
 /// highest accepted ballot is held down to the ballot, and the aborted counter to the ballot's counter
-/// (the Stellar Consensus Protocol draft, of the prepare phase; the aborted counter is this host's
-/// profile). It takes no memory.
+/// (after the Stellar Consensus Protocol draft; the aborted counter is this host's profile). It takes no
+/// memory.
 #[tactic(auto, unfolding(protocol::specs::States::sent_vote, protocol::specs::States::sent_in, protocol::specs::States::position, protocol::specs::States::position_in))]
 pub fn sent_vote(votes: &Votes) -> Option<Statement>
     ensures { result ≡ sent_vote votes.now }

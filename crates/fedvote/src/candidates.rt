@@ -8,8 +8,7 @@ ghost use Rattle.fedvote.specs.Searching.{bettered, is_under};
 use types::{Ballot, Statement};
 
 /// The greatest of the best ballot so far and of those that the statement names, below the bound and
-/// with a counter from 1 on (the Stellar Consensus Protocol draft, of the ballot protocol). It takes no
-/// memory.
+/// with a counter from 1 on (after the Stellar Consensus Protocol draft). It takes no memory.
 #[tactic(auto, using(crate::proofs::Bettering::bettered_then, crate::proofs::Bettering::bettered_none))]
 pub fn better_named(
     best: Option<Ballot>,
@@ -51,8 +50,8 @@ pub fn better_named(
 }
 
 /// The greatest of the best ballot so far and of those at the counters at which the statement speaks of
-/// commit, below the bound and with a counter from 1 on (the Stellar Consensus Protocol draft, of the
-/// ballot protocol). It takes no memory.
+/// commit, below the bound and with a counter from 1 on (after the Stellar Consensus Protocol draft). It
+/// takes no memory.
 #[tactic(auto, using(crate::proofs::Bettering::bettered_then, crate::proofs::Bettering::bettered_none))]
 pub fn better_committed(
     best: Option<Ballot>,

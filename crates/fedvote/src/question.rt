@@ -8,7 +8,7 @@ ghost use Rattle.protocol.specs.Passes.{counts};
 use types::{Ballot, Statement, Value};
 
 /// What is asked of each node's statement: whether it votes for or accepts something, or how far its
-/// ballot is (the Stellar Consensus Protocol draft, of federated voting and of the ballot protocol).
+/// ballot is (after the Stellar Consensus Protocol draft).
 #[derive(Clone, Copy, Debug)]
 pub enum Question {
     /// Whether it votes for or accepts that this ballot is prepared.

@@ -1,4 +1,4 @@
--- For the tests: what a node sees of one reached row and of one leader's row.
+-- For the tests alone, and cited by no contract of the crate: what a node sees of one reached row and of one leader's row.
 use Rattle.std.specs.Prelude.{◌≡◌, Bool, ◌&&◌, ◌||◌, List, [], ◌∷◌, if◌then◌else◌, refl}
 use Rattle.std.specs.List.{AllByRecursion, list_all, list_any}
 use Rattle.types.specs.declared.kind.Kind.{Kind}

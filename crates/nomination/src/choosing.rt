@@ -55,7 +55,8 @@ pub fn choose<T: ValueTest>(
     Ok(chosen)
 }
 
-/// A set with these values too. An error says that memory is short.
+/// A set with these values too. An error says that memory is short, and the set handed over is dropped.
+/// It recurses once for each of the values, and the rules give it at most sixteen.
 pub fn with_all(set: Values, values: &[Value]) -> Result<Values, AllocError>
     ensures { IfOk result (λ v. v ≡ all_with values.now set) }
 {

@@ -14,8 +14,9 @@ use std::alloc::{AllocError, Global};
 use types::{Given, MAX_NOMINATED, NodeId, Value, Values, Votes};
 
 /// The rules of nomination, in order, each with what the one before it made; while no ballot is
-/// confirmed as prepared (the Stellar Consensus Protocol draft, of the nomination protocol). An error
-/// says that memory is short.
+/// confirmed as prepared (after the Stellar Consensus Protocol draft). An error says that memory is
+/// short, and the votes handed over are dropped. The stack grows with the values that the votes have,
+/// of which a node has at most sixteen in a set.
 #[tactic(auto, unfolding(protocol::specs::Nominating::nominate))]
 pub fn nominate<S: Sight>(
     alloc: Global,
@@ -37,8 +38,8 @@ pub fn nominate<S: Sight>(
 }
 
 /// Echo: from round 1 on, while nothing is confirmed, the node votes for each value that its leaders
-/// propose, as far as there is room (the Stellar Consensus Protocol draft, of the nomination protocol).
-/// An error says that memory is short.
+/// propose, as far as there is room (after the Stellar Consensus Protocol draft). An error says that
+/// memory is short, and the votes handed over are dropped.
 #[tactic(auto, unfolding(protocol::specs::Nominating::echo, protocol::specs::Candidates::filled))]
 pub(crate) fn echo<S: Sight>(
     alloc: Global,
@@ -60,8 +61,8 @@ pub(crate) fn echo<S: Sight>(
 }
 
 /// Accept: the values of reached nominations and of the node itself that are accepted are added, as
-/// far as there is room (the Stellar Consensus Protocol draft, of the nomination protocol). An error
-/// says that memory is short.
+/// far as there is room (after the Stellar Consensus Protocol draft). An error says that memory is
+/// short, and the votes handed over are dropped.
 #[tactic(auto, unfolding(protocol::specs::Nominating::accept_values, protocol::specs::Candidates::filled))]
 pub(crate) fn accept_values<S: Sight>(
     alloc: Global,
@@ -90,8 +91,8 @@ fn candidates<S: Sight>(alloc: Global, sight: &S, votes: &Votes) -> Result<Value
     with_all(nominated, votes.voted.as_slice())
 }
 
-/// Confirm: of the accepted values those that are confirmed are added (the Stellar Consensus Protocol
-/// draft, of the nomination protocol). An error says that memory is short.
+/// Confirm: of the accepted values those that are confirmed are added (after the Stellar Consensus
+/// Protocol draft). An error says that memory is short, and the votes handed over are dropped.
 #[tactic(auto, unfolding(protocol::specs::Nominating::confirm_values))]
 pub(crate) fn confirm_values<S: Sight>(
     alloc: Global,

@@ -43,8 +43,8 @@ impl<'a, S: Sight> ValueTest for IsConfirmed<'a, S> {
 }
 
 /// Whether nominating the value is accepted: some quorum that contains the node all votes for or
-/// accepts it, or those who accept it block (the Stellar Consensus Protocol draft, of the nomination
-/// protocol). An error says that memory is short.
+/// accepts it, or those who accept it block (the Stellar Consensus Protocol draft, of federated voting).
+/// An error says that memory is short.
 #[tactic(auto, unfolding(protocol::specs::States::nominated))]
 pub fn is_value_accepted<S: Sight>(
     alloc: Global,
@@ -65,7 +65,7 @@ pub fn is_value_accepted<S: Sight>(
 }
 
 /// Whether nominating the value is confirmed: some quorum that contains the node all accepts it (the
-/// Stellar Consensus Protocol draft, of the nomination protocol). An error says that memory is short.
+/// Stellar Consensus Protocol draft, of federated voting). An error says that memory is short.
 #[tactic(auto, unfolding(protocol::specs::States::nominated))]
 pub fn is_value_confirmed<S: Sight>(
     alloc: Global,

@@ -4,6 +4,7 @@ use Rattle.std.proofs.lemmas.Bool.{cases_Bool, and_parts, true≢false}
 use Rattle.std.proofs.lemmas.Bool.Decides.{nat_tests}
 use Rattle.types.specs.declared.ballot.Ballot.{Ballot}
 use Rattle.types.specs.declared.statement.Statement.{Statement}
+pub use Rattle.protocol.specs.States.{above, Under}
 use Rattle.protocol.specs.States.{below, counter_of}
 use Rattle.protocol.specs.Candidates.{greatest, least_from, lowest}
 use Rattle.protocol.specs.Balloting.{aborted_by}
@@ -11,15 +12,6 @@ use Rattle.protocol.specs.Extremes.{IsIn}
 use Rattle.protocol.proofs.BallotOrder.{less, less-total, below-parts, below-self, below-trans, below-asym, not_below-counter}
 use Rattle.types.specs.Votes.{same_value}
 use Rattle.protocol.proofs.SamenessLaws.{same_value-refl}
-
--- t is above what is there
-abbrev pub above : Option Ballot → Ballot → Bool
-above None t = true
-above (Some p) t = below p t
-
-abbrev pub Under : Option Ballot → Option Ballot → Type 0
-Under None p = Unit {0}
-Under (Some h) p = above p h ≡ false
 
 pub above-trans : (p : Option Ballot) (b c : Ballot) → above p b ≡ false → below b c ≡ false → above p c ≡ false
 above-trans None b c h k = h

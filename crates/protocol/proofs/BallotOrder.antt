@@ -128,3 +128,13 @@ one_value a b h k = elim (cases_Bool (same_value a.value b.value)) [
     over m n false r h k (inl e) = absurd (false≢true e)
     over m n l true h k (inr e) = grind (arith, nat_tests)
     over m n l false h k (inr e) = absurd (false≢true e)
+
+-- and so are the ballots
+pub one_ballot : (a b : Ballot) → below a b ≡ false → below b a ≡ false → a ≡ b
+one_ballot a b h k =
+    let c = one_counter a.counter b.counter (not_below-counter b a k) (not_below-counter a b h) in
+    let x = one_value a b h k in
+    λ i. record { counter = c i; value = x i }
+  where
+    one_counter : (m n : ℕ) → m ≤ n → n ≤ m → m ≡ n
+    one_counter m n h k = omega (arith, h, k)

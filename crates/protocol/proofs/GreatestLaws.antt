@@ -1,9 +1,9 @@
 -- `greatest` gives the greatest, and a greatest is one.
-use Rattle.std.proofs.Common.{◌≡◌, ℕ, Bool, true, false, ◌≤◌, List, [], ◌∷◌, Some, None, if◌then◌else◌, refl, sym, subst, inl, inr, arith}
+use Rattle.std.proofs.Common.{◌≡◌, Bool, true, false, List, [], ◌∷◌, Some, None, if◌then◌else◌, refl, sym, subst, inl, inr}
 use Rattle.types.specs.declared.ballot.Ballot.{Ballot}
 use Rattle.protocol.specs.States.{below}
 use Rattle.protocol.specs.Candidates.{greatest}
-use Rattle.protocol.proofs.BallotOrder.{below-self, below-trans, below-asym, not_below-counter, one_value}
+use Rattle.protocol.proofs.BallotOrder.{below-self, below-trans, below-asym, one_ballot}
 use Rattle.protocol.specs.Extremes.{IsIn, IsGreatest, IsGreatestIn, GreatestIsExact, GreatestIsUnique}
 use Rattle.protocol.specs.Extremes.IsGreatestIn.{nothing, this}
 
@@ -43,12 +43,4 @@ greatest_is_exact (Some b) ts = let r = from_some b ts in subst (λ o. IsGreates
 
 -- and a greatest is alone
 pub greatest_is_alone : GreatestIsUnique
-greatest_is_alone ts g h a b =
-    let k = a.above h b.has in
-    let l = b.above g a.has in
-    let c = one_counter g.counter h.counter (not_below-counter h g l) (not_below-counter g h k) in
-    let x = one_value g h k l in
-    λ i. record { counter = c i; value = x i }
-  where
-    one_counter : (m n : ℕ) → m ≤ n → n ≤ m → m ≡ n
-    one_counter m n h k = omega (arith, h, k)
+greatest_is_alone ts g h a b = one_ballot g h (a.above h b.has) (b.above g a.has)

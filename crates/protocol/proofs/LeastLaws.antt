@@ -6,20 +6,10 @@ use Rattle.types.specs.declared.ballot.Ballot.{Ballot}
 use Rattle.types.specs.Votes.{same_value}
 use Rattle.protocol.specs.Candidates.{lowest, least_from}
 use Rattle.protocol.specs.Extremes.{IsIn, LowestIsExact, LeastFromIsExact}
+use Rattle.protocol.proofs.Above.{least_from-low, lowest-low}
 
 -- ---- the lowest commit counter
 module _ (test : ℕ → Bool) (x : List ℕ) where
-  lowest-up : (lo : ℕ) (ts : List Ballot) → lowest test x lo ts ≤ lo
-  unfolding lowest
-  lowest-up lo [] = omega arith
-  lowest-up lo (t ∷ ts) = elim (cases_Bool (same_value t.value x && nat_lt t.counter lo && test t.counter)) [
-    | inl e ↦ rw e (let k = lowest-up t.counter ts in let p = and_parts (same_value t.value x && nat_lt t.counter lo) (test t.counter) e in let q = and_parts (same_value t.value x) (nat_lt t.counter lo) p.0 in less _ t.counter lo k q.1)
-    | inr e ↦ rw e (lowest-up lo ts)
-  ]
-    where
-      less : (a b c : ℕ) → a ≤ b → nat_lt b c ≡ true → a ≤ c
-      less a b c h k = grind (arith, nat_tests)
-
   lowest-below : (lo : ℕ) (ts : List Ballot) (t : Ballot) → IsIn t ts → same_value t.value x ≡ true → test t.counter ≡ true → lowest test x lo ts ≤ t.counter
   unfolding lowest
   lowest-below lo [] t i v h = absurd i
@@ -28,10 +18,10 @@ module _ (test : ℕ → Bool) (x : List ℕ) where
       let sv : same_value s.value x ≡ true = subst (λ (b : Ballot). same_value b.value x ≡ true) e v in
       let sh : test s.counter ≡ true = subst (λ (b : Ballot). test b.counter ≡ true) e h in
       subst (λ (b : Ballot). lowest test x (if same_value s.value x && nat_lt s.counter lo && test s.counter then s.counter else lo) ts ≤ b.counter) (sym e) (elim (cases_Bool (nat_lt s.counter lo)) [
-        | inl l ↦ let a = and_from (same_value s.value x && nat_lt s.counter lo) (test s.counter) (and_from (same_value s.value x) (nat_lt s.counter lo) sv l) sh in rw a (lowest-up s.counter ts)
+        | inl l ↦ let a = and_from (same_value s.value x && nat_lt s.counter lo) (test s.counter) (and_from (same_value s.value x) (nat_lt s.counter lo) sv l) sh in rw a (lowest-low test x s.counter ts)
         | inr l ↦ elim (cases_Bool (same_value s.value x && nat_lt s.counter lo && test s.counter)) [
-          | inl a ↦ rw a (lowest-up s.counter ts)
-          | inr a ↦ rw a (through _ lo s.counter (lowest-up lo ts) l)
+          | inl a ↦ rw a (lowest-low test x s.counter ts)
+          | inr a ↦ rw a (through _ lo s.counter (lowest-low test x lo ts) l)
         ]
       ])
     where
@@ -56,14 +46,9 @@ module _ (test : ℕ → Bool) (x : List ℕ) where
   ]
 
 pub lowest_is_exact : LowestIsExact
-lowest_is_exact test x lo ts = record { upto = lowest-up test x lo ts; below = lowest-below test x lo ts; from = lowest-from test x lo ts }
+lowest_is_exact test x lo ts = record { upto = lowest-low test x lo ts; below = lowest-below test x lo ts; from = lowest-from test x lo ts }
 
 -- ---- the least number that passes
-least-low : (test : ℕ → Bool) (fuel n : ℕ) → n ≤ least_from fuel n test
-unfolding least_from
-least-low test zero n = omega arith
-least-low test (suc fuel) n = let k = least-low test fuel (n + 1) in elim (cases_Bool (test n)) [ inl e ↦ rw e (omega arith) | inr e ↦ rw e (omega (arith, k)) ]
-
 least-high : (test : ℕ → Bool) (fuel n : ℕ) → least_from fuel n test ≤ n + fuel
 unfolding least_from
 least-high test zero n = omega arith
@@ -98,4 +83,4 @@ least-first test (suc fuel) n k l h = elim (cases_Bool (test n)) [
         same n k l e = grind (arith, nat_tests)
 
 pub least_from_is_exact : LeastFromIsExact
-least_from_is_exact test fuel n = record { low = least-low test fuel n; high = least-high test fuel n; passes = least-passes test fuel n; first = least-first test fuel n }
+least_from_is_exact test fuel n = record { low = least_from-low fuel n test; high = least-high test fuel n; passes = least-passes test fuel n; first = least-first test fuel n }

@@ -8,9 +8,10 @@ use Rattle.types.specs.declared.statement.Statement.TheVariants.{Nominate}
 use Rattle.types.specs.declared.kind.Kind.TheVariants.{Nomination}
 use Rattle.protocol.specs.Views.{Seen, accepted, confirmed, passes}
 use Rattle.types.specs.declared.state.Given.{Given}
-use Rattle.types.specs.Nominations.{with_value}
+use Rattle.types.specs.Nominations.{Ascending, with_value}
 use Rattle.protocol.specs.Candidates.{as_set, all_with, filled, values_by}
-use Rattle.protocol.proofs.NominationSets.{Ascending, with-has, with-kept, with-from, with-ascending, with-new, all-ascending, all-has, all-same, all-longer, sources, echoes, new_voted, new_accepts, new_confirms, QuietAt, quiet-from}
+use Rattle.protocol.proofs.NominationSets.{ascends_on, ascends_from, first_least, with-has, with-kept, with-from, with-new, all-ascending, all-has, all-same, all-longer, sources, echoes, new_voted, new_accepts, new_confirms, QuietAt, quiet-from}
+use Rattle.protocol.proofs.ValueSets.{filter_ascending, set_ascending}
 use Rattle.protocol.proofs.BallotOrder.{less, less-self}
 use Rattle.protocol.proofs.SamenessLaws.{same_value-true, same_value-refl}
 use Rattle.types.specs.Votes.{same_value, has_value}
@@ -25,10 +26,6 @@ value-left (x ∷ xs) ys u h = elim (or_cases (same_value x u) (has_value xs u) 
   | inl e ↦ or_left (same_value x u) (has_value (xs ++ ys) u) e
   | inr e ↦ or_right (same_value x u) (has_value (xs ++ ys) u) (value-left xs ys u e)
 ]
-
-set-ascending : (xs : List (List ℕ)) → Ascending (as_set xs)
-set-ascending [] = tt
-set-ascending (x ∷ xs) = with-ascending x (as_set xs) (set-ascending xs)
 
 set-has : (xs : List (List ℕ)) (z : List ℕ) → has_value xs z ≡ true → has_value (as_set xs) z ≡ true
 set-has [] z h = h
@@ -69,14 +66,6 @@ filter-has_value p (x ∷ xs) z h = go (p x) refl h (λ j. filter-has_value p xs
     ]
     go false e k ih = (or_right (same_value x z) _ (ih k).0, (ih k).1)
 
-filter-ascending : (p : List ℕ → Bool) (xs : List (List ℕ)) → Ascending xs → Ascending (filter p xs)
-filter-ascending p [] h = tt
-filter-ascending p (x ∷ xs) h = go (p x) (filter-ascending p xs h.1)
-  where
-    go : (b : Bool) → Ascending (filter p xs) → Ascending (cond b (x ∷ filter p xs) (filter p xs))
-    go true ih = (λ y i. h.0 y (filter-has_value p xs y i).0, ih)
-    go false ih = ih
-
 take-has_value : (k : ℕ) (xs : List (List ℕ)) (z : List ℕ) → has_value (take k xs) z ≡ true → has_value xs z ≡ true
 take-has_value zero xs z h = absurd (false≢true h)
 take-has_value (suc k) [] z h = h
@@ -88,7 +77,7 @@ take-has_value (suc k) (x ∷ xs) z h = elim (or_cases (same_value x z) (has_val
 take-ascending : (k : ℕ) (xs : List (List ℕ)) → Ascending xs → Ascending (take k xs)
 take-ascending zero xs h = tt
 take-ascending (suc k) [] h = tt
-take-ascending (suc k) (x ∷ xs) h = (λ y i. h.0 y (take-has_value k xs y i), take-ascending k xs h.1)
+take-ascending (suc k) (x ∷ xs) h = ascends_from x (take k xs) (λ y i. first_least x xs h y (take-has_value k xs y i)) (take-ascending k xs (ascends_on x xs h))
 
 all-from : (ys xs : List (List ℕ)) (z : List ℕ) → has_value (all_with ys xs) z ≡ true → (has_value ys z ≡ true) ⊎ (has_value xs z ≡ true)
 all-from [] xs z h = inr h
@@ -108,7 +97,7 @@ all-kept (y ∷ ys) xs z h = with-kept y z (all_with ys xs) (all-kept ys xs z h)
 all-count : (ys xs : List (List ℕ)) → Ascending ys → ((z : List ℕ) → has_value ys z ≡ true → has_value xs z ≡ false) → length xs + length ys ≤ length (all_with ys xs)
 all-count [] xs h f = omega arith
 all-count (y ∷ ys) xs h f =
-    let ih : length xs + length ys ≤ length (all_with ys xs) = all-count ys xs h.1 (λ z i. f z (or_right (same_value y z) (has_value ys z) i)) in
+    let ih : length xs + length ys ≤ length (all_with ys xs) = all-count ys xs (ascends_on y ys h) (λ z i. f z (or_right (same_value y z) (has_value ys z) i)) in
     let fresh : has_value (all_with ys xs) y ≡ false = new (has_value (all_with ys xs) y) refl in
     let up : length (all_with ys xs) < length (with_value y (all_with ys xs)) = with-new y (all_with ys xs) fresh in
     omega (arith, ih, up)
@@ -119,7 +108,7 @@ all-count (y ∷ ys) xs h f =
     new : (b : Bool) → has_value (all_with ys xs) y ≡ b → has_value (all_with ys xs) y ≡ false
     new false e = e
     new true e = elim (all-from ys xs y e) [
-      | inl i ↦ absurd (not_less y (h.0 y i))
+      | inl i ↦ absurd (not_less y (first_least y ys h y i))
       | inr i ↦ absurd (true≢false (sym i ∙ f y (or_left (same_value y y) (has_value ys y) (same_value-refl y))))
     ]
 
@@ -132,7 +121,7 @@ filled-full old new = elim (cases_Bool (nat_le (length S) (16 - length old))) [
     | inr j ↦ all-has S old z (among-filter (λ x. not (has_value old x)) (as_set new) z (set-has new z i) (not_from_false (has_value old z) j))
   ]))
   | inr e ↦ inl (full (length old) (length S) (length (take (16 - length old) S)) (length (all_with (take (16 - length old) S) old)) e (length-take (16 - length old) S)
-      (all-count (take (16 - length old) S) old (take-ascending (16 - length old) S (filter-ascending (λ x. not (has_value old x)) (as_set new) (set-ascending new)))
+      (all-count (take (16 - length old) S) old (take-ascending (16 - length old) S (filter_ascending (λ x. not (has_value old x)) (as_set new) (set_ascending new)))
       (λ z i. not-true (has_value old z) (filter-has_value (λ x. not (has_value old x)) (as_set new) z (take-has_value (16 - length old) S z i)).1)))
 ]
   where

@@ -9,7 +9,11 @@ use Rattle.protocol.specs.Views.{Seen, accepted, confirmed}
 use Rattle.types.specs.declared.state.Given.{Given}
 use Rattle.types.specs.declared.state.Votes.{Votes}
 use Rattle.protocol.specs.States.{nominated}
-use Rattle.types.specs.Nominations.{with_value}
+use Rattle.types.specs.Nominations.{Ascending, with_value}
+use Rattle.types.specs.Orders.{bytes_cmp}
+use Rattle.std.specs.Ordering.{is_lt}
+use Rattle.std.specs.declared.cmp.Ordering.{Ordering}
+use Rattle.std.specs.declared.cmp.Ordering.TheVariants.{Less, Equal, Greater}
 use Rattle.protocol.specs.Candidates.{all_with, filled, values_by}
 use Rattle.protocol.specs.Nominating.{echo, accept_values, confirm_values, nominate}
 use Rattle.protocol.proofs.BallotOrder.{less, less-total, less-trans, less-asym, less-self}
@@ -20,10 +24,28 @@ use Rattle.types.specs.Votes.{same_value, has_value}
 value-true : (z y : List ℕ) → same_value y z ≡ true → z ≡ y
 value-true z y h = sym (same_value-true y z h)
 
--- Ascending lists
-abbrev pub Ascending : List (List ℕ) → Type 0
-Ascending [] = Unit {0}
-Ascending (x ∷ xs) = ((y : List ℕ) → has_value xs y ≡ true → less x y ≡ true) × Ascending xs
+-- ---- ascending lists
+is_less : (o : Ordering) → is_lt o ≡ true → o ≡ Less
+is_less Less h = refl
+is_less Equal h = absurd (false≢true h)
+is_less Greater h = absurd (false≢true h)
+
+pub ascends_on : (x : List ℕ) (xs : List (List ℕ)) → Ascending (x ∷ xs) → Ascending xs
+ascends_on x [] h = tt
+ascends_on x (y ∷ ys) h = h.1
+
+-- the first value is below each other
+pub first_least : (x : List ℕ) (xs : List (List ℕ)) → Ascending (x ∷ xs) → (z : List ℕ) → has_value xs z ≡ true → less x z ≡ true
+first_least x [] h z i = absurd (false≢true i)
+first_least x (y ∷ ys) h z i = elim (or_cases (same_value y z) (has_value ys z) i) [
+  | inl e ↦ subst (λ n. less x n ≡ true) (sym (value-true z y e)) (ap is_lt h.0)
+  | inr e ↦ less-trans x y z (ap is_lt h.0) (first_least y ys h.1 z e)
+]
+
+-- and with such a value before it a list ascends too
+pub ascends_from : (x : List ℕ) (xs : List (List ℕ)) → ((z : List ℕ) → has_value xs z ≡ true → less x z ≡ true) → Ascending xs → Ascending (x ∷ xs)
+ascends_from x [] f h = tt
+ascends_from x (y ∷ ys) f h = (is_less (bytes_cmp x y) (f y (or_left (same_value y y) _ (same_value-refl y))), h)
 
 pub with-has : (x : List ℕ) (xs : List (List ℕ)) → has_value (with_value x xs) x ≡ true
 unfolding with_value
@@ -78,30 +100,24 @@ more a b h k = less-total a b h (elim (cases_Bool (same_value a b)) [
 
 pub with-ascending : (x : List ℕ) (xs : List (List ℕ)) → Ascending xs → Ascending (with_value x xs)
 unfolding with_value
-with-ascending x [] h = (λ y i. absurd (false≢true i), tt)
-with-ascending x (y ∷ ys) h = go (less x y) (same_value y x) refl refl (with-ascending x ys h.1)
+with-ascending x [] h = tt
+with-ascending x (y ∷ ys) h = go (less x y) (same_value y x) refl refl (with-ascending x ys (ascends_on y ys h))
   where
     go : (a b : Bool) → less x y ≡ a → (same_value y x) ≡ b → Ascending (with_value x ys) → Ascending (if a then x ∷ y ∷ ys else (if b then y ∷ ys else y ∷ with_value x ys))
-    go true b e k ih = (
-      λ z i. elim (or_cases (same_value y z) (has_value ys z) i) [
-        | inl j ↦ subst (λ n. less x n ≡ true) (sym (value-true z y j)) e
-        | inr j ↦ less-trans x y z e (h.0 z j)
-      ],
-      h,
-    )
+    go true b e k ih = (is_less (bytes_cmp x y) e, h)
     go false true e k ih = h
-    go false false e k ih = (
-      λ z i. elim (with-from x z ys i) [
-        | inl j ↦ subst (λ n. less y n ≡ true) (sym j) (more x y e k)
-        | inr j ↦ h.0 z j
-      ],
-      ih,
-    )
+    go false false e k ih =
+        ascends_from y (with_value x ys)
+        (λ z i. elim (with-from x z ys i) [
+          | inl j ↦ subst (λ n. less y n ≡ true) (sym j) (more x y e k)
+          | inr j ↦ first_least y ys h z j
+        ])
+        ih
 
 with-same : (x : List ℕ) (xs : List (List ℕ)) → Ascending xs → has_value xs x ≡ true → with_value x xs ≡ xs
 unfolding with_value
 with-same x [] h i = absurd (false≢true i)
-with-same x (y ∷ ys) h i = go (less x y) (same_value y x) refl refl (λ j. with-same x ys h.1 j)
+with-same x (y ∷ ys) h i = go (less x y) (same_value y x) refl refl (λ j. with-same x ys (ascends_on y ys h) j)
   where
     clash : (a b : List ℕ) → less a b ≡ true → less b a ≡ true → ⊥
     clash a b h k = true≢false (sym k ∙ less-asym a b h)
@@ -112,7 +128,7 @@ with-same x (y ∷ ys) h i = go (less x y) (same_value y x) refl refl (λ j. wit
     go : (a b : Bool) → less x y ≡ a → (same_value y x) ≡ b → (has_value ys x ≡ true → with_value x ys ≡ ys) → (if a then x ∷ y ∷ ys else (if b then y ∷ ys else y ∷ with_value x ys)) ≡ y ∷ ys
     go true b e k ih = elim (or_cases (same_value y x) (has_value ys x) i) [
       | inl j ↦ absurd (clash_eq x y e j)
-      | inr j ↦ absurd (clash x y e (h.0 x j))
+      | inr j ↦ absurd (clash x y e (first_least y ys h x j))
     ]
     go false true e k ih = refl
     go false false e k ih = elim (or_cases (same_value y x) (has_value ys x) i) [

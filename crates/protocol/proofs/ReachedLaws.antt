@@ -18,7 +18,8 @@ use Rattle.protocol.specs.Limits.{Reached, ReachedAreCalm, TimersAreCounted, Sen
 use Rattle.protocol.specs.Limits.Reached.{begin, next}
 use Rattle.protocol.proofs.FreshNodes.{fresh-calm}
 use Rattle.protocol.proofs.NodeLaws.{if_node, if_node-if, answered-node, calm-step}
-use Rattle.protocol.proofs.SendableVotes.{IsSet, IsSendable, raised-keeps, pass-keeps}
+use Rattle.types.specs.Nominations.{IsNominationSet}
+use Rattle.protocol.proofs.SendableVotes.{IsSendable, raised-keeps, pass-keeps}
 use Rattle.protocol.proofs.SentLaws.{nomination-sends, vote-sends}
 
 -- ---- calm
@@ -34,7 +35,7 @@ fresh-lawful : (slot v : ℕ) (q : Slices) → IsLawful (fresh slot v q)
 unfolding fresh
 fresh-lawful slot v q = record { voted = none; accepts = none; timers = omega arith; counted = tt; placed = tt }
   where
-    none : IsSet []
+    none : IsNominationSet []
     none = record { few = omega arith; ascending = tt }
 
 timed_out-lawful : (n : Node) (o : Option Ballot) → n.votes.ballot ≡ o → is_some o ≡ true → IsLawful n → IsSendable (n.given.fired + 1) (bumped n.votes o)

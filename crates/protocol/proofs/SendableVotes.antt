@@ -8,6 +8,7 @@ use Rattle.types.specs.declared.state.Phase.{Phase}
 use Rattle.types.specs.declared.state.Phase.TheVariants.{Preparing, Committing, Externalized}
 use Rattle.types.specs.declared.state.Given.{Given}
 use Rattle.types.specs.declared.state.Votes.{Votes}
+use Rattle.types.specs.Nominations.{IsNominationSet}
 use Rattle.types.specs.Votes.{has_value, same_value}
 use Rattle.protocol.specs.Views.{Seen, passes}
 use Rattle.protocol.specs.States.{below, ballot_at, counter_of, position}
@@ -20,15 +21,10 @@ use Rattle.protocol.specs.Extremes.{IsIn}
 use Rattle.protocol.proofs.Above.{Under, greatest-from, from-filter, least_from-low, lowest-low}
 use Rattle.protocol.proofs.BallotOrder.{below-self, below-parts, below-counter, not_below-counter, less}
 use Rattle.protocol.proofs.LeastLaws.{lowest_is_exact}
-use Rattle.protocol.proofs.NominationSets.{Ascending, all-ascending, all-longer, new_voted, nominate-is, nominate-not, echoes, sources}
+use Rattle.protocol.proofs.NominationSets.{all-ascending, all-longer, new_voted, nominate-is, nominate-not, echoes, sources}
 use Rattle.protocol.proofs.PassEnds.{start-some}
 use Rattle.protocol.proofs.PassLaws.{raised-counter}
 use Rattle.protocol.proofs.RuleMoves.{named-parts, commits-parts, arm-moves}
-
--- one set of a nomination
-pub record IsSet (xs : List (List ℕ)) : Type 0 where
-  pub few : length xs ≤ 16
-  pub ascending : Ascending xs
 
 -- in PREPARE the highest confirmed ballot is not above the ballot, and there is none without a ballot; later the interval is ordered, and in COMMIT it is up to the ballot
 abbrev pub IsPlaced : Phase → Option Ballot → Option Ballot → ℕ → ℕ → Type 0
@@ -38,8 +34,8 @@ IsPlaced Externalized ballot high lo hi = (1 ≤ lo) × (lo ≤ hi)
 
 -- what is kept, where so many ballot timers have fired
 pub record IsSendable (fired : ℕ) (w : Votes) : Type 0 where
-  pub voted : IsSet w.voted
-  pub accepts : IsSet w.accepts
+  pub voted : IsNominationSet w.voted
+  pub accepts : IsNominationSet w.accepts
   pub timers : fired ≤ counter_of w.ballot
   pub counted : IfSome w.ballot (λ b. 1 ≤ b.counter)
   pub placed : IsPlaced w.phase w.ballot w.high w.lo w.hi
@@ -63,7 +59,7 @@ take-few zero xs = omega arith
 take-few (suc n) [] = omega arith
 take-few (suc n) (x ∷ xs) = let k = take-few n xs in omega (arith, k)
 
-filled-set : (old new : List (List ℕ)) → IsSet old → IsSet (filled old new)
+filled-set : (old new : List (List ℕ)) → IsNominationSet old → IsNominationSet (filled old new)
 unfolding filled
 filled-set old new h =
     let more = take (16 - length old) (filter (λ x. not (has_value old x)) (as_set new)) in
@@ -75,10 +71,10 @@ filled-set old new h =
     upto : (n old more : ℕ) → n ≤ old + more → more ≤ 16 - old → old ≤ 16 → n ≤ 16
     upto n old more h k l = omega (arith, h, k, l)
 
-voted-set : (v : ℕ) (s : Seen) (g : Given) (vo co : List (List ℕ)) → IsSet vo → IsSet (new_voted v s g vo co)
+voted-set : (v : ℕ) (s : Seen) (g : Given) (vo co : List (List ℕ)) → IsNominationSet vo → IsNominationSet (new_voted v s g vo co)
 voted-set v s g vo co h = go (echoes g co)
   where
-    go : (b : Bool) → IsSet (if b then filled vo (sources v s g) else vo)
+    go : (b : Bool) → IsNominationSet (if b then filled vo (sources v s g) else vo)
     go true = filled-set vo (sources v s g) h
     go false = h
 

@@ -1,10 +1,10 @@
 -- What votes send is well formed.
-use Rattle.std.proofs.Common.{◌≡◌, ℕ, ◌+◌, ◌-◌, ◌≤◌, ◌<◌, min, Bool, true, false, not, ◌&&◌, ◌||◌, nat_lt, nat_le, length, List, [], ◌∷◌, Option, Some, None, option_map, if◌then◌else◌, refl, ◌∙◌, ap, arith}
+use Rattle.std.proofs.Common.{◌≡◌, ℕ, ◌+◌, ◌-◌, ◌≤◌, ◌<◌, min, Bool, true, false, not, ◌&&◌, ◌||◌, nat_lt, nat_le, length, Option, Some, None, option_map, if◌then◌else◌, refl, ◌∙◌, ap, arith}
 use Rattle.std.specs.Prelude.{IfSome}
 use Rattle.std.specs.Ordering.{is_lt, is_gt, nat_cmp, ordering_reverse, ordering_then}
 use Rattle.std.specs.declared.cmp.Ordering.{Ordering}
 use Rattle.std.specs.declared.cmp.Ordering.TheVariants.{Less, Equal, Greater}
-use Rattle.std.proofs.lemmas.Bool.{or_left, not-true, true≢false, false≢true}
+use Rattle.std.proofs.lemmas.Bool.{not-true, true≢false}
 use Rattle.std.proofs.lemmas.Bool.Decides.{nat_tests}
 use Rattle.types.specs.declared.ballot.Ballot.{Ballot}
 use Rattle.types.specs.declared.statement.Statement.TheVariants.{Nominate}
@@ -12,17 +12,15 @@ use Rattle.types.specs.declared.state.Phase.{Phase}
 use Rattle.types.specs.declared.state.Phase.TheVariants.{Preparing, Committing, Externalized}
 use Rattle.types.specs.declared.state.Votes.{Votes}
 use Rattle.types.specs.Orders.{bytes_cmp, ballot_cmp}
-use Rattle.types.specs.Nominations.{Ascending as InOrder, IsNominationSet}
 use Rattle.types.specs.Statements.{IsUpTo, IsWellFormed}
 use Rattle.types.specs.Votes.{same_value}
 use Rattle.protocol.specs.States.{below, ballot_at, counter_for, counter_up_to, high_counter, commit_counter, lowered, sent_in, sent_vote, sent_nomination}
 use Rattle.protocol.proofs.Above.{Under}
 use Rattle.protocol.proofs.BallotOrder.{ballots_ordered, not_below-counter}
-use Rattle.protocol.proofs.NominationSets.{Ascending}
-use Rattle.protocol.proofs.SamenessLaws.{same_value-refl}
-use Rattle.protocol.proofs.SendableVotes.{IsSet, IsPlaced, IsSendable}
+use Rattle.protocol.proofs.SendableVotes.{IsPlaced, IsSendable}
 
 -- ---- nominations
+<<<<<<< HEAD
 pub in-order : (xs : List (List ℕ)) → Ascending xs → InOrder xs
 in-order [] h = tt
 in-order (x ∷ []) h = tt
@@ -36,13 +34,15 @@ in-order (x ∷ y ∷ ys) h = (is_less (bytes_cmp x y) (h.0 y (or_left (same_val
 set-nominated : (xs : List (List ℕ)) → IsSet xs → IsNominationSet xs
 set-nominated xs h = record { few = h.few; ascending = in-order xs h.ascending }
 
+=======
+>>>>>>> cbc22a54ad3ca40127ca150db5900294f32ce444
 pub nomination-sends : (fired : ℕ) (w : Votes) → IsSendable fired w → IfSome (sent_nomination w) IsWellFormed
 unfolding sent_nomination
 nomination-sends fired w h = go (nat_lt 0 (length w.voted) || nat_lt 0 (length w.accepts)) refl
   where
     go : (b : Bool) → (nat_lt 0 (length w.voted) || nat_lt 0 (length w.accepts)) ≡ b → IfSome (if b then Some (Nominate w.voted w.accepts) else None) IsWellFormed
     go false e = tt
-    go true e = record { voted_set = set-nominated w.voted h.voted; accepted_set = set-nominated w.accepts h.accepts; some = some (length w.voted) (length w.accepts) e }
+    go true e = record { voted_set = h.voted; accepted_set = h.accepts; some = some (length w.voted) (length w.accepts) e }
       where
         some : (m n : ℕ) → (nat_lt 0 m || nat_lt 0 n) ≡ true → 0 < m + n
         some m n e = grind (arith, nat_tests)

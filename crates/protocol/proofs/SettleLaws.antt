@@ -26,7 +26,8 @@ use Rattle.protocol.proofs.RuleMoves.{Risen}
 use Rattle.protocol.proofs.PreparedStays.{Sound}
 use Rattle.protocol.proofs.PassLaws.{ruled, begun, finish, pass-preparing, pass-committing, pass-externalized, ruled-none, finish-none, raised-stays}
 use Rattle.protocol.proofs.PassEnds.{Ends, Went, start-some, begins, from-committing, from-preparing}
-use Rattle.protocol.proofs.NominationSets.{Ascending, nominate-is, nominate-not, QuietAt}
+use Rattle.types.specs.Nominations.{Ascending}
+use Rattle.protocol.proofs.NominationSets.{nominate-is, nominate-not, QuietAt}
 use Rattle.protocol.proofs.NominationRests.{sets-rest}
 
 abbrev pub IsSome : Option Votes → Type 0

@@ -2,12 +2,12 @@
 use Rattle.std.proofs.Common.{◌≡◌, ℕ, Bool, true, false, not, ◌&&◌, ◌||◌, List, [], ◌∷◌, ◌++◌, if◌then◌else◌, filter, refl, sym, ◌∙◌, ap, ap₂, inl, inr}
 use Rattle.std.proofs.lemmas.Bool.{cases_Bool, or_cases, or_left, and_parts, false≢true, true≢false}
 use Rattle.std.proofs.lemmas.List.Folds.{list_any-append}
-use Rattle.types.specs.Nominations.{same_value, with_value}
+use Rattle.types.specs.Nominations.{Ascending, same_value, with_value}
 use Rattle.types.specs.Votes.{has_value}
 use Rattle.protocol.specs.Candidates.{all_with, as_set}
 use Rattle.protocol.proofs.BallotOrder.{less, less-total, less-asym, less-self}
 use Rattle.protocol.proofs.SamenessLaws.{same_value-true, same_value-refl}
-use Rattle.protocol.proofs.NominationSets.{Ascending, all-ascending, with-ascending}
+use Rattle.protocol.proofs.NominationSets.{ascends_on, ascends_from, first_least, all-ascending, with-ascending}
 
 -- ---- which values a set has
 has_with : (x z : List ℕ) (ys : List (List ℕ)) → has_value (with_value x ys) z ≡ (same_value x z || has_value ys z)
@@ -65,17 +65,17 @@ has_filter p (x ∷ xs) z = go (p x) refl (has_filter p xs z)
 -- ---- sets with the same values are one
 pub filter_ascending : (p : List ℕ → Bool) (xs : List (List ℕ)) → Ascending xs → Ascending (filter p xs)
 filter_ascending p [] up = tt
-filter_ascending p (x ∷ xs) up = go (p x) (filter_ascending p xs up.1)
+filter_ascending p (x ∷ xs) up = go (p x) (filter_ascending p xs (ascends_on x xs up))
   where
     go : (a : Bool) → Ascending (filter p xs) → Ascending (if a then x ∷ filter p xs else filter p xs)
-    go true ih = (λ y h. up.0 y (and_parts (p y) (has_value xs y) (sym (has_filter p xs y) ∙ h)).1, ih)
+    go true ih = ascends_from x (filter p xs) (λ y h. first_least x xs up y (and_parts (p y) (has_value xs y) (sym (has_filter p xs y) ∙ h)).1) ih
     go false ih = ih
 
 -- the first value of one is not below that of the other
 not_below : (x y : List ℕ) (xs ys : List (List ℕ)) → Ascending (y ∷ ys) → has_value (y ∷ ys) x ≡ true → less x y ≡ false
 not_below x y xs ys up h = elim (or_cases (same_value y x) (has_value ys x) h) [
   | inl e ↦ ap (λ n. less x n) (same_value-true y x e) ∙ less-self x
-  | inr e ↦ less-asym y x (up.0 x e)
+  | inr e ↦ less-asym y x (first_least y ys up x e)
 ]
 
 has_first : (x : List ℕ) (xs : List (List ℕ)) → has_value (x ∷ xs) x ≡ true
@@ -90,7 +90,7 @@ first_is x y h k = elim (cases_Bool (same_value x y)) [
 -- nothing in the rest of a set is its first value
 not_again : (x z : List ℕ) (xs : List (List ℕ)) → Ascending (x ∷ xs) → same_value x z ≡ true → has_value xs z ≡ false
 not_again x z xs up h = elim (cases_Bool (has_value xs z)) [
-  | inl e ↦ absurd (true≢false (sym (up.0 z e) ∙ (ap (λ n. less x n) (sym (same_value-true x z h)) ∙ less-self x)))
+  | inl e ↦ absurd (true≢false (sym (first_least x xs up z e) ∙ (ap (λ n. less x n) (sym (same_value-true x z h)) ∙ less-self x)))
   | inr e ↦ e
 ]
 
@@ -100,7 +100,7 @@ one_set [] (y ∷ ys) up also same = absurd (false≢true (same y ∙ has_first 
 one_set (x ∷ xs) [] up also same = absurd (false≢true (sym (same x) ∙ has_first x xs))
 one_set (x ∷ xs) (y ∷ ys) up also same =
     let first : x ≡ y = first_is x y (not_below x y xs ys also (sym (same x) ∙ has_first x xs)) (not_below y x ys xs up (same y ∙ has_first y ys)) in
-    ap₂ (λ a bs. a ∷ bs) first (one_set xs ys up.1 also.1 (λ z. rest z first (same_value x z) refl))
+    ap₂ (λ a bs. a ∷ bs) first (one_set xs ys (ascends_on x xs up) (ascends_on y ys also) (λ z. rest z first (same_value x z) refl))
   where
     rest : (z : List ℕ) → x ≡ y → (b : Bool) → same_value x z ≡ b → has_value xs z ≡ has_value ys z
     rest z first true e = not_again x z xs up e ∙ sym (not_again y z ys also (ap (λ n. same_value n z) (sym first) ∙ e))

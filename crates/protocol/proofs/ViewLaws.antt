@@ -156,7 +156,7 @@ unfolding rows_seen
 rows_seen-cut R v q table c k =
     let now : Sent → Bool = λ e. is_kind k (kind_of e.body) && others_reached v q table e.sender in
     let within_R : (e : Sent) → now e ≡ true → R e.sender ≡ true = λ e h.
-        reached-in R v q table c e.sender (and_parts (not (v == e.sender)) (reached v q table e.sender) (and_parts (is_kind k (kind_of e.body)) (others_reached v q table e.sender) h).1).1 in
+    reached-in R v q table c e.sender (and_parts (not (v == e.sender)) (reached v q table e.sender) (and_parts (is_kind k (kind_of e.body)) (others_reached v q table e.sender) h).1).1 in
     ap (map (λ (e : Sent). e.body))
     (sym (filter_filter (λ (e : Sent). R e.sender) now within_R table)
     ∙ ap (λ (p : Sent → Bool). filter p (cut R table)) (fun_ext (λ (e : Sent). ap (λ b. is_kind k (kind_of e.body) && (not (v == e.sender) && b)) (reached-cut R v q table c e.sender))))

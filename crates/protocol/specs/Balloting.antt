@@ -3,6 +3,7 @@ use Rattle.std.specs.Prelude.{ℕ, ◌+◌, max, Bool, true, false, not, ◌&&�
 use Rattle.std.specs.Ordering.{is_lt}
 use Rattle.types.specs.declared.kind.Kind.{Kind}
 use Rattle.types.specs.declared.ballot.Ballot.{Ballot}
+use Rattle.types.specs.declared.statement.Statement.{Statement}
 use Rattle.types.specs.Orders.{bytes_cmp}
 use Rattle.types.specs.Votes.{same_value, accepts_prepare, votes_or_accepts_prepare, accepts_ends, votes_or_accepts_ends}
 use Rattle.protocol.specs.Views.{Seen, accepted, confirmed}
@@ -12,22 +13,39 @@ use Rattle.types.specs.declared.state.Votes.{Votes}
 use Rattle.protocol.specs.States.{below, ballot_at, high_counter, position}
 use Rattle.protocol.specs.Candidates.{named, commits, greatest, lowest, combine}
 
--- ---- the federated tests of ballots, at this moment
+-- ---- the federated tests of ballots, by a node in this position
+-- prepare of the ballot is accepted
+abbrev pub prepare_accepted : Seen → Option Statement → Ballot → Bool
+prepare_accepted seen own t = accepted seen Kind.Ballot own (λ s. votes_or_accepts_prepare s t) (λ s. accepts_prepare s t)
+
+-- prepare of the ballot is confirmed
+abbrev pub prepare_confirmed : Seen → Option Statement → Ballot → Bool
+prepare_confirmed seen own t = confirmed seen Kind.Ballot own (λ s. accepts_prepare s t)
+
+-- commit of the value on the whole interval is accepted
+abbrev pub interval_accepted : Seen → Option Statement → List ℕ → ℕ → ℕ → Bool
+interval_accepted seen own x lo hi = accepted seen Kind.Ballot own (λ s. votes_or_accepts_ends s x lo hi) (λ s. accepts_ends s x lo hi)
+
+-- commit of the value on the whole interval is confirmed
+abbrev pub interval_confirmed : Seen → Option Statement → List ℕ → ℕ → ℕ → Bool
+interval_confirmed seen own x lo hi = confirmed seen Kind.Ballot own (λ s. accepts_ends s x lo hi)
+
+-- ---- the same by a node with these votes, at this moment
 -- prepare of the ballot is accepted
 abbrev pub is_accepted : Seen → Votes → Ballot → Bool
-is_accepted seen w t = accepted seen Kind.Ballot (position w) (λ s. votes_or_accepts_prepare s t) (λ s. accepts_prepare s t)
+is_accepted seen w t = prepare_accepted seen (position w) t
 
 -- prepare of the ballot is confirmed
 abbrev pub is_confirmed : Seen → Votes → Ballot → Bool
-is_confirmed seen w t = confirmed seen Kind.Ballot (position w) (λ s. accepts_prepare s t)
+is_confirmed seen w t = prepare_confirmed seen (position w) t
 
 -- commit of the value on the whole interval is accepted
 abbrev pub commit_accepted : Seen → Votes → List ℕ → ℕ → ℕ → Bool
-commit_accepted seen w x lo hi = accepted seen Kind.Ballot (position w) (λ s. votes_or_accepts_ends s x lo hi) (λ s. accepts_ends s x lo hi)
+commit_accepted seen w x lo hi = interval_accepted seen (position w) x lo hi
 
 -- commit of the value on the whole interval is confirmed
 abbrev pub commit_confirmed : Seen → Votes → List ℕ → ℕ → ℕ → Bool
-commit_confirmed seen w x lo hi = confirmed seen Kind.Ballot (position w) (λ s. accepts_ends s x lo hi)
+commit_confirmed seen w x lo hi = interval_confirmed seen (position w) x lo hi
 
 -- ---- the first ballot
 -- Start, without a ballot: counter 1 with the combined confirmed value; where nothing is confirmed, the greatest named ballot whose prepare is accepted.

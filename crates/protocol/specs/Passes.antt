@@ -33,7 +33,7 @@ abbrev pub known_or : Option (List ℕ) → List ℕ → List ℕ
 known_or None x = x
 known_or (Some y) x = y
 
--- the value of a raised ballot in PREPARE: that of the highest confirmed ballot, else the combined confirmed value, else that of the highest accepted ballot; in COMMIT it stays
+-- the value of a raised ballot in PREPARE: that of the highest confirmed ballot, else the combined confirmed value, else that of the highest accepted ballot, else its own; in the other phases it stays
 abbrev pub raised_value : Phase → Votes → List ℕ → List ℕ
 raised_value Preparing w x = value_or w.high (known_or (combine w.confirms) (value_or w.prepared x))
 raised_value Committing w x = x
@@ -43,7 +43,7 @@ raised_value Externalized w x = x
 abbrev pub raised : Votes → Ballot → ℕ → Ballot
 raised w b n = if n == b.counter then b else ballot_at n (raised_value w.phase w b.value)
 
--- the lowest counter, from the ballot's on, at which those with greater counters do not block, but not above the cap
+-- the lowest counter, from the ballot's on, at which those with greater counters do not block, at most the cap, or the ballot's own where that is above the cap
 unfoldable pub raised_counter : Seen → Given → Ballot → Votes → ℕ
 raised_counter seen g b w = least_from (cap g.fired - b.counter) b.counter (λ n. not (seen.blocking Kind.Ballot (passes (counts (n + 1)) (position w)) (counts (n + 1))))
 

@@ -1,5 +1,5 @@
 -- The state of a node at a slot, its own position, and what it sends.
-use Rattle.std.specs.Prelude.{ℕ, ◌-◌, min, Bool, ◌&&◌, ◌||◌, not, nat_le, nat_lt, length, List, [], Option, Some, None, option_map, if◌then◌else◌}
+use Rattle.std.specs.Prelude.{◌≡◌, ℕ, ◌-◌, min, Bool, true, false, ◌&&◌, ◌||◌, not, nat_le, nat_lt, length, List, [], Option, Some, None, option_map, if◌then◌else◌}
 use Rattle.std.specs.Ordering.{is_lt, is_gt}
 use Rattle.types.specs.declared.ballot.Ballot.{Ballot}
 use Rattle.types.specs.declared.statement.Statement.{Statement}
@@ -30,6 +30,16 @@ no_votes = record {
 -- ---- ballots
 abbrev pub below : Ballot → Ballot → Bool
 below a b = is_lt (ballot_cmp a b)
+
+-- the ballot is above the one that is there, if one is
+abbrev pub above : Option Ballot → Ballot → Bool
+above None b = true
+above (Some there) b = below there b
+
+-- the ballot that was there, if one was, is not above the one that is there now
+abbrev pub Under : Option Ballot → Option Ballot → Type 0
+Under None now = Unit {0}
+Under (Some old) now = above now old ≡ false
 
 -- the ballot of a counter and a value
 abbrev pub ballot_at : ℕ → List ℕ → Ballot

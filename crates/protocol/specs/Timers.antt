@@ -18,6 +18,6 @@ is_counter (Some counter) n = counter == n
 abbrev pub is_ballot_timer_live : (timer armed : ℕ) (counter : Option ℕ) (externalized : Bool) → Bool
 is_ballot_timer_live timer armed counter externalized = not externalized && (timer == armed) && is_counter counter timer && nat_lt timer most_counter
 
--- no counter is raised above a thousand and the timers that have fired
+-- the counters of others raise a ballot's to at most a thousand more than the ballot timers that have fired, and at most 4,294,967,295; a ballot timer's own step and the other rules may pass that
 abbrev pub cap : (fired : ℕ) → ℕ
 cap fired = min (1000 + fired) most_counter

@@ -2,8 +2,8 @@ use Rattle.std.proofs.Common.{◌∙◌, ap, sym, subst, Option}
 use Rattle.types.specs.declared.ballot.Ballot.{Ballot}
 use Rattle.protocol.specs.Candidates.{named}
 use Rattle.protocol.specs.Balloting.{accept_prepared, aborted_by}
-use Rattle.ballot.specs.Choosing.{StaysUnder}
-use Rattle.ballot.proofs.PreparedLaws.{never_falls}
+use Rattle.protocol.specs.States.{Under}
+use Rattle.protocol.proofs.Above.{greatest-keeps}
 use Rattle.ballot.proofs.prepared.accept_prepared.Goals as goal
 
 pub returns : goal.returns
@@ -14,4 +14,4 @@ returns g c =
     ∙ ap (λ (p : Option Ballot). record w { prepared = p; aborted = aborted_by w.prepared p w.aborted }) (simp c.position-own.ensures at c.in_ok-prepared.ensures)
 
 pub aborted_by-aborted-requires : goal.aborted_by-aborted-requires
-aborted_by-aborted-requires g c = subst (λ (o : Option Ballot). StaysUnder c.args.votes.prepared o) (sym c.in_ok-prepared.ensures) (never_falls c.args.votes.prepared _)
+aborted_by-aborted-requires g c = subst (λ (o : Option Ballot). Under c.args.votes.prepared o) (sym c.in_ok-prepared.ensures) (greatest-keeps c.args.votes.prepared _)
