@@ -3,37 +3,22 @@ use Rattle.std.proofs.Common.{◌≡◌, ℕ, Bool, true, false, ◌||◌, List,
 use Rattle.std.proofs.lemmas.Bool.{or_cases, or_left, or_right, false≢true}
 use Rattle.std.proofs.lemmas.Cmp.{nat_list_cmp_total}
 use Rattle.std.specs.Ordering.{is_lt}
-use Rattle.types.specs.Nominations.{Ascending as InOrder}
 use Rattle.types.specs.Votes.{same_value, has_value}
 use Rattle.protocol.specs.Candidates.{greatest_value, combine}
 use Rattle.protocol.specs.ValueSets.{SetsAreAlone, SetsAreExact, MoreAreAdded, IsGreatestValue, CombinedToGreatest}
 use Rattle.protocol.proofs.BallotOrder.{less, less-self, less-asym, less-trans, lt-up}
-use Rattle.protocol.proofs.NominationSets.{Ascending, all-ascending}
+use Rattle.protocol.proofs.NominationSets.{all-ascending}
 use Rattle.protocol.proofs.SamenessLaws.{same_value-true, same_value-refl}
-use Rattle.protocol.proofs.SentLaws.{in-order}
 use Rattle.protocol.proofs.ValueSets.{set_ascending, has_all, one_set}
 
--- each value of an ascending list is below all that come after it
-all_above : (x : List ℕ) (xs : List (List ℕ)) → InOrder (x ∷ xs) → (y : List ℕ) → has_value xs y ≡ true → less x y ≡ true
-all_above x [] up y h = absurd (false≢true h)
-all_above x (z ∷ zs) up y h = elim (or_cases (same_value z y) (has_value zs y) h) [
-  | inl e ↦ ap (λ n. less x n) (sym (same_value-true z y e)) ∙ ap is_lt up.0
-  | inr e ↦ less-trans x z y (ap is_lt up.0) (all_above z zs up.1 y e)
-]
-
-from-order : (xs : List (List ℕ)) → InOrder xs → Ascending xs
-from-order [] up = tt
-from-order (x ∷ []) up = (all_above x [] up, tt)
-from-order (x ∷ y ∷ ys) up = (all_above x (y ∷ ys) up, from-order (y ∷ ys) up.1)
-
 pub sets_are_alone : SetsAreAlone
-sets_are_alone xs ys up also same = one_set xs ys (from-order xs up) (from-order ys also) same
+sets_are_alone = one_set
 
 pub more_are_added : MoreAreAdded
-more_are_added ys xs up = (in-order _ (all-ascending ys xs (from-order xs up)), has_all ys xs)
+more_are_added ys xs up = (all-ascending ys xs up, has_all ys xs)
 
 pub sets_are_exact : SetsAreExact
-sets_are_exact xs = (in-order _ (set_ascending xs), λ z. has_all xs [] z ∙ alone (has_value xs z))
+sets_are_exact xs = (set_ascending xs, λ z. has_all xs [] z ∙ alone (has_value xs z))
   where
     alone : (a : Bool) → (a || false) ≡ a
     alone true = refl

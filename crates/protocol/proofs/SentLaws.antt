@@ -20,22 +20,6 @@ use Rattle.protocol.proofs.BallotOrder.{ballots_ordered, not_below-counter}
 use Rattle.protocol.proofs.SendableVotes.{IsPlaced, IsSendable}
 
 -- ---- nominations
-<<<<<<< HEAD
-pub in-order : (xs : List (List ℕ)) → Ascending xs → InOrder xs
-in-order [] h = tt
-in-order (x ∷ []) h = tt
-in-order (x ∷ y ∷ ys) h = (is_less (bytes_cmp x y) (h.0 y (or_left (same_value y y) _ (same_value-refl y))), in-order (y ∷ ys) h.1)
-  where
-    is_less : (o : Ordering) → is_lt o ≡ true → o ≡ Less
-    is_less Less h = refl
-    is_less Equal h = absurd (false≢true h)
-    is_less Greater h = absurd (false≢true h)
-
-set-nominated : (xs : List (List ℕ)) → IsSet xs → IsNominationSet xs
-set-nominated xs h = record { few = h.few; ascending = in-order xs h.ascending }
-
-=======
->>>>>>> cbc22a54ad3ca40127ca150db5900294f32ce444
 pub nomination-sends : (fired : ℕ) (w : Votes) → IsSendable fired w → IfSome (sent_nomination w) IsWellFormed
 unfolding sent_nomination
 nomination-sends fired w h = go (nat_lt 0 (length w.voted) || nat_lt 0 (length w.accepts)) refl

@@ -5,13 +5,8 @@ ghost use Rattle.protocol.specs.Backing.{passing, slices_by};
 ghost use Rattle.protocol.specs.Views.{passing_with};
 ghost use Rattle.fedvote.specs.Questions.{asks};
 
-<<<<<<< HEAD
 use crate::reached::ReachedRows;
-use fedvote::{Question, Votes};
-=======
 use fedvote::{Question, Voters};
-use latest::Table;
->>>>>>> 8f8130c4d99122bf2826258825f278575ae68c39
 use quorum::SlicesOf;
 use types::{Nested, NodeId};
 
@@ -48,13 +43,8 @@ pub(crate) struct Passing<'a> {
     pub(crate) question: &'a Question,
 }
 
-<<<<<<< HEAD
-impl<'a> Votes for Passing<'a> {
-    ghost backing = { λ s. passing_with s.own.now s.rows.now.table s.rows.now.kind s.own_passes (asks s.question.now) };
-=======
 impl<'a> Voters for Passing<'a> {
-    ghost backing = { λ s. passing_with s.own.now s.table.now s.kind s.own_passes (asks s.question.now) };
->>>>>>> 8f8130c4d99122bf2826258825f278575ae68c39
+    ghost backing = { λ s. passing_with s.own.now s.rows.now.table s.rows.now.kind s.own_passes (asks s.question.now) };
 
     ghost accepting = { λ s. passing_with s.own.now s.rows.now.table s.rows.now.kind s.own_passes (asks s.question.now) };
 
