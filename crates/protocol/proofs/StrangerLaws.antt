@@ -14,7 +14,7 @@ use Rattle.protocol.specs.Leaders.{leader}
 use Rattle.protocol.specs.Nodes.{Node, fresh, passed, settle, change, settled, after_change, step, in_round, timed_out}
 use Rattle.protocol.specs.Limits.{Reached}
 use Rattle.protocol.specs.Limits.Reached.{begin, next}
-use Rattle.protocol.specs.Strangers.{LeadersAreNear, ReachIsClosed, OutsidersAddRows, StrangersAddRows}
+use Rattle.protocol.specs.Strangers.{LeadersAreNear, HeldIsClosed, ReachIsClosed, OutsidersAddRows, StrangersAddRows}
 use Rattle.protocol.proofs.SetLaws.{all_from}
 use Rattle.protocol.proofs.ClosureLaws.{all_from_contained}
 use Rattle.protocol.proofs.ReachLaws.{reached-holds}
@@ -69,19 +69,21 @@ leaders_are_near R n r i w = led-reached R r i w
 pub reach_held : (n : Node) (us : List ℕ) → IsReach n.name n.slices n.table us → HoldsReach n.name n.slices n.table (among us)
 reach_held n us r = subst (λ (set : Names). HoldsReach n.name n.slices n.table set) (sym (fun_ext r.exactly)) (reached-holds n.name n.slices n.table)
 
-pub reach_is_closed : ReachIsClosed
-reach_is_closed n us r is =
-    let held = reach_held n us is in
-    let own = all_from (among us) (names n.slices) held.configuration in
+pub held_is_closed : HeldIsClosed
+held_is_closed R n r held =
+    let own = all_from R (names n.slices) held.configuration in
     record {
       has = held.itself;
       own = own;
-      leaders = led-reached (among us) r held.itself own;
-      rows = all_from_contained (λ e. not (among us e.sender) || within (names e.slices) (among us)) n.table (λ e c. elim (cases_Bool (among us e.sender)) [
-        | inl i ↦ or_right (not (among us e.sender)) (within (names e.slices) (among us)) (all_from (among us) (names e.slices) (held.rows e c i))
-        | inr o ↦ or_left (not (among us e.sender)) (within (names e.slices) (among us)) (not_from_false (among us e.sender) o)
+      leaders = led-reached R r held.itself own;
+      rows = all_from_contained (λ e. not (R e.sender) || within (names e.slices) R) n.table (λ e c. elim (cases_Bool (R e.sender)) [
+        | inl i ↦ or_right (not (R e.sender)) (within (names e.slices) R) (all_from R (names e.slices) (held.rows e c i))
+        | inr o ↦ or_left (not (R e.sender)) (within (names e.slices) R) (not_from_false (R e.sender) o)
       ]);
     }
+
+pub reach_is_closed : ReachIsClosed
+reach_is_closed n us r is = held_is_closed (among us) n r (reach_held n us is)
 
 -- ---- envelopes from outside
 pub outsiders_add_rows : OutsidersAddRows

@@ -5,7 +5,7 @@ use Rattle.types.specs.declared.event.NodeEvent.TheVariants.{Take}
 use Rattle.protocol.specs.Sets.{Names, among, within}
 use Rattle.protocol.specs.Satisfaction.{names}
 use Rattle.protocol.specs.Rows.{is_taken, with_row}
-use Rattle.protocol.specs.Reach.{IsReach}
+use Rattle.protocol.specs.Reach.{HoldsReach, IsReach}
 use Rattle.protocol.specs.Nodes.{Node, step}
 use Rattle.protocol.specs.Claims.{IsClosedFor}
 use Rattle.protocol.specs.Limits.{Reached}
@@ -14,7 +14,11 @@ use Rattle.protocol.specs.Limits.{Reached}
 abbrev pub LeadersAreNear : Type 0
 LeadersAreNear = (R : Names) (n : Node) → Reached n → IsTrue (R n.name) → IsTrue (within (names n.slices) R) → IsTrue (within n.given.leaders R)
 
--- the reach of a node that events lead to is closed for it
+-- a set that has a node that events lead to, and the names that its slices and the rows of senders in the set give, has its leaders too
+abbrev pub HeldIsClosed : Type 0
+HeldIsClosed = (R : Names) (n : Node) → Reached n → HoldsReach n.name n.slices n.table R → IsClosedFor R n
+
+-- so the reach of such a node is closed for it
 abbrev pub ReachIsClosed : Type 0
 ReachIsClosed = (n : Node) (reach : List ℕ) → Reached n → IsReach n.name n.slices n.table reach → IsClosedFor (among reach) n
 

@@ -1,7 +1,7 @@
 //! Nodes that events lead to, and what they send.
 
 ghost use Rattle.protocol.specs.Limits.{ReachedAreCalm, SendsWellFormed, TimersAreCounted};
-ghost use Rattle.protocol.specs.Strangers.{LeadersAreNear, OutsidersAddRows, ReachIsClosed, StrangersAddRows};
+ghost use Rattle.protocol.specs.Strangers.{HeldIsClosed, LeadersAreNear, OutsidersAddRows, ReachIsClosed, StrangersAddRows};
 
 /// Each nomination and each ballot statement that a node sends is well formed, whatever events led to
 /// it and whatever rows it has. Nor have more of its ballot timers fired than the counter of its
@@ -19,6 +19,7 @@ pub fn reached_nodes_send_well_formed()
 /// and nodes that its slices name; so an envelope of a stranger adds its row alone.
 pub fn strangers_add_rows()
     ensures leaders { LeadersAreNear }
+    ensures held { HeldIsClosed }
     ensures closed { ReachIsClosed }
     ensures outsiders { OutsidersAddRows }
     ensures strangers { StrangersAddRows }

@@ -19,7 +19,9 @@ use Rattle.protocol.specs.Limits.Reached.{next}
 use Rattle.protocol.proofs.ReachedLaws.{reached-calm, reached-sends}
 use Rattle.protocol.proofs.SettleLaws.{never_limited}
 use Rattle.protocol.proofs.ClaimLaws.{quiet_claim}
-use Rattle.protocol.specs.Claims.{IsClosedFor, IsQuiet}
+use Rattle.protocol.specs.Claims.{IsQuiet}
+use Rattle.protocol.specs.Reach.{HoldsReach}
+use Rattle.protocol.proofs.StrangerLaws.{held_is_closed}
 use Rattle.protocol.specs.Sets.{Names}
 use Rattle.latest.specs.declared.table.Put.{Put}
 use Rattle.latest.specs.declared.table.Put.TheVariants.{Stale, NoMemory, Added, Replaced}
@@ -150,9 +152,9 @@ reached-some n m e w r h s = subst (λ (p : Node × List Out). Reached p.0) (ste
 -- ---- quiet
 -- an envelope from outside of a set that is closed for the node
 pub quiet-after : {E : Type 0} (n new : Node) (event : NodeEvent) (r : Result (Vec Out Global) E) → Reached n → OnOk r (new ≡ (step n event).0) → IfOk r (λ v. v.items ≡ (step n event).1)
-    → (R : Names) (x : Sent) → event ≡ Take x → IsClosedFor R n → IsFalse (R x.sender) → IfOk r (λ v. IsQuiet R n new v.items)
-quiet-after n new event (Ok v) h node outs R x is closed out =
-    let q = quiet_claim R n x closed (reached-calm h) out in
+    → (R : Names) (x : Sent) → event ≡ Take x → HoldsReach n.name n.slices n.table R → IsFalse (R x.sender) → IfOk r (λ v. IsQuiet R n new v.items)
+quiet-after n new event (Ok v) h node outs R x is held out =
+    let q = quiet_claim R n x (held_is_closed R n h held) (reached-calm h) out in
     let same : new ≡ (step n (Take x)).0 = node ∙ ap (λ (e : NodeEvent). (step n e).0) is in
     let items : v.items ≡ (step n (Take x)).1 = outs ∙ ap (λ (e : NodeEvent). (step n e).1) is in
     record {
@@ -161,4 +163,4 @@ quiet-after n new event (Ok v) h node outs R x is closed out =
       votes = ap (λ (m : Node). m.votes) same ∙ q.votes;
       rows = λ u k i. ap (λ (m : Node). row m.table u k) same ∙ q.rows u k i;
     }
-quiet-after n new event (Err e) h node outs R x is closed out = tt
+quiet-after n new event (Err e) h node outs R x is held out = tt

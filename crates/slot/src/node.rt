@@ -3,7 +3,8 @@
 ghost use Rattle.std.specs.Prelude.{◌≡◌, IfOk, IfSome, IsFalse, IsTrue, List, OnErr, OnOk, Some, is_some};
 ghost use Rattle.std.specs.List.{Contains};
 ghost use Rattle.protocol.specs.Nodes.{Calm, after_change, answered, fresh, outs, passed, settle, step};
-ghost use Rattle.protocol.specs.Claims.{IsClosedFor, IsQuiet};
+ghost use Rattle.protocol.specs.Claims.{IsQuiet};
+ghost use Rattle.protocol.specs.Reach.{HoldsReach};
 ghost use Rattle.protocol.specs.Limits.{Reached};
 ghost use Rattle.protocol.specs.Sets.{Names};
 ghost use Rattle.slot.specs.Wholes.{IsChange, IsSentBy};
@@ -135,7 +136,7 @@ impl Node {
         ensures node { OnOk result (self.new ≡ (step self.old event).0) }
         ensures outs { IfOk result (λ v. v.items ≡ (step self.old event).1) }
         ensures err { OnErr result (self.new ≡ self.old) }
-        ensures quiet { (R : Names) (e : Sent) → event ≡ NodeEvent.Take e → IsClosedFor R self.old → IsFalse (R e.sender) → IfOk result (λ v. IsQuiet R self.old self.new v.items) }
+        ensures quiet { (R : Names) (e : Sent) → event ≡ NodeEvent.Take e → HoldsReach self.old.name self.old.slices self.old.table R → IsFalse (R e.sender) → IfOk result (λ v. IsQuiet R self.old self.new v.items) }
         ensures emitted { IfOk result (λ v. (e : Sent) → Contains v.items (Emit e) → IsSentBy self.old e) }
     {
         self.reached();

@@ -6,7 +6,7 @@ use Rattle.slot.proofs.node.Node.advance.Goals as goal
 
 pub returns-in-Take-clause-quiet : goal.returns-in-Take-clause-quiet
 returns-in-Take-clause-quiet c =
-    λ R x is closed out. quiet-after c.args.self.now c.take.new.self (Take c.in-Take.envelope) c.take.result c.reached.ensures c.take.ensures.node c.take.ensures.outs R x (sym c.in-Take.is ∙ is) closed out
+    λ R x is held out. quiet-after c.args.self.now c.take.new.self (Take c.in-Take.envelope) c.take.result c.reached.ensures c.take.ensures.node c.take.ensures.outs R x (sym c.in-Take.is ∙ is) held out
 
 pub returns-in-Propose-clause-emitted : goal.returns-in-Propose-clause-emitted
 returns-in-Propose-clause-emitted c = emitted-own c.args.self.now (Propose c.in-Propose.value) c.propose.result c.reached.ensures c.propose.ensures.outs
