@@ -1,4 +1,4 @@
-use Rattle.protocol.proofs.StrangerLaws.{leaders_are_near, reach_is_closed, outsiders_add_rows, strangers_add_rows}
+use Rattle.protocol.proofs.StrangerLaws.{held_is_closed, leaders_are_near, reach_is_closed, outsiders_add_rows, strangers_add_rows}
 use Rattle.protocol.proofs.reached.strangers_add_rows.Goals as goal
 
 pub returns-clause-leaders : goal.returns-clause-leaders
@@ -12,3 +12,6 @@ returns-clause-outsiders c = outsiders_add_rows
 
 pub returns-clause-strangers : goal.returns-clause-strangers
 returns-clause-strangers c = strangers_add_rows
+
+pub returns-clause-held : goal.returns-clause-held
+returns-clause-held c = held_is_closed
