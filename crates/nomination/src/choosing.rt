@@ -56,16 +56,14 @@ pub fn choose<T: ValueTest>(
 }
 
 /// A set with these values too. An error says that memory is short, and the set handed over is dropped.
-/// It recurses once for each of the values, and the rules give it at most sixteen.
 pub fn with_all(set: Values, values: &[Value]) -> Result<Values, AllocError>
     ensures { IfOk result (λ v. v ≡ all_with values.now set) }
 {
-    match values {
-        [] => Ok(set),
-        [first, rest @ ..] => {
-            let mut set = with_all(set, rest)?;
-            set.insert(*first)?;
-            Ok(set)
-        }
+    let mut set = set;
+    let mut left = values;
+    while let [rest @ .., value] = left {
+        set.insert(*value)?;
+        left = rest;
     }
+    Ok(set)
 }

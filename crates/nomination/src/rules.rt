@@ -15,8 +15,7 @@ use types::{Given, MAX_NOMINATED, NodeId, Value, Values, Votes};
 
 /// The rules of nomination, in order, each with what the one before it made; while no ballot is
 /// confirmed as prepared (after the Stellar Consensus Protocol draft). An error says that memory is
-/// short, and the votes handed over are dropped. The stack grows with the values that the votes have,
-/// of which a node has at most sixteen in a set.
+/// short, and the votes handed over are dropped.
 #[tactic(auto, unfolding(protocol::specs::Nominating::nominate))]
 pub fn nominate<S: Sight>(
     alloc: Global,

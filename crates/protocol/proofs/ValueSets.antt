@@ -1,5 +1,7 @@
 -- Sets of values, ascending: which values they have, and that two sets with the same values are one.
-use Rattle.std.proofs.Common.{◌≡◌, ℕ, Bool, true, false, not, ◌&&◌, ◌||◌, List, [], ◌∷◌, ◌++◌, if◌then◌else◌, filter, refl, sym, ◌∙◌, ap, ap₂, inl, inr}
+use Rattle.std.proofs.Common.{◌≡◌, ℕ, ◌+◌, ◌-◌, ◌≤◌, ◌<◌, Bool, true, false, not, ◌&&◌, ◌||◌, List, [], ◌∷◌, ◌++◌, length, length-take, take, get_or, if◌then◌else◌, filter, refl, sym, ◌∙◌, ap, ap₂, inl, inr, add-one, arith}
+use Rattle.std.proofs.Math.Seq.{take-suc}
+use Rattle.std.proofs.lemmas.List.{take_all}
 use Rattle.std.proofs.lemmas.Bool.{cases_Bool, or_cases, or_left, and_parts, false≢true, true≢false}
 use Rattle.std.proofs.lemmas.List.Folds.{list_any-append}
 use Rattle.types.specs.Nominations.{Ascending, same_value, with_value}
@@ -157,3 +159,30 @@ new_ones p rows voted old =
         ∙ ap (λ b. not (has_value old z) && b) (has_all (filter p (rows ++ voted ++ old)) [] z
         ∙ ap (λ b. b || false) (has_filter p (rows ++ voted ++ old) z
         ∙ ap (λ b. p z && b) (has_append (rows ++ voted) old z ∙ ap (λ b. b || has_value old z) (has_append rows voted z)))))
+
+-- ---- values added from the last back to the first
+-- the later values first
+pub all_with_append : (ys zs xs : List (List ℕ)) → all_with (ys ++ zs) xs ≡ all_with ys (all_with zs xs)
+all_with_append [] zs xs = refl
+all_with_append (y ∷ ys) zs xs = ap (with_value y) (all_with_append ys zs xs)
+
+-- a list by its last element
+pub split_last : {X : Type 0} (xs : List X) (x : X) → 0 < length xs → x ≡ get_or xs (length xs - 1) x → take (length xs - 1) xs ++ x ∷ [] ≡ xs
+split_last xs x some is =
+    let within : length xs - 1 < length xs = omega (arith, some) in
+    let one : (length xs - 1) + 1 ≡ length xs = omega (arith, some) in
+    ap (λ y. take (length xs - 1) xs ++ y ∷ []) is
+    ∙ sym (rw add-one (take-suc xs (length xs - 1) x within))
+    ∙ take_all (length xs - 1 + 1) xs (omega (arith, one))
+
+-- the last value, and then all before it
+pub value_before : (left more : List (List ℕ)) (x : List ℕ) (values after old : List (List ℕ)) → 0 < length left → x ≡ get_or left (length left - 1) x
+    → length left ≤ length more → all_with left values ≡ all_with more old → after ≡ with_value x values
+    → (length (take (length left - 1) left) ≤ length more) × (all_with (take (length left - 1) left) after ≡ all_with more old)
+value_before left more x values after old some is within so_far inserted = (
+  omega (arith, length-take (length left - 1) left, within),
+  ap (all_with (take (length left - 1) left)) inserted
+      ∙ sym (all_with_append (take (length left - 1) left) (x ∷ []) values)
+      ∙ ap (λ (ys : List (List ℕ)). all_with ys values) (split_last left x some is)
+      ∙ so_far,
+)
