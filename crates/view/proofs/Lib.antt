@@ -3,3 +3,4 @@ pub mod Searches
 pub mod Sightings
 pub mod SameRows
 pub mod FoundRows
+pub mod Keeping

@@ -1,11 +1,25 @@
 -- What a view keeps of a table, and when it is what the node sees.
-use Rattle.std.specs.Prelude.{ℕ, List, Option, Some, None, filter_map, flat_map, option_map}
+use Rattle.std.specs.Prelude.{ℕ, List, Option, Some, None, filter_map, flat_map, map, option_map}
 use Rattle.types.specs.declared.kind.Kind.{Kind}
 use Rattle.types.specs.declared.statement.Statement.{Statement}
 use Rattle.types.specs.Statements.{Sent}
 use Rattle.protocol.specs.Rows.{row}
 use Rattle.protocol.specs.Candidates.{as_set, values_by}
 use Rattle.fedvote.specs.Searching.{lesser}
+
+-- the rows of a kind that some nodes have in a table, kept for look-ups
+pub record Kept : Type 0 where
+  pub nodes : List ℕ
+  pub table : List Sent
+  pub kind : Kind
+
+-- the rows of a kind that these nodes have, in the order of the nodes: nothing for a node without one
+abbrev pub rows_at : Kind → List Sent → List ℕ → List (Option Sent)
+rows_at kind table nodes = map (λ u. row table u kind) nodes
+
+-- the statements in these rows
+abbrev pub statements_in : List (Option Sent) → List Statement
+statements_in rows = filter_map (λ o. option_map (λ e. e.body) o) rows
 
 -- the statements in the rows of a kind that these nodes have
 abbrev pub rows_by : Kind → List Sent → List ℕ → List Statement

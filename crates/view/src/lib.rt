@@ -1,11 +1,12 @@
-//! What a node sees of its table at one moment: whom it reaches, the statements in their rows, and the
-//! two tests of federated voting by them (the Stellar Consensus Protocol draft, of federated voting).
+//! What a node sees of its table at one moment: the rows of those whom it reaches, the statements in them,
+//! and the two tests of federated voting by them (the Stellar Consensus Protocol draft, of federated voting).
 //!
-//! A [`View`] borrows the table and is made once an event: the rules ask it often, and the table stays as
-//! it is meanwhile.
+//! A [`View`] borrows the table and the reach, and is made once an event: the rules ask it often, and both
+//! stay as they are meanwhile.
 #![tactic(auto)]
 
 mod passing;
+mod reached;
 mod rows;
 mod searching;
 mod seeing;

@@ -5,30 +5,29 @@ ghost use Rattle.protocol.specs.Backing.{passing, slices_by};
 ghost use Rattle.protocol.specs.Views.{passing_with};
 ghost use Rattle.fedvote.specs.Questions.{asks};
 
+use crate::reached::ReachedRows;
 use fedvote::{Question, Votes};
-use latest::Table;
 use quorum::SlicesOf;
-use types::{Kind, Nested, NodeId};
+use types::{Nested, NodeId};
 
 /// The slices that a node knows of: its own, which are configured, and those of the rows of one kind.
 #[derive(Drop)]
 pub(crate) struct KnownSlices<'a> {
     pub(crate) own: &'a NodeId,
     pub(crate) configured: &'a Nested,
-    pub(crate) table: &'a Table,
-    pub(crate) kind: Kind,
+    pub(crate) rows: &'a ReachedRows<'a>,
 }
 
 impl<'a> SlicesOf for KnownSlices<'a> {
     type Family = Nested;
 
-    ghost slices_at = { λ s. slices_by s.own.now s.configured.now s.table.now s.kind };
+    ghost slices_at = { λ s. slices_by s.own.now s.configured.now s.rows.now.table s.rows.now.kind };
 
     fn slices(&self, node: &NodeId) -> Option<&Nested> {
         if *self.own == *node {
             return Some(self.configured);
         }
-        match self.table.row(node, self.kind) {
+        match self.rows.row(node) {
             Some(row) => Some(row.slices()),
             None => None,
         }
@@ -40,15 +39,14 @@ impl<'a> SlicesOf for KnownSlices<'a> {
 pub(crate) struct Passing<'a> {
     pub(crate) own: &'a NodeId,
     pub(crate) own_passes: bool,
-    pub(crate) table: &'a Table,
-    pub(crate) kind: Kind,
+    pub(crate) rows: &'a ReachedRows<'a>,
     pub(crate) question: &'a Question,
 }
 
 impl<'a> Votes for Passing<'a> {
-    ghost backing = { λ s. passing_with s.own.now s.table.now s.kind s.own_passes (asks s.question.now) };
+    ghost backing = { λ s. passing_with s.own.now s.rows.now.table s.rows.now.kind s.own_passes (asks s.question.now) };
 
-    ghost accepting = { λ s. passing_with s.own.now s.table.now s.kind s.own_passes (asks s.question.now) };
+    ghost accepting = { λ s. passing_with s.own.now s.rows.now.table s.rows.now.kind s.own_passes (asks s.question.now) };
 
     fn votes_or_accepts(&self, node: &NodeId) -> bool {
         self.accepts(node)
@@ -58,15 +56,15 @@ impl<'a> Votes for Passing<'a> {
         if *self.own == *node {
             return self.own_passes;
         }
-        row_passes(self.table, node, self.kind, self.question)
+        row_passes(self.rows, node, self.question)
     }
 }
 
 /// Whether the node's row passes; a node without one supports nothing.
-fn row_passes(table: &Table, node: &NodeId, kind: Kind, question: &Question) -> bool
-    ensures { result ≡ passing table.now kind (asks question.now) node.now }
+fn row_passes(rows: &ReachedRows<'_>, node: &NodeId, question: &Question) -> bool
+    ensures { result ≡ passing rows.now.table rows.now.kind (asks question.now) node.now }
 {
-    match table.row(node, kind) {
+    match rows.row(node) {
         Some(row) => question.asks(row.body()),
         None => false,
     }

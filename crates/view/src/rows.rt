@@ -1,13 +1,45 @@
 //! What the rows of a table say: their statements, and the values in their nominations.
 
-ghost use Rattle.std.specs.Prelude.{◌≡◌, IfOk, OnOk, map, true};
+ghost use Rattle.std.specs.Prelude.{◌≡◌, IfOk, OnOk, map, option_map, true};
 ghost use Rattle.protocol.specs.Candidates.{all_with, values_by};
 ghost use Rattle.protocol.specs.Rows.{has_single_rows};
-ghost use Rattle.view.specs.Watching.{rows_by, values_in};
+ghost use Rattle.view.specs.Watching.{rows_at, rows_by, statements_in, values_in};
 
 use latest::Table;
 use std::alloc::{AllocError, Global};
-use types::{Kind, NodeId, Statement, Value, Values};
+use types::{Envelope, Kind, NodeId, Statement, Value, Values};
+
+/// The rows of a kind that the nodes have, in the order of the nodes: nothing for a node without one.
+pub(crate) fn rows_of<'a>(
+    alloc: Global,
+    nodes: &[NodeId],
+    table: &'a Table,
+    kind: Kind,
+) -> Result<Vec<Option<&'a Envelope>>, AllocError>
+    ensures { IfOk result (λ v. map (λ o. option_map (λ r. r.now) o) v.items ≡ rows_at kind table.now nodes.now) }
+{
+    let mut rows = Vec::new(alloc);
+    for node in nodes {
+        rows.push(table.row(node, kind))?;
+    }
+    Ok(rows)
+}
+
+/// The statements in these rows, in their order.
+pub(crate) fn statements_in<'a>(
+    alloc: Global,
+    rows: &[Option<&'a Envelope>],
+) -> Result<Vec<&'a Statement>, AllocError>
+    ensures { IfOk result (λ v. map (λ s. s.now) v.items ≡ statements_in (map (λ o. option_map (λ r. r.now) o) rows.now)) }
+{
+    let mut statements = Vec::new(alloc);
+    for row in rows {
+        if let Some(row) = *row {
+            statements.push(row.body())?;
+        }
+    }
+    Ok(statements)
+}
 
 /// The statements in the rows of a kind that the nodes have, in the order of the nodes.
 pub(crate) fn statements_of<'a>(
@@ -18,13 +50,8 @@ pub(crate) fn statements_of<'a>(
 ) -> Result<Vec<&'a Statement>, AllocError>
     ensures { IfOk result (λ v. map (λ s. s.now) v.items ≡ rows_by kind table.now nodes.now) }
 {
-    let mut statements = Vec::new(alloc);
-    for node in nodes {
-        if let Some(row) = table.row(node, kind) {
-            statements.push(row.body())?;
-        }
-    }
-    Ok(statements)
+    let rows = rows_of(alloc, nodes, table, kind)?;
+    statements_in(alloc, &rows)
 }
 
 /// A table has at most one row of each sender and kind: whoever looks up a sender's row has seen all its

@@ -9,6 +9,7 @@ ghost use Rattle.view.specs.Watching.{rows_by, values_in};
 ghost use Rattle.fedvote.proofs.Honesty.{seen_honest};
 
 use crate::passing::{KnownSlices, Passing};
+use crate::reached::ReachedRows;
 use crate::rows::{has_one_row_of_each_kind, statements_of, values_in};
 use crate::searching::{next_committed, next_counter, next_named};
 use fedvote::{Question, Sight, confirms, is_blocked};
@@ -20,8 +21,9 @@ use types::{Ballot, Kind, Leaders, Nested, NodeId, Statement, Values};
 /// the nomination rows of its leaders, reached or not (the Stellar Consensus Protocol draft, of federated
 /// voting; that strangers' rows are left out is this host's profile).
 ///
-/// Rows of strangers are not looked at: each reached node's rows are looked up when the view is made. The
-/// reach is its owner's, who keeps it from event to event: to make a view costs no search for it.
+/// Rows of strangers are not looked at: each reached node's rows are looked up once, when the view is made,
+/// and both tests find them by the node's place in the reach. The reach is its owner's, who keeps it from
+/// event to event.
 #[derive(Drop)]
 pub struct View<'a> {
     own: &'a NodeId,
@@ -29,11 +31,15 @@ pub struct View<'a> {
     leaders: &'a Leaders,
     table: &'a Table,
     reach: &'a [NodeId],
+    ballot_rows: ReachedRows<'a>,
+    nomination_rows: ReachedRows<'a>,
     ballots: Vec<&'a Statement>,
     nominated: Values,
     led: Values,
     ghost reached: { IsReach own.now slices.now table.now reach.now },
     ghost single: { has_single_rows table.now ≡ true },
+    ghost ballots_kept: { ballot_rows ≡ record { nodes = reach.now; table = table.now; kind = Kind.Ballot } },
+    ghost nominations_kept: { nomination_rows ≡ record { nodes = reach.now; table = table.now; kind = Kind.Nomination } },
     ghost ballots_found: { map (λ s. s.now) ballots.items ≡ rows_by Kind.Ballot table.now reach.now },
     ghost nominated_seen: { nominated ≡ values_in (rows_seen own.now slices.now table.now Kind.Nomination) },
     ghost led_seen: { led ≡ values_in (led_by leaders.now table.now) },
@@ -54,8 +60,10 @@ impl<'a> View<'a> {
         ensures { IfOk result (λ v. ⟦<View<'a> as Sight>⟧.seen v ≡ seen own.now slices.now leaders.now table.now) }
     {
         has_one_row_of_each_kind(table);
-        let ballots = statements_of(alloc, reach, table, Kind::Ballot)?;
-        let nominations = statements_of(alloc, reach, table, Kind::Nomination)?;
+        let ballot_rows = ReachedRows::of(alloc, reach, table, Kind::Ballot)?;
+        let nomination_rows = ReachedRows::of(alloc, reach, table, Kind::Nomination)?;
+        let ballots = ballot_rows.statements(alloc)?;
+        let nominations = nomination_rows.statements(alloc)?;
         let nominated = values_in(alloc, &nominations)?;
         let leading = statements_of(alloc, leaders.as_slice(), table, Kind::Nomination)?;
         let led = values_in(alloc, &leading)?;
@@ -65,10 +73,22 @@ impl<'a> View<'a> {
             leaders,
             table,
             reach,
+            ballot_rows,
+            nomination_rows,
             ballots,
             nominated,
             led,
         })
+    }
+
+    /// The rows of a kind.
+    fn rows(&self, kind: Kind) -> &ReachedRows<'a>
+        ensures { result.now ≡ record { nodes = self.now.reach.now; table = self.now.table.now; kind = kind } }
+    {
+        match kind {
+            Kind::Nomination => &self.nomination_rows,
+            Kind::Ballot => &self.ballot_rows,
+        }
     }
 }
 
@@ -85,17 +105,16 @@ impl<'a> Sight for View<'a> {
         if !own_passes {
             return Ok(false);
         }
+        let rows = self.rows(kind);
         let known = KnownSlices {
             own: self.own,
             configured: self.slices,
-            table: self.table,
-            kind,
+            rows,
         };
         let passing = Passing {
             own: self.own,
             own_passes,
-            table: self.table,
-            kind,
+            rows,
             question,
         };
         confirms(alloc, self.own, &known, &passing, self.reach)
@@ -108,11 +127,11 @@ impl<'a> Sight for View<'a> {
         own_passes: bool,
         question: &Question,
     ) -> Result<bool, AllocError> {
+        let rows = self.rows(kind);
         let passing = Passing {
             own: self.own,
             own_passes,
-            table: self.table,
-            kind,
+            rows,
             question,
         };
         is_blocked(alloc, self.slices, &passing)

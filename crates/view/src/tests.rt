@@ -1,6 +1,7 @@
 //! A node's view of a small table with a stranger in it.
 
 use crate::View;
+use crate::reached::ReachedRows;
 use closure::reach;
 use fedvote::{Question, Sight};
 use latest::{Offer, Table};
@@ -127,6 +128,33 @@ fn values_of_leaders_count_where_they_are_strangers(rt: HostRuntime) -> Result<(
             .is_same(&values(alloc, &[b'a', b'b'])?)
     );
     assert!(rt; view.led_values().is_same(&values(alloc, &[b'a', b'z'])?));
+    Ok(())
+}
+
+#[test]
+fn each_node_has_its_own_row(rt: HostRuntime) -> Result<(), Fail> {
+    let alloc = rt.alloc();
+    let table = table_with_a_stranger(&rt, alloc)?;
+    let (own, slices) = (name(OWN), announced(alloc, OWN)?);
+    let reached = reach(alloc, &table, &own, &slices)?;
+    let rows = ReachedRows::of(alloc, &reached, &table, Kind::Ballot)?;
+    let cases = [
+        (OWN, None),
+        (2, Some(3)),
+        (3, Some(5)),
+        (4, None),
+        (STRANGER, Some(8)),
+    ];
+    for (number, counter) in cases {
+        let found = match rows.row(&name(number)) {
+            Some(row) => match row.body() {
+                Statement::Prepare { ballot, .. } => Some(ballot.counter),
+                _ => return Err("kind".into()),
+            },
+            None => None,
+        };
+        assert_eq!(rt; found, counter);
+    }
     Ok(())
 }
 
