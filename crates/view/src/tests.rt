@@ -131,30 +131,27 @@ fn values_of_leaders_count_where_they_are_strangers(rt: HostRuntime) -> Result<(
     Ok(())
 }
 
+/// The counter of the node's PREPARE, if it has one.
+fn counter_at(rows: &ReachedRows<'_>, number: u64) -> Option<u32> {
+    let Some(row) = rows.row(&name(number)) else {
+        return None;
+    };
+    match row.body() {
+        Statement::Prepare { ballot, .. } => Some(ballot.counter),
+        _ => None,
+    }
+}
+
 #[test]
 fn each_node_has_its_own_row(rt: HostRuntime) -> Result<(), Fail> {
     let alloc = rt.alloc();
     let table = table_with_a_stranger(&rt, alloc)?;
-    let (own, slices) = (name(OWN), announced(alloc, OWN)?);
-    let reached = reach(alloc, &table, &own, &slices)?;
+    let reached = reach(alloc, &table, &name(OWN), &announced(alloc, OWN)?)?;
     let rows = ReachedRows::of(alloc, &reached, &table, Kind::Ballot)?;
-    let cases = [
-        (OWN, None),
-        (2, Some(3)),
-        (3, Some(5)),
-        (4, None),
-        (STRANGER, Some(8)),
-    ];
-    for (number, counter) in cases {
-        let found = match rows.row(&name(number)) {
-            Some(row) => match row.body() {
-                Statement::Prepare { ballot, .. } => Some(ballot.counter),
-                _ => return Err("kind".into()),
-            },
-            None => None,
-        };
-        assert_eq!(rt; found, counter);
-    }
+    assert_eq!(rt; counter_at(&rows, OWN), None);
+    assert_eq!(rt; counter_at(&rows, 2), Some(3));
+    assert_eq!(rt; counter_at(&rows, 3), Some(5));
+    assert_eq!(rt; counter_at(&rows, STRANGER), Some(8));
     Ok(())
 }
 
