@@ -358,7 +358,8 @@ impl History {
         count
     }
 
-    /// What another node emitted last, or else a statement at random, of a sender at random.
+    /// What another node emitted last, or else a statement at random, of a sender at random, which may be
+    /// the node itself.
     fn said(&mut self, node: u8) -> Happening {
         let count = self.count();
         let sender = self.dice.number(count);
@@ -370,7 +371,7 @@ impl History {
             }
         }
         let mut sender = self.dice.number(7);
-        if sender == node {
+        if sender == node && self.dice.is_one_in(2) {
             sender = if node == 6 { 0 } else { 6 };
         }
         let row = Row {

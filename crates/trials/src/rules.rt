@@ -118,7 +118,7 @@ impl State {
         for node in NODES {
             if let Some(row) = self.row(node, Kind::Nomination) {
                 if let Statement::Nominate { voted, accepted } = row.said {
-                    if has(reach, node) {
+                    if has(reach, node) && node != self.own {
                         candidates |= voted | accepted;
                     }
                 }

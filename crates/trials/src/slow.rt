@@ -155,12 +155,12 @@ impl State {
         reach
     }
 
-    /// The statements of reached rows.
+    /// The statements in the rows of the others that are reached: the node's own position stands for it.
     pub fn seen(&self, alloc: Global, kind: Kind) -> Result<Vec<Statement>, AllocError> {
         let reach = self.reach();
         let mut seen = Vec::new(alloc);
         for node in NODES {
-            if has(reach, node) {
+            if has(reach, node) && node != self.own {
                 if let Some(row) = self.row(node, kind) {
                     seen.push(row.said)?;
                 }

@@ -18,13 +18,14 @@ fn tells(rt: &impl Abort, alloc: Global, slices: &[u8], story: &[Told]) -> Resul
     Ok(())
 }
 
-// B and C block A, and both accept all ballots below 6 as aborted; Z, whom nobody reaches yet, names one
-// there, and nothing comes of it.
-const STRANGER: [Told; 3] = [
+// B and C block A, and both accept all ballots below 6 as aborted.
+const BLOCKED: [Told; 2] = [
     (b"say B 1[B] prep(9:m,9:m,6,0,0)", "ok"),
     (b"say C 1[C] prep(8:k,8:k,6,0,0)", "ok"),
-    (b"say Z 1[Z] prep(5:q,-,0,0,0)", "ok"),
 ];
+
+// Z, whom nobody reaches yet, names one of them, and nothing comes of it.
+const STRANGER: Told = (b"say Z 1[Z] prep(5:q,-,0,0,0)", "ok");
 
 // D's row makes Z reached: <5,q> is accepted through B and C and confirmed by A, B and C, and B and C
 // raise A to 8.
@@ -49,7 +50,8 @@ fn a_node_that_trusts_itself_decides_alone(rt: HostRuntime) -> Result<(), Fail> 
 #[test]
 fn strangers_name_no_candidates_until_they_are_reached(rt: HostRuntime) -> Result<(), Fail> {
     let mut story = Vec::new(rt.alloc());
-    story.extend_from_slice(&STRANGER)?;
+    story.extend_from_slice(&BLOCKED)?;
+    story.push(STRANGER)?;
     story.push(REACHED)?;
     story.push((b"btimer 8", "ok emit prep(9:q,5:q,0,5,5)"))?;
     story.push((b"btimer 8", "ok"))?;
@@ -57,6 +59,15 @@ fn strangers_name_no_candidates_until_they_are_reached(rt: HostRuntime) -> Resul
         b"say C 1[C] prep(9:m,9:m,6,0,0)",
         "ok arm-ballot 9 emit prep(9:q,9:m,6,0,0)",
     ))?;
+    tells(&rt, rt.alloc(), b"2[B,C,D]", &story)
+}
+
+// A itself names such a ballot: its own position stands for it, which names none.
+#[test]
+fn a_row_of_its_own_names_no_candidates(rt: HostRuntime) -> Result<(), Fail> {
+    let mut story = Vec::new(rt.alloc());
+    story.extend_from_slice(&BLOCKED)?;
+    story.push((b"say A 1[A] prep(5:q,-,0,0,0)", "ok"))?;
     tells(&rt, rt.alloc(), b"2[B,C,D]", &story)
 }
 
