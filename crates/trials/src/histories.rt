@@ -267,7 +267,7 @@ impl Twin {
         }
     }
 
-    /// Both take the event, and answer the same.
+    /// Both take the event, answer the same, and come to the same state and table.
     fn meet(
         &mut self,
         rt: &impl Abort,
@@ -285,6 +285,7 @@ impl Twin {
             self.real.state(alloc)?.as_str(),
             state_of(alloc, &self.slow)?.as_str()
         );
+        assert!(rt; self.has_same_rows(alloc)?);
         self.keep(&outs);
         counts.note(before, self.moment());
         Ok(())
@@ -426,7 +427,7 @@ impl History {
     }
 }
 
-/// What these histories show. Their tables are compared at their ends.
+/// What these histories show.
 fn run(rt: &impl Abort, alloc: Global, from: u64, to: u64) -> Result<Counts, AllocError> {
     let mut counts = Counts::none();
     for seed in from..to {
@@ -435,7 +436,6 @@ fn run(rt: &impl Abort, alloc: Global, from: u64, to: u64) -> Result<Counts, All
             history.go_on(rt, alloc, &mut counts)?;
         }
         for twin in history.twins.as_slice() {
-            assert!(rt; twin.has_same_rows(alloc)?);
             counts.passes = counts.passes.max(twin.slow.most_passes);
         }
     }

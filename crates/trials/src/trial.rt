@@ -15,6 +15,13 @@ pub struct Trial {
     node: Node,
 }
 
+/// What a node answers, and its state then.
+#[derive(Drop)]
+struct Answer {
+    words: String,
+    state: String,
+}
+
 impl Trial {
     /// A node to which nothing has happened, from the words of its name and slices.
     pub fn new(
@@ -40,17 +47,39 @@ impl Trial {
         line: &[u8],
     ) -> Result<String, AllocError> {
         let before = self.state(alloc)?;
+        let beside = self.step(rt, alloc, line)?;
+        self.is_still(rt, alloc, before.as_str())?;
+        let Answer { words, state } = self.advance(rt, alloc, line)?;
+        assert_eq!(rt; words.as_str(), beside.words.as_str());
+        assert_eq!(rt; state.as_str(), beside.state.as_str());
+        Ok(words)
+    }
+
+    fn step(&self, rt: &impl Abort, alloc: Global, line: &[u8]) -> Result<Answer, AllocError> {
         let (stepped, outs) = self.node.step(alloc, event_of(rt, alloc, line)?)?;
-        assert_eq!(rt; before.as_str(), self.state(alloc)?.as_str());
-        let beside = words_of(rt, alloc, &self.node, &outs)?;
+        Ok(Answer {
+            words: words_of(rt, alloc, &stepped, &outs)?,
+            state: state_of(alloc, &stepped)?,
+        })
+    }
+
+    fn advance(
+        &mut self,
+        rt: &impl Abort,
+        alloc: Global,
+        line: &[u8],
+    ) -> Result<Answer, AllocError> {
         let outs = self.node.advance(alloc, event_of(rt, alloc, line)?)?;
-        let answer = words_of(rt, alloc, &self.node, &outs)?;
-        assert_eq!(rt; beside.as_str(), answer.as_str());
-        assert_eq!(rt;
-            state_of(alloc, &stepped)?.as_str(),
-            self.state(alloc)?.as_str()
-        );
-        Ok(answer)
+        Ok(Answer {
+            words: words_of(rt, alloc, &self.node, &outs)?,
+            state: self.state(alloc)?,
+        })
+    }
+
+    fn is_still(&self, rt: &impl Abort, alloc: Global, before: &str) -> Result<(), AllocError> {
+        let state = self.state(alloc)?;
+        assert_eq!(rt; state.as_str(), before);
+        Ok(())
     }
 
     /// The state of the node in words, with no more of its table than the number of rows.
