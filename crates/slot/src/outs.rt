@@ -2,15 +2,15 @@
 
 ghost use Rattle.std.specs.Prelude.{◌≡◌, ◌++◌, [], List, IfOk, IfSome, OnOk, not, ◌&&◌, if◌then◌else◌};
 ghost use Rattle.protocol.specs.Nodes.{decided, is_externalized, outs, when};
-ghost use Rattle.protocol.specs.States.{counter_of, sent_nomination, sent_vote};
+ghost use Rattle.protocol.specs.States.{sent_nomination, sent_vote};
 ghost use Rattle.slot.specs.Wholes.{emitted_by, whole, SendWellFormed};
 ghost use Rattle.types.specs.Statements.{IsWellFormed, Sent};
 
 use crate::configured::Configured;
 use crate::sent::{envelope_of, is_same_sent, sent_nomination};
-use ballot::sent_vote;
+use ballot::{counter_of, sent_vote};
 use std::alloc::{AllocError, Global};
-use types::{Ballot, Given, Out, Phase, Statement, Votes};
+use types::{Given, Out, Phase, Statement, Votes};
 
 /// What is given out where an event led from one state to another, in this order: the timer of a new
 /// round, the ballot timer that was armed, the nomination and the ballot statement where another one
@@ -130,15 +130,5 @@ pub(crate) fn is_externalized(phase: Phase) -> bool
     match phase {
         Phase::Preparing | Phase::Committing => false,
         Phase::Externalized => true,
-    }
-}
-
-/// The counter of a ballot, 0 where there is none.
-fn counter_of(ballot: Option<Ballot>) -> u32
-    ensures { result ≡ counter_of ballot }
-{
-    match ballot {
-        None => 0,
-        Some(ballot) => ballot.counter,
     }
 }

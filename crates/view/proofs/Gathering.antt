@@ -1,16 +1,14 @@
 -- Sets of values that are gathered from the last value back to the first.
-use Rattle.std.proofs.Common.{◌≡◌, ◌≤◌, ◌<◌, ◌+◌, ◌-◌, ℕ, List, [], ◌∷◌, ◌++◌, flat_map, get_or, length, length-take, map, take, refl, sym, ◌∙◌, ap, add-one, arith}
-use Rattle.std.proofs.Math.Seq.{take-suc}
-use Rattle.std.proofs.lemmas.List.{take_all}
-use Rattle.types.specs.Nominations.{with_value}
+use Rattle.std.proofs.Common.{◌≡◌, ◌≤◌, ◌<◌, ◌-◌, ℕ, List, [], ◌∷◌, ◌++◌, flat_map, get_or, length, length-take, map, take, refl, sym, ◌∙◌, ap, arith}
 use Rattle.types.specs.declared.statement.Statement.{Statement}
 use Rattle.protocol.specs.Candidates.{all_with, values_by}
+use Rattle.protocol.proofs.ValueSets as ValueSets
+use Rattle.protocol.proofs.ValueSets.{split_last}
 use Rattle.view.specs.Watching.{values_in}
 
 -- the later values first
 pub all_with_append : (ys zs xs : List (List ℕ)) → all_with (ys ++ zs) xs ≡ all_with ys (all_with zs xs)
-all_with_append [] zs xs = refl
-all_with_append (y ∷ ys) zs xs = ap (with_value y) (all_with_append ys zs xs)
+all_with_append = ValueSets.all_with_append
 
 append_none : (xs : List (List ℕ)) → xs ++ [] ≡ xs
 append_none [] = refl
@@ -23,27 +21,6 @@ last_statement (t ∷ ss) s xs =
     all_with_append (values_by t) (flat_map values_by (ss ++ s ∷ [])) xs
     ∙ ap (all_with (values_by t)) (last_statement ss s xs)
     ∙ sym (all_with_append (values_by t) (flat_map values_by ss) (all_with (values_by s) xs))
-
--- a list by its last element
-pub split_last : {X : Type 0} (xs : List X) (x : X) → 0 < length xs → x ≡ get_or xs (length xs - 1) x → take (length xs - 1) xs ++ x ∷ [] ≡ xs
-split_last xs x some is =
-    let within : length xs - 1 < length xs = omega (arith, some) in
-    let one : (length xs - 1) + 1 ≡ length xs = omega (arith, some) in
-    ap (λ y. take (length xs - 1) xs ++ y ∷ []) is
-    ∙ sym (rw add-one (take-suc xs (length xs - 1) x within))
-    ∙ take_all (length xs - 1 + 1) xs (omega (arith, one))
-
--- the last value, and then all before it
-pub value_before : (left more : List (List ℕ)) (x : List ℕ) (values after old : List (List ℕ)) → 0 < length left → x ≡ get_or left (length left - 1) x
-    → length left ≤ length more → all_with left values ≡ all_with more old → after ≡ with_value x values
-    → (length (take (length left - 1) left) ≤ length more) × (all_with (take (length left - 1) left) after ≡ all_with more old)
-value_before left more x values after old some is within so_far inserted = (
-  omega (arith, length-take (length left - 1) left, within),
-  ap (all_with (take (length left - 1) left)) inserted
-      ∙ sym (all_with_append (take (length left - 1) left) (x ∷ []) values)
-      ∙ ap (λ (ys : List (List ℕ)). all_with ys values) (split_last left x some is)
-      ∙ so_far,
-)
 
 map_append : {X Y : Type 0} (f : X → Y) (xs ys : List X) → map f (xs ++ ys) ≡ map f xs ++ map f ys
 map_append f [] ys = refl

@@ -1,7 +1,6 @@
 use Rattle.std.proofs.Common.{◌≡◌, ◌∙◌, Bor, List, Option, ap, filter_map, map, option_map, subst}
 use Rattle.std.proofs.lemmas.Result.{IfOk-weaker}
 use Rattle.types.specs.Statements.{Sent}
-use Rattle.types.specs.declared.statement.Statement.{Statement}
 use Rattle.view.specs.Watching.{Kept, rows_of_others, said_by_another}
 use Rattle.view.proofs.Keeping.{others_at}
 use Rattle.view.proofs.reached.ReachedRows.statements_of_others.Goals as goal
