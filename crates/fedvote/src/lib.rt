@@ -9,6 +9,7 @@
 
 mod candidates;
 mod question;
+mod seeing;
 mod sight;
 #[cfg(test)]
 mod tests;
@@ -17,6 +18,7 @@ mod voting;
 
 pub use candidates::{better_committed, better_named};
 pub use question::Question;
+pub use seeing::seen_voting_is_by_rows;
 pub use sight::{Sight, is_accepted, is_confirmed};
 pub use voters::Voters;
 pub use voting::{accepts, confirms, is_blocked};
