@@ -5,10 +5,10 @@ ghost use Rattle.types.specs.declared.kind.Kind.{Kind};
 ghost use Rattle.protocol.specs.Views.{passes};
 ghost use Rattle.protocol.specs.Passes.{arm, counts, known_or, raise, raised, raised_value, value_or};
 ghost use Rattle.protocol.specs.Candidates.{combine, greatest_value, least_from};
-ghost use Rattle.fedvote.specs.Searching.{counter_by, lesser, next_counter};
+ghost use Rattle.fedvote.specs.Searching.{next_counter};
 
 use crate::positions::position;
-use fedvote::{Question, Sight};
+use fedvote::{Question, Sight, counter_by, lesser};
 use std::alloc::{AllocError, Global};
 use timers::cap;
 use types::{Ballot, Given, Kind, Phase, Statement, Value, Values, Votes};
@@ -94,28 +94,6 @@ fn next_counter<S: Sight>(sight: &S, position: &Option<Statement>, above: u32) -
                 }
             }
         },
-    }
-}
-
-/// The counter of a ballot statement; that of an EXTERNALIZE counts as infinite.
-fn counter_by(statement: &Statement) -> Option<u32>
-    ensures { result ≡ counter_by statement.now }
-{
-    match statement {
-        Statement::Nominate { .. } | Statement::Externalize { .. } => None,
-        Statement::Prepare { ballot, .. } | Statement::Commit { ballot, .. } => {
-            Some(ballot.counter)
-        }
-    }
-}
-
-/// The lesser of a counter and of what is there.
-fn lesser(counter: u32, other: Option<u32>) -> Option<u32>
-    ensures { result ≡ lesser counter other }
-{
-    match other {
-        None => Some(counter),
-        Some(other) => Some(counter.min(other)),
     }
 }
 

@@ -8,6 +8,7 @@
 #![tactic(auto)]
 
 mod candidates;
+mod counters;
 mod question;
 mod seeing;
 mod sight;
@@ -17,6 +18,7 @@ mod voters;
 mod voting;
 
 pub use candidates::{better_committed, better_named};
+pub use counters::{counter_by, lesser};
 pub use question::Question;
 pub use seeing::seen_voting_is_by_rows;
 pub use sight::{Sight, is_accepted, is_confirmed};

@@ -2,10 +2,10 @@
 
 ghost use Rattle.std.specs.Prelude.{◌≡◌, ◌∷◌, [], map};
 ghost use Rattle.protocol.specs.Candidates.{committed_in, named_in};
-ghost use Rattle.fedvote.specs.Searching.{bettered, counter_by, next_counter, next_under};
+ghost use Rattle.fedvote.specs.Searching.{bettered, next_counter, next_under};
 ghost use Rattle.view.specs.Watching.{lesser_of};
 
-use fedvote::{better_committed, better_named};
+use fedvote::{better_committed, better_named, counter_by, lesser};
 use types::{Ballot, Statement};
 
 /// The greatest ballot below the bound that the statements name with a counter from 1 on.
@@ -52,20 +52,5 @@ fn lesser_counter(least: Option<u32>, above: u32, statement: &Statement) -> Opti
     if counter <= above {
         return least;
     }
-    match least {
-        None => Some(counter),
-        Some(least) => Some(least.min(counter)),
-    }
-}
-
-/// The counter of a ballot statement; that of an EXTERNALIZE counts as infinite.
-fn counter_by(statement: &Statement) -> Option<u32>
-    ensures { result ≡ counter_by statement.now }
-{
-    match statement {
-        Statement::Nominate { .. } => None,
-        Statement::Prepare { ballot, .. } => Some(ballot.counter),
-        Statement::Commit { ballot, .. } => Some(ballot.counter),
-        Statement::Externalize { .. } => None,
-    }
+    lesser(counter, least)
 }
