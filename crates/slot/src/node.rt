@@ -126,6 +126,7 @@ impl Node {
     /// One event: its own change, then passes until one changes nothing, then what is given out, in
     /// order (the Stellar Consensus Protocol draft; the order of events and outs is this host's
     /// profile). A stale envelope and a timer that is not live change nothing and give nothing out.
+    /// The slot that an envelope is about is not looked at: the caller hands a node those of its own.
     ///
     /// Each envelope that is given out carries the node's own name, its slot and its configured slices,
     /// and its statement is well formed: so it can be spelled, and what reads that spelling back reads
