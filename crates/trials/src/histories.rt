@@ -287,6 +287,7 @@ impl Twin {
         );
         assert!(rt; self.has_same_rows(alloc)?);
         self.keep(&outs);
+        assert!(rt; self.has_emitted_what_it_sends());
         counts.note(before, self.moment());
         Ok(())
     }
@@ -300,6 +301,20 @@ impl Twin {
                 }
             }
         }
+    }
+
+    /// What it emitted last of each kind is what it would send now.
+    fn has_emitted_what_it_sends(&self) -> bool {
+        let votes = self.slow.votes;
+        let nominated = if votes.voted | votes.accepts == 0 {
+            None
+        } else {
+            Some(Statement::Nominate {
+                voted: votes.voted,
+                accepted: votes.accepts,
+            })
+        };
+        self.nominated == nominated && self.balloted == State::sent(votes)
     }
 
     /// Their tables have the same rows.
