@@ -1,3 +1,8 @@
 mod Noted
 mod Underway
 mod ReachKept
+mod NameLookups
+mod Indexing
+mod ClosureSteps
+mod Walking
+mod Growing

@@ -1,2 +1,4 @@
 pub mod Sweeps
 pub mod Keeping
+pub mod Announcing
+pub mod Turns

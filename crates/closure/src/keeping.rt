@@ -7,7 +7,8 @@ ghost use Rattle.protocol.specs.Rows.{with_row};
 ghost use Rattle.protocol.specs.Sets.{IsAscending};
 ghost use Rattle.closure.specs.Keeping.{KeepsReach};
 
-use latest::Table;
+use envstore::Places;
+use latest::Rows;
 use slices::is_among;
 use types::{Envelope, Nested, NodeId};
 
@@ -15,7 +16,7 @@ use types::{Envelope, Nested, NodeId};
 /// or the sender's row of that kind has the same slices. It takes no memory.
 ///
 /// Where the answer is no, the reach may be another one: slices may name more nodes, or fewer.
-pub fn keeps_reach(reach: &[NodeId], table: &Table, envelope: &Envelope) -> bool
+pub fn keeps_reach<S: Places>(reach: &[NodeId], table: &Rows<'_, S>, envelope: &Envelope) -> bool
     requires { IsAscending reach.now }
     ensures exactly { IsTrue result ↔ KeepsReach reach.now table.now envelope.now }
     ensures stays { IsTrue result → (own : ℕ) (configured : Slices) → IsReach own configured table.now reach.now → IsReach own configured (with_row envelope.now table.now) reach.now }

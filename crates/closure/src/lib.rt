@@ -5,11 +5,19 @@
 //! stay in the table, since their senders may be reached later.
 #![tactic(auto)]
 
+mod announcing;
+mod closure_list;
+mod deliveries;
 mod keeping;
+mod of_journal;
 mod of_table;
 mod sweep;
 #[cfg(test)]
 mod tests;
+mod turns;
 
+pub use announcing::{Announcement, Announcements};
+pub use closure_list::ClosureList;
 pub use keeping::keeps_reach;
+pub use of_journal::closure;
 pub use of_table::reach;

@@ -1,14 +1,14 @@
 //! The reach of a node in one table.
 
-ghost use Rattle.std.specs.Prelude.{◌≡◌, ℕ, IfOk, OnOk, option_map, true};
+ghost use Rattle.std.specs.Prelude.{◌≡◌, ℕ, IfOk, OnOk, option_map};
 ghost use Rattle.types.specs.declared.kind.Kind.{Kind};
 ghost use Rattle.protocol.specs.Reach.{IsReach};
-ghost use Rattle.protocol.specs.Rows.{has_single_rows};
 ghost use Rattle.protocol.specs.Sets.{IsAscending};
 ghost use Rattle.closure.specs.Sweeps.{AreNoted, named_by, named_in};
 
 use crate::sweep::Sweep;
-use latest::Table;
+use envstore::Places;
+use latest::Rows;
 use slices::SliceFamily;
 use std::alloc::{AllocError, Global};
 use types::{Envelope, Kind, Nested, NodeId};
@@ -19,15 +19,15 @@ use types::{Envelope, Kind, Nested, NodeId};
 /// The answer contains all names of its members' slices, so a quorum test may be cut to it. Rows of
 /// nodes that are not reached are not looked at. The table stays as it was, and an error says that
 /// memory is short.
-pub fn reach(
+pub fn reach<S: Places>(
     alloc: Global,
-    table: &Table,
+    table: &Rows<'_, S>,
     node: &NodeId,
     slices: &Nested,
 ) -> Result<Vec<NodeId>, AllocError>
     ensures { IfOk result (λ v. IsReach node.now slices.now table.now v.items) }
 {
-    has_one_row_of_each_kind(table);
+    table.are_single();
     let mut sweep = Sweep::new(alloc);
     sweep.note(node)?;
     sweep.note_all(&slices.names(alloc)?)?;
@@ -37,18 +37,10 @@ pub fn reach(
     Ok(sweep.into_nodes())
 }
 
-/// A table has at most one row of each sender and kind: whoever looks up both kinds of a sender has
-/// seen all its rows.
-fn has_one_row_of_each_kind(table: &Table)
-    ensures { has_single_rows table.now ≡ true }
-{
-    table.rows();
-}
-
 /// Notes the names in the rows of a node, of either kind.
-fn note_rows_of(
+fn note_rows_of<S: Places>(
     alloc: Global,
-    table: &Table,
+    table: &Rows<'_, S>,
     node: &NodeId,
     sweep: &mut Sweep,
 ) -> Result<(), AllocError>

@@ -1,8 +1,10 @@
 //! Whom a node reaches in small tables.
 
 use crate::{keeps_reach, reach};
-use latest::{Offer, Table};
+use envstore::{Archive, VecShelf};
+use latest::{Offer, Rows, Table};
 use std::alloc::Global;
+use std::marker::Model;
 use std::process::Abort;
 use std::test::Fail;
 use types::{Ballot, Envelope, Kind, Member, Nested, NodeId, SliceSet, Statement, Value, Values};
@@ -19,6 +21,47 @@ const Z: u64 = 90;
 
 /// A sender, the kind of its statement, and the one node of its slices.
 type Row = (u64, Kind, u64);
+
+/// A table, and the archive of its rows.
+#[derive(Drop)]
+struct Kept {
+    archive: Archive<VecShelf>,
+    table: Table,
+}
+
+impl Model for Kept {
+    ghost use Rattle.std.specs.Coded.{codes};
+    ghost use Rattle.std.specs.Prelude.{List};
+    ghost use Rattle.envstore.specs.Archives.{AreFiled};
+    ghost use Rattle.envstore.specs.declared.filed.Filed.{Filed};
+    ghost use Rattle.types.specs.Trees.{members_code};
+
+    ghost Value = { List Filed };
+
+    ghost coded = { Prim.hlevel (codes, members_code) };
+
+    ghost view = { λ a. a.table };
+
+    ghost invariant = { λ a. AreFiled a.archive a.table };
+}
+
+impl Kept {
+    fn new(alloc: Global) -> Kept {
+        Kept {
+            archive: Archive::new(alloc, VecShelf::new(alloc)),
+            table: Table::new(alloc),
+        }
+    }
+
+    fn offer(&mut self, envelope: Envelope) -> Result<Offer, Fail> {
+        let filed = self.archive.put(envelope)?;
+        Ok(self.table.offer(&self.archive, filed))
+    }
+
+    fn rows(&self) -> Rows<'_, VecShelf> {
+        Rows::of(&self.table, &self.archive)
+    }
+}
 
 fn name(letter: u64) -> NodeId {
     NodeId::from_words(letter, 0, 0, 0)
@@ -55,10 +98,10 @@ fn envelope(alloc: Global, row: &Row) -> Result<Envelope, Fail> {
     Ok(Envelope::new(name(sender), 1, announced, body).ok_or("envelope")?)
 }
 
-fn table(rt: &impl Abort, alloc: Global, rows: &[Row]) -> Result<Table, Fail> {
-    let mut table = Table::new(alloc);
+fn table(rt: &impl Abort, alloc: Global, rows: &[Row]) -> Result<Kept, Fail> {
+    let mut table = Kept::new(alloc);
     for row in rows {
-        assert_eq!(rt; table.offer(envelope(alloc, row)?), Offer::Replaced);
+        assert_eq!(rt; table.offer(envelope(alloc, row)?)?, Offer::Replaced);
     }
     Ok(table)
 }
@@ -102,12 +145,8 @@ fn what_one_name_leads_to(rt: HostRuntime) -> Result<(), Fail> {
         ),
     ];
     for (rows, expected) in cases {
-        let nodes = reach(
-            alloc,
-            &table(&rt, alloc, rows)?,
-            &name(A),
-            &slices(alloc, 1, &[B])?,
-        )?;
+        let table = table(&rt, alloc, rows)?;
+        let nodes = reach(alloc, &table.rows(), &name(A), &slices(alloc, 1, &[B])?)?;
         assert_eq!(rt; nodes, names(alloc, expected)?);
     }
     Ok(())
@@ -117,7 +156,12 @@ fn what_one_name_leads_to(rt: HostRuntime) -> Result<(), Fail> {
 fn a_member_leads_to_a_stranger(rt: HostRuntime) -> Result<(), Fail> {
     let alloc = rt.alloc();
     let table = table(&rt, alloc, &[(D, Kind::Ballot, Z)])?;
-    let nodes = reach(alloc, &table, &name(A), &slices(alloc, 2, &[B, C, D])?)?;
+    let nodes = reach(
+        alloc,
+        &table.rows(),
+        &name(A),
+        &slices(alloc, 2, &[B, C, D])?,
+    )?;
     assert_eq!(rt; nodes, names(alloc, &[A, B, C, D, Z])?);
     Ok(())
 }
@@ -126,7 +170,7 @@ fn a_member_leads_to_a_stranger(rt: HostRuntime) -> Result<(), Fail> {
 fn what_leaves_a_reach_as_it_is(rt: HostRuntime) -> Result<(), Fail> {
     let alloc = rt.alloc();
     let table = table(&rt, alloc, &RING)?;
-    let nodes = reach(alloc, &table, &name(A), &slices(alloc, 1, &[B])?)?;
+    let nodes = reach(alloc, &table.rows(), &name(A), &slices(alloc, 1, &[B])?)?;
     let cases: [(Row, bool); 4] = [
         ((Z, Kind::Ballot, D), true),
         ((A, Kind::Ballot, B), true),
@@ -135,7 +179,7 @@ fn what_leaves_a_reach_as_it_is(rt: HostRuntime) -> Result<(), Fail> {
     ];
     for (row, expected) in cases {
         assert_eq!(rt;
-            keeps_reach(&nodes, &table, &envelope(alloc, &row)?),
+            keeps_reach(&nodes, &table.rows(), &envelope(alloc, &row)?),
             expected
         );
     }

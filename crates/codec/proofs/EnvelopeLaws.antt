@@ -1,12 +1,12 @@
 -- The laws of whole envelopes and whole texts.
-use Rattle.std.proofs.Common.{◌≡◌, ◌≢◌, ℕ, ◌<◌, ◌≤◌, Bool, true, false, cond, eqb, ltb, List, [], ◌∷◌, ◌++◌, length, Some, None, Result, Ok, Err, refl, sym, ap, subst, ◌∙◌, append_assoc, arith, inl, inr}
+use Rattle.std.proofs.Common.{◌≡◌, ◌≢◌, ℕ, ◌<◌, ◌≤◌, Bool, true, false, cond, eqb, eq-eqb, ltb, nat_le, if◌then◌else◌, List, [], ◌∷◌, ◌++◌, length, Some, None, Result, Ok, Err, refl, sym, ap, subst, ◌∙◌, append_assoc, arith, inl, inr}
 use Rattle.std.specs.Int.{w64, to_be_bytes}
 use Rattle.std.proofs.lemmas.Bool.{ltb-false, ltb-true, le-ltb, eqb-true}
 use Rattle.std.proofs.lemmas.Bool.Decides.{nat_tests}
 use Rattle.std.proofs.lemmas.List.{append-nil, nil_from_length}
 use Rattle.codec.specs.declared.error.Fault.{Fault}
-use Rattle.codec.specs.declared.error.Fault.TheVariants.{Truncated, TrailingBytes, Version, Kind, Limit}
-use Rattle.types.specs.Trees.{IsName, IsNested}
+use Rattle.codec.specs.declared.error.Fault.TheVariants.{Truncated, TrailingBytes, Version, Kind, Limit, SpareVersion}
+use Rattle.types.specs.Trees.{Slices, depth_of, IsName, IsNested}
 use Rattle.types.proofs.StatementRules.{keeps_rules}
 use Rattle.types.specs.declared.statement.Statement.{Statement}
 use Rattle.types.specs.declared.statement.Statement.TheVariants.{Nominate, Prepare, Commit, Externalize}
@@ -14,9 +14,9 @@ use Rattle.types.specs.Statements.{Sent, IsEnvelope, IsWellFormed, HasWidths}
 use Rattle.codec.specs.Formats.{ValidThen, ValidJudged}
 use Rattle.codec.specs.Faults.{version_fault, kind_fault, statement_fault}
 use Rattle.codec.specs.Steps.{◌>>=◌}
-use Rattle.codec.specs.Spelling.{byte, name, slices, body, kind, spelling, Spells, HasOneSpelling}
+use Rattle.codec.specs.Spelling.{byte, name, slices, body, kind, first_levels, version_of, spelling, Spells, HasOneSpelling}
 use Rattle.codec.specs.Reading.{Fields, sent_of, version_at, kind_at, envelope_at, decoded}
-use Rattle.codec.specs.Grammar.{HasFields, HasKind, IsLong, IsVersion, ShowsVersion, IsKind, ShowsKind, ShowsFault, BreaksOff, IsFault, HasOneAnswer}
+use Rattle.codec.specs.Grammar.{HasFields, HasKind, IsLong, IsInVersion, levels_in, IsVersion, ShowsVersion, IsKind, ShowsKind, ShowsFault, BreaksOff, IsFault, HasOneAnswer}
 use Rattle.codec.proofs.FieldLaws.{IsBytes, ok_is, bind_ok, passed, passed_true, chosen}
 use Rattle.codec.proofs.FormatLaws.{ValidAs, bind_err, err_is, Laws, Laws-then, Laws-judged, Laws-as, Laws-when, Laws-byte}
 use Rattle.codec.proofs.NameLaws.{Laws-name, Laws-long}
@@ -26,14 +26,15 @@ use Rattle.codec.proofs.Lengths.{spelling_is_short}
 
 -- ---- envelopes
 version_cut : (v : ℕ) → version_fault v ≢ Some Truncated
-version_cut v = cut (eqb v 1)
+version_cut v = cut (eqb v 1) (eqb v 2)
   where
     other : Version ≢ Truncated
     other e = cc
 
-    cut : (b : Bool) → cond b None (Some Version) ≢ Some Truncated
-    cut true = none_cut
-    cut false = never_cut true Version None other none_cut
+    cut : (a b : Bool) → cond a None (cond b None (Some Version)) ≢ Some Truncated
+    cut true b = none_cut
+    cut false true = none_cut
+    cut false false = never_cut true Version None other none_cut
 
 Laws-version : Laws version_at byte IsVersion ShowsVersion
 unfolding version_at
@@ -50,21 +51,21 @@ unfolding kind_at
 Laws-kind = Laws-judged Laws-byte kind_fault kind_cut
 
 abbrev IsFields : Fields → Type 0
-IsFields = ValidThen IsVersion (λ v. ValidThen IsKind (λ k. ValidThen IsName (λ u. ValidThen IsLong (λ n. ValidThen IsNested (λ q. ValidJudged (HasKind k) statement_fault)))))
+IsFields = ValidThen IsVersion (λ v. ValidThen IsKind (λ k. ValidThen IsName (λ u. ValidThen IsLong (λ n. ValidThen (IsInVersion v) (λ q. ValidJudged (HasKind k) statement_fault)))))
 
-version_is : (v : ℕ) → IsVersion v → v ≡ 1
-version_is v h = one (eqb v 1) refl h.1
+version_is : (v : ℕ) (q : Slices) → IsInVersion v q → v ≡ version_of q
+version_is v q h = one (eqb v (version_of q)) refl h.1
   where
-    one : (b : Bool) → eqb v 1 ≡ b → cond b None (Some Version) ≡ None → v ≡ 1
-    one true e h = eqb-true v 1 e
+    one : (b : Bool) → eqb v (version_of q) ≡ b → cond b None (Some SpareVersion) ≡ None → v ≡ version_of q
+    one true e h = eqb-true v (version_of q) e
     one false e h = absurd cc
 
 spelled : (x : Fields) → IsFields x → spelling (sent_of x) ≡ (x.0 ∷ []) ++ ((x.1.0 ∷ []) ++ (name x.1.1.0 ++ (to_be_bytes w64 x.1.1.1.0 ++ (slices x.1.1.1.1.0 ++ body x.1.1.1.1.1))))
 spelled x v =
     let rest = name x.1.1.0 ++ (to_be_bytes w64 x.1.1.1.0 ++ (slices x.1.1.1.1.0 ++ body x.1.1.1.1.1)) in
-    ap (λ (t : List ℕ). 1 ∷ kind x.1.1.1.1.1 ∷ t) (three (name x.1.1.0) (to_be_bytes w64 x.1.1.1.0) (slices x.1.1.1.1.0) (body x.1.1.1.1.1))
-    ∙ ap (λ (k : ℕ). 1 ∷ k ∷ rest) v.1.1.1.1.1.0.0
-    ∙ ap (λ (k : ℕ). k ∷ x.1.0 ∷ rest) (sym (version_is x.0 v.0))
+    ap (λ (t : List ℕ). version_of x.1.1.1.1.0 ∷ kind x.1.1.1.1.1 ∷ t) (three (name x.1.1.0) (to_be_bytes w64 x.1.1.1.0) (slices x.1.1.1.1.0) (body x.1.1.1.1.1))
+    ∙ ap (λ (k : ℕ). version_of x.1.1.1.1.0 ∷ k ∷ rest) v.1.1.1.1.1.0.0
+    ∙ ap (λ (k : ℕ). k ∷ x.1.0 ∷ rest) (sym (version_is x.0 x.1.1.1.1.0 v.1.1.1.1.0))
   where
     three : (a b c d : List ℕ) → a ++ b ++ c ++ d ≡ a ++ (b ++ (c ++ d))
     three a b c d = simp append_assoc
@@ -72,7 +73,7 @@ spelled x v =
 pub Laws-fields : Laws envelope_at spelling (ValidAs IsFields sent_of) ShowsFault
 unfolding envelope_at
 Laws-fields =
-    Laws-as (Laws-then Laws-version (λ v h. Laws-then Laws-kind (λ k g. Laws-then Laws-name (λ u p. Laws-then Laws-long (λ n q. Laws-then Laws-slices (λ s r. Laws-statement k g)))))) sent_of spelling spelled
+    Laws-as (Laws-then Laws-version (λ v h. Laws-then Laws-kind (λ k g. Laws-then Laws-name (λ u p. Laws-then Laws-long (λ n q. Laws-then (Laws-slices v) (λ s r. Laws-statement k g)))))) sent_of spelling spelled
 
 has_widths : (s : Statement) → HasFields s → HasWidths s
 has_widths (Nominate v a) h = (h.0.1, h.1.1)
@@ -93,7 +94,7 @@ is_envelope e v =
     subst IsEnvelope v.2 (record {
       sender = v.1.1.1.0;
       slot = f.0;
-      slices = f.1.0;
+      slices = f.1.0.0.0;
       widths = has_widths s f.1.1.0.1;
       rules = keeps_rules s (statement_stands s f.1.1.1);
     })
@@ -104,9 +105,26 @@ kind_of (Prepare b p x y z) = (tt, refl)
 kind_of (Commit b x y z) = (tt, refl)
 kind_of (Externalize b x) = (tt, refl)
 
+version_stands : (q : Slices) → IsVersion (version_of q)
+version_stands q = go (nat_le (depth_of q.members) first_levels)
+  where
+    go : (b : Bool) → IsVersion (if b then 1 else 2)
+    go true = (tt, refl)
+    go false = (tt, refl)
+
+in_version : (q : Slices) → IsNested q → IsInVersion (version_of q) q
+in_version q h = ((h, go (nat_le (depth_of q.members) first_levels) refl), rw (eq-eqb (version_of q) (version_of q) refl) refl)
+  where
+    few : (n : ℕ) → nat_le n 2 ≡ true → n ≤ 2
+    few n e = grind (arith, nat_tests)
+
+    go : (b : Bool) → nat_le (depth_of q.members) first_levels ≡ b → depth_of q.members ≤ levels_in (if b then 1 else 2)
+    go true e = few (depth_of q.members) e
+    go false e = h.levels
+
 from_envelope : (e : Sent) → IsEnvelope e → ValidAs IsFields sent_of e
 from_envelope e h =
-    ((1, (kind e.body, (e.sender, (e.slot, (e.slices, e.body))))), ((tt, refl), (kind_of e.body, (h.sender, (h.slot, (h.slices, ((refl, has_fields e.body h.widths h.rules), well_formed_stands e.body h.rules)))))), refl)
+    ((version_of e.slices, (kind e.body, (e.sender, (e.slot, (e.slices, e.body))))), (version_stands e.slices, (kind_of e.body, (h.sender, (h.slot, (in_version e.slices h.slices, ((refl, has_fields e.body h.widths h.rules), well_formed_stands e.body h.rules)))))), refl)
 
 pub Laws-envelope : Laws envelope_at spelling IsEnvelope ShowsFault
 Laws-envelope = Laws-when Laws-fields IsEnvelope is_envelope from_envelope

@@ -1,5 +1,5 @@
 -- The laws of slices: read, spelled, refused and shown.
-use Rattle.std.proofs.Common.{◌≡◌, ◌≢◌, ℕ, zero, suc, ◌<◌, ◌≤◌, Bool, true, false, cond, eqb, ltb, get_or, List, [], ◌∷◌, ◌++◌, length, Option, Some, None, Result, Ok, Err, refl, sym, ap, subst, ◌∙◌, append_assoc, length-append, arith, inl, inr}
+use Rattle.std.proofs.Common.{◌≡◌, ◌≢◌, ℕ, zero, suc, ◌<◌, ◌≤◌, Bool, true, false, cond, eqb, ltb, ◌==◌, if◌then◌else◌, get_or, List, [], ◌∷◌, ◌++◌, length, Option, Some, None, Result, Ok, Err, refl, sym, ap, subst, ◌∙◌, append_assoc, length-append, arith, inl, inr}
 use Rattle.std.specs.List.{AllByRecursion}
 use Rattle.std.proofs.lemmas.Bool.{ltb-false, le-ltb, false≢true}
 use Rattle.std.proofs.lemmas.Bool.Decides.{nat_tests}
@@ -8,14 +8,14 @@ use Rattle.std.proofs.lemmas.List.Quantifiers.{all_pairs_push}
 use Rattle.std.proofs.lemmas.List.Folds.{list_any_at, list_any_none}
 use Rattle.std.proofs.Math.Seq.{get_or-append_seam}
 use Rattle.codec.specs.declared.error.Fault.{Fault}
-use Rattle.codec.specs.declared.error.Fault.TheVariants.{Truncated, Limit, BadSlices}
-use Rattle.types.specs.Trees.{Members, none, node, inner, Slices, member_count, names_in, IsName, HasThreshold, IsNested, most_levels}
+use Rattle.codec.specs.declared.error.Fault.TheVariants.{Truncated, Limit, BadSlices, SpareVersion}
+use Rattle.types.specs.Trees.{Members, none, node, inner, Slices, member_count, names_in, depth_of, IsName, HasThreshold, IsNested, most_levels}
 use Rattle.codec.specs.Formats.{ValidThen, ValidJudged}
-use Rattle.codec.specs.Faults.{header_fault, is_among, name_fault}
-use Rattle.codec.specs.Spelling.{name, members, slices}
+use Rattle.codec.specs.Faults.{header_fault, is_among, name_fault, spare_fault}
+use Rattle.codec.specs.Spelling.{name, members, slices, first_levels, version_of}
 use Rattle.codec.specs.Parts.{Part, part_names, put}
-use Rattle.codec.specs.Reading.{new_name_at, member_at, members_at, header_at, set_with, inner_at, slices_at}
-use Rattle.codec.specs.Grammar.{header, IsHeader, ShowsHeader, AreNames, IsTree, IsPart, part, ShowsName, ShowsPart, ShowsParts, ShowsSet, ShowsInner, ShowsSlices}
+use Rattle.codec.specs.Reading.{new_name_at, member_at, members_at, header_at, set_with, inner_at, nested_at, slices_at}
+use Rattle.codec.specs.Grammar.{header, IsHeader, ShowsHeader, AreNames, IsTree, IsPart, part, ShowsName, ShowsPart, ShowsParts, ShowsSet, ShowsInner, ShowsSlices, levels_in, HasLevels, IsInVersion}
 use Rattle.codec.proofs.FieldLaws.{Takes, ok_is}
 use Rattle.codec.proofs.FormatLaws.{ValidAs, ValidEither, Laws, Laws-then, Laws-quiet, Laws-judged, Laws-as, Laws-when, Laws-either, Laws-fail, Laws-byte}
 use Rattle.codec.proofs.NameLaws.{Laws-name}
@@ -280,13 +280,37 @@ Laws-inner (suc levels) seen known =
 pub nothing_seen : AreNames []
 nothing_seen = record { few = omega arith; differ = λ i j d lt h. absurd (omega arith); fit = tt }
 
-pub nested_is : (q : Slices) → IsSet most_levels [] q → IsNested q
-nested_is q s =
-    record { outer = s.own; inner_sets = s.tree.thresholds; levels = s.tree.depth; few_names = s.tree.names.few; names_differ = s.tree.names.differ; names_fit = s.tree.names.fit }
+pub nested_is : (levels : ℕ) (q : Slices) → levels ≤ most_levels → IsSet levels [] q → IsNested q
+nested_is levels q few s =
+    record { outer = s.own; inner_sets = s.tree.thresholds; levels = omega (arith, s.tree.depth); few_names = s.tree.names.few; names_differ = s.tree.names.differ; names_fit = s.tree.names.fit }
 
-nested_from : (q : Slices) → IsNested q → IsSet most_levels [] q
-nested_from q h = record { own = h.outer; tree = record { thresholds = h.inner_sets; depth = h.levels; names = record { few = h.few_names; differ = h.names_differ; fit = h.names_fit } } }
+nested_from : (levels : ℕ) (q : Slices) → IsNested q → depth_of q.members ≤ levels → IsSet levels [] q
+nested_from levels q h d = record { own = h.outer; tree = record { thresholds = h.inner_sets; depth = d; names = record { few = h.few_names; differ = h.names_differ; fit = h.names_fit } } }
 
-pub Laws-slices : Laws slices_at slices IsNested ShowsSlices
+-- no version has more levels than slices may have
+pub few_levels : (v : ℕ) → levels_in v ≤ most_levels
+few_levels v = go (v == 1)
+  where
+    go : (b : Bool) → (if b then first_levels else most_levels) ≤ most_levels
+    go true = omega arith
+    go false = omega arith
+
+Laws-nested : (v : ℕ) → Laws (nested_at (levels_in v)) slices (HasLevels v) (ShowsSet (levels_in v) (ShowsInner (levels_in v)) [])
+unfolding nested_at
+Laws-nested v =
+    Laws-when (Laws-set (levels_in v) (Laws-inner (levels_in v)) [] nothing_seen) (HasLevels v)
+    (λ q s. (nested_is (levels_in v) q (few_levels v) s, s.tree.depth)) (λ q h. nested_from (levels_in v) q h.0 h.1)
+
+spare_cut : (v : ℕ) (q : Slices) → spare_fault v q ≢ Some Truncated
+spare_cut v q = cut (v == version_of q)
+  where
+    other : SpareVersion ≢ Truncated
+    other e = cc
+
+    cut : (b : Bool) → cond b None (Some SpareVersion) ≢ Some Truncated
+    cut true = none_cut
+    cut false = never_cut true SpareVersion None other none_cut
+
+pub Laws-slices : (v : ℕ) → Laws (slices_at v) slices (IsInVersion v) (ShowsSlices v)
 unfolding slices_at
-Laws-slices = Laws-when (Laws-set most_levels (Laws-inner most_levels) [] nothing_seen) IsNested nested_is nested_from
+Laws-slices v = Laws-judged (Laws-nested v) (spare_fault v) (spare_cut v)

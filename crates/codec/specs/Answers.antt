@@ -1,7 +1,7 @@
 -- The numbers of refusals, and what a refusal says of the text.
 use Rattle.std.specs.Prelude.{ℕ, List}
 use Rattle.codec.specs.declared.error.Fault.{Fault}
-use Rattle.codec.specs.declared.error.Fault.TheVariants.{Truncated, TrailingBytes, Version, Kind, Limit, BadSlices, BadStatement}
+use Rattle.codec.specs.declared.error.Fault.TheVariants.{Truncated, TrailingBytes, Version, Kind, Limit, BadSlices, BadStatement, SpareVersion}
 use Rattle.codec.specs.declared.error.CodecError.{CodecError}
 use Rattle.codec.specs.declared.error.CodecError.TheVariants as errors
 use Rattle.codec.specs.Grammar.{IsFault}
@@ -15,6 +15,7 @@ fault_number Kind = 4
 fault_number Limit = 5
 fault_number BadSlices = 6
 fault_number BadStatement = 7
+fault_number SpareVersion = 9
 
 -- the numbers of all errors
 abbrev pub error_number : CodecError → ℕ

@@ -2,15 +2,20 @@
 use Rattle.std.specs.Prelude.{ℕ, List, length, Option, Some, None, Bool, nat_lt, ◌==◌, if◌then◌else◌}
 use Rattle.std.specs.List.{list_any}
 use Rattle.codec.specs.declared.error.Fault.{Fault}
-use Rattle.codec.specs.declared.error.Fault.TheVariants.{Version, Kind, Limit, BadSlices, BadStatement}
-use Rattle.types.specs.Trees.{most_members, most_names}
+use Rattle.codec.specs.declared.error.Fault.TheVariants.{Version, Kind, Limit, BadSlices, BadStatement, SpareVersion}
+use Rattle.types.specs.Trees.{Slices, most_members, most_names}
+use Rattle.codec.specs.Spelling.{version_of}
 use Rattle.types.specs.Nominations.{most_nominated}
 use Rattle.types.specs.declared.statement.Statement.{Statement}
 use Rattle.types.specs.Statements.{is_well_formed}
 
--- a version other than 1
+-- a version other than 1 and 2
 abbrev pub version_fault : ℕ → Option Fault
-version_fault v = if v == 1 then None else Some Version
+version_fault v = if v == 1 then None else if v == 2 then None else Some Version
+
+-- slices that are spelled in another version
+abbrev pub spare_fault : ℕ → Slices → Option Fault
+spare_fault v q = if v == version_of q then None else Some SpareVersion
 
 -- a kind other than 1 to 4
 abbrev pub kind_fault : ℕ → Option Fault

@@ -1,18 +1,18 @@
 -- Which fronts of a text show which fault, and what is wrong with a whole text.
-use Rattle.std.specs.Prelude.{◌≡◌, ◌≢◌, ℕ, zero, suc, ◌<◌, ◌≤◌, ◌^◌, List, [], ◌++◌, length, ◌==◌, ◌⊎◌, Option, IfSome, AllPairs}
+use Rattle.std.specs.Prelude.{◌≡◌, ◌≢◌, ℕ, zero, suc, ◌<◌, ◌≤◌, ◌^◌, List, [], ◌++◌, length, ◌==◌, ◌⊎◌, Option, IfSome, AllPairs, if◌then◌else◌}
 use Rattle.std.specs.List.{AllByRecursion}
 use Rattle.std.specs.Int.{w16, w32, w64, to_be_bytes}
 use Rattle.codec.specs.declared.error.Fault.{Fault}
 use Rattle.codec.specs.declared.error.Fault.TheVariants.{Truncated, TrailingBytes, Limit, BadSlices, BadStatement}
-use Rattle.types.specs.Trees.{Members, none, names_in, depth_of, most_names, most_levels, IsName, HaveThresholds, IsNested}
+use Rattle.types.specs.Trees.{Members, Slices, none, names_in, depth_of, most_names, most_levels, IsName, HaveThresholds, IsNested}
 use Rattle.types.specs.declared.ballot.Ballot.{Ballot}
 use Rattle.types.specs.declared.statement.Statement.{Statement}
 use Rattle.types.specs.declared.statement.Statement.TheVariants.{Nominate, Prepare, Commit, Externalize}
 use Rattle.types.specs.Nominations.{IsValue, most_nominated}
 use Rattle.types.specs.Statements.{Sent, IsBallot, HasWidths, IsEnvelope}
 use Rattle.codec.specs.Formats.{Fronts, NoFault, ValidThen, ShowsThen, text_then, ValidJudged, ShowsJudged, ShowsEither, ShowsFail, text_either, ShowsIf}
-use Rattle.codec.specs.Spelling.{byte, name, slices, value, ballot, nominated, kind, body, spelling, Spells, most_bytes}
-use Rattle.codec.specs.Faults.{version_fault, kind_fault, header_fault, name_fault, length_fault, count_fault, statement_fault}
+use Rattle.codec.specs.Spelling.{byte, name, slices, value, ballot, nominated, kind, body, first_levels, spelling, Spells, most_bytes}
+use Rattle.codec.specs.Faults.{version_fault, spare_fault, kind_fault, header_fault, name_fault, length_fault, count_fault, statement_fault}
 use Rattle.codec.specs.Parts.{Part, part_names, put}
 
 -- ---- what fits its field
@@ -157,16 +157,28 @@ unfoldable pub ShowsInner : ℕ → List ℕ → Fronts
 ShowsInner zero seen front f = ShowsFail BadSlices front f
 ShowsInner (suc levels) seen front f = ShowsSet levels (ShowsInner levels) seen front f
 
--- the outermost set shows it, with no names before
-abbrev pub ShowsSlices : Fronts
-ShowsSlices = ShowsSet most_levels (ShowsInner most_levels) []
+-- the most levels of inner sets that an envelope of the version may have
+abbrev pub levels_in : ℕ → ℕ
+levels_in v = if v == 1 then first_levels else most_levels
+
+-- slices with no more levels than the version has
+abbrev pub HasLevels : ℕ → Slices → Type 0
+HasLevels v q = IsNested q × (depth_of q.members ≤ levels_in v)
+
+-- slices that are spelled in the version
+abbrev pub IsInVersion : ℕ → Slices → Type 0
+IsInVersion v = ValidJudged (HasLevels v) (spare_fault v)
+
+-- the outermost set shows it, with no names before, or the whole slices, which need no such version
+abbrev pub ShowsSlices : ℕ → Fronts
+ShowsSlices v = ShowsJudged slices (HasLevels v) (ShowsSet (levels_in v) (ShowsInner (levels_in v)) []) (spare_fault v)
 
 -- ---- envelopes
--- the one version
+-- a version that there is
 abbrev pub IsVersion : ℕ → Type 0
 IsVersion = ValidJudged IsByte version_fault
 
--- another version
+-- a version that there is not
 abbrev pub ShowsVersion : Fronts
 ShowsVersion = ShowsJudged byte IsByte NoFault version_fault
 
@@ -178,13 +190,13 @@ IsKind = ValidJudged IsByte kind_fault
 abbrev pub ShowsKind : Fronts
 ShowsKind = ShowsJudged byte IsByte NoFault kind_fault
 
--- behind the kind, the sender and the slot: the slices show it, or the statement
-abbrev pub ShowsRest : ℕ → Fronts
-ShowsRest k = ShowsThen name IsName NoFault (λ u. ShowsThen (to_be_bytes w64) IsLong NoFault (λ n. ShowsThen slices IsNested ShowsSlices (λ q. ShowsStatement k)))
+-- behind the version and the kind, the sender and the slot: the slices show it, or the statement
+abbrev pub ShowsRest : ℕ → ℕ → Fronts
+ShowsRest v k = ShowsThen name IsName NoFault (λ u. ShowsThen (to_be_bytes w64) IsLong NoFault (λ n. ShowsThen slices (IsInVersion v) (ShowsSlices v) (λ q. ShowsStatement k)))
 
 -- the version shows it, or the kind, the slices or the statement
 abbrev pub ShowsFault : Fronts
-ShowsFault = ShowsThen byte IsVersion ShowsVersion (λ v. ShowsThen byte IsKind ShowsKind ShowsRest)
+ShowsFault = ShowsThen byte IsVersion ShowsVersion (λ v. ShowsThen byte IsKind ShowsKind (ShowsRest v))
 
 -- ---- whole texts
 -- some front of the text shows the fault

@@ -7,10 +7,11 @@ use Rattle.codec.specs.declared.error.Fault.TheVariants.{TrailingBytes, Limit, B
 pub use Rattle.codec.specs.Steps.{◌>>=◌, Fails, Gives, IsBytes, byte_at, number_at, bytes_at}
 use Rattle.codec.specs.Steps.{Reads, read_then, read_judged, read_as, read_either}
 use Rattle.codec.specs.Parts.{Part, part_names, put}
-use Rattle.codec.specs.Faults.{version_fault, kind_fault, header_fault, name_fault, length_fault, count_fault, statement_fault}
+use Rattle.codec.specs.Faults.{version_fault, spare_fault, kind_fault, header_fault, name_fault, length_fault, count_fault, statement_fault}
 use Rattle.codec.specs.Spelling.{most_bytes}
 use Rattle.types.specs.declared.ballot.Ballot.{Ballot}
-use Rattle.types.specs.Trees.{Members, none, Slices, most_levels}
+use Rattle.types.specs.Trees.{Members, none, Slices}
+use Rattle.codec.specs.Grammar.{levels_in}
 use Rattle.types.specs.declared.statement.Statement.{Statement}
 use Rattle.types.specs.declared.statement.Statement.TheVariants.{Nominate, Prepare, Commit, Externalize}
 use Rattle.types.specs.Statements.{Sent}
@@ -72,9 +73,13 @@ unfoldable pub inner_at : ℕ → List ℕ → Reads Slices
 inner_at zero seen bytes = Err BadSlices
 inner_at (suc levels) seen bytes = set_with (inner_at levels) seen bytes
 
--- the slices of an envelope, with no names before them
-unfoldable pub slices_at : List ℕ → Result (Slices × List ℕ) Fault
-slices_at = set_with (inner_at most_levels) []
+-- a set with so many levels of inner sets, and no names before it
+unfoldable pub nested_at : ℕ → Reads Slices
+nested_at levels = set_with (inner_at levels) []
+
+-- the slices of an envelope of the version
+unfoldable pub slices_at : ℕ → Reads Slices
+slices_at v = read_judged (nested_at (levels_in v)) (spare_fault v)
 
 -- ---- statements
 -- so many values, one after another
@@ -129,7 +134,7 @@ sent_of x = record { sender = x.1.1.0; slot = x.1.1.1.0; slices = x.1.1.1.1.0; b
 
 -- an envelope
 unfoldable pub envelope_at : Reads Sent
-envelope_at = read_as (read_then version_at (λ v. read_then kind_at (λ k. read_then name_at (λ sender. read_then (number_at w64) (λ slot. read_then slices_at (λ q. statement_at k)))))) sent_of
+envelope_at = read_as (read_then version_at (λ v. read_then kind_at (λ k. read_then name_at (λ sender. read_then (number_at w64) (λ slot. read_then (slices_at v) (λ q. statement_at k)))))) sent_of
 
 -- all of the bytes
 unfoldable pub decoded : List ℕ → Result Sent Fault

@@ -1,11 +1,11 @@
 -- The one spelling of each envelope. All numbers are big-endian.
-use Rattle.std.specs.Prelude.{◌≡◌, ℕ, ◌/◌, ◌%◌, ◌^◌, ◌≤◌, List, [], ◌∷◌, ◌++◌, length, Option, Some, None}
+use Rattle.std.specs.Prelude.{◌≡◌, ℕ, ◌/◌, ◌%◌, ◌^◌, ◌≤◌, List, [], ◌∷◌, ◌++◌, length, nat_le, Option, Some, None, if◌then◌else◌}
 use Rattle.std.specs.List.{flat_map}
 use Rattle.std.specs.Int.{w16, w32, w64, to_be_bytes}
 use Rattle.types.specs.declared.ballot.Ballot.{Ballot}
 use Rattle.types.specs.declared.statement.Statement.{Statement}
 use Rattle.types.specs.declared.statement.Statement.TheVariants.{Nominate, Prepare, Commit, Externalize}
-use Rattle.types.specs.Trees.{Members, none, node, inner, Slices, member_count}
+use Rattle.types.specs.Trees.{Members, none, node, inner, Slices, depth_of, member_count}
 use Rattle.types.specs.Statements.{Sent, IsEnvelope}
 
 -- a number of one byte
@@ -57,9 +57,17 @@ body (Prepare b p a h c) = ballot b ++ optional p ++ to_be_bytes w32 a ++ to_be_
 body (Commit b p h c) = ballot b ++ to_be_bytes w32 p ++ to_be_bytes w32 h ++ to_be_bytes w32 c
 body (Externalize b h) = ballot b ++ to_be_bytes w32 h
 
--- version 1, the kind, the sender, the slot, the slices and the statement
+-- the most levels of inner sets that version 1 has
+abbrev pub first_levels : ℕ
+first_levels = 2
+
+-- the version in which slices are spelled: 1 where that has levels enough, else 2
+abbrev pub version_of : Slices → ℕ
+version_of q = if nat_le (depth_of q.members) first_levels then 1 else 2
+
+-- the version of the slices, the kind, the sender, the slot, the slices and the statement
 abbrev pub spelling : Sent → List ℕ
-spelling e = 1 ∷ kind e.body ∷ name e.sender ++ to_be_bytes w64 e.slot ++ slices e.slices ++ body e.body
+spelling e = version_of e.slices ∷ kind e.body ∷ name e.sender ++ to_be_bytes w64 e.slot ++ slices e.slices ++ body e.body
 
 -- the most bytes that a text may have
 abbrev pub most_bytes : ℕ

@@ -15,6 +15,7 @@ use crate::error::{CodecError, Fault};
 use crate::reader::Reader;
 use crate::statements::{read_kind, read_statement};
 use crate::trees::read_slices;
+use crate::versions::{FIRST_VERSION, SECOND_VERSION};
 use std::alloc::Global;
 use types::{Envelope, Nested, NodeId, Statement};
 
@@ -22,12 +23,9 @@ use types::{Envelope, Nested, NodeId, Statement};
 /// shorter.
 pub const MAX_BYTES: usize = 65536;
 
-/// The first byte of each envelope (this host's profile).
-pub const VERSION: u8 = 1;
-
 /// The envelope that the bytes spell, all of the bytes.
 ///
-/// The format is that of this host's profile: version 1, the kind of statement, the sender, the slot,
+/// The format is that of this host's profile: version 1 or 2, the kind of statement, the sender, the slot,
 /// the slices and the fields of the statement, all numbers big-endian. An envelope comes back only
 /// where it keeps every rule of slices and statements. The time grows with the bytes and with the square
 /// of the names, of which at most 256 are read.
@@ -80,11 +78,11 @@ fn read_text(alloc: Global, bytes: &[u8]) -> Result<Envelope, CodecError>
 fn read_envelope(alloc: Global, reader: &mut Reader) -> Result<Envelope, CodecError>
     ensures { Gives (λ x. (x, reader.new)) result (envelope_at reader.old) }
 {
-    read_version(reader)?;
+    let version = read_version(reader)?;
     let kind = read_kind(reader)?;
     let sender = reader.name()?;
     let slot = reader.u64()?;
-    let slices = read_slices(alloc, reader)?;
+    let slices = read_slices(alloc, reader, version)?;
     let body = read_statement(alloc, reader, kind)?;
     well_formed(sender, slot, slices, body)
 }
@@ -108,7 +106,7 @@ fn read_version(reader: &mut Reader) -> Result<u8, CodecError>
     ensures { Gives (λ x. (x, reader.new)) result (version_at reader.old) }
 {
     let version = reader.byte()?;
-    if version != VERSION {
+    if version != FIRST_VERSION && version != SECOND_VERSION {
         return Err(CodecError::Fault(Fault::Version));
     }
     Ok(version)

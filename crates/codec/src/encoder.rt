@@ -7,8 +7,8 @@ ghost use Rattle.types.specs.Statements.{IsWellFormed};
 ghost use Rattle.std.specs.Int.{w32, to_be_bytes};
 ghost use Rattle.codec.specs.Spelling.{name, value, ballot, optional, nominated, slices, body, spelling};
 
-use crate::decoder::VERSION;
 use crate::statements::StatementKind;
+use crate::versions::version_of;
 use std::alloc::{AllocError, Global};
 use types::{Ballot, Envelope, Member, NodeId, SliceSet, Statement, Value, Values};
 
@@ -22,7 +22,7 @@ pub fn encode(alloc: Global, envelope: &Envelope) -> Result<Vec<u8>, AllocError>
     ensures { IfOk result (λ v. v.items ≡ spelling envelope.now) }
 {
     let mut out = Vec::new(alloc);
-    out.push(VERSION)?;
+    out.push(version_of(envelope.slices()))?;
     out.push(StatementKind::of(envelope.body()).byte())?;
     put_name(&mut out, envelope.sender())?;
     out.extend_from_slice(&envelope.slot().to_be_bytes())?;

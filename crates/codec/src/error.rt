@@ -17,8 +17,8 @@ pub enum Fault {
     /// An envelope is there, and bytes follow it.
     #[error("there are bytes after the envelope")]
     TrailingBytes,
-    /// The first byte is not 1.
-    #[error("the version is not 1")]
+    /// The first byte is neither 1 nor 2.
+    #[error("the version is neither 1 nor 2")]
     Version,
     /// The second byte is not 1 to 4.
     #[error("the kind of statement is not 1 to 4")]
@@ -34,10 +34,13 @@ pub enum Fault {
     /// The statement breaks a rule of its kind.
     #[error("the statement breaks a rule of its kind")]
     BadStatement,
+    /// The version is 2, and the slices have no more levels of inner sets than version 1 spells.
+    #[error("the slices are spelled in version 1")]
+    SpareVersion,
 }
 
 impl Fault {
-    /// The number by which the fault is known, 1 to 7.
+    /// The number by which the fault is known, 1 to 7 or 9.
     pub fn number(&self) -> u8
         ensures { result ≡ fault_number self.now }
     {
@@ -49,6 +52,7 @@ impl Fault {
             Fault::Limit => 5,
             Fault::BadSlices => 6,
             Fault::BadStatement => 7,
+            Fault::SpareVersion => 9,
         }
     }
 }

@@ -11,6 +11,7 @@ mod error;
 mod reader;
 mod statements;
 mod trees;
+mod versions;
 
 pub use decoder::{MAX_BYTES, decode, one_answer, one_spelling};
 pub use encoder::encode;

@@ -256,6 +256,80 @@ fn slices_by_their_rules(rt: HostRuntime) -> Result<(), Fail> {
     Ok(())
 }
 
+// The bytes, with another version.
+fn in_version(alloc: Global, version: u8, bytes: &[u8]) -> Result<Vec<u8>, Fail> {
+    let mut bytes = joined(alloc, &[bytes])?;
+    *bytes.get_mut(0).ok_or("it is that long")? = version;
+    Ok(bytes)
+}
+
+// Slices of one name under so many levels of inner sets.
+fn nested(alloc: Global, levels: u8) -> Result<Vec<u8>, Fail> {
+    let mut bytes = joined(alloc, &[&[1, 1]])?;
+    for _ in 0..levels {
+        bytes.extend_from_slice(&[1, 1, 1])?;
+    }
+    bytes.push(0)?;
+    bytes.extend_from_slice(NAME)?;
+    Ok(bytes)
+}
+
+// A PREPARE of ballot 1:x, with slices of one name under three levels of inner sets: 106 bytes.
+#[test]
+fn three_levels_are_spelled_in_version_2(rt: HostRuntime) -> Result<(), Fail> {
+    let alloc = rt.alloc();
+    let slices = nested(alloc, 3)?;
+    let bytes = joined(
+        alloc,
+        &[
+            &[2, 2],
+            NAME,
+            SLOT,
+            &slices,
+            &[
+                0, 0, 0, 1, 0, 1, 0x78, 0, 0, 0, 0, 0, 0, 0, 0, 0, 0, 0, 0, 0,
+            ],
+        ],
+    )?;
+    check_whole(&rt, alloc, &bytes, 106)?;
+    assert_eq!(rt; number(alloc, &in_version(alloc, 1, &bytes)?), 6);
+    Ok(())
+}
+
+// The first envelope in version 2 is whole up to its slices, and wrong with their last byte.
+#[test]
+fn version_2_is_spare_for_few_levels(rt: HostRuntime) -> Result<(), Fail> {
+    let alloc = rt.alloc();
+    let bytes = in_version(alloc, 2, FIRST)?;
+    for cut in 0..105usize {
+        let front = bytes.get(..cut).ok_or("it is that long")?;
+        let want = if cut < 77 { 1 } else { 9 };
+        assert_eq!(rt; number(alloc, front), want, "cut at {cut}");
+    }
+    Ok(())
+}
+
+#[test]
+fn levels_by_version(rt: HostRuntime) -> Result<(), Fail> {
+    let alloc = rt.alloc();
+    for (levels, first, second) in [
+        (0, 0, 9),
+        (1, 0, 9),
+        (2, 0, 9),
+        (3, 6, 0),
+        (7, 6, 0),
+        (8, 6, 0),
+        (9, 6, 6),
+    ] {
+        let slices = nested(alloc, levels)?;
+        let bytes = with_slices(alloc, &[&slices])?;
+        assert_eq!(rt; number(alloc, &bytes), first, "{levels} in version 1");
+        let bytes = in_version(alloc, 2, &bytes)?;
+        assert_eq!(rt; number(alloc, &bytes), second, "{levels} in version 2");
+    }
+    Ok(())
+}
+
 #[test]
 fn names_of_a_tree(rt: HostRuntime) -> Result<(), Fail> {
     let alloc = rt.alloc();
@@ -339,7 +413,11 @@ fn printed_errors(rt: HostRuntime) -> Result<(), Fail> {
             2,
             "there are bytes after the envelope",
         ),
-        (CodecError::Fault(Fault::Version), 3, "the version is not 1"),
+        (
+            CodecError::Fault(Fault::Version),
+            3,
+            "the version is neither 1 nor 2",
+        ),
         (
             CodecError::Fault(Fault::Kind),
             4,
@@ -361,6 +439,11 @@ fn printed_errors(rt: HostRuntime) -> Result<(), Fail> {
             "the statement breaks a rule of its kind",
         ),
         (CodecError::NoMemory, 8, "memory is wanting"),
+        (
+            CodecError::Fault(Fault::SpareVersion),
+            9,
+            "the slices are spelled in version 1",
+        ),
     ];
     for (error, number, text) in cases {
         assert_eq!(rt; error.number(), number);

@@ -1,24 +1,38 @@
 //! Slices that are read from the front, with the names so far.
 
-ghost use Rattle.std.specs.Prelude.{◌≡◌, [], ◌∷◌, ◌++◌, IfOk};
-ghost use Rattle.codec.specs.Reading.{Gives, IsBytes, header_at, new_name_at, member_at, members_at, set_with, inner_at, slices_at};
+ghost use Rattle.std.specs.Prelude.{◌≡◌, ◌≤◌, [], ◌∷◌, ◌++◌, IfOk};
+ghost use Rattle.codec.specs.Reading.{Gives, IsBytes, header_at, new_name_at, member_at, members_at, set_with, inner_at, nested_at, slices_at};
 ghost use Rattle.codec.specs.Faults.{is_among};
 ghost use Rattle.codec.specs.Parts.{part_of, part_names};
 ghost use Rattle.types.specs.Shape.{members_of};
-ghost use Rattle.types.specs.Trees.{names_in};
+ghost use Rattle.types.specs.Trees.{most_levels, names_in};
 
 use crate::error::{CodecError, Fault};
 use crate::reader::Reader;
+use crate::versions::{levels_in, version_of};
 use std::alloc::Global;
-use types::{MAX_INNER_LEVELS, MAX_MEMBERS, MAX_NAMES, Member, Nested, NodeId, SliceSet};
+use types::{MAX_MEMBERS, MAX_NAMES, Member, Nested, NodeId, SliceSet};
 
-/// The slices of an envelope.
+/// The slices of an envelope of this version, which have to need it.
 #[tactic(auto, unfolding(crate::specs::Reading::slices_at))]
-pub fn read_slices(alloc: Global, reader: &mut Reader) -> Result<Nested, CodecError>
-    ensures { Gives (λ x. (x, reader.new)) result (slices_at reader.old) }
+pub fn read_slices(alloc: Global, reader: &mut Reader, version: u8) -> Result<Nested, CodecError>
+    ensures { Gives (λ x. (x, reader.new)) result (slices_at version reader.old) }
+{
+    let slices = read_nested(alloc, reader, levels_in(version))?;
+    if version != version_of(&slices) {
+        return Err(CodecError::Fault(Fault::SpareVersion));
+    }
+    Ok(slices)
+}
+
+/// Slices with no more levels of inner sets than so many.
+#[tactic(auto, unfolding(crate::specs::Reading::nested_at))]
+fn read_nested(alloc: Global, reader: &mut Reader, levels: usize) -> Result<Nested, CodecError>
+    requires { levels ≤ most_levels }
+    ensures { Gives (λ x. (x, reader.new)) result (nested_at levels reader.old) }
 {
     let mut seen = Vec::new(alloc);
-    let set = read_set(alloc, reader, MAX_INNER_LEVELS, &mut seen)?;
+    let set = read_set(alloc, reader, levels, &mut seen)?;
     Ok(Nested::of(set))
 }
 

@@ -54,7 +54,7 @@ place-new p (x ∷ xs) y h n = go (p x) (place_by p xs) refl n (place-new p xs y
     go false (Some j) f g ih = cc
 
 -- an element replaced by one that passes alike
-place-set : {X : Type 0} (p : X → Bool) (xs : List X) (i : ℕ) (y d : X) → p (get_or xs i d) ≡ p y → place_by p (set xs i y) ≡ place_by p xs
+pub place-set : {X : Type 0} (p : X → Bool) (xs : List X) (i : ℕ) (y d : X) → p (get_or xs i d) ≡ p y → place_by p (set xs i y) ≡ place_by p xs
 place-set p [] i y d h = refl
 place-set p (x ∷ xs) zero y d h = ap (λ b. cond b (Some 0) (option_map suc (place_by p xs))) (sym h)
 place-set p (x ∷ xs) (suc i) y d h = ap (λ o. cond (p x) (Some 0) (option_map suc o)) (place-set p xs i y d h)

@@ -1,3 +1,4 @@
+mod Filings
 pub mod Searches
 pub mod Indexes
 pub mod Tabled

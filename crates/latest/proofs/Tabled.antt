@@ -7,6 +7,8 @@ use Rattle.std.proofs.lemmas.List.{length-map}
 use Rattle.std.proofs.lemmas.Option.{slice_get-map, slice_get_read, slice_get_past}
 use Rattle.types.specs.declared.kind.Kind.{Kind}
 use Rattle.types.specs.Statements.{Sent, kind_of}
+use Rattle.envstore.specs.declared.filed.Filed.{Filed}
+use Rattle.envstore.specs.Archives.{sents_of}
 use Rattle.protocol.specs.Newer.{is_newer}
 use Rattle.protocol.specs.Rows.{has_single_rows, is_row_of, row, with_row, replaces, is_taken, offered, table_after}
 use Rattle.protocol.proofs.Tables.{single-with, table_after-push}
@@ -129,12 +131,12 @@ IsAnswer old e Replaced new = (is_taken old e ≡ true) × (new ≡ with_row e o
 IsAnswer old e Stale new = (is_taken old e ≡ false) × (new ≡ old)
 IsAnswer old e NoMemory new = (row old e.sender (kind_of e.body) ≡ None) × (new ≡ old)
 
-pub put-answer : (old : List Sent) (e : Sent) (put : Put) (o : Offer) (new : List Sent) → IsPut old e put new → o ≡ offer_of put → IsAnswer old e o new
-put-answer old e put o new h q = subst (λ x. IsAnswer old e x new) (sym q) (go put h)
+pub put-answer : (old : List Filed) (e : Sent) (put : Put) (o : Offer) (new : List Filed) → IsPut old e put new → o ≡ offer_of put → IsAnswer (sents_of old) e o (sents_of new)
+put-answer old e put o new h q = subst (λ x. IsAnswer (sents_of old) e x (sents_of new)) (sym q) (go put h)
   where
-    go : (put : Put) → IsPut old e put new → IsAnswer old e (offer_of put) new
-    go Put.Stale h = h
-    go Put.NoMemory h = h
+    go : (put : Put) → IsPut old e put new → IsAnswer (sents_of old) e (offer_of put) (sents_of new)
+    go Put.Stale h = (h.0, ap sents_of h.1)
+    go Put.NoMemory h = (h.0, ap sents_of h.1)
     go Put.Added h = (h.1, h.2)
     go (Put.Replaced r) h = (h.1, h.2)
 

@@ -1,18 +1,23 @@
 -- What leads a table back: a row that is added and removed, a row that is replaced and restored.
-use Rattle.std.proofs.Common.{◌≡◌, ℕ, suc, ◌<◌, Bool, true, false, not, cond, ◌&&◌, ◌==◌, ltb, List, [], ◌∷◌, ◌++◌, length, map, Option, Some, None, option_map, is_none, if◌then◌else◌, refl, sym, ◌∙◌, ap, arith, subst, inl, inr}
+use Rattle.std.proofs.Common.{◌≡◌, ℕ, suc, ◌<◌, Bool, true, false, not, cond, ◌&&◌, ◌==◌, ltb, List, [], ◌∷◌, ◌++◌, length, get_or, set, map, Option, Some, None, option_map, is_none, if◌then◌else◌, refl, sym, ◌∙◌, ap, ap₂, arith, subst, inl, inr}
 use Rattle.std.specs.List.{list_all}
 use Rattle.std.proofs.lemmas.Bool.{and_parts, and_from, cases_Bool, eq-eqb, eqb-true, ltb-true, not-true, or_left, or_right, true≢false}
 use Rattle.types.specs.declared.kind.Kind.{Kind}
 use Rattle.types.specs.declared.kind.Kind.TheVariants.{Nomination}
 use Rattle.types.specs.Statements.{Sent, kind_of}
-use Rattle.protocol.specs.Rows.{has_single_rows, is_row_of, row, with_row}
-use Rattle.protocol.proofs.Tables.{is_row_of-parts, is_row_of-own, is_row_of-both, row-with}
+use Rattle.envstore.specs.declared.filed.Filed.{Filed}
+use Rattle.envstore.specs.Archives.{sent_of, sents_of}
+use Rattle.protocol.specs.Newer.{is_newer}
+use Rattle.protocol.specs.Rows.{has_single_rows, is_row_of, is_taken, row, with_row}
+use Rattle.protocol.proofs.Tables.{is_row_of-parts, is_row_of-own, is_row_of-both}
 use Rattle.latest.specs.declared.places.Places.{Places}
 use Rattle.latest.specs.Senders.{senders}
 use Rattle.latest.specs.Places.{IsIndexed, forgotten, found, index_of, is_vacant, noted, only_place, place_in, place_of, places_of, with_place, without_place}
-use Rattle.latest.specs.Puts.{with_known_row, without_last}
-use Rattle.latest.proofs.Indexes.{found-index, has_name, index-push, place-nowhere, senders-exactly}
-use Rattle.latest.proofs.Tabled.{row-nowhere}
+use Rattle.latest.specs.Puts.{with_known_row, with_row_at, without_last}
+use Rattle.latest.proofs.Filings.{sents-at, sents-push, sents-set}
+use Rattle.latest.proofs.Indexes.{found-index, has_name, index-push, place-nowhere, place-set, place-within, senders-exactly, with_row-push, with_row-set}
+use Rattle.latest.proofs.Tabled.{row-placed, set-read, taken-read}
+use Rattle.std.proofs.lemmas.List.{set-get_or, set-set}
 
 -- ---- a place that is noted and forgotten
 -- a sender without rows
@@ -93,59 +98,65 @@ single-ends (x ∷ xs) e h =
       ],
     )
 
-pub last-pushed : (xs : List Sent) (e : Sent) → without_last (xs ++ e ∷ []) ≡ xs
+pub last-pushed : (xs : List Filed) (e : Filed) → without_last (xs ++ e ∷ []) ≡ xs
 last-pushed [] e = refl
 last-pushed (x ∷ []) e = refl
 last-pushed (x ∷ y ∷ ys) e = ap (λ zs. x ∷ zs) (last-pushed (y ∷ ys) e)
 
 -- ---- a row that is replaced and restored
-back-with : (e r : Sent) (rows : List Sent) → row rows e.sender (kind_of e.body) ≡ Some r → is_row_of e.sender (kind_of e.body) r ≡ true → with_row r (with_row e rows) ≡ rows
-unfolding row with_row
-back-with e r [] h i = cc
-back-with e r (x ∷ xs) h i = go (is_row_of e.sender (kind_of e.body) x) refl h (λ k. back-with e r xs k i)
-  where
-    own : is_row_of r.sender (kind_of r.body) e ≡ true
-    own = is_row_of-both e.sender (kind_of e.body) e r (is_row_of-own e) i
+-- the row at a place is of that sender and kind
+row_at-parts : (rows : List Filed) (u : ℕ) (k : Kind) (i : ℕ) (r : Filed) → place_of (sents_of rows) u k ≡ Some i → r ≡ get_or rows i r → ((sent_of r).sender ≡ u) × (kind_of (sent_of r).body ≡ k)
+row_at-parts rows u k i r p e =
+    let at = (place-within (is_row_of u k) (sents_of rows) i (sent_of r) p).2 in
+    is_row_of-parts u k (sent_of r) (subst (λ x. is_row_of u k x ≡ true) (sents-at rows i r ∙ ap sent_of (sym e)) at)
 
-    other : is_row_of e.sender (kind_of e.body) x ≡ false → is_row_of r.sender (kind_of r.body) x ≡ false
-    other f = let p = is_row_of-parts e.sender (kind_of e.body) r i in subst (λ k. is_row_of r.sender k x ≡ false) (sym p.1) (subst (λ u. is_row_of u (kind_of e.body) x ≡ false) (sym p.0) f)
+-- another row of that sender and kind leaves the place
+place-stays : (rows : List Filed) (i : ℕ) (f r : Filed) → place_of (sents_of rows) (sent_of f).sender (kind_of (sent_of f).body) ≡ Some i → r ≡ get_or rows i r
+    → place_of (sents_of (set rows i f)) (sent_of r).sender (kind_of (sent_of r).body) ≡ Some i
+place-stays rows i f r p e =
+    let u = (sent_of f).sender in
+    let k = kind_of (sent_of f).body in
+    let parts = row_at-parts rows u k i r p e in
+    let at = (place-within (is_row_of u k) (sents_of rows) i (sent_of r) p).2 in
+    ap₂ (λ w j. place_of (sents_of (set rows i f)) w j) parts.0 parts.1
+    ∙ (ap (λ xs. place_of xs u k) (sents-set rows i f)
+    ∙ (place-set (is_row_of u k) (sents_of rows) i (sent_of f) (sent_of r) (at ∙ sym (is_row_of-own (sent_of f))) ∙ p))
 
-    go : (b : Bool) → is_row_of e.sender (kind_of e.body) x ≡ b → cond b (Some x) (row xs e.sender (kind_of e.body)) ≡ Some r → (row xs e.sender (kind_of e.body) ≡ Some r → with_row r (with_row e xs) ≡ xs)
-        → with_row r (if b then e ∷ xs else x ∷ with_row e xs) ≡ x ∷ xs
-    go true f k ih = let z : r ≡ x = cc in ap (λ c. if c then r ∷ xs else e ∷ with_row r xs) own ∙ ap (λ y. y ∷ xs) z
-    go false f k ih = ap (λ c. if c then r ∷ with_row e xs else x ∷ with_row r (with_row e xs)) (other f) ∙ ap (λ ys. x ∷ ys) (ih k)
-
--- a row is its sender's, of its kind
-row-own : (rows : List Sent) (u : ℕ) (k : Kind) (r : Sent) → row rows u k ≡ Some r → is_row_of u k r ≡ true
-unfolding row
-row-own [] u k r h = cc
-row-own (x ∷ xs) u k r h = go (is_row_of u k x) refl h (row-own xs u k r)
-  where
-    go : (b : Bool) → is_row_of u k x ≡ b → cond b (Some x) (row xs u k) ≡ Some r → (row xs u k ≡ Some r → is_row_of u k r ≡ true) → is_row_of u k r ≡ true
-    go true f h ih = let z : x ≡ r = cc in subst (λ y. is_row_of u k y ≡ true) z f
-    go false f h ih = ih h
-
-pub row-restored : (e r : Sent) (old new : List Sent) → row old e.sender (kind_of e.body) ≡ Some r → new ≡ with_row e old → with_known_row r new ≡ old
-row-restored e r old new h n =
-    let i = row-own old e.sender (kind_of e.body) r h in
-    let own : is_row_of r.sender (kind_of r.body) e ≡ true = is_row_of-both e.sender (kind_of e.body) e r (is_row_of-own e) i in
-    let there : row (with_row e old) r.sender (kind_of r.body) ≡ Some e = row-with e old r.sender (kind_of r.body) ∙ ap (λ b. if b then Some e else row old r.sender (kind_of r.body)) own in
-    ap (with_known_row r) n ∙ (ap (λ o. if is_none o then with_row e old else with_row r (with_row e old)) there ∙ back-with e r old h i)
+pub row-restored : (old new : List Filed) (i : ℕ) (f r : Filed) → place_of (sents_of old) (sent_of f).sender (kind_of (sent_of f).body) ≡ Some i → r ≡ get_or old i r → new ≡ set old i f → with_known_row r new ≡ old
+row-restored old new i f r p e n =
+    ap (with_known_row r) n
+    ∙ (ap (λ o. with_row_at o r (set old i f)) (place-stays old i f r p e)
+    ∙ (set-set old i f r ∙ (ap (set old i) e ∙ set-get_or old i r)))
 
 -- ---- as the code reads them
-pub popped-read : (rows left : List Sent) (index less : List Places) (r : Sent) → IsIndexed rows index → rows ≡ left ++ r ∷ [] → less ≡ forgotten index r.sender (kind_of r.body) → IsIndexed left less
-popped-read rows left index less r h e f =
-    let s = single-ends left r (subst (λ xs. has_single_rows xs ≡ true) e h.single) in
+pub popped-read : (rows left : List Filed) (index less : List Places) (r : Filed) (e : Sent) → IsIndexed (sents_of rows) index → rows ≡ left ++ r ∷ [] → e ≡ sent_of r → less ≡ forgotten index e.sender (kind_of e.body) → IsIndexed (sents_of left) less
+popped-read rows left index less r e h p q f =
+    let parted = ap sents_of p ∙ sents-push left r in
+    let s = single-ends (sents_of left) (sent_of r) (subst (λ xs. has_single_rows xs ≡ true) parted h.single) in
     record {
       single = s.0;
-      indexed = f ∙ (ap (λ ps. forgotten ps r.sender (kind_of r.body)) (h.indexed ∙ ap index_of e) ∙ index-pop left r s.1);
+      indexed = f ∙ (ap (λ (x : Sent). forgotten index x.sender (kind_of x.body)) q ∙ (ap (λ ps. forgotten ps (sent_of r).sender (kind_of (sent_of r).body)) (h.indexed ∙ ap index_of parted) ∙ index-pop (sents_of left) (sent_of r) s.1));
     }
 
-pub left-last : (rows now left : List Sent) (r : Sent) → rows ≡ now → rows ≡ left ++ r ∷ [] → left ≡ without_last now
+pub left-last : (rows now left : List Filed) (r : Filed) → rows ≡ now → rows ≡ left ++ r ∷ [] → left ≡ without_last now
 left-last rows now left r v e = sym (last-pushed left r) ∙ ap without_last (sym e ∙ v)
 
-pub added-last : (old new : List Sent) (e : Sent) → new ≡ old ++ e ∷ [] → without_last new ≡ old
-added-last old new e h = ap without_last h ∙ last-pushed old e
+pub added-last : (old new : List Filed) (f : Filed) → new ≡ old ++ f ∷ [] → without_last new ≡ old
+added-last old new f h = ap without_last h ∙ last-pushed old f
 
-pub known-nowhere : (now : List Sent) (e : Sent) → place_of now e.sender (kind_of e.body) ≡ None → now ≡ with_known_row e now
-known-nowhere now e h = sym (ap (λ o. if is_none o then now else with_row e now) (row-nowhere now e.sender (kind_of e.body) h))
+-- a row put in its place, or added, is the table with the envelope
+pub replaced-filed : (old new : List Filed) (i : ℕ) (f : Filed) → place_of (sents_of old) (sent_of f).sender (kind_of (sent_of f).body) ≡ Some i → new ≡ set old i f → sents_of new ≡ with_row (sent_of f) (sents_of old)
+replaced-filed old new i f p n = ap sents_of n ∙ (sents-set old i f ∙ sym (with_row-set (sents_of old) (sent_of f) i p))
+
+pub added-filed : (old new : List Filed) (f : Filed) → place_of (sents_of old) (sent_of f).sender (kind_of (sent_of f).body) ≡ None → new ≡ old ++ f ∷ [] → sents_of new ≡ with_row (sent_of f) (sents_of old)
+added-filed old new f p n = ap sents_of n ∙ (sents-push old f ∙ sym (with_row-push (sents_of old) (sent_of f) p))
+
+-- the row at a place
+pub row-filed : (now : List Filed) (u : ℕ) (k : Kind) (i : ℕ) (x : Filed) → place_of (sents_of now) u k ≡ Some i → x ≡ get_or now i x → row (sents_of now) u k ≡ Some (sent_of x)
+row-filed now u k i x p e = row-placed (sents_of now) u k i (sent_of x) p (ap sent_of e ∙ sym (sents-at now i x))
+
+pub taken-filed : (rows now : List Filed) (e : Sent) (i : ℕ) (x : Filed) → rows ≡ now → place_of (sents_of now) e.sender (kind_of e.body) ≡ Some i → x ≡ get_or rows i x → is_newer e.body (sent_of x).body ≡ is_taken (sents_of now) e
+taken-filed rows now e i x v p h = taken-read (sents_of rows) (sents_of now) e (sent_of x) i (ap sents_of v) p (ap sent_of h ∙ sym (sents-at rows i x))
+
+pub set-filed : (rows now : List Filed) (index : List Places) (f : Filed) (i : ℕ) → IsIndexed (sents_of rows) index → rows ≡ now → place_of (sents_of now) (sent_of f).sender (kind_of (sent_of f).body) ≡ Some i → IsIndexed (sents_of (set rows i f)) index
+set-filed rows now index f i h v p = subst (λ xs. IsIndexed xs index) (sym (sents-set rows i f)) (set-read (sents_of rows) (sents_of now) index (sent_of f) i h (ap sents_of v) p)

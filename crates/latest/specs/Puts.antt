@@ -1,17 +1,27 @@
 -- What a table makes of an envelope, and the way back.
-use Rattle.std.specs.Prelude.{◌≡◌, true, false, List, [], ◌∷◌, Some, None, is_none, if◌then◌else◌}
+use Rattle.std.specs.Prelude.{◌≡◌, ℕ, true, false, List, [], ◌∷◌, Option, Some, None, slice_set, ⊤}
 use Rattle.types.specs.Statements.{Sent, kind_of}
+use Rattle.envstore.specs.declared.filed.Filed.{Filed}
+use Rattle.envstore.specs.Archives.{IsFiled, sent_of, sents_of}
 use Rattle.protocol.specs.Rows.{row, with_row, is_taken}
 use Rattle.latest.specs.declared.table.Offer.{Offer}
 use Rattle.latest.specs.declared.table.Put.{Put}
 use Rattle.latest.specs.declared.table.Put.TheVariants.{Stale, NoMemory, Added, Replaced}
+use Rattle.latest.specs.Places.{place_of}
 
 -- what the answer says of the table before and of the table after
-abbrev pub IsPut : List Sent → Sent → Put → List Sent → Type 0
-IsPut old e Stale new = (is_taken old e ≡ false) × (new ≡ old)
-IsPut old e NoMemory new = (row old e.sender (kind_of e.body) ≡ None) × (new ≡ old)
-IsPut old e Added new = (row old e.sender (kind_of e.body) ≡ None) × (is_taken old e ≡ true) × (new ≡ with_row e old)
-IsPut old e (Replaced r) new = (row old e.sender (kind_of e.body) ≡ Some r) × (is_taken old e ≡ true) × (new ≡ with_row e old)
+abbrev pub IsPut : List Filed → Sent → Put → List Filed → Type 0
+IsPut old e Stale new = (is_taken (sents_of old) e ≡ false) × (new ≡ old)
+IsPut old e NoMemory new = (row (sents_of old) e.sender (kind_of e.body) ≡ None) × (new ≡ old)
+IsPut old e Added new = (row (sents_of old) e.sender (kind_of e.body) ≡ None) × (is_taken (sents_of old) e ≡ true) × (sents_of new ≡ with_row e (sents_of old))
+IsPut old e (Replaced r) new = (row (sents_of old) e.sender (kind_of e.body) ≡ Some (sent_of r)) × (is_taken (sents_of old) e ≡ true) × (sents_of new ≡ with_row e (sents_of old))
+
+-- the archive has the row that was replaced
+abbrev pub IsFiledPut : List Sent → Put → Type 0
+IsFiledPut archive Stale = ⊤
+IsFiledPut archive NoMemory = ⊤
+IsFiledPut archive Added = ⊤
+IsFiledPut archive (Replaced r) = IsFiled archive r
 
 -- the answer without the way back
 abbrev pub offer_of : Put → Offer
@@ -21,17 +31,22 @@ offer_of Added = Offer.Replaced
 offer_of (Replaced r) = Offer.Replaced
 
 -- all rows but the last
-abbrev pub without_last : List Sent → List Sent
+abbrev pub without_last : List Filed → List Filed
 without_last [] = []
 without_last (x ∷ []) = []
 without_last (x ∷ y ∷ ys) = x ∷ without_last (y ∷ ys)
 
+-- a row at a place; without a place, the table as it is
+abbrev pub with_row_at : Option ℕ → Filed → List Filed → List Filed
+with_row_at None r table = table
+with_row_at (Some i) r table = slice_set table i r
+
 -- a row in the place of its sender's row of that kind; where there is none, the table as it is
-abbrev pub with_known_row : Sent → List Sent → List Sent
-with_known_row e table = if is_none (row table e.sender (kind_of e.body)) then table else with_row e table
+abbrev pub with_known_row : Filed → List Filed → List Filed
+with_known_row r table = with_row_at (place_of (sents_of table) (sent_of r).sender (kind_of (sent_of r).body)) r table
 
 -- the table from which this answer led to that one
-abbrev pub undone : Put → List Sent → List Sent
+abbrev pub undone : Put → List Filed → List Filed
 undone Stale table = table
 undone NoMemory table = table
 undone Added table = without_last table

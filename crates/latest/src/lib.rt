@@ -3,10 +3,12 @@
 
 mod newer;
 mod places;
+mod rows;
 mod senders;
 mod table;
 
 pub use newer::is_newer;
+pub use rows::Rows;
 pub use senders::senders_are_those_with_a_row;
 pub use table::{Offer, Put, Table};
 

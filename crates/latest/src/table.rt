@@ -1,14 +1,16 @@
 //! The table of newest rows.
 
-ghost use Rattle.std.specs.Prelude.{◌≡◌, ◌≢◌, ◌↔◌, ◌++◌, ◌∷◌, [], ◌<◌, List, IfOk, IfSome, OnErr, OnOk, IsTrue, None, Some, false, length, option_map, slice_get, true, vec_capacity, vec_len};
+ghost use Rattle.std.specs.Prelude.{◌≡◌, ◌≢◌, ◌↔◌, ◌++◌, ◌∷◌, [], ◌<◌, List, IfOk, IfSome, OnErr, OnOk, IsTrue, None, Some, false, length, option_map, slice_get, slice_index_or, slice_set, true, vec_capacity, vec_len};
+ghost use Rattle.envstore.specs.Archives.{AreFiled, IsFiled, sent_of, sents_of};
 ghost use Rattle.latest.specs.Places.{ascends, forgotten, place_of};
-ghost use Rattle.latest.specs.Puts.{IsPut, offer_of, undone, with_known_row, without_last};
+ghost use Rattle.latest.specs.Puts.{IsFiledPut, IsPut, offer_of, undone, with_known_row, without_last};
 ghost use Rattle.latest.specs.Senders.{senders};
-ghost use Rattle.protocol.specs.Rows.{has_single_rows, is_row_of, is_taken, offered, row, table_after, with_row};
+ghost use Rattle.protocol.specs.Rows.{has_single_rows, is_taken, offered, row, table_after};
 ghost use Rattle.types.specs.Statements.{Sent, kind_of};
 
 use crate::newer::is_newer;
 use crate::places::{Places, find, forget, note};
+use envstore::{Archive, Filed};
 use std::alloc::{AllocError, Global};
 use std::marker::Model;
 use std::mem;
@@ -35,7 +37,7 @@ pub enum Put {
     /// It is its sender's first row of its kind, and the last of all.
     Added,
     /// It stands in the place of this row, than which it is newer.
-    Replaced(Envelope),
+    Replaced(Filed),
 }
 
 impl Put {
@@ -53,29 +55,32 @@ impl Put {
 
 /// The newest envelopes of all senders: one row of each sender and kind (this host's profile).
 ///
+/// A row is the number of an envelope in an archive, which the caller lends to each call that reads a row.
+///
 /// Contracts see it as the list of its rows, in the order in which their senders first had one of
 /// that kind; a newer envelope stands in the place of the older one. A look-up is a binary search
 /// among the senders.
 #[derive(Drop)]
 pub struct Table {
-    rows: Vec<Envelope>,
+    rows: Vec<Filed>,
     index: Vec<Places>,
 }
 
 impl Model for Table {
     ghost use Rattle.std.specs.Coded.{codes};
     ghost use Rattle.std.specs.Prelude.{List};
+    ghost use Rattle.envstore.specs.Archives.{sents_of};
+    ghost use Rattle.envstore.specs.declared.filed.Filed.{Filed};
     ghost use Rattle.latest.specs.Places.{IsIndexed};
-    ghost use Rattle.types.specs.Statements.{Sent};
     ghost use Rattle.types.specs.Trees.{members_code};
 
-    ghost Value = { List Sent };
+    ghost Value = { List Filed };
 
     ghost coded = { Prim.hlevel (codes, members_code) };
 
     ghost view = { λ a. a.rows.items };
 
-    ghost invariant = { λ a. IsIndexed a.rows.items a.index.items };
+    ghost invariant = { λ a. IsIndexed (sents_of a.rows.items) a.index.items };
 }
 
 impl Table {
@@ -94,14 +99,17 @@ impl Table {
     /// It is stale exactly where it is not newer. Memory is asked for only where its sender has no row
     /// of its kind. Where the answer is not [`Offer::Replaced`], the table is as it was. Offers of a
     /// whole list, one after another, make the table of that list.
-    pub fn offer(&mut self, envelope: Envelope) -> Offer
-        ensures stale { result ≡ Offer.Stale ↔ is_taken self.old envelope ≡ false }
-        ensures table { result ≢ Offer.NoMemory → self.new ≡ offered self.old envelope }
+    pub fn offer<S: envstore::Places>(&mut self, archive: &Archive<S>, envelope: Filed) -> Offer
+        requires rows { AreFiled archive.now self.old }
+        requires envelope { IsFiled archive.now envelope }
+        ensures stale { result ≡ Offer.Stale ↔ is_taken (sents_of self.old) (sent_of envelope) ≡ false }
+        ensures table { result ≢ Offer.NoMemory → sents_of self.new ≡ offered (sents_of self.old) (sent_of envelope) }
         ensures unchanged { result ≢ Offer.Replaced → self.new ≡ self.old }
-        ensures memory { result ≡ Offer.NoMemory → row self.old envelope.sender (kind_of envelope.body) ≡ None }
-        ensures whole { (taken : List Sent) → self.old ≡ table_after taken → result ≢ Offer.NoMemory → self.new ≡ table_after (taken ++ envelope ∷ []) }
+        ensures memory { result ≡ Offer.NoMemory → row (sents_of self.old) (sent_of envelope).sender (kind_of (sent_of envelope).body) ≡ None }
+        ensures whole { (taken : List Sent) → sents_of self.old ≡ table_after taken → result ≢ Offer.NoMemory → sents_of self.new ≡ table_after (taken ++ sent_of envelope ∷ []) }
+        ensures filed { AreFiled archive.now self.new }
     {
-        self.put(envelope).offer()
+        self.put(archive, envelope).offer()
     }
 
     /// Takes an envelope as [`Table::offer`] does, and answers what leads back: for a step that may
@@ -109,14 +117,21 @@ impl Table {
     ///
     /// It is stale exactly where it is not newer. Memory is asked for only where its sender has no row
     /// of its kind.
-    pub fn put(&mut self, envelope: Envelope) -> Put
-        ensures put { IsPut self.old envelope result self.new }
+    pub fn put<S: envstore::Places>(&mut self, archive: &Archive<S>, envelope: Filed) -> Put
+        requires rows { AreFiled archive.now self.old }
+        requires envelope { IsFiled archive.now envelope }
+        ensures put { IsPut self.old (sent_of envelope) result self.new }
         ensures back { undone result self.new ≡ self.old }
+        ensures filed { AreFiled archive.now self.new }
+        ensures known { IsFiledPut archive.now result }
     {
-        match self.place(envelope.sender(), envelope.body().kind()) {
-            Some(place) if !self.is_newer_than_row(place, &envelope) => Put::Stale,
+        let new = archive.read(&envelope);
+        let sender = *new.sender();
+        let kind = new.body().kind();
+        match self.place(&sender, kind) {
+            Some(place) if !self.is_newer_than_row(archive, place, new) => Put::Stale,
             Some(place) => Put::Replaced(self.replace(place, envelope)),
-            None => match self.add(envelope) {
+            None => match self.add(sender, kind, envelope) {
                 Ok(()) => Put::Added,
                 Err(_) => Put::NoMemory,
             },
@@ -125,22 +140,30 @@ impl Table {
 
     /// Undoes what [`Table::put`] made of an envelope. It takes no memory, and cannot fail. Where the
     /// table is as that call left it, it is then as it was before that call.
-    pub fn undo(&mut self, put: Put)
+    pub fn undo<S: envstore::Places>(&mut self, archive: &Archive<S>, put: Put)
+        requires rows { AreFiled archive.now self.old }
+        requires known { IsFiledPut archive.now put }
         ensures { self.new ≡ undone put self.old }
     {
         match put {
             Put::Stale | Put::NoMemory => {}
-            Put::Added => self.remove_last(),
-            Put::Replaced(row) => self.restore(row),
+            Put::Added => self.remove_last(archive),
+            Put::Replaced(row) => self.restore(archive, row),
         }
     }
 
     /// The sender's row of a kind. It takes no memory.
-    pub fn row(&self, sender: &NodeId, kind: Kind) -> Option<&Envelope>
-        ensures { option_map (λ r. r.now) result ≡ row self.now sender.now kind }
+    pub fn row<'a, S: envstore::Places>(
+        &self,
+        archive: &'a Archive<S>,
+        sender: &NodeId,
+        kind: Kind,
+    ) -> Option<&'a Envelope>
+        requires { AreFiled archive.now self.now }
+        ensures { option_map (λ r. r.now) result ≡ row (sents_of self.now) sender.now kind }
     {
         match self.place(sender, kind) {
-            Some(place) => Some(&self.rows[place]),
+            Some(place) => Some(archive.read(&self.rows[place])),
             None => None,
         }
     }
@@ -148,7 +171,7 @@ impl Table {
     /// The sender that has `n` senders below it, each sender with a row counted once: the `n`-th in
     /// ascending order, from 0 on. There is none exactly from their number on. It takes no memory.
     pub fn sender(&self, n: usize) -> Option<&NodeId>
-        ensures { option_map (λ r. r.now) result ≡ slice_get (senders self.now) n }
+        ensures { option_map (λ r. r.now) result ≡ slice_get (senders (sents_of self.now)) n }
     {
         match self.index.get(n) {
             Some(places) => Some(&places.sender),
@@ -158,15 +181,15 @@ impl Table {
 
     /// How many senders have a row. It takes no memory.
     pub fn sender_count(&self) -> usize
-        ensures { result ≡ length (senders self.now) }
+        ensures { result ≡ length (senders (sents_of self.now)) }
     {
         self.index.len()
     }
 
     /// All rows, in the order in which their senders first had one of that kind.
-    pub fn rows(&self) -> &[Envelope]
+    pub fn rows(&self) -> &[Filed]
         ensures value { result.now ≡ self.now }
-        ensures single { has_single_rows self.now ≡ true }
+        ensures single { has_single_rows (sents_of self.now) ≡ true }
     {
         self.rows.as_slice()
     }
@@ -186,68 +209,82 @@ impl Table {
     }
 
     /// A copy.
-    pub fn try_copy(&self, alloc: Global) -> Result<Table, AllocError>
+    pub fn try_copy<S: envstore::Places>(
+        &self,
+        alloc: Global,
+        archive: &Archive<S>,
+    ) -> Result<Table, AllocError>
+        requires { AreFiled archive.now self.now }
         ensures { IfOk result (λ t. t ≡ self.now) }
     {
-        let rows = copy_of_rows(alloc, &self.rows)?;
+        let rows = copy_of_rows(alloc, archive, &self.rows)?;
         let index = Vec::from_slice(alloc, &self.index)?;
         Ok(Table { rows, index })
     }
 
     /// The place of the sender's row of a kind.
     fn place(&self, sender: &NodeId, kind: Kind) -> Option<usize>
-        ensures value { result ≡ place_of self.now sender.now kind }
+        ensures value { result ≡ place_of (sents_of self.now) sender.now kind }
         ensures within { IfSome result (λ place. place < length self.now) }
     {
         find(&self.index, sender, kind)
     }
 
     /// Whether an envelope is newer than its sender's row of its kind, which stands at this place.
-    fn is_newer_than_row(&self, place: usize, envelope: &Envelope) -> bool
+    fn is_newer_than_row<S: envstore::Places>(
+        &self,
+        archive: &Archive<S>,
+        place: usize,
+        envelope: &Envelope,
+    ) -> bool
+        requires rows { AreFiled archive.now self.now }
         requires within { place < length self.now }
-        requires row { place_of self.now envelope.now.sender (kind_of envelope.now.body) ≡ Some place }
-        ensures { result ≡ is_taken self.now envelope.now }
+        requires row { place_of (sents_of self.now) envelope.now.sender (kind_of envelope.now.body) ≡ Some place }
+        ensures { result ≡ is_taken (sents_of self.now) envelope.now }
     {
-        is_newer(envelope.body(), self.rows[place].body())
+        is_newer(envelope.body(), archive.read(&self.rows[place]).body())
     }
 
     /// Puts an envelope in the place of its sender's row of its kind, and answers that row.
-    fn replace(&mut self, place: usize, envelope: Envelope) -> Envelope
+    fn replace(&mut self, place: usize, envelope: Filed) -> Filed
         requires within { place < length self.old }
-        requires row { place_of self.old envelope.sender (kind_of envelope.body) ≡ Some place }
-        ensures table { self.new ≡ with_row envelope self.old }
-        ensures row { row self.old envelope.sender (kind_of envelope.body) ≡ Some result }
+        requires row { place_of (sents_of self.old) (sent_of envelope).sender (kind_of (sent_of envelope).body) ≡ Some place }
+        ensures table { self.new ≡ slice_set self.old place envelope }
+        ensures row { result ≡ slice_index_or self.old place result }
     {
         mem::replace(&mut self.rows[place], envelope)
     }
 
     /// Puts a row back in the place of its sender's row of its kind, where there is one.
-    fn restore(&mut self, row: Envelope)
+    fn restore<S: envstore::Places>(&mut self, archive: &Archive<S>, row: Filed)
+        requires { IsFiled archive.now row }
         ensures { self.new ≡ with_known_row row self.old }
     {
-        if let Some(place) = self.place(row.sender(), row.body().kind()) {
+        let known = archive.read(&row);
+        if let Some(place) = self.place(known.sender(), known.body().kind()) {
             let _ = self.replace(place, row);
         }
     }
 
     /// Removes the last row, where there is one.
-    fn remove_last(&mut self)
+    fn remove_last<S: envstore::Places>(&mut self, archive: &Archive<S>)
+        requires { AreFiled archive.now self.old }
         ensures { self.new ≡ without_last self.old }
     {
         if let Some(row) = self.rows.pop() {
-            forget_row(&mut self.index, row);
+            forget_row(&mut self.index, archive.read(&row));
         }
     }
 
     /// Adds an envelope whose sender has no row of its kind. Where memory is wanting the table stays
     /// as it was.
-    fn add(&mut self, envelope: Envelope) -> Result<(), AllocError>
-        requires { place_of self.old envelope.sender (kind_of envelope.body) ≡ None }
+    fn add(&mut self, sender: NodeId, kind: Kind, envelope: Filed) -> Result<(), AllocError>
+        requires none { place_of (sents_of self.old) (sent_of envelope).sender (kind_of (sent_of envelope).body) ≡ None }
+        requires sender { sender ≡ (sent_of envelope).sender }
+        requires kind { kind ≡ kind_of (sent_of envelope).body }
         ensures ok { OnOk result (self.new ≡ self.old ++ envelope ∷ []) }
         ensures err { OnErr result (self.new ≡ self.old) }
     {
-        let sender = *envelope.sender();
-        let kind = envelope.body().kind();
         let place = self.len();
         self.rows.reserve(1)?;
         note(&mut self.index, sender, kind, place)?;
@@ -257,28 +294,33 @@ impl Table {
 }
 
 /// Forgets the place of a row that is gone.
-fn forget_row(index: &mut Vec<Places>, row: Envelope)
+fn forget_row(index: &mut Vec<Places>, row: &Envelope)
     requires { ascends index.old.items ≡ true }
-    ensures { index.new.items ≡ forgotten index.old.items row.sender (kind_of row.body) }
+    ensures { index.new.items ≡ forgotten index.old.items row.now.sender (kind_of row.now.body) }
 {
     forget(index, row.sender(), row.body().kind());
 }
 
 /// Adds an envelope where there is room for it.
-fn push_reserved(rows: &mut Vec<Envelope>, envelope: Envelope)
+fn push_reserved(rows: &mut Vec<Filed>, envelope: Filed)
     requires { vec_len rows.old < vec_capacity rows.old }
     ensures { rows.new.items ≡ rows.old.items ++ envelope ∷ [] }
 {
     let _ = rows.push(envelope);
 }
 
-/// A copy of envelopes.
-fn copy_of_rows(alloc: Global, rows: &[Envelope]) -> Result<Vec<Envelope>, AllocError>
+/// A copy of rows.
+fn copy_of_rows<S: envstore::Places>(
+    alloc: Global,
+    archive: &Archive<S>,
+    rows: &[Filed],
+) -> Result<Vec<Filed>, AllocError>
+    requires { AreFiled archive.now rows.now }
     ensures { IfOk result (λ v. v.items ≡ rows.now) }
 {
     let mut copies = Vec::new(alloc);
     for row in rows {
-        copies.push(row.try_copy(alloc)?)?;
+        copies.push(archive.again(row))?;
     }
     Ok(copies)
 }

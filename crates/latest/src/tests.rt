@@ -1,9 +1,103 @@
 //! Offers and what a table holds after them.
 
-use crate::{Offer, Put, Table, is_newer};
+use crate::{Offer, Put, Rows, Table, is_newer};
+use envstore::{Archive, VecShelf};
 use std::alloc::Global;
+use std::marker::Model;
 use std::test::Fail;
 use types::{Ballot, Envelope, Kind, Member, Nested, NodeId, SliceSet, Statement, Value, Values};
+
+/// A table, and the archive of its rows.
+#[derive(Drop)]
+struct Kept {
+    archive: Archive<VecShelf>,
+    table: Table,
+}
+
+impl Model for Kept {
+    ghost use Rattle.std.specs.Coded.{codes};
+    ghost use Rattle.std.specs.Prelude.{List};
+    ghost use Rattle.envstore.specs.Archives.{AreFiled};
+    ghost use Rattle.envstore.specs.declared.filed.Filed.{Filed};
+    ghost use Rattle.types.specs.Trees.{members_code};
+
+    ghost Value = { List Filed };
+
+    ghost coded = { Prim.hlevel (codes, members_code) };
+
+    ghost view = { λ a. a.table };
+
+    ghost invariant = { λ a. AreFiled a.archive a.table };
+}
+
+impl Kept {
+    fn new(alloc: Global) -> Kept {
+        Kept {
+            archive: Archive::new(alloc, VecShelf::new(alloc)),
+            table: Table::new(alloc),
+        }
+    }
+
+    fn offer(&mut self, envelope: Envelope) -> Result<Offer, Fail> {
+        let filed = self.archive.put(envelope)?;
+        Ok(self.table.offer(&self.archive, filed))
+    }
+
+    fn rows(&self) -> Rows<'_, VecShelf> {
+        Rows::of(&self.table, &self.archive)
+    }
+
+    /// Which of its ways a put of the envelope goes, with the table as it is then.
+    fn put(&mut self, envelope: Envelope) -> Result<Way, Fail> {
+        let filed = self.archive.put(envelope)?;
+        Ok(way_of(&self.table.put(&self.archive, filed)))
+    }
+
+    /// A put of the envelope, undone at once.
+    fn put_and_undo(&mut self, envelope: Envelope) -> Result<(), Fail> {
+        let filed = self.archive.put(envelope)?;
+        let put = self.table.put(&self.archive, filed);
+        self.table.undo(&self.archive, put);
+        Ok(())
+    }
+
+    fn copy(&self, alloc: Global) -> Result<Table, Fail> {
+        Ok(self.table.try_copy(alloc, &self.archive)?)
+    }
+
+    fn has_row(&self, sender: u64, kind: Kind) -> bool {
+        self.rows().row(&name(sender), kind).is_some()
+    }
+
+    // The counter of the sender's ballot row.
+    fn counter(&self, sender: u64) -> Option<u32> {
+        match self.rows().row(&name(sender), Kind::Ballot)?.body() {
+            Statement::Nominate { .. } => None,
+            Statement::Prepare { ballot, .. } | Statement::Commit { ballot, .. } => {
+                Some(ballot.counter)
+            }
+            Statement::Externalize { commit, .. } => Some(commit.counter),
+        }
+    }
+}
+
+/// What a put answers, without the way back.
+#[derive(Clone, Copy, Debug, PartialEq, Eq)]
+enum Way {
+    Stale,
+    NoMemory,
+    Added,
+    Replaced,
+}
+
+fn way_of(put: &Put) -> Way {
+    match put {
+        Put::Stale => Way::Stale,
+        Put::NoMemory => Way::NoMemory,
+        Put::Added => Way::Added,
+        Put::Replaced(_) => Way::Replaced,
+    }
+}
 
 fn name(number: u64) -> NodeId {
     NodeId::from_words(0, 0, 0, number)
@@ -54,21 +148,10 @@ fn externalize(counter: u32, letter: u8) -> Result<Statement, Fail> {
     })
 }
 
-// The counter of the sender's ballot row.
-fn counter(table: &Table, sender: u64) -> Option<u32> {
-    match table.row(&name(sender), Kind::Ballot)?.body() {
-        Statement::Nominate { .. } => None,
-        Statement::Prepare { ballot, .. } | Statement::Commit { ballot, .. } => {
-            Some(ballot.counter)
-        }
-        Statement::Externalize { commit, .. } => Some(commit.counter),
-    }
-}
-
 #[test]
 fn older_statements_are_stale(rt: HostRuntime) -> Result<(), Fail> {
     let alloc = rt.alloc();
-    let mut table = Table::new(alloc);
+    let mut table = Kept::new(alloc);
     let cases = [
         (9, b'm', Some(9), 6, Offer::Replaced),
         (9, b'm', Some(9), 6, Offer::Stale),
@@ -77,37 +160,37 @@ fn older_statements_are_stale(rt: HostRuntime) -> Result<(), Fail> {
     ];
     for (counter, letter, prepared, aborted, want) in cases {
         let body = prepare(counter, letter, prepared, aborted)?;
-        assert_eq!(rt; table.offer(envelope(alloc, 2, body)?), want);
+        assert_eq!(rt; table.offer(envelope(alloc, 2, body)?)?, want);
     }
-    assert_eq!(rt; counter(&table, 2), Some(9));
-    assert_eq!(rt; table.len(), 1);
+    assert_eq!(rt; table.counter(2), Some(9));
+    assert_eq!(rt; table.table.len(), 1);
     Ok(())
 }
 
 #[test]
 fn other_nominations_are_stale(rt: HostRuntime) -> Result<(), Fail> {
     let alloc = rt.alloc();
-    let mut table = Table::new(alloc);
+    let mut table = Kept::new(alloc);
     for (letter, want) in [(b'x', Offer::Replaced), (b'y', Offer::Stale)] {
         let body = nominate(alloc, letter)?;
-        assert_eq!(rt; table.offer(envelope(alloc, 2, body)?), want);
+        assert_eq!(rt; table.offer(envelope(alloc, 2, body)?)?, want);
     }
-    assert!(rt; table.row(&name(2), Kind::Nomination).is_some());
-    assert!(rt; table.row(&name(2), Kind::Ballot).is_none());
+    assert!(rt; table.has_row(2, Kind::Nomination));
+    assert!(rt; !table.has_row(2, Kind::Ballot));
     Ok(())
 }
 
 #[test]
 fn nothing_replaces_an_externalize(rt: HostRuntime) -> Result<(), Fail> {
     let alloc = rt.alloc();
-    let mut table = Table::new(alloc);
+    let mut table = Kept::new(alloc);
     let first = externalize(3, b'x')?;
     let later = prepare(4_294_967_294, b'x', None, 0)?;
     assert!(rt; !is_newer(&later, &first));
     assert!(rt; is_newer(&first, &later));
-    assert_eq!(rt; table.offer(envelope(alloc, 2, first)?), Offer::Replaced);
-    assert_eq!(rt; table.offer(envelope(alloc, 2, later)?), Offer::Stale);
-    assert_eq!(rt; counter(&table, 2), Some(3));
+    assert_eq!(rt; table.offer(envelope(alloc, 2, first)?)?, Offer::Replaced);
+    assert_eq!(rt; table.offer(envelope(alloc, 2, later)?)?, Offer::Stale);
+    assert_eq!(rt; table.counter(2), Some(3));
     Ok(())
 }
 
@@ -115,25 +198,25 @@ fn nothing_replaces_an_externalize(rt: HostRuntime) -> Result<(), Fail> {
 fn senders_ascend(rt: HostRuntime) -> Result<(), Fail> {
     let alloc = rt.alloc();
     for order in [[9, 5, 2, 1], [1, 2, 5, 9], [5, 1, 9, 2]] {
-        let mut table = Table::new(alloc);
-        assert!(rt; table.is_empty());
+        let mut table = Kept::new(alloc);
+        assert!(rt; table.table.is_empty());
         for sender in order {
             let body = prepare(sender, b'x', None, 0)?;
             assert_eq!(rt;
-                table.offer(envelope(alloc, u64::from(sender), body)?),
+                table.offer(envelope(alloc, u64::from(sender), body)?)?,
                 Offer::Replaced
             );
             let body = nominate(alloc, b'x')?;
             assert_eq!(rt;
-                table.offer(envelope(alloc, u64::from(sender), body)?),
+                table.offer(envelope(alloc, u64::from(sender), body)?)?,
                 Offer::Replaced
             );
         }
-        let copy = table.try_copy(alloc)?;
+        let copy = table.copy(alloc)?;
         assert_eq!(rt; copy.rows().len(), 8);
         for (place, sender) in [1, 2, 5, 9].into_iter().enumerate() {
             assert_eq!(rt; copy.sender(place).copied(), Some(name(sender)));
-            assert_eq!(rt; counter(&copy, sender), u32::try_from(sender).ok());
+            assert_eq!(rt; table.counter(sender), u32::try_from(sender).ok());
         }
         assert!(rt; copy.sender(4).is_none());
     }
@@ -141,40 +224,38 @@ fn senders_ascend(rt: HostRuntime) -> Result<(), Fail> {
 }
 
 // Puts an envelope, undoes that, and says whether the rows that were there are there again.
-fn comes_back(
-    alloc: Global,
-    table: &mut Table,
-    sender: u64,
-    body: Statement,
-) -> Result<bool, Fail> {
-    let senders = table.sender_count();
-    let rows = table.len();
-    let old = counter(table, sender);
-    let put = table.put(envelope(alloc, sender, body)?);
-    table.undo(put);
-    Ok(table.sender_count() == senders && table.len() == rows && counter(table, sender) == old)
+fn comes_back(alloc: Global, kept: &mut Kept, sender: u64, body: Statement) -> Result<bool, Fail> {
+    let senders = kept.table.sender_count();
+    let rows = kept.table.len();
+    let old = kept.counter(sender);
+    kept.put_and_undo(envelope(alloc, sender, body)?)?;
+    Ok(
+        kept.table.sender_count() == senders
+            && kept.table.len() == rows
+            && kept.counter(sender) == old,
+    )
 }
 
 #[test]
 fn a_put_is_undone(rt: HostRuntime) -> Result<(), Fail> {
     let alloc = rt.alloc();
-    let mut table = Table::new(alloc);
+    let mut kept = Kept::new(alloc);
     for sender in [5, 9, 2] {
-        assert!(rt; comes_back(alloc, &mut table, sender, prepare(3, b'x', None, 0)?)?);
-        let put = table.put(envelope(alloc, sender, prepare(3, b'x', None, 0)?)?);
-        assert!(rt; matches!(put, Put::Added));
+        assert!(rt; comes_back(alloc, &mut kept, sender, prepare(3, b'x', None, 0)?)?);
+        let first = envelope(alloc, sender, prepare(3, b'x', None, 0)?)?;
+        assert_eq!(rt; kept.put(first)?, Way::Added);
     }
-    assert!(rt; comes_back(alloc, &mut table, 9, nominate(alloc, b'x')?)?);
-    assert!(rt; comes_back(alloc, &mut table, 9, prepare(4, b'x', None, 0)?)?);
-    assert!(rt; comes_back(alloc, &mut table, 9, prepare(1, b'x', None, 0)?)?);
-    assert!(rt; table.row(&name(9), Kind::Nomination).is_none());
-    let put = table.put(envelope(alloc, 9, prepare(4, b'x', None, 0)?)?);
-    assert!(rt; matches!(&put, Put::Replaced(row) if *row.sender() == name(9)));
-    let put = table.put(envelope(alloc, 9, prepare(4, b'x', None, 0)?)?);
-    assert!(rt; matches!(put, Put::Stale));
-    assert_eq!(rt; counter(&table, 9), Some(4));
+    assert!(rt; comes_back(alloc, &mut kept, 9, nominate(alloc, b'x')?)?);
+    assert!(rt; comes_back(alloc, &mut kept, 9, prepare(4, b'x', None, 0)?)?);
+    assert!(rt; comes_back(alloc, &mut kept, 9, prepare(1, b'x', None, 0)?)?);
+    assert!(rt; !kept.has_row(9, Kind::Nomination));
+    let newer = envelope(alloc, 9, prepare(4, b'x', None, 0)?)?;
+    assert_eq!(rt; kept.put(newer)?, Way::Replaced);
+    let same = envelope(alloc, 9, prepare(4, b'x', None, 0)?)?;
+    assert_eq!(rt; kept.put(same)?, Way::Stale);
+    assert_eq!(rt; kept.counter(9), Some(4));
     for (place, sender) in [2, 5, 9].into_iter().enumerate() {
-        assert_eq!(rt; table.sender(place).copied(), Some(name(sender)));
+        assert_eq!(rt; kept.table.sender(place).copied(), Some(name(sender)));
     }
     Ok(())
 }

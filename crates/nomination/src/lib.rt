@@ -10,4 +10,4 @@ mod rules;
 mod tests;
 mod voting;
 
-pub use rules::nominate;
+pub use rules::{leads, nominate};

@@ -134,15 +134,15 @@ fn own_input(own: &NodeId, given: &Given) -> Option<Value>
     if leads(own, given) { given.input } else { None }
 }
 
-/// Whether the node is among its leaders.
-fn leads(own: &NodeId, given: &Given) -> bool
-    ensures { result ≡ among given.now.leaders own.now }
+/// Whether a node is among the leaders of the rounds so far. It takes no memory.
+pub fn leads(node: &NodeId, given: &Given) -> bool
+    ensures { result ≡ among given.now.leaders node.now }
 {
     given
         .leaders
         .as_slice()
         .iter()
-        .any(|leader| *leader == *own)
+        .any(|leader| *leader == *node)
 }
 
 /// How many values may still be added.

@@ -10,7 +10,7 @@ use Rattle.protocol.specs.Satisfaction.{names}
 use Rattle.protocol.specs.Closures.{Rule, keeps, in_least}
 use Rattle.protocol.specs.Rows.{row}
 use Rattle.protocol.specs.Nodes.{Node, step}
-use Rattle.types.specs.declared.event.NodeEvent.TheVariants.{Propose, Take, NominationTimer, BallotTimer}
+use Rattle.types.specs.declared.event.NodeEvent.TheVariants.{Propose, Take, NominationTimer, BallotTimer, Reslice}
 use Rattle.protocol.specs.Hosts.{Entry}
 use Rattle.protocol.specs.Isolation.{closure, host_rule, announced}
 use Rattle.protocol.specs.Claims.{IsClosedFor, IsOfMembers, Agree, Quiet, PrefixOfRun, PrefixOfReach}
@@ -36,12 +36,14 @@ fits R (Propose x) h = tt
 fits R (Take e) h = or_right (not (R e.sender)) (within (names e.slices) R) h.1
 fits R (NominationTimer r) h = tt
 fits R (BallotTimer c) h = tt
+fits R (Reslice q) h = h
 
 keeps_to : (R : Names) (e : NodeEvent) → IsOfMembers R e → IsKept R e
 keeps_to R (Propose x) h = tt
 keeps_to R (Take e) h = h
 keeps_to R (NominationTimer r) h = tt
 keeps_to R (BallotTimer c) h = tt
+keeps_to R (Reslice q) h = tt
 
 pub agree_claim : Agree
 agree_claim R n m e c d k h =

@@ -2,11 +2,10 @@
 use Rattle.std.proofs.Common.{◌≡◌, ℕ, Bool, true, false, ◌||◌, List, [], ◌∷◌, if◌then◌else◌, refl, sym, ◌∙◌, ap, inl, inr, ◌⊎◌}
 use Rattle.std.proofs.lemmas.Bool.{or_cases, or_left, or_right, false≢true}
 use Rattle.std.proofs.lemmas.Cmp.{nat_list_cmp_total}
-use Rattle.std.specs.Ordering.{is_lt}
 use Rattle.types.specs.Votes.{same_value, has_value}
 use Rattle.protocol.specs.Candidates.{greatest_value, combine}
 use Rattle.protocol.specs.ValueSets.{SetsAreAlone, SetsAreExact, MoreAreAdded, IsGreatestValue, CombinedToGreatest}
-use Rattle.protocol.proofs.BallotOrder.{less, less-self, less-asym, less-trans, lt-up}
+use Rattle.protocol.proofs.BallotOrder.{less, less-self, less-asym, lt-up}
 use Rattle.protocol.proofs.NominationSets.{all-ascending}
 use Rattle.protocol.proofs.SamenessLaws.{same_value-true, same_value-refl}
 use Rattle.protocol.proofs.ValueSets.{set_ascending, has_all, one_set}

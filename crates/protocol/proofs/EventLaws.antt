@@ -12,10 +12,10 @@ use Rattle.protocol.specs.Sets.{Names, within}
 use Rattle.protocol.specs.Satisfaction.{names}
 use Rattle.protocol.specs.Rows.{is_kind}
 use Rattle.protocol.specs.Nodes.{fresh}
-use Rattle.types.specs.declared.event.NodeEvent.TheVariants.{Propose, Take, NominationTimer, BallotTimer}
-use Rattle.protocol.specs.Networks.{Host, Place, Slot, Net, Step, slices_of, places_at, place_of, emission, known, act, act_known, opened, effect}
+use Rattle.types.specs.declared.event.NodeEvent.TheVariants.{Propose, Take, NominationTimer, BallotTimer, Reslice}
+use Rattle.protocol.specs.Networks.{Host, Place, Slot, Net, Step, slices_of, places_at, place_of, emission, known, act, act_known, opened, renewed, effect}
 use Rattle.protocol.specs.Networks.Reading.{Read, Fault}
-use Rattle.protocol.specs.Networks.Step.{Opens, Closes, Asks, Delivers, Hears, NominationTimes, BallotTimes}
+use Rattle.protocol.specs.Networks.Step.{Opens, Closes, Asks, Delivers, Hears, NominationTimes, BallotTimes, Reslices}
 use Rattle.protocol.specs.Isolation.{Kept, when_kept, kept, is_of}
 use Rattle.protocol.specs.Isolation.Kept.{Opened, Closed, Told, Heard}
 use Rattle.protocol.proofs.SamenessLaws.{eqb-refl}
@@ -27,16 +27,16 @@ use Rattle.protocol.proofs.Follows.{Follows, unseen, member_kept, member_quiet}
 use Rattle.protocol.proofs.FreshNodes.{fresh-calm}
 
 -- an event of one node that hands over no envelope
-asked : (R : Names) (cast : ℕ → Option Slices) (i : ℕ) (net : Net) (j u : ℕ) (e : NodeEvent) → AllPlaces R i net → IsFit R e → IsKept R e
+asked : (R : Names) (cast : ℕ → Option Slices) (i : ℕ) (net : Net) (j u : ℕ) (e : NodeEvent) → AllPlaces R i net → ((j == i) ≡ true → R u ≡ true → IsFit R e) → IsKept R e
     → Follows R cast i net (act net j u e) (λ w. (j == i) && (u == w)) (when_kept ((j == i) && R u) (Told u e))
 asked R cast i net j u e h f k = elim (cases_Bool ((j == i) && R u)) [
   | inl y ↦ let p = and_parts (j == i) (R u) y in
       subst (λ (x : Option Kept). Follows R cast i net (act net j u e) (λ w. (j == i) && (u == w)) x) (sym (ap (λ b. when_kept b (Told u e)) y))
-      (subst (λ x. Follows R cast i net (act net x u e) (λ w. (x == i) && (u == w)) (Some (Told u e))) (sym (eqb-true j i p.0)) (member_kept R cast i net u e h p.1 f k))
+      (subst (λ x. Follows R cast i net (act net x u e) (λ w. (x == i) && (u == w)) (Some (Told u e))) (sym (eqb-true j i p.0)) (member_kept R cast i net u e h p.1 (f p.0 p.1) k))
   | inr o ↦ subst (λ (x : Option Kept). Follows R cast i net (act net j u e) (λ w. (j == i) && (u == w)) x) (sym (ap (λ b. when_kept b (Told u e)) o)) (unseen R cast i net j u e h o)
 ]
 
--- what a delivery to a member from a member announces lies in R
+-- what a delivery to a member from a member announces lies in R, and so do the names of a member's new slices
 abbrev pub IsWithin : Names → ℕ → Step → Type 0
 IsWithin R i (Delivers u size (Read e)) = (e.slot == i) ≡ true → R u ≡ true → R e.sender ≡ true → within (names e.slices) R ≡ true
 IsWithin R i (Delivers u size (Fault n)) = Unit {0}
@@ -46,6 +46,7 @@ IsWithin R i (Asks j u x) = Unit {0}
 IsWithin R i (Hears j u from kind k) = Unit {0}
 IsWithin R i (NominationTimes j u r) = Unit {0}
 IsWithin R i (BallotTimes j u n) = Unit {0}
+IsWithin R i (Reslices j u q) = (j == i) ≡ true → R u ≡ true → within (names q) R ≡ true
 
 delivered : (R : Names) (cast : ℕ → Option Slices) (i : ℕ) (net : Net) (u : ℕ) (e : Sent) → AllPlaces R i net → ((e.slot == i) ≡ true → R u ≡ true → R e.sender ≡ true → within (names e.slices) R ≡ true)
     → Follows R cast i net (act net e.slot u (Take e)) (λ w. (e.slot == i) && (u == w)) (when_kept ((e.slot == i) && R u && R e.sender) (Told u (Take e)))
@@ -150,7 +151,7 @@ heard R cast i net j u from kind k h = elim (cases_Bool (j == i)) [
 
 -- Opening and closing
 
-places_at-push : (ss : List Slot) (s : Slot) (i : ℕ) → (s.number == i) ≡ true → places_at ss i ≡ None → places_at (ss ++ s ∷ []) i ≡ Some s.places
+pub places_at-push : (ss : List Slot) (s : Slot) (i : ℕ) → (s.number == i) ≡ true → places_at ss i ≡ None → places_at (ss ++ s ∷ []) i ≡ Some s.places
 places_at-push [] s i y n = ap (λ b. if b then Some s.places else None) y
 places_at-push (t ∷ ts) s i y n = go (t.number == i) n (places_at-push ts s i y)
   where
@@ -158,11 +159,11 @@ places_at-push (t ∷ ts) s i y n = go (t.number == i) n (places_at-push ts s i 
     go true m f = cc
     go false m f = f m
 
-places_at-push_other : (ss : List Slot) (s : Slot) (i : ℕ) → (s.number == i) ≡ false → places_at (ss ++ s ∷ []) i ≡ places_at ss i
+pub places_at-push_other : (ss : List Slot) (s : Slot) (i : ℕ) → (s.number == i) ≡ false → places_at (ss ++ s ∷ []) i ≡ places_at ss i
 places_at-push_other [] s i o = ap (λ b. if b then Some s.places else None) o
 places_at-push_other (t ∷ ts) s i o = ap (λ x. if t.number == i then Some t.places else x) (places_at-push_other ts s i o)
 
-places_at-drop : (ss : List Slot) (i : ℕ) → places_at (filter (λ s. not (s.number == i)) ss) i ≡ None
+pub places_at-drop : (ss : List Slot) (i : ℕ) → places_at (filter (λ s. not (s.number == i)) ss) i ≡ None
 places_at-drop [] i = refl
 places_at-drop (s ∷ ss) i = go (s.number == i) refl (places_at-drop ss i)
   where
@@ -170,7 +171,7 @@ places_at-drop (s ∷ ss) i = go (s.number == i) refl (places_at-drop ss i)
     go true e ih = ih
     go false e ih = rw e ih
 
-places_at-drop_other : (ss : List Slot) (j i : ℕ) → (j == i) ≡ false → places_at (filter (λ s. not (s.number == j)) ss) i ≡ places_at ss i
+pub places_at-drop_other : (ss : List Slot) (j i : ℕ) → (j == i) ≡ false → places_at (filter (λ s. not (s.number == j)) ss) i ≡ places_at ss i
 places_at-drop_other [] j i o = refl
 places_at-drop_other (s ∷ ss) j i o = go (s.number == j) refl (places_at-drop_other ss j i o)
   where
@@ -182,7 +183,7 @@ places_at-drop_other (s ∷ ss) j i o = go (s.number == j) refl (places_at-drop_
 fresh_place : ℕ → ℕ → Slices → Place
 fresh_place i u q = record { node = fresh i u q; told = [] }
 
-place_of-opened : (hosts : List Host) (i u : ℕ) → place_of (opened hosts i) u ≡ option_map (λ q. record { node = fresh i u q; told = [] }) (slices_of hosts u)
+pub place_of-opened : (hosts : List Host) (i u : ℕ) → place_of (opened hosts i) u ≡ option_map (λ q. record { node = fresh i u q; told = [] }) (slices_of hosts u)
 unfolding opened fresh
 place_of-opened [] i u = refl
 place_of-opened (h ∷ hs) i u = go (h.name == u) refl (place_of-opened hs i u)
@@ -222,14 +223,14 @@ other_slot R cast i net net' h e = record {
 }
 
 opens : (R : Names) (i : ℕ) (net : Net) (j : ℕ) → AllPlaces R i net → HostsIn R net.hosts → places_at net.slots j ≡ None
-    → Follows R (cast_of R net.hosts) i net (record net { slots = net.slots ++ record { number = j; places = opened net.hosts j } ∷ [] }, []) (λ w. false) (when_kept (j == i) Opened)
+    → Follows R (cast_of R net.hosts) i net (record net { slots = net.slots ++ record { number = j; places = opened net.hosts j } ∷ []; draws = renewed j net.draws }, []) (λ w. false) (when_kept (j == i) Opened)
 opens R i net j h hosts n = go (j == i) refl
   where
     slot : ℕ → Slot
     slot x = record { number = x; places = opened net.hosts x }
 
     now : Net
-    now = record net { slots = net.slots ++ slot j ∷ [] }
+    now = record net { slots = net.slots ++ slot j ∷ []; draws = renewed j net.draws }
 
     go : (b : Bool) → (j == i) ≡ b → Follows R (cast_of R net.hosts) i net (now, []) (λ w. false) (when_kept b Opened)
     go false o = other_slot R (cast_of R net.hosts) i net now h (places_at-push_other net.slots (slot j) i o)
@@ -287,6 +288,7 @@ IsNew net (Delivers u size d) = Unit {0}
 IsNew net (Hears j u from kind k) = Unit {0}
 IsNew net (NominationTimes j u r) = Unit {0}
 IsNew net (BallotTimes j u n) = Unit {0}
+IsNew net (Reslices j u q) = Unit {0}
 
 -- Each applied event is followed.
 pub follows : (R : Names) (i : ℕ) (net : Net) (e : Step) → AllPlaces R i net → HostsIn R net.hosts → IsNew net e → IsWithin R i e
@@ -294,9 +296,10 @@ pub follows : (R : Names) (i : ℕ) (net : Net) (e : Step) → AllPlaces R i net
 unfolding effect
 follows R i net (Opens j) h hosts n f = opens R i net j h hosts n
 follows R i net (Closes j) h hosts n f = closes R (cast_of R net.hosts) i net j h
-follows R i net (Asks j u x) h hosts n f = asked R (cast_of R net.hosts) i net j u (Propose x) h tt tt
+follows R i net (Asks j u x) h hosts n f = asked R (cast_of R net.hosts) i net j u (Propose x) h (λ y r. tt) tt
 follows R i net (Delivers u size (Read e)) h hosts n f = delivered R (cast_of R net.hosts) i net u e h f
 follows R i net (Delivers u size (Fault x)) h hosts n f = stays R (cast_of R net.hosts) i net (λ w. false) h
 follows R i net (Hears j u from kind k) h hosts n f = heard R (cast_of R net.hosts) i net j u from kind k h
-follows R i net (NominationTimes j u r) h hosts n f = asked R (cast_of R net.hosts) i net j u (NominationTimer r) h tt tt
-follows R i net (BallotTimes j u c) h hosts n f = asked R (cast_of R net.hosts) i net j u (BallotTimer c) h tt tt
+follows R i net (NominationTimes j u r) h hosts n f = asked R (cast_of R net.hosts) i net j u (NominationTimer r) h (λ y r. tt) tt
+follows R i net (BallotTimes j u c) h hosts n f = asked R (cast_of R net.hosts) i net j u (BallotTimer c) h (λ y r. tt) tt
+follows R i net (Reslices j u q) h hosts n f = asked R (cast_of R net.hosts) i net j u (Reslice q) h f tt

@@ -1,5 +1,5 @@
 -- What the worked stories are told in: letters for names and values, and all that has to be unfolded to compute them.
-use Rattle.std.proofs.Common.{ℕ, List, [], ◌∷◌, map}
+use Rattle.std.proofs.Common.{ℕ, None, List, [], ◌∷◌, map}
 use Rattle.types.specs.Trees.{Slices, node, none}
 use Rattle.types.specs.Statements.{Sent}
 use Rattle.types.specs.declared.ballot.Ballot.{Ballot}
@@ -93,7 +93,7 @@ abbrev pub to_A : ℕ → Slices → Statement → Step
 to_A u slices s = Delivers A 104 (Read (by u slices s))
 
 abbrev pub one_net : List Host → Budgets → List Config
-one_net hosts budgets = record { number = 1; hosts = hosts; budgets = budgets } ∷ []
+one_net hosts budgets = record { number = 1; hosts = hosts; budgets = budgets; roster = None } ∷ []
 
 abbrev pub host : ℕ → Slices → Host
 host u slices = record { name = u; slices = slices }

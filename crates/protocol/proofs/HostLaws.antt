@@ -4,17 +4,13 @@ use Rattle.types.specs.declared.event.NodeEvent.{NodeEvent}
 use Rattle.std.proofs.Common.{◌≡◌, ℕ, Bool, true, false, ◌==◌, Option, Some, None, List, [], ◌∷◌, map, if◌then◌else◌, is_some, refl, sym, ◌∙◌, ap, ap₂, subst, inl, inr, ◌⊎◌}
 use Rattle.std.proofs.lemmas.Bool.{false≢true, eqb-true}
 use Rattle.types.specs.Statements.{Sent}
-use Rattle.protocol.specs.Networks.{Host, Budgets, Net, Step, Reply, slices_of, effect, act, act_known, emission, known, places_at, tests, first_that, replied, net_step}
+use Rattle.protocol.specs.Networks.{Host, Net, Step, Reply, slices_of, effect, act, act_known, emission, known, places_at, tests, first_that, replied, net_step}
 use Rattle.protocol.specs.Networks.Reading.{Read, Fault}
-use Rattle.protocol.specs.Networks.Step.{Opens, Closes, Asks, Delivers, Hears, NominationTimes, BallotTimes}
+use Rattle.protocol.specs.Networks.Step.{Opens, Closes, Asks, Delivers, Hears, NominationTimes, BallotTimes, Reslices}
 use Rattle.protocol.specs.Hosts.{Entry, Config, entered, journal, net_at, reply_at, host_run, applied, nets, new_net, hosts_of, steps_of, entries}
+use Rattle.protocol.specs.Submissions.{Answer, net_run, steps_to, answers_of, config_of}
 use Rattle.protocol.specs.Isolation.{closure, kept_of, outs_of, SameCast, Isolation}
 use Rattle.protocol.proofs.RunLaws.{journals-agree}
-
--- the events of one network, in order
-abbrev pub events_of : ℕ → List (ℕ × Step) → List Step
-events_of g [] = []
-events_of g (c ∷ cs) = if c.0 == g then c.1 ∷ events_of g cs else events_of g cs
 
 act-number : (net : Net) (i u : ℕ) (e : NodeEvent) → (act net i u e).0.number ≡ net.number
 unfolding act
@@ -34,6 +30,7 @@ effect-number net (Hears j u from kind k) = go (emission (known (places_at net.s
     go (Some e) = act-number net j u _
 effect-number net (NominationTimes j u r) = act-number net j u _
 effect-number net (BallotTimes j u n) = act-number net j u _
+effect-number net (Reslices j u q) = act-number net j u _
 
 step-number : (net : Net) (e : Step) → (net_step net e).0.number ≡ net.number
 unfolding net_step
@@ -78,13 +75,13 @@ net_at-other (m ∷ ms) g j e o = go (m.number == j) refl (net_at-other ms g j e
     go false y ih = ap (λ x. if m.number == g then Some m else x) ih
 
 -- a history holds the journal of each of its networks
-applied-journal : (g : ℕ) (calls : List (ℕ × Step)) (ns : List Net) (n : Net) → net_at ns g ≡ Some n → applied g calls (host_run ns calls) ≡ journal n (events_of g calls)
-unfolding applied host_run journal
+pub applied-journal : (g : ℕ) (calls : List (ℕ × Step)) (ns : List Net) (n : Net) → net_at ns g ≡ Some n → applied g calls (host_run ns calls) ≡ journal n (steps_to g calls)
+unfolding applied host_run journal steps_to
 applied-journal g [] ns n h = refl
 applied-journal g (c ∷ cs) ns n h = go (c.0 == g) refl (λ ns n. applied-journal g cs ns n)
   where
-    go : (b : Bool) → (c.0 == g) ≡ b → ((ns : List Net) (n : Net) → net_at ns g ≡ Some n → applied g cs (host_run ns cs) ≡ journal n (events_of g cs))
-        → (if b then entered c.1 (reply_at (net_at ns c.0) c.1) (applied g cs (host_run (after ns c.0 c.1) cs)) else applied g cs (host_run (after ns c.0 c.1) cs)) ≡ journal n (if b then c.1 ∷ events_of g cs else events_of g cs)
+    go : (b : Bool) → (c.0 == g) ≡ b → ((ns : List Net) (n : Net) → net_at ns g ≡ Some n → applied g cs (host_run ns cs) ≡ journal n (steps_to g cs))
+        → (if b then entered c.1 (reply_at (net_at ns c.0) c.1) (applied g cs (host_run (after ns c.0 c.1) cs)) else applied g cs (host_run (after ns c.0 c.1) cs)) ≡ journal n (if b then c.1 ∷ steps_to g cs else steps_to g cs)
     go true y ih =
         let cg : c.0 ≡ g = eqb-true c.0 g y in
         ap₂ (λ (r : Reply) (xs : List Entry). entered c.1 r xs)
@@ -103,26 +100,36 @@ applied-none g (c ∷ cs) ns h = go (c.0 == g) refl (applied-none g cs (after ns
     go true y ih = ap (λ o. entered c.1 (reply_at o c.1) (applied g cs (host_run (after ns c.0 c.1) cs))) (ap (net_at ns) (eqb-true c.0 g y) ∙ h) ∙ ih
     go false y ih = ih
 
--- the network g of a configuration
-record HasNet (configs : List Config) (g : ℕ) : Type 0 where
-  hosts : List Host
-  budgets : Budgets
-  is : net_at (nets configs) g ≡ Some (new_net g hosts budgets)
-  of : hosts_of configs g ≡ hosts
+-- a history holds the answers of each of its networks
+pub answers-run : (g : ℕ) (calls : List (ℕ × Step)) (ns : List Net) (n : Net) → net_at ns g ≡ Some n → answers_of g calls (host_run ns calls) ≡ net_run n (steps_to g calls)
+unfolding answers_of host_run net_run steps_to
+answers-run g [] ns n h = refl
+answers-run g (c ∷ cs) ns n h = go (c.0 == g) refl (λ ns n. answers-run g cs ns n)
+  where
+    go : (b : Bool) → (c.0 == g) ≡ b → ((ns : List Net) (n : Net) → net_at ns g ≡ Some n → answers_of g cs (host_run ns cs) ≡ net_run n (steps_to g cs))
+        → (if b then record { step = c.1; reply = reply_at (net_at ns c.0) c.1 } ∷ answers_of g cs (host_run (after ns c.0 c.1) cs) else answers_of g cs (host_run (after ns c.0 c.1) cs)) ≡ net_run n (if b then c.1 ∷ steps_to g cs else steps_to g cs)
+    go true y ih =
+        let cg : c.0 ≡ g = eqb-true c.0 g y in
+        ap₂ {C = List Answer} (λ (r : Reply) (xs : List Answer). record { step = c.1; reply = r } ∷ xs)
+        (ap (λ o. reply_at o c.1) (ap (net_at ns) cg ∙ h))
+        (ap (λ x. answers_of g cs (host_run (after ns x c.1) cs)) cg ∙ ih (after ns g c.1) (net_step n c.1).0 (net_at-same ns g c.1 n h))
+    go false y ih = ih (after ns c.0 c.1) n (net_at-other ns g c.0 c.1 y ∙ h)
 
-find_net : (configs : List Config) (g : ℕ) → (hosts_of configs g ≡ []) ⊎ HasNet configs g
+-- the network g of a configuration
+pub record HasNet (configs : List Config) (g : ℕ) : Type 0 where
+  pub config : Config
+  pub is : net_at (nets configs) g ≡ Some (new_net config)
+  pub of : hosts_of configs g ≡ config.hosts
+  pub at : config_of configs g ≡ Some config
+
+pub find_net : (configs : List Config) (g : ℕ) → (hosts_of configs g ≡ []) ⊎ HasNet configs g
 find_net [] g = inl refl
 find_net (c ∷ cs) g = go (c.number == g) refl (find_net cs g)
   where
     go : (b : Bool) → (c.number == g) ≡ b → (hosts_of cs g ≡ []) ⊎ HasNet cs g → (hosts_of (c ∷ cs) g ≡ []) ⊎ HasNet (c ∷ cs) g
-    go true y k = inr (record {
-      hosts = c.hosts;
-      budgets = c.budgets;
-      is = rw y (ap {B = Option Net} (λ x. Some (new_net x c.hosts c.budgets)) (eqb-true c.number g y));
-      of = rw y refl;
-    })
+    go true y k = inr (record { config = c; is = rw y refl; of = rw y refl; at = rw y refl })
     go false y (inl e) = inl (rw y e)
-    go false y (inr n) = inr (record { hosts = n.hosts; budgets = n.budgets; is = rw y n.is; of = rw y n.of })
+    go false y (inr n) = inr (record { config = n.config; is = rw y n.is; of = rw y n.of; at = rw y n.at })
 
 pub isolation : Isolation
 isolation decode one other g i v cast same u r hosted = go (find_net one.configs g) (find_net other.configs g)
@@ -134,8 +141,8 @@ isolation decode one other g i v cast same u r hosted = go (find_net one.configs
     go (inl e) n = absurd (nobody (hosts_of one.configs g) v e cast.hosted)
     go (inr a) (inl e) = absurd (nobody (hosts_of other.configs g) u e (sym (ap is_some (cast.same u r)) ∙ hosted))
     go (inr a) (inr b) =
-        agree a.of b.of (applied-journal g (steps_of decode one.calls) (nets one.configs) (new_net g a.hosts a.budgets) a.is) (applied-journal g (steps_of decode other.calls) (nets other.configs) (new_net g b.hosts b.budgets) b.is)
-        (journals-agree g g i v a.hosts b.hosts a.budgets b.budgets (events_of g (steps_of decode one.calls)) (events_of g (steps_of decode other.calls))) cast same r
+        agree a.of b.of (applied-journal g (steps_of decode one.calls) (nets one.configs) (new_net a.config) a.is) (applied-journal g (steps_of decode other.calls) (nets other.configs) (new_net b.config) b.is)
+        (journals-agree a.config b.config i v (steps_to g (steps_of decode one.calls)) (steps_to g (steps_of decode other.calls))) cast same r
       where
         Claim : List Host → List Host → List Entry → List Entry → Type 0
         Claim h k x y = SameCast (closure h i v x) v h k → kept_of (closure h i v x) i x ≡ kept_of (closure h i v x) i y → closure h i v x u ≡ true → outs_of i u x ≡ outs_of i u y

@@ -1,7 +1,7 @@
 -- Journals are runs, and runs are journals.
 use Rattle.types.specs.declared.event.Refusal.{Refusal}
 use Rattle.std.proofs.Common.{◌≡◌, ℕ, zero, suc, List, [], ◌∷◌, map, take, slice_get, Option, Some, None, refl, sym, ◌∙◌, ap, subst}
-use Rattle.protocol.specs.Networks.{Step, Net, tests, first_that, effect, counted, replied, net_step}
+use Rattle.protocol.specs.Networks.{Step, Net, tests, first_that, effect, source, size_of, counted, replied, net_step}
 use Rattle.protocol.specs.Hosts.{Entry, new_net, entered, journal}
 use Rattle.protocol.specs.Runs.{net_after, JournalsAreRuns, RunsAreJournals}
 
@@ -20,7 +20,7 @@ journal-runs (e ∷ es) net = go (first_that (tests net e)) refl (λ n. journal-
     go None q ih = record { applied = applies; outs = gives }
       where
         next : Net
-        next = counted e (effect net e).0
+        next = counted (source net.roster e) (size_of e) (effect net e).0
 
         first : Entry
         first = record { event = e; outs = (effect net e).1 }
@@ -44,7 +44,7 @@ runs-journal (x ∷ xs) net h = go (first_that (tests net x.event)) refl (h.appl
     go : (o : Option Refusal) → first_that (tests net x.event) ≡ o → o ≡ None → x.outs ≡ (effect net x.event).1 → ((n : Net) → RunsFrom n xs → xs ≡ journal n (map (λ x. x.event) xs)) → x ∷ xs ≡ entered x.event (replied net x.event o).1 (journal (replied net x.event o).0 (map (λ x. x.event) xs))
     go (Some r) q n e ih = cc
     go None q n e ih =
-        let next : Net = counted x.event (effect net x.event).0 in
+        let next : Net = counted (source net.roster x.event) (size_of x.event) (effect net x.event).0 in
         let moves : (ys : List Entry) → net_after net (x ∷ ys) ≡ net_after next ys = λ ys. ap (λ o. net_after (replied net x.event o).0 ys) q in
         let rest : RunsFrom next xs = record {
           applied = λ k y g. sym (ap (λ m. first_that (tests m y.event)) (moves (take k xs))) ∙ h.applied (suc k) y g;
@@ -54,7 +54,7 @@ runs-journal (x ∷ xs) net h = go (first_that (tests net x.event)) refl (h.appl
         λ i. record { event = x.event; outs = e i } ∷ same i
 
 pub journals_are_runs : JournalsAreRuns
-journals_are_runs config events = let r = journal-runs events (new_net config.number config.hosts config.budgets) in record { applied = r.applied; outs = r.outs }
+journals_are_runs config events = let r = journal-runs events (new_net config) in record { applied = r.applied; outs = r.outs }
 
 pub runs_are_journals : RunsAreJournals
-runs_are_journals config entries h = runs-journal entries (new_net config.number config.hosts config.budgets) (record { applied = h.applied; outs = h.outs })
+runs_are_journals config entries h = runs-journal entries (new_net config) (record { applied = h.applied; outs = h.outs })

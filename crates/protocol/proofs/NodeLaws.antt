@@ -2,27 +2,30 @@
 use Rattle.types.specs.declared.event.NodeEvent.{NodeEvent}
 use Rattle.types.specs.declared.event.Out.{Out}
 use Rattle.std.proofs.Common.{◌≡◌, ℕ, zero, suc, ◌+◌, Bool, true, false, not, cond, ◌&&◌, ◌==◌, Option, Some, None, List, [], ◌∷◌, ◌++◌, filter, option_map, if◌then◌else◌, is_none, refl, sym, ◌∙◌, ap, ap₂, subst, inl, inr}
-use Rattle.std.specs.List.{list_all}
-use Rattle.std.proofs.lemmas.Bool.{and_from, and_parts, cases_Bool, eqb-true, not_from_false, or_left}
+use Rattle.std.specs.List.{list_all, cons_option}
+use Rattle.std.proofs.lemmas.Bool.{and_from, and_left, and_parts, cases_Bool, eq-eqb, eqb-true, false_from_ne_true, not_from_false, or_left, or_right, true≢false}
 use Rattle.types.specs.Trees.{Slices}
 use Rattle.types.specs.Statements.{Sent, kind_of}
 use Rattle.types.specs.declared.ballot.Ballot.{Ballot}
 use Rattle.types.specs.declared.statement.Statement.{Statement}
-use Rattle.protocol.specs.Sets.{Names, within}
+use Rattle.types.specs.declared.kind.Kind.TheVariants.{Nomination}
+use Rattle.protocol.specs.Sets.{Names, among, within}
 use Rattle.protocol.specs.Satisfaction.{names}
 use Rattle.protocol.specs.Weights.{weight}
 use Rattle.protocol.specs.Rows.{row, is_kind, is_row_of, with_row, is_taken, replaces}
-use Rattle.protocol.specs.Views.{Seen}
+use Rattle.protocol.specs.Views.{Seen, led_by, seen}
 use Rattle.types.specs.declared.state.Votes.{Votes}
 use Rattle.protocol.specs.States.{counter_of, sent_vote, sent_nomination}
 use Rattle.protocol.specs.Passes.{pass}
 use Rattle.protocol.specs.Leaders.{leader, best, neighbours, is_near, hash, beats}
 use Rattle.protocol.specs.Sameness.{same_votes, same_sent}
 use Rattle.protocol.specs.Nodes.{Node, passed, settle, change, when, emitted, decided, outs, settled, after_change, answered, step, Calm, is_externalized, in_round, timed_out}
-use Rattle.types.specs.declared.event.NodeEvent.TheVariants.{Propose, Take, NominationTimer, BallotTimer}
+use Rattle.types.specs.declared.event.NodeEvent.TheVariants.{Propose, Take, NominationTimer, BallotTimer, Reslice}
 use Rattle.types.specs.declared.event.Out.TheVariants.{ArmNomination, ArmBallot, Emit, Externalized as Decided}
 use Rattle.protocol.specs.Networks.{emissions}
 use Rattle.protocol.proofs.SamenessLaws.{eqb-refl, same_sent-refl, same_votes-refl, same_votes-true}
+use Rattle.protocol.proofs.SetLaws.{within-at}
+use Rattle.protocol.proofs.Tables.{row-with}
 use Rattle.protocol.proofs.ViewLaws.{cut, announces_in, row-cut, Closed, seen-cut}
 
 -- the node, with the rows of the senders in R alone
@@ -40,6 +43,7 @@ IsKept R (Propose x) = Unit {0}
 IsKept R (Take e) = (R e.sender ≡ true) × (within (names e.slices) R ≡ true)
 IsKept R (NominationTimer r) = Unit {0}
 IsKept R (BallotTimer c) = Unit {0}
+IsKept R (Reslice q) = Unit {0}
 
 -- a pass sees the rows of R alone
 passed-cut : (R : Names) (n : Node) → Good R n → passed n ≡ passed (cut_node R n)
@@ -62,7 +66,7 @@ cut-push R e (x ∷ xs) i = go (is_row_of e.sender (kind_of e.body) x) refl (cut
       | inr r ↦ rw r ih
     ]
 
-cut-push_other : (R : Names) (e : Sent) (table : List Sent) → R e.sender ≡ false → cut R (with_row e table) ≡ cut R table
+pub cut-push_other : (R : Names) (e : Sent) (table : List Sent) → R e.sender ≡ false → cut R (with_row e table) ≡ cut R table
 unfolding with_row
 cut-push_other R e [] o = ap (λ b. cond b (e ∷ []) []) o
 cut-push_other R e (x ∷ xs) o = go (is_row_of e.sender (kind_of e.body) x) refl (cut-push_other R e xs o)
@@ -95,6 +99,7 @@ change-cut R n (Take e) k =
     swap_if false = refl
 change-cut R n (NominationTimer r) k = option_map-if (cut_node R) _ _
 change-cut R n (BallotTimer c) k = option_map-if (cut_node R) _ _
+change-cut R n (Reslice q) k = refl
 
 pub all-push : {X : Type 0} (P : X → Bool) (xs : List X) (x : X) → list_all P xs ≡ true → P x ≡ true → list_all P (xs ++ x ∷ []) ≡ true
 all-push P [] x h p = and_from (P x) true p refl
@@ -130,12 +135,13 @@ pub if_node-if : (P : Node → Type 0) (b : Bool) (n : Node) → P n → if_node
 if_node-if P true n h = h
 if_node-if P false n h = tt
 
--- of what a node in R is told, a sender in R announces what lies in R
+-- of what a node in R is told, a sender in R announces what lies in R, and so do the names of new slices
 abbrev pub IsFit : Names → NodeEvent → Type 0
 IsFit R (Propose x) = Unit {0}
 IsFit R (Take e) = announces_in R e ≡ true
 IsFit R (NominationTimer r) = Unit {0}
 IsFit R (BallotTimer c) = Unit {0}
+IsFit R (Reslice q) = within (names q) R ≡ true
 
 good-change : (R : Names) (n : Node) (e : NodeEvent) → Good R n → IsFit R e → if_node (Good R) (change n e)
 unfolding change
@@ -149,6 +155,7 @@ good-change R n (NominationTimer r) g k = if_node-if (Good R) _ (in_round n (r +
     (record { closed = record { has = g.closed.has; own = g.closed.own; rows = g.closed.rows }; leaders = all-push R n.given.leaders (leader n.slot (r + 1) n.name n.slices) g.leaders (leader-in R n.slot (r + 1) n.name n.slices g.closed.has g.closed.own) })
 good-change R n (BallotTimer c) g k = if_node-if (Good R) _ (timed_out n)
     (record { closed = record { has = g.closed.has; own = g.closed.own; rows = g.closed.rows }; leaders = g.leaders })
+good-change R n (Reslice q) g k = record { closed = record { has = g.closed.has; own = k; rows = g.closed.rows }; leaders = g.leaders }
 
 good-settled : (R : Names) (o : Option Node) → if_node (Good R) o → if_node (Good R) (after_change o)
 good-settled R None g = tt
@@ -221,7 +228,7 @@ never true os = refl
 never false os = refl
 
 -- nothing is sent where nothing changed
-outs-none : (n : Node) (taken : List Sent) → outs n (record n { table = taken }) ≡ []
+pub outs-none : (n : Node) (taken : List Sent) → outs n (record n { table = taken }) ≡ []
 unfolding outs
 outs-none n taken =
     let m : Node = record n { table = taken } in
@@ -229,10 +236,38 @@ outs-none n taken =
     let a : (n.votes.armed == n.votes.armed) ≡ true = eqb-refl n.votes.armed in
     rw (r, a, emitted-same m (sent_nomination n.votes), emitted-same m (sent_vote n.votes), never (is_externalized n.votes.phase) (decided n.votes.ballot))
 
--- an envelope from outside R that the table takes is a row more: nothing else changes, and nothing is given out
-pub step-outside : (R : Names) (n : Node) (e : Sent) → Good R n → Calm n → R e.sender ≡ false → is_taken n.table e ≡ true → step n (Take e) ≡ (record n { table = with_row e n.table }, [])
+-- ---- envelopes from outside
+-- the rows of leaders are as they were where the sender of a new one is none
+led_by-other : (leaders : List ℕ) (table : List Sent) (e : Sent) → among leaders e.sender ≡ false → led_by leaders (with_row e table) ≡ led_by leaders table
+unfolding led_by
+led_by-other [] table e l = refl
+led_by-other (u ∷ us) table e l = elim (cases_Bool (u == e.sender)) [
+  | inl y ↦ absurd (true≢false (sym (or_left (u == e.sender) (among us e.sender) y) ∙ l))
+  | inr o ↦ ap₂ (λ (r : Option Sent) (ys : List Statement). cons_option (option_map (λ (x : Sent). x.body) r) ys)
+      (row-with e table u Nomination ∙ ap (λ b. if b then Some e else row table u Nomination) (and_left (e.sender == u) (is_kind Nomination (kind_of e.body)) (other o)))
+      (led_by-other us table e (false_from_ne_true _ (λ i. true≢false (sym (or_right (u == e.sender) (among us e.sender) i) ∙ l))))
+]
+  where
+    other : (u == e.sender) ≡ false → (e.sender == u) ≡ false
+    other o = false_from_ne_true _ (λ i. true≢false (sym (eq-eqb u e.sender (sym (eqb-true e.sender u i))) ∙ o))
+
+-- a row of a sender that is neither in R nor a leader is not seen
+seen-outside : (R : Names) (v : ℕ) (q : Slices) (leaders : List ℕ) (table : List Sent) (e : Sent) → Closed R v q table → R e.sender ≡ false → among leaders e.sender ≡ false
+    → seen v q leaders (with_row e table) ≡ seen v q leaders table
+unfolding seen
+seen-outside R v q leaders table e c o l = λ i. record { rows = (bare i).rows; led = (led_by-other leaders table e l) i; quorum = (bare i).quorum; blocking = (bare i).blocking }
+  where
+    more : Closed R v q (with_row e table)
+    more = record { has = c.has; own = c.own; rows = all-with (announces_in R) e table c.rows (or_left (not (R e.sender)) (within (names e.slices) R) (not_from_false (R e.sender) o)) }
+
+    bare : seen v q [] (with_row e table) ≡ seen v q [] table
+    bare = seen-cut R v q [] (with_row e table) more refl ∙ (ap {B = Seen} (λ t. seen v q [] t) (cut-push_other R e table o) ∙ sym (seen-cut R v q [] table c refl))
+
+-- an envelope that the table takes is a row more where its sender is neither in R nor a leader: nothing else changes, and nothing is given out
+pub step-outside : (R : Names) (n : Node) (e : Sent) → Closed R n.name n.slices n.table → Calm n → R e.sender ≡ false → among n.given.leaders e.sender ≡ false → is_taken n.table e ≡ true
+    → step n (Take e) ≡ (record n { table = with_row e n.table }, [])
 unfolding step change settle
-step-outside R n e g c o t =
+step-outside R n e h c o l t =
     ap (λ b. answered n (after_change (if b then Some m else None))) t
     ∙ (ap (λ (w : Option Votes). answered n (settled m w)) at_once
     ∙ ap {B = Node × List Out} (λ (os : List Out). (m, os)) (outs-none n (with_row e n.table)))
@@ -240,44 +275,43 @@ step-outside R n e g c o t =
     m : Node
     m = record n { table = with_row e n.table }
 
-    m_good : Good R m
-    m_good = record { closed = record { has = g.closed.has; own = g.closed.own; rows = all-with (announces_in R) e n.table g.closed.rows (or_left (not (R e.sender)) (within (names e.slices) R) (not_from_false (R e.sender) o)) }; leaders = g.leaders }
-
-    same_cut : cut_node R m ≡ cut_node R n
-    same_cut = ap {B = Node} (λ t. record n { table = t }) (cut-push_other R e n.table o)
-
     still : passed m n.votes ≡ n.votes
-    still = ap (λ (p : Votes → Votes). p n.votes) (passed-cut R m m_good ∙ (ap (λ (x : Node). passed x) same_cut ∙ sym (passed-cut R n g))) ∙ c
+    still = ap {B = Votes} (λ (s : Seen). pass n.name s n.given n.votes) (seen-outside R n.name n.slices n.given.leaders n.table e h o l) ∙ c
 
     at_once : settle 64 (passed m) n.votes ≡ Some n.votes
     at_once = ap (λ b. if b then Some n.votes else settle 63 (passed m) (passed m n.votes)) (ap (λ w. same_votes w n.votes) still ∙ same_votes-refl n.votes)
 
+-- leaders in R are not outside of it
+no_leader : (R : Names) (leaders : List ℕ) (u : ℕ) → within leaders R ≡ true → R u ≡ false → among leaders u ≡ false
+no_leader R leaders u w o = false_from_ne_true _ (λ i. true≢false (sym (within-at leaders R u w i) ∙ o))
+
 -- what is stale changes nothing
-step-stale : (n : Node) (e : Sent) → is_taken n.table e ≡ false → step n (Take e) ≡ (n, [])
+pub step-stale : (n : Node) (e : Sent) → is_taken n.table e ≡ false → step n (Take e) ≡ (n, [])
 unfolding step change
 step-stale n e f = ap (λ b. answered n (after_change (if b then Some (record n { table = with_row e n.table }) else None))) f
 
 -- Quiet, for one event: an envelope from outside R changes at most rows outside R, and gives no outs
 pub step-quiet : (R : Names) (n : Node) (e : Sent) → Good R n → Calm n → R e.sender ≡ false → (cut_node R (step n (Take e)).0 ≡ cut_node R n) × ((step n (Take e)).1 ≡ [])
 step-quiet R n e g c o = elim (cases_Bool (is_taken n.table e)) [
-  | inl t ↦ subst (λ (p : Node × List Out). (cut_node R p.0 ≡ cut_node R n) × (p.1 ≡ [])) (sym (step-outside R n e g c o t)) (ap {B = Node} (λ t. record n { table = t }) (cut-push_other R e n.table o), refl)
+  | inl t ↦ subst (λ (p : Node × List Out). (cut_node R p.0 ≡ cut_node R n) × (p.1 ≡ [])) (sym (step-outside R n e g.closed c o (no_leader R n.given.leaders e.sender g.leaders o) t)) (ap {B = Node} (λ t. record n { table = t }) (cut-push_other R e n.table o), refl)
   | inr f ↦ subst (λ (p : Node × List Out). (cut_node R p.0 ≡ cut_node R n) × (p.1 ≡ [])) (sym (step-stale n e f)) (refl, refl)
 ]
 
--- a step keeps the name and the slices
+-- a step keeps the name
 abbrev pub IsSelf : Node → Node → Type 0
-IsSelf n m = (m.name ≡ n.name) × (m.slices ≡ n.slices)
+IsSelf n m = m.name ≡ n.name
 
 self-change : (n : Node) (e : NodeEvent) → if_node (IsSelf n) (change n e)
 unfolding change
-self-change n (Propose x) = (refl, refl)
+self-change n (Propose x) = refl
 self-change n (Take e) = go (is_taken n.table e)
   where
     go : (b : Bool) → if_node (IsSelf n) (if b then Some (record n { table = with_row e n.table }) else None)
     go false = tt
-    go true = (refl, refl)
-self-change n (NominationTimer r) = if_node-if (IsSelf n) _ (in_round n (r + 1)) (refl, refl)
-self-change n (BallotTimer c) = if_node-if (IsSelf n) _ (timed_out n) (refl, refl)
+    go true = refl
+self-change n (NominationTimer r) = if_node-if (IsSelf n) _ (in_round n (r + 1)) refl
+self-change n (BallotTimer c) = if_node-if (IsSelf n) _ (timed_out n) refl
+self-change n (Reslice q) = refl
 
 self-settled : (n : Node) (o : Option Node) → if_node (IsSelf n) o → if_node (IsSelf n) (after_change o)
 self-settled n None h = tt
@@ -289,9 +323,9 @@ self-settled n (Some m) h = go (settle 64 (passed m) m.votes)
 
 pub step-self : (n : Node) (e : NodeEvent) → IsSelf n (step n e).0
 unfolding step
-step-self n e = answered-node (IsSelf n) n (after_change (change n e)) (refl, refl) (self-settled n (change n e) (self-change n e))
+step-self n e = answered-node (IsSelf n) n (after_change (change n e)) refl (self-settled n (change n e) (self-change n e))
 
--- what is emitted carries the node's name and its slices
+-- what is emitted carries the node's name, and the slices that it has after the event
 emits-append : (P : Sent → Bool) (xs ys : List Out) → list_all P (emissions xs) ≡ true → list_all P (emissions ys) ≡ true → list_all P (emissions (xs ++ ys)) ≡ true
 emits-append P [] ys h k = k
 emits-append P (ArmNomination r ∷ xs) ys h k = emits-append P xs ys h k
@@ -332,10 +366,10 @@ outs-emit P old new f =
     last true (Some b) = record { all = refl }
     last false o = record { all = refl }
 
-pub step-emit : (P : Sent → Bool) (n : Node) (e : NodeEvent) → ((slot : ℕ) (s : Statement) → P (record { sender = n.name; slot = slot; slices = n.slices; body = s }) ≡ true) → list_all P (emissions (step n e).1) ≡ true
+pub step-emit : (P : Sent → Bool) (n : Node) (e : NodeEvent) → ((slot : ℕ) (s : Statement) → P (record { sender = n.name; slot = slot; slices = (step n e).0.slices; body = s }) ≡ true) → list_all P (emissions (step n e).1) ≡ true
 unfolding step
-step-emit P n e f = go (after_change (change n e)) (self-settled n (change n e) (self-change n e))
+step-emit P n e f = go (after_change (change n e)) (self-settled n (change n e) (self-change n e)) f
   where
-    go : (o : Option Node) → if_node (IsSelf n) o → list_all P (emissions (answered n o).1) ≡ true
-    go None h = refl
-    go (Some m) h = (outs-emit P n m (λ s. rw (h.0, h.1) (f m.slot s))).all
+    go : (o : Option Node) → if_node (IsSelf n) o → ((slot : ℕ) (s : Statement) → P (record { sender = n.name; slot = slot; slices = (answered n o).0.slices; body = s }) ≡ true) → list_all P (emissions (answered n o).1) ≡ true
+    go None h f = refl
+    go (Some m) h f = (outs-emit P n m (λ s. rw h (f m.slot s))).all

@@ -6,7 +6,7 @@ use Rattle.types.specs.Trees.{Slices}
 use Rattle.types.specs.Statements.{IsWellFormed}
 use Rattle.types.specs.declared.ballot.Ballot.{Ballot}
 use Rattle.types.specs.declared.event.NodeEvent.{NodeEvent}
-use Rattle.types.specs.declared.event.NodeEvent.TheVariants.{Propose, Take, NominationTimer, BallotTimer}
+use Rattle.types.specs.declared.event.NodeEvent.TheVariants.{Propose, Take, NominationTimer, BallotTimer, Reslice}
 use Rattle.types.specs.declared.state.Votes.{Votes}
 use Rattle.protocol.specs.Rows.{with_row, is_taken}
 use Rattle.protocol.specs.Views.{seen}
@@ -50,6 +50,7 @@ unfolding change
 change-lawful n (Propose x) h = h
 change-lawful n (Take e) h = if_node-if IsLawful (is_taken n.table e) (record n { table = with_row e n.table }) h
 change-lawful n (NominationTimer r) h = if_node-if IsLawful _ (in_round n (r + 1)) h
+change-lawful n (Reslice q) h = h
 change-lawful n (BallotTimer c) h = go (is_counter_live n c) refl
   where
     counted : (o : Option Ballot) → is_counter (option_map (λ (b : Ballot). b.counter) o) c ≡ true → is_some o ≡ true

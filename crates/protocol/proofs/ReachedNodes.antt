@@ -3,9 +3,9 @@ use Rattle.types.specs.declared.event.Refusal.{Refusal}
 use Rattle.types.specs.declared.event.NodeEvent.{NodeEvent}
 use Rattle.std.proofs.Common.{ℕ, Bool, true, false, not, cond, ◌==◌, Option, Some, None, List, [], ◌∷◌, ◌++◌, map, filter, if◌then◌else◌}
 use Rattle.types.specs.Statements.{Sent}
-use Rattle.types.specs.declared.event.NodeEvent.TheVariants.{Propose, Take, NominationTimer, BallotTimer}
+use Rattle.types.specs.declared.event.NodeEvent.TheVariants.{Propose, Take, NominationTimer, BallotTimer, Reslice}
 use Rattle.protocol.specs.Networks.{Net, Slot, Place, Host, Step, moved, act_in, act, act_known, opened, effect, net_step, emission, known, places_at, first_that, tests, replied}
-use Rattle.protocol.specs.Networks.Step.{Opens, Closes, Asks, Delivers, Hears, NominationTimes, BallotTimes}
+use Rattle.protocol.specs.Networks.Step.{Opens, Closes, Asks, Delivers, Hears, NominationTimes, BallotTimes, Reslices}
 use Rattle.protocol.specs.Networks.Reading.{Read, Fault}
 use Rattle.protocol.specs.Limits.{Reached, AllReached, RunsReach}
 use Rattle.protocol.specs.Limits.Reached.{begin, next}
@@ -74,6 +74,7 @@ effect-reached net (Hears i u from kind k) h = heard (emission (known (places_at
     heard (Some e) = act-reached net i u (Take e) h
 effect-reached net (NominationTimes i u r) h = act-reached net i u (NominationTimer r) h
 effect-reached net (BallotTimes i u n) h = act-reached net i u (BallotTimer n) h
+effect-reached net (Reslices i u q) h = act-reached net i u (Reslice q) h
 
 net_step-reached : (net : Net) (e : Step) → AllSlots net.slots → AllSlots (net_step net e).0.slots
 unfolding net_step
@@ -89,4 +90,4 @@ run-reached net [] h = h
 run-reached net (x ∷ xs) h = run-reached (net_step net x.event).0 xs (net_step-reached net x.event h)
 
 pub runs_reach : RunsReach
-runs_reach config before = run-reached (new_net config.number config.hosts config.budgets) before tt
+runs_reach config before = run-reached (new_net config) before tt

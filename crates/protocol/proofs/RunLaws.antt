@@ -11,12 +11,12 @@ use Rattle.types.specs.Statements.{Sent}
 use Rattle.protocol.specs.Sets.{Names, within}
 use Rattle.protocol.specs.Satisfaction.{names}
 use Rattle.protocol.specs.Closures.{keeps}
-use Rattle.types.specs.declared.event.NodeEvent.TheVariants.{Propose, Take, NominationTimer, BallotTimer}
-use Rattle.protocol.specs.Networks.{Host, Budgets, Place, Net, Step, slices_of, places_at, known, act, act_known, effect, emission, tests, first_that, is_full, counted, replied, net_step}
+use Rattle.types.specs.declared.event.NodeEvent.TheVariants.{Propose, Take, NominationTimer, BallotTimer, Reslice}
+use Rattle.protocol.specs.Networks.{Host, Place, Net, Step, slices_of, places_at, known, act, act_known, effect, emission, tests, first_that, source, is_full, size_of, counted, replied, net_step}
 use Rattle.protocol.specs.Networks.Reading.{Read, Fault}
 use Rattle.types.specs.declared.event.Refusal.TheVariants.{SlotOpenAlready, TooManySlots}
-use Rattle.protocol.specs.Networks.Step.{Opens, Closes, Asks, Delivers, Hears, NominationTimes, BallotTimes}
-use Rattle.protocol.specs.Hosts.{Entry, entered, journal, new_net}
+use Rattle.protocol.specs.Networks.Step.{Opens, Closes, Asks, Delivers, Hears, NominationTimes, BallotTimes, Reslices}
+use Rattle.protocol.specs.Hosts.{Entry, Config, entered, journal, new_net}
 use Rattle.protocol.specs.Isolation.{Kept, when_kept, kept, is_of, kept_of, outs_of, host_rule, announced, closure, SameCast}
 use Rattle.protocol.specs.Isolation.Kept.{Opened, Closed, Told, Heard}
 use Rattle.protocol.proofs.ClosureLaws.{keeps-at}
@@ -38,7 +38,7 @@ act-hosts : (net : Net) (i u : ℕ) (e : NodeEvent) → (act net i u e).0.hosts 
 unfolding act
 act-hosts net i u e = refl
 
-effect-hosts : (net : Net) (e : Step) → (effect net e).0.hosts ≡ net.hosts
+pub effect-hosts : (net : Net) (e : Step) → (effect net e).0.hosts ≡ net.hosts
 unfolding effect
 effect-hosts net (Opens j) = refl
 effect-hosts net (Closes j) = refl
@@ -52,9 +52,10 @@ effect-hosts net (Hears j u from kind k) = go (emission (known (places_at net.sl
     go (Some e) = act-hosts net j u (Take e)
 effect-hosts net (NominationTimes j u r) = act-hosts net j u (NominationTimer r)
 effect-hosts net (BallotTimes j u n) = act-hosts net j u (BallotTimer n)
+effect-hosts net (Reslices j u q) = act-hosts net j u (Reslice q)
 
-is_new : (net : Net) (e : Step) → first_that (tests net e) ≡ None → IsNew net e
-is_new net (Opens j) h = go ((not (nat_lt (length net.slots) net.budgets.slots), TooManySlots) ∷ is_full net ∷ []) (places_at net.slots j) h
+pub is_new : (net : Net) (e : Step) → first_that (tests net e) ≡ None → IsNew net e
+is_new net (Opens j) h = go ((not (nat_lt (length net.slots) net.budgets.slots), TooManySlots) ∷ is_full net (source net.roster (Opens j)) ∷ []) (places_at net.slots j) h
   where
     go : (ts : List (Bool × Refusal)) (o : Option (List Place)) → first_that ((is_some o, SlotOpenAlready) ∷ ts) ≡ None → o ≡ None
     go ts None h = refl
@@ -65,6 +66,7 @@ is_new net (Delivers u size d) h = tt
 is_new net (Hears j u from kind k) h = tt
 is_new net (NominationTimes j u r) h = tt
 is_new net (BallotTimes j u n) h = tt
+is_new net (Reslices j u q) h = tt
 
 abbrev pub AllIn : Names → ℕ → List Entry → Type 0
 AllIn R i entries = AllByRecursion (λ x. IsWithin R i x.event) entries
@@ -83,7 +85,7 @@ run-sight R i u r (e ∷ es) net h hosts f = go (first_that (tests net e)) refl 
         → outs_of i u (entered e (replied net e o).1 (journal (replied net e o).0 es)) ≡ answers (cast_of R net.hosts) i (sight R i net) u (kept_of R i (entered e (replied net e o).1 (journal (replied net e o).0 es)))
     go (Some n) q f ih = ih net h hosts f
     go None q f ih =
-        let next : Net = counted e (effect net e).0 in
+        let next : Net = counted (source net.roster e) (size_of e) (effect net e).0 in
         let step : Follows R (cast_of R net.hosts) i net (effect net e) (λ w. is_of i w e) (kept R i e) = follows R i net e h hosts (is_new net e q) f.0 in
         let same : next.hosts ≡ net.hosts = effect-hosts net e in
         let rest = ih next step.places (subst (HostsIn R) (sym same) hosts) f.1 in
@@ -132,8 +134,13 @@ events-in R i (x ∷ xs) h = (
     one (Hears j u from kind n) k = tt
     one (NominationTimes j u r) k = tt
     one (BallotTimes j u n) k = tt
+    one (Reslices j u q) k = λ y r. go (j == i) y k r
+      where
+        go : (b : Bool) → b ≡ true → list_all (keeps R) (if b then record { sources = u ∷ []; gives = names q } ∷ [] else []) ≡ true → R u ≡ true → within (names q) R ≡ true
+        go true y k r = keeps-at R (record { sources = u ∷ []; gives = names q }) (and_parts (keeps R (record { sources = u ∷ []; gives = names q })) true k).0 (and_from (R u) true r refl)
+        go false y k r = absurd (false≢true y)
 
--- what was delivered, as the kept steps have it
+-- what was delivered, and which slices were given, as the kept steps have it
 abbrev pub IsKeptIn : Names → Kept → Type 0
 IsKeptIn R Opened = Unit {0}
 IsKeptIn R Closed = Unit {0}
@@ -141,6 +148,7 @@ IsKeptIn R (Told u (Propose x)) = Unit {0}
 IsKeptIn R (Told u (Take e)) = within (names e.slices) R ≡ true
 IsKeptIn R (Told u (NominationTimer r)) = Unit {0}
 IsKeptIn R (Told u (BallotTimer n)) = Unit {0}
+IsKeptIn R (Told u (Reslice q)) = within (names q) R ≡ true
 IsKeptIn R (Heard u from kind k) = Unit {0}
 
 abbrev pub if_kept : Names → Option Kept → Type 0
@@ -192,8 +200,13 @@ kept-from R i (BallotTimes j u n) h = go ((j == i) && R u)
     go : (b : Bool) → if_kept R (when_kept b (Told u (BallotTimer n)))
     go true = tt
     go false = tt
+kept-from R i (Reslices j u q) h = go ((j == i) && R u) refl
+  where
+    go : (b : Bool) → ((j == i) && R u) ≡ b → if_kept R (when_kept b (Told u (Reslice q)))
+    go true y = let p = and_parts (j == i) (R u) y in h p.0 p.1
+    go false y = tt
 
-kept-to : (R : Names) (i : ℕ) (e : Step) → if_kept R (kept R i e) → IsWithin R i e
+pub kept-to : (R : Names) (i : ℕ) (e : Step) → if_kept R (kept R i e) → IsWithin R i e
 kept-to R i (Opens j) h = tt
 kept-to R i (Closes j) h = tt
 kept-to R i (Asks j u x) h = tt
@@ -202,13 +215,14 @@ kept-to R i (Delivers u size (Fault n)) h = tt
 kept-to R i (Hears j u from kind k) h = tt
 kept-to R i (NominationTimes j u r) h = tt
 kept-to R i (BallotTimes j u n) h = tt
+kept-to R i (Reslices j u q) h = λ y r. subst (λ b. if_kept R (when_kept b (Told u (Reslice q)))) (and_from (j == i) (R u) y r) h
 
 all_kept-from : (R : Names) (i : ℕ) (entries : List Entry) → AllIn R i entries → AllByRecursion (IsKeptIn R) (kept_of R i entries)
 unfolding kept_of
 all_kept-from R i [] h = tt
 all_kept-from R i (x ∷ xs) h = all-option R (kept R i x.event) (kept_of R i xs) (kept-from R i x.event h.0) (all_kept-from R i xs h.1)
 
-all_kept-to : (R : Names) (i : ℕ) (entries : List Entry) → AllByRecursion (IsKeptIn R) (kept_of R i entries) → AllIn R i entries
+pub all_kept-to : (R : Names) (i : ℕ) (entries : List Entry) → AllByRecursion (IsKeptIn R) (kept_of R i entries) → AllIn R i entries
 unfolding kept_of
 all_kept-to R i [] h = tt
 all_kept-to R i (x ∷ xs) h = let p = option-all R (kept R i x.event) (kept_of R i xs) h in (kept-to R i x.event p.0, all_kept-to R i xs p.1)
@@ -217,45 +231,57 @@ closure-keeps : (hosts : List Host) (i v : ℕ) (entries : List Entry) → list_
 unfolding closure
 closure-keeps hosts i v entries = least-keeps (map host_rule hosts ++ flat_map (λ x. announced i x.event) entries) v
 
+-- what the closure of a run says of its hosted members, and of what is delivered among them
+pub hosts-closed : (hosts : List Host) (i v : ℕ) (entries : List Entry) → HostsIn (closure hosts i v entries) hosts
+hosts-closed hosts i v entries =
+    let R = closure hosts i v entries in hosts-in R hosts (all-left (keeps R) (map host_rule hosts) (flat_map (λ x. announced i x.event) entries) (closure-keeps hosts i v entries))
+
+pub events-closed : (hosts : List Host) (i v : ℕ) (entries : List Entry) → AllIn (closure hosts i v entries) i entries
+events-closed hosts i v entries =
+    let R = closure hosts i v entries in events-in R i entries (all-right (keeps R) (map host_rule hosts) (flat_map (λ x. announced i x.event) entries) (closure-keeps hosts i v entries))
+
+-- the same members in both worlds
+pub casts-same : (R : Names) (v : ℕ) (hosts hosts' : List Host) → SameCast R v hosts hosts' → cast_of R hosts ≡ cast_of R hosts'
+casts-same R v hosts hosts' cast = fun_ext (λ w. go w (R w) refl)
+  where
+    go : (w : ℕ) (b : Bool) → R w ≡ b → (if b then slices_of hosts w else None) ≡ (if b then slices_of hosts' w else None)
+    go w true s = cast.same w s
+    go w false s = refl
+
+pub hosts-other : (R : Names) (v : ℕ) (hosts hosts' : List Host) → SameCast R v hosts hosts' → HostsIn R hosts → HostsIn R hosts'
+hosts-other R v hosts hosts' cast h w q e s = h w q (cast.same w s ∙ e) s
+
+pub no-places : (R : Names) (i : ℕ) (config : Config) → AllPlaces R i (new_net config)
+no-places R i config w p k = absurd (nothing p k)
+  where
+    nothing : {A : Type 0} (p : A) → ◌≡◌ {A = Option A} None (Some p) → ⊥
+    nothing p e = cc
+
 -- The headline, over the journals of one network in each history
-pub journals-agree : (g g' i v : ℕ) (hosts hosts' : List Host) (budgets budgets' : Budgets) (es es' : List Step) →
-    let one = journal (new_net g hosts budgets) es in
-    let other = journal (new_net g' hosts' budgets') es' in
-    let R = closure hosts i v one in
-    SameCast R v hosts hosts' → kept_of R i one ≡ kept_of R i other → (u : ℕ) → R u ≡ true → outs_of i u one ≡ outs_of i u other
-journals-agree g g' i v hosts hosts' budgets budgets' es es' cast same u r =
-    run-sight R i u r es (new_net g hosts budgets) (λ w p k. absurd (nothing p k)) in_one all_one
-    ∙ (ap₂ (λ (c : ℕ → Option Slices) (ks : List Kept). answers c i (sight R i (new_net g hosts budgets)) u ks)
-    (fun_ext (λ w. cast_same w (R w) refl)) same
-    ∙ sym (run-sight R i u r es' (new_net g' hosts' budgets') (λ w p k. absurd (nothing p k)) in_other all_other))
+pub journals-agree : (config config' : Config) (i v : ℕ) (es es' : List Step) →
+    let one = journal (new_net config) es in
+    let other = journal (new_net config') es' in
+    let R = closure config.hosts i v one in
+    SameCast R v config.hosts config'.hosts → kept_of R i one ≡ kept_of R i other → (u : ℕ) → R u ≡ true → outs_of i u one ≡ outs_of i u other
+journals-agree config config' i v es es' cast same u r =
+    run-sight R i u r es (new_net config) (no-places R i config) in_one all_one
+    ∙ (ap₂ (λ (c : ℕ → Option Slices) (ks : List Kept). answers c i (sight R i (new_net config)) u ks) (casts-same R v config.hosts config'.hosts cast) same
+    ∙ sym (run-sight R i u r es' (new_net config') (no-places R i config') (hosts-other R v config.hosts config'.hosts cast in_one) all_other))
   where
     one : List Entry
-    one = journal (new_net g hosts budgets) es
+    one = journal (new_net config) es
 
     other : List Entry
-    other = journal (new_net g' hosts' budgets') es'
+    other = journal (new_net config') es'
 
     R : Names
-    R = closure hosts i v one
+    R = closure config.hosts i v one
 
-    closed : list_all (keeps R) (map host_rule hosts ++ flat_map (λ x. announced i x.event) one) ≡ true
-    closed = closure-keeps hosts i v one
-
-    in_one : HostsIn R hosts
-    in_one = hosts-in R hosts (all-left (keeps R) (map host_rule hosts) (flat_map (λ x. announced i x.event) one) closed)
+    in_one : HostsIn R config.hosts
+    in_one = hosts-closed config.hosts i v one
 
     all_one : AllIn R i one
-    all_one = events-in R i one (all-right (keeps R) (map host_rule hosts) (flat_map (λ x. announced i x.event) one) closed)
-
-    in_other : HostsIn R hosts'
-    in_other w q e s = in_one w q (cast.same w s ∙ e) s
+    all_one = events-closed config.hosts i v one
 
     all_other : AllIn R i other
     all_other = all_kept-to R i other (subst (AllByRecursion (IsKeptIn R)) same (all_kept-from R i one all_one))
-
-    cast_same : (w : ℕ) (b : Bool) → R w ≡ b → (if b then slices_of hosts w else None) ≡ (if b then slices_of hosts' w else None)
-    cast_same w true s = cast.same w s
-    cast_same w false s = refl
-
-    nothing : {A : Type 0} (p : A) → ◌≡◌ {A = Option A} None (Some p) → ⊥
-    nothing p e = cc

@@ -63,7 +63,7 @@ same_phase-true Externalized Preparing h = absurd (false≢true h)
 same_phase-true Externalized Committing h = absurd (false≢true h)
 same_phase-true Externalized Externalized h = refl
 
-same_statement-refl : (s : Statement) → same_statement s s ≡ true
+pub same_statement-refl : (s : Statement) → same_statement s s ≡ true
 same_statement-refl (Nominate v a) = and_from (same_values v v) (same_values a a) (same_values-refl v) (same_values-refl a)
 same_statement-refl (Prepare b p a h c) = and_from _ _ (and_from _ _ (and_from _ _ (and_from _ _ (same_ballot-refl b) (same_option-refl same_ballot same_ballot-refl p)) (eqb-refl a)) (eqb-refl h)) (eqb-refl c)
 same_statement-refl (Commit b p h c) = and_from _ _ (and_from _ _ (and_from _ _ (same_ballot-refl b) (eqb-refl p)) (eqb-refl h)) (eqb-refl c)
@@ -72,7 +72,7 @@ same_statement-refl (Externalize b h) = and_from _ _ (same_ballot-refl b) (eqb-r
 pub same_sent-refl : (o : Option Statement) → same_sent o o ≡ true
 same_sent-refl o = same_option-refl same_statement same_statement-refl o
 
-same_statement-true : (s t : Statement) → same_statement s t ≡ true → s ≡ t
+pub same_statement-true : (s t : Statement) → same_statement s t ≡ true → s ≡ t
 same_statement-true (Nominate xs ys) (Nominate xs' ys') e = let p = and_parts (same_values xs xs') (same_values ys ys') e in λ i. Nominate ((same_values-true xs xs' p.0) i) ((same_values-true ys ys' p.1) i)
 same_statement-true (Nominate xs ys) (Prepare b' p' a' h' c') e = absurd (false≢true e)
 same_statement-true (Nominate xs ys) (Commit b' p' h' c') e = absurd (false≢true e)

@@ -16,7 +16,7 @@ use Rattle.protocol.specs.Balloting.{started, start}
 use Rattle.types.specs.declared.state.Phase.TheVariants.{Preparing, Committing, Externalized}
 use Rattle.protocol.specs.Sameness.{same_votes}
 use Rattle.protocol.specs.Nodes.{Node, fresh, passed, settle, change, settled, after_change, answered, step, bumped, timed_out}
-use Rattle.types.specs.declared.event.NodeEvent.TheVariants.{Propose, Take, NominationTimer, BallotTimer}
+use Rattle.types.specs.declared.event.NodeEvent.TheVariants.{Propose, Take, NominationTimer, BallotTimer, Reslice}
 use Rattle.protocol.specs.Limits.{Reached, NeverLimited, WithinFour}
 use Rattle.protocol.specs.Limits.Reached.{begin, next}
 use Rattle.protocol.proofs.SamenessLaws.{same_votes-refl}
@@ -280,6 +280,7 @@ change-fit n (Take e) h = go (is_taken n.table e)
     go true = h
 change-fit n (NominationTimer r) h = if_fit-if _ _ h
 change-fit n (BallotTimer c) h = if_fit-if _ (timed_out n) (bumped-fit n.votes n.votes.ballot refl h)
+change-fit n (Reslice q) h = h
 
 settled-fit : (o : Option Node) → if_fit o → if_fit (after_change o)
 settled-fit None h = tt

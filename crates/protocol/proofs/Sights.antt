@@ -70,21 +70,21 @@ all-append P (x ∷ xs) ys h k = let p = and_parts (P x) (list_all P xs) h in an
 
 moved-name : (e : NodeEvent) (p : Place) → (moved e p).node.name ≡ p.node.name
 unfolding moved
-moved-name e p = (step-self p.node e).0
+moved-name e p = step-self p.node e
 
 -- a step keeps it
 pub place-moved : (R : Names) (u : ℕ) (p : Place) (e : NodeEvent) → (R u ≡ true → IsFit R e) → IsPlace R u p → IsPlace R u (moved e p)
 unfolding moved
 place-moved R u p e fit h = record {
-  name = (step-self p.node e).0 ∙ h.name;
+  name = step-self p.node e ∙ h.name;
   good = λ i. good-step R p.node e (h.good i) (fit i);
   calm = λ i. calm-step p.node e (h.calm i);
   told = all-append (λ x. (x.sender == u) && announces_in R x) p.told (emissions (step p.node e).1) h.told
       (step-emit (λ x. (x.sender == u) && announces_in R x) p.node e (λ slot s.
-      and_from (p.node.name == u) (not (R p.node.name) || within (names p.node.slices) R) (eq-eqb p.node.name u h.name)
+      and_from (p.node.name == u) (not (R p.node.name) || within (names (step p.node e).0.slices) R) (eq-eqb p.node.name u h.name)
       (elim (cases_Bool (R u)) [
-        | inl i ↦ or_right (not (R p.node.name)) (within (names p.node.slices) R) (h.good i).closed.own
-        | inr o ↦ or_left (not (R p.node.name)) (within (names p.node.slices) R) (not_from_false (R p.node.name) (ap R h.name ∙ o))
+        | inl i ↦ or_right (not (R p.node.name)) (within (names (step p.node e).0.slices) R) (good-step R p.node e (h.good i) (fit i)).closed.own
+        | inr o ↦ or_left (not (R p.node.name)) (within (names (step p.node e).0.slices) R) (not_from_false (R p.node.name) (ap R h.name ∙ o))
       ])));
 }
 

@@ -6,7 +6,7 @@ use Rattle.std.proofs.lemmas.Bool.{cases_order, true≢false}
 use Rattle.protocol.specs.Sets.{Names, IsAscending}
 use Rattle.protocol.specs.Networks.{Host, slices_of}
 use Rattle.protocol.specs.Hosts.{Entry}
-use Rattle.protocol.specs.Isolation.{Kept, closure, kept_of, outs_of, SameCast}
+use Rattle.protocol.specs.Isolation.{closure, kept_of, outs_of, SameCast}
 use Rattle.protocol.specs.Verdicts.{Verdict, IsFirstUnlike, IsFirstDifference, IsListOf, VerdictsAreUnique, IsolatedRuns}
 use Rattle.protocol.specs.Verdicts.Verdict.{CastDiffers, InputsDiffer, Same}
 use Rattle.protocol.proofs.ClosureLaws.{contains_head, contains_tail, contained_cases}
@@ -15,7 +15,7 @@ use Rattle.protocol.proofs.JournalLaws.{runs_are_journals}
 
 pub isolated_runs : IsolatedRuns
 isolated_runs one other runs others i v a b =
-    agree (runs_are_journals one runs a) (runs_are_journals other others b) (journals-agree one.number other.number i v one.hosts other.hosts one.budgets other.budgets _ _)
+    agree (runs_are_journals one runs a) (runs_are_journals other others b) (journals-agree one other i v _ _)
   where
     Claim : List Entry → List Entry → Type 0
     Claim x y = SameCast (closure one.hosts i v x) v one.hosts other.hosts → kept_of (closure one.hosts i v x) i x ≡ kept_of (closure one.hosts i v x) i y → (u : ℕ) → closure one.hosts i v x u ≡ true → outs_of i u x ≡ outs_of i u y
@@ -84,16 +84,16 @@ module _ (R : Names) (hosts : List Host) (i : ℕ) (run : List Entry) where
       (λ u c. let m = member_at xs a.outs u c in b.all u m.0 m.1) (λ u c. let m = member_at ys b.outs u c in a.all u m.0 m.1))
 
 -- ---- places
-get_taken : (xs : List Kept) (k n : ℕ) → k < n → slice_get (take n xs) k ≡ slice_get xs k
+get_taken : {A : Type 0} (xs : List A) (k n : ℕ) → k < n → slice_get (take n xs) k ≡ slice_get xs k
 get_taken xs k zero l = absurd (omega arith)
 get_taken [] k (suc n) l = refl
 get_taken (x ∷ xs) zero (suc n) l = refl
 get_taken (x ∷ xs) (suc k) (suc n) l = get_taken xs k n (omega arith)
 
-not_before : (one other : List Kept) (p q : ℕ) → IsFirstDifference one other p → IsFirstDifference one other q → p < q → ⊥
+not_before : {A : Type 0} (one other : List A) (p q : ℕ) → IsFirstDifference one other p → IsFirstDifference one other q → p < q → ⊥
 not_before one other p q a b l = a.there (sym (get_taken one p q l) ∙ (ap (λ xs. slice_get xs p) b.before ∙ get_taken other p q l))
 
-one_place : (one other : List Kept) (p q : ℕ) → IsFirstDifference one other p → IsFirstDifference one other q → p ≡ q
+pub one_place : {A : Type 0} (one other : List A) (p q : ℕ) → IsFirstDifference one other p → IsFirstDifference one other q → p ≡ q
 one_place one other p q a b = elim (cases_order p q) [
   | inl e ↦ e
   | inr (inl l) ↦ absurd (not_before one other p q a b l)
@@ -102,7 +102,7 @@ one_place one other p q a b = elim (cases_order p q) [
 
 -- ---- casts
 module _ (R : Names) (v : ℕ) (one other : List Host) where
-  one_unlike : (u w : ℕ) → IsFirstUnlike R v one other u → IsFirstUnlike R v one other w → u ≡ w
+  pub one_unlike : (u w : ℕ) → IsFirstUnlike R v one other u → IsFirstUnlike R v one other w → u ≡ w
   one_unlike u w (inl a) (inl b) = a.1 ∙ sym b.1
   one_unlike u w (inl a) (inr b) = absurd (true≢false (sym b.0 ∙ a.0))
   one_unlike u w (inr a) (inl b) = absurd (true≢false (sym a.0 ∙ b.0))
@@ -112,7 +112,7 @@ module _ (R : Names) (v : ℕ) (one other : List Host) where
     | inr (inr l) ↦ absurd (b.1.1.0 (a.1.1.1 w b.1.0 l))
   ]
 
-  not_unlike : (u : ℕ) → IsFirstUnlike R v one other u → SameCast R v one other → ⊥
+  pub not_unlike : (u : ℕ) → IsFirstUnlike R v one other u → SameCast R v one other → ⊥
   not_unlike u (inl a) c = true≢false (sym c.hosted ∙ a.0)
   not_unlike u (inr a) c = a.1.1.0 (c.same u a.1.0)
 

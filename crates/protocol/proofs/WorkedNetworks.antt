@@ -58,7 +58,7 @@ abbrev hosts : List Host
 hosts = host A two_of_bcd ∷ []
 
 abbrev run : List Step → List Entry
-run steps = journal (new_net 1 hosts (record { events = 100; bytes = 100000; slots = 1 })) steps
+run steps = journal (new_net (record { number = 1; hosts = hosts; budgets = record { events = 100; bytes = 100000; slots = 1 }; roster = None })) steps
 
 abbrev from_C : Step
 from_C = to_A C (just C) (Prepare (at 8 k) (Some (at 8 k)) 6 0 0)

@@ -10,7 +10,7 @@ use Rattle.protocol.specs.Satisfaction.{names}
 use Rattle.protocol.specs.Rows.{row}
 use Rattle.protocol.specs.Reach.{reached}
 use Rattle.protocol.specs.Nodes.{Node, step, Calm}
-use Rattle.types.specs.declared.event.NodeEvent.TheVariants.{Propose, Take, NominationTimer, BallotTimer}
+use Rattle.types.specs.declared.event.NodeEvent.TheVariants.{Propose, Take, NominationTimer, BallotTimer, Reslice}
 use Rattle.protocol.specs.Networks.{Host}
 use Rattle.protocol.specs.Hosts.{Entry}
 use Rattle.protocol.specs.Isolation.{closure}
@@ -46,12 +46,13 @@ PrefixOfReach = (R : Names) (n : Node) → IsClosedFor R n → (u : ℕ) → IsT
 abbrev pub node_within : Names → Node → Node
 node_within R n = record n { table = filter (λ e. R e.sender) n.table }
 
--- an event of a member that is kept: an envelope is of a member, whose announced names are members too
+-- an event of a member that is kept: an envelope is of a member, whose announced names are members too, and so are the names of new slices
 abbrev pub IsOfMembers : Names → NodeEvent → Type 0
 IsOfMembers R (Propose x) = Unit {0}
 IsOfMembers R (Take e) = IsTrue (R e.sender) × IsTrue (within (names e.slices) R)
 IsOfMembers R (NominationTimer r) = Unit {0}
 IsOfMembers R (BallotTimer c) = Unit {0}
+IsOfMembers R (Reslice q) = IsTrue (within (names q) R)
 
 -- two nodes are one in state, and their tables agree on the rows of members
 abbrev pub AgreeOn : Names → Node → Node → Type 0

@@ -2,6 +2,7 @@
 use Rattle.types.specs.declared.event.Event.{Event}
 use Rattle.types.specs.declared.event.Out.{Out}
 use Rattle.std.specs.Prelude.{ℕ, ◌==◌, List, [], ◌∷◌, Option, Some, None, map, if◌then◌else◌}
+use Rattle.protocol.specs.Rosters.{Roster}
 use Rattle.protocol.specs.Networks.{Reading, Step, read, Host, Budgets, Net, Reply, net_step}
 use Rattle.types.specs.declared.event.Refusal.TheVariants.{NoSuchNetwork}
 use Rattle.protocol.specs.Networks.Reply.{Done, Refused}
@@ -43,19 +44,20 @@ applied g (c ∷ cs) [] = []
 applied g (c ∷ cs) (r ∷ rs) = if c.0 == g then entered c.1 r (applied g cs rs) else applied g cs rs
 
 -- ---- configurations and histories
--- a network where nothing has happened
-abbrev pub new_net : ℕ → List Host → Budgets → Net
-new_net g hosts budgets = record { number = g; hosts = hosts; budgets = budgets; slots = []; events = 0; bytes = 0 }
-
 -- a network as it is configured
 pub record Config : Type 0 where
   pub number : ℕ
   pub hosts : List Host
   pub budgets : Budgets
+  pub roster : Option Roster
+
+-- a network where nothing has happened
+abbrev pub new_net : Config → Net
+new_net config = record { number = config.number; hosts = config.hosts; budgets = config.budgets; roster = config.roster; slots = []; events = 0; bytes = 0; opens = 0; draws = [] }
 
 -- the networks of a host, before any event
 abbrev pub nets : List Config → List Net
-nets configs = map (λ c. new_net c.number c.hosts c.budgets) configs
+nets configs = map new_net configs
 
 -- the hosted nodes of a network; none where the network is not there
 abbrev pub hosts_of : List Config → ℕ → List Host

@@ -6,10 +6,10 @@ use Rattle.types.specs.declared.kind.Kind.{Kind}
 use Rattle.protocol.specs.Sets.{Names}
 use Rattle.protocol.specs.Satisfaction.{names}
 use Rattle.protocol.specs.Closures.{Rule, in_least}
-use Rattle.types.specs.declared.event.NodeEvent.TheVariants.{Propose, Take, NominationTimer, BallotTimer}
+use Rattle.types.specs.declared.event.NodeEvent.TheVariants.{Propose, Take, NominationTimer, BallotTimer, Reslice}
 use Rattle.protocol.specs.Networks.{Host, Reading, Step, slices_of}
 use Rattle.protocol.specs.Networks.Reading.{Read, Fault}
-use Rattle.protocol.specs.Networks.Step.{Opens, Closes, Asks, Delivers, Hears, NominationTimes, BallotTimes}
+use Rattle.protocol.specs.Networks.Step.{Opens, Closes, Asks, Delivers, Hears, NominationTimes, BallotTimes, Reslices}
 use Rattle.protocol.specs.Hosts.{Entry, History, hosts_of, entries}
 
 -- ---- the closure of a run
@@ -17,12 +17,13 @@ use Rattle.protocol.specs.Hosts.{Entry, History, hosts_of, entries}
 abbrev pub host_rule : Host → Rule
 host_rule h = record { sources = h.name ∷ []; gives = names h.slices }
 
--- where receiver and sender of a delivery at the slot are in, so are the names that it announces; a Hear announces nothing new
+-- where receiver and sender of a delivery at the slot are in, so are the names that it announces; where a hosted node is in, so are the names of all slices that it was given at the slot; a Hear announces nothing new
 abbrev pub announced : ℕ → Step → List Rule
 announced i (Delivers u size (Read e)) = if e.slot == i then record { sources = u ∷ e.sender ∷ []; gives = names e.slices } ∷ [] else []
+announced i (Reslices j u q) = if j == i then record { sources = u ∷ []; gives = names q } ∷ [] else []
 announced i _ = []
 
--- the least set that contains v and keeps the rules of the hosted nodes and of all deliveries of the whole run
+-- the least set that contains v and keeps the rules of the hosted nodes, and of all deliveries and changes of slices of the whole run
 unfoldable pub closure : List Host → ℕ → ℕ → List Entry → Names
 closure hosts i v run = in_least (map host_rule hosts ++ flat_map (λ x. announced i x.event) run) v
 
@@ -39,7 +40,7 @@ abbrev pub when_kept : Bool → Kept → Option Kept
 when_kept true k = Some k
 when_kept false k = None
 
--- at the slot: its opening and closing, what happens to members, and what members send to members
+-- at the slot: its opening and closing, what happens to members, new slices of members with them, and what members send to members
 abbrev pub kept : Names → ℕ → Step → Option Kept
 kept R i (Opens j) = when_kept (j == i) Opened
 kept R i (Closes j) = when_kept (j == i) Closed
@@ -49,6 +50,7 @@ kept R i (Delivers u size (Fault n)) = None
 kept R i (Hears j u from kind k) = when_kept ((j == i) && R u && R from) (Heard u from kind k)
 kept R i (NominationTimes j u r) = when_kept ((j == i) && R u) (Told u (NominationTimer r))
 kept R i (BallotTimes j u n) = when_kept ((j == i) && R u) (Told u (BallotTimer n))
+kept R i (Reslices j u q) = when_kept ((j == i) && R u) (Told u (Reslice q))
 
 -- the kept steps of a run, in order
 unfoldable pub kept_of : Names → ℕ → List Entry → List Kept
@@ -65,13 +67,14 @@ is_of i u (Delivers w size (Fault n)) = false
 is_of i u (Hears j w from kind k) = (j == i) && (w == u)
 is_of i u (NominationTimes j w r) = (j == i) && (w == u)
 is_of i u (BallotTimes j w n) = (j == i) && (w == u)
+is_of i u (Reslices j w q) = (j == i) && (w == u)
 
 -- all that a node gave out at a slot, in order, over all openings of the slot
 unfoldable pub outs_of : ℕ → ℕ → List Entry → List Out
 outs_of i u run = flat_map (λ x. if is_of i u x.event then x.outs else []) run
 
 -- ---- the theorem
--- both worlds host the same members, with the same slices, and v is one of them
+-- both worlds host the same members, with the same slices by their configurations, and v is one of them
 pub record SameCast (R : Names) (v : ℕ) (one other : List Host) : Type 0 where
   pub hosted : IsTrue (is_some (slices_of one v))
   pub same : (u : ℕ) → IsTrue (R u) → slices_of one u ≡ slices_of other u

@@ -20,11 +20,17 @@ pub mod Passes
 pub mod Leaders
 pub mod Sameness
 pub mod Nodes
+pub mod Rosters
 pub mod Networks
 pub mod Hosts
 pub mod Isolation
 pub mod Claims
 pub mod Runs
+pub mod WithoutRoster
+pub mod Counts
 pub mod Limits
 pub mod Strangers
+pub mod Reslices
+pub mod Submissions
 pub mod Verdicts
+pub mod Crowds

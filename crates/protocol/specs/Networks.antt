@@ -5,13 +5,16 @@ use Rattle.std.specs.Prelude.{ℕ, zero, suc, ◌+◌, Bool, true, false, not, �
 use Rattle.types.specs.Trees.{Slices}
 use Rattle.types.specs.declared.kind.Kind.{Kind}
 use Rattle.types.specs.declared.event.Event.{Event}
-use Rattle.types.specs.declared.event.Event.TheVariants.{OpenSlot, CloseSlot, Propose as Ask, Deliver, Hear, NominationTimer as NominationTimeout, BallotTimer as BallotTimeout}
+use Rattle.types.specs.declared.event.Event.TheVariants.{OpenSlot, CloseSlot, Propose as Ask, Deliver, Hear, NominationTimer as NominationTimeout, BallotTimer as BallotTimeout, Reslice as ChangeSlices}
 use Rattle.types.specs.declared.event.Refusal.{Refusal}
-use Rattle.types.specs.declared.event.Refusal.TheVariants.{NoSuchNode, SlotNotOpen, SlotOpenAlready, TooManySlots, BadEnvelope, HostedSender, NotEmitted, JournalFull, BytesFull, BadValue, ProposedAlready}
+use Rattle.types.specs.declared.event.Refusal.TheVariants.{NoSuchNode, SlotNotOpen, SlotOpenAlready, TooManySlots, BadEnvelope, HostedSender, NotEmitted, JournalFull, BytesFull, BadValue, ProposedAlready, ShareFull, ShareBytesFull}
 use Rattle.types.specs.Statements.{Sent, kind_of}
 use Rattle.protocol.specs.Rows.{is_kind}
 use Rattle.protocol.specs.Nodes.{Node, fresh, step}
-use Rattle.types.specs.declared.event.NodeEvent.TheVariants.{Propose, Take, NominationTimer, BallotTimer}
+use Rattle.protocol.specs.Rosters.{Roster, Source, Draw, reserved, events_drawn, bytes_drawn, events_of}
+use Rattle.protocol.specs.Rosters.Share.{Own, Pair}
+use Rattle.protocol.specs.Rosters.Source.{OfBudgets, OfOpens, OfShare}
+use Rattle.types.specs.declared.event.NodeEvent.TheVariants.{Propose, Take, NominationTimer, BallotTimer, Reslice}
 use Rattle.types.specs.declared.event.Out.TheVariants.{ArmNomination, ArmBallot, Emit, Externalized as Decided}
 
 -- ---- events
@@ -29,6 +32,7 @@ pub data Step : Type 0 where
   Hears : ℕ → ℕ → ℕ → Kind → ℕ → Step
   NominationTimes : ℕ → ℕ → ℕ → Step
   BallotTimes : ℕ → ℕ → ℕ → Step
+  Reslices : ℕ → ℕ → Slices → Step
 
 -- what an event is, by a decoder of envelopes
 abbrev pub read : (List ℕ → Reading) → Event → Step
@@ -39,6 +43,7 @@ read decode (Deliver u bytes) = Delivers u (length bytes) (decode bytes)
 read decode (Hear i u from kind k) = Hears i u from kind k
 read decode (NominationTimeout i u r) = NominationTimes i u r
 read decode (BallotTimeout i u n) = BallotTimes i u n
+read decode (ChangeSlices i u q) = Reslices i u q
 
 -- ---- networks
 -- a hosted node, as it is configured
@@ -46,7 +51,7 @@ pub record Host : Type 0 where
   pub name : ℕ
   pub slices : Slices
 
--- the most journal events, delivered bytes and open slots of a network
+-- the most events and delivered bytes that may draw on a network's budgets, and its most open slots
 pub record Budgets : Type 0 where
   pub events : ℕ
   pub bytes : ℕ
@@ -62,14 +67,18 @@ pub record Slot : Type 0 where
   pub number : ℕ
   pub places : List Place
 
--- a network, with the events and the delivered bytes of its journal so far
+-- a network, with the events and the delivered bytes that drew on its budgets so far, the openings and closings that drew on theirs,
+-- and what was drawn on the shares of each slot since it was opened
 pub record Net : Type 0 where
   pub number : ℕ
   pub hosts : List Host
   pub budgets : Budgets
+  pub roster : Option Roster
   pub slots : List Slot
   pub events : ℕ
   pub bytes : ℕ
+  pub opens : ℕ
+  pub draws : List Draw
 
 -- ---- looking up
 abbrev pub slices_of : List Host → ℕ → Option Slices
@@ -134,13 +143,17 @@ abbrev pub act_known : Net → ℕ → ℕ → Option Sent → Net × List Out
 act_known net i u None = (net, [])
 act_known net i u (Some e) = act net i u (Take e)
 
--- opening a slot makes each hosted node anew
+-- opening a slot makes each hosted node anew, with the slices of its configuration
 unfoldable pub opened : List Host → ℕ → List Place
 opened hosts i = map (λ h. record { node = fresh i h.name h.slices; told = [] }) hosts
 
+-- nothing is drawn yet on the shares of a slot that is opened
+abbrev pub renewed : ℕ → List Draw → List Draw
+renewed i draws = filter (λ d. not (d.slot == i)) draws
+
 -- what an event does that is not refused; a closed slot is forgotten, and a Hear hands over what was emitted
 unfoldable pub effect : Net → Step → Net × List Out
-effect net (Opens i) = (record net { slots = net.slots ++ record { number = i; places = opened net.hosts i } ∷ [] }, [])
+effect net (Opens i) = (record net { slots = net.slots ++ record { number = i; places = opened net.hosts i } ∷ []; draws = renewed i net.draws }, [])
 effect net (Closes i) = (record net { slots = filter (λ s. not (s.number == i)) net.slots }, [])
 effect net (Asks i u x) = act net i u (Propose x)
 effect net (Delivers u size (Read e)) = act net e.slot u (Take e)
@@ -148,6 +161,26 @@ effect net (Delivers u size (Fault n)) = (net, [])
 effect net (Hears i u from kind k) = act_known net i u (emission (known (places_at net.slots i) from) kind k)
 effect net (NominationTimes i u r) = act net i u (NominationTimer r)
 effect net (BallotTimes i u n) = act net i u (BallotTimer n)
+effect net (Reslices i u q) = act net i u (Reslice q)
+
+-- ---- what a step draws on
+-- with a roster: openings and closings on theirs, a hosted node's own steps on its own share, and what it gets from another name on the
+-- share of both, where all are on the roster. What is not hosted is refused before that, and bytes that are no envelope are too.
+abbrev pub source_by : Roster → Step → Source
+source_by r (Opens i) = OfOpens r.shares
+source_by r (Closes i) = OfOpens r.shares
+source_by r (Asks i u x) = reserved r i (Own u)
+source_by r (Delivers u size (Read e)) = reserved r e.slot (Pair u e.sender)
+source_by r (Delivers u size (Fault n)) = OfBudgets
+source_by r (Hears i u from kind k) = reserved r i (Pair u from)
+source_by r (NominationTimes i u n) = reserved r i (Own u)
+source_by r (BallotTimes i u n) = reserved r i (Own u)
+source_by r (Reslices i u q) = reserved r i (Own u)
+
+-- without a roster, all on the budgets
+abbrev pub source : Option Roster → Step → Source
+source None e = OfBudgets
+source (Some r) e = source_by r e
 
 -- ---- refusals
 -- the network hosts the name
@@ -175,21 +208,34 @@ is_hosted_not net u = (not (is_hosted net u), NoSuchNode)
 abbrev pub is_open_not : Net → ℕ → Bool × Refusal
 is_open_not net i = (not (is_open net i), SlotNotOpen)
 
--- the journal's budget is used up
-abbrev pub is_full : Net → Bool × Refusal
-is_full net = (not (nat_lt net.events net.budgets.events), JournalFull)
+-- the events that it draws on are used up
+abbrev pub is_full : Net → Source → Bool × Refusal
+is_full net OfBudgets = (not (nat_lt net.events net.budgets.events), JournalFull)
+is_full net (OfOpens shares) = (not (nat_lt net.opens shares.opens), ShareFull)
+is_full net (OfShare shares i s) = (not (nat_lt (events_drawn i s net.draws) (events_of shares s)), ShareFull)
 
--- what is tested of an event, in this order, each with the refusal where it holds
+-- so many bytes more would exceed those that it draws on; openings and closings have none
+abbrev pub is_full_of_bytes : Net → Source → ℕ → Bool × Refusal
+is_full_of_bytes net OfBudgets size = (nat_lt net.budgets.bytes (net.bytes + size), BytesFull)
+is_full_of_bytes net (OfOpens shares) size = (false, ShareBytesFull)
+is_full_of_bytes net (OfShare shares i s) size = (nat_lt shares.bytes (bytes_drawn i s net.draws + size), ShareBytesFull)
+
+-- what is tested of an event that draws on a source, in this order, each with the refusal where it holds
+abbrev pub tests_on : Net → Source → Step → List (Bool × Refusal)
+tests_on net s (Opens i) = (is_open net i, SlotOpenAlready) ∷ (not (nat_lt (length net.slots) net.budgets.slots), TooManySlots) ∷ is_full net s ∷ []
+tests_on net s (Closes i) = is_open_not net i ∷ is_full net s ∷ []
+tests_on net s (Asks i u x) = is_hosted_not net u ∷ is_open_not net i ∷ (is_bad_value x, BadValue) ∷ (has_input (known (places_at net.slots i) u), ProposedAlready) ∷ is_full net s ∷ []
+tests_on net s (Delivers u size (Fault n)) = is_hosted_not net u ∷ (true, BadEnvelope n) ∷ []
+tests_on net s (Delivers u size (Read e)) = is_hosted_not net u ∷ (is_hosted net e.sender, HostedSender) ∷ is_open_not net e.slot ∷ is_full net s ∷ is_full_of_bytes net s size ∷ []
+tests_on net s (Hears i u from kind k) =
+    (not (is_hosted net u) || not (is_hosted net from) || (u == from), NoSuchNode) ∷ is_open_not net i ∷ (is_none (emission (known (places_at net.slots i) from) kind k), NotEmitted) ∷ is_full net s ∷ []
+tests_on net s (NominationTimes i u r) = is_hosted_not net u ∷ is_open_not net i ∷ is_full net s ∷ []
+tests_on net s (BallotTimes i u n) = is_hosted_not net u ∷ is_open_not net i ∷ is_full net s ∷ []
+tests_on net s (Reslices i u q) = is_hosted_not net u ∷ is_open_not net i ∷ is_full net s ∷ []
+
+-- what is tested of an event
 abbrev pub tests : Net → Step → List (Bool × Refusal)
-tests net (Opens i) = (is_open net i, SlotOpenAlready) ∷ (not (nat_lt (length net.slots) net.budgets.slots), TooManySlots) ∷ is_full net ∷ []
-tests net (Closes i) = is_open_not net i ∷ is_full net ∷ []
-tests net (Asks i u x) = is_hosted_not net u ∷ is_open_not net i ∷ (is_bad_value x, BadValue) ∷ (has_input (known (places_at net.slots i) u), ProposedAlready) ∷ is_full net ∷ []
-tests net (Delivers u size (Fault n)) = is_hosted_not net u ∷ (true, BadEnvelope n) ∷ []
-tests net (Delivers u size (Read e)) = is_hosted_not net u ∷ (is_hosted net e.sender, HostedSender) ∷ is_open_not net e.slot ∷ is_full net ∷ (nat_lt net.budgets.bytes (net.bytes + size), BytesFull) ∷ []
-tests net (Hears i u from kind k) =
-    (not (is_hosted net u) || not (is_hosted net from) || (u == from), NoSuchNode) ∷ is_open_not net i ∷ (is_none (emission (known (places_at net.slots i) from) kind k), NotEmitted) ∷ is_full net ∷ []
-tests net (NominationTimes i u r) = is_hosted_not net u ∷ is_open_not net i ∷ is_full net ∷ []
-tests net (BallotTimes i u n) = is_hosted_not net u ∷ is_open_not net i ∷ is_full net ∷ []
+tests net e = tests_on net (source net.roster e) e
 
 -- the first test that holds refuses
 abbrev pub first_that : List (Bool × Refusal) → Option Refusal
@@ -206,14 +252,37 @@ abbrev pub size_of : Step → ℕ
 size_of (Delivers u size d) = size
 size_of _ = 0
 
--- counted in the journal
-abbrev pub counted : Step → Net → Net
-counted e net = record net { events = net.events + 1; bytes = net.bytes + size_of e }
+-- so much where a step draws on the budgets
+abbrev pub on_budgets : Source → ℕ → ℕ
+on_budgets OfBudgets n = n
+on_budgets (OfOpens shares) n = 0
+on_budgets (OfShare shares i s) n = 0
+
+-- one where it draws on openings and closings
+abbrev pub on_opens : Source → ℕ
+on_opens OfBudgets = 0
+on_opens (OfOpens shares) = 1
+on_opens (OfShare shares i s) = 0
+
+-- what it draws on a share, with so many bytes
+abbrev pub on_shares : Source → ℕ → List Draw
+on_shares OfBudgets size = []
+on_shares (OfOpens shares) size = []
+on_shares (OfShare shares i s) size = record { slot = i; share = s; size = size } ∷ []
+
+-- counted where it draws, and nowhere else
+abbrev pub counted : Source → ℕ → Net → Net
+counted s size net = record net {
+  events = net.events + on_budgets s 1;
+  bytes = net.bytes + on_budgets s size;
+  opens = net.opens + on_opens s;
+  draws = on_shares s size ++ net.draws;
+}
 
 -- a refused event changes nothing; another one is counted and does what it does
 abbrev pub replied : Net → Step → Option Refusal → Net × Reply
 replied net e (Some n) = (net, Refused n)
-replied net e None = (counted e (effect net e).0, Done (effect net e).1)
+replied net e None = (counted (source net.roster e) (size_of e) (effect net e).0, Done (effect net e).1)
 
 -- the first refusal that applies, with the state unchanged; else what the event does
 unfoldable pub net_step : Net → Step → Net × Reply

@@ -4,7 +4,7 @@ use Rattle.types.specs.Trees.{Slices}
 use Rattle.types.specs.declared.ballot.Ballot.{Ballot}
 use Rattle.types.specs.declared.statement.Statement.{Statement}
 use Rattle.types.specs.declared.event.NodeEvent.{NodeEvent}
-use Rattle.types.specs.declared.event.NodeEvent.TheVariants.{Propose, Take, NominationTimer, BallotTimer}
+use Rattle.types.specs.declared.event.NodeEvent.TheVariants.{Propose, Take, NominationTimer, BallotTimer, Reslice}
 use Rattle.types.specs.declared.event.Out.{Out}
 use Rattle.types.specs.declared.event.Out.TheVariants.{ArmNomination, ArmBallot, Emit, Externalized as Decided}
 use Rattle.types.specs.Statements.{Sent}
@@ -24,7 +24,7 @@ use Rattle.protocol.specs.Sameness.{same_votes, same_sent}
 pub record Node : Type 0 where
   pub name : ℕ
   pub slot : ℕ
-  -- configured
+  -- those that are configured at this moment
   pub slices : Slices
   pub given : Given
   pub votes : Votes
@@ -87,12 +87,17 @@ bumped w (Some b) = record w { ballot = Some (raised w b (b.counter + 1)) }
 abbrev pub timed_out : Node → Node
 timed_out n = record n { given = record n.given { fired = n.given.fired + 1 }; votes = bumped n.votes n.votes.ballot }
 
+-- from now on these are the configured slices; all else is as it was, its leaders too
+abbrev pub resliced : Node → Slices → Node
+resliced n q = record n { slices = q }
+
 -- none for a stale envelope, and for a timer that is not live
 unfoldable pub change : Node → NodeEvent → Option Node
 change n (Propose x) = Some (proposed n x)
 change n (Take e) = if is_taken n.table e then Some (record n { table = with_row e n.table }) else None
 change n (NominationTimer r) = if is_round_live n r then Some (in_round n (r + 1)) else None
 change n (BallotTimer c) = if is_counter_live n c then Some (timed_out n) else None
+change n (Reslice q) = Some (resliced n q)
 
 -- ---- what is given out
 abbrev pub when : Bool → Out → List Out
@@ -128,7 +133,7 @@ abbrev pub after_change : Option Node → Option Node
 after_change None = None
 after_change (Some n) = settled n (settle most_passes (passed n) n.votes)
 
--- where nothing changes, or the limit of passes is met, the node stays as it was and gives nothing out
+-- where nothing changes, or the limit of passes is met, the node stays as it was, its slices too, and gives nothing out
 abbrev pub answered : Node → Option Node → Node × List Out
 answered old None = (old, [])
 answered old (Some new) = (new, outs old new)

@@ -7,7 +7,7 @@ use Rattle.protocol.specs.Rows.{is_kind}
 use Rattle.types.specs.declared.event.Out.TheVariants.{ArmNomination, ArmBallot, Emit, Externalized as Decided}
 use Rattle.protocol.specs.Networks.{Step, Net, Place, emissions, known, places_at, tests, first_that, effect, net_step}
 use Rattle.protocol.specs.Networks.Reading.{Read, Fault}
-use Rattle.protocol.specs.Networks.Step.{Opens, Closes, Asks, Delivers, Hears, NominationTimes, BallotTimes}
+use Rattle.protocol.specs.Networks.Step.{Opens, Closes, Asks, Delivers, Hears, NominationTimes, BallotTimes, Reslices}
 use Rattle.protocol.specs.Hosts.{Entry, Config, new_net, journal}
 
 -- a network after the events of these entries
@@ -17,7 +17,7 @@ net_after net (x ∷ xs) = net_after (net_step net x.event).0 xs
 
 -- a network as it is configured, after these entries
 abbrev pub state_of : Config → List Entry → Net
-state_of config before = net_after (new_net config.number config.hosts config.budgets) before
+state_of config before = net_after (new_net config) before
 
 -- the refusal of an event, where one applies
 abbrev pub refusal_of : Config → List Entry → Step → Option Refusal
@@ -37,6 +37,7 @@ place_named (Delivers u size (Fault n)) = None
 place_named (Hears i u from kind k) = Some (i, u)
 place_named (NominationTimes i u r) = Some (i, u)
 place_named (BallotTimes i u n) = Some (i, u)
+place_named (Reslices i u q) = Some (i, u)
 
 -- what a node has emitted
 abbrev pub told_at : Option Place → List Sent
@@ -81,8 +82,8 @@ pub record IsRun (config : Config) (entries : List Entry) : Type 0 where
 
 -- the journal of any events is a run
 abbrev pub JournalsAreRuns : Type 0
-JournalsAreRuns = (config : Config) (events : List Step) → IsRun config (journal (new_net config.number config.hosts config.budgets) events)
+JournalsAreRuns = (config : Config) (events : List Step) → IsRun config (journal (new_net config) events)
 
 -- and a run is the journal of its own events
 abbrev pub RunsAreJournals : Type 0
-RunsAreJournals = (config : Config) (entries : List Entry) → IsRun config entries → entries ≡ journal (new_net config.number config.hosts config.budgets) (map (λ x. x.event) entries)
+RunsAreJournals = (config : Config) (entries : List Entry) → IsRun config entries → entries ≡ journal (new_net config) (map (λ x. x.event) entries)

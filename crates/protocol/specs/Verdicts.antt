@@ -6,7 +6,7 @@ use Rattle.protocol.specs.Sets.{Names, IsAscending}
 use Rattle.protocol.specs.Networks.{Host, slices_of}
 use Rattle.protocol.specs.Hosts.{Config, Entry}
 use Rattle.protocol.specs.Runs.{IsRun}
-use Rattle.protocol.specs.Isolation.{Kept, closure, kept_of, outs_of, SameCast}
+use Rattle.protocol.specs.Isolation.{closure, kept_of, outs_of, SameCast}
 
 -- the casts differ at a node, the kept steps differ at a place, or all is the same, with what each hosted member gave out
 pub data Verdict : Type 0 where
@@ -21,7 +21,7 @@ IsFirstUnlike R v one other u =
     ⊎ (IsTrue (is_some (slices_of one v)) × (IsTrue (R u) × ((slices_of one u ≢ slices_of other u) × ((w : ℕ) → IsTrue (R w) → w < u → slices_of one w ≡ slices_of other w))))
 
 -- the place of the first difference: the number of steps that agree
-pub record IsFirstDifference (one other : List Kept) (place : ℕ) : Type 0 where
+pub record IsFirstDifference {A : Type 0} (one other : List A) (place : ℕ) : Type 0 where
   pub before : take place one ≡ take place other
   pub there : slice_get one place ≢ slice_get other place
 
@@ -44,6 +44,10 @@ IsVerdict one other runs others i v (Same list) =
 -- the verdict is determined
 abbrev pub VerdictsAreUnique : Type 0
 VerdictsAreUnique = (one other : List Host) (runs others : List Entry) (i v : ℕ) (a b : Verdict) → IsVerdict one other runs others i v a → IsVerdict one other runs others i v b → a ≡ b
+
+-- and every two runs have one
+abbrev pub VerdictsExist : Type 0
+VerdictsExist = (one other : Config) (runs others : List Entry) (i v : ℕ) → IsRun one runs → IsRun other others → (verdict : Verdict) × IsVerdict one.hosts other.hosts runs others i v verdict
 
 -- Isolation of two runs, each of its own configuration, whatever is answered
 abbrev pub IsolatedRuns : Type 0

@@ -3,7 +3,7 @@
 ghost use Rattle.protocol.specs.Claims.{Agree, Quiet, PrefixOfReach, PrefixOfRun};
 ghost use Rattle.protocol.specs.Isolation.{Isolation};
 ghost use Rattle.protocol.specs.Runs.{JournalsAreRuns, RunsAreJournals};
-ghost use Rattle.protocol.specs.Verdicts.{IsolatedRuns, VerdictsAreUnique};
+ghost use Rattle.protocol.specs.Verdicts.{IsolatedRuns, VerdictsAreUnique, VerdictsExist};
 
 /// For any two host histories, whatever networks, strangers and interleavings they hold: if the
 /// applied steps that concern a network, a slot and the validators reachable from one of its nodes
@@ -44,9 +44,10 @@ pub fn journals_are_runs()
 {}
 
 /// Isolation of two runs of one network, each of its own configuration; and a verdict on two runs is
-/// determined: no two verdicts are right.
-#[tactic(auto, using(crate::proofs::VerdictLaws::isolated_runs, crate::proofs::VerdictLaws::verdicts_are_unique))]
+/// determined: every two runs have one, and no two verdicts are right.
+#[tactic(auto, using(crate::proofs::VerdictLaws::isolated_runs, crate::proofs::VerdictLaws::verdicts_are_unique, crate::proofs::VerdictsFound::verdicts_exist))]
 pub fn verdicts_are_determined()
     ensures isolated { IsolatedRuns }
     ensures unique { VerdictsAreUnique }
+    ensures there { VerdictsExist }
 {}

@@ -11,6 +11,7 @@ mod headline;
 mod limits;
 mod quorums;
 mod reached;
+mod rosters;
 mod rows;
 mod values;
 
@@ -22,7 +23,11 @@ pub use extremes::extremes_are_exact;
 pub use headline::{agree, isolation, journals_are_runs, prefix, quiet, verdicts_are_determined};
 pub use limits::four_passes_are_enough;
 pub use quorums::{blocking_is_counted, quorum_cut, quorums_are_found};
-pub use reached::{reached_nodes_send_well_formed, strangers_add_rows};
+pub use reached::{reached_nodes_send_well_formed, slices_follow_events, strangers_add_rows};
+pub use rosters::{
+    crowds_are_determined, lengths_follow_from_envelopes, members_are_never_crowded_out,
+    room_is_counted, without_roster_nothing_changes,
+};
 pub use rows::{
     externalize_stays, newer_is_strict, offers_change_one_row, rows_are_single,
     rows_follow_from_all_offers, statements_are_ordered,

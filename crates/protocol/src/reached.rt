@@ -1,7 +1,8 @@
 //! Nodes that events lead to, and what they send.
 
 ghost use Rattle.protocol.specs.Limits.{ReachedAreCalm, SendsWellFormed, TimersAreCounted};
-ghost use Rattle.protocol.specs.Strangers.{HeldIsClosed, LeadersAreNear, OutsidersAddRows, ReachIsClosed, StrangersAddRows};
+ghost use Rattle.protocol.specs.Reslices.{ReslicesChangeVotes, SameSlicesAreQuiet, SlicesFollowEvents, SlicesFollowRuns};
+ghost use Rattle.protocol.specs.Strangers.{HeldIsClosed, LeadersAreNear, OutsidersAddRows, OutsidersAreQuiet, StrangersAddRows};
 
 /// Each nomination and each ballot statement that a node sends is well formed, whatever events led to
 /// it and whatever rows it has. Nor have more of its ballot timers fired than the counter of its
@@ -14,13 +15,24 @@ pub fn reached_nodes_send_well_formed()
     ensures sends { SendsWellFormed }
 {}
 
-/// A node that takes an envelope from outside a set that is closed for it has the row more: nothing
-/// else of it changes, and it gives nothing out. Its reach is such a set, since its leaders are itself
-/// and nodes that its slices name; so an envelope of a stranger adds its row alone.
+/// A node that takes an envelope whose sender it does not reach, and which is no leader of its, has the
+/// row more: nothing else of it changes, and it gives nothing out. Leaders stay when slices change, so a
+/// set that is to be closed for the node has the names of all slices that it has had.
 pub fn strangers_add_rows()
     ensures leaders { LeadersAreNear }
     ensures held { HeldIsClosed }
-    ensures closed { ReachIsClosed }
     ensures outsiders { OutsidersAddRows }
+    ensures quiet { OutsidersAreQuiet }
     ensures strangers { StrangersAddRows }
+{}
+
+/// A node has the slices that were given to it last, and in a run those that the run gave it last since
+/// the slot was opened. Beside them, new ones change its votes alone, and those that it has already
+/// change nothing.
+#[tactic(auto, using(crate::proofs::RunSlices::slices_follow_runs, crate::proofs::ResliceLaws::slices_follow_events, crate::proofs::ResliceLaws::reslices_change_votes, crate::proofs::ResliceLaws::same_slices_are_quiet))]
+pub fn slices_follow_events()
+    ensures slices { SlicesFollowEvents }
+    ensures runs { SlicesFollowRuns }
+    ensures rest { ReslicesChangeVotes }
+    ensures same { SameSlicesAreQuiet }
 {}

@@ -160,7 +160,12 @@ fn slices_and_statements(rt: HostRuntime) -> Result<(), Fail> {
         (b"1[A]".as_slice(), "1[A]"),
         (b"2[B,1[C,D],2[E,F]]".as_slice(), "2[B,1[C,D],2[E,F]]"),
         (b"1[1[1[A]]]".as_slice(), "1[1[1[A]]]"),
-        (b"1[1[1[1[A]]]]".as_slice(), ""),
+        (b"1[1[1[1[A]]]]".as_slice(), "1[1[1[1[A]]]]"),
+        (
+            b"1[1[1[1[1[1[1[1[1[A]]]]]]]]]".as_slice(),
+            "1[1[1[1[1[1[1[1[1[A]]]]]]]]]",
+        ),
+        (b"1[1[1[1[1[1[1[1[1[1[A]]]]]]]]]]".as_slice(), ""),
         (b"0[A]".as_slice(), ""),
         (b"2[A]".as_slice(), ""),
         (b"1[A,A]".as_slice(), ""),

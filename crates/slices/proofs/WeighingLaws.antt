@@ -114,10 +114,10 @@ share_in_within (inner k own rest) u (suc n) h d =
     (map_within n k (member_count own) (share_in own u) (omega arith) (omega arith) (share_in_within own u n h.1 (omega arith)))
     (share_in_within rest u (suc n) h.2 (omega arith))
 
--- three levels of at most 64 members
+-- nine levels of at most 64 members
 pub share_of_within : (q : Slices) (u : ℕ) → HasThreshold q.threshold q.members → HaveThresholds q.members → depth_of q.members ≤ most_levels
-    → IfSome (share_of q u) (λ f. (f.numerator ≤ 64 ^ 3) × (f.denominator ≤ 64 ^ 3))
-share_of_within q u t h d = map_within 2 q.threshold (member_count q.members) (share_in q.members u) (omega arith) (omega arith) (share_in_within q.members u 2 h d)
+    → IfSome (share_of q u) (λ f. (f.numerator ≤ 64 ^ 9) × (f.denominator ≤ 64 ^ 9))
+share_of_within q u t h d = map_within 8 q.threshold (member_count q.members) (share_in q.members u) (omega arith) (omega arith) (share_in_within q.members u 8 h d)
 
 -- ---- one step of the walk over the members in memory
 abbrev pub share_of_member : Member → ℕ → Option Fraction

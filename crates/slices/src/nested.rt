@@ -108,7 +108,7 @@ fn weight_in(set: &SliceSet, node: &NodeId) -> Option<Weight>
     requires inner_sets { HaveThresholds set.now.members }
     requires levels { depth_of set.now.members ≤ most_levels }
     ensures value { result ≡ share_of set.now node.now }
-    ensures fits { IfSome result (λ w. (w.numerator ≤ 64 ^ 3) × (w.denominator ≤ 64 ^ 3)) }
+    ensures fits { IfSome result (λ w. (w.numerator ≤ 64 ^ 9) × (w.denominator ≤ 64 ^ 9)) }
 {
     let members = set.members();
     for member in members {
@@ -126,7 +126,7 @@ fn weight_in(set: &SliceSet, node: &NodeId) -> Option<Weight>
 /// The weight of a node in a member that is itself a node.
 fn own_weight(member: &NodeId, node: &NodeId) -> Option<Weight>
     ensures value { result ≡ (if member.now == node.now then Some whole else None) }
-    ensures fits { IfSome result (λ w. (w.numerator ≤ 64 ^ 3) × (w.denominator ≤ 64 ^ 3)) }
+    ensures fits { IfSome result (λ w. (w.numerator ≤ 64 ^ 9) × (w.denominator ≤ 64 ^ 9)) }
 {
     if *member == *node {
         Some(Weight::whole())

@@ -9,7 +9,7 @@ use std::marker::Model;
 /// A fraction as two whole numbers, not shortened: the part of the slices that a node stands in (the
 /// Stellar Consensus Protocol draft, of the weight by which leaders are chosen).
 ///
-/// The product over ten levels of at most 64 members fits; this host's trees have three.
+/// The product over ten levels of at most 64 members fits; this host's trees have nine.
 #[derive(Clone, Copy, Debug, PartialEq, Eq)]
 pub struct Weight {
     numerator: u64,

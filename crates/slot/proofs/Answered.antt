@@ -1,34 +1,45 @@
 -- How an answer leads to the step's: the votes that settle, and what the node of them sends.
-use Rattle.std.proofs.Common.{◌≡◌, ℕ, ◌+◌, ◌<◌, Bool, true, false, not, ◌&&◌, ◌==◌, nat_lt, List, Option, Some, None, Result, Ok, Err, Vec, Global, IfOk, OnOk, option_map, is_some, if◌then◌else◌, subst, ◌∙◌, sym, ap, inl, inr, ◌⊎◌, arith}
+use Rattle.std.proofs.Common.{refl, ◌≡◌, ℕ, ◌+◌, ◌<◌, Bool, true, false, not, ◌&&◌, ◌==◌, nat_lt, List, Option, Some, None, Result, Ok, Err, Vec, Global, IfOk, OnOk, option_map, is_some, if◌then◌else◌, subst, ◌∙◌, sym, ap, inl, inr, ◌⊎◌, arith}
 use Rattle.std.specs.Prelude.{IfSome, IsFalse, IsTrue}
 use Rattle.std.proofs.lemmas.Bool.{and_parts, eqb-true, false≢true}
 use Rattle.std.proofs.lemmas.Bool.Decides.{nat_tests}
+use Rattle.types.specs.Trees.{Slices}
 use Rattle.types.specs.Statements.{Sent}
 use Rattle.types.specs.declared.ballot.Ballot.{Ballot}
 use Rattle.types.specs.declared.event.NodeEvent.{NodeEvent}
-use Rattle.types.specs.declared.event.NodeEvent.TheVariants.{Propose, Take, NominationTimer, BallotTimer}
+use Rattle.types.specs.declared.event.NodeEvent.TheVariants.{Propose, Take, NominationTimer, BallotTimer, Reslice}
 use Rattle.types.specs.declared.event.Out.{Out}
 use Rattle.types.specs.declared.state.Given.{Given}
 use Rattle.types.specs.declared.state.Votes.{Votes}
 use Rattle.protocol.specs.Rows.{is_taken, row, with_row}
 use Rattle.protocol.specs.States.{counter_of}
 use Rattle.protocol.specs.Timers.{is_nomination_timer_live, is_ballot_timer_live}
-use Rattle.protocol.specs.Nodes.{Node, passed, settle, change, settled, after_change, answered, step, in_round, timed_out, bumped, is_externalized}
+use Rattle.protocol.specs.Nodes.{Node, passed, settle, change, settled, after_change, answered, outs, step, in_round, timed_out, bumped, is_externalized}
 use Rattle.protocol.specs.Limits.{Reached}
 use Rattle.protocol.specs.Limits.Reached.{next}
-use Rattle.protocol.proofs.ReachedLaws.{reached-calm, reached-sends}
+use Rattle.protocol.proofs.ReachedLaws.{reached-sends}
 use Rattle.protocol.proofs.SettleLaws.{never_limited}
-use Rattle.protocol.proofs.ClaimLaws.{quiet_claim}
 use Rattle.protocol.specs.Claims.{IsQuiet}
 use Rattle.protocol.specs.Reach.{HoldsReach}
-use Rattle.protocol.proofs.StrangerLaws.{held_is_closed}
-use Rattle.protocol.specs.Sets.{Names}
+use Rattle.protocol.proofs.StrangerLaws.{outsiders_are_quiet}
+use Rattle.protocol.specs.Sets.{Names, among}
+use Rattle.envstore.specs.declared.filed.Filed.{Filed}
+use Rattle.envstore.specs.Archives.{sents_of}
 use Rattle.latest.specs.declared.table.Put.{Put}
 use Rattle.latest.specs.declared.table.Put.TheVariants.{Stale, NoMemory, Added, Replaced}
 use Rattle.latest.specs.Puts.{IsPut, undone}
 use Rattle.slot.specs.declared.configured.Configured.{Configured}
-use Rattle.slot.specs.Listening.{Heard, is_put, node_of}
+use Rattle.slot.specs.Listening.{Heard, Held, is_put, node_of}
+use Rattle.slot.specs.declared.filed.FiledOut.{FiledOut}
+use Rattle.slot.specs.Filings.{outs_of}
 use Rattle.slot.specs.Wholes.{whole, led, SendWellFormed}
+
+-- the node that is held
+abbrev pub node_in : Held → Node
+node_in h = h.node
+
+abbrev pub held_of : Heard → Given → Votes → Held
+held_of h given votes = record { node = node_of h given votes; rows = h.table }
 
 -- the votes that an event changes settle within the limit
 pub settles-after : (n m : Node) (e : NodeEvent) → Reached n → change n e ≡ Some m → IsTrue (is_some (settle 64 (passed m) m.votes))
@@ -114,28 +125,47 @@ live-below k armed (Some b) over h =
 
 -- ---- envelopes
 -- a put that the table has is what an offer makes of it
-pub put-takes : (old new : List Sent) (x : Sent) (p : Put) → IsPut old x p new → (p ≡ Added) ⊎ ((y : Sent) × (p ≡ Replaced y)) → (is_taken old x ≡ true) × (new ≡ with_row x old)
+pub put-takes : (old new : List Filed) (x : Sent) (p : Put) → IsPut old x p new → (p ≡ Added) ⊎ ((y : Filed) × (p ≡ Replaced y)) → (is_taken (sents_of old) x ≡ true) × (sents_of new ≡ with_row x (sents_of old))
 put-takes old new x p put is = go p put (kept is)
   where
-    kept : (p ≡ Added) ⊎ ((y : Sent) × (p ≡ Replaced y)) → is_put p ≡ true
+    kept : (p ≡ Added) ⊎ ((y : Filed) × (p ≡ Replaced y)) → is_put p ≡ true
     kept (inl q) = ap is_put q
     kept (inr q) = ap is_put q.1
 
-    go : (p : Put) → IsPut old x p new → is_put p ≡ true → (is_taken old x ≡ true) × (new ≡ with_row x old)
+    go : (p : Put) → IsPut old x p new → is_put p ≡ true → (is_taken (sents_of old) x ≡ true) × (sents_of new ≡ with_row x (sents_of old))
     go Stale h k = absurd (false≢true k)
     go NoMemory h k = absurd (false≢true k)
     go Added h k = (h.1, h.2)
     go (Replaced r) h k = (h.1, h.2)
 
 pub change-put : (h k : Heard) (given : Given) (votes w : Votes) (n : Node) (x : Sent) (p : Put) → n ≡ node_of h given votes
-    → IsPut h.table x p k.table → k.configured ≡ h.configured → (p ≡ Added) ⊎ ((y : Sent) × (p ≡ Replaced y)) → w ≡ votes → change n (Take x) ≡ Some (node_of k given w)
+    → IsPut h.table x p k.table → k.configured ≡ h.configured → (p ≡ Added) ⊎ ((y : Filed) × (p ≡ Replaced y)) → w ≡ votes → change n (Take x) ≡ Some (node_of k given w)
 change-put h k given votes w n x p e put same is ew =
     let taken = put-takes h.table k.table x p put is in
-    change-take h.configured given votes w h.table k.table n x e taken.0 taken.1 ew ∙ ap (λ (c : Configured). Some (whole c given w k.table)) (sym same)
+    change-take h.configured given votes w (sents_of h.table) (sents_of k.table) n x e taken.0 taken.1 ew ∙ ap (λ (c : Configured). Some (whole c given w (sents_of k.table))) (sym same)
 
 -- two listeners with the same parts
 pub heard-same : (h k : Heard) → k.configured ≡ h.configured → k.table ≡ h.table → k ≡ h
 heard-same h k c t = λ i. record { configured = c i; table = t i }
+
+-- ---- slices
+-- the listener with new slices is that of the node with them
+abbrev pub with_slices : Heard → Slices → Heard
+with_slices h q = record h { configured = record h.configured { slices = q } }
+
+pub change-slices : (h k : Heard) (given : Given) (votes w : Votes) (n : Node) (q : Slices) → n ≡ node_of h given votes → k ≡ with_slices h q → w ≡ votes
+    → change n (Reslice q) ≡ Some (node_of k given w)
+unfolding change
+change-slices h k given votes w n q e ek ew = ap (λ m. change m (Reslice q)) e ∙ (λ i. Some (node_of (sym ek i) given (sym ew i)))
+
+-- slices that are put back after an answer
+pub slices-back : (h k a u : Heard) (q old : Slices) → u ≡ with_slices a old → a ≡ k → k ≡ with_slices h q → old ≡ h.configured.slices → u ≡ h
+slices-back h k a u q old e same ek eo = e ∙ ap (λ (l : Heard). with_slices l old) (same ∙ ek) ∙ ap (λ (s : Slices). with_slices h s) eo
+
+-- what is given out does not depend on the slices before the event
+pub outs-by_new : (c d : Configured) (given : Given) (votes : Votes) (before table : List Sent) (new : Node) → outs (whole c given votes before) new ≡ outs (whole d given votes table) new
+unfolding outs
+outs-by_new c d given votes before table new = refl
 
 -- a put that is undone after an answer
 pub put-undone : (h k a u : Heard) (p : Put) → u ≡ record a { table = undone p a.table } → a ≡ k → undone p k.table ≡ h.table → k.configured ≡ h.configured → u ≡ h
@@ -150,17 +180,17 @@ pub reached-some : (n m : Node) (e : NodeEvent) (w : Votes) → Reached n → ch
 reached-some n m e w r h s = subst (λ (p : Node × List Out). Reached p.0) (step-some n m e w h s) (next r e)
 
 -- ---- quiet
--- an envelope from outside of a set that is closed for the node
-pub quiet-after : {E : Type 0} (n new : Node) (event : NodeEvent) (r : Result (Vec Out Global) E) → Reached n → OnOk r (new ≡ (step n event).0) → IfOk r (λ v. v.items ≡ (step n event).1)
-    → (R : Names) (x : Sent) → event ≡ Take x → HoldsReach n.name n.slices n.table R → IsFalse (R x.sender) → IfOk r (λ v. IsQuiet R n new v.items)
-quiet-after n new event (Ok v) h node outs R x is held out =
-    let q = quiet_claim R n x (held_is_closed R n h held) (reached-calm h) out in
+-- an envelope from outside of a set that holds the node's reach, and not from a leader
+pub quiet-after : {E : Type 0} (n new : Node) (event : NodeEvent) (r : Result (Vec FiledOut Global) E) → Reached n → OnOk r (new ≡ (step n event).0) → IfOk r (λ v. outs_of v.items ≡ (step n event).1)
+    → (R : Names) (x : Sent) → event ≡ Take x → HoldsReach n.name n.slices n.table R → IsFalse (R x.sender) → IsFalse (among n.given.leaders x.sender) → IfOk r (λ v. IsQuiet R n new (outs_of v.items))
+quiet-after n new event (Ok v) h node outs R x is held out led =
+    let q = outsiders_are_quiet R n x h held out led in
     let same : new ≡ (step n (Take x)).0 = node ∙ ap (λ (e : NodeEvent). (step n e).0) is in
-    let items : v.items ≡ (step n (Take x)).1 = outs ∙ ap (λ (e : NodeEvent). (step n e).1) is in
+    let items : outs_of v.items ≡ (step n (Take x)).1 = outs ∙ ap (λ (e : NodeEvent). (step n e).1) is in
     record {
       outs = items ∙ q.outs;
       given = ap (λ (m : Node). m.given) same ∙ q.given;
       votes = ap (λ (m : Node). m.votes) same ∙ q.votes;
       rows = λ u k i. ap (λ (m : Node). row m.table u k) same ∙ q.rows u k i;
     }
-quiet-after n new event (Err e) h node outs R x is held out = tt
+quiet-after n new event (Err e) h node outs R x is held out led = tt

@@ -1,5 +1,5 @@
 -- What a node emits is its own: it carries the node's name, slot and configured slices, and its statement is well formed.
-use Rattle.std.proofs.Common.{◌≡◌, ◌++◌, ◌+◌, Bool, true, false, not, ◌&&◌, ◌==◌, List, [], ◌∷◌, Option, Some, None, Result, Ok, Err, Vec, Global, IfOk, is_none, if◌then◌else◌, refl, sym, ◌∙◌, ap, subst, inl, inr, arith}
+use Rattle.std.proofs.Common.{◌≡◌, ◌++◌, Bool, true, false, not, ◌&&◌, ◌==◌, List, [], ◌∷◌, Option, Some, None, Result, Ok, Err, Vec, Global, IfOk, OnOk, is_none, if◌then◌else◌, refl, sym, ◌∙◌, ap, subst, inl, inr, arith}
 use Rattle.std.specs.Prelude.{IfSome}
 use Rattle.std.specs.List.{Contains}
 use Rattle.std.proofs.lemmas.Bool.{false≢true}
@@ -7,20 +7,18 @@ use Rattle.std.proofs.lemmas.List.Elements.{Contains-append_cases}
 use Rattle.types.specs.Statements.{Sent, IsWellFormed}
 use Rattle.types.specs.declared.ballot.Ballot.{Ballot}
 use Rattle.types.specs.declared.event.NodeEvent.{NodeEvent}
-use Rattle.types.specs.declared.event.NodeEvent.TheVariants.{Propose, Take, NominationTimer, BallotTimer}
 use Rattle.types.specs.declared.event.Out.{Out}
 use Rattle.types.specs.declared.event.Out.TheVariants.{ArmNomination, ArmBallot, Emit, Externalized as Decided}
-use Rattle.types.specs.declared.state.Votes.{Votes}
 use Rattle.types.specs.declared.statement.Statement.{Statement}
-use Rattle.protocol.specs.Rows.{is_taken, with_row}
 use Rattle.protocol.specs.Sameness.{same_sent}
 use Rattle.protocol.specs.States.{counter_of, sent_nomination, sent_vote}
-use Rattle.protocol.specs.Nodes.{Node, passed, settle, change, settled, after_change, answered, step, outs, emitted, decided, when, in_round, timed_out, is_externalized}
+use Rattle.protocol.specs.Nodes.{Node, change, after_change, answered, step, outs, emitted, decided, when, is_externalized}
 use Rattle.protocol.specs.Limits.{Reached}
 use Rattle.protocol.specs.Limits.Reached.{next}
 use Rattle.protocol.proofs.ClosureLaws.{contained_cases}
-use Rattle.protocol.proofs.NodeLaws.{if_node, if_node-if}
 use Rattle.protocol.proofs.ReachedLaws.{reached-sends}
+use Rattle.slot.specs.declared.filed.FiledOut.{FiledOut}
+use Rattle.slot.specs.Filings.{outs_of}
 use Rattle.slot.specs.Wholes.{IsSentBy}
 
 -- ---- lists of outs
@@ -90,37 +88,17 @@ outs-own old new nominates votes =
     last true (Some b) = other new (Decided b.value) refl
     last false o = none new
 
--- ---- a step keeps who the node is
-abbrev Stays : Node → Node → Type 0
-Stays n m = (m.name ≡ n.name) × (m.slot ≡ n.slot) × (m.slices ≡ n.slices)
-
-stays-change : (n : Node) (e : NodeEvent) → if_node (Stays n) (change n e)
-unfolding change
-stays-change n (Propose x) = (refl, refl, refl)
-stays-change n (Take e) = if_node-if (Stays n) (is_taken n.table e) (record n { table = with_row e n.table }) (refl, refl, refl)
-stays-change n (NominationTimer r) = if_node-if (Stays n) _ (in_round n (r + 1)) (refl, refl, refl)
-stays-change n (BallotTimer c) = if_node-if (Stays n) _ (timed_out n) (refl, refl, refl)
-
-stays-settled : (n : Node) (o : Option Node) → if_node (Stays n) o → if_node (Stays n) (after_change o)
-stays-settled n None h = tt
-stays-settled n (Some m) h = go (settle 64 (passed m) m.votes)
-  where
-    go : (o : Option Votes) → if_node (Stays n) (settled m o)
-    go None = tt
-    go (Some w) = h
-
-own-as : (n m : Node) (os : List Out) → Stays n m → Own m os → Own n os
-own-as n m os h k = record { all = λ e c. let s = k.all e c in record { sender = s.sender ∙ h.0; slot = s.slot ∙ h.1; slices = s.slices ∙ h.2; rules = s.rules } }
-
-step-own : (n : Node) (e : NodeEvent) → Reached n → Own n (step n e).1
+-- ---- a step
+step-own : (n : Node) (e : NodeEvent) → Reached n → Own (step n e).0 (step n e).1
 unfolding step
-step-own n e r = go (after_change (change n e)) (next r e) (stays-settled n (change n e) (stays-change n e))
+step-own n e r = go (after_change (change n e)) (next r e)
   where
-    go : (o : Option Node) → Reached (answered n o).0 → if_node (Stays n) o → Own n (answered n o).1
-    go None r h = none n
-    go (Some m) r h = let s = reached-sends r in own-as n m (outs n m) h (outs-own n m s.0 s.1)
+    go : (o : Option Node) → Reached (answered n o).0 → Own (answered n o).0 (answered n o).1
+    go None r = none n
+    go (Some m) r = let s = reached-sends r in outs-own n m s.0 s.1
 
 -- what the answer to an event emits is the node's own
-pub emitted-own : {E : Type 0} (n : Node) (event : NodeEvent) (r : Result (Vec Out Global) E) → Reached n → IfOk r (λ v. v.items ≡ (step n event).1) → IfOk r (λ v. (e : Sent) → Contains v.items (Emit e) → IsSentBy n e)
-emitted-own n event (Ok v) h is = λ e c. (step-own n event h).all e (subst (λ os. Contains os (Emit e)) is c)
-emitted-own n event (Err x) h is = tt
+pub emitted-own : {E : Type 0} (n new : Node) (event : NodeEvent) (r : Result (Vec FiledOut Global) E) → Reached n → OnOk r (new ≡ (step n event).0) → IfOk r (λ v. outs_of v.items ≡ (step n event).1)
+    → IfOk r (λ v. (e : Sent) → Contains (outs_of v.items) (Emit e) → IsSentBy new e)
+emitted-own n new event (Ok v) h node is = λ e c. subst (λ (m : Node). IsSentBy m e) (sym node) ((step-own n event h).all e (subst (λ os. Contains os (Emit e)) is c))
+emitted-own n new event (Err x) h node is = tt

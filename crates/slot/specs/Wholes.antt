@@ -13,7 +13,7 @@ use Rattle.protocol.specs.States.{sent_nomination, sent_vote}
 use Rattle.protocol.specs.Nodes.{Node, change}
 use Rattle.slot.specs.declared.configured.Configured.{Configured}
 
--- what is configured, what events gave, what the rules made, and the table
+-- who it is with its slices, what events gave, what the rules made, and the table
 abbrev pub whole : Configured → Given → Votes → List Sent → Node
 whole c given votes table = record { name = c.name; slot = c.slot; slices = c.slices; given = given; votes = votes; table = table }
 
@@ -39,7 +39,7 @@ pub record IsChange (old new : Node) : Type 0 where
   pub event : NodeEvent
   pub is : change old event ≡ Some new
 
--- the envelope is the node's own: it carries the node's name, its slot and its configured slices, and its statement is well formed
+-- the envelope is the node's own: it carries the node's name, its slot and the slices that are configured at this moment, and its statement is well formed
 pub record IsSentBy (n : Node) (e : Sent) : Type 0 where
   pub sender : e.sender ≡ n.name
   pub slot : e.slot ≡ n.slot

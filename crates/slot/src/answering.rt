@@ -7,6 +7,7 @@ ghost use Rattle.slot.specs.Wholes.{whole, SendWellFormed};
 ghost use Rattle.types.specs.Statements.{Sent};
 
 use crate::configured::Configured;
+use crate::filed::FiledOut;
 use crate::outs::outs;
 use crate::settling::settle;
 use fedvote::Sight;
@@ -18,6 +19,13 @@ use types::{Given, Out, Votes};
 pub(crate) struct Answer {
     pub votes: Votes,
     pub outs: Vec<Out>,
+}
+
+/// The same, each emitted envelope filed.
+#[derive(Drop)]
+pub(crate) struct FiledAnswer {
+    pub votes: Votes,
+    pub outs: Vec<FiledOut>,
 }
 
 /// Passes, from what was given and these votes on, and what is given out since the old state. An error

@@ -1,11 +1,11 @@
-//! What a node has from its beginning.
+//! Who a node is.
 
 ghost use Rattle.std.specs.Prelude.{◌≡◌, IfOk};
 
 use std::alloc::{AllocError, Global};
 use types::{Nested, NodeId};
 
-/// Who a node is, and at which slot: no event changes it.
+/// Who a node is, at which slot, and the slices that are configured at this moment.
 #[derive(Drop)]
 pub(crate) struct Configured {
     pub name: NodeId,

@@ -5,6 +5,8 @@
 mod answering;
 mod changes;
 mod configured;
+mod filed;
+mod filing;
 mod listener;
 mod node;
 mod outs;
@@ -12,6 +14,7 @@ mod passing;
 mod sent;
 mod settling;
 
+pub use filed::{FiledEvent, FiledOut};
 pub use node::Node;
 pub use passing::pass;
 pub use settling::settle;

@@ -1,39 +1,44 @@
 //! Who a node is, the rows that it has, and the nodes that it reaches by them.
 
 ghost use Rattle.std.specs.Prelude.{◌≡◌, IfOk, IfSome, IsTrue, List, None, OnErr, OnOk, Some, [], is_some};
-ghost use Rattle.latest.specs.Puts.{IsPut, undone};
+ghost use Rattle.envstore.specs.Archives.{AreFiled, IsFiled, Keeps, sent_of, sents_of};
+ghost use Rattle.latest.specs.Puts.{IsFiledPut, IsPut, undone};
 ghost use Rattle.protocol.specs.Nodes.{outs, passed, settle};
-ghost use Rattle.protocol.specs.Reach.{IsReach};
+ghost use Rattle.view.specs.Regions.{IsRegion};
 ghost use Rattle.protocol.specs.Rows.{offered, with_row};
+ghost use Rattle.slot.specs.Filings.{AreFiledOuts, outs_of};
 ghost use Rattle.slot.specs.declared.configured.Configured.{Configured};
 ghost use Rattle.slot.specs.Listening.{IsStranger, KnownAscends, KnowsReach, is_put, node_of};
 ghost use Rattle.slot.specs.Wholes.{SendWellFormed, whole};
 ghost use Rattle.types.specs.Statements.{Sent};
 
-use crate::answering::{Answer, answer_to};
+use crate::answering::{Answer, FiledAnswer, answer_to};
 use crate::configured::Configured;
-use closure::{keeps_reach, reach};
-use latest::{Put, Table};
+use crate::filing::file_all;
+use envstore::{Archive, Filed, Places, Shelf};
+use latest::{Put, Rows, Table};
 use slices::is_among;
 use std::alloc::{AllocError, Global};
 use std::marker::Model;
-use types::{Envelope, Given, NodeId, Votes};
-use view::View;
+use std::mem;
+use types::{Envelope, Given, Nested, NodeId, Votes};
+use view::{Region, View};
 
 /// Who a node is, and the rows that it has.
 ///
-/// The nodes that it reaches are kept from one event to the next, until a row comes that may change
-/// them.
+/// The nodes that it reaches and their slices, compiled, are kept from one event to the next, until a row
+/// or slices come that may change them.
 #[derive(Drop)]
 pub(crate) struct Listener {
     configured: Configured,
     table: Table,
-    known_reach: Option<Vec<NodeId>>,
+    known: Option<Region>,
 }
 
 impl Model for Listener {
     ghost use Rattle.std.specs.Coded.{codes};
     ghost use Rattle.types.specs.Trees.{members_code};
+    ghost use Rattle.envstore.specs.Archives.{sents_of};
     ghost use Rattle.slot.specs.Listening.{Heard, KnowsReach};
 
     ghost Value = { Heard };
@@ -42,7 +47,7 @@ impl Model for Listener {
 
     ghost view = { λ l. record { configured = l.configured; table = l.table } };
 
-    ghost invariant = { λ l. KnowsReach l.configured l.table l.known_reach };
+    ghost invariant = { λ l. KnowsReach l.configured (sents_of l.table) l.known };
 }
 
 impl Listener {
@@ -53,18 +58,23 @@ impl Listener {
         Listener {
             configured,
             table: Table::new(alloc),
-            known_reach: None,
+            known: None,
         }
     }
 
-    /// A copy. An error says that memory is short.
-    pub(crate) fn try_copy(&self, alloc: Global) -> Result<Listener, AllocError>
+    /// A copy, which finds what is reached anew at its next answer. An error says that memory is short.
+    pub(crate) fn try_copy<S: Places>(
+        &self,
+        alloc: Global,
+        archive: &Archive<S>,
+    ) -> Result<Listener, AllocError>
+        requires { AreFiled archive.now self.now.table }
         ensures { IfOk result (λ l. l ≡ self.now) }
     {
         Ok(Listener {
             configured: self.configured.try_copy(alloc)?,
-            table: self.table.try_copy(alloc)?,
-            known_reach: copy_of_reach(alloc, &self.known_reach)?,
+            table: self.table.try_copy(alloc, archive)?,
+            known: None,
         })
     }
 
@@ -86,18 +96,26 @@ impl Listener {
     pub(crate) fn is_stranger(&self, sender: &NodeId) -> bool
         ensures { IsTrue result → IsStranger self.now sender.now }
     {
-        match &self.known_reach {
+        match &self.known {
             None => false,
-            Some(region) => !is_among(region, sender),
+            Some(region) => !is_among(&region.nodes, sender),
         }
     }
 
     /// Offers the envelope to the table. An error says that memory is short, and nothing changed.
-    pub(crate) fn offer(&mut self, envelope: Envelope) -> Result<(), AllocError>
-        ensures offered { OnOk result (self.new ≡ record self.old { table = offered self.old.table envelope }) }
+    pub(crate) fn offer<S: Places>(
+        &mut self,
+        archive: &Archive<S>,
+        envelope: Filed,
+    ) -> Result<(), AllocError>
+        requires rows { AreFiled archive.now self.old.table }
+        requires envelope { IsFiled archive.now envelope }
+        ensures offered { OnOk result (sents_of self.new.table ≡ offered (sents_of self.old.table) (sent_of envelope)) }
+        ensures same { self.new.configured ≡ self.old.configured }
         ensures err { OnErr result (self.new ≡ self.old) }
+        ensures filed { AreFiled archive.now self.new.table }
     {
-        match self.put(envelope) {
+        match self.put(archive, envelope) {
             Put::NoMemory => Err(AllocError),
             Put::Stale => Ok(()),
             Put::Added | Put::Replaced(_) => Ok(()),
@@ -105,68 +123,122 @@ impl Listener {
     }
 
     /// Puts the envelope into the table, as [`Table::put`] does.
-    pub(crate) fn put(&mut self, envelope: Envelope) -> Put
-        ensures put { IsPut self.old.table envelope result self.new.table }
+    pub(crate) fn put<S: Places>(&mut self, archive: &Archive<S>, envelope: Filed) -> Put
+        requires rows { AreFiled archive.now self.old.table }
+        requires envelope { IsFiled archive.now envelope }
+        ensures put { IsPut self.old.table (sent_of envelope) result self.new.table }
         ensures back { undone result self.new.table ≡ self.old.table }
         ensures same { self.new.configured ≡ self.old.configured }
+        ensures filed { AreFiled archive.now self.new.table }
+        ensures known { IsFiledPut archive.now result }
     {
-        put_row(&mut self.table, &mut self.known_reach, envelope)
+        put_row(&mut self.table, &mut self.known, archive, envelope)
     }
 
     /// Undoes a put, as [`Table::undo`] does.
-    pub(crate) fn undo(&mut self, put: Put)
+    pub(crate) fn undo<S: Places>(&mut self, archive: &Archive<S>, put: Put)
+        requires rows { AreFiled archive.now self.old.table }
+        requires known { IsFiledPut archive.now put }
         ensures { self.new ≡ record self.old { table = undone put self.old.table } }
     {
-        self.table.undo(put);
-        self.known_reach = None;
+        self.table.undo(archive, put);
+        self.known = None;
+    }
+
+    /// These are the configured slices from now on; those that were are handed back. The nodes that are
+    /// reached are not known afterwards.
+    pub(crate) fn exchange_slices(&mut self, slices: Nested) -> Nested
+        ensures now { self.new ≡ record self.old { configured = record self.old.configured { slices = slices } } }
+        ensures before { result ≡ self.old.configured.slices }
+    {
+        self.known.take();
+        mem::replace(&mut self.configured.slices, slices)
     }
 
     /// What passes make of what was given and these votes, by the rows, and what is given out since the
-    /// old state. What contracts see of the listener stays as it was, and an error says that memory is
-    /// short.
-    pub(crate) fn answer(
+    /// old state, filed. What contracts see of the listener stays as it was, and an error says that
+    /// memory is short.
+    pub(crate) fn answer<S: Shelf>(
         &mut self,
         alloc: Global,
+        archive: &mut Archive<S>,
+        old_given: &Given,
+        old_votes: &Votes,
+        given: &Given,
+        votes: Votes,
+    ) -> Result<FiledAnswer, AllocError>
+        requires rows { AreFiled archive.old self.old.table }
+        requires settles { IsTrue (is_some (settle 64 (passed (node_of self.old given.now votes)) votes)) }
+        requires sends { IfSome (settle 64 (passed (node_of self.old given.now votes)) votes) SendWellFormed }
+        ensures votes { IfOk result (λ a. settle 64 (passed (node_of self.old given.now votes)) votes ≡ Some a.votes) }
+        ensures outs { IfOk result (λ a. (before after : List Sent) → outs_of a.outs.items ≡ outs (whole self.old.configured old_given.now old_votes.now before) (whole self.old.configured given.now a.votes after)) }
+        ensures same { self.new ≡ self.old }
+        ensures filed { IfOk result (λ a. AreFiledOuts archive.new a.outs.items) }
+        ensures kept { Keeps archive.old archive.new }
+    {
+        let answer = self.answer_by_rows(alloc, archive, old_given, old_votes, given, votes)?;
+        let Answer { votes, outs } = answer;
+        let outs = file_all(alloc, archive, outs)?;
+        Ok(FiledAnswer { votes, outs })
+    }
+
+    /// The answer, with whole envelopes.
+    fn answer_by_rows<S: Places>(
+        &mut self,
+        alloc: Global,
+        archive: &Archive<S>,
         old_given: &Given,
         old_votes: &Votes,
         given: &Given,
         votes: Votes,
     ) -> Result<Answer, AllocError>
+        requires rows { AreFiled archive.now self.old.table }
         requires settles { IsTrue (is_some (settle 64 (passed (node_of self.old given.now votes)) votes)) }
         requires sends { IfSome (settle 64 (passed (node_of self.old given.now votes)) votes) SendWellFormed }
         ensures votes { IfOk result (λ a. settle 64 (passed (node_of self.old given.now votes)) votes ≡ Some a.votes) }
         ensures outs { IfOk result (λ a. (before after : List Sent) → a.outs.items ≡ outs (whole self.old.configured old_given.now old_votes.now before) (whole self.old.configured given.now a.votes after)) }
         ensures same { self.new ≡ self.old }
     {
-        let region = take_reach(alloc, &mut self.known_reach, &self.configured, &self.table)?;
-        let answer = self.answer_within(alloc, &region, old_given, old_votes, given, votes);
-        self.known_reach = Some(region);
+        let region = take_reach(
+            alloc,
+            &mut self.known,
+            &self.configured,
+            &self.table,
+            archive,
+        )?;
+        let answer = self.answer_within(
+            alloc, archive, &region, old_given, old_votes, given, votes,
+        );
+        self.known = Some(region);
         answer
     }
 
     /// The answer, by the nodes that are reached.
-    fn answer_within(
+    fn answer_within<S: Places>(
         &self,
         alloc: Global,
-        region: &[NodeId],
+        archive: &Archive<S>,
+        region: &Region,
         old_given: &Given,
         old_votes: &Votes,
         given: &Given,
         votes: Votes,
     ) -> Result<Answer, AllocError>
-        requires reach { IsReach self.now.configured.name self.now.configured.slices self.now.table region.now }
+        requires rows { AreFiled archive.now self.now.table }
+        requires region { IsRegion self.now.configured.name self.now.configured.slices (sents_of self.now.table) region.now }
         requires settles { IsTrue (is_some (settle 64 (passed (node_of self.now given.now votes)) votes)) }
         requires sends { IfSome (settle 64 (passed (node_of self.now given.now votes)) votes) SendWellFormed }
         ensures votes { IfOk result (λ a. settle 64 (passed (node_of self.now given.now votes)) votes ≡ Some a.votes) }
         ensures outs { IfOk result (λ a. (before after : List Sent) → a.outs.items ≡ outs (whole self.now.configured old_given.now old_votes.now before) (whole self.now.configured given.now a.votes after)) }
     {
         let configured = &self.configured;
+        let rows = Rows::of(&self.table, archive);
         let view = View::of(
             alloc,
             &configured.name,
             &configured.slices,
             &given.leaders,
-            &self.table,
+            &rows,
             region,
         )?;
         answer_to(alloc, configured, &view, old_given, old_votes, given, votes)
@@ -175,58 +247,68 @@ impl Listener {
 
 /// The reach that is known, or else found now; it is not known afterwards. An error says that memory is
 /// short.
-fn take_reach(
+fn take_reach<S: Places>(
     alloc: Global,
-    known_reach: &mut Option<Vec<NodeId>>,
+    known: &mut Option<Region>,
     configured: &Configured,
     table: &Table,
-) -> Result<Vec<NodeId>, AllocError>
-    requires { KnowsReach configured.now table.now known_reach.old }
-    ensures reach { IfOk result (λ v. IsReach configured.now.name configured.now.slices table.now v.items) }
-    ensures forgotten { known_reach.new ≡ None }
+    archive: &Archive<S>,
+) -> Result<Region, AllocError>
+    requires rows { AreFiled archive.now table.now }
+    requires known { KnowsReach configured.now (sents_of table.now) known.old }
+    ensures region { IfOk result (λ r. IsRegion configured.now.name configured.now.slices (sents_of table.now) r) }
+    ensures forgotten { known.new ≡ None }
 {
-    match known_reach.take() {
+    match known.take() {
         Some(region) => Ok(region),
-        None => reach(alloc, table, &configured.name, &configured.slices),
-    }
-}
-
-/// A copy of what is known. An error says that memory is short.
-fn copy_of_reach(
-    alloc: Global,
-    known_reach: &Option<Vec<NodeId>>,
-) -> Result<Option<Vec<NodeId>>, AllocError>
-    ensures { IfOk result (λ o. (c : Configured) (table : List Sent) → KnowsReach c table known_reach.now → KnowsReach c table o) }
-{
-    match known_reach {
-        None => Ok(None),
-        Some(region) => Ok(Some(Vec::from_slice(alloc, region)?)),
+        None => {
+            let rows = Rows::of(table, archive);
+            Region::of(alloc, &configured.name, &configured.slices, &rows)
+        }
     }
 }
 
 /// Puts the envelope into the table. The reach is forgotten where the envelope is put and may change it.
-fn put_row(table: &mut Table, known_reach: &mut Option<Vec<NodeId>>, envelope: Envelope) -> Put
-    requires { KnownAscends known_reach.old }
-    ensures put { IsPut table.old envelope result table.new }
+fn put_row<S: Places>(
+    table: &mut Table,
+    known: &mut Option<Region>,
+    archive: &Archive<S>,
+    envelope: Filed,
+) -> Put
+    requires rows { AreFiled archive.now table.old }
+    requires envelope { IsFiled archive.now envelope }
+    requires known { KnownAscends known.old }
+    ensures put { IsPut table.old (sent_of envelope) result table.new }
     ensures back { undone result table.new ≡ table.old }
-    ensures known { (c : Configured) → KnowsReach c table.old known_reach.old → KnowsReach c table.new known_reach.new }
+    ensures known { (c : Configured) → KnowsReach c (sents_of table.old) known.old → KnowsReach c (sents_of table.new) known.new }
+    ensures filed { AreFiled archive.now table.new }
+    ensures replaced { IsFiledPut archive.now result }
 {
-    let stays = stays_known(known_reach, table, &envelope);
-    let put = table.put(envelope);
+    let stays = stays_known(known, table, archive, archive.read(&envelope));
+    let put = table.put(archive, envelope);
     if is_put(&put) && !stays {
-        *known_reach = None;
+        *known = None;
     }
     put
 }
 
 /// Whether what is known of the reach is surely right where the table takes the envelope.
-fn stays_known(known_reach: &Option<Vec<NodeId>>, table: &Table, envelope: &Envelope) -> bool
-    requires { KnownAscends known_reach.now }
-    ensures { IsTrue result → (c : Configured) → KnowsReach c table.now known_reach.now → KnowsReach c (with_row envelope.now table.now) known_reach.now }
+fn stays_known<S: Places>(
+    known: &Option<Region>,
+    table: &Table,
+    archive: &Archive<S>,
+    envelope: &Envelope,
+) -> bool
+    requires rows { AreFiled archive.now table.now }
+    requires known { KnownAscends known.now }
+    ensures { IsTrue result → (c : Configured) → KnowsReach c (sents_of table.now) known.now → KnowsReach c (with_row envelope.now (sents_of table.now)) known.now }
 {
-    match known_reach {
+    match known {
         None => true,
-        Some(region) => keeps_reach(region, table, envelope),
+        Some(region) => {
+            let rows = Rows::of(table, archive);
+            region.stays(&rows, envelope)
+        }
     }
 }
 

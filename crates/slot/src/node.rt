@@ -1,31 +1,36 @@
 //! A node at a slot.
 
-ghost use Rattle.std.specs.Prelude.{◌≡◌, IfOk, IfSome, IsFalse, IsTrue, List, OnErr, OnOk, Some, is_some};
+ghost use Rattle.std.specs.Prelude.{[], ◌≡◌, IfOk, IfSome, IsFalse, IsTrue, List, OnErr, OnOk, Some, is_some};
 ghost use Rattle.std.specs.List.{Contains};
 ghost use Rattle.protocol.specs.Nodes.{Calm, after_change, answered, fresh, outs, passed, settle, step};
 ghost use Rattle.protocol.specs.Claims.{IsQuiet};
 ghost use Rattle.protocol.specs.Reach.{HoldsReach};
 ghost use Rattle.protocol.specs.Limits.{Reached};
-ghost use Rattle.protocol.specs.Sets.{Names};
+ghost use Rattle.protocol.specs.Sets.{Names, among};
+ghost use Rattle.envstore.specs.Archives.{AreFiled, IsFiled, Keeps, sent_of};
+ghost use Rattle.slot.specs.Filings.{AreFiledOuts, IsFiledEvent, event_of, outs_of};
 ghost use Rattle.slot.specs.Wholes.{IsChange, IsSentBy};
 ghost use Rattle.types.specs.Statements.{Sent};
 ghost use Rattle.types.specs.declared.event.NodeEvent.{NodeEvent};
 ghost use Rattle.types.specs.declared.event.Out.TheVariants.{Emit};
 
-use crate::answering::Answer;
+use crate::answering::FiledAnswer;
 use crate::changes::{bumped, fired, in_next_round, is_counter_live, is_round_live, proposed};
 use crate::configured::Configured;
+use crate::filed::{FiledEvent, FiledOut};
 use crate::listener::Listener;
+use envstore::{Archive, Filed, Places, Shelf};
 use latest::{Put, Table};
+use nomination::leads;
 use std::alloc::{AllocError, Global};
 use std::marker::Model;
-use types::{Envelope, Given, Nested, NodeEvent, NodeId, Out, Value, Votes};
+use types::{Given, Nested, NodeId, Value, Votes};
 
 /// One node at one slot, and all that it knows there.
 ///
-/// The nodes that it reaches are kept from one event to the next, until a row comes that may change
-/// them: so a row of a stranger costs no pass, and one with the slices that its sender announced before
-/// costs no search for them.
+/// The nodes that it reaches are kept from one event to the next, until a row or slices come that may
+/// change them: so a row of a stranger costs no pass, and one with the slices that its sender announced
+/// before costs no search for them.
 ///
 /// Contracts see it as the node of the protocol's definitions. It is made and changed by events alone.
 #[derive(Drop)]
@@ -38,15 +43,14 @@ pub struct Node {
 impl Model for Node {
     ghost use Rattle.std.specs.Coded.{codes};
     ghost use Rattle.types.specs.Trees.{members_code};
-    ghost use Rattle.slot.specs.Listening.{node_of};
-    ghost use Rattle.protocol.specs.Nodes.{Node as Meant};
+    ghost use Rattle.slot.specs.Listening.{Held, node_of};
     ghost use Rattle.protocol.specs.Limits.{Reached};
 
-    ghost Value = { Meant };
+    ghost Value = { Held };
 
     ghost coded = { Prim.hlevel (codes, members_code) };
 
-    ghost view = { λ n. node_of n.listener n.given n.votes };
+    ghost view = { λ n. record { node = node_of n.listener n.given n.votes; rows = n.listener.table } };
 
     ghost invariant = { λ n. Reached (node_of n.listener n.given n.votes) };
 }
@@ -54,7 +58,8 @@ impl Model for Node {
 impl Node {
     /// A node to which nothing has happened. It takes no memory.
     pub fn new(alloc: Global, name: NodeId, slot: u64, slices: Nested) -> Node
-        ensures { result ≡ fresh slot name slices }
+        ensures node { result.node ≡ fresh slot name slices }
+        ensures rows { result.rows ≡ [] }
     {
         Node {
             listener: Listener::new(alloc, Configured { name, slot, slices }),
@@ -64,11 +69,16 @@ impl Node {
     }
 
     /// A copy. An error says that memory is short.
-    pub fn try_copy(&self, alloc: Global) -> Result<Node, AllocError>
+    pub fn try_copy<S: Places>(
+        &self,
+        alloc: Global,
+        archive: &Archive<S>,
+    ) -> Result<Node, AllocError>
+        requires { AreFiled archive.now self.now.rows }
         ensures { IfOk result (λ n. n ≡ self.now) }
     {
         Ok(Node {
-            listener: self.listener.try_copy(alloc)?,
+            listener: self.listener.try_copy(alloc, archive)?,
             given: self.given.try_copy(alloc)?,
             votes: self.votes.try_copy(alloc)?,
         })
@@ -76,49 +86,49 @@ impl Node {
 
     /// Its name.
     pub fn name(&self) -> &NodeId
-        ensures { result.now ≡ self.now.name }
+        ensures { result.now ≡ self.now.node.name }
     {
         &self.listener.configured().name
     }
 
     /// The slot that it is at.
     pub fn slot(&self) -> u64
-        ensures { result ≡ self.now.slot }
+        ensures { result ≡ self.now.node.slot }
     {
         self.listener.configured().slot
     }
 
-    /// Its own slices.
+    /// Its own slices, those that are configured at this moment.
     pub fn slices(&self) -> &Nested
-        ensures { result.now ≡ self.now.slices }
+        ensures { result.now ≡ self.now.node.slices }
     {
         &self.listener.configured().slices
     }
 
     /// What events alone set.
     pub fn given(&self) -> &Given
-        ensures { result.now ≡ self.now.given }
+        ensures { result.now ≡ self.now.node.given }
     {
         &self.given
     }
 
     /// What it has voted for, accepted and confirmed.
     pub fn votes(&self) -> &Votes
-        ensures { result.now ≡ self.now.votes }
+        ensures { result.now ≡ self.now.node.votes }
     {
         &self.votes
     }
 
     /// The newest envelopes that it has taken.
     pub fn table(&self) -> &Table
-        ensures { result.now ≡ self.now.table }
+        ensures { result.now ≡ self.now.rows }
     {
         self.listener.table()
     }
 
     /// A law: one more pass would change nothing.
     pub fn calm(&self)
-        ensures { Calm self.now }
+        ensures { Calm self.now.node }
     {
         let _given = &self.given;
     }
@@ -128,107 +138,218 @@ impl Node {
     /// profile). A stale envelope and a timer that is not live change nothing and give nothing out.
     /// The slot that an envelope is about is not looked at: the caller hands a node those of its own.
     ///
-    /// Each envelope that is given out carries the node's own name, its slot and its configured slices,
-    /// and its statement is well formed: so it can be spelled, and what reads that spelling back reads
-    /// this envelope.
+    /// New slices are in force from this event on, for later leaders too; earlier leaders stay. They are
+    /// not sent by themselves, but with the next statement.
     ///
-    /// An error says that memory is short, and the node is as it was.
-    pub fn advance(&mut self, alloc: Global, event: NodeEvent) -> Result<Vec<Out>, AllocError>
-        ensures node { OnOk result (self.new ≡ (step self.old event).0) }
-        ensures outs { IfOk result (λ v. v.items ≡ (step self.old event).1) }
+    /// Each envelope that is given out carries the node's own name, its slot and the slices that are
+    /// configured now, and its statement is well formed: so it can be spelled, and what reads that
+    /// spelling back reads this envelope.
+    ///
+    /// The rows of the node, and the envelope that it takes, lie in the archive that is lent; the
+    /// envelopes that it gives out are filed there.
+    ///
+    /// An error says that memory is short, and the node is as it was; some of what it would have given out
+    /// may be filed.
+    pub fn advance<S: Shelf>(
+        &mut self,
+        alloc: Global,
+        archive: &mut Archive<S>,
+        event: FiledEvent,
+    ) -> Result<Vec<FiledOut>, AllocError>
+        requires rows { AreFiled archive.old self.old.rows }
+        requires event { IsFiledEvent archive.old event }
+        ensures node { OnOk result (self.new.node ≡ (step self.old.node (event_of event)).0) }
+        ensures outs { IfOk result (λ v. outs_of v.items ≡ (step self.old.node (event_of event)).1) }
         ensures err { OnErr result (self.new ≡ self.old) }
-        ensures quiet { (R : Names) (e : Sent) → event ≡ NodeEvent.Take e → HoldsReach self.old.name self.old.slices self.old.table R → IsFalse (R e.sender) → IfOk result (λ v. IsQuiet R self.old self.new v.items) }
-        ensures emitted { IfOk result (λ v. (e : Sent) → Contains v.items (Emit e) → IsSentBy self.old e) }
+        ensures quiet { (R : Names) (e : Sent) → event_of event ≡ NodeEvent.Take e → HoldsReach self.old.node.name self.old.node.slices self.old.node.table R → IsFalse (R e.sender) → IsFalse (among self.old.node.given.leaders e.sender) → IfOk result (λ v. IsQuiet R self.old.node self.new.node (outs_of v.items)) }
+        ensures emitted { IfOk result (λ v. (e : Sent) → Contains (outs_of v.items) (Emit e) → IsSentBy self.new.node e) }
+        ensures rows { AreFiled archive.new self.new.rows }
+        ensures filed { IfOk result (λ v. AreFiledOuts archive.new v.items) }
+        ensures kept { Keeps archive.old archive.new }
     {
         self.reached();
         match event {
-            NodeEvent::Propose(value) => self.propose(alloc, value),
-            NodeEvent::Take(envelope) => self.take(alloc, envelope),
-            NodeEvent::NominationTimer(round) => self.nomination_timer(alloc, round),
-            NodeEvent::BallotTimer(counter) => self.ballot_timer(alloc, counter),
+            FiledEvent::Propose(value) => self.propose(alloc, archive, value),
+            FiledEvent::Take(envelope) => self.take(alloc, archive, envelope),
+            FiledEvent::NominationTimer(round) => self.nomination_timer(alloc, archive, round),
+            FiledEvent::BallotTimer(counter) => self.ballot_timer(alloc, archive, counter),
+            FiledEvent::Reslice(slices) => self.reslice(alloc, archive, slices),
         }
     }
 
     /// The node after one event, as by [`Node::advance`], and what it gives out; this node stays as it
     /// is. An error says that memory is short.
-    pub fn step(&self, alloc: Global, event: NodeEvent) -> Result<(Node, Vec<Out>), AllocError>
-        ensures step { IfOk result (λ r. (r.0, r.1.items) ≡ step self.now event) }
-        ensures emitted { IfOk result (λ r. (e : Sent) → Contains r.1.items (Emit e) → IsSentBy self.now e) }
+    pub fn step<S: Shelf>(
+        &self,
+        alloc: Global,
+        archive: &mut Archive<S>,
+        event: FiledEvent,
+    ) -> Result<(Node, Vec<FiledOut>), AllocError>
+        requires rows { AreFiled archive.old self.now.rows }
+        requires event { IsFiledEvent archive.old event }
+        ensures step { IfOk result (λ r. (r.0.node, outs_of r.1.items) ≡ step self.now.node (event_of event)) }
+        ensures emitted { IfOk result (λ r. (e : Sent) → Contains (outs_of r.1.items) (Emit e) → IsSentBy r.0.node e) }
+        ensures rows { IfOk result (λ r. AreFiled archive.new r.0.rows) }
+        ensures filed { IfOk result (λ r. AreFiledOuts archive.new r.1.items) }
+        ensures kept { Keeps archive.old archive.new }
     {
-        let mut node = self.try_copy(alloc)?;
-        let outs = node.advance(alloc, event)?;
+        let mut node = self.try_copy(alloc, archive)?;
+        let outs = node.advance(alloc, archive, event)?;
         Ok((node, outs))
     }
 
     /// A law: events led to it.
     fn reached(&self)
-        ensures { Reached self.now }
+        ensures { Reached self.now.node }
     {
         let _given = &self.given;
     }
 
     /// The input is set, and round 1 begins.
-    fn propose(&mut self, alloc: Global, value: Value) -> Result<Vec<Out>, AllocError>
-        ensures node { OnOk result (self.new ≡ (step self.old (NodeEvent.Propose value)).0) }
-        ensures outs { IfOk result (λ v. v.items ≡ (step self.old (NodeEvent.Propose value)).1) }
+    fn propose<S: Shelf>(
+        &mut self,
+        alloc: Global,
+        archive: &mut Archive<S>,
+        value: Value,
+    ) -> Result<Vec<FiledOut>, AllocError>
+        requires rows { AreFiled archive.old self.old.rows }
+        ensures node { OnOk result (self.new.node ≡ (step self.old.node (NodeEvent.Propose value)).0) }
+        ensures outs { IfOk result (λ v. outs_of v.items ≡ (step self.old.node (NodeEvent.Propose value)).1) }
         ensures err { OnErr result (self.new ≡ self.old) }
+        ensures rows { AreFiled archive.new self.new.rows }
+        ensures filed { IfOk result (λ v. AreFiledOuts archive.new v.items) }
+        ensures kept { Keeps archive.old archive.new }
     {
         let given = proposed(alloc, self.listener.configured(), &self.given, value)?;
         let votes = self.votes.try_copy(alloc)?;
-        self.settle(alloc, given, votes)
+        self.settle(alloc, archive, given, votes)
     }
 
     /// A nomination timer fires: the next round begins where it is live.
-    fn nomination_timer(&mut self, alloc: Global, round: u32) -> Result<Vec<Out>, AllocError>
-        ensures node { OnOk result (self.new ≡ (step self.old (NodeEvent.NominationTimer round)).0) }
-        ensures outs { IfOk result (λ v. v.items ≡ (step self.old (NodeEvent.NominationTimer round)).1) }
+    fn nomination_timer<S: Shelf>(
+        &mut self,
+        alloc: Global,
+        archive: &mut Archive<S>,
+        round: u32,
+    ) -> Result<Vec<FiledOut>, AllocError>
+        requires rows { AreFiled archive.old self.old.rows }
+        ensures node { OnOk result (self.new.node ≡ (step self.old.node (NodeEvent.NominationTimer round)).0) }
+        ensures outs { IfOk result (λ v. outs_of v.items ≡ (step self.old.node (NodeEvent.NominationTimer round)).1) }
         ensures err { OnErr result (self.new ≡ self.old) }
+        ensures rows { AreFiled archive.new self.new.rows }
+        ensures filed { IfOk result (λ v. AreFiledOuts archive.new v.items) }
+        ensures kept { Keeps archive.old archive.new }
     {
         if !is_round_live(&self.given, &self.votes, round) {
             return Ok(Vec::new(alloc));
         }
         let given = in_next_round(alloc, self.listener.configured(), &self.given, round)?;
         let votes = self.votes.try_copy(alloc)?;
-        self.settle(alloc, given, votes)
+        self.settle(alloc, archive, given, votes)
     }
 
     /// A ballot timer fires: the ballot goes one counter up where it is live.
-    fn ballot_timer(&mut self, alloc: Global, counter: u32) -> Result<Vec<Out>, AllocError>
-        ensures node { OnOk result (self.new ≡ (step self.old (NodeEvent.BallotTimer counter)).0) }
-        ensures outs { IfOk result (λ v. v.items ≡ (step self.old (NodeEvent.BallotTimer counter)).1) }
+    fn ballot_timer<S: Shelf>(
+        &mut self,
+        alloc: Global,
+        archive: &mut Archive<S>,
+        counter: u32,
+    ) -> Result<Vec<FiledOut>, AllocError>
+        requires rows { AreFiled archive.old self.old.rows }
+        ensures node { OnOk result (self.new.node ≡ (step self.old.node (NodeEvent.BallotTimer counter)).0) }
+        ensures outs { IfOk result (λ v. outs_of v.items ≡ (step self.old.node (NodeEvent.BallotTimer counter)).1) }
         ensures err { OnErr result (self.new ≡ self.old) }
+        ensures rows { AreFiled archive.new self.new.rows }
+        ensures filed { IfOk result (λ v. AreFiledOuts archive.new v.items) }
+        ensures kept { Keeps archive.old archive.new }
     {
         if !is_counter_live(&self.votes, counter) {
             return Ok(Vec::new(alloc));
         }
         let given = fired(alloc, &self.given)?;
         let votes = bumped(alloc, &self.votes)?;
-        self.settle(alloc, given, votes)
+        self.settle(alloc, archive, given, votes)
     }
 
-    /// An envelope reaches the node. That of a stranger is offered to the table, and nothing else
-    /// happens.
-    fn take(&mut self, alloc: Global, envelope: Envelope) -> Result<Vec<Out>, AllocError>
-        ensures node { OnOk result (self.new ≡ (step self.old (NodeEvent.Take envelope)).0) }
-        ensures outs { IfOk result (λ v. v.items ≡ (step self.old (NodeEvent.Take envelope)).1) }
+    /// The configured slices are these from now on, and passes follow. Those that were are put back where
+    /// a later growth finds no memory.
+    fn reslice<S: Shelf>(
+        &mut self,
+        alloc: Global,
+        archive: &mut Archive<S>,
+        slices: Nested,
+    ) -> Result<Vec<FiledOut>, AllocError>
+        requires rows { AreFiled archive.old self.old.rows }
+        ensures node { OnOk result (self.new.node ≡ (step self.old.node (NodeEvent.Reslice slices)).0) }
+        ensures outs { IfOk result (λ v. outs_of v.items ≡ (step self.old.node (NodeEvent.Reslice slices)).1) }
         ensures err { OnErr result (self.new ≡ self.old) }
+        ensures rows { AreFiled archive.new self.new.rows }
+        ensures filed { IfOk result (λ v. AreFiledOuts archive.new v.items) }
+        ensures kept { Keeps archive.old archive.new }
     {
-        if self.listener.is_stranger(envelope.sender()) {
-            self.listener.offer(envelope)?;
+        let votes = self.votes.try_copy(alloc)?;
+        let Node {
+            listener,
+            given,
+            votes: old_votes,
+        } = self;
+        let old_slices = listener.exchange_slices(slices);
+        match listener.answer(alloc, archive, given, old_votes, given, votes) {
+            Ok(FiledAnswer { votes, outs }) => {
+                *old_votes = votes;
+                Ok(outs)
+            }
+            Err(error) => {
+                listener.exchange_slices(old_slices);
+                Err(error)
+            }
+        }
+    }
+
+    /// An envelope reaches the node. That of a stranger which is no leader is offered to the table, and
+    /// nothing else happens.
+    fn take<S: Shelf>(
+        &mut self,
+        alloc: Global,
+        archive: &mut Archive<S>,
+        envelope: Filed,
+    ) -> Result<Vec<FiledOut>, AllocError>
+        requires rows { AreFiled archive.old self.old.rows }
+        requires envelope { IsFiled archive.old envelope }
+        ensures node { OnOk result (self.new.node ≡ (step self.old.node (NodeEvent.Take (sent_of envelope))).0) }
+        ensures outs { IfOk result (λ v. outs_of v.items ≡ (step self.old.node (NodeEvent.Take (sent_of envelope))).1) }
+        ensures err { OnErr result (self.new ≡ self.old) }
+        ensures rows { AreFiled archive.new self.new.rows }
+        ensures filed { IfOk result (λ v. AreFiledOuts archive.new v.items) }
+        ensures kept { Keeps archive.old archive.new }
+    {
+        let sender = archive.read(&envelope).sender();
+        if self.listener.is_stranger(sender) && !leads(sender, &self.given) {
+            self.listener.offer(archive, envelope)?;
             return Ok(Vec::new(alloc));
         }
-        self.take_and_settle(alloc, envelope)
+        self.take_and_settle(alloc, archive, envelope)
     }
 
     /// An envelope that is newer than its sender's row of its kind is the row now, and passes follow. It
     /// is taken back out where a later growth finds no memory.
-    fn take_and_settle(&mut self, alloc: Global, envelope: Envelope) -> Result<Vec<Out>, AllocError>
-        ensures node { OnOk result (self.new ≡ (step self.old (NodeEvent.Take envelope)).0) }
-        ensures outs { IfOk result (λ v. v.items ≡ (step self.old (NodeEvent.Take envelope)).1) }
+    fn take_and_settle<S: Shelf>(
+        &mut self,
+        alloc: Global,
+        archive: &mut Archive<S>,
+        envelope: Filed,
+    ) -> Result<Vec<FiledOut>, AllocError>
+        requires rows { AreFiled archive.old self.old.rows }
+        requires envelope { IsFiled archive.old envelope }
+        ensures node { OnOk result (self.new.node ≡ (step self.old.node (NodeEvent.Take (sent_of envelope))).0) }
+        ensures outs { IfOk result (λ v. outs_of v.items ≡ (step self.old.node (NodeEvent.Take (sent_of envelope))).1) }
         ensures err { OnErr result (self.new ≡ self.old) }
+        ensures rows { AreFiled archive.new self.new.rows }
+        ensures filed { IfOk result (λ v. AreFiledOuts archive.new v.items) }
+        ensures kept { Keeps archive.old archive.new }
     {
         let votes = self.votes.try_copy(alloc)?;
-        let put = self.listener.put(envelope);
+        let put = self.listener.put(archive, envelope);
         match put {
             Put::Stale => Ok(Vec::new(alloc)),
             Put::NoMemory => Err(AllocError),
@@ -238,15 +359,15 @@ impl Node {
                     given,
                     votes: old_votes,
                 } = self;
-                match listener.answer(alloc, given, old_votes, given, votes) {
-                    Ok(Answer { votes, outs }) => {
+                match listener.answer(alloc, archive, given, old_votes, given, votes) {
+                    Ok(FiledAnswer { votes, outs }) => {
                         // The row stays, and the way back is let go.
                         drop(put);
                         *old_votes = votes;
                         Ok(outs)
                     }
                     Err(error) => {
-                        listener.undo(put);
+                        listener.undo(archive, put);
                         Err(error)
                     }
                 }
@@ -256,15 +377,25 @@ impl Node {
 
     /// Passes, from what an event gave and these votes on, and what is given out. An error says that
     /// memory is short, and the node is as it was.
-    fn settle(&mut self, alloc: Global, given: Given, votes: Votes) -> Result<Vec<Out>, AllocError>
-        requires { IsChange self.old (record self.old { given = given; votes = votes }) }
-        ensures node { OnOk result (self.new ≡ (answered self.old (after_change (Some (record self.old { given = given; votes = votes })))).0) }
-        ensures outs { IfOk result (λ v. v.items ≡ (answered self.old (after_change (Some (record self.old { given = given; votes = votes })))).1) }
+    fn settle<S: Shelf>(
+        &mut self,
+        alloc: Global,
+        archive: &mut Archive<S>,
+        given: Given,
+        votes: Votes,
+    ) -> Result<Vec<FiledOut>, AllocError>
+        requires rows { AreFiled archive.old self.old.rows }
+        requires change { IsChange self.old.node (record self.old.node { given = given; votes = votes }) }
+        ensures node { OnOk result (self.new.node ≡ (answered self.old.node (after_change (Some (record self.old.node { given = given; votes = votes })))).0) }
+        ensures outs { IfOk result (λ v. outs_of v.items ≡ (answered self.old.node (after_change (Some (record self.old.node { given = given; votes = votes })))).1) }
         ensures err { OnErr result (self.new ≡ self.old) }
+        ensures rows { AreFiled archive.new self.new.rows }
+        ensures filed { IfOk result (λ v. AreFiledOuts archive.new v.items) }
+        ensures kept { Keeps archive.old archive.new }
     {
         let answer = self
             .listener
-            .answer(alloc, &self.given, &self.votes, &given, votes)?;
+            .answer(alloc, archive, &self.given, &self.votes, &given, votes)?;
         self.given = given;
         self.votes = answer.votes;
         Ok(answer.outs)

@@ -1,6 +1,7 @@
 //! One node at one slot: the rows of the envelopes that it took, and what follows from them.
 
 ghost use Rattle.std.specs.Prelude.{◌≡◌, ◌≢◌, ◌↔◌, ℕ, IsTrue, IfOk, IfSome, [], false, true, filter, OnOk, ◌++◌, ◌∷◌};
+ghost use Rattle.envstore.specs.Archives.{sents_of};
 ghost use Rattle.types.specs.Trees.{Slices};
 ghost use Rattle.types.specs.declared.kind.Kind.{Kind};
 ghost use Rattle.protocol.specs.Sets.{among, IsAscending};
@@ -10,7 +11,8 @@ ghost use Rattle.protocol.specs.Reach.{IsReach};
 ghost use Rattle.tables.specs.Listeners.{IsBacked};
 
 use closure::{keeps_reach, reach};
-use latest::{Offer, Table};
+use envstore::{Archive, Places, VecShelf};
+use latest::{Offer, Rows, Table};
 use quorum::{SlicesOf, in_quorum_within};
 use std::alloc::{AllocError, Global};
 use std::marker::Model;
@@ -29,7 +31,8 @@ pub enum Taken {
     NoMemory,
 }
 
-/// One node, its slot and slices, and the table of the envelopes that it took.
+/// One node, its slot and slices, and the table of the envelopes that it took, with the archive where they
+/// lie.
 ///
 /// The nodes that it reaches are kept from one question to the next, until a row comes that may
 /// change them.
@@ -38,6 +41,7 @@ pub struct Listener {
     own: NodeId,
     slot: u64,
     configured: Nested,
+    archive: Archive<VecShelf>,
     table: Table,
     known_reach: Option<Vec<NodeId>>,
 }
@@ -52,11 +56,12 @@ impl Model for Listener {
     ghost coded = { Prim.hlevel (codes, members_code) };
 
     ghost use Rattle.std.specs.Prelude.{IfSome};
+    ghost use Rattle.envstore.specs.Archives.{AreFiled, sents_of};
     ghost use Rattle.protocol.specs.Reach.{IsReach};
 
-    ghost view = { λ s. record { own = s.own; slot = s.slot; configured = s.configured; rows = s.table } };
+    ghost view = { λ s. record { own = s.own; slot = s.slot; configured = s.configured; rows = sents_of s.table } };
 
-    ghost invariant = { λ s. IfSome s.known_reach (λ v. IsReach s.own s.configured s.table v.items) };
+    ghost invariant = { λ s. AreFiled s.archive s.table × IfSome s.known_reach (λ v. IsReach s.own s.configured (sents_of s.table) v.items) };
 }
 
 impl Listener {
@@ -68,6 +73,7 @@ impl Listener {
             own,
             slot,
             configured,
+            archive: Archive::new(alloc, VecShelf::new(alloc)),
             table: Table::new(alloc),
             known_reach: None,
         }
@@ -81,10 +87,10 @@ impl Listener {
     }
 
     /// The rows.
-    pub fn table(&self) -> &Table
-        ensures { result.now ≡ self.now.rows }
+    pub fn rows(&self) -> Rows<'_, VecShelf>
+        ensures { result ≡ self.now.rows }
     {
-        &self.table
+        Rows::of(&self.table, &self.archive)
     }
 
     /// Offers an envelope to the table. Where the answer is not [`Taken::Replaced`], nothing changed.
@@ -98,8 +104,11 @@ impl Listener {
         if envelope.slot() != self.slot {
             return Taken::OtherSlot;
         }
-        let stays = stays_known(&self.known_reach, &self.table, &envelope);
-        match self.table.offer(envelope) {
+        let stays = stays_known(&self.known_reach, &self.rows(), &envelope);
+        let Ok(envelope) = self.archive.put(envelope) else {
+            return Taken::NoMemory;
+        };
+        match self.table.offer(&self.archive, envelope) {
             Offer::Replaced => {
                 if !stays {
                     self.known_reach = None;
@@ -116,7 +125,7 @@ impl Listener {
     pub fn reach(&self, alloc: Global) -> Result<Vec<NodeId>, AllocError>
         ensures { IfOk result (λ v. IsReach self.now.own self.now.configured self.now.rows v.items) }
     {
-        reach(alloc, &self.table, &self.own, &self.configured)
+        reach(alloc, &self.rows(), &self.own, &self.configured)
     }
 
     /// Whether the node is in a quorum whose ballot rows all vote for or accept that the ballot is
@@ -161,18 +170,23 @@ impl Listener {
         requires { IsReach self.now.own self.now.configured self.now.rows region.now }
         ensures { IfOk result (λ b. IsTrue b ↔ IsBacked self.now ballot.now) }
     {
-        let supporters = supporters_of(alloc, &self.table, ballot)?;
+        let rows = self.rows();
+        let supporters = supporters_of(alloc, &rows, ballot)?;
         let known = KnownSlices {
             own: &self.own,
             configured: &self.configured,
-            table: &self.table,
+            rows: &rows,
         };
         in_quorum_within(alloc, &self.own, &supporters, &known, region)
     }
 }
 
 // Whether a reach that is known surely stays as it is where the envelope is offered to the table.
-fn stays_known(known: &Option<Vec<NodeId>>, table: &Table, envelope: &Envelope) -> bool
+fn stays_known<S: Places>(
+    known: &Option<Vec<NodeId>>,
+    table: &Rows<'_, S>,
+    envelope: &Envelope,
+) -> bool
     requires { IfSome known.now (λ v. IsAscending v.items) }
     ensures { IsTrue result → (own : ℕ) (configured : Slices) → IfSome known.now (λ v. IsReach own configured table.now v.items) → IfSome known.now (λ v. IsReach own configured (offered table.now envelope.now) v.items) }
 {
@@ -184,25 +198,25 @@ fn stays_known(known: &Option<Vec<NodeId>>, table: &Table, envelope: &Envelope) 
 
 // The slices that a node knows of: its own, and those of ballot rows.
 #[derive(Drop)]
-struct KnownSlices<'a> {
+struct KnownSlices<'a, S: Places> {
     own: &'a NodeId,
     configured: &'a Nested,
-    table: &'a Table,
+    rows: &'a Rows<'a, S>,
 }
 
-impl<'a> SlicesOf for KnownSlices<'a> {
+impl<'a, S: Places> SlicesOf for KnownSlices<'a, S> {
     ghost use Rattle.protocol.specs.Backing.{slices_by};
     ghost use Rattle.types.specs.declared.kind.Kind.{Kind};
 
     type Family = Nested;
 
-    ghost slices_at = { λ s. slices_by s.own.now s.configured.now s.table.now Kind.Ballot };
+    ghost slices_at = { λ s. slices_by s.own.now s.configured.now s.rows.now Kind.Ballot };
 
     fn slices(&self, node: &NodeId) -> Option<&Nested> {
         if *self.own == *node {
             return Some(self.configured);
         }
-        match self.table.row(node, Kind::Ballot) {
+        match self.rows.row(node, Kind::Ballot) {
             Some(row) => Some(row.slices()),
             None => None,
         }
@@ -210,7 +224,11 @@ impl<'a> SlicesOf for KnownSlices<'a> {
 }
 
 // The senders whose ballot row backs the ballot, ascending.
-fn supporters_of(alloc: Global, table: &Table, ballot: &Ballot) -> Result<Vec<NodeId>, AllocError>
+fn supporters_of<S: Places>(
+    alloc: Global,
+    table: &Rows<'_, S>,
+    ballot: &Ballot,
+) -> Result<Vec<NodeId>, AllocError>
     ensures ascending { IfOk result (λ v. IsAscending v.items) }
     ensures all { IfOk result (λ v. among v.items ≡ backing_prepare table.now ballot.now) }
 {
@@ -224,9 +242,9 @@ fn supporters_of(alloc: Global, table: &Table, ballot: &Ballot) -> Result<Vec<No
 }
 
 // Adds the sender where its ballot row backs the ballot.
-fn push_backing(
+fn push_backing<S: Places>(
     supporters: &mut Vec<NodeId>,
-    table: &Table,
+    table: &Rows<'_, S>,
     sender: &NodeId,
     ballot: &Ballot,
 ) -> Result<(), AllocError>
@@ -239,7 +257,7 @@ fn push_backing(
 }
 
 // Whether the sender's ballot row votes for or accepts that the ballot is prepared.
-fn backs(table: &Table, sender: &NodeId, ballot: &Ballot) -> bool
+fn backs<S: Places>(table: &Rows<'_, S>, sender: &NodeId, ballot: &Ballot) -> bool
     ensures { result ≡ backing_prepare table.now ballot.now sender.now }
 {
     match table.row(sender, Kind::Ballot) {

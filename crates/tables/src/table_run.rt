@@ -2,7 +2,8 @@
 
 use crate::listener::{Listener, Taken};
 use codec::{CodecError, decode};
-use latest::Table;
+use envstore::Places;
+use latest::Rows;
 use scripts::{
     LineError, LineRunner, ballot_of, bytes_of, name_of, number_of, push_name, push_slices,
     push_statement, slices_of, statement_of,
@@ -147,11 +148,11 @@ fn show_reach(alloc: Global, listener: &Listener) -> Result<Option<String>, Line
 
 // The rows, a line each, ascending by sender, the nomination row first.
 fn show(alloc: Global, listener: &Listener) -> Result<Option<String>, LineError> {
-    let table = listener.table();
+    let table = listener.rows();
     let mut text = String::new(alloc);
     for place in 0..table.sender_count() {
         if let Some(sender) = table.sender(place) {
-            push_rows(&mut text, table, sender)?;
+            push_rows(&mut text, &table, sender)?;
         }
     }
     if text.is_empty() {
@@ -160,7 +161,11 @@ fn show(alloc: Global, listener: &Listener) -> Result<Option<String>, LineError>
     Ok(Some(text))
 }
 
-fn push_rows(text: &mut String, table: &Table, sender: &NodeId) -> Result<(), AllocError> {
+fn push_rows<S: Places>(
+    text: &mut String,
+    table: &Rows<'_, S>,
+    sender: &NodeId,
+) -> Result<(), AllocError> {
     if let Some(row) = table.row(sender, Kind::Nomination) {
         push_row(text, row)?;
     }

@@ -1,7 +1,7 @@
 //! What the histories show.
 
 use crate::slow::{Phase, Votes};
-use crate::statements::{Ballot, Statement};
+use crate::statements::{Ballot, Statement, Trust};
 
 /// A node at one moment, with the ballot statement that it sent last.
 #[derive(Clone, Copy)]
@@ -9,6 +9,9 @@ pub struct Moment {
     pub votes: Votes,
     pub round: u32,
     pub fired: u32,
+    pub trust: Trust,
+    /// Some leader is not reached: its row is no candidate, and is echoed all the same.
+    pub has_far_leader: bool,
     pub sent: Option<Statement>,
 }
 
@@ -23,6 +26,8 @@ pub struct Counts {
     pub counters: u32,
     pub not_newer: u32,
     pub externalized: u32,
+    pub moved: u32,
+    pub echoed: u32,
     /// The most passes that an event has taken.
     pub passes: u32,
 }
@@ -38,6 +43,8 @@ impl Counts {
             counters: 0,
             not_newer: 0,
             externalized: 0,
+            moved: 0,
+            echoed: 0,
             passes: 0,
         }
     }
@@ -52,10 +59,12 @@ impl Counts {
         count(&mut self.counters, new.fired > old.fired);
         count(&mut self.not_newer, is_not_newer(old.sent, new.sent));
         count(&mut self.externalized, externalizes(old, new));
+        count(&mut self.moved, moves_by_slices(old, new));
+        count(&mut self.echoed, echoes_from_afar(old, new));
     }
 
     /// Each with its words.
-    pub fn named(self) -> [(&'static str, u32); 8] {
+    pub fn named(self) -> [(&'static str, u32); 10] {
         [
             ("commits entered", self.entered),
             ("commits widened", self.widened),
@@ -65,6 +74,8 @@ impl Counts {
             ("counters timed out", self.counters),
             ("statements not newer", self.not_newer),
             ("values externalized", self.externalized),
+            ("votes changed by new slices", self.moved),
+            ("values voted for with a leader out of reach", self.echoed),
         ]
     }
 }
@@ -108,6 +119,14 @@ fn is_not_newer(old: Option<Statement>, new: Option<Statement>) -> bool {
 
 fn externalizes(old: Moment, new: Moment) -> bool {
     old.votes.phase != Phase::Externalized && new.votes.phase == Phase::Externalized
+}
+
+fn moves_by_slices(old: Moment, new: Moment) -> bool {
+    new.trust != old.trust && new.votes != old.votes
+}
+
+fn echoes_from_afar(old: Moment, new: Moment) -> bool {
+    old.has_far_leader && new.has_far_leader && new.votes.voted != old.votes.voted
 }
 
 fn counter(ballot: Option<Ballot>) -> u32 {

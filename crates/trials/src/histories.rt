@@ -174,15 +174,15 @@ fn majority(count: u32) -> Trust {
 
 // ---- histories
 
-/// One node twice, and the newest that it emitted of each kind.
+/// One node twice, and the newest that it emitted of each kind, with the slices that it had then.
 #[derive(Drop)]
 struct Twin {
     slow: State,
     real: Trial,
     name: NodeId,
     slices: Nested,
-    nominated: Option<Statement>,
-    balloted: Option<Statement>,
+    nominated: Option<Row>,
+    balloted: Option<Row>,
 }
 
 /// What happens to a node.
@@ -192,6 +192,7 @@ enum Happening {
     Proposed(u8),
     NominationTimer(u32),
     BallotTimer(u32),
+    Resliced(Trust),
 }
 
 impl Twin {
@@ -234,6 +235,10 @@ impl Twin {
             Happening::Proposed(value) => write!(line, "propose {}", word(value))?,
             Happening::NominationTimer(round) => write!(line, "ntimer {round}")?,
             Happening::BallotTimer(counter) => write!(line, "btimer {counter}")?,
+            Happening::Resliced(trust) => {
+                line.push_str("reslice ")?;
+                push_trust(&mut line, trust)?;
+            }
         }
         Ok(line)
     }
@@ -255,7 +260,30 @@ impl Twin {
                 self.slow.nomination_timer(rt, alloc, round, leader)
             }
             Happening::BallotTimer(counter) => self.slow.ballot_timer(rt, alloc, counter),
+            Happening::Resliced(trust) => {
+                self.trust_in(rt, alloc, trust)?;
+                self.slow.reslice(rt, alloc, trust)
+            }
         }
+    }
+
+    /// The leaders of later rounds are chosen by other slices.
+    fn trust_in(&mut self, rt: &impl Abort, alloc: Global, trust: Trust) -> Result<(), AllocError> {
+        let mut words = String::new(alloc);
+        push_trust(&mut words, trust)?;
+        self.slices = slices_of(alloc, words.as_str().as_bytes())?.expect(rt, "slices");
+        Ok(())
+    }
+
+    /// Some leader is not reached.
+    fn has_far_leader(&self) -> bool {
+        let reach = self.slow.reach();
+        for leader in self.slow.leaders.as_slice() {
+            if !has(reach, *leader) {
+                return true;
+            }
+        }
+        false
     }
 
     fn moment(&self) -> Moment {
@@ -263,7 +291,9 @@ impl Twin {
             votes: self.slow.votes,
             round: self.slow.round,
             fired: self.slow.fired,
-            sent: self.balloted,
+            trust: self.slow.trust,
+            has_far_leader: self.has_far_leader(),
+            sent: said_in(self.balloted),
         }
     }
 
@@ -294,10 +324,14 @@ impl Twin {
 
     fn keep(&mut self, outs: &[Out]) {
         for out in outs {
-            if let Out::Emit(statement) = *out {
-                match statement {
-                    Statement::Nominate { .. } => self.nominated = Some(statement),
-                    _ => self.balloted = Some(statement),
+            if let Out::Emit(said) = *out {
+                let row = Row {
+                    trust: self.slow.trust,
+                    said,
+                };
+                match said {
+                    Statement::Nominate { .. } => self.nominated = Some(row),
+                    _ => self.balloted = Some(row),
                 }
             }
         }
@@ -314,7 +348,7 @@ impl Twin {
                 accepted: votes.accepts,
             })
         };
-        self.nominated == nominated && self.balloted == State::sent(votes)
+        said_in(self.nominated) == nominated && said_in(self.balloted) == State::sent(votes)
     }
 
     /// Their tables have the same rows.
@@ -324,18 +358,18 @@ impl Twin {
     }
 
     fn emitted(&self, dice: &mut Dice) -> Option<Row> {
-        let chosen = if dice.is_one_in(3) {
+        if dice.is_one_in(3) {
             self.nominated
         } else {
             self.balloted
-        };
-        match chosen {
-            None => None,
-            Some(said) => Some(Row {
-                trust: self.slow.trust,
-                said,
-            }),
         }
+    }
+}
+
+fn said_in(row: Option<Row>) -> Option<Statement> {
+    match row {
+        None => None,
+        Some(row) => Some(row.said),
     }
 }
 
@@ -408,6 +442,7 @@ impl History {
             2 => Happening::NominationTimer(round),
             3 => Happening::BallotTimer(armed),
             4 if self.dice.is_one_in(4) => Happening::BallotTimer(self.dice.below(4)),
+            5 if self.dice.is_one_in(2) => Happening::Resliced(self.dice.trust(7)),
             _ => self.said(node),
         }
     }

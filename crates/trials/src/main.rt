@@ -33,16 +33,22 @@ mod trial;
 #[cfg(test)]
 mod wording;
 
+ghost use Rattle.std.specs.Prelude.{◌≡◌, IfOk, IfSome, OnErr};
+ghost use Rattle.envstore.specs.Archives.{AreFiled, Keeps};
+ghost use Rattle.slot.specs.Filings.{IsFiledEvent};
+
+use envstore::{Archive, VecShelf};
+use latest::Rows;
 use scripts::{counter_of, name_of, number_of, slices_of, statement_of};
-use slot::Node;
+use slot::{FiledEvent, FiledOut, Node};
 use std::alloc::{AllocError, Global};
 use std::env;
 use std::io::Write;
+use std::marker::Model;
 use std::process::ExitCode;
 use std::rt::Env;
 use types::{
-    Ballot, Envelope, Given, Member, Nested, NodeEvent, NodeId, Out, SliceSet, Statement, Value,
-    Values,
+    Ballot, Envelope, Given, Kind, Member, Nested, NodeId, SliceSet, Statement, Value, Values,
 };
 
 const NAMED: u64 = 64;
@@ -98,10 +104,62 @@ fn call_of<R: Env + AllocGlobal>(rt: &R) -> Option<Call> {
     }
 }
 
+// ---- a node
+
+/// One node at slot 1, with the archive of its envelopes.
+#[derive(Drop)]
+struct Alone {
+    archive: Archive<VecShelf>,
+    node: Node,
+}
+
+impl Model for Alone {
+    ghost use Rattle.std.specs.Coded.{codes};
+    ghost use Rattle.types.specs.Trees.{members_code};
+    ghost use Rattle.envstore.specs.Archives.{AreFiled};
+    ghost use Rattle.slot.specs.Listening.{Held};
+
+    ghost Value = { Held };
+
+    ghost coded = { Prim.hlevel (codes, members_code) };
+
+    ghost view = { λ a. a.node };
+
+    ghost invariant = { λ a. AreFiled a.archive a.node.rows };
+}
+
+impl Alone {
+    /// A node to which nothing has happened.
+    fn new(alloc: Global, name: NodeId, slices: Nested) -> Alone {
+        Alone {
+            archive: Archive::new(alloc, VecShelf::new(alloc)),
+            node: Node::new(alloc, name, 1, slices),
+        }
+    }
+
+    /// The digit of a line of the story.
+    fn hear(&mut self, alloc: Global, line: (&str, &str, &str)) -> Result<u64, AllocError> {
+        let Alone { archive, node } = self;
+        twice_tried(alloc, archive, node, line)
+    }
+
+    /// What a statement of a sender makes it give out.
+    fn take(
+        &mut self,
+        alloc: Global,
+        sizes: Sizes,
+        sender: u64,
+        body: Statement,
+    ) -> Result<Vec<FiledOut>, AllocError> {
+        let Alone { archive, node } = self;
+        take(alloc, archive, node, sizes, sender, body)
+    }
+}
+
 // ---- the story
 
-/// Each line: a sender with its slices and statement, or a ballot timer.
-const STORY: [(&str, &str, &str); 7] = [
+/// Each line: a sender with its slices and statement, a ballot timer, or new slices.
+const STORY: [(&str, &str, &str); 8] = [
     ("B", "1[B]", "prep(9:m,9:m,6,0,0)"),
     ("C", "1[C]", "prep(8:k,8:k,6,0,0)"),
     ("Z", "1[Z]", "prep(5:q,-,0,0,0)"),
@@ -109,6 +167,7 @@ const STORY: [(&str, &str, &str); 7] = [
     ("", "", "8"),
     ("", "", "8"),
     ("C", "1[C]", "prep(9:m,9:m,6,0,0)"),
+    ("", "2[B,C,Z]", ""),
 ];
 
 /// Stands for a line that tells no event.
@@ -126,7 +185,7 @@ fn told(alloc: Global) -> Result<u64, AllocError> {
     };
     let mut digits = 1u64;
     for line in STORY {
-        let given_out = twice_tried(alloc, &mut node, line)?;
+        let given_out = node.hear(alloc, line)?;
         digits = digits.saturating_mul(10).saturating_add(given_out);
     }
     Ok(digits)
@@ -135,28 +194,39 @@ fn told(alloc: Global) -> Result<u64, AllocError> {
 /// The digit of an event, which is tried once more where it finds no memory.
 fn twice_tried(
     alloc: Global,
+    archive: &mut Archive<VecShelf>,
     node: &mut Node,
     line: (&str, &str, &str),
-) -> Result<u64, AllocError> {
-    let before = match node.try_copy(alloc) {
+) -> Result<u64, AllocError>
+    requires { AreFiled archive.old node.old.rows }
+    ensures { AreFiled archive.new node.new.rows }
+{
+    let before = match node.try_copy(alloc, archive) {
         Ok(before) => before,
-        Err(_) => node.try_copy(alloc)?,
+        Err(_) => node.try_copy(alloc, archive)?,
     };
-    if let Ok(given_out) = tried(alloc, node, line) {
+    if let Ok(given_out) = tried(alloc, archive, node, line) {
         return Ok(given_out);
     }
-    if !is_as(node, &before) {
+    if !is_as(archive, node, &before) {
         return Ok(TRACE);
     }
-    tried(alloc, node, line)
+    tried(alloc, archive, node, line)
 }
 
-/// Whether two nodes have the same votes, were given the same, and have the same statements in their
-/// rows.
-fn is_as(node: &Node, other: &Node) -> bool {
-    node.votes().is_same(other.votes())
+/// Whether two nodes have the same slices and votes, were given the same, and have the same statements in
+/// their rows.
+fn is_as(archive: &Archive<VecShelf>, node: &Node, other: &Node) -> bool
+    requires rows { AreFiled archive.now node.now.rows }
+    requires other_rows { AreFiled archive.now other.now.rows }
+{
+    node.slices().is_same(other.slices())
+        && node.votes().is_same(other.votes())
         && has_same_given(node.given(), other.given())
-        && has_same_rows(node.table().rows(), other.table().rows())
+        && has_same_rows(
+            &Rows::of(node.table(), archive),
+            &Rows::of(other.table(), archive),
+        )
 }
 
 fn has_same_given(given: &Given, other: &Given) -> bool {
@@ -166,28 +236,62 @@ fn has_same_given(given: &Given, other: &Given) -> bool {
         && given.leaders.as_slice() == other.leaders.as_slice()
 }
 
-fn has_same_rows(rows: &[Envelope], others: &[Envelope]) -> bool {
-    for (row, other) in rows.iter().zip(others.iter()) {
-        if !row.body().is_same(other.body()) {
-            return false;
+fn has_same_rows(rows: &Rows<'_, VecShelf>, others: &Rows<'_, VecShelf>) -> bool {
+    for place in 0..rows.sender_count() {
+        if let Some(sender) = rows.sender(place) {
+            if !has_same_rows_of(rows, others, sender) {
+                return false;
+            }
         }
     }
-    rows.len() == others.len()
+    rows.sender_count() == others.sender_count()
 }
 
-fn begun(alloc: Global) -> Result<Node, AllocError> {
+fn has_same_rows_of(
+    rows: &Rows<'_, VecShelf>,
+    others: &Rows<'_, VecShelf>,
+    sender: &NodeId,
+) -> bool {
+    has_same_row(rows, others, sender, Kind::Nomination)
+        && has_same_row(rows, others, sender, Kind::Ballot)
+}
+
+fn has_same_row(
+    rows: &Rows<'_, VecShelf>,
+    others: &Rows<'_, VecShelf>,
+    sender: &NodeId,
+    kind: Kind,
+) -> bool {
+    match (rows.row(sender, kind), others.row(sender, kind)) {
+        (Some(row), Some(other)) => row.body().is_same(other.body()),
+        (None, None) => true,
+        _ => false,
+    }
+}
+
+fn begun(alloc: Global) -> Result<Alone, AllocError> {
     let slices = slices_of(alloc, b"2[B,C,D]")?;
     match (name_of(b"A"), slices) {
-        (Some(name), Some(slices)) => Ok(Node::new(alloc, name, 1, slices)),
+        (Some(name), Some(slices)) => Ok(Alone::new(alloc, name, slices)),
         _ => Err(AllocError),
     }
 }
 
-fn tried(alloc: Global, node: &mut Node, line: (&str, &str, &str)) -> Result<u64, AllocError> {
-    match event_of(alloc, line)? {
+fn tried(
+    alloc: Global,
+    archive: &mut Archive<VecShelf>,
+    node: &mut Node,
+    line: (&str, &str, &str),
+) -> Result<u64, AllocError>
+    requires { AreFiled archive.old node.old.rows }
+    ensures rows { AreFiled archive.new node.new.rows }
+    ensures kept { Keeps archive.old archive.new }
+    ensures err { OnErr result (node.new ≡ node.old) }
+{
+    match event_of(alloc, archive, line)? {
         None => Ok(NO_EVENT),
         Some(event) => {
-            let outs = node.advance(alloc, event)?;
+            let outs = node.advance(alloc, archive, event)?;
             let mut number = 0u64;
             for _ in outs.as_slice() {
                 number = number.saturating_add(1);
@@ -197,16 +301,26 @@ fn tried(alloc: Global, node: &mut Node, line: (&str, &str, &str)) -> Result<u64
     }
 }
 
-fn event_of(alloc: Global, line: (&str, &str, &str)) -> Result<Option<NodeEvent>, AllocError> {
+fn event_of(
+    alloc: Global,
+    archive: &mut Archive<VecShelf>,
+    line: (&str, &str, &str),
+) -> Result<Option<FiledEvent>, AllocError>
+    ensures event { IfOk result (λ o. IfSome o (IsFiledEvent archive.new)) }
+    ensures kept { Keeps archive.old archive.new }
+{
     let (sender, slices, said) = line;
     let said = said.as_bytes();
     if let Some(counter) = counter_of(said) {
-        return Ok(Some(NodeEvent::BallotTimer(counter)));
+        return Ok(Some(FiledEvent::BallotTimer(counter)));
     }
-    let Some(sender) = name_of(sender.as_bytes()) else {
+    let Some(slices) = slices_of(alloc, slices.as_bytes())? else {
         return Ok(None);
     };
-    let Some(slices) = slices_of(alloc, slices.as_bytes())? else {
+    if said.is_empty() {
+        return Ok(Some(FiledEvent::Reslice(slices)));
+    }
+    let Some(sender) = name_of(sender.as_bytes()) else {
         return Ok(None);
     };
     let Some(body) = statement_of(alloc, said)? else {
@@ -214,7 +328,7 @@ fn event_of(alloc: Global, line: (&str, &str, &str)) -> Result<Option<NodeEvent>
     };
     match Envelope::new(sender, 1, slices, body) {
         None => Ok(None),
-        Some(envelope) => Ok(Some(NodeEvent::Take(envelope))),
+        Some(envelope) => Ok(Some(FiledEvent::Take(archive.put(envelope)?))),
     }
 }
 
@@ -226,17 +340,11 @@ fn sent_in(alloc: Global, sizes: Sizes) -> Result<u64, AllocError> {
         return Ok(0);
     };
     for number in 0..sizes.reached {
-        take(alloc, &mut node, sizes, number, nomination(alloc)?)?;
-        take(alloc, &mut node, sizes, number, prepare(1))?;
+        node.take(alloc, sizes, number, nomination(alloc)?)?;
+        node.take(alloc, sizes, number, prepare(1))?;
     }
     for number in 0..sizes.strangers {
-        take(
-            alloc,
-            &mut node,
-            sizes,
-            number.saturating_add(1_000_000),
-            prepare(1),
-        )?;
+        node.take(alloc, sizes, number.saturating_add(1_000_000), prepare(1))?;
     }
     let mut sent = 0u64;
     for number in 0..sizes.events {
@@ -247,42 +355,49 @@ fn sent_in(alloc: Global, sizes: Sizes) -> Result<u64, AllocError> {
             return Ok(sent);
         };
         let counter = turn.saturating_add(2).min(1_000_000) as u32;
-        let outs = take(alloc, &mut node, sizes, sender, prepare(counter))?;
+        let outs = node.take(alloc, sizes, sender, prepare(counter))?;
         sent = sent.saturating_add(sent_among(&outs));
     }
     Ok(sent)
 }
 
-fn sent_among(outs: &[Out]) -> u64 {
+fn sent_among(outs: &[FiledOut]) -> u64 {
     let mut sent = 0u64;
     for out in outs {
-        if let Out::Emit(_) = out {
+        if let FiledOut::Emit(_) = out {
             sent = sent.saturating_add(1);
         }
     }
     sent
 }
 
-fn node_of(alloc: Global, sizes: Sizes) -> Result<Option<Node>, AllocError> {
+fn node_of(alloc: Global, sizes: Sizes) -> Result<Option<Alone>, AllocError> {
     match slices_from(alloc, 0, sizes.reached)? {
         None => Ok(None),
-        Some(slices) => Ok(Some(Node::new(alloc, name(u64::MAX), 1, slices))),
+        Some(slices) => Ok(Some(Alone::new(alloc, name(u64::MAX), slices))),
     }
 }
 
 fn take(
     alloc: Global,
+    archive: &mut Archive<VecShelf>,
     node: &mut Node,
     sizes: Sizes,
     sender: u64,
     body: Statement,
-) -> Result<Vec<Out>, AllocError> {
+) -> Result<Vec<FiledOut>, AllocError>
+    requires { AreFiled archive.old node.old.rows }
+    ensures { AreFiled archive.new node.new.rows }
+{
     let Some(slices) = slices_from(alloc, sender, sizes.reached)? else {
         return Ok(Vec::new(alloc));
     };
     match Envelope::new(name(sender), 1, slices, body) {
         None => Ok(Vec::new(alloc)),
-        Some(envelope) => node.advance(alloc, NodeEvent::Take(envelope)),
+        Some(envelope) => {
+            let filed = archive.put(envelope)?;
+            node.advance(alloc, archive, FiledEvent::Take(filed))
+        }
     }
 }
 

@@ -1,7 +1,7 @@
 //! The events of the plain slow program, the passes after each of them, and what it gives out.
 
 use crate::slow::{Phase, State, Votes};
-use crate::statements::{Kind, Row, Statement};
+use crate::statements::{Kind, Row, Statement, Trust};
 use std::alloc::{AllocError, Global};
 use std::process::Abort;
 
@@ -118,6 +118,17 @@ impl State {
                 Kind::Balloting => rows.balloting = Some(row),
             }
         }
+        self.settled(rt, alloc, self.round, self.votes)
+    }
+
+    /// The slices of the node change.
+    pub fn reslice(
+        &mut self,
+        rt: &impl Abort,
+        alloc: Global,
+        trust: Trust,
+    ) -> Result<Vec<Out>, AllocError> {
+        self.trust = trust;
         self.settled(rt, alloc, self.round, self.votes)
     }
 

@@ -264,9 +264,7 @@ fn a_second_proposal_begins_the_first_round_again(rt: HostRuntime) -> Result<(),
     }
     let state = trial.state(alloc)?;
     assert!(rt;
-        state
-            .as_str()
-            .starts_with("rows 0 round 1 fired 0 leaders C C C input y voted")
+        state.as_str().starts_with("rows 0 2[B,C,D] round 1 fired 0 leaders C C C input y voted")
     );
     Ok(())
 }
@@ -412,6 +410,77 @@ fn a_ballot_with_counter_0_is_no_candidate(rt: HostRuntime) -> Result<(), Fail> 
         &[
             (b"say B 1[E] prep(1:x,0:y,0,0,0)", "ok"),
             (b"say C 1[E] prep(1:z,0:y,0,0,0)", "ok"),
+        ],
+    )
+}
+
+// New slices name Z, whom nobody reached: what D's row does above, they do.
+#[test]
+fn new_slices_name_a_stranger(rt: HostRuntime) -> Result<(), Fail> {
+    let mut story = Vec::new(rt.alloc());
+    story.extend_from_slice(&BLOCKED)?;
+    story.push(STRANGER)?;
+    story.push((
+        b"reslice 2[B,C,Z]",
+        "ok arm-ballot 8 emit prep(8:q,5:q,0,5,5)",
+    ))?;
+    story.push((b"reslice 1[E]", "ok"))?;
+    story.push((b"reslice 2[B,C,Z]", "ok"))?;
+    story.push((b"btimer 8", "ok emit prep(9:q,5:q,0,5,5)"))?;
+    tells(&rt, rt.alloc(), b"2[B,C,D]", &story)
+}
+
+// What B says decides nothing until A trusts it alone.
+#[test]
+fn new_slices_may_decide(rt: HostRuntime) -> Result<(), Fail> {
+    tells(
+        &rt,
+        rt.alloc(),
+        b"2[B,C,D]",
+        &[
+            (b"say B 1[B] ext(3:x,3)", "ok"),
+            (b"reslice 2[B,C,D]", "ok"),
+            (b"reslice 1[B]", "ok emit ext(3:x,3) externalized x"),
+            (b"reslice 1[C]", "ok"),
+        ],
+    )
+}
+
+// C leads the first round, and stays a leader though no slices name it any more.
+#[test]
+fn a_leader_is_heard_after_other_slices(rt: HostRuntime) -> Result<(), Fail> {
+    tells(
+        &rt,
+        rt.alloc(),
+        b"2[B,C,D]",
+        &[
+            (b"propose x", "ok arm-nomination 1"),
+            (b"reslice 1[E]", "ok"),
+            (b"say C 1[C] nom(y|)", "ok emit nom(y|)"),
+            (b"say D 1[D] nom(z|)", "ok"),
+        ],
+    )
+}
+
+// A statement that does not differ is not sent again; the new slices go with the next one, which the trial
+// compares with those of the node.
+#[test]
+fn new_slices_go_with_the_next_statement(rt: HostRuntime) -> Result<(), Fail> {
+    tells(
+        &rt,
+        rt.alloc(),
+        b"2[B,C,D]",
+        &[
+            (b"say B 1[B] nom(x|x)", "ok"),
+            (
+                b"say C 1[C] nom(x|x)",
+                "ok emit nom(|x) emit prep(1:x,-,0,0,0)",
+            ),
+            (b"reslice 1[E]", "ok"),
+            (
+                b"say E 1[E] prep(2:x,2:x,0,0,0)",
+                "ok arm-ballot 2 emit prep(2:x,2:x,0,2,2)",
+            ),
         ],
     )
 }

@@ -1,18 +1,41 @@
 //! One node, driven and answering in the words of scripts.
 
+ghost use Rattle.std.specs.Prelude.{◌≡◌, IfOk};
+ghost use Rattle.envstore.specs.Archives.{AreFiled, Keeps};
+ghost use Rattle.slot.specs.Filings.{AreFiledOuts, IsFiledEvent};
+
+use envstore::{Archive, VecShelf};
+use latest::Rows;
 use scripts::{
     LineError, counter_of, fields_of, name_of, push_ballot, push_name, push_slices, push_statement,
     push_value, slices_of, statement_of, value_of,
 };
-use slot::Node;
+use slot::{FiledEvent, FiledOut, Node};
 use std::alloc::{AllocError, Global};
+use std::marker::Model;
 use std::process::Abort;
-use types::{Ballot, Envelope, Kind, NodeEvent, Out, Phase, Values, Votes};
+use types::{Ballot, Envelope, Kind, Phase, Values, Votes};
 
-/// One node at slot 1.
+/// One node at slot 1, with the archive of its envelopes.
 #[derive(Drop)]
 pub struct Trial {
+    archive: Archive<VecShelf>,
     node: Node,
+}
+
+impl Model for Trial {
+    ghost use Rattle.std.specs.Coded.{codes};
+    ghost use Rattle.types.specs.Trees.{members_code};
+    ghost use Rattle.envstore.specs.Archives.{AreFiled};
+    ghost use Rattle.slot.specs.Listening.{Held};
+
+    ghost Value = { Held };
+
+    ghost coded = { Prim.hlevel (codes, members_code) };
+
+    ghost view = { λ t. t.node };
+
+    ghost invariant = { λ t. AreFiled t.archive t.node.rows };
 }
 
 /// What a node answers, and its state then.
@@ -33,12 +56,13 @@ impl Trial {
         let name = name_of(name).expect(rt, "a name");
         let slices = slices_of(alloc, slices)?.expect(rt, "slices");
         Ok(Trial {
+            archive: Archive::new(alloc, VecShelf::new(alloc)),
             node: Node::new(alloc, name, 1, slices),
         })
     }
 
-    /// What the node answers to a line: `say FROM SLICES STATEMENT`, `propose VALUE`, `ntimer ROUND` or
-    /// `btimer COUNTER`. The step beside the node and the step in place answer the same, and the former
+    /// What the node answers to a line: `say FROM SLICES STATEMENT`, `propose VALUE`, `ntimer ROUND`,
+    /// `btimer COUNTER` or `reslice SLICES`. The step beside the node and the step in place answer the same, and the former
     /// leaves the node as it was.
     pub fn answer(
         &mut self,
@@ -55,10 +79,12 @@ impl Trial {
         Ok(words)
     }
 
-    fn step(&self, rt: &impl Abort, alloc: Global, line: &[u8]) -> Result<Answer, AllocError> {
-        let (stepped, outs) = self.node.step(alloc, event_of(rt, alloc, line)?)?;
+    fn step(&mut self, rt: &impl Abort, alloc: Global, line: &[u8]) -> Result<Answer, AllocError> {
+        let Trial { archive, node } = self;
+        let event = event_of(rt, alloc, archive, line)?;
+        let (stepped, outs) = node.step(alloc, archive, event)?;
         Ok(Answer {
-            words: words_of(rt, alloc, &stepped, &outs)?,
+            words: words_of(rt, alloc, archive, &stepped, &outs)?,
             state: state_of(alloc, &stepped)?,
         })
     }
@@ -69,10 +95,12 @@ impl Trial {
         alloc: Global,
         line: &[u8],
     ) -> Result<Answer, AllocError> {
-        let outs = self.node.advance(alloc, event_of(rt, alloc, line)?)?;
+        let Trial { archive, node } = self;
+        let event = event_of(rt, alloc, archive, line)?;
+        let outs = node.advance(alloc, archive, event)?;
         Ok(Answer {
-            words: words_of(rt, alloc, &self.node, &outs)?,
-            state: self.state(alloc)?,
+            words: words_of(rt, alloc, archive, node, &outs)?,
+            state: state_of(alloc, node)?,
         })
     }
 
@@ -90,7 +118,7 @@ impl Trial {
     /// The rows of its table in words, a line each, by sender and kind.
     pub fn rows(&self, alloc: Global) -> Result<String, AllocError> {
         let mut text = String::new(alloc);
-        let table = self.node.table();
+        let table = Rows::of(self.node.table(), &self.archive);
         for number in 0..table.sender_count() {
             if let Some(sender) = table.sender(number) {
                 for kind in [Kind::Nomination, Kind::Ballot] {
@@ -105,7 +133,15 @@ impl Trial {
 }
 
 /// The event that a line tells.
-fn event_of(rt: &impl Abort, alloc: Global, line: &[u8]) -> Result<NodeEvent, AllocError> {
+fn event_of(
+    rt: &impl Abort,
+    alloc: Global,
+    archive: &mut Archive<VecShelf>,
+    line: &[u8],
+) -> Result<FiledEvent, AllocError>
+    ensures event { IfOk result (IsFiledEvent archive.new) }
+    ensures kept { Keeps archive.old archive.new }
+{
     let fields = match fields_of(alloc, line) {
         Ok(fields) => fields.expect(rt, "a line with fields"),
         Err(LineError::NoMemory) => return Err(AllocError),
@@ -116,13 +152,18 @@ fn event_of(rt: &impl Abort, alloc: Global, line: &[u8]) -> Result<NodeEvent, Al
             let sender = name_of(sender).expect(rt, "a name");
             let slices = slices_of(alloc, slices)?.expect(rt, "slices");
             let body = statement_of(alloc, statement)?.expect(rt, "a statement");
-            NodeEvent::Take(Envelope::new(sender, 1, slices, body).expect(rt, "well formed"))
+            let envelope = Envelope::new(sender, 1, slices, body).expect(rt, "well formed");
+            FiledEvent::Take(archive.put(envelope)?)
         }
-        [b"propose", value] => NodeEvent::Propose(value_of(value).expect(rt, "a value")),
+        [b"propose", value] => FiledEvent::Propose(value_of(value).expect(rt, "a value")),
         [b"ntimer", round] => {
-            NodeEvent::NominationTimer(counter_of(round).expect(rt, "a round"))
+            FiledEvent::NominationTimer(counter_of(round).expect(rt, "a round"))
         }
-        [b"btimer", counter] => NodeEvent::BallotTimer(counter_of(counter).expect(rt, "a counter")),
+        [b"btimer", counter] => FiledEvent::BallotTimer(counter_of(counter).expect(
+            rt,
+            "a counter",
+        )),
+        [b"reslice", slices] => FiledEvent::Reslice(slices_of(alloc, slices)?.expect(rt, "slices")),
         _ => panic!(rt; "a known line"),
     })
 }
@@ -153,21 +194,25 @@ fn is_from(alloc: Global, envelope: &Envelope, node: &Node) -> Result<bool, Allo
 fn words_of(
     rt: &impl Abort,
     alloc: Global,
+    archive: &Archive<VecShelf>,
     node: &Node,
-    outs: &[Out],
-) -> Result<String, AllocError> {
+    outs: &[FiledOut],
+) -> Result<String, AllocError>
+    requires { AreFiledOuts archive.now outs.now }
+{
     let mut text = String::new(alloc);
     text.push_str("ok")?;
     for out in outs {
         match out {
-            Out::ArmNomination(round) => write!(text, " arm-nomination {round}")?,
-            Out::ArmBallot(counter) => write!(text, " arm-ballot {counter}")?,
-            Out::Emit(envelope) => {
+            FiledOut::ArmNomination(round) => write!(text, " arm-nomination {round}")?,
+            FiledOut::ArmBallot(counter) => write!(text, " arm-ballot {counter}")?,
+            FiledOut::Emit(filed) => {
+                let envelope = archive.read(filed);
                 assert!(rt; is_from(alloc, envelope, node)?);
                 text.push_str(" emit ")?;
                 push_statement(&mut text, envelope.body())?;
             }
-            Out::Externalized(value) => {
+            FiledOut::Externalized(value) => {
                 text.push_str(" externalized ")?;
                 push_value(&mut text, value)?;
             }
@@ -181,7 +226,8 @@ fn state_of(alloc: Global, node: &Node) -> Result<String, AllocError> {
     let mut text = String::new(alloc);
     let given = node.given();
     write!(text, "rows {} ", node.table().len())?;
-    write!(text, "round {} fired {} leaders", given.round, given.fired)?;
+    push_slices(&mut text, node.slices())?;
+    write!(text, " round {} fired {} leaders", given.round, given.fired)?;
     for leader in given.leaders.as_slice() {
         text.push(' ')?;
         push_name(&mut text, leader)?;

@@ -158,7 +158,8 @@ pub fn rows_of(alloc: Global, state: &State) -> Result<String, AllocError> {
 pub fn state_of(alloc: Global, state: &State) -> Result<String, AllocError> {
     let mut text = String::new(alloc);
     write!(text, "rows {} ", state.row_count())?;
-    write!(text, "round {} fired {} leaders", state.round, state.fired)?;
+    push_trust(&mut text, state.trust)?;
+    write!(text, " round {} fired {} leaders", state.round, state.fired)?;
     for leader in state.leaders.as_slice() {
         text.push(' ')?;
         text.push_str(letter(*leader))?;

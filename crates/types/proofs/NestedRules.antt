@@ -1,12 +1,12 @@
 -- The tests of slices decide their rules.
-use Rattle.std.proofs.Common.{◌≡◌, ◌≢◌, ℕ, zero, suc, ◌≤◌, true, false, ◌&&◌, not, ◌==◌, leb, ltb, List, [], ◌∷◌, length, get_or, refl, ap, sym, ◌∙◌, eq-eqb, arith}
+use Rattle.std.proofs.Common.{◌≡◌, ◌≢◌, ℕ, zero, suc, ◌≤◌, ◌+◌, max, Bool, true, false, ◌&&◌, not, ◌==◌, leb, ltb, List, [], ◌∷◌, length, get_or, refl, ap, sym, ◌∙◌, eq-eqb, arith}
 use Rattle.std.specs.Prelude.{AllPairs, All}
 use Rattle.std.proofs.lemmas.List.Kept.{AllPairs-cons}
 use Rattle.std.proofs.lemmas.List.Folds.{list_any_at, list_any_none}
 use Rattle.std.specs.List.{AllByRecursion, list_any}
 use Rattle.std.proofs.lemmas.Bool.{false≢true}
 use Rattle.std.proofs.lemmas.Bool.Decides.{nat_tests}
-use Rattle.types.specs.Trees.{Members, none, node, inner, Slices, member_count, names_in, depth_of, most_members, most_levels, most_names, IsName, HasThreshold, HaveThresholds, IsNested, has_threshold, is_shaped, all_differ}
+use Rattle.types.specs.Trees.{Members, none, node, inner, Slices, member_count, names_in, depth_of, most_members, most_levels, most_names, IsName, HasThreshold, HaveThresholds, IsNested, has_levels, has_threshold, is_shaped, all_differ}
 use Rattle.types.specs.Shape.{members_of}
 use Rattle.types.specs.declared.nested.Member.{Member}
 use Rattle.types.specs.declared.nested.Member.TheVariants.{Node, Set}
@@ -79,3 +79,21 @@ nested q h few differ fit =
 pub nested_shape : (q : Slices) → IsNested q → (has_threshold q.threshold q.members && is_shaped most_levels q.members) ≡ true
 nested_shape q h =
     join (has_threshold q.threshold q.members) (is_shaped most_levels q.members) (threshold_test q.threshold q.members h.outer) (shaped_test most_levels q.members h.inner_sets h.levels)
+
+-- ---- levels
+-- the test of levels counts them
+level_and : (a b n : ℕ) → (leb a n && leb b (suc n)) ≡ leb (max (1 + a) b) (suc n)
+level_and a b n = same (leb a n && leb b (suc n)) (leb (max (1 + a) b) (suc n))
+    (λ h. let p = both (leb a n) (leb b (suc n)) h in grind (arith, nat_tests, p.0, p.1))
+    (λ h. join (leb a n) (leb b (suc n)) (grind (arith, nat_tests, h)) (grind (arith, nat_tests, h)))
+  where
+    same : (x y : Bool) → (x ≡ true → y ≡ true) → (y ≡ true → x ≡ true) → x ≡ y
+    same true y f g = sym (f refl)
+    same false true f g = g refl
+    same false false f g = refl
+
+pub levels_counted : (levels : ℕ) (ms : Members) → has_levels levels ms ≡ leb (depth_of ms) levels
+levels_counted levels none = grind (arith, nat_tests)
+levels_counted levels (node u rest) = levels_counted levels rest
+levels_counted zero (inner k own rest) = grind (arith, nat_tests)
+levels_counted (suc levels) (inner k own rest) = rw (levels_counted levels own, levels_counted (suc levels) rest) (level_and (depth_of own) (depth_of rest) levels)

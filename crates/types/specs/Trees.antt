@@ -48,7 +48,7 @@ most_names = 256
 
 -- of inner sets
 abbrev pub most_levels : ℕ
-most_levels = 2
+most_levels = 8
 
 -- ---- the rules
 -- a name is a number of 32 bytes
@@ -65,7 +65,7 @@ HaveThresholds none = Unit {0}
 HaveThresholds (node u rest) = HaveThresholds rest
 HaveThresholds (inner k own rest) = HasThreshold k own × HaveThresholds own × HaveThresholds rest
 
--- at each level at most 64 members and a threshold within them, two inner levels, 256 names, and no name twice
+-- at each level at most 64 members and a threshold within them, eight inner levels, 256 names, and no name twice
 pub record IsNested (q : Slices) : Type 0 where
   pub outer : HasThreshold q.threshold q.members
   pub inner_sets : HaveThresholds q.members
@@ -135,6 +135,13 @@ is_shaped levels none = true
 is_shaped levels (node u rest) = is_shaped levels rest
 is_shaped zero (inner k own rest) = false
 is_shaped (suc levels) (inner k own rest) = has_threshold k own && (is_shaped levels own && is_shaped (suc levels) rest)
+
+-- no more levels of inner sets than so many
+abbrev pub has_levels : ℕ → Members → Bool
+has_levels levels none = true
+has_levels levels (node u rest) = has_levels levels rest
+has_levels zero (inner k own rest) = false
+has_levels (suc levels) (inner k own rest) = has_levels levels own && has_levels (suc levels) rest
 
 -- no name stands twice
 abbrev pub all_differ : List ℕ → Bool

@@ -3,6 +3,7 @@
 use crate::bytes::Bytes;
 use crate::envelope::Envelope;
 use crate::kind::Kind;
+use crate::nested::Nested;
 use crate::node_id::NodeId;
 use crate::value::Value;
 
@@ -17,6 +18,8 @@ pub enum NodeEvent {
     NominationTimer(u32),
     /// The ballot timer that was armed for this counter fires.
     BallotTimer(u32),
+    /// From now on these are its configured slices.
+    Reslice(Nested),
 }
 
 /// What one node at one slot gives out.
@@ -75,6 +78,12 @@ pub enum Event {
         node: NodeId,
         counter: u32,
     },
+    /// From now on, until the slot is closed, these are a hosted node's configured slices there.
+    Reslice {
+        slot: u64,
+        node: NodeId,
+        slices: Nested,
+    },
 }
 
 /// Why a network refuses an event (this host's profile). A refused event changes nothing.
@@ -96,12 +105,16 @@ pub enum Refusal {
     HostedSender,
     /// The node has no such emission.
     NotEmitted,
-    /// The journal has as many events as the budget has.
+    /// As many events have drawn on the budget of events as it has.
     JournalFull,
-    /// The delivered bytes would exceed the budget.
+    /// The delivered bytes that draw on the budget of bytes would exceed it.
     BytesFull,
     /// A value has 1 to 256 bytes.
     BadValue,
     /// The node has a proposal already.
     ProposedAlready,
+    /// The events that are reserved for the step are used up.
+    ShareFull,
+    /// The delivered bytes would exceed those that are reserved for the step.
+    ShareBytesFull,
 }

@@ -1,8 +1,8 @@
 //! Slices: a threshold over names and inner sets.
 
-ghost use Rattle.std.specs.Prelude.{◌≡◌, ◌++◌, ◌&&◌, ◌==◌, IfOk, OnErr, OnOk, IfSome, IsSome, IsTrue, ◌↔◌, length, take};
+ghost use Rattle.std.specs.Prelude.{◌≡◌, ◌++◌, ◌&&◌, ◌==◌, IfOk, OnErr, OnOk, IfSome, IsSome, IsTrue, ◌↔◌, length, nat_le, take};
 ghost use Rattle.std.specs.List.{AllByRecursion, list_any};
-ghost use Rattle.types.specs.Trees.{Slices, names_in, IsName, IsNested, has_threshold, is_shaped, all_differ};
+ghost use Rattle.types.specs.Trees.{Slices, depth_of, names_in, IsName, IsNested, has_levels, has_threshold, is_shaped, all_differ};
 ghost use Rattle.types.specs.Shape.{members_of};
 
 use crate::node_id::NodeId;
@@ -16,7 +16,7 @@ pub const MAX_MEMBERS: usize = 64;
 pub const MAX_NAMES: usize = 256;
 
 /// The most levels of inner sets below the outermost one (this host's profile).
-pub const MAX_INNER_LEVELS: usize = 2;
+pub const MAX_INNER_LEVELS: usize = 8;
 
 /// One level of slices: a threshold over its members.
 #[cycle(slices)]
@@ -90,6 +90,21 @@ fn keeps_shape(set: &SliceSet, levels: usize) -> bool
     for member in members {
         if let Member::Set(inner) = member {
             if levels == 0 || !keeps_shape(inner, levels - 1) {
+                return false;
+            }
+        }
+    }
+    true
+}
+
+/// Whether there are no more levels of inner sets than so many.
+fn has_levels(set: &SliceSet, levels: usize) -> bool
+    ensures { result ≡ has_levels levels set.now.members }
+{
+    let members = set.members();
+    for member in members {
+        if let Member::Set(inner) = member {
+            if levels == 0 || !has_levels(inner, levels - 1) {
                 return false;
             }
         }
@@ -181,7 +196,7 @@ fn are_same(members: &[Member], others: &[Member]) -> bool
 }
 
 /// Slices that keep the rules: at each level at most 64 members and a threshold of one to all of
-/// them, at most two levels of inner sets, at most 256 names, and no name twice in the tree (this
+/// them, at most eight levels of inner sets, at most 256 names, and no name twice in the tree (this
 /// host's profile of the nested slices of the Stellar Consensus Protocol draft).
 #[derive(Drop)]
 pub struct Nested {
@@ -243,6 +258,14 @@ impl Nested {
     {
         self.set.threshold() == other.set.threshold()
             && are_same(self.set.members(), other.set.members())
+    }
+
+    /// Whether there are no more levels of inner sets than so many.
+    #[tactic(auto, using(crate::proofs::NestedRules::levels_counted))]
+    pub fn has_levels(&self, levels: usize) -> bool
+        ensures { result ≡ nat_le (depth_of self.now.members) levels }
+    {
+        has_levels(&self.set, levels)
     }
 
     /// The outermost set.

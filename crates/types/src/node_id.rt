@@ -9,7 +9,7 @@ use std::marker::Model;
 ///
 /// Contracts see a name as the number that its bytes spell, the first byte counting most. The order
 /// of the numbers is the order of the bytes.
-#[derive(Clone, Copy, Debug, PartialEq, Eq, PartialOrd, Ord)]
+#[derive(Clone, Copy, Debug, PartialEq, Eq, Hash, PartialOrd, Ord)]
 pub struct NodeId {
     high: u128,
     low: u128,

@@ -4,3 +4,5 @@ pub mod Sightings
 pub mod SameRows
 pub mod FoundRows
 pub mod Keeping
+pub mod RegionLaws
+pub mod FirstRowLaws

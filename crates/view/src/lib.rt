@@ -1,16 +1,18 @@
 //! What a node sees of its table at one moment: the rows of those whom it reaches, the statements in them,
 //! and the two tests of federated voting by them (the Stellar Consensus Protocol draft, of federated voting).
 //!
-//! A [`View`] borrows the table and the reach, and is made once an event: the rules ask it often, and both
-//! stay as they are meanwhile.
+//! A [`View`] borrows the table and a [`Region`], and is made once an event: the rules ask it often, and
+//! both stay as they are meanwhile.
 #![tactic(auto)]
 
 mod passing;
 mod reached;
+mod region;
 mod rows;
 mod searching;
 mod seeing;
 #[cfg(test)]
 mod tests;
 
+pub use region::{Region, first_rows_law};
 pub use seeing::View;

@@ -1,70 +1,54 @@
-//! Who passes a question, and who has which slices, by the rows of one kind.
+//! Who passes a question, by the rows of one kind.
 
-ghost use Rattle.std.specs.Prelude.{◌≡◌};
-ghost use Rattle.protocol.specs.Backing.{passing, slices_by};
+ghost use Rattle.std.specs.Prelude.{◌≡◌, ◌<◌, ℕ, IfOk, get_or, length};
+ghost use Rattle.compiled.specs.Met.{one_where};
+ghost use Rattle.compiled.specs.Places.{bit_of};
 ghost use Rattle.protocol.specs.Views.{passing_with};
 ghost use Rattle.fedvote.specs.Questions.{asks};
 
 use crate::reached::ReachedRows;
-use fedvote::{Question, Voters};
-use quorum::SlicesOf;
-use types::{Nested, NodeId};
+use compiled::{add_place, no_places};
+use envstore::Places;
+use fedvote::Question;
+use std::alloc::{AllocError, Global};
+use types::NodeId;
 
-/// The slices that a node knows of: its own, which are configured, and those of the rows of one kind.
-#[derive(Drop)]
-pub(crate) struct KnownSlices<'a> {
-    pub(crate) own: &'a NodeId,
-    pub(crate) configured: &'a Nested,
-    pub(crate) rows: &'a ReachedRows<'a>,
-}
-
-impl<'a> SlicesOf for KnownSlices<'a> {
-    type Family = Nested;
-
-    ghost slices_at = { λ s. slices_by s.own.now s.configured.now s.rows.now.table s.rows.now.kind };
-
-    fn slices(&self, node: &NodeId) -> Option<&Nested> {
-        if *self.own == *node {
-            return Some(self.configured);
-        }
-        match self.rows.row(node) {
-            Some(row) => Some(row.slices()),
-            None => None,
-        }
-    }
-}
-
-/// Those who pass a question: the node itself where its position does, another where its row does.
-#[derive(Drop)]
-pub(crate) struct Passing<'a> {
-    pub(crate) own: &'a NodeId,
-    pub(crate) own_passes: bool,
-    pub(crate) rows: &'a ReachedRows<'a>,
-    pub(crate) question: &'a Question,
-}
-
-impl<'a> Voters for Passing<'a> {
-    ghost backing = { λ s. passing_with s.own.now s.rows.now.table s.rows.now.kind s.own_passes (asks s.question.now) };
-
-    ghost accepting = { λ s. passing_with s.own.now s.rows.now.table s.rows.now.kind s.own_passes (asks s.question.now) };
-
-    fn votes_or_accepts(&self, node: &NodeId) -> bool {
-        self.accepts(node)
-    }
-
-    fn accepts(&self, node: &NodeId) -> bool {
-        if *self.own == *node {
-            return self.own_passes;
-        }
-        row_passes(self.rows, node, self.question)
-    }
-}
-
-/// Whether the node's row passes; a node without one supports nothing.
-fn row_passes(rows: &ReachedRows<'_>, node: &NodeId, question: &Question) -> bool
-    ensures { result ≡ passing rows.now.table rows.now.kind (asks question.now) node.now }
+/// Those of the reached nodes who pass a question, as places: the node itself where its position does,
+/// another where its row does. An error says that memory is short.
+pub(crate) fn supporters<S: Places>(
+    alloc: Global,
+    own: &NodeId,
+    own_passes: bool,
+    rows: &ReachedRows<'_, S>,
+    question: &Question,
+) -> Result<Vec<u64>, AllocError>
+    ensures { IfOk result (λ v. (i : ℕ) → i < length rows.now.nodes → bit_of v.items i ≡ one_where (passing_with own.now rows.now.table rows.now.kind own_passes (asks question.now) (get_or rows.now.nodes i 0))) }
 {
-    match rows.row(node) {
+    let nodes = rows.nodes();
+    let mut places = no_places(alloc, nodes.len())?;
+    for place in 0..nodes.len() {
+        if passes_at(own, own_passes, rows, question, place) {
+            add_place(&mut places, place);
+        }
+    }
+    Ok(places)
+}
+
+/// Whether the node at a place passes.
+fn passes_at<S: Places>(
+    own: &NodeId,
+    own_passes: bool,
+    rows: &ReachedRows<'_, S>,
+    question: &Question,
+    place: usize,
+) -> bool
+    requires { place < length rows.now.nodes }
+    ensures { result ≡ passing_with own.now rows.now.table rows.now.kind own_passes (asks question.now) (get_or rows.now.nodes place 0) }
+{
+    if *own == rows.nodes()[place] {
+        return own_passes;
+    }
+    match rows.row_at(place) {
         Some(row) => question.asks(row.body()),
         None => false,
     }

@@ -1,28 +1,29 @@
 //! The rows of one kind that the reached nodes have, at hand for many look-ups.
 
-ghost use Rattle.std.specs.Prelude.{◌≡◌, ◌<◌, ℕ, IfOk, IfSome, get_or, length, map, option_map};
+ghost use Rattle.std.specs.Prelude.{◌≡◌, ◌<◌, IfOk, get_or, length, map, option_map};
 ghost use Rattle.protocol.specs.Rows.{row};
 ghost use Rattle.view.specs.Watching.{rows_of_others};
 
 use crate::rows::{rows_of, statements_of_others};
-use latest::Table;
+use envstore::Places;
+use latest::Rows;
 use std::alloc::{AllocError, Global};
 use std::marker::Model;
 use types::{Envelope, Kind, NodeId, Statement};
 
 /// The rows of one kind that the reached nodes have in a table, each looked up once.
 ///
-/// A later look-up of a reached node's row searches the reach, and so costs the same however many rows of
-/// strangers the table holds. Contracts see the nodes, the table and the kind.
+/// A later look-up is by a node's place among them, and so costs the same however many rows of strangers the
+/// table holds. Contracts see the nodes, the table and the kind.
 #[derive(Drop)]
-pub(crate) struct ReachedRows<'a> {
+pub(crate) struct ReachedRows<'a, S: Places> {
     nodes: &'a [NodeId],
     rows: Vec<Option<&'a Envelope>>,
-    table: &'a Table,
+    table: &'a Rows<'a, S>,
     kind: Kind,
 }
 
-impl<'a> Model for ReachedRows<'a> {
+impl<'a, S: Places> Model for ReachedRows<'a, S> {
     ghost use Rattle.std.specs.Coded.{codes};
     ghost use Rattle.std.specs.Prelude.{◌≡◌, map, option_map};
     ghost use Rattle.types.specs.Trees.{members_code};
@@ -37,14 +38,14 @@ impl<'a> Model for ReachedRows<'a> {
     ghost invariant = { λ a. map (λ o. option_map (λ r. r.now) o) a.rows.items ≡ rows_at a.kind a.table.now a.nodes.now };
 }
 
-impl<'a> ReachedRows<'a> {
+impl<'a, S: Places> ReachedRows<'a, S> {
     /// The rows of a kind that the nodes have in the table. An error says that memory is short.
     pub(crate) fn of(
         alloc: Global,
         nodes: &'a [NodeId],
-        table: &'a Table,
+        table: &'a Rows<'a, S>,
         kind: Kind,
-    ) -> Result<ReachedRows<'a>, AllocError>
+    ) -> Result<ReachedRows<'a, S>, AllocError>
         ensures { IfOk result (λ r. r ≡ record { nodes = nodes.now; table = table.now; kind = kind }) }
     {
         let rows = rows_of(alloc, nodes, table, kind)?;
@@ -56,18 +57,15 @@ impl<'a> ReachedRows<'a> {
         })
     }
 
-    /// The row of any node: that of a reached one is at hand, another's is looked up in the table.
-    pub(crate) fn row(&self, node: &NodeId) -> Option<&Envelope>
-        ensures { option_map (λ r. r.now) result ≡ row self.now.table node.now self.now.kind }
+    /// The reached nodes.
+    pub(crate) fn nodes(&self) -> &[NodeId]
+        ensures { result.now ≡ self.now.nodes }
     {
-        match place_among(self.nodes, node) {
-            Some(place) => self.row_at(place),
-            None => self.table.row(node, self.kind),
-        }
+        self.nodes
     }
 
     /// The row of the node at this place among the reached ones.
-    fn row_at(&self, place: usize) -> Option<&Envelope>
+    pub(crate) fn row_at(&self, place: usize) -> Option<&Envelope>
         requires { place < length self.now.nodes }
         ensures { option_map (λ r. r.now) result ≡ row self.now.table (get_or self.now.nodes place 0) self.now.kind }
     {
@@ -85,11 +83,4 @@ impl<'a> ReachedRows<'a> {
     {
         statements_of_others(alloc, own, &self.rows)
     }
-}
-
-/// The place at which a binary search finds a node, if it does.
-fn place_among(nodes: &[NodeId], node: &NodeId) -> Option<usize>
-    ensures { IfSome result (λ i. (i < length nodes.now) × (get_or nodes.now i 0 ≡ node.now)) }
-{
-    nodes.binary_search(node).ok()
 }

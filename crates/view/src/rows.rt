@@ -1,19 +1,19 @@
 //! What the rows of a table say: their statements, and the values in their nominations.
 
-ghost use Rattle.std.specs.Prelude.{◌≡◌, IfOk, OnOk, filter_map, map, option_map, true};
+ghost use Rattle.std.specs.Prelude.{◌≡◌, IfOk, OnOk, filter_map, map, option_map};
 ghost use Rattle.protocol.specs.Candidates.{all_with, values_by};
-ghost use Rattle.protocol.specs.Rows.{has_single_rows};
 ghost use Rattle.view.specs.Watching.{rows_at, rows_by, said_by_another, statements_in, values_in};
 
-use latest::Table;
+use envstore::Places;
+use latest::Rows;
 use std::alloc::{AllocError, Global};
 use types::{Envelope, Kind, NodeId, Statement, Value, Values};
 
 /// The rows of a kind that the nodes have, in the order of the nodes: nothing for a node without one.
-pub(crate) fn rows_of<'a>(
+pub(crate) fn rows_of<'a, S: Places>(
     alloc: Global,
     nodes: &[NodeId],
-    table: &'a Table,
+    table: &'a Rows<'a, S>,
     kind: Kind,
 ) -> Result<Vec<Option<&'a Envelope>>, AllocError>
     ensures { IfOk result (λ v. map (λ o. option_map (λ r. r.now) o) v.items ≡ rows_at kind table.now nodes.now) }
@@ -75,24 +75,16 @@ fn said_by_another<'a>(own: &NodeId, row: Option<&'a Envelope>) -> Option<&'a St
 }
 
 /// The statements in the rows of a kind that the nodes have, in the order of the nodes.
-pub(crate) fn statements_of<'a>(
+pub(crate) fn statements_of<'a, S: Places>(
     alloc: Global,
     nodes: &[NodeId],
-    table: &'a Table,
+    table: &'a Rows<'a, S>,
     kind: Kind,
 ) -> Result<Vec<&'a Statement>, AllocError>
     ensures { IfOk result (λ v. map (λ s. s.now) v.items ≡ rows_by kind table.now nodes.now) }
 {
     let rows = rows_of(alloc, nodes, table, kind)?;
     statements_in(alloc, &rows)
-}
-
-/// A table has at most one row of each sender and kind: whoever looks up a sender's row has seen all its
-/// rows of that kind.
-pub(crate) fn has_one_row_of_each_kind(table: &Table)
-    ensures { has_single_rows table.now ≡ true }
-{
-    table.rows();
 }
 
 /// The values in these statements of nominations, ascending.

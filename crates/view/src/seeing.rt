@@ -4,16 +4,21 @@ ghost use Rattle.std.specs.Prelude.{◌≡◌, IfOk, map, true};
 ghost use Rattle.types.specs.declared.kind.Kind.{Kind};
 ghost use Rattle.protocol.specs.Rows.{has_single_rows};
 ghost use Rattle.protocol.specs.Views.{led_by, rows_seen, seen};
-ghost use Rattle.protocol.specs.Reach.{IsReach};
+ghost use Rattle.protocol.specs.Backing.{slices_by};
+ghost use Rattle.compiled.specs.Searching.{AreCompiled};
+ghost use Rattle.view.specs.Regions.{IsRegion};
 ghost use Rattle.view.specs.Watching.{rows_of_others, values_in};
 ghost use Rattle.fedvote.proofs.Honesty.{seen_honest};
 
-use crate::passing::{KnownSlices, Passing};
+use crate::passing::supporters;
 use crate::reached::ReachedRows;
-use crate::rows::{has_one_row_of_each_kind, statements_of, values_in};
+use crate::region::Region;
+use crate::rows::{statements_of, values_in};
 use crate::searching::{next_committed, next_counter, next_named};
-use fedvote::{Question, Sight, confirms, is_blocked};
-use latest::Table;
+use compiled::{CompiledSet, in_quorum, is_met};
+use envstore::Places;
+use fedvote::{Question, Sight};
+use latest::Rows;
 use std::alloc::{AllocError, Global};
 use types::{Ballot, Kind, Leaders, Nested, NodeId, Statement, Values};
 
@@ -25,27 +30,27 @@ use types::{Ballot, Kind, Leaders, Nested, NodeId, Statement, Values};
 /// and both tests find them by the node's place in the reach. The reach is its owner's, who keeps it from
 /// event to event.
 #[derive(Drop)]
-pub struct View<'a> {
+pub struct View<'a, S: Places> {
     own: &'a NodeId,
     slices: &'a Nested,
     leaders: &'a Leaders,
-    table: &'a Table,
-    reach: &'a [NodeId],
-    ballot_rows: ReachedRows<'a>,
-    nomination_rows: ReachedRows<'a>,
+    table: &'a Rows<'a, S>,
+    region: &'a Region,
+    ballot_rows: ReachedRows<'a, S>,
+    nomination_rows: ReachedRows<'a, S>,
     ballots: Vec<&'a Statement>,
     nominated: Values,
     led: Values,
-    ghost reached: { IsReach own.now slices.now table.now reach.now },
+    ghost known: { IsRegion own.now slices.now table.now region.now },
     ghost single: { has_single_rows table.now ≡ true },
-    ghost ballots_kept: { ballot_rows ≡ record { nodes = reach.now; table = table.now; kind = Kind.Ballot } },
-    ghost nominations_kept: { nomination_rows ≡ record { nodes = reach.now; table = table.now; kind = Kind.Nomination } },
-    ghost ballots_found: { map (λ s. s.now) ballots.items ≡ rows_of_others own.now Kind.Ballot table.now reach.now },
+    ghost ballots_kept: { ballot_rows ≡ record { nodes = region.now.nodes.items; table = table.now; kind = Kind.Ballot } },
+    ghost nominations_kept: { nomination_rows ≡ record { nodes = region.now.nodes.items; table = table.now; kind = Kind.Nomination } },
+    ghost ballots_found: { map (λ s. s.now) ballots.items ≡ rows_of_others own.now Kind.Ballot table.now region.now.nodes.items },
     ghost nominated_seen: { nominated ≡ values_in (rows_seen own.now slices.now table.now Kind.Nomination) },
     ghost led_seen: { led ≡ values_in (led_by leaders.now table.now) },
 }
 
-impl<'a> View<'a> {
+impl<'a, S: Places> View<'a, S> {
     /// What the node sees of the table now, by the nodes that it reaches now. An error says that memory is
     /// short.
     pub fn of(
@@ -53,15 +58,15 @@ impl<'a> View<'a> {
         own: &'a NodeId,
         slices: &'a Nested,
         leaders: &'a Leaders,
-        table: &'a Table,
-        reach: &'a [NodeId],
-    ) -> Result<View<'a>, AllocError>
-        requires { IsReach own.now slices.now table.now reach.now }
-        ensures { IfOk result (λ v. ⟦<View<'a> as Sight>⟧.seen v ≡ seen own.now slices.now leaders.now table.now) }
+        table: &'a Rows<'a, S>,
+        region: &'a Region,
+    ) -> Result<View<'a, S>, AllocError>
+        requires { IsRegion own.now slices.now table.now region.now }
+        ensures { IfOk result (λ v. ⟦<View<'a, S> as Sight>⟧.seen v ≡ seen own.now slices.now leaders.now table.now) }
     {
-        has_one_row_of_each_kind(table);
-        let ballot_rows = ReachedRows::of(alloc, reach, table, Kind::Ballot)?;
-        let nomination_rows = ReachedRows::of(alloc, reach, table, Kind::Nomination)?;
+        table.are_single();
+        let ballot_rows = ReachedRows::of(alloc, &region.nodes, table, Kind::Ballot)?;
+        let nomination_rows = ReachedRows::of(alloc, &region.nodes, table, Kind::Nomination)?;
         let ballots = ballot_rows.statements_of_others(alloc, own)?;
         let nominations = nomination_rows.statements_of_others(alloc, own)?;
         let nominated = values_in(alloc, &nominations)?;
@@ -72,7 +77,7 @@ impl<'a> View<'a> {
             slices,
             leaders,
             table,
-            reach,
+            region,
             ballot_rows,
             nomination_rows,
             ballots,
@@ -82,17 +87,27 @@ impl<'a> View<'a> {
     }
 
     /// The rows of a kind.
-    fn rows(&self, kind: Kind) -> &ReachedRows<'a>
-        ensures { result.now ≡ record { nodes = self.now.reach.now; table = self.now.table.now; kind = kind } }
+    fn rows(&self, kind: Kind) -> &ReachedRows<'a, S>
+        ensures { result.now ≡ record { nodes = self.now.region.now.nodes.items; table = self.now.table.now; kind = kind } }
     {
         match kind {
             Kind::Nomination => &self.nomination_rows,
             Kind::Ballot => &self.ballot_rows,
         }
     }
+
+    /// The compiled slices of a kind.
+    fn compiled(&self, kind: Kind) -> &[Option<CompiledSet>]
+        ensures { AreCompiled self.now.region.now.nodes.items (slices_by self.now.own.now self.now.slices.now self.now.table.now kind) result.now }
+    {
+        match kind {
+            Kind::Nomination => &self.region.nominations,
+            Kind::Ballot => &self.region.ballots,
+        }
+    }
 }
 
-impl<'a> Sight for View<'a> {
+impl<'a, S: Places> Sight for View<'a, S> {
     ghost seen = { λ v. seen v.own.now v.slices.now v.leaders.now v.table.now };
 
     fn quorum(
@@ -106,18 +121,9 @@ impl<'a> Sight for View<'a> {
             return Ok(false);
         }
         let rows = self.rows(kind);
-        let known = KnownSlices {
-            own: self.own,
-            configured: self.slices,
-            rows,
-        };
-        let passing = Passing {
-            own: self.own,
-            own_passes,
-            rows,
-            question,
-        };
-        confirms(alloc, self.own, &known, &passing, self.reach)
+        let mut places = supporters(alloc, self.own, own_passes, rows, question)?;
+        let compiled = self.compiled(kind);
+        Ok(in_quorum(&mut places, self.region.place, compiled))
     }
 
     fn blocking(
@@ -128,13 +134,8 @@ impl<'a> Sight for View<'a> {
         question: &Question,
     ) -> Result<bool, AllocError> {
         let rows = self.rows(kind);
-        let passing = Passing {
-            own: self.own,
-            own_passes,
-            rows,
-            question,
-        };
-        is_blocked(alloc, self.slices, &passing)
+        let places = supporters(alloc, self.own, own_passes, rows, question)?;
+        Ok(is_met(&self.region.blocking, &places))
     }
 
     fn nominated_values(&self) -> &Values {

@@ -1,11 +1,13 @@
 //! A node's view of a small table with a stranger's rows and its own in it.
 
-use crate::View;
 use crate::reached::ReachedRows;
+use crate::{Region, View};
 use closure::reach;
+use envstore::{Archive, VecShelf};
 use fedvote::{Question, Sight};
-use latest::{Offer, Table};
+use latest::{Offer, Rows, Table};
 use std::alloc::{AllocError, Global};
+use std::marker::Model;
 use std::process::Abort;
 use std::test::Fail;
 use types::{
@@ -15,6 +17,47 @@ use types::{
 const OWN: u64 = 1;
 
 const STRANGER: u64 = 9;
+
+/// A table, and the archive of its rows.
+#[derive(Drop)]
+struct Kept {
+    archive: Archive<VecShelf>,
+    table: Table,
+}
+
+impl Model for Kept {
+    ghost use Rattle.std.specs.Coded.{codes};
+    ghost use Rattle.std.specs.Prelude.{List};
+    ghost use Rattle.envstore.specs.Archives.{AreFiled};
+    ghost use Rattle.envstore.specs.declared.filed.Filed.{Filed};
+    ghost use Rattle.types.specs.Trees.{members_code};
+
+    ghost Value = { List Filed };
+
+    ghost coded = { Prim.hlevel (codes, members_code) };
+
+    ghost view = { λ a. a.table };
+
+    ghost invariant = { λ a. AreFiled a.archive a.table };
+}
+
+impl Kept {
+    fn new(alloc: Global) -> Kept {
+        Kept {
+            archive: Archive::new(alloc, VecShelf::new(alloc)),
+            table: Table::new(alloc),
+        }
+    }
+
+    fn offer(&mut self, envelope: Envelope) -> Result<Offer, Fail> {
+        let filed = self.archive.put(envelope)?;
+        Ok(self.table.offer(&self.archive, filed))
+    }
+
+    fn rows(&self) -> Rows<'_, VecShelf> {
+        Rows::of(&self.table, &self.archive)
+    }
+}
 
 fn name(number: u64) -> NodeId {
     NodeId::from_words(0, 0, 0, number)
@@ -55,7 +98,7 @@ fn values(alloc: Global, letters: &[u8]) -> Result<Values, Fail> {
 fn offer(
     rt: &impl Abort,
     alloc: Global,
-    table: &mut Table,
+    table: &mut Kept,
     sender: u64,
     counter: u32,
     letter: u8,
@@ -74,13 +117,13 @@ fn offer(
     for body in [nominate, prepare] {
         let slices = announced(alloc, sender)?;
         let envelope = Envelope::new(name(sender), 1, slices, body).ok_or("statement")?;
-        assert_eq!(rt; table.offer(envelope), Offer::Replaced);
+        assert_eq!(rt; table.offer(envelope)?, Offer::Replaced);
     }
     Ok(())
 }
 
-fn small_table(rt: &impl Abort, alloc: Global) -> Result<Table, Fail> {
-    let mut table = Table::new(alloc);
+fn small_table(rt: &impl Abort, alloc: Global) -> Result<Kept, Fail> {
+    let mut table = Kept::new(alloc);
     offer(rt, alloc, &mut table, STRANGER, 8, b'z')?;
     offer(rt, alloc, &mut table, 3, 5, b'b')?;
     offer(rt, alloc, &mut table, 2, 3, b'a')?;
@@ -91,11 +134,12 @@ fn small_table(rt: &impl Abort, alloc: Global) -> Result<Table, Fail> {
 #[test]
 fn searches_see_neither_strangers_nor_the_node_itself(rt: HostRuntime) -> Result<(), Fail> {
     let alloc = rt.alloc();
-    let table = small_table(&rt, alloc)?;
+    let kept = small_table(&rt, alloc)?;
+    let table = kept.rows();
     let (own, slices) = (name(OWN), announced(alloc, OWN)?);
     let leaders = Leaders::none(alloc);
-    let reached = reach(alloc, &table, &own, &slices)?;
-    let view = View::of(alloc, &own, &slices, &leaders, &table, &reached)?;
+    let region = Region::of(alloc, &own, &slices, &table)?;
+    let view = View::of(alloc, &own, &slices, &leaders, &table, &region)?;
     assert_eq!(rt; view.next_named(None), Some(ballot(5, b'b')?));
     assert_eq!(rt;
         view.next_named(Some(ballot(5, b'b')?)),
@@ -116,14 +160,15 @@ fn searches_see_neither_strangers_nor_the_node_itself(rt: HostRuntime) -> Result
 #[test]
 fn values_of_leaders_count_where_they_are_strangers(rt: HostRuntime) -> Result<(), Fail> {
     let alloc = rt.alloc();
-    let table = small_table(&rt, alloc)?;
+    let kept = small_table(&rt, alloc)?;
+    let table = kept.rows();
     let (own, slices) = (name(OWN), announced(alloc, OWN)?);
     let mut leaders = Leaders::none(alloc);
     for leader in [STRANGER, 2, STRANGER, 7] {
         leaders.push(name(leader))?;
     }
-    let reached = reach(alloc, &table, &own, &slices)?;
-    let view = View::of(alloc, &own, &slices, &leaders, &table, &reached)?;
+    let region = Region::of(alloc, &own, &slices, &table)?;
+    let view = View::of(alloc, &own, &slices, &leaders, &table, &region)?;
     assert!(rt;
         view.nominated_values()
             .is_same(&values(alloc, &[b'a', b'b'])?)
@@ -132,9 +177,9 @@ fn values_of_leaders_count_where_they_are_strangers(rt: HostRuntime) -> Result<(
     Ok(())
 }
 
-/// The counter of the node's PREPARE, if it has one.
-fn counter_at(rows: &ReachedRows<'_>, number: u64) -> Option<u32> {
-    let Some(row) = rows.row(&name(number)) else {
+/// The counter of a row's PREPARE, if it is one.
+fn counter_in(row: Option<&Envelope>) -> Option<u32> {
+    let Some(row) = row else {
         return None;
     };
     match row.body() {
@@ -143,16 +188,27 @@ fn counter_at(rows: &ReachedRows<'_>, number: u64) -> Option<u32> {
     }
 }
 
+/// The counter of the PREPARE of a reached node, if it has one.
+fn counter_at(rows: &ReachedRows<'_, VecShelf>, number: u64) -> Option<u32> {
+    for (place, node) in rows.nodes().iter().enumerate() {
+        if *node == name(number) {
+            return counter_in(rows.row_at(place));
+        }
+    }
+    None
+}
+
 #[test]
 fn each_node_has_its_own_row(rt: HostRuntime) -> Result<(), Fail> {
     let alloc = rt.alloc();
-    let table = small_table(&rt, alloc)?;
+    let kept = small_table(&rt, alloc)?;
+    let table = kept.rows();
     let reached = reach(alloc, &table, &name(OWN), &announced(alloc, OWN)?)?;
     let rows = ReachedRows::of(alloc, &reached, &table, Kind::Ballot)?;
     assert_eq!(rt; counter_at(&rows, OWN), Some(7));
     assert_eq!(rt; counter_at(&rows, 2), Some(3));
     assert_eq!(rt; counter_at(&rows, 3), Some(5));
-    assert_eq!(rt; counter_at(&rows, STRANGER), Some(8));
+    assert_eq!(rt; counter_at(&rows, STRANGER), None);
     Ok(())
 }
 
@@ -172,11 +228,12 @@ fn asked<S: Sight>(
 #[test]
 fn both_tests_count_the_own_position(rt: HostRuntime) -> Result<(), Fail> {
     let alloc = rt.alloc();
-    let table = small_table(&rt, alloc)?;
+    let kept = small_table(&rt, alloc)?;
+    let table = kept.rows();
     let (own, slices) = (name(OWN), announced(alloc, OWN)?);
     let leaders = Leaders::none(alloc);
-    let reached = reach(alloc, &table, &own, &slices)?;
-    let view = View::of(alloc, &own, &slices, &leaders, &table, &reached)?;
+    let region = Region::of(alloc, &own, &slices, &table)?;
+    let view = View::of(alloc, &own, &slices, &leaders, &table, &region)?;
     assert_eq!(rt; asked(alloc, &view, 3, true)?, (true, true));
     assert_eq!(rt; asked(alloc, &view, 4, true)?, (true, true));
     assert_eq!(rt; asked(alloc, &view, 6, true)?, (false, false));

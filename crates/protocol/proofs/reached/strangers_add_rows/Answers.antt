@@ -1,11 +1,11 @@
-use Rattle.protocol.proofs.StrangerLaws.{held_is_closed, leaders_are_near, reach_is_closed, outsiders_add_rows, strangers_add_rows}
+use Rattle.protocol.proofs.StrangerLaws.{held_is_closed, leaders_are_near, outsiders_add_rows, outsiders_are_quiet, strangers_add_rows}
 use Rattle.protocol.proofs.reached.strangers_add_rows.Goals as goal
 
 pub returns-clause-leaders : goal.returns-clause-leaders
 returns-clause-leaders c = leaders_are_near
 
-pub returns-clause-closed : goal.returns-clause-closed
-returns-clause-closed c = reach_is_closed
+pub returns-clause-quiet : goal.returns-clause-quiet
+returns-clause-quiet c = outsiders_are_quiet
 
 pub returns-clause-outsiders : goal.returns-clause-outsiders
 returns-clause-outsiders c = outsiders_add_rows

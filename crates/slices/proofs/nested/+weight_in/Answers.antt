@@ -40,5 +40,5 @@ returns-in-Some-clause-value t c =
 pub returns-in-Some-clause-fits : goal.returns-in-Some-clause-fits
 returns-in-Some-clause-fits t c =
     let value : ◌≡◌ {A = Option Fraction} (Some c.part.result) (share_of c.args.set.now c.args.node.now) = returns-in-Some-clause-value t c in
-    subst (λ (o : Option Fraction). IfSome o (λ w. (w.numerator ≤ 64 ^ 3) × (w.denominator ≤ 64 ^ 3))) (sym value)
+    subst (λ (o : Option Fraction). IfSome o (λ w. (w.numerator ≤ 64 ^ 9) × (w.denominator ≤ 64 ^ 9))) (sym value)
     (share_of_within c.args.set.now c.args.node.now c.requires.threshold c.requires.inner_sets c.requires.levels)

@@ -15,7 +15,7 @@ after_offer own configured table e us without with_it = go (is_taken table e)
     go false = without
 
 pub returns-in-Some : goal.returns-in-Some
-returns-in-Some c = λ h own configured.
+returns-in-Some g c = λ h own configured.
     let t = c.args.table.now in
     let e = c.args.envelope.now in
     let stays = c.keeps_reach.ensures.stays h own configured in

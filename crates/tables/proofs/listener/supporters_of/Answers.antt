@@ -8,7 +8,7 @@ use Rattle.tables.proofs.listener.supporters_of.Goals as goal
 use Rattle.tables.proofs.listener.supporters_of.Goals.{in-Some+in_ok-push_backing, in_default}
 
 pub loop-place-preserved : goal.loop-place-preserved
-loop-place-preserved c =
+loop-place-preserved g c =
     let p = backing_prepare c.args.table.now c.args.ballot.now in
     let xs = senders c.args.table.now in
     let i = c.loop-place.place in
@@ -24,13 +24,13 @@ loop-place-preserved c =
     ]
 
 pub returns-clause-ascending : goal.returns-clause-ascending
-returns-clause-ascending c =
+returns-clause-ascending g c =
     let all : c.loop-place.supporters.items ≡ filter (backing_prepare c.args.table.now c.args.ballot.now) (senders c.args.table.now) =
     c.loop-place.invariant ∙ in_all (backing_prepare c.args.table.now c.args.ballot.now) (senders c.args.table.now) c.loop-place.place (omega (arith, c.sender_count-place-end.ensures)) in
     subst {A = List ℕ} (λ (xs : List ℕ). IsAscending xs) (sym all) (backing_ascends c.args.table.now c.args.ballot.now)
 
 pub returns-clause-all : goal.returns-clause-all
-returns-clause-all c =
+returns-clause-all g c =
     let all : c.loop-place.supporters.items ≡ filter (backing_prepare c.args.table.now c.args.ballot.now) (senders c.args.table.now) =
     c.loop-place.invariant ∙ in_all (backing_prepare c.args.table.now c.args.ballot.now) (senders c.args.table.now) c.loop-place.place (omega (arith, c.sender_count-place-end.ensures)) in
     ap among all ∙ backing_among c.args.table.now c.args.ballot.now

@@ -6,7 +6,7 @@ use Rattle.view.proofs.Keeping.{statements_at}
 use Rattle.view.proofs.rows.statements_of.Goals as goal
 
 pub returns : goal.returns
-returns c =
+returns g c =
     let rows = λ (os : List (Option (Bor Sent))). statements_in (map (λ (o : Option (Bor Sent)). option_map (λ (r : Bor Sent). r.now) o) os) in
     IfOk-weaker c.statements_in.result _ _
     (λ v h. h ∙ ap rows c.deref.ensures.value ∙ ap statements_in c.in_ok-rows.ensures ∙ statements_at c.args.kind c.args.table.now c.args.nodes.now)

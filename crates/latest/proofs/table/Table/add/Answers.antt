@@ -1,13 +1,15 @@
-use Rattle.std.proofs.Common.{◌∙◌, ◌++◌, ◌∷◌, [], ap, rules}
-use Rattle.types.specs.Statements.{kind_of}
+use Rattle.std.proofs.Common.{◌∙◌, ◌++◌, ◌∷◌, [], ap, sym, rules}
+use Rattle.envstore.specs.Archives.{sent_of, sents_of}
 use Rattle.latest.proofs.Tabled.{indexed-ascends, push-read}
+use Rattle.latest.proofs.Filings.{sents-length, sents-push}
 use Rattle.latest.proofs.table.Table.add.Goals as goal
 
 pub note-requires : goal.note-requires
-note-requires c = indexed-ascends c.self.inside.rows.items c.self.inside.index.items c.self.invariant
+note-requires c = indexed-ascends (sents_of c.self.inside.rows.items) c.self.inside.index.items c.self.invariant
 
 pub invariant_of-self-2 : goal.invariant_of-self-2
 invariant_of-self-2 c =
-    push-read c.self.inside.rows.items c.args.self.now c.push_reserved.new.rows.items c.self.inside.index.items c.note.new.index.items c.args.envelope c.sender-sender.result.now c.kind-kind.result c.len-place.result
-    c.self.invariant c.self.view_is c.requires c.sender-sender.ensures.value (c.kind-kind.ensures ∙ ap kind_of c.body.ensures.value) (search rules)
-    (c.push_reserved.ensures ∙ ap (λ xs. xs ++ c.args.envelope ∷ []) c.reserve.ensures.items) c.in_ok-note.ensures.ok
+    let rows = c.self.inside.rows.items in
+    push-read (sents_of rows) (sents_of c.args.self.now) (sents_of c.push_reserved.new.rows.items) c.self.inside.index.items c.note.new.index.items (sent_of c.args.envelope) c.args.sender c.args.kind c.len-place.result
+    c.self.invariant (ap sents_of c.self.view_is) c.requires.none c.requires.sender c.requires.kind (search rules ∙ sym (sents-length rows))
+    (ap sents_of (c.push_reserved.ensures ∙ ap (λ xs. xs ++ c.args.envelope ∷ []) c.reserve.ensures.items) ∙ sents-push rows c.args.envelope) c.in_ok-note.ensures.ok

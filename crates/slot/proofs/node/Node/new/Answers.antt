@@ -5,9 +5,9 @@ use Rattle.protocol.specs.Limits.Reached.{begin}
 use Rattle.slot.specs.Listening.{node_of}
 use Rattle.slot.proofs.node.Node.new.Goals as goal
 
-pub returns : goal.returns
+pub returns-clause-node : goal.returns-clause-node
 unfolding fresh
-returns c = λ i. node_of (c.new.ensures i) (c.nothing.ensures i) (c.none.ensures i)
+returns-clause-node c = λ i. node_of (c.new.ensures i) (c.nothing.ensures i) (c.none.ensures i)
 
 pub invariant_of-result : goal.invariant_of-result
 unfolding fresh

@@ -2,38 +2,41 @@ use Rattle.std.proofs.Common.{◌≡◌, ◌∙◌, ◌+◌, List, Some, None, I
 use Rattle.types.specs.declared.event.Out.{Out}
 use Rattle.types.specs.declared.event.NodeEvent.TheVariants.{NominationTimer}
 use Rattle.protocol.specs.Nodes.{Node}
+use Rattle.slot.specs.Filings.{outs_of}
+use Rattle.envstore.specs.Archives.{sent_of, sents_of}
+use Rattle.slot.proofs.Answered.{node_in}
 use Rattle.slot.proofs.Answered.{led-by, step-is, change-round, change-no_round}
 use Rattle.slot.proofs.node.Node.nomination_timer.Goals as goal
 
 pub returns-then-not-is_round_live-clause-node : goal.returns-then-not-is_round_live-clause-node
-returns-then-not-is_round_live-clause-node c =
+returns-then-not-is_round_live-clause-node g c =
     let i = c.self.inside in
-    sym (ap (λ (p : Node × List Out). p.0) (step-is c.args.self.now (NominationTimer c.args.round) None (change-no_round i.listener.configured i.given i.votes i.listener.table c.args.self.now c.args.round (sym c.self.view_is) (sym c.is_round_live.ensures ∙ c.if-not-is_round_live.true))))
+    sym (ap (λ (p : Node × List Out). p.0) (step-is c.args.self.now.node (NominationTimer c.args.round) None (change-no_round i.listener.configured i.given i.votes (sents_of i.listener.table) c.args.self.now.node c.args.round (sym (ap node_in c.self.view_is)) (sym c.is_round_live.ensures ∙ c.if-not-is_round_live.true))))
 
 pub returns-then-not-is_round_live-clause-outs : goal.returns-then-not-is_round_live-clause-outs
-returns-then-not-is_round_live-clause-outs c =
+returns-then-not-is_round_live-clause-outs g c =
     let i = c.self.inside in
-    c.new.ensures.items ∙ sym (ap (λ (p : Node × List Out). p.1) (step-is c.args.self.now (NominationTimer c.args.round) None (change-no_round i.listener.configured i.given i.votes i.listener.table c.args.self.now c.args.round (sym c.self.view_is) (sym c.is_round_live.ensures ∙ c.if-not-is_round_live.true))))
+    ap outs_of c.new.ensures.items ∙ sym (ap (λ (p : Node × List Out). p.1) (step-is c.args.self.now.node (NominationTimer c.args.round) None (change-no_round i.listener.configured i.given i.votes (sents_of i.listener.table) c.args.self.now.node c.args.round (sym (ap node_in c.self.view_is)) (sym c.is_round_live.ensures ∙ c.if-not-is_round_live.true))))
 
-pub settle-requires : goal.settle-requires
-settle-requires c =
-    let n = c.args.self.now in
+pub settle-requires-clause-change : goal.settle-requires-clause-change
+settle-requires-clause-change g c =
+    let n = c.args.self.now.node in
     let i = c.self.inside in
-    let made = change-round i.listener.configured i.given c.in_ok-given.given i.votes c.in_ok-votes.votes i.listener.table n c.args.round (sym c.self.view_is) (sym c.is_round_live.ensures ∙ c.if-not-is_round_live.false) (led-by c.configured.result.now i.listener.configured c.in_ok-given.given i.given (c.args.round + 1) c.configured.ensures c.in_ok-given.ensures) c.in_ok-votes.ensures in
+    let made = change-round i.listener.configured i.given c.in_ok-given.given i.votes c.in_ok-votes.votes (sents_of i.listener.table) n c.args.round (sym (ap node_in c.self.view_is)) (sym c.is_round_live.ensures ∙ c.if-not-is_round_live.false) (led-by c.configured.result.now i.listener.configured c.in_ok-given.given i.given (c.args.round + 1) c.configured.ensures c.in_ok-given.ensures) c.in_ok-votes.ensures in
     record { event = NominationTimer c.args.round; is = made }
 
 pub returns-clause-node : goal.returns-clause-node
-returns-clause-node c =
-    let n = c.args.self.now in
+returns-clause-node g c =
+    let n = c.args.self.now.node in
     let i = c.self.inside in
-    let made = change-round i.listener.configured i.given c.in_ok-given.given i.votes c.in_ok-votes.votes i.listener.table n c.args.round (sym c.self.view_is) (sym c.is_round_live.ensures ∙ c.if-not-is_round_live.false) (led-by c.configured.result.now i.listener.configured c.in_ok-given.given i.given (c.args.round + 1) c.configured.ensures c.in_ok-given.ensures) c.in_ok-votes.ensures in
+    let made = change-round i.listener.configured i.given c.in_ok-given.given i.votes c.in_ok-votes.votes (sents_of i.listener.table) n c.args.round (sym (ap node_in c.self.view_is)) (sym c.is_round_live.ensures ∙ c.if-not-is_round_live.false) (led-by c.configured.result.now i.listener.configured c.in_ok-given.given i.given (c.args.round + 1) c.configured.ensures c.in_ok-given.ensures) c.in_ok-votes.ensures in
     let m : Node = record n { given = c.in_ok-given.given; votes = c.in_ok-votes.votes } in
-    subst (λ (p : Node × List Out). OnOk c.settle.result (c.settle.new.self ≡ p.0)) (sym (step-is n (NominationTimer c.args.round) (Some m) made)) c.settle.ensures.node
+    subst (λ (p : Node × List Out). OnOk c.settle.result (c.settle.new.self.node ≡ p.0)) (sym (step-is n (NominationTimer c.args.round) (Some m) made)) c.settle.ensures.node
 
 pub returns-clause-outs : goal.returns-clause-outs
-returns-clause-outs c =
-    let n = c.args.self.now in
+returns-clause-outs g c =
+    let n = c.args.self.now.node in
     let i = c.self.inside in
-    let made = change-round i.listener.configured i.given c.in_ok-given.given i.votes c.in_ok-votes.votes i.listener.table n c.args.round (sym c.self.view_is) (sym c.is_round_live.ensures ∙ c.if-not-is_round_live.false) (led-by c.configured.result.now i.listener.configured c.in_ok-given.given i.given (c.args.round + 1) c.configured.ensures c.in_ok-given.ensures) c.in_ok-votes.ensures in
+    let made = change-round i.listener.configured i.given c.in_ok-given.given i.votes c.in_ok-votes.votes (sents_of i.listener.table) n c.args.round (sym (ap node_in c.self.view_is)) (sym c.is_round_live.ensures ∙ c.if-not-is_round_live.false) (led-by c.configured.result.now i.listener.configured c.in_ok-given.given i.given (c.args.round + 1) c.configured.ensures c.in_ok-given.ensures) c.in_ok-votes.ensures in
     let m : Node = record n { given = c.in_ok-given.given; votes = c.in_ok-votes.votes } in
-    subst (λ (p : Node × List Out). IfOk c.settle.result (λ v. v.items ≡ p.1)) (sym (step-is n (NominationTimer c.args.round) (Some m) made)) c.settle.ensures.outs
+    subst (λ (p : Node × List Out). IfOk c.settle.result (λ v. outs_of v.items ≡ p.1)) (sym (step-is n (NominationTimer c.args.round) (Some m) made)) c.settle.ensures.outs

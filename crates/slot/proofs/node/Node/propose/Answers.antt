@@ -1,29 +1,32 @@
-use Rattle.std.proofs.Common.{◌≡◌, List, Some, IfOk, OnOk, sym, subst}
+use Rattle.std.proofs.Common.{◌≡◌, List, Some, IfOk, OnOk, sym, subst, ap}
 use Rattle.types.specs.declared.event.Out.{Out}
 use Rattle.types.specs.declared.event.NodeEvent.TheVariants.{Propose}
 use Rattle.protocol.specs.Nodes.{Node}
+use Rattle.slot.specs.Filings.{outs_of}
+use Rattle.envstore.specs.Archives.{sent_of, sents_of}
+use Rattle.slot.proofs.Answered.{node_in}
 use Rattle.slot.proofs.Answered.{led-by, step-is, change-propose}
 use Rattle.slot.proofs.node.Node.propose.Goals as goal
 
-pub settle-requires : goal.settle-requires
-settle-requires c =
-    let n = c.args.self.now in
+pub settle-requires-clause-change : goal.settle-requires-clause-change
+settle-requires-clause-change g c =
+    let n = c.args.self.now.node in
     let i = c.self.inside in
-    let made = change-propose i.listener.configured i.given c.in_ok-given.given i.votes c.in_ok-votes.votes i.listener.table n c.args.value (sym c.self.view_is) (led-by c.configured.result.now i.listener.configured c.in_ok-given.given (record i.given { input = Some c.args.value }) 1 c.configured.ensures c.in_ok-given.ensures) c.in_ok-votes.ensures in
+    let made = change-propose i.listener.configured i.given c.in_ok-given.given i.votes c.in_ok-votes.votes (sents_of i.listener.table) n c.args.value (sym (ap node_in c.self.view_is)) (led-by c.configured.result.now i.listener.configured c.in_ok-given.given (record i.given { input = Some c.args.value }) 1 c.configured.ensures c.in_ok-given.ensures) c.in_ok-votes.ensures in
     record { event = Propose c.args.value; is = made }
 
 pub returns-clause-node : goal.returns-clause-node
-returns-clause-node c =
-    let n = c.args.self.now in
+returns-clause-node g c =
+    let n = c.args.self.now.node in
     let i = c.self.inside in
-    let made = change-propose i.listener.configured i.given c.in_ok-given.given i.votes c.in_ok-votes.votes i.listener.table n c.args.value (sym c.self.view_is) (led-by c.configured.result.now i.listener.configured c.in_ok-given.given (record i.given { input = Some c.args.value }) 1 c.configured.ensures c.in_ok-given.ensures) c.in_ok-votes.ensures in
+    let made = change-propose i.listener.configured i.given c.in_ok-given.given i.votes c.in_ok-votes.votes (sents_of i.listener.table) n c.args.value (sym (ap node_in c.self.view_is)) (led-by c.configured.result.now i.listener.configured c.in_ok-given.given (record i.given { input = Some c.args.value }) 1 c.configured.ensures c.in_ok-given.ensures) c.in_ok-votes.ensures in
     let m : Node = record n { given = c.in_ok-given.given; votes = c.in_ok-votes.votes } in
-    subst (λ (p : Node × List Out). OnOk c.settle.result (c.settle.new.self ≡ p.0)) (sym (step-is n (Propose c.args.value) (Some m) made)) c.settle.ensures.node
+    subst (λ (p : Node × List Out). OnOk c.settle.result (c.settle.new.self.node ≡ p.0)) (sym (step-is n (Propose c.args.value) (Some m) made)) c.settle.ensures.node
 
 pub returns-clause-outs : goal.returns-clause-outs
-returns-clause-outs c =
-    let n = c.args.self.now in
+returns-clause-outs g c =
+    let n = c.args.self.now.node in
     let i = c.self.inside in
-    let made = change-propose i.listener.configured i.given c.in_ok-given.given i.votes c.in_ok-votes.votes i.listener.table n c.args.value (sym c.self.view_is) (led-by c.configured.result.now i.listener.configured c.in_ok-given.given (record i.given { input = Some c.args.value }) 1 c.configured.ensures c.in_ok-given.ensures) c.in_ok-votes.ensures in
+    let made = change-propose i.listener.configured i.given c.in_ok-given.given i.votes c.in_ok-votes.votes (sents_of i.listener.table) n c.args.value (sym (ap node_in c.self.view_is)) (led-by c.configured.result.now i.listener.configured c.in_ok-given.given (record i.given { input = Some c.args.value }) 1 c.configured.ensures c.in_ok-given.ensures) c.in_ok-votes.ensures in
     let m : Node = record n { given = c.in_ok-given.given; votes = c.in_ok-votes.votes } in
-    subst (λ (p : Node × List Out). IfOk c.settle.result (λ v. v.items ≡ p.1)) (sym (step-is n (Propose c.args.value) (Some m) made)) c.settle.ensures.outs
+    subst (λ (p : Node × List Out). IfOk c.settle.result (λ v. outs_of v.items ≡ p.1)) (sym (step-is n (Propose c.args.value) (Some m) made)) c.settle.ensures.outs

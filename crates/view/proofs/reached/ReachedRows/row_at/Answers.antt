@@ -5,7 +5,7 @@ use Rattle.view.proofs.Keeping.{row_at}
 use Rattle.view.proofs.reached.ReachedRows.row_at.Goals as goal
 
 pub returns : goal.returns
-returns c =
+returns g c =
     let rows = c.self.inside in
     let sent = λ (o : Option (Bor Sent)). option_map (λ (r : Bor Sent). r.now) o in
     let kept = subst (λ (k : Kept). map sent rows.rows.items ≡ rows_at k.kind k.table k.nodes) c.self.view_is c.self.invariant in

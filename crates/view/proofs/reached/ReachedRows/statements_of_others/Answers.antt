@@ -6,7 +6,7 @@ use Rattle.view.proofs.Keeping.{others_at}
 use Rattle.view.proofs.reached.ReachedRows.statements_of_others.Goals as goal
 
 pub returns : goal.returns
-returns c =
+returns g c =
     let rows = c.self.inside in
     let own = c.args.own.now in
     let said = λ (os : List (Option (Bor Sent))). filter_map (said_by_another own) (map (λ (o : Option (Bor Sent)). option_map (λ (r : Bor Sent). r.now) o) os) in

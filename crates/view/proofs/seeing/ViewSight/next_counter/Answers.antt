@@ -7,10 +7,10 @@ use Rattle.view.proofs.Sightings.{seen_rows}
 use Rattle.view.proofs.seeing.ViewSight.next_counter.Goals as goal
 
 pub returns : goal.returns
-returns c =
+returns g c =
     let view = c.args.self.now in
     let search = λ (ss : List Statement). next_counter c.args.above ss in
     c.next_counter.ensures
     ∙ ap search (ap (λ (xs : List (Bor Statement)). map (λ (s : Bor Statement). s.now) xs) c.deref.ensures.value ∙ view.ballots_found)
-    ∙ counter_found view.own.now view.slices.now view.table.now view.reach.now view.reached.exactly view.single c.args.above
+    ∙ counter_found view.own.now view.slices.now view.table.now view.region.now.nodes.items view.known.reach.exactly view.single c.args.above
     ∙ ap search (sym (seen_rows view.own.now view.slices.now view.leaders.now view.table.now Kind.Ballot))

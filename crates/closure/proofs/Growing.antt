@@ -1,0 +1,282 @@
+-- Members that join: what stays, and that each is named by an earlier one.
+use Rattle.std.proofs.Common.{◌≡◌, ℕ, zero, suc, ◌+◌, ◌<◌, ◌≤◌, Bool, true, false, ◌==◌, List, [], ◌∷◌, ◌++◌, length, take, slice_get, Some, if◌then◌else◌, refl, sym, ◌∙◌, ap, subst, inl, inr, arith}
+use Rattle.std.specs.List.{IsDistinct, list_any}
+use Rattle.std.proofs.Math.Path.{fun_ext}
+use Rattle.std.proofs.lemmas.Bool.{cases_lt, or_cases, or_left, or_right, eqb-true, false≢true}
+use Rattle.std.proofs.lemmas.Bool.Decides.{nat_tests}
+use Rattle.std.proofs.lemmas.Cmp.{nat_eq_equiv}
+use Rattle.std.proofs.lemmas.List.{take-append-le, take_all, take-take, length-map, take-map, length_push, take_more, map_push}
+use Rattle.std.proofs.lemmas.Map.Made.{length-le_from_is_member}
+use Rattle.std.proofs.lemmas.Option.{slice_get_within, get_or_from_slice_get}
+use Rattle.protocol.specs.Sets.{Names, among, AreWithin}
+use Rattle.protocol.specs.Closures.{IsClosed}
+use Rattle.protocol.specs.Networks.{Host}
+use Rattle.protocol.specs.Hosts.{Entry}
+use Rattle.protocol.proofs.SetLaws.{among_head, among_tail}
+use Rattle.protocol.proofs.ClosureLaws.{given_by_rule, derived-in}
+use Rattle.closure.specs.Announcing.{IsNamedBy, Listed, names_of, IsNamedBefore, IsChained}
+use Rattle.closure.specs.Announcing.IsNamedBy.{configured, learnt}
+use Rattle.closure.specs.Turns.{IsSettled, AreSettled, IsGrown, IsGiven, with_member}
+use Rattle.closure.proofs.Noted.{among_append}
+use Rattle.closure.proofs.ClosureSteps.{rules, all_given, all_derived, among_at}
+
+-- ---- lists
+-- what stands in the front stands in the list
+taken_among : (n : ℕ) (xs : List ℕ) → AreWithin (among (take n xs)) (among xs)
+taken_among zero xs u h = absurd (false≢true h)
+taken_among (suc n) [] u h = absurd (false≢true h)
+taken_among (suc n) (x ∷ xs) u h = elim (or_cases (x == u) (among (take n xs) u) h) [
+  | inl e ↦ or_left (x == u) (among xs u) e
+  | inr k ↦ or_right (x == u) (among xs u) (taken_among n xs u k)
+]
+
+get_taken : {X : Type 0} (xs : List X) (k n : ℕ) → k < n → slice_get (take n xs) k ≡ slice_get xs k
+get_taken xs k zero l = absurd (omega arith)
+get_taken [] k (suc n) l = refl
+get_taken (x ∷ xs) zero (suc n) l = refl
+get_taken (x ∷ xs) (suc k) (suc n) l = get_taken xs k n (omega arith)
+
+get_appended : {X : Type 0} (xs ys : List X) (k : ℕ) → k < length xs → slice_get (xs ++ ys) k ≡ slice_get xs k
+get_appended [] ys k l = absurd (omega arith)
+get_appended (x ∷ xs) ys zero l = refl
+get_appended (x ∷ xs) ys (suc k) l = get_appended xs ys k (omega arith)
+
+get_last : {X : Type 0} (xs : List X) (x y : X) (k : ℕ) → k ≡ length xs → slice_get (xs ++ x ∷ []) k ≡ Some y → x ≡ y
+get_last [] x y zero e h = cc
+get_last [] x y (suc k) e h = absurd (omega arith)
+get_last (z ∷ zs) x y zero e h = absurd (omega arith)
+get_last (z ∷ zs) x y (suc k) e h = get_last zs x y k (omega arith) h
+
+names_length : (list : Listed) → length (names_of list) ≡ length list
+names_length list = length-map list (λ m. m.0)
+
+-- a list with the same front has the names of the front
+front_names : (old new : Listed) → take (length old) new ≡ old → take (length old) (names_of new) ≡ names_of old
+front_names old new kept = take-map (λ m. m.0) (length old) new ∙ ap names_of kept
+
+front_among : (old new : Listed) → take (length old) new ≡ old → AreWithin (among (names_of old)) (among (names_of new))
+front_among old new kept u h = taken_among (length old) (names_of new) u (ap (λ (xs : List ℕ). among xs u) (front_names old new kept) ∙ h)
+
+pub front_kept : (old mid new : Listed) → take (length old) mid ≡ old → take (length mid) new ≡ mid → length old ≤ length mid → take (length old) new ≡ old
+front_kept old mid new a b l = sym (take-take (length old) (length mid) new l) ∙ (ap (λ (xs : Listed). take (length old) xs) b ∙ a)
+
+-- ---- who is named stays named where there are more members
+pub named_more : (hosts : List Host) (i : ℕ) (run : List Entry) (one other : Names) (w u : ℕ) → AreWithin one other → IsNamedBy hosts i run one w u → IsNamedBy hosts i run other w u
+named_more hosts i run one other w u f (configured q e g) = configured q e g
+named_more hosts i run one other w u f (learnt n a e s t r g) = learnt n a e s t (f a.receiver r) g
+
+-- ---- one more member
+module _ (hosts : List Host) (i : ℕ) (run : List Entry) where
+  module _ (v : ℕ) (list : Listed) (x : ℕ × ℕ) (w : ℕ) (chained : IsChained hosts i v run list) (there : slice_get (names_of list) x.1 ≡ Some w) (named : IsNamedBy hosts i run (among (names_of list)) w x.0) where
+    more : Listed
+    more = list ++ x ∷ []
+
+    names_more : names_of more ≡ names_of list ++ x.0 ∷ []
+    unfolding more
+    names_more = map_push (λ m. m.0) list x
+
+    front_of_names : (k : ℕ) → k ≤ length list → take k (names_of more) ≡ take k (names_of list)
+    unfolding more
+    front_of_names k l = ap (λ (xs : List ℕ). take k xs) names_more ∙ take-append-le k (names_of list) (x.0 ∷ []) (omega (arith, l, names_length list))
+
+    name_before : (k : ℕ) → k < length list → slice_get (names_of more) k ≡ slice_get (names_of list) k
+    unfolding more
+    name_before k l = ap (λ (xs : List ℕ). slice_get xs k) names_more ∙ get_appended (names_of list) (x.0 ∷ []) k (omega (arith, l, names_length list))
+
+    in_list : x.1 < length list
+    in_list = let l = slice_get_within (names_of list) x.1 w there in omega (arith, l, names_length list)
+
+    link_more : (k : ℕ) (m : ℕ × ℕ) → slice_get more (suc k) ≡ Some m → IsNamedBefore hosts i run more (suc k) m
+    unfolding more
+    link_more k m e = elim (cases_lt (suc k) (length list)) [
+      | inl l ↦ old l (chained.later k m (sym (get_appended list (x ∷ []) (suc k) l) ∙ e))
+      | inr l ↦ new (omega (arith, l, slice_get_within (list ++ x ∷ []) (suc k) m e, length_push list x))
+    ]
+      where
+        old : suc k < length list → IsNamedBefore hosts i run list (suc k) m → IsNamedBefore hosts i run more (suc k) m
+        old l b = record {
+          namer = b.namer;
+          there = name_before m.1 (let q = b.before in omega arith) ∙ b.there;
+          before = b.before;
+          named = subst (λ (xs : List ℕ). IsNamedBy hosts i run (among xs) b.namer m.0) (sym (front_of_names (suc k) (omega arith))) b.named;
+        }
+
+        new : suc k ≡ length list → IsNamedBefore hosts i run more (suc k) m
+        new q =
+            let same : x ≡ m = get_last list x m (suc k) q e in
+            let all : take (suc k) (names_of more) ≡ names_of list = front_of_names (suc k) (omega arith) ∙ take_all (suc k) (names_of list) (omega (arith, q, names_length list)) in
+            subst (λ (y : ℕ × ℕ). IsNamedBefore hosts i run more (suc k) y) same (record {
+              namer = w;
+              there = name_before x.1 in_list ∙ there;
+              before = let l = in_list in omega (arith, l, q);
+              named = subst (λ (xs : List ℕ). IsNamedBy hosts i run (among xs) w x.0) (sym all) named;
+            })
+
+    pub chained_more : IsChained hosts i v run (list ++ x ∷ [])
+    unfolding more
+    chained_more = record { first = get_appended list (x ∷ []) 0 (let l = in_list in omega arith) ∙ chained.first; later = link_more }
+
+  -- ---- a turn
+  -- the names up to an index have joined
+  pub record IsJoining (given : List ℕ) (initial now : Listed) (n : ℕ) : Type 0 where
+    pub kept : take (length initial) now ≡ initial
+    pub longer : length initial ≤ length now
+    pub chained : (v : ℕ) → IsChained hosts i v run initial → IsChained hosts i v run now
+    pub held : AreWithin (among (take n given)) (among (names_of now))
+
+  pub joining_begins : (given : List ℕ) (list : Listed) → IsJoining given list list 0
+  joining_begins given list = record { kept = take_all (length list) list (omega arith); longer = omega arith; chained = λ v c. c; held = λ u h. absurd (false≢true h) }
+
+  module _ (given : List ℕ) (initial now : Listed) (known place w n x : ℕ) (way : IsJoining given initial now n) (there : slice_get (names_of initial) place ≡ Some w)
+      (sound : IsGiven hosts i run (names_of initial) known w given) (next : slice_get given n ≡ Some x) where
+    taken_more : take (n + 1) given ≡ take n given ++ x ∷ []
+    taken_more = take_more given n x (slice_get_within given n x next) ∙ ap (λ y. take n given ++ y ∷ []) (get_or_from_slice_get given n x x next)
+
+    held_more : (new : Listed) → AreWithin (among (names_of now)) (among (names_of new)) → among (names_of new) x ≡ true → AreWithin (among (take (n + 1) given)) (among (names_of new))
+    held_more new f h u m = elim (or_cases (among (take n given) u) (among (x ∷ []) u) (sym (ap (λ (xs : List ℕ). among xs u) taken_more ∙ among_append (take n given) (x ∷ []) u) ∙ m)) [
+      | inl k ↦ f u (way.held u k)
+      | inr k ↦ elim (or_cases (x == u) false k) [ inl e ↦ subst (λ y. among (names_of new) y ≡ true) (eqb-true x u e) h | inr e ↦ absurd (false≢true e) ]
+    ]
+
+    joined : (b : Bool) → among (names_of now) x ≡ b → IsJoining given initial (if b then now else now ++ (x, place) ∷ []) (n + 1)
+    joined true e = record { kept = way.kept; longer = way.longer; chained = way.chained; held = held_more now (λ u h. h) e }
+    joined false e = record {
+      kept = take-append-le (length initial) now ((x, place) ∷ []) way.longer ∙ way.kept;
+      longer = let l = way.longer in omega (arith, length_push now (x, place));
+      chained = λ v c. chained_more v now (x, place) w (way.chained v c) name_there
+          (named_more hosts i run (among (names_of initial)) (among (names_of now)) w x (front_among initial now way.kept) (sound.sound x (among_at given n x next)));
+      held = held_more (now ++ (x, place) ∷ []) (λ u h. ap (λ (xs : List ℕ). among xs u) names_now ∙ (among_append (names_of now) (x ∷ []) u ∙ or_left (among (names_of now) u) (among (x ∷ []) u) h))
+          (ap (λ (xs : List ℕ). among xs x) names_now ∙ (among_append (names_of now) (x ∷ []) x ∙ or_right (among (names_of now) x) (among (x ∷ []) x) (among_head x [])));
+    }
+      where
+        names_now : names_of (now ++ (x, place) ∷ []) ≡ names_of now ++ x ∷ []
+        names_now = map_push (λ m. m.0) now (x, place)
+
+        name_there : slice_get (names_of now) place ≡ Some w
+        name_there = sym (get_taken (names_of now) place (length initial) (omega (arith, slice_get_within (names_of initial) place w there, names_length initial)))
+            ∙ (ap (λ (xs : List ℕ). slice_get xs place) (front_names initial now way.kept) ∙ there)
+
+    pub joining_goes_on : IsJoining given initial (with_member now x place) (n + 1)
+    joining_goes_on = joined (among (names_of now) x) refl
+
+  pub turn_settles : (given : List ℕ) (initial now : Listed) (known w : ℕ) → IsJoining given initial now (length given) → IsGiven hosts i run (names_of initial) known w given
+      → (0 < known → IsSettled hosts i run (names_of initial) (take known (names_of initial)) w) → IsSettled hosts i run (names_of now) (names_of initial) w
+  turn_settles given initial now known w way sound before u h = elim (sound.complete u h) [
+    | inl k ↦ way.held u (ap (λ (xs : List ℕ). among xs u) (take_all (length given) given (omega arith)) ∙ k)
+    | inr k ↦ front_among initial now way.kept u (before k.0 u k.1)
+  ]
+
+  -- ---- a sweep
+  -- the members before a place have had their turn
+  pub record IsSweeping (initial now : Listed) (place : ℕ) : Type 0 where
+    pub kept : take (length initial) now ≡ initial
+    pub longer : length initial ≤ length now
+    pub chained : (v : ℕ) → IsChained hosts i v run initial → IsChained hosts i v run now
+    pub settled : (j w : ℕ) → j < place → slice_get (names_of now) j ≡ Some w → IsSettled hosts i run (names_of now) (names_of initial) w
+
+  pub sweeping_begins : (list : Listed) → IsSweeping list list 0
+  sweeping_begins list = record { kept = take_all (length list) list (omega arith); longer = omega arith; chained = λ v c. c; settled = λ j w l. absurd (omega arith) }
+
+  pub sweeping_goes_on : (initial now new : Listed) (place v : ℕ) → IsSweeping initial now place → place < length now → IsChained hosts i v run initial
+      → ((x : ℕ) → IsChained hosts i x run now → IsGrown hosts i x run now new)
+      → ((w : ℕ) → slice_get (names_of now) place ≡ Some w → IsSettled hosts i run (names_of new) (names_of now) w)
+      → IsSweeping initial new (place + 1)
+  sweeping_goes_on initial now new place v way inside chain grown turn =
+      let g = grown v (way.chained v chain) in
+      let longer : length now ≤ length new = length_of_front now new g.kept in
+      let a = way.longer in
+      record {
+        kept = front_kept initial now new way.kept g.kept way.longer;
+        longer = omega arith;
+        chained = λ x c. (grown x (way.chained x c)).chained;
+        settled = λ j w l e.
+            let was : slice_get (names_of now) j ≡ Some w = sym (ap (λ (xs : List ℕ). slice_get xs j) (front_names now new g.kept)) ∙ (get_taken (names_of new) j (length now) (omega arith) ∙ e) in
+            elim (cases_lt j place) [
+              | inl before ↦ λ u h. front_among now new g.kept u (way.settled j w before was u h)
+              | inr here ↦ λ u h. let same : j ≡ place = omega arith in
+                  turn w (subst (λ k. slice_get (names_of now) k ≡ Some w) same was) u (named_more hosts i run (among (names_of initial)) (among (names_of now)) w u (front_among initial now way.kept) h)
+            ];
+      }
+    where
+      length_of_front : (old more : Listed) → take (length old) more ≡ old → length old ≤ length more
+      length_of_front [] more e = omega arith
+      length_of_front (x ∷ xs) [] e = cc
+      length_of_front (x ∷ xs) (y ∷ ys) e = let rest : take (length xs) ys ≡ xs = cc in let l = length_of_front xs ys rest in omega arith
+
+  -- what a sweep knows of a member before its turn
+  pub known_before_turn : (initial now : Listed) (place known : ℕ) → IsSweeping initial now place → known ≤ length initial
+      → (0 < known → AreSettled hosts i run (names_of initial) (take known (names_of initial)))
+      → 0 < known → place < length initial → (w : ℕ) → slice_get (names_of now) place ≡ Some w → IsSettled hosts i run (names_of now) (take known (names_of now)) w
+  known_before_turn initial now place known way within settled some inside w e u h =
+      let front = front_names initial now way.kept in
+      let was : slice_get (names_of initial) place ≡ Some w = sym (ap (λ (xs : List ℕ). slice_get xs place) front) ∙ (get_taken (names_of now) place (length initial) inside ∙ e) in
+      let same : take known (names_of now) ≡ take known (names_of initial) = sym (take-take known (length initial) (names_of now) within) ∙ ap (λ (xs : List ℕ). take known xs) front in
+      front_among initial now way.kept u (settled some place w was u (subst (λ (xs : List ℕ). IsNamedBy hosts i run (among xs) w u) same h))
+
+  pub sweep_settles : (initial now : Listed) (place : ℕ) → IsSweeping initial now place → length now ≤ place → AreSettled hosts i run (names_of now) (names_of initial)
+  sweep_settles initial now place way over j w e = way.settled j w (let l = slice_get_within (names_of now) j w e in omega (arith, l, over, names_length now)) e
+
+  -- after a sweep, what the members name of the old ones is there
+  pub settled_of_front : (old new : Listed) → take (length old) new ≡ old → AreSettled hosts i run (names_of new) (names_of old) → AreSettled hosts i run (names_of new) (take (length old) (names_of new))
+  settled_of_front old new kept settled j w e u h = settled j w e u (subst (λ (xs : List ℕ). IsNamedBy hosts i run (among xs) w u) (front_names old new kept) h)
+
+  -- ---- how many members there can be
+  flips : (x y : ℕ) → (x == y) ≡ (y == x)
+  flips x y = grind (arith, nat_tests)
+
+  pub members_bound : (v : ℕ) (list : Listed) → IsChained hosts i v run list → IsDistinct (λ x y. x == y) (names_of list) → length list ≤ suc (length (all_given hosts i run))
+  members_bound v list chained once =
+      let all = v ∷ all_given hosts i run in
+      let closed : IsClosed (rules hosts i run) v (among all) = record {
+        start = among_head v (all_given hosts i run);
+        each = λ r c w u g. among_tail v u (all_given hosts i run) (given_by_rule (rules hosts i run) r u c g);
+      } in
+      let few : length (names_of list) ≤ length all = length-le_from_is_member nat_eq_equiv (names_of list) all once
+      (λ q h. member_is all q ∙ derived-in (rules hosts i run) v (among all) closed (all_derived hosts i run v list chained q (sym (member_is (names_of list) q) ∙ h))) in
+      omega (arith, few, names_length list)
+    where
+      member_is : (xs : List ℕ) (q : ℕ) → list_any (λ x. q == x) xs ≡ among xs q
+      member_is xs q = ap (λ (p : ℕ → Bool). list_any p xs) (fun_ext (λ x. flips q x))
+
+pub one_name : (xs : List ℕ) (k u w : ℕ) → slice_get xs k ≡ Some u → slice_get xs k ≡ Some w → u ≡ w
+one_name xs k u w e h = same (sym e ∙ h)
+  where
+    same : Some u ≡ Some w → u ≡ w
+    same q = cc
+
+-- ---- sweep after sweep
+-- a chained list in which all is settled of the members up to a place, where that is not 0
+pub record IsSwept (hosts : List Host) (i v : ℕ) (run : List Entry) (list : Listed) (known : ℕ) : Type 0 where
+  pub chained : IsChained hosts i v run list
+  pub within : known ≤ length list
+  pub settled : 0 < known → AreSettled hosts i run (names_of list) (take known (names_of list))
+
+first_chained : (hosts : List Host) (i v : ℕ) (run : List Entry) → IsChained hosts i v run ((v, 0) ∷ [])
+first_chained hosts i v run = record { first = refl; later = λ k m e. cc }
+
+pub swept_at_first : (hosts : List Host) (i v : ℕ) (run : List Entry) → IsSwept hosts i v run ((v, 0) ∷ []) 0
+swept_at_first hosts i v run = record { chained = first_chained hosts i v run; within = omega arith; settled = λ some. absurd (omega arith) }
+
+pub swept_again : (hosts : List Host) (i v : ℕ) (run : List Entry) (old new : Listed) → IsGrown hosts i v run old new → AreSettled hosts i run (names_of new) (names_of old) → IsSwept hosts i v run new (length old)
+swept_again hosts i v run old new grown settled = record {
+  chained = grown.chained;
+  within = longer old new grown.kept;
+  settled = λ some. settled_of_front hosts i run old new grown.kept settled;
+}
+  where
+    longer : (xs ys : Listed) → take (length xs) ys ≡ xs → length xs ≤ length ys
+    longer [] ys e = omega arith
+    longer (x ∷ xs) [] e = cc
+    longer (x ∷ xs) (y ∷ ys) e = let rest : take (length xs) ys ≡ xs = cc in let l = longer xs ys rest in omega arith
+
+-- there is a first member
+some_member : (v : ℕ) (list : Listed) → slice_get list 0 ≡ Some (v, 0) → 0 < length list
+some_member v [] e = cc
+some_member v (x ∷ xs) e = omega arith
+
+-- where a sweep added none, all is settled
+pub swept_whole : (hosts : List Host) (i v : ℕ) (run : List Entry) (list : Listed) (known : ℕ) → IsSwept hosts i v run list known → length list ≤ known → AreSettled hosts i run (names_of list) (names_of list)
+swept_whole hosts i v run list known swept over =
+    let all : take known (names_of list) ≡ names_of list = take_all known (names_of list) (omega (arith, over, names_length list)) in
+    let some = some_member v list swept.chained.first in
+    subst (λ (xs : List ℕ). AreSettled hosts i run (names_of list) xs) all (swept.settled (omega (arith, some, over)))

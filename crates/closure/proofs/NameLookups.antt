@@ -1,0 +1,118 @@
+-- Names looked up in a list of pairs, by the derived equality of names.
+use Rattle.std.proofs.Common.{◌≡◌, ℕ, Bool, true, false, cond, ◌||◌, ◌==◌, List, [], ◌∷◌, ◌++◌, ◌<◌, Option, Some, None, is_some, position, slice_get, MatchOption, length, get_or, refl, sym, ◌∙◌, ap, subst, if◌then◌else◌, arith, IsFalse}
+use Rattle.std.specs.Map.{lookup, lookup_key, keys_of}
+use Rattle.std.proofs.lemmas.Bool.{eqb-true, true≢false}
+use Rattle.std.proofs.lemmas.Option.{slice_get-get_or}
+use Rattle.std.proofs.lemmas.List.{length-map}
+use Rattle.indexmap.specs.IndexMap.{insert_entry}
+use Rattle.indexmap.proofs.MapLemmas.{Found-position, Missing-position}
+use Rattle.std.proofs.Math.Path.{fun_ext}
+use Rattle.std.proofs.lemmas.Bool.Decides.{nat_tests}
+use Rattle.types.specs.contracts.node_id.NodeIdPartialEq.TheImpl.{ghosts as equal}
+use Rattle.types.proofs.NameOrder.{name_eq_is}
+use Rattle.protocol.specs.Sets.{among}
+use Rattle.closure.specs.Announcing.{names_of}
+use Rattle.closure.specs.Turns.{Linked, IsLinkedTo, found_by, with_member}
+
+flips : (x y : ℕ) → (x == y) ≡ (y == x)
+flips x y = grind (arith, nat_tests)
+
+-- the test of a name, as code makes it and as definitions write it
+pub test_is : (k : ℕ) → equal.eq k ≡ (λ y. y == k)
+test_is k = fun_ext (λ y. name_eq_is k y ∙ flips k y)
+
+pub equality_is : equal.eq ≡ (λ (x y : ℕ). x == y)
+equality_is = fun_ext (λ x. fun_ext (λ y. name_eq_is x y))
+
+found_plain : (k : ℕ) (es : List (ℕ × ℕ)) → lookup (λ y. y == k) es ≡ found_by es k
+found_plain k [] = refl
+found_plain k (e ∷ es) = ap (λ (r : Option ℕ). cond (e.0 == k) (Some e.1) r) (found_plain k es)
+
+pub found_is : (k : ℕ) (es : List (ℕ × ℕ)) → lookup (equal.eq k) es ≡ found_by es k
+found_is k es = ap (λ (t : ℕ → Bool). lookup t es) (test_is k) ∙ found_plain k es
+
+has_plain : (k : ℕ) (es : List (ℕ × ℕ)) → is_some (found_by es k) ≡ among (names_of es) k
+has_plain k [] = refl
+has_plain k (e ∷ es) = go (e.0 == k) (has_plain k es)
+  where
+    go : (b : Bool) → is_some (found_by es k) ≡ among (names_of es) k → is_some (if b then Some e.1 else found_by es k) ≡ (b || among (names_of es) k)
+    go true h = refl
+    go false h = h
+
+-- a name is found exactly where it is among the names
+pub has_is : (k : ℕ) (es : List (ℕ × ℕ)) → is_some (lookup (equal.eq k) es) ≡ among (names_of es) k
+has_is k es = ap is_some (found_is k es) ∙ has_plain k es
+
+pub absent_is : (k : ℕ) (es : List (ℕ × ℕ)) → among (names_of es) k ≡ false → lookup (equal.eq k) es ≡ None
+absent_is k es h = none (lookup (equal.eq k) es) (has_is k es ∙ h)
+  where
+    none : (o : Option ℕ) → is_some o ≡ false → o ≡ None
+    none None h = refl
+    none (Some x) h = cc
+
+-- ---- places
+key_is : (k : ℕ) (es : List (ℕ × ℕ)) (x : ℕ) → lookup_key (λ y. y == k) es ≡ Some x → x ≡ k
+key_is k [] x h = cc
+key_is k (e ∷ es) x h = go (e.0 == k) refl h (key_is k es x)
+  where
+    go : (b : Bool) → (e.0 == k) ≡ b → cond b (Some e.0) (lookup_key (λ y. y == k) es) ≡ Some x → (lookup_key (λ y. y == k) es ≡ Some x → x ≡ k) → x ≡ k
+    go true q p f = let same : e.0 ≡ x = cc in sym same ∙ eqb-true e.0 k q
+    go false q p f = f p
+
+module _ (k : ℕ) (es : List (ℕ × ℕ)) where
+  found_there : (i : ℕ) → position (λ y. y == k) (keys_of es) ≡ Some i → slice_get (names_of es) i ≡ Some k
+  found_there i p =
+      let f = Found-position (λ y. y == k) es i p in
+      let within : i < length (names_of es) = omega (arith, f.within, length-map es (λ e. e.0)) in
+      let there : slice_get (names_of es) i ≡ Some (get_or (names_of es) i 0) = slice_get-get_or (names_of es) i 0 within in
+      there ∙ ap Some (key_is k es (get_or (names_of es) i 0) (f.key ∙ there))
+
+  not_there : position (λ y. y == k) (keys_of es) ≡ None → among (names_of es) k ≡ false
+  not_there p = sym (has_plain k es) ∙ ap is_some (sym (found_plain k es) ∙ (Missing-position (λ y. y == k) es p).value)
+
+  pub place_is : (r : Option ℕ) → r ≡ position (equal.eq k) (keys_of es) → MatchOption r (IsFalse (among (names_of es) k)) (λ i. slice_get (names_of es) i ≡ Some k)
+  place_is None e = not_there (ap (λ (t : ℕ → Bool). position t (keys_of es)) (sym (test_is k)) ∙ sym e)
+  place_is (Some i) e = found_there i (ap (λ (t : ℕ → Bool). position t (keys_of es)) (sym (test_is k)) ∙ sym e)
+
+-- ---- one more member
+added_last : (k p : ℕ) (xs : List (ℕ × ℕ)) → among (names_of xs) k ≡ false → insert_entry equal.eq xs k p ≡ xs ++ (k, p) ∷ []
+added_last k p [] n = refl
+added_last k p (x ∷ xs) n = step (x.0 == k) n (ap (λ (t : ℕ → Bool). t x.0) (test_is k)) (added_last k p xs)
+  where
+    step : (b : Bool) → (b || among (names_of xs) k) ≡ false → equal.eq k x.0 ≡ b → (among (names_of xs) k ≡ false → insert_entry equal.eq xs k p ≡ xs ++ (k, p) ∷ []) → insert_entry equal.eq (x ∷ xs) k p ≡ x ∷ (xs ++ (k, p) ∷ [])
+    step true o q f = absurd (true≢false o)
+    step false o q f = rw q (ap (λ (ys : List (ℕ × ℕ)). x ∷ ys) (f o))
+
+pub added_is : (es : List (ℕ × ℕ)) (k p : ℕ) → among (names_of es) k ≡ false → insert_entry equal.eq es k p ≡ with_member es k p
+added_is es k p h = go (among (names_of es) k) h
+  where
+    go : (b : Bool) → b ≡ false → insert_entry equal.eq es k p ≡ (if b then es else es ++ (k, p) ∷ [])
+    go true e = absurd (true≢false e)
+    go false e = added_last k p es h
+
+-- ---- a value put beside a name
+pub put_is : (k w : ℕ) (es fs : List (ℕ × ℕ)) (x : ℕ) → lookup (equal.eq k) fs ≡ cond (equal.eq w k) (Some x) (lookup (equal.eq k) es) → found_by fs k ≡ (if w == k then Some x else found_by es k)
+put_is k w es fs x h = sym (found_is k fs) ∙ (h ∙ both (name_eq_is w k) (found_is k es))
+  where
+    both : {a b : Bool} {o q : Option ℕ} → a ≡ b → o ≡ q → cond a (Some x) o ≡ (if b then Some x else q)
+    both e f = λ j. cond (e j) (Some x) (f j)
+
+pub there_is : (es : List (ℕ × ℕ)) (k p : ℕ) → among (names_of es) k ≡ true → es ≡ with_member es k p
+there_is es k p h = go (among (names_of es) k) h
+  where
+    go : (b : Bool) → b ≡ true → es ≡ (if b then es else es ++ (k, p) ∷ [])
+    go true e = refl
+    go false e = absurd (true≢false (sym e))
+
+-- ---- one more entry of the index
+pub linked_none : (old new : Linked) (sender before : Option ℕ) → sender ≡ None → before ≡ None → new.latest ≡ old.latest → new.earlier ≡ old.earlier ++ before ∷ [] → IsLinkedTo old new sender
+linked_none old new None before s b l e = (l, subst (λ o. new.earlier ≡ old.earlier ++ o ∷ []) b e)
+linked_none old new (Some w) before s b l e = cc
+
+pub linked_some : (old new : Linked) (w : ℕ) (sender before : Option ℕ) → sender ≡ Some w → before ≡ lookup (equal.eq w) old.latest
+    → ((u : ℕ) → lookup (equal.eq u) new.latest ≡ cond (equal.eq w u) (Some (length old.earlier)) (lookup (equal.eq u) old.latest)) → new.earlier ≡ old.earlier ++ before ∷ [] → IsLinkedTo old new sender
+linked_some old new w sender before s b l e =
+    subst (λ o. IsLinkedTo old new o) (sym s) (
+      λ u. put_is u w old.latest new.latest (length old.earlier) (l u),
+      e ∙ ap (λ (o : Option ℕ). old.earlier ++ o ∷ []) (b ∙ found_is w old.latest),
+    )

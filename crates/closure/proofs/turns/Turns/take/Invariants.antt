@@ -1,0 +1,5 @@
+use Rattle.closure.proofs.Growing.{IsJoining}
+use Rattle.closure.proofs.turns.Turns.take.Given as goal
+
+abbrev pub invariant-loop-name : goal.invariant-loop-name
+invariant-loop-name g l = IsJoining (g.J.Announcements.hosts l.self.journal.now) l.self.slot (g.J.Announcements.entries l.self.journal.now) l.name-items l.initial.members l.members l.name-index

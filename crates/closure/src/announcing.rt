@@ -1,0 +1,54 @@
+//! What a closure reads of a journal.
+
+ghost use Rattle.std.specs.Prelude.{◌≡◌, ◌<◌, List, ℕ, length, map, option_map};
+ghost use Rattle.protocol.specs.Hosts.{Entry};
+ghost use Rattle.protocol.specs.Networks.{Host, slices_of};
+ghost use Rattle.protocol.specs.Sets.{IsAscending};
+ghost use Rattle.closure.specs.Announcing.{announced_at, slices_then};
+
+use types::{Nested, NodeId};
+
+/// What an applied event of a journal announces: which slices of a node, to which hosted node, and at which
+/// slot. A hosted node that is given new slices announces them to itself.
+#[derive(Clone, Copy)]
+pub struct Announcement<'a> {
+    /// The slot of the envelope, or the one at which the slices are new.
+    pub slot: u64,
+    /// The hosted node that learnt of them.
+    pub receiver: NodeId,
+    /// The node that announced the slices.
+    pub sender: NodeId,
+    /// The announced slices.
+    pub slices: &'a Nested,
+}
+
+/// A journal as closures see it: the hosted nodes with their configured slices, and what each entry
+/// announces.
+///
+/// The ghost members are the hosted nodes and the entries of the definitions. No method takes memory.
+pub trait Announcements {
+    /// The hosted nodes, as they are configured.
+    ghost hosts: { Self → List Host };
+
+    /// The applied events, in order, with what they gave out.
+    ghost entries: { Self → List Entry };
+
+    /// The configured slices of a node, where it is hosted.
+    fn slices(&self, node: &NodeId) -> Option<&Nested>
+        ensures value { option_map (λ q. q.now) result ≡ slices_of (hosts self.now) node.now }
+        ensures ascending { IsAscending (map (λ h. h.name) (hosts self.now)) };
+
+    /// The slices of a node at a slot after all entries, where it is hosted: those that it was given there
+    /// last since the slot was opened, else the configured ones.
+    fn slices_then(&self, node: &NodeId, slot: u64) -> Option<&Nested>
+        ensures { option_map (λ q. q.now) result ≡ slices_then (hosts self.now) slot (entries self.now) node.now };
+
+    /// How many entries there are.
+    fn len(&self) -> usize
+        ensures { result ≡ length (entries self.now) };
+
+    /// What the entry with this number announces, from 0 on: `None` where it is neither a delivery nor a
+    /// change of slices, and where there is no such entry.
+    fn announcement(&self, number: usize) -> Option<Announcement<'_>>
+        ensures { option_map (λ a. record { slot = a.slot; receiver = a.receiver; sender = a.sender; slices = a.slices.now }) result ≡ announced_at (entries self.now) number };
+}

@@ -1,0 +1,98 @@
+//! The members of a closure in the order in which they were found.
+
+ghost use Rattle.std.specs.Prelude.{◌≡◌, ◌<◌, ◌^◌, ◌==◌, [], ◌∷◌, Some, length, map, slice_get, IfOk, OnOk, MatchOption, IsFalse};
+ghost use Rattle.std.specs.List.{IsDistinct};
+ghost use Rattle.protocol.specs.Sets.{among};
+ghost use Rattle.closure.specs.Announcing.{names_of};
+ghost use Rattle.closure.specs.Turns.{with_member};
+
+use indexmap::IndexMap;
+use std::alloc::{AllocError, Global};
+use std::marker::Model;
+use types::NodeId;
+
+/// The members of a closure, in the order in which they were found, each with the place of the member
+/// that named it. Places count from 0; the first member names itself.
+#[derive(Drop)]
+pub struct ClosureList {
+    members: IndexMap<NodeId, usize>,
+}
+
+impl Model for ClosureList {
+    ghost use Rattle.closure.specs.Announcing.{Listed};
+
+    ghost Value = { Listed };
+
+    ghost view = { λ a. a.members.entries };
+}
+
+impl ClosureList {
+    /// The closure of a node that names nobody.
+    pub(crate) fn of(alloc: Global, node: &NodeId) -> Result<ClosureList, AllocError>
+        ensures { IfOk result (λ c. c ≡ (node.now, 0) ∷ []) }
+    {
+        let mut members = IndexMap::new(alloc);
+        members.insert(*node, 0)?;
+        Ok(ClosureList { members })
+    }
+
+    /// Adds a name at the end, with the place of the member that names it, unless it is there.
+    pub(crate) fn add(&mut self, name: &NodeId, namer: usize) -> Result<(), AllocError>
+        ensures { OnOk result (self.new ≡ with_member self.old name.now namer) }
+    {
+        if !self.members.contains_key(name) {
+            self.members.insert(*name, namer)?;
+        }
+        Ok(())
+    }
+
+    /// How many members there are.
+    pub fn len(&self) -> usize
+        ensures value { result ≡ length self.now }
+        ensures fits { result < 2 ^ 63 }
+        ensures once { IsDistinct (λ x y. x == y) (names_of self.now) }
+    {
+        self.members.len()
+    }
+
+    /// Whether there is no member.
+    pub fn is_empty(&self) -> bool
+        ensures { result ≡ (length self.now == 0) }
+    {
+        self.members.len() == 0
+    }
+
+    /// The place of a node, where it is a member.
+    pub fn place(&self, node: &NodeId) -> Option<usize>
+        ensures { MatchOption result (IsFalse (among (names_of self.now) node.now)) (λ k. slice_get (names_of self.now) k ≡ Some node.now) }
+    {
+        self.members.get_index_of(node)
+    }
+
+    /// Whether a node is a member.
+    pub fn has(&self, node: &NodeId) -> bool
+        ensures { result ≡ among (names_of self.now) node.now }
+    {
+        self.members.contains_key(node)
+    }
+
+    /// The name of the member at a place, with the place of the member that named it.
+    pub fn member(&self, place: usize) -> Option<(NodeId, usize)>
+        ensures { result ≡ slice_get self.now place }
+    {
+        match self.members.get_index(place) {
+            None => None,
+            Some((name, namer)) => Some((*name, *namer)),
+        }
+    }
+
+    /// The name of the member at a place.
+    pub fn name(&self, place: usize) -> Option<NodeId>
+        ensures { result ≡ slice_get (names_of self.now) place }
+    {
+        match self.members.get_index(place) {
+            None => None,
+            Some((name, _)) => Some(*name),
+        }
+    }
+}

@@ -1,0 +1,55 @@
+//! The closure of a node in a journal.
+
+ghost use Rattle.std.specs.Prelude.{IfOk, map};
+ghost use Rattle.protocol.specs.Sets.{IsAscending};
+ghost use Rattle.closure.specs.Announcing.{IsClosureList};
+
+use crate::announcing::Announcements;
+use crate::closure_list::ClosureList;
+use crate::deliveries::Deliveries;
+use crate::turns::Turns;
+use std::alloc::{AllocError, Global};
+use types::NodeId;
+
+/// All nodes that a node comes to depend on at a slot in a whole journal: the node itself, the names of
+/// the configured slices of each hosted member, the names of all slices that a hosted member was given at
+/// the slot, and the names that an applied delivery from a member to a member announces (this host's
+/// profile). An error says that memory is short.
+///
+/// The node comes first, and each later member has an earlier one that names it. Members have their
+/// turns by place, again and again until a whole sweep adds none; in its turn a member adds the missing
+/// names that it gives, ascending, its announcements counting to the members of that moment.
+///
+/// A sweep takes time in proportion to the members and their announcements, and the names of one
+/// are read at most twice. There are at most two sweeps more than hosted members.
+pub fn closure<J: Announcements>(
+    alloc: Global,
+    journal: &J,
+    slot: u64,
+    node: &NodeId,
+) -> Result<ClosureList, AllocError>
+    ensures { IfOk result (λ c. IsClosureList (J.hosts journal.now) slot node.now (J.entries journal.now) c) }
+{
+    hosted_ascend(journal, node);
+    let deliveries = Deliveries::of(alloc, journal, slot)?;
+    let turns = Turns {
+        journal,
+        slot,
+        deliveries: &deliveries,
+    };
+    let mut members = ClosureList::of(alloc, node)?;
+    let mut known = 0;
+    while known < members.len() {
+        let count = members.len();
+        turns.sweep(alloc, &mut members, known)?;
+        known = count;
+    }
+    Ok(members)
+}
+
+/// The names of a journal's hosted nodes ascend: whoever looks a node up has seen all its slices.
+fn hosted_ascend<J: Announcements>(journal: &J, node: &NodeId)
+    ensures { IsAscending (map (λ h. h.name) (J.hosts journal.now)) }
+{
+    journal.slices(node);
+}

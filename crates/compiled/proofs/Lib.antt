@@ -1,0 +1,6 @@
+pub mod Words
+pub mod Picking
+pub mod MembersMet
+pub mod Weights
+pub mod Sweeps
+pub mod Clearing

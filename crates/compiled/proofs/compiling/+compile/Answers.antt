@@ -1,0 +1,48 @@
+use Rattle.std.proofs.Common.{◌+◌, List, Vec, length, ap, ◌∙◌, arith}
+use Rattle.std.specs.Global.{Global}
+use Rattle.types.specs.Trees.{weight_of}
+use Rattle.compiled.specs.declared.mask.Mask.{Mask}
+use Rattle.types.proofs.Weights.{inner_weighs_less}
+use Rattle.protocol.specs.Sets.{among}
+use Rattle.compiled.specs.Places.{Compiled, places_in, sets_of}
+use Rattle.compiled.specs.Met.{met, sets_met, picked, one_where, needed_of}
+use Rattle.compiled.proofs.MembersMet.{node_on, set_on, one_set_more, all_met}
+use Rattle.compiled.proofs.compiling.+compile.Goals as goal
+use Rattle.compiled.proofs.compiling.+compile.Goals.{in-Node+in_ok-add_node-in-Node, in-Set+in_ok-compile-in-Set+in_ok-push-in-Set}
+
+pub compile-requires : goal.compile-requires
+compile-requires t c =
+    let w = inner_weighs_less c.members-members.result.now c.loop-member.member-index c.member-item.result c.in-Set.set c.loop-member-test.true c.member-item.is c.in-Set.is in
+    let e = ap weight_of c.members-members.ensures in
+    (omega (arith, w, e, c.decreases), c.requires)
+
+pub loop-member-preserved : goal.loop-member-preserved
+loop-member-preserved t c = record {
+  shape = c.loop-member.invariant.shape;
+  so_far = λ ws.
+      let ms = c.members-members.result.now in
+      let i = c.loop-member.member-index in
+      let s = among (picked c.args.nodes.now ws) in
+      let before = c.loop-member.invariant.so_far ws in
+      elim c.match-member.branch [
+        | in-Node+in_ok-add_node-in-Node w ↦
+            let added = ap (λ (v : Vec Mask Global). places_in v.items ws) w.masks-is ∙ w.in_ok-add_node-in-Node.ensures ws in
+            let same = ap (λ (v : Vec Compiled Global). sets_met (sets_of v.items) ws) w.inner-is in
+            omega (arith, before, added, same, node_on c.args.blocking ms i c.member-item.result w.in-Node.node s c.loop-member-test.true c.member-item.is w.in-Node.is)
+        | in-Set+in_ok-compile-in-Set+in_ok-push-in-Set w ↦
+            let same = ap (λ (v : Vec Mask Global). places_in v.items ws) w.masks-is in
+            let compiled = w.in_ok-compile-in-Set.field-0 in
+            let added = ap (λ (v : Vec Compiled Global). sets_met (sets_of v.items) ws) w.inner-is ∙ ap (λ (cs : List Compiled). sets_met (sets_of cs) ws) w.in_ok-push-in-Set.ensures.items in
+            let more = one_set_more c.loop-member.inner.items compiled ws ∙ ap (λ x. sets_met (sets_of c.loop-member.inner.items) ws + one_where x) (w.in_ok-compile-in-Set.ensures ws) in
+            omega (arith, before, added, more, same, set_on c.args.blocking ms i c.member-item.result w.in-Set.set s c.loop-member-test.true c.member-item.is w.in-Set.is)
+      ];
+}
+
+pub returns : goal.returns
+returns t c = λ ws.
+    let ms = c.members-members.result.now in
+    let s = among (picked c.args.nodes.now ws) in
+    let made : Compiled = record { needed = c.needed_of-needed.result; masks = c.loop-member.masks.items; inner = sets_of c.loop-member.inner.items } in
+    let needed = c.needed_of-needed.ensures ∙ ap (λ k. needed_of c.args.blocking k (length ms)) c.threshold.ensures in
+    ap (λ (x : Compiled). met x ws) c.new.ensures
+    ∙ all_met c.args.blocking ms c.loop-member.member-index c.args.set.now s made ws (omega (arith, c.loop-member-test.false)) c.members-members.ensures needed (c.loop-member.invariant.so_far ws)

@@ -1,0 +1,14 @@
+use Rattle.std.proofs.Common.{◌≡◌, ℕ, Option, false, sym, ap, ◌∙◌, arith, is_some}
+use Rattle.std.proofs.lemmas.Result.{on_ok_weaker}
+use Rattle.protocol.specs.Sets.{among}
+use Rattle.compiled.proofs.Picking.{none_is, bit_is}
+use Rattle.compiled.proofs.compiling.add_node.Goals as goal
+
+pub returns-in-None : goal.returns-in-None
+returns-in-None c = λ ws.
+    let absent : among c.args.nodes.now c.args.node.now ≡ false = sym c.place_of.ensures.exactly ∙ ap (λ (o : Option ℕ). is_some o) c.in-None.is in
+    omega (arith, none_is c.args.nodes.now c.args.node.now ws absent)
+
+pub returns-in-Some : goal.returns-in-Some
+returns-in-Some c =
+    on_ok_weaker c.add_place.result (λ h ws. omega (arith, h ws, bit_is c.args.nodes.now c.in-Some.place c.args.node.now ws c.requires c.in-Some.ensures.place.0 c.in-Some.ensures.place.1)) c.add_place.ensures

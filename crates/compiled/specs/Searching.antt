@@ -1,0 +1,36 @@
+-- The search for a quorum over places.
+use Rattle.std.specs.Prelude.{◌≡◌, ℕ, zero, suc, ◌+◌, ◌<◌, List, get_or, length, Bool, false, ◌&&◌, ◌==◌, Option, Some, None, IsTrue}
+use Rattle.types.specs.Trees.{Slices}
+use Rattle.protocol.specs.Sets.{Names, among, AreWithin}
+use Rattle.protocol.specs.Satisfaction.{sat}
+use Rattle.protocol.specs.Quorums.{Quorum, is_satisfied}
+use Rattle.compiled.specs.Places.{bit_of, Compiled}
+use Rattle.compiled.specs.Met.{met, picked}
+
+-- there are compiled slices, and the places meet them
+abbrev pub met_at : Option Compiled → List ℕ → Bool
+met_at None ws = false
+met_at (Some c) ws = met c ws
+
+-- the place is in the set, and the set meets its slices
+abbrev pub stays_at : List (Option Compiled) → List ℕ → ℕ → Bool
+stays_at cs ws i = (bit_of ws i == 1) && met_at (get_or cs i None) ws
+
+-- each node's compiled slices stand at its place: places meet them exactly where the nodes at those places satisfy its slices
+pub record AreCompiled (us : List ℕ) (slices_at : ℕ → Option Slices) (cs : List (Option Compiled)) : Type 0 where
+  pub as_many : length cs ≡ length us
+  pub each : (i : ℕ) → i < length us → (ws : List ℕ) → met_at (get_or cs i None) ws ≡ is_satisfied sat (slices_at (get_or us i 0)) (among (picked us ws))
+
+-- no quorum among the supporters has lost a node
+pub record IsLeft (slices_at : ℕ → Option Slices) (supporters set : Names) : Type 0 where
+  pub within : AreWithin set supporters
+  pub all_quorums : (q : Names) → Quorum sat slices_at q → AreWithin q supporters → AreWithin q set
+
+-- the set meets the slices of all its places
+abbrev pub AllMet : List (Option Compiled) → List ℕ → Type 0
+AllMet cs ws = (i : ℕ) → i < length cs → bit_of ws i ≡ 1 → IsTrue (met_at (get_or cs i None) ws)
+
+-- how many of the first places are in the set
+abbrev pub live : ℕ → List ℕ → ℕ
+live zero ws = 0
+live (suc n) ws = bit_of ws n + live n ws

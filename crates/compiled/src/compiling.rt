@@ -1,0 +1,71 @@
+//! From slices to their compiled form.
+
+ghost use Rattle.std.specs.Prelude.{◌≡◌, ◌+◌, ◌<◌, ◌^◌, ℕ, List, IfOk, IfSome, OnOk, get_or, is_some, length};
+ghost use Rattle.types.specs.Trees.{member_count};
+ghost use Rattle.protocol.specs.Sets.{IsAscending, among};
+ghost use Rattle.compiled.specs.Met.{IsCompiled, one_where, picked, needed_of};
+ghost use Rattle.compiled.specs.Places.{places_in};
+
+use crate::mask::{Mask, add_place};
+use crate::set::CompiledSet;
+use std::alloc::{AllocError, Global};
+use types::{Member, NodeId, SliceSet};
+
+/// The compiled form of a set against a list of nodes: it is met by places exactly where the nodes at those
+/// places satisfy the set or, where `blocking` is said, block it.
+///
+/// The nodes are ascending, none twice. Names that are not among them are in no such set of nodes. An error
+/// says that memory is short.
+pub fn compile(
+    alloc: Global,
+    set: &SliceSet,
+    nodes: &[NodeId],
+    blocking: bool,
+) -> Result<CompiledSet, AllocError>
+    requires { IsAscending nodes.now }
+    ensures { IfOk result (λ c. IsCompiled blocking nodes.now set.now c) }
+{
+    let members = set.members();
+    let mut masks = Vec::new(alloc);
+    let mut inner = Vec::new(alloc);
+    for member in members {
+        match member {
+            Member::Node(node) => add_node(&mut masks, nodes, node)?,
+            Member::Set(set) => inner.push(compile(alloc, set, nodes, blocking)?)?,
+        }
+    }
+    let needed = needed_of(set.threshold(), members.len(), blocking);
+    Ok(CompiledSet::new(needed, masks, inner))
+}
+
+/// How many members meet the set: its threshold or, to block it, one more than it can spare.
+fn needed_of(threshold: u8, members: usize, blocking: bool) -> usize
+    requires { members < 2 ^ 63 }
+    ensures { result ≡ needed_of blocking threshold members }
+{
+    if blocking {
+        (members + 1).saturating_sub(threshold as usize)
+    } else {
+        threshold as usize
+    }
+}
+
+/// Adds the place of a node, where it has one.
+fn add_node(masks: &mut Vec<Mask>, nodes: &[NodeId], node: &NodeId) -> Result<(), AllocError>
+    requires { IsAscending nodes.now }
+    ensures { OnOk result ((ws : List ℕ) → places_in masks.new.items ws ≡ places_in masks.old.items ws + one_where (among (picked nodes.now ws) node.now)) }
+{
+    match place_of(nodes, node) {
+        None => Ok(()),
+        Some(place) => add_place(masks, place),
+    }
+}
+
+/// The place of a node, if it has one.
+pub fn place_of(nodes: &[NodeId], node: &NodeId) -> Option<usize>
+    requires { IsAscending nodes.now }
+    ensures exactly { is_some result ≡ among nodes.now node.now }
+    ensures place { IfSome result (λ i. (i < length nodes.now) × (get_or nodes.now i 0 ≡ node.now)) }
+{
+    nodes.binary_search(node).ok()
+}

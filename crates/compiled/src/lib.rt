@@ -1,0 +1,14 @@
+//! Slices compiled against a list of nodes: each name is a place in the list, a set of nodes is a list of
+//! words with a bit for each place, and a test of slices is a few words for each of their sets.
+#![tactic(auto)]
+
+mod compiling;
+mod mask;
+mod places;
+mod search;
+mod set;
+
+pub use compiling::{compile, place_of};
+pub use places::{add_place, has_place, no_places};
+pub use search::in_quorum;
+pub use set::{CompiledSet, is_met};

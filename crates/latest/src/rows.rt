@@ -1,0 +1,74 @@
+//! The rows of a table, as they read in the archive where they lie.
+
+ghost use Rattle.std.specs.Prelude.{◌≡◌, length, option_map, slice_get, true};
+ghost use Rattle.envstore.specs.Archives.{AreFiled, sents_of};
+ghost use Rattle.latest.specs.Senders.{senders};
+ghost use Rattle.protocol.specs.Rows.{has_single_rows, row};
+
+use crate::table::Table;
+use envstore::Archive;
+use std::marker::Model;
+use types::{Envelope, Kind, NodeId};
+
+/// A table, and the archive in which its rows lie.
+///
+/// Contracts see it as the envelopes of these rows, in the order of the table.
+#[derive(Drop)]
+pub struct Rows<'a, S: envstore::Places> {
+    table: &'a Table,
+    archive: &'a Archive<S>,
+}
+
+impl<'a, S: envstore::Places> Model for Rows<'a, S> {
+    ghost use Rattle.std.specs.Coded.{codes};
+    ghost use Rattle.std.specs.Prelude.{List};
+    ghost use Rattle.envstore.specs.Archives.{AreFiled, sents_of};
+    ghost use Rattle.types.specs.Statements.{Sent};
+    ghost use Rattle.types.specs.Trees.{members_code};
+
+    ghost Value = { List Sent };
+
+    ghost coded = { Prim.hlevel (codes, members_code) };
+
+    ghost view = { λ a. sents_of a.table.now };
+
+    ghost invariant = { λ a. AreFiled a.archive.now a.table.now };
+}
+
+impl<'a, S: envstore::Places> Rows<'a, S> {
+    /// The rows of a table that lie in this archive.
+    pub fn of(table: &'a Table, archive: &'a Archive<S>) -> Rows<'a, S>
+        requires { AreFiled archive.now table.now }
+        ensures { result ≡ sents_of table.now }
+    {
+        Rows { table, archive }
+    }
+
+    /// The sender's row of a kind. It takes no memory.
+    pub fn row(&self, sender: &NodeId, kind: Kind) -> Option<&'a Envelope>
+        ensures { option_map (λ r. r.now) result ≡ row self.now sender.now kind }
+    {
+        self.table.row(self.archive, sender, kind)
+    }
+
+    /// The sender that has `n` senders below it, as [`Table::sender`] says.
+    pub fn sender(&self, n: usize) -> Option<&'a NodeId>
+        ensures { option_map (λ r. r.now) result ≡ slice_get (senders self.now) n }
+    {
+        self.table.sender(n)
+    }
+
+    /// How many senders have a row. It takes no memory.
+    pub fn sender_count(&self) -> usize
+        ensures { result ≡ length (senders self.now) }
+    {
+        self.table.sender_count()
+    }
+
+    /// A law: there is at most one row of each sender and kind.
+    pub fn are_single(&self)
+        ensures { has_single_rows self.now ≡ true }
+    {
+        self.table.rows();
+    }
+}

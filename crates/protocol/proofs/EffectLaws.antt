@@ -1,0 +1,92 @@
+-- What an event's effect leaves as it is, beside the slots.
+use Rattle.types.specs.declared.event.NodeEvent.{NodeEvent}
+use Rattle.std.proofs.Common.{◌≡◌, ℕ, Bool, true, false, not, ◌==◌, Option, Some, None, List, [], ◌∷◌, ◌++◌, map, filter, if◌then◌else◌, cond, refl, ap}
+use Rattle.types.specs.Statements.{Sent}
+use Rattle.protocol.specs.Rosters.{Draw}
+use Rattle.protocol.specs.Networks.{Slot, Place, Net, Step, effect, act, act_in, act_known, emission, known, places_at, renewed}
+use Rattle.protocol.specs.Networks.Reading.{Read, Fault}
+use Rattle.protocol.specs.Networks.Step.{Opens, Closes, Asks, Delivers, Hears, NominationTimes, BallotTimes, Reslices}
+
+-- what an event leaves of the draws
+abbrev pub left : Step → List Draw → List Draw
+left (Opens j) ds = renewed j ds
+left (Closes j) ds = ds
+left (Asks j u x) ds = ds
+left (Delivers u size d) ds = ds
+left (Hears j u from kind k) ds = ds
+left (NominationTimes j u r) ds = ds
+left (BallotTimes j u n) ds = ds
+left (Reslices j u q) ds = ds
+
+-- the open slots after an event
+abbrev pub opened_after : Step → List ℕ → List ℕ
+opened_after (Opens j) ns = ns ++ j ∷ []
+opened_after (Closes j) ns = filter (λ n. not (n == j)) ns
+opened_after (Asks j u x) ns = ns
+opened_after (Delivers u size d) ns = ns
+opened_after (Hears j u from kind k) ns = ns
+opened_after (NominationTimes j u r) ns = ns
+opened_after (BallotTimes j u n) ns = ns
+opened_after (Reslices j u q) ns = ns
+
+abbrev pub numbers : List Slot → List ℕ
+numbers ss = map (λ s. s.number) ss
+
+-- a network with other slots and draws
+pub record Keeps (net : Net) (open_slots : List ℕ) (kept_draws : List Draw) (next : Net) : Type 0 where
+  pub number : next.number ≡ net.number
+  pub hosts : next.hosts ≡ net.hosts
+  pub budgets : next.budgets ≡ net.budgets
+  pub roster : next.roster ≡ net.roster
+  pub events : next.events ≡ net.events
+  pub bytes : next.bytes ≡ net.bytes
+  pub opens : next.opens ≡ net.opens
+  pub draws : next.draws ≡ kept_draws
+  pub slots : numbers next.slots ≡ open_slots
+
+numbers-act : (f : List Place → List Place) (i : ℕ) (ss : List Slot) → numbers (map {B = Slot} (λ (s : Slot). if s.number == i then record s { places = f s.places } else s) ss) ≡ numbers ss
+numbers-act f i [] = refl
+numbers-act f i (s ∷ ss) = go (s.number == i) (numbers-act f i ss)
+  where
+    rest : List Slot
+    rest = map {B = Slot} (λ (s : Slot). if s.number == i then record s { places = f s.places } else s) ss
+
+    go : (b : Bool) → numbers rest ≡ numbers ss → (if b then record s { places = f s.places } else s).number ∷ numbers rest ≡ s.number ∷ numbers ss
+    go true e = ap (λ ns. s.number ∷ ns) e
+    go false e = ap (λ ns. s.number ∷ ns) e
+
+numbers-push : (ss : List Slot) (s : Slot) → numbers (ss ++ s ∷ []) ≡ numbers ss ++ s.number ∷ []
+numbers-push [] s = refl
+numbers-push (t ∷ ts) s = ap (λ ns. t.number ∷ ns) (numbers-push ts s)
+
+numbers-drop : (i : ℕ) (ss : List Slot) → numbers (filter (λ s. not (s.number == i)) ss) ≡ filter (λ n. not (n == i)) (numbers ss)
+numbers-drop i [] = refl
+numbers-drop i (s ∷ ss) = go (not (s.number == i)) (numbers-drop i ss)
+  where
+    go : (b : Bool) → numbers (filter (λ s. not (s.number == i)) ss) ≡ filter (λ n. not (n == i)) (numbers ss)
+        → numbers (cond b (s ∷ filter (λ s. not (s.number == i)) ss) (filter (λ s. not (s.number == i)) ss)) ≡ cond b (s.number ∷ filter (λ n. not (n == i)) (numbers ss)) (filter (λ n. not (n == i)) (numbers ss))
+    go true e = ap (λ ns. s.number ∷ ns) e
+    go false e = e
+
+keeps-act : (net : Net) (i u : ℕ) (e : NodeEvent) → Keeps net (numbers net.slots) net.draws (act net i u e).0
+unfolding act
+keeps-act net i u e = record { number = refl; hosts = refl; budgets = refl; roster = refl; events = refl; bytes = refl; opens = refl; draws = refl; slots = numbers-act (act_in u e) i net.slots }
+
+keeps-self : (net : Net) → Keeps net (numbers net.slots) net.draws net
+keeps-self net = record { number = refl; hosts = refl; budgets = refl; roster = refl; events = refl; bytes = refl; opens = refl; draws = refl; slots = refl }
+
+pub effect-keeps : (net : Net) (e : Step) → Keeps net (opened_after e (numbers net.slots)) (left e net.draws) (effect net e).0
+unfolding effect
+effect-keeps net (Opens j) = record { number = refl; hosts = refl; budgets = refl; roster = refl; events = refl; bytes = refl; opens = refl; draws = refl; slots = numbers-push net.slots _ }
+effect-keeps net (Closes j) = record { number = refl; hosts = refl; budgets = refl; roster = refl; events = refl; bytes = refl; opens = refl; draws = refl; slots = numbers-drop j net.slots }
+effect-keeps net (Asks j u x) = keeps-act net j u _
+effect-keeps net (Delivers u size (Read e)) = keeps-act net e.slot u _
+effect-keeps net (Delivers u size (Fault n)) = keeps-self net
+effect-keeps net (Hears j u from kind k) = go (emission (known (places_at net.slots j) from) kind k)
+  where
+    go : (o : Option Sent) → Keeps net (numbers net.slots) net.draws (act_known net j u o).0
+    go None = keeps-self net
+    go (Some e) = keeps-act net j u _
+effect-keeps net (NominationTimes j u r) = keeps-act net j u _
+effect-keeps net (BallotTimes j u n) = keeps-act net j u _
+effect-keeps net (Reslices j u q) = keeps-act net j u _

@@ -1,0 +1,158 @@
+-- Where all spellings of an envelope have one length, submitted steps that are the same but for lengths are the same.
+use Rattle.types.specs.declared.event.Event.{Event}
+use Rattle.types.specs.declared.event.Event.TheVariants.{OpenSlot, CloseSlot, Propose as Ask, Deliver, Hear, NominationTimer as NominationTimeout, BallotTimer as BallotTimeout, Reslice as ChangeSlices}
+use Rattle.std.proofs.Common.{◌≡◌, ℕ, Bool, true, false, ◌==◌, Option, Some, None, List, [], ◌∷◌, map, length, cond, if◌then◌else◌, refl, sym, ◌∙◌, ap, ap₂}
+use Rattle.std.specs.List.{AllByRecursion}
+use Rattle.std.proofs.lemmas.Bool.{false≢true}
+use Rattle.types.specs.Statements.{Sent}
+use Rattle.protocol.specs.Sets.{Names}
+use Rattle.protocol.specs.Networks.{Reading, Step, Reply, read, size_of}
+use Rattle.protocol.specs.Networks.Reading.{Read, Fault}
+use Rattle.protocol.specs.Networks.Step.{Opens, Closes, Asks, Delivers, Hears, NominationTimes, BallotTimes, Reslices}
+use Rattle.protocol.specs.Hosts.{nets, host_run, steps_of}
+use Rattle.protocol.specs.Submissions.{Answer, answers_of, concerns, concerning, answers, HasOneLength, unsized, LengthsFollow}
+
+-- a delivery that concerns the set is what some bytes are read as
+abbrev IsRead : (List ℕ → Reading) → Step → Type 0
+IsRead decode (Opens j) = Unit {0}
+IsRead decode (Closes j) = Unit {0}
+IsRead decode (Asks j u x) = Unit {0}
+IsRead decode (Delivers u size d) = (bytes : List ℕ) × ((size ≡ length bytes) × (decode bytes ≡ d))
+IsRead decode (Hears j u from kind k) = Unit {0}
+IsRead decode (NominationTimes j u r) = Unit {0}
+IsRead decode (BallotTimes j u n) = Unit {0}
+IsRead decode (Reslices j u q) = Unit {0}
+
+is_read : (decode : List ℕ → Reading) (e : Event) → IsRead decode (read decode e)
+is_read decode (OpenSlot j) = tt
+is_read decode (CloseSlot j) = tt
+is_read decode (Ask j u x) = tt
+is_read decode (Deliver u bytes) = (bytes, (refl, refl))
+is_read decode (Hear j u from kind k) = tt
+is_read decode (NominationTimeout j u r) = tt
+is_read decode (BallotTimeout j u n) = tt
+is_read decode (ChangeSlices j u q) = tt
+
+-- so it is for all that concerns it
+abbrev AreRead : (List ℕ → Reading) → Names → ℕ → List Answer → Type 0
+AreRead decode R i xs = AllByRecursion (λ (x : Answer). IsRead decode x.step × (concerns R i x.step ≡ true)) (concerning R i xs)
+
+are_read : (decode : List ℕ → Reading) (R : Names) (i g : ℕ) (calls : List (ℕ × Event)) (rs : List Reply) → AreRead decode R i (answers_of g (steps_of decode calls) rs)
+unfolding answers_of
+are_read decode R i g [] rs = tt
+are_read decode R i g (c ∷ cs) [] = tt
+are_read decode R i g (c ∷ cs) (r ∷ rs) = go (c.0 == g) (are_read decode R i g cs rs)
+  where
+    rest : List Answer
+    rest = answers_of g (steps_of decode cs) rs
+
+    more : (b : Bool) → concerns R i (read decode c.1) ≡ b → AreRead decode R i rest → AllByRecursion (λ (x : Answer). IsRead decode x.step × (concerns R i x.step ≡ true)) (cond b (record { step = read decode c.1; reply = r } ∷ concerning R i rest) (concerning R i rest))
+    more true e h = ((is_read decode c.1, e), h)
+    more false e h = h
+
+    go : (b : Bool) → AreRead decode R i rest → AreRead decode R i (if b then record { step = read decode c.1; reply = r } ∷ rest else rest)
+    go true h = more (concerns R i (read decode c.1)) refl h
+    go false h = h
+
+-- ---- a step is what it is without its length, and its length
+resized : ℕ → Step → Step
+resized n (Opens j) = Opens j
+resized n (Closes j) = Closes j
+resized n (Asks j u x) = Asks j u x
+resized n (Delivers u size d) = Delivers u n d
+resized n (Hears j u from kind k) = Hears j u from kind k
+resized n (NominationTimes j u r) = NominationTimes j u r
+resized n (BallotTimes j u r) = BallotTimes j u r
+resized n (Reslices j u q) = Reslices j u q
+
+resized-back : (e : Step) → resized (size_of e) (unsized e) ≡ e
+unfolding resized
+resized-back (Opens j) = refl
+resized-back (Closes j) = refl
+resized-back (Asks j u x) = refl
+resized-back (Delivers u size d) = refl
+resized-back (Hears j u from kind k) = refl
+resized-back (NominationTimes j u r) = refl
+resized-back (BallotTimes j u r) = refl
+resized-back (Reslices j u q) = refl
+
+-- the envelope that it delivers
+envelope_of : Step → Option Sent
+envelope_of (Opens j) = None
+envelope_of (Closes j) = None
+envelope_of (Asks j u x) = None
+envelope_of (Delivers u size (Read e)) = Some e
+envelope_of (Delivers u size (Fault n)) = None
+envelope_of (Hears j u from kind k) = None
+envelope_of (NominationTimes j u r) = None
+envelope_of (BallotTimes j u r) = None
+envelope_of (Reslices j u q) = None
+
+envelope-unsized : (e : Step) → envelope_of (unsized e) ≡ envelope_of e
+unfolding envelope_of
+envelope-unsized (Opens j) = refl
+envelope-unsized (Closes j) = refl
+envelope-unsized (Asks j u x) = refl
+envelope-unsized (Delivers u size (Read e)) = refl
+envelope-unsized (Delivers u size (Fault n)) = refl
+envelope-unsized (Hears j u from kind k) = refl
+envelope-unsized (NominationTimes j u r) = refl
+envelope-unsized (BallotTimes j u r) = refl
+envelope-unsized (Reslices j u q) = refl
+
+module _ (decode : List ℕ → Reading) (R : Names) (i : ℕ) where
+  abbrev Known : Step → Type 0
+  Known e = IsRead decode e × (concerns R i e ≡ true)
+
+  -- it has the length of some bytes that are read as its envelope, or none
+  length_known : (e : Step) → Known e → (x : Sent) → envelope_of e ≡ Some x → (bytes : List ℕ) × ((size_of e ≡ length bytes) × (decode bytes ≡ Read x))
+  unfolding envelope_of
+  length_known (Opens j) h x q = cc
+  length_known (Closes j) h x q = cc
+  length_known (Asks j u y) h x q = cc
+  length_known (Delivers u size (Read e)) h x q = let m : e ≡ x = cc in (h.0.0, (h.0.1.0, h.0.1.1 ∙ ap {B = Reading} Read m))
+  length_known (Delivers u size (Fault n)) h x q = cc
+  length_known (Hears j u from kind k) h x q = cc
+  length_known (NominationTimes j u r) h x q = cc
+  length_known (BallotTimes j u r) h x q = cc
+  length_known (Reslices j u new) h x q = cc
+
+  no_length : (e : Step) → Known e → envelope_of e ≡ None → size_of e ≡ 0
+  unfolding envelope_of
+  no_length (Opens j) h q = refl
+  no_length (Closes j) h q = refl
+  no_length (Asks j u y) h q = refl
+  no_length (Delivers u size (Read e)) h q = cc
+  no_length (Delivers u size (Fault n)) h q = absurd (false≢true h.1)
+  no_length (Hears j u from kind k) h q = refl
+  no_length (NominationTimes j u r) h q = refl
+  no_length (BallotTimes j u r) h q = refl
+  no_length (Reslices j u new) h q = refl
+
+  module _ (lengths : HasOneLength decode) where
+    one_step : (e f : Step) → Known e → Known f → unsized e ≡ unsized f → e ≡ f
+    one_step e f a b h = sym (resized-back e) ∙ (ap₂ resized (go (envelope_of e) refl) h ∙ resized-back f)
+      where
+        same : envelope_of e ≡ envelope_of f
+        same = sym (envelope-unsized e) ∙ (ap envelope_of h ∙ envelope-unsized f)
+
+        go : (o : Option Sent) → envelope_of e ≡ o → size_of e ≡ size_of f
+        go None q = no_length e a q ∙ sym (no_length f b (sym same ∙ q))
+        go (Some x) q =
+            let m = length_known e a x q in
+            let n = length_known f b x (sym same ∙ q) in
+            m.1.0 ∙ (lengths m.0 n.0 x m.1.1 n.1.1 ∙ sym n.1.0)
+
+    one_list : (xs ys : List Answer) → AllByRecursion (λ (x : Answer). Known x.step) xs → AllByRecursion (λ (x : Answer). Known x.step) ys → map unsized (map (λ x. x.step) xs) ≡ map unsized (map (λ x. x.step) ys) → map (λ x. x.step) xs ≡ map (λ x. x.step) ys
+    one_list [] [] a b h = refl
+    one_list [] (y ∷ ys) a b h = cc
+    one_list (x ∷ xs) [] a b h = cc
+    one_list (x ∷ xs) (y ∷ ys) a b h =
+        let first : unsized x.step ≡ unsized y.step = cc in
+        let rest : map unsized (map (λ x. x.step) xs) ≡ map unsized (map (λ x. x.step) ys) = cc in
+        ap₂ (λ (e : Step) (es : List Step). e ∷ es) (one_step x.step y.step a.0 b.0 first) (one_list xs ys a.1 b.1 rest)
+
+pub lengths_follow : LengthsFollow
+lengths_follow decode lengths one other g i R h =
+    one_list decode R i lengths (concerning R i (answers decode one g)) (concerning R i (answers decode other g))
+    (are_read decode R i g one.calls (host_run (nets one.configs) (steps_of decode one.calls))) (are_read decode R i g other.calls (host_run (nets other.configs) (steps_of decode other.calls))) h

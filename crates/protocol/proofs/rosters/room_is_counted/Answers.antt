@@ -1,0 +1,5 @@
+use Rattle.protocol.proofs.RoomLaws.{stays_in_room}
+use Rattle.protocol.proofs.rosters.room_is_counted.Goals as goal
+
+pub returns-clause-stays : goal.returns-clause-stays
+returns-clause-stays c = stays_in_room

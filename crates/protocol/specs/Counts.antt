@@ -1,0 +1,130 @@
+-- What a network counts, by its journal; and that it refuses for want of room exactly where what a step draws on is used up.
+use Rattle.types.specs.declared.event.Refusal.{Refusal}
+use Rattle.types.specs.declared.event.Refusal.TheVariants.{TooManySlots, JournalFull, BytesFull, ShareFull, ShareBytesFull}
+use Rattle.std.specs.Prelude.{◌≡◌, ℕ, ◌<◌, ◌≤◌, ◌+◌, Bool, true, false, ◌&&◌, ◌==◌, length, List, [], ◌∷◌, ◌++◌, Some, None, filter, fold, sum_by, if◌then◌else◌}
+use Rattle.protocol.specs.Rosters.{Roster, Share, Source, same_share, events_drawn, bytes_drawn, events_of}
+use Rattle.protocol.specs.Rosters.Source.{OfBudgets, OfOpens, OfShare}
+use Rattle.protocol.specs.Networks.{Net, Step, source, size_of, on_budgets, on_opens, first_that, tests, net_step}
+use Rattle.protocol.specs.Networks.Step.{Opens, Closes, Asks, Delivers, Hears, NominationTimes, BallotTimes, Reslices}
+use Rattle.protocol.specs.Hosts.{Config, Entry}
+use Rattle.protocol.specs.Runs.{IsRun, state_of}
+
+-- ---- what a journal draws
+abbrev pub is_of_budgets : Source → Bool
+is_of_budgets OfBudgets = true
+is_of_budgets (OfOpens shares) = false
+is_of_budgets (OfShare shares i s) = false
+
+abbrev pub is_of_opens : Source → Bool
+is_of_opens OfBudgets = false
+is_of_opens (OfOpens shares) = true
+is_of_opens (OfShare shares i s) = false
+
+-- it is this share of the slot
+abbrev pub is_of_share : ℕ → Share → Source → Bool
+is_of_share i s OfBudgets = false
+is_of_share i s (OfOpens shares) = false
+is_of_share i s (OfShare shares j t) = (j == i) && same_share t s
+
+-- the entries whose source passes the test
+abbrev pub drawing : Config → (Source → Bool) → List Entry → List Entry
+drawing config test xs = filter (λ x. test (source config.roster x.event)) xs
+
+-- how many delivered bytes they have
+abbrev pub bytes_in : List Entry → ℕ
+bytes_in xs = sum_by (λ x. size_of x.event) xs
+
+-- the step opens the slot
+abbrev pub is_opening : ℕ → Step → Bool
+is_opening i (Opens j) = j == i
+is_opening i _ = false
+
+-- the entries since the slot was last opened
+abbrev pub since_opened : ℕ → List Entry → List Entry
+since_opened i xs = fold (λ since x. if is_opening i x.event then [] else since ++ x ∷ []) [] xs
+
+-- a network counts what its journal drew: on the budgets and on openings and closings over its life, on a share since its slot was opened
+pub record IsCountOf (config : Config) (xs : List Entry) (net : Net) : Type 0 where
+  pub events : net.events ≡ length (drawing config is_of_budgets xs)
+  pub bytes : net.bytes ≡ bytes_in (drawing config is_of_budgets xs)
+  pub opens : net.opens ≡ length (drawing config is_of_opens xs)
+  pub share_events : (i : ℕ) (s : Share) → events_drawn i s net.draws ≡ length (drawing config (is_of_share i s) (since_opened i xs))
+  pub share_bytes : (i : ℕ) (s : Share) → bytes_drawn i s net.draws ≡ bytes_in (drawing config (is_of_share i s) (since_opened i xs))
+
+abbrev pub RunsAreCounted : Type 0
+RunsAreCounted = (config : Config) (xs : List Entry) → IsRun config xs → IsCountOf config xs (state_of config xs)
+
+-- ---- refused exactly where it is used up
+-- the events of a source are used up
+abbrev pub IsUsedUp : Net → Source → Type 0
+IsUsedUp net OfBudgets = net.budgets.events ≤ net.events
+IsUsedUp net (OfOpens shares) = shares.opens ≤ net.opens
+IsUsedUp net (OfShare shares i s) = events_of shares s ≤ events_drawn i s net.draws
+
+-- so many bytes more would exceed what a share has
+abbrev pub ExceedsShare : Net → Source → ℕ → Type 0
+ExceedsShare net OfBudgets size = ⊥
+ExceedsShare net (OfOpens shares) size = ⊥
+ExceedsShare net (OfShare shares i s) size = shares.bytes < bytes_drawn i s net.draws + size
+
+-- what a refusal for want of room says of the network and of what the step draws on
+abbrev pub IsMet : Net → Source → ℕ → Refusal → Type 0
+IsMet net s size TooManySlots = net.budgets.slots ≤ length net.slots
+IsMet net s size JournalFull = (s ≡ OfBudgets) × IsUsedUp net s
+IsMet net s size BytesFull = (s ≡ OfBudgets) × (net.budgets.bytes < net.bytes + size)
+IsMet net s size ShareFull = (is_of_budgets s ≡ false) × IsUsedUp net s
+IsMet net s size ShareBytesFull = ExceedsShare net s size
+IsMet net s size _ = Unit {0}
+
+abbrev pub RefusedWhereMet : Type 0
+RefusedWhereMet = (net : Net) (e : Step) (n : Refusal) → first_that (tests net e) ≡ Some n → IsMet net (source net.roster e) (size_of e) n
+
+-- the step finds room: for one more event, for its bytes and for the slot that it opens
+abbrev pub HasEvents : Net → Source → Type 0
+HasEvents net OfBudgets = net.events < net.budgets.events
+HasEvents net (OfOpens shares) = net.opens < shares.opens
+HasEvents net (OfShare shares i s) = events_drawn i s net.draws < events_of shares s
+
+abbrev pub HasBytes : Net → Source → ℕ → Type 0
+HasBytes net OfBudgets size = net.bytes + size ≤ net.budgets.bytes
+HasBytes net (OfOpens shares) size = Unit {0}
+HasBytes net (OfShare shares i s) size = bytes_drawn i s net.draws + size ≤ shares.bytes
+
+abbrev pub HasRoom : Net → Step → Type 0
+HasRoom net (Opens i) = (length net.slots < net.budgets.slots) × HasEvents net (source net.roster (Opens i))
+HasRoom net (Closes i) = HasEvents net (source net.roster (Closes i))
+HasRoom net (Asks i u x) = HasEvents net (source net.roster (Asks i u x))
+HasRoom net (Delivers u size d) = HasEvents net (source net.roster (Delivers u size d)) × HasBytes net (source net.roster (Delivers u size d)) size
+HasRoom net (Hears i u from kind k) = HasEvents net (source net.roster (Hears i u from kind k))
+HasRoom net (NominationTimes i u r) = HasEvents net (source net.roster (NominationTimes i u r))
+HasRoom net (BallotTimes i u n) = HasEvents net (source net.roster (BallotTimes i u n))
+HasRoom net (Reslices i u q) = HasEvents net (source net.roster (Reslices i u q))
+
+abbrev pub AppliedWhereRoom : Type 0
+AppliedWhereRoom = (net : Net) (e : Step) → first_that (tests net e) ≡ None → HasRoom net e
+
+-- ---- one step more, and what never is exceeded
+-- what an applied step makes of the counts: a share is renewed by each opening of its slot
+pub record IsCountedAfter (net : Net) (e : Step) (next : Net) : Type 0 where
+  pub events : next.events ≡ net.events + on_budgets (source net.roster e) 1
+  pub bytes : next.bytes ≡ net.bytes + on_budgets (source net.roster e) (size_of e)
+  pub opens : next.opens ≡ net.opens + on_opens (source net.roster e)
+  pub renewed : (i : ℕ) (s : Share) → is_opening i e ≡ true → (events_drawn i s next.draws ≡ 0) × (bytes_drawn i s next.draws ≡ 0)
+  pub share_events : (i : ℕ) (s : Share) → is_opening i e ≡ false → events_drawn i s next.draws ≡ events_drawn i s net.draws + (if is_of_share i s (source net.roster e) then 1 else 0)
+  pub share_bytes : (i : ℕ) (s : Share) → is_opening i e ≡ false → bytes_drawn i s next.draws ≡ bytes_drawn i s net.draws + (if is_of_share i s (source net.roster e) then size_of e else 0)
+
+abbrev pub StepsAreCounted : Type 0
+StepsAreCounted = (net : Net) (e : Step) → first_that (tests net e) ≡ None → IsCountedAfter net e (net_step net e).0
+
+-- no more is drawn than there is
+pub record IsInRoom (config : Config) (net : Net) : Type 0 where
+  pub slots : length net.slots ≤ config.budgets.slots
+  pub events : net.events ≤ config.budgets.events
+  pub bytes : net.bytes ≤ config.budgets.bytes
+  pub opens : (r : Roster) → config.roster ≡ Some r → net.opens ≤ r.shares.opens
+  pub share_events : (r : Roster) → config.roster ≡ Some r → (i : ℕ) (s : Share) → events_drawn i s net.draws ≤ events_of r.shares s
+  pub share_bytes : (r : Roster) → config.roster ≡ Some r → (i : ℕ) (s : Share) → bytes_drawn i s net.draws ≤ r.shares.bytes
+
+-- after any steps, refused ones too
+abbrev pub StaysInRoom : Type 0
+StaysInRoom = (config : Config) (xs : List Entry) → IsInRoom config (state_of config xs)

@@ -1,0 +1,64 @@
+-- What new slices make of a node.
+use Rattle.std.specs.Prelude.{◌≡◌, ℕ, ◌&&◌, ◌==◌, List, [], ◌∷◌, Some, if◌then◌else◌}
+use Rattle.types.specs.Trees.{Slices}
+use Rattle.types.specs.declared.event.NodeEvent.{NodeEvent}
+use Rattle.types.specs.declared.event.NodeEvent.TheVariants.{Propose, Take, NominationTimer, BallotTimer, Reslice}
+use Rattle.protocol.specs.Nodes.{Node, step}
+use Rattle.protocol.specs.Limits.{Reached}
+use Rattle.protocol.specs.Networks.{Step, Place, slices_of, places_at, known}
+use Rattle.protocol.specs.Networks.Step.{Opens, Closes, Asks, Delivers, Hears, NominationTimes, BallotTimes, Reslices}
+use Rattle.protocol.specs.Hosts.{Config, Entry}
+use Rattle.protocol.specs.Runs.{IsRun, state_of}
+
+-- the slices after an event: the new ones where it gives any, else those before it
+abbrev pub slices_after : NodeEvent → Slices → Slices
+slices_after (Propose x) q = q
+slices_after (Take e) q = q
+slices_after (NominationTimer r) q = q
+slices_after (BallotTimer c) q = q
+slices_after (Reslice new) q = new
+
+-- a node that events lead to has the slices that were given last: no event meets the limit of passes, so new ones are always in force
+abbrev pub SlicesFollowEvents : Type 0
+SlicesFollowEvents = (n : Node) → Reached n → (e : NodeEvent) → (step n e).0.slices ≡ slices_after e n.slices
+
+-- name and slot are as they were, and so are the table and what events gave, the leaders with that
+pub record IsElseSame (old new : Node) : Type 0 where
+  pub name : new.name ≡ old.name
+  pub slot : new.slot ≡ old.slot
+  pub given : new.given ≡ old.given
+  pub table : new.table ≡ old.table
+
+-- beside the slices, new ones change the votes alone
+abbrev pub ReslicesChangeVotes : Type 0
+ReslicesChangeVotes = (n : Node) (q : Slices) → IsElseSame n (step n (Reslice q)).0
+
+-- the slices that it has already change nothing of a node that events lead to, and it gives nothing out
+abbrev pub SameSlicesAreQuiet : Type 0
+SameSlicesAreQuiet = (n : Node) → Reached n → step n (Reslice n.slices) ≡ (n, [])
+
+-- ---- over a run
+-- the slices of a node at a slot after one more applied event: the new ones where that gives them to the node there; the configured ones where it opens or closes the slot
+abbrev pub slices_next : ℕ → ℕ → Slices → Slices → Step → Slices
+slices_next i u configured now (Opens j) = if j == i then configured else now
+slices_next i u configured now (Closes j) = if j == i then configured else now
+slices_next i u configured now (Asks j w x) = now
+slices_next i u configured now (Delivers w size d) = now
+slices_next i u configured now (Hears j w from kind k) = now
+slices_next i u configured now (NominationTimes j w r) = now
+slices_next i u configured now (BallotTimes j w n) = now
+slices_next i u configured now (Reslices j w q) = if (j == i) && (w == u) then q else now
+
+-- after the events of these entries
+unfoldable pub slices_since : ℕ → ℕ → Slices → Slices → List Entry → Slices
+slices_since i u configured now [] = now
+slices_since i u configured now (x ∷ xs) = slices_since i u configured (slices_next i u configured now x.event) xs
+
+-- after a whole run: those that the node was given last since the slot was opened, else the configured ones
+abbrev pub slices_at_end : ℕ → ℕ → Slices → List Entry → Slices
+slices_at_end i u configured run = slices_since i u configured configured run
+
+-- they are the slices of the node in the state that the run leads to, wherever the slot is open there
+abbrev pub SlicesFollowRuns : Type 0
+SlicesFollowRuns = (config : Config) (run : List Entry) (i u : ℕ) (configured : Slices) (p : Place) → IsRun config run → slices_of config.hosts u ≡ Some configured
+    → known (places_at (state_of config run).slots i) u ≡ Some p → p.node.slices ≡ slices_at_end i u configured run

@@ -1,0 +1,133 @@
+-- Submissions: what was submitted to a network, refused steps too, and that nobody crowds out the members of a closure that its roster holds.
+use Rattle.std.specs.Prelude.{◌≡◌, ℕ, Bool, true, ◌==◌, List, [], ◌∷◌, Option, Some, None, filter, map, length, if◌then◌else◌, is_some, IsTrue}
+use Rattle.types.specs.Statements.{Sent}
+use Rattle.protocol.specs.Sets.{Names, among, AreWithin}
+use Rattle.protocol.specs.Rosters.{Roster}
+use Rattle.protocol.specs.Networks.{Reading, Step, Net, Reply, slices_of, net_step}
+use Rattle.protocol.specs.Networks.Reading.{Read}
+use Rattle.protocol.specs.Networks.Step.{Opens, Closes, Asks, Delivers, Hears, NominationTimes, BallotTimes, Reslices}
+use Rattle.protocol.specs.Hosts.{Config, History, new_net, nets, journal, host_run, hosts_of, steps_of, entries}
+use Rattle.protocol.specs.Isolation.{kept, closure, outs_of, SameCast}
+
+-- ---- what was submitted
+-- a submitted step, with its reply
+pub record Answer : Type 0 where
+  pub step : Step
+  pub reply : Reply
+
+-- all that is submitted to a network, with its replies
+unfoldable pub net_run : Net → List Step → List Answer
+net_run net [] = []
+net_run net (e ∷ es) = record { step = e; reply = (net_step net e).1 } ∷ net_run (net_step net e).0 es
+
+-- the steps of one network of a host
+unfoldable pub steps_to : ℕ → List (ℕ × Step) → List Step
+steps_to g [] = []
+steps_to g (c ∷ cs) = if c.0 == g then c.1 ∷ steps_to g cs else steps_to g cs
+
+-- the same, with their replies
+unfoldable pub answers_of : ℕ → List (ℕ × Step) → List Reply → List Answer
+answers_of g [] rs = []
+answers_of g (c ∷ cs) [] = []
+answers_of g (c ∷ cs) (r ∷ rs) = if c.0 == g then record { step = c.1; reply = r } ∷ answers_of g cs rs else answers_of g cs rs
+
+-- all that a history submits to one network, with its replies
+abbrev pub answers : (List ℕ → Reading) → History → ℕ → List Answer
+answers decode h g = answers_of g (steps_of decode h.calls) (host_run (nets h.configs) (steps_of decode h.calls))
+
+-- a step concerns a set at a slot where it would be kept, were it applied; and so does each opening and closing of the network
+abbrev pub concerns : Names → ℕ → Step → Bool
+concerns R i (Opens j) = true
+concerns R i (Closes j) = true
+concerns R i (Asks j u x) = is_some (kept R i (Asks j u x))
+concerns R i (Delivers u size d) = is_some (kept R i (Delivers u size d))
+concerns R i (Hears j u from kind k) = is_some (kept R i (Hears j u from kind k))
+concerns R i (NominationTimes j u r) = is_some (kept R i (NominationTimes j u r))
+concerns R i (BallotTimes j u n) = is_some (kept R i (BallotTimes j u n))
+concerns R i (Reslices j u q) = is_some (kept R i (Reslices j u q))
+
+-- what concerns a set at a slot, of all that was submitted
+abbrev pub concerning : Names → ℕ → List Answer → List Answer
+concerning R i xs = filter (λ x. concerns R i x.step) xs
+
+-- these steps, in order
+abbrev pub concerned : Names → ℕ → List Answer → List Step
+concerned R i xs = map (λ x. x.step) (concerning R i xs)
+
+-- and their replies
+abbrev pub replied_to : Names → ℕ → List Answer → List Reply
+replied_to R i xs = map (λ x. x.reply) (concerning R i xs)
+
+-- ---- rosters
+-- a network as it is configured; none where it is not there
+abbrev pub config_of : List Config → ℕ → Option Config
+config_of [] g = None
+config_of (c ∷ cs) g = if c.number == g then Some c else config_of cs g
+
+-- both have a roster, with the same names and equal shares
+abbrev pub SameRoster : Option Roster → Option Roster → Type 0
+SameRoster (Some one) (Some other) = ((u : ℕ) → among one.names u ≡ among other.names u) × (one.shares ≡ other.shares)
+SameRoster (Some one) None = ⊥
+SameRoster None other = ⊥
+
+-- the same roster, and equal budgets of open slots
+abbrev pub SameReserves : Option Config → Option Config → Type 0
+SameReserves (Some one) (Some other) = SameRoster one.roster other.roster × (one.budgets.slots ≡ other.budgets.slots)
+SameReserves (Some one) None = ⊥
+SameReserves None other = ⊥
+
+-- the names of a roster
+abbrev pub names_on : Option Roster → List ℕ
+names_on None = []
+names_on (Some r) = r.names
+
+-- the names of a network's roster
+abbrev pub roster_names : Option Config → List ℕ
+roster_names None = []
+roster_names (Some c) = names_on c.roster
+
+-- ---- the theorem
+-- Of two host histories: if the closure of v in the first has the same hosted members in both, both networks have one roster with equal
+-- shares and equal budgets of open slots, the closure lies in the roster, and the submitted steps that concern it are the same in order,
+-- then so are their replies, refusals included, and each hosted member gives out the same in both. It holds for every decoder of envelopes.
+abbrev pub MembersAreNeverCrowdedOut : Type 0
+MembersAreNeverCrowdedOut = (decode : List ℕ → Reading) (one other : History) (g i v : ℕ) →
+    let R = closure (hosts_of one.configs g) i v (entries decode one g) in
+    SameCast R v (hosts_of one.configs g) (hosts_of other.configs g)
+    → SameReserves (config_of one.configs g) (config_of other.configs g)
+    → AreWithin R (among (roster_names (config_of one.configs g)))
+    → concerned R i (answers decode one g) ≡ concerned R i (answers decode other g)
+    → (replied_to R i (answers decode one g) ≡ replied_to R i (answers decode other g))
+    × ((u : ℕ) → IsTrue (R u) → IsTrue (is_some (slices_of (hosts_of one.configs g) u)) → outs_of i u (entries decode one g) ≡ outs_of i u (entries decode other g))
+
+-- The same of two networks, each of its own configuration, to which these steps are submitted.
+abbrev pub MembersOfRunsAreNeverCrowdedOut : Type 0
+MembersOfRunsAreNeverCrowdedOut = (one other : Config) (es fs : List Step) (i v : ℕ) →
+    let R = closure one.hosts i v (journal (new_net one) es) in
+    SameCast R v one.hosts other.hosts
+    → SameReserves (Some one) (Some other)
+    → AreWithin R (among (names_on one.roster))
+    → concerned R i (net_run (new_net one) es) ≡ concerned R i (net_run (new_net other) fs)
+    → (replied_to R i (net_run (new_net one) es) ≡ replied_to R i (net_run (new_net other) fs))
+    × ((u : ℕ) → IsTrue (R u) → outs_of i u (journal (new_net one) es) ≡ outs_of i u (journal (new_net other) fs))
+
+-- ---- lengths follow from envelopes
+-- all spellings of an envelope have one length
+abbrev pub HasOneLength : (List ℕ → Reading) → Type 0
+HasOneLength decode = (a b : List ℕ) (e : Sent) → decode a ≡ Read e → decode b ≡ Read e → length a ≡ length b
+
+-- a step without the length of what it delivers
+abbrev pub unsized : Step → Step
+unsized (Opens j) = Opens j
+unsized (Closes j) = Closes j
+unsized (Asks j u x) = Asks j u x
+unsized (Delivers u size d) = Delivers u 0 d
+unsized (Hears j u from kind k) = Hears j u from kind k
+unsized (NominationTimes j u r) = NominationTimes j u r
+unsized (BallotTimes j u n) = BallotTimes j u n
+unsized (Reslices j u q) = Reslices j u q
+
+-- then submitted steps that are the same but for lengths are the same
+abbrev pub LengthsFollow : Type 0
+LengthsFollow = (decode : List ℕ → Reading) → HasOneLength decode → (one other : History) (g i : ℕ) (R : Names)
+    → map unsized (concerned R i (answers decode one g)) ≡ map unsized (concerned R i (answers decode other g)) → concerned R i (answers decode one g) ≡ concerned R i (answers decode other g)

@@ -1,0 +1,54 @@
+//! Rosters with reserved shares: what networks count, what rosters leave as it is, and that nobody
+//! crowds out the members of a closure that the roster holds.
+
+ghost use Rattle.protocol.specs.Counts.{AppliedWhereRoom, RefusedWhereMet, RunsAreCounted, StaysInRoom, StepsAreCounted};
+ghost use Rattle.protocol.specs.Crowds.{CrowdsAreUnique, CrowdsExist};
+ghost use Rattle.protocol.specs.Submissions.{LengthsFollow, MembersAreNeverCrowdedOut, MembersOfRunsAreNeverCrowdedOut};
+ghost use Rattle.protocol.specs.WithoutRoster.{StaysWithout, StepsWithout};
+
+/// Of two host histories, in which a network has the same roster, equal shares and equal budgets of
+/// open slots: if the closure of one of its nodes in the first has the same hosted members with the
+/// same slices in both and lies in the roster, and the submitted steps that concern it are the same
+/// in order, then so are their replies, refusals included, and what each hosted member gives out. It
+/// holds for every decoder of envelopes, and so for this host's; and for two networks alone, whatever
+/// is submitted to each of them.
+pub fn members_are_never_crowded_out()
+    ensures histories { MembersAreNeverCrowdedOut }
+    ensures runs { MembersOfRunsAreNeverCrowdedOut }
+{}
+
+/// Submitted steps are compared with the lengths of deliveries. Where all spellings of an envelope
+/// have one length, as for this host's decoder, steps that are the same but for these are the same.
+#[tactic(auto, using(crate::proofs::LengthLaws::lengths_follow))]
+pub fn lengths_follow_from_envelopes()
+    ensures { LengthsFollow }
+{}
+
+/// What a comparison of two submissions answers is determined: every two submissions have an answer,
+/// and no two answers are right.
+#[tactic(auto, using(crate::proofs::CrowdVerdicts::crowds_are_unique, crate::proofs::CrowdVerdicts::crowds_exist))]
+pub fn crowds_are_determined()
+    ensures unique { CrowdsAreUnique }
+    ensures there { CrowdsExist }
+{}
+
+/// A network without a roster steps by rules that know of none, in which each applied event draws on
+/// the budgets; it never has a roster, nor anything drawn on shares.
+#[tactic(auto, using(crate::proofs::WithoutRoster::steps_without, crate::proofs::WithoutRoster::stays_without))]
+pub fn without_roster_nothing_changes()
+    ensures steps { StepsWithout }
+    ensures stays { StaysWithout }
+{}
+
+/// What a network counts follows from its journal: on its budgets, and on openings and closings, what
+/// drew on them over its life; on a share, what drew on it since its slot was opened. A refusal for
+/// want of room says that what the step draws on is used up, and what is applied found room; so no
+/// more is ever drawn than there is.
+#[tactic(auto, using(crate::proofs::CountLaws::runs_are_counted, crate::proofs::RoomLaws::steps_are_counted, crate::proofs::CountLaws::refused_where_met, crate::proofs::CountLaws::applied_where_room))]
+pub fn room_is_counted()
+    ensures runs { RunsAreCounted }
+    ensures steps { StepsAreCounted }
+    ensures refused { RefusedWhereMet }
+    ensures applied { AppliedWhereRoom }
+    ensures stays { StaysInRoom }
+{}

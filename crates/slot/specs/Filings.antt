@@ -1,0 +1,47 @@
+-- Events and outs whose envelopes lie in an archive, and what they stand for.
+use Rattle.std.specs.Prelude.{List, map, ⊤}
+use Rattle.std.specs.List.{All}
+use Rattle.types.specs.Statements.{Sent}
+use Rattle.types.specs.declared.event.NodeEvent.{NodeEvent}
+use Rattle.types.specs.declared.event.Out.{Out}
+use Rattle.envstore.specs.Archives.{IsFiled, sent_of}
+use Rattle.slot.specs.declared.filed.FiledEvent.{FiledEvent}
+use Rattle.slot.specs.declared.filed.FiledEvent.TheVariants.{Propose, Take, NominationTimer, BallotTimer, Reslice}
+use Rattle.slot.specs.declared.filed.FiledOut.{FiledOut}
+use Rattle.slot.specs.declared.filed.FiledOut.TheVariants.{ArmNomination, ArmBallot, Emit, Externalized}
+
+-- the event, with the whole envelope
+abbrev pub event_of : FiledEvent → NodeEvent
+event_of (Propose x) = NodeEvent.Propose x
+event_of (Take f) = NodeEvent.Take (sent_of f)
+event_of (NominationTimer r) = NodeEvent.NominationTimer r
+event_of (BallotTimer n) = NodeEvent.BallotTimer n
+event_of (Reslice q) = NodeEvent.Reslice q
+
+-- the archive has its envelope
+abbrev pub IsFiledEvent : List Sent → FiledEvent → Type 0
+IsFiledEvent archive (Propose x) = ⊤
+IsFiledEvent archive (Take f) = IsFiled archive f
+IsFiledEvent archive (NominationTimer r) = ⊤
+IsFiledEvent archive (BallotTimer n) = ⊤
+IsFiledEvent archive (Reslice q) = ⊤
+
+-- what is given out, with the whole envelope
+abbrev pub out_of : FiledOut → Out
+out_of (ArmNomination r) = Out.ArmNomination r
+out_of (ArmBallot n) = Out.ArmBallot n
+out_of (Emit f) = Out.Emit (sent_of f)
+out_of (Externalized x) = Out.Externalized x
+
+abbrev pub outs_of : List FiledOut → List Out
+outs_of os = map out_of os
+
+-- the archive has its envelope
+abbrev pub IsFiledOut : List Sent → FiledOut → Type 0
+IsFiledOut archive (ArmNomination r) = ⊤
+IsFiledOut archive (ArmBallot n) = ⊤
+IsFiledOut archive (Emit f) = IsFiled archive f
+IsFiledOut archive (Externalized x) = ⊤
+
+abbrev pub AreFiledOuts : List Sent → List FiledOut → Type 0
+AreFiledOuts archive os = All (IsFiledOut archive) os
