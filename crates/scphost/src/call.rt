@@ -98,6 +98,7 @@ fn usage_of(alloc: Global, error: &Error) -> Usage
     ensures { kind_of error.now ≡ OutOfMemory → result ≡ NoMemory }
 {
     if error.kind() == ErrorKind::OutOfMemory {
+        // Memory: clap says so.
         return Usage::NoMemory;
     }
     match format!(in alloc; "{error}") {
