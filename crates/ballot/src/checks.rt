@@ -6,7 +6,7 @@ ghost use Rattle.protocol.specs.Balloting.{may_be_prepared, prepare_accepted, pr
 use crate::search::Check;
 use fedvote::{Question, Sight, is_accepted, is_confirmed};
 use std::alloc::{AllocError, Global};
-use types::{Ballot, Kind, Phase, Statement, Value};
+use types::{Kind, LentBallot, Phase, Statement, Value};
 
 /// Whether prepare of a ballot is accepted.
 #[derive(Drop)]
@@ -18,8 +18,8 @@ pub(crate) struct PrepareAccepted<'a, S> {
 impl<'a, S: Sight> Check for PrepareAccepted<'a, S> {
     ghost holds = { λ s t. prepare_accepted (S.seen s.sight.now) s.own.now t };
 
-    fn check(&self, alloc: Global, candidate: Ballot) -> Result<bool, AllocError> {
-        is_prepare_accepted(alloc, self.sight, self.own, &candidate)
+    fn check(&self, alloc: Global, candidate: &LentBallot) -> Result<bool, AllocError> {
+        is_prepare_accepted(alloc, self.sight, self.own, candidate)
     }
 }
 
@@ -28,12 +28,12 @@ fn is_prepare_accepted<S: Sight>(
     alloc: Global,
     sight: &S,
     own: &Option<Statement>,
-    ballot: &Ballot,
+    ballot: &LentBallot,
 ) -> Result<bool, AllocError>
     ensures { IfOk result (λ b. b ≡ prepare_accepted (S.seen sight.now) own.now ballot.now) }
 {
-    let backs = Question::VotesOrAcceptsPrepare(*ballot);
-    let accepts = Question::AcceptsPrepare(*ballot);
+    let backs = Question::VotesOrAcceptsPrepare(ballot.try_copy()?);
+    let accepts = Question::AcceptsPrepare(ballot.try_copy()?);
     is_accepted(alloc, sight, Kind::Ballot, own, &backs, &accepts)
 }
 
@@ -49,8 +49,8 @@ pub(crate) struct MayBePrepared<'a, S> {
 impl<'a, S: Sight> Check for MayBePrepared<'a, S> {
     ghost holds = { λ s t. may_be_prepared s.phase s.value.now t && prepare_accepted (S.seen s.accepted.sight.now) s.accepted.own.now t };
 
-    fn check(&self, alloc: Global, candidate: Ballot) -> Result<bool, AllocError> {
-        if may_be_prepared(self.phase, self.value, &candidate) {
+    fn check(&self, alloc: Global, candidate: &LentBallot) -> Result<bool, AllocError> {
+        if may_be_prepared(self.phase, self.value, candidate) {
             self.accepted.check(alloc, candidate)
         } else {
             Ok(false)
@@ -59,11 +59,11 @@ impl<'a, S: Sight> Check for MayBePrepared<'a, S> {
 }
 
 /// Whether a ballot may be the highest accepted one.
-fn may_be_prepared(phase: Phase, value: &Value, ballot: &Ballot) -> bool
+fn may_be_prepared(phase: Phase, value: &Value, ballot: &LentBallot) -> bool
     ensures { result ≡ may_be_prepared phase value.now ballot.now }
 {
     match phase {
-        Phase::Committing => ballot.value == *value,
+        Phase::Committing => *ballot.value() == *value,
         Phase::Preparing | Phase::Externalized => true,
     }
 }
@@ -78,8 +78,8 @@ pub(crate) struct PrepareConfirmed<'a, S> {
 impl<'a, S: Sight> Check for PrepareConfirmed<'a, S> {
     ghost holds = { λ s t. prepare_confirmed (S.seen s.sight.now) s.own.now t };
 
-    fn check(&self, alloc: Global, candidate: Ballot) -> Result<bool, AllocError> {
-        is_prepare_confirmed(alloc, self.sight, self.own, &candidate)
+    fn check(&self, alloc: Global, candidate: &LentBallot) -> Result<bool, AllocError> {
+        is_prepare_confirmed(alloc, self.sight, self.own, candidate)
     }
 }
 
@@ -88,10 +88,10 @@ pub(crate) fn is_prepare_confirmed<S: Sight>(
     alloc: Global,
     sight: &S,
     own: &Option<Statement>,
-    ballot: &Ballot,
+    ballot: &LentBallot,
 ) -> Result<bool, AllocError>
     ensures { IfOk result (λ b. b ≡ prepare_confirmed (S.seen sight.now) own.now ballot.now) }
 {
-    let question = Question::AcceptsPrepare(*ballot);
+    let question = Question::AcceptsPrepare(ballot.try_copy()?);
     is_confirmed(alloc, sight, Kind::Ballot, own, &question)
 }

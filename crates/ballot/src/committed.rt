@@ -8,7 +8,7 @@ ghost use Rattle.protocol.specs.Balloting.{accept_commit, accepted_from, commit_
 use crate::intervals::{AcceptedUpTo, CommitConfirmed, ConfirmedUpTo, EntersCommit, WidensCommit};
 use crate::lowest::lowest_of;
 use crate::named::Committed;
-use crate::positions::position;
+use crate::positions::own_position;
 use crate::search::greatest_of;
 use fedvote::Sight;
 use std::alloc::{AllocError, Global};
@@ -23,10 +23,10 @@ use types::{Ballot, Phase, Votes};
 pub fn accept_commit<S: Sight>(
     alloc: Global,
     sight: &S,
-    ballot: Ballot,
+    ballot: &Ballot,
     votes: Votes,
 ) -> Result<Votes, AllocError>
-    ensures { IfOk result (λ w. w ≡ accept_commit votes.phase (S.seen sight.now) ballot votes) }
+    ensures { IfOk result (λ w. w ≡ accept_commit votes.phase (S.seen sight.now) ballot.now votes) }
 {
     match votes.phase {
         Phase::Preparing => {
@@ -34,7 +34,7 @@ pub fn accept_commit<S: Sight>(
             enter_commit(alloc, sight, ballot, votes, first)
         }
         Phase::Committing => {
-            let next = next_committed(alloc, sight, &ballot, &votes)?;
+            let next = next_committed(alloc, sight, ballot, &votes)?;
             widen_commit(alloc, sight, ballot, votes, next)
         }
         Phase::Externalized => Ok(votes),
@@ -51,14 +51,14 @@ fn first_committed<S: Sight>(
 ) -> Result<Option<Ballot>, AllocError>
     ensures { IfOk result (λ t. t ≡ first_committed (S.seen sight.now) votes.now) }
 {
-    let own = position(votes);
+    let own = own_position(votes)?;
     let candidates = Committed { sight, own: &own };
     let test = EntersCommit {
         sight,
         own: &own,
         votes,
     };
-    greatest_of(alloc, &candidates, &test, None)
+    greatest_of(alloc, &candidates, &test, &None)
 }
 
 /// The greatest counter of the ballot's value above the interval that is accepted as committed. An error
@@ -72,7 +72,7 @@ fn next_committed<S: Sight>(
 ) -> Result<Option<Ballot>, AllocError>
     ensures { IfOk result (λ t. t ≡ next_committed (S.seen sight.now) ballot.now votes.now) }
 {
-    let own = position(votes);
+    let own = own_position(votes)?;
     let candidates = Committed { sight, own: &own };
     let test = WidensCommit {
         sight,
@@ -80,7 +80,7 @@ fn next_committed<S: Sight>(
         value: &ballot.value,
         hi: votes.hi,
     };
-    greatest_of(alloc, &candidates, &test, None)
+    greatest_of(alloc, &candidates, &test, &None)
 }
 
 /// The least commit counter of the value from which on the interval up to this ballot's counter is
@@ -94,14 +94,14 @@ fn accepted_from<S: Sight>(
 ) -> Result<u32, AllocError>
     ensures { IfOk result (λ n. n ≡ accepted_from (S.seen sight.now) votes.now end.now) }
 {
-    let own = position(votes);
+    let own = own_position(votes)?;
     let candidates = Committed { sight, own: &own };
     let test = AcceptedUpTo {
         sight,
         own: &own,
         high: end.counter,
     };
-    lowest_of(alloc, &candidates, &test, *end)
+    lowest_of(alloc, &candidates, &test, end)
 }
 
 /// The phase becomes [`types::Phase::Committing`], with the interval up to the first counter, where there
@@ -110,20 +110,20 @@ fn accepted_from<S: Sight>(
 fn enter_commit<S: Sight>(
     alloc: Global,
     sight: &S,
-    ballot: Ballot,
+    ballot: &Ballot,
     votes: Votes,
     first: Option<Ballot>,
 ) -> Result<Votes, AllocError>
-    ensures { IfOk result (λ w. w ≡ enter_commit (S.seen sight.now) ballot votes first) }
+    ensures { IfOk result (λ w. w ≡ enter_commit (S.seen sight.now) ballot.now votes first) }
 {
     let Some(first) = first else {
         return Ok(votes);
     };
     let lo = accepted_from(alloc, sight, &votes, &first)?;
     let hi = first.counter;
-    let ballot = up_to(&ballot, &first);
-    let prepared = raised_to(votes.prepared, &first);
-    let high = raised_to(votes.high, &first);
+    let ballot = up_to(ballot, &first)?;
+    let prepared = raised_to(&votes.prepared, &first)?;
+    let high = raised_to(&votes.high, &first)?;
     Ok(Votes {
         phase: Phase::Committing,
         ballot: Some(ballot),
@@ -141,19 +141,19 @@ fn enter_commit<S: Sight>(
 fn widen_commit<S: Sight>(
     alloc: Global,
     sight: &S,
-    ballot: Ballot,
+    ballot: &Ballot,
     votes: Votes,
     next: Option<Ballot>,
 ) -> Result<Votes, AllocError>
-    ensures { IfOk result (λ w. w ≡ widen_commit (S.seen sight.now) ballot votes next) }
+    ensures { IfOk result (λ w. w ≡ widen_commit (S.seen sight.now) ballot.now votes next) }
 {
     let Some(next) = next else {
         return Ok(votes);
     };
     let lo = accepted_from(alloc, sight, &votes, &next)?;
     let hi = next.counter;
-    let ballot = up_to(&ballot, &next);
-    let prepared = raised_to(votes.prepared, &next);
+    let ballot = up_to(ballot, &next)?;
+    let prepared = raised_to(&votes.prepared, &next)?;
     Ok(Votes {
         ballot: Some(ballot),
         prepared,
@@ -164,23 +164,23 @@ fn widen_commit<S: Sight>(
 }
 
 /// The end's value, with the greater of both counters.
-fn up_to(ballot: &Ballot, end: &Ballot) -> Ballot
-    ensures { result ≡ ballot_at (max ballot.now.counter end.now.counter) end.now.value }
+fn up_to(ballot: &Ballot, end: &Ballot) -> Result<Ballot, AllocError>
+    ensures { IfOk result (λ b. b ≡ ballot_at (max ballot.now.counter end.now.counter) end.now.value) }
 {
-    Ballot {
-        counter: ballot.counter.max(end.counter),
-        value: end.value,
-    }
+    end.at(ballot.counter.max(end.counter))
 }
 
 /// The ballot that is there, or this one where that is below it or where there is none.
 #[tactic(auto, unfolding(protocol::specs::Candidates::greatest))]
-fn raised_to(there: Option<Ballot>, ballot: &Ballot) -> Option<Ballot>
-    ensures { result ≡ greatest there (ballot.now ∷ []) }
+fn raised_to(there: &Option<Ballot>, ballot: &Ballot) -> Result<Option<Ballot>, AllocError>
+    ensures { IfOk result (λ o. o ≡ greatest there.now (ballot.now ∷ [])) }
 {
     match there {
-        None => Some(*ballot),
-        Some(there) => Some(if there < *ballot { *ballot } else { there }),
+        None => Ok(Some(ballot.try_copy()?)),
+        Some(there) => {
+            let greater = if *there < *ballot { ballot } else { there };
+            Ok(Some(greater.try_copy()?))
+        }
     }
 }
 
@@ -192,14 +192,14 @@ fn raised_to(there: Option<Ballot>, ballot: &Ballot) -> Option<Ballot>
 pub fn confirm_commit<S: Sight>(
     alloc: Global,
     sight: &S,
-    ballot: Ballot,
+    ballot: &Ballot,
     votes: Votes,
 ) -> Result<Votes, AllocError>
-    ensures { IfOk result (λ w. w ≡ confirm_commit votes.phase (S.seen sight.now) ballot votes) }
+    ensures { IfOk result (λ w. w ≡ confirm_commit votes.phase (S.seen sight.now) ballot.now votes) }
 {
     match votes.phase {
         Phase::Committing => {
-            let last = confirmed_commit(alloc, sight, &ballot, &votes)?;
+            let last = confirmed_commit(alloc, sight, ballot, &votes)?;
             externalize(alloc, sight, votes, last)
         }
         Phase::Preparing | Phase::Externalized => Ok(votes),
@@ -217,14 +217,14 @@ fn confirmed_commit<S: Sight>(
 ) -> Result<Option<Ballot>, AllocError>
     ensures { IfOk result (λ t. t ≡ confirmed_commit (S.seen sight.now) ballot.now votes.now) }
 {
-    let own = position(votes);
+    let own = own_position(votes)?;
     let candidates = Committed { sight, own: &own };
     let test = CommitConfirmed {
         sight,
         own: &own,
         value: &ballot.value,
     };
-    greatest_of(alloc, &candidates, &test, None)
+    greatest_of(alloc, &candidates, &test, &None)
 }
 
 /// The phase becomes [`types::Phase::Externalized`], with the confirmed interval up to the last counter,
@@ -262,12 +262,12 @@ fn confirmed_from<S: Sight>(
 ) -> Result<u32, AllocError>
     ensures { IfOk result (λ n. n ≡ lowest (λ lo. commit_confirmed (S.seen sight.now) votes.now end.now.value lo end.now.counter) end.now.value end.now.counter (commits (S.seen sight.now) votes.now)) }
 {
-    let own = position(votes);
+    let own = own_position(votes)?;
     let candidates = Committed { sight, own: &own };
     let test = ConfirmedUpTo {
         sight,
         own: &own,
         high: end.counter,
     };
-    lowest_of(alloc, &candidates, &test, *end)
+    lowest_of(alloc, &candidates, &test, end)
 }

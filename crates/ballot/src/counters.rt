@@ -1,17 +1,17 @@
 //! How the ballot's counter rises, and for which counter the ballot timer is armed.
 
-ghost use Rattle.std.specs.Prelude.{◌≡◌, ◌+◌, ◌-◌, ◌++◌, IfOk, not, option_to_list};
+ghost use Rattle.std.specs.Prelude.{◌≡◌, ◌+◌, ◌-◌, ◌++◌, IfOk, not, option_map, option_to_list};
 ghost use Rattle.types.specs.declared.kind.Kind.{Kind};
 ghost use Rattle.protocol.specs.Views.{passes};
 ghost use Rattle.protocol.specs.Passes.{arm, counts, known_or, raise, raised, raised_value, value_or};
 ghost use Rattle.protocol.specs.Candidates.{combine, greatest_value, least_from};
 ghost use Rattle.fedvote.specs.Searching.{next_counter};
 
-use crate::positions::position;
+use crate::positions::own_position;
 use fedvote::{Question, Sight, counter_by, lesser};
 use std::alloc::{AllocError, Global};
 use timers::cap;
-use types::{Ballot, Given, Kind, Phase, Statement, Value, Values, Votes};
+use types::{Ballot, Given, Kind, LentBallot, Phase, Statement, Value, Values, Votes};
 
 /// Raises the ballot to the lowest counter, from its own on, at which those with greater counters do
 /// not block; the cap is the greatest to which it is raised, and a counter above the cap stays. The
@@ -23,15 +23,15 @@ pub fn raise<S: Sight>(
     alloc: Global,
     sight: &S,
     given: &Given,
-    ballot: Ballot,
+    ballot: &Ballot,
     votes: Votes,
 ) -> Result<Votes, AllocError>
-    ensures { IfOk result (λ w. w ≡ raise (S.seen sight.now) given.now ballot votes) }
+    ensures { IfOk result (λ w. w ≡ raise (S.seen sight.now) given.now ballot.now votes) }
 {
-    let position = position(&votes);
+    let position = own_position(&votes)?;
     let most = cap(given.fired);
     let counter = raised_counter(alloc, sight, &position, ballot.counter, most)?;
-    let raised = raised(&votes, ballot, counter);
+    let raised = raised(&votes, ballot, counter).try_copy()?;
     Ok(Votes {
         ballot: Some(raised),
         ..votes
@@ -104,13 +104,13 @@ fn next_counter<S: Sight>(sight: &S, position: &Option<Statement>, above: u32) -
 pub fn arm<S: Sight>(
     alloc: Global,
     sight: &S,
-    ballot: Ballot,
+    ballot: &Ballot,
     votes: Votes,
 ) -> Result<Votes, AllocError>
-    ensures { IfOk result (λ w. w ≡ arm (S.seen sight.now) ballot votes) }
+    ensures { IfOk result (λ w. w ≡ arm (S.seen sight.now) ballot.now votes) }
 {
     let question = Question::HasCounter(ballot.counter);
-    let own_passes = question.passes(&position(&votes));
+    let own_passes = question.passes(&own_position(&votes)?);
     if sight.quorum(alloc, Kind::Ballot, own_passes, &question)? {
         Ok(Votes {
             armed: ballot.counter,
@@ -126,46 +126,43 @@ pub fn arm<S: Sight>(
 /// else that of the highest accepted ballot, else its own; in the other phases the value stays (after
 /// the Stellar Consensus Protocol draft; the combination is this host's profile). It takes no memory.
 #[tactic(auto, unfolding(protocol::specs::Passes::raised))]
-pub fn raised(votes: &Votes, ballot: Ballot, counter: u32) -> Ballot
-    ensures { result ≡ raised votes.now ballot counter }
+pub fn raised<'a>(votes: &'a Votes, ballot: &'a Ballot, counter: u32) -> LentBallot<'a>
+    ensures { result ≡ raised votes.now ballot.now counter }
 {
     if counter == ballot.counter {
-        ballot
+        LentBallot::of(ballot)
     } else {
-        Ballot {
-            counter,
-            value: raised_value(votes, ballot.value),
-        }
+        LentBallot::at(counter, raised_value(votes, &ballot.value))
     }
 }
 
 /// The value of a raised ballot that has this one.
 #[tactic(auto, unfolding(protocol::specs::Passes::raised_value))]
-fn raised_value(votes: &Votes, value: Value) -> Value
-    ensures { result ≡ raised_value votes.now.phase votes.now value }
+fn raised_value<'a>(votes: &'a Votes, value: &'a Value) -> &'a Value
+    ensures { result.now ≡ raised_value votes.now.phase votes.now value.now }
 {
     match votes.phase {
         Phase::Preparing => value_or(
-            votes.high,
-            known_or(combine(&votes.confirms), value_or(votes.prepared, value)),
+            &votes.high,
+            known_or(combine(&votes.confirms), value_or(&votes.prepared, value)),
         ),
         Phase::Committing | Phase::Externalized => value,
     }
 }
 
 /// The value of a ballot, else that one.
-fn value_or(ballot: Option<Ballot>, value: Value) -> Value
-    ensures { result ≡ value_or ballot value }
+fn value_or<'a>(ballot: &'a Option<Ballot>, value: &'a Value) -> &'a Value
+    ensures { result.now ≡ value_or ballot.now value.now }
 {
     match ballot {
         None => value,
-        Some(ballot) => ballot.value,
+        Some(ballot) => &ballot.value,
     }
 }
 
 /// A value that is known, else that one.
-fn known_or(known: Option<Value>, value: Value) -> Value
-    ensures { result ≡ known_or known value }
+fn known_or<'a>(known: Option<&'a Value>, value: &'a Value) -> &'a Value
+    ensures { result.now ≡ known_or (option_map (λ v. v.now) known.entry) value.now }
 {
     match known {
         None => value,
@@ -175,24 +172,24 @@ fn known_or(known: Option<Value>, value: Value) -> Value
 
 /// What a set of values is combined to: the greatest of them (this host's profile).
 #[tactic(auto, unfolding(protocol::specs::Candidates::combine))]
-pub(crate) fn combine(values: &Values) -> Option<Value>
-    ensures { result ≡ combine values.now }
+pub(crate) fn combine(values: &Values) -> Option<&Value>
+    ensures { option_map (λ v. v.now) result ≡ combine values.now }
 {
     match values.as_slice() {
         [] => None,
-        [first, rest @ ..] => Some(greatest_value(*first, rest)),
+        [first, rest @ ..] => Some(greatest_value(first, rest)),
     }
 }
 
 /// The greatest of this value and those.
 #[tactic(auto, unfolding(protocol::specs::Candidates::greatest_value))]
-fn greatest_value(value: Value, others: &[Value]) -> Value
-    ensures { result ≡ greatest_value value others.now }
+fn greatest_value<'a>(value: &'a Value, others: &'a [Value]) -> &'a Value
+    ensures { result.now ≡ greatest_value value.now others.now }
 {
     let mut greatest = value;
     for other in others {
-        if greatest < *other {
-            greatest = *other;
+        if *greatest < *other {
+            greatest = other;
         }
     }
     greatest

@@ -7,7 +7,7 @@ ghost use Rattle.protocol.specs.Balloting.{is_accepted, start, started};
 use crate::checks::PrepareAccepted;
 use crate::counters::combine;
 use crate::named::Named;
-use crate::positions::position;
+use crate::positions::own_position;
 use crate::search::greatest_of;
 use fedvote::Sight;
 use std::alloc::{AllocError, Global};
@@ -34,7 +34,10 @@ fn started<S: Sight>(alloc: Global, sight: &S, votes: Votes) -> Result<Votes, Al
 {
     let ballot = match combine(&votes.confirms) {
         None => greatest_accepted(alloc, sight, &votes)?,
-        Some(value) => Some(Ballot { counter: 1, value }),
+        Some(value) => Some(Ballot {
+            counter: 1,
+            value: value.try_copy()?,
+        }),
     };
     Ok(Votes { ballot, ..votes })
 }
@@ -47,8 +50,8 @@ fn greatest_accepted<S: Sight>(
 ) -> Result<Option<Ballot>, AllocError>
     ensures { IfOk result (λ o. o ≡ greatest None (filter (is_accepted (S.seen sight.now) votes.now) (named (S.seen sight.now) votes.now))) }
 {
-    let own = position(votes);
+    let own = own_position(votes)?;
     let named = Named { sight, own: &own };
     let check = PrepareAccepted { sight, own: &own };
-    greatest_of(alloc, &named, &check, None)
+    greatest_of(alloc, &named, &check, &None)
 }

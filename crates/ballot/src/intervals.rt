@@ -9,7 +9,7 @@ use crate::prepared::is_aborted;
 use crate::search::Check;
 use fedvote::{Question, Sight, is_accepted, is_confirmed};
 use std::alloc::{AllocError, Global};
-use types::{Ballot, Kind, Statement, Value, Votes};
+use types::{Kind, LentBallot, Statement, Value, Votes};
 
 /// Whether a node in this position accepts commit of the ballot's value on the whole interval from its
 /// counter to the high end, both included. An error says that memory is short.
@@ -17,19 +17,19 @@ fn is_interval_accepted<S: Sight>(
     alloc: Global,
     sight: &S,
     own: &Option<Statement>,
-    low: &Ballot,
+    low: &LentBallot,
     high: u32,
 ) -> Result<bool, AllocError>
     ensures { IfOk result (λ b. b ≡ interval_accepted (S.seen sight.now) own.now low.now.value low.now.counter high) }
 {
     let backs = Question::VotesOrAcceptsCommit {
-        value: low.value,
-        low: low.counter,
+        value: low.value().try_copy()?,
+        low: low.counter(),
         high,
     };
     let accepts = Question::AcceptsCommit {
-        value: low.value,
-        low: low.counter,
+        value: low.value().try_copy()?,
+        low: low.counter(),
         high,
     };
     is_accepted(alloc, sight, Kind::Ballot, own, &backs, &accepts)
@@ -41,14 +41,14 @@ fn is_interval_confirmed<S: Sight>(
     alloc: Global,
     sight: &S,
     own: &Option<Statement>,
-    low: &Ballot,
+    low: &LentBallot,
     high: u32,
 ) -> Result<bool, AllocError>
     ensures { IfOk result (λ b. b ≡ interval_confirmed (S.seen sight.now) own.now low.now.value low.now.counter high) }
 {
     let accepts = Question::AcceptsCommit {
-        value: low.value,
-        low: low.counter,
+        value: low.value().try_copy()?,
+        low: low.counter(),
         high,
     };
     is_confirmed(alloc, sight, Kind::Ballot, own, &accepts)
@@ -65,8 +65,8 @@ pub(crate) struct AcceptedUpTo<'a, S> {
 impl<'a, S: Sight> Check for AcceptedUpTo<'a, S> {
     ghost holds = { λ s t. interval_accepted (S.seen s.sight.now) s.own.now t.value t.counter s.high };
 
-    fn check(&self, alloc: Global, candidate: Ballot) -> Result<bool, AllocError> {
-        is_interval_accepted(alloc, self.sight, self.own, &candidate, self.high)
+    fn check(&self, alloc: Global, candidate: &LentBallot) -> Result<bool, AllocError> {
+        is_interval_accepted(alloc, self.sight, self.own, candidate, self.high)
     }
 }
 
@@ -81,8 +81,8 @@ pub(crate) struct ConfirmedUpTo<'a, S> {
 impl<'a, S: Sight> Check for ConfirmedUpTo<'a, S> {
     ghost holds = { λ s t. interval_confirmed (S.seen s.sight.now) s.own.now t.value t.counter s.high };
 
-    fn check(&self, alloc: Global, candidate: Ballot) -> Result<bool, AllocError> {
-        is_interval_confirmed(alloc, self.sight, self.own, &candidate, self.high)
+    fn check(&self, alloc: Global, candidate: &LentBallot) -> Result<bool, AllocError> {
+        is_interval_confirmed(alloc, self.sight, self.own, candidate, self.high)
     }
 }
 
@@ -98,14 +98,14 @@ pub(crate) struct EntersCommit<'a, S> {
 impl<'a, S: Sight> Check for EntersCommit<'a, S> {
     ghost holds = { λ s t. interval_accepted (S.seen s.sight.now) s.own.now t.value t.counter t.counter && prepare_confirmed (S.seen s.sight.now) s.own.now t && not (is_aborted s.votes.now t) };
 
-    fn check(&self, alloc: Global, candidate: Ballot) -> Result<bool, AllocError> {
-        if is_aborted(self.votes, &candidate) {
+    fn check(&self, alloc: Global, candidate: &LentBallot) -> Result<bool, AllocError> {
+        if is_aborted(self.votes, candidate) {
             return Ok(false);
         }
-        let end = candidate.counter;
+        let end = candidate.counter();
         Ok(
-            is_interval_accepted(alloc, self.sight, self.own, &candidate, end)?
-                && is_prepare_confirmed(alloc, self.sight, self.own, &candidate)?,
+            is_interval_accepted(alloc, self.sight, self.own, candidate, end)?
+                && is_prepare_confirmed(alloc, self.sight, self.own, candidate)?,
         )
     }
 }
@@ -123,10 +123,10 @@ pub(crate) struct WidensCommit<'a, S> {
 impl<'a, S: Sight> Check for WidensCommit<'a, S> {
     ghost holds = { λ s t. same_value t.value s.value.now && nat_lt s.hi t.counter && interval_accepted (S.seen s.sight.now) s.own.now t.value t.counter t.counter };
 
-    fn check(&self, alloc: Global, candidate: Ballot) -> Result<bool, AllocError> {
-        let end = candidate.counter;
-        if candidate.value == *self.value && self.hi < end {
-            is_interval_accepted(alloc, self.sight, self.own, &candidate, end)
+    fn check(&self, alloc: Global, candidate: &LentBallot) -> Result<bool, AllocError> {
+        let end = candidate.counter();
+        if *candidate.value() == *self.value && self.hi < end {
+            is_interval_accepted(alloc, self.sight, self.own, candidate, end)
         } else {
             Ok(false)
         }
@@ -144,10 +144,10 @@ pub(crate) struct CommitConfirmed<'a, S> {
 impl<'a, S: Sight> Check for CommitConfirmed<'a, S> {
     ghost holds = { λ s t. same_value t.value s.value.now && interval_confirmed (S.seen s.sight.now) s.own.now t.value t.counter t.counter };
 
-    fn check(&self, alloc: Global, candidate: Ballot) -> Result<bool, AllocError> {
-        let end = candidate.counter;
-        if candidate.value == *self.value {
-            is_interval_confirmed(alloc, self.sight, self.own, &candidate, end)
+    fn check(&self, alloc: Global, candidate: &LentBallot) -> Result<bool, AllocError> {
+        let end = candidate.counter();
+        if *candidate.value() == *self.value {
+            is_interval_confirmed(alloc, self.sight, self.own, candidate, end)
         } else {
             Ok(false)
         }

@@ -6,24 +6,24 @@ ghost use Rattle.protocol.specs.Candidates.{lowest};
 
 use crate::search::{Candidates, Check};
 use std::alloc::{AllocError, Global};
-use types::Ballot;
+use types::{Ballot, LentBallot};
 
 /// The least counter among this ballot's and those of the candidates of its value that pass. It tries
 /// them from this ballot down to the last, since one may pass below one that fails. An error says that
 /// memory is short.
-pub(crate) fn lowest_of<C: Candidates, T: Check>(
+pub(crate) fn lowest_of<'a, C: Candidates, T: Check>(
     alloc: Global,
-    candidates: &C,
+    candidates: &'a C,
     test: &T,
-    end: Ballot,
+    end: &'a Ballot,
 ) -> Result<u32, AllocError>
-    ensures { IfOk result (λ n. n ≡ lowest (λ k. T.holds test.now (ballot_at k end.value)) end.value end.counter (C.listed candidates.now)) }
+    ensures { IfOk result (λ n. n ≡ lowest (λ k. T.holds test.now (ballot_at k end.now.value)) end.now.value end.now.counter (C.listed candidates.now)) }
 {
     let mut least = end.counter;
-    let mut bound = end;
-    while let Some(next) = candidates.next(Some(bound)) {
-        if next.value == end.value && test.check(alloc, next)? {
-            least = next.counter;
+    let mut bound = LentBallot::of(end);
+    while let Some(next) = candidates.next(&Some(bound.again())) {
+        if *next.value() == end.value && test.check(alloc, &next)? {
+            least = next.counter();
         }
         bound = next;
     }

@@ -7,7 +7,7 @@ ghost use Rattle.protocol.specs.Candidates.{committed_in, named_in};
 
 use crate::search::Candidates;
 use fedvote::{Sight, better_committed, better_named};
-use types::{Ballot, Statement};
+use types::{LentBallot, Statement};
 
 /// The named ballots: those that the ballot rows of reached senders and the node's own position name
 /// with a counter from 1 on.
@@ -20,11 +20,11 @@ pub(crate) struct Named<'a, S> {
 impl<'a, S: Sight> Candidates for Named<'a, S> {
     ghost listed = { λ s. named_in ((S.seen s.sight.now).rows Kind.Ballot ++ option_to_list s.own.now) };
 
-    fn next(&self, bound: Option<Ballot>) -> Option<Ballot> {
+    fn next<'b>(&'b self, bound: &Option<LentBallot>) -> Option<LentBallot<'b>> {
         let best = self.sight.next_named(bound);
         match self.own {
             None => best,
-            Some(own) => better_named(best, &bound, own),
+            Some(own) => better_named(best, bound, own),
         }
     }
 }
@@ -40,11 +40,11 @@ pub(crate) struct Committed<'a, S> {
 impl<'a, S: Sight> Candidates for Committed<'a, S> {
     ghost listed = { λ s. committed_in ((S.seen s.sight.now).rows Kind.Ballot ++ option_to_list s.own.now) };
 
-    fn next(&self, bound: Option<Ballot>) -> Option<Ballot> {
+    fn next<'b>(&'b self, bound: &Option<LentBallot>) -> Option<LentBallot<'b>> {
         let best = self.sight.next_committed(bound);
         match self.own {
             None => best,
-            Some(own) => better_committed(best, &bound, own),
+            Some(own) => better_committed(best, bound, own),
         }
     }
 }

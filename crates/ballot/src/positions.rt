@@ -1,49 +1,65 @@
 //! The node's own position in balloting.
 
-ghost use Rattle.std.specs.Prelude.{◌≡◌};
+ghost use Rattle.std.specs.Prelude.{◌≡◌, IfOk};
 ghost use Rattle.protocol.specs.States.{commit_counter, counter_of, high_counter, position};
 
-use types::{Ballot, Phase, Statement, Votes};
+use std::alloc::AllocError;
+use types::{Ballot, LentBallot, LentStatement, Phase, Statement, Votes, statement_of};
 
 /// The ballot statement of the votes as they are, before anything in it is held down to what may be
-/// sent; a node without a ballot has none. It takes no memory.
+/// sent; a node without a ballot has none (the Stellar Consensus Protocol draft). It takes no memory.
 #[tactic(auto, unfolding(protocol::specs::States::position, protocol::specs::States::position_in))]
-pub fn position(votes: &Votes) -> Option<Statement>
+pub fn position<'a>(votes: &'a Votes) -> Option<LentStatement<'a>>
     ensures { result ≡ position votes.now }
 {
-    match votes.ballot {
+    let Some(ballot) = &votes.ballot else {
+        return None;
+    };
+    let lent = LentBallot::of(ballot);
+    Some(match votes.phase {
+        Phase::Preparing => {
+            let high = high_counter(votes, ballot);
+            let commit = commit_counter(votes, ballot);
+            LentStatement::prepare(
+                lent,
+                lent_of(&votes.prepared),
+                (votes.aborted, high, commit),
+            )
+        }
+        Phase::Committing => {
+            let prepared = counter_of(&votes.prepared);
+            LentStatement::commit(lent, (prepared, votes.hi, votes.lo))
+        }
+        Phase::Externalized => {
+            LentStatement::externalize(LentBallot::at(votes.lo, &ballot.value), votes.hi)
+        }
+    })
+}
+
+/// The position as a statement of its own. It takes no memory; an error says that a value has too many
+/// owners.
+pub(crate) fn own_position(votes: &Votes) -> Result<Option<Statement>, AllocError>
+    ensures { IfOk result (λ o. o ≡ position votes.now) }
+{
+    statement_of(&position(votes))
+}
+
+/// The ballot that is there, if one is.
+fn lent_of<'a>(ballot: &'a Option<Ballot>) -> Option<LentBallot<'a>>
+    ensures { result ≡ ballot.now }
+{
+    match ballot {
         None => None,
-        Some(ballot) => Some(match votes.phase {
-            Phase::Preparing => Statement::Prepare {
-                ballot,
-                prepared: votes.prepared,
-                aborted_counter: votes.aborted,
-                high_counter: high_counter(votes, ballot),
-                commit_counter: commit_counter(votes, ballot),
-            },
-            Phase::Committing => Statement::Commit {
-                ballot,
-                prepared_counter: counter_of(votes.prepared),
-                high_counter: votes.hi,
-                commit_counter: votes.lo,
-            },
-            Phase::Externalized => Statement::Externalize {
-                commit: Ballot {
-                    counter: votes.lo,
-                    value: ballot.value,
-                },
-                high_counter: votes.hi,
-            },
-        }),
+        Some(ballot) => Some(LentBallot::of(ballot)),
     }
 }
 
 /// The counter of the highest confirmed ballot, where that has the ballot's value; else 0.
 #[tactic(auto, unfolding(protocol::specs::States::high_counter))]
-pub(crate) fn high_counter(votes: &Votes, ballot: Ballot) -> u32
-    ensures { result ≡ high_counter votes.now ballot }
+pub(crate) fn high_counter(votes: &Votes, ballot: &Ballot) -> u32
+    ensures { result ≡ high_counter votes.now ballot.now }
 {
-    match votes.high {
+    match &votes.high {
         None => 0,
         Some(high) => {
             if high.value == ballot.value {
@@ -57,11 +73,11 @@ pub(crate) fn high_counter(votes: &Votes, ballot: Ballot) -> u32
 
 /// The counter from which on commit is voted for; 0 where it is not.
 #[tactic(auto, unfolding(protocol::specs::States::commit_counter))]
-pub(crate) fn commit_counter(votes: &Votes, ballot: Ballot) -> u32
-    ensures { result ≡ commit_counter votes.now ballot }
+pub(crate) fn commit_counter(votes: &Votes, ballot: &Ballot) -> u32
+    ensures { result ≡ commit_counter votes.now ballot.now }
 {
     let high = high_counter(votes, ballot);
-    match votes.commit {
+    match &votes.commit {
         None => 0,
         Some(commit) => {
             if commit.value == ballot.value && commit.counter <= high {
@@ -74,8 +90,8 @@ pub(crate) fn commit_counter(votes: &Votes, ballot: Ballot) -> u32
 }
 
 /// The counter of a ballot, or 0 where there is none. It takes no memory.
-pub fn counter_of(ballot: Option<Ballot>) -> u32
-    ensures { result ≡ counter_of ballot }
+pub fn counter_of(ballot: &Option<Ballot>) -> u32
+    ensures { result ≡ counter_of ballot.now }
 {
     match ballot {
         None => 0,

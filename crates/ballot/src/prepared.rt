@@ -9,11 +9,11 @@ ghost use Rattle.protocol.specs.Balloting.{aborted_by, accept_prepared, at_least
 
 use crate::checks::{MayBePrepared, PrepareAccepted, PrepareConfirmed};
 use crate::named::Named;
-use crate::positions::{high_counter, position};
+use crate::positions::{high_counter, own_position};
 use crate::search::greatest_of;
 use fedvote::Sight;
 use std::alloc::{AllocError, Global};
-use types::{Ballot, Votes};
+use types::{Ballot, LentBallot, Votes};
 
 /// Accepts as prepared the greatest of the highest accepted ballot and the named ballots whose prepare
 /// is accepted; in [`types::Phase::Committing`] only those of the ballot's value count. Where the
@@ -21,22 +21,22 @@ use types::{Ballot, Votes};
 /// Consensus Protocol draft; the aborted counter is this host's profile). `ballot` is the node's. An
 /// error says that memory is short, and the votes handed over are dropped.
 #[tactic(auto, unfolding(protocol::specs::Balloting::accept_prepared))]
-pub fn accept_prepared<S: Sight>(
+pub fn accept_prepared<'a, S: Sight>(
     alloc: Global,
-    sight: &S,
-    ballot: Ballot,
+    sight: &'a S,
+    ballot: &'a Ballot,
     votes: Votes,
 ) -> Result<Votes, AllocError>
-    ensures { IfOk result (λ w. w ≡ accept_prepared (S.seen sight.now) ballot votes) }
+    ensures { IfOk result (λ w. w ≡ accept_prepared (S.seen sight.now) ballot.now votes) }
 {
-    let own = position(&votes);
+    let own = own_position(&votes)?;
     let named = Named { sight, own: &own };
     let check = MayBePrepared {
         accepted: PrepareAccepted { sight, own: &own },
         phase: votes.phase,
         value: &ballot.value,
     };
-    let prepared = greatest_of(alloc, &named, &check, votes.prepared)?;
+    let prepared = greatest_of(alloc, &named, &check, &votes.prepared)?;
     let aborted = aborted_by(&votes.prepared, &prepared, votes.aborted);
     Ok(Votes {
         prepared,
@@ -83,13 +83,14 @@ fn first_kept(old: &Ballot, new: &Ballot) -> u32
 pub fn confirm_prepared<S: Sight>(
     alloc: Global,
     sight: &S,
-    ballot: Ballot,
+    ballot: &Ballot,
     votes: Votes,
 ) -> Result<Votes, AllocError>
-    ensures { IfOk result (λ w. w ≡ confirm_prepared (S.seen sight.now) ballot votes) }
+    ensures { IfOk result (λ w. w ≡ confirm_prepared (S.seen sight.now) ballot.now votes) }
 {
     let votes = raise_high(alloc, sight, votes)?;
-    Ok(set_commit(follow_high(ballot, votes)))
+    let votes = follow_high(ballot, votes)?;
+    set_commit(votes)
 }
 
 /// The highest confirmed ballot becomes the greatest of itself and the named ballots whose prepare is
@@ -98,56 +99,62 @@ pub fn confirm_prepared<S: Sight>(
 fn raise_high<S: Sight>(alloc: Global, sight: &S, votes: Votes) -> Result<Votes, AllocError>
     ensures { IfOk result (λ w. w ≡ raise_high (S.seen sight.now) votes) }
 {
-    let own = position(&votes);
+    let own = own_position(&votes)?;
     let named = Named { sight, own: &own };
     let check = PrepareConfirmed { sight, own: &own };
-    let high = greatest_of(alloc, &named, &check, votes.high)?;
+    let high = greatest_of(alloc, &named, &check, &votes.high)?;
     Ok(Votes { high, ..votes })
 }
 
 /// The ballot becomes the highest confirmed one where that is above it.
 #[tactic(auto, unfolding(protocol::specs::Balloting::follow_high))]
-fn follow_high(ballot: Ballot, votes: Votes) -> Votes
-    ensures { result ≡ follow_high ballot votes }
+fn follow_high(ballot: &Ballot, votes: Votes) -> Result<Votes, AllocError>
+    ensures { IfOk result (λ w. w ≡ follow_high ballot.now votes) }
 {
-    let ballot = Some(at_least(&votes.high, &ballot));
-    Votes { ballot, ..votes }
+    let ballot = Some(at_least(&votes.high, ballot)?);
+    Ok(Votes { ballot, ..votes })
 }
 
 /// The ballot, or the highest confirmed one where that is above it.
-fn at_least(high: &Option<Ballot>, ballot: &Ballot) -> Ballot
-    ensures { result ≡ at_least high.now ballot.now }
+fn at_least(high: &Option<Ballot>, ballot: &Ballot) -> Result<Ballot, AllocError>
+    ensures { IfOk result (λ b. b ≡ at_least high.now ballot.now) }
 {
     match high {
-        None => *ballot,
-        Some(high) => { if *ballot < *high { *high } else { *ballot } }
+        None => ballot.try_copy(),
+        Some(high) => {
+            if *ballot < *high {
+                high.try_copy()
+            } else {
+                ballot.try_copy()
+            }
+        }
     }
 }
 
 /// The ballot whose commit is voted for is reset where it is aborted; where there is none, it becomes
 /// the ballot once that is confirmed as prepared and is not aborted.
 #[tactic(auto, unfolding(protocol::specs::Balloting::set_commit))]
-fn set_commit(votes: Votes) -> Votes
-    ensures { result ≡ set_commit votes }
+fn set_commit(votes: Votes) -> Result<Votes, AllocError>
+    ensures { IfOk result (λ w. w ≡ set_commit votes) }
 {
-    let commit = match cleared(&votes) {
+    let commit = match cleared(&votes)? {
         Some(commit) => Some(commit),
-        None => chosen(&votes),
+        None => chosen(&votes)?,
     };
-    Votes { commit, ..votes }
+    Ok(Votes { commit, ..votes })
 }
 
 /// The ballot whose commit is voted for, unless it is aborted.
-fn cleared(votes: &Votes) -> Option<Ballot>
-    ensures { result ≡ cleared votes.now votes.now.commit }
+fn cleared(votes: &Votes) -> Result<Option<Ballot>, AllocError>
+    ensures { IfOk result (λ o. o ≡ cleared votes.now votes.now.commit) }
 {
     match &votes.commit {
-        None => None,
+        None => Ok(None),
         Some(commit) => {
-            if is_aborted(votes, commit) {
-                None
+            if is_aborted(votes, &LentBallot::of(commit)) {
+                Ok(None)
             } else {
-                Some(*commit)
+                Ok(Some(commit.try_copy()?))
             }
         }
     }
@@ -155,16 +162,18 @@ fn cleared(votes: &Votes) -> Option<Ballot>
 
 /// The ballot whose commit is to be voted for where there is none: the node's, once it is confirmed as
 /// prepared and is not aborted.
-fn chosen(votes: &Votes) -> Option<Ballot>
-    ensures { result ≡ chosen votes.now votes.now.ballot None }
+fn chosen(votes: &Votes) -> Result<Option<Ballot>, AllocError>
+    ensures { IfOk result (λ o. o ≡ chosen votes.now votes.now.ballot None) }
 {
-    match votes.ballot {
-        None => None,
+    match &votes.ballot {
+        None => Ok(None),
         Some(ballot) => {
-            if high_counter(votes, ballot) == ballot.counter && !is_aborted(votes, &ballot) {
-                Some(ballot)
+            if high_counter(votes, ballot) == ballot.counter
+                && !is_aborted(votes, &LentBallot::of(ballot))
+            {
+                Ok(Some(ballot.try_copy()?))
             } else {
-                None
+                Ok(None)
             }
         }
     }
@@ -173,18 +182,20 @@ fn chosen(votes: &Votes) -> Option<Ballot>
 /// Whether a ballot is aborted: its counter is below the aborted one, or the highest accepted ballot is
 /// above it and has another value.
 #[tactic(auto, unfolding(protocol::specs::Balloting::is_aborted))]
-pub(crate) fn is_aborted(votes: &Votes, ballot: &Ballot) -> bool
+pub(crate) fn is_aborted(votes: &Votes, ballot: &LentBallot) -> bool
     ensures { result ≡ is_aborted votes.now ballot.now }
 {
-    is_overtaken(&votes.prepared, ballot) || ballot.counter < votes.aborted
+    is_overtaken(&votes.prepared, ballot) || ballot.counter() < votes.aborted
 }
 
 /// Whether the highest accepted ballot is above this one and has another value.
-fn is_overtaken(prepared: &Option<Ballot>, ballot: &Ballot) -> bool
+fn is_overtaken(prepared: &Option<Ballot>, ballot: &LentBallot) -> bool
     ensures { result ≡ is_overtaken prepared.now ballot.now }
 {
     match prepared {
         None => false,
-        Some(prepared) => *ballot < *prepared && prepared.value != ballot.value,
+        Some(prepared) => {
+            ballot.is_below(&LentBallot::of(prepared)) && prepared.value != *ballot.value()
+        }
     }
 }

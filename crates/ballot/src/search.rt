@@ -7,15 +7,15 @@ ghost use Rattle.protocol.specs.Candidates.{greatest};
 ghost use Rattle.fedvote.specs.Searching.{next_under};
 
 use std::alloc::{AllocError, Global};
-use types::Ballot;
+use types::{Ballot, LentBallot, copy_of};
 
 /// Ballots among which a rule chooses; `listed` is what contracts speak of, in no order.
 pub(crate) trait Candidates {
     ghost listed: { Self → List Ballot };
 
     /// The greatest candidate below the bound, where there is one. It takes no memory.
-    fn next(&self, bound: Option<Ballot>) -> Option<Ballot>
-        ensures { result ≡ next_under bound (listed self.now) };
+    fn next<'b>(&'b self, bound: &Option<LentBallot>) -> Option<LentBallot<'b>>
+        ensures { result ≡ next_under bound.now (listed self.now) };
 }
 
 /// A test of candidates; `holds` is what contracts speak of.
@@ -23,8 +23,8 @@ pub(crate) trait Check {
     ghost holds: { Self → Ballot → Bool };
 
     /// Whether the candidate passes. An error says that memory is short.
-    fn check(&self, alloc: Global, candidate: Ballot) -> Result<bool, AllocError>
-        ensures { IfOk result (λ b. b ≡ holds self.now candidate) };
+    fn check(&self, alloc: Global, candidate: &LentBallot) -> Result<bool, AllocError>
+        ensures { IfOk result (λ b. b ≡ holds self.now candidate.now) };
 }
 
 /// The greatest of the candidates that pass and of the ballot that is there, if one is. None is tried
@@ -34,31 +34,34 @@ pub(crate) fn greatest_of<C: Candidates, T: Check>(
     alloc: Global,
     candidates: &C,
     test: &T,
-    there: Option<Ballot>,
+    there: &Option<Ballot>,
 ) -> Result<Option<Ballot>, AllocError>
-    ensures { IfOk result (λ r. r ≡ greatest there (filter (T.holds test.now) (C.listed candidates.now))) }
+    ensures { IfOk result (λ r. r ≡ greatest there.now (filter (T.holds test.now) (C.listed candidates.now))) }
 {
     let mut bound = None;
     loop {
-        let Some(next) = candidates.next(bound) else {
-            return Ok(there);
+        let Some(next) = candidates.next(&bound) else {
+            let kept = copy_of(there)?;
+            return Ok(kept);
         };
-        if !is_above(&there, &next) {
-            return Ok(there);
+        if !is_above(there, &next) {
+            let kept = copy_of(there)?;
+            return Ok(kept);
         }
-        if test.check(alloc, next)? {
-            return Ok(Some(next));
+        if test.check(alloc, &next)? {
+            let found = next.try_copy()?;
+            return Ok(Some(found));
         }
         bound = Some(next);
     }
 }
 
 /// Whether the ballot is above the one that is there, if one is.
-fn is_above(there: &Option<Ballot>, ballot: &Ballot) -> bool
+fn is_above(there: &Option<Ballot>, ballot: &LentBallot) -> bool
     ensures { result ≡ above there.now ballot.now }
 {
     match there {
         None => true,
-        Some(there) => *there < *ballot,
+        Some(there) => LentBallot::of(there).is_below(ballot),
     }
 }

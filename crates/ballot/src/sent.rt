@@ -5,18 +5,18 @@ ghost use Rattle.types.specs.declared.state.Phase.{Phase};
 ghost use Rattle.protocol.specs.States.{lowered, sent_in, sent_vote};
 
 use crate::positions::{commit_counter, high_counter, position};
-use types::{Ballot, Phase, Statement, Votes};
+use types::{Ballot, LentBallot, LentStatement, Phase, Votes};
 
 /// The ballot statement that is sent; a node without a ballot sends none. In [`Phase::Preparing`] the
 /// highest accepted ballot is held down to the ballot, and the aborted counter to the ballot's counter
 /// (after the Stellar Consensus Protocol draft; the aborted counter is this host's profile). It takes no
 /// memory.
 #[tactic(auto, unfolding(protocol::specs::States::sent_vote, protocol::specs::States::sent_in, protocol::specs::States::position, protocol::specs::States::position_in))]
-pub fn sent_vote(votes: &Votes) -> Option<Statement>
+pub fn sent_vote<'a>(votes: &'a Votes) -> Option<LentStatement<'a>>
     ensures { result ≡ sent_vote votes.now }
 {
     match votes.phase {
-        Phase::Preparing => match votes.ballot {
+        Phase::Preparing => match &votes.ballot {
             None => None,
             Some(ballot) => Some(sent_prepare(votes, ballot)),
         },
@@ -26,20 +26,18 @@ pub fn sent_vote(votes: &Votes) -> Option<Statement>
 
 /// The PREPARE that is sent of these votes. `ballot` is the node's.
 #[tactic(auto, unfolding(protocol::specs::States::sent_in))]
-fn sent_prepare(votes: &Votes, ballot: Ballot) -> Statement
-    ensures { result ≡ sent_in Phase.Preparing votes.now ballot }
+fn sent_prepare<'a>(votes: &'a Votes, ballot: &'a Ballot) -> LentStatement<'a>
+    ensures { result ≡ sent_in Phase.Preparing votes.now ballot.now }
 {
-    let prepared = lowered_prepared(&ballot, votes.prepared);
-    let aborted_counter = held(votes.aborted, &ballot);
+    let prepared = lowered_prepared(ballot, &votes.prepared);
+    let aborted_counter = held(votes.aborted, ballot);
     let high_counter = high_counter(votes, ballot);
     let commit_counter = commit_counter(votes, ballot);
-    Statement::Prepare {
-        ballot,
+    LentStatement::prepare(
+        LentBallot::of(ballot),
         prepared,
-        aborted_counter,
-        high_counter,
-        commit_counter,
-    }
+        (aborted_counter, high_counter, commit_counter),
+    )
 }
 
 /// A counter, or the ballot's where that is lower.
@@ -50,8 +48,8 @@ fn held(counter: u32, ballot: &Ballot) -> u32
 }
 
 /// The highest accepted ballot, where there is one, as it is sent.
-fn lowered_prepared(ballot: &Ballot, prepared: Option<Ballot>) -> Option<Ballot>
-    ensures { result ≡ option_map (lowered ballot.now) prepared }
+fn lowered_prepared<'a>(ballot: &Ballot, prepared: &'a Option<Ballot>) -> Option<LentBallot<'a>>
+    ensures { result ≡ option_map (lowered ballot.now) prepared.now }
 {
     match prepared {
         None => None,
@@ -62,20 +60,17 @@ fn lowered_prepared(ballot: &Ballot, prepared: Option<Ballot>) -> Option<Ballot>
 /// The highest accepted ballot as it is sent: where it is above the ballot, the greatest of its value
 /// that is not. At counter 0 there may be none, and then it stays above.
 #[tactic(auto, unfolding(protocol::specs::States::lowered))]
-fn lowered(ballot: &Ballot, prepared: Ballot) -> Ballot
-    ensures { result ≡ lowered ballot.now prepared }
+fn lowered<'a>(ballot: &Ballot, prepared: &'a Ballot) -> LentBallot<'a>
+    ensures { result ≡ lowered ballot.now prepared.now }
 {
-    if *ballot < prepared {
+    if *ballot < *prepared {
         let counter = if prepared.value > ballot.value {
             ballot.counter.saturating_sub(1)
         } else {
             ballot.counter
         };
-        Ballot {
-            counter,
-            value: prepared.value,
-        }
+        LentBallot::at(counter, &prepared.value)
     } else {
-        prepared
+        LentBallot::of(prepared)
     }
 }

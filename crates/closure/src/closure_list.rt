@@ -76,7 +76,8 @@ impl ClosureList {
         self.members.contains_key(node)
     }
 
-    /// The name of the member at a place, with the place of the member that named it.
+    /// The name of the member at a place, with the place of the member that named it. There is none
+    /// exactly from the number of members on.
     pub fn member(&self, place: usize) -> Option<(NodeId, usize)>
         ensures { result ≡ slice_get self.now place }
     {
@@ -86,7 +87,7 @@ impl ClosureList {
         }
     }
 
-    /// The name of the member at a place.
+    /// The name of the member at a place. There is none exactly from the number of members on.
     pub fn name(&self, place: usize) -> Option<NodeId>
         ensures { result ≡ slice_get (names_of self.now) place }
     {

@@ -76,7 +76,7 @@ fn slices(alloc: Global, threshold: u8, letters: &[u64]) -> Result<Nested, Fail>
 }
 
 fn statement(alloc: Global, kind: Kind) -> Result<Statement, Fail> {
-    let value = Value::new(b"x").ok_or("value")?;
+    let value = Value::of(alloc, b"x")?;
     if kind == Kind::Ballot {
         return Ok(Statement::Externalize {
             commit: Ballot { counter: 1, value },

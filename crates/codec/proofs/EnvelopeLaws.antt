@@ -12,12 +12,12 @@ use Rattle.types.specs.declared.statement.Statement.{Statement}
 use Rattle.types.specs.declared.statement.Statement.TheVariants.{Nominate, Prepare, Commit, Externalize}
 use Rattle.types.specs.Statements.{Sent, IsEnvelope, IsWellFormed, HasWidths}
 use Rattle.codec.specs.Formats.{ValidThen, ValidJudged}
-use Rattle.codec.specs.Faults.{version_fault, kind_fault, statement_fault}
+use Rattle.codec.specs.Faults.{version_fault, kind_fault, statement_fault, HasOtherVersion, HasOtherKind}
 use Rattle.codec.specs.Steps.{◌>>=◌}
 use Rattle.codec.specs.Spelling.{byte, name, slices, body, kind, first_levels, version_of, spelling, Spells, HasOneSpelling}
 use Rattle.codec.specs.Reading.{Fields, sent_of, version_at, kind_at, envelope_at, decoded}
 use Rattle.codec.specs.Grammar.{HasFields, HasKind, IsLong, IsInVersion, levels_in, IsVersion, ShowsVersion, IsKind, ShowsKind, ShowsFault, BreaksOff, IsFault, HasOneAnswer}
-use Rattle.codec.proofs.FieldLaws.{IsBytes, ok_is, bind_ok, passed, passed_true, chosen}
+use Rattle.codec.proofs.FieldLaws.{IsBytes, ok_is, bind_ok, done, passed, passed_true, chosen}
 use Rattle.codec.proofs.FormatLaws.{ValidAs, bind_err, err_is, Laws, Laws-then, Laws-judged, Laws-as, Laws-when, Laws-byte}
 use Rattle.codec.proofs.NameLaws.{Laws-name, Laws-long}
 use Rattle.codec.proofs.TreeLaws.{Laws-slices, never_cut, none_cut}
@@ -128,6 +128,38 @@ from_envelope e h =
 
 pub Laws-envelope : Laws envelope_at spelling IsEnvelope ShowsFault
 Laws-envelope = Laws-when Laws-fields IsEnvelope is_envelope from_envelope
+
+-- ---- faults that show before memory is asked for
+pub other_version : (bytes : List ℕ) → HasOtherVersion bytes → version_at bytes ≡ Err Version
+unfolding version_at
+other_version [] h = absurd h
+other_version (v ∷ rest) h = rw h refl
+
+pub version_before_kind : (bytes : List ℕ) → HasOtherKind bytes → (v : ℕ) × (rest : List ℕ) × (version_at bytes ≡ Ok (v, rest)) × (kind_at rest ≡ Err Kind)
+unfolding version_at kind_at
+version_before_kind [] h = absurd h
+version_before_kind (v ∷ []) h = absurd h
+version_before_kind (v ∷ k ∷ rest) h = (v, k ∷ rest, rw h.0 refl, rw h.1 refl)
+
+pub other_kind : (bytes rest : List ℕ) (v : ℕ) → HasOtherKind bytes → version_at bytes ≡ Ok (v, rest) → kind_at rest ≡ Err Kind
+other_kind bytes rest v h e =
+    let p = version_before_kind bytes h in
+    let same : (p.0, p.1) ≡ (v, rest) = ok_is (p.0, p.1) (v, rest) (sym p.2 ∙ e) in
+    subst (λ (x : ℕ × List ℕ). kind_at x.1 ≡ Err Kind) same p.3
+
+pub kind_is_refused : (bytes rest : List ℕ) (v : ℕ) (x : ℕ × List ℕ) → HasOtherKind bytes → version_at bytes ≡ Ok (v, rest) → kind_at rest ≡ Ok x → ⊥
+kind_is_refused bytes rest v x h e k = not_err x (sym k ∙ other_kind bytes rest v h e)
+  where
+    not_err : (x : ℕ × List ℕ) → done x ≡ Err Kind → ⊥
+    not_err x e = cc
+
+pub no_version_fault : (bytes : List ℕ) (f : Fault) → HasOtherKind bytes → version_at bytes ≡ Err f → ⊥
+no_version_fault bytes f h e =
+    let p = version_before_kind bytes h in
+    not_err (p.0, p.1) f (sym p.2 ∙ e)
+  where
+    not_err : (x : ℕ × List ℕ) (f : Fault) → done x ≡ Err f → ⊥
+    not_err x f e = cc
 
 -- ---- whole texts
 abbrev ended : Sent × List ℕ → Result Sent Fault

@@ -38,7 +38,7 @@ pub passed_true : {A : Type 0} (b : Bool) (d : Fault) (r : Result A Fault) (y : 
 passed_true true d r y e = (refl, e)
 passed_true false d r y e = absurd cc
 
-abbrev done : {A : Type 0} → A → Result A Fault
+abbrev pub done : {A : Type 0} → A → Result A Fault
 done x = Ok x
 
 pub ok_is : {A : Type 0} (x y : A) → done x ≡ done y → x ≡ y

@@ -46,15 +46,11 @@ Laws-name =
     Laws-when (Laws-as (Laws-quiet Laws-long (λ a v. Laws-quiet Laws-long (λ b v. Laws-quiet Laws-long (λ c v. Laws-long)))) name_of name (λ x v. name_text x.0 x.1.0 x.1.1.0 x.1.1.1 v.1.0 v.1.1.0 v.1.1.1)) IsName
     (λ u v. subst IsName v.2 (is_name v.0.0 v.0.1.0 v.0.1.1.0 v.0.1.1.1 v.1.0 v.1.1.0 v.1.1.1.0 v.1.1.1.1)) words_of
 
--- a name is written when the bytes of its words are, one after another
-pub name_written : (u a b c d : ℕ) (old one two three new w x y z : List ℕ) → a * 2 ^ 192 + b * 2 ^ 128 + c * 2 ^ 64 + d ≡ u → b < 2 ^ 64 → c < 2 ^ 64 → d < 2 ^ 64
-    → w ≡ to_be_bytes w64 a → x ≡ to_be_bytes w64 b → y ≡ to_be_bytes w64 c → z ≡ to_be_bytes w64 d
-    → one ≡ old ++ w → two ≡ one ++ x → three ≡ two ++ y → new ≡ three ++ z → new ≡ old ++ name u
-name_written u a b c d old one two three new w x y z value g h k ew ex ey ez first second third fourth =
-    fourth ∙ joined old one two three w x y z first second third ∙ ap (λ (t : List ℕ). old ++ t) (parts ∙ sym (name_text a b c d g h k) ∙ ap name value)
+-- a name is written when its words are, one after another
+pub name_written : (u a b c d : ℕ) (old one two three new : List ℕ) → a * 2 ^ 192 + b * 2 ^ 128 + c * 2 ^ 64 + d ≡ u → b < 2 ^ 64 → c < 2 ^ 64 → d < 2 ^ 64
+    → one ≡ old ++ to_be_bytes w64 a → two ≡ one ++ to_be_bytes w64 b → three ≡ two ++ to_be_bytes w64 c → new ≡ three ++ to_be_bytes w64 d → new ≡ old ++ name u
+name_written u a b c d old one two three new value g h k first second third fourth =
+    fourth ∙ joined old one two three (to_be_bytes w64 a) (to_be_bytes w64 b) (to_be_bytes w64 c) (to_be_bytes w64 d) first second third ∙ ap (λ (t : List ℕ). old ++ t) (sym (name_text a b c d g h k) ∙ ap name value)
   where
     joined : (old one two three w x y z : List ℕ) → one ≡ old ++ w → two ≡ one ++ x → three ≡ two ++ y → three ++ z ≡ old ++ (w ++ (x ++ (y ++ z)))
     joined old one two three w x y z e f g = rw (g, f, e) (simp append_assoc)
-
-    parts : w ++ (x ++ (y ++ z)) ≡ to_be_bytes w64 a ++ (to_be_bytes w64 b ++ (to_be_bytes w64 c ++ to_be_bytes w64 d))
-    parts = rw (ew, ex, ey, ez) refl

@@ -1,5 +1,5 @@
 -- What is said of a part once it is read: its fault, or None where it stands. Where several could be named, the first is.
-use Rattle.std.specs.Prelude.{ℕ, List, length, Option, Some, None, Bool, nat_lt, ◌==◌, if◌then◌else◌}
+use Rattle.std.specs.Prelude.{◌≡◌, ℕ, List, [], ◌∷◌, length, Option, Some, None, Bool, nat_lt, ◌==◌, if◌then◌else◌}
 use Rattle.std.specs.List.{list_any}
 use Rattle.codec.specs.declared.error.Fault.{Fault}
 use Rattle.codec.specs.declared.error.Fault.TheVariants.{Version, Kind, Limit, BadSlices, BadStatement, SpareVersion}
@@ -13,6 +13,11 @@ use Rattle.types.specs.Statements.{is_well_formed}
 abbrev pub version_fault : ℕ → Option Fault
 version_fault v = if v == 1 then None else if v == 2 then None else Some Version
 
+-- a text that begins with another version
+abbrev pub HasOtherVersion : List ℕ → Type 0
+HasOtherVersion [] = ⊥
+HasOtherVersion (v ∷ rest) = version_fault v ≡ Some Version
+
 -- slices that are spelled in another version
 abbrev pub spare_fault : ℕ → Slices → Option Fault
 spare_fault v q = if v == version_of q then None else Some SpareVersion
@@ -20,6 +25,12 @@ spare_fault v q = if v == version_of q then None else Some SpareVersion
 -- a kind other than 1 to 4
 abbrev pub kind_fault : ℕ → Option Fault
 kind_fault k = if k == 0 then Some Kind else if nat_lt 4 k then Some Kind else None
+
+-- a text with another kind behind a version
+abbrev pub HasOtherKind : List ℕ → Type 0
+HasOtherKind [] = ⊥
+HasOtherKind (v ∷ []) = ⊥
+HasOtherKind (v ∷ k ∷ rest) = (version_fault v ≡ None) × (kind_fault k ≡ Some Kind)
 
 -- a threshold that is 0 or above the count; then a count above 64
 abbrev pub header_fault : ℕ × ℕ → Option Fault

@@ -4,7 +4,7 @@ use Rattle.std.proofs.Common.{inl, inr}
 use Rattle.std.specs.Int.{w16, w32, w64}
 use Rattle.codec.specs.declared.error.Fault.{Fault}
 use Rattle.codec.specs.declared.error.Fault.TheVariants.{TrailingBytes, Limit, BadSlices, BadStatement}
-pub use Rattle.codec.specs.Steps.{◌>>=◌, Fails, Gives, IsBytes, byte_at, number_at, bytes_at}
+pub use Rattle.codec.specs.Steps.{◌>>=◌, Fails, Gives, Says, IsBytes, byte_at, number_at, bytes_at}
 use Rattle.codec.specs.Steps.{Reads, read_then, read_judged, read_as, read_either}
 use Rattle.codec.specs.Parts.{Part, part_names, put}
 use Rattle.codec.specs.Faults.{version_fault, spare_fault, kind_fault, header_fault, name_fault, length_fault, count_fault, statement_fault}

@@ -23,6 +23,11 @@ abbrev pub Gives : {X Y : Type 0} → (X → Y) → Result X CodecError → Resu
 Gives view (Ok x) read = read ≡ Ok (view x)
 Gives view (Err e) read = Fails e read
 
+-- what a function that takes no memory returned, seen by view, is what reading gives
+abbrev pub Says : {X Y : Type 0} → (X → Y) → Result X Fault → Result Y Fault → Type 0
+Says view (Ok x) read = read ≡ Ok (view x)
+Says view (Err f) read = read ≡ Err f
+
 -- each is below 256
 abbrev pub IsBytes : List ℕ → Type 0
 IsBytes bytes = (i : ℕ) → slice_index bytes i < 256

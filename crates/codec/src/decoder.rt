@@ -1,16 +1,17 @@
 //! Envelopes that are read from bytes.
 
-ghost use Rattle.std.specs.Prelude.{◌≡◌, ℕ, List, IfOk, IfErr, Ok, Err, Some, None};
-ghost use Rattle.codec.specs.Reading.{Gives, IsBytes, version_at, envelope_at, decoded};
-ghost use Rattle.codec.specs.Spelling.{Spells, HasOneSpelling};
+ghost use Rattle.std.specs.Prelude.{◌≡◌, ◌<◌, ◌≤◌, ℕ, List, length, IfOk, IfErr, Ok, Err, Some, None};
+ghost use Rattle.codec.specs.Reading.{Gives, Says, IsBytes, version_at, envelope_at, decoded};
+ghost use Rattle.codec.specs.Spelling.{most_bytes, Spells, HasOneSpelling};
 ghost use Rattle.codec.specs.Answers.{Refuses};
 ghost use Rattle.codec.specs.Grammar.{IsFault, HasOneAnswer};
 ghost use Rattle.codec.specs.declared.error.CodecError.TheVariants as errors;
 ghost use Rattle.codec.specs.declared.error.Fault.{Fault};
-ghost use Rattle.codec.specs.declared.error.Fault.TheVariants.{BadStatement};
-ghost use Rattle.codec.specs.Faults.{statement_fault};
+ghost use Rattle.codec.specs.declared.error.Fault.TheVariants.{Version, Kind, Limit, BadStatement};
+ghost use Rattle.codec.specs.Faults.{statement_fault, HasOtherVersion, HasOtherKind};
 ghost use Rattle.types.specs.Statements.{Sent, IsEnvelope};
 
+use crate::encoder::encode;
 use crate::error::{CodecError, Fault};
 use crate::reader::Reader;
 use crate::statements::{read_kind, read_statement};
@@ -33,7 +34,8 @@ pub const MAX_BYTES: usize = 65536;
 /// # Errors
 ///
 /// `CodecError::Fault` with the first fault from left to right, a length above `MAX_BYTES` before
-/// all; `CodecError::NoMemory` where a growth was refused.
+/// all; `CodecError::NoMemory` where a growth was refused. The length, the version and the kind are judged
+/// before memory is asked for.
 pub fn decode(alloc: Global, bytes: &[u8]) -> Result<Envelope, CodecError>
     // What is answered is spelled so.
     ensures found { IfOk result (Spells bytes.now) }
@@ -43,8 +45,28 @@ pub fn decode(alloc: Global, bytes: &[u8]) -> Result<Envelope, CodecError>
     ensures fault { IfErr result (Refuses bytes.now) }
     // A text that has a fault is refused by it, unless memory runs out: so no text has two.
     ensures named { (f : Fault) → IsFault bytes.now f → Gives (λ v. v) result (Err f) }
+    // A text that is too long is refused so whatever memory there is.
+    ensures too_long { most_bytes < length bytes.now → result ≡ Err (errors.Fault Limit) }
+    // So is one whose first byte is neither 1 nor 2.
+    ensures version { length bytes.now ≤ most_bytes → HasOtherVersion bytes.now → result ≡ Err (errors.Fault Version) }
+    // So is one whose second byte is not 1 to 4.
+    ensures kind { length bytes.now ≤ most_bytes → HasOtherKind bytes.now → result ≡ Err (errors.Fault Kind) }
 {
     read_text(alloc, bytes)
+}
+
+/// The envelope that the spelling of `envelope` is decoded to: the same one, since it is the one that
+/// the bytes spell.
+///
+/// # Errors
+///
+/// `CodecError::NoMemory`, and nothing else.
+pub fn round_trip(alloc: Global, envelope: &Envelope) -> Result<Envelope, CodecError>
+    ensures same { IfOk result (λ e. e ≡ envelope.now) }
+    ensures memory { IfErr result (λ e. e ≡ errors.NoMemory) }
+{
+    let bytes = encode(alloc, envelope)?;
+    decode(alloc, &bytes)
 }
 
 /// Each envelope has exactly one spelling, of at most `MAX_BYTES` bytes, and it is the spelling of no
@@ -61,7 +83,10 @@ pub fn one_answer()
 
 #[tactic(auto, unfolding(crate::specs::Reading::decoded))]
 fn read_text(alloc: Global, bytes: &[u8]) -> Result<Envelope, CodecError>
-    ensures { Gives (λ e. e) result (decoded bytes.now) }
+    ensures read { Gives (λ e. e) result (decoded bytes.now) }
+    ensures too_long { most_bytes < length bytes.now → result ≡ Err (errors.Fault Limit) }
+    ensures version { length bytes.now ≤ most_bytes → HasOtherVersion bytes.now → result ≡ Err (errors.Fault Version) }
+    ensures kind { length bytes.now ≤ most_bytes → HasOtherKind bytes.now → result ≡ Err (errors.Fault Kind) }
 {
     if bytes.len() > MAX_BYTES {
         return Err(CodecError::Fault(Fault::Limit));
@@ -74,9 +99,11 @@ fn read_text(alloc: Global, bytes: &[u8]) -> Result<Envelope, CodecError>
     Ok(envelope)
 }
 
-#[tactic(auto, unfolding(crate::specs::Reading::envelope_at, crate::specs::Reading::statement_at))]
+#[tactic(auto, unfolding(crate::specs::Reading::envelope_at, crate::specs::Reading::statement_at), using(crate::proofs::EnvelopeLaws::other_version, crate::proofs::EnvelopeLaws::other_kind, crate::proofs::EnvelopeLaws::no_version_fault))]
 fn read_envelope(alloc: Global, reader: &mut Reader) -> Result<Envelope, CodecError>
-    ensures { Gives (λ x. (x, reader.new)) result (envelope_at reader.old) }
+    ensures read { Gives (λ x. (x, reader.new)) result (envelope_at reader.old) }
+    ensures version { HasOtherVersion reader.old → result ≡ Err (errors.Fault Version) }
+    ensures kind { HasOtherKind reader.old → result ≡ Err (errors.Fault Kind) }
 {
     let version = read_version(reader)?;
     let kind = read_kind(reader)?;
@@ -84,7 +111,7 @@ fn read_envelope(alloc: Global, reader: &mut Reader) -> Result<Envelope, CodecEr
     let slot = reader.u64()?;
     let slices = read_slices(alloc, reader, version)?;
     let body = read_statement(alloc, reader, kind)?;
-    well_formed(sender, slot, slices, body)
+    Ok(well_formed(sender, slot, slices, body)?)
 }
 
 /// The envelope of these parts, where its statement keeps the rules of its kind.
@@ -94,20 +121,20 @@ fn well_formed(
     slot: u64,
     slices: Nested,
     body: Statement,
-) -> Result<Envelope, CodecError>
+) -> Result<Envelope, Fault>
     ensures ok { IfOk result (λ e. (statement_fault body ≡ None) × (e ≡ record { sender = sender; slot = slot; slices = slices; body = body })) }
-    ensures err { IfErr result (λ e. (statement_fault body ≡ Some BadStatement) × (e ≡ errors.Fault BadStatement)) }
+    ensures err { IfErr result (λ e. (statement_fault body ≡ Some BadStatement) × (e ≡ BadStatement)) }
 {
-    Envelope::new(sender, slot, slices, body).ok_or(CodecError::Fault(Fault::BadStatement))
+    Envelope::new(sender, slot, slices, body).ok_or(Fault::BadStatement)
 }
 
 #[tactic(auto, unfolding(crate::specs::Reading::version_at))]
-fn read_version(reader: &mut Reader) -> Result<u8, CodecError>
-    ensures { Gives (λ x. (x, reader.new)) result (version_at reader.old) }
+fn read_version(reader: &mut Reader) -> Result<u8, Fault>
+    ensures { Says (λ x. (x, reader.new)) result (version_at reader.old) }
 {
     let version = reader.byte()?;
     if version != FIRST_VERSION && version != SECOND_VERSION {
-        return Err(CodecError::Fault(Fault::Version));
+        return Err(Fault::Version);
     }
     Ok(version)
 }

@@ -4,11 +4,12 @@ ghost use Rattle.std.specs.Prelude.{◌≡◌, ◌≤◌, ◌++◌, length, OnOk
 ghost use Rattle.types.specs.Trees.{HasThreshold, HaveThresholds};
 ghost use Rattle.types.specs.Nominations.{most_nominated};
 ghost use Rattle.types.specs.Statements.{IsWellFormed};
-ghost use Rattle.std.specs.Int.{w32, to_be_bytes};
-ghost use Rattle.codec.specs.Spelling.{name, value, ballot, optional, nominated, slices, body, spelling};
+ghost use Rattle.std.specs.Int.{w16, w32, w64, to_be_bytes};
+ghost use Rattle.codec.specs.Spelling.{name, value, ballot, optional, nominated, slices, body, Spells};
 
 use crate::statements::StatementKind;
 use crate::versions::version_of;
+use byteorder::{BigEndian, ByteOrder};
 use std::alloc::{AllocError, Global};
 use types::{Ballot, Envelope, Member, NodeId, SliceSet, Statement, Value, Values};
 
@@ -19,13 +20,13 @@ use types::{Ballot, Envelope, Member, NodeId, SliceSet, Statement, Value, Values
 ///
 /// `AllocError` where memory is wanting, and only there.
 pub fn encode(alloc: Global, envelope: &Envelope) -> Result<Vec<u8>, AllocError>
-    ensures { IfOk result (λ v. v.items ≡ spelling envelope.now) }
+    ensures { IfOk result (λ v. Spells v.items envelope.now) }
 {
     let mut out = Vec::new(alloc);
     out.push(version_of(envelope.slices()))?;
     out.push(StatementKind::of(envelope.body()).byte())?;
     put_name(&mut out, envelope.sender())?;
-    out.extend_from_slice(&envelope.slot().to_be_bytes())?;
+    put_u64(&mut out, envelope.slot())?;
     put_set(&mut out, envelope.slices().set())?;
     put_statement(&mut out, envelope.body())?;
     Ok(out)
@@ -35,10 +36,10 @@ fn put_name(out: &mut Vec<u8>, node: &NodeId) -> Result<(), AllocError>
     ensures { OnOk result (out.new.items ≡ out.old.items ++ name node.now) }
 {
     let (first, second, third, fourth) = node.words();
-    out.extend_from_slice(&first.to_be_bytes())?;
-    out.extend_from_slice(&second.to_be_bytes())?;
-    out.extend_from_slice(&third.to_be_bytes())?;
-    out.extend_from_slice(&fourth.to_be_bytes())?;
+    put_u64(out, first)?;
+    put_u64(out, second)?;
+    put_u64(out, third)?;
+    put_u64(out, fourth)?;
     Ok(())
 }
 
@@ -146,12 +147,30 @@ fn put_value(out: &mut Vec<u8>, item: &Value) -> Result<(), AllocError>
     ensures { OnOk result (out.new.items ≡ out.old.items ++ value item.now) }
 {
     let bytes = item.as_bytes();
-    out.extend_from_slice(&(bytes.len() as u16).to_be_bytes())?;
+    put_length(out, bytes.len() as u16)?;
     out.extend_from_slice(bytes)
+}
+
+fn put_length(out: &mut Vec<u8>, length: u16) -> Result<(), AllocError>
+    ensures { OnOk result (out.new.items ≡ out.old.items ++ to_be_bytes w16 length) }
+{
+    let mut bytes = [0; 2];
+    BigEndian::write_u16(&mut bytes, length);
+    out.extend_from_slice(&bytes)
 }
 
 fn put_counter(out: &mut Vec<u8>, counter: u32) -> Result<(), AllocError>
     ensures { OnOk result (out.new.items ≡ out.old.items ++ to_be_bytes w32 counter) }
 {
-    out.extend_from_slice(&counter.to_be_bytes())
+    let mut bytes = [0; 4];
+    BigEndian::write_u32(&mut bytes, counter);
+    out.extend_from_slice(&bytes)
+}
+
+fn put_u64(out: &mut Vec<u8>, number: u64) -> Result<(), AllocError>
+    ensures { OnOk result (out.new.items ≡ out.old.items ++ to_be_bytes w64 number) }
+{
+    let mut bytes = [0; 8];
+    BigEndian::write_u64(&mut bytes, number);
+    out.extend_from_slice(&bytes)
 }

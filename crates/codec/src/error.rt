@@ -80,6 +80,16 @@ impl CodecError {
     }
 }
 
+impl From<Fault> for CodecError {
+    ghost use Rattle.codec.specs.declared.error.CodecError.TheVariants as errors;
+
+    ghost from_gives = { λ fault e. e ≡ errors.Fault fault };
+
+    fn from(fault: Fault) -> CodecError {
+        CodecError::Fault(fault)
+    }
+}
+
 impl From<AllocError> for CodecError {
     ghost from_gives = { λ _ e. e ≡ NoMemory };
 

@@ -13,7 +13,7 @@ mod statements;
 mod trees;
 mod versions;
 
-pub use decoder::{MAX_BYTES, decode, one_answer, one_spelling};
+pub use decoder::{MAX_BYTES, decode, one_answer, one_spelling, round_trip};
 pub use encoder::encode;
 pub use error::{CodecError, Fault};
 

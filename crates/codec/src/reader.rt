@@ -2,9 +2,10 @@
 
 ghost use Rattle.std.specs.Prelude.{◌≡◌, ◌==◌, length, IfOk};
 ghost use Rattle.std.specs.Int.{w16, w32, w64};
-ghost use Rattle.codec.specs.Reading.{Gives, IsBytes, byte_at, number_at, bytes_at, name_at, value_at, ballot_at, optional_at};
+ghost use Rattle.codec.specs.Reading.{Gives, Says, IsBytes, byte_at, number_at, bytes_at, name_at, value_at, ballot_at, optional_at};
 
 use crate::error::{CodecError, Fault};
+use std::alloc::Global;
 use std::marker::Model;
 use types::{Ballot, MAX_VALUE_LENGTH, NodeId, Value};
 
@@ -45,12 +46,12 @@ impl<'a> Reader<'a> {
     }
 
     /// One byte.
-    pub fn byte(&mut self) -> Result<u8, CodecError>
-        ensures read { Gives (λ x. (x, self.new)) result (byte_at self.old) }
+    pub fn byte(&mut self) -> Result<u8, Fault>
+        ensures read { Says (λ x. (x, self.new)) result (byte_at self.old) }
         ensures bytes { IsBytes self.old }
     {
         match self.rest {
-            [] => Err(CodecError::Fault(Fault::Truncated)),
+            [] => Err(Fault::Truncated),
             [first, rest @ ..] => {
                 self.rest = rest;
                 Ok(*first)
@@ -59,12 +60,12 @@ impl<'a> Reader<'a> {
     }
 
     /// So many bytes.
-    pub fn bytes(&mut self, count: usize) -> Result<&'a [u8], CodecError>
-        ensures read { Gives (λ x. (x.now, self.new)) result (bytes_at count self.old) }
+    pub fn bytes(&mut self, count: usize) -> Result<&'a [u8], Fault>
+        ensures read { Says (λ x. (x.now, self.new)) result (bytes_at count self.old) }
         ensures count { IfOk result (λ x. length x.now ≡ count) }
     {
         if self.rest.len() < count {
-            return Err(CodecError::Fault(Fault::Truncated));
+            return Err(Fault::Truncated);
         }
         let (front, rest) = self.rest.split_at(count);
         self.rest = rest;
@@ -72,24 +73,24 @@ impl<'a> Reader<'a> {
     }
 
     /// A number of 16 bits.
-    pub fn u16(&mut self) -> Result<u16, CodecError>
-        ensures { Gives (λ x. (x, self.new)) result (number_at w16 self.old) }
+    pub fn u16(&mut self) -> Result<u16, Fault>
+        ensures { Says (λ x. (x, self.new)) result (number_at w16 self.old) }
     {
         let front = self.bytes(2)?;
         Ok(u16::from_be_bytes([front[0], front[1]]))
     }
 
     /// A number of 32 bits.
-    pub fn u32(&mut self) -> Result<u32, CodecError>
-        ensures { Gives (λ x. (x, self.new)) result (number_at w32 self.old) }
+    pub fn u32(&mut self) -> Result<u32, Fault>
+        ensures { Says (λ x. (x, self.new)) result (number_at w32 self.old) }
     {
         let front = self.bytes(4)?;
         Ok(u32::from_be_bytes([front[0], front[1], front[2], front[3]]))
     }
 
     /// A number of 64 bits.
-    pub fn u64(&mut self) -> Result<u64, CodecError>
-        ensures { Gives (λ x. (x, self.new)) result (number_at w64 self.old) }
+    pub fn u64(&mut self) -> Result<u64, Fault>
+        ensures { Says (λ x. (x, self.new)) result (number_at w64 self.old) }
     {
         let front = self.bytes(8)?;
         Ok(u64::from_be_bytes([
@@ -99,8 +100,8 @@ impl<'a> Reader<'a> {
 
     /// The name of a node: four words of 64 bits.
     #[tactic(auto, unfolding(crate::specs::Reading::name_at))]
-    pub fn name(&mut self) -> Result<NodeId, CodecError>
-        ensures { Gives (λ x. (x, self.new)) result (name_at self.old) }
+    pub fn name(&mut self) -> Result<NodeId, Fault>
+        ensures { Says (λ x. (x, self.new)) result (name_at self.old) }
     {
         let first = self.u64()?;
         let second = self.u64()?;
@@ -111,34 +112,35 @@ impl<'a> Reader<'a> {
 
     /// A value: its length in two bytes, and its bytes.
     #[tactic(auto, unfolding(crate::specs::Reading::value_at))]
-    pub fn value(&mut self) -> Result<Value, CodecError>
+    pub fn value(&mut self, alloc: Global) -> Result<Value, CodecError>
         ensures { Gives (λ x. (x, self.new)) result (value_at self.old) }
     {
         let length = self.u16()? as usize;
         if length == 0 || length > MAX_VALUE_LENGTH {
             return Err(CodecError::Fault(Fault::Limit));
         }
-        Ok(Value::of(self.bytes(length)?))
+        let bytes = self.bytes(length)?;
+        Ok(Value::of(alloc, bytes)?)
     }
 
     /// A ballot: its counter in four bytes, and its value.
     #[tactic(auto, unfolding(crate::specs::Reading::ballot_at))]
-    pub fn ballot(&mut self) -> Result<Ballot, CodecError>
+    pub fn ballot(&mut self, alloc: Global) -> Result<Ballot, CodecError>
         ensures { Gives (λ x. (x, self.new)) result (ballot_at self.old) }
     {
         let counter = self.u32()?;
-        let value = self.value()?;
+        let value = self.value(alloc)?;
         Ok(Ballot { counter, value })
     }
 
     /// A 0 for no ballot, or a 1 and a ballot.
     #[tactic(auto, unfolding(crate::specs::Reading::optional_at))]
-    pub fn optional_ballot(&mut self) -> Result<Option<Ballot>, CodecError>
+    pub fn optional_ballot(&mut self, alloc: Global) -> Result<Option<Ballot>, CodecError>
         ensures { Gives (λ x. (x, self.new)) result (optional_at self.old) }
     {
         match self.byte()? {
             0 => Ok(None),
-            1 => Ok(Some(self.ballot()?)),
+            1 => Ok(Some(self.ballot(alloc)?)),
             _ => Err(CodecError::Fault(Fault::BadStatement)),
         }
     }

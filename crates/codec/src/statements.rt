@@ -3,7 +3,7 @@
 ghost use Rattle.std.specs.Prelude.{◌≡◌};
 ghost use Rattle.codec.specs.Kinds.{kind_number};
 ghost use Rattle.codec.specs.Spelling.{kind};
-ghost use Rattle.codec.specs.Reading.{Gives, kind_at, values_at, nominated_at, nominate_at, prepare_at, commit_at, externalize_at, body_at};
+ghost use Rattle.codec.specs.Reading.{Gives, Says, kind_at, values_at, nominated_at, nominate_at, prepare_at, commit_at, externalize_at, body_at};
 
 use crate::error::{CodecError, Fault};
 use crate::reader::Reader;
@@ -47,15 +47,15 @@ impl StatementKind {
 
 /// The byte of a kind.
 #[tactic(auto, unfolding(crate::specs::Reading::kind_at))]
-pub fn read_kind(reader: &mut Reader) -> Result<StatementKind, CodecError>
-    ensures { Gives (λ x. (kind_number x, reader.new)) result (kind_at reader.old) }
+pub fn read_kind(reader: &mut Reader) -> Result<StatementKind, Fault>
+    ensures { Says (λ x. (kind_number x, reader.new)) result (kind_at reader.old) }
 {
     match reader.byte()? {
         1 => Ok(StatementKind::Nominate),
         2 => Ok(StatementKind::Prepare),
         3 => Ok(StatementKind::Commit),
         4 => Ok(StatementKind::Externalize),
-        _ => Err(CodecError::Fault(Fault::Kind)),
+        _ => Err(Fault::Kind),
     }
 }
 
@@ -70,9 +70,9 @@ pub fn read_statement(
 {
     match kind {
         StatementKind::Nominate => read_nominate(alloc, reader),
-        StatementKind::Prepare => read_prepare(reader),
-        StatementKind::Commit => read_commit(reader),
-        StatementKind::Externalize => read_externalize(reader),
+        StatementKind::Prepare => read_prepare(alloc, reader),
+        StatementKind::Commit => read_commit(alloc, reader),
+        StatementKind::Externalize => read_externalize(alloc, reader),
     }
 }
 
@@ -102,18 +102,18 @@ fn read_values(alloc: Global, reader: &mut Reader, count: u8) -> Result<Values, 
 {
     let mut values = Values::empty(alloc);
     for _ in 0..count {
-        let value = reader.value()?;
+        let value = reader.value(alloc)?;
         values.push(value)?;
     }
     Ok(values)
 }
 
 #[tactic(auto, unfolding(crate::specs::Reading::prepare_at))]
-fn read_prepare(reader: &mut Reader) -> Result<Statement, CodecError>
+fn read_prepare(alloc: Global, reader: &mut Reader) -> Result<Statement, CodecError>
     ensures { Gives (λ x. (x, reader.new)) result (prepare_at reader.old) }
 {
-    let ballot = reader.ballot()?;
-    let prepared = reader.optional_ballot()?;
+    let ballot = reader.ballot(alloc)?;
+    let prepared = reader.optional_ballot(alloc)?;
     let aborted_counter = reader.u32()?;
     let high_counter = reader.u32()?;
     let commit_counter = reader.u32()?;
@@ -127,10 +127,10 @@ fn read_prepare(reader: &mut Reader) -> Result<Statement, CodecError>
 }
 
 #[tactic(auto, unfolding(crate::specs::Reading::commit_at))]
-fn read_commit(reader: &mut Reader) -> Result<Statement, CodecError>
+fn read_commit(alloc: Global, reader: &mut Reader) -> Result<Statement, CodecError>
     ensures { Gives (λ x. (x, reader.new)) result (commit_at reader.old) }
 {
-    let ballot = reader.ballot()?;
+    let ballot = reader.ballot(alloc)?;
     let prepared_counter = reader.u32()?;
     let high_counter = reader.u32()?;
     let commit_counter = reader.u32()?;
@@ -143,10 +143,10 @@ fn read_commit(reader: &mut Reader) -> Result<Statement, CodecError>
 }
 
 #[tactic(auto, unfolding(crate::specs::Reading::externalize_at))]
-fn read_externalize(reader: &mut Reader) -> Result<Statement, CodecError>
+fn read_externalize(alloc: Global, reader: &mut Reader) -> Result<Statement, CodecError>
     ensures { Gives (λ x. (x, reader.new)) result (externalize_at reader.old) }
 {
-    let commit = reader.ballot()?;
+    let commit = reader.ballot(alloc)?;
     let high_counter = reader.u32()?;
     Ok(Statement::Externalize {
         commit,

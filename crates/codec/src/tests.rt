@@ -98,12 +98,14 @@ fn long_values(alloc: Global, count: u8) -> Result<Vec<u8>, Fail> {
     Ok(bytes)
 }
 
-// The bytes decode, and their envelope encodes to them; each front of them is cut short; one more byte
+// The bytes decode, and their envelope encodes to them and goes round to the same; each front of them is cut short; one more byte
 // is one too many.
 fn check_whole(rt: &impl Abort, alloc: Global, bytes: &[u8], length: usize) -> Result<(), Fail> {
     assert_eq!(rt; bytes.len(), length);
     let envelope = envelope_of(alloc, bytes)?;
     assert_eq!(rt; encode(alloc, &envelope)?.as_slice(), bytes);
+    let again = round_trip(alloc, &envelope).ok().ok_or("there is memory")?;
+    assert_eq!(rt; encode(alloc, &again)?.as_slice(), bytes);
     for cut in 0..length {
         let front = bytes.get(..cut).ok_or("it is that long")?;
         assert_eq!(rt; number(alloc, front), 1, "cut at {cut} of {length}");
@@ -132,7 +134,11 @@ fn first_envelope(rt: HostRuntime) -> Result<(), Fail> {
         } => {
             assert_eq!(rt; ballot.counter, 9);
             assert_eq!(rt; ballot.value.as_bytes(), b"m".as_slice());
-            assert!(rt; *prepared == Some(*ballot));
+            assert!(rt;
+                prepared
+                    .as_ref()
+                    .is_some_and(|prepared| prepared.is_same(ballot))
+            );
             assert_eq!(rt;
                 (*aborted_counter, *high_counter, *commit_counter),
                 (6, 0, 0)
@@ -152,11 +158,12 @@ fn built_from_its_parts(rt: HostRuntime) -> Result<(), Fail> {
     let slices = Nested::new(alloc, SliceSet::new(1, members))?.ok_or("they keep the rules")?;
     let ballot = Ballot {
         counter: 9,
-        value: Value::new(b"m").ok_or("it is a value")?,
+        value: Value::new(alloc, b"m")?.ok_or("it is a value")?,
     };
+    let prepared = ballot.try_copy()?;
     let body = Statement::Prepare {
         ballot,
-        prepared: Some(ballot),
+        prepared: Some(prepared),
         aborted_counter: 6,
         high_counter: 0,
         commit_counter: 0,

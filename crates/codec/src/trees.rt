@@ -1,7 +1,7 @@
 //! Slices that are read from the front, with the names so far.
 
 ghost use Rattle.std.specs.Prelude.{◌≡◌, ◌≤◌, [], ◌∷◌, ◌++◌, IfOk};
-ghost use Rattle.codec.specs.Reading.{Gives, IsBytes, header_at, new_name_at, member_at, members_at, set_with, inner_at, nested_at, slices_at};
+ghost use Rattle.codec.specs.Reading.{Gives, Says, IsBytes, header_at, new_name_at, member_at, members_at, set_with, inner_at, nested_at, slices_at};
 ghost use Rattle.codec.specs.Faults.{is_among};
 ghost use Rattle.codec.specs.Parts.{part_of, part_names};
 ghost use Rattle.types.specs.Shape.{members_of};
@@ -57,17 +57,17 @@ fn read_set(
 
 /// A threshold and a count of members that a set may have.
 #[tactic(auto, unfolding(crate::specs::Reading::header_at))]
-fn read_header(reader: &mut Reader) -> Result<(u8, u8), CodecError>
-    ensures read { Gives (λ x. ((x.0, x.1), reader.new)) result (header_at reader.old) }
+fn read_header(reader: &mut Reader) -> Result<(u8, u8), Fault>
+    ensures read { Says (λ x. ((x.0, x.1), reader.new)) result (header_at reader.old) }
     ensures bytes { IsBytes reader.old }
 {
     let threshold = reader.byte()?;
     let count = reader.byte()?;
     if threshold == 0 || threshold > count {
-        return Err(CodecError::Fault(Fault::BadSlices));
+        return Err(Fault::BadSlices);
     }
     if count as usize > MAX_MEMBERS {
-        return Err(CodecError::Fault(Fault::Limit));
+        return Err(Fault::Limit);
     }
     Ok((threshold, count))
 }

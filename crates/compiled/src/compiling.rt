@@ -1,8 +1,8 @@
 //! From slices to their compiled form.
 
 ghost use Rattle.std.specs.Prelude.{◌≡◌, ◌+◌, ◌<◌, ◌^◌, ℕ, List, IfOk, IfSome, OnOk, get_or, is_some, length};
-ghost use Rattle.types.specs.Trees.{member_count};
-ghost use Rattle.protocol.specs.Sets.{IsAscending, among};
+ghost use Rattle.types.specs.Trees.{names_in};
+ghost use Rattle.protocol.specs.Sets.{IsAscending, among, within};
 ghost use Rattle.compiled.specs.Met.{IsCompiled, one_where, picked, needed_of};
 ghost use Rattle.compiled.specs.Places.{places_in};
 
@@ -59,6 +59,29 @@ fn add_node(masks: &mut Vec<Mask>, nodes: &[NodeId], node: &NodeId) -> Result<()
         None => Ok(()),
         Some(place) => add_place(masks, place),
     }
+}
+
+/// Whether each name in a set, and in the sets within it, has a place. It takes no memory.
+pub fn has_places(set: &SliceSet, nodes: &[NodeId]) -> bool
+    requires { IsAscending nodes.now }
+    ensures { result ≡ within (names_in set.now.members) (among nodes.now) }
+{
+    let members = set.members();
+    for member in members {
+        match member {
+            Member::Node(node) => {
+                if place_of(nodes, node).is_none() {
+                    return false;
+                }
+            }
+            Member::Set(inner) => {
+                if !has_places(inner, nodes) {
+                    return false;
+                }
+            }
+        }
+    }
+    true
 }
 
 /// The place of a node, if it has one.

@@ -1,10 +1,11 @@
 //! A compiled set.
 
-ghost use Rattle.std.specs.Prelude.{◌≡◌};
+ghost use Rattle.std.specs.Prelude.{◌≡◌, IfOk};
 ghost use Rattle.compiled.specs.Met.{met};
 ghost use Rattle.compiled.specs.Places.{sets_of};
 
 use crate::mask::{Mask, missing_after};
+use std::alloc::{AllocError, Global};
 use std::marker::Model;
 
 /// A threshold over places and inner sets, compiled against a list of nodes.
@@ -42,6 +43,13 @@ impl CompiledSet {
         }
     }
 
+    /// A copy. An error says that memory is short.
+    pub fn try_copy(&self, alloc: Global) -> Result<CompiledSet, AllocError>
+        ensures { IfOk result (λ c. c ≡ self.now) }
+    {
+        copy_of_set(alloc, self)
+    }
+
     /// Its places.
     fn masks(&self) -> &[Mask]
         ensures { result.now ≡ self.now.masks }
@@ -62,6 +70,19 @@ impl CompiledSet {
     {
         self.needed
     }
+}
+
+/// A copy of a set, with all that stands in it.
+fn copy_of_set(alloc: Global, set: &CompiledSet) -> Result<CompiledSet, AllocError>
+    ensures { IfOk result (λ c. c ≡ set.now) }
+{
+    let masks = Vec::from_slice(alloc, set.masks())?;
+    let sets = set.inner();
+    let mut inner = Vec::with_capacity(alloc, sets.len())?;
+    for each in sets {
+        inner.push(copy_of_set(alloc, each)?)?;
+    }
+    Ok(CompiledSet::new(set.needed(), masks, inner))
 }
 
 /// Whether as many places and inner sets as are needed are in the set of nodes. It takes no memory.

@@ -7,10 +7,11 @@ use std::alloc::Global;
 use std::snapshot::Snapshot;
 use types::Envelope;
 
-/// Envelopes in the order in which they were put.
+/// Envelopes in the order in which they were put. Each stays where it is in memory: as the shelf grows,
+/// pointers alone move.
 #[derive(Drop)]
 pub struct VecShelf {
-    envelopes: Vec<Envelope>,
+    envelopes: Vec<Box<Envelope>>,
 }
 
 /// A place in a [`VecShelf`].
@@ -30,11 +31,11 @@ impl VecShelf {
 }
 
 impl Places for VecShelf {
-    ghost use Rattle.std.specs.Prelude.{◌≡◌, slice_get, Some};
+    ghost use Rattle.std.specs.Prelude.{◌≡◌, Some, box_value, option_map, slice_get};
 
     type Place = VecPlace;
 
-    ghost is_of = { λ s p. slice_get s.envelopes.items p.number ≡ Some p.put.value };
+    ghost is_of = { λ s p. option_map box_value (slice_get s.envelopes.items p.number) ≡ Some p.put.value };
 
     ghost put_there = { λ p. p.put.value };
 
@@ -50,7 +51,13 @@ impl Shelf for VecShelf {
         }
         let put = Snapshot::of(&envelope);
         let number = self.envelopes.len();
-        self.envelopes.push_reserved(envelope);
-        Ok(VecPlace { number, put })
+        let alloc = *self.envelopes.allocator();
+        match Box::new(alloc, envelope) {
+            Ok(kept) => {
+                self.envelopes.push_reserved(kept);
+                Ok(VecPlace { number, put })
+            }
+            Err(failed) => Err(failed.value),
+        }
     }
 }

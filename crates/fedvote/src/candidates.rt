@@ -5,17 +5,17 @@ ghost use Rattle.protocol.specs.Candidates.{committed_by, greatest, is_counted, 
 ghost use Rattle.protocol.specs.States.{ballot_at};
 ghost use Rattle.fedvote.specs.Searching.{bettered, is_under};
 
-use types::{Ballot, Statement};
+use types::{Ballot, LentBallot, Statement};
 
 /// The greatest of the best ballot so far and of those that the statement names, below the bound and
 /// with a counter from 1 on (after the Stellar Consensus Protocol draft). It takes no memory.
 #[tactic(auto, using(crate::proofs::Bettering::bettered_then, crate::proofs::Bettering::bettered_none))]
-pub fn better_named(
-    best: Option<Ballot>,
-    bound: &Option<Ballot>,
-    statement: &Statement,
-) -> Option<Ballot>
-    ensures { result ≡ bettered best bound.now (named_by statement.now) }
+pub fn better_named<'a>(
+    best: Option<LentBallot<'a>>,
+    bound: &Option<LentBallot>,
+    statement: &'a Statement,
+) -> Option<LentBallot<'a>>
+    ensures { result ≡ bettered best.entry bound.now (named_by statement.now) }
 {
     match statement {
         Statement::Nominate { .. } => best,
@@ -24,10 +24,10 @@ pub fn better_named(
             prepared,
             ..
         } => {
-            let best = better(best, bound, *ballot);
+            let best = better(best, bound, LentBallot::of(ballot));
             match prepared {
                 None => best,
-                Some(prepared) => better(best, bound, *prepared),
+                Some(prepared) => better(best, bound, LentBallot::of(prepared)),
             }
         }
         Statement::Commit {
@@ -36,15 +36,15 @@ pub fn better_named(
             high_counter,
             ..
         } => {
-            let best = better(best, bound, *ballot);
+            let best = better(best, bound, LentBallot::of(ballot));
             better_ends(best, bound, ballot, *prepared_counter, *high_counter)
         }
         Statement::Externalize {
             commit,
             high_counter,
         } => {
-            let best = better(best, bound, *commit);
-            better(best, bound, ballot_at(commit, *high_counter))
+            let best = better(best, bound, LentBallot::of(commit));
+            better(best, bound, LentBallot::at(*high_counter, &commit.value))
         }
     }
 }
@@ -53,12 +53,12 @@ pub fn better_named(
 /// commit, below the bound and with a counter from 1 on (after the Stellar Consensus Protocol draft). It
 /// takes no memory.
 #[tactic(auto, using(crate::proofs::Bettering::bettered_then, crate::proofs::Bettering::bettered_none))]
-pub fn better_committed(
-    best: Option<Ballot>,
-    bound: &Option<Ballot>,
-    statement: &Statement,
-) -> Option<Ballot>
-    ensures { result ≡ bettered best bound.now (committed_by statement.now) }
+pub fn better_committed<'a>(
+    best: Option<LentBallot<'a>>,
+    bound: &Option<LentBallot>,
+    statement: &'a Statement,
+) -> Option<LentBallot<'a>>
+    ensures { result ≡ bettered best.entry bound.now (committed_by statement.now) }
 {
     match statement {
         Statement::Nominate { .. } => best,
@@ -78,50 +78,44 @@ pub fn better_committed(
             commit,
             high_counter,
         } => {
-            let best = better(best, bound, *commit);
-            better(best, bound, ballot_at(commit, *high_counter))
+            let best = better(best, bound, LentBallot::of(commit));
+            better(best, bound, LentBallot::at(*high_counter, &commit.value))
         }
     }
 }
 
 /// The greatest of the best ballot so far and of the two at these counters, with the ballot's value.
 #[tactic(auto, using(crate::proofs::Bettering::bettered_then, crate::proofs::Bettering::bettered_none))]
-fn better_ends(
-    best: Option<Ballot>,
-    bound: &Option<Ballot>,
-    ballot: &Ballot,
+fn better_ends<'a>(
+    best: Option<LentBallot<'a>>,
+    bound: &Option<LentBallot>,
+    ballot: &'a Ballot,
     low: u32,
     high: u32,
-) -> Option<Ballot>
-    ensures { result ≡ bettered best bound.now (ballot_at low ballot.now.value ∷ ballot_at high ballot.now.value ∷ []) }
+) -> Option<LentBallot<'a>>
+    ensures { result ≡ bettered best.entry bound.now (ballot_at low ballot.now.value ∷ ballot_at high ballot.now.value ∷ []) }
 {
-    let best = better(best, bound, ballot_at(ballot, low));
-    better(best, bound, ballot_at(ballot, high))
-}
-
-/// The ballot at this counter, with the value of that one.
-fn ballot_at(ballot: &Ballot, counter: u32) -> Ballot
-    ensures { result ≡ ballot_at counter ballot.now.value }
-{
-    Ballot {
-        counter,
-        value: ballot.value,
-    }
+    let best = better(best, bound, LentBallot::at(low, &ballot.value));
+    better(best, bound, LentBallot::at(high, &ballot.value))
 }
 
 /// The greatest of the best ballot so far and of this one, where it is below the bound and its counter
 /// is from 1 on.
 #[tactic(auto, unfolding(protocol::specs::Candidates::greatest))]
-fn better(best: Option<Ballot>, bound: &Option<Ballot>, ballot: Ballot) -> Option<Ballot>
-    ensures { result ≡ bettered best bound.now (ballot ∷ []) }
+fn better<'a>(
+    best: Option<LentBallot<'a>>,
+    bound: &Option<LentBallot>,
+    ballot: LentBallot<'a>,
+) -> Option<LentBallot<'a>>
+    ensures { result ≡ bettered best.entry bound.now (ballot.entry ∷ []) }
 {
-    if ballot.counter == 0 || !is_under(bound, &ballot) {
+    if ballot.counter() == 0 || !is_under(bound, &ballot) {
         return best;
     }
     match best {
         None => Some(ballot),
         Some(old) => {
-            if old < ballot {
+            if old.is_below(&ballot) {
                 Some(ballot)
             } else {
                 Some(old)
@@ -131,11 +125,11 @@ fn better(best: Option<Ballot>, bound: &Option<Ballot>, ballot: Ballot) -> Optio
 }
 
 /// Whether the ballot is below the bound, where there is one.
-fn is_under(bound: &Option<Ballot>, ballot: &Ballot) -> bool
+fn is_under(bound: &Option<LentBallot>, ballot: &LentBallot) -> bool
     ensures { result ≡ is_under bound.now ballot.now }
 {
     match bound {
         None => true,
-        Some(bound) => ballot < bound,
+        Some(bound) => ballot.is_below(bound),
     }
 }

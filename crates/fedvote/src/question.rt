@@ -9,7 +9,7 @@ use types::{Ballot, Statement, Value};
 
 /// What is asked of each node's statement: whether it votes for or accepts something, or how far its
 /// ballot is (after the Stellar Consensus Protocol draft).
-#[derive(Clone, Copy, Debug)]
+#[derive(Debug, Drop)]
 pub enum Question {
     /// Whether it votes for or accepts that this ballot is prepared.
     VotesOrAcceptsPrepare(Ballot),

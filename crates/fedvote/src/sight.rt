@@ -9,7 +9,7 @@ ghost use Rattle.fedvote.specs.Searching.{IsHonest, next_counter, next_under};
 
 use crate::question::Question;
 use std::alloc::{AllocError, Global};
-use types::{Ballot, Kind, Statement, Values};
+use types::{Kind, LentBallot, Statement, Values};
 
 /// What a node sees of its table at one moment: the rows of the others that it reaches, the rows of its
 /// leaders, and the two tests of federated voting (the Stellar Consensus Protocol draft, of federated
@@ -52,13 +52,13 @@ pub trait Sight {
 
     /// The greatest ballot below the bound, if there is one, that the ballot rows of the others that are
     /// reached name with a counter from 1 on.
-    fn next_named(&self, bound: Option<Ballot>) -> Option<Ballot>
-        ensures { result ≡ next_under bound (named_in ((seen self.now).rows Kind.Ballot)) };
+    fn next_named<'a>(&'a self, bound: &Option<LentBallot>) -> Option<LentBallot<'a>>
+        ensures { result ≡ next_under bound.now (named_in ((seen self.now).rows Kind.Ballot)) };
 
     /// The greatest commit counter from 1 on, with its value, below the bound, if there is one, of the
     /// ballot rows of the others that are reached.
-    fn next_committed(&self, bound: Option<Ballot>) -> Option<Ballot>
-        ensures { result ≡ next_under bound (committed_in ((seen self.now).rows Kind.Ballot)) };
+    fn next_committed<'a>(&'a self, bound: &Option<LentBallot>) -> Option<LentBallot<'a>>
+        ensures { result ≡ next_under bound.now (committed_in ((seen self.now).rows Kind.Ballot)) };
 
     /// The least counter above this one that a ballot row of another that is reached has.
     fn next_counter(&self, above: u32) -> Option<u32>

@@ -3,8 +3,9 @@
 ghost use Rattle.std.specs.Prelude.{◌≡◌, length, option_map, slice_get, true};
 ghost use Rattle.envstore.specs.Archives.{AreFiled, sents_of};
 ghost use Rattle.latest.specs.Senders.{senders};
-ghost use Rattle.protocol.specs.Rows.{has_single_rows, row};
+ghost use Rattle.protocol.specs.Rows.{has_single_rows, is_taken, row};
 
+use crate::newer::is_newer;
 use crate::table::Table;
 use envstore::Archive;
 use std::marker::Model;
@@ -49,6 +50,18 @@ impl<'a, S: envstore::Places> Rows<'a, S> {
         ensures { option_map (λ r. r.now) result ≡ row self.now sender.now kind }
     {
         self.table.row(self.archive, sender, kind)
+    }
+
+    /// Whether the table takes the envelope: its sender has no row of its kind, or the envelope is newer than
+    /// that row. What it does not take is stale. It takes no memory.
+    #[tactic(auto, unfolding(protocol::specs::Rows::is_taken))]
+    pub fn takes(&self, envelope: &Envelope) -> bool
+        ensures { result ≡ is_taken self.now envelope.now }
+    {
+        match self.row(envelope.sender(), envelope.body().kind()) {
+            None => true,
+            Some(row) => is_newer(envelope.body(), row.body()),
+        }
     }
 
     /// The sender that has `n` senders below it, as [`Table::sender`] says.

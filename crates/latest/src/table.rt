@@ -208,7 +208,7 @@ impl Table {
         self.rows.is_empty()
     }
 
-    /// A copy.
+    /// A copy, whose rows are numbers of the same archive. An error says that memory is short.
     pub fn try_copy<S: envstore::Places>(
         &self,
         alloc: Global,

@@ -109,21 +109,22 @@ fn envelope(alloc: Global, sender: u64, body: Statement) -> Result<Envelope, Fai
     Ok(Envelope::new(name(sender), 1, slices, body).ok_or("statement")?)
 }
 
-fn ballot(counter: u32, letter: u8) -> Result<Ballot, Fail> {
-    let value = Value::new(&[letter]).ok_or("value")?;
+fn ballot(alloc: Global, counter: u32, letter: u8) -> Result<Ballot, Fail> {
+    let value = Value::of(alloc, &[letter])?;
     Ok(Ballot { counter, value })
 }
 
 fn prepare(
+    alloc: Global,
     counter: u32,
     letter: u8,
     prepared: Option<u32>,
     aborted_counter: u32,
 ) -> Result<Statement, Fail> {
     Ok(Statement::Prepare {
-        ballot: ballot(counter, letter)?,
+        ballot: ballot(alloc, counter, letter)?,
         prepared: match prepared {
-            Some(counter) => Some(ballot(counter, letter)?),
+            Some(counter) => Some(ballot(alloc, counter, letter)?),
             None => None,
         },
         aborted_counter,
@@ -134,16 +135,16 @@ fn prepare(
 
 fn nominate(alloc: Global, letter: u8) -> Result<Statement, Fail> {
     let mut voted = Values::empty(alloc);
-    voted.push(Value::new(&[letter]).ok_or("value")?)?;
+    voted.push(Value::of(alloc, &[letter])?)?;
     Ok(Statement::Nominate {
         voted,
         accepted: Values::empty(alloc),
     })
 }
 
-fn externalize(counter: u32, letter: u8) -> Result<Statement, Fail> {
+fn externalize(alloc: Global, counter: u32, letter: u8) -> Result<Statement, Fail> {
     Ok(Statement::Externalize {
-        commit: ballot(counter, letter)?,
+        commit: ballot(alloc, counter, letter)?,
         high_counter: counter,
     })
 }
@@ -159,7 +160,7 @@ fn older_statements_are_stale(rt: HostRuntime) -> Result<(), Fail> {
         (9, b'n', None, 0, Offer::Replaced),
     ];
     for (counter, letter, prepared, aborted, want) in cases {
-        let body = prepare(counter, letter, prepared, aborted)?;
+        let body = prepare(alloc, counter, letter, prepared, aborted)?;
         assert_eq!(rt; table.offer(envelope(alloc, 2, body)?)?, want);
     }
     assert_eq!(rt; table.counter(2), Some(9));
@@ -184,8 +185,8 @@ fn other_nominations_are_stale(rt: HostRuntime) -> Result<(), Fail> {
 fn nothing_replaces_an_externalize(rt: HostRuntime) -> Result<(), Fail> {
     let alloc = rt.alloc();
     let mut table = Kept::new(alloc);
-    let first = externalize(3, b'x')?;
-    let later = prepare(4_294_967_294, b'x', None, 0)?;
+    let first = externalize(alloc, 3, b'x')?;
+    let later = prepare(alloc, 4_294_967_294, b'x', None, 0)?;
     assert!(rt; !is_newer(&later, &first));
     assert!(rt; is_newer(&first, &later));
     assert_eq!(rt; table.offer(envelope(alloc, 2, first)?)?, Offer::Replaced);
@@ -201,7 +202,7 @@ fn senders_ascend(rt: HostRuntime) -> Result<(), Fail> {
         let mut table = Kept::new(alloc);
         assert!(rt; table.table.is_empty());
         for sender in order {
-            let body = prepare(sender, b'x', None, 0)?;
+            let body = prepare(alloc, sender, b'x', None, 0)?;
             assert_eq!(rt;
                 table.offer(envelope(alloc, u64::from(sender), body)?)?,
                 Offer::Replaced
@@ -241,17 +242,17 @@ fn a_put_is_undone(rt: HostRuntime) -> Result<(), Fail> {
     let alloc = rt.alloc();
     let mut kept = Kept::new(alloc);
     for sender in [5, 9, 2] {
-        assert!(rt; comes_back(alloc, &mut kept, sender, prepare(3, b'x', None, 0)?)?);
-        let first = envelope(alloc, sender, prepare(3, b'x', None, 0)?)?;
+        assert!(rt; comes_back(alloc, &mut kept, sender, prepare(alloc, 3, b'x', None, 0)?)?);
+        let first = envelope(alloc, sender, prepare(alloc, 3, b'x', None, 0)?)?;
         assert_eq!(rt; kept.put(first)?, Way::Added);
     }
     assert!(rt; comes_back(alloc, &mut kept, 9, nominate(alloc, b'x')?)?);
-    assert!(rt; comes_back(alloc, &mut kept, 9, prepare(4, b'x', None, 0)?)?);
-    assert!(rt; comes_back(alloc, &mut kept, 9, prepare(1, b'x', None, 0)?)?);
+    assert!(rt; comes_back(alloc, &mut kept, 9, prepare(alloc, 4, b'x', None, 0)?)?);
+    assert!(rt; comes_back(alloc, &mut kept, 9, prepare(alloc, 1, b'x', None, 0)?)?);
     assert!(rt; !kept.has_row(9, Kind::Nomination));
-    let newer = envelope(alloc, 9, prepare(4, b'x', None, 0)?)?;
+    let newer = envelope(alloc, 9, prepare(alloc, 4, b'x', None, 0)?)?;
     assert_eq!(rt; kept.put(newer)?, Way::Replaced);
-    let same = envelope(alloc, 9, prepare(4, b'x', None, 0)?)?;
+    let same = envelope(alloc, 9, prepare(alloc, 4, b'x', None, 0)?)?;
     assert_eq!(rt; kept.put(same)?, Way::Stale);
     assert_eq!(rt; kept.counter(9), Some(4));
     for (place, sender) in [2, 5, 9].into_iter().enumerate() {

@@ -48,7 +48,7 @@ pub fn choose<T: ValueTest>(
             return Ok(chosen);
         }
         if test.test(alloc, value)? {
-            chosen.push(*value)?;
+            chosen.push(value.try_copy()?)?;
             room -= 1;
         }
     }
@@ -62,7 +62,7 @@ pub fn with_all(set: Values, values: &[Value]) -> Result<Values, AllocError>
     let mut set = set;
     let mut left = values;
     while let [rest @ .., value] = left {
-        set.insert(*value)?;
+        set.insert(value.try_copy()?)?;
         left = rest;
     }
     Ok(set)

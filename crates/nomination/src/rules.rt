@@ -1,6 +1,6 @@
 //! The rules of nomination, in their order.
 
-ghost use Rattle.std.specs.Prelude.{◌≡◌, ◌-◌, ◌++◌, IfOk, flat_map, length, option_to_list};
+ghost use Rattle.std.specs.Prelude.{◌≡◌, ◌-◌, ◌++◌, IfOk, flat_map, length, option_map, option_to_list};
 ghost use Rattle.types.specs.Nominations.{most_nominated};
 ghost use Rattle.types.specs.declared.kind.Kind.{Kind};
 ghost use Rattle.protocol.specs.Candidates.{all_with, as_set, values_by};
@@ -122,16 +122,20 @@ fn proposed_values<S: Sight>(
 {
     let mut proposed = sight.led_values().try_copy(alloc)?;
     if let Some(input) = own_input(own, given) {
-        proposed.insert(input)?;
+        proposed.insert(input.try_copy()?)?;
     }
     Ok(proposed)
 }
 
 /// The node's own input, where it is a leader.
-fn own_input(own: &NodeId, given: &Given) -> Option<Value>
-    ensures { option_to_list result ≡ own_input own.now given.now }
+fn own_input<'a>(own: &NodeId, given: &'a Given) -> Option<&'a Value>
+    ensures { option_to_list (option_map (λ v. v.now) result) ≡ own_input own.now given.now }
 {
-    if leads(own, given) { given.input } else { None }
+    if leads(own, given) {
+        given.input.as_ref()
+    } else {
+        None
+    }
 }
 
 /// Whether a node is among the leaders of the rounds so far. It takes no memory.

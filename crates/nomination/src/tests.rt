@@ -11,7 +11,7 @@ use fedvote::{Question, Sight};
 use std::alloc::{AllocError, Global};
 use std::process::Abort;
 use std::test::Fail;
-use types::{Ballot, Given, Kind, NodeId, Statement, Value, Values, Votes};
+use types::{Ballot, Given, Kind, LentBallot, NodeId, Statement, Value, Values, Votes};
 
 /// A row, and all its values.
 #[derive(Drop)]
@@ -67,12 +67,12 @@ impl Sight for TwoRows {
     }
 
     #[tactic(auto, unfolding(protocol::specs::Candidates::greatest))]
-    fn next_named(&self, _bound: Option<Ballot>) -> Option<Ballot> {
+    fn next_named<'a>(&'a self, _bound: &Option<LentBallot>) -> Option<LentBallot<'a>> {
         None
     }
 
     #[tactic(auto, unfolding(protocol::specs::Candidates::greatest))]
-    fn next_committed(&self, _bound: Option<Ballot>) -> Option<Ballot> {
+    fn next_committed<'a>(&'a self, _bound: &Option<LentBallot>) -> Option<LentBallot<'a>> {
         None
     }
 
@@ -88,7 +88,7 @@ impl Sight for TwoRows {
 fn values(alloc: Global, letters: &[u8]) -> Result<Values, Fail> {
     let mut values = Values::empty(alloc);
     for letter in letters {
-        values.push(Value::new(&[*letter]).ok_or("value")?)?;
+        values.push(Value::new(alloc, &[*letter])?.ok_or("value")?)?;
     }
     Ok(values)
 }
@@ -145,7 +145,7 @@ fn name(word: u64) -> NodeId {
 /// The input is i.
 fn given(alloc: Global, round: u32, leader: u64) -> Result<Given, Fail> {
     let mut given = Given::nothing(alloc);
-    given.input = Value::new(b"i");
+    given.input = Value::new(alloc, b"i")?;
     given.round = round;
     given.leaders.push(name(leader))?;
     Ok(given)
@@ -164,6 +164,25 @@ fn after(alloc: Global, reached: Letters, votes: Votes) -> Result<Votes, Fail> {
     let sight = sight(alloc, reached, NOBODY)?;
     let given = given(alloc, 1, 2)?;
     Ok(nominate(alloc, &name(1), &sight, &given, votes)?)
+}
+
+/// What node 1 votes for once it has nominated in this round, which this leader leads.
+fn voted_in(
+    alloc: Global,
+    sight: &TwoRows,
+    round: u32,
+    leader: u64,
+    own: Own,
+) -> Result<Values, Fail> {
+    let given = given(alloc, round, leader)?;
+    let before = votes(alloc, own)?;
+    Ok(nominate(alloc, &name(1), sight, &given, before)?.voted)
+}
+
+/// Whether the set is that of these letters.
+fn is_set(alloc: Global, set: &Values, letters: &[u8]) -> Result<bool, Fail> {
+    let expected = values(alloc, letters)?;
+    Ok(set.is_same(&expected))
 }
 
 #[test]
@@ -192,10 +211,9 @@ fn what_is_voted_for(rt: HostRuntime) -> Result<(), Fail> {
         (1, 1, many, b"ABCDEFGHIJKLMabz"),
     ];
     for (round, leader, own, voted) in cases {
-        let given = given(alloc, round, leader)?;
-        let after = nominate(alloc, &name(1), &sight, &given, votes(alloc, own)?)?;
+        let after = voted_in(alloc, &sight, round, leader, own)?;
         assert!(rt;
-            after.voted.is_same(&values(alloc, voted)?),
+            is_set(alloc, &after, voted)?,
             "round {round} led by {leader}"
         );
     }
@@ -228,8 +246,8 @@ fn what_is_accepted_and_confirmed(rt: HostRuntime) -> Result<(), Fail> {
     ];
     for (reached, own, accepted, confirmed) in cases {
         let after = after(alloc, reached, votes(alloc, own)?)?;
-        assert!(rt; after.accepts.is_same(&values(alloc, accepted)?));
-        assert!(rt; after.confirms.is_same(&values(alloc, confirmed)?));
+        assert!(rt; is_set(alloc, &after.accepts, accepted)?);
+        assert!(rt; is_set(alloc, &after.confirms, confirmed)?);
     }
     Ok(())
 }
@@ -240,7 +258,7 @@ fn nothing_is_nominated_once_a_ballot_is_confirmed(rt: HostRuntime) -> Result<()
     let mut before = Votes::none(alloc);
     before.high = Some(Ballot {
         counter: 1,
-        value: Value::new(b"a").ok_or("value")?,
+        value: Value::new(alloc, b"a")?.ok_or("value")?,
     });
     let same = before.try_copy(alloc)?;
     assert!(rt; after(alloc, (b"", b"b"), before)?.is_same(&same));

@@ -56,11 +56,11 @@ pub fn is_value_accepted<S: Sight>(
 {
     let accepts = votes.accepts.has(value);
     let backs = votes.voted.has(value) || accepts;
-    let question = Question::VotesOrAcceptsNominate(*value);
+    let question = Question::VotesOrAcceptsNominate(value.try_copy()?);
     if sight.quorum(alloc, Kind::Nomination, backs, &question)? {
         return Ok(true);
     }
-    let question = Question::AcceptsNominate(*value);
+    let question = Question::AcceptsNominate(value.try_copy()?);
     sight.blocking(alloc, Kind::Nomination, accepts, &question)
 }
 
@@ -76,6 +76,6 @@ pub fn is_value_confirmed<S: Sight>(
     ensures { IfOk result (λ b. b ≡ is_value_confirmed (S.seen sight.now) votes.now value.now) }
 {
     let accepts = votes.accepts.has(value);
-    let question = Question::AcceptsNominate(*value);
+    let question = Question::AcceptsNominate(value.try_copy()?);
     sight.quorum(alloc, Kind::Nomination, accepts, &question)
 }

@@ -19,10 +19,6 @@ use Rattle.protocol.proofs.PreparedStays.{Sound}
 use Rattle.protocol.proofs.SamenessLaws.{same_value-true}
 use Rattle.types.specs.Votes.{same_value}
 
--- the greater of p and t
-abbrev pub top : Ballot → Ballot → Ballot
-top p t = if below p t then t else p
-
 greatest-one : (o : Option Ballot) (t : Ballot) → (r : Ballot) × (greatest o (t ∷ []) ≡ Some r) × (below r t ≡ false) × Under o (Some r)
 greatest-one o t = go (greatest o (t ∷ [])) (greatest-above o (t ∷ []) t (inl refl)) (greatest-keeps o (t ∷ [])) refl
   where

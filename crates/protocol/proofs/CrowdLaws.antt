@@ -9,11 +9,11 @@ use Rattle.protocol.specs.Networks.{Host, Net, Step, Reply, slices_of, tests, fi
 use Rattle.protocol.specs.Networks.Reply.{Done, Refused}
 use Rattle.protocol.specs.Hosts.{Config, Entry, entered, journal, new_net, nets, hosts_of, steps_of, entries}
 use Rattle.protocol.specs.Isolation.{Kept, kept, kept_of, host_rule, announced, closure, outs_of, SameCast}
-use Rattle.protocol.specs.Submissions.{Answer, net_run, steps_to, answers, concerns, concerning, concerned, replied_to, config_of, SameRoster, SameReserves, names_on, roster_names, MembersAreNeverCrowdedOut, MembersOfRunsAreNeverCrowdedOut}
+use Rattle.protocol.specs.Submissions.{Answer, net_run, answers, concerns, concerning, concerned, replied_to, config_of, SameRoster, SameReserves, names_on, roster_names, MembersAreNeverCrowdedOut, MembersOfRunsAreNeverCrowdedOut}
 use Rattle.protocol.proofs.RuleLists.{least-start}
 use Rattle.protocol.proofs.EventLaws.{HostsIn}
 use Rattle.protocol.proofs.RunLaws.{hosts-closed, events-closed, casts-same, hosts-other, no-places, journals-agree}
-use Rattle.protocol.proofs.HostLaws.{applied-journal, answers-run, HasNet, find_net}
+use Rattle.protocol.proofs.HostLaws.{steps_to, applied-journal, answers-run, HasNet, find_net}
 use Rattle.protocol.proofs.CrowdViews.{view, Frame, frame, replies_in, others-kept}
 use Rattle.protocol.proofs.CrowdRuns.{AllGood, Shows, shows}
 

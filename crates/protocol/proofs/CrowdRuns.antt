@@ -143,16 +143,13 @@ module _ (R : Names) (i : ℕ) (r : Roster) (on : (u : ℕ) → R u ≡ true →
       entries : Option Refusal → List Entry
       entries o = entered e (replied net e o).1 (journal (replied net e o).0 es)
 
-      now : Frame × View
-      now = (frame R r net, view R i net)
-
       Hypothesis : Type 0
       Hypothesis = (n : Net) → Stands n → IsGood n (concerning R i (net_run n es)) (journal n es) → Shows n (concerning R i (net_run n es)) (journal n es)
 
       go : (b : Bool) → concerns R i e ≡ b → (o : Option Refusal) → first_that (tests net e) ≡ o → IsGood net (with_one b (answer o) (rest o)) (entries o) → Hypothesis → Shows net (with_one b (answer o) (rest o)) (entries o)
       go false c (Some n) q g ih = ih net s g
       go false c None q g ih =
-          let w : IsWithin R i e = kept-to R i e (subst (if_kept R) (sym (others-kept R i e c)) tt) in
+          let w : IsWithin R i e = kept-to R R i e (λ u r. r) (subst (if_kept R) (sym (others-kept R i e c)) tt) in
           let f = frame-next net e in
           let v = view-others net e s c q w in
           let before : IsGood (next net e) (rest None) (journal (next net e) es) = elim g [ inl a ↦ inl a.1 | inr h ↦ inr (good-back (next net e) net (view R i net) (rest None) f v h) ] in

@@ -8,12 +8,16 @@ use Rattle.protocol.specs.Hosts.{Config, History, hosts_of, entries}
 use Rattle.protocol.specs.Isolation.{closure, SameCast}
 use Rattle.protocol.specs.Verdicts.{IsFirstUnlike, IsFirstDifference}
 use Rattle.protocol.specs.Submissions.{answers, concerned, replied_to, config_of, SameRoster, SameReserves, roster_names}
-use Rattle.protocol.specs.Crowds.{Crowd, IsFirstOutside, closure_in, IsCrowd, CrowdsExist, CrowdsAreUnique}
+use Rattle.protocol.specs.Crowds.{Crowd, IsFirstOutside, IsCrowd, CrowdsExist, CrowdsAreUnique}
 use Rattle.protocol.specs.Crowds.Crowd.{CastDiffers, RosterDiffers, OutsideRoster, InputsDiffer, Same}
 use Rattle.protocol.proofs.VerdictLaws.{one_place, one_unlike, not_unlike}
 use Rattle.protocol.proofs.Decisions.{decided_ℕ, decided_bool, decided_shares, decided_step, first_difference, bound_of, among-below, least_among}
 use Rattle.protocol.proofs.VerdictsFound.{is_no, is_no-true, is_no-false, closure-bound, closure-below, cast_found}
 use Rattle.protocol.proofs.CrowdLaws.{never_crowded_out}
+
+-- the closure of v in a history
+abbrev pub closure_in : (List ℕ → Reading) → History → ℕ → ℕ → ℕ → Names
+closure_in decode h g i v = closure (hosts_of h.configs g) i v (entries decode h g)
 
 -- ---- rosters
 module _ (xs ys : List ℕ) where

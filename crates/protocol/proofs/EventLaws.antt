@@ -180,9 +180,6 @@ places_at-drop_other (s ∷ ss) j i o = go (s.number == j) refl (places_at-drop_
     go true e ih = rw (ap (λ x. x == i) (eqb-true s.number j e) ∙ o) ih
     go false e ih = ap (λ x. if s.number == i then Some s.places else x) ih
 
-fresh_place : ℕ → ℕ → Slices → Place
-fresh_place i u q = record { node = fresh i u q; told = [] }
-
 pub place_of-opened : (hosts : List Host) (i u : ℕ) → place_of (opened hosts i) u ≡ option_map (λ q. record { node = fresh i u q; told = [] }) (slices_of hosts u)
 unfolding opened fresh
 place_of-opened [] i u = refl

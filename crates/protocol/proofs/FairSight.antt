@@ -5,12 +5,11 @@ use Rattle.types.specs.Trees.{Slices}
 use Rattle.types.specs.declared.kind.Kind.{Kind}
 use Rattle.types.specs.declared.statement.Statement.{Statement}
 use Rattle.types.specs.Statements.{Sent}
-use Rattle.protocol.specs.Sets.{outside}
 use Rattle.protocol.specs.Satisfaction.{sat, is_blocked}
 use Rattle.protocol.specs.Rows.{row}
 use Rattle.protocol.specs.Backing.{slices_by, is_passed}
 use Rattle.protocol.specs.Views.{passing_with, quorum_passes, blocking_passes, seen}
-use Rattle.protocol.proofs.SatisfactionLaws.{sat_monotone, sat_outside}
+use Rattle.protocol.proofs.SatisfactionLaws.{outside, sat_monotone, sat_outside}
 use Rattle.protocol.proofs.QuorumLaws.{has_quorum-found}
 use Rattle.protocol.proofs.Tests.{Fair}
 

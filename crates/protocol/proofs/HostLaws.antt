@@ -8,7 +8,7 @@ use Rattle.protocol.specs.Networks.{Host, Net, Step, Reply, slices_of, effect, a
 use Rattle.protocol.specs.Networks.Reading.{Read, Fault}
 use Rattle.protocol.specs.Networks.Step.{Opens, Closes, Asks, Delivers, Hears, NominationTimes, BallotTimes, Reslices}
 use Rattle.protocol.specs.Hosts.{Entry, Config, entered, journal, net_at, reply_at, host_run, applied, nets, new_net, hosts_of, steps_of, entries}
-use Rattle.protocol.specs.Submissions.{Answer, net_run, steps_to, answers_of, config_of}
+use Rattle.protocol.specs.Submissions.{Answer, net_run, answers_of, config_of}
 use Rattle.protocol.specs.Isolation.{closure, kept_of, outs_of, SameCast, Isolation}
 use Rattle.protocol.proofs.RunLaws.{journals-agree}
 
@@ -52,19 +52,6 @@ net_at-same (m ∷ ms) g e n h = go (m.number == g) refl h (net_at-same ms g e n
     go true y k ih = let q : m ≡ n = cc in rw (ap (λ x. x == g) (step-number m e) ∙ y) (ap {B = Option Net} (λ (x : Net). Some (net_step x e).0) q)
     go false y k ih = rw y (ih k)
 
-net_at-gone : (ns : List Net) (g j : ℕ) (e : Step) → net_at ns g ≡ None → net_at (after ns j e) g ≡ None
-net_at-gone [] g j e h = refl
-net_at-gone (m ∷ ms) g j e h = go (m.number == g) refl h (net_at-gone ms g j e)
-  where
-    num : (b : Bool) → (if b then (net_step m e).0 else m).number ≡ m.number
-    num true = step-number m e
-    num false = refl
-
-    go : (b : Bool) → (m.number == g) ≡ b → (if b then Some m else net_at ms g) ≡ None → (net_at ms g ≡ None → net_at (after ms j e) g ≡ None)
-        → net_at ((if m.number == j then (net_step m e).0 else m) ∷ after ms j e) g ≡ None
-    go true y k ih = cc
-    go false y k ih = rw (ap (λ x. x == g) (num (m.number == j)) ∙ y) (ih k)
-
 net_at-other : (ns : List Net) (g j : ℕ) (e : Step) → (j == g) ≡ false → net_at (after ns j e) g ≡ net_at ns g
 net_at-other [] g j e o = refl
 net_at-other (m ∷ ms) g j e o = go (m.number == j) refl (net_at-other ms g j e o)
@@ -73,6 +60,11 @@ net_at-other (m ∷ ms) g j e o = go (m.number == j) refl (net_at-other ms g j e
         → net_at ((if b then (net_step m e).0 else m) ∷ after ms j e) g ≡ (if m.number == g then Some m else net_at ms g)
     go true y ih = let no : (m.number == g) ≡ false = ap (λ x. x == g) (eqb-true m.number j y) ∙ o in rw (ap (λ x. x == g) (step-number m e) ∙ no, no) ih
     go false y ih = ap (λ x. if m.number == g then Some m else x) ih
+
+-- the steps of one network of a host
+unfoldable pub steps_to : ℕ → List (ℕ × Step) → List Step
+steps_to g [] = []
+steps_to g (c ∷ cs) = if c.0 == g then c.1 ∷ steps_to g cs else steps_to g cs
 
 -- a history holds the journal of each of its networks
 pub applied-journal : (g : ℕ) (calls : List (ℕ × Step)) (ns : List Net) (n : Net) → net_at ns g ≡ Some n → applied g calls (host_run ns calls) ≡ journal n (steps_to g calls)
@@ -88,17 +80,6 @@ applied-journal g (c ∷ cs) ns n h = go (c.0 == g) refl (λ ns n. applied-journ
         (ap (λ o. reply_at o c.1) (ap (net_at ns) cg ∙ h))
         (ap (λ x. applied g cs (host_run (after ns x c.1) cs)) cg ∙ ih (after ns g c.1) (net_step n c.1).0 (net_at-same ns g c.1 n h))
     go false y ih = ih (after ns c.0 c.1) n (net_at-other ns g c.0 c.1 y ∙ h)
-
--- and nothing of a network that it lacks
-applied-none : (g : ℕ) (calls : List (ℕ × Step)) (ns : List Net) → net_at ns g ≡ None → applied g calls (host_run ns calls) ≡ []
-unfolding applied host_run
-applied-none g [] ns h = refl
-applied-none g (c ∷ cs) ns h = go (c.0 == g) refl (applied-none g cs (after ns c.0 c.1) (net_at-gone ns g c.0 c.1 h))
-  where
-    go : (b : Bool) → (c.0 == g) ≡ b → applied g cs (host_run (after ns c.0 c.1) cs) ≡ []
-        → (if b then entered c.1 (reply_at (net_at ns c.0) c.1) (applied g cs (host_run (after ns c.0 c.1) cs)) else applied g cs (host_run (after ns c.0 c.1) cs)) ≡ []
-    go true y ih = ap (λ o. entered c.1 (reply_at o c.1) (applied g cs (host_run (after ns c.0 c.1) cs))) (ap (net_at ns) (eqb-true c.0 g y) ∙ h) ∙ ih
-    go false y ih = ih
 
 -- a history holds the answers of each of its networks
 pub answers-run : (g : ℕ) (calls : List (ℕ × Step)) (ns : List Net) (n : Net) → net_at ns g ≡ Some n → answers_of g calls (host_run ns calls) ≡ net_run n (steps_to g calls)

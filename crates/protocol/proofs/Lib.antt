@@ -23,8 +23,11 @@ pub mod Sights
 pub mod Follows
 pub mod EventLaws
 pub mod RunLaws
+pub mod SameClosures
 pub mod HostLaws
 pub mod ClaimLaws
+pub mod Prefixes
+pub mod Agreements
 pub mod WorkedNetworks
 pub mod JournalLaws
 pub mod BallotOrder
@@ -45,6 +48,8 @@ pub mod ReachedNodes
 pub mod SendableVotes
 pub mod SentLaws
 pub mod ReachedLaws
+pub mod VotesGrow
+pub mod LastSentLaws
 pub mod StrangerLaws
 pub mod ResliceLaws
 pub mod RunSlices

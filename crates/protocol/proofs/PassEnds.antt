@@ -50,9 +50,6 @@ finish-committing s g w p = ap (λ q. while_open q (tail s g) w) p
 finish-externalized : (s : Seen) (g : Given) (w : Votes) → w.phase ≡ Externalized → finish s g w ≡ w
 finish-externalized s g w p = ap (λ q. while_open q (tail s g) w) p
 
-not_none : {A : Type 0} (b : Ballot) → Some b ≡ None → A
-not_none b e = cc
-
 pub begins : (v : ℕ) (s : Seen) (g : Given) (w : Votes) (b : Ballot) → w.ballot ≡ Some b → nominate v s g w ≡ w → begun v s g w ≡ w
 begins v s g w b e n = ap (start s) n ∙ start-some s w b e
 

@@ -1,5 +1,5 @@
 -- Rows that leave the reach of a node as it is.
-use Rattle.std.proofs.Common.{◌≡◌, ℕ, Bool, true, false, cond, ◌⊎◌, List, [], ◌∷◌, map, find, Some, if◌then◌else◌, refl, sym, ◌∙◌, ap, ap₂, subst, inl, inr}
+use Rattle.std.proofs.Common.{◌≡◌, ℕ, Bool, true, false, cond, ◌⊎◌, List, [], ◌∷◌, map, find, Option, Some, None, if◌then◌else◌, IsTrue, is_some, refl, sym, ◌∙◌, ap, ap₂, subst, inl, inr}
 use Rattle.std.specs.List.{Contains}
 use Rattle.std.proofs.Math.Path.{fun_ext}
 use Rattle.std.proofs.lemmas.Bool.{true≢false}
@@ -11,7 +11,7 @@ use Rattle.protocol.specs.Quorums.{NamesWithin}
 use Rattle.protocol.specs.Rows.{is_row_of, row, with_row}
 use Rattle.protocol.specs.Backing.{slices_by}
 use Rattle.protocol.specs.Closures.{Rule, in_least}
-use Rattle.protocol.specs.Reach.{rule_of, reached, IsReach, StaysWithSameSlices, StaysWithStrangers}
+use Rattle.protocol.specs.Reach.{rule_of, reached, IsReach, StaysWithFirstRows, StaysWithSameSlices, StaysWithStrangers}
 use Rattle.protocol.proofs.SetLaws.{same_test}
 use Rattle.protocol.proofs.ClosureLaws.{contains_head, contains_tail, contained_cases}
 use Rattle.protocol.proofs.Tables.{is_row_of-parts}
@@ -106,3 +106,37 @@ stays_with_strangers own configured table us e h r =
     let stranger : reached own configured table e.sender ≡ false = sym (r.exactly e.sender) ∙ h in
     same_reach own configured table (with_row e table) us
     (λ u. same_test (reached own configured table u) (reached own configured (with_row e table) u) (without_it-in own configured table e stranger u) (with_it-in own configured table e stranger u)) r
+
+-- ---- a sender's first row of a kind
+-- where there was no row, none went
+none_went : (e x : Sent) (table : List Sent) → row table e.sender (kind_of e.body) ≡ None → Contains table x → Contains (with_row e table) x
+unfolding row with_row
+none_went e x [] none c = contains_tail x e [] c
+none_went e x (y ∷ ys) none c = go (is_row_of e.sender (kind_of e.body) y) none (contained_cases x y ys c) (none_went e x ys)
+  where
+    go : (b : Bool) → cond b (Some y) (find (is_row_of e.sender (kind_of e.body)) ys) ≡ None → ((y ≡ x) ⊎ Contains ys x)
+        → (row ys e.sender (kind_of e.body) ≡ None → Contains ys x → Contains (with_row e ys) x) → Contains (if b then e ∷ ys else y ∷ with_row e ys) x
+    go true none i ih = absurd (true≢false (ap (λ (o : Option Sent). is_some o) none))
+    go false none (inl same) ih = subst (λ z. Contains (y ∷ with_row e ys) z) same (contains_head y (with_row e ys))
+    go false none (inr j) ih = contains_tail x y (with_row e ys) (ih none j)
+
+pub stays_with_first_rows : StaysWithFirstRows
+stays_with_first_rows own configured table us e none within r =
+    let old = reached own configured table in
+    let new = reached own configured (with_row e table) in
+    let held = reached-holds own configured table in
+    let kept = reached-holds own configured (with_row e table) in
+    let fewer : AreWithin new old = reached-in own configured (with_row e table) old (record {
+      itself = held.itself;
+      configuration = held.configuration;
+      rows = λ x c s. elim (came e x table c) [
+        | inl same ↦ λ u h. sym (r.exactly u) ∙ within u (subst (λ (z : Sent). IsTrue (among (names z.slices) u)) (sym same) h)
+        | inr i ↦ held.rows x i s
+      ];
+    }) in
+    let more : AreWithin old new = reached-in own configured table new (record {
+      itself = kept.itself;
+      configuration = kept.configuration;
+      rows = λ x c s. kept.rows x (none_went e x table none c) s;
+    }) in
+    same_reach own configured table (with_row e table) us (λ u. same_test (old u) (new u) (more u) (fewer u)) r

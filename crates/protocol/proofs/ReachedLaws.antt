@@ -67,7 +67,7 @@ change-lawful n (BallotTimer c) h = go (is_counter_live n c) refl
     go true live = timed_out-lawful n n.votes.ballot refl (has_ballot live) h
     go false live = tt
 
-settle-keeps : (P : Votes → Type 0) (k : ℕ) (f : Votes → Votes) → ((w : Votes) → P w → P (f w)) → (w u : Votes) → P w → settle k f w ≡ Some u → P u
+pub settle-keeps : (P : Votes → Type 0) (k : ℕ) (f : Votes → Votes) → ((w : Votes) → P w → P (f w)) → (w u : Votes) → P w → settle k f w ≡ Some u → P u
 unfolding settle
 settle-keeps P zero f p w u h e = cc
 settle-keeps P (suc k) f p w u h e = go (same_votes (f w) w) e (λ j. settle-keeps P k f p (f w) u (p w h) j)

@@ -65,10 +65,6 @@ pub position-committing : (w : Votes) (b : Ballot) → w.phase ≡ Committing �
 unfolding position position_in
 position-committing w b p e = rw (p, e) refl
 
-pub position-none : (w : Votes) → w.ballot ≡ None → position w ≡ None
-unfolding position
-position-none w e = rw e refl
-
 pub own-preparing : (w : Votes) (b : Ballot) (t : Ballot) → w.phase ≡ Preparing → w.ballot ≡ Some b → IsIn t (own_named w) → (t ≡ b) ⊎ (w.prepared ≡ Some t)
 own-preparing w b t p e i = go w.prepared (rw (position-preparing w b p e) at i)
   where

@@ -8,7 +8,7 @@ use Rattle.std.proofs.Math.Path.{fun_ext}
 use Rattle.std.proofs.lemmas.Bool.{and_parts, and_from, false≢true, eqb-true}
 use Rattle.types.specs.Trees.{Slices}
 use Rattle.types.specs.Statements.{Sent}
-use Rattle.protocol.specs.Sets.{Names, within}
+use Rattle.protocol.specs.Sets.{Names, AreWithin, within}
 use Rattle.protocol.specs.Satisfaction.{names}
 use Rattle.protocol.specs.Closures.{keeps}
 use Rattle.types.specs.declared.event.NodeEvent.TheVariants.{Propose, Take, NominationTimer, BallotTimer, Reslice}
@@ -140,94 +140,82 @@ events-in R i (x ∷ xs) h = (
         go true y k r = keeps-at R (record { sources = u ∷ []; gives = names q }) (and_parts (keeps R (record { sources = u ∷ []; gives = names q })) true k).0 (and_from (R u) true r refl)
         go false y k r = absurd (false≢true y)
 
--- what was delivered, and which slices were given, as the kept steps have it
+-- what was delivered to members of a set by members, and which slices were given to them, as the kept steps have it
 abbrev pub IsKeptIn : Names → Kept → Type 0
-IsKeptIn R Opened = Unit {0}
-IsKeptIn R Closed = Unit {0}
-IsKeptIn R (Told u (Propose x)) = Unit {0}
-IsKeptIn R (Told u (Take e)) = within (names e.slices) R ≡ true
-IsKeptIn R (Told u (NominationTimer r)) = Unit {0}
-IsKeptIn R (Told u (BallotTimer n)) = Unit {0}
-IsKeptIn R (Told u (Reslice q)) = within (names q) R ≡ true
-IsKeptIn R (Heard u from kind k) = Unit {0}
+IsKeptIn S Opened = Unit {0}
+IsKeptIn S Closed = Unit {0}
+IsKeptIn S (Told u (Propose x)) = Unit {0}
+IsKeptIn S (Told u (Take e)) = S u ≡ true → S e.sender ≡ true → within (names e.slices) S ≡ true
+IsKeptIn S (Told u (NominationTimer r)) = Unit {0}
+IsKeptIn S (Told u (BallotTimer n)) = Unit {0}
+IsKeptIn S (Told u (Reslice q)) = S u ≡ true → within (names q) S ≡ true
+IsKeptIn S (Heard u from kind k) = Unit {0}
 
 abbrev pub if_kept : Names → Option Kept → Type 0
-if_kept R None = Unit {0}
-if_kept R (Some k) = IsKeptIn R k
+if_kept S None = Unit {0}
+if_kept S (Some k) = IsKeptIn S k
 
-all-option : (R : Names) (o : Option Kept) (ks : List Kept) → if_kept R o → AllByRecursion (IsKeptIn R) ks → AllByRecursion (IsKeptIn R) (cons_option o ks)
-all-option R None ks h k = k
-all-option R (Some x) ks h k = (h, k)
+all-option : (S : Names) (o : Option Kept) (ks : List Kept) → if_kept S o → AllByRecursion (IsKeptIn S) ks → AllByRecursion (IsKeptIn S) (cons_option o ks)
+all-option S None ks h k = k
+all-option S (Some x) ks h k = (h, k)
 
-option-all : (R : Names) (o : Option Kept) (ks : List Kept) → AllByRecursion (IsKeptIn R) (cons_option o ks) → if_kept R o × AllByRecursion (IsKeptIn R) ks
-option-all R None ks h = (tt, h)
-option-all R (Some x) ks h = (h.0, h.1)
+option-all : (S : Names) (o : Option Kept) (ks : List Kept) → AllByRecursion (IsKeptIn S) (cons_option o ks) → if_kept S o × AllByRecursion (IsKeptIn S) ks
+option-all S None ks h = (tt, h)
+option-all S (Some x) ks h = (h.0, h.1)
 
-kept-from : (R : Names) (i : ℕ) (e : Step) → IsWithin R i e → if_kept R (kept R i e)
-kept-from R i (Opens j) h = go (j == i)
+-- a kept step, of which nothing is asked
+free : (S : Names) (b : Bool) (k : Kept) → IsKeptIn S k → if_kept S (when_kept b k)
+free S true k h = h
+free S false k h = tt
+
+-- what is kept for one set, of what lies in another
+kept-from : (R S : Names) (i : ℕ) (e : Step) → IsWithin S i e → if_kept S (kept R i e)
+kept-from R S i (Opens j) h = free S (j == i) Opened tt
+kept-from R S i (Closes j) h = free S (j == i) Closed tt
+kept-from R S i (Asks j u x) h = free S ((j == i) && R u) (Told u (Propose x)) tt
+kept-from R S i (Delivers u size (Read e)) h = go ((e.slot == i) && R u && R e.sender) refl
   where
-    go : (b : Bool) → if_kept R (when_kept b Opened)
-    go true = tt
-    go false = tt
-kept-from R i (Closes j) h = go (j == i)
-  where
-    go : (b : Bool) → if_kept R (when_kept b Closed)
-    go true = tt
-    go false = tt
-kept-from R i (Asks j u x) h = go ((j == i) && R u)
-  where
-    go : (b : Bool) → if_kept R (when_kept b (Told u (Propose x)))
-    go true = tt
-    go false = tt
-kept-from R i (Delivers u size (Read e)) h = go ((e.slot == i) && R u && R e.sender) refl
-  where
-    go : (b : Bool) → ((e.slot == i) && R u && R e.sender) ≡ b → if_kept R (when_kept b (Told u (Take e)))
-    go true y = let p = and_parts ((e.slot == i) && R u) (R e.sender) y in let q = and_parts (e.slot == i) (R u) p.0 in h q.0 q.1 p.1
+    go : (b : Bool) → ((e.slot == i) && R u && R e.sender) ≡ b → if_kept S (when_kept b (Told u (Take e)))
+    go true y = h (and_parts (e.slot == i) (R u) (and_parts ((e.slot == i) && R u) (R e.sender) y).0).0
     go false y = tt
-kept-from R i (Delivers u size (Fault n)) h = tt
-kept-from R i (Hears j u from kind k) h = go ((j == i) && R u && R from)
+kept-from R S i (Delivers u size (Fault n)) h = tt
+kept-from R S i (Hears j u from kind k) h = free S ((j == i) && R u && R from) (Heard u from kind k) tt
+kept-from R S i (NominationTimes j u r) h = free S ((j == i) && R u) (Told u (NominationTimer r)) tt
+kept-from R S i (BallotTimes j u n) h = free S ((j == i) && R u) (Told u (BallotTimer n)) tt
+kept-from R S i (Reslices j u q) h = go ((j == i) && R u) refl
   where
-    go : (b : Bool) → if_kept R (when_kept b (Heard u from kind k))
-    go true = tt
-    go false = tt
-kept-from R i (NominationTimes j u r) h = go ((j == i) && R u)
-  where
-    go : (b : Bool) → if_kept R (when_kept b (Told u (NominationTimer r)))
-    go true = tt
-    go false = tt
-kept-from R i (BallotTimes j u n) h = go ((j == i) && R u)
-  where
-    go : (b : Bool) → if_kept R (when_kept b (Told u (BallotTimer n)))
-    go true = tt
-    go false = tt
-kept-from R i (Reslices j u q) h = go ((j == i) && R u) refl
-  where
-    go : (b : Bool) → ((j == i) && R u) ≡ b → if_kept R (when_kept b (Told u (Reslice q)))
-    go true y = let p = and_parts (j == i) (R u) y in h p.0 p.1
+    go : (b : Bool) → ((j == i) && R u) ≡ b → if_kept S (when_kept b (Told u (Reslice q)))
+    go true y = h (and_parts (j == i) (R u) y).0
     go false y = tt
 
-pub kept-to : (R : Names) (i : ℕ) (e : Step) → if_kept R (kept R i e) → IsWithin R i e
-kept-to R i (Opens j) h = tt
-kept-to R i (Closes j) h = tt
-kept-to R i (Asks j u x) h = tt
-kept-to R i (Delivers u size (Read e)) h = λ y r s. subst (λ b. if_kept R (when_kept b (Told u (Take e)))) (and_from ((e.slot == i) && R u) (R e.sender) (and_from (e.slot == i) (R u) y r) s) h
-kept-to R i (Delivers u size (Fault n)) h = tt
-kept-to R i (Hears j u from kind k) h = tt
-kept-to R i (NominationTimes j u r) h = tt
-kept-to R i (BallotTimes j u n) h = tt
-kept-to R i (Reslices j u q) h = λ y r. subst (λ b. if_kept R (when_kept b (Told u (Reslice q)))) (and_from (j == i) (R u) y r) h
+-- and back, where the other lies in the one
+pub kept-to : (R S : Names) (i : ℕ) (e : Step) → AreWithin S R → if_kept S (kept R i e) → IsWithin S i e
+kept-to R S i (Opens j) w h = tt
+kept-to R S i (Closes j) w h = tt
+kept-to R S i (Asks j u x) w h = tt
+kept-to R S i (Delivers u size (Read e)) w h = λ y r s.
+    (subst (λ b. if_kept S (when_kept b (Told u (Take e)))) (and_from ((e.slot == i) && R u) (R e.sender) (and_from (e.slot == i) (R u) y (w u r)) (w e.sender s)) h) r s
+kept-to R S i (Delivers u size (Fault n)) w h = tt
+kept-to R S i (Hears j u from kind k) w h = tt
+kept-to R S i (NominationTimes j u r) w h = tt
+kept-to R S i (BallotTimes j u n) w h = tt
+kept-to R S i (Reslices j u q) w h = λ y r. (subst (λ b. if_kept S (when_kept b (Told u (Reslice q)))) (and_from (j == i) (R u) y (w u r)) h) r
 
-all_kept-from : (R : Names) (i : ℕ) (entries : List Entry) → AllIn R i entries → AllByRecursion (IsKeptIn R) (kept_of R i entries)
+pub all_kept-from : (R S : Names) (i : ℕ) (entries : List Entry) → AllIn S i entries → AllByRecursion (IsKeptIn S) (kept_of R i entries)
 unfolding kept_of
-all_kept-from R i [] h = tt
-all_kept-from R i (x ∷ xs) h = all-option R (kept R i x.event) (kept_of R i xs) (kept-from R i x.event h.0) (all_kept-from R i xs h.1)
+all_kept-from R S i [] h = tt
+all_kept-from R S i (x ∷ xs) h = all-option S (kept R i x.event) (kept_of R i xs) (kept-from R S i x.event h.0) (all_kept-from R S i xs h.1)
 
-pub all_kept-to : (R : Names) (i : ℕ) (entries : List Entry) → AllByRecursion (IsKeptIn R) (kept_of R i entries) → AllIn R i entries
+pub all_kept-to : (R S : Names) (i : ℕ) (entries : List Entry) → AreWithin S R → AllByRecursion (IsKeptIn S) (kept_of R i entries) → AllIn S i entries
 unfolding kept_of
-all_kept-to R i [] h = tt
-all_kept-to R i (x ∷ xs) h = let p = option-all R (kept R i x.event) (kept_of R i xs) h in (kept-to R i x.event p.0, all_kept-to R i xs p.1)
+all_kept-to R S i [] w h = tt
+all_kept-to R S i (x ∷ xs) w h = let p = option-all S (kept R i x.event) (kept_of R i xs) h in (kept-to R S i x.event w p.0, all_kept-to R S i xs w p.1)
 
-closure-keeps : (hosts : List Host) (i v : ℕ) (entries : List Entry) → list_all (keeps (closure hosts i v entries)) (map host_rule hosts ++ flat_map (λ x. announced i x.event) entries) ≡ true
+-- what lies in R in one world does in the other, where the kept steps are the same
+pub all_in-other : (R : Names) (i : ℕ) (one other : List Entry) → kept_of R i one ≡ kept_of R i other → AllIn R i one → AllIn R i other
+all_in-other R i one other same h = all_kept-to R R i other (λ u r. r) (subst (AllByRecursion (IsKeptIn R)) same (all_kept-from R R i one h))
+
+pub closure-keeps : (hosts : List Host) (i v : ℕ) (entries : List Entry) → list_all (keeps (closure hosts i v entries)) (map host_rule hosts ++ flat_map (λ x. announced i x.event) entries) ≡ true
 unfolding closure
 closure-keeps hosts i v entries = least-keeps (map host_rule hosts ++ flat_map (λ x. announced i x.event) entries) v
 
@@ -284,4 +272,4 @@ journals-agree config config' i v es es' cast same u r =
     all_one = events-closed config.hosts i v one
 
     all_other : AllIn R i other
-    all_other = all_kept-to R i other (subst (AllByRecursion (IsKeptIn R)) same (all_kept-from R i one all_one))
+    all_other = all_in-other R i one other same all_one

@@ -3,7 +3,7 @@ use Rattle.std.proofs.Common.{◌≡◌, ℕ, ◌+◌, ◌≤◌, Bool, true, fa
 use Rattle.std.proofs.lemmas.Bool.{false≢true, not-true, not_from_false, false_from_ne_true}
 use Rattle.std.proofs.lemmas.Bool.Decides.{nat_tests}
 use Rattle.types.specs.Trees.{Members, none, node, inner, Slices, names_in, member_count}
-use Rattle.protocol.specs.Sets.{Names, among, outside, AreWithin}
+use Rattle.protocol.specs.Sets.{Names, among, AreWithin}
 use Rattle.protocol.specs.Satisfaction.{satisfied_count, blocked_count, sat, is_blocked, names, Blocks, BlockingIsCounted}
 use Rattle.protocol.proofs.SetLaws.{among_head, among_tail, among_left, among_right}
 
@@ -47,6 +47,10 @@ bit_not false = refl
 
 bit_split : (k m b n : ℕ) → m + b ≡ n → cond (leb k m) 1 0 + cond (ltb n (k + b)) 1 0 ≡ 1
 bit_split k m b n e = grind (arith, nat_tests)
+
+-- all that is not in the set
+abbrev pub outside : Names → Names
+outside set u = not (set u)
 
 count_outside : (ms : Members) (b : Names) → satisfied_count ms (outside b) + blocked_count ms b ≡ member_count ms
 count_outside none b = refl

@@ -272,14 +272,14 @@ module _ (fired : ℕ) where
       subst (IsSendable fired) (sym a.1) (record { voted = h.voted; accepts = h.accepts; timers = h.timers; counted = h.counted; placed = h.placed })
 
 -- ---- a pass
-on-keeps : (P : Votes → Type 0) (f : Ballot → Votes → Votes) (w : Votes) → P w → ((b : Ballot) → w.ballot ≡ Some b → P (f b w)) → P (on_ballot f w)
+pub on-keeps : (P : Votes → Type 0) (f : Ballot → Votes → Votes) (w : Votes) → P w → ((b : Ballot) → w.ballot ≡ Some b → P (f b w)) → P (on_ballot f w)
 on-keeps P f w h g = go w.ballot refl
   where
     go : (o : Option Ballot) → w.ballot ≡ o → P (with_ballot f w o)
     go None e = h
     go (Some b) e = g b e
 
-prepare-keeps : (P : Votes → Type 0) (f : Votes → Votes) (w : Votes) → P w → (w.phase ≡ Preparing → P (f w)) → P (in_prepare f w)
+pub prepare-keeps : (P : Votes → Type 0) (f : Votes → Votes) (w : Votes) → P w → (w.phase ≡ Preparing → P (f w)) → P (in_prepare f w)
 prepare-keeps P f w h g = go w.phase refl
   where
     go : (p : Phase) → w.phase ≡ p → P (while_preparing p f w)
@@ -287,7 +287,7 @@ prepare-keeps P f w h g = go w.phase refl
     go Committing e = h
     go Externalized e = h
 
-unless-keeps : (P : Votes → Type 0) (f : Votes → Votes) (w : Votes) → P w → P (f w) → P (unless_over f w)
+pub unless-keeps : (P : Votes → Type 0) (f : Votes → Votes) (w : Votes) → P w → P (f w) → P (unless_over f w)
 unless-keeps P f w h g = go w.phase
   where
     go : (p : Phase) → P (while_open p f w)

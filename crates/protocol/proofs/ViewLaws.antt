@@ -8,7 +8,7 @@ use Rattle.types.specs.declared.kind.Kind.{Kind}
 use Rattle.types.specs.declared.kind.Kind.TheVariants.{Nomination}
 use Rattle.types.specs.declared.statement.Statement.{Statement}
 use Rattle.types.specs.Statements.{Sent, kind_of}
-use Rattle.protocol.specs.Sets.{Names, among, both, outside, within}
+use Rattle.protocol.specs.Sets.{Names, among, both, within}
 use Rattle.protocol.specs.Satisfaction.{sat, is_blocked, names}
 use Rattle.protocol.specs.Quorums.{Lists, NamesWithin}
 use Rattle.protocol.specs.Rows.{row, is_row_of, is_kind}
@@ -17,7 +17,7 @@ use Rattle.protocol.specs.Closures.{Rule, keeps, in_least}
 use Rattle.protocol.specs.Reach.{reached, rule_of}
 use Rattle.protocol.specs.Views.{others_reached, rows_seen, led_by, passing_with, quorum_passes, blocking_passes, seen}
 use Rattle.protocol.proofs.SetLaws.{same_test, all_from, within-at, among_head, among_tail}
-use Rattle.protocol.proofs.SatisfactionLaws.{sat_local, sat_monotone, sat_outside}
+use Rattle.protocol.proofs.SatisfactionLaws.{outside, sat_local, sat_monotone, sat_outside}
 use Rattle.protocol.proofs.QuorumLaws.{has_quorum-from, has_quorum-found, quorum_agree}
 use Rattle.protocol.proofs.ClosureLaws.{keeps-at, keeps-from}
 use Rattle.protocol.proofs.RuleLists.{least-in, least-from}

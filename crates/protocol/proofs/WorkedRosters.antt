@@ -15,8 +15,9 @@ use Rattle.protocol.specs.Hosts.{Config, History, entries}
 use Rattle.protocol.specs.Isolation.{closure, kept_of, outs_of, host_rule, announced}
 use Rattle.protocol.specs.Verdicts.{IsFirstDifference}
 use Rattle.protocol.specs.Submissions.{answers_of}
-use Rattle.protocol.specs.Crowds.{closure_in, IsCrowd}
+use Rattle.protocol.specs.Crowds.{IsCrowd}
 use Rattle.protocol.specs.Crowds.Crowd.{CastDiffers, RosterDiffers, OutsideRoster, InputsDiffer, Same}
+use Rattle.protocol.proofs.CrowdVerdicts.{closure_in}
 use Rattle.protocol.proofs.RuleLists.{least-in}
 use Rattle.protocol.proofs.Everything.{everything, A, B, C, D, Z, m, at, just, two_of_bcd, by, to_A, one_net, host, replies}
 

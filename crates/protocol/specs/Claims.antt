@@ -1,18 +1,19 @@
 -- The claims that isolation is made of, each in the words of its own layer.
 use Rattle.types.specs.declared.event.NodeEvent.{NodeEvent}
 use Rattle.types.specs.declared.event.Out.{Out}
-use Rattle.std.specs.Prelude.{◌≡◌, ℕ, not, ◌||◌, List, [], ◌++◌, filter, IsTrue, IsFalse}
+use Rattle.std.specs.Prelude.{◌≡◌, ℕ, not, ◌||◌, List, [], ◌++◌, filter, take, Some, IsTrue, IsFalse}
 use Rattle.std.specs.List.{list_all}
 use Rattle.types.specs.declared.kind.Kind.{Kind}
 use Rattle.types.specs.Statements.{Sent}
-use Rattle.protocol.specs.Sets.{Names, within}
+use Rattle.protocol.specs.Sets.{Names, within, AreWithin}
 use Rattle.protocol.specs.Satisfaction.{names}
 use Rattle.protocol.specs.Rows.{row}
 use Rattle.protocol.specs.Reach.{reached}
 use Rattle.protocol.specs.Nodes.{Node, step, Calm}
 use Rattle.types.specs.declared.event.NodeEvent.TheVariants.{Propose, Take, NominationTimer, BallotTimer, Reslice}
-use Rattle.protocol.specs.Networks.{Host}
-use Rattle.protocol.specs.Hosts.{Entry}
+use Rattle.protocol.specs.Networks.{Host, Place, places_at, known}
+use Rattle.protocol.specs.Hosts.{Entry, Config}
+use Rattle.protocol.specs.Runs.{IsRun, state_of}
 use Rattle.protocol.specs.Isolation.{closure}
 
 -- a set is closed for a node: it has its name, the names of its slices, its leaders, and what senders in the set announced to it
@@ -40,6 +41,13 @@ PrefixOfRun = (hosts : List Host) (i v : ℕ) (front rest : List Entry) (u : ℕ
 -- Prefix, of reach: whom a node reaches lies in each set that is closed for it
 abbrev pub PrefixOfReach : Type 0
 PrefixOfReach = (R : Names) (n : Node) → IsClosedFor R n → (u : ℕ) → IsTrue (reached n.name n.slices n.table u) → IsTrue (R u)
+
+-- Prefix, over a whole run: after each beginning of it the closure of the whole run is closed for each hosted member at the slot, and has whom that member reaches by its table
+abbrev pub PrefixOfWholeRun : Type 0
+PrefixOfWholeRun = (config : Config) (run : List Entry) (i v : ℕ) → IsRun config run →
+    let R = closure config.hosts i v run in
+    (n u : ℕ) (p : Place) → IsTrue (R u) → known (places_at (state_of config (take n run)).slots i) u ≡ Some p
+    → IsClosedFor R p.node × AreWithin (reached p.node.name p.node.slices p.node.table) R
 
 -- ---- agreement of two worlds
 -- a node, with the rows of senders in a set alone

@@ -22,10 +22,6 @@ pub record IsFirstOutside (R : Names) (names : List ℕ) (u : ℕ) : Type 0 wher
   pub outside : IsFalse (among names u)
   pub least : (w : ℕ) → IsTrue (R w) → w < u → IsTrue (among names w)
 
--- the closure of v in the first history
-abbrev pub closure_in : (List ℕ → Reading) → History → ℕ → ℕ → ℕ → Names
-closure_in decode h g i v = closure (hosts_of h.configs g) i v (entries decode h g)
-
 -- Of two networks, by their configurations, by the journal of the first and by what was submitted to each of them: the first that applies, in this order.
 abbrev pub IsCrowdOf : List Host → List Host → Option Config → Option Config → List Entry → List Answer → List Answer → ℕ → ℕ → Crowd → Type 0
 IsCrowdOf one other config configs run xs ys i v (CastDiffers u) = IsFirstUnlike (closure one i v run) v one other u

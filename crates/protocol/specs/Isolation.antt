@@ -2,6 +2,7 @@
 use Rattle.types.specs.declared.event.NodeEvent.{NodeEvent}
 use Rattle.types.specs.declared.event.Out.{Out}
 use Rattle.std.specs.Prelude.{◌≡◌, ℕ, Bool, true, false, ◌&&◌, ◌==◌, List, [], ◌∷◌, ◌++◌, Option, Some, None, filter_map, flat_map, map, if◌then◌else◌, is_some, IsTrue}
+use Rattle.std.specs.List.{Contains}
 use Rattle.types.specs.declared.kind.Kind.{Kind}
 use Rattle.protocol.specs.Sets.{Names}
 use Rattle.protocol.specs.Satisfaction.{names}
@@ -89,3 +90,15 @@ Isolation = (decode : List ℕ → Reading) (one other : History) (g i v : ℕ) 
     → kept_of R i (entries decode one g) ≡ kept_of R i (entries decode other g)
     → (u : ℕ) → IsTrue (R u) → IsTrue (is_some (slices_of (hosts_of one.configs g) u))
     → outs_of i u (entries decode one g) ≡ outs_of i u (entries decode other g)
+
+-- ---- the closure in the second world
+-- no name is hosted twice: each hosted node is the one that its name finds
+abbrev pub AreNamedOnce : List Host → Type 0
+AreNamedOnce hosts = (h : Host) → Contains hosts h → slices_of hosts h.name ≡ Some h.slices
+
+-- Where the casts are the same and so are the kept steps, the closure of v is the same set of names in both worlds, whatever entries they have: those of two runs, or of a network in two histories.
+abbrev pub SameClosures : Type 0
+SameClosures = (one other : List Host) (runs others : List Entry) (i v : ℕ) → AreNamedOnce one → AreNamedOnce other →
+    let R = closure one i v runs in
+    SameCast R v one other → kept_of R i runs ≡ kept_of R i others
+    → (u : ℕ) → closure other i v others u ≡ R u

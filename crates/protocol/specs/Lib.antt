@@ -25,12 +25,14 @@ pub mod Networks
 pub mod Hosts
 pub mod Isolation
 pub mod Claims
+pub mod Agreeing
 pub mod Runs
 pub mod WithoutRoster
 pub mod Counts
 pub mod Limits
 pub mod Strangers
 pub mod Reslices
+pub mod LastSent
 pub mod Submissions
 pub mod Verdicts
 pub mod Crowds

@@ -1,5 +1,5 @@
 -- The reach of a node: whom it may come to depend on, by its own slices and by the rows of a table.
-use Rattle.std.specs.Prelude.{◌≡◌, ℕ, List, [], ◌∷◌, map, Some, IsTrue, IsFalse, ◌↔◌}
+use Rattle.std.specs.Prelude.{◌≡◌, ℕ, List, [], ◌∷◌, map, Some, None, IsTrue, IsFalse, ◌↔◌}
 use Rattle.std.specs.List.{Contains}
 use Rattle.types.specs.Trees.{Slices}
 use Rattle.types.specs.declared.kind.Kind.{Kind}
@@ -71,3 +71,8 @@ StaysWithSameSlices = (own : ℕ) (configured : Slices) (table : List Sent) (rea
 abbrev pub StaysWithStrangers : Type 0
 StaysWithStrangers = (own : ℕ) (configured : Slices) (table : List Sent) (reach : List ℕ) (e : Sent)
     → IsFalse (among reach e.sender) → IsReach own configured table reach → IsReach own configured (with_row e table) reach
+
+-- the reach stays where a sender's first row of a kind comes and names reached nodes alone
+abbrev pub StaysWithFirstRows : Type 0
+StaysWithFirstRows = (own : ℕ) (configured : Slices) (table : List Sent) (reach : List ℕ) (e : Sent)
+    → row table e.sender (kind_of e.body) ≡ None → AreWithin (among (names e.slices)) (among reach) → IsReach own configured table reach → IsReach own configured (with_row e table) reach

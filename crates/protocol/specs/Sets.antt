@@ -22,10 +22,6 @@ among xs u = list_any (λ x. x == u) xs
 abbrev pub both : Names → Names → Names
 both one other u = one u && other u
 
--- all that is not in the set
-abbrev pub outside : Names → Names
-outside set u = not (set u)
-
 -- each name of the list is in the set
 abbrev pub within : List ℕ → Names → Bool
 within xs set = list_all set xs

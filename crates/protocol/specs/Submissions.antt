@@ -20,12 +20,7 @@ unfoldable pub net_run : Net → List Step → List Answer
 net_run net [] = []
 net_run net (e ∷ es) = record { step = e; reply = (net_step net e).1 } ∷ net_run (net_step net e).0 es
 
--- the steps of one network of a host
-unfoldable pub steps_to : ℕ → List (ℕ × Step) → List Step
-steps_to g [] = []
-steps_to g (c ∷ cs) = if c.0 == g then c.1 ∷ steps_to g cs else steps_to g cs
-
--- the same, with their replies
+-- the steps of one network of a host, with their replies
 unfoldable pub answers_of : ℕ → List (ℕ × Step) → List Reply → List Answer
 answers_of g [] rs = []
 answers_of g (c ∷ cs) [] = []

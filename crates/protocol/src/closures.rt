@@ -1,7 +1,7 @@
 //! Laws of closures, and of the reach of a node.
 
 ghost use Rattle.protocol.specs.Closures.{ClosuresAreDerived, ClosuresAreLeast};
-ghost use Rattle.protocol.specs.Reach.{ReachFollowsChains, ReachHoldsNames, ReachIsLeast, StaysWithSameSlices, StaysWithStrangers};
+ghost use Rattle.protocol.specs.Reach.{ReachFollowsChains, ReachHoldsNames, ReachIsLeast, StaysWithFirstRows, StaysWithSameSlices, StaysWithStrangers};
 
 /// The closure of a name contains it, keeps each rule, and lies in every set that does both.
 pub fn closures_are_least()
@@ -32,9 +32,11 @@ pub fn reach_holds_names()
     ensures { ReachHoldsNames }
 {}
 
-/// The reach of a node stays as it is where a row comes in the place of one with the same slices, and
-/// where a row comes whose sender is not reached.
+/// The reach of a node stays as it is where a row comes in the place of one with the same slices,
+/// where a row comes whose sender is not reached, and where a sender's first row of a kind comes that
+/// names reached nodes alone.
 pub fn reach_stays()
     ensures slices { StaysWithSameSlices }
     ensures strangers { StaysWithStrangers }
+    ensures first_rows { StaysWithFirstRows }
 {}

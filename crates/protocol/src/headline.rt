@@ -1,7 +1,8 @@
 //! Isolation of hosted validators, and the claims that it is made of.
 
-ghost use Rattle.protocol.specs.Claims.{Agree, Quiet, PrefixOfReach, PrefixOfRun};
-ghost use Rattle.protocol.specs.Isolation.{Isolation};
+ghost use Rattle.protocol.specs.Agreeing.{NewNetworksAgree, OtherStepsLeave, RunsStayClosedIn, StaysClosedIn, StepsAgree};
+ghost use Rattle.protocol.specs.Claims.{Agree, Quiet, PrefixOfReach, PrefixOfRun, PrefixOfWholeRun};
+ghost use Rattle.protocol.specs.Isolation.{Isolation, SameClosures};
 ghost use Rattle.protocol.specs.Runs.{JournalsAreRuns, RunsAreJournals};
 ghost use Rattle.protocol.specs.Verdicts.{IsolatedRuns, VerdictsAreUnique, VerdictsExist};
 
@@ -50,4 +51,31 @@ pub fn verdicts_are_determined()
     ensures isolated { IsolatedRuns }
     ensures unique { VerdictsAreUnique }
     ensures there { VerdictsExist }
+{}
+
+/// Where two worlds host the members of the first one's closure alike, no name twice, and the applied
+/// steps that concern them are the same in order, the closure is the same set of names in both. It
+/// holds for any entries, so for two runs and for a network in two histories.
+#[tactic(auto, using(crate::proofs::SameClosures::same_closures))]
+pub fn closures_are_the_same()
+    ensures { SameClosures }
+{}
+
+/// After each beginning of a run the closure of the whole run is closed for each hosted member at the
+/// slot, and has all that the member reaches by its table.
+pub fn members_stay_within_closures()
+    ensures { PrefixOfWholeRun }
+{}
+
+/// Two networks that agree on a set of names at a slot still do after an applied step of each of which
+/// the same is kept for the set, and each member gives out the same in both: also where a member hears
+/// a member, though each network hands over what its own node emitted. A step of which nothing is kept
+/// leaves the agreement, and members give nothing out. The set stays closed for each network. New
+/// networks with the same members agree, and the closure of a run is closed after each beginning of it.
+pub fn networks_agree()
+    ensures new { NewNetworksAgree }
+    ensures runs { RunsStayClosedIn }
+    ensures steps { StepsAgree }
+    ensures others { OtherStepsLeave }
+    ensures closed { StaysClosedIn }
 {}

@@ -20,10 +20,15 @@ pub use closures::{
     reach_is_least, reach_stays,
 };
 pub use extremes::extremes_are_exact;
-pub use headline::{agree, isolation, journals_are_runs, prefix, quiet, verdicts_are_determined};
+pub use headline::{
+    agree, closures_are_the_same, isolation, journals_are_runs, members_stay_within_closures,
+    networks_agree, prefix, quiet, verdicts_are_determined,
+};
 pub use limits::four_passes_are_enough;
 pub use quorums::{blocking_is_counted, quorum_cut, quorums_are_found};
-pub use reached::{reached_nodes_send_well_formed, slices_follow_events, strangers_add_rows};
+pub use reached::{
+    last_emitted_is_sent, reached_nodes_send_well_formed, slices_follow_events, strangers_add_rows,
+};
 pub use rosters::{
     crowds_are_determined, lengths_follow_from_envelopes, members_are_never_crowded_out,
     room_is_counted, without_roster_nothing_changes,

@@ -1,5 +1,6 @@
 //! Nodes that events lead to, and what they send.
 
+ghost use Rattle.protocol.specs.LastSent.{LastIsSent};
 ghost use Rattle.protocol.specs.Limits.{ReachedAreCalm, SendsWellFormed, TimersAreCounted};
 ghost use Rattle.protocol.specs.Reslices.{ReslicesChangeVotes, SameSlicesAreQuiet, SlicesFollowEvents, SlicesFollowRuns};
 ghost use Rattle.protocol.specs.Strangers.{HeldIsClosed, LeadersAreNear, OutsidersAddRows, OutsidersAreQuiet, StrangersAddRows};
@@ -35,4 +36,12 @@ pub fn slices_follow_events()
     ensures runs { SlicesFollowRuns }
     ensures rest { ReslicesChangeVotes }
     ensures same { SameSlicesAreQuiet }
+{}
+
+/// In a run, what a hosted node emitted last of each kind since its slot was opened is what it would
+/// send now, and it emitted none of a kind where it would send none. So a statement differs from the
+/// last one emitted exactly where it differs from the one that would have been sent before.
+#[tactic(auto, using(crate::proofs::LastSentLaws::last_is_sent))]
+pub fn last_emitted_is_sent()
+    ensures { LastIsSent }
 {}

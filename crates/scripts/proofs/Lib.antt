@@ -1,3 +1,4 @@
 mod NumberLaws
 pub mod ScriptLemmas
 pub mod InputLemmas
+pub mod ValueLemmas

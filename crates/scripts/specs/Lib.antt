@@ -1,3 +1,4 @@
 pub mod Numbers
 pub mod Script
 pub mod Stops
+pub mod Values

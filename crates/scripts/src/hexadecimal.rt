@@ -1,6 +1,7 @@
 //! Bytes as hexadecimal digits.
 
-ghost use Rattle.std.specs.Prelude.{◌<◌};
+ghost use Rattle.std.specs.Prelude.{◌≡◌, ◌<◌};
+ghost use Rattle.scripts.specs.Values.{is_lower_hex as lower_hex_test};
 
 use hex::FromHexError;
 use std::alloc::{AllocError, Global};
@@ -21,7 +22,9 @@ pub fn bytes_of(alloc: Global, word: &[u8]) -> Result<Option<Vec<u8>>, AllocErro
 }
 
 /// Whether there are lower-case hexadecimal digits alone.
-pub(crate) fn is_lower_hex(word: &[u8]) -> bool {
+pub(crate) fn is_lower_hex(word: &[u8]) -> bool
+    ensures { result ≡ lower_hex_test word.now }
+{
     word.iter()
         .all(|byte| matches!(*byte, b'0'..=b'9' | b'a'..=b'f'))
 }

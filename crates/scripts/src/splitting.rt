@@ -1,6 +1,7 @@
 //! Words cut at a byte.
 
 ghost use Rattle.std.specs.Prelude.{◌≡◌, ◌≤◌, ◌++◌, ◌∷◌, IfSome, length};
+ghost use Rattle.scripts.specs.Values.{is_plain as plain_test};
 
 /// What stands before the first such byte, and what stands after it, where there is one.
 pub(crate) fn split_once(text: &[u8], at: u8) -> Option<(&[u8], &[u8])>
@@ -27,6 +28,8 @@ pub(crate) fn plain_front(text: &[u8]) -> (&[u8], &[u8])
 }
 
 /// Whether there are letters and digits alone.
-pub(crate) fn is_plain(word: &[u8]) -> bool {
+pub(crate) fn is_plain(word: &[u8]) -> bool
+    ensures { result ≡ plain_test word.now }
+{
     word.iter().all(|byte| byte.is_ascii_alphanumeric())
 }

@@ -14,9 +14,9 @@ use types::{Ballot, Statement, Values};
 pub fn statement_of(alloc: Global, word: &[u8]) -> Result<Option<Statement>, AllocError> {
     match word {
         [b'n', b'o', b'm', b'(', fields @ .., b')'] => nomination_of(alloc, fields),
-        [b'p', b'r', b'e', b'p', b'(', fields @ .., b')'] => Ok(prepare_of(fields)),
-        [b'c', b'o', b'm', b'm', b'(', fields @ .., b')'] => Ok(commit_of(fields)),
-        [b'e', b'x', b't', b'(', fields @ .., b')'] => Ok(externalize_of(fields)),
+        [b'p', b'r', b'e', b'p', b'(', fields @ .., b')'] => prepare_of(alloc, fields),
+        [b'c', b'o', b'm', b'm', b'(', fields @ .., b')'] => commit_of(alloc, fields),
+        [b'e', b'x', b't', b'(', fields @ .., b')'] => externalize_of(alloc, fields),
         _ => Ok(None),
     }
 }
@@ -41,7 +41,7 @@ fn values_of(alloc: Global, list: &[u8]) -> Result<Option<Values>, AllocError> {
         return Ok(Some(values));
     }
     for word in list.split(|byte| *byte == b'+') {
-        match value_of(word) {
+        match value_of(alloc, word)? {
             Some(value) => values.push(value)?,
             None => return Ok(None),
         }
@@ -49,46 +49,90 @@ fn values_of(alloc: Global, list: &[u8]) -> Result<Option<Values>, AllocError> {
     Ok(Some(values))
 }
 
-fn prepare_of(fields: &[u8]) -> Option<Statement> {
+fn prepare_of(alloc: Global, fields: &[u8]) -> Result<Option<Statement>, AllocError> {
+    let Some((ballot, prepared, counters)) = prepare_fields(fields) else {
+        return Ok(None);
+    };
+    let Some(ballot) = ballot_of(alloc, ballot)? else {
+        return Ok(None);
+    };
+    let Some(prepared) = optional_of(alloc, prepared)? else {
+        return Ok(None);
+    };
+    let (aborted_counter, high_counter, commit_counter) = counters;
+    Ok(Some(Statement::Prepare {
+        ballot,
+        prepared,
+        aborted_counter,
+        high_counter,
+        commit_counter,
+    }))
+}
+
+// The words of the two ballots of a PREPARE, and its counters.
+fn prepare_fields(fields: &[u8]) -> Option<(&[u8], &[u8], (u32, u32, u32))> {
     let (ballot, rest) = split_once(fields, b',')?;
-    let (prepared, rest) = split_once(rest, b',')?;
-    let (aborted, rest) = split_once(rest, b',')?;
-    let (high, commit) = split_once(rest, b',')?;
-    Some(Statement::Prepare {
-        ballot: ballot_of(ballot)?,
-        prepared: optional_of(prepared)?,
-        aborted_counter: counter_of(aborted)?,
-        high_counter: counter_of(high)?,
-        commit_counter: counter_of(commit)?,
-    })
+    let (prepared, counters) = split_once(rest, b',')?;
+    Some((ballot, prepared, three_counters(counters)?))
 }
 
 // A ballot, or `-` for none.
-fn optional_of(word: &[u8]) -> Option<Option<Ballot>> {
+fn optional_of(alloc: Global, word: &[u8]) -> Result<Option<Option<Ballot>>, AllocError> {
     match word {
-        [b'-'] => Some(None),
-        _ => Some(Some(ballot_of(word)?)),
+        [b'-'] => Ok(Some(None)),
+        _ => match ballot_of(alloc, word)? {
+            Some(ballot) => Ok(Some(Some(ballot))),
+            None => Ok(None),
+        },
     }
 }
 
-fn commit_of(fields: &[u8]) -> Option<Statement> {
-    let (ballot, rest) = split_once(fields, b',')?;
-    let (prepared, rest) = split_once(rest, b',')?;
-    let (high, commit) = split_once(rest, b',')?;
-    Some(Statement::Commit {
-        ballot: ballot_of(ballot)?,
-        prepared_counter: counter_of(prepared)?,
-        high_counter: counter_of(high)?,
-        commit_counter: counter_of(commit)?,
-    })
+fn commit_of(alloc: Global, fields: &[u8]) -> Result<Option<Statement>, AllocError> {
+    let Some((ballot, counters)) = commit_fields(fields) else {
+        return Ok(None);
+    };
+    let Some(ballot) = ballot_of(alloc, ballot)? else {
+        return Ok(None);
+    };
+    let (prepared_counter, high_counter, commit_counter) = counters;
+    Ok(Some(Statement::Commit {
+        ballot,
+        prepared_counter,
+        high_counter,
+        commit_counter,
+    }))
 }
 
-fn externalize_of(fields: &[u8]) -> Option<Statement> {
+// The word of the ballot of a COMMIT, and its counters.
+fn commit_fields(fields: &[u8]) -> Option<(&[u8], (u32, u32, u32))> {
+    let (ballot, counters) = split_once(fields, b',')?;
+    Some((ballot, three_counters(counters)?))
+}
+
+// Three counters behind one another.
+fn three_counters(fields: &[u8]) -> Option<(u32, u32, u32)> {
+    let (first, rest) = split_once(fields, b',')?;
+    let (second, third) = split_once(rest, b',')?;
+    Some((counter_of(first)?, counter_of(second)?, counter_of(third)?))
+}
+
+fn externalize_of(alloc: Global, fields: &[u8]) -> Result<Option<Statement>, AllocError> {
+    let Some((commit, high_counter)) = externalize_fields(fields) else {
+        return Ok(None);
+    };
+    match ballot_of(alloc, commit)? {
+        Some(commit) => Ok(Some(Statement::Externalize {
+            commit,
+            high_counter,
+        })),
+        None => Ok(None),
+    }
+}
+
+// The word of the ballot of an EXTERNALIZE, and its counter.
+fn externalize_fields(fields: &[u8]) -> Option<(&[u8], u32)> {
     let (commit, high) = split_once(fields, b',')?;
-    Some(Statement::Externalize {
-        commit: ballot_of(commit)?,
-        high_counter: counter_of(high)?,
-    })
+    Some((commit, counter_of(high)?))
 }
 
 /// Adds the statement. Where memory is wanting, a part may have been added.

@@ -14,7 +14,7 @@ fn printed_name(alloc: Global, word: &[u8]) -> Result<Option<String>, AllocError
 }
 
 fn printed_value(alloc: Global, word: &[u8]) -> Result<Option<String>, AllocError> {
-    let Some(value) = value_of(word) else {
+    let Some(value) = value_of(alloc, word)? else {
         return Ok(None);
     };
     let mut text = String::new(alloc);
@@ -23,7 +23,7 @@ fn printed_value(alloc: Global, word: &[u8]) -> Result<Option<String>, AllocErro
 }
 
 fn printed_ballot(alloc: Global, word: &[u8]) -> Result<Option<String>, AllocError> {
-    let Some(ballot) = ballot_of(word) else {
+    let Some(ballot) = ballot_of(alloc, word)? else {
         return Ok(None);
     };
     let mut text = String::new(alloc);
@@ -155,7 +155,7 @@ fn values_and_ballots(rt: HostRuntime) -> Result<(), Fail> {
 }
 
 #[test]
-fn slices_and_statements(rt: HostRuntime) -> Result<(), Fail> {
+fn words_of_slices(rt: HostRuntime) -> Result<(), Fail> {
     for (word, wanted) in [
         (b"1[A]".as_slice(), "1[A]"),
         (b"2[B,1[C,D],2[E,F]]".as_slice(), "2[B,1[C,D],2[E,F]]"),
@@ -180,6 +180,11 @@ fn slices_and_statements(rt: HostRuntime) -> Result<(), Fail> {
     ] {
         answers(&rt, printed_slices(rt.alloc(), word), wanted)?;
     }
+    Ok(())
+}
+
+#[test]
+fn words_of_statements(rt: HostRuntime) -> Result<(), Fail> {
     for word in [
         "nom(x+y|x)",
         "nom(|x)",

@@ -1,38 +1,73 @@
 //! Values and ballots.
 
+ghost use Rattle.std.specs.Prelude.{◌≡◌, Ok, None, IfOk};
+ghost use Rattle.scripts.specs.Values.{value_in as bytes_value, digits_value, word_value};
+
 use crate::hexadecimal::{is_lower_hex, push_hex, push_plain};
 use crate::number::counter_of;
 use crate::splitting::{is_plain, split_once};
-use std::alloc::AllocError;
+use std::alloc::{AllocError, Global};
 use types::{Ballot, MAX_VALUE_LENGTH, Value};
 
 /// The value that a word spells: 1 to 256 ASCII letters or digits stand for themselves, and `#` with
-/// twice as many lower-case hexadecimal digits for any 1 to 256 bytes. `None` for any other word.
-pub fn value_of(word: &[u8]) -> Option<Value> {
+/// twice as many lower-case hexadecimal digits for any 1 to 256 bytes. `None` for any other word, for
+/// which no memory is asked.
+pub fn value_of(alloc: Global, word: &[u8]) -> Result<Option<Value>, AllocError>
+    ensures value { IfOk result (λ o. o ≡ word_value word.now) }
+    // No memory is asked for what is no value.
+    ensures none { word_value word.now ≡ None → result ≡ Ok None }
+{
     match word {
-        [b'#', digits @ ..] => value_of_digits(digits),
-        _ if is_plain(word) => Value::new(word),
-        _ => None,
+        [b'#', digits @ ..] => value_of_digits(alloc, digits),
+        _ if is_plain(word) => value_in(alloc, word),
+        _ => Ok(None),
     }
 }
 
-fn value_of_digits(digits: &[u8]) -> Option<Value> {
+// The bytes as a value, where they are one to 256.
+fn value_in(alloc: Global, bytes: &[u8]) -> Result<Option<Value>, AllocError>
+    ensures value { IfOk result (λ o. o ≡ bytes_value bytes.now) }
+    ensures none { bytes_value bytes.now ≡ None → result ≡ Ok None }
+{
+    if bytes.is_empty() || bytes.len() > MAX_VALUE_LENGTH {
+        return Ok(None);
+    }
+    Ok(Some(Value::of(alloc, bytes)?))
+}
+
+// The value that hexadecimal digits spell.
+#[tactic(auto, using(crate::proofs::ValueLemmas::sized, crate::proofs::ValueLemmas::long_digits))]
+fn value_of_digits(alloc: Global, digits: &[u8]) -> Result<Option<Value>, AllocError>
+    ensures value { IfOk result (λ o. o ≡ digits_value digits.now) }
+    ensures none { digits_value digits.now ≡ None → result ≡ Ok None }
+{
     let length = digits.len() / 2;
     if length > MAX_VALUE_LENGTH || !is_lower_hex(digits) {
-        return None;
+        return Ok(None);
     }
     let mut bytes = [0u8; MAX_VALUE_LENGTH];
-    hex::decode_to_slice(digits, &mut bytes[..length]).ok()?;
-    Value::new(&bytes[..length])
+    match hex::decode_to_slice(digits, &mut bytes[..length]) {
+        Ok(()) => value_in(alloc, &bytes[..length]),
+        Err(_) => Ok(None),
+    }
 }
 
-/// The ballot that a word spells, as `9:m`: a counter, a colon and a value. `None` for any other word.
-pub fn ballot_of(word: &[u8]) -> Option<Ballot> {
+/// The ballot that a word spells, as `9:m`: a counter, a colon and a value. `None` for any other word,
+/// for which no memory is asked.
+pub fn ballot_of(alloc: Global, word: &[u8]) -> Result<Option<Ballot>, AllocError> {
+    let Some((counter, value)) = ballot_fields(word) else {
+        return Ok(None);
+    };
+    match value_of(alloc, value)? {
+        Some(value) => Ok(Some(Ballot { counter, value })),
+        None => Ok(None),
+    }
+}
+
+// The counter before the colon of a ballot, and the word behind it.
+fn ballot_fields(word: &[u8]) -> Option<(u32, &[u8])> {
     let (counter, value) = split_once(word, b':')?;
-    Some(Ballot {
-        counter: counter_of(counter)?,
-        value: value_of(value)?,
-    })
+    Some((counter_of(counter)?, value))
 }
 
 /// Adds the value: as it is where it has letters and digits alone, else `#` and hexadecimal digits.

@@ -3,3 +3,4 @@ pub mod Emissions
 pub mod Sendings
 pub mod Answered
 pub mod Strangers
+pub mod Idle

@@ -15,13 +15,13 @@ use Rattle.protocol.specs.Rows.{is_taken, offered, with_row}
 use Rattle.protocol.proofs.StrangerLaws.{strangers_add_rows}
 use Rattle.view.specs.declared.region.Region.{Region}
 use Rattle.slot.specs.declared.configured.Configured.{Configured}
-use Rattle.slot.specs.Listening.{Heard, IsStranger, KnowsReach, KnownAscends, node_of}
+use Rattle.slot.specs.Listening.{Heard, IsStranger, KnowsRegion, KnownAscends, node_of}
 use Rattle.envstore.specs.Archives.{sents_of}
 use Rattle.slot.specs.Wholes.{whole}
 use Rattle.slot.proofs.Answered.{step-is, change-stale}
 
 -- the nodes of a region that is known ascend
-pub known-ascends : (c : Configured) (table : List Sent) (known : Option Region) → KnowsReach c table known → KnownAscends known
+pub known-ascends : (c : Configured) (table : List Sent) (known : Option Region) → KnowsRegion c table known → KnownAscends known
 known-ascends c table None h = tt
 known-ascends c table (Some v) h = h.reach.ascending
 

@@ -1,7 +1,7 @@
 -- Events and outs whose envelopes lie in an archive, and what they stand for.
 use Rattle.std.specs.Prelude.{List, map, ⊤}
 use Rattle.std.specs.List.{All}
-use Rattle.types.specs.Statements.{Sent}
+use Rattle.types.specs.Statements.{Sent, IsEnvelope}
 use Rattle.types.specs.declared.event.NodeEvent.{NodeEvent}
 use Rattle.types.specs.declared.event.Out.{Out}
 use Rattle.envstore.specs.Archives.{IsFiled, sent_of}
@@ -36,11 +36,11 @@ out_of (Externalized x) = Out.Externalized x
 abbrev pub outs_of : List FiledOut → List Out
 outs_of os = map out_of os
 
--- the archive has its envelope
+-- the archive has its envelope, whose widths and rules are kept
 abbrev pub IsFiledOut : List Sent → FiledOut → Type 0
 IsFiledOut archive (ArmNomination r) = ⊤
 IsFiledOut archive (ArmBallot n) = ⊤
-IsFiledOut archive (Emit f) = IsFiled archive f
+IsFiledOut archive (Emit f) = IsFiled archive f × IsEnvelope (sent_of f)
 IsFiledOut archive (Externalized x) = ⊤
 
 abbrev pub AreFiledOuts : List Sent → List FiledOut → Type 0

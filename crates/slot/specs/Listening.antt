@@ -1,18 +1,21 @@
 -- Who a node is, the rows that it has, and the nodes that it reaches by them.
-use Rattle.std.specs.Prelude.{ℕ, Bool, true, false, List, Option, IfSome, IsFalse}
+use Rattle.std.specs.Prelude.{ℕ, Bool, true, false, List, Option, IfSome, IsFalse, ⊤}
 use Rattle.types.specs.Statements.{Sent}
 use Rattle.types.specs.declared.state.Given.{Given}
 use Rattle.types.specs.declared.state.Votes.{Votes}
 use Rattle.protocol.specs.Nodes.{Node}
 use Rattle.protocol.specs.Reach.{IsReach}
+use Rattle.protocol.specs.Rows.{with_row}
 use Rattle.view.specs.declared.region.Region.{Region}
-use Rattle.view.specs.Regions.{IsRegion}
+use Rattle.view.specs.Regions.{IsEntry, IsRegion}
 use Rattle.protocol.specs.Sets.{among, IsAscending}
 use Rattle.latest.specs.declared.table.Put.{Put}
 use Rattle.envstore.specs.declared.filed.Filed.{Filed}
 use Rattle.envstore.specs.Archives.{sents_of}
 use Rattle.latest.specs.declared.table.Put.TheVariants.{Stale, NoMemory, Added, Replaced}
 use Rattle.slot.specs.declared.configured.Configured.{Configured}
+use Rattle.slot.specs.declared.known.Effect.{Effect}
+use Rattle.slot.specs.declared.known.Effect.TheVariants.{Nothing, Sets, Forgets}
 use Rattle.slot.specs.Wholes.{whole}
 
 -- a node, and the table of the envelopes that it took, as they were filed
@@ -30,12 +33,18 @@ abbrev pub node_of : Heard → Given → Votes → Node
 node_of h given votes = whole h.configured given votes (sents_of h.table)
 
 -- a region that is known is what the configuration and the table give
-abbrev pub KnowsReach : Configured → List Sent → Option Region → Type 0
-KnowsReach c table known = IfSome known (λ r. IsRegion c.name c.slices table r)
+abbrev pub KnowsRegion : Configured → List Sent → Option Region → Type 0
+KnowsRegion c table known = IfSome known (λ r. IsRegion c.name c.slices table r)
 
 -- its nodes ascend
 abbrev pub KnownAscends : Option Region → Type 0
 KnownAscends known = IfSome known (λ r. IsAscending r.nodes.items)
+
+-- what an envelope does to what is known where the table takes it: nothing, one entry is set, or it is not known any more
+abbrev pub IsEffect : List Sent → Sent → Option Region → Effect → Type 0
+IsEffect table e known Nothing = (c : Configured) → KnowsRegion c table known → KnowsRegion c (with_row e table) known
+IsEffect table e known (Sets x) = IfSome known (λ r. IsEntry table e r x)
+IsEffect table e known Forgets = ⊤
 
 -- a node that is not among those that are reached
 pub record IsStranger (h : Heard) (u : ℕ) : Type 0 where

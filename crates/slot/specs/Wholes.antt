@@ -1,6 +1,6 @@
 -- A node of the definitions, from the parts of the one here.
 use Rattle.std.specs.Prelude.{◌≡◌, ℕ, ◌++◌, ◌∷◌, [], List, Option, Some, None, IfSome, if◌then◌else◌}
-use Rattle.types.specs.Statements.{Sent, IsWellFormed}
+use Rattle.types.specs.Statements.{Sent, IsEnvelope, IsWellFormed}
 use Rattle.types.specs.declared.event.NodeEvent.{NodeEvent}
 use Rattle.types.specs.declared.event.Out.{Out}
 use Rattle.types.specs.declared.event.Out.TheVariants.{Emit}
@@ -39,9 +39,9 @@ pub record IsChange (old new : Node) : Type 0 where
   pub event : NodeEvent
   pub is : change old event ≡ Some new
 
--- the envelope is the node's own: it carries the node's name, its slot and the slices that are configured at this moment, and its statement is well formed
+-- the envelope is the node's own: it carries the node's name, its slot and the slices that are configured at this moment, and it keeps the widths and the rules of an envelope
 pub record IsSentBy (n : Node) (e : Sent) : Type 0 where
   pub sender : e.sender ≡ n.name
   pub slot : e.slot ≡ n.slot
   pub slices : e.slices ≡ n.slices
-  pub rules : IsWellFormed e.body
+  pub envelope : IsEnvelope e

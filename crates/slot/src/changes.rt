@@ -25,7 +25,7 @@ pub(crate) fn is_round_live(given: &Given, votes: &Votes, round: u32) -> bool
 pub(crate) fn is_counter_live(votes: &Votes, counter: u32) -> bool
     ensures { result ≡ is_ballot_timer_live counter votes.now.armed (option_map (λ b. b.counter) votes.now.ballot) (is_externalized votes.now.phase) }
 {
-    let current = match votes.ballot {
+    let current = match &votes.ballot {
         None => None,
         Some(ballot) => Some(ballot.counter),
     };
@@ -95,9 +95,8 @@ pub(crate) fn bumped(alloc: Global, votes: &Votes) -> Result<Votes, AllocError>
     ensures { IfOk result (λ w. w ≡ bumped votes.now votes.now.ballot) }
 {
     let mut next = votes.try_copy(alloc)?;
-    let ballot = votes.ballot;
-    if let Some(ballot) = ballot {
-        next.ballot = Some(raised(votes, ballot, ballot.counter + 1));
+    if let Some(ballot) = &votes.ballot {
+        next.ballot = Some(raised(votes, ballot, ballot.counter + 1).try_copy()?);
     }
     Ok(next)
 }

@@ -36,7 +36,11 @@ fn file<S: Shelf>(archive: &mut Archive<S>, out: Out) -> Result<FiledOut, AllocE
     match out {
         Out::ArmNomination(round) => Ok(FiledOut::ArmNomination(round)),
         Out::ArmBallot(counter) => Ok(FiledOut::ArmBallot(counter)),
-        Out::Emit(envelope) => Ok(FiledOut::Emit(archive.put(envelope)?)),
+        Out::Emit(envelope) => {
+            // A law of its type: it keeps its widths and its rules.
+            let _sender = envelope.sender();
+            Ok(FiledOut::Emit(archive.put(envelope)?))
+        }
         Out::Externalized(value) => Ok(FiledOut::Externalized(value)),
     }
 }

@@ -7,12 +7,14 @@ mod changes;
 mod configured;
 mod filed;
 mod filing;
+mod known;
 mod listener;
 mod node;
 mod outs;
 mod passing;
 mod sent;
 mod settling;
+mod sizes;
 
 pub use filed::{FiledEvent, FiledOut};
 pub use node::Node;

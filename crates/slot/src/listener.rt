@@ -1,33 +1,34 @@
 //! Who a node is, the rows that it has, and the nodes that it reaches by them.
 
-ghost use Rattle.std.specs.Prelude.{◌≡◌, IfOk, IfSome, IsTrue, List, None, OnErr, OnOk, Some, [], is_some};
+ghost use Rattle.std.specs.Prelude.{◌≡◌, IfOk, IfSome, IsTrue, List, OnErr, OnOk, Some, [], false, is_ok, is_some};
 ghost use Rattle.envstore.specs.Archives.{AreFiled, IsFiled, Keeps, sent_of, sents_of};
 ghost use Rattle.latest.specs.Puts.{IsFiledPut, IsPut, undone};
 ghost use Rattle.protocol.specs.Nodes.{outs, passed, settle};
 ghost use Rattle.view.specs.Regions.{IsRegion};
-ghost use Rattle.protocol.specs.Rows.{offered, with_row};
+ghost use Rattle.protocol.specs.Rows.{is_taken, offered};
 ghost use Rattle.slot.specs.Filings.{AreFiledOuts, outs_of};
-ghost use Rattle.slot.specs.declared.configured.Configured.{Configured};
-ghost use Rattle.slot.specs.Listening.{IsStranger, KnownAscends, KnowsReach, is_put, node_of};
+ghost use Rattle.slot.specs.Listening.{IsStranger, node_of};
 ghost use Rattle.slot.specs.Wholes.{SendWellFormed, whole};
 ghost use Rattle.types.specs.Statements.{Sent};
 
 use crate::answering::{Answer, FiledAnswer, answer_to};
 use crate::configured::Configured;
 use crate::filing::file_all;
+use crate::known::{copy_of_known, put_row, take_region};
 use envstore::{Archive, Filed, Places, Shelf};
 use latest::{Put, Rows, Table};
 use slices::is_among;
 use std::alloc::{AllocError, Global};
 use std::marker::Model;
 use std::mem;
-use types::{Envelope, Given, Nested, NodeId, Votes};
+use types::{Given, Nested, NodeId, Votes};
 use view::{Region, View};
 
 /// Who a node is, and the rows that it has.
 ///
 /// The nodes that it reaches and their slices, compiled, are kept from one event to the next, until a row
-/// or slices come that may change them.
+/// or slices come that may change them. A reached node's first row that names reached nodes alone changes
+/// one entry of them.
 #[derive(Drop)]
 pub(crate) struct Listener {
     configured: Configured,
@@ -39,7 +40,7 @@ impl Model for Listener {
     ghost use Rattle.std.specs.Coded.{codes};
     ghost use Rattle.types.specs.Trees.{members_code};
     ghost use Rattle.envstore.specs.Archives.{sents_of};
-    ghost use Rattle.slot.specs.Listening.{Heard, KnowsReach};
+    ghost use Rattle.slot.specs.Listening.{Heard, KnowsRegion};
 
     ghost Value = { Heard };
 
@@ -47,7 +48,7 @@ impl Model for Listener {
 
     ghost view = { λ l. record { configured = l.configured; table = l.table } };
 
-    ghost invariant = { λ l. KnowsReach l.configured (sents_of l.table) l.known };
+    ghost invariant = { λ l. KnowsRegion l.configured (sents_of l.table) l.known };
 }
 
 impl Listener {
@@ -62,7 +63,7 @@ impl Listener {
         }
     }
 
-    /// A copy, which finds what is reached anew at its next answer. An error says that memory is short.
+    /// A copy, which knows what this one knows. An error says that memory is short.
     pub(crate) fn try_copy<S: Places>(
         &self,
         alloc: Global,
@@ -74,7 +75,7 @@ impl Listener {
         Ok(Listener {
             configured: self.configured.try_copy(alloc)?,
             table: self.table.try_copy(alloc, archive)?,
-            known: None,
+            known: copy_of_known(alloc, &self.known)?,
         })
     }
 
@@ -105,6 +106,7 @@ impl Listener {
     /// Offers the envelope to the table. An error says that memory is short, and nothing changed.
     pub(crate) fn offer<S: Places>(
         &mut self,
+        alloc: Global,
         archive: &Archive<S>,
         envelope: Filed,
     ) -> Result<(), AllocError>
@@ -113,9 +115,10 @@ impl Listener {
         ensures offered { OnOk result (sents_of self.new.table ≡ offered (sents_of self.old.table) (sent_of envelope)) }
         ensures same { self.new.configured ≡ self.old.configured }
         ensures err { OnErr result (self.new ≡ self.old) }
+        ensures idle { is_taken (sents_of self.old.table) (sent_of envelope) ≡ false → IsTrue (is_ok result) }
         ensures filed { AreFiled archive.now self.new.table }
     {
-        match self.put(archive, envelope) {
+        match self.put(alloc, archive, envelope) {
             Put::NoMemory => Err(AllocError),
             Put::Stale => Ok(()),
             Put::Added | Put::Replaced(_) => Ok(()),
@@ -123,7 +126,12 @@ impl Listener {
     }
 
     /// Puts the envelope into the table, as [`Table::put`] does.
-    pub(crate) fn put<S: Places>(&mut self, archive: &Archive<S>, envelope: Filed) -> Put
+    pub(crate) fn put<S: Places>(
+        &mut self,
+        alloc: Global,
+        archive: &Archive<S>,
+        envelope: Filed,
+    ) -> Put
         requires rows { AreFiled archive.now self.old.table }
         requires envelope { IsFiled archive.now envelope }
         ensures put { IsPut self.old.table (sent_of envelope) result self.new.table }
@@ -132,7 +140,7 @@ impl Listener {
         ensures filed { AreFiled archive.now self.new.table }
         ensures known { IsFiledPut archive.now result }
     {
-        put_row(&mut self.table, &mut self.known, archive, envelope)
+        put_row(alloc, &mut self.table, &mut self.known, archive, envelope)
     }
 
     /// Undoes a put, as [`Table::undo`] does.
@@ -199,7 +207,7 @@ impl Listener {
         ensures outs { IfOk result (λ a. (before after : List Sent) → a.outs.items ≡ outs (whole self.old.configured old_given.now old_votes.now before) (whole self.old.configured given.now a.votes after)) }
         ensures same { self.new ≡ self.old }
     {
-        let region = take_reach(
+        let region = take_region(
             alloc,
             &mut self.known,
             &self.configured,
@@ -242,82 +250,5 @@ impl Listener {
             region,
         )?;
         answer_to(alloc, configured, &view, old_given, old_votes, given, votes)
-    }
-}
-
-/// The reach that is known, or else found now; it is not known afterwards. An error says that memory is
-/// short.
-fn take_reach<S: Places>(
-    alloc: Global,
-    known: &mut Option<Region>,
-    configured: &Configured,
-    table: &Table,
-    archive: &Archive<S>,
-) -> Result<Region, AllocError>
-    requires rows { AreFiled archive.now table.now }
-    requires known { KnowsReach configured.now (sents_of table.now) known.old }
-    ensures region { IfOk result (λ r. IsRegion configured.now.name configured.now.slices (sents_of table.now) r) }
-    ensures forgotten { known.new ≡ None }
-{
-    match known.take() {
-        Some(region) => Ok(region),
-        None => {
-            let rows = Rows::of(table, archive);
-            Region::of(alloc, &configured.name, &configured.slices, &rows)
-        }
-    }
-}
-
-/// Puts the envelope into the table. The reach is forgotten where the envelope is put and may change it.
-fn put_row<S: Places>(
-    table: &mut Table,
-    known: &mut Option<Region>,
-    archive: &Archive<S>,
-    envelope: Filed,
-) -> Put
-    requires rows { AreFiled archive.now table.old }
-    requires envelope { IsFiled archive.now envelope }
-    requires known { KnownAscends known.old }
-    ensures put { IsPut table.old (sent_of envelope) result table.new }
-    ensures back { undone result table.new ≡ table.old }
-    ensures known { (c : Configured) → KnowsReach c (sents_of table.old) known.old → KnowsReach c (sents_of table.new) known.new }
-    ensures filed { AreFiled archive.now table.new }
-    ensures replaced { IsFiledPut archive.now result }
-{
-    let stays = stays_known(known, table, archive, archive.read(&envelope));
-    let put = table.put(archive, envelope);
-    if is_put(&put) && !stays {
-        *known = None;
-    }
-    put
-}
-
-/// Whether what is known of the reach is surely right where the table takes the envelope.
-fn stays_known<S: Places>(
-    known: &Option<Region>,
-    table: &Table,
-    archive: &Archive<S>,
-    envelope: &Envelope,
-) -> bool
-    requires rows { AreFiled archive.now table.now }
-    requires known { KnownAscends known.now }
-    ensures { IsTrue result → (c : Configured) → KnowsReach c (sents_of table.now) known.now → KnowsReach c (with_row envelope.now (sents_of table.now)) known.now }
-{
-    match known {
-        None => true,
-        Some(region) => {
-            let rows = Rows::of(table, archive);
-            region.stays(&rows, envelope)
-        }
-    }
-}
-
-/// Whether the table has the envelope now.
-fn is_put(put: &Put) -> bool
-    ensures { result ≡ is_put put.now }
-{
-    match put {
-        Put::Stale | Put::NoMemory => false,
-        Put::Added | Put::Replaced(_) => true,
     }
 }

@@ -1,15 +1,16 @@
 //! A node at a slot.
 
-ghost use Rattle.std.specs.Prelude.{[], ◌≡◌, IfOk, IfSome, IsFalse, IsTrue, List, OnErr, OnOk, Some, is_some};
+ghost use Rattle.std.specs.Prelude.{[], ◌≡◌, IfOk, IfSome, IsFalse, IsTrue, List, None, OnErr, OnOk, Some, is_ok, is_some};
 ghost use Rattle.std.specs.List.{Contains};
-ghost use Rattle.protocol.specs.Nodes.{Calm, after_change, answered, fresh, outs, passed, settle, step};
+ghost use Rattle.protocol.specs.Nodes.{Calm, after_change, answered, change, fresh, outs, passed, settle, step};
 ghost use Rattle.protocol.specs.Claims.{IsQuiet};
 ghost use Rattle.protocol.specs.Reach.{HoldsReach};
 ghost use Rattle.protocol.specs.Limits.{Reached};
 ghost use Rattle.protocol.specs.Sets.{Names, among};
 ghost use Rattle.envstore.specs.Archives.{AreFiled, IsFiled, Keeps, sent_of};
 ghost use Rattle.slot.specs.Filings.{AreFiledOuts, IsFiledEvent, event_of, outs_of};
-ghost use Rattle.slot.specs.Wholes.{IsChange, IsSentBy};
+ghost use Rattle.slot.specs.Listening.{node_of};
+ghost use Rattle.slot.specs.Wholes.{IsChange, IsSentBy, SendWellFormed, whole};
 ghost use Rattle.types.specs.Statements.{Sent};
 ghost use Rattle.types.specs.declared.event.NodeEvent.{NodeEvent};
 ghost use Rattle.types.specs.declared.event.Out.TheVariants.{Emit};
@@ -135,15 +136,16 @@ impl Node {
 
     /// One event: its own change, then passes until one changes nothing, then what is given out, in
     /// order (the Stellar Consensus Protocol draft; the order of events and outs is this host's
-    /// profile). A stale envelope and a timer that is not live change nothing and give nothing out.
+    /// profile). A stale envelope and a timer that is not live change nothing, give nothing out and
+    /// take no memory, so such an event never fails.
     /// The slot that an envelope is about is not looked at: the caller hands a node those of its own.
     ///
     /// New slices are in force from this event on, for later leaders too; earlier leaders stay. They are
     /// not sent by themselves, but with the next statement.
     ///
     /// Each envelope that is given out carries the node's own name, its slot and the slices that are
-    /// configured now, and its statement is well formed: so it can be spelled, and what reads that
-    /// spelling back reads this envelope.
+    /// configured now, and keeps the widths and the rules of an envelope: so it can be spelled, and what
+    /// reads that spelling back reads this envelope.
     ///
     /// The rows of the node, and the envelope that it takes, lie in the archive that is lent; the
     /// envelopes that it gives out are filed there.
@@ -161,6 +163,7 @@ impl Node {
         ensures node { OnOk result (self.new.node ≡ (step self.old.node (event_of event)).0) }
         ensures outs { IfOk result (λ v. outs_of v.items ≡ (step self.old.node (event_of event)).1) }
         ensures err { OnErr result (self.new ≡ self.old) }
+        ensures idle { change self.old.node (event_of event) ≡ None → IsTrue (is_ok result) }
         ensures quiet { (R : Names) (e : Sent) → event_of event ≡ NodeEvent.Take e → HoldsReach self.old.node.name self.old.node.slices self.old.node.table R → IsFalse (R e.sender) → IsFalse (among self.old.node.given.leaders e.sender) → IfOk result (λ v. IsQuiet R self.old.node self.new.node (outs_of v.items)) }
         ensures emitted { IfOk result (λ v. (e : Sent) → Contains (outs_of v.items) (Emit e) → IsSentBy self.new.node e) }
         ensures rows { AreFiled archive.new self.new.rows }
@@ -178,7 +181,7 @@ impl Node {
     }
 
     /// The node after one event, as by [`Node::advance`], and what it gives out; this node stays as it
-    /// is. An error says that memory is short.
+    /// is. An error says that memory is short: since the node is copied, any event may want it.
     pub fn step<S: Shelf>(
         &self,
         alloc: Global,
@@ -236,6 +239,7 @@ impl Node {
         ensures node { OnOk result (self.new.node ≡ (step self.old.node (NodeEvent.NominationTimer round)).0) }
         ensures outs { IfOk result (λ v. outs_of v.items ≡ (step self.old.node (NodeEvent.NominationTimer round)).1) }
         ensures err { OnErr result (self.new ≡ self.old) }
+        ensures idle { change self.old.node (NodeEvent.NominationTimer round) ≡ None → IsTrue (is_ok result) }
         ensures rows { AreFiled archive.new self.new.rows }
         ensures filed { IfOk result (λ v. AreFiledOuts archive.new v.items) }
         ensures kept { Keeps archive.old archive.new }
@@ -259,6 +263,7 @@ impl Node {
         ensures node { OnOk result (self.new.node ≡ (step self.old.node (NodeEvent.BallotTimer counter)).0) }
         ensures outs { IfOk result (λ v. outs_of v.items ≡ (step self.old.node (NodeEvent.BallotTimer counter)).1) }
         ensures err { OnErr result (self.new ≡ self.old) }
+        ensures idle { change self.old.node (NodeEvent.BallotTimer counter) ≡ None → IsTrue (is_ok result) }
         ensures rows { AreFiled archive.new self.new.rows }
         ensures filed { IfOk result (λ v. AreFiledOuts archive.new v.items) }
         ensures kept { Keeps archive.old archive.new }
@@ -287,16 +292,15 @@ impl Node {
         ensures filed { IfOk result (λ v. AreFiledOuts archive.new v.items) }
         ensures kept { Keeps archive.old archive.new }
     {
-        let votes = self.votes.try_copy(alloc)?;
         let Node {
             listener,
             given,
-            votes: old_votes,
+            votes: settled,
         } = self;
         let old_slices = listener.exchange_slices(slices);
-        match listener.answer(alloc, archive, given, old_votes, given, votes) {
+        match answer_anew(alloc, archive, listener, given, settled) {
             Ok(FiledAnswer { votes, outs }) => {
-                *old_votes = votes;
+                *settled = votes;
                 Ok(outs)
             }
             Err(error) => {
@@ -319,13 +323,14 @@ impl Node {
         ensures node { OnOk result (self.new.node ≡ (step self.old.node (NodeEvent.Take (sent_of envelope))).0) }
         ensures outs { IfOk result (λ v. outs_of v.items ≡ (step self.old.node (NodeEvent.Take (sent_of envelope))).1) }
         ensures err { OnErr result (self.new ≡ self.old) }
+        ensures idle { change self.old.node (NodeEvent.Take (sent_of envelope)) ≡ None → IsTrue (is_ok result) }
         ensures rows { AreFiled archive.new self.new.rows }
         ensures filed { IfOk result (λ v. AreFiledOuts archive.new v.items) }
         ensures kept { Keeps archive.old archive.new }
     {
         let sender = archive.read(&envelope).sender();
         if self.listener.is_stranger(sender) && !leads(sender, &self.given) {
-            self.listener.offer(archive, envelope)?;
+            self.listener.offer(alloc, archive, envelope)?;
             return Ok(Vec::new(alloc));
         }
         self.take_and_settle(alloc, archive, envelope)
@@ -344,12 +349,12 @@ impl Node {
         ensures node { OnOk result (self.new.node ≡ (step self.old.node (NodeEvent.Take (sent_of envelope))).0) }
         ensures outs { IfOk result (λ v. outs_of v.items ≡ (step self.old.node (NodeEvent.Take (sent_of envelope))).1) }
         ensures err { OnErr result (self.new ≡ self.old) }
+        ensures idle { change self.old.node (NodeEvent.Take (sent_of envelope)) ≡ None → IsTrue (is_ok result) }
         ensures rows { AreFiled archive.new self.new.rows }
         ensures filed { IfOk result (λ v. AreFiledOuts archive.new v.items) }
         ensures kept { Keeps archive.old archive.new }
     {
-        let votes = self.votes.try_copy(alloc)?;
-        let put = self.listener.put(archive, envelope);
+        let put = self.listener.put(alloc, archive, envelope);
         match put {
             Put::Stale => Ok(Vec::new(alloc)),
             Put::NoMemory => Err(AllocError),
@@ -357,13 +362,13 @@ impl Node {
                 let Node {
                     listener,
                     given,
-                    votes: old_votes,
+                    votes: settled,
                 } = self;
-                match listener.answer(alloc, archive, given, old_votes, given, votes) {
+                match answer_anew(alloc, archive, listener, given, settled) {
                     Ok(FiledAnswer { votes, outs }) => {
                         // The row stays, and the way back is let go.
                         drop(put);
-                        *old_votes = votes;
+                        *settled = votes;
                         Ok(outs)
                     }
                     Err(error) => {
@@ -400,4 +405,27 @@ impl Node {
         self.votes = answer.votes;
         Ok(answer.outs)
     }
+}
+
+/// What passes make of the votes of a node whose rows or slices are other ones now, and what is given out
+/// since they settled. What contracts see of the listener stays as it was, and an error says that memory
+/// is short.
+fn answer_anew<S: Shelf>(
+    alloc: Global,
+    archive: &mut Archive<S>,
+    listener: &mut Listener,
+    given: &Given,
+    settled: &Votes,
+) -> Result<FiledAnswer, AllocError>
+    requires rows { AreFiled archive.old listener.old.table }
+    requires settles { IsTrue (is_some (settle 64 (passed (node_of listener.old given.now settled.now)) settled.now)) }
+    requires sends { IfSome (settle 64 (passed (node_of listener.old given.now settled.now)) settled.now) SendWellFormed }
+    ensures votes { IfOk result (λ a. settle 64 (passed (node_of listener.old given.now settled.now)) settled.now ≡ Some a.votes) }
+    ensures outs { IfOk result (λ a. (before after : List Sent) → outs_of a.outs.items ≡ outs (whole listener.old.configured given.now settled.now before) (whole listener.old.configured given.now a.votes after)) }
+    ensures same { listener.new ≡ listener.old }
+    ensures filed { IfOk result (λ a. AreFiledOuts archive.new a.outs.items) }
+    ensures kept { Keeps archive.old archive.new }
+{
+    let votes = settled.try_copy(alloc)?;
+    listener.answer(alloc, archive, given, settled, given, votes)
 }

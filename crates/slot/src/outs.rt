@@ -10,7 +10,7 @@ use crate::configured::Configured;
 use crate::sent::{envelope_of, is_same_sent, sent_nomination};
 use ballot::{counter_of, sent_vote};
 use std::alloc::{AllocError, Global};
-use types::{Given, Out, Phase, Statement, Votes};
+use types::{Given, Out, Phase, Statement, Votes, statement_of};
 
 /// What is given out where an event led from one state to another, in this order: the timer of a new
 /// round, the ballot timer that was armed, the nomination and the ballot statement where another one
@@ -32,7 +32,7 @@ pub(crate) fn outs(
     let is_round = given.round != old_given.round && votes.high.is_none();
     push_when(&mut given_out, is_round, Out::ArmNomination(given.round))?;
     let is_armed = votes.armed != old_votes.armed
-        && votes.armed == counter_of(votes.ballot)
+        && votes.armed == counter_of(&votes.ballot)
         && !is_externalized(votes.phase);
     push_when(&mut given_out, is_armed, Out::ArmBallot(votes.armed))?;
     push_nomination(alloc, &mut given_out, configured, old_votes, votes)?;
@@ -78,8 +78,8 @@ fn push_vote(
     requires { IfSome (sent_vote new.now) IsWellFormed }
     ensures { OnOk result (given_out.new.items ≡ given_out.old.items ++ emitted_by configured.now (sent_vote old.now) (sent_vote new.now)) }
 {
-    let before = sent_vote(old);
-    let after = sent_vote(new);
+    let before = statement_of(&sent_vote(old))?;
+    let after = statement_of(&sent_vote(new))?;
     push_changed(alloc, given_out, configured, &before, after)
 }
 
@@ -114,10 +114,10 @@ fn push_decided(given_out: &mut Vec<Out>, old: &Votes, new: &Votes) -> Result<()
     if !is_externalized(new.phase) || is_externalized(old.phase) {
         return Ok(());
     }
-    match new.ballot {
+    match &new.ballot {
         None => Ok(()),
         Some(ballot) => {
-            given_out.push(Out::Externalized(ballot.value))?;
+            given_out.push(Out::Externalized(ballot.value.try_copy()?))?;
             Ok(())
         }
     }

@@ -1,13 +1,14 @@
 //! One pass of the rules.
 
 ghost use Rattle.std.specs.Prelude.{◌≡◌, IfOk};
-ghost use Rattle.protocol.specs.Passes.{counting, pass, pass_rules, voting};
+ghost use Rattle.protocol.specs.Passes.{arm, counting, in_prepare, on_ballot, pass, pass_rules, raise, voting};
+ghost use Rattle.protocol.specs.Balloting.{accept_commit, accept_prepared, confirm_commit, confirm_prepared};
 
 use ballot::{accept_commit, accept_prepared, arm, confirm_commit, confirm_prepared, raise, start};
 use fedvote::Sight;
 use nomination::nominate;
 use std::alloc::{AllocError, Global};
-use types::{Given, NodeId, Phase, Votes};
+use types::{Given, NodeId, Phase, Votes, copy_of};
 
 /// One pass: all rules in their order, each with what the one before it made. In
 /// [`Phase::Externalized`] nothing changes (the Stellar Consensus Protocol draft; the order is this
@@ -53,25 +54,52 @@ fn pass_rules<S: Sight>(
 fn voting<S: Sight>(alloc: Global, sight: &S, votes: Votes) -> Result<Votes, AllocError>
     ensures { IfOk result (λ w. w ≡ voting (S.seen sight.now) votes) }
 {
-    let ballot = votes.ballot;
-    let votes = match ballot {
-        None => votes,
-        Some(ballot) => accept_prepared(alloc, sight, ballot, votes)?,
-    };
-    let (phase, ballot) = (votes.phase, votes.ballot);
-    let votes = match (phase, ballot) {
-        (Phase::Preparing, Some(ballot)) => confirm_prepared(alloc, sight, ballot, votes)?,
-        _ => votes,
-    };
-    let ballot = votes.ballot;
-    let votes = match ballot {
-        None => votes,
-        Some(ballot) => accept_commit(alloc, sight, ballot, votes)?,
-    };
-    let ballot = votes.ballot;
-    match ballot {
+    let votes = with_prepared(alloc, sight, votes)?;
+    let votes = with_confirmed(alloc, sight, votes)?;
+    let votes = with_commit(alloc, sight, votes)?;
+    with_decision(alloc, sight, votes)
+}
+
+/// The highest accepted ballot, where there is a ballot.
+fn with_prepared<S: Sight>(alloc: Global, sight: &S, votes: Votes) -> Result<Votes, AllocError>
+    ensures { IfOk result (λ w. w ≡ on_ballot (accept_prepared (S.seen sight.now)) votes) }
+{
+    match copy_of(&votes.ballot)? {
         None => Ok(votes),
-        Some(ballot) => confirm_commit(alloc, sight, ballot, votes),
+        Some(ballot) => accept_prepared(alloc, sight, &ballot, votes),
+    }
+}
+
+/// The highest confirmed ballot, in [`Phase::Preparing`], where there is a ballot.
+fn with_confirmed<S: Sight>(alloc: Global, sight: &S, votes: Votes) -> Result<Votes, AllocError>
+    ensures { IfOk result (λ w. w ≡ in_prepare (on_ballot (confirm_prepared (S.seen sight.now))) votes) }
+{
+    match votes.phase {
+        Phase::Preparing => match copy_of(&votes.ballot)? {
+            None => Ok(votes),
+            Some(ballot) => confirm_prepared(alloc, sight, &ballot, votes),
+        },
+        Phase::Committing | Phase::Externalized => Ok(votes),
+    }
+}
+
+/// The interval that is accepted as committed, where there is a ballot.
+fn with_commit<S: Sight>(alloc: Global, sight: &S, votes: Votes) -> Result<Votes, AllocError>
+    ensures { IfOk result (λ w. w ≡ on_ballot (λ b w. accept_commit w.phase (S.seen sight.now) b w) votes) }
+{
+    match copy_of(&votes.ballot)? {
+        None => Ok(votes),
+        Some(ballot) => accept_commit(alloc, sight, &ballot, votes),
+    }
+}
+
+/// The interval that is confirmed as committed, where there is a ballot.
+fn with_decision<S: Sight>(alloc: Global, sight: &S, votes: Votes) -> Result<Votes, AllocError>
+    ensures { IfOk result (λ w. w ≡ on_ballot (λ b w. confirm_commit w.phase (S.seen sight.now) b w) votes) }
+{
+    match copy_of(&votes.ballot)? {
+        None => Ok(votes),
+        Some(ballot) => confirm_commit(alloc, sight, &ballot, votes),
     }
 }
 
@@ -85,14 +113,31 @@ fn counting<S: Sight>(
 ) -> Result<Votes, AllocError>
     ensures { IfOk result (λ w. w ≡ counting (S.seen sight.now) given.now votes) }
 {
-    let ballot = votes.ballot;
-    let votes = match ballot {
-        None => votes,
-        Some(ballot) => raise(alloc, sight, given, ballot, votes)?,
-    };
-    let ballot = votes.ballot;
-    match ballot {
+    let votes = with_raise(alloc, sight, given, votes)?;
+    with_timer(alloc, sight, votes)
+}
+
+/// The raised ballot, where there is one.
+fn with_raise<S: Sight>(
+    alloc: Global,
+    sight: &S,
+    given: &Given,
+    votes: Votes,
+) -> Result<Votes, AllocError>
+    ensures { IfOk result (λ w. w ≡ on_ballot (raise (S.seen sight.now) given.now) votes) }
+{
+    match copy_of(&votes.ballot)? {
         None => Ok(votes),
-        Some(ballot) => arm(alloc, sight, ballot, votes),
+        Some(ballot) => raise(alloc, sight, given, &ballot, votes),
+    }
+}
+
+/// The armed timer, where there is a ballot.
+fn with_timer<S: Sight>(alloc: Global, sight: &S, votes: Votes) -> Result<Votes, AllocError>
+    ensures { IfOk result (λ w. w ≡ on_ballot (arm (S.seen sight.now)) votes) }
+{
+    match copy_of(&votes.ballot)? {
+        None => Ok(votes),
+        Some(ballot) => arm(alloc, sight, &ballot, votes),
     }
 }

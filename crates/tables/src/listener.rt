@@ -93,10 +93,11 @@ impl Listener {
         Rows::of(&self.table, &self.archive)
     }
 
-    /// Offers an envelope to the table. Where the answer is not [`Taken::Replaced`], nothing changed.
+    /// Offers an envelope to the table. Where the answer is not [`Taken::Replaced`], nothing changed. A stale
+    /// envelope, and one about another slot, takes no memory.
     pub fn take(&mut self, envelope: Envelope) -> Taken
         ensures other { (result ≡ Taken.OtherSlot) ↔ (envelope.slot ≢ self.old.slot) }
-        ensures stale { result ≡ Taken.Stale → is_taken self.old.rows envelope ≡ false }
+        ensures stale { (result ≡ Taken.Stale) ↔ ((envelope.slot ≡ self.old.slot) × (is_taken self.old.rows envelope ≡ false)) }
         ensures replaced { result ≡ Taken.Replaced → self.new ≡ record self.old { rows = offered self.old.rows envelope } }
         ensures newer { result ≡ Taken.Replaced → is_taken self.old.rows envelope ≡ true }
         ensures unchanged { result ≢ Taken.Replaced → self.new ≡ self.old }
@@ -104,8 +105,12 @@ impl Listener {
         if envelope.slot() != self.slot {
             return Taken::OtherSlot;
         }
+        if !self.rows().takes(&envelope) {
+            return Taken::Stale;
+        }
         let stays = stays_known(&self.known_reach, &self.rows(), &envelope);
         let Ok(envelope) = self.archive.put(envelope) else {
+            // Memory: the archive has none.
             return Taken::NoMemory;
         };
         match self.table.offer(&self.archive, envelope) {

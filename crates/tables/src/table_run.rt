@@ -66,7 +66,7 @@ fn run(
             offer(alloc, listener, envelope)
         }
         [b"ask", ballot] => {
-            let ballot = ballot_of(ballot).ok_or(LineError::Bad)?;
+            let ballot = ballot_of(alloc, ballot)?.ok_or(LineError::Bad)?;
             ask(alloc, listener, &ballot)
         }
         [b"show"] => show(alloc, listener),

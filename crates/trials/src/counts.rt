@@ -1,7 +1,7 @@
-//! What the histories show.
+//! What the histories and crowds show.
 
 use crate::slow::{Phase, Votes};
-use crate::statements::{Ballot, Statement, Trust};
+use crate::statements::{Ballot, Row, Set, Statement, Trust, has};
 
 /// A node at one moment, with the ballot statement that it sent last.
 #[derive(Clone, Copy)]
@@ -134,4 +134,192 @@ fn counter(ballot: Option<Ballot>) -> u32 {
         None => 0,
         Some(ballot) => ballot.counter,
     }
+}
+
+/// A row that comes to a node, and the reach before and after it.
+#[derive(Clone, Copy)]
+pub struct Coming {
+    pub sender: u8,
+    pub row: Row,
+    /// The row that stands in its place.
+    pub old: Option<Row>,
+    pub before: Set,
+    pub after: Set,
+    /// The event before gave the node other slices.
+    pub follows_slices: bool,
+    /// The votes of the node change.
+    pub moves: bool,
+}
+
+impl Coming {
+    fn is_put(self) -> bool {
+        match self.old {
+            None => true,
+            Some(old) => self.row.said.is_newer(old.said),
+        }
+    }
+
+    fn is_of_stranger(self) -> bool {
+        !has(self.before, self.sender)
+    }
+
+    fn has_other_slices(self) -> bool {
+        match self.old {
+            None => false,
+            Some(old) => old.trust != self.row.trust,
+        }
+    }
+
+    fn names_reached(self) -> bool {
+        self.row.trust.names() & !self.before == 0
+    }
+
+    /// It is put, and its sender is reached.
+    fn is_heard(self) -> bool {
+        self.is_put() && !self.is_of_stranger()
+    }
+
+    fn is_heard_first(self) -> bool {
+        self.is_heard() && self.old.is_none()
+    }
+
+    fn is_heard_with_other_slices(self) -> bool {
+        self.is_heard() && self.has_other_slices()
+    }
+
+    /// It leaves the reach as it is, by what is known before it comes.
+    pub fn surely_stays(self) -> bool {
+        !self.is_heard()
+            || match self.old {
+                None => self.names_reached(),
+                Some(_) => !self.has_other_slices(),
+            }
+    }
+}
+
+/// How often rows and new slices met what a node reaches in each way.
+#[derive(Clone, Copy)]
+pub struct Reaches {
+    pub strangers: u32,
+    pub stale: u32,
+    pub alike: u32,
+    pub first_within: u32,
+    pub first_beyond: u32,
+    pub others_kept: u32,
+    pub others_grew: u32,
+    pub others_shrank: u32,
+    pub others_moved: u32,
+    pub after_slices: u32,
+    pub slices_grew: u32,
+    pub slices_shrank: u32,
+    pub again: u32,
+}
+
+impl Reaches {
+    pub fn none() -> Reaches {
+        Reaches {
+            strangers: 0,
+            stale: 0,
+            alike: 0,
+            first_within: 0,
+            first_beyond: 0,
+            others_kept: 0,
+            others_grew: 0,
+            others_shrank: 0,
+            others_moved: 0,
+            after_slices: 0,
+            slices_grew: 0,
+            slices_shrank: 0,
+            again: 0,
+        }
+    }
+
+    /// A row came.
+    pub fn note(&mut self, coming: Coming) {
+        let first = coming.is_heard_first();
+        count(
+            &mut self.strangers,
+            coming.is_put() && coming.is_of_stranger(),
+        );
+        count(
+            &mut self.stale,
+            !coming.is_put() && coming.has_other_slices(),
+        );
+        count(
+            &mut self.alike,
+            coming.is_heard() && !first && !coming.has_other_slices(),
+        );
+        count(&mut self.first_within, first && coming.names_reached());
+        count(&mut self.first_beyond, first && !coming.names_reached());
+        count(
+            &mut self.after_slices,
+            coming.follows_slices && coming.is_heard(),
+        );
+        if coming.is_heard_with_other_slices() {
+            self.note_others(coming);
+        }
+    }
+
+    fn note_others(&mut self, coming: Coming) {
+        count(&mut self.others_kept, coming.before == coming.after);
+        count(
+            &mut self.others_grew,
+            goes_beyond(coming.before, coming.after),
+        );
+        count(
+            &mut self.others_shrank,
+            goes_beyond(coming.after, coming.before),
+        );
+        count(&mut self.others_moved, coming.moves);
+    }
+
+    /// The node has other slices.
+    pub fn note_slices(&mut self, before: Set, after: Set) {
+        count(&mut self.slices_grew, goes_beyond(before, after));
+        count(&mut self.slices_shrank, goes_beyond(after, before));
+    }
+
+    /// Nodes that were out of reach for some time are reached.
+    pub fn note_again(&mut self, returned: Set) {
+        count(&mut self.again, returned != 0);
+    }
+
+    /// Each with its words.
+    pub fn named(self) -> [(&'static str, u32); 13] {
+        [
+            ("rows of strangers", self.strangers),
+            ("stale rows with other slices", self.stale),
+            ("rows with the slices of those before", self.alike),
+            (
+                "first rows that named reached nodes alone",
+                self.first_within,
+            ),
+            ("first rows that named strangers", self.first_beyond),
+            (
+                "rows with other slices that left the reach",
+                self.others_kept,
+            ),
+            ("rows with other slices by which it grew", self.others_grew),
+            (
+                "rows with other slices by which it shrank",
+                self.others_shrank,
+            ),
+            (
+                "rows with other slices that changed votes",
+                self.others_moved,
+            ),
+            ("rows right after new slices", self.after_slices),
+            ("new slices by which the reach grew", self.slices_grew),
+            ("new slices by which it shrank", self.slices_shrank),
+            (
+                "events that brought back who was reached before",
+                self.again,
+            ),
+        ]
+    }
+}
+
+/// Some node of the latter is not in the former.
+fn goes_beyond(former: Set, latter: Set) -> bool {
+    latter & !former != 0
 }

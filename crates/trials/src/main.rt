@@ -1,23 +1,30 @@
 //! One node, and how it bears many events: `trials REACHED STRANGERS EVENTS`, for measuring; and how it
 //! bears want of memory: `trials story`.
 //!
-//! The node trusts 43 of 64 of so many nodes, up to 256, and each of them 43 of the 64 from itself on. Each
-//! has a nomination and a ballot in the node's table, and so many strangers have one ballot each. Then
-//! the reached nodes raise their ballots, one after another, in so many events. It prints how many
-//! statements the node sends meanwhile.
+//! The node trusts the first 64 of so many nodes, up to 256, or all where there are fewer, and each of them
+//! as many from itself on: more than two thirds of them, which is 43 of 64. Each has a nomination and a
+//! ballot in the node's table, and so many strangers have one ballot each. Then the reached nodes raise
+//! their ballots, one after another, in so many events. It prints how many statements the node sends
+//! meanwhile.
 //!
-//! The story is that of a stranger who becomes reached, with timers. An event that finds no memory is
-//! tried once more. It prints how many things the node gives out at each event, and 8 for one that found no
-//! memory and left a trace in the node.
+//! The story is that of a stranger who becomes reached, with timers, and of senders that announce other
+//! slices. An event that finds no memory is tried once more. It prints how many things the node gives out
+//! at each event, and 8 for one that found no memory and left a trace in the node.
 //!
-//! The tests cross crates: steps of a node told in the words of scripts, and histories at random compared
-//! with a plain slow program that follows the rules step by step.
+//! The tests cross crates: steps of a node told in the words of scripts, and histories and crowds at random
+//! compared with a plain slow program that follows the rules step by step.
 #![tactic(auto)]
 
 #[cfg(test)]
 mod counts;
 #[cfg(test)]
+mod crowds;
+#[cfg(test)]
+mod dice;
+#[cfg(test)]
 mod histories;
+#[cfg(test)]
+mod reaching;
 #[cfg(test)]
 mod rules;
 #[cfg(test)]
@@ -30,6 +37,8 @@ mod steps;
 mod stories;
 #[cfg(test)]
 mod trial;
+#[cfg(test)]
+mod twin;
 #[cfg(test)]
 mod wording;
 
@@ -51,9 +60,8 @@ use types::{
     Ballot, Envelope, Given, Kind, Member, Nested, NodeId, SliceSet, Statement, Value, Values,
 };
 
-const NAMED: u64 = 64;
-
-const THRESHOLD: u8 = 43;
+/// The most nodes that slices name.
+const MOST_NAMED: u64 = 64;
 
 /// The sizes of a run.
 #[derive(Clone, Copy)]
@@ -137,29 +145,84 @@ impl Alone {
         }
     }
 
+    /// The digits of the story, behind a 1.
+    fn digits(&mut self, alloc: Global) -> Result<u64, AllocError> {
+        let mut digits = 1u64;
+        for line in STORY {
+            let given_out = self.hear(alloc, line)?;
+            digits = digits.saturating_mul(10).saturating_add(given_out);
+        }
+        Ok(digits)
+    }
+
     /// The digit of a line of the story.
     fn hear(&mut self, alloc: Global, line: (&str, &str, &str)) -> Result<u64, AllocError> {
         let Alone { archive, node } = self;
         twice_tried(alloc, archive, node, line)
     }
 
-    /// What a statement of a sender makes it give out.
+    /// A nomination and a ballot of each reached node come, and a ballot of each stranger.
+    fn meet(&mut self, alloc: Global, sizes: Sizes) -> Result<(), AllocError> {
+        for number in 0..sizes.reached {
+            self.nominate(alloc, sizes, number)?;
+            self.raise(alloc, sizes, number, 1)?;
+        }
+        for number in 0..sizes.strangers {
+            self.raise(alloc, sizes, number.saturating_add(1_000_000), 1)?;
+        }
+        Ok(())
+    }
+
+    /// The reached nodes raise their ballots, one after another: how many statements it sends meanwhile.
+    fn bear(&mut self, alloc: Global, sizes: Sizes) -> Result<u64, AllocError> {
+        let mut sent = 0u64;
+        for number in 0..sizes.events {
+            let Some(sender) = number.checked_rem(sizes.reached) else {
+                return Ok(sent);
+            };
+            let Some(turn) = number.checked_div(sizes.reached) else {
+                return Ok(sent);
+            };
+            let counter = turn.saturating_add(2).min(1_000_000) as u32;
+            sent = sent.saturating_add(self.raise(alloc, sizes, sender, counter)?);
+        }
+        Ok(sent)
+    }
+
+    fn nominate(&mut self, alloc: Global, sizes: Sizes, sender: u64) -> Result<u64, AllocError> {
+        let body = nomination(alloc)?;
+        self.take(alloc, sizes, sender, body)
+    }
+
+    fn raise(
+        &mut self,
+        alloc: Global,
+        sizes: Sizes,
+        sender: u64,
+        counter: u32,
+    ) -> Result<u64, AllocError> {
+        let body = prepare(alloc, counter)?;
+        self.take(alloc, sizes, sender, body)
+    }
+
+    /// How many statements a sender's statement makes it send.
     fn take(
         &mut self,
         alloc: Global,
         sizes: Sizes,
         sender: u64,
         body: Statement,
-    ) -> Result<Vec<FiledOut>, AllocError> {
+    ) -> Result<u64, AllocError> {
         let Alone { archive, node } = self;
-        take(alloc, archive, node, sizes, sender, body)
+        let outs = take(alloc, archive, node, sizes, sender, body)?;
+        Ok(sent_among(&outs))
     }
 }
 
 // ---- the story
 
 /// Each line: a sender with its slices and statement, a ballot timer, or new slices.
-const STORY: [(&str, &str, &str); 8] = [
+const STORY: [(&str, &str, &str); 10] = [
     ("B", "1[B]", "prep(9:m,9:m,6,0,0)"),
     ("C", "1[C]", "prep(8:k,8:k,6,0,0)"),
     ("Z", "1[Z]", "prep(5:q,-,0,0,0)"),
@@ -168,9 +231,11 @@ const STORY: [(&str, &str, &str); 8] = [
     ("", "", "8"),
     ("C", "1[C]", "prep(9:m,9:m,6,0,0)"),
     ("", "2[B,C,Z]", ""),
+    ("B", "1[Z]", "prep(10:m,9:m,6,0,0)"),
+    ("C", "1[B]", "prep(10:m,9:m,6,0,0)"),
 ];
 
-/// Stands for a line that tells no event.
+/// Stands for words that tell no node, or a line that tells no event.
 const NO_EVENT: u64 = 9;
 
 /// Stands for an event that found no memory and left a trace.
@@ -179,16 +244,18 @@ const TRACE: u64 = 8;
 /// How many things the node A with the slices `2[B,C,D]` gives out at each event: a digit each, from the
 /// first on.
 fn told(alloc: Global) -> Result<u64, AllocError> {
-    let mut node = match begun(alloc) {
-        Ok(node) => node,
-        Err(_) => begun(alloc)?,
-    };
-    let mut digits = 1u64;
-    for line in STORY {
-        let given_out = node.hear(alloc, line)?;
-        digits = digits.saturating_mul(10).saturating_add(given_out);
+    match begun_or_again(alloc)? {
+        None => Ok(NO_EVENT),
+        Some(mut node) => node.digits(alloc),
     }
-    Ok(digits)
+}
+
+/// The node of the story before its first event, tried once more where it finds no memory.
+fn begun_or_again(alloc: Global) -> Result<Option<Alone>, AllocError> {
+    match begun(alloc) {
+        Ok(node) => Ok(node),
+        Err(_) => begun(alloc),
+    }
 }
 
 /// The digit of an event, which is tried once more where it finds no memory.
@@ -214,8 +281,8 @@ fn twice_tried(
     tried(alloc, archive, node, line)
 }
 
-/// Whether two nodes have the same slices and votes, were given the same, and have the same statements in
-/// their rows.
+/// Whether two nodes have the same slices and votes, were given the same, and have the same statements and
+/// slices in their rows.
 fn is_as(archive: &Archive<VecShelf>, node: &Node, other: &Node) -> bool
     requires rows { AreFiled archive.now node.now.rows }
     requires other_rows { AreFiled archive.now other.now.rows }
@@ -263,17 +330,21 @@ fn has_same_row(
     kind: Kind,
 ) -> bool {
     match (rows.row(sender, kind), others.row(sender, kind)) {
-        (Some(row), Some(other)) => row.body().is_same(other.body()),
+        (Some(row), Some(other)) => {
+            row.body().is_same(other.body()) && row.slices().is_same(other.slices())
+        }
         (None, None) => true,
         _ => false,
     }
 }
 
-fn begun(alloc: Global) -> Result<Alone, AllocError> {
-    let slices = slices_of(alloc, b"2[B,C,D]")?;
-    match (name_of(b"A"), slices) {
-        (Some(name), Some(slices)) => Ok(Alone::new(alloc, name, slices)),
-        _ => Err(AllocError),
+fn begun(alloc: Global) -> Result<Option<Alone>, AllocError> {
+    let Some(name) = name_of(b"A") else {
+        return Ok(None);
+    };
+    match slices_of(alloc, b"2[B,C,D]")? {
+        None => Ok(None),
+        Some(slices) => Ok(Some(Alone::new(alloc, name, slices))),
     }
 }
 
@@ -339,26 +410,8 @@ fn sent_in(alloc: Global, sizes: Sizes) -> Result<u64, AllocError> {
     let Some(mut node) = node_of(alloc, sizes)? else {
         return Ok(0);
     };
-    for number in 0..sizes.reached {
-        node.take(alloc, sizes, number, nomination(alloc)?)?;
-        node.take(alloc, sizes, number, prepare(1))?;
-    }
-    for number in 0..sizes.strangers {
-        node.take(alloc, sizes, number.saturating_add(1_000_000), prepare(1))?;
-    }
-    let mut sent = 0u64;
-    for number in 0..sizes.events {
-        let Some(sender) = number.checked_rem(sizes.reached) else {
-            return Ok(sent);
-        };
-        let Some(turn) = number.checked_div(sizes.reached) else {
-            return Ok(sent);
-        };
-        let counter = turn.saturating_add(2).min(1_000_000) as u32;
-        let outs = node.take(alloc, sizes, sender, prepare(counter))?;
-        sent = sent.saturating_add(sent_among(&outs));
-    }
-    Ok(sent)
+    node.meet(alloc, sizes)?;
+    node.bear(alloc, sizes)
 }
 
 fn sent_among(outs: &[FiledOut]) -> u64 {
@@ -405,11 +458,12 @@ fn name(number: u64) -> NodeId {
     NodeId::from_words(number, 0, 0, 0)
 }
 
-/// The slices of a node: 43 of the 64 from this one on, beginning anew behind the last; of strangers the
-/// same among themselves.
+/// The slices of a node: more than two thirds of those from this one on, beginning anew behind the last; of
+/// strangers the same among themselves.
 fn slices_from(alloc: Global, from: u64, reached: u64) -> Result<Option<Nested>, AllocError> {
+    let named = reached.min(MOST_NAMED);
     let mut members = Vec::new(alloc);
-    for step in 0..NAMED {
+    for step in 0..named {
         let number = from.saturating_add(step);
         let number = if from >= reached {
             number
@@ -418,37 +472,31 @@ fn slices_from(alloc: Global, from: u64, reached: u64) -> Result<Option<Nested>,
         };
         members.push(Member::Node(name(number)))?;
     }
-    Nested::new(alloc, SliceSet::new(THRESHOLD, members))
-}
-
-fn value() -> Option<Value> {
-    Value::new(b"x")
+    let threshold = (named.saturating_mul(2) / 3).saturating_add(1) as u8;
+    Nested::new(alloc, SliceSet::new(threshold, members))
 }
 
 fn nomination(alloc: Global) -> Result<Statement, AllocError> {
     let mut voted = Values::empty(alloc);
-    if let Some(value) = value() {
-        voted.push(value)?;
-    }
+    voted.push(Value::of(alloc, b"x")?)?;
     Ok(Statement::Nominate {
         voted,
         accepted: Values::empty(alloc),
     })
 }
 
-fn ballot(counter: u32) -> Ballot {
-    Ballot {
+/// A statement whose two ballots share one value.
+fn prepare(alloc: Global, counter: u32) -> Result<Statement, AllocError> {
+    let ballot = Ballot {
         counter,
-        value: Value::of(b"x"),
-    }
-}
-
-fn prepare(counter: u32) -> Statement {
-    Statement::Prepare {
-        ballot: ballot(counter),
-        prepared: Some(ballot(counter)),
+        value: Value::of(alloc, b"x")?,
+    };
+    let prepared = ballot.try_copy()?;
+    Ok(Statement::Prepare {
+        ballot,
+        prepared: Some(prepared),
         aborted_counter: 0,
         high_counter: 0,
         commit_counter: 0,
-    }
+    })
 }

@@ -1,5 +1,5 @@
 //! A plain slow program for one node: its state, and what it sees of its table, each federated test by
-//! trying every set of nodes. Nodes are the letters A to G and values the letters a to d, and sets of either
+//! trying every set of nodes. Nodes are the letters A to H and values the letters a to d, and sets of either
 //! are bits.
 
 use crate::statements::{Ask, Ballot, Kind, NODES, Row, Set, Statement, Trust, bit, has};
@@ -40,7 +40,7 @@ pub struct Votes {
 pub struct State {
     pub own: u8,
     pub trust: Trust,
-    pub rows: [Rows; 7],
+    pub rows: [Rows; 8],
     /// The sets that satisfy the node's slices, and the quorums by rows of each kind that contain it.
     satisfying: Vec<Set>,
     nomination_quorums: Vec<Set>,
@@ -63,7 +63,7 @@ impl State {
         State {
             own,
             trust,
-            rows: [none; 7],
+            rows: [none; 8],
             satisfying: Vec::new(alloc),
             nomination_quorums: Vec::new(alloc),
             balloting_quorums: Vec::new(alloc),
@@ -125,13 +125,13 @@ impl State {
 
     pub fn names_from(&self, node: u8) -> Set {
         let mut names = if node == self.own {
-            self.trust.members | self.trust.inner
+            self.trust.names()
         } else {
             0
         };
         for kind in [Kind::Nomination, Kind::Balloting] {
             if let Some(row) = self.row(node, kind) {
-                names |= row.trust.members | row.trust.inner;
+                names |= row.trust.names();
             }
         }
         names
@@ -206,7 +206,7 @@ impl State {
     /// All quorums that contain the node.
     pub fn quorums(&self, alloc: Global, kind: Kind) -> Result<Vec<Set>, AllocError> {
         let mut quorums = Vec::new(alloc);
-        for set in 0..128u8 {
+        for set in 0..=Set::MAX {
             if has(set, self.own) && self.is_quorum(kind, set) {
                 quorums.push(set)?;
             }
@@ -219,7 +219,7 @@ impl State {
         self.nomination_quorums = self.quorums(alloc, Kind::Nomination)?;
         self.balloting_quorums = self.quorums(alloc, Kind::Balloting)?;
         self.satisfying = Vec::new(alloc);
-        for set in 0..128u8 {
+        for set in 0..=Set::MAX {
             if self.trust.is_satisfied(set) {
                 self.satisfying.push(set)?;
             }

@@ -6,7 +6,7 @@ use std::alloc::AllocError;
 pub type Set = u8;
 
 /// The nodes there are, by number.
-pub const NODES: [u8; 7] = [0, 1, 2, 3, 4, 5, 6];
+pub const NODES: [u8; 8] = [0, 1, 2, 3, 4, 5, 6, 7];
 
 /// The values there are, by number, in byte order.
 pub const VALUES: [u8; 4] = [0, 1, 2, 3];
@@ -73,6 +73,11 @@ pub struct Trust {
 }
 
 impl Trust {
+    /// The nodes that it names.
+    pub fn names(self) -> Set {
+        self.members | self.inner
+    }
+
     pub fn is_satisfied(self, set: Set) -> bool {
         let inner = self.inner != 0 && (self.inner & set).count_ones() >= self.inner_threshold;
         let members = (self.members & set).count_ones();

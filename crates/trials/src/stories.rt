@@ -1,25 +1,47 @@
 //! Stories of one node, with answers worked out by hand from the rules.
 
 use crate::trial::Trial;
-use std::alloc::Global;
+use std::alloc::{AllocError, Global};
 use std::process::Abort;
 use std::test::Fail;
 
 /// A line, and what the node answers.
-type Told = (&'static [u8], &'static str);
+pub type Told = (&'static [u8], &'static str);
 
 /// A story of the node A.
-fn tells(rt: &impl Abort, alloc: Global, slices: &[u8], story: &[Told]) -> Result<(), Fail> {
+pub fn tells(rt: &impl Abort, alloc: Global, slices: &[u8], story: &[Told]) -> Result<(), Fail> {
+    told(rt, alloc, slices, story)?;
+    Ok(())
+}
+
+/// The node A after its story.
+fn told(
+    rt: &impl Abort,
+    alloc: Global,
+    slices: &[u8],
+    story: &[Told],
+) -> Result<Trial, AllocError> {
     let mut trial = Trial::new(rt, alloc, b"A", slices)?;
     for (line, answer) in story {
-        let said = trial.answer(rt, alloc, line)?;
-        assert_eq!(rt; said.as_str(), *answer);
+        is_answered(rt, alloc, &mut trial, line, answer)?;
     }
+    Ok(trial)
+}
+
+fn is_answered(
+    rt: &impl Abort,
+    alloc: Global,
+    trial: &mut Trial,
+    line: &[u8],
+    answer: &str,
+) -> Result<(), AllocError> {
+    let said = trial.answer(rt, alloc, line)?;
+    assert_eq!(rt; said.as_str(), answer);
     Ok(())
 }
 
 // B and C block A, and both accept all ballots below 6 as aborted.
-const BLOCKED: [Told; 2] = [
+pub const BLOCKED: [Told; 2] = [
     (b"say B 1[B] prep(9:m,9:m,6,0,0)", "ok"),
     (b"say C 1[C] prep(8:k,8:k,6,0,0)", "ok"),
 ];
@@ -252,16 +274,16 @@ fn a_leader_votes_for_what_it_proposes(rt: HostRuntime) -> Result<(), Fail> {
 #[test]
 fn a_second_proposal_begins_the_first_round_again(rt: HostRuntime) -> Result<(), Fail> {
     let alloc = rt.alloc();
-    let mut trial = Trial::new(&rt, alloc, b"A", b"2[B,C,D]")?;
-    let story: [Told; 3] = [
-        (b"propose x", "ok arm-nomination 1"),
-        (b"ntimer 1", "ok arm-nomination 2"),
-        (b"propose y", "ok arm-nomination 1"),
-    ];
-    for (line, answer) in story {
-        let said = trial.answer(&rt, alloc, line)?;
-        assert_eq!(rt; said.as_str(), answer);
-    }
+    let trial = told(
+        &rt,
+        alloc,
+        b"2[B,C,D]",
+        &[
+            (b"propose x", "ok arm-nomination 1"),
+            (b"ntimer 1", "ok arm-nomination 2"),
+            (b"propose y", "ok arm-nomination 1"),
+        ],
+    )?;
     let state = trial.state(alloc)?;
     assert!(rt;
         state.as_str().starts_with("rows 0 2[B,C,D] round 1 fired 0 leaders C C C input y voted")
@@ -378,25 +400,35 @@ fn there_is_room_for_sixteen_values(rt: HostRuntime) -> Result<(), Fail> {
     )
 }
 
-#[test]
-fn a_value_may_have_256_bytes(rt: HostRuntime) -> Result<(), Fail> {
-    let alloc = rt.alloc();
-    let mut value = String::new(alloc);
-    value.push('#')?;
+/// The word of a value of 256 bytes.
+fn long_value(alloc: Global) -> Result<String, AllocError> {
+    let mut word = String::new(alloc);
+    word.push('#')?;
     for _ in 0..256u32 {
-        value.push_str("0f")?;
+        word.push_str("0f")?;
     }
-    let value = value.as_str();
-    let mut line = String::new(alloc);
-    write!(line, "propose {value}")?;
-    let mut answer = String::new(alloc);
-    write!(
-        answer,
+    Ok(word)
+}
+
+fn decides_alone(rt: &impl Abort, alloc: Global, value: &str) -> Result<(), AllocError> {
+    let line = format!(in alloc; "propose {value}")?;
+    let answer = format!(in alloc;
         "ok emit nom({value}|{value}) emit ext(1:{value},1) externalized {value}"
     )?;
-    let mut trial = Trial::new(&rt, alloc, b"A", b"1[A]")?;
-    let said = trial.answer(&rt, alloc, line.as_str().as_bytes())?;
-    assert_eq!(rt; said.as_str(), answer.as_str());
+    let mut trial = Trial::new(rt, alloc, b"A", b"1[A]")?;
+    is_answered(
+        rt,
+        alloc,
+        &mut trial,
+        line.as_str().as_bytes(),
+        answer.as_str(),
+    )
+}
+
+#[test]
+fn a_value_may_have_256_bytes(rt: HostRuntime) -> Result<(), Fail> {
+    let value = long_value(rt.alloc())?;
+    decides_alone(&rt, rt.alloc(), value.as_str())?;
     Ok(())
 }
 

@@ -83,10 +83,7 @@ impl Trial {
         let Trial { archive, node } = self;
         let event = event_of(rt, alloc, archive, line)?;
         let (stepped, outs) = node.step(alloc, archive, event)?;
-        Ok(Answer {
-            words: words_of(rt, alloc, archive, &stepped, &outs)?,
-            state: state_of(alloc, &stepped)?,
-        })
+        answer_of(rt, alloc, archive, &stepped, &outs)
     }
 
     fn advance(
@@ -98,10 +95,7 @@ impl Trial {
         let Trial { archive, node } = self;
         let event = event_of(rt, alloc, archive, line)?;
         let outs = node.advance(alloc, archive, event)?;
-        Ok(Answer {
-            words: words_of(rt, alloc, archive, node, &outs)?,
-            state: state_of(alloc, node)?,
-        })
+        answer_of(rt, alloc, archive, node, &outs)
     }
 
     fn is_still(&self, rt: &impl Abort, alloc: Global, before: &str) -> Result<(), AllocError> {
@@ -155,7 +149,9 @@ fn event_of(
             let envelope = Envelope::new(sender, 1, slices, body).expect(rt, "well formed");
             FiledEvent::Take(archive.put(envelope)?)
         }
-        [b"propose", value] => FiledEvent::Propose(value_of(value).expect(rt, "a value")),
+        [b"propose", value] => {
+            FiledEvent::Propose(value_of(alloc, value)?.expect(rt, "a value"))
+        }
         [b"ntimer", round] => {
             FiledEvent::NominationTimer(counter_of(round).expect(rt, "a round"))
         }
@@ -188,6 +184,21 @@ fn is_from(alloc: Global, envelope: &Envelope, node: &Node) -> Result<bool, Allo
             && envelope.slot() == node.slot()
             && said.as_str() == configured.as_str(),
     )
+}
+
+fn answer_of(
+    rt: &impl Abort,
+    alloc: Global,
+    archive: &Archive<VecShelf>,
+    node: &Node,
+    outs: &[FiledOut],
+) -> Result<Answer, AllocError>
+    requires { AreFiledOuts archive.now outs.now }
+{
+    Ok(Answer {
+        words: words_of(rt, alloc, archive, node, outs)?,
+        state: state_of(alloc, node)?,
+    })
 }
 
 /// The words of what a node gives out, whose envelopes are its own.

@@ -5,7 +5,7 @@ use crate::statements::{Ballot, Kind, NODES, Set, Statement, Trust, has};
 use crate::steps::Out;
 use std::alloc::{AllocError, Global};
 
-const LETTERS: [&str; 7] = ["A", "B", "C", "D", "E", "F", "G"];
+const LETTERS: [&str; 8] = ["A", "B", "C", "D", "E", "F", "G", "H"];
 
 const WORDS: [&str; 4] = ["a", "b", "c", "d"];
 

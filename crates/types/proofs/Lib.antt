@@ -1,5 +1,4 @@
 pub mod Bools
-pub mod Written
 pub mod StatementRules
 pub mod Weights
 pub mod NestedRules

@@ -1,11 +1,12 @@
 //! A ballot.
 
-ghost use Rattle.std.specs.Prelude.{◌≡◌, IsTrue, ◌↔◌};
+ghost use Rattle.std.specs.Prelude.{◌≡◌, IfOk, IsTrue, ◌↔◌};
 
 use crate::value::Value;
+use std::alloc::AllocError;
 
 /// A counter and a value, ordered by counter, then value.
-#[derive(Clone, Copy, Debug, PartialEq, Eq, PartialOrd, Ord)]
+#[derive(Debug, Drop, PartialEq, Eq, PartialOrd, Ord)]
 pub struct Ballot {
     pub counter: u32,
     pub value: Value,
@@ -20,6 +21,22 @@ impl Ballot {
     {
         let _counter = self.counter;
         let _value = self.value.as_bytes();
+    }
+
+    /// A copy. It takes no memory; an error says that the value has too many owners.
+    pub fn try_copy(&self) -> Result<Ballot, AllocError>
+        ensures { IfOk result (λ b. b ≡ self.now) }
+    {
+        self.at(self.counter)
+    }
+
+    /// The ballot at this counter with the same value. It takes no memory; an error says that the value
+    /// has too many owners.
+    pub fn at(&self, counter: u32) -> Result<Ballot, AllocError>
+        ensures { IfOk result (λ b. b ≡ record { counter = counter; value = self.now.value }) }
+    {
+        let value = self.value.try_copy()?;
+        Ok(Ballot { counter, value })
     }
 
     /// Whether the two are one ballot.
@@ -40,5 +57,16 @@ pub(crate) fn is_same(one: &Option<Ballot>, other: &Option<Ballot>) -> bool
             None => false,
             Some(other) => one.is_same(other),
         },
+    }
+}
+
+/// A copy of a ballot, where there is one. It takes no memory; an error says that its value has too many
+/// owners.
+pub fn copy_of(ballot: &Option<Ballot>) -> Result<Option<Ballot>, AllocError>
+    ensures { IfOk result (λ o. o ≡ ballot.now) }
+{
+    match ballot {
+        None => Ok(None),
+        Some(ballot) => Ok(Some(ballot.try_copy()?)),
     }
 }

@@ -58,7 +58,7 @@ impl Envelope {
         Some(Envelope::of(sender, slot, slices, body))
     }
 
-    /// A copy.
+    /// A copy. An error says that memory is short.
     pub fn try_copy(&self, alloc: Global) -> Result<Envelope, AllocError>
         ensures { IfOk result (λ e. e ≡ self.now) }
     {

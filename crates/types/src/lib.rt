@@ -7,19 +7,26 @@ mod bytes;
 mod envelope;
 mod event;
 mod kind;
+mod lent;
+mod lent_statement;
 mod nested;
 mod node_id;
+mod sizes;
 mod state;
 mod statement;
+#[cfg(test)]
+mod tests;
 mod value;
 mod values;
 mod votes;
 
-pub use ballot::Ballot;
+pub use ballot::{Ballot, copy_of};
 pub use bytes::Bytes;
 pub use envelope::Envelope;
 pub use event::{Event, NodeEvent, Out, Refusal};
 pub use kind::Kind;
+pub use lent::LentBallot;
+pub use lent_statement::{LentStatement, statement_of};
 pub use nested::{MAX_INNER_LEVELS, MAX_MEMBERS, MAX_NAMES, Member, Nested, SliceSet, push_names};
 pub use node_id::NodeId;
 pub use state::{Given, Leaders, Phase, Votes};

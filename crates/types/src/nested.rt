@@ -242,7 +242,7 @@ impl Nested {
         Nested { set }
     }
 
-    /// A copy.
+    /// A copy. An error says that memory is short.
     pub fn try_copy(&self, alloc: Global) -> Result<Nested, AllocError>
         ensures { IfOk result (λ n. n ≡ self.now) }
     {

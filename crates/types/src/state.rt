@@ -2,7 +2,7 @@
 
 ghost use Rattle.std.specs.Prelude.{◌≡◌, ◌↔◌, ◌++◌, ◌∷◌, [], IfOk, IsTrue, OnErr, OnOk};
 
-use crate::ballot::{Ballot, is_same};
+use crate::ballot::{Ballot, copy_of, is_same};
 use crate::node_id::NodeId;
 use crate::value::Value;
 use crate::values::Values;
@@ -97,12 +97,16 @@ impl Given {
         }
     }
 
-    /// A copy. An error says that memory is short.
+    /// A copy, which shares the bytes of each value. An error says that memory is short, or that a value
+    /// has too many owners.
     pub fn try_copy(&self, alloc: Global) -> Result<Given, AllocError>
         ensures { IfOk result (λ g. g ≡ self.now) }
     {
         Ok(Given {
-            input: self.input,
+            input: match &self.input {
+                None => None,
+                Some(input) => Some(input.try_copy()?),
+            },
             round: self.round,
             leaders: self.leaders.try_copy(alloc)?,
             fired: self.fired,
@@ -162,7 +166,8 @@ impl Votes {
         }
     }
 
-    /// A copy. An error says that memory is short.
+    /// A copy, which shares the bytes of each value. An error says that memory is short, or that a value
+    /// has too many owners.
     pub fn try_copy(&self, alloc: Global) -> Result<Votes, AllocError>
         ensures { IfOk result (λ w. w ≡ self.now) }
     {
@@ -171,11 +176,11 @@ impl Votes {
             accepts: self.accepts.try_copy(alloc)?,
             confirms: self.confirms.try_copy(alloc)?,
             phase: self.phase,
-            ballot: self.ballot,
-            prepared: self.prepared,
+            ballot: copy_of(&self.ballot)?,
+            prepared: copy_of(&self.prepared)?,
             aborted: self.aborted,
-            high: self.high,
-            commit: self.commit,
+            high: copy_of(&self.high)?,
+            commit: copy_of(&self.commit)?,
             lo: self.lo,
             hi: self.hi,
             armed: self.armed,

@@ -3,7 +3,7 @@
 ghost use Rattle.std.specs.Prelude.{◌≡◌, ◌↔◌, IsTrue, IfOk};
 ghost use Rattle.types.specs.Statements.{IsWellFormed, HasWidths, is_up_to, is_well_formed, kind_of};
 
-use crate::ballot::{Ballot, is_same};
+use crate::ballot::{Ballot, copy_of, is_same};
 use crate::kind::Kind;
 use crate::values::Values;
 use std::alloc::{AllocError, Global};
@@ -52,7 +52,8 @@ impl Statement {
         }
     }
 
-    /// A copy.
+    /// A copy, which shares the bytes of each value. An error says that memory is short, or that a value
+    /// has too many owners.
     pub fn try_copy(&self, alloc: Global) -> Result<Statement, AllocError>
         ensures { IfOk result (λ s. s ≡ self.now) }
     {
@@ -68,8 +69,8 @@ impl Statement {
                 high_counter,
                 commit_counter,
             } => Statement::Prepare {
-                ballot: *ballot,
-                prepared: *prepared,
+                ballot: ballot.try_copy()?,
+                prepared: copy_of(prepared)?,
                 aborted_counter: *aborted_counter,
                 high_counter: *high_counter,
                 commit_counter: *commit_counter,
@@ -80,7 +81,7 @@ impl Statement {
                 high_counter,
                 commit_counter,
             } => Statement::Commit {
-                ballot: *ballot,
+                ballot: ballot.try_copy()?,
                 prepared_counter: *prepared_counter,
                 high_counter: *high_counter,
                 commit_counter: *commit_counter,
@@ -89,7 +90,7 @@ impl Statement {
                 commit,
                 high_counter,
             } => Statement::Externalize {
-                commit: *commit,
+                commit: commit.try_copy()?,
                 high_counter: *high_counter,
             },
         })

@@ -1,59 +1,63 @@
 //! What a network agrees on.
 
-ghost use Rattle.std.specs.Prelude.{◌≡◌, ◌<◌, ◌≤◌, length, IfSome, IsSome, IsTrue, ◌↔◌};
+ghost use Rattle.std.specs.Prelude.{◌≡◌, ◌<◌, ◌≤◌, length, IfOk, IfSome, IsSome, IsTrue, ◌↔◌};
 
+use std::alloc::{AllocError, Global};
 use std::cmp::Ordering;
 use std::marker::Model;
+use std::sync::Arc;
 
 /// The most bytes that a value has.
 pub const MAX_VALUE_LENGTH: usize = 256;
 
-/// One to 256 opaque bytes, ordered by bytes.
-#[derive(Clone, Copy, Debug)]
+/// One to 256 opaque bytes, ordered by bytes. Copies share them.
+#[derive(Debug, Drop)]
 pub struct Value {
-    bytes: [u8; 256],
-    len: u16,
+    bytes: Arc<Vec<u8>, Global>,
 }
 
 impl Model for Value {
-    ghost use Rattle.std.specs.Prelude.{ℕ, List, take, length};
-    ghost use Rattle.types.specs.Padded.{padded, IsPadded, again};
+    ghost use Rattle.std.specs.Prelude.{ℕ, List, ◌<◌, ◌≤◌, length};
+    ghost use Rattle.std.specs.Arc.{arc_value};
 
     ghost Value = { List ℕ };
 
-    ghost view = { λ a. take a.len a.bytes };
+    ghost view = { λ a. (arc_value a.bytes).items };
 
-    ghost invariant = { IsPadded };
-
-    ghost inverse = { λ xs. record { bytes = padded xs; len = length xs } };
-
-    ghost inverse_ok = { again };
+    ghost invariant = { λ a. (0 < length (arc_value a.bytes).items) × (length (arc_value a.bytes).items ≤ 256) };
 }
 
 impl Value {
-    /// The bytes as a value, where they are one to 256.
-    pub fn new(bytes: &[u8]) -> Option<Value>
-        ensures some { IfSome result (λ v. v ≡ bytes.now) }
-        ensures exactly { IsSome result ↔ (0 < length bytes.now) × (length bytes.now ≤ 256) }
+    /// The bytes as a value, where they are one to 256. An error says that memory is short.
+    pub fn new(alloc: Global, bytes: &[u8]) -> Result<Option<Value>, AllocError>
+        ensures some { IfOk result (λ o. IfSome o (λ v. v ≡ bytes.now)) }
+        ensures exactly { IfOk result (λ o. IsSome o ↔ (0 < length bytes.now) × (length bytes.now ≤ 256)) }
     {
         if bytes.is_empty() || bytes.len() > MAX_VALUE_LENGTH {
-            return None;
+            return Ok(None);
         }
-        Some(Value::of(bytes))
+        Ok(Some(Value::of(alloc, bytes)?))
     }
 
-    /// Bytes that are known to be a value.
-    pub fn of(bytes: &[u8]) -> Value
+    /// Bytes that are known to be a value: one to 256 of them. An error says that memory is short.
+    pub fn of(alloc: Global, bytes: &[u8]) -> Result<Value, AllocError>
         requires some_bytes { 0 < length bytes.now }
         requires limit { length bytes.now ≤ 256 }
-        ensures { result ≡ bytes.now }
+        ensures { IfOk result (λ v. v ≡ bytes.now) }
     {
-        let mut kept = [0u8; 256];
-        kept[..bytes.len()].copy_from_slice(bytes);
-        Value {
-            bytes: kept,
-            len: bytes.len() as u16,
-        }
+        let kept = Vec::from_slice(alloc, bytes)?;
+        Ok(Value {
+            bytes: Arc::new(alloc, kept)?,
+        })
+    }
+
+    /// The same value. It takes no memory; an error says that it has too many owners.
+    pub fn try_copy(&self) -> Result<Value, AllocError>
+        ensures { IfOk result (λ v. v ≡ self.now) }
+    {
+        Ok(Value {
+            bytes: Arc::try_clone(&self.bytes)?,
+        })
     }
 
     /// The bytes, which are one to 256.
@@ -62,7 +66,7 @@ impl Value {
         ensures some_bytes { 0 < length self.now }
         ensures limit { length self.now ≤ 256 }
     {
-        &self.bytes[..self.len as usize]
+        self.bytes.as_slice()
     }
 
     /// Whether the two are one value.

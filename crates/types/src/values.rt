@@ -68,13 +68,17 @@ impl Values {
         &self.items
     }
 
-    /// A copy.
+    /// A copy, which shares the bytes of each value. An error says that memory is short, or that a value
+    /// has too many owners.
     pub fn try_copy(&self, alloc: Global) -> Result<Values, AllocError>
         ensures { IfOk result (λ v. v ≡ self.now) }
     {
-        Ok(Values {
-            items: Vec::from_slice(alloc, self.as_slice())?,
-        })
+        let mut copy = Values::empty(alloc);
+        let values = self.as_slice();
+        for value in values {
+            copy.push(value.try_copy()?)?;
+        }
+        Ok(copy)
     }
 
     /// Whether they are the same values, in the same order.

@@ -5,4 +5,4 @@ pub mod SameRows
 pub mod FoundRows
 pub mod Keeping
 pub mod RegionLaws
-pub mod FirstRowLaws
+pub mod EntryLaws

@@ -1,3 +1,2 @@
 pub mod Watching
 pub mod Regions
-pub mod FirstRows

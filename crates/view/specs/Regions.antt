@@ -1,13 +1,17 @@
 -- The nodes that a node reaches, and slices compiled against them.
-use Rattle.std.specs.Prelude.{◌≡◌, ℕ, ◌<◌, List, get_or, length, true}
+use Rattle.std.specs.Prelude.{◌≡◌, ◌≢◌, ℕ, ◌<◌, List, None, get_or, length, false, true}
 use Rattle.types.specs.Trees.{Slices}
-use Rattle.types.specs.Statements.{Sent}
+use Rattle.types.specs.Statements.{Sent, kind_of}
 use Rattle.types.specs.declared.kind.Kind.{Kind}
 use Rattle.types.specs.declared.kind.Kind.TheVariants.{Nomination}
 use Rattle.protocol.specs.Backing.{slices_by}
 use Rattle.protocol.specs.Reach.{IsReach}
+use Rattle.protocol.specs.Rows.{row}
+use Rattle.protocol.specs.Satisfaction.{names}
+use Rattle.protocol.specs.Sets.{among, AreWithin}
 use Rattle.compiled.specs.Met.{IsCompiled}
 use Rattle.compiled.specs.Searching.{AreCompiled}
+use Rattle.view.specs.declared.region.Entry.{Entry}
 use Rattle.view.specs.declared.region.Region.{Region}
 
 -- what the configuration and the table give: the reach, the node's own place, what blocks it, and the slices of all that are reached
@@ -18,3 +22,25 @@ pub record IsRegion (own : ℕ) (configured : Slices) (table : List Sent) (r : R
   pub blocking : IsCompiled true r.nodes.items configured r.blocking
   pub ballots : AreCompiled r.nodes.items (slices_by own configured table Kind.Ballot) r.ballots.items
   pub nominations : AreCompiled r.nodes.items (slices_by own configured table Nomination) r.nominations.items
+
+-- the same region, in other memory
+pub record IsCopy (old new : Region) : Type 0 where
+  pub nodes : new.nodes.items ≡ old.nodes.items
+  pub place : new.place ≡ old.place
+  pub blocking : new.blocking ≡ old.blocking
+  pub ballots : new.ballots.items ≡ old.ballots.items
+  pub nominations : new.nominations.items ≡ old.nominations.items
+
+-- a first row of its kind, of the node at this place among the nodes, that names none but these nodes
+pub record IsFirstRow (table : List Sent) (e : Sent) (nodes : List ℕ) (place : ℕ) : Type 0 where
+  pub first : row table e.sender (kind_of e.body) ≡ None
+  pub named : AreWithin (among (names e.slices)) (among nodes)
+  pub within : place < length nodes
+  pub sender : get_or nodes place 0 ≡ e.sender
+
+-- what a region has to have once such a row of another node came: the row's slices, compiled, for its kind and at its sender's place
+pub record IsEntry (table : List Sent) (e : Sent) (r : Region) (x : Entry) : Type 0 where
+  pub first_row : IsFirstRow table e r.nodes.items x.place
+  pub kind : x.kind ≡ kind_of e.body
+  pub another : x.place ≢ r.place
+  pub compiled : IsCompiled false r.nodes.items e.slices x.slices

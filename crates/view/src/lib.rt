@@ -14,5 +14,5 @@ mod seeing;
 #[cfg(test)]
 mod tests;
 
-pub use region::{Region, first_rows_law};
+pub use region::{Entry, Region};
 pub use seeing::View;

@@ -1,6 +1,7 @@
 //! The nodes that a node reaches, and slices compiled against them.
 
-ghost use Rattle.std.specs.Prelude.{◌≡◌, ◌<◌, ℕ, List, IfOk, IsTrue, get_or, length};
+ghost use Rattle.std.specs.Prelude.{◌≡◌, ◌<◌, ℕ, List, IfOk, IfSome, IsTrue, Some, get_or, length, set};
+ghost use Rattle.types.specs.Statements.{Sent};
 ghost use Rattle.types.specs.Trees.{Slices};
 ghost use Rattle.protocol.specs.Backing.{slices_by};
 ghost use Rattle.protocol.specs.Quorums.{is_satisfied};
@@ -9,11 +10,10 @@ ghost use Rattle.protocol.specs.Satisfaction.{sat};
 ghost use Rattle.protocol.specs.Sets.{IsAscending, among};
 ghost use Rattle.compiled.specs.Met.{picked};
 ghost use Rattle.compiled.specs.Searching.{AreCompiled, met_at};
-ghost use Rattle.view.specs.FirstRows.{StaysWithFirstRows};
-ghost use Rattle.view.specs.Regions.{IsRegion};
+ghost use Rattle.view.specs.Regions.{IsCopy, IsEntry, IsFirstRow, IsRegion};
 
 use closure::{keeps_reach, reach};
-use compiled::{CompiledSet, compile, place_of};
+use compiled::{CompiledSet, compile, has_places, place_of};
 use envstore::Places;
 use latest::Rows;
 use std::alloc::{AllocError, Global};
@@ -28,6 +28,14 @@ pub struct Region {
     pub blocking: CompiledSet,
     pub ballots: Vec<Option<CompiledSet>>,
     pub nominations: Vec<Option<CompiledSet>>,
+}
+
+/// The slices in a reached node's first row of a kind, compiled: all that the row changes in a region.
+#[derive(Drop)]
+pub struct Entry {
+    kind: Kind,
+    place: usize,
+    slices: CompiledSet,
 }
 
 impl Region {
@@ -54,13 +62,129 @@ impl Region {
         })
     }
 
+    /// A copy. An error says that memory is short.
+    pub fn try_copy(&self, alloc: Global) -> Result<Region, AllocError>
+        ensures { IfOk result (λ r. IsCopy self.now r) }
+    {
+        Ok(Region {
+            nodes: Vec::from_slice(alloc, &self.nodes)?,
+            place: self.place,
+            blocking: self.blocking.try_copy(alloc)?,
+            ballots: copy_of_all(alloc, &self.ballots)?,
+            nominations: copy_of_all(alloc, &self.nominations)?,
+        })
+    }
+
     /// Whether the region surely stays as it is where the table takes the envelope: its sender is not
-    /// reached, or has a row of that kind with the same slices. It takes no memory.
+    /// reached, or has a row of that kind with the same slices, or is the node itself, whose slices are
+    /// configured, and names reached nodes alone. It takes no memory.
     pub fn stays<S: Places>(&self, table: &Rows<'_, S>, envelope: &Envelope) -> bool
         requires { IsAscending self.now.nodes.items }
         ensures { IsTrue result → (own : ℕ) (configured : Slices) → IsRegion own configured table.now self.now → IsRegion own configured (with_row envelope.now table.now) self.now }
     {
-        keeps_reach(&self.nodes, table, envelope)
+        keeps_reach(&self.nodes, table, envelope) || self.is_own_first_row(table, envelope)
+    }
+
+    /// What the region has to have for the envelope where the table takes it, if that is all that
+    /// changes: it is a reached node's first row of its kind, and names reached nodes alone. An error says
+    /// that memory is short.
+    pub fn entry_for<S: Places>(
+        &self,
+        alloc: Global,
+        table: &Rows<'_, S>,
+        envelope: &Envelope,
+    ) -> Result<Option<Entry>, AllocError>
+        requires { IsAscending self.now.nodes.items }
+        ensures { IfOk result (λ o. IfSome o (λ x. IsEntry table.now envelope.now self.now x)) }
+    {
+        let Some(place) = place_of_first_row(&self.nodes, table, envelope) else {
+            return Ok(None);
+        };
+        if place == self.place {
+            return Ok(None);
+        }
+        let slices = compile(alloc, envelope.slices().set(), &self.nodes, false)?;
+        let kind = envelope.body().kind();
+        Ok(Some(Entry {
+            kind,
+            place,
+            slices,
+        }))
+    }
+
+    /// Sets what [`Region::entry_for`] found. The region is then that of the table with the row. It takes
+    /// no memory.
+    pub fn set_entry(&mut self, entry: Entry)
+        ensures { (own : ℕ) (configured : Slices) (table : List Sent) (e : Sent) → IsEntry table e self.old entry → IsRegion own configured table self.old → IsRegion own configured (with_row e table) self.new }
+    {
+        match entry.kind {
+            Kind::Ballot => set_at(&mut self.ballots, entry.place, entry.slices),
+            Kind::Nomination => set_at(&mut self.nominations, entry.place, entry.slices),
+        }
+    }
+
+    /// Whether the envelope is the node's own first row of its kind, and names reached nodes alone.
+    fn is_own_first_row<S: Places>(&self, table: &Rows<'_, S>, envelope: &Envelope) -> bool
+        requires { IsAscending self.now.nodes.items }
+        ensures { IsTrue result → IsFirstRow table.now envelope.now self.now.nodes.items self.now.place }
+    {
+        match place_of_first_row(&self.nodes, table, envelope) {
+            None => false,
+            Some(place) => place == self.place,
+        }
+    }
+}
+
+/// The place of the envelope's sender, if it is reached, has no row of that kind, and names reached nodes
+/// alone.
+fn place_of_first_row<S: Places>(
+    nodes: &[NodeId],
+    table: &Rows<'_, S>,
+    envelope: &Envelope,
+) -> Option<usize>
+    requires { IsAscending nodes.now }
+    ensures { IfSome result (λ i. IsFirstRow table.now envelope.now nodes.now i) }
+{
+    let sender = envelope.sender();
+    if table.row(sender, envelope.body().kind()).is_some() {
+        return None;
+    }
+    if !has_places(envelope.slices().set(), nodes) {
+        return None;
+    }
+    place_of(nodes, sender)
+}
+
+/// Sets the slices at a place, where there is one.
+fn set_at(entries: &mut [Option<CompiledSet>], place: usize, slices: CompiledSet)
+    ensures { place < length entries.old → entries.new ≡ set entries.old place (Some slices) }
+{
+    if place < entries.len() {
+        entries[place] = Some(slices);
+    }
+}
+
+/// A copy of compiled slices, each in its place.
+fn copy_of_all(
+    alloc: Global,
+    sets: &[Option<CompiledSet>],
+) -> Result<Vec<Option<CompiledSet>>, AllocError>
+    ensures { IfOk result (λ v. v.items ≡ sets.now) }
+{
+    let mut copies = Vec::with_capacity(alloc, sets.len())?;
+    for set in sets {
+        copies.push(copy_of(alloc, set)?)?;
+    }
+    Ok(copies)
+}
+
+/// A copy of compiled slices, if there are any.
+fn copy_of(alloc: Global, set: &Option<CompiledSet>) -> Result<Option<CompiledSet>, AllocError>
+    ensures { IfOk result (λ o. o ≡ set.now) }
+{
+    match set {
+        None => Ok(None),
+        Some(set) => Ok(Some(set.try_copy(alloc)?)),
     }
 }
 
@@ -117,8 +241,3 @@ fn compile_row<S: Places>(
         Some(row) => Ok(Some(compile(alloc, row.slices().set(), nodes, false)?)),
     }
 }
-
-/// A sender's first row of a kind leaves the reach as it is where it names reached nodes alone.
-pub fn first_rows_law()
-    ensures { StaysWithFirstRows }
-{}

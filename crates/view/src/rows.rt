@@ -124,7 +124,7 @@ fn insert_all(values: &mut Values, more: &[Value]) -> Result<(), AllocError>
 {
     let mut left = more;
     while let [rest @ .., value] = left {
-        values.insert(*value)?;
+        values.insert(value.try_copy()?)?;
         left = rest;
     }
     Ok(())

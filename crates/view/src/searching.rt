@@ -6,10 +6,13 @@ ghost use Rattle.fedvote.specs.Searching.{bettered, next_counter, next_under};
 ghost use Rattle.view.specs.Watching.{lesser_of};
 
 use fedvote::{better_committed, better_named, counter_by, lesser};
-use types::{Ballot, Statement};
+use types::{LentBallot, Statement};
 
 /// The greatest ballot below the bound that the statements name with a counter from 1 on.
-pub(crate) fn next_named(statements: &[&Statement], bound: &Option<Ballot>) -> Option<Ballot>
+pub(crate) fn next_named<'a>(
+    statements: &[&'a Statement],
+    bound: &Option<LentBallot>,
+) -> Option<LentBallot<'a>>
     ensures { result ≡ next_under bound.now (named_in (map (λ s. s.now) statements.now)) }
 {
     let mut best = None;
@@ -20,7 +23,10 @@ pub(crate) fn next_named(statements: &[&Statement], bound: &Option<Ballot>) -> O
 }
 
 /// The greatest ballot below the bound at whose counter, from 1 on, a statement speaks of commit.
-pub(crate) fn next_committed(statements: &[&Statement], bound: &Option<Ballot>) -> Option<Ballot>
+pub(crate) fn next_committed<'a>(
+    statements: &[&'a Statement],
+    bound: &Option<LentBallot>,
+) -> Option<LentBallot<'a>>
     ensures { result ≡ next_under bound.now (committed_in (map (λ s. s.now) statements.now)) }
 {
     let mut best = None;

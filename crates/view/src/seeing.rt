@@ -20,7 +20,7 @@ use envstore::Places;
 use fedvote::{Question, Sight};
 use latest::Rows;
 use std::alloc::{AllocError, Global};
-use types::{Ballot, Kind, Leaders, Nested, NodeId, Statement, Values};
+use types::{Kind, Leaders, LentBallot, Nested, NodeId, Statement, Values};
 
 /// What a node with these slices and leaders sees of a table: the rows of the other nodes that it reaches,
 /// and the nomination rows of its leaders, reached or not (the Stellar Consensus Protocol draft, of federated
@@ -146,12 +146,12 @@ impl<'a, S: Places> Sight for View<'a, S> {
         &self.led
     }
 
-    fn next_named(&self, bound: Option<Ballot>) -> Option<Ballot> {
-        next_named(&self.ballots, &bound)
+    fn next_named<'b>(&'b self, bound: &Option<LentBallot>) -> Option<LentBallot<'b>> {
+        next_named(&self.ballots, bound)
     }
 
-    fn next_committed(&self, bound: Option<Ballot>) -> Option<Ballot> {
-        next_committed(&self.ballots, &bound)
+    fn next_committed<'b>(&'b self, bound: &Option<LentBallot>) -> Option<LentBallot<'b>> {
+        next_committed(&self.ballots, bound)
     }
 
     fn next_counter(&self, above: u32) -> Option<u32> {

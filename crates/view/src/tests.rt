@@ -1,8 +1,12 @@
 //! A node's view of a small table with a stranger's rows and its own in it.
 
+ghost use Rattle.std.specs.Prelude.{IfOk};
+ghost use Rattle.protocol.specs.Sets.{IsAscending};
+
 use crate::reached::ReachedRows;
 use crate::{Region, View};
 use closure::reach;
+use compiled::{CompiledSet, is_met};
 use envstore::{Archive, VecShelf};
 use fedvote::{Question, Sight};
 use latest::{Offer, Rows, Table};
@@ -11,7 +15,8 @@ use std::marker::Model;
 use std::process::Abort;
 use std::test::Fail;
 use types::{
-    Ballot, Envelope, Kind, Leaders, Member, Nested, NodeId, SliceSet, Statement, Value, Values,
+    Ballot, Envelope, Kind, Leaders, LentBallot, Member, Nested, NodeId, SliceSet, Statement,
+    Value, Values,
 };
 
 const OWN: u64 = 1;
@@ -80,15 +85,15 @@ fn announced(alloc: Global, sender: u64) -> Result<Nested, Fail> {
     }
 }
 
-fn ballot(counter: u32, letter: u8) -> Result<Ballot, Fail> {
-    let value = Value::new(&[letter]).ok_or("value")?;
+fn ballot(alloc: Global, counter: u32, letter: u8) -> Result<Ballot, AllocError> {
+    let value = Value::of(alloc, &[letter])?;
     Ok(Ballot { counter, value })
 }
 
-fn values(alloc: Global, letters: &[u8]) -> Result<Values, Fail> {
+fn values(alloc: Global, letters: &[u8]) -> Result<Values, AllocError> {
     let mut values = Values::empty(alloc);
     for letter in letters {
-        values.push(Value::new(&[*letter]).ok_or("value")?)?;
+        values.push(Value::of(alloc, &[*letter])?)?;
     }
     Ok(values)
 }
@@ -108,7 +113,7 @@ fn offer(
         accepted: Values::empty(alloc),
     };
     let prepare = Statement::Prepare {
-        ballot: ballot(counter, letter)?,
+        ballot: ballot(alloc, counter, letter)?,
         prepared: None,
         aborted_counter: 0,
         high_counter: counter.saturating_sub(1),
@@ -131,6 +136,63 @@ fn small_table(rt: &impl Abort, alloc: Global) -> Result<Kept, Fail> {
     Ok(table)
 }
 
+/// A ballot's counter, and the first byte of its value.
+fn parts_of(found: Option<LentBallot>) -> Option<(u32, u8)> {
+    let Some(ballot) = found else {
+        return None;
+    };
+    match ballot.value().as_bytes() {
+        [letter, ..] => Some((ballot.counter(), *letter)),
+        [] => None,
+    }
+}
+
+fn named_under<S: Sight>(
+    alloc: Global,
+    sight: &S,
+    counter: u32,
+    letter: u8,
+) -> Result<Option<(u32, u8)>, AllocError> {
+    let bound = ballot(alloc, counter, letter)?;
+    Ok(parts_of(sight.next_named(&Some(LentBallot::of(&bound)))))
+}
+
+fn committed_under<S: Sight>(
+    alloc: Global,
+    sight: &S,
+    counter: u32,
+    letter: u8,
+) -> Result<Option<(u32, u8)>, AllocError> {
+    let bound = ballot(alloc, counter, letter)?;
+    Ok(parts_of(sight.next_committed(&Some(LentBallot::of(&bound)))))
+}
+
+fn check_named<S: Sight>(rt: &impl Abort, alloc: Global, sight: &S) -> Result<(), AllocError> {
+    assert_eq!(rt; parts_of(sight.next_named(&None)), Some((5, b'b')));
+    assert_eq!(rt; named_under(alloc, sight, 5, b'b')?, Some((3, b'a')));
+    assert_eq!(rt; named_under(alloc, sight, 3, b'a')?, None);
+    Ok(())
+}
+
+fn check_committed<S: Sight>(rt: &impl Abort, alloc: Global, sight: &S) -> Result<(), AllocError> {
+    assert_eq!(rt; parts_of(sight.next_committed(&None)), Some((4, b'b')));
+    assert_eq!(rt; committed_under(alloc, sight, 2, b'a')?, Some((1, b'b')));
+    Ok(())
+}
+
+fn check_counters<S: Sight>(rt: &impl Abort, sight: &S) {
+    assert_eq!(rt; sight.next_counter(0), Some(3));
+    assert_eq!(rt; sight.next_counter(3), Some(5));
+    assert_eq!(rt; sight.next_counter(5), None);
+}
+
+fn check_searches<S: Sight>(rt: &impl Abort, alloc: Global, sight: &S) -> Result<(), AllocError> {
+    check_named(rt, alloc, sight)?;
+    check_committed(rt, alloc, sight)?;
+    check_counters(rt, sight);
+    Ok(())
+}
+
 #[test]
 fn searches_see_neither_strangers_nor_the_node_itself(rt: HostRuntime) -> Result<(), Fail> {
     let alloc = rt.alloc();
@@ -140,21 +202,26 @@ fn searches_see_neither_strangers_nor_the_node_itself(rt: HostRuntime) -> Result
     let leaders = Leaders::none(alloc);
     let region = Region::of(alloc, &own, &slices, &table)?;
     let view = View::of(alloc, &own, &slices, &leaders, &table, &region)?;
-    assert_eq!(rt; view.next_named(None), Some(ballot(5, b'b')?));
-    assert_eq!(rt;
-        view.next_named(Some(ballot(5, b'b')?)),
-        Some(ballot(3, b'a')?)
-    );
-    assert_eq!(rt; view.next_named(Some(ballot(3, b'a')?)), None);
-    assert_eq!(rt; view.next_committed(None), Some(ballot(4, b'b')?));
-    assert_eq!(rt;
-        view.next_committed(Some(ballot(2, b'a')?)),
-        Some(ballot(1, b'b')?)
-    );
-    assert_eq!(rt; view.next_counter(0), Some(3));
-    assert_eq!(rt; view.next_counter(3), Some(5));
-    assert_eq!(rt; view.next_counter(5), None);
+    check_searches(&rt, alloc, &view)?;
     Ok(())
+}
+
+fn check_values<S: Sight>(rt: &impl Abort, alloc: Global, sight: &S) -> Result<(), AllocError> {
+    assert!(rt;
+        sight
+            .nominated_values()
+            .is_same(&values(alloc, &[b'a', b'b'])?)
+    );
+    assert!(rt; sight.led_values().is_same(&values(alloc, &[b'a', b'z'])?));
+    Ok(())
+}
+
+fn leaders_of(alloc: Global, numbers: &[u64]) -> Result<Leaders, AllocError> {
+    let mut leaders = Leaders::none(alloc);
+    for number in numbers {
+        leaders.push(name(*number))?;
+    }
+    Ok(leaders)
 }
 
 #[test]
@@ -163,17 +230,10 @@ fn values_of_leaders_count_where_they_are_strangers(rt: HostRuntime) -> Result<(
     let kept = small_table(&rt, alloc)?;
     let table = kept.rows();
     let (own, slices) = (name(OWN), announced(alloc, OWN)?);
-    let mut leaders = Leaders::none(alloc);
-    for leader in [STRANGER, 2, STRANGER, 7] {
-        leaders.push(name(leader))?;
-    }
+    let leaders = leaders_of(alloc, &[STRANGER, 2, STRANGER, 7])?;
     let region = Region::of(alloc, &own, &slices, &table)?;
     let view = View::of(alloc, &own, &slices, &leaders, &table, &region)?;
-    assert!(rt;
-        view.nominated_values()
-            .is_same(&values(alloc, &[b'a', b'b'])?)
-    );
-    assert!(rt; view.led_values().is_same(&values(alloc, &[b'a', b'z'])?));
+    check_values(&rt, alloc, &view)?;
     Ok(())
 }
 
@@ -225,6 +285,15 @@ fn asked<S: Sight>(
     Ok((quorum, blocking))
 }
 
+fn check_both<S: Sight>(rt: &impl Abort, alloc: Global, sight: &S) -> Result<(), AllocError> {
+    assert_eq!(rt; asked(alloc, sight, 3, true)?, (true, true));
+    assert_eq!(rt; asked(alloc, sight, 4, true)?, (true, true));
+    assert_eq!(rt; asked(alloc, sight, 6, true)?, (false, false));
+    assert_eq!(rt; asked(alloc, sight, 3, false)?, (false, true));
+    assert_eq!(rt; asked(alloc, sight, 4, false)?, (false, false));
+    Ok(())
+}
+
 #[test]
 fn both_tests_count_the_own_position(rt: HostRuntime) -> Result<(), Fail> {
     let alloc = rt.alloc();
@@ -234,10 +303,138 @@ fn both_tests_count_the_own_position(rt: HostRuntime) -> Result<(), Fail> {
     let leaders = Leaders::none(alloc);
     let region = Region::of(alloc, &own, &slices, &table)?;
     let view = View::of(alloc, &own, &slices, &leaders, &table, &region)?;
-    assert_eq!(rt; asked(alloc, &view, 3, true)?, (true, true));
-    assert_eq!(rt; asked(alloc, &view, 4, true)?, (true, true));
-    assert_eq!(rt; asked(alloc, &view, 6, true)?, (false, false));
-    assert_eq!(rt; asked(alloc, &view, 3, false)?, (false, true));
-    assert_eq!(rt; asked(alloc, &view, 4, false)?, (false, false));
+    check_both(&rt, alloc, &view)?;
+    Ok(())
+}
+
+/// A PREPARE of the sender, with these slices.
+fn prepare(alloc: Global, sender: u64, slices: Nested) -> Result<Envelope, Fail> {
+    let body = Statement::Prepare {
+        ballot: ballot(alloc, 1, b'a')?,
+        prepared: None,
+        aborted_counter: 0,
+        high_counter: 0,
+        commit_counter: 0,
+    };
+    Ok(Envelope::new(name(sender), 1, slices, body).ok_or("statement")?)
+}
+
+/// Which of the eight sets of the first three places meet the slices at each place: a bit for each.
+fn answers_of(alloc: Global, sets: &[Option<CompiledSet>]) -> Result<Vec<u32>, AllocError> {
+    let mut answers = Vec::new(alloc);
+    for set in sets {
+        answers.push(answer_of(set))?;
+    }
+    Ok(answers)
+}
+
+fn answer_of(set: &Option<CompiledSet>) -> u32 {
+    let Some(set) = set else {
+        return 0;
+    };
+    let mut answer = 0u32;
+    for places in 0..8u64 {
+        answer <<= 1;
+        if is_met(set, &[places]) {
+            answer |= 1;
+        }
+    }
+    answer
+}
+
+/// What both regions answer to each set of the first three places, for ballots and for nominations.
+fn assert_same(
+    rt: &impl Abort,
+    alloc: Global,
+    one: &Region,
+    other: &Region,
+) -> Result<(), AllocError> {
+    assert!(rt; one.nodes.as_slice() == other.nodes.as_slice());
+    assert_eq!(rt; one.place, other.place);
+    assert!(rt;
+        answers_of(alloc, &one.ballots)?.as_slice() == answers_of(alloc, &other.ballots)?.as_slice()
+    );
+    assert!(rt;
+        answers_of(alloc, &one.nominations)?.as_slice()
+            == answers_of(alloc, &other.nominations)?.as_slice()
+    );
+    Ok(())
+}
+
+/// A table with a row of node 3 alone.
+fn one_row(rt: &impl Abort, alloc: Global) -> Result<Kept, Fail> {
+    let mut kept = Kept::new(alloc);
+    let row = prepare(alloc, 3, slices_of(alloc, 3, &[1, 2, 3])?)?;
+    assert_eq!(rt; kept.offer(row)?, Offer::Replaced);
+    Ok(kept)
+}
+
+/// The region of node 1 by a table.
+fn region_of(alloc: Global, kept: &Kept) -> Result<Region, Fail>
+    ensures { IfOk result (λ r. IsAscending r.nodes.items) }
+{
+    Ok(Region::of(alloc, &name(OWN), &announced(alloc, OWN)?, &kept.rows())?)
+}
+
+/// Puts a first row of node 2, which names 2 and 3, into the table, and its slices into the region.
+fn put_first_row(
+    rt: &impl Abort,
+    alloc: Global,
+    kept: &mut Kept,
+    region: &mut Region,
+) -> Result<(), Fail>
+    requires { IsAscending region.old.nodes.items }
+{
+    let row = prepare(alloc, 2, slices_of(alloc, 1, &[2, 3])?)?;
+    let entry = region
+        .entry_for(alloc, &kept.rows(), &row)?
+        .ok_or("a first row")?;
+    assert_eq!(rt; kept.offer(row)?, Offer::Replaced);
+    region.set_entry(entry);
+    Ok(())
+}
+
+#[test]
+fn a_first_row_changes_one_entry(rt: HostRuntime) -> Result<(), Fail> {
+    let alloc = rt.alloc();
+    let mut kept = one_row(&rt, alloc)?;
+    let mut region = region_of(alloc, &kept)?;
+    put_first_row(&rt, alloc, &mut kept, &mut region)?;
+    assert_same(&rt, alloc, &region, &region_of(alloc, &kept)?)?;
+    Ok(())
+}
+
+#[test]
+fn a_copy_of_a_region_answers_the_same(rt: HostRuntime) -> Result<(), Fail> {
+    let alloc = rt.alloc();
+    let region = region_of(alloc, &one_row(&rt, alloc)?)?;
+    assert_same(&rt, alloc, &region, &region.try_copy(alloc)?)?;
+    Ok(())
+}
+
+/// Whether this row of a sender changes one entry alone.
+fn is_entry(
+    alloc: Global,
+    region: &Region,
+    kept: &Kept,
+    sender: u64,
+    numbers: &[u64],
+) -> Result<bool, Fail>
+    requires { IsAscending region.now.nodes.items }
+{
+    let row = prepare(alloc, sender, slices_of(alloc, 1, numbers)?)?;
+    Ok(region.entry_for(alloc, &kept.rows(), &row)?.is_some())
+}
+
+#[test]
+fn only_first_rows_that_name_reached_nodes_are_entries(rt: HostRuntime) -> Result<(), Fail> {
+    let alloc = rt.alloc();
+    let kept = one_row(&rt, alloc)?;
+    let region = region_of(alloc, &kept)?;
+    assert!(rt; is_entry(alloc, &region, &kept, 2, &[2, 3])?);
+    assert!(rt; !is_entry(alloc, &region, &kept, 2, &[2, STRANGER])?);
+    assert!(rt; !is_entry(alloc, &region, &kept, 3, &[1, 2])?);
+    assert!(rt; !is_entry(alloc, &region, &kept, STRANGER, &[1, 2])?);
+    assert!(rt; !is_entry(alloc, &region, &kept, OWN, &[1, 2])?);
     Ok(())
 }

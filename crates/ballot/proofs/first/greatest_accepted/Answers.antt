@@ -3,4 +3,4 @@ use Rattle.ballot.proofs.first.greatest_accepted.Goals as goal
 
 pub returns : goal.returns
 unfolding named
-returns g c = simp c.position-own.ensures at c.greatest_of.ensures
+returns g c = simp c.in_ok-own.ensures at c.greatest_of.ensures

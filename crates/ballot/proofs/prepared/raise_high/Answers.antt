@@ -6,4 +6,4 @@ use Rattle.ballot.proofs.prepared.raise_high.Goals as goal
 
 pub returns : goal.returns
 unfolding raise_high named
-returns g c = ap (λ (h : Option Ballot). record c.args.votes { high = h }) (simp c.position-own.ensures at c.in_ok-high.ensures)
+returns g c = ap (λ (h : Option Ballot). record c.args.votes { high = h }) (simp c.in_ok-own.ensures at c.in_ok-high.ensures)

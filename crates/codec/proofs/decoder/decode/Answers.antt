@@ -22,13 +22,13 @@ refused bytes (Err errors.NoMemory) fits h = tt
 refused bytes (Err (errors.Fault f)) fits h = is_fault bytes f fits h
 
 pub returns-clause-found : goal.returns-clause-found
-returns-clause-found c = found c.args.bytes.now c.read_text.result (λ i. omega (arith, c.type_inv.bytes i)) c.read_text.ensures
+returns-clause-found c = found c.args.bytes.now c.read_text.result (λ i. omega (arith, c.type_inv.bytes i)) c.read_text.ensures.read
 
 pub returns-clause-only : goal.returns-clause-only
-returns-clause-only c = λ e h. subst (λ (r : Result Sent Fault). Gives (λ v. v) c.read_text.result r) (is_read c.args.bytes.now e h) c.read_text.ensures
+returns-clause-only c = λ e h. subst (λ (r : Result Sent Fault). Gives (λ v. v) c.read_text.result r) (is_read c.args.bytes.now e h) c.read_text.ensures.read
 
 pub returns-clause-fault : goal.returns-clause-fault
-returns-clause-fault c = refused c.args.bytes.now c.read_text.result (λ i. omega (arith, c.type_inv.bytes i)) c.read_text.ensures
+returns-clause-fault c = refused c.args.bytes.now c.read_text.result (λ i. omega (arith, c.type_inv.bytes i)) c.read_text.ensures.read
 
 pub returns-clause-named : goal.returns-clause-named
-returns-clause-named c = λ f h. subst (λ (r : Result Sent Fault). Gives (λ v. v) c.read_text.result r) (fault_is c.args.bytes.now f (λ i. omega (arith, c.type_inv.bytes i)) h) c.read_text.ensures
+returns-clause-named c = λ f h. subst (λ (r : Result Sent Fault). Gives (λ v. v) c.read_text.result r) (fault_is c.args.bytes.now f (λ i. omega (arith, c.type_inv.bytes i)) h) c.read_text.ensures.read

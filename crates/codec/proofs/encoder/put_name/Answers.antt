@@ -5,4 +5,4 @@ use Rattle.codec.proofs.encoder.put_name.Goals as goal
 pub returns : goal.returns
 returns c =
     let word = c.words-first.result in
-    name_written c.args.node.now word.0 word.1 word.2 word.3 c.args.out.now.items c.extend_from_slice.new.self.items c.extend_from_slice-2.new.self.items c.extend_from_slice-3.new.self.items c.extend_from_slice-4.new.self.items c.to_be_bytes.result c.to_be_bytes-2.result c.to_be_bytes-3.result c.to_be_bytes-4.result c.words-first.ensures.value (omega arith) (omega arith) (omega arith) c.to_be_bytes.ensures c.to_be_bytes-2.ensures c.to_be_bytes-3.ensures c.to_be_bytes-4.ensures c.in_ok-extend_from_slice.ensures.items c.in_ok-extend_from_slice-2.ensures.items c.in_ok-extend_from_slice-3.ensures.items c.in_ok-extend_from_slice-4.ensures.items
+    name_written c.args.node.now word.0 word.1 word.2 word.3 c.args.out.now.items c.put_u64.new.out.items c.put_u64-2.new.out.items c.put_u64-3.new.out.items c.put_u64-4.new.out.items c.words-first.ensures.value (omega arith) (omega arith) (omega arith) c.in_ok-put_u64.ensures c.in_ok-put_u64-2.ensures c.in_ok-put_u64-3.ensures c.in_ok-put_u64-4.ensures

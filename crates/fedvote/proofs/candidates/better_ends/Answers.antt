@@ -6,5 +6,5 @@ use Rattle.fedvote.proofs.candidates.better_ends.Goals as goal
 
 pub returns : goal.returns
 returns c =
-    one_first c.args.best c.args.bound.now c.better-best.result c.better.result c.ballot_at.result (c.ballot_at-2.result ∷ []) c.better-best.ensures c.better.ensures
-    ∙ ap₂ (λ (low high : Ballot). bettered c.args.best c.args.bound.now (low ∷ high ∷ [])) c.ballot_at.ensures c.ballot_at-2.ensures
+    one_first c.args.best c.args.bound.now c.better-best.result c.better.result c.at.result (c.at-2.result ∷ []) c.better-best.ensures c.better.ensures
+    ∙ ap₂ (λ (low high : Ballot). bettered c.args.best c.args.bound.now (low ∷ high ∷ [])) c.at.ensures c.at-2.ensures

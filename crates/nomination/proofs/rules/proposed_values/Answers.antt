@@ -1,17 +1,18 @@
-use Rattle.std.proofs.Common.{◌++◌, List, ℕ, flat_map, option_to_list, sym, ◌∙◌, ap}
+use Rattle.std.proofs.Common.{◌++◌, Bor, List, ℕ, Option, flat_map, option_map, option_to_list, sym, ◌∙◌, ap}
 use Rattle.std.proofs.lemmas.List.{append-nil}
 use Rattle.types.specs.Nominations.{with_value}
 use Rattle.protocol.specs.Candidates.{as_set, values_by}
 use Rattle.protocol.proofs.ValueSets.{set_and_one}
 use Rattle.nomination.proofs.rules.proposed_values.Goals as goal
-use Rattle.nomination.proofs.rules.proposed_values.Goals.{in-Some+in_ok-insert, in_default}
+use Rattle.nomination.proofs.rules.proposed_values.Goals.{in-Some+in_ok-try_copy+in_ok-insert, in_default}
 
 pub returns : goal.returns
 returns g c =
     let led = flat_map values_by (g.S.Sight.seen c.args.sight.now).led in
     let copied = c.in_ok-proposed.ensures ∙ c.led_values.ensures in
     let and_input = λ (xs : List (List ℕ)). as_set (led ++ xs) in
+    let values_of = λ (o : Option (Bor (List ℕ))). option_to_list (option_map (λ v. v.now) o) in
     elim c.match-own_input.branch [
-      | in-Some+in_ok-insert w ↦ w.proposed-is ∙ w.in_ok-insert.ensures.ok ∙ ap (with_value w.in-Some.input) copied ∙ set_and_one w.in-Some.input led ∙ ap and_input (ap option_to_list (sym w.in-Some.is) ∙ c.own_input.ensures)
-      | in_default w ↦ w.proposed-is ∙ copied ∙ ap as_set (sym (append-nil led)) ∙ ap and_input (ap option_to_list (sym w.in_default.is) ∙ c.own_input.ensures)
+      | in-Some+in_ok-try_copy+in_ok-insert w ↦ w.proposed-is ∙ (simp w.in_ok-try_copy.ensures at w.in_ok-insert.ensures.ok) ∙ ap (with_value w.in-Some.input.now) copied ∙ set_and_one w.in-Some.input.now led ∙ ap and_input (ap values_of (sym w.in-Some.is) ∙ c.own_input.ensures)
+      | in_default w ↦ w.proposed-is ∙ copied ∙ ap as_set (sym (append-nil led)) ∙ ap and_input (ap values_of (sym w.in_default.is) ∙ c.own_input.ensures)
     ]

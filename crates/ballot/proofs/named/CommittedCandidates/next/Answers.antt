@@ -11,6 +11,6 @@ pub returns-in-Some : goal.returns-in-Some
 returns-in-Some g c =
     let rows = (g.S.Sight.seen c.args.self.now.sight.now).rows Kind.Ballot in
     c.better_committed.ensures
-    ∙ ap (λ (o : Option Ballot). bettered o c.args.bound (committed_by c.in-Some.own)) c.next_committed-best.ensures
-    ∙ next_with committed_by c.args.bound rows c.in-Some.own
-    ∙ ap (λ (o : Option Statement). next_under c.args.bound (committed_in (rows ++ option_to_list o))) (sym c.in-Some.is)
+    ∙ ap (λ (o : Option Ballot). bettered o c.args.bound.now (committed_by c.in-Some.own)) c.next_committed-best.ensures
+    ∙ next_with committed_by c.args.bound.now rows c.in-Some.own
+    ∙ ap (λ (o : Option Statement). next_under c.args.bound.now (committed_in (rows ++ option_to_list o))) (sym c.in-Some.is)

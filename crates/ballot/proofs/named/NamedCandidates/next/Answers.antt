@@ -11,6 +11,6 @@ pub returns-in-Some : goal.returns-in-Some
 returns-in-Some g c =
     let rows = (g.S.Sight.seen c.args.self.now.sight.now).rows Kind.Ballot in
     c.better_named.ensures
-    ∙ ap (λ (o : Option Ballot). bettered o c.args.bound (named_by c.in-Some.own)) c.next_named-best.ensures
-    ∙ next_with named_by c.args.bound rows c.in-Some.own
-    ∙ ap (λ (o : Option Statement). next_under c.args.bound (named_in (rows ++ option_to_list o))) (sym c.in-Some.is)
+    ∙ ap (λ (o : Option Ballot). bettered o c.args.bound.now (named_by c.in-Some.own)) c.next_named-best.ensures
+    ∙ next_with named_by c.args.bound.now rows c.in-Some.own
+    ∙ ap (λ (o : Option Statement). next_under c.args.bound.now (named_in (rows ++ option_to_list o))) (sym c.in-Some.is)

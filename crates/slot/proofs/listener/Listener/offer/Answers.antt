@@ -1,7 +1,11 @@
-use Rattle.std.proofs.Common.{◌≡◌, ◌∙◌, OnOk, sym, ap, subst}
+use Rattle.std.proofs.Common.{◌≡◌, ◌∙◌, OnOk, is_ok, refl, sym, ap, subst}
+use Rattle.std.specs.Prelude.{IsTrue}
+use Rattle.std.proofs.lemmas.Bool.{false≢true}
+use Rattle.latest.specs.Puts.{IsPut}
 use Rattle.envstore.specs.Archives.{sent_of, sents_of}
 use Rattle.protocol.specs.Rows.{offered}
 use Rattle.slot.proofs.Answered.{put-takes}
+use Rattle.slot.proofs.Idle.{first-taken}
 use Rattle.slot.proofs.Strangers.{offered-taken, offered-stale}
 use Rattle.slot.proofs.listener.Listener.offer.Goals as goal
 use Rattle.slot.proofs.listener.Listener.offer.Goals.{in-NoMemory, in-Stale, in-Added}
@@ -19,4 +23,14 @@ returns-clause-offered g c =
       | in-Added w ↦
           let p = put-takes old new x c.put.result c.put.ensures.put w.in-Added.is in
           subst (λ r. OnOk r (sents_of new ≡ offered (sents_of old) x)) (sym w.result-is) (p.1 ∙ sym (offered-taken (sents_of old) x p.0))
+    ]
+
+pub returns-clause-idle : goal.returns-clause-idle
+returns-clause-idle g c = λ idle.
+    elim c.match-put.branch [
+      | in-NoMemory w ↦
+          let first = subst (λ p. IsPut c.args.self.now.table (sent_of c.args.envelope) p c.put.new.self.table) w.in-NoMemory.is c.put.ensures.put in
+          absurd (false≢true (sym idle ∙ first-taken (sents_of c.args.self.now.table) (sent_of c.args.envelope) first.0))
+      | in-Stale w ↦ subst (λ r. IsTrue (is_ok r)) (sym w.result-is) refl
+      | in-Added w ↦ subst (λ r. IsTrue (is_ok r)) (sym w.result-is) refl
     ]

@@ -1,10 +1,13 @@
 use Rattle.std.proofs.Common.{◌≡◌, ◌∙◌, List, Some, None, IfOk, OnOk, sym, ap, subst, arith}
+use Rattle.std.proofs.lemmas.Bool.{false≢true}
 use Rattle.types.specs.declared.event.Out.{Out}
 use Rattle.types.specs.declared.event.NodeEvent.TheVariants.{BallotTimer}
-use Rattle.protocol.specs.Nodes.{Node}
+use Rattle.protocol.specs.Nodes.{Node, is_counter_live}
 use Rattle.protocol.proofs.ReachedLaws.{reached-fired}
 use Rattle.slot.specs.Filings.{outs_of}
 use Rattle.envstore.specs.Archives.{sent_of, sents_of}
+use Rattle.slot.specs.Listening.{Held}
+use Rattle.slot.proofs.Idle.{idle-counter}
 use Rattle.slot.proofs.Answered.{node_in}
 use Rattle.slot.proofs.Answered.{step-is, change-counter, change-no_counter, live-below}
 use Rattle.slot.proofs.node.Node.ballot_timer.Goals as goal
@@ -48,3 +51,12 @@ returns-clause-outs g c =
     let made = change-counter i.listener.configured i.given c.in_ok-given.given i.votes c.in_ok-votes.votes (sents_of i.listener.table) n c.args.counter (sym (ap node_in c.self.view_is)) (sym c.is_counter_live.ensures ∙ c.if-not-is_counter_live.false) c.in_ok-given.ensures c.in_ok-votes.ensures in
     let m : Node = record n { given = c.in_ok-given.given; votes = c.in_ok-votes.votes } in
     subst (λ (p : Node × List Out). IfOk c.settle.result (λ v. outs_of v.items ≡ p.1)) (sym (step-is n (BallotTimer c.args.counter) (Some m) made)) c.settle.ensures.outs
+
+pub returns-in_err-given-clause-idle : goal.returns-in_err-given-clause-idle
+returns-in_err-given-clause-idle g c = λ idle. absurd (false≢true (sym (idle-counter c.args.self.now.node c.args.counter idle) ∙ sym (ap (λ (h : Held). is_counter_live h.node c.args.counter) c.self.view_is) ∙ sym c.is_counter_live.ensures ∙ c.if-not-is_counter_live.false))
+
+pub returns-in_err-votes-clause-idle : goal.returns-in_err-votes-clause-idle
+returns-in_err-votes-clause-idle g c = λ idle. absurd (false≢true (sym (idle-counter c.args.self.now.node c.args.counter idle) ∙ sym (ap (λ (h : Held). is_counter_live h.node c.args.counter) c.self.view_is) ∙ sym c.is_counter_live.ensures ∙ c.if-not-is_counter_live.false))
+
+pub returns-clause-idle : goal.returns-clause-idle
+returns-clause-idle g c = λ idle. absurd (false≢true (sym (idle-counter c.args.self.now.node c.args.counter idle) ∙ sym (ap (λ (h : Held). is_counter_live h.node c.args.counter) c.self.view_is) ∙ sym c.is_counter_live.ensures ∙ c.if-not-is_counter_live.false))

@@ -1,4 +1,4 @@
-use Rattle.std.proofs.Common.{◌≡◌, ◌∙◌, List, IfOk, OnOk, sym, ap, subst}
+use Rattle.std.proofs.Common.{refl, ◌≡◌, ◌∙◌, List, IfOk, OnOk, sym, ap, subst}
 use Rattle.types.specs.declared.event.NodeEvent.TheVariants.{Reslice}
 use Rattle.types.specs.declared.event.Out.{Out}
 use Rattle.protocol.specs.Nodes.{Node, outs, step}
@@ -11,35 +11,35 @@ use Rattle.slot.proofs.Answered.{node_in, held_of, settles-after, sends-after, c
 use Rattle.slot.proofs.node.Node.reslice.Goals as goal
 use Rattle.slot.proofs.node.Node.reslice.Goals.{in-Ok, in-Err}
 
-pub answer-requires-clause-settles : goal.answer-requires-clause-settles
-answer-requires-clause-settles g c =
+pub answer_anew-requires-clause-settles : goal.answer_anew-requires-clause-settles
+answer_anew-requires-clause-settles g c =
     let i = c.self.inside in
     let n = c.args.self.now.node in
     let k = c.exchange_slices-old_slices.new.self in
-    let made = change-slices i.listener k i.given i.votes c.in_ok-votes.votes n c.args.slices (sym (ap node_in c.self.view_is)) c.exchange_slices-old_slices.ensures.now c.in_ok-votes.ensures in
-    settles-after n (node_of k i.given c.in_ok-votes.votes) (Reslice c.args.slices) (subst Reached (ap node_in c.self.view_is) c.self.invariant) made
+    let made = change-slices i.listener k i.given i.votes i.votes n c.args.slices (sym (ap node_in c.self.view_is)) c.exchange_slices-old_slices.ensures.now refl in
+    settles-after n (node_of k i.given i.votes) (Reslice c.args.slices) (subst Reached (ap node_in c.self.view_is) c.self.invariant) made
 
-pub answer-requires-clause-sends : goal.answer-requires-clause-sends
-answer-requires-clause-sends g c =
+pub answer_anew-requires-clause-sends : goal.answer_anew-requires-clause-sends
+answer_anew-requires-clause-sends g c =
     let i = c.self.inside in
     let n = c.args.self.now.node in
     let k = c.exchange_slices-old_slices.new.self in
-    let made = change-slices i.listener k i.given i.votes c.in_ok-votes.votes n c.args.slices (sym (ap node_in c.self.view_is)) c.exchange_slices-old_slices.ensures.now c.in_ok-votes.ensures in
-    sends-after n (node_of k i.given c.in_ok-votes.votes) (Reslice c.args.slices) (subst Reached (ap node_in c.self.view_is) c.self.invariant) made
+    let made = change-slices i.listener k i.given i.votes i.votes n c.args.slices (sym (ap node_in c.self.view_is)) c.exchange_slices-old_slices.ensures.now refl in
+    sends-after n (node_of k i.given i.votes) (Reslice c.args.slices) (subst Reached (ap node_in c.self.view_is) c.self.invariant) made
 
 pub invariant_of-self : goal.invariant_of-self
 invariant_of-self g c =
     let i = c.self.inside in
     let n = c.args.self.now.node in
     let k = c.exchange_slices-old_slices.new.self in
-    let made = change-slices i.listener k i.given i.votes c.in_ok-votes.votes n c.args.slices (sym (ap node_in c.self.view_is)) c.exchange_slices-old_slices.ensures.now c.in_ok-votes.ensures in
+    let made = change-slices i.listener k i.given i.votes i.votes n c.args.slices (sym (ap node_in c.self.view_is)) c.exchange_slices-old_slices.ensures.now refl in
     let reached : Reached n = subst Reached (ap node_in c.self.view_is) c.self.invariant in
-    elim c.match-answer.branch [
+    elim c.match-answer_anew.branch [
       | in-Ok w ↦
-          let after = reached-some n (node_of k i.given c.in_ok-votes.votes) (Reslice c.args.slices) w.in-Ok.field-0.votes reached made w.in-Ok.ensures.votes in
-          subst (λ x. Reached (node_of x.listener x.given x.votes)) (sym w.self-inside-is) (subst (λ (h : Heard). Reached (node_of h i.given w.in-Ok.field-0.votes)) (sym c.answer.ensures.same) after)
+          let after = reached-some n (node_of k i.given i.votes) (Reslice c.args.slices) w.in-Ok.field-0.votes reached made w.in-Ok.ensures.votes in
+          subst (λ x. Reached (node_of x.listener x.given x.votes)) (sym w.self-inside-is) (subst (λ (h : Heard). Reached (node_of h i.given w.in-Ok.field-0.votes)) (sym c.answer_anew.ensures.same) after)
       | in-Err w ↦
-          let back = slices-back i.listener k c.answer.new.self w.exchange_slices.new.self c.args.slices c.exchange_slices-old_slices.result w.exchange_slices.ensures.now c.answer.ensures.same c.exchange_slices-old_slices.ensures.now c.exchange_slices-old_slices.ensures.before in
+          let back = slices-back i.listener k c.answer_anew.new.listener w.exchange_slices.new.self c.args.slices c.exchange_slices-old_slices.result w.exchange_slices.ensures.now c.answer_anew.ensures.same c.exchange_slices-old_slices.ensures.now c.exchange_slices-old_slices.ensures.before in
           subst (λ x. Reached (node_of x.listener x.given x.votes)) (sym w.self-inside-is) (subst (λ (h : Heard). Reached (node_of h i.given i.votes)) (sym back) c.self.invariant)
     ]
 
@@ -48,15 +48,15 @@ returns-clause-node g c =
     let i = c.self.inside in
     let n = c.args.self.now.node in
     let k = c.exchange_slices-old_slices.new.self in
-    let m = node_of k i.given c.in_ok-votes.votes in
-    let made = change-slices i.listener k i.given i.votes c.in_ok-votes.votes n c.args.slices (sym (ap node_in c.self.view_is)) c.exchange_slices-old_slices.ensures.now c.in_ok-votes.ensures in
-    let now = c.match-answer.self-inside in
+    let m = node_of k i.given i.votes in
+    let made = change-slices i.listener k i.given i.votes i.votes n c.args.slices (sym (ap node_in c.self.view_is)) c.exchange_slices-old_slices.ensures.now refl in
+    let now = c.match-answer_anew.self-inside in
     let after = (step n (Reslice c.args.slices)).0 in
-    elim c.match-answer.branch [
+    elim c.match-answer_anew.branch [
       | in-Ok w ↦
           let stepped = step-some n m (Reslice c.args.slices) w.in-Ok.field-0.votes made w.in-Ok.ensures.votes in
           subst (λ r. OnOk r (node_of now.listener now.given now.votes ≡ after)) (sym w.result-is)
-          (ap (λ x. node_of x.listener x.given x.votes) w.self-inside-is ∙ ap (λ (h : Heard). node_of h i.given w.in-Ok.field-0.votes) c.answer.ensures.same ∙ sym (ap (λ (p : Node × List Out). p.0) stepped))
+          (ap (λ x. node_of x.listener x.given x.votes) w.self-inside-is ∙ ap (λ (h : Heard). node_of h i.given w.in-Ok.field-0.votes) c.answer_anew.ensures.same ∙ sym (ap (λ (p : Node × List Out). p.0) stepped))
       | in-Err w ↦ subst (λ r. OnOk r (node_of now.listener now.given now.votes ≡ after)) (sym w.result-is) tt
     ]
 
@@ -65,10 +65,10 @@ returns-clause-outs g c =
     let i = c.self.inside in
     let n = c.args.self.now.node in
     let k = c.exchange_slices-old_slices.new.self in
-    let m = node_of k i.given c.in_ok-votes.votes in
-    let made = change-slices i.listener k i.given i.votes c.in_ok-votes.votes n c.args.slices (sym (ap node_in c.self.view_is)) c.exchange_slices-old_slices.ensures.now c.in_ok-votes.ensures in
+    let m = node_of k i.given i.votes in
+    let made = change-slices i.listener k i.given i.votes i.votes n c.args.slices (sym (ap node_in c.self.view_is)) c.exchange_slices-old_slices.ensures.now refl in
     let given_out = (step n (Reslice c.args.slices)).1 in
-    elim c.match-answer.branch [
+    elim c.match-answer_anew.branch [
       | in-Ok w ↦
           let after : Node = record m { votes = w.in-Ok.field-0.votes } in
           let stepped = step-some n m (Reslice c.args.slices) w.in-Ok.field-0.votes made w.in-Ok.ensures.votes in
@@ -83,12 +83,12 @@ returns-clause-rows g c =
     let i = c.self.inside in
     let k = c.exchange_slices-old_slices.new.self in
     let before = subst (λ (h : Held). AreFiled c.args.archive.now h.rows) (sym c.self.view_is) c.requires.rows in
-    let kept = keeps_all c.args.archive.now c.answer.new.archive i.listener.table c.answer.ensures.kept before in
-    elim c.match-answer.branch [
+    let kept = keeps_all c.args.archive.now c.answer_anew.new.archive i.listener.table c.answer_anew.ensures.kept before in
+    elim c.match-answer_anew.branch [
       | in-Ok w ↦
-          subst (λ x. AreFiled c.answer.new.archive x.listener.table) (sym w.self-inside-is)
-          (subst (λ (h : Heard). AreFiled c.answer.new.archive h.table) (sym (c.answer.ensures.same ∙ c.exchange_slices-old_slices.ensures.now)) kept)
+          subst (λ x. AreFiled c.answer_anew.new.archive x.listener.table) (sym w.self-inside-is)
+          (subst (λ (h : Heard). AreFiled c.answer_anew.new.archive h.table) (sym (c.answer_anew.ensures.same ∙ c.exchange_slices-old_slices.ensures.now)) kept)
       | in-Err w ↦
-          let back = slices-back i.listener k c.answer.new.self w.exchange_slices.new.self c.args.slices c.exchange_slices-old_slices.result w.exchange_slices.ensures.now c.answer.ensures.same c.exchange_slices-old_slices.ensures.now c.exchange_slices-old_slices.ensures.before in
-          subst (λ x. AreFiled c.answer.new.archive x.listener.table) (sym w.self-inside-is) (subst (λ (h : Heard). AreFiled c.answer.new.archive h.table) (sym back) kept)
+          let back = slices-back i.listener k c.answer_anew.new.listener w.exchange_slices.new.self c.args.slices c.exchange_slices-old_slices.result w.exchange_slices.ensures.now c.answer_anew.ensures.same c.exchange_slices-old_slices.ensures.now c.exchange_slices-old_slices.ensures.before in
+          subst (λ x. AreFiled c.answer_anew.new.archive x.listener.table) (sym w.self-inside-is) (subst (λ (h : Heard). AreFiled c.answer_anew.new.archive h.table) (sym back) kept)
     ]

@@ -1,4 +1,5 @@
 use Rattle.std.proofs.Common.{◌≡◌, ◌∙◌, false, List, sym, ap, subst}
+use Rattle.std.proofs.lemmas.Bool.{false≢true}
 use Rattle.types.specs.Statements.{Sent}
 use Rattle.types.specs.declared.event.Out.{Out}
 use Rattle.protocol.specs.Nodes.{Node}
@@ -8,6 +9,7 @@ use Rattle.slot.specs.Listening.{Heard, IsStranger, node_of}
 use Rattle.slot.specs.Filings.{outs_of}
 use Rattle.envstore.specs.Archives.{sent_of, sents_of}
 use Rattle.slot.proofs.Answered.{node_in}
+use Rattle.slot.proofs.Idle.{idle-stale}
 use Rattle.slot.proofs.Strangers.{stranger-step, stranger-reached}
 use Rattle.slot.proofs.node.Node.take.Goals as goal
 
@@ -37,3 +39,9 @@ returns-then-not-leads-clause-outs g c =
     let s = subst (IsStranger i.listener) e (c.is_stranger.ensures c.if-is_stranger.true) in
     let l : among i.given.leaders (sent_of c.args.envelope).sender ≡ false = subst (λ u. among i.given.leaders u ≡ false) e (sym c.leads.ensures ∙ c.if-not-leads.true) in
     ap outs_of c.new.ensures.items ∙ sym (ap (λ (p : Node × List Out). p.1) (stranger-step c.args.self.now.node i.listener c.offer.new.self i.given i.votes (sent_of c.args.envelope) (sym (ap node_in c.self.view_is)) s l c.self.invariant c.offer.ensures.same c.in_ok-offer.ensures.offered))
+
+pub returns-in_err-offer-clause-idle : goal.returns-in_err-offer-clause-idle
+returns-in_err-offer-clause-idle g c = λ idle.
+    let i = c.self.inside in
+    let stale = idle-stale i.listener.configured i.given i.votes (sents_of i.listener.table) c.args.self.now.node (sent_of c.args.envelope) (sym (ap node_in c.self.view_is)) idle in
+    absurd (false≢true (c.in_err-offer.ensures.idle stale))

@@ -1,0 +1,47 @@
+-- Which events change nothing, as the code tells them.
+use Rattle.std.proofs.Common.{◌≡◌, ℕ, Bool, true, false, List, Option, Some, None, is_some, if◌then◌else◌, refl, sym, ◌∙◌, ap}
+use Rattle.std.proofs.lemmas.Bool.{false≢true}
+use Rattle.types.specs.Trees.{Slices}
+use Rattle.types.specs.Statements.{Sent, kind_of}
+use Rattle.types.specs.declared.event.NodeEvent.TheVariants.{Propose, Take, NominationTimer, BallotTimer, Reslice}
+use Rattle.types.specs.declared.state.Given.{Given}
+use Rattle.types.specs.declared.state.Votes.{Votes}
+use Rattle.protocol.specs.Nodes.{Node, change, is_counter_live, is_round_live}
+use Rattle.protocol.specs.Rows.{is_taken, replaces, row}
+use Rattle.slot.specs.declared.configured.Configured.{Configured}
+use Rattle.slot.specs.Wholes.{whole}
+
+-- what is done on a condition alone changes nothing only without it
+guarded : (b : Bool) (m : Node) → (if b then Some m else None) ≡ None → b ≡ false
+guarded true m e = absurd (false≢true (sym (ap is_some e)))
+guarded false m e = refl
+
+pub never : {o : Option Node} (m : Node) → o ≡ Some m → o ≡ None → ⊥
+never m made none = false≢true (ap is_some (sym none ∙ made))
+
+-- a proposal and new slices always change the node
+pub propose-changes : (n : Node) (x : List ℕ) → change n (Propose x) ≡ None → ⊥
+unfolding change
+propose-changes n x e = false≢true (sym (ap is_some e))
+
+pub reslice-changes : (n : Node) (q : Slices) → change n (Reslice q) ≡ None → ⊥
+unfolding change
+reslice-changes n q e = false≢true (sym (ap is_some e))
+
+-- an envelope is stale, and a timer not live
+pub idle-stale : (c : Configured) (given : Given) (votes : Votes) (table : List Sent) (n : Node) (x : Sent) → n ≡ whole c given votes table → change n (Take x) ≡ None → is_taken table x ≡ false
+unfolding change
+idle-stale c given votes table n x e idle = guarded _ _ (sym (ap (λ m. change m (Take x)) e) ∙ idle)
+
+pub idle-round : (n : Node) (r : ℕ) → change n (NominationTimer r) ≡ None → is_round_live n r ≡ false
+unfolding change
+idle-round n r idle = guarded _ _ idle
+
+pub idle-counter : (n : Node) (k : ℕ) → change n (BallotTimer k) ≡ None → is_counter_live n k ≡ false
+unfolding change
+idle-counter n k idle = guarded _ _ idle
+
+-- the first envelope of its sender and kind is not stale
+pub first-taken : (table : List Sent) (x : Sent) → row table x.sender (kind_of x.body) ≡ None → is_taken table x ≡ true
+unfolding is_taken
+first-taken table x e = ap (replaces x) e

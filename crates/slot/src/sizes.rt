@@ -1,0 +1,17 @@
+//! How many bytes a node, its votes, an event and an out take in place: a field that grows by a buffer is
+//! seen here, and not only as time and memory of large networks. These are bounds of this host's profile
+//! and nothing that contracts speak of.
+
+use crate::filed::{FiledEvent, FiledOut};
+use crate::node::Node;
+use latest::Table;
+use std::mem::size_of;
+use types::Votes;
+
+const _: () = prove!(size_of::<Node>() - size_of::<Table>() <= 500);
+
+const _: () = prove!(size_of::<Votes>() <= 200);
+
+const _: () = prove!(size_of::<FiledEvent>() <= 40);
+
+const _: () = prove!(size_of::<FiledOut>() <= 16);

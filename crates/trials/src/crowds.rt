@@ -1,0 +1,213 @@
+//! Crowds at random: one node that hears many senders, each of which announces other slices again and
+//! again. It gives the same answers as the plain slow program, which finds the reach anew each time.
+
+use crate::counts::{Coming, Counts, Reaches};
+use crate::dice::Dice;
+use crate::slow::Votes;
+use crate::statements::{Kind, Row, Set, Statement, Trust};
+use crate::twin::{Happening, Twin};
+use std::alloc::{AllocError, Global};
+use std::process::Abort;
+use std::test::Fail;
+
+const SENDERS: u32 = 8;
+
+/// One node, and what it was told last.
+#[derive(Drop)]
+struct Crowd {
+    twin: Twin,
+    dice: Dice,
+    said: Option<Statement>,
+    /// The last event gave the node other slices.
+    is_resliced: bool,
+    /// Who was reached before, and is not.
+    left: Set,
+}
+
+/// What a node reaches and votes for at one moment.
+#[derive(Clone, Copy)]
+struct Bearing {
+    reach: Set,
+    votes: Votes,
+}
+
+impl Crowd {
+    fn new(rt: &impl Abort, alloc: Global, seed: u64) -> Result<Crowd, AllocError> {
+        let mut dice = Dice::new(seed);
+        let node = dice.number(SENDERS);
+        let trust = dice.few(SENDERS);
+        Ok(Crowd {
+            twin: Twin::new(rt, alloc, node, trust)?,
+            dice,
+            said: None,
+            is_resliced: false,
+            left: 0,
+        })
+    }
+
+    fn bearing(&self) -> Bearing {
+        Bearing {
+            reach: self.twin.slow.reach(),
+            votes: self.twin.slow.votes,
+        }
+    }
+
+    fn happening(&mut self, turn: u32) -> Happening {
+        let round = self.twin.slow.round;
+        let armed = self.twin.slow.votes.armed;
+        let proposed = self.twin.slow.input.is_some();
+        match self.dice.below(20) {
+            0 if !proposed => Happening::Proposed(self.dice.value()),
+            1 => Happening::NominationTimer(round),
+            2 => Happening::BallotTimer(armed),
+            3 | 4 => Happening::Resliced(self.dice.few(SENDERS)),
+            _ => self.told(turn),
+        }
+    }
+
+    /// What a sender at random says.
+    fn told(&mut self, turn: u32) -> Happening {
+        let sender = self.dice.number(SENDERS);
+        let said = self.statement(sender, turn);
+        self.said = Some(said);
+        let trust = self.trust(sender, said.kind());
+        Happening::Said {
+            sender,
+            row: Row { trust, said },
+        }
+    }
+
+    /// What another sender said last, or what is mostly newer than what this one said before.
+    fn statement(&mut self, sender: u8, turn: u32) -> Statement {
+        if let Some(said) = self.said {
+            if self.dice.is_one_in(2) {
+                return said;
+            }
+        }
+        let least = (turn / 8).saturating_add(1);
+        let said = self.dice.talk(least);
+        match (said, self.twin.slow.row(sender, said.kind())) {
+            (_, None) => said,
+            (Statement::Nominate { .. }, Some(old)) => joined(said, old.said),
+            (_, Some(old)) => match old.said {
+                Statement::Commit { .. } => self.dice.commit_from(least),
+                _ => said,
+            },
+        }
+    }
+
+    /// The slices that the sender announced last with a statement of this kind, or others.
+    fn trust(&mut self, sender: u8, kind: Kind) -> Trust {
+        if let Some(old) = self.twin.slow.row(sender, kind) {
+            if self.dice.is_one_in(3) {
+                return old.trust;
+            }
+        }
+        if self.dice.is_one_in(12) {
+            self.dice.trust(SENDERS)
+        } else {
+            self.dice.near(sender, SENDERS)
+        }
+    }
+
+    /// One event.
+    fn go_on(
+        &mut self,
+        rt: &impl Abort,
+        alloc: Global,
+        turn: u32,
+        reaches: &mut Reaches,
+    ) -> Result<(), AllocError> {
+        let happening = self.happening(turn);
+        let old = self.standing(happening);
+        let before = self.bearing();
+        self.twin.meet(rt, alloc, happening, &mut Counts::none())?;
+        let after = self.bearing();
+        match happening {
+            Happening::Said { sender, row } => {
+                let coming = self.coming(sender, row, old, before, after);
+                assert!(rt; !coming.surely_stays() || before.reach == after.reach);
+                reaches.note(coming);
+            }
+            Happening::Resliced(_) => reaches.note_slices(before.reach, after.reach),
+            _ => {}
+        }
+        self.is_resliced = is_resliced(happening);
+        reaches.note_again(self.left & after.reach);
+        self.left = (self.left | before.reach) & !after.reach;
+        Ok(())
+    }
+
+    /// The row in whose place what is said may come.
+    fn standing(&self, happening: Happening) -> Option<Row> {
+        match happening {
+            Happening::Said { sender, row } => self.twin.slow.row(sender, row.said.kind()),
+            _ => None,
+        }
+    }
+
+    fn coming(
+        &self,
+        sender: u8,
+        row: Row,
+        old: Option<Row>,
+        before: Bearing,
+        after: Bearing,
+    ) -> Coming {
+        Coming {
+            sender,
+            row,
+            old,
+            before: before.reach,
+            after: after.reach,
+            follows_slices: self.is_resliced,
+            moves: before.votes != after.votes,
+        }
+    }
+}
+
+fn is_resliced(happening: Happening) -> bool {
+    match happening {
+        Happening::Resliced(_) => true,
+        _ => false,
+    }
+}
+
+/// A nomination with what another one has, too.
+fn joined(said: Statement, old: Statement) -> Statement {
+    match (said, old) {
+        (
+            Statement::Nominate { voted, accepted },
+            Statement::Nominate {
+                voted: old_voted,
+                accepted: old_accepted,
+            },
+        ) => Statement::Nominate {
+            voted: voted | old_voted,
+            accepted: accepted | old_accepted,
+        },
+        _ => said,
+    }
+}
+
+/// What so many crowds show.
+fn run(rt: &impl Abort, alloc: Global, crowds: u64) -> Result<Reaches, AllocError> {
+    let mut reaches = Reaches::none();
+    for seed in 0..crowds {
+        let mut crowd = Crowd::new(rt, alloc, seed)?;
+        for turn in 0..80u32 {
+            crowd.go_on(rt, alloc, turn, &mut reaches)?;
+        }
+    }
+    Ok(reaches)
+}
+
+#[test]
+fn four_hundred_crowds(rt: HostRuntime) -> Result<(), Fail> {
+    let reaches = run(&rt, rt.alloc(), 400)?;
+    for (words, count) in reaches.named() {
+        println!(rt; "{count} {words}")?;
+        assert!(rt; count > 0);
+    }
+    Ok(())
+}

@@ -1,0 +1,190 @@
+-- A reached node's first row changes one entry of a region, or none, and a copy of a region is one.
+use Rattle.std.proofs.Common.{◌≡◌, ◌≢◌, ◌⊎◌, ℕ, ◌<◌, Bool, true, false, ◌&&◌, ◌==◌, List, [], ◌∷◌, get_or, set, length, length-set, Option, Some, None, option_map, is_some, if◌then◌else◌, IfSome, Vec, Bor, refl, sym, subst, ◌∙◌, ap, arith, inl, inr}
+use Rattle.std.specs.Global.{Global}
+use Rattle.std.proofs.lemmas.Bool.{cases_Bool, cases_lt, and_parts, and_from, or_cases, eqb-true, eq-eqb, ne_eqb, false≢true, true≢false}
+use Rattle.std.proofs.lemmas.List.{get_or-set_same, get_or-set_other}
+use Rattle.types.specs.Trees.{Slices}
+use Rattle.types.specs.declared.kind.Kind.{Kind}
+use Rattle.types.specs.declared.kind.Kind.TheVariants.{Nomination}
+use Rattle.types.specs.Statements.{Sent, kind_of}
+use Rattle.protocol.specs.Sets.{Names, among, within, AreWithin, IsAscending}
+use Rattle.protocol.specs.Satisfaction.{sat, names}
+use Rattle.protocol.specs.Quorums.{is_satisfied}
+use Rattle.protocol.specs.Backing.{slices_by}
+use Rattle.protocol.specs.Reach.{IsReach}
+use Rattle.protocol.specs.Rows.{row, with_row, is_row_of, is_kind}
+use Rattle.protocol.proofs.Tables.{row-with}
+use Rattle.compiled.specs.Places.{Compiled}
+use Rattle.compiled.specs.Met.{IsCompiled, picked}
+use Rattle.compiled.specs.Searching.{AreCompiled, met_at}
+use Rattle.view.specs.declared.region.Entry.{Entry}
+use Rattle.view.specs.declared.region.Region.{Region}
+use Rattle.view.specs.Regions.{IsCopy, IsEntry, IsFirstRow, IsRegion}
+use Rattle.protocol.proofs.ReachStays.{stays_with_first_rows}
+
+-- nodes at two places are two
+apart : (us : List ℕ) (i j : ℕ) → IsAscending us → i < length us → j < length us → i ≢ j → (get_or us i 0 == get_or us j 0) ≡ false
+apart us i j up a b other = ne_eqb (get_or us i 0) (get_or us j 0) (λ e. elim (cases_lt i j) [
+  | inl l ↦ let low : get_or us i 0 < get_or us j 0 = up i j 0 l b in absurd (omega (arith, low, e))
+  | inr m ↦ elim (cases_lt j i) [
+    | inl l ↦ let low : get_or us j 0 < get_or us i 0 = up j i 0 l a in absurd (omega (arith, low, e))
+    | inr n ↦ absurd (other (omega arith))
+  ]
+])
+
+-- ---- slices that a row does not change
+other_node : (k : Kind) (e : Sent) (u : ℕ) → (e.sender == u) ≡ false → is_row_of u k e ≡ false
+other_node k e u h = ap (λ b. b && is_kind k (kind_of e.body)) h
+
+other_kind : (k : Kind) (e : Sent) (u : ℕ) → is_kind k (kind_of e.body) ≡ false → is_row_of u k e ≡ false
+other_kind k e u h = go (e.sender == u)
+  where
+    go : (b : Bool) → (b && is_kind k (kind_of e.body)) ≡ false
+    go true = h
+    go false = refl
+
+-- they are a node's own, or another's that the row is not of
+slices_same : (own : ℕ) (configured : Slices) (table : List Sent) (e : Sent) (k : Kind) (u : ℕ) → ((own == u) ≡ true) ⊎ (is_row_of u k e ≡ false)
+    → slices_by own configured table k u ≡ slices_by own configured (with_row e table) k u
+slices_same own configured table e k u (inl h) =
+    ap (λ b. if b then Some configured else option_map (λ (x : Sent). x.slices) (row table u k)) h
+    ∙ sym (ap (λ b. if b then Some configured else option_map (λ (x : Sent). x.slices) (row (with_row e table) u k)) h)
+slices_same own configured table e k u (inr h) =
+    ap (λ (o : Option Sent). if own == u then Some configured else option_map (λ (x : Sent). x.slices) o)
+    (sym (row-with e table u k ∙ ap (λ b. if b then Some e else row table u k) h))
+
+same_compiled : (own : ℕ) (configured : Slices) (table : List Sent) (e : Sent) (k : Kind) (us : List ℕ) (cs : List (Option Compiled))
+    → ((i : ℕ) → i < length us → ((own == get_or us i 0) ≡ true) ⊎ (is_row_of (get_or us i 0) k e ≡ false))
+    → AreCompiled us (slices_by own configured table k) cs → AreCompiled us (slices_by own configured (with_row e table) k) cs
+same_compiled own configured table e k us cs others are = record {
+  as_many = are.as_many;
+  each = λ i h ws. are.each i h ws ∙ ap (λ (o : Option Slices). is_satisfied sat o (among (picked us ws))) (slices_same own configured table e k (get_or us i 0) (others i h));
+}
+
+-- ---- the one that it changes
+slices_now : (own : ℕ) (configured : Slices) (table : List Sent) (e : Sent) (k : Kind) → (own == e.sender) ≡ false → is_kind k (kind_of e.body) ≡ true
+    → slices_by own configured (with_row e table) k e.sender ≡ Some e.slices
+slices_now own configured table e k another kind =
+    ap (λ b. if b then Some configured else option_map (λ (x : Sent). x.slices) (row (with_row e table) e.sender k)) another
+    ∙ ap (option_map (λ (x : Sent). x.slices))
+    (row-with e table e.sender k ∙ ap (λ b. if b then Some e else row table e.sender k) (and_from (e.sender == e.sender) (is_kind k (kind_of e.body)) (eq-eqb e.sender e.sender refl) kind))
+
+set_compiled : (own : ℕ) (configured : Slices) (table : List Sent) (e : Sent) (k : Kind) (us : List ℕ) (cs : List (Option Compiled)) (p : ℕ) (c : Compiled)
+    → IsAscending us → IsFirstRow table e us p → (own == e.sender) ≡ false → is_kind k (kind_of e.body) ≡ true → IsCompiled false us e.slices c
+    → AreCompiled us (slices_by own configured table k) cs → AreCompiled us (slices_by own configured (with_row e table) k) (set cs p (Some c))
+set_compiled own configured table e k us cs p c up first another kind compiled are = record {
+  as_many = length-set cs p (Some c) ∙ are.as_many;
+  each = λ i h ws. elim (cases_Bool (i == p)) [
+    | inl here ↦
+        let is : i ≡ p = eqb-true i p here in
+        let room : p < length cs = omega (arith, first.within, are.as_many) in
+        let now = ap (λ j. slices_by own configured (with_row e table) k (get_or us j 0)) is
+        ∙ (ap (slices_by own configured (with_row e table) k) first.sender ∙ slices_now own configured table e k another kind) in
+        ap (λ j. met_at (get_or (set cs p (Some c)) j None) ws) is
+        ∙ (ap (λ (o : Option Compiled). met_at o ws) (get_or-set_same cs p (Some c) None room)
+        ∙ (compiled ws ∙ sym (ap (λ (o : Option Slices). is_satisfied sat o (among (picked us ws))) now)))
+    | inr there ↦
+        let other : i ≢ p = λ is. true≢false (sym (eq-eqb i p is) ∙ there) in
+        let sender : (e.sender == get_or us i 0) ≡ false =
+        ap (λ w. w == get_or us i 0) (sym first.sender) ∙ apart us p i up first.within h (λ is. other (sym is)) in
+        ap (λ (o : Option Compiled). met_at o ws) (get_or-set_other cs p i (Some c) None other)
+        ∙ (are.each i h ws
+        ∙ ap (λ (o : Option Slices). is_satisfied sat o (among (picked us ws))) (slices_same own configured table e k (get_or us i 0) (inr (other_node k e (get_or us i 0) sender))))
+  ];
+}
+
+module _ (table : List Sent) (e : Sent) (r : Region) (own : ℕ) (configured : Slices) (is : IsRegion own configured table r) where
+  -- the node's own first row, which names reached nodes alone
+  pub own_first_row : IsFirstRow table e r.nodes.items r.place → IsRegion own configured (with_row e table) r
+  own_first_row first = record {
+    reach = stays_with_first_rows own configured table r.nodes.items e first.first first.named is.reach;
+    within = is.within;
+    itself = is.itself;
+    blocking = is.blocking;
+    ballots = same_compiled own configured table e Kind.Ballot r.nodes.items r.ballots.items (others Kind.Ballot) is.ballots;
+    nominations = same_compiled own configured table e Nomination r.nodes.items r.nominations.items (others Nomination) is.nominations;
+  }
+    where
+      itself : own ≡ e.sender
+      itself = sym is.itself ∙ first.sender
+
+      others : (k : Kind) (i : ℕ) → i < length r.nodes.items → ((own == get_or r.nodes.items i 0) ≡ true) ⊎ (is_row_of (get_or r.nodes.items i 0) k e ≡ false)
+      others k i h = elim (cases_Bool (own == get_or r.nodes.items i 0)) [
+        | inl same ↦ inl same
+        | inr other ↦ inr (other_node k e (get_or r.nodes.items i 0) (ap (λ w. w == get_or r.nodes.items i 0) (sym itself) ∙ other))
+      ]
+
+  module _ (x : Entry) (entry : IsEntry table e r x) where
+    another : (own == e.sender) ≡ false
+    another =
+        (λ i. sym is.itself i == sym entry.first_row.sender i)
+        ∙ apart r.nodes.items r.place x.place is.reach.ascending is.within entry.first_row.within (λ same. entry.another (sym same))
+
+    reach : IsReach own configured (with_row e table) r.nodes.items
+    reach = stays_with_first_rows own configured table r.nodes.items e entry.first_row.first entry.first_row.named is.reach
+
+    pub ballot_set : x.kind ≡ Kind.Ballot → (v : Vec (Option Compiled) Global) → (x.place < length r.ballots.items → v.items ≡ set r.ballots.items x.place (Some x.slices))
+        → IsRegion own configured (with_row e table) (record r { ballots = v })
+    ballot_set kind v now =
+        let is_now = now (omega (arith, entry.first_row.within, is.ballots.as_many)) in
+        let k : Kind.Ballot ≡ kind_of e.body = sym kind ∙ entry.kind in
+        record {
+          reach = reach;
+          within = is.within;
+          itself = is.itself;
+          blocking = is.blocking;
+          ballots = subst (λ (cs : List (Option Compiled)). AreCompiled r.nodes.items (slices_by own configured (with_row e table) Kind.Ballot) cs) (sym is_now)
+              (set_compiled own configured table e Kind.Ballot r.nodes.items r.ballots.items x.place x.slices is.reach.ascending entry.first_row another (ap (is_kind Kind.Ballot) (sym k)) entry.compiled is.ballots);
+          nominations = same_compiled own configured table e Nomination r.nodes.items r.nominations.items (λ i h. inr (other_kind Nomination e (get_or r.nodes.items i 0) (ap (is_kind Nomination) (sym k)))) is.nominations;
+        }
+
+    pub nomination_set : x.kind ≡ Nomination → (v : Vec (Option Compiled) Global) → (x.place < length r.nominations.items → v.items ≡ set r.nominations.items x.place (Some x.slices))
+        → IsRegion own configured (with_row e table) (record r { nominations = v })
+    nomination_set kind v now =
+        let is_now = now (omega (arith, entry.first_row.within, is.nominations.as_many)) in
+        let k : Nomination ≡ kind_of e.body = sym kind ∙ entry.kind in
+        record {
+          reach = reach;
+          within = is.within;
+          itself = is.itself;
+          blocking = is.blocking;
+          ballots = same_compiled own configured table e Kind.Ballot r.nodes.items r.ballots.items (λ i h. inr (other_kind Kind.Ballot e (get_or r.nodes.items i 0) (ap (is_kind Kind.Ballot) (sym k)))) is.ballots;
+          nominations = subst (λ (cs : List (Option Compiled)). AreCompiled r.nodes.items (slices_by own configured (with_row e table) Nomination) cs) (sym is_now)
+              (set_compiled own configured table e Nomination r.nodes.items r.nominations.items x.place x.slices is.reach.ascending entry.first_row another (ap (is_kind Nomination) (sym k)) entry.compiled is.nominations);
+        }
+
+-- ---- a copy
+pub copied : (old new : Region) → IsCopy old new → (own : ℕ) (configured : Slices) (table : List Sent) → IsRegion own configured table old → IsRegion own configured table new
+copied old new same own configured table is = record {
+  reach = subst (λ (us : List ℕ). IsReach own configured table us) (sym same.nodes) is.reach;
+  within = omega (arith, is.within, same.place, ap (λ (us : List ℕ). length us) same.nodes);
+  itself = (λ i. get_or (same.nodes i) (same.place i) 0) ∙ is.itself;
+  blocking = subst (λ (p : List ℕ × Compiled). IsCompiled true p.0 configured p.1) (λ i. (sym same.nodes i, sym same.blocking i)) is.blocking;
+  ballots = subst (λ (p : List ℕ × List (Option Compiled)). AreCompiled p.0 (slices_by own configured table Kind.Ballot) p.1) (λ i. (sym same.nodes i, sym same.ballots i)) is.ballots;
+  nominations = subst (λ (p : List ℕ × List (Option Compiled)). AreCompiled p.0 (slices_by own configured table Nomination) p.1) (λ i. (sym same.nodes i, sym same.nominations i)) is.nominations;
+}
+
+-- ---- a first row as it is found
+all_within : (xs : List ℕ) (s : Names) → within xs s ≡ true → AreWithin (among xs) s
+all_within [] s h = λ u c. absurd (false≢true c)
+all_within (x ∷ xs) s h = λ u c.
+    let p = and_parts (s x) (within xs s) h in
+    elim (or_cases (x == u) (among xs u) c) [
+      | inl e ↦ subst (λ w. s w ≡ true) (eqb-true x u e) p.0
+      | inr e ↦ all_within xs s p.1 u e
+    ]
+
+none_there : (o : Option (Bor Sent)) (r : Option Sent) → is_some o ≡ false → option_map (λ (x : Bor Sent). x.now) o ≡ r → r ≡ None
+none_there None r none is = sym is
+none_there (Some x) r none is = absurd (true≢false none)
+
+pub first_row_found : (table : List Sent) (e : Sent) (us : List ℕ) (o : Option (Bor Sent)) (found : Option ℕ) → is_some o ≡ false
+    → option_map (λ (x : Bor Sent). x.now) o ≡ row table e.sender (kind_of e.body) → within (names e.slices) (among us) ≡ true
+    → IfSome found (λ i. (i < length us) × (get_or us i 0 ≡ e.sender)) → IfSome found (λ i. IsFirstRow table e us i)
+first_row_found table e us o None none is named at = tt
+first_row_found table e us o (Some i) none is named at = record {
+  first = none_there o (row table e.sender (kind_of e.body)) none is;
+  named = all_within (names e.slices) (among us) named;
+  within = at.0;
+  sender = at.1;
+}

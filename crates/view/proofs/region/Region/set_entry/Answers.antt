@@ -1,0 +1,26 @@
+use Rattle.std.proofs.Common.{List, Option, Some, length, set, ◌∙◌, ap, arith}
+use Rattle.std.specs.Vec.{with_items}
+use Rattle.std.proofs.lemmas.List.{with_items_is}
+use Rattle.compiled.specs.Places.{Compiled}
+use Rattle.view.proofs.EntryLaws.{ballot_set, nomination_set}
+use Rattle.view.proofs.region.Region.set_entry.Goals as goal
+
+pub returns-in-Ballot : goal.returns-in-Ballot
+returns-in-Ballot c = λ own configured table e entry is.
+    let v = c.args.self.now.ballots in
+    let x = c.args.entry in
+    let now = c.set_at.new.entries in
+    let many = ap (λ (cs : List (Option Compiled)). length cs) c.deref_mut.ensures.value in
+    ballot_set table e c.args.self.now own configured is x entry c.in-Ballot.is (with_items v now) (λ within.
+    with_items_is v now (omega (arith, c.set_at.auto.entries, c.deref_mut.ensures.len, many))
+    ∙ (c.set_at.ensures (omega (arith, within, many)) ∙ ap (λ (cs : List (Option Compiled)). set cs x.place (Some x.slices)) c.deref_mut.ensures.value))
+
+pub returns-in-Nomination : goal.returns-in-Nomination
+returns-in-Nomination c = λ own configured table e entry is.
+    let v = c.args.self.now.nominations in
+    let x = c.args.entry in
+    let now = c.set_at-in-Nomination.new.entries in
+    let many = ap (λ (cs : List (Option Compiled)). length cs) c.deref_mut-in-Nomination.ensures.value in
+    nomination_set table e c.args.self.now own configured is x entry c.in-Nomination.is (with_items v now) (λ within.
+    with_items_is v now (omega (arith, c.set_at-in-Nomination.auto.entries, c.deref_mut-in-Nomination.ensures.len, many))
+    ∙ (c.set_at-in-Nomination.ensures (omega (arith, within, many)) ∙ ap (λ (cs : List (Option Compiled)). set cs x.place (Some x.slices)) c.deref_mut-in-Nomination.ensures.value))
