@@ -1,4 +1,4 @@
-mod Noted
+pub mod Noted
 mod Underway
 mod ReachKept
 mod NameLookups

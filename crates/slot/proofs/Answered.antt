@@ -1,5 +1,5 @@
 -- How an answer leads to the step's: the votes that settle, and what the node of them sends.
-use Rattle.std.proofs.Common.{refl, ◌≡◌, ℕ, ◌+◌, ◌<◌, Bool, true, false, not, ◌&&◌, ◌==◌, nat_lt, List, Option, Some, None, Result, Ok, Err, Vec, Global, IfOk, OnOk, option_map, is_some, if◌then◌else◌, subst, ◌∙◌, sym, ap, inl, inr, ◌⊎◌, arith}
+use Rattle.std.proofs.Common.{refl, ◌≡◌, ℕ, ◌+◌, ◌<◌, Bool, true, false, not, ◌&&◌, ◌==◌, nat_lt, List, Option, Some, None, Result, Ok, Err, IfOk, OnOk, option_map, is_some, if◌then◌else◌, subst, ◌∙◌, sym, ap, inl, inr, ◌⊎◌, arith}
 use Rattle.std.specs.Prelude.{IfSome, IsFalse, IsTrue}
 use Rattle.std.proofs.lemmas.Bool.{and_parts, eqb-true, false≢true}
 use Rattle.std.proofs.lemmas.Bool.Decides.{nat_tests}
@@ -30,7 +30,7 @@ use Rattle.latest.specs.declared.table.Put.TheVariants.{Stale, NoMemory, Added, 
 use Rattle.latest.specs.Puts.{IsPut, undone}
 use Rattle.slot.specs.declared.configured.Configured.{Configured}
 use Rattle.slot.specs.Listening.{Heard, Held, is_put, node_of}
-use Rattle.slot.specs.declared.filed.FiledOut.{FiledOut}
+use Rattle.slot.specs.declared.filed.GivenOut.{GivenOut}
 use Rattle.slot.specs.Filings.{outs_of}
 use Rattle.slot.specs.Wholes.{whole, led, SendWellFormed}
 
@@ -181,12 +181,12 @@ reached-some n m e w r h s = subst (λ (p : Node × List Out). Reached p.0) (ste
 
 -- ---- quiet
 -- an envelope from outside of a set that holds the node's reach, and not from a leader
-pub quiet-after : {E : Type 0} (n new : Node) (event : NodeEvent) (r : Result (Vec FiledOut Global) E) → Reached n → OnOk r (new ≡ (step n event).0) → IfOk r (λ v. outs_of v.items ≡ (step n event).1)
-    → (R : Names) (x : Sent) → event ≡ Take x → HoldsReach n.name n.slices n.table R → IsFalse (R x.sender) → IsFalse (among n.given.leaders x.sender) → IfOk r (λ v. IsQuiet R n new (outs_of v.items))
+pub quiet-after : {E : Type 0} (n new : Node) (event : NodeEvent) (r : Result GivenOut E) → Reached n → OnOk r (new ≡ (step n event).0) → IfOk r (λ v. outs_of v.outs.items ≡ (step n event).1)
+    → (R : Names) (x : Sent) → event ≡ Take x → HoldsReach n.name n.slices n.table R → IsFalse (R x.sender) → IsFalse (among n.given.leaders x.sender) → IfOk r (λ v. IsQuiet R n new (outs_of v.outs.items))
 quiet-after n new event (Ok v) h node outs R x is held out led =
     let q = outsiders_are_quiet R n x h held out led in
     let same : new ≡ (step n (Take x)).0 = node ∙ ap (λ (e : NodeEvent). (step n e).0) is in
-    let items : outs_of v.items ≡ (step n (Take x)).1 = outs ∙ ap (λ (e : NodeEvent). (step n e).1) is in
+    let items : outs_of v.outs.items ≡ (step n (Take x)).1 = outs ∙ ap (λ (e : NodeEvent). (step n e).1) is in
     record {
       outs = items ∙ q.outs;
       given = ap (λ (m : Node). m.given) same ∙ q.given;

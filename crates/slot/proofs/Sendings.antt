@@ -1,5 +1,5 @@
 -- What a node emits is its own: it carries the node's name, its slot and its configured slices, and what is filed is a whole envelope.
-use Rattle.std.proofs.Common.{◌≡◌, ◌++◌, Bool, true, false, not, ◌&&◌, ◌==◌, List, [], ◌∷◌, Option, Some, None, Result, Ok, Err, Vec, Global, IfOk, OnOk, is_none, if◌then◌else◌, refl, sym, ◌∙◌, ap, subst, inl, inr, arith}
+use Rattle.std.proofs.Common.{◌≡◌, ◌++◌, Bool, true, false, not, ◌&&◌, ◌==◌, List, [], ◌∷◌, Option, Some, None, Result, Ok, Err, IfOk, OnOk, is_none, if◌then◌else◌, refl, sym, ◌∙◌, ap, subst, inl, inr, arith}
 use Rattle.std.specs.Prelude.{⊤}
 use Rattle.std.specs.List.{Contains}
 use Rattle.std.proofs.lemmas.Bool.{false≢true}
@@ -15,6 +15,7 @@ use Rattle.protocol.specs.States.{counter_of, sent_nomination, sent_vote}
 use Rattle.protocol.specs.Nodes.{Node, change, after_change, answered, step, outs, emitted, decided, when, is_externalized}
 use Rattle.protocol.proofs.ClosureLaws.{contained_cases}
 use Rattle.slot.specs.declared.filed.FiledOut.{FiledOut}
+use Rattle.slot.specs.declared.filed.GivenOut.{GivenOut}
 use Rattle.slot.specs.declared.filed.FiledOut.TheVariants.{ArmNomination as FiledRound, ArmBallot as FiledCounter, Emit as FiledEmit, Externalized as FiledValue}
 use Rattle.slot.specs.Filings.{AreFiledOuts, IsFiledOut, out_of, outs_of}
 use Rattle.slot.specs.Wholes.{IsSentBy}
@@ -120,9 +121,9 @@ unfolding IsWhole
 all-whole archive os h e c = All-contains IsWhole (outs_of os) (Emit e) (All-map IsWhole out_of os (λ k d lt. filed-whole archive _ (h k d lt))) c
 
 -- what the answer to an event emits is the node's own
-pub emitted-own : {E : Type 0} (n new : Node) (archive : List Sent) (event : NodeEvent) (r : Result (Vec FiledOut Global) E) → OnOk r (new ≡ (step n event).0) → IfOk r (λ v. outs_of v.items ≡ (step n event).1)
-    → IfOk r (λ v. AreFiledOuts archive v.items) → IfOk r (λ v. (e : Sent) → Contains (outs_of v.items) (Emit e) → IsSentBy new e)
+pub emitted-own : {E : Type 0} (n new : Node) (archive : List Sent) (event : NodeEvent) (r : Result GivenOut E) → OnOk r (new ≡ (step n event).0) → IfOk r (λ v. outs_of v.outs.items ≡ (step n event).1)
+    → IfOk r (λ v. AreFiledOuts archive v.outs.items) → IfOk r (λ v. (e : Sent) → Contains (outs_of v.outs.items) (Emit e) → IsSentBy new e)
 emitted-own n new archive event (Ok v) node is filed = λ e c.
     let own : Carries new e = subst (λ (m : Node). Carries m e) (sym node) ((step-own n event).all e (subst (λ os. Contains os (Emit e)) is c)) in
-    record { sender = own.sender; slot = own.slot; slices = own.slices; envelope = all-whole archive v.items filed e c }
+    record { sender = own.sender; slot = own.slot; slices = own.slices; envelope = all-whole archive v.outs.items filed e c }
 emitted-own n new archive event (Err x) node is filed = tt

@@ -1,5 +1,5 @@
 -- Events and outs whose envelopes lie in an archive, and what they stand for.
-use Rattle.std.specs.Prelude.{List, map, ⊤}
+use Rattle.std.specs.Prelude.{◌≡◌, ℕ, List, map, replicate, ⊤}
 use Rattle.std.specs.List.{All}
 use Rattle.types.specs.Statements.{Sent, IsEnvelope}
 use Rattle.types.specs.declared.event.NodeEvent.{NodeEvent}
@@ -8,6 +8,7 @@ use Rattle.envstore.specs.Archives.{IsFiled, sent_of}
 use Rattle.slot.specs.declared.filed.FiledEvent.{FiledEvent}
 use Rattle.slot.specs.declared.filed.FiledEvent.TheVariants.{Propose, Take, NominationTimer, BallotTimer, Reslice}
 use Rattle.slot.specs.declared.filed.FiledOut.{FiledOut}
+use Rattle.slot.specs.declared.filed.GivenOut.{GivenOut}
 use Rattle.slot.specs.declared.filed.FiledOut.TheVariants.{ArmNomination, ArmBallot, Emit, Externalized}
 
 -- the event, with the whole envelope
@@ -45,3 +46,7 @@ IsFiledOut archive (Externalized x) = ⊤
 
 abbrev pub AreFiledOuts : List Sent → List FiledOut → Type 0
 AreFiledOuts archive os = All (IsFiledOut archive) os
+
+-- so many whole copies
+abbrev pub HasCopies : ℕ → GivenOut → Type 0
+HasCopies count g = map (λ v. v.items) g.copies.items ≡ replicate count (outs_of g.outs.items)

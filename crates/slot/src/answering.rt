@@ -7,7 +7,7 @@ ghost use Rattle.slot.specs.Wholes.{whole, SendWellFormed};
 ghost use Rattle.types.specs.Statements.{Sent};
 
 use crate::configured::Configured;
-use crate::filed::FiledOut;
+use crate::filed::GivenOut;
 use crate::outs::outs;
 use crate::settling::settle;
 use fedvote::Sight;
@@ -21,11 +21,11 @@ pub(crate) struct Answer {
     pub outs: Vec<Out>,
 }
 
-/// The same, each emitted envelope filed.
+/// The same, each emitted envelope filed, with whole copies.
 #[derive(Drop)]
 pub(crate) struct FiledAnswer {
     pub votes: Votes,
-    pub outs: Vec<FiledOut>,
+    pub given_out: GivenOut,
 }
 
 /// Passes, from what was given and these votes on, and what is given out since the old state. An error

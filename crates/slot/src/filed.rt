@@ -1,7 +1,7 @@
 //! Events and outs whose envelopes lie in an archive.
 
 use envstore::Filed;
-use types::{Nested, Value};
+use types::{Nested, Out, Value};
 
 /// What happens to one node at one slot.
 #[derive(Drop)]
@@ -29,4 +29,13 @@ pub enum FiledOut {
     Emit(Filed),
     /// This value is what the slot decides.
     Externalized(Value),
+}
+
+/// What one event of one node gave out, and as many whole copies of it as were asked for.
+#[derive(Drop)]
+pub struct GivenOut {
+    /// What is given out, in order; there are at most five.
+    pub outs: Vec<FiledOut>,
+    /// The copies, each of all of it, with whole envelopes.
+    pub copies: Vec<Vec<Out>>,
 }

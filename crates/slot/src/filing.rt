@@ -1,10 +1,10 @@
 //! What a node gives out is filed.
 
-ghost use Rattle.std.specs.Prelude.{◌≡◌, IfOk};
+ghost use Rattle.std.specs.Prelude.{[], ◌≡◌, IfOk, IsTrue, is_ok, map, replicate};
 ghost use Rattle.envstore.specs.Archives.{Keeps};
-ghost use Rattle.slot.specs.Filings.{AreFiledOuts, IsFiledOut, out_of, outs_of};
+ghost use Rattle.slot.specs.Filings.{AreFiledOuts, HasCopies, IsFiledOut, out_of, outs_of};
 
-use crate::filed::FiledOut;
+use crate::filed::{FiledOut, GivenOut};
 use envstore::{Archive, Shelf};
 use std::alloc::{AllocError, Global};
 use types::Out;
@@ -43,4 +43,56 @@ fn file<S: Shelf>(archive: &mut Archive<S>, out: Out) -> Result<FiledOut, AllocE
         }
         Out::Externalized(value) => Ok(FiledOut::Externalized(value)),
     }
+}
+
+/// The same, each emitted envelope filed, with so many whole copies, which are made before. An error says
+/// that memory is short; some envelopes may be filed then.
+pub(crate) fn file_copied<S: Shelf>(
+    alloc: Global,
+    archive: &mut Archive<S>,
+    outs: Vec<Out>,
+    copies: usize,
+) -> Result<GivenOut, AllocError>
+    ensures outs { IfOk result (λ v. outs_of v.outs.items ≡ outs.items) }
+    ensures filed { IfOk result (λ v. AreFiledOuts archive.new v.outs.items) }
+    ensures copies { IfOk result (HasCopies copies) }
+    ensures kept { Keeps archive.old archive.new }
+{
+    let copies = copies_of(alloc, &outs, copies)?;
+    let outs = file_all(alloc, archive, outs)?;
+    Ok(GivenOut { outs, copies })
+}
+
+/// Nothing is given out, with so many copies. An error says that memory is short, which no copies take.
+pub(crate) fn nothing(alloc: Global, copies: usize) -> Result<GivenOut, AllocError>
+    ensures outs { IfOk result (λ v. v.outs.items ≡ []) }
+    ensures copies { IfOk result (HasCopies copies) }
+    ensures idle { copies ≡ 0 → IsTrue (is_ok result) }
+{
+    let outs = Vec::new(alloc);
+    let copies = copies_of(alloc, &[], copies)?;
+    Ok(GivenOut { outs, copies })
+}
+
+/// So many copies of outs. An error says that memory is short, which no copies take.
+fn copies_of(alloc: Global, outs: &[Out], count: usize) -> Result<Vec<Vec<Out>>, AllocError>
+    ensures copies { IfOk result (λ v. map (λ w. w.items) v.items ≡ replicate count outs.now) }
+    ensures idle { count ≡ 0 → IsTrue (is_ok result) }
+{
+    let mut copies = Vec::new(alloc);
+    for number in 0..count {
+        copies.push(copy_of(alloc, outs)?)?;
+    }
+    Ok(copies)
+}
+
+/// A copy of outs. An error says that memory is short.
+fn copy_of(alloc: Global, outs: &[Out]) -> Result<Vec<Out>, AllocError>
+    ensures { IfOk result (λ v. v.items ≡ outs.now) }
+{
+    let mut copy = Vec::with_capacity(alloc, outs.len())?;
+    for out in outs {
+        copy.push(out.try_copy(alloc)?)?;
+    }
+    Ok(copy)
 }

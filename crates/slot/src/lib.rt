@@ -16,7 +16,7 @@ mod sent;
 mod settling;
 mod sizes;
 
-pub use filed::{FiledEvent, FiledOut};
+pub use filed::{FiledEvent, FiledOut, GivenOut};
 pub use node::Node;
 pub use passing::pass;
 pub use settling::settle;

@@ -6,14 +6,14 @@ ghost use Rattle.latest.specs.Puts.{IsFiledPut, IsPut, undone};
 ghost use Rattle.protocol.specs.Nodes.{outs, passed, settle};
 ghost use Rattle.view.specs.Regions.{IsRegion};
 ghost use Rattle.protocol.specs.Rows.{is_taken, offered};
-ghost use Rattle.slot.specs.Filings.{AreFiledOuts, outs_of};
+ghost use Rattle.slot.specs.Filings.{AreFiledOuts, HasCopies, outs_of};
 ghost use Rattle.slot.specs.Listening.{IsStranger, node_of};
 ghost use Rattle.slot.specs.Wholes.{SendWellFormed, whole};
 ghost use Rattle.types.specs.Statements.{Sent};
 
 use crate::answering::{Answer, FiledAnswer, answer_to};
 use crate::configured::Configured;
-use crate::filing::file_all;
+use crate::filing::file_copied;
 use crate::known::{copy_of_known, put_row, take_region};
 use envstore::{Archive, Filed, Places, Shelf};
 use latest::{Put, Rows, Table};
@@ -164,8 +164,8 @@ impl Listener {
     }
 
     /// What passes make of what was given and these votes, by the rows, and what is given out since the
-    /// old state, filed. What contracts see of the listener stays as it was, and an error says that
-    /// memory is short.
+    /// old state, filed, with so many whole copies that are made before. What contracts see of the listener
+    /// stays as it was, and an error says that memory is short.
     pub(crate) fn answer<S: Shelf>(
         &mut self,
         alloc: Global,
@@ -174,20 +174,22 @@ impl Listener {
         old_votes: &Votes,
         given: &Given,
         votes: Votes,
+        copies: usize,
     ) -> Result<FiledAnswer, AllocError>
         requires rows { AreFiled archive.old self.old.table }
         requires settles { IsTrue (is_some (settle 64 (passed (node_of self.old given.now votes)) votes)) }
         requires sends { IfSome (settle 64 (passed (node_of self.old given.now votes)) votes) SendWellFormed }
         ensures votes { IfOk result (λ a. settle 64 (passed (node_of self.old given.now votes)) votes ≡ Some a.votes) }
-        ensures outs { IfOk result (λ a. (before after : List Sent) → outs_of a.outs.items ≡ outs (whole self.old.configured old_given.now old_votes.now before) (whole self.old.configured given.now a.votes after)) }
+        ensures outs { IfOk result (λ a. (before after : List Sent) → outs_of a.given_out.outs.items ≡ outs (whole self.old.configured old_given.now old_votes.now before) (whole self.old.configured given.now a.votes after)) }
         ensures same { self.new ≡ self.old }
-        ensures filed { IfOk result (λ a. AreFiledOuts archive.new a.outs.items) }
+        ensures filed { IfOk result (λ a. AreFiledOuts archive.new a.given_out.outs.items) }
+        ensures copies { IfOk result (λ a. HasCopies copies a.given_out) }
         ensures kept { Keeps archive.old archive.new }
     {
         let answer = self.answer_by_rows(alloc, archive, old_given, old_votes, given, votes)?;
         let Answer { votes, outs } = answer;
-        let outs = file_all(alloc, archive, outs)?;
-        Ok(FiledAnswer { votes, outs })
+        let given_out = file_copied(alloc, archive, outs, copies)?;
+        Ok(FiledAnswer { votes, given_out })
     }
 
     /// The answer, with whole envelopes.

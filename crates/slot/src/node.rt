@@ -8,7 +8,7 @@ ghost use Rattle.protocol.specs.Reach.{HoldsReach};
 ghost use Rattle.protocol.specs.Limits.{Reached};
 ghost use Rattle.protocol.specs.Sets.{Names, among};
 ghost use Rattle.envstore.specs.Archives.{AreFiled, IsFiled, Keeps, sent_of};
-ghost use Rattle.slot.specs.Filings.{AreFiledOuts, IsFiledEvent, event_of, outs_of};
+ghost use Rattle.slot.specs.Filings.{AreFiledOuts, HasCopies, IsFiledEvent, event_of, outs_of};
 ghost use Rattle.slot.specs.Listening.{node_of};
 ghost use Rattle.slot.specs.Wholes.{IsChange, IsSentBy, SendWellFormed, whole};
 ghost use Rattle.types.specs.Statements.{Sent};
@@ -18,7 +18,8 @@ ghost use Rattle.types.specs.declared.event.Out.TheVariants.{Emit};
 use crate::answering::FiledAnswer;
 use crate::changes::{bumped, fired, in_next_round, is_counter_live, is_round_live, proposed};
 use crate::configured::Configured;
-use crate::filed::{FiledEvent, FiledOut};
+use crate::filed::{FiledEvent, FiledOut, GivenOut};
+use crate::filing::nothing;
 use crate::listener::Listener;
 use envstore::{Archive, Filed, Places, Shelf};
 use latest::{Put, Table};
@@ -136,8 +137,8 @@ impl Node {
 
     /// One event: its own change, then passes until one changes nothing, then what is given out, in
     /// order (the Stellar Consensus Protocol draft; the order of events and outs is this host's
-    /// profile). A stale envelope and a timer that is not live change nothing, give nothing out and
-    /// take no memory, so such an event never fails.
+    /// profile). A stale envelope and a timer that is not live change nothing, give nothing out and,
+    /// where no copies are asked for, take no memory, so such an event never fails then.
     /// The slot that an envelope is about is not looked at: the caller hands a node those of its own.
     ///
     /// New slices are in force from this event on, for later leaders too; earlier leaders stay. They are
@@ -150,6 +151,10 @@ impl Node {
     /// The rows of the node, and the envelope that it takes, lie in the archive that is lent; the
     /// envelopes that it gives out are filed there.
     ///
+    /// Of what it gives out as many whole copies are made as are asked for, before anything changes: so a
+    /// caller that has made room beforehand for the outs, of which there are at most five, needs no memory
+    /// afterwards. No copies cost an empty list and take no memory, copies of nothing take a list.
+    ///
     /// An error says that memory is short, and the node is as it was; some of what it would have given out
     /// may be filed.
     pub fn advance<S: Shelf>(
@@ -157,26 +162,30 @@ impl Node {
         alloc: Global,
         archive: &mut Archive<S>,
         event: FiledEvent,
-    ) -> Result<Vec<FiledOut>, AllocError>
+        copies: usize,
+    ) -> Result<GivenOut, AllocError>
         requires rows { AreFiled archive.old self.old.rows }
         requires event { IsFiledEvent archive.old event }
         ensures node { OnOk result (self.new.node ≡ (step self.old.node (event_of event)).0) }
-        ensures outs { IfOk result (λ v. outs_of v.items ≡ (step self.old.node (event_of event)).1) }
+        ensures outs { IfOk result (λ v. outs_of v.outs.items ≡ (step self.old.node (event_of event)).1) }
         ensures err { OnErr result (self.new ≡ self.old) }
-        ensures idle { change self.old.node (event_of event) ≡ None → IsTrue (is_ok result) }
-        ensures quiet { (R : Names) (e : Sent) → event_of event ≡ NodeEvent.Take e → HoldsReach self.old.node.name self.old.node.slices self.old.node.table R → IsFalse (R e.sender) → IsFalse (among self.old.node.given.leaders e.sender) → IfOk result (λ v. IsQuiet R self.old.node self.new.node (outs_of v.items)) }
-        ensures emitted { IfOk result (λ v. (e : Sent) → Contains (outs_of v.items) (Emit e) → IsSentBy self.new.node e) }
+        ensures idle { copies ≡ 0 → change self.old.node (event_of event) ≡ None → IsTrue (is_ok result) }
+        ensures quiet { (R : Names) (e : Sent) → event_of event ≡ NodeEvent.Take e → HoldsReach self.old.node.name self.old.node.slices self.old.node.table R → IsFalse (R e.sender) → IsFalse (among self.old.node.given.leaders e.sender) → IfOk result (λ v. IsQuiet R self.old.node self.new.node (outs_of v.outs.items)) }
+        ensures emitted { IfOk result (λ v. (e : Sent) → Contains (outs_of v.outs.items) (Emit e) → IsSentBy self.new.node e) }
         ensures rows { AreFiled archive.new self.new.rows }
-        ensures filed { IfOk result (λ v. AreFiledOuts archive.new v.items) }
+        ensures filed { IfOk result (λ v. AreFiledOuts archive.new v.outs.items) }
+        ensures copies { IfOk result (HasCopies copies) }
         ensures kept { Keeps archive.old archive.new }
     {
         self.reached();
         match event {
-            FiledEvent::Propose(value) => self.propose(alloc, archive, value),
-            FiledEvent::Take(envelope) => self.take(alloc, archive, envelope),
-            FiledEvent::NominationTimer(round) => self.nomination_timer(alloc, archive, round),
-            FiledEvent::BallotTimer(counter) => self.ballot_timer(alloc, archive, counter),
-            FiledEvent::Reslice(slices) => self.reslice(alloc, archive, slices),
+            FiledEvent::Propose(value) => self.propose(alloc, archive, value, copies),
+            FiledEvent::Take(envelope) => self.take(alloc, archive, envelope, copies),
+            FiledEvent::NominationTimer(round) => self.nomination_timer(
+                alloc, archive, round, copies,
+            ),
+            FiledEvent::BallotTimer(counter) => self.ballot_timer(alloc, archive, counter, copies),
+            FiledEvent::Reslice(slices) => self.reslice(alloc, archive, slices, copies),
         }
     }
 
@@ -197,7 +206,7 @@ impl Node {
         ensures kept { Keeps archive.old archive.new }
     {
         let mut node = self.try_copy(alloc, archive)?;
-        let outs = node.advance(alloc, archive, event)?;
+        let GivenOut { outs, copies: _ } = node.advance(alloc, archive, event, 0)?;
         Ok((node, outs))
     }
 
@@ -214,18 +223,20 @@ impl Node {
         alloc: Global,
         archive: &mut Archive<S>,
         value: Value,
-    ) -> Result<Vec<FiledOut>, AllocError>
+        copies: usize,
+    ) -> Result<GivenOut, AllocError>
         requires rows { AreFiled archive.old self.old.rows }
         ensures node { OnOk result (self.new.node ≡ (step self.old.node (NodeEvent.Propose value)).0) }
-        ensures outs { IfOk result (λ v. outs_of v.items ≡ (step self.old.node (NodeEvent.Propose value)).1) }
+        ensures outs { IfOk result (λ v. outs_of v.outs.items ≡ (step self.old.node (NodeEvent.Propose value)).1) }
         ensures err { OnErr result (self.new ≡ self.old) }
         ensures rows { AreFiled archive.new self.new.rows }
-        ensures filed { IfOk result (λ v. AreFiledOuts archive.new v.items) }
+        ensures filed { IfOk result (λ v. AreFiledOuts archive.new v.outs.items) }
+        ensures copies { IfOk result (HasCopies copies) }
         ensures kept { Keeps archive.old archive.new }
     {
         let given = proposed(alloc, self.listener.configured(), &self.given, value)?;
         let votes = self.votes.try_copy(alloc)?;
-        self.settle(alloc, archive, given, votes)
+        self.settle(alloc, archive, given, votes, copies)
     }
 
     /// A nomination timer fires: the next round begins where it is live.
@@ -234,22 +245,25 @@ impl Node {
         alloc: Global,
         archive: &mut Archive<S>,
         round: u32,
-    ) -> Result<Vec<FiledOut>, AllocError>
+        copies: usize,
+    ) -> Result<GivenOut, AllocError>
         requires rows { AreFiled archive.old self.old.rows }
         ensures node { OnOk result (self.new.node ≡ (step self.old.node (NodeEvent.NominationTimer round)).0) }
-        ensures outs { IfOk result (λ v. outs_of v.items ≡ (step self.old.node (NodeEvent.NominationTimer round)).1) }
+        ensures outs { IfOk result (λ v. outs_of v.outs.items ≡ (step self.old.node (NodeEvent.NominationTimer round)).1) }
         ensures err { OnErr result (self.new ≡ self.old) }
-        ensures idle { change self.old.node (NodeEvent.NominationTimer round) ≡ None → IsTrue (is_ok result) }
+        ensures idle { copies ≡ 0 → change self.old.node (NodeEvent.NominationTimer round) ≡ None → IsTrue (is_ok result) }
         ensures rows { AreFiled archive.new self.new.rows }
-        ensures filed { IfOk result (λ v. AreFiledOuts archive.new v.items) }
+        ensures filed { IfOk result (λ v. AreFiledOuts archive.new v.outs.items) }
+        ensures copies { IfOk result (HasCopies copies) }
         ensures kept { Keeps archive.old archive.new }
     {
         if !is_round_live(&self.given, &self.votes, round) {
-            return Ok(Vec::new(alloc));
+            let given_out = nothing(alloc, copies)?;
+            return Ok(given_out);
         }
         let given = in_next_round(alloc, self.listener.configured(), &self.given, round)?;
         let votes = self.votes.try_copy(alloc)?;
-        self.settle(alloc, archive, given, votes)
+        self.settle(alloc, archive, given, votes, copies)
     }
 
     /// A ballot timer fires: the ballot goes one counter up where it is live.
@@ -258,22 +272,25 @@ impl Node {
         alloc: Global,
         archive: &mut Archive<S>,
         counter: u32,
-    ) -> Result<Vec<FiledOut>, AllocError>
+        copies: usize,
+    ) -> Result<GivenOut, AllocError>
         requires rows { AreFiled archive.old self.old.rows }
         ensures node { OnOk result (self.new.node ≡ (step self.old.node (NodeEvent.BallotTimer counter)).0) }
-        ensures outs { IfOk result (λ v. outs_of v.items ≡ (step self.old.node (NodeEvent.BallotTimer counter)).1) }
+        ensures outs { IfOk result (λ v. outs_of v.outs.items ≡ (step self.old.node (NodeEvent.BallotTimer counter)).1) }
         ensures err { OnErr result (self.new ≡ self.old) }
-        ensures idle { change self.old.node (NodeEvent.BallotTimer counter) ≡ None → IsTrue (is_ok result) }
+        ensures idle { copies ≡ 0 → change self.old.node (NodeEvent.BallotTimer counter) ≡ None → IsTrue (is_ok result) }
         ensures rows { AreFiled archive.new self.new.rows }
-        ensures filed { IfOk result (λ v. AreFiledOuts archive.new v.items) }
+        ensures filed { IfOk result (λ v. AreFiledOuts archive.new v.outs.items) }
+        ensures copies { IfOk result (HasCopies copies) }
         ensures kept { Keeps archive.old archive.new }
     {
         if !is_counter_live(&self.votes, counter) {
-            return Ok(Vec::new(alloc));
+            let given_out = nothing(alloc, copies)?;
+            return Ok(given_out);
         }
         let given = fired(alloc, &self.given)?;
         let votes = bumped(alloc, &self.votes)?;
-        self.settle(alloc, archive, given, votes)
+        self.settle(alloc, archive, given, votes, copies)
     }
 
     /// The configured slices are these from now on, and passes follow. Those that were are put back where
@@ -283,13 +300,15 @@ impl Node {
         alloc: Global,
         archive: &mut Archive<S>,
         slices: Nested,
-    ) -> Result<Vec<FiledOut>, AllocError>
+        copies: usize,
+    ) -> Result<GivenOut, AllocError>
         requires rows { AreFiled archive.old self.old.rows }
         ensures node { OnOk result (self.new.node ≡ (step self.old.node (NodeEvent.Reslice slices)).0) }
-        ensures outs { IfOk result (λ v. outs_of v.items ≡ (step self.old.node (NodeEvent.Reslice slices)).1) }
+        ensures outs { IfOk result (λ v. outs_of v.outs.items ≡ (step self.old.node (NodeEvent.Reslice slices)).1) }
         ensures err { OnErr result (self.new ≡ self.old) }
         ensures rows { AreFiled archive.new self.new.rows }
-        ensures filed { IfOk result (λ v. AreFiledOuts archive.new v.items) }
+        ensures filed { IfOk result (λ v. AreFiledOuts archive.new v.outs.items) }
+        ensures copies { IfOk result (HasCopies copies) }
         ensures kept { Keeps archive.old archive.new }
     {
         let Node {
@@ -298,10 +317,10 @@ impl Node {
             votes: settled,
         } = self;
         let old_slices = listener.exchange_slices(slices);
-        match answer_anew(alloc, archive, listener, given, settled) {
-            Ok(FiledAnswer { votes, outs }) => {
+        match answer_anew(alloc, archive, listener, given, settled, copies) {
+            Ok(FiledAnswer { votes, given_out }) => {
                 *settled = votes;
-                Ok(outs)
+                Ok(given_out)
             }
             Err(error) => {
                 listener.exchange_slices(old_slices);
@@ -317,23 +336,26 @@ impl Node {
         alloc: Global,
         archive: &mut Archive<S>,
         envelope: Filed,
-    ) -> Result<Vec<FiledOut>, AllocError>
+        copies: usize,
+    ) -> Result<GivenOut, AllocError>
         requires rows { AreFiled archive.old self.old.rows }
         requires envelope { IsFiled archive.old envelope }
         ensures node { OnOk result (self.new.node ≡ (step self.old.node (NodeEvent.Take (sent_of envelope))).0) }
-        ensures outs { IfOk result (λ v. outs_of v.items ≡ (step self.old.node (NodeEvent.Take (sent_of envelope))).1) }
+        ensures outs { IfOk result (λ v. outs_of v.outs.items ≡ (step self.old.node (NodeEvent.Take (sent_of envelope))).1) }
         ensures err { OnErr result (self.new ≡ self.old) }
-        ensures idle { change self.old.node (NodeEvent.Take (sent_of envelope)) ≡ None → IsTrue (is_ok result) }
+        ensures idle { copies ≡ 0 → change self.old.node (NodeEvent.Take (sent_of envelope)) ≡ None → IsTrue (is_ok result) }
         ensures rows { AreFiled archive.new self.new.rows }
-        ensures filed { IfOk result (λ v. AreFiledOuts archive.new v.items) }
+        ensures filed { IfOk result (λ v. AreFiledOuts archive.new v.outs.items) }
+        ensures copies { IfOk result (HasCopies copies) }
         ensures kept { Keeps archive.old archive.new }
     {
         let sender = archive.read(&envelope).sender();
         if self.listener.is_stranger(sender) && !leads(sender, &self.given) {
+            let given_out = nothing(alloc, copies)?;
             self.listener.offer(alloc, archive, envelope)?;
-            return Ok(Vec::new(alloc));
+            return Ok(given_out);
         }
-        self.take_and_settle(alloc, archive, envelope)
+        self.take_and_settle(alloc, archive, envelope, copies)
     }
 
     /// An envelope that is newer than its sender's row of its kind is the row now, and passes follow. It
@@ -343,20 +365,25 @@ impl Node {
         alloc: Global,
         archive: &mut Archive<S>,
         envelope: Filed,
-    ) -> Result<Vec<FiledOut>, AllocError>
+        copies: usize,
+    ) -> Result<GivenOut, AllocError>
         requires rows { AreFiled archive.old self.old.rows }
         requires envelope { IsFiled archive.old envelope }
         ensures node { OnOk result (self.new.node ≡ (step self.old.node (NodeEvent.Take (sent_of envelope))).0) }
-        ensures outs { IfOk result (λ v. outs_of v.items ≡ (step self.old.node (NodeEvent.Take (sent_of envelope))).1) }
+        ensures outs { IfOk result (λ v. outs_of v.outs.items ≡ (step self.old.node (NodeEvent.Take (sent_of envelope))).1) }
         ensures err { OnErr result (self.new ≡ self.old) }
-        ensures idle { change self.old.node (NodeEvent.Take (sent_of envelope)) ≡ None → IsTrue (is_ok result) }
+        ensures idle { copies ≡ 0 → change self.old.node (NodeEvent.Take (sent_of envelope)) ≡ None → IsTrue (is_ok result) }
         ensures rows { AreFiled archive.new self.new.rows }
-        ensures filed { IfOk result (λ v. AreFiledOuts archive.new v.items) }
+        ensures filed { IfOk result (λ v. AreFiledOuts archive.new v.outs.items) }
+        ensures copies { IfOk result (HasCopies copies) }
         ensures kept { Keeps archive.old archive.new }
     {
         let put = self.listener.put(alloc, archive, envelope);
         match put {
-            Put::Stale => Ok(Vec::new(alloc)),
+            Put::Stale => {
+                let given_out = nothing(alloc, copies)?;
+                Ok(given_out)
+            }
             Put::NoMemory => Err(AllocError),
             Put::Added | Put::Replaced(_) => {
                 let Node {
@@ -364,12 +391,12 @@ impl Node {
                     given,
                     votes: settled,
                 } = self;
-                match answer_anew(alloc, archive, listener, given, settled) {
-                    Ok(FiledAnswer { votes, outs }) => {
+                match answer_anew(alloc, archive, listener, given, settled, copies) {
+                    Ok(FiledAnswer { votes, given_out }) => {
                         // The row stays, and the way back is let go.
                         drop(put);
                         *settled = votes;
-                        Ok(outs)
+                        Ok(given_out)
                     }
                     Err(error) => {
                         listener.undo(archive, put);
@@ -388,44 +415,54 @@ impl Node {
         archive: &mut Archive<S>,
         given: Given,
         votes: Votes,
-    ) -> Result<Vec<FiledOut>, AllocError>
+        copies: usize,
+    ) -> Result<GivenOut, AllocError>
         requires rows { AreFiled archive.old self.old.rows }
         requires change { IsChange self.old.node (record self.old.node { given = given; votes = votes }) }
         ensures node { OnOk result (self.new.node ≡ (answered self.old.node (after_change (Some (record self.old.node { given = given; votes = votes })))).0) }
-        ensures outs { IfOk result (λ v. outs_of v.items ≡ (answered self.old.node (after_change (Some (record self.old.node { given = given; votes = votes })))).1) }
+        ensures outs { IfOk result (λ v. outs_of v.outs.items ≡ (answered self.old.node (after_change (Some (record self.old.node { given = given; votes = votes })))).1) }
         ensures err { OnErr result (self.new ≡ self.old) }
         ensures rows { AreFiled archive.new self.new.rows }
-        ensures filed { IfOk result (λ v. AreFiledOuts archive.new v.items) }
+        ensures filed { IfOk result (λ v. AreFiledOuts archive.new v.outs.items) }
+        ensures copies { IfOk result (HasCopies copies) }
         ensures kept { Keeps archive.old archive.new }
     {
-        let answer = self
-            .listener
-            .answer(alloc, archive, &self.given, &self.votes, &given, votes)?;
+        let answer = self.listener.answer(
+            alloc,
+            archive,
+            &self.given,
+            &self.votes,
+            &given,
+            votes,
+            copies,
+        )?;
         self.given = given;
         self.votes = answer.votes;
-        Ok(answer.outs)
+        Ok(answer.given_out)
     }
 }
 
 /// What passes make of the votes of a node whose rows or slices are other ones now, and what is given out
-/// since they settled. What contracts see of the listener stays as it was, and an error says that memory
-/// is short.
+/// since they settled, with so many whole copies. What contracts see of the listener stays as it was, and
+/// an error says that memory is short.
 fn answer_anew<S: Shelf>(
     alloc: Global,
     archive: &mut Archive<S>,
     listener: &mut Listener,
     given: &Given,
     settled: &Votes,
+    copies: usize,
 ) -> Result<FiledAnswer, AllocError>
     requires rows { AreFiled archive.old listener.old.table }
     requires settles { IsTrue (is_some (settle 64 (passed (node_of listener.old given.now settled.now)) settled.now)) }
     requires sends { IfSome (settle 64 (passed (node_of listener.old given.now settled.now)) settled.now) SendWellFormed }
     ensures votes { IfOk result (λ a. settle 64 (passed (node_of listener.old given.now settled.now)) settled.now ≡ Some a.votes) }
-    ensures outs { IfOk result (λ a. (before after : List Sent) → outs_of a.outs.items ≡ outs (whole listener.old.configured given.now settled.now before) (whole listener.old.configured given.now a.votes after)) }
+    ensures outs { IfOk result (λ a. (before after : List Sent) → outs_of a.given_out.outs.items ≡ outs (whole listener.old.configured given.now settled.now before) (whole listener.old.configured given.now a.votes after)) }
     ensures same { listener.new ≡ listener.old }
-    ensures filed { IfOk result (λ a. AreFiledOuts archive.new a.outs.items) }
+    ensures filed { IfOk result (λ a. AreFiledOuts archive.new a.given_out.outs.items) }
+    ensures copies { IfOk result (λ a. HasCopies copies a.given_out) }
     ensures kept { Keeps archive.old archive.new }
 {
     let votes = settled.try_copy(alloc)?;
-    listener.answer(alloc, archive, given, settled, given, votes)
+    listener.answer(alloc, archive, given, settled, given, votes, copies)
 }

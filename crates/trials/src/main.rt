@@ -49,7 +49,7 @@ ghost use Rattle.slot.specs.Filings.{IsFiledEvent};
 use envstore::{Archive, VecShelf};
 use latest::Rows;
 use scripts::{counter_of, name_of, number_of, slices_of, statement_of};
-use slot::{FiledEvent, FiledOut, Node};
+use slot::{FiledEvent, FiledOut, GivenOut, Node};
 use std::alloc::{AllocError, Global};
 use std::env;
 use std::io::Write;
@@ -362,9 +362,9 @@ fn tried(
     match event_of(alloc, archive, line)? {
         None => Ok(NO_EVENT),
         Some(event) => {
-            let outs = node.advance(alloc, archive, event)?;
+            let given_out = node.advance(alloc, archive, event, 0)?;
             let mut number = 0u64;
-            for _ in outs.as_slice() {
+            for _ in given_out.outs.as_slice() {
                 number = number.saturating_add(1);
             }
             Ok(number)
@@ -449,7 +449,13 @@ fn take(
         None => Ok(Vec::new(alloc)),
         Some(envelope) => {
             let filed = archive.put(envelope)?;
-            node.advance(alloc, archive, FiledEvent::Take(filed))
+            let GivenOut { outs, copies: _ } = node.advance(
+                alloc,
+                archive,
+                FiledEvent::Take(filed),
+                0,
+            )?;
+            Ok(outs)
         }
     }
 }

@@ -94,8 +94,8 @@ impl Trial {
     ) -> Result<Answer, AllocError> {
         let Trial { archive, node } = self;
         let event = event_of(rt, alloc, archive, line)?;
-        let outs = node.advance(alloc, archive, event)?;
-        answer_of(rt, alloc, archive, node, &outs)
+        let given_out = node.advance(alloc, archive, event, 0)?;
+        answer_of(rt, alloc, archive, node, &given_out.outs)
     }
 
     fn is_still(&self, rt: &impl Abort, alloc: Global, before: &str) -> Result<(), AllocError> {

@@ -1,11 +1,14 @@
 //! What happens to a node and to a network, what they give out, and why an event is refused.
 
+ghost use Rattle.std.specs.Prelude.{◌≡◌, IfOk};
+
 use crate::bytes::Bytes;
 use crate::envelope::Envelope;
 use crate::kind::Kind;
 use crate::nested::Nested;
 use crate::node_id::NodeId;
 use crate::value::Value;
+use std::alloc::{AllocError, Global};
 
 /// What happens to one node at one slot.
 #[derive(Drop)]
@@ -33,6 +36,20 @@ pub enum Out {
     Emit(Envelope),
     /// This value is what the slot decides.
     Externalized(Value),
+}
+
+impl Out {
+    /// A copy. An error says that memory is short.
+    pub fn try_copy(&self, alloc: Global) -> Result<Out, AllocError>
+        ensures { IfOk result (λ o. o ≡ self.now) }
+    {
+        match self {
+            Out::ArmNomination(round) => Ok(Out::ArmNomination(*round)),
+            Out::ArmBallot(counter) => Ok(Out::ArmBallot(*counter)),
+            Out::Emit(envelope) => Ok(Out::Emit(envelope.try_copy(alloc)?)),
+            Out::Externalized(value) => Ok(Out::Externalized(value.try_copy()?)),
+        }
+    }
 }
 
 /// What happens to a network, as it comes: the bytes of a delivery and of a proposal are not read yet.
@@ -86,6 +103,59 @@ pub enum Event {
     },
 }
 
+impl Event {
+    /// A copy. An error says that memory is short.
+    pub fn try_copy(&self, alloc: Global) -> Result<Event, AllocError>
+        ensures { IfOk result (λ e. e ≡ self.now) }
+    {
+        match self {
+            Event::OpenSlot { slot } => Ok(Event::OpenSlot { slot: *slot }),
+            Event::CloseSlot { slot } => Ok(Event::CloseSlot { slot: *slot }),
+            Event::Propose { slot, node, value } => Ok(Event::Propose {
+                slot: *slot,
+                node: *node,
+                value: value.try_copy(alloc)?,
+            }),
+            Event::Deliver { node, bytes } => Ok(Event::Deliver {
+                node: *node,
+                bytes: bytes.try_copy(alloc)?,
+            }),
+            Event::Hear {
+                slot,
+                node,
+                from,
+                kind,
+                number,
+            } => Ok(Event::Hear {
+                slot: *slot,
+                node: *node,
+                from: *from,
+                kind: *kind,
+                number: *number,
+            }),
+            Event::NominationTimer { slot, node, round } => Ok(Event::NominationTimer {
+                slot: *slot,
+                node: *node,
+                round: *round,
+            }),
+            Event::BallotTimer {
+                slot,
+                node,
+                counter,
+            } => Ok(Event::BallotTimer {
+                slot: *slot,
+                node: *node,
+                counter: *counter,
+            }),
+            Event::Reslice { slot, node, slices } => Ok(Event::Reslice {
+                slot: *slot,
+                node: *node,
+                slices: slices.try_copy(alloc)?,
+            }),
+        }
+    }
+}
+
 /// Why a network refuses an event (this host's profile). A refused event changes nothing.
 #[derive(Clone, Copy, Debug, PartialEq, Eq)]
 pub enum Refusal {
@@ -117,4 +187,6 @@ pub enum Refusal {
     ShareFull,
     /// The delivered bytes would exceed those that are reserved for the step.
     ShareBytesFull,
+    /// Memory was wanting. No definition answers it.
+    NoMemory,
 }

@@ -3,7 +3,7 @@ use Rattle.types.specs.declared.event.Out.{Out}
 use Rattle.types.specs.declared.event.NodeEvent.TheVariants.{Propose}
 use Rattle.protocol.specs.Nodes.{Node}
 use Rattle.slot.specs.Filings.{outs_of}
-use Rattle.envstore.specs.Archives.{sent_of, sents_of}
+use Rattle.envstore.specs.Archives.{sents_of}
 use Rattle.slot.proofs.Answered.{node_in}
 use Rattle.slot.proofs.Answered.{led-by, step-is, change-propose}
 use Rattle.slot.proofs.node.Node.propose.Goals as goal
@@ -29,4 +29,4 @@ returns-clause-outs g c =
     let i = c.self.inside in
     let made = change-propose i.listener.configured i.given c.in_ok-given.given i.votes c.in_ok-votes.votes (sents_of i.listener.table) n c.args.value (sym (ap node_in c.self.view_is)) (led-by c.configured.result.now i.listener.configured c.in_ok-given.given (record i.given { input = Some c.args.value }) 1 c.configured.ensures c.in_ok-given.ensures) c.in_ok-votes.ensures in
     let m : Node = record n { given = c.in_ok-given.given; votes = c.in_ok-votes.votes } in
-    subst (λ (p : Node × List Out). IfOk c.settle.result (λ v. outs_of v.items ≡ p.1)) (sym (step-is n (Propose c.args.value) (Some m) made)) c.settle.ensures.outs
+    subst (λ (p : Node × List Out). IfOk c.settle.result (λ v. outs_of v.outs.items ≡ p.1)) (sym (step-is n (Propose c.args.value) (Some m) made)) c.settle.ensures.outs

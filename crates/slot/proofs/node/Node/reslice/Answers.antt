@@ -5,9 +5,9 @@ use Rattle.protocol.specs.Nodes.{Node, outs, step}
 use Rattle.protocol.specs.Limits.{Reached}
 use Rattle.slot.specs.Listening.{Heard, Held, node_of}
 use Rattle.slot.specs.Filings.{outs_of}
-use Rattle.envstore.specs.Archives.{AreFiled, sent_of, sents_of}
+use Rattle.envstore.specs.Archives.{AreFiled, sents_of}
 use Rattle.envstore.proofs.Growing.{keeps_all}
-use Rattle.slot.proofs.Answered.{node_in, held_of, settles-after, sends-after, change-slices, slices-back, outs-by_new, step-some, reached-some}
+use Rattle.slot.proofs.Answered.{node_in, settles-after, sends-after, change-slices, slices-back, outs-by_new, step-some, reached-some}
 use Rattle.slot.proofs.node.Node.reslice.Goals as goal
 use Rattle.slot.proofs.node.Node.reslice.Goals.{in-Ok, in-Err}
 
@@ -73,9 +73,9 @@ returns-clause-outs g c =
           let after : Node = record m { votes = w.in-Ok.field-0.votes } in
           let stepped = step-some n m (Reslice c.args.slices) w.in-Ok.field-0.votes made w.in-Ok.ensures.votes in
           let from = outs-by_new k.configured i.listener.configured i.given i.votes (sents_of i.listener.table) (sents_of i.listener.table) after ∙ ap (λ (x : Node). outs x after) (ap node_in c.self.view_is) in
-          subst (λ r. IfOk r (λ v. outs_of v.items ≡ given_out)) (sym w.result-is)
+          subst (λ r. IfOk r (λ v. outs_of v.outs.items ≡ given_out)) (sym w.result-is)
           (w.in-Ok.ensures.outs (sents_of i.listener.table) (sents_of k.table) ∙ from ∙ sym (ap (λ (p : Node × List Out). p.1) stepped))
-      | in-Err w ↦ subst (λ r. IfOk r (λ v. outs_of v.items ≡ given_out)) (sym w.result-is) tt
+      | in-Err w ↦ subst (λ r. IfOk r (λ v. outs_of v.outs.items ≡ given_out)) (sym w.result-is) tt
     ]
 
 pub returns-clause-rows : goal.returns-clause-rows

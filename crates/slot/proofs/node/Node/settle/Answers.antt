@@ -6,8 +6,6 @@ use Rattle.envstore.specs.Archives.{AreFiled}
 use Rattle.envstore.proofs.Growing.{keeps_all}
 use Rattle.slot.specs.Listening.{Heard, Held, node_of}
 use Rattle.slot.specs.Wholes.{SendWellFormed}
-use Rattle.slot.specs.Filings.{outs_of}
-use Rattle.envstore.specs.Archives.{sent_of, sents_of}
 use Rattle.slot.proofs.Answered.{node_in}
 use Rattle.slot.proofs.Answered.{settles-after, sends-after, reached-some}
 use Rattle.slot.proofs.node.Node.settle.Goals as goal

@@ -38,10 +38,10 @@ returns-then-not-leads-clause-outs g c =
     let e = c.sender-sender.ensures.value ∙ ap (λ (x : Sent). x.sender) c.read.ensures in
     let s = subst (IsStranger i.listener) e (c.is_stranger.ensures c.if-is_stranger.true) in
     let l : among i.given.leaders (sent_of c.args.envelope).sender ≡ false = subst (λ u. among i.given.leaders u ≡ false) e (sym c.leads.ensures ∙ c.if-not-leads.true) in
-    ap outs_of c.new.ensures.items ∙ sym (ap (λ (p : Node × List Out). p.1) (stranger-step c.args.self.now.node i.listener c.offer.new.self i.given i.votes (sent_of c.args.envelope) (sym (ap node_in c.self.view_is)) s l c.self.invariant c.offer.ensures.same c.in_ok-offer.ensures.offered))
+    ap outs_of c.in_ok-given_out.ensures.outs ∙ sym (ap (λ (p : Node × List Out). p.1) (stranger-step c.args.self.now.node i.listener c.offer.new.self i.given i.votes (sent_of c.args.envelope) (sym (ap node_in c.self.view_is)) s l c.self.invariant c.offer.ensures.same c.in_ok-offer.ensures.offered))
 
 pub returns-in_err-offer-clause-idle : goal.returns-in_err-offer-clause-idle
-returns-in_err-offer-clause-idle g c = λ idle.
+returns-in_err-offer-clause-idle g c = λ none idle.
     let i = c.self.inside in
     let stale = idle-stale i.listener.configured i.given i.votes (sents_of i.listener.table) c.args.self.now.node (sent_of c.args.envelope) (sym (ap node_in c.self.view_is)) idle in
     absurd (false≢true (c.in_err-offer.ensures.idle stale))

@@ -48,17 +48,17 @@ invariant_of-self-in-Added g c =
           subst (λ x. Reached (node_of x.listener x.given x.votes)) (sym w.self-inside-is) (subst (λ (h : Heard). Reached (node_of h i.given i.votes)) (sym back) c.self.invariant)
     ]
 
-pub returns-in-Stale-clause-node : goal.returns-in-Stale-clause-node
-returns-in-Stale-clause-node g c =
+pub returns-in_ok-given_out-in-Stale-clause-node : goal.returns-in_ok-given_out-in-Stale-clause-node
+returns-in_ok-given_out-in-Stale-clause-node g c =
     let i = c.self.inside in
     let stale = step-is c.args.self.now.node (Take (sent_of c.args.envelope)) None (change-stale i.listener.configured i.given i.votes (sents_of i.listener.table) c.args.self.now.node (sent_of c.args.envelope) (sym (ap node_in c.self.view_is)) c.in-Stale.ensures.put.0) in
     ap (λ (h : Heard). node_of h i.given i.votes) (heard-same i.listener c.put-put.new.self c.put-put.ensures.same c.in-Stale.ensures.put.1) ∙ (ap node_in c.self.view_is) ∙ sym (ap (λ (p : Node × List Out). p.0) stale)
 
-pub returns-in-Stale-clause-outs : goal.returns-in-Stale-clause-outs
-returns-in-Stale-clause-outs g c =
+pub returns-in_ok-given_out-in-Stale-clause-outs : goal.returns-in_ok-given_out-in-Stale-clause-outs
+returns-in_ok-given_out-in-Stale-clause-outs g c =
     let i = c.self.inside in
     let stale = step-is c.args.self.now.node (Take (sent_of c.args.envelope)) None (change-stale i.listener.configured i.given i.votes (sents_of i.listener.table) c.args.self.now.node (sent_of c.args.envelope) (sym (ap node_in c.self.view_is)) c.in-Stale.ensures.put.0) in
-    ap outs_of c.new.ensures.items ∙ sym (ap (λ (p : Node × List Out). p.1) stale)
+    ap outs_of c.in_ok-given_out-in-Stale.ensures.outs ∙ sym (ap (λ (p : Node × List Out). p.1) stale)
 
 pub returns-after-answer_anew-clause-node : goal.returns-after-answer_anew-clause-node
 returns-after-answer_anew-clause-node g c =
@@ -104,19 +104,19 @@ returns-after-answer_anew-clause-outs g c =
           let stepped = step-some n m (Take (sent_of c.args.envelope)) w.in-Ok.field-0.votes made w.in-Ok.ensures.votes in
           let old = ap (λ (c : Configured). whole c i.given i.votes (sents_of i.listener.table)) c.put-put.ensures.same ∙ (ap node_in c.self.view_is) in
           let from = ap (λ (x : Node). outs x (record m { votes = w.in-Ok.field-0.votes })) old in
-          subst (λ r. IfOk r (λ v. outs_of v.items ≡ given_out)) (sym w.result-is)
+          subst (λ r. IfOk r (λ v. outs_of v.outs.items ≡ given_out)) (sym w.result-is)
           (w.in-Ok.ensures.outs (sents_of i.listener.table) (sents_of k.table) ∙ from ∙ sym (ap (λ (p : Node × List Out). p.1) stepped))
-      | in-Err w ↦ subst (λ r. IfOk r (λ v. outs_of v.items ≡ given_out)) (sym w.result-is) tt
+      | in-Err w ↦ subst (λ r. IfOk r (λ v. outs_of v.outs.items ≡ given_out)) (sym w.result-is) tt
     ]
 
 pub returns-in-NoMemory-clause-idle : goal.returns-in-NoMemory-clause-idle
-returns-in-NoMemory-clause-idle g c = λ idle.
+returns-in-NoMemory-clause-idle g c = λ none idle.
     let i = c.self.inside in
     let stale = idle-stale i.listener.configured i.given i.votes (sents_of i.listener.table) c.args.self.now.node (sent_of c.args.envelope) (sym (ap node_in c.self.view_is)) idle in
     absurd (false≢true (sym stale ∙ first-taken (sents_of i.listener.table) (sent_of c.args.envelope) c.in-NoMemory.ensures.put.0))
 
 pub returns-after-answer_anew-clause-idle : goal.returns-after-answer_anew-clause-idle
-returns-after-answer_anew-clause-idle g c = λ idle.
+returns-after-answer_anew-clause-idle g c = λ none idle.
     let i = c.self.inside in
     let n = c.args.self.now.node in
     let k = c.put-put.new.self in

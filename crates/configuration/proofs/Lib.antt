@@ -1,0 +1,3 @@
+pub mod Names
+pub mod Sorted
+pub mod FaultLaws

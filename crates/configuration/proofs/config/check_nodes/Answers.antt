@@ -1,0 +1,26 @@
+use Rattle.std.proofs.Common.{◌<◌, ◌∙◌, sym, length, arith}
+use Rattle.std.proofs.lemmas.Bool.{eqb-true, eqb-false}
+use Rattle.std.proofs.lemmas.List.Sorted.{length_permutation}
+use Rattle.configuration.proofs.FaultLaws.{no-nodes, too-many-nodes, good-nodes}
+use Rattle.configuration.proofs.config.check_nodes.Goals as goal
+
+pub returns-then-is_empty-clause-fault : goal.returns-then-is_empty-clause-fault
+returns-then-is_empty-clause-fault c =
+    let nodes = c.args.nodes.items in
+    let same = length_permutation nodes c.in-Some.hosts.items c.in-Some.ensures.hosts in
+    let none = eqb-true _ 0 (sym c.is_empty.ensures ∙ c.if-is_empty.true) in
+    no-nodes nodes (sym c.in-Some.ensures.exactly) (omega (arith, same, none, c.in-Some.hosts.ok))
+
+pub returns-then-len-gt-MAX_HOSTS-clause-fault : goal.returns-then-len-gt-MAX_HOSTS-clause-fault
+returns-then-len-gt-MAX_HOSTS-clause-fault c =
+    let nodes = c.args.nodes.items in
+    let same = length_permutation nodes c.in-Some.hosts.items c.in-Some.ensures.hosts in
+    too-many-nodes nodes (sym c.in-Some.ensures.exactly) (omega (arith, same, c.if-len-gt-MAX_HOSTS.true, c.len.ensures, c.in-Some.hosts.ok))
+
+pub returns-clause-faultless : goal.returns-clause-faultless
+returns-clause-faultless c =
+    let nodes = c.args.nodes.items in
+    let same = length_permutation nodes c.in-Some.hosts.items c.in-Some.ensures.hosts in
+    let some = eqb-false _ 0 (sym c.is_empty.ensures ∙ c.if-is_empty.false) in
+    let there : 0 < length nodes = omega (arith, same, some, c.in-Some.hosts.ok) in
+    good-nodes nodes (sym c.in-Some.ensures.exactly) there (omega (arith, same, c.if-len-gt-MAX_HOSTS.false, c.len.ensures, c.in-Some.hosts.ok))

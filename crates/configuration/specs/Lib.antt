@@ -1,0 +1,4 @@
+pub mod Budgets
+pub mod Configs
+pub mod Faults
+pub mod Rosters

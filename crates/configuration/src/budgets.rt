@@ -1,0 +1,75 @@
+//! What a network may use up.
+
+ghost use Rattle.std.specs.Prelude.{◌≡◌, ◌≤◌, ◌^◌, ◌↔◌, IfSome, IsSome};
+ghost use Rattle.configuration.specs.Budgets.{AreBudgets};
+
+use std::marker::Model;
+
+/// The most journal events and the most delivered bytes that a budget can have: 2^40.
+pub const MAX_BUDGET: u64 = 1 << 40;
+
+/// The most slots that a network can have open.
+pub const MAX_OPEN_SLOTS: u64 = 64;
+
+/// The most events in the journal of a network, the most bytes that may be delivered to it, and the most
+/// slots that it may have open (this host's profile).
+#[derive(Clone, Copy, Debug)]
+pub struct Budgets {
+    events: u64,
+    bytes: u64,
+    slots: u64,
+}
+
+impl Model for Budgets {
+    ghost use Rattle.protocol.specs.Networks.{Budgets as Meant};
+    ghost use Rattle.configuration.specs.Budgets.{AreBudgets};
+
+    ghost Value = { Meant };
+
+    ghost view = { λ b. record { events = b.events; bytes = b.bytes; slots = b.slots } };
+
+    ghost invariant = { λ b. AreBudgets b.events b.bytes b.slots };
+
+    ghost inverse = { λ v. record { events = v.events; bytes = v.bytes; slots = v.slots } };
+}
+
+impl Budgets {
+    /// Budgets of up to 2^40 events and as many bytes, and of 1 to 64 open slots; `None` outside.
+    pub fn new(events: u64, bytes: u64, slots: u64) -> Option<Budgets>
+        ensures exactly { IsSome result ↔ AreBudgets events bytes slots }
+        ensures some { IfSome result (λ b. b ≡ record { events = events; bytes = bytes; slots = slots }) }
+    {
+        if events > MAX_BUDGET || bytes > MAX_BUDGET || slots == 0 || slots > MAX_OPEN_SLOTS {
+            return None;
+        }
+        Some(Budgets {
+            events,
+            bytes,
+            slots,
+        })
+    }
+
+    /// The most journal events, at most 2^40.
+    pub fn events(&self) -> u64
+        ensures value { result ≡ self.now.events }
+        ensures limit { result ≤ 2 ^ 40 }
+    {
+        self.events
+    }
+
+    /// The most delivered bytes, at most 2^40.
+    pub fn bytes(&self) -> u64
+        ensures value { result ≡ self.now.bytes }
+        ensures limit { result ≤ 2 ^ 40 }
+    {
+        self.bytes
+    }
+
+    /// The most open slots, 1 to 64.
+    pub fn slots(&self) -> u64
+        ensures value { result ≡ self.now.slots }
+        ensures limit { result ≤ 64 }
+    {
+        self.slots
+    }
+}

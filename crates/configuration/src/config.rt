@@ -1,0 +1,260 @@
+//! A network's configuration.
+
+ghost use Rattle.std.specs.Prelude.{◌≡◌, ◌≤◌, ◌++◌, IfErr, IfOk, IfSome, None, Some, is_some, length, option_map};
+ghost use Rattle.std.specs.List.Sorted.{IsPermutation};
+ghost use Rattle.types.specs.Trees.{all_differ};
+ghost use Rattle.protocol.specs.Sets.{IsAscending};
+ghost use Rattle.configuration.specs.Configs.{AreHosts, index_of_name, names_of, rises};
+ghost use Rattle.configuration.specs.Faults.{fault_of, first_fault, node_tests, roster_tests};
+ghost use Rattle.configuration.specs.Rosters.{HasRosterOf};
+
+use crate::budgets::Budgets;
+use crate::error::ConfigError;
+use crate::host::Host;
+use crate::roster::Roster;
+use crate::shares::Shares;
+use std::alloc::{AllocError, Global};
+use std::marker::Model;
+use types::NodeId;
+
+/// The most nodes that one network hosts (this host's profile).
+pub const MAX_HOSTS: usize = 256;
+
+/// The number of a network, its hosted nodes, 1 to 256 and ascending by name, its budgets, and its roster
+/// where it has one (this host's profile).
+///
+/// The names stand in a list of their own, so that a node is found by a binary search in memory that lies
+/// together.
+#[derive(Drop)]
+pub struct NetConfig {
+    number: u32,
+    hosts: Vec<Host>,
+    names: Vec<NodeId>,
+    budgets: Budgets,
+    roster: Option<Roster>,
+}
+
+impl Model for NetConfig {
+    ghost use Rattle.std.specs.Coded.{codes};
+    ghost use Rattle.types.specs.Trees.{members_code};
+    ghost use Rattle.protocol.specs.Hosts.{Config};
+    ghost use Rattle.configuration.specs.Configs.{AreNamed};
+
+    ghost Value = { Config };
+
+    ghost coded = { Prim.hlevel (codes, members_code) };
+
+    ghost view = { λ c. record { number = c.number; hosts = c.hosts.items; budgets = c.budgets; roster = c.roster } };
+
+    ghost invariant = { λ c. AreNamed c.names.items c.hosts.items };
+}
+
+impl NetConfig {
+    /// A network without a roster that hosts 1 to 256 nodes, none twice, given in any order.
+    ///
+    /// The first error that applies is answered, in this order: [`ConfigError::NodeTwice`],
+    /// [`ConfigError::NoNodes`], [`ConfigError::TooManyNodes`], and [`ConfigError::NoMemory`] where a growth
+    /// was refused and none of these applies.
+    pub fn new(
+        alloc: Global,
+        number: u32,
+        nodes: Vec<Host>,
+        budgets: Budgets,
+    ) -> Result<NetConfig, ConfigError>
+        ensures parts { IfOk result (λ c. (c.number ≡ number) × (c.budgets ≡ budgets) × (c.roster ≡ None)) }
+        ensures hosts { IfOk result (λ c. IsPermutation nodes.items c.hosts) }
+        ensures ascending { IfOk result (λ c. IsAscending (names_of c.hosts)) }
+        ensures faultless { IfOk result (λ _. first_fault (node_tests nodes.items) ≡ None) }
+        ensures fault { IfErr result (λ e. first_fault (node_tests nodes.items) ≡ fault_of e) }
+    {
+        let hosts = check_nodes(nodes)?;
+        let names = list_names(alloc, &hosts)?;
+        Ok(NetConfig {
+            number,
+            hosts,
+            names,
+            budgets,
+            roster: None,
+        })
+    }
+
+    /// A network as [`NetConfig::new`] makes it, with a roster of up to 1,024 names, none twice, given in any
+    /// order, and shares of up to 2^40 each.
+    ///
+    /// The first error that applies is answered: those of the nodes, as in [`NetConfig::new`], then
+    /// [`ConfigError::RosterTwice`], [`ConfigError::RosterTooLong`], [`ConfigError::ShareTooLarge`], and
+    /// [`ConfigError::NoMemory`] where a growth was refused and none of these applies.
+    pub fn with_roster(
+        alloc: Global,
+        number: u32,
+        nodes: Vec<Host>,
+        budgets: Budgets,
+        roster: Vec<NodeId>,
+        shares: Shares,
+    ) -> Result<NetConfig, ConfigError>
+        ensures parts { IfOk result (λ c. (c.number ≡ number) × (c.budgets ≡ budgets)) }
+        ensures hosts { IfOk result (λ c. IsPermutation nodes.items c.hosts) }
+        ensures ascending { IfOk result (λ c. IsAscending (names_of c.hosts)) }
+        ensures roster { IfOk result (λ c. HasRosterOf roster.items shares c.roster) }
+        ensures faultless { IfOk result (λ _. first_fault (node_tests nodes.items ++ roster_tests roster.items shares) ≡ None) }
+        ensures fault { IfErr result (λ e. first_fault (node_tests nodes.items ++ roster_tests roster.items shares) ≡ fault_of e) }
+    {
+        let nodes = check_nodes(nodes)?;
+        let roster = Roster::new(roster, shares)?;
+        let names = list_names(alloc, &nodes)?;
+        Ok(NetConfig {
+            number,
+            hosts: nodes,
+            names,
+            budgets,
+            roster: Some(roster),
+        })
+    }
+
+    /// The number of the network.
+    pub fn number(&self) -> u32
+        ensures { result ≡ self.now.number }
+    {
+        self.number
+    }
+
+    /// The hosted nodes, 1 to 256, ascending by name.
+    pub fn hosts(&self) -> &[Host]
+        ensures value { result.now ≡ self.now.hosts }
+        ensures ascending { IsAscending (names_of result.now) }
+        ensures some_hosts { 1 ≤ length result.now }
+        ensures few_hosts { length result.now ≤ 256 }
+    {
+        &self.hosts
+    }
+
+    /// The budgets.
+    pub fn budgets(&self) -> &Budgets
+        ensures { result.now ≡ self.now.budgets }
+    {
+        &self.budgets
+    }
+
+    /// The roster, where there is one.
+    pub fn roster(&self) -> Option<&Roster>
+        ensures { option_map (λ r. r.now) result ≡ self.now.roster }
+    {
+        self.roster.as_ref()
+    }
+
+    /// The place of a hosted node among them, from 0 on, by a binary search; `None` where it is not hosted.
+    pub fn place(&self, name: &NodeId) -> Option<usize>
+        ensures { result ≡ index_of_name self.now.hosts name.now }
+    {
+        match self.names.binary_search(name) {
+            Ok(place) => Some(place),
+            Err(_) => None,
+        }
+    }
+
+    /// A copy. An error says that memory is short.
+    pub fn try_copy(&self, alloc: Global) -> Result<NetConfig, AllocError>
+        ensures { IfOk result (λ c. c ≡ self.now) }
+    {
+        let hosts = copies(alloc, &self.hosts)?;
+        let names = Vec::from_slice(alloc, &self.names)?;
+        let roster = copy_of_roster(alloc, &self.roster)?;
+        Ok(NetConfig {
+            number: self.number,
+            hosts,
+            names,
+            budgets: self.budgets,
+            roster,
+        })
+    }
+}
+
+/// The nodes that a network hosts, in order. The first fault that applies is answered; it takes no memory.
+fn check_nodes(nodes: Vec<Host>) -> Result<Vec<Host>, ConfigError>
+    ensures hosts { IfOk result (λ v. IsPermutation nodes.items v.items) }
+    ensures rules { IfOk result (λ v. AreHosts v.items) }
+    ensures faultless { IfOk result (λ _. first_fault (node_tests nodes.items) ≡ None) }
+    ensures fault { IfErr result (λ e. first_fault (node_tests nodes.items) ≡ Some e) }
+{
+    let Some(hosts) = in_order(nodes) else {
+        return Err(ConfigError::NodeTwice);
+    };
+    if hosts.is_empty() {
+        return Err(ConfigError::NoNodes);
+    }
+    if hosts.len() > MAX_HOSTS {
+        return Err(ConfigError::TooManyNodes);
+    }
+    Ok(hosts)
+}
+
+/// The nodes ascending by name; `None` where a name stands twice.
+fn in_order(nodes: Vec<Host>) -> Option<Vec<Host>>
+    ensures hosts { IfSome result (λ v. IsPermutation nodes.items v.items) }
+    ensures ascending { IfSome result (λ v. IsAscending (names_of v.items)) }
+    ensures exactly { is_some result ≡ all_differ (names_of nodes.items) }
+{
+    let mut hosts = nodes;
+    // In place, so that no fault hides behind want of memory; names that differ have one order alone.
+    hosts.sort_unstable_by_key(
+        |host| -> NodeId
+            ensures { result ≡ host.now.name }
+        { *host.name() },
+    );
+    if is_ascending(&hosts) {
+        Some(hosts)
+    } else {
+        None
+    }
+}
+
+/// Whether the name of each node is below that of the next one.
+fn is_ascending(hosts: &[Host]) -> bool
+    ensures { result ≡ rises (names_of hosts.now) }
+{
+    let Some((first, rest)) = hosts.split_first() else {
+        return true;
+    };
+    let mut last = *first.name();
+    for host in rest {
+        let name = *host.name();
+        if !(last < name) {
+            return false;
+        }
+        last = name;
+    }
+    true
+}
+
+/// The names of hosts. An error says that memory is short.
+fn list_names(alloc: Global, hosts: &[Host]) -> Result<Vec<NodeId>, AllocError>
+    ensures { IfOk result (λ v. v.items ≡ names_of hosts.now) }
+{
+    let mut names = Vec::with_capacity(alloc, hosts.len())?;
+    for host in hosts {
+        names.push(*host.name())?;
+    }
+    Ok(names)
+}
+
+/// Copies of hosts. An error says that memory is short.
+fn copies(alloc: Global, hosts: &[Host]) -> Result<Vec<Host>, AllocError>
+    ensures { IfOk result (λ v. v.items ≡ hosts.now) }
+{
+    let mut copies = Vec::with_capacity(alloc, hosts.len())?;
+    for host in hosts {
+        let slices = host.slices().try_copy(alloc)?;
+        copies.push(Host::new(*host.name(), slices))?;
+    }
+    Ok(copies)
+}
+
+/// A copy of a roster. An error says that memory is short.
+fn copy_of_roster(alloc: Global, roster: &Option<Roster>) -> Result<Option<Roster>, AllocError>
+    ensures { IfOk result (λ o. o ≡ roster.now) }
+{
+    match roster {
+        None => Ok(None),
+        Some(roster) => Ok(Some(roster.try_copy(alloc)?)),
+    }
+}

@@ -1,0 +1,23 @@
+//! What a network is configured with: its number, its hosted nodes with their slices, its budgets, and a
+//! roster with shares where it has one (this host's profile).
+//!
+//! What is given is tested when a [`NetConfig`] is made, and its readers' clauses say what was tested, so
+//! that nothing above has to test it again. `specs/Faults.antt` has the tests and their order.
+#![tactic(auto)]
+
+mod budgets;
+mod config;
+mod error;
+mod host;
+mod roster;
+mod shares;
+
+pub use budgets::{Budgets, MAX_BUDGET, MAX_OPEN_SLOTS};
+pub use config::{MAX_HOSTS, NetConfig};
+pub use error::ConfigError;
+pub use host::Host;
+pub use roster::{MAX_ROSTER, Roster};
+pub use shares::{MAX_SHARE, Shares};
+
+#[cfg(test)]
+mod tests;

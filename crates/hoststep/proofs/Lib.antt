@@ -1,0 +1,5 @@
+mod Begins
+mod Growing
+mod Spelled
+mod Histories
+mod ByNumber

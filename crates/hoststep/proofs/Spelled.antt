@@ -1,0 +1,31 @@
+-- The bytes of a delivery are the one spelling of its envelope.
+use Rattle.std.proofs.Common.{◌≡◌, ℕ, List, length, Option, Some, IfSome, option_map, refl, sym, ap, ◌∙◌, subst}
+use Rattle.types.specs.Statements.{Sent}
+use Rattle.codec.specs.Spelling.{Spells}
+use Rattle.codec.specs.Steps.{IsBytes}
+use Rattle.envstore.specs.declared.filed.Filed.{Filed}
+use Rattle.envstore.specs.Archives.{IsFiled, sent_of}
+use Rattle.protocol.specs.Networks.{Reading}
+use Rattle.protocol.specs.Networks.Reading.{Read, Fault}
+use Rattle.protocol.specs.Networks.Step.{Delivers}
+use Rattle.network.specs.Answers.{delivered_of}
+use Rattle.network.specs.Decoding.{reading}
+use Rattle.network.proofs.Readings.{readings_are_exact}
+use Rattle.hoststep.specs.Keeping.{spelled_size}
+
+pub counted : (bytes : List ℕ) (e : Sent) → Spells bytes e → length bytes ≡ spelled_size e
+unfolding spelled_size
+counted bytes e h = ap length h.text
+
+pub spelled : (bytes : List ℕ) (u : ℕ) (e : Sent) → IsBytes bytes → Some e ≡ delivered_of (Delivers u (length bytes) (reading bytes)) → length bytes ≡ spelled_size e
+spelled bytes u e fits h = go (reading bytes) refl h
+  where
+    go : (r : Reading) → reading bytes ≡ r → Some e ≡ delivered_of (Delivers u (length bytes) r) → length bytes ≡ spelled_size e
+    go (Read d) q k = let z : d ≡ e = cc in counted bytes e (((readings_are_exact bytes fits).envelope e).0 (q ∙ ap (λ (x : Sent). Read x) z))
+    go (Fault n) q k = absurd (cc)
+
+-- a delivery as it is kept
+pub filed : (delivered : Option Filed) (f : Filed) (bytes : List ℕ) (u size : ℕ) → delivered ≡ Some f → option_map sent_of delivered ≡ delivered_of (Delivers u (length bytes) (reading bytes)) → IsBytes bytes → size ≡ length bytes
+    → (archive : List Sent) → IfSome delivered (IsFiled archive) → IsFiled archive f × (size ≡ spelled_size (sent_of f))
+filed delivered f bytes u size is from fits count archive h =
+    (subst (λ (o : Option Filed). IfSome o (IsFiled archive)) is h, count ∙ spelled bytes u (sent_of f) fits (sym (ap (option_map sent_of) is) ∙ from))

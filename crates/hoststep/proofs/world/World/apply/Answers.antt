@@ -1,0 +1,36 @@
+use Rattle.std.proofs.Common.{◌≡◌, ◌<◌, ℕ, List, Some, length, get_or, set, refl, sym, ap, subst}
+use Rattle.configuration.specs.Configs.{index_in}
+use Rattle.hoststep.specs.Logs.{Log}
+use Rattle.hoststep.specs.Worlds.{IsAnswered, IsAnsweredAt, IsPlaceOf, numbers_of}
+use Rattle.hoststep.proofs.ByNumber.{Changed, changed, missing}
+use Rattle.hoststep.proofs.Histories.{told-answered}
+use Rattle.hoststep.proofs.world.World.apply.Given.{Over}
+use Rattle.hoststep.proofs.world.World.apply.Goals as goal
+
+all-of : (g : Over) (c : goal.After-self-1 g) → Changed c.self.inside.numbers.items c.self.inside.journals.items c.args.number c.in-Ok.at c.apply.new.self c.args.event c.apply.result
+all-of g c =
+    let ls = c.self.inside.journals.items in
+    let at : (index_in (numbers_of ls) c.args.number ≡ Some c.in-Ok.at) × (c.in-Ok.at < length ls) = subst (λ (xs : List Log). (index_in (numbers_of xs) c.args.number ≡ Some c.in-Ok.at) × (c.in-Ok.at < length xs)) (sym c.self.view_is) (c.in-Ok.ensures) in
+    changed c.self.inside.numbers.items ls c.args.number c.in-Ok.at c.index_mut.result.now c.apply.new.self c.args.event c.apply.result c.self.invariant at c.index_mut.ensures.value
+    c.apply.ensures.ok c.apply.ensures.entered c.apply.ensures.err c.apply.ensures.same
+
+pub invariant_of-self : goal.invariant_of-self
+invariant_of-self g c = (all-of g c).kept
+
+pub returns-in-Ok-clause-answer : goal.returns-in-Ok-clause-answer
+returns-in-Ok-clause-answer g c = subst (λ (xs : List Log). IsAnswered xs c.args.number c.args.event c.apply.result (set c.self.inside.journals.items c.in-Ok.at c.apply.new.self)) c.self.view_is (all-of g c).answer
+
+pub returns-in-Ok-clause-told : goal.returns-in-Ok-clause-told
+returns-in-Ok-clause-told g c = λ h told memory.
+    told-answered h c.args.self.now (set c.self.inside.journals.items c.in-Ok.at c.apply.new.self) c.args.number c.args.event c.apply.result told
+    (subst (λ (xs : List Log). IsAnswered xs c.args.number c.args.event c.apply.result (set c.self.inside.journals.items c.in-Ok.at c.apply.new.self)) c.self.view_is (all-of g c).answer) memory
+
+pub returns-in-Err-clause-answer : goal.returns-in-Err-clause-answer
+returns-in-Err-clause-answer g c =
+    let none = missing c.args.self.now c.args.number (subst (λ r. IsPlaceOf c.args.self.now c.args.number r) c.in-Err.is c.place.ensures).0 in
+    rw none (refl, refl)
+
+pub returns-in-Err-clause-told : goal.returns-in-Err-clause-told
+returns-in-Err-clause-told g c = λ h told memory.
+    let none = missing c.args.self.now c.args.number (subst (λ r. IsPlaceOf c.args.self.now c.args.number r) c.in-Err.is c.place.ensures).0 in
+    told-answered h c.args.self.now c.args.self.now c.args.number c.args.event _ told (rw none (refl, refl)) memory

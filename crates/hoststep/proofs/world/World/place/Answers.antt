@@ -1,0 +1,15 @@
+use Rattle.std.proofs.Common.{◌≡◌, ◌∙◌, sym, ap, subst}
+use Rattle.std.specs.Ordering.{nat_cmp}
+use Rattle.std.specs.List.Sorted.{IsBinarySearchResult}
+use Rattle.protocol.specs.Sets.{IsAscending}
+use Rattle.hoststep.specs.Worlds.{IsPlaceOf, numbers_of}
+use Rattle.hoststep.proofs.ByNumber.{place-is}
+use Rattle.hoststep.proofs.world.World.place.Goals as goal
+
+pub returns : goal.returns
+returns g c =
+    let view = c.self.view_is in
+    let up = c.self.invariant.1.0 in
+    let same = c.deref.ensures.value ∙ c.self.invariant.0 in
+    subst (λ ls. IsPlaceOf ls c.args.number c.binary_search.result) view
+    (place-is c.self.inside.journals.items c.args.number c.binary_search.result up (subst (λ ns. IsBinarySearchResult (λ y. nat_cmp y c.args.number) ns c.binary_search.result) same c.binary_search.ensures.position))

@@ -1,0 +1,4 @@
+pub mod Logs
+pub mod Keeping
+pub mod Entering
+pub mod Worlds

@@ -1,0 +1,53 @@
+-- Journals and the worlds that have them.
+use Rattle.std.specs.Prelude.{◌≡◌, ◌⊎◌, ℕ, length, ⊤, Vec, List, [], ◌∷◌, ◌++◌, Option, Some, None}
+use Rattle.std.specs.Global.{Global}
+use Rattle.types.specs.declared.event.Event.{Event}
+use Rattle.types.specs.declared.event.Out.{Out}
+use Rattle.types.specs.declared.event.Refusal.{Refusal}
+use Rattle.types.specs.declared.event.Refusal.TheVariants.{NoMemory}
+use Rattle.protocol.specs.Networks.{Step}
+use Rattle.protocol.specs.Hosts.{Config, Entry}
+use Rattle.protocol.specs.Runs.{IsRun, outs_given, refusal_of, state_of}
+use Rattle.network.specs.Marks.{marks_in}
+use Rattle.hoststep.specs.declared.recorded.Recorded.{Recorded}
+use Rattle.network.specs.Decoding.{step_of}
+use Rattle.network.specs.Standing.{Machine, StandsFor}
+
+-- a configuration, and the entries of the journal, envelopes whole
+pub record Log : Type 0 where
+  pub config : Config
+  pub entries : List Entry
+
+-- the entries are a run, and the machine is what they lead to
+pub record IsJournal (m : Machine) (entries : List Entry) : Type 0 where
+  pub run : IsRun m.config entries
+  pub state : StandsFor m (state_of m.config entries)
+
+-- one entry more
+abbrev pub extended : Log → Step → List Out → Log
+extended l e os = record l { entries = l.entries ++ record { event = e; outs = os } ∷ [] }
+
+-- an event that is not refused after these entries, and what it gives out
+abbrev pub IsEntered : Log → Step → List Out → Type 0
+IsEntered l e os = (refusal_of l.config l.entries e ≡ None) × (os ≡ outs_given l.config l.entries e)
+
+-- memory is wanting, or this is the first refusal that applies after these entries
+abbrev pub IsRefused : Log → Step → Refusal → Type 0
+IsRefused l e r = (r ≡ NoMemory) ⊎ (refusal_of l.config l.entries e ≡ Some r)
+
+-- by which numbers the emissions of an event after these entries are named
+abbrev pub marks_of : Config → List Entry → Step → List ℕ
+marks_of config before e = marks_in (state_of config before) e
+
+-- the entry that an event makes, as it is handed out: its number, the event itself, its outs twice, and its marks
+pub record IsRecorded (old : Log) (event : Event) (r : Recorded) : Type 0 where
+  pub number : r.number ≡ length old.entries
+  pub event_is : r.event ≡ event
+  pub marks : r.marks.items ≡ marks_of old.config old.entries (step_of event)
+  pub answer : r.answer.items ≡ r.outs.items
+
+-- an event as it comes, and outs, that are those of an entry
+abbrev pub IsEntryAt : Option Entry → Option (Event × Vec Out Global) → Type 0
+IsEntryAt None None = ⊤
+IsEntryAt (Some x) (Some r) = (step_of r.0 ≡ x.event) × (r.1.items ≡ x.outs)
+IsEntryAt _ _ = ⊥

@@ -1,0 +1,81 @@
+-- The journals of many networks, by number, and the histories that they are those of.
+use Rattle.std.specs.Prelude.{◌≡◌, ℕ, ◌<◌, ◌≤◌, ◌==◌, nat_lt, Bool, not, IsTrue, length, insert, filter, map, List, [], ◌∷◌, ◌++◌, Vec, Result, Ok, Err, Option, Some, None, is_some, if◌then◌else◌}
+use Rattle.std.specs.Global.{Global}
+use Rattle.types.specs.declared.event.Event.{Event}
+use Rattle.types.specs.declared.event.Out.{Out}
+use Rattle.types.specs.declared.event.Refusal.{Refusal}
+use Rattle.types.specs.declared.event.Refusal.TheVariants.{NoSuchNetwork}
+use Rattle.protocol.specs.Sets.{IsAscending}
+use Rattle.protocol.specs.Networks.{Step}
+use Rattle.protocol.specs.Hosts.{Config, History, entries}
+use Rattle.configuration.specs.Configs.{index_in}
+use Rattle.network.specs.Decoding.{reading, step_of}
+use Rattle.hoststep.specs.Logs.{IsEntered, IsRefused, Log, extended}
+use Rattle.hoststep.specs.declared.world.WorldError.{WorldError}
+use Rattle.hoststep.specs.declared.world.WorldError.TheVariants.{NetTwice, TooManyNets, NoMemory}
+
+-- the numbers of networks
+abbrev pub numbers_of : List Log → List ℕ
+numbers_of ls = map (λ l. l.config.number) ls
+
+-- each number is below the next, and there are at most 4,096
+abbrev pub AreByNumber : List Log → Type 0
+AreByNumber ls = IsAscending (numbers_of ls) × (length ls ≤ 4096)
+
+-- the journal of a network
+abbrev pub log_at : List Log → ℕ → Option Log
+log_at [] g = None
+log_at (l ∷ ls) g = if l.config.number == g then Some l else log_at ls g
+
+-- the journals with one more, in the place of its number
+abbrev pub logs_with : Log → List Log → List Log
+logs_with l [] = l ∷ []
+logs_with l (k ∷ ks) = if nat_lt k.config.number l.config.number then k ∷ logs_with l ks else l ∷ k ∷ ks
+
+-- the journals with that one in the place of the one of its number
+abbrev pub logs_set : Log → List Log → List Log
+logs_set l [] = []
+logs_set l (k ∷ ks) = if k.config.number == l.config.number then l ∷ ks else k ∷ logs_set l ks
+
+-- the place of a network; or it is not there, and this is where it would stand
+abbrev pub IsPlaceOf : List Log → ℕ → Result ℕ ℕ → Type 0
+IsPlaceOf ls g (Ok k) = (index_in (numbers_of ls) g ≡ Some k) × (k < length ls)
+IsPlaceOf ls g (Err i) = (index_in (numbers_of ls) g ≡ None) × (i ≤ length ls) × IsAscending (insert (numbers_of ls) i g) × ((l : Log) → l.config.number ≡ g → logs_with l ls ≡ insert ls i l)
+
+-- why a network of this number is not added
+abbrev pub IsNotAdded : List Log → ℕ → WorldError → Type 0
+IsNotAdded ls g NetTwice = IsTrue (is_some (log_at ls g))
+IsNotAdded ls g TooManyNets = (log_at ls g ≡ None) × (length ls ≡ 4096)
+IsNotAdded ls g NoMemory = (log_at ls g ≡ None) × (length ls < 4096)
+
+-- ---- histories
+-- a history, with one more event
+abbrev pub and_then : History → ℕ → Event → History
+and_then h g e = record h { calls = h.calls ++ (g, e) ∷ [] }
+
+-- the configurations with one more, in the place of its number
+abbrev pub configs_with : Config → List Config → List Config
+configs_with c [] = c ∷ []
+configs_with c (k ∷ ks) = if nat_lt k.number c.number then k ∷ configs_with c ks else c ∷ k ∷ ks
+
+-- a history where one more network is there from the start, without the events that named it
+abbrev pub joined : Config → History → History
+joined c h = record { configs = configs_with c h.configs; calls = filter (λ x. not (x.0 == c.number)) h.calls }
+
+-- the journals are those of a history: its configurations, and of each network the entries that the history applies to it
+pub record IsToldBy (h : History) (logs : List Log) : Type 0 where
+  pub configs : map (λ l. l.config) logs ≡ h.configs
+  pub entries : (g : ℕ) (l : Log) → log_at logs g ≡ Some l → l.entries ≡ entries reading h g
+
+-- what an event of a network is answered, by the journal of the network
+abbrev pub IsAnsweredAt : Option Log → List Log → Step → Result (List Out) Refusal → List Log → Type 0
+IsAnsweredAt None old e r new = (r ≡ Err NoSuchNetwork) × (new ≡ old)
+IsAnsweredAt (Some l) old e (Ok os) new = IsEntered l e os × (new ≡ logs_set (extended l e os) old)
+IsAnsweredAt (Some l) old e (Err r) new = IsRefused l e r × (new ≡ old)
+
+abbrev pub items_of : Result (Vec Out Global) Refusal → Result (List Out) Refusal
+items_of (Ok v) = Ok v.items
+items_of (Err r) = Err r
+
+abbrev pub IsAnswered : List Log → ℕ → Event → Result (Vec Out Global) Refusal → List Log → Type 0
+IsAnswered old g e r new = IsAnsweredAt (log_at old g) old (step_of e) (items_of r) new

@@ -1,0 +1,168 @@
+//! A network with its journal.
+
+ghost use Rattle.std.specs.Prelude.{◌≡◌, [], IfErr, IfOk, ◌==◌, None, OnErr, OnOk, Some, length, slice_get};
+ghost use Rattle.protocol.specs.Runs.{IsRun};
+ghost use Rattle.network.specs.Decoding.{step_of};
+ghost use Rattle.hoststep.specs.Logs.{IsEntered, IsEntryAt, IsRecorded, IsRefused, extended};
+ghost use Rattle.hoststep.specs.Entering.{IsEnteredWith, outs_after};
+
+use crate::entered::{Entered, both, only};
+use crate::kept::{Kept, kept_event, whole_event, whole_outs};
+use crate::recorded::Recorded;
+use configuration::NetConfig;
+use envstore::Shelf;
+use network::{Applied, Network};
+use std::alloc::{AllocError, Global};
+use std::marker::Model;
+use types::{Event, Out, Refusal};
+
+/// A network with the events that were applied to it and what they gave out, numbered from 0.
+///
+/// Contracts see it as its configuration and its entries, with whole envelopes: by its type they are a run of
+/// that configuration, each an event that was not refused after the entries before it, with what that event
+/// gives out.
+#[derive(Drop)]
+pub struct Journal<S: Shelf> {
+    alloc: Global,
+    network: Network<S>,
+    entries: Vec<Kept>,
+}
+
+impl<S: Shelf> Model for Journal<S> {
+    ghost use Rattle.std.specs.Coded.{codes};
+    ghost use Rattle.std.specs.Prelude.{map};
+    ghost use Rattle.types.specs.Trees.{members_code};
+    ghost use Rattle.hoststep.specs.Keeping.{AreKept, entry_of};
+    ghost use Rattle.hoststep.specs.Logs.{IsJournal, Log};
+    ghost use Rattle.network.specs.Standing.{machine_of};
+
+    ghost Value = { Log };
+
+    ghost coded = { Prim.hlevel (codes, members_code) };
+
+    ghost view = { λ j. record { config = j.network.config; entries = map entry_of j.entries.items } };
+
+    ghost invariant = { λ j. IsJournal (machine_of j.network) (map entry_of j.entries.items) × AreKept j.network.archive j.entries.items };
+}
+
+impl<S: Shelf> Journal<S> {
+    /// The journal of a network where nothing has happened, whatever lies on the shelf. It takes no memory.
+    pub fn new(alloc: Global, config: NetConfig, shelf: S) -> Journal<S>
+        ensures { result ≡ record { config = config; entries = [] } }
+    {
+        Journal {
+            alloc,
+            network: Network::new(alloc, config, shelf),
+            entries: Vec::new(alloc),
+        }
+    }
+
+    /// The configuration of the network.
+    pub fn config(&self) -> &NetConfig
+        ensures { result.now ≡ self.now.config }
+    {
+        self.network.config()
+    }
+
+    /// How many entries there are.
+    pub fn len(&self) -> usize
+        ensures { result ≡ length self.now.entries }
+    {
+        self.entries.len()
+    }
+
+    /// Whether there is none.
+    pub fn is_empty(&self) -> bool
+        ensures { result ≡ (length self.now.entries == 0) }
+    {
+        self.entries.is_empty()
+    }
+
+    /// A law: the entries are a run of the configuration.
+    pub fn replays(&self)
+        ensures { IsRun self.now.config self.now.entries }
+    {
+        let _entries = &self.entries;
+    }
+
+    /// One event, entered in the journal where it is not refused; what it gives out is answered whole.
+    ///
+    /// An error is the first refusal that applies, or says that memory is short; the journal is as it was.
+    pub fn apply(&mut self, event: Event) -> Result<Vec<Out>, Refusal>
+        ensures ok { IfOk result (λ v. IsEntered self.old (step_of event) v.items) }
+        ensures entered { IfOk result (λ v. self.new ≡ extended self.old (step_of event) v.items) }
+        ensures err { IfErr result (IsRefused self.old (step_of event)) }
+        ensures same { OnErr result (self.new ≡ self.old) }
+    {
+        let entered = self.enter(event, 1)?;
+        Ok(only(entered.copies))
+    }
+
+    /// One event as by [`Journal::apply`], with the entry that it makes and by which numbers its emissions
+    /// are named.
+    pub fn apply_recorded(&mut self, event: Event) -> Result<Recorded, Refusal>
+        ensures ok { IfOk result (λ r. IsEntered self.old (step_of event) r.outs.items) }
+        ensures entered { IfOk result (λ r. self.new ≡ extended self.old (step_of event) r.outs.items) }
+        ensures recorded { IfOk result (IsRecorded self.old event) }
+        ensures err { IfErr result (IsRefused self.old (step_of event)) }
+        ensures same { OnErr result (self.new ≡ self.old) }
+    {
+        let number = self.entries.len();
+        let Ok(copy) = event.try_copy(self.alloc) else {
+            // Memory: the copy has none.
+            return Err(Refusal::NoMemory);
+        };
+        let entered = self.enter(copy, 2)?;
+        let (outs, answer) = both(entered.copies);
+        Ok(Recorded {
+            number,
+            event,
+            outs,
+            marks: entered.marks,
+            answer,
+        })
+    }
+
+    /// One event, entered where it is not refused, with so many whole copies of what it gives out. An error
+    /// is as of [`Journal::apply`].
+    fn enter(&mut self, event: Event, copies: usize) -> Result<Entered, Refusal>
+        ensures ok { IfOk result (IsEnteredWith self.old (step_of event) copies) }
+        ensures entered { OnOk result (self.new ≡ extended self.old (step_of event) (outs_after self.old (step_of event))) }
+        ensures err { IfErr result (IsRefused self.old (step_of event)) }
+        ensures same { OnErr result (self.new ≡ self.old) }
+    {
+        if self.entries.reserve(1).is_err() {
+            // Memory: the entry has no room.
+            return Err(Refusal::NoMemory);
+        }
+        let applied = self.network.apply(&event, copies)?;
+        let Applied {
+            outs,
+            marks,
+            copies,
+            delivered,
+        } = applied;
+        let event = kept_event(event, delivered);
+        self.entries.push_reserved(Kept { event, outs });
+        Ok(Entered { marks, copies })
+    }
+
+    /// The entry of this number, made from the places of its envelopes: the event, a delivery with its bytes,
+    /// and what it gave out; `None` past the last. An error says that memory is short.
+    pub fn entry(
+        &self,
+        alloc: Global,
+        number: usize,
+    ) -> Result<Option<(Event, Vec<Out>)>, AllocError>
+        ensures { IfOk result (IsEntryAt (slice_get self.now.entries number)) }
+    {
+        match self.entries.get(number) {
+            None => Ok(None),
+            Some(kept) => {
+                let event = whole_event(alloc, &self.network, &kept.event)?;
+                let outs = whole_outs(alloc, &self.network, &kept.outs)?;
+                Ok(Some((event, outs)))
+            }
+        }
+    }
+}

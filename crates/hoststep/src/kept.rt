@@ -1,0 +1,241 @@
+//! Entries of a journal as they are kept, in places of its archive.
+
+ghost use Rattle.std.specs.Prelude.{◌≡◌, IfOk, IfSome, List, length, option_map};
+ghost use Rattle.codec.specs.Steps.{IsBytes};
+ghost use Rattle.envstore.specs.Archives.{IsFiled, sent_of};
+ghost use Rattle.protocol.specs.Networks.Reading.{Read};
+ghost use Rattle.protocol.specs.Networks.Step.{Delivers};
+ghost use Rattle.slot.specs.Filings.{AreFiledOuts, IsFiledOut, out_of, outs_of};
+ghost use Rattle.types.specs.Statements.{Sent};
+ghost use Rattle.network.specs.Answers.{delivered_of};
+ghost use Rattle.network.specs.Decoding.{reading, step_of};
+ghost use Rattle.hoststep.specs.Keeping.{IsKeptEvent, IsReadable, spelled_size, step_in};
+
+use codec::encode;
+use envstore::{Filed, Shelf};
+use network::Network;
+use slot::FiledOut;
+use std::alloc::{AllocError, Global};
+use types::{Bytes, Event, Kind, Nested, NodeId, Out};
+
+/// An applied event, as it is kept: what was delivered lies in the archive of the network.
+#[derive(Drop)]
+pub(crate) enum KeptEvent {
+    OpenSlot {
+        slot: u64,
+    },
+    CloseSlot {
+        slot: u64,
+    },
+    Propose {
+        slot: u64,
+        node: NodeId,
+        value: Bytes,
+    },
+    /// The envelope that the bytes were, and how many they were.
+    Deliver {
+        node: NodeId,
+        size: u64,
+        envelope: Filed,
+    },
+    Hear {
+        slot: u64,
+        node: NodeId,
+        from: NodeId,
+        kind: Kind,
+        number: u64,
+    },
+    NominationTimer {
+        slot: u64,
+        node: NodeId,
+        round: u32,
+    },
+    BallotTimer {
+        slot: u64,
+        node: NodeId,
+        counter: u32,
+    },
+    Reslice {
+        slot: u64,
+        node: NodeId,
+        slices: Nested,
+    },
+}
+
+/// An applied event with what it gave out.
+#[derive(Drop)]
+pub(crate) struct Kept {
+    pub event: KeptEvent,
+    pub outs: Vec<FiledOut>,
+}
+
+/// An event as it is kept. For the bytes of a delivery stands the place where their envelope was filed.
+pub(crate) fn kept_event(event: Event, delivered: Option<Filed>) -> KeptEvent
+    requires delivered { option_map sent_of delivered ≡ delivered_of (step_of event) }
+    requires readable { IsReadable (step_of event) }
+    ensures step { step_in result ≡ step_of event }
+    ensures filed { (archive : List Sent) → IfSome delivered (IsFiled archive) → IsKeptEvent archive result }
+{
+    match event {
+        Event::OpenSlot { slot } => KeptEvent::OpenSlot { slot },
+        Event::CloseSlot { slot } => KeptEvent::CloseSlot { slot },
+        Event::Propose { slot, node, value } => KeptEvent::Propose { slot, node, value },
+        Event::Deliver { node, bytes } => kept_delivery(node, &bytes, delivered),
+        Event::Hear {
+            slot,
+            node,
+            from,
+            kind,
+            number,
+        } => KeptEvent::Hear {
+            slot,
+            node,
+            from,
+            kind,
+            number,
+        },
+        Event::NominationTimer { slot, node, round } => {
+            KeptEvent::NominationTimer { slot, node, round }
+        }
+        Event::BallotTimer {
+            slot,
+            node,
+            counter,
+        } => KeptEvent::BallotTimer {
+            slot,
+            node,
+            counter,
+        },
+        Event::Reslice { slot, node, slices } => KeptEvent::Reslice { slot, node, slices },
+    }
+}
+
+/// A delivery as it is kept, of bytes that are an envelope.
+fn kept_delivery(node: NodeId, bytes: &Bytes, delivered: Option<Filed>) -> KeptEvent
+    requires delivered { option_map sent_of delivered ≡ delivered_of (Delivers node (length bytes.now) (reading bytes.now)) }
+    requires readable { IsReadable (Delivers node (length bytes.now) (reading bytes.now)) }
+    ensures step { step_in result ≡ Delivers node (length bytes.now) (reading bytes.now) }
+    ensures filed { (archive : List Sent) → IfSome delivered (IsFiled archive) → IsKeptEvent archive result }
+{
+    let Some(envelope) = delivered else {
+        unreachable!()
+    };
+    let size = count_bytes(bytes.as_slice());
+    KeptEvent::Deliver {
+        node,
+        size,
+        envelope,
+    }
+}
+
+/// How many bytes there are.
+fn count_bytes(bytes: &[u8]) -> u64
+    ensures count { result ≡ length bytes.now }
+    ensures bytes { IsBytes bytes.now }
+{
+    bytes.len() as u64
+}
+
+/// The event as it came, a delivery with its bytes: they are the one spelling of its envelope. An error says
+/// that memory is short.
+pub(crate) fn whole_event<S: Shelf>(
+    alloc: Global,
+    network: &Network<S>,
+    event: &KeptEvent,
+) -> Result<Event, AllocError>
+    requires { IsKeptEvent network.now.archive event.now }
+    ensures { IfOk result (λ e. step_of e ≡ step_in event.now) }
+{
+    match event {
+        KeptEvent::OpenSlot { slot } => Ok(Event::OpenSlot { slot: *slot }),
+        KeptEvent::CloseSlot { slot } => Ok(Event::CloseSlot { slot: *slot }),
+        KeptEvent::Propose { slot, node, value } => Ok(Event::Propose {
+            slot: *slot,
+            node: *node,
+            value: value.try_copy(alloc)?,
+        }),
+        KeptEvent::Deliver { node, envelope, .. } => Ok(Event::Deliver {
+            node: *node,
+            bytes: whole_bytes(alloc, network, envelope)?,
+        }),
+        KeptEvent::Hear {
+            slot,
+            node,
+            from,
+            kind,
+            number,
+        } => Ok(Event::Hear {
+            slot: *slot,
+            node: *node,
+            from: *from,
+            kind: *kind,
+            number: *number,
+        }),
+        KeptEvent::NominationTimer { slot, node, round } => Ok(Event::NominationTimer {
+            slot: *slot,
+            node: *node,
+            round: *round,
+        }),
+        KeptEvent::BallotTimer {
+            slot,
+            node,
+            counter,
+        } => Ok(Event::BallotTimer {
+            slot: *slot,
+            node: *node,
+            counter: *counter,
+        }),
+        KeptEvent::Reslice { slot, node, slices } => Ok(Event::Reslice {
+            slot: *slot,
+            node: *node,
+            slices: slices.try_copy(alloc)?,
+        }),
+    }
+}
+
+/// The bytes of an envelope that was filed. An error says that memory is short.
+fn whole_bytes<S: Shelf>(
+    alloc: Global,
+    network: &Network<S>,
+    envelope: &Filed,
+) -> Result<Bytes, AllocError>
+    requires { IsFiled network.now.archive envelope.now }
+    ensures count { IfOk result (λ b. length b ≡ spelled_size (sent_of envelope.now)) }
+    ensures says { IfOk result (λ b. reading b ≡ Read (sent_of envelope.now)) }
+{
+    let bytes = encode(alloc, network.read(envelope))?;
+    Ok(Bytes::new(bytes))
+}
+
+/// What was given out, with whole envelopes. An error says that memory is short.
+pub(crate) fn whole_outs<S: Shelf>(
+    alloc: Global,
+    network: &Network<S>,
+    outs: &[FiledOut],
+) -> Result<Vec<Out>, AllocError>
+    requires { AreFiledOuts network.now.archive outs.now }
+    ensures { IfOk result (λ v. v.items ≡ outs_of outs.now) }
+{
+    let mut whole = Vec::with_capacity(alloc, outs.len())?;
+    for out in outs {
+        whole.push(whole_out(alloc, network, out)?)?;
+    }
+    Ok(whole)
+}
+
+/// One of what was given out, with its whole envelope. An error says that memory is short.
+fn whole_out<S: Shelf>(
+    alloc: Global,
+    network: &Network<S>,
+    out: &FiledOut,
+) -> Result<Out, AllocError>
+    requires { IsFiledOut network.now.archive out.now }
+    ensures { IfOk result (λ o. o ≡ out_of out.now) }
+{
+    match out {
+        FiledOut::ArmNomination(round) => Ok(Out::ArmNomination(*round)),
+        FiledOut::ArmBallot(counter) => Ok(Out::ArmBallot(*counter)),
+        FiledOut::Emit(envelope) => Ok(Out::Emit(network.read(envelope).try_copy(alloc)?)),
+        FiledOut::Externalized(value) => Ok(Out::Externalized(value.try_copy()?)),
+    }
+}

@@ -1,0 +1,23 @@
+//! The networks of a host: each event by the network's rules, its journal, and the journals of many networks
+//! by number (this host's profile).
+//!
+//! A [`NetMachine`] is one network without its journal. A [`Journal`] is a network with the entries that
+//! led to it, and a [`World`] has the journals of many networks by number. All envelopes of a network lie in
+//! one archive; no contract speaks of their numbers here.
+#![tactic(auto)]
+
+mod entered;
+mod journal;
+mod kept;
+mod machine;
+mod recorded;
+mod world;
+
+pub use configuration::{Budgets, ConfigError, Host, NetConfig, Roster, Shares};
+pub use journal::Journal;
+pub use machine::NetMachine;
+pub use recorded::Recorded;
+pub use world::{MAX_NETWORKS, World, WorldError};
+
+#[cfg(test)]
+mod tests;

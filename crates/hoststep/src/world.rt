@@ -1,0 +1,190 @@
+//! The journals of many networks, by number.
+
+ghost use Rattle.std.specs.Prelude.{◌≡◌, ◌<◌, ◌≢◌, [], Err, IfErr, None, OnErr, OnOk, length, option_map};
+ghost use Rattle.protocol.specs.Hosts.{History};
+ghost use Rattle.types.specs.declared.event.Refusal.TheVariants.{NoMemory};
+ghost use Rattle.hoststep.specs.Worlds.{IsAnswered, IsNotAdded, IsPlaceOf, IsToldBy, and_then, joined, log_at, logs_with};
+
+use crate::journal::Journal;
+use configuration::NetConfig;
+use envstore::Shelf;
+use std::alloc::Global;
+use std::marker::Model;
+use types::{Event, Out, Refusal};
+
+/// The most networks of a host (this host's profile).
+pub const MAX_NETWORKS: usize = 4096;
+
+/// Why a network is not added.
+#[derive(Clone, Copy, Debug, PartialEq, Eq)]
+pub enum WorldError {
+    /// There is a network of that number.
+    NetTwice,
+    /// There are 4,096 networks.
+    TooManyNets,
+    /// Memory was wanting.
+    NoMemory,
+}
+
+/// The journals of a host, ascending by the numbers of their networks.
+///
+/// The numbers stand in a list of their own, so that a network is found by a binary search in memory that
+/// lies together, and an event costs the same among 4,096 networks. Contracts see the list of the journals.
+#[derive(Drop)]
+pub struct World<S: Shelf> {
+    alloc: Global,
+    numbers: Vec<u32>,
+    journals: Vec<Journal<S>>,
+}
+
+impl<S: Shelf> Model for World<S> {
+    ghost use Rattle.std.specs.Coded.{codes};
+    ghost use Rattle.std.specs.Prelude.{◌≡◌, List};
+    ghost use Rattle.types.specs.Trees.{members_code};
+    ghost use Rattle.hoststep.specs.Logs.{Log};
+    ghost use Rattle.hoststep.specs.Worlds.{AreByNumber, numbers_of};
+
+    ghost Value = { List Log };
+
+    ghost coded = { Prim.hlevel (codes, members_code) };
+
+    ghost view = { λ w. w.journals.items };
+
+    ghost invariant = { λ w. (w.numbers.items ≡ numbers_of w.journals.items) × AreByNumber w.journals.items };
+}
+
+impl<S: Shelf> World<S> {
+    /// A host without networks. It takes no memory.
+    pub fn new(alloc: Global) -> World<S>
+        ensures { result ≡ [] }
+    {
+        World {
+            alloc,
+            numbers: Vec::new(alloc),
+            journals: Vec::new(alloc),
+        }
+    }
+
+    /// A network joins, with a shelf for its envelopes; nothing has happened to it. Events that named its
+    /// number before were refused, so a history of the host is one without them.
+    ///
+    /// An error says that a network of that number is there, or that 4,096 networks are, or that memory is
+    /// short, in this order; the host is as it was.
+    pub fn add(&mut self, config: NetConfig, shelf: S) -> Result<(), WorldError>
+    where
+        S: Drop,
+        ensures ok { OnOk result (self.new ≡ logs_with (record { config = config; entries = [] }) self.old) }
+        ensures fresh { OnOk result (log_at self.old config.number ≡ None) }
+        ensures err { IfErr result (IsNotAdded self.old config.number) }
+        ensures same { OnErr result (self.new ≡ self.old) }
+        ensures told { (h : History) → IsToldBy h self.old → OnOk result (IsToldBy (joined config h) self.new) }
+    {
+        match self.join(Journal::new(self.alloc, config, shelf)) {
+            Ok(()) => Ok(()),
+            Err((error, journal)) => {
+                drop(journal);
+                Err(error)
+            }
+        }
+    }
+
+    /// The journal of a network joins, with all that it has, in the place of its number. It is handed back
+    /// where a network of that number is there, or 4,096 are, or memory is short; then the host is as it was.
+    pub fn adopt(&mut self, journal: Journal<S>) -> Result<(), Journal<S>>
+        ensures ok { OnOk result (self.new ≡ logs_with journal self.old) }
+        ensures fresh { OnOk result (log_at self.old journal.config.number ≡ None) }
+        ensures back { IfErr result (λ j. j ≡ journal) }
+        ensures same { OnErr result (self.new ≡ self.old) }
+    {
+        match self.join(journal) {
+            Ok(()) => Ok(()),
+            Err((_, journal)) => Err(journal),
+        }
+    }
+
+    /// The journal of a network, by a binary search.
+    pub fn journal(&self, number: u32) -> Option<&Journal<S>>
+        ensures { option_map (λ j. j.now) result ≡ log_at self.now number }
+    {
+        match self.place(number) {
+            Ok(at) => Some(&self.journals[at]),
+            Err(_) => None,
+        }
+    }
+
+    /// The journals, ascending by the numbers of their networks.
+    pub fn journals(&self) -> &[Journal<S>]
+        ensures { result.now ≡ self.now }
+    {
+        &self.journals
+    }
+
+    /// One event of a network, by its journal. The event of a network that is not there is refused.
+    ///
+    /// An error is the first refusal that applies, or says that memory is short; the host is as it was.
+    pub fn apply(&mut self, number: u32, event: Event) -> Result<Vec<Out>, Refusal>
+        ensures answer { IsAnswered self.old number event result self.new }
+        ensures same { OnErr result (self.new ≡ self.old) }
+        ensures told { (h : History) → IsToldBy h self.old → result ≢ Err NoMemory → IsToldBy (and_then h number event) self.new }
+    {
+        match self.place(number) {
+            Ok(at) => self.journals[at].apply(event),
+            Err(_) => Err(Refusal::NoSuchNetwork),
+        }
+    }
+
+    /// The place of a network among them, or where it would stand.
+    fn place(&self, number: u32) -> Result<usize, usize>
+        ensures { IsPlaceOf self.now number result }
+    {
+        self.numbers.binary_search(&number)
+    }
+
+    /// A journal joins in the place of its number. With the reason it is handed back where a network of that
+    /// number is there, or 4,096 are, or memory is short, in this order; then the host is as it was.
+    fn join(&mut self, journal: Journal<S>) -> Result<(), (WorldError, Journal<S>)>
+        ensures ok { OnOk result (self.new ≡ logs_with journal self.old) }
+        ensures fresh { OnOk result (log_at self.old journal.config.number ≡ None) }
+        ensures err { IfErr result (λ e. IsNotAdded self.old journal.config.number e.0) }
+        ensures back { IfErr result (λ e. e.1 ≡ journal) }
+        ensures same { OnErr result (self.new ≡ self.old) }
+    {
+        match self.place(journal.config().number()) {
+            Ok(_) => Err((WorldError::NetTwice, journal)),
+            Err(at) => {
+                if self.journals.len() >= MAX_NETWORKS {
+                    return Err((WorldError::TooManyNets, journal));
+                }
+                match self.put_at(at, journal) {
+                    Ok(()) => Ok(()),
+                    // Memory: the journal has no room.
+                    Err(journal) => Err((WorldError::NoMemory, journal)),
+                }
+            }
+        }
+    }
+
+    /// A journal joins at the place of its number. It is handed back where memory is short; then the host is
+    /// as it was.
+    fn put_at(&mut self, at: usize, journal: Journal<S>) -> Result<(), Journal<S>>
+        requires at { IsPlaceOf self.old journal.config.number (Err at) }
+        requires few { length self.old < 4096 }
+        ensures ok { OnOk result (self.new ≡ logs_with journal self.old) }
+        ensures back { IfErr result (λ j. j ≡ journal) }
+        ensures same { OnErr result (self.new ≡ self.old) }
+    {
+        let number = journal.config().number();
+        if self.numbers.reserve(1).is_err() {
+            return Err(journal);
+        }
+        match self.journals.insert(at, journal) {
+            Err(refused) => Err(refused.value),
+            Ok(()) => {
+                let Ok(()) = self.numbers.insert(at, number) else {
+                    unreachable!()
+                };
+                Ok(())
+            }
+        }
+    }
+}

@@ -1,0 +1,71 @@
+-- What the tests of an event answer, by places.
+use Rattle.std.proofs.Common.{◌≡◌, ℕ, zero, suc, ◌<◌, ◌≤◌, ◌+◌, Bool, true, false, not, nat_lt, List, [], ◌∷◌, map, Option, Some, None, is_some, option_map, slice_get, if◌then◌else◌, refl, sym, ◌∙◌, ap, subst, arith, length}
+use Rattle.std.proofs.lemmas.Bool.Decides.{nat_tests}
+use Rattle.types.specs.declared.event.Refusal.{Refusal}
+use Rattle.types.specs.declared.event.Refusal.TheVariants.{NoSuchNode, SlotNotOpen}
+use Rattle.protocol.specs.Networks.{Host, Net, Slot, Place, is_hosted, is_hosted_not, is_open, is_open_not, first_that}
+use Rattle.configuration.specs.Configs.{index_in, index_of_name, names_of}
+use Rattle.network.specs.Deeds.{IsSlotThere, index_of_slot}
+use Rattle.network.specs.Lodgings.{slot_of}
+use Rattle.network.specs.Standing.{Standing, StandsFor, machine_of}
+use Rattle.network.proofs.Indexes.{at_key, at-index, at-none, index-within, mapped-length}
+use Rattle.network.proofs.Plans.{places_at-is, slices_of-is}
+
+-- ---- lists of tests
+pub stops : (t : Bool × Refusal) (r : Refusal) (ts : List (Bool × Refusal)) → t ≡ (true, r) → first_that (t ∷ ts) ≡ Some r
+stops t r ts h = ap (λ (x : Bool × Refusal). first_that (x ∷ ts)) h
+
+pub refuses : (b : Bool) (r : Refusal) (ts : List (Bool × Refusal)) → b ≡ true → first_that ((b, r) ∷ ts) ≡ Some r
+refuses b r ts h = ap (λ x. if x then Some r else first_that ts) h
+
+pub passes : (t : Bool × Refusal) (ts : List (Bool × Refusal)) → t.0 ≡ false → first_that (t ∷ ts) ≡ first_that ts
+passes t ts h = ap (λ x. if x then Some t.1 else first_that ts) h
+
+-- ---- hosted nodes and open slots
+is_some-map : {X Y : Type 0} (f : X → Y) (xs : List X) (k : ℕ) → k < length xs → is_some (option_map f (slice_get xs k)) ≡ true
+is_some-map f [] k l = absurd (omega (arith, l))
+is_some-map f (x ∷ xs) zero l = refl
+is_some-map f (x ∷ xs) (suc k) l = is_some-map f xs k (omega (arith, l))
+
+pub hosted : (net : Net) (u h : ℕ) → index_in (names_of net.hosts) u ≡ Some h → is_hosted net u ≡ true
+hosted net u h q =
+    let l : h < length net.hosts = subst (λ n. h < n) (mapped-length (λ (x : Host). x.name) net.hosts) (index-within (names_of net.hosts) u h q) in
+    ap is_some (slices_of-is net.hosts u ∙ at-index (λ (x : Host). x.name) (λ (x : Host). x.slices) net.hosts u h q) ∙ is_some-map (λ (x : Host). x.slices) net.hosts h l
+
+pub hosted-not : (net : Net) (u : ℕ) → index_in (names_of net.hosts) u ≡ None → is_hosted net u ≡ false
+hosted-not net u q = ap is_some (slices_of-is net.hosts u ∙ at-none (λ (x : Host). x.name) (λ (x : Host). x.slices) net.hosts u q)
+
+pub opened_at : (net : Net) (i k : ℕ) → index_of_slot net.slots i ≡ Some k → is_open net i ≡ true
+opened_at net i k q =
+    let l : k < length net.slots = subst (λ n. k < n) (mapped-length (λ (x : Slot). x.number) net.slots) (index-within (map (λ (x : Slot). x.number) net.slots) i k q) in
+    ap is_some (places_at-is net.slots i ∙ at-index (λ (x : Slot). x.number) (λ (x : Slot). x.places) net.slots i k q) ∙ is_some-map (λ (x : Slot). x.places) net.slots k l
+
+pub opened_not : (net : Net) (i : ℕ) → index_of_slot net.slots i ≡ None → is_open net i ≡ false
+opened_not net i q = ap is_some (places_at-is net.slots i ∙ at-none (λ (x : Slot). x.number) (λ (x : Slot). x.places) net.slots i q)
+
+-- ---- the networks for which a machine stands
+pub host-in : (m : Standing) (net : Net) (u : ℕ) → StandsFor (machine_of m) net → index_in (names_of net.hosts) u ≡ index_of_name m.config.hosts u
+host-in m net u s = ap (λ (n : Net). index_in (names_of n.hosts) u) s.is
+
+pub slot-in : (m : Standing) (net : Net) (i : ℕ) → StandsFor (machine_of m) net → index_of_slot net.slots i ≡ index_of_slot (map slot_of (machine_of m).slots) i
+slot-in m net i s = ap (λ (n : Net). index_of_slot n.slots i) s.is
+
+-- ---- the tests that many events share
+pub no_host : (m : Standing) (net : Net) (u : ℕ) (ts : List (Bool × Refusal)) → StandsFor (machine_of m) net → index_of_name m.config.hosts u ≡ None → first_that (is_hosted_not net u ∷ ts) ≡ Some NoSuchNode
+no_host m net u ts s h = refuses (not (is_hosted net u)) NoSuchNode ts (ap not (hosted-not net u (host-in m net u s ∙ h)))
+
+pub host_then : (m : Standing) (net : Net) (u h : ℕ) (ts : List (Bool × Refusal)) → StandsFor (machine_of m) net → index_of_name m.config.hosts u ≡ Some h → first_that (is_hosted_not net u ∷ ts) ≡ first_that ts
+host_then m net u h ts s q = passes (is_hosted_not net u) ts (ap not (hosted net u h (host-in m net u s ∙ q)))
+
+pub not_open : (m : Standing) (net : Net) (i : ℕ) (ts : List (Bool × Refusal)) → StandsFor (machine_of m) net → index_of_slot (map slot_of (machine_of m).slots) i ≡ None → first_that (is_open_not net i ∷ ts) ≡ Some SlotNotOpen
+not_open m net i ts s h = refuses (not (is_open net i)) SlotNotOpen ts (ap not (opened_not net i (slot-in m net i s ∙ h)))
+
+pub open_then : (m : Standing) (net : Net) (i k : ℕ) (ts : List (Bool × Refusal)) → StandsFor (machine_of m) net → IsSlotThere m i k → first_that (is_open_not net i ∷ ts) ≡ first_that ts
+open_then m net i k ts s q = passes (is_open_not net i) ts (ap not (opened_at net i k (slot-in m net i s ∙ q)))
+
+-- ---- limits
+pub below-is : (a b : ℕ) → a < b → nat_lt a b ≡ true
+below-is a b h = grind (arith, nat_tests, h)
+
+pub below-not : (a b : ℕ) → b ≤ a → nat_lt a b ≡ false
+below-not a b h = grind (arith, nat_tests, h)

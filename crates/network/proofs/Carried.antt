@@ -1,0 +1,617 @@
+-- From a deed to the step of the network.
+use Rattle.std.proofs.Common.{◌≡◌, ◌⊎◌, ℕ, zero, suc, ◌<◌, ◌≤◌, ◌+◌, ◌^◌, Bool, true, false, not, ◌||◌, ◌==◌, length, take, drop, List, [], ◌∷◌, ◌++◌, map, replicate, slice_get, Option, Some, None, option_map, if◌then◌else◌, refl, sym, ◌∙◌, ap, ap₂, subst, inl, inr, arith}
+use Rattle.std.specs.List.{All, AllByRecursion, list_any, remove}
+use Rattle.std.proofs.lemmas.Bool.{false≢true, and_parts, eqb-true}
+use Rattle.std.proofs.lemmas.Bool.Decides.{nat_tests}
+use Rattle.std.proofs.lemmas.List.{drop-map, map-append, take-map}
+use Rattle.std.proofs.lemmas.List.Elements.{All-append, All-cons, All-drop, All-head, All-map, All-nil, All-tail, All-take, All-weaker}
+use Rattle.types.specs.Statements.{Sent}
+use Rattle.types.specs.Trees.{all_differ}
+use Rattle.types.specs.declared.event.NodeEvent.{NodeEvent}
+use Rattle.types.specs.declared.event.Out.{Out}
+use Rattle.protocol.specs.Networks.{Net, Place, Reply, Slot, Step, effect, emissions, first_that, is_open, known, moved, net_step, on_budgets, on_opens, place_of, places_at, replied, size_of, source, tests}
+use Rattle.protocol.specs.Networks.Reply.{Done}
+use Rattle.protocol.specs.Networks.Step.{Opens, Closes, Asks, Delivers, Hears, NominationTimes, BallotTimes, Reslices}
+use Rattle.protocol.specs.Rosters.{Draw, Roster, Share, Source, bytes_drawn, events_drawn}
+use Rattle.protocol.specs.Rosters.Share.{Own, Pair}
+use Rattle.protocol.specs.Counts.{HasBytes, HasEvents, HasRoom, IsCountedAfter, is_of_share, is_opening}
+use Rattle.protocol.proofs.CountLaws.{applied_where_room, next}
+use Rattle.protocol.proofs.EffectLaws.{effect-keeps}
+use Rattle.protocol.proofs.RoomLaws.{steps_are_counted}
+use Rattle.slot.specs.Filings.{event_of, outs_of}
+use Rattle.configuration.specs.Configs.{index_in, names_of}
+use Rattle.configuration.specs.Budgets.{AreShares}
+use Rattle.network.specs.Answers.{IsApplied}
+use Rattle.network.specs.Changes.{IsChangedAt, changed_at}
+use Rattle.network.specs.Charges.{HasRoomInCounts, HasRoomOnNetwork, IsActed, IsReady, IsSlotActed, on_budgets_of, on_opens_of}
+use Rattle.network.specs.Deeds.{IsDrawn, IsNamed, IsNodeOf, IsPlan, IsThere, acted, handed, node_at, outs_after, slots_after}
+use Rattle.network.specs.Doings.{IsAnswer, IsDoable, IsDone, marks_after, slots_of}
+use Rattle.network.specs.Lodgings.{AreTallied, IsLodged, IsTallied, IsUncounted, Lodging, Lodgings, Seat, Seats, bytes_from, events_from, place_in, seat_of, seats_of, slot_of}
+use Rattle.network.specs.Marks.{marks_in, numbered, place_named, told_at, told_before}
+use Rattle.network.specs.Standing.{IsStanding, IsStep, IsTidy, Machine, Standing, StandsFor, machine_of, net_of}
+use Rattle.network.specs.declared.applied.Applied.{Applied}
+use Rattle.network.specs.declared.plan.Charge.{Charge}
+use Rattle.network.specs.declared.plan.Deed.{Deed}
+use Rattle.network.specs.declared.plan.Deed.TheVariants.{Open, Close, Act, Hand}
+use Rattle.network.specs.declared.plan.Drawn.{Drawn}
+use Rattle.network.specs.declared.plan.Drawn.TheVariants.{Budgets as ByBudgets, Opens as ByOpens, Own as ByOwn, Pair as ByPair}
+use Rattle.network.specs.declared.plan.Plan.{Plan}
+use Rattle.network.proofs.Counting.{Agrees, IsSourceOf, agrees, moves, pair_of, source-of, spared-name, spared-none, spared-slot, stays}
+use Rattle.network.proofs.Indexes.{at_key, at-index}
+use Rattle.network.proofs.Tidiness.{IsFresh, Neat, absent, fresh-of, moved-name, names_at, neat, slot_numbers}
+
+-- ---- a place that is the only one
+-- this stands there and nowhere else
+abbrev pub IsOnlyAt : ℕ → ℕ → List ℕ → Type 0
+IsOnlyAt i k [] = ⊥
+IsOnlyAt i zero (n ∷ ns) = (n ≡ i) × AllByRecursion (λ m. (m == i) ≡ false) ns
+IsOnlyAt i (suc k) (n ∷ ns) = ((n == i) ≡ false) × IsOnlyAt i k ns
+
+pub none-any : (ns : List ℕ) (i : ℕ) → list_any (λ w. w == i) ns ≡ false → AllByRecursion (λ m. (m == i) ≡ false) ns
+none-any [] i h = tt
+none-any (n ∷ ns) i h = let p = both (n == i) (list_any (λ w. w == i) ns) h in (p.0, none-any ns i p.1)
+  where
+    both : (b c : Bool) → (b || c) ≡ false → (b ≡ false) × (c ≡ false)
+    both true c h = absurd (false≢true (sym h))
+    both false c h = (refl, h)
+
+pub only-at : (ns : List ℕ) (i k : ℕ) → index_in ns i ≡ Some k → all_differ ns ≡ true → IsOnlyAt i k ns
+only-at [] i k h d = absurd (cc)
+only-at (n ∷ ns) i k h d = go (n == i) (index_in ns i) (λ j e g. only-at ns i j e g) refl refl h
+  where
+    parts : (not (list_any (λ w. w == n) ns) ≡ true) × (all_differ ns ≡ true)
+    parts = and_parts (not (list_any (λ w. w == n) ns)) (all_differ ns) d
+
+    negated : (b : Bool) → not b ≡ true → b ≡ false
+    negated true h = absurd (false≢true h)
+    negated false h = refl
+
+    go : (b : Bool) (o : Option ℕ) → ((j : ℕ) → index_in ns i ≡ Some j → all_differ ns ≡ true → IsOnlyAt i j ns) → (n == i) ≡ b → index_in ns i ≡ o → (if b then Some 0 else option_map suc o) ≡ Some k → IsOnlyAt i k (n ∷ ns)
+    go true o ih q e p =
+        let z : 0 ≡ k = cc in
+        let same : n ≡ i = eqb-true n i q in
+        subst (λ j. IsOnlyAt i j (n ∷ ns)) z (same, none-any ns i (ap (λ v. list_any (λ w. w == v) ns) (sym same) ∙ negated (list_any (λ w. w == n) ns) parts.0))
+    go false None ih q e p = absurd (cc)
+    go false (Some j) ih q e p = let z : suc j ≡ k = cc in subst (λ j. IsOnlyAt i j (n ∷ ns)) z (q, ih j e parts.1)
+
+others : {X : Type 0} (key : X → ℕ) (P Q : X → Type 0) (i : ℕ) (xs : List X) → AllByRecursion (λ m. (m == i) ≡ false) (map key xs) → ((x : X) → (key x == i) ≡ false → P x → Q x) → All P xs → All Q xs
+others key P Q i [] o miss a = All-nil Q
+others key P Q i (x ∷ xs) o miss a = All-cons Q x xs (miss x o.0 (All-head P x xs a)) (others key P Q i xs o.1 miss (All-tail P x xs a))
+
+-- a property of all but one passes over a change of that one
+all-changed : {X : Type 0} (key : X → ℕ) (R : X → X → Type 0) (P Q : X → Type 0) (i k : ℕ) (old new : List X) → IsOnlyAt i k (map key old) → IsChangedAt R k old new
+    → ((x : X) → (key x == i) ≡ false → P x → Q x) → ((x y : X) → key x ≡ i → R x y → P x → Q y) → All P old → All Q new
+all-changed key R P Q i k [] new o r miss hit a = absurd r
+all-changed key R P Q i k (x ∷ xs) [] o r miss hit a = absurd r
+all-changed {X} key R P Q i zero (x ∷ xs) (y ∷ ys) o r miss hit a =
+    All-cons Q y ys (hit x y o.0 r.0 (All-head P x xs a)) (subst (λ (zs : List X). All Q zs) r.1 (others key P Q i xs o.1 miss (All-tail P x xs a)))
+all-changed key R P Q i (suc k) (x ∷ xs) (y ∷ ys) o r miss hit a =
+    All-cons Q y ys (subst Q r.0 (miss x o.0 (All-head P x xs a))) (all-changed key R P Q i k xs ys o.1 r.1 miss hit (All-tail P x xs a))
+
+-- ---- slots without numbers of archives and counts
+abbrev node_of : Seat → Place
+node_of x = x.place
+
+abbrev name_at : Lodging → ℕ
+name_at l = l.held.node.name
+
+abbrev number_at : Lodgings → ℕ
+number_at s = s.number
+
+pub places-are : (ps : List Lodging) → map node_of (map seat_of ps) ≡ map place_in ps
+places-are [] = refl
+places-are (p ∷ ps) = ap (λ (qs : List Place). place_in p ∷ qs) (places-are ps)
+
+names-are : (ps : List Lodging) → map (λ (x : Seat). x.place.node.name) (map seat_of ps) ≡ map name_at ps
+names-are [] = refl
+names-are (p ∷ ps) = ap (λ (ns : List ℕ). name_at p ∷ ns) (names-are ps)
+
+pub numbers-are : (ss : List Lodgings) → map (λ (s : Slot). s.number) (slots_of ss) ≡ map number_at ss
+numbers-are [] = refl
+numbers-are (s ∷ ss) = ap (λ (ns : List ℕ). s.number ∷ ns) (numbers-are ss)
+
+seat-numbers : (ss : List Lodgings) → map (λ (s : Seats). s.number) (map seats_of ss) ≡ map number_at ss
+seat-numbers [] = refl
+seat-numbers (s ∷ ss) = ap (λ (ns : List ℕ). s.number ∷ ns) (seat-numbers ss)
+
+acted-places : (c : Charge) (e : NodeEvent) (h : ℕ) (old new : List Lodging) → IsChangedAt (IsActed c e) h old new → map node_of (map seat_of new) ≡ changed_at h (moved e) (map node_of (map seat_of old))
+acted-places c e h [] new r = absurd r
+acted-places c e h (x ∷ xs) [] r = absurd r
+acted-places c e zero (x ∷ xs) (y ∷ ys) r = ap₂ (λ (p : Place) (ps : List Place). p ∷ ps) r.0.place (sym (ap (λ (zs : List Lodging). map node_of (map seat_of zs)) r.1))
+acted-places c e (suc h) (x ∷ xs) (y ∷ ys) r = ap₂ (λ (p : Place) (ps : List Place). p ∷ ps) (sym (ap place_in r.0)) (acted-places c e h xs ys r.1)
+
+acted-slots : (c : Charge) (e : NodeEvent) (h k : ℕ) (old new : List Lodgings) → IsChangedAt (IsSlotActed c h e) k old new → slots_of new ≡ acted (slots_of old) k h e
+acted-slots c e h k [] new r = absurd r
+acted-slots c e h k (x ∷ xs) [] r = absurd r
+acted-slots c e h zero (x ∷ xs) (y ∷ ys) r =
+    ap₂ {C = List Slot} (λ (s : Slot) (ss : List Slot). s ∷ ss) (λ j. record { number = r.0.number j; places = acted-places c e h x.places y.places r.0.places j }) (sym (ap slots_of r.1))
+acted-slots c e h (suc k) (x ∷ xs) (y ∷ ys) r = ap₂ {C = List Slot} (λ (s : Slot) (ss : List Slot). s ∷ ss) (sym (ap (λ (s : Lodgings). slot_of (seats_of s)) r.0)) (acted-slots c e h k xs ys r.1)
+
+map-remove : {X Y : Type 0} (f : X → Y) (xs : List X) (k : ℕ) → map f (remove xs k) ≡ remove (map f xs) k
+map-remove f xs k = map-append f (take k xs) (drop (suc k) xs) ∙ ap₂ (λ ys zs. ys ++ zs) (sym (take-map f k xs)) (sym (drop-map f (suc k) xs))
+
+pub done-slots : (c : Charge) (d : Deed) (old new : List Lodgings) → IsDone c d old new → slots_of new ≡ slots_after (slots_of old) d
+done-slots c (Open s) old new h = ap slots_of h ∙ ap (map slot_of) (map-append seats_of old (s ∷ [])) ∙ map-append slot_of (map seats_of old) (seats_of s ∷ [])
+done-slots c (Close k) old new h = ap slots_of h ∙ ap (map slot_of) (map-remove seats_of old k) ∙ map-remove slot_of (map seats_of old) k
+done-slots c (Act k h e) old new d = acted-slots c (event_of e) h k old new d
+done-slots c (Hand k h e) old new d = acted-slots c (NodeEvent.Take e) h k old new d
+
+-- ---- what is counted on the network
+pub budgets-are : (m : Machine) (d : Drawn) (s : Source) → IsDrawn m d s → (n : ℕ) → on_budgets s n ≡ on_budgets_of d n
+budgets-are m ByBudgets s q n = ap (λ z. on_budgets z n) q
+budgets-are m ByOpens s q n = ap (λ z. on_budgets z n) q.2
+budgets-are m (ByOwn k h) s q n = ap (λ z. on_budgets z n) q.6
+budgets-are m (ByPair k h u) s q n = ap (λ z. on_budgets z n) q.6
+
+pub opens-are : (m : Machine) (d : Drawn) (s : Source) → IsDrawn m d s → on_opens s ≡ on_opens_of d
+opens-are m ByBudgets s q = ap on_opens q
+opens-are m ByOpens s q = ap on_opens q.2
+opens-are m (ByOwn k h) s q = ap on_opens q.6
+opens-are m (ByPair k h u) s q = ap on_opens q.6
+
+-- ---- what is counted at the nodes
+-- the hosted nodes stand in their order at each slot
+names-all : (ns : List ℕ) (ss : List Lodgings) → AllByRecursion (λ (s : Seats). map (λ (x : Seat). x.place.node.name) s.seats ≡ ns) (map seats_of ss) → All (λ (s : Lodgings). map name_at s.places ≡ ns) ss
+names-all ns [] a = All-nil (λ (s : Lodgings). map name_at s.places ≡ ns)
+names-all ns (s ∷ ss) a = All-cons (λ (s : Lodgings). map name_at s.places ≡ ns) s ss (sym (names-are s.places) ∙ a.0) (names-all ns ss a.1)
+
+unmapped : {X Y : Type 0} (P : X → Type 0) (f : Y → X) (ys : List Y) → All P (map f ys) → All (λ y. P (f y)) ys
+unmapped P f [] a = All-nil (λ y. P (f y))
+unmapped P f (y ∷ ys) a = All-cons (λ y. P (f y)) y ys (All-head P (f y) (map f ys) a) (unmapped P f ys (All-tail P (f y) (map f ys) a))
+
+both-all : {X : Type 0} (P Q : X → Type 0) (xs : List X) → All P xs → All Q xs → All (λ x. P x × Q x) xs
+both-all P Q [] a b = All-nil (λ x. P x × Q x)
+both-all P Q (x ∷ xs) a b = All-cons (λ x. P x × Q x) x xs (All-head P x xs a, All-head Q x xs b) (both-all P Q xs (All-tail P x xs a) (All-tail Q x xs b))
+
+abbrev AreCounted : List Draw → Lodgings → Type 0
+AreCounted draws s = All (λ (l : Lodging). IsTallied s.number draws (seat_of l)) s.places
+
+counted-from : (draws : List Draw) (ss : List Lodgings) → AreTallied draws (map seats_of ss) → All (AreCounted draws) ss
+counted-from draws ss a =
+    All-weaker (λ (s : Lodgings). All (IsTallied s.number draws) (map seat_of s.places)) (AreCounted draws) (λ s b. unmapped (IsTallied s.number draws) seat_of s.places b) ss
+    (unmapped (λ (s : Seats). All (IsTallied s.number draws) s.seats) seats_of ss a)
+
+counted-to : (draws : List Draw) (ss : List Lodgings) → All (AreCounted draws) ss → AreTallied draws (map seats_of ss)
+counted-to draws ss a =
+    All-map (λ (s : Seats). All (IsTallied s.number draws) s.seats) seats_of ss
+    (All-weaker (AreCounted draws) (λ (s : Lodgings). All (IsTallied s.number draws) (map seat_of s.places)) (λ s b. All-map (IsTallied s.number draws) seat_of s.places b) ss a)
+
+-- an event of a node
+module _ (net after : Net) (e : Step) (c : IsCountedAfter net e after) (i u : ℕ) (o : (n : ℕ) → is_opening n e ≡ false) (q : IsSourceOf i u (source net.roster e)) where
+  spared-here : (s : Lodgings) → (s.number == i) ≡ false → AreCounted net.draws s → AreCounted after.draws s
+  spared-here s d a =
+      All-weaker (λ (l : Lodging). IsTallied s.number net.draws (seat_of l)) (λ (l : Lodging). IsTallied s.number after.draws (seat_of l))
+      (λ l t. stays net after e s.number (seat_of l) c (o s.number) (spared-slot i u s.number l.held.node.name (source net.roster e) q d) t) s.places a
+
+  module _ (g : Charge) (ev : NodeEvent) (size : g.size ≡ size_of e) (agree : Agrees i u g.drawn (source net.roster e)) where
+    moved-here : (h : ℕ) (x y : Lodgings) → x.number ≡ i → IsSlotActed g h ev x y → IsOnlyAt u h (map name_at x.places) → AreCounted net.draws x → AreCounted after.draws y
+    moved-here h x y same r only a =
+        subst (λ n. All (λ (l : Lodging). IsTallied n after.draws (seat_of l)) y.places) (sym r.number)
+        (all-changed name_at (IsActed g ev) (λ (l : Lodging). IsTallied x.number net.draws (seat_of l)) (λ (l : Lodging). IsTallied x.number after.draws (seat_of l)) u h x.places y.places only r.places
+        (λ l d t. stays net after e x.number (seat_of l) c (o x.number) (spared-name i u x.number l.held.node.name (source net.roster e) q d) t)
+        (λ l k w acted t. moves net after e x.number g l k c (o x.number)
+        (subst (λ m. Agrees m l.held.node.name g.drawn (source net.roster e)) (sym same) (subst (λ m. Agrees i m g.drawn (source net.roster e)) (sym w) agree))
+        size (ap (λ (p : Place). p.node.name) acted.place ∙ moved-name ev (place_in l)) acted.charged t)
+        a)
+
+    counted-act : (ns : List ℕ) (h k : ℕ) (old new : List Lodgings) → IsOnlyAt i k (map number_at old) → IsOnlyAt u h ns → All (λ (s : Lodgings). map name_at s.places ≡ ns) old → IsChangedAt (IsSlotActed g h ev) k old new
+        → All (AreCounted net.draws) old → All (AreCounted after.draws) new
+    counted-act ns h k old new at only names r a =
+        all-changed number_at (IsSlotActed g h ev) (λ (s : Lodgings). AreCounted net.draws s × (map name_at s.places ≡ ns)) (AreCounted after.draws) i k old new at r
+        (λ s d b. spared-here s d b.0)
+        (λ x y w acted b. moved-here h x y w acted (subst (IsOnlyAt u h) (sym b.1) only) b.0)
+        (both-all (AreCounted net.draws) (λ (s : Lodgings). map name_at s.places ≡ ns) old a names)
+
+-- an opening draws on no share, and nothing is drawn on those of its slot
+openings-draw : (o : Option Roster) (i m : ℕ) (t : Share) → is_of_share m t (source o (Opens i)) ≡ false
+openings-draw None i m t = refl
+openings-draw (Some r) i m t = refl
+
+closings-draw : (o : Option Roster) (i m : ℕ) (t : Share) → is_of_share m t (source o (Closes i)) ≡ false
+closings-draw None i m t = refl
+closings-draw (Some r) i m t = refl
+
+turn : (n i : ℕ) → (n == i) ≡ false → (i == n) ≡ false
+turn n i h = go (i == n) refl
+  where
+    go : (b : Bool) → (i == n) ≡ b → (i == n) ≡ false
+    go true q = absurd (false≢true (sym h ∙ (ap (λ m. m == i) (sym (eqb-true i n q)) ∙ (ap (λ m. i == m) (eqb-true i n q) ∙ q))))
+    go false q = q
+
+self : (i : ℕ) → (i == i) ≡ true
+self i = grind (nat_tests, arith)
+
+fresh-tallied : (net after : Net) (i : ℕ) (l : Lodging) → IsCountedAfter net (Opens i) after → IsUncounted l → IsTallied i after.draws (seat_of l)
+fresh-tallied net after i l c u = record {
+  own = u.own ∙ sym (c.renewed i (Own l.held.node.name) (self i)).0;
+  events = λ v. ap (λ ts. events_from ts v) u.heard ∙ sym (c.renewed i (Pair l.held.node.name v) (self i)).0;
+  bytes = λ v. ap (λ ts. bytes_from ts v) u.heard ∙ sym (c.renewed i (Pair l.held.node.name v) (self i)).1;
+}
+
+counted-open : (net after : Net) (s : Lodgings) (old : List Lodgings) → IsCountedAfter net (Opens s.number) after → AllByRecursion (λ m. (m == s.number) ≡ false) (map number_at old) → All IsUncounted s.places
+    → All (AreCounted net.draws) old → All (AreCounted after.draws) (old ++ s ∷ [])
+counted-open net after s old c out fresh a =
+    All-append (AreCounted after.draws) old (s ∷ [])
+    (others number_at (AreCounted net.draws) (AreCounted after.draws) s.number old out
+    (λ x d b. All-weaker (λ (l : Lodging). IsTallied x.number net.draws (seat_of l)) (λ (l : Lodging). IsTallied x.number after.draws (seat_of l))
+    (λ l t. stays net after (Opens s.number) x.number (seat_of l) c (turn x.number s.number d) (spared-none x.number l.held.node.name (source net.roster (Opens s.number)) (openings-draw net.roster s.number)) t) x.places b)
+    a)
+    (All-cons (AreCounted after.draws) s [] (All-weaker IsUncounted (λ (l : Lodging). IsTallied s.number after.draws (seat_of l)) (λ l u. fresh-tallied net after s.number l c u) s.places fresh) (All-nil (AreCounted after.draws)))
+
+counted-close : (net after : Net) (i k : ℕ) (old : List Lodgings) → IsCountedAfter net (Closes i) after → All (AreCounted net.draws) old → All (AreCounted after.draws) (remove old k)
+counted-close net after i k old c a =
+    let b = All-weaker (AreCounted net.draws) (AreCounted after.draws)
+    (λ x b. All-weaker (λ (l : Lodging). IsTallied x.number net.draws (seat_of l)) (λ (l : Lodging). IsTallied x.number after.draws (seat_of l))
+    (λ l t. stays net after (Closes i) x.number (seat_of l) c refl (spared-none x.number l.held.node.name (source net.roster (Closes i)) (closings-draw net.roster i)) t) x.places b)
+    old a in
+    All-append (AreCounted after.draws) (take k old) (drop (suc k) old) (All-take (AreCounted after.draws) k old b) (All-drop (AreCounted after.draws) (suc k) old b)
+
+-- an event of a node opens no slot
+opens-none : (e : Step) (at : ℕ × ℕ) → place_named e ≡ Some at → (n : ℕ) → is_opening n e ≡ false
+opens-none (Opens i) at h n = absurd (cc)
+opens-none (Closes i) at h n = refl
+opens-none (Asks i u x) at h n = refl
+opens-none (Delivers u size d) at h n = refl
+opens-none (Hears i u from kind k) at h n = refl
+opens-none (NominationTimes i u r) at h n = refl
+opens-none (BallotTimes i u r) at h n = refl
+opens-none (Reslices i u q) at h n = refl
+
+-- the node that an event names
+abbrev pub IsAtNode : Machine → Step → ℕ → ℕ → Type 0
+IsAtNode m e k h = (i : ℕ) × (u : ℕ) × (place_named e ≡ Some (pair_of i u)) × (index_in (map (λ (s : Slot). s.number) (map slot_of m.slots)) i ≡ Some k) × (index_in (names_of m.config.hosts) u ≡ Some h)
+
+pub node-named : (m : Machine) (e : Step) (k h : ℕ) → IsNodeOf m (place_named e) k h → IsAtNode m e k h
+node-named m e k h n = go (place_named e) refl n
+  where
+    go : (o : Option (ℕ × ℕ)) → place_named e ≡ o → IsNodeOf m o k h → IsAtNode m e k h
+    go None q n = absurd n
+    go (Some at) q n = (at.0, at.1, q, n.0, n.1)
+
+-- ---- networks without counts
+node-names : (xs : List Seat) → names_at (map node_of xs) ≡ map (λ (x : Seat). x.place.node.name) xs
+node-names [] = refl
+node-names (x ∷ xs) = ap (λ (ns : List ℕ). x.place.node.name ∷ ns) (node-names xs)
+
+to-names : (ns : List ℕ) (ss : List Seats) → AllByRecursion (λ (s : Seats). map (λ (x : Seat). x.place.node.name) s.seats ≡ ns) ss → AllByRecursion (λ (s : Slot). names_at s.places ≡ ns) (map slot_of ss)
+to-names ns [] a = tt
+to-names ns (s ∷ ss) a = (node-names s.seats ∙ a.0, to-names ns ss a.1)
+
+from-names : (ns : List ℕ) (ss : List Seats) → AllByRecursion (λ (s : Slot). names_at s.places ≡ ns) (map slot_of ss) → AllByRecursion (λ (s : Seats). map (λ (x : Seat). x.place.node.name) s.seats ≡ ns) ss
+from-names ns [] a = tt
+from-names ns (s ∷ ss) a = (sym (node-names s.seats) ∙ a.0, from-names ns ss a.1)
+
+slots-numbers : (ss : List Seats) → slot_numbers (map slot_of ss) ≡ map (λ (s : Seats). s.number) ss
+slots-numbers [] = refl
+slots-numbers (s ∷ ss) = ap (λ (ns : List ℕ). s.number ∷ ns) (slots-numbers ss)
+
+pub neat-of : (m : Machine) → IsTidy m → Neat m.config.hosts (map slot_of m.slots)
+neat-of m t = record { names = to-names (names_of m.config.hosts) m.slots t.names; apart = ap all_differ (slots-numbers m.slots) ∙ t.apart }
+
+-- ---- looking up
+abbrev number_of : Slot → ℕ
+number_of s = s.number
+
+abbrev nodes_of : Slot → List Place
+nodes_of s = s.places
+
+abbrev name_of : Place → ℕ
+name_of p = p.node.name
+
+places_at-is : (slots : List Slot) (i : ℕ) → places_at slots i ≡ at_key number_of nodes_of slots i
+places_at-is [] i = refl
+places_at-is (s ∷ ss) i = ap (λ o. if s.number == i then Some s.places else o) (places_at-is ss i)
+
+place_of-is : (ps : List Place) (u : ℕ) → place_of ps u ≡ at_key name_of (λ p. p) ps u
+place_of-is [] u = refl
+place_of-is (p ∷ ps) u = ap (λ o. if p.node.name == u then Some p else o) (place_of-is ps u)
+
+same-option : {X : Type 0} (o : Option X) → option_map (λ x. x) o ≡ o
+same-option None = refl
+same-option (Some x) = refl
+
+at-slot : (P : Slot → Type 0) (slots : List Slot) (k : ℕ) (s : Slot) → AllByRecursion P slots → slice_get slots k ≡ Some s → P s
+at-slot P [] k s a h = absurd (cc)
+at-slot P (t ∷ ts) zero s a h = let q : t ≡ s = cc in subst P q a.0
+at-slot P (t ∷ ts) (suc k) s a h = at-slot P ts k s a.1 h
+
+known-place : (ns : List ℕ) (ps : List Place) (u h : ℕ) → names_at ps ≡ ns → index_in ns u ≡ Some h → place_of ps u ≡ slice_get ps h
+known-place ns ps u h e q = place_of-is ps u ∙ at-index name_of (λ p. p) ps u h (ap (λ ms. index_in ms u) e ∙ q) ∙ same-option (slice_get ps h)
+
+known-at : (ns : List ℕ) (slots : List Slot) (i u k h : ℕ) → AllByRecursion (λ (s : Slot). names_at s.places ≡ ns) slots → index_in (slot_numbers slots) i ≡ Some k → index_in ns u ≡ Some h → known (places_at slots i) u ≡ node_at (slice_get slots k) h
+known-at ns slots i u k h names q r = ap (λ o. known o u) (places_at-is slots i ∙ at-index number_of nodes_of slots i k q) ∙ go (slice_get slots k) refl
+  where
+    go : (o : Option Slot) → slice_get slots k ≡ o → known (option_map nodes_of o) u ≡ node_at o h
+    go None e = refl
+    go (Some s) e = known-place ns s.places u h (at-slot (λ (s : Slot). names_at s.places ≡ ns) slots k s names e) r
+
+-- ---- room
+has-events : (net : Net) (e : Step) → HasRoom net e → HasEvents net (source net.roster e)
+has-events net (Opens i) h = h.1
+has-events net (Closes i) h = h
+has-events net (Asks i u x) h = h
+has-events net (Delivers u size d) h = h.0
+has-events net (Hears i u from kind k) h = h
+has-events net (NominationTimes i u r) h = h
+has-events net (BallotTimes i u n) h = h
+has-events net (Reslices i u q) h = h
+
+has-bytes : (net : Net) (e : Step) → HasRoom net e → HasBytes net (source net.roster e) (size_of e) ⊎ (size_of e ≡ 0)
+has-bytes net (Opens i) h = inr refl
+has-bytes net (Closes i) h = inr refl
+has-bytes net (Asks i u x) h = inr refl
+has-bytes net (Delivers u size d) h = inl h.1
+has-bytes net (Hears i u from kind k) h = inr refl
+has-bytes net (NominationTimes i u r) h = inr refl
+has-bytes net (BallotTimes i u n) h = inr refl
+has-bytes net (Reslices i u q) h = inr refl
+
+-- ---- the step
+abbrev pub charge_of : Plan → Charge
+charge_of p = record { drawn = p.drawn; size = p.size }
+
+abbrev pub carried : Standing → Plan → List Lodgings → Machine
+carried m p new = record { config = m.config; slots = map seats_of new; events = m.events + on_budgets_of p.drawn 1; bytes = m.bytes + on_budgets_of p.drawn p.size; opens = m.opens + on_opens_of p.drawn }
+
+abbrev reply_of : Net → Step → Net × Reply
+reply_of net e = (next net e, Done (effect net e).1)
+
+stepped : (net : Net) (e : Step) → first_that (tests net e) ≡ None → net_step net e ≡ reply_of net e
+unfolding net_step
+stepped net e h = ap (replied net e) h
+
+open-marks : (net : Net) (i : ℕ) → [] ≡ marks_in net (Opens i)
+unfolding effect numbered
+open-marks net i = refl
+
+close-marks : (net : Net) (i : ℕ) → [] ≡ marks_in net (Closes i)
+unfolding effect numbered
+close-marks net i = refl
+
+module _ (m : Standing) (e : Step) (p : Plan) (t : IsStanding m) (plan : IsPlan m e p) (draws : List Draw) (tallied : AreTallied draws (map seats_of m.slots)) where
+  abbrev net : Net
+  net = net_of (machine_of m) draws
+
+  stands-for : StandsFor (machine_of m) net
+  stands-for = record { is = refl; tallied = tallied }
+
+  allowed : first_that (tests net e) ≡ None
+  allowed = plan.allowed net stands-for
+
+  counted-after : IsCountedAfter net e (net_step net e).0
+  counted-after = steps_are_counted net e allowed
+
+  slots-index : (i k : ℕ) → index_in (map (λ (s : Slot). s.number) (slots_of m.slots)) i ≡ Some k → IsOnlyAt i k (map number_at m.slots)
+  slots-index i k q = only-at (map number_at m.slots) i k (ap (λ ns. index_in ns i) (sym (numbers-are m.slots)) ∙ q) (ap all_differ (sym (seat-numbers m.slots)) ∙ t.tidy.apart)
+
+  out-of : (i : ℕ) → e ≡ Opens i → AllByRecursion (λ n. (n == i) ≡ false) (map number_at m.slots)
+  out-of i q =
+      let f : is_open net i ≡ false = subst (IsFresh net) q (fresh-of net e allowed) in
+      none-any (map number_at m.slots) i (ap (λ ns. list_any (λ w. w == i) ns) (sym (numbers-are m.slots)) ∙ absent (slots_of m.slots) i f)
+
+  module _ (new : List Lodgings) where
+    by-deed : (d : Deed) → IsDone (charge_of p) d m.slots new → IsNamed (machine_of m) e d → IsThere m.archive (slots_of m.slots) d → All (AreCounted (net_step net e).0.draws) new
+    by-deed (Open s) dn nm th =
+        subst (λ (ss : List Lodgings). All (AreCounted (net_step net e).0.draws) ss) (sym dn)
+        (counted-open net (net_step net e).0 s m.slots (subst (λ z. IsCountedAfter net z (net_step net e).0) nm counted-after) (out-of s.number nm) th.1 (counted-from draws m.slots tallied))
+    by-deed (Close k) dn nm th =
+        subst (λ (ss : List Lodgings). All (AreCounted (net_step net e).0.draws) ss) (sym dn)
+        (counted-close net (net_step net e).0 nm.0 k m.slots (subst (λ z. IsCountedAfter net z (net_step net e).0) nm.1 counted-after) (counted-from draws m.slots tallied))
+    by-deed (Act k h x) dn nm th =
+        let a = node-named (machine_of m) e k h nm in
+        let q = source-of m.config.roster e a.0 a.1 a.2 in
+        counted-act net (net_step net e).0 e counted-after a.0 a.1 (opens-none e (pair_of a.0 a.1) a.2) q (charge_of p) (event_of x) plan.size (agrees (machine_of m) p.drawn (source m.config.roster e) a.0 a.1 plan.drawn q)
+        (names_of m.config.hosts) h k m.slots new (slots-index a.0 k a.3) (only-at (names_of m.config.hosts) a.1 h a.4 t.tidy.single) (names-all (names_of m.config.hosts) m.slots t.tidy.names) dn (counted-from draws m.slots tallied)
+    by-deed (Hand k h x) dn nm th =
+        let a = node-named (machine_of m) e k h nm in
+        let q = source-of m.config.roster e a.0 a.1 a.2 in
+        counted-act net (net_step net e).0 e counted-after a.0 a.1 (opens-none e (pair_of a.0 a.1) a.2) q (charge_of p) (NodeEvent.Take x) plan.size (agrees (machine_of m) p.drawn (source m.config.roster e) a.0 a.1 plan.drawn q)
+        (names_of m.config.hosts) h k m.slots new (slots-index a.0 k a.3) (only-at (names_of m.config.hosts) a.1 h a.4 t.tidy.single) (names-all (names_of m.config.hosts) m.slots t.tidy.names) dn (counted-from draws m.slots tallied)
+
+    module _ (done : IsDone (charge_of p) p.deed m.slots new) where
+      slots-are : (effect net e).0.slots ≡ map slot_of (map seats_of new)
+      slots-are = sym (plan.slots net stands-for) ∙ sym (done-slots (charge_of p) p.deed m.slots new done)
+
+      events-are : (effect net e).0.events + on_budgets (source net.roster e) 1 ≡ m.events + on_budgets_of p.drawn 1
+      events-are = ap₂ (λ a b. a + b) (effect-keeps net e).events (budgets-are (machine_of m) p.drawn (source m.config.roster e) plan.drawn 1)
+
+      bytes-are : (effect net e).0.bytes + on_budgets (source net.roster e) (size_of e) ≡ m.bytes + on_budgets_of p.drawn p.size
+      bytes-are = ap₂ (λ a b. a + b) (effect-keeps net e).bytes (budgets-are (machine_of m) p.drawn (source m.config.roster e) plan.drawn (size_of e) ∙ ap (on_budgets_of p.drawn) (sym plan.size))
+
+      opens-same : (effect net e).0.opens + on_opens (source net.roster e) ≡ m.opens + on_opens_of p.drawn
+      opens-same = ap₂ (λ a b. a + b) (effect-keeps net e).opens (opens-are (machine_of m) p.drawn (source m.config.roster e) plan.drawn)
+
+      next-is : next net e ≡ net_of (carried m p new) (next net e).draws
+      next-is = λ j. record {
+        number = (effect-keeps net e).number j;
+        hosts = (effect-keeps net e).hosts j;
+        budgets = (effect-keeps net e).budgets j;
+        roster = (effect-keeps net e).roster j;
+        slots = slots-are j;
+        events = events-are j;
+        bytes = bytes-are j;
+        opens = opens-same j;
+        draws = (next net e).draws;
+      }
+
+      pub stands-after : StandsFor (carried m p new) (net_step net e).0
+      stands-after = record {
+        is = subst (λ (n : Net). n ≡ net_of (carried m p new) n.draws) (sym (ap (λ (z : Net × Reply). z.0) (stepped net e allowed))) next-is;
+        tallied = counted-to (net_step net e).0.draws new (by-deed p.deed done plan.named plan.there);
+      }
+
+      pub given-after : (net_step net e).1 ≡ Done (outs_after (slots_of m.slots) p.deed)
+      given-after = ap (λ (z : Net × Reply). z.1) (stepped net e allowed) ∙ ap Done (sym (plan.outs net stands-for))
+
+      neat-after : Neat m.config.hosts (map slot_of (map seats_of new))
+      neat-after = subst (λ ss. Neat m.config.hosts ss) slots-are (neat net e (fresh-of net e allowed) (neat-of (machine_of m) t.tidy))
+
+  marks-by : (d : Deed) → IsNamed (machine_of m) e d → outs_after (slots_of m.slots) d ≡ (effect net e).1 → marks_after (slots_of m.slots) d ≡ marks_in net e
+  marks-by (Open s) nm os = open-marks net s.number ∙ ap (marks_in net) (sym nm)
+  marks-by (Close k) nm os = close-marks net nm.0 ∙ ap (marks_in net) (sym nm.1)
+  marks-by (Act k h x) nm os =
+      let a = node-named (machine_of m) e k h nm in
+      let n = neat-of (machine_of m) t.tidy in
+      let told = ap (told_before net) a.2 ∙ ap told_at (known-at (names_of m.config.hosts) (slots_of m.slots) a.0 a.1 k h n.names a.3 a.4) in
+      ap₂ (λ (ts : List Sent) (ys : List Out). numbered ts (emissions ys)) (sym told) os
+  marks-by (Hand k h x) nm os =
+      let a = node-named (machine_of m) e k h nm in
+      let n = neat-of (machine_of m) t.tidy in
+      let told = ap (told_before net) a.2 ∙ ap told_at (known-at (names_of m.config.hosts) (slots_of m.slots) a.0 a.1 k h n.names a.3 a.4) in
+      ap₂ (λ (ts : List Sent) (ys : List Out). numbered ts (emissions ys)) (sym told) os
+
+  pub marks-after : marks_after (slots_of m.slots) p.deed ≡ marks_in net e
+  marks-after = marks-by p.deed plan.named (plan.outs net stands-for)
+
+-- ---- for each network for which it stands
+pub steps : (m : Standing) (e : Step) (p : Plan) (new : List Lodgings) (os : List Out) → IsStanding m → IsPlan m e p → IsDone (charge_of p) p.deed m.slots new → os ≡ outs_after (slots_of m.slots) p.deed → IsStep (machine_of m) e os (carried m p new)
+steps m e p new os t plan done is = λ net s.
+    subst (λ (n : Net). StandsFor (carried m p new) (net_step n e).0 × ((net_step n e).1 ≡ Done os)) (sym s.is)
+    (stands-after m e p t plan net.draws s.tallied new done, given-after m e p t plan net.draws s.tallied new done ∙ ap Done (sym is))
+
+pub marks : (m : Standing) (e : Step) (p : Plan) (ms : List ℕ) → IsStanding m → IsPlan m e p → ms ≡ marks_after (slots_of m.slots) p.deed → (net : Net) → StandsFor (machine_of m) net → ms ≡ marks_in net e
+marks m e p ms t plan is net s = is ∙ subst (λ (n : Net). marks_after (slots_of m.slots) p.deed ≡ marks_in n e) (sym s.is) (marks-after m e p t plan net.draws s.tallied)
+
+-- ---- room for what is counted
+abbrev pub HaveFewShares : Standing → Type 0
+HaveFewShares m = (r : Roster) → m.config.roster ≡ Some r → AreShares r.shares.own r.shares.pair r.shares.bytes r.shares.opens
+
+index-gives : (ns : List ℕ) (u k : ℕ) → index_in ns u ≡ Some k → slice_get ns k ≡ Some u
+index-gives [] u k h = absurd (cc)
+index-gives (n ∷ ns) u k h = go (n == u) (index_in ns u) (λ j e. index-gives ns u j e) refl refl h
+  where
+    go : (b : Bool) (o : Option ℕ) → ((j : ℕ) → index_in ns u ≡ Some j → slice_get ns j ≡ Some u) → (n == u) ≡ b → index_in ns u ≡ o → (if b then Some 0 else option_map suc o) ≡ Some k → slice_get (n ∷ ns) k ≡ Some u
+    go true o ih q e p = let z : 0 ≡ k = cc in subst (λ j. slice_get (n ∷ ns) j ≡ Some u) z (ap Some (eqb-true n u q))
+    go false None ih q e p = absurd (cc)
+    go false (Some j) ih q e p = let z : suc j ≡ k = cc in subst (λ j. slice_get (n ∷ ns) j ≡ Some u) z (ih j e)
+
+-- what has a key at a place
+record Keyed {X : Type 0} (key : X → ℕ) (xs : List X) (k u : ℕ) : Type 0 where
+  it : X
+  is : slice_get xs k ≡ Some it
+  named : key it ≡ u
+
+keyed : {X : Type 0} (key : X → ℕ) (xs : List X) (k u : ℕ) → slice_get (map key xs) k ≡ Some u → Keyed key xs k u
+keyed key [] k u h = absurd (cc)
+keyed key (x ∷ xs) zero u h = let q : key x ≡ u = cc in record { it = x; is = refl; named = q }
+keyed key (x ∷ xs) (suc k) u h = let r = keyed key xs k u h in record { it = r.it; is = r.is; named = r.named }
+
+all-get : {X : Type 0} (P : X → Type 0) (xs : List X) (k : ℕ) (x : X) → All P xs → slice_get xs k ≡ Some x → P x
+all-get P [] k x a h = absurd (cc)
+all-get P (y ∷ ys) zero x a h = let q : y ≡ x = cc in subst P q (All-head P y ys a)
+all-get P (y ∷ ys) (suc k) x a h = all-get P ys k x (All-tail P y ys a) h
+
+map-length : {X Y : Type 0} (f : X → Y) (xs : List X) → length (map f xs) ≡ length xs
+map-length f [] = refl
+map-length f (x ∷ xs) = ap suc (map-length f xs)
+
+module _ (m : Standing) (e : Step) (p : Plan) (t : IsStanding m) (plan : IsPlan m e p) (few_events : m.config.budgets.events ≤ 2 ^ 40) (few_bytes : m.config.budgets.bytes ≤ 2 ^ 40) (few : HaveFewShares m) where
+  abbrev stood : Net
+  stood = net_of (machine_of m) t.stood.0
+
+  abbrev its : Source
+  its = source m.config.roster e
+
+  room : HasRoom stood e
+  room = applied_where_room stood e (plan.allowed stood (record { is = refl; tallied = t.stood.1 }))
+
+  bytes-kept : (d : Drawn) → IsDrawn (machine_of m) d its → m.bytes + on_budgets_of d p.size ≤ m.config.budgets.bytes
+  bytes-kept ByBudgets q = elim (has-bytes stood e room) [
+    | inl f ↦ let l : m.bytes + size_of e ≤ m.config.budgets.bytes = subst (λ z. HasBytes stood z (size_of e)) q f in let z = plan.size in omega (arith, l, z)
+    | inr z ↦ let l = t.tidy.bytes in let s = plan.size in omega (arith, l, z, s)
+  ]
+  bytes-kept ByOpens q = let l = t.tidy.bytes in omega (arith, l)
+  bytes-kept (ByOwn k h) q = let l = t.tidy.bytes in omega (arith, l)
+  bytes-kept (ByPair k h u) q = let l = t.tidy.bytes in omega (arith, l)
+
+  network-room : (d : Drawn) → IsDrawn (machine_of m) d its → HasRoomOnNetwork d p.size m.events m.bytes m.opens
+  network-room ByBudgets q =
+      let l : m.events < m.config.budgets.events = subst (HasEvents stood) q (has-events stood e room) in
+      let b : m.bytes + p.size ≤ m.config.budgets.bytes = bytes-kept ByBudgets q in
+      (omega (arith, l, few_events), omega (arith, b, few_bytes))
+  network-room ByOpens q =
+      let l : m.opens < q.0.shares.opens = subst (HasEvents stood) q.2 (has-events stood e room) in
+      let s = (few q.0 q.1).few_opens in
+      omega (arith, l, s)
+  network-room (ByOwn k h) q = tt
+  network-room (ByPair k h u) q = tt
+
+  pub room-on-network : HasRoomOnNetwork p.drawn p.size m.events m.bytes m.opens
+  room-on-network = network-room p.drawn plan.drawn
+
+  node-room : (d : Drawn) (i u : ℕ) (x : Lodgings) (y : Lodging) → IsDrawn (machine_of m) d its → IsSourceOf i u its → x.number ≡ i → y.held.node.name ≡ u → IsTallied x.number t.stood.0 (seat_of y) → HasRoomInCounts d p.size y.own y.heard
+  node-room ByBudgets i u x y q s xn yn tl = tt
+  node-room ByOpens i u x y q s xn yn tl = tt
+  node-room (ByOwn k h) i u x y q s xn yn tl =
+      let f = subst (IsSourceOf i u) q.6 s in
+      let l : events_drawn q.1.number (Own q.2.place.node.name) t.stood.0 < q.0.shares.own = subst (HasEvents stood) q.6 (has-events stood e room) in
+      let same = ap₂ (λ a b. events_drawn a (Own b) t.stood.0) (f.0 ∙ sym xn) (f.1 ∙ sym yn) in
+      let o = tl.own in
+      let b = (few q.0 q.3).few_own in
+      omega (arith, l, same, o, b)
+  node-room (ByPair k h w) i u x y q s xn yn tl =
+      let f = subst (IsSourceOf i u) q.6 s in
+      let l : events_drawn q.1.number (Pair q.2.place.node.name w) t.stood.0 < q.0.shares.pair = subst (HasEvents stood) q.6 (has-events stood e room) in
+      let same = ap₂ (λ a b. events_drawn a (Pair b w) t.stood.0) (f.0 ∙ sym xn) (f.1 ∙ sym yn) in
+      let size-same = ap₂ (λ a b. bytes_drawn a (Pair b w) t.stood.0) (f.0 ∙ sym xn) (f.1 ∙ sym yn) in
+      let o = tl.events w in
+      let r = tl.bytes w in
+      let b = (few q.0 q.3).few_pair in
+      let c = (few q.0 q.3).few_bytes in
+      let z = plan.size in (
+        omega (arith, l, same, o, b),
+        elim (has-bytes stood e room) [
+          | inl g ↦ inl (let k : bytes_drawn q.1.number (Pair q.2.place.node.name w) t.stood.0 + size_of e ≤ q.0.shares.bytes = subst (λ a. HasBytes stood a (size_of e)) q.6 g in omega (arith, k, size-same, r, c, z))
+          | inr g ↦ inr (z ∙ g)
+        ],
+      )
+
+  ready : (k h : ℕ) → IsNodeOf (machine_of m) (place_named e) k h → IsReady (charge_of p) m.slots k h
+  ready k h nm =
+      let a = node-named (machine_of m) e k h nm in
+      let x = keyed number_at m.slots k a.0 (index-gives (map number_at m.slots) a.0 k (ap (λ ns. index_in ns a.0) (sym (numbers-are m.slots)) ∙ a.3)) in
+      let names = all-get (λ (s : Lodgings). map name_at s.places ≡ names_of m.config.hosts) m.slots k x.it (names-all (names_of m.config.hosts) m.slots t.tidy.names) x.is in
+      let y = keyed name_at x.it.places h a.1 (index-gives (map name_at x.it.places) a.1 h (ap (λ ns. index_in ns a.1) names ∙ a.4)) in
+      let tl = all-get (λ (l : Lodging). IsTallied x.it.number t.stood.0 (seat_of l)) x.it.places h y.it (all-get (AreCounted t.stood.0) m.slots k x.it (counted-from t.stood.0 m.slots t.stood.1) x.is) y.is in
+      record { slot = x.it; place = y.it; slot_is = x.is; place_is = y.is; room = node-room p.drawn a.0 a.1 x.it y.it plan.drawn (source-of m.config.roster e a.0 a.1 a.2) x.named y.named tl }
+
+  doable-by : (d : Deed) → IsNamed (machine_of m) e d → IsThere m.archive (slots_of m.slots) d → IsDoable m.archive (charge_of p) m.slots d
+  doable-by (Open s) nm th = th.0
+  doable-by (Close k) nm th = let a = map-length slot_of (map seats_of m.slots) in let b = map-length seats_of m.slots in let l : k < length (slots_of m.slots) = th in omega (arith, a, b, l)
+  doable-by (Act k h x) nm th = (ready k h nm, th.1)
+  doable-by (Hand k h x) nm th = ready k h nm
+
+  pub doable : IsDoable m.archive (charge_of p) m.slots p.deed
+  doable = doable-by p.deed plan.named plan.there
+
+  module _ (new : List Lodgings) (archive : List Sent) (done : IsDone (charge_of p) p.deed m.slots new) (lodged : All (λ (s : Lodgings). All (IsLodged archive) s.places) new) where
+    tidy-after : IsTidy (carried m p new)
+    tidy-after =
+        let n = neat-after m e p t plan t.stood.0 t.stood.1 new done in
+        record {
+          single = t.tidy.single;
+          names = from-names (names_of m.config.hosts) (map seats_of new) n.names;
+          apart = ap all_differ (sym (slots-numbers (map seats_of new))) ∙ n.apart;
+          bytes = bytes-kept p.drawn plan.drawn;
+        }
+
+    pub standing-after : (events bytes opens : ℕ) → events ≡ m.events + on_budgets_of p.drawn 1 → bytes ≡ m.bytes + on_budgets_of p.drawn p.size → opens ≡ m.opens + on_opens_of p.drawn
+        → IsStanding (record { config = m.config; archive = archive; slots = new; events = events; bytes = bytes; opens = opens })
+    standing-after events bytes opens a b c =
+        subst IsStanding (λ j. record { config = m.config; archive = archive; slots = new; events = sym a j; bytes = sym b j; opens = sym c j })
+        (record { lodged = lodged; tidy = tidy-after; stood = ((net_step stood e).0.draws, (stands-after m e p t plan t.stood.0 t.stood.1 new done).tallied) })
+
+-- ---- what carrying out leaves
+pub applied : (m : Standing) (e : Step) (p : Plan) (new : List Lodgings) (archive : List Sent) (events bytes opens count : ℕ) (a : Applied) → IsStanding m → IsPlan m e p → IsDone (charge_of p) p.deed m.slots new
+    → events ≡ m.events + on_budgets_of p.drawn 1 → bytes ≡ m.bytes + on_budgets_of p.drawn p.size → opens ≡ m.opens + on_opens_of p.drawn
+    → IsAnswer (outs_after (slots_of m.slots) p.deed) (marks_after (slots_of m.slots) p.deed) (handed p.deed) count archive a
+    → IsApplied m e count (record { config = m.config; archive = archive; slots = new; events = events; bytes = bytes; opens = opens }) a
+applied m e p new archive events bytes opens count a t plan done x y z answer = record {
+  step = subst (λ (w : Machine). IsStep (machine_of m) e (outs_of a.outs.items) w) (λ j. record { config = m.config; slots = map seats_of new; events = sym x j; bytes = sym y j; opens = sym z j })
+      (steps m e p new (outs_of a.outs.items) t plan done answer.outs_are);
+  marks = marks m e p a.marks.items t plan answer.marks_are;
+  copies = answer.copies ∙ ap (replicate count) (sym answer.outs_are);
+  outs = answer.outs_filed;
+  delivered = answer.delivered_is ∙ plan.handed;
+  filed = answer.filed;
+}

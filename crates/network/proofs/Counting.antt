@@ -1,0 +1,244 @@
+-- What a node counts, and what was drawn on its shares.
+use Rattle.std.proofs.Common.{◌≡◌, ℕ, suc, ◌+◌, Bool, true, false, ◌&&◌, ◌==◌, get_or, set, List, [], ◌∷◌, ◌++◌, map, Option, Some, None, option_map, if◌then◌else◌, refl, sym, ◌∙◌, ap, ap₂, subst, arith}
+use Rattle.std.proofs.lemmas.Bool.{eqb-true}
+use Rattle.std.proofs.lemmas.Bool.Decides.{nat_tests}
+use Rattle.protocol.specs.Networks.{Net, Step, size_of, source}
+use Rattle.protocol.specs.Rosters.{Roster, Share, Shares, Source, events_drawn, bytes_drawn, is_on, reserved, same_share}
+use Rattle.protocol.specs.Rosters.Share.{Own, Pair}
+use Rattle.protocol.specs.Rosters.Source.{OfBudgets, OfOpens, OfShare}
+use Rattle.protocol.specs.Counts.{IsCountedAfter, is_of_share, is_opening}
+use Rattle.protocol.specs.Networks.Reading.{Read, Fault}
+use Rattle.protocol.specs.Networks.Step.{Opens, Closes, Asks, Delivers, Hears, NominationTimes, BallotTimes, Reslices}
+use Rattle.configuration.specs.Configs.{index_in}
+use Rattle.network.specs.Charges.{IsCharged, on_own, on_pair}
+use Rattle.network.specs.Deeds.{IsDrawn}
+use Rattle.network.specs.Lodgings.{IsTallied, Lodging, Seat, bytes_from, events_from, seat_of}
+use Rattle.network.specs.Marks.{place_named}
+use Rattle.network.specs.Standing.{Machine}
+use Rattle.network.specs.declared.plan.Charge.{Charge}
+use Rattle.network.specs.declared.plan.Drawn.{Drawn}
+use Rattle.network.specs.declared.plan.Drawn.TheVariants.{Budgets as ByBudgets, Opens as ByOpens, Own as ByOwn, Pair as ByPair}
+use Rattle.network.specs.declared.tallies.Tally.{Tally}
+
+-- ---- tallies
+abbrev from_by : (Tally → ℕ) → List Tally → ℕ → ℕ
+from_by val [] u = 0
+from_by val (t ∷ ts) u = if t.from == u then val t else from_by val ts u
+
+abbrev pub names_in : List Tally → List ℕ
+names_in ts = map (λ (t : Tally). t.from) ts
+
+events-by : (ts : List Tally) (u : ℕ) → events_from ts u ≡ from_by (λ t. t.events) ts u
+events-by [] u = refl
+events-by (t ∷ ts) u = ap (λ r. if t.from == u then t.events else r) (events-by ts u)
+
+bytes-by : (ts : List Tally) (u : ℕ) → bytes_from ts u ≡ from_by (λ t. t.bytes) ts u
+bytes-by [] u = refl
+bytes-by (t ∷ ts) u = ap (λ r. if t.from == u then t.bytes else r) (bytes-by ts u)
+
+another : (a w u : ℕ) → (a == w) ≡ false → (a == u) ≡ true → (w == u) ≡ false
+another a w u h k = grind (nat_tests, arith, h, k)
+
+first-more : (val : Tally → ℕ) (n : ℕ) (t : Tally) (ts : List Tally) (w : ℕ) (x y : Tally) (u : ℕ) → x ≡ t → t.from ≡ w → y.from ≡ x.from → val y ≡ val x + n
+    → (if y.from == u then val y else from_by val ts u) ≡ (if t.from == u then val t else from_by val ts u) + (if w == u then n else 0)
+first-more val n t ts w x y u is q f v =
+    let a : y.from ≡ w = f ∙ ap (λ (s : Tally). s.from) is ∙ q in
+    let b : val y ≡ val t + n = v ∙ ap (λ s. val s + n) is in
+    ap₂ (λ m k. if m == u then k else from_by val ts u) a b ∙ go (w == u) ∙ sym (ap (λ m. (if m == u then val t else from_by val ts u) + (if w == u then n else 0)) q)
+  where
+    go : (b : Bool) → (if b then val t + n else from_by val ts u) ≡ (if b then val t else from_by val ts u) + (if b then n else 0)
+    go true = refl
+    go false = omega arith
+
+rest-more : (a w u v n A B : ℕ) → (a == w) ≡ false → A ≡ B + (if w == u then n else 0) → (if a == u then v else A) ≡ (if a == u then v else B) + (if w == u then n else 0)
+rest-more a w u v n A B h is = go (a == u) refl
+  where
+    go : (c : Bool) → (a == u) ≡ c → (if c then v else A) ≡ (if c then v else B) + (if w == u then n else 0)
+    go true q = let z : (if w == u then n else 0) ≡ 0 = ap (λ b. if b then n else 0) (another a w u h q) in omega (arith, z)
+    go false q = is
+
+from-set : (val : Tally → ℕ) (n : ℕ) (ts : List Tally) (w at : ℕ) (x y : Tally) (u : ℕ) → index_in (names_in ts) w ≡ Some at → x ≡ get_or ts at x → y.from ≡ x.from → val y ≡ val x + n
+    → from_by val (set ts at y) u ≡ from_by val ts u + (if w == u then n else 0)
+from-set val n [] w at x y u h is f v = absurd (cc)
+from-set val n (t ∷ ts) w at x y u h is f v = go (t.from == w) (index_in (names_in ts) w) (λ j e g. from-set val n ts w j x y u e g f v) refl refl h
+  where
+    go : (b : Bool) (o : Option ℕ) → ((j : ℕ) → index_in (names_in ts) w ≡ Some j → x ≡ get_or ts j x → from_by val (set ts j y) u ≡ from_by val ts u + (if w == u then n else 0))
+        → (t.from == w) ≡ b → index_in (names_in ts) w ≡ o → (if b then Some 0 else option_map suc o) ≡ Some at → from_by val (set (t ∷ ts) at y) u ≡ from_by val (t ∷ ts) u + (if w == u then n else 0)
+    go true o ih q e p = let z : 0 ≡ at = cc in subst (λ k. x ≡ get_or (t ∷ ts) k x → from_by val (set (t ∷ ts) k y) u ≡ from_by val (t ∷ ts) u + (if w == u then n else 0)) z (λ g. first-more val n t ts w x y u g (eqb-true t.from w q) f v) is
+    go false None ih q e p = absurd (cc)
+    go false (Some j) ih q e p =
+        let z : suc j ≡ at = cc in
+        subst (λ k. x ≡ get_or (t ∷ ts) k x → from_by val (set (t ∷ ts) k y) u ≡ from_by val (t ∷ ts) u + (if w == u then n else 0)) z
+        (λ g. rest-more t.from w u (val t) n (from_by val (set ts j y) u) (from_by val ts u) q (ih j e g)) is
+
+from-push : (val : Tally → ℕ) (n : ℕ) (ts : List Tally) (w : ℕ) (y : Tally) (u : ℕ) → index_in (names_in ts) w ≡ None → y.from ≡ w → val y ≡ n → from_by val (ts ++ y ∷ []) u ≡ from_by val ts u + (if w == u then n else 0)
+from-push val n [] w y u h f v = let z : (if w == u then n else 0) ≡ 0 + (if w == u then n else 0) = omega arith in ap₂ (λ m k. if m == u then k else 0) f v ∙ z
+from-push val n (t ∷ ts) w y u h f v = go (t.from == w) (index_in (names_in ts) w) (λ e. from-push val n ts w y u e f v) refl refl h
+  where
+    go : (b : Bool) (o : Option ℕ) → (index_in (names_in ts) w ≡ None → from_by val (ts ++ y ∷ []) u ≡ from_by val ts u + (if w == u then n else 0))
+        → (t.from == w) ≡ b → index_in (names_in ts) w ≡ o → (if b then Some 0 else option_map suc o) ≡ None → from_by val ((t ∷ ts) ++ y ∷ []) u ≡ from_by val (t ∷ ts) u + (if w == u then n else 0)
+    go true o ih q e p = absurd (cc)
+    go false None ih q e p = rest-more t.from w u (val t) n (from_by val (ts ++ y ∷ []) u) (from_by val ts u) q (ih e)
+    go false (Some j) ih q e p = absurd (cc)
+
+-- a tally that is changed, and one that is new
+pub events-set : (ts : List Tally) (w at : ℕ) (x y : Tally) → index_in (names_in ts) w ≡ Some at → x ≡ get_or ts at x → y.from ≡ x.from → y.events ≡ x.events + 1 → (u : ℕ) → events_from (set ts at y) u ≡ events_from ts u + (if w == u then 1 else 0)
+events-set ts w at x y h is f v u = events-by (set ts at y) u ∙ from-set (λ t. t.events) 1 ts w at x y u h is f v ∙ sym (ap (λ m. m + (if w == u then 1 else 0)) (events-by ts u))
+
+pub bytes-set : (n : ℕ) (ts : List Tally) (w at : ℕ) (x y : Tally) → index_in (names_in ts) w ≡ Some at → x ≡ get_or ts at x → y.from ≡ x.from → y.bytes ≡ x.bytes + n → (u : ℕ) → bytes_from (set ts at y) u ≡ bytes_from ts u + (if w == u then n else 0)
+bytes-set n ts w at x y h is f v u = bytes-by (set ts at y) u ∙ from-set (λ t. t.bytes) n ts w at x y u h is f v ∙ sym (ap (λ m. m + (if w == u then n else 0)) (bytes-by ts u))
+
+pub events-push : (ts : List Tally) (w : ℕ) (y : Tally) → index_in (names_in ts) w ≡ None → y.from ≡ w → y.events ≡ 1 → (u : ℕ) → events_from (ts ++ y ∷ []) u ≡ events_from ts u + (if w == u then 1 else 0)
+events-push ts w y h f v u = events-by (ts ++ y ∷ []) u ∙ from-push (λ t. t.events) 1 ts w y u h f v ∙ sym (ap (λ m. m + (if w == u then 1 else 0)) (events-by ts u))
+
+pub bytes-push : (n : ℕ) (ts : List Tally) (w : ℕ) (y : Tally) → index_in (names_in ts) w ≡ None → y.from ≡ w → y.bytes ≡ n → (u : ℕ) → bytes_from (ts ++ y ∷ []) u ≡ bytes_from ts u + (if w == u then n else 0)
+bytes-push n ts w y h f v u = bytes-by (ts ++ y ∷ []) u ∙ from-push (λ t. t.bytes) n ts w y u h f v ∙ sym (ap (λ m. m + (if w == u then n else 0)) (bytes-by ts u))
+
+-- the tally of a name has what was drawn from it
+first-has : (val : Tally → ℕ) (ts : List Tally) (w at : ℕ) (x : Tally) → index_in (names_in ts) w ≡ Some at → x ≡ get_or ts at x → from_by val ts w ≡ val x
+first-has val [] w at x h is = absurd (cc)
+first-has val (t ∷ ts) w at x h is = go (t.from == w) (index_in (names_in ts) w) (λ j e g. first-has val ts w j x e g) refl h
+  where
+    go : (b : Bool) (o : Option ℕ) → ((j : ℕ) → index_in (names_in ts) w ≡ Some j → x ≡ get_or ts j x → from_by val ts w ≡ val x) → index_in (names_in ts) w ≡ o → (if b then Some 0 else option_map suc o) ≡ Some at → (if b then val t else from_by val ts w) ≡ val x
+    go true o ih e p = let z : 0 ≡ at = cc in subst (λ k. x ≡ get_or (t ∷ ts) k x → val t ≡ val x) z (λ g. sym (ap val g)) is
+    go false None ih e p = absurd (cc)
+    go false (Some j) ih e p = let z : suc j ≡ at = cc in subst (λ k. x ≡ get_or (t ∷ ts) k x → from_by val ts w ≡ val x) z (λ g. ih j e g) is
+
+pub events-has : (ts : List Tally) (w at : ℕ) (x : Tally) → index_in (names_in ts) w ≡ Some at → x ≡ get_or ts at x → events_from ts w ≡ x.events
+events-has ts w at x h is = events-by ts w ∙ first-has (λ t. t.events) ts w at x h is
+
+pub bytes-has : (ts : List Tally) (w at : ℕ) (x : Tally) → index_in (names_in ts) w ≡ Some at → x ≡ get_or ts at x → bytes_from ts w ≡ x.bytes
+bytes-has ts w at x h is = bytes-by ts w ∙ first-has (λ t. t.bytes) ts w at x h is
+
+-- ---- on what an event of a node draws
+-- it draws on no share of a node of this name at this slot
+pub record Spared (n w : ℕ) (s : Source) : Type 0 where
+  pub own : is_of_share n (Own w) s ≡ false
+  pub pair : (u : ℕ) → is_of_share n (Pair w u) s ≡ false
+
+-- what is counted at that node is what is drawn on its shares
+pub record Agrees (n w : ℕ) (d : Drawn) (s : Source) : Type 0 where
+  pub own : on_own d ≡ (if is_of_share n (Own w) s then 1 else 0)
+  pub pair : (k u : ℕ) → on_pair d k u ≡ (if is_of_share n (Pair w u) s then k else 0)
+
+abbrev pub IsShareOf : ℕ → Share → Type 0
+IsShareOf u (Own w) = w ≡ u
+IsShareOf u (Pair w from) = w ≡ u
+
+-- a share on which it draws is one of the node of this name at this slot
+abbrev pub IsSourceOf : ℕ → ℕ → Source → Type 0
+IsSourceOf i u OfBudgets = Unit {0}
+IsSourceOf i u (OfOpens shares) = Unit {0}
+IsSourceOf i u (OfShare shares j t) = (j ≡ i) × IsShareOf u t
+
+reserved-of : (r : Roster) (j i u : ℕ) (t : Share) → j ≡ i → IsShareOf u t → IsSourceOf i u (reserved r j t)
+reserved-of r j i u t p q = go (is_on r.names t)
+  where
+    go : (b : Bool) → IsSourceOf i u (if b then OfShare r.shares j t else OfBudgets)
+    go true = (p, q)
+    go false = tt
+
+abbrev pub pair_of : ℕ → ℕ → ℕ × ℕ
+pair_of a b = (a, b)
+
+first-is : (a b c d : ℕ) → Some (pair_of a b) ≡ Some (pair_of c d) → a ≡ c
+first-is a b c d h = let q : pair_of a b ≡ pair_of c d = cc in ap (λ (z : ℕ × ℕ). z.0) q
+
+second-is : (a b c d : ℕ) → Some (pair_of a b) ≡ Some (pair_of c d) → b ≡ d
+second-is a b c d h = let q : pair_of a b ≡ pair_of c d = cc in ap (λ (z : ℕ × ℕ). z.1) q
+
+pub source-of : (o : Option Roster) (e : Step) (i u : ℕ) → place_named e ≡ Some (pair_of i u) → IsSourceOf i u (source o e)
+source-of None e i u h = tt
+source-of (Some r) (Opens j) i u h = absurd (cc)
+source-of (Some r) (Closes j) i u h = absurd (cc)
+source-of (Some r) (Asks j w x) i u h = reserved-of r j i u (Own w) (first-is j w i u h) (second-is j w i u h)
+source-of (Some r) (Delivers w size (Read e)) i u h = reserved-of r e.slot i u (Pair w e.sender) (first-is e.slot w i u h) (second-is e.slot w i u h)
+source-of (Some r) (Delivers w size (Fault n)) i u h = absurd (cc)
+source-of (Some r) (Hears j w from kind k) i u h = reserved-of r j i u (Pair w from) (first-is j w i u h) (second-is j w i u h)
+source-of (Some r) (NominationTimes j w n) i u h = reserved-of r j i u (Own w) (first-is j w i u h) (second-is j w i u h)
+source-of (Some r) (BallotTimes j w n) i u h = reserved-of r j i u (Own w) (first-is j w i u h) (second-is j w i u h)
+source-of (Some r) (Reslices j w q) i u h = reserved-of r j i u (Own w) (first-is j w i u h) (second-is j w i u h)
+
+turned : (j n i : ℕ) → j ≡ i → (n == i) ≡ false → (j == n) ≡ false
+turned j n i p h = grind (nat_tests, arith, p, h)
+
+same-as : (j i : ℕ) → j ≡ i → (j == i) ≡ true
+same-as j i p = grind (nat_tests, arith, p)
+
+and-false : (b : Bool) → (b && false) ≡ false
+and-false true = refl
+and-false false = refl
+
+-- a node at another slot
+pub spared-slot : (i u n w : ℕ) (s : Source) → IsSourceOf i u s → (n == i) ≡ false → Spared n w s
+spared-slot i u n w OfBudgets h d = record { own = refl; pair = λ v. refl }
+spared-slot i u n w (OfOpens shares) h d = record { own = refl; pair = λ v. refl }
+spared-slot i u n w (OfShare shares j t) h d = record {
+  own = ap (λ b. b && same_share t (Own w)) (turned j n i h.0 d);
+  pair = λ v. ap (λ b. b && same_share t (Pair w v)) (turned j n i h.0 d);
+}
+
+-- another node
+pub spared-name : (i u n w : ℕ) (s : Source) → IsSourceOf i u s → (w == u) ≡ false → Spared n w s
+spared-name i u n w OfBudgets h d = record { own = refl; pair = λ v. refl }
+spared-name i u n w (OfOpens shares) h d = record { own = refl; pair = λ v. refl }
+spared-name i u n w (OfShare shares j (Own a)) h d = record {
+  own = ap (λ b. (j == n) && b) (turned a w u h.1 d) ∙ and-false (j == n);
+  pair = λ v. and-false (j == n);
+}
+spared-name i u n w (OfShare shares j (Pair a from)) h d = record {
+  own = and-false (j == n);
+  pair = λ v. ap (λ b. (j == n) && (b && (from == v))) (turned a w u h.1 d) ∙ and-false (j == n);
+}
+
+-- where it draws on no share at all
+pub spared-none : (n w : ℕ) (s : Source) → ((m : ℕ) (t : Share) → is_of_share m t s ≡ false) → Spared n w s
+spared-none n w s h = record { own = h n (Own w); pair = λ v. h n (Pair w v) }
+
+no-pair : (b : Bool) (k : ℕ) → 0 ≡ (if b && false then k else 0)
+no-pair true k = refl
+no-pair false k = refl
+
+own-agrees : (shares : Shares) (i u j a k h : ℕ) → j ≡ i → a ≡ u → Agrees i u (ByOwn k h) (OfShare shares j (Own a))
+own-agrees shares i u j a k h p q = record {
+  own = sym (ap₂ (λ b c. if b && c then 1 else 0) (same-as j i p) (same-as a u q));
+  pair = λ n v. no-pair (j == i) n;
+}
+
+pair-agrees : (shares : Shares) (i u j a k h from : ℕ) → j ≡ i → a ≡ u → Agrees i u (ByPair k h from) (OfShare shares j (Pair a from))
+pair-agrees shares i u j a k h from p q = record {
+  own = no-pair (j == i) 1;
+  pair = λ n v. sym (ap₂ (λ b c. if b && (c && (from == v)) then n else 0) (same-as j i p) (same-as a u q));
+}
+
+-- what is counted at the node of an event is what the event draws on its shares
+pub agrees : (m : Machine) (d : Drawn) (s : Source) (i u : ℕ) → IsDrawn m d s → IsSourceOf i u s → Agrees i u d s
+agrees m ByBudgets s i u q h = subst (Agrees i u ByBudgets) (sym q) (record { own = refl; pair = λ k v. refl })
+agrees m ByOpens s i u q h = subst (Agrees i u ByOpens) (sym q.2) (record { own = refl; pair = λ k v. refl })
+agrees m (ByOwn k n) s i u q h =
+    let is = q.6 in
+    let f = subst (IsSourceOf i u) is h in
+    subst (Agrees i u (ByOwn k n)) (sym is) (own-agrees q.0.shares i u q.1.number q.2.place.node.name k n f.0 f.1)
+agrees m (ByPair k n w) s i u q h =
+    let is = q.6 in
+    let f = subst (IsSourceOf i u) is h in
+    subst (Agrees i u (ByPair k n w)) (sym is) (pair-agrees q.0.shares i u q.1.number q.2.place.node.name k n w f.0 f.1)
+
+-- ---- the counts after an event
+pub stays : (net after : Net) (e : Step) (n : ℕ) (x : Seat) → IsCountedAfter net e after → is_opening n e ≡ false → Spared n x.place.node.name (source net.roster e) → IsTallied n net.draws x → IsTallied n after.draws x
+stays net after e n x c o s t = record {
+  own = let a = t.own in let b = c.share_events n (Own x.place.node.name) o in let z = ap {B = ℕ} (λ b. if b then 1 else 0) s.own in omega (arith, a, b, z);
+  events = λ u. let a = t.events u in let b = c.share_events n (Pair x.place.node.name u) o in let z = ap {B = ℕ} (λ b. if b then 1 else 0) (s.pair u) in omega (arith, a, b, z);
+  bytes = λ u. let a = t.bytes u in let b = c.share_bytes n (Pair x.place.node.name u) o in let z = ap {B = ℕ} (λ b. if b then size_of e else 0) (s.pair u) in omega (arith, a, b, z);
+}
+
+pub moves : (net after : Net) (e : Step) (n : ℕ) (c : Charge) (x y : Lodging) → IsCountedAfter net e after → is_opening n e ≡ false → Agrees n x.held.node.name c.drawn (source net.roster e) → c.size ≡ size_of e
+    → y.held.node.name ≡ x.held.node.name → IsCharged c x y → IsTallied n net.draws (seat_of x) → IsTallied n after.draws (seat_of y)
+moves net after e n c x y k o g size name h t = record {
+  own = let a = t.own in let b = k.share_events n (Own x.held.node.name) o in let z = g.own in let w = h.own in
+      subst (λ m. y.own ≡ events_drawn n (Own m) after.draws) (sym name) (omega (arith, a, b, z, w));
+  events = λ u. let a = t.events u in let b = k.share_events n (Pair x.held.node.name u) o in let z = g.pair 1 u in let w = h.events u in
+      subst (λ m. events_from y.heard u ≡ events_drawn n (Pair m u) after.draws) (sym name) (omega (arith, a, b, z, w));
+  bytes = λ u. let a = t.bytes u in let b = k.share_bytes n (Pair x.held.node.name u) o in let z = g.pair (size_of e) u in let w = subst (λ (m : ℕ). bytes_from y.heard u ≡ bytes_from x.heard u + on_pair c.drawn m u) size (h.bytes u) in
+      subst (λ m. bytes_from y.heard u ≡ bytes_drawn n (Pair m u) after.draws) (sym name) (omega (arith, a, b, z, w));
+}

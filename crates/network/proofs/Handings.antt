@@ -1,0 +1,211 @@
+-- Plans where an envelope reaches a node, delivered or heard, and refusals.
+use Rattle.std.proofs.Common.{◌≡◌, ℕ, zero, suc, Bool, true, false, not, ◌||◌, ◌==◌, List, [], ◌∷◌, map, Option, Some, None, option_map, Result, Ok, Err, is_none, is_some, refl, sym, ◌∙◌, ap, subst, inl, inr}
+use Rattle.std.specs.Borrow.{Bor}
+use Rattle.types.specs.Statements.{Sent}
+use Rattle.types.specs.declared.kind.Kind.{Kind}
+use Rattle.types.specs.declared.event.Refusal.{Refusal}
+use Rattle.types.specs.declared.event.Refusal.TheVariants.{BadEnvelope, HostedSender, NoSuchNode, NotEmitted, SlotNotOpen}
+use Rattle.protocol.specs.Networks.{Net, Place, Reading, Step, act_known, effect, emission, first_that, is_full, is_full_of_bytes, is_hosted, is_hosted_not, is_open_not, known, places_at, source, tests}
+use Rattle.protocol.specs.Networks.Reading.{Read, Fault}
+use Rattle.protocol.specs.Networks.Step.{Delivers, Hears}
+use Rattle.protocol.specs.Rosters.{Roster, Source}
+use Rattle.configuration.specs.Configs.{index_of_name}
+use Rattle.envstore.specs.Archives.{IsFiled, sent_of}
+use Rattle.envstore.specs.declared.filed.Filed.{Filed}
+use Rattle.slot.specs.declared.filed.FiledEvent.TheVariants as events
+use Rattle.network.specs.Deeds.{HasBytes, HasNoBytes, IsDrawn, IsPlan, IsRoom, IsSeat, IsSlotThere, index_of_slot, pair_source}
+use Rattle.network.specs.Lodgings.{Seat, slot_of}
+use Rattle.network.specs.Standing.{IsRefusal, IsStanding, Standing, StandsFor, machine_of}
+use Rattle.network.specs.Tellings.{nth_of}
+use Rattle.network.specs.declared.plan.Deed.TheVariants.{Act, Hand}
+use Rattle.network.specs.declared.plan.Drawn.{Drawn}
+use Rattle.network.proofs.Allowed.{host_then, host-in, hosted, hosted-not, no_host, not_open, open_then, passes, refuses, stops}
+use Rattle.network.proofs.Planned.{act-plan, hand-plan, known-seat, roster-in}
+
+-- ---- bytes
+pub bytes-nowhere : (m : Standing) (u size : ℕ) (d : Reading) → index_of_name m.config.hosts u ≡ None → IsRefusal (machine_of m) (Delivers u size d) NoSuchNode
+bytes-nowhere m u size (Read e) q =
+    inr (λ net s.
+    let src = source net.roster (Delivers u size (Read e)) in
+    no_host m net u ((is_hosted net e.sender, HostedSender) ∷ is_open_not net e.slot ∷ is_full net src ∷ is_full_of_bytes net src size ∷ []) s q)
+bytes-nowhere m u size (Fault n) q = inr (λ net s. no_host m net u ((true, BadEnvelope n) ∷ []) s q)
+
+pub bytes-bad : (m : Standing) (u h size n : ℕ) → index_of_name m.config.hosts u ≡ Some h → IsRefusal (machine_of m) (Delivers u size (Fault n)) (BadEnvelope n)
+bytes-bad m u h size n q = inr (λ net s. host_then m net u h ((true, BadEnvelope n) ∷ []) s q)
+
+-- ---- an envelope
+delivers-source : (o : Option Roster) (u size : ℕ) (e : Sent) → source o (Delivers u size (Read e)) ≡ pair_source o e.slot u e.sender
+delivers-source None u size e = refl
+delivers-source (Some r) u size e = refl
+
+abbrev after_sender : Net → ℕ → Sent → Source → List (Bool × Refusal)
+after_sender net size e src = is_open_not net e.slot ∷ is_full net src ∷ is_full_of_bytes net src size ∷ []
+
+-- what is tested once the node is there
+envelope-there : (m : Standing) (net : Net) (u h size : ℕ) (e : Sent) → index_of_name m.config.hosts u ≡ Some h → StandsFor (machine_of m) net
+    → first_that (tests net (Delivers u size (Read e))) ≡ first_that ((is_hosted net e.sender, HostedSender) ∷ after_sender net size e (pair_source net.roster e.slot u e.sender))
+envelope-there m net u h size e q s =
+    ap (λ src. first_that (is_hosted_not net u ∷ (is_hosted net e.sender, HostedSender) ∷ after_sender net size e src)) (delivers-source net.roster u size e)
+    ∙ host_then m net u h ((is_hosted net e.sender, HostedSender) ∷ after_sender net size e (pair_source net.roster e.slot u e.sender)) s q
+
+pub sender-hosted : (m : Standing) (u h j size : ℕ) (e : Sent) → index_of_name m.config.hosts u ≡ Some h → index_of_name m.config.hosts e.sender ≡ Some j → IsRefusal (machine_of m) (Delivers u size (Read e)) HostedSender
+sender-hosted m u h j size e q r =
+    inr (λ net s. envelope-there m net u h size e q s ∙ refuses (is_hosted net e.sender) HostedSender (after_sender net size e (pair_source net.roster e.slot u e.sender)) (hosted net e.sender j (host-in m net e.sender s ∙ r)))
+
+pub sender-hosted-so : (m : Standing) (u h size : ℕ) (e : Sent) → index_of_name m.config.hosts u ≡ Some h → is_some (index_of_name m.config.hosts e.sender) ≡ true → IsRefusal (machine_of m) (Delivers u size (Read e)) HostedSender
+sender-hosted-so m u h size e q t = go (index_of_name m.config.hosts e.sender) refl t
+  where
+    go : (o : Option ℕ) → index_of_name m.config.hosts e.sender ≡ o → is_some o ≡ true → IsRefusal (machine_of m) (Delivers u size (Read e)) HostedSender
+    go None r t = absurd (cc)
+    go (Some j) r t = sender-hosted m u h j size e q r
+
+-- and its sender is not hosted
+from-stranger : (m : Standing) (net : Net) (u h size : ℕ) (e : Sent) → index_of_name m.config.hosts u ≡ Some h → index_of_name m.config.hosts e.sender ≡ None → StandsFor (machine_of m) net
+    → first_that (tests net (Delivers u size (Read e))) ≡ first_that (after_sender net size e (pair_source net.roster e.slot u e.sender))
+from-stranger m net u h size e q r s =
+    envelope-there m net u h size e q s ∙ passes (is_hosted net e.sender, HostedSender) (after_sender net size e (pair_source net.roster e.slot u e.sender)) (hosted-not net e.sender (host-in m net e.sender s ∙ r))
+
+pub envelope-closed : (m : Standing) (u h size : ℕ) (e : Sent) → index_of_name m.config.hosts u ≡ Some h → index_of_name m.config.hosts e.sender ≡ None → index_of_slot (map slot_of (machine_of m).slots) e.slot ≡ None → IsRefusal (machine_of m) (Delivers u size (Read e)) SlotNotOpen
+envelope-closed m u h size e q r c =
+    inr (λ net s.
+    let src = pair_source net.roster e.slot u e.sender in
+    from-stranger m net u h size e q r s ∙ not_open m net e.slot (is_full net src ∷ is_full_of_bytes net src size ∷ []) s c)
+
+-- and the slot is open
+at-slot : (m : Standing) (net : Net) (u h k size : ℕ) (e : Sent) → index_of_name m.config.hosts u ≡ Some h → index_of_name m.config.hosts e.sender ≡ None → IsSlotThere m e.slot k → StandsFor (machine_of m) net
+    → first_that (tests net (Delivers u size (Read e))) ≡ first_that (is_full net (pair_source net.roster e.slot u e.sender) ∷ is_full_of_bytes net (pair_source net.roster e.slot u e.sender) size ∷ [])
+at-slot m net u h k size e q r c s =
+    let src = pair_source net.roster e.slot u e.sender in
+    from-stranger m net u h size e q r s ∙ open_then m net e.slot k (is_full net src ∷ is_full_of_bytes net src size ∷ []) s c
+
+pub envelope-full : (m : Standing) (u h k size : ℕ) (e : Sent) (x : Refusal) → index_of_name m.config.hosts u ≡ Some h → index_of_name m.config.hosts e.sender ≡ None → IsSlotThere m e.slot k → IsRoom m (λ o. pair_source o e.slot u e.sender) (Err x) → IsRefusal (machine_of m) (Delivers u size (Read e)) x
+envelope-full m u h k size e x q r c full =
+    inr (λ net s.
+    let src = pair_source net.roster e.slot u e.sender in
+    at-slot m net u h k size e q r c s ∙ stops (is_full net src) x (is_full_of_bytes net src size ∷ []) (full net s))
+
+-- and there is room for an event
+drawn-in : (m : Standing) (net : Net) (i u w : ℕ) (d : Drawn) → StandsFor (machine_of m) net → IsDrawn (machine_of m) d (pair_source m.config.roster i u w) → IsDrawn (machine_of m) d (pair_source net.roster i u w)
+drawn-in m net i u w d s h = subst (λ o. IsDrawn (machine_of m) d (pair_source o i u w)) (sym (roster-in m net s)) h
+
+pub envelope-large : (m : Standing) (u h k size : ℕ) (e : Sent) (d : Drawn) (x : Refusal) → index_of_name m.config.hosts u ≡ Some h → index_of_name m.config.hosts e.sender ≡ None → IsSlotThere m e.slot k → IsRoom m (λ o. pair_source o e.slot u e.sender) (Ok d) → HasNoBytes (machine_of m) d size x
+    → IsRefusal (machine_of m) (Delivers u size (Read e)) x
+envelope-large m u h k size e d x q r c room full =
+    inr (λ net s.
+    let src = pair_source net.roster e.slot u e.sender in
+    at-slot m net u h k size e q r c s ∙ passes (is_full net src) (is_full_of_bytes net src size ∷ []) (room.1 net s)
+    ∙ stops (is_full_of_bytes net src size) x [] (full src net (drawn-in m net e.slot u e.sender d s room.0) s))
+
+pub envelope-plan : (m : Standing) (u h k size : ℕ) (e : Sent) (d : Drawn) → IsStanding m → index_of_name m.config.hosts u ≡ Some h → index_of_name m.config.hosts e.sender ≡ None → IsSlotThere m e.slot k → IsRoom m (λ o. pair_source o e.slot u e.sender) (Ok d) → HasBytes (machine_of m) d size
+    → IsPlan m (Delivers u size (Read e)) (record { deed = Hand k h e; drawn = d; size = size })
+unfolding effect
+envelope-plan m u h k size e d st q r c room fits =
+    hand-plan m (Delivers u size (Read e)) e.slot u k h size e d st c q (subst (IsDrawn (machine_of m) d) (sym (delivers-source m.config.roster u size e)) room.0) refl refl refl (λ net. refl)
+    (λ net s.
+    let src = pair_source net.roster e.slot u e.sender in
+    at-slot m net u h k size e q r c s ∙ passes (is_full net src) (is_full_of_bytes net src size ∷ []) (room.1 net s)
+    ∙ passes (is_full_of_bytes net src size) [] (fits src net (drawn-in m net e.slot u e.sender d s room.0) s))
+
+-- ---- what another node has emitted
+hears-source : (o : Option Roster) (i u w : ℕ) (kind : Kind) (n : ℕ) → source o (Hears i u w kind n) ≡ pair_source o i u w
+hears-source None i u w kind n = refl
+hears-source (Some r) i u w kind n = refl
+
+-- both are hosted, and they are two
+abbrev apart : Net → ℕ → ℕ → Bool
+apart net u w = not (is_hosted net u) || not (is_hosted net w) || (u == w)
+
+abbrev after_nodes : Net → ℕ → ℕ → Kind → ℕ → Source → List (Bool × Refusal)
+after_nodes net i w kind n src = is_open_not net i ∷ (is_none (emission (known (places_at net.slots i) w) kind n), NotEmitted) ∷ is_full net src ∷ []
+
+hears-are : (net : Net) (i u w : ℕ) (kind : Kind) (n : ℕ) → first_that (tests net (Hears i u w kind n)) ≡ first_that ((apart net u w, NoSuchNode) ∷ after_nodes net i w kind n (pair_source net.roster i u w))
+hears-are net i u w kind n = ap (λ src. first_that ((apart net u w, NoSuchNode) ∷ after_nodes net i w kind n src)) (hears-source net.roster i u w kind n)
+
+first-holds : (a b c : Bool) → a ≡ false → (not a || not b || c) ≡ true
+first-holds true b c h = absurd (cc)
+first-holds false b c h = refl
+
+second-holds : (a b c : Bool) → b ≡ false → (not a || not b || c) ≡ true
+second-holds true true c h = absurd (cc)
+second-holds true false c h = refl
+second-holds false b c h = refl
+
+third-holds : (a b c : Bool) → c ≡ true → (not a || not b || c) ≡ true
+third-holds true true true h = refl
+third-holds true false true h = refl
+third-holds false b true h = refl
+third-holds a b false h = absurd (cc)
+
+none-holds : (a b c : Bool) → a ≡ true → b ≡ true → c ≡ false → (not a || not b || c) ≡ false
+none-holds true true false h k l = refl
+none-holds true true true h k l = absurd (cc)
+none-holds true false c h k l = absurd (cc)
+none-holds false b c h k l = absurd (cc)
+
+pub hears-nowhere : (m : Standing) (i u w : ℕ) (kind : Kind) (n : ℕ) → index_of_name m.config.hosts u ≡ None → IsRefusal (machine_of m) (Hears i u w kind n) NoSuchNode
+hears-nowhere m i u w kind n q =
+    inr (λ net s. hears-are net i u w kind n ∙ refuses (apart net u w) NoSuchNode (after_nodes net i w kind n (pair_source net.roster i u w)) (first-holds (is_hosted net u) (is_hosted net w) (u == w) (hosted-not net u (host-in m net u s ∙ q))))
+
+pub hears-nobody : (m : Standing) (i u w : ℕ) (kind : Kind) (n : ℕ) → index_of_name m.config.hosts w ≡ None → IsRefusal (machine_of m) (Hears i u w kind n) NoSuchNode
+hears-nobody m i u w kind n q =
+    inr (λ net s. hears-are net i u w kind n ∙ refuses (apart net u w) NoSuchNode (after_nodes net i w kind n (pair_source net.roster i u w)) (second-holds (is_hosted net u) (is_hosted net w) (u == w) (hosted-not net w (host-in m net w s ∙ q))))
+
+pub hears-itself : (m : Standing) (i u w : ℕ) (kind : Kind) (n : ℕ) → (u == w) ≡ true → IsRefusal (machine_of m) (Hears i u w kind n) NoSuchNode
+hears-itself m i u w kind n q =
+    inr (λ net s. hears-are net i u w kind n ∙ refuses (apart net u w) NoSuchNode (after_nodes net i w kind n (pair_source net.roster i u w)) (third-holds (is_hosted net u) (is_hosted net w) (u == w) q))
+
+-- two hosted nodes
+pub record AreTwo (m : Standing) (u h w j : ℕ) : Type 0 where
+  pub node : index_of_name m.config.hosts u ≡ Some h
+  pub from : index_of_name m.config.hosts w ≡ Some j
+  pub differ : (u == w) ≡ false
+
+two-there : (m : Standing) (net : Net) (i u h w j : ℕ) (kind : Kind) (n : ℕ) → AreTwo m u h w j → StandsFor (machine_of m) net → first_that (tests net (Hears i u w kind n)) ≡ first_that (after_nodes net i w kind n (pair_source net.roster i u w))
+two-there m net i u h w j kind n two s =
+    hears-are net i u w kind n
+    ∙ passes (apart net u w, NoSuchNode) (after_nodes net i w kind n (pair_source net.roster i u w)) (none-holds (is_hosted net u) (is_hosted net w) (u == w) (hosted net u h (host-in m net u s ∙ two.node)) (hosted net w j (host-in m net w s ∙ two.from)) two.differ)
+
+pub hears-closed : (m : Standing) (i u h w j : ℕ) (kind : Kind) (n : ℕ) → AreTwo m u h w j → index_of_slot (map slot_of (machine_of m).slots) i ≡ None → IsRefusal (machine_of m) (Hears i u w kind n) SlotNotOpen
+hears-closed m i u h w j kind n two c =
+    inr (λ net s. two-there m net i u h w j kind n two s ∙ not_open m net i ((is_none (emission (known (places_at net.slots i) w) kind n), NotEmitted) ∷ is_full net (pair_source net.roster i u w) ∷ []) s c)
+
+-- what it has emitted
+told-nth : (p : Place) (kind : Kind) (n : ℕ) → emission (Some p) kind n ≡ nth_of kind n p.told
+told-nth p kind zero = refl
+told-nth p kind (suc n) = refl
+
+emission-is : (m : Standing) (net : Net) (i w k j : ℕ) (kind : Kind) (n : ℕ) (y : Seat) (o : Option (Bor Filed)) → IsStanding m → StandsFor (machine_of m) net → IsSlotThere m i k → index_of_name m.config.hosts w ≡ Some j → IsSeat (machine_of m) k j y
+    → option_map (λ f. sent_of f.now) o ≡ nth_of kind n y.place.told → emission (known (places_at net.slots i) w) kind n ≡ option_map (λ f. sent_of f.now) o
+emission-is m net i w k j kind n y o st s q r is e = ap (λ x. emission x kind n) (known-seat m net i w k j y st s q r is) ∙ told-nth y.place kind n ∙ sym e
+
+-- and the slot is open
+heard-at : (m : Standing) (net : Net) (i u h w j k : ℕ) (kind : Kind) (n : ℕ) (y : Seat) (o : Option (Bor Filed)) → IsStanding m → AreTwo m u h w j → IsSlotThere m i k → IsSeat (machine_of m) k j y → option_map (λ f. sent_of f.now) o ≡ nth_of kind n y.place.told → StandsFor (machine_of m) net
+    → first_that (tests net (Hears i u w kind n)) ≡ first_that ((is_none (option_map (λ f. sent_of f.now) o), NotEmitted) ∷ is_full net (pair_source net.roster i u w) ∷ [])
+heard-at m net i u h w j k kind n y o st two c is e s =
+    let ts : List (Bool × Refusal) = is_full net (pair_source net.roster i u w) ∷ [] in
+    two-there m net i u h w j kind n two s ∙ open_then m net i k ((is_none (emission (known (places_at net.slots i) w) kind n), NotEmitted) ∷ ts) s c
+    ∙ ap (λ x. first_that ((is_none x, NotEmitted) ∷ ts)) (emission-is m net i w k j kind n y o st s c two.from is e)
+
+pub hears-nothing : (m : Standing) (i u h w j k : ℕ) (kind : Kind) (n : ℕ) (y : Seat) (o : Option (Bor Filed)) → IsStanding m → AreTwo m u h w j → IsSlotThere m i k → IsSeat (machine_of m) k j y → option_map (λ f. sent_of f.now) o ≡ nth_of kind n y.place.told → o ≡ None
+    → IsRefusal (machine_of m) (Hears i u w kind n) NotEmitted
+hears-nothing m i u h w j k kind n y o st two c is e none =
+    inr (λ net s. heard-at m net i u h w j k kind n y o st two c is e s ∙ ap (λ x. first_that ((is_none (option_map (λ f. sent_of f.now) x), NotEmitted) ∷ is_full net (pair_source net.roster i u w) ∷ [])) none)
+
+-- and there is such an emission
+heard-it : (m : Standing) (net : Net) (i u h w j k : ℕ) (kind : Kind) (n : ℕ) (y : Seat) (o : Option (Bor Filed)) (f : Bor Filed) → IsStanding m → AreTwo m u h w j → IsSlotThere m i k → IsSeat (machine_of m) k j y → option_map (λ f. sent_of f.now) o ≡ nth_of kind n y.place.told → o ≡ Some f → StandsFor (machine_of m) net
+    → first_that (tests net (Hears i u w kind n)) ≡ first_that (is_full net (pair_source net.roster i u w) ∷ [])
+heard-it m net i u h w j k kind n y o f st two c is e some s =
+    heard-at m net i u h w j k kind n y o st two c is e s ∙ ap (λ x. first_that ((is_none (option_map (λ f. sent_of f.now) x), NotEmitted) ∷ is_full net (pair_source net.roster i u w) ∷ [])) some
+
+pub hears-full : (m : Standing) (i u h w j k : ℕ) (kind : Kind) (n : ℕ) (y : Seat) (o : Option (Bor Filed)) (f : Bor Filed) (x : Refusal) → IsStanding m → AreTwo m u h w j → IsSlotThere m i k → IsSeat (machine_of m) k j y → option_map (λ f. sent_of f.now) o ≡ nth_of kind n y.place.told → o ≡ Some f
+    → IsRoom m (λ o. pair_source o i u w) (Err x) → IsRefusal (machine_of m) (Hears i u w kind n) x
+hears-full m i u h w j k kind n y o f x st two c is e some full =
+    inr (λ net s. heard-it m net i u h w j k kind n y o f st two c is e some s ∙ stops (is_full net (pair_source net.roster i u w)) x [] (full net s))
+
+pub hears-plan : (m : Standing) (i u h w j k : ℕ) (kind : Kind) (n : ℕ) (y : Seat) (o : Option (Bor Filed)) (f : Bor Filed) (d : Drawn) → IsStanding m → AreTwo m u h w j → IsSlotThere m i k → IsSeat (machine_of m) k j y → option_map (λ f. sent_of f.now) o ≡ nth_of kind n y.place.told → o ≡ Some f
+    → IsFiled m.archive f.now → IsRoom m (λ o. pair_source o i u w) (Ok d) → IsPlan m (Hears i u w kind n) (record { deed = Act k h (events.Take f.now); drawn = d; size = 0 })
+unfolding effect
+hears-plan m i u h w j k kind n y o f d st two c is e some filed room =
+    act-plan m (Hears i u w kind n) i u k h (events.Take f.now) d st c two.node filed (subst (IsDrawn (machine_of m) d) (sym (hears-source m.config.roster i u w kind n)) room.0) refl refl refl
+    (λ net s. ap (act_known net i u) (emission-is m net i w k j kind n y o st s c two.from is e ∙ ap (option_map (λ f. sent_of f.now)) some))
+    (λ net s. heard-it m net i u h w j k kind n y o f st two c is e some s ∙ passes (is_full net (pair_source net.roster i u w)) [] (room.1 net s))

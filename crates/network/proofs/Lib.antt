@@ -1,0 +1,17 @@
+mod Allowed
+mod Carried
+mod Counting
+mod Done
+mod Drawing
+mod Emitted
+mod FewOuts
+mod Handings
+mod Indexes
+mod Noted
+mod Openings
+mod Placed
+mod Planned
+mod Plans
+pub mod Readings
+mod Tellings
+mod Tidiness

@@ -1,0 +1,85 @@
+-- One node of those at a slot.
+use Rattle.std.proofs.Common.{◌≡◌, ℕ, suc, ◌<◌, List, [], ◌∷◌, ◌++◌, length, map, get_or, set, Some, Result, Ok, Err, OnOk, slice_get, drop, ◌+◌, append_assoc, refl, sym, ◌∙◌, ap, subst, arith}
+use Rattle.std.specs.List.{All}
+use Rattle.std.proofs.lemmas.List.{get_or-map}
+use Rattle.std.proofs.lemmas.List.Elements.{All-append, All-cons, All-nil, All-set}
+use Rattle.std.proofs.lemmas.Option.{slice_get_read}
+use Rattle.types.specs.Statements.{Sent}
+use Rattle.types.specs.declared.event.NodeEvent.{NodeEvent}
+use Rattle.std.proofs.Math.Seq.{drop-cons}
+use Rattle.std.proofs.lemmas.List.{map-append}
+use Rattle.protocol.specs.Nodes.{fresh}
+use Rattle.protocol.specs.Networks.{Host, Place, opened}
+use Rattle.envstore.specs.declared.filed.Filed.{Filed}
+use Rattle.envstore.specs.Archives.{AreFiled, IsFiled, Keeps}
+use Rattle.protocol.specs.Hosts.{Config}
+use Rattle.protocol.specs.Sets.{IsAscending}
+use Rattle.network.specs.Changes.{IsChangedAt}
+use Rattle.network.specs.Charges.{IsActed}
+use Rattle.network.specs.declared.plan.Charge.{Charge}
+use Rattle.configuration.specs.Configs.{names_of}
+use Rattle.network.specs.Standing.{IsStanding}
+use Rattle.configuration.proofs.Names.{names-differ}
+use Rattle.network.specs.Lodgings.{IsLodged, IsTallied, IsUncounted, Lodging, Lodgings, Seats, place_in}
+use Rattle.network.proofs.Indexes.{changed-set}
+
+mapped : (xs : List Lodging) → length (map place_in xs) ≡ length xs
+mapped [] = refl
+mapped (x ∷ xs) = ap suc (mapped xs)
+
+here : (old : List Lodging) (at : ℕ) (x : Lodging) → at < length old → x ≡ get_or old at x → place_in x ≡ get_or (map place_in old) at (place_in x)
+here old at x l is = ap place_in is ∙ sym (get_or-map place_in old at x (place_in x) l)
+
+pub placed : {A E : Type 0} (r : Result A E) (c : Charge) (e : NodeEvent) (old : List Lodging) (at : ℕ) (x y : Lodging) → at < length old → x ≡ get_or old at x → OnOk r (IsActed c e x y) → OnOk r (IsChangedAt (IsActed c e) at old (set old at y))
+placed (Ok a) c e old at x y l is h = changed-set (IsActed c e) old at x y l is h
+placed (Err a) c e old at x y l is h = tt
+
+pub stands : (old : List Lodging) (at : ℕ) (x : Lodging) → at < length old → x ≡ get_or old at x → slice_get old at ≡ Some x
+stands old at x l is = slice_get_read old (length old) at x refl l is
+
+pub got : (old : List Lodging) (at : ℕ) (x : Lodging) → at < length old → x ≡ get_or old at x → slice_get (map place_in old) at ≡ Some (place_in x)
+got old at x l is = slice_get_read (map place_in old) (length (map place_in old)) at (place_in x) refl (subst (λ n. at < n) (sym (mapped old)) l) (here old at x l is)
+
+-- what is lodged stays so
+pub lodged-still : (old new : List Sent) (x : Lodging) → Keeps old new → IsLodged old x → IsLodged new x
+lodged-still old new x kept h = record {
+  rows = λ k d l. kept (get_or x.held.rows k d) (h.rows k d l);
+  told = λ k d l. kept (get_or x.told k d) (h.told k d l);
+}
+
+pub all-lodged : (old new : List Sent) (xs : List Lodging) (at : ℕ) (y : Lodging) → Keeps old new → IsLodged new y → All (IsLodged old) xs → All (IsLodged new) (set xs at y)
+all-lodged old new xs at y kept one all = All-set (IsLodged new) xs at y one (λ k d l. lodged-still old new (get_or xs k d) kept (all k d l))
+
+-- a node that has taken and emitted nothing
+pub fresh-lodged : (archive : List Sent) (x : Lodging) → x.held.rows ≡ [] → x.told ≡ [] → IsLodged archive x
+fresh-lodged archive x rows told = record {
+  rows = subst (λ (fs : List Filed). AreFiled archive fs) (sym rows) (All-nil (IsFiled archive));
+  told = subst (λ (fs : List Filed). AreFiled archive fs) (sym told) (All-nil (IsFiled archive));
+}
+
+pub one-more : (archive : List Sent) (xs ys : List Lodging) (x : Lodging) → ys ≡ xs ++ x ∷ [] → IsLodged archive x → All (IsLodged archive) xs → All (IsLodged archive) ys
+one-more archive xs ys x is one all = subst (λ (zs : List Lodging). All (IsLodged archive) zs) (sym is) (All-append (IsLodged archive) xs (x ∷ []) all (All-cons (IsLodged archive) x [] one (All-nil (IsLodged archive))))
+
+pub one-more-uncounted : (xs ys : List Lodging) (x : Lodging) → ys ≡ xs ++ x ∷ [] → x.own ≡ 0 → x.heard ≡ [] → All IsUncounted xs → All IsUncounted ys
+one-more-uncounted xs ys x is own heard all =
+    let one : IsUncounted x = record { own = own; heard = heard } in
+    subst (λ (zs : List Lodging). All IsUncounted zs) (sym is) (All-append IsUncounted xs (x ∷ []) all (All-cons IsUncounted x [] one (All-nil IsUncounted)))
+
+-- one host more
+pub opened-more : (old new : List Lodging) (start : List Place) (hosts : List Host) (i n : ℕ) (h : Host) (x : Lodging) → i < length hosts → h ≡ get_or hosts i h → new ≡ old ++ x ∷ []
+    → place_in x ≡ record { node = fresh n h.name h.slices; told = [] } → map place_in old ++ opened (drop i hosts) n ≡ start → map place_in new ++ opened (drop (i + 1) hosts) n ≡ start
+unfolding opened
+opened-more old new start hosts i n h x l is more made before =
+    let z : suc i ≡ i + 1 = omega arith in
+    let rest = opened (drop (i + 1) hosts) n in
+    let next : opened (drop i hosts) n ≡ place_in x ∷ rest = ap (λ (hs : List Host). opened hs n) (drop-cons hosts i h l ∙ (λ j. sym is j ∷ drop (z j) hosts)) ∙ ap (λ (q : Place). q ∷ rest) (sym made) in
+    ap (λ (ls : List Lodging). map place_in ls ++ rest) more ∙ ap (λ (ps : List Place). ps ++ rest) (map-append place_in old (x ∷ [])) ∙ append_assoc (map place_in old) (place_in x ∷ []) rest
+    ∙ sym (ap (λ (ps : List Place). map place_in old ++ ps) next) ∙ before
+
+-- a network where nothing has happened
+pub fresh-standing : (config : Config) (archive : List Sent) (slots : List Lodgings) → slots ≡ [] → IsAscending (names_of config.hosts) → IsStanding (record { config = config; archive = archive; slots = slots; events = 0; bytes = 0; opens = 0 })
+fresh-standing config archive slots none up = subst (λ (ss : List Lodgings). IsStanding (record { config = config; archive = archive; slots = ss; events = 0; bytes = 0; opens = 0 })) (sym none) (record {
+  lodged = All-nil (λ (s : Lodgings). All (IsLodged archive) s.places);
+  tidy = record { single = names-differ (names_of config.hosts) up; names = tt; apart = refl; bytes = omega arith };
+  stood = ([], All-nil (λ (s : Seats). All (IsTallied s.number []) s.seats));
+})

@@ -1,0 +1,169 @@
+-- What is done by places is what an event does.
+use Rattle.std.proofs.Common.{◌≡◌, ℕ, zero, suc, ◌<◌, Bool, true, false, not, ◌==◌, length, List, [], ◌∷◌, ◌++◌, ◌||◌, cond, map, filter, take, drop, slice_get, Option, Some, None, option_map, if◌then◌else◌, refl, sym, ◌∙◌, ap, ap₂, subst, arith}
+use Rattle.std.specs.List.{AllByRecursion, list_any, remove}
+use Rattle.std.proofs.lemmas.Option.{slice_get-map, slice_get_within, same_Some}
+use Rattle.std.proofs.lemmas.Bool.{eqb-true, false≢true, and_parts}
+use Rattle.types.specs.Trees.{Slices, all_differ}
+use Rattle.types.specs.declared.event.NodeEvent.{NodeEvent}
+use Rattle.types.specs.declared.event.Out.{Out}
+use Rattle.protocol.specs.Networks.{Host, Net, Place, Slot, act, act_in, known, moved, outs_at, place_of, places_at, slices_of}
+use Rattle.configuration.specs.Configs.{index_in, index_of_name, names_of}
+use Rattle.network.specs.Changes.{changed_at}
+use Rattle.network.specs.Deeds.{IsNodeThere, IsSeat, acted, index_of_slot, node_at}
+use Rattle.network.specs.Lodgings.{Seat, Seats, slot_of}
+use Rattle.network.specs.Standing.{IsTidy, Machine, StandsFor, net_of}
+use Rattle.network.proofs.Indexes.{at_key, at-index, at-none, changed-map, index-within, mapped-length}
+
+abbrev number_of : Slot → ℕ
+number_of s = s.number
+
+abbrev places_of : Slot → List Place
+places_of s = s.places
+
+abbrev name_of : Place → ℕ
+name_of p = p.node.name
+
+abbrev seat_name : Seat → ℕ
+seat_name x = x.place.node.name
+
+-- ---- looking up
+-- what stands at the place of a key has it
+pub index-get : {X : Type 0} (key : X → ℕ) (xs : List X) (u k : ℕ) → index_in (map key xs) u ≡ Some k → (x : X) × (slice_get xs k ≡ Some x) × (key x ≡ u)
+index-get key [] u k h = absurd (cc)
+index-get {X} key (x ∷ xs) u k h = go (key x == u) (index_in (map key xs) u) (λ j e. index-get key xs u j e) refl refl h
+  where
+    go : (b : Bool) (o : Option ℕ) → ((j : ℕ) → index_in (map key xs) u ≡ Some j → (y : X) × (slice_get xs j ≡ Some y) × (key y ≡ u)) → (key x == u) ≡ b → index_in (map key xs) u ≡ o → (if b then Some 0 else option_map suc o) ≡ Some k → (y : X) × (slice_get (x ∷ xs) k ≡ Some y) × (key y ≡ u)
+    go true o ih y e q = let z : 0 ≡ k = cc in (x, ap (λ n. slice_get (x ∷ xs) n) (sym z), eqb-true (key x) u y)
+    go false None ih y e q = absurd (cc)
+    go false (Some j) ih y e q = let z : suc j ≡ k = cc in let r = ih j e in (r.0, ap (λ n. slice_get (x ∷ xs) n) (sym z) ∙ r.1, r.2)
+
+pub places_at-is : (slots : List Slot) (i : ℕ) → places_at slots i ≡ at_key number_of places_of slots i
+places_at-is [] i = refl
+places_at-is (s ∷ ss) i = ap (λ o. if s.number == i then Some s.places else o) (places_at-is ss i)
+
+pub place_of-is : (ps : List Place) (u : ℕ) → place_of ps u ≡ at_key name_of (λ p. p) ps u
+place_of-is [] u = refl
+place_of-is (p ∷ ps) u = ap (λ o. if p.node.name == u then Some p else o) (place_of-is ps u)
+
+pub slices_of-is : (hosts : List Host) (u : ℕ) → slices_of hosts u ≡ at_key (λ (h : Host). h.name) (λ (h : Host). h.slices) hosts u
+slices_of-is [] u = refl
+slices_of-is (h ∷ hs) u = ap (λ o. if h.name == u then Some h.slices else o) (slices_of-is hs u)
+
+same-option : {X : Type 0} (o : Option X) → option_map (λ x. x) o ≡ o
+same-option None = refl
+same-option (Some x) = refl
+
+-- a property of all holds of one of them
+pub at-place : {X : Type 0} (P : X → Type 0) (xs : List X) (k : ℕ) (x : X) → AllByRecursion P xs → slice_get xs k ≡ Some x → P x
+at-place P [] k x a h = absurd (cc)
+at-place P (y ∷ ys) zero x a h = let q : y ≡ x = cc in subst P q a.0
+at-place P (y ∷ ys) (suc k) x a h = at-place P ys k x a.1 h
+
+-- ---- machines and the networks for which they stand
+-- no name is hosted twice; the hosted nodes stand in their order at each open slot; no slot is open twice
+pub record IsNeat (hosts : List Host) (slots : List Slot) : Type 0 where
+  pub single : all_differ (names_of hosts) ≡ true
+  pub names : AllByRecursion (λ s. map name_of s.places ≡ names_of hosts) slots
+  pub apart : all_differ (map number_of slots) ≡ true
+
+pub numbers-same : (slots : List Seats) → map number_of (map slot_of slots) ≡ map (λ s. s.number) slots
+numbers-same [] = refl
+numbers-same (s ∷ ss) = ap (λ (ns : List ℕ). s.number ∷ ns) (numbers-same ss)
+
+names-same : (seats : List Seat) → map name_of (map (λ x. x.place) seats) ≡ map seat_name seats
+names-same [] = refl
+names-same (x ∷ xs) = ap (λ (ns : List ℕ). x.place.node.name ∷ ns) (names-same xs)
+
+all-names : (ns : List ℕ) (slots : List Seats) → AllByRecursion (λ s. map seat_name s.seats ≡ ns) slots → AllByRecursion (λ s. map name_of s.places ≡ ns) (map slot_of slots)
+all-names ns [] a = tt
+all-names ns (s ∷ ss) a = (names-same s.seats ∙ a.0, all-names ns ss a.1)
+
+pub neat-machine : (m : Machine) → IsTidy m → IsNeat m.config.hosts (map slot_of m.slots)
+neat-machine m t = record {
+  single = t.single;
+  names = all-names (names_of m.config.hosts) m.slots t.names;
+  apart = ap all_differ (numbers-same m.slots) ∙ t.apart;
+}
+
+pub neat-net : (m : Machine) (net : Net) → IsTidy m → StandsFor m net → IsNeat net.hosts net.slots
+neat-net m net t s = subst (λ (n : Net). IsNeat n.hosts n.slots) (sym s.is) (neat-machine m t)
+
+-- the node at the place of a hosted name and an open slot
+pub seat-there : (m : Machine) (i u k h : ℕ) → IsTidy m → index_of_slot (map slot_of m.slots) i ≡ Some k → index_of_name m.config.hosts u ≡ Some h
+    → (x : Seats) × (y : Seat) × (slice_get m.slots k ≡ Some x) × (slice_get x.seats h ≡ Some y) × (x.number ≡ i) × (y.place.node.name ≡ u)
+seat-there m i u k h t q r =
+    let a = index-get (λ (s : Seats). s.number) m.slots i k (ap (λ ns. index_in ns i) (sym (numbers-same m.slots)) ∙ q) in
+    let b = index-get seat_name a.0.seats u h (ap (λ ns. index_in ns u) (at-place (λ (s : Seats). map seat_name s.seats ≡ names_of m.config.hosts) m.slots k a.0 t.names a.1) ∙ r) in
+    (a.0, b.0, a.1, b.1, a.2, b.2)
+
+-- a seat is a place of the slot
+pub seat-place : (m : Machine) (k h : ℕ) (y : Seat) → IsSeat m k h y → node_at (slice_get (map slot_of m.slots) k) h ≡ Some y.place
+seat-place m k h y is =
+    ap (λ o. node_at o h) (slice_get-map slot_of m.slots k ∙ ap (option_map slot_of) is.1)
+    ∙ slice_get-map (λ (x : Seat). x.place) is.0.seats h ∙ ap (option_map (λ (x : Seat). x.place)) is.2
+
+pub node-there : (m : Machine) (k h : ℕ) (y : Seat) → IsSeat m k h y → IsNodeThere (map slot_of m.slots) k h
+node-there m k h y is =
+    let e = seat-place m k h y is in
+    let at : slice_get (map slot_of m.slots) k ≡ Some (slot_of is.0) = slice_get-map slot_of m.slots k ∙ ap (option_map slot_of) is.1 in
+    (slot_of is.0, at, slice_get_within (map (λ (x : Seat). x.place) is.0.seats) h y.place (slice_get-map (λ (x : Seat). x.place) is.0.seats h ∙ ap (option_map (λ (x : Seat). x.place)) is.2))
+
+-- ---- the node of a name at a slot
+pub known-place : (hosts : List Host) (ps : List Place) (u h : ℕ) → map name_of ps ≡ names_of hosts → index_in (names_of hosts) u ≡ Some h → place_of ps u ≡ slice_get ps h
+known-place hosts ps u h e q = place_of-is ps u ∙ at-index name_of (λ p. p) ps u h (ap (λ ns. index_in ns u) e ∙ q) ∙ same-option (slice_get ps h)
+
+pub known-node : (hosts : List Host) (slots : List Slot) (i u k h : ℕ) → IsNeat hosts slots → index_of_slot slots i ≡ Some k → index_in (names_of hosts) u ≡ Some h → known (places_at slots i) u ≡ node_at (slice_get slots k) h
+known-node hosts slots i u k h t q r = ap (λ o. known o u) (places_at-is slots i ∙ at-index number_of places_of slots i k q) ∙ go (slice_get slots k) refl
+  where
+    go : (o : Option Slot) → slice_get slots k ≡ o → known (option_map places_of o) u ≡ node_at o h
+    go None e = refl
+    go (Some s) e = known-place hosts s.places u h (at-place (λ (s : Slot). map name_of s.places ≡ names_of hosts) slots k s t.names e) r
+
+-- ---- one event of one node
+same-nodes : (hosts : List Host) (ps : List Place) (u h : ℕ) (e : NodeEvent) → all_differ (names_of hosts) ≡ true → map name_of ps ≡ names_of hosts → index_in (names_of hosts) u ≡ Some h → changed_at h (moved e) ps ≡ act_in u e ps
+same-nodes hosts ps u h e d q r = changed-map name_of (moved e) ps u h (ap (λ ns. index_in ns u) q ∙ r) (ap all_differ q ∙ d)
+
+same-slots : (hosts : List Host) (slots : List Slot) (i u h : ℕ) (e : NodeEvent) → all_differ (names_of hosts) ≡ true → AllByRecursion (λ s. map name_of s.places ≡ names_of hosts) slots → index_in (names_of hosts) u ≡ Some h
+    → map {B = Slot} (λ (s : Slot). if s.number == i then record s { places = changed_at h (moved e) s.places } else s) slots ≡ map {B = Slot} (λ (s : Slot). if s.number == i then record s { places = act_in u e s.places } else s) slots
+same-slots hosts [] i u h e d a r = refl
+same-slots hosts (s ∷ ss) i u h e d a r =
+    ap₂ {C = List Slot} (λ (ps : List Place) (ts : List Slot). (if s.number == i then record s { places = ps } else s) ∷ ts) (same-nodes hosts s.places u h e d a.0 r) (same-slots hosts ss i u h e d a.1 r)
+
+pub acted-is : (net : Net) (i u k h : ℕ) (e : NodeEvent) → IsNeat net.hosts net.slots → index_of_slot net.slots i ≡ Some k → index_in (names_of net.hosts) u ≡ Some h → acted net.slots k h e ≡ (act net i u e).0.slots
+unfolding act
+acted-is net i u k h e t q r =
+    changed-map number_of (λ (s : Slot). record s { places = changed_at h (moved e) s.places }) net.slots i k q t.apart ∙ same-slots net.hosts net.slots i u h e t.single t.names r
+
+pub outs-are : (net : Net) (i u k h : ℕ) (e : NodeEvent) → IsNeat net.hosts net.slots → index_of_slot net.slots i ≡ Some k → index_in (names_of net.hosts) u ≡ Some h → outs_at e (node_at (slice_get net.slots k) h) ≡ (act net i u e).1
+unfolding act
+outs-are net i u k h e t q r = ap (outs_at e) (sym (known-node net.hosts net.slots i u k h t q r))
+
+-- ---- closing
+-- nothing else has the key, so nothing else goes
+others-kept : {X : Type 0} (key : X → ℕ) (xs : List X) (u : ℕ) → list_any (λ w. w == u) (map key xs) ≡ false → filter (λ x. not (key x == u)) xs ≡ xs
+others-kept key [] u h = refl
+others-kept {X} key (x ∷ xs) u h = go (key x == u) (list_any (λ w. w == u) (map key xs)) (λ e. others-kept key xs u e) refl h
+  where
+    go : (b c : Bool) → (list_any (λ w. w == u) (map key xs) ≡ false → filter (λ x. not (key x == u)) xs ≡ xs) → list_any (λ w. w == u) (map key xs) ≡ c → (b || c) ≡ false → cond (not b) (x ∷ filter (λ x. not (key x == u)) xs) (filter (λ x. not (key x == u)) xs) ≡ x ∷ xs
+    go true c ih e q = absurd (false≢true (sym q))
+    go false c ih e q = ap (λ ys. x ∷ ys) (ih (e ∙ q))
+
+pub removed-is : {X : Type 0} (key : X → ℕ) (xs : List X) (u k : ℕ) → index_in (map key xs) u ≡ Some k → all_differ (map key xs) ≡ true → remove xs k ≡ filter (λ x. not (key x == u)) xs
+removed-is key [] u k h d = absurd (cc)
+removed-is {X} key (x ∷ xs) u k h d = go (key x == u) (index_in (map key xs) u) (λ j e d. removed-is key xs u j e d) refl refl h
+  where
+    parts : (not (list_any (λ w. w == key x) (map key xs)) ≡ true) × (all_differ (map key xs) ≡ true)
+    parts = and_parts (not (list_any (λ w. w == key x) (map key xs))) (all_differ (map key xs)) d
+
+    absent : (b : Bool) → not b ≡ true → b ≡ false
+    absent true h = absurd (false≢true h)
+    absent false h = refl
+
+    go : (b : Bool) (o : Option ℕ) → ((j : ℕ) → index_in (map key xs) u ≡ Some j → all_differ (map key xs) ≡ true → remove xs j ≡ filter (λ x. not (key x == u)) xs) → (key x == u) ≡ b → index_in (map key xs) u ≡ o → (if b then Some 0 else option_map suc o) ≡ Some k
+        → remove (x ∷ xs) k ≡ cond (not b) (x ∷ filter (λ x. not (key x == u)) xs) (filter (λ x. not (key x == u)) xs)
+    go true o ih y e q =
+        let z : 0 ≡ k = cc in
+        let none = absent (list_any (λ w. w == key x) (map key xs)) parts.0 in
+        ap (λ n. remove (x ∷ xs) n) (sym z) ∙ sym (others-kept key xs u (ap (λ v. list_any (λ w. w == v) (map key xs)) (sym (eqb-true (key x) u y)) ∙ none))
+    go false None ih y e q = absurd (cc)
+    go false (Some j) ih y e q = let z : suc j ≡ k = cc in ap (λ n. remove (x ∷ xs) n) (sym z) ∙ ap (λ ys. x ∷ ys) (ih j e parts.1)

@@ -1,0 +1,74 @@
+use Rattle.std.proofs.Common.{rules, ◌≡◌, ◌∙◌, Bool, true, false, Option, Some, None, is_some, Result, Ok, Err, sym, ap, subst, map, ℕ}
+use Rattle.types.specs.declared.event.Refusal.{Refusal}
+use Rattle.configuration.specs.Configs.{index_of_name}
+use Rattle.network.specs.Lodgings.{slot_of, seat_of}
+use Rattle.types.specs.declared.event.Refusal.TheVariants.{HostedSender, SlotNotOpen}
+use Rattle.protocol.specs.Networks.Reading.{Read}
+use Rattle.protocol.specs.Networks.Step.{Delivers}
+use Rattle.network.specs.Deeds.{IsPlanned, IsRoom, IsSlotThere, index_of_slot, pair_source}
+use Rattle.network.specs.Standing.{IsStanding, Standing, machine_of}
+use Rattle.network.proofs.Handings.{envelope-closed, envelope-full, envelope-large, envelope-plan, sender-hosted-so}
+use Rattle.network.proofs.Openings.{none-so}
+use Rattle.network.proofs.network.Network.plan_envelope.Goals as goal
+
+pub returns-then-is_some : goal.returns-then-is_some
+returns-then-is_some g c =
+    let m = c.args.self.now in
+    let u = c.args.node.now in
+    let env = c.args.envelope in
+    let t : is_some (index_of_name m.config.hosts env.sender) ≡ true = search rules in
+    sender-hosted-so m u c.args.host_at c.args.size env c.requires t
+
+pub returns-in_err-slot_at : goal.returns-in_err-slot_at
+returns-in_err-slot_at g c =
+    let m = c.args.self.now in
+    let u = c.args.node.now in
+    let env = c.args.envelope in
+    let f : is_some (index_of_name m.config.hosts env.sender) ≡ false = search rules in
+    let free = none-so (index_of_name m.config.hosts env.sender) f in
+    let e : c.from_residual.result ≡ Err SlotNotOpen = search rules in
+    let closed : index_of_slot (map slot_of (machine_of m).slots) env.slot ≡ None = ap (λ i. index_of_slot (map slot_of (machine_of m).slots) i) (sym c.slot.ensures) ∙ c.in_err-slot_at.ensures.1 in
+    subst (IsPlanned m (Delivers u c.args.size (Read env))) (sym e) (envelope-closed m u c.args.host_at c.args.size env c.requires free closed)
+
+pub returns-in_err-drawn : goal.returns-in_err-drawn
+returns-in_err-drawn g c =
+    let m = c.args.self.now in
+    let u = c.args.node.now in
+    let env = c.args.envelope in
+    let f : is_some (index_of_name m.config.hosts env.sender) ≡ false = search rules in
+    let free = none-so (index_of_name m.config.hosts env.sender) f in
+    let k = c.in_ok-slot_at.slot_at in
+    let at : IsSlotThere m env.slot k = ap (λ i. index_of_slot (map slot_of (machine_of m).slots) i) (sym c.slot.ensures) ∙ c.in_ok-slot_at.ensures in
+    let r = c.in_err-drawn.field-0.0 in
+    let e : c.from_residual-in_err-drawn.result ≡ Err r = search rules in
+    let full : IsRoom m (λ o. pair_source o env.slot u env.sender) (Err r) = subst (λ w. IsRoom m (λ o. pair_source o env.slot u w) (Err r)) c.sender-2.ensures.value (c.in_err-drawn.ensures.room env.slot at) in
+    subst (IsPlanned m (Delivers u c.args.size (Read env))) (sym e) (envelope-full m u c.args.host_at k c.args.size env r c.requires free at full)
+
+pub returns-in_err-has_bytes : goal.returns-in_err-has_bytes
+returns-in_err-has_bytes g c =
+    let m = c.args.self.now in
+    let u = c.args.node.now in
+    let env = c.args.envelope in
+    let f : is_some (index_of_name m.config.hosts env.sender) ≡ false = search rules in
+    let free = none-so (index_of_name m.config.hosts env.sender) f in
+    let k = c.in_ok-slot_at.slot_at in
+    let at : IsSlotThere m env.slot k = ap (λ i. index_of_slot (map slot_of (machine_of m).slots) i) (sym c.slot.ensures) ∙ c.in_ok-slot_at.ensures in
+    let d = c.in_ok-drawn.drawn in
+    let room : IsRoom m (λ o. pair_source o env.slot u env.sender) (Ok d) = subst (λ w. IsRoom m (λ o. pair_source o env.slot u w) (Ok d)) c.sender-2.ensures.value (c.in_ok-drawn.ensures.room env.slot at) in
+    let r = c.in_err-has_bytes.field-0.0 in
+    let e : c.from_residual-in_err-has_bytes.result ≡ Err r = search rules in
+    subst (IsPlanned m (Delivers u c.args.size (Read env))) (sym e) (envelope-large m u c.args.host_at k c.args.size env d r c.requires free at room c.in_err-has_bytes.ensures)
+
+pub returns : goal.returns
+returns g c =
+    let m = c.args.self.now in
+    let u = c.args.node.now in
+    let env = c.args.envelope in
+    let f : is_some (index_of_name m.config.hosts env.sender) ≡ false = search rules in
+    let free = none-so (index_of_name m.config.hosts env.sender) f in
+    let k = c.in_ok-slot_at.slot_at in
+    let at : IsSlotThere m env.slot k = ap (λ i. index_of_slot (map slot_of (machine_of m).slots) i) (sym c.slot.ensures) ∙ c.in_ok-slot_at.ensures in
+    let d = c.in_ok-drawn.drawn in
+    let room : IsRoom m (λ o. pair_source o env.slot u env.sender) (Ok d) = subst (λ w. IsRoom m (λ o. pair_source o env.slot u w) (Ok d)) c.sender-2.ensures.value (c.in_ok-drawn.ensures.room env.slot at) in
+    let st : IsStanding m = subst IsStanding c.self.view_is c.self.invariant in
+    envelope-plan m u c.args.host_at k c.args.size env d st c.requires free at room c.in_ok-has_bytes.ensures

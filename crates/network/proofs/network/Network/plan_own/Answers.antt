@@ -1,0 +1,30 @@
+use Rattle.std.proofs.Common.{rules, ◌≡◌, ◌∙◌, Bool, true, false, Option, Some, None, is_some, Result, Err, sym, ap, subst, inl, inr, nat_lt, length, map}
+use Rattle.types.specs.declared.event.Refusal.{Refusal}
+use Rattle.network.specs.Deeds.{IsPlanned, IsPlan}
+use Rattle.network.specs.declared.plan.Plan.{Plan}
+use Rattle.network.specs.Standing.{IsStanding, Standing, machine_of}
+use Rattle.network.proofs.Planned.{own-full, own-nowhere, own-plan}
+use Rattle.network.proofs.network.Network.plan_own.Goals as goal
+
+pub returns-in_err-spot : goal.returns-in_err-spot
+returns-in_err-spot g c =
+    let m = c.args.self.now in
+    let r = c.in_err-spot.field-0.0 in
+    let q : c.from_residual.result ≡ Err r = search rules in
+    λ e own. subst (IsPlanned m e) (sym q) (own-nowhere m c.args.slot c.args.node.now c.args.event e r c.in_err-spot.ensures own)
+
+pub own_room-requires-clause-slot : goal.own_room-requires-clause-slot
+own_room-requires-clause-slot g c = (c.args.slot, c.in_ok-spot.ensures.slot)
+
+pub returns-in_err-drawn : goal.returns-in_err-drawn
+returns-in_err-drawn g c =
+    let m = c.args.self.now in
+    let r = c.in_err-drawn.field-0.0 in
+    let q : c.from_residual-in_err-drawn.result ≡ Err r = search rules in
+    λ e own. subst (IsPlanned m e) (sym q) (own-full m c.args.slot c.args.node.now c.in_ok-spot.spot c.args.event e r c.in_ok-spot.ensures (c.in_err-drawn.ensures c.args.slot c.in_ok-spot.ensures.slot) own)
+
+pub returns : goal.returns
+returns g c =
+    let m = c.args.self.now in
+    let st : IsStanding m = subst IsStanding c.self.view_is c.self.invariant in
+    λ e own. subst (λ (p : Plan). IsPlan m e p) (sym c.acting.ensures) (own-plan m c.args.slot c.args.node.now c.in_ok-spot.spot c.args.event c.in_ok-drawn.drawn e st c.in_ok-spot.ensures c.requires (c.in_ok-drawn.ensures c.args.slot c.in_ok-spot.ensures.slot) own)

@@ -1,0 +1,62 @@
+use Rattle.std.proofs.Common.{rules, ◌≡◌, ◌∙◌, Bool, true, false, Option, Some, None, is_some, Result, Err, sym, ap, subst, inl, inr, nat_lt, length, map}
+use Rattle.types.specs.declared.event.Refusal.{Refusal}
+use Rattle.protocol.specs.Networks.{has_input, is_bad_value}
+use Rattle.protocol.specs.Networks.Step.{Asks}
+use Rattle.slot.specs.declared.filed.FiledEvent.TheVariants as events
+use Rattle.std.specs.Prelude.{List, ℕ}
+use Rattle.network.specs.Deeds.{IsPlanned, IsPlan}
+use Rattle.network.specs.Lodgings.{place_in, seat_of}
+use Rattle.network.specs.declared.plan.Deed.TheVariants.{Act}
+use Rattle.network.specs.declared.plan.Plan.{Plan}
+use Rattle.network.specs.Standing.{IsStanding, Standing, machine_of}
+use Rattle.network.proofs.Plans.{seat-there}
+use Rattle.network.proofs.Planned.{asks-again, asks-bad, asks-full, asks-nowhere, asks-plan}
+use Rattle.network.proofs.network.Network.plan_propose.Goals as goal
+
+pub returns-in_err-spot : goal.returns-in_err-spot
+returns-in_err-spot g c =
+    let m = c.args.self.now in
+    let r = c.in_err-spot.field-0.0 in
+    let e : c.from_residual.result ≡ Err r = search rules in
+    subst (IsPlanned m (Asks c.args.slot c.args.node.now c.args.value.now)) (sym e) (asks-nowhere m c.args.slot c.args.node.now c.args.value.now r c.in_err-spot.ensures)
+
+pub returns-then-is_bad : goal.returns-then-is_bad
+returns-then-is_bad g c =
+    let bad : is_bad_value c.args.value.now ≡ true = search rules in
+    asks-bad c.args.self.now c.args.slot c.args.node.now c.args.value.now c.in_ok-spot.spot c.in_ok-spot.ensures bad
+
+pub place-requires : goal.place-requires
+place-requires g c =
+    let m = c.args.self.now in
+    let st : IsStanding m = subst IsStanding c.self.view_is c.self.invariant in
+    let y = seat-there (machine_of m) c.args.slot c.args.node.now c.in_ok-spot.spot.slot_at c.in_ok-spot.spot.host_at st.tidy c.in_ok-spot.ensures.slot c.in_ok-spot.ensures.host in
+    (y.1, (y.0, y.2, y.3))
+
+pub returns-then-has_input : goal.returns-then-has_input
+returns-then-has_input g c =
+    let m = c.args.self.now in
+    let st : IsStanding m = subst IsStanding c.self.view_is c.self.invariant in
+    let bad : is_bad_value c.args.value.now ≡ false = search rules in
+    asks-again m c.args.slot c.args.node.now c.args.value.now c.in_ok-spot.spot (seat_of c.place.result.now) c.has_input.result st c.in_ok-spot.ensures c.place.ensures.seat bad c.has_input.ensures c.if-has_input.true
+
+pub own_room-requires-clause-slot : goal.own_room-requires-clause-slot
+own_room-requires-clause-slot g c = (c.args.slot, c.in_ok-spot.ensures.slot)
+
+pub returns-in_err-drawn : goal.returns-in_err-drawn
+returns-in_err-drawn g c =
+    let m = c.args.self.now in
+    let st : IsStanding m = subst IsStanding c.self.view_is c.self.invariant in
+    let r = c.in_err-drawn.field-0.0 in
+    let e : c.from_residual-in_err-drawn.result ≡ Err r = search rules in
+    let bad : is_bad_value c.args.value.now ≡ false = search rules in
+    subst (IsPlanned m (Asks c.args.slot c.args.node.now c.args.value.now)) (sym e)
+    (asks-full m c.args.slot c.args.node.now c.args.value.now c.in_ok-spot.spot (seat_of c.place.result.now) c.has_input.result r st c.in_ok-spot.ensures c.place.ensures.seat bad c.has_input.ensures c.if-has_input.false (c.in_err-drawn.ensures c.args.slot c.in_ok-spot.ensures.slot))
+
+pub returns-in-Ok : goal.returns-in-Ok
+returns-in-Ok g c =
+    let m = c.args.self.now in
+    let st : IsStanding m = subst IsStanding c.self.view_is c.self.invariant in
+    let bad : is_bad_value c.args.value.now ≡ false = search rules in
+    let plan = asks-plan m c.args.slot c.args.node.now c.args.value.now c.in_ok-spot.spot (seat_of c.place.result.now) c.has_input.result c.in_ok-drawn.drawn st c.in_ok-spot.ensures c.place.ensures.seat bad c.has_input.ensures c.if-has_input.false (c.in_ok-drawn.ensures c.args.slot c.in_ok-spot.ensures.slot) in
+    let e : c.acting.result ≡ record { deed = Act c.in_ok-spot.spot.slot_at c.in_ok-spot.spot.host_at (events.Propose c.args.value.now); drawn = c.in_ok-drawn.drawn; size = 0 } = c.acting.ensures ∙ ap (λ (x : List ℕ). record { deed = Act c.in_ok-spot.spot.slot_at c.in_ok-spot.spot.host_at (events.Propose x); drawn = c.in_ok-drawn.drawn; size = 0 }) c.in-Ok.ensures in
+    subst (λ (p : Plan). IsPlan m (Asks c.args.slot c.args.node.now c.args.value.now) p) (sym e) plan

@@ -1,0 +1,26 @@
+-- What an applied event of a network leaves.
+use Rattle.std.specs.Prelude.{◌≡◌, ℕ, List, map, replicate, Option, Some, None, IfSome, option_map}
+use Rattle.types.specs.Statements.{Sent}
+use Rattle.protocol.specs.Networks.{Net, Step}
+use Rattle.protocol.specs.Networks.Reading.{Read}
+use Rattle.protocol.specs.Networks.Step.{Delivers}
+use Rattle.envstore.specs.Archives.{IsFiled, sent_of}
+use Rattle.slot.specs.Filings.{AreFiledOuts, outs_of}
+use Rattle.network.specs.Marks.{marks_in}
+use Rattle.network.specs.Standing.{IsStep, Standing, StandsFor, machine_of}
+use Rattle.network.specs.declared.applied.Applied.{Applied}
+
+-- the envelope that an event delivers
+abbrev pub delivered_of : Step → Option Sent
+delivered_of (Delivers u size (Read e)) = Some e
+delivered_of _ = None
+
+-- The event is the network's step, with what that gives out, its marks, and so many whole copies; the archive has what was given out
+-- and what was delivered.
+pub record IsApplied (old : Standing) (e : Step) (count : ℕ) (new : Standing) (a : Applied) : Type 0 where
+  pub step : IsStep (machine_of old) e (outs_of a.outs.items) (machine_of new)
+  pub marks : (net : Net) → StandsFor (machine_of old) net → a.marks.items ≡ marks_in net e
+  pub copies : map (λ v. v.items) a.copies.items ≡ replicate count (outs_of a.outs.items)
+  pub outs : AreFiledOuts new.archive a.outs.items
+  pub delivered : option_map sent_of a.delivered ≡ delivered_of e
+  pub filed : IfSome a.delivered (IsFiled new.archive)

@@ -1,0 +1,82 @@
+-- What an event adds to the counts of its node, and what that leaves of the nodes of a network.
+use Rattle.std.specs.Prelude.{◌≡◌, ◌⊎◌, ℕ, ◌<◌, ◌≤◌, ◌+◌, ◌^◌, ◌==◌, List, Some, slice_get, if◌then◌else◌, ⊤, Vec, vec_len, vec_capacity}
+use Rattle.std.specs.Global.{Global}
+use Rattle.types.specs.declared.event.NodeEvent.{NodeEvent}
+use Rattle.protocol.specs.Networks.{moved}
+use Rattle.network.specs.Changes.{IsChangedAt}
+use Rattle.network.specs.Lodgings.{Lodging, Lodgings, bytes_from, events_from, place_in}
+use Rattle.network.specs.declared.plan.Charge.{Charge}
+use Rattle.network.specs.declared.plan.Drawn.{Drawn}
+use Rattle.network.specs.declared.plan.Drawn.TheVariants.{Budgets, Opens, Own, Pair}
+use Rattle.network.specs.declared.tallies.Tally.{Tally}
+
+-- ---- on what it counts
+-- one where it draws on the own share of a node
+abbrev pub on_own : Drawn → ℕ
+on_own (Own k h) = 1
+on_own _ = 0
+
+-- so much where it draws on what a node gets from this name
+abbrev pub on_pair : Drawn → ℕ → ℕ → ℕ
+on_pair (Pair k h w) n u = if w == u then n else 0
+on_pair _ n u = 0
+
+-- so much where it draws on the budgets of the network
+abbrev pub on_budgets_of : Drawn → ℕ → ℕ
+on_budgets_of Budgets n = n
+on_budgets_of _ n = 0
+
+-- one where it draws on openings and closings
+abbrev pub on_opens_of : Drawn → ℕ
+on_opens_of Opens = 1
+on_opens_of _ = 0
+
+-- the counts of the network stay below their widths
+abbrev pub HasRoomOnNetwork : Drawn → ℕ → ℕ → ℕ → ℕ → Type 0
+HasRoomOnNetwork Budgets n events bytes opens = (events < 2 ^ 40) × (bytes + n ≤ 2 ^ 40)
+HasRoomOnNetwork Opens n events bytes opens = opens < 2 ^ 40
+HasRoomOnNetwork _ n events bytes opens = ⊤
+
+-- ---- at a node
+-- its counts are those of before and what is counted
+pub record IsCharged (c : Charge) (old new : Lodging) : Type 0 where
+  pub own : new.own ≡ old.own + on_own c.drawn
+  pub events : (u : ℕ) → events_from new.heard u ≡ events_from old.heard u + on_pair c.drawn 1 u
+  pub bytes : (u : ℕ) → bytes_from new.heard u ≡ bytes_from old.heard u + on_pair c.drawn c.size u
+
+-- so many more stay below the width, or there are none
+abbrev pub FitsOrNone : ℕ → ℕ → Type 0
+FitsOrNone bytes n = (bytes + n ≤ 2 ^ 40) ⊎ (n ≡ 0)
+
+-- its counts stay below their widths
+abbrev pub HasRoomInCounts : Drawn → ℕ → ℕ → List Tally → Type 0
+HasRoomInCounts (Own k h) n own heard = own < 2 ^ 40
+HasRoomInCounts (Pair k h u) n own heard = (events_from heard u < 2 ^ 40) × FitsOrNone (bytes_from heard u) n
+HasRoomInCounts _ n own heard = ⊤
+
+abbrev pub HasRoomFor : Charge → Lodging → Type 0
+HasRoomFor c l = HasRoomInCounts c.drawn c.size l.own l.heard
+
+-- there is room for one more name where it draws on what comes from one
+abbrev pub HasRoomToTally : Drawn → Vec Tally Global → Type 0
+HasRoomToTally (Pair k h u) v = vec_len v < vec_capacity v
+HasRoomToTally _ v = ⊤
+
+-- one event of the node, which is counted
+pub record IsActed (c : Charge) (e : NodeEvent) (old new : Lodging) : Type 0 where
+  pub place : place_in new ≡ moved e (place_in old)
+  pub charged : IsCharged c old new
+
+-- ---- at the open slots
+-- one event of the node at this place of the slot, which is counted
+pub record IsSlotActed (c : Charge) (h : ℕ) (e : NodeEvent) (old new : Lodgings) : Type 0 where
+  pub number : new.number ≡ old.number
+  pub places : IsChangedAt (IsActed c e) h old.places new.places
+
+-- there is a node at these places, whose counts stay below their widths
+pub record IsReady (c : Charge) (slots : List Lodgings) (k h : ℕ) : Type 0 where
+  pub slot : Lodgings
+  pub place : Lodging
+  pub slot_is : slice_get slots k ≡ Some slot
+  pub place_is : slice_get slot.places h ≡ Some place
+  pub room : HasRoomFor c place

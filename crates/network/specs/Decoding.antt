@@ -1,0 +1,40 @@
+-- The codec's reading of bytes, in the place of the decoder that histories are told with.
+use Rattle.std.specs.Prelude.{◌≡◌, ◌↔◌, ℕ, List, Result, Ok, Err}
+use Rattle.types.specs.Statements.{Sent}
+use Rattle.types.specs.declared.event.Event.{Event}
+use Rattle.codec.specs.declared.error.Fault.{Fault as Wrong}
+use Rattle.codec.specs.Answers.{fault_number}
+use Rattle.codec.specs.Grammar.{IsFault}
+use Rattle.codec.specs.Reading.{decoded}
+use Rattle.codec.specs.Spelling.{Spells}
+use Rattle.codec.specs.Steps.{IsBytes}
+use Rattle.protocol.specs.Networks.{Reading, Step, read}
+use Rattle.protocol.specs.Networks.Reading.{Read, Fault}
+use Rattle.network.specs.declared.reading.Reading.{Reading as Answer}
+use Rattle.network.specs.declared.reading.Reading.TheVariants.{Says, Faulty}
+
+-- an envelope, or the number of a fault
+abbrev pub said : Result Sent Wrong → Reading
+said (Ok e) = Read e
+said (Err f) = Fault (fault_number f)
+
+-- what a text says; every text says something, and exactly one thing
+unfoldable pub reading : List ℕ → Reading
+reading bytes = said (decoded bytes)
+
+-- what an event is to this host
+abbrev pub step_of : Event → Step
+step_of e = read reading e
+
+-- what the code answers
+abbrev pub said_by : Answer → Reading
+said_by (Says e) = Read e
+said_by (Faulty n) = Fault n
+
+-- of bytes it is what the grammar of envelopes says of them
+pub record IsExactly (bytes : List ℕ) : Type 0 where
+  pub envelope : (e : Sent) → (reading bytes ≡ Read e) ↔ Spells bytes e
+  pub fault : (f : Wrong) → (reading bytes ≡ Fault (fault_number f)) ↔ IsFault bytes f
+
+abbrev pub ReadingsAreExact : Type 0
+ReadingsAreExact = (bytes : List ℕ) → IsBytes bytes → IsExactly bytes

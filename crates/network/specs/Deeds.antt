@@ -1,0 +1,191 @@
+-- What is to be done for an event, by place, once nothing refuses it, and on what it draws.
+use Rattle.std.specs.Prelude.{◌≡◌, ℕ, Bool, true, false, ◌<◌, ◌≤◌, ◌+◌, length, map, List, [], ◌∷◌, ◌++◌, slice_get, Option, Some, None, Result, Ok, Err, ⊤}
+use Rattle.std.specs.List.{All, remove}
+use Rattle.types.specs.Statements.{Sent}
+use Rattle.types.specs.declared.event.NodeEvent.{NodeEvent}
+use Rattle.types.specs.declared.event.Out.{Out}
+use Rattle.types.specs.declared.event.Refusal.{Refusal}
+use Rattle.protocol.specs.Networks.{Net, Place, Slot, Step, act, is_full, is_full_of_bytes, is_hosted_not, is_open_not, effect, first_that, moved, outs_at, size_of, source, tests}
+use Rattle.protocol.specs.Networks.Step.{Opens as StepOpens, Closes as StepCloses}
+use Rattle.slot.specs.declared.filed.FiledEvent.{FiledEvent}
+use Rattle.protocol.specs.Rosters.{Roster, Source, reserved}
+use Rattle.protocol.specs.Rosters.Share.{Own as OwnShare, Pair as PairShare}
+use Rattle.protocol.specs.Rosters.Source.{OfBudgets, OfOpens, OfShare}
+use Rattle.slot.specs.Filings.{IsFiledEvent, event_of}
+use Rattle.network.specs.Changes.{changed_at}
+use Rattle.configuration.specs.Configs.{index_in, index_of_name}
+use Rattle.network.specs.Lodgings.{IsLodged, IsUncounted, Seat, Seats, seats_of, slot_of}
+use Rattle.network.specs.Answers.{delivered_of}
+use Rattle.network.specs.Marks.{place_named}
+use Rattle.network.specs.Standing.{IsRefusal, Machine, Standing, StandsFor, machine_of}
+use Rattle.network.specs.declared.plan.Deed.{Deed}
+use Rattle.network.specs.declared.plan.Deed.TheVariants.{Open, Close, Act, Hand}
+use Rattle.network.specs.declared.plan.Drawn.{Drawn}
+use Rattle.network.specs.declared.plan.Drawn.TheVariants.{Budgets, Opens, Own, Pair}
+use Rattle.network.specs.declared.plan.Plan.{Plan}
+use Rattle.network.specs.declared.plan.Spot.{Spot}
+
+-- the place of an open slot
+abbrev pub index_of_slot : List Slot → ℕ → Option ℕ
+index_of_slot slots i = index_in (map (λ s. s.number) slots) i
+
+-- the node at a place of a slot
+abbrev pub node_at : Option Slot → ℕ → Option Place
+node_at None n = None
+node_at (Some s) n = slice_get s.places n
+
+-- ---- what is done, by places
+abbrev pub acted : List Slot → ℕ → ℕ → NodeEvent → List Slot
+acted slots k h e = changed_at {X = Slot} k (λ (s : Slot). record s { places = changed_at h (moved e) s.places }) slots
+
+abbrev pub slots_after : List Slot → Deed → List Slot
+slots_after slots (Open s) = slots ++ slot_of (seats_of s) ∷ []
+slots_after slots (Close k) = remove slots k
+slots_after slots (Act k h e) = acted slots k h (event_of e)
+slots_after slots (Hand k h e) = acted slots k h (NodeEvent.Take e)
+
+abbrev pub outs_after : List Slot → Deed → List Out
+outs_after slots (Open s) = []
+outs_after slots (Close k) = []
+outs_after slots (Act k h e) = outs_at (event_of e) (node_at (slice_get slots k) h)
+outs_after slots (Hand k h e) = outs_at (NodeEvent.Take e) (node_at (slice_get slots k) h)
+
+-- the places of a node are there
+abbrev pub IsNodeThere : List Slot → ℕ → ℕ → Type 0
+IsNodeThere slots k h = (s : Slot) × (slice_get slots k ≡ Some s) × (h < length s.places)
+
+-- the places are there; the nodes of a slot that is opened have drawn nothing
+abbrev pub IsThere : List Sent → List Slot → Deed → Type 0
+IsThere archive slots (Open s) = All (IsLodged archive) s.places × All IsUncounted s.places
+IsThere archive slots (Close k) = k < length slots
+IsThere archive slots (Act k h e) = IsNodeThere slots k h × IsFiledEvent archive e
+IsThere archive slots (Hand k h e) = IsNodeThere slots k h
+
+-- ---- whose event it is
+-- the node of this slot and name is the one at these places
+abbrev pub IsNodeOf : Machine → Option (ℕ × ℕ) → ℕ → ℕ → Type 0
+IsNodeOf m None k h = ⊥
+IsNodeOf m (Some at) k h = (index_of_slot (map slot_of m.slots) at.0 ≡ Some k) × (index_of_name m.config.hosts at.1 ≡ Some h)
+
+-- the event opens this slot, closes one, or is one of the node at these places
+abbrev pub IsNamed : Machine → Step → Deed → Type 0
+IsNamed m e (Open s) = e ≡ StepOpens s.number
+IsNamed m e (Close k) = (i : ℕ) × (e ≡ StepCloses i)
+IsNamed m e (Act k h x) = IsNodeOf m (place_named e) k h
+IsNamed m e (Hand k h x) = IsNodeOf m (place_named e) k h
+
+-- the envelope that is filed when it is handed over
+abbrev pub handed : Deed → Option Sent
+handed (Open s) = None
+handed (Close k) = None
+handed (Act k h x) = None
+handed (Hand k h x) = Some x
+
+-- the node at a place of an open slot, with its counts
+abbrev pub IsSeat : Machine → ℕ → ℕ → Seat → Type 0
+IsSeat m k h y = (x : Seats) × (slice_get m.slots k ≡ Some x) × (slice_get x.seats h ≡ Some y)
+
+abbrev pub IsSeatThere : Machine → ℕ → ℕ → Type 0
+IsSeatThere m k h = (y : Seat) × IsSeat m k h y
+
+-- ---- on what it draws, by places
+abbrev pub IsDrawn : Machine → Drawn → Source → Type 0
+IsDrawn m Budgets s = s ≡ OfBudgets
+IsDrawn m Opens s = (r : Roster) × (m.config.roster ≡ Some r) × (s ≡ OfOpens r.shares)
+IsDrawn m (Own k h) s = (r : Roster) × (x : Seats) × (y : Seat) × (m.config.roster ≡ Some r) × (slice_get m.slots k ≡ Some x) × (slice_get x.seats h ≡ Some y) × (s ≡ OfShare r.shares x.number (OwnShare y.place.node.name))
+IsDrawn m (Pair k h u) s =
+    (r : Roster) × (x : Seats) × (y : Seat) × (m.config.roster ≡ Some r) × (slice_get m.slots k ≡ Some x) × (slice_get x.seats h ≡ Some y) × (s ≡ OfShare r.shares x.number (PairShare y.place.node.name u))
+
+-- a plan for an event that nothing refuses, whatever network the machine stands for: what is done by places is what the event does
+pub record IsPlan (m : Standing) (e : Step) (plan : Plan) : Type 0 where
+  pub allowed : (net : Net) → StandsFor (machine_of m) net → first_that (tests net e) ≡ None
+  pub slots : (net : Net) → StandsFor (machine_of m) net → slots_after net.slots plan.deed ≡ (effect net e).0.slots
+  pub outs : (net : Net) → StandsFor (machine_of m) net → outs_after net.slots plan.deed ≡ (effect net e).1
+  pub named : IsNamed (machine_of m) e plan.deed
+  pub handed : handed plan.deed ≡ delivered_of e
+  pub drawn : IsDrawn (machine_of m) plan.drawn (source m.config.roster e)
+  pub size : plan.size ≡ size_of e
+  pub there : IsThere m.archive (map slot_of (machine_of m).slots) plan.deed
+
+-- a plan, or a refusal
+abbrev pub IsPlanned : Standing → Step → Result Plan Refusal → Type 0
+IsPlanned m e (Ok plan) = IsPlan m e plan
+IsPlanned m e (Err r) = IsRefusal (machine_of m) e r
+
+-- what it draws on is there
+abbrev pub IsDrawnThere : Machine → Drawn → Type 0
+IsDrawnThere m d = (s : Source) × IsDrawn m d s
+
+-- there is room on it for one more event, or there is none and this is the refusal, whatever network the machine stands for
+abbrev pub HasRoom : Machine → Drawn → Type 0
+HasRoom m d = (s : Source) (net : Net) → IsDrawn m d s → StandsFor m net → (is_full net s).0 ≡ false
+
+abbrev pub HasNoRoom : Machine → Drawn → Refusal → Type 0
+HasNoRoom m d r = (s : Source) (net : Net) → IsDrawn m d s → StandsFor m net → is_full net s ≡ (true, r)
+
+-- the same of so many bytes more
+abbrev pub HasBytes : Machine → Drawn → ℕ → Type 0
+HasBytes m d size = (s : Source) (net : Net) → IsDrawn m d s → StandsFor m net → (is_full_of_bytes net s size).0 ≡ false
+
+abbrev pub HasNoBytes : Machine → Drawn → ℕ → Refusal → Type 0
+HasNoBytes m d size r = (s : Source) (net : Net) → IsDrawn m d s → StandsFor m net → is_full_of_bytes net s size ≡ (true, r)
+
+-- what comes to a node draws on the budgets or on what it gets from a name
+abbrev pub IsPaired : Drawn → Type 0
+IsPaired Budgets = ⊤
+IsPaired Opens = ⊥
+IsPaired (Own k h) = ⊥
+IsPaired (Pair k h u) = ⊤
+
+-- ---- what an event of a node draws on
+-- one of its own
+abbrev pub own_source : Option Roster → ℕ → ℕ → Source
+own_source None i u = OfBudgets
+own_source (Some r) i u = reserved r i (OwnShare u)
+
+-- what comes to it from a name
+abbrev pub pair_source : Option Roster → ℕ → ℕ → ℕ → Source
+pair_source None i u from = OfBudgets
+pair_source (Some r) i u from = reserved r i (PairShare u from)
+
+-- on what is drawn, where there is room on it for one more event, or the refusal where there is none
+abbrev pub IsRoom : Standing → (Option Roster → Source) → Result Drawn Refusal → Type 0
+IsRoom m of (Ok d) = IsDrawn (machine_of m) d (of m.config.roster) × ((net : Net) → StandsFor (machine_of m) net → (is_full net (of net.roster)).0 ≡ false)
+IsRoom m of (Err r) = (net : Net) → StandsFor (machine_of m) net → is_full net (of net.roster) ≡ (true, r)
+
+-- the slot stands there
+abbrev pub IsSlotThere : Standing → ℕ → ℕ → Type 0
+IsSlotThere m i k = index_of_slot (map slot_of (machine_of m).slots) i ≡ Some k
+
+abbrev pub IsOwnRoom : Standing → Spot → ℕ → Result Drawn Refusal → Type 0
+IsOwnRoom m s u result = (i : ℕ) → IsSlotThere m i s.slot_at → IsRoom m (λ o. own_source o i u) result
+
+abbrev pub IsPairRoom : Standing → Spot → ℕ → ℕ → Result Drawn Refusal → Type 0
+IsPairRoom m s u from result = (i : ℕ) → IsSlotThere m i s.slot_at → IsRoom m (λ o. pair_source o i u from) result
+
+-- ---- the tests that all events of a node's own share
+-- the places of a hosted node at an open slot
+pub record IsSpot (m : Standing) (i u : ℕ) (s : Spot) : Type 0 where
+  pub slot : IsSlotThere m i s.slot_at
+  pub host : index_of_name m.config.hosts u ≡ Some s.host_at
+
+-- the node is not hosted, or the slot is not open
+abbrev pub IsSpotRefused : Standing → ℕ → ℕ → Refusal → Type 0
+IsSpotRefused m i u r = (net : Net) → StandsFor (machine_of m) net → (ts : List (Bool × Refusal)) → first_that (is_hosted_not net u ∷ is_open_not net i ∷ ts) ≡ Some r
+
+-- all of them, in their order
+abbrev pub own_tests : Net → ℕ → ℕ → List (Bool × Refusal)
+own_tests net i u = is_hosted_not net u ∷ is_open_not net i ∷ is_full net (own_source net.roster i u) ∷ []
+
+-- an event of a node's own that nothing else refuses
+pub record IsOwnEvent (i u : ℕ) (x : FiledEvent) (e : Step) : Type 0 where
+  pub tests_are : (net : Net) → tests net e ≡ own_tests net i u
+  pub effect_is : (net : Net) → effect net e ≡ act net i u (event_of x)
+  pub source_is : (o : Option Roster) → source o e ≡ own_source o i u
+  pub size_is : size_of e ≡ 0
+  pub named_is : place_named e ≡ Some (i, u)
+  pub none_is : delivered_of e ≡ None
+
+-- a plan for it, or a refusal
+abbrev pub IsPlannedOwn : Standing → ℕ → ℕ → FiledEvent → Result Plan Refusal → Type 0
+IsPlannedOwn m i u x result = (e : Step) → IsOwnEvent i u x e → IsPlanned m e result

@@ -1,0 +1,52 @@
+-- What a deed makes of the open slots, and what it gives out.
+use Rattle.std.specs.Prelude.{◌≡◌, ℕ, ◌<◌, length, List, [], ◌∷◌, ◌++◌, map, replicate, slice_get, Option, option_map, IfSome}
+use Rattle.std.specs.List.{All, remove}
+use Rattle.types.specs.Statements.{Sent}
+use Rattle.types.specs.declared.event.NodeEvent.{NodeEvent}
+use Rattle.types.specs.declared.event.Out.{Out}
+use Rattle.protocol.specs.Networks.{Slot, emissions}
+use Rattle.envstore.specs.Archives.{IsFiled, sent_of}
+use Rattle.slot.specs.Filings.{AreFiledOuts, IsFiledEvent, event_of, outs_of}
+use Rattle.network.specs.Charges.{IsReady, IsSlotActed}
+use Rattle.network.specs.Changes.{IsChangedAt}
+use Rattle.network.specs.Deeds.{node_at, outs_after}
+use Rattle.network.specs.Lodgings.{IsLodged, Lodgings, seats_of, slot_of}
+use Rattle.network.specs.Marks.{numbered, told_at}
+use Rattle.network.specs.declared.applied.Applied.{Applied}
+use Rattle.network.specs.declared.plan.Charge.{Charge}
+use Rattle.network.specs.declared.plan.Deed.{Deed}
+use Rattle.network.specs.declared.plan.Deed.TheVariants.{Open, Close, Act, Hand}
+
+-- the slots, with whole envelopes and no counts
+abbrev pub slots_of : List Lodgings → List Slot
+slots_of slots = map slot_of (map seats_of slots)
+
+-- what is read at its places is there, and the archive has what it speaks of
+abbrev pub IsDoable : List Sent → Charge → List Lodgings → Deed → Type 0
+IsDoable archive c slots (Open s) = All (IsLodged archive) s.places
+IsDoable archive c slots (Close k) = k < length slots
+IsDoable archive c slots (Act k h e) = IsReady c slots k h × IsFiledEvent archive e
+IsDoable archive c slots (Hand k h e) = IsReady c slots k h
+
+-- the slots after it, with what is counted at a node
+abbrev pub IsDone : Charge → Deed → List Lodgings → List Lodgings → Type 0
+IsDone c (Open s) old new = new ≡ old ++ s ∷ []
+IsDone c (Close k) old new = new ≡ remove old k
+IsDone c (Act k h e) old new = IsChangedAt (IsSlotActed c h (event_of e)) k old new
+IsDone c (Hand k h e) old new = IsChangedAt (IsSlotActed c h (NodeEvent.Take e)) k old new
+
+-- by which numbers its emissions are named, by places
+abbrev pub marks_after : List Slot → Deed → List ℕ
+marks_after slots (Open s) = []
+marks_after slots (Close k) = []
+marks_after slots (Act k h e) = numbered (told_at (node_at (slice_get slots k) h)) (emissions (outs_after slots (Act k h e)))
+marks_after slots (Hand k h e) = numbered (told_at (node_at (slice_get slots k) h)) (emissions (outs_after slots (Hand k h e)))
+
+-- what is given out, its marks, so many whole copies, and what was filed
+pub record IsAnswer (outs : List Out) (marks : List ℕ) (delivered : Option Sent) (count : ℕ) (archive : List Sent) (a : Applied) : Type 0 where
+  pub outs_are : outs_of a.outs.items ≡ outs
+  pub marks_are : a.marks.items ≡ marks
+  pub copies : map (λ v. v.items) a.copies.items ≡ replicate count outs
+  pub outs_filed : AreFiledOuts archive a.outs.items
+  pub delivered_is : option_map sent_of a.delivered ≡ delivered
+  pub filed : IfSome a.delivered (IsFiled archive)

@@ -1,0 +1,10 @@
+pub mod Changes
+pub mod Marks
+pub mod Decoding
+pub mod Tellings
+pub mod Lodgings
+pub mod Charges
+pub mod Standing
+pub mod Deeds
+pub mod Answers
+pub mod Doings

@@ -1,0 +1,98 @@
+-- Hosted nodes whose envelopes lie in an archive, with what they drew on shares, and what they stand for.
+use Rattle.std.specs.Prelude.{◌≡◌, ℕ, ◌≤◌, ◌+◌, ◌==◌, List, [], ◌∷◌, map, replicate, Vec, vec_len, vec_capacity, if◌then◌else◌}
+use Rattle.std.specs.Global.{Global}
+use Rattle.std.specs.List.{All}
+use Rattle.types.specs.Statements.{Sent}
+use Rattle.types.specs.declared.event.Out.{Out}
+use Rattle.protocol.specs.Networks.{Place, Slot}
+use Rattle.protocol.specs.Rosters.{Draw, Share, bytes_drawn, events_drawn}
+use Rattle.protocol.specs.Rosters.Share.{Own, Pair}
+use Rattle.envstore.specs.Archives.{AreFiled, sents_of}
+use Rattle.envstore.specs.declared.filed.Filed.{Filed}
+use Rattle.slot.specs.Filings.{AreFiledOuts, outs_of}
+use Rattle.slot.specs.Listening.{Held}
+use Rattle.slot.specs.declared.filed.GivenOut.{GivenOut}
+use Rattle.slot.specs.declared.filed.FiledOut.{FiledOut}
+use Rattle.network.specs.declared.tallies.Tally.{Tally}
+use Rattle.network.specs.declared.told.Noted.{Noted}
+
+-- ---- a node at a slot
+-- a node and what it has emitted, as they were filed; how many of its own events it drew, and what it drew from each other name
+pub record Lodging : Type 0 where
+  pub held : Held
+  pub told : List Filed
+  pub own : ℕ
+  pub heard : List Tally
+
+-- the same with whole envelopes
+pub record Seat : Type 0 where
+  pub place : Place
+  pub own : ℕ
+  pub heard : List Tally
+
+abbrev pub place_in : Lodging → Place
+place_in l = record { node = l.held.node; told = sents_of l.told }
+
+abbrev pub seat_of : Lodging → Seat
+seat_of l = record { place = place_in l; own = l.own; heard = l.heard }
+
+-- it has drawn nothing
+pub record IsUncounted (l : Lodging) : Type 0 where
+  pub own : l.own ≡ 0
+  pub heard : l.heard ≡ []
+
+-- the archive has its rows and what it has emitted
+pub record IsLodged (archive : List Sent) (l : Lodging) : Type 0 where
+  pub rows : AreFiled archive l.held.rows
+  pub told : AreFiled archive l.told
+
+-- ---- an open slot
+pub record Lodgings : Type 0 where
+  pub number : ℕ
+  pub places : List Lodging
+
+pub record Seats : Type 0 where
+  pub number : ℕ
+  pub seats : List Seat
+
+abbrev pub seats_of : Lodgings → Seats
+seats_of s = record { number = s.number; seats = map seat_of s.places }
+
+abbrev pub slot_of : Seats → Slot
+slot_of s = record { number = s.number; places = map (λ x. x.place) s.seats }
+
+abbrev pub AreLodged : List Sent → List Lodgings → Type 0
+AreLodged archive slots = All (λ s. All (IsLodged archive) s.places) slots
+
+-- ---- what was drawn on shares
+-- how many events, and how many bytes, were drawn from a name
+abbrev pub events_from : List Tally → ℕ → ℕ
+events_from [] u = 0
+events_from (t ∷ ts) u = if t.from == u then t.events else events_from ts u
+
+abbrev pub bytes_from : List Tally → ℕ → ℕ
+bytes_from [] u = 0
+bytes_from (t ∷ ts) u = if t.from == u then t.bytes else bytes_from ts u
+
+-- the counts of a node are what was drawn on its shares of the slot
+pub record IsTallied (i : ℕ) (draws : List Draw) (x : Seat) : Type 0 where
+  pub own : x.own ≡ events_drawn i (Own x.place.node.name) draws
+  pub events : (u : ℕ) → events_from x.heard u ≡ events_drawn i (Pair x.place.node.name u) draws
+  pub bytes : (u : ℕ) → bytes_from x.heard u ≡ bytes_drawn i (Pair x.place.node.name u) draws
+
+abbrev pub AreTallied : List Draw → List Seats → Type 0
+AreTallied draws slots = All (λ s. All (IsTallied s.number draws) s.seats) slots
+
+-- ---- what an event of a node answers
+-- these outs, filed, these marks, and so many whole copies of the outs
+pub record IsGiven (outs : List Out) (marks : List ℕ) (count : ℕ) (a : Noted) : Type 0 where
+  pub outs_are : outs_of a.outs.items ≡ outs
+  pub marks_are : a.marks.items ≡ marks
+  pub copies : map (λ v. v.items) a.copies.items ≡ replicate count outs
+
+-- ---- room that is made before an event
+pub record HaveRoom (count : ℕ) (emitted : Vec Filed Global) (nominations ballots marks : Vec ℕ Global) : Type 0 where
+  pub emissions : vec_len emitted + count ≤ vec_capacity emitted
+  pub nominations_room : vec_len nominations + count ≤ vec_capacity nominations
+  pub ballots_room : vec_len ballots + count ≤ vec_capacity ballots
+  pub marks_room : vec_len marks + count ≤ vec_capacity marks

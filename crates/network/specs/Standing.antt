@@ -1,0 +1,81 @@
+-- A network as the host keeps it, and the networks of the definitions that it stands for.
+use Rattle.std.specs.Prelude.{◌≡◌, ◌⊎◌, ℕ, ◌≤◌, ◌+◌, true, List, [], map, Option, Some, slice_get, Vec, Result, Ok, Err}
+use Rattle.std.specs.Global.{Global}
+use Rattle.std.specs.List.{AllByRecursion}
+use Rattle.types.specs.Statements.{Sent}
+use Rattle.types.specs.Trees.{all_differ}
+use Rattle.types.specs.declared.event.Out.{Out}
+use Rattle.types.specs.declared.event.Refusal.{Refusal}
+use Rattle.types.specs.declared.event.Refusal.TheVariants.{NoMemory}
+use Rattle.protocol.specs.Hosts.{Config}
+use Rattle.protocol.specs.Networks.{Net, Step, first_that, net_step, tests}
+use Rattle.protocol.specs.Networks.Reply.{Done}
+use Rattle.protocol.specs.Rosters.{Draw}
+use Rattle.configuration.specs.Configs.{names_of}
+use Rattle.network.specs.Lodgings.{AreLodged, AreTallied, Lodgings, Seats, seats_of, slot_of}
+
+-- a network with what each node drew on its shares; the list of all that was ever drawn is not kept
+pub record Machine : Type 0 where
+  pub config : Config
+  pub slots : List Seats
+  pub events : ℕ
+  pub bytes : ℕ
+  pub opens : ℕ
+
+-- the same, its envelopes as they lie in its archive
+pub record Standing : Type 0 where
+  pub config : Config
+  pub archive : List Sent
+  pub slots : List Lodgings
+  pub events : ℕ
+  pub bytes : ℕ
+  pub opens : ℕ
+
+abbrev pub machine_of : Standing → Machine
+machine_of m = record { config = m.config; slots = map seats_of m.slots; events = m.events; bytes = m.bytes; opens = m.opens }
+
+-- the network, where this was drawn
+abbrev pub net_of : Machine → List Draw → Net
+net_of m draws = record {
+  number = m.config.number;
+  hosts = m.config.hosts;
+  budgets = m.config.budgets;
+  roster = m.config.roster;
+  slots = map slot_of m.slots;
+  events = m.events;
+  bytes = m.bytes;
+  opens = m.opens;
+  draws = draws;
+}
+
+-- It stands for a network that has its parts and whose draws come to its counts. Networks for which one machine stands differ in the
+-- order and the closed slots of their draws alone, which no test and no effect reads.
+pub record StandsFor (m : Machine) (net : Net) : Type 0 where
+  pub is : net ≡ net_of m net.draws
+  pub tallied : AreTallied net.draws m.slots
+
+-- no name is hosted twice; the hosted nodes stand in their order at each open slot; no slot is open twice; the bytes keep the budget
+pub record IsTidy (m : Machine) : Type 0 where
+  pub single : all_differ (names_of m.config.hosts) ≡ true
+  pub names : AllByRecursion (λ s. map (λ x. x.place.node.name) s.seats ≡ names_of m.config.hosts) m.slots
+  pub apart : all_differ (map (λ s. s.number) m.slots) ≡ true
+  pub bytes : m.bytes ≤ m.config.budgets.bytes
+
+-- it stands for some network
+abbrev pub IsStood : Machine → Type 0
+IsStood m = (draws : List Draw) × AreTallied draws m.slots
+
+-- and the archive has all its envelopes
+pub record IsStanding (m : Standing) : Type 0 where
+  pub lodged : AreLodged m.archive m.slots
+  pub tidy : IsTidy (machine_of m)
+  pub stood : IsStood (machine_of m)
+
+-- ---- what an event is answered
+-- it is the network's step, for each network for which the machine stands
+abbrev pub IsStep : Machine → Step → List Out → Machine → Type 0
+IsStep old e os new = (net : Net) → StandsFor old net → StandsFor new (net_step net e).0 × ((net_step net e).1 ≡ Done os)
+
+-- memory is wanting, or this is the first refusal that applies
+abbrev pub IsRefusal : Machine → Step → Refusal → Type 0
+IsRefusal m e r = (r ≡ NoMemory) ⊎ ((net : Net) → StandsFor m net → first_that (tests net e) ≡ Some r)

@@ -1,0 +1,18 @@
+-- What a node has emitted, and where among it the emissions of a kind stand.
+use Rattle.std.specs.Prelude.{ℕ, zero, suc, List, [], ◌∷◌, length, filter, slice_get, Option, None, if◌then◌else◌}
+use Rattle.types.specs.declared.kind.Kind.{Kind}
+use Rattle.types.specs.Statements.{Sent, kind_of}
+use Rattle.protocol.specs.Rows.{is_kind}
+
+-- the places, counted from this number, of the emissions of a kind
+abbrev pub places_from : Kind → ℕ → List Sent → List ℕ
+places_from kind n [] = []
+places_from kind n (e ∷ es) = if is_kind kind (kind_of e.body) then n ∷ places_from kind (suc n) es else places_from kind (suc n) es
+
+abbrev pub places_of_kind : Kind → List Sent → List ℕ
+places_of_kind kind told = places_from kind 0 told
+
+-- the emission of a kind with this number, from 1 on
+abbrev pub nth_of : Kind → ℕ → List Sent → Option Sent
+nth_of kind zero told = None
+nth_of kind (suc k) told = slice_get (filter (λ e. is_kind kind (kind_of e.body)) told) k

@@ -1,0 +1,283 @@
+//! What was planned is done.
+
+ghost use Rattle.std.specs.Prelude.{◌≡◌, ◌<◌, ◌≤◌, ◌+◌, ◌^◌, ◌++◌, ◌∷◌, [], IfErr, IfOk, List, None, OnErr, OnOk, Some, length, map, replicate};
+ghost use Rattle.std.specs.List.{All, remove};
+ghost use Rattle.configuration.specs.Budgets.{AreShares};
+ghost use Rattle.envstore.specs.Archives.{Keeps};
+ghost use Rattle.protocol.specs.Rosters.{Roster as Names};
+ghost use Rattle.slot.specs.Filings.{IsFiledEvent, event_of};
+ghost use Rattle.types.specs.declared.event.NodeEvent.{NodeEvent};
+ghost use Rattle.network.specs.Answers.{IsApplied};
+ghost use Rattle.network.specs.Changes.{IsChangedAt};
+ghost use Rattle.network.specs.Charges.{HasRoomOnNetwork, IsReady, IsSlotActed, on_budgets_of, on_opens_of};
+ghost use Rattle.network.specs.Decoding.{step_of};
+ghost use Rattle.network.specs.Deeds.{IsPlan, handed, node_at, outs_after};
+ghost use Rattle.network.specs.Doings.{IsAnswer, IsDoable, IsDone, marks_after, slots_of};
+ghost use Rattle.network.specs.Lodgings.{AreLodged, IsLodged};
+ghost use Rattle.network.specs.Standing.{IsRefusal, machine_of};
+
+use crate::applied::Applied;
+use crate::network::Network;
+use crate::open_slot::OpenSlot;
+use crate::plan::{Charge, Deed, Drawn, Plan};
+use configuration::Roster;
+use envstore::{Archive, Filed, Shelf};
+use slot::FiledEvent;
+use std::alloc::{AllocError, Global};
+use types::{Envelope, Event, Out, Refusal};
+
+impl<S: Shelf> Network<S> {
+    /// One event: it is tested in the order of the refusals, what needs memory is made, and then it is done.
+    /// Of what it gives out so many whole copies are made as are asked for.
+    ///
+    /// An error is the first refusal that applies, or says that memory is short; then the network is as it
+    /// was, but that the archive may have more.
+    pub fn apply(&mut self, event: &Event, copies: usize) -> Result<Applied, Refusal>
+        ensures applied { IfOk result (IsApplied self.old (step_of event.now) copies self.new) }
+        ensures err { IfErr result (IsRefusal (machine_of self.old) (step_of event.now)) }
+        ensures same { OnErr result (machine_of self.new ≡ machine_of self.old) }
+        ensures config { self.new.config ≡ self.old.config }
+        ensures kept { Keeps self.old.archive self.new.archive }
+    {
+        let plan = self.plan(event)?;
+        match self.carry_out(event, plan, copies) {
+            Ok(applied) => Ok(applied),
+            Err(_) => Err(Refusal::NoMemory),
+        }
+    }
+
+    /// What was planned for an event is done and counted. An error says that memory is short; then the
+    /// network is as it was, but that the archive may have more.
+    fn carry_out(&mut self, event: &Event, plan: Plan, copies: usize) -> Result<Applied, AllocError>
+        requires { IsPlan self.old (step_of event.now) plan }
+        ensures applied { IfOk result (IsApplied self.old (step_of event.now) copies self.new) }
+        ensures same { OnErr result (machine_of self.new ≡ machine_of self.old) }
+        ensures config { self.new.config ≡ self.old.config }
+        ensures kept { Keeps self.old.archive self.new.archive }
+    {
+        self.limits();
+        let Plan { deed, drawn, size } = plan;
+        let charge = Charge { drawn, size };
+        let applied = perform(
+            self.alloc,
+            &mut self.archive,
+            &mut self.slots,
+            deed,
+            &charge,
+            copies,
+        )?;
+        count(&mut self.events, &mut self.bytes, &mut self.opens, &charge);
+        Ok(applied)
+    }
+
+    /// A law: budgets and shares are at most 2^40.
+    fn limits(&self)
+        ensures events { self.now.config.budgets.events ≤ 2 ^ 40 }
+        ensures bytes { self.now.config.budgets.bytes ≤ 2 ^ 40 }
+        ensures shares { (r : Names) → self.now.config.roster ≡ Some r → AreShares r.shares.own r.shares.pair r.shares.bytes r.shares.opens }
+    {
+        let budgets = self.config.budgets();
+        let _events = budgets.events();
+        let _bytes = budgets.bytes();
+        match self.config.roster() {
+            None => {}
+            Some(roster) => share_limits(roster),
+        }
+    }
+}
+
+/// A law: the shares of a roster are at most 2^40 each.
+fn share_limits(roster: &Roster)
+    ensures { AreShares roster.now.shares.own roster.now.shares.pair roster.now.shares.bytes roster.now.shares.opens }
+{
+    let shares = roster.shares();
+    let _own = shares.own();
+    let _pair = shares.pair();
+    let _bytes = shares.bytes();
+    let _opens = shares.opens();
+}
+
+/// Counts an event where it draws on the budgets, or on openings and closings.
+fn count(events: &mut u64, bytes: &mut u64, opens: &mut u64, charge: &Charge)
+    requires { HasRoomOnNetwork charge.now.drawn charge.now.size events.old bytes.old opens.old }
+    ensures events { events.new ≡ events.old + on_budgets_of charge.now.drawn 1 }
+    ensures bytes { bytes.new ≡ bytes.old + on_budgets_of charge.now.drawn charge.now.size }
+    ensures opens { opens.new ≡ opens.old + on_opens_of charge.now.drawn }
+{
+    match charge.drawn {
+        Drawn::Budgets => {
+            *events += 1;
+            *bytes += charge.size;
+        }
+        Drawn::Opens => *opens += 1,
+        Drawn::Own { .. } | Drawn::Pair { .. } => {}
+    }
+}
+
+/// Does a deed, and counts it where it draws on a share of a node. An error says that memory is short; then
+/// nothing happened but that the archive may have more.
+fn perform<S: Shelf>(
+    alloc: Global,
+    archive: &mut Archive<S>,
+    slots: &mut Vec<OpenSlot>,
+    deed: Deed,
+    charge: &Charge,
+    copies: usize,
+) -> Result<Applied, AllocError>
+    requires lodged { AreLodged archive.old slots.old.items }
+    requires doable { IsDoable archive.old charge.now slots.old.items deed }
+    ensures done { OnOk result (IsDone charge.now deed slots.old.items slots.new.items) }
+    ensures answer { IfOk result (IsAnswer (outs_after (slots_of slots.old.items) deed) (marks_after (slots_of slots.old.items) deed) (handed deed) copies archive.new) }
+    ensures err { OnErr result (slots.new.items ≡ slots.old.items) }
+    ensures lodged { AreLodged archive.new slots.new.items }
+    ensures kept { Keeps archive.old archive.new }
+{
+    match deed {
+        Deed::Open(slot) => open(alloc, archive, slots, slot, copies),
+        Deed::Close { slot_at } => close(alloc, archive, slots, slot_at, copies),
+        Deed::Act {
+            slot_at,
+            host_at,
+            event,
+        } => act(
+            alloc, archive, slots, slot_at, host_at, event, charge, copies,
+        ),
+        Deed::Hand {
+            slot_at,
+            host_at,
+            envelope,
+        } => hand(
+            alloc, archive, slots, slot_at, host_at, envelope, charge, copies,
+        ),
+    }
+}
+
+/// One open slot more. An error says that memory is short; then nothing happened.
+fn open<S: Shelf>(
+    alloc: Global,
+    archive: &Archive<S>,
+    slots: &mut Vec<OpenSlot>,
+    slot: OpenSlot,
+    copies: usize,
+) -> Result<Applied, AllocError>
+    requires lodged { AreLodged archive.now slots.old.items }
+    requires slot { All (IsLodged archive.now) slot.places }
+    ensures done { OnOk result (slots.new.items ≡ slots.old.items ++ slot ∷ []) }
+    ensures answer { IfOk result (IsAnswer [] [] None copies archive.now) }
+    ensures err { OnErr result (slots.new.items ≡ slots.old.items) }
+    ensures lodged { AreLodged archive.now slots.new.items }
+{
+    let applied = nothing(alloc, archive, copies)?;
+    slots.push(slot)?;
+    Ok(applied)
+}
+
+/// The open slot at this place is let go. An error says that memory is short; then nothing happened.
+fn close<S: Shelf>(
+    alloc: Global,
+    archive: &Archive<S>,
+    slots: &mut Vec<OpenSlot>,
+    slot_at: usize,
+    copies: usize,
+) -> Result<Applied, AllocError>
+    requires lodged { AreLodged archive.now slots.old.items }
+    requires at { slot_at < length slots.old.items }
+    ensures done { OnOk result (slots.new.items ≡ remove slots.old.items slot_at) }
+    ensures answer { IfOk result (IsAnswer [] [] None copies archive.now) }
+    ensures err { OnErr result (slots.new.items ≡ slots.old.items) }
+    ensures lodged { AreLodged archive.now slots.new.items }
+{
+    let applied = nothing(alloc, archive, copies)?;
+    let _ = slots.remove(slot_at);
+    Ok(applied)
+}
+
+/// One event of the node at these places. An error says that memory is short; then nothing happened but that
+/// the archive may have more.
+fn act<S: Shelf>(
+    alloc: Global,
+    archive: &mut Archive<S>,
+    slots: &mut Vec<OpenSlot>,
+    slot_at: usize,
+    host_at: usize,
+    event: FiledEvent,
+    charge: &Charge,
+    copies: usize,
+) -> Result<Applied, AllocError>
+    requires lodged { AreLodged archive.old slots.old.items }
+    requires ready { IsReady charge.now slots.old.items slot_at host_at }
+    requires event { IsFiledEvent archive.old event }
+    ensures done { OnOk result (IsChangedAt (IsSlotActed charge.now host_at (event_of event)) slot_at slots.old.items slots.new.items) }
+    ensures answer { IfOk result (IsAnswer (outs_after (slots_of slots.old.items) (Deed.Act slot_at host_at event)) (marks_after (slots_of slots.old.items) (Deed.Act slot_at host_at event)) None copies archive.new) }
+    ensures err { OnErr result (slots.new.items ≡ slots.old.items) }
+    ensures lodged { AreLodged archive.new slots.new.items }
+    ensures kept { Keeps archive.old archive.new }
+{
+    let noted = slots[slot_at].act(alloc, archive, host_at, event, charge, copies)?;
+    Ok(Applied {
+        outs: noted.outs,
+        marks: noted.marks,
+        copies: noted.copies,
+        delivered: None,
+    })
+}
+
+/// The node at these places is handed an envelope, which is filed first. An error says that memory is short;
+/// then nothing happened but that the archive may have more.
+fn hand<S: Shelf>(
+    alloc: Global,
+    archive: &mut Archive<S>,
+    slots: &mut Vec<OpenSlot>,
+    slot_at: usize,
+    host_at: usize,
+    envelope: Envelope,
+    charge: &Charge,
+    copies: usize,
+) -> Result<Applied, AllocError>
+    requires lodged { AreLodged archive.old slots.old.items }
+    requires ready { IsReady charge.now slots.old.items slot_at host_at }
+    ensures done { OnOk result (IsChangedAt (IsSlotActed charge.now host_at (NodeEvent.Take envelope)) slot_at slots.old.items slots.new.items) }
+    ensures answer { IfOk result (IsAnswer (outs_after (slots_of slots.old.items) (Deed.Hand slot_at host_at envelope)) (marks_after (slots_of slots.old.items) (Deed.Hand slot_at host_at envelope)) (Some envelope) copies archive.new) }
+    ensures err { OnErr result (slots.new.items ≡ slots.old.items) }
+    ensures lodged { AreLodged archive.new slots.new.items }
+    ensures kept { Keeps archive.old archive.new }
+{
+    let delivered = archive.put(envelope)?;
+    let event = FiledEvent::Take(archive.again(&delivered));
+    let applied = act(
+        alloc, archive, slots, slot_at, host_at, event, charge, copies,
+    )?;
+    Ok(Applied {
+        outs: applied.outs,
+        marks: applied.marks,
+        copies: applied.copies,
+        delivered: Some(delivered),
+    })
+}
+
+/// Nothing is given out, in so many copies. An error says that memory is short.
+fn nothing<S: Shelf>(
+    alloc: Global,
+    archive: &Archive<S>,
+    copies: usize,
+) -> Result<Applied, AllocError>
+    ensures { IfOk result (IsAnswer [] [] None copies archive.now) }
+{
+    Ok(Applied {
+        outs: Vec::new(alloc),
+        marks: Vec::new(alloc),
+        copies: no_outs(alloc, copies)?,
+        delivered: None,
+    })
+}
+
+/// So many empty lists of outs. An error says that memory is short.
+fn no_outs(alloc: Global, copies: usize) -> Result<Vec<Vec<Out>>, AllocError>
+    ensures { IfOk result (λ v. map (λ w. w.items) v.items ≡ replicate copies []) }
+{
+    let mut lists = Vec::with_capacity(alloc, copies)?;
+    for _ in 0..copies {
+        lists.push(Vec::new(alloc))?;
+    }
+    Ok(lists)
+}

@@ -1,0 +1,108 @@
+//! What is to be done where an envelope reaches a node, delivered or heard, or why it is refused.
+
+ghost use Rattle.std.specs.Prelude.{◌≡◌, IfOk, Some, length, ℕ};
+ghost use Rattle.protocol.specs.Networks.Reading.{Read};
+ghost use Rattle.protocol.specs.Networks.Step.{Delivers, Hears};
+ghost use Rattle.configuration.specs.Configs.{index_of_name};
+ghost use Rattle.network.specs.Decoding.{reading};
+ghost use Rattle.network.specs.Deeds.{IsPairRoom, IsPaired, IsPlanned, IsSlotThere};
+
+use crate::network::Network;
+use crate::plan::{Deed, Drawn, Plan, Spot};
+use crate::reading::{Reading, read};
+use envstore::Shelf;
+use slot::FiledEvent;
+use types::{Envelope, Kind, NodeId, Refusal};
+
+impl<S: Shelf> Network<S> {
+    /// What is to be done where bytes reach a node. A growth that is refused in reading them is answered at
+    /// once.
+    pub(crate) fn plan_deliver(&self, node: &NodeId, bytes: &[u8]) -> Result<Plan, Refusal>
+        ensures { IsPlanned self.now (Delivers node.now (length bytes.now) (reading bytes.now)) result }
+    {
+        let host_at = self.host(node)?;
+        match read(self.alloc, bytes) {
+            Err(_) => Err(Refusal::NoMemory),
+            Ok(Reading::Faulty(number)) => Err(Refusal::BadEnvelope(number)),
+            Ok(Reading::Says(envelope)) => {
+                self.plan_envelope(host_at, node, envelope, bytes.len() as u64)
+            }
+        }
+    }
+
+    /// What is to be done where an envelope of so many bytes reaches a node.
+    fn plan_envelope(
+        &self,
+        host_at: usize,
+        node: &NodeId,
+        envelope: Envelope,
+        size: u64,
+    ) -> Result<Plan, Refusal>
+        requires { index_of_name self.now.config.hosts node.now ≡ Some host_at }
+        ensures { IsPlanned self.now (Delivers node.now size (Read envelope)) result }
+    {
+        let _slots = &self.slots;
+        if self.config.place(envelope.sender()).is_some() {
+            return Err(Refusal::HostedSender);
+        }
+        let slot_at = self.open_slot(envelope.slot())?;
+        let spot = Spot { slot_at, host_at };
+        let drawn = self.pair_room(&spot, node, envelope.sender())?;
+        self.has_bytes(&drawn, size)?;
+        Ok(Plan {
+            deed: Deed::Hand {
+                slot_at,
+                host_at,
+                envelope,
+            },
+            drawn,
+            size,
+        })
+    }
+
+    /// What is to be done where a node hears what another one has emitted.
+    pub(crate) fn plan_hear(
+        &self,
+        slot: u64,
+        node: &NodeId,
+        from: &NodeId,
+        kind: Kind,
+        number: u64,
+    ) -> Result<Plan, Refusal>
+        ensures { IsPlanned self.now (Hears slot node.now from.now kind number) result }
+    {
+        let _slots = &self.slots;
+        let host_at = self.host(node)?;
+        let from_at = self.host(from)?;
+        if *node == *from {
+            return Err(Refusal::NoSuchNode);
+        }
+        let slot_at = self.open_slot(slot)?;
+        let Some(emission) = self.place(slot_at, from_at).emission(kind, number) else {
+            return Err(Refusal::NotEmitted);
+        };
+        let spot = Spot { slot_at, host_at };
+        let drawn = self.pair_room(&spot, node, from)?;
+        Ok(Plan {
+            deed: Deed::Act {
+                slot_at,
+                host_at,
+                event: FiledEvent::Take(self.archive.again(emission)),
+            },
+            drawn,
+            size: 0,
+        })
+    }
+
+    /// On what it draws that comes to a node from a name, where there is room on it for one more event.
+    fn pair_room(&self, spot: &Spot, node: &NodeId, from: &NodeId) -> Result<Drawn, Refusal>
+        requires slot { (i : ℕ) × IsSlotThere self.now i spot.now.slot_at }
+        requires host { index_of_name self.now.config.hosts node.now ≡ Some spot.now.host_at }
+        ensures room { IsPairRoom self.now spot.now node.now from.now result }
+        ensures paired { IfOk result IsPaired }
+    {
+        let drawn = self.pair(spot.slot_at, spot.host_at, node, from);
+        self.has_room(&drawn)?;
+        Ok(drawn)
+    }
+}

@@ -1,0 +1,23 @@
+//! One network of hosted validators: what each event does to it, and why one is refused (this host's
+//! profile).
+//!
+//! A [`Network`] owns the archive in which all its envelopes lie. Its contracts see that archive and speak of
+//! numbers in it; whoever shows a network to others shows it without them.
+#![tactic(auto)]
+
+mod applied;
+mod carrying;
+mod handing;
+mod network;
+mod open_slot;
+mod place;
+mod plan;
+mod planning;
+mod reading;
+mod rooms;
+mod tallies;
+mod told;
+
+pub use applied::Applied;
+pub use network::Network;
+pub use reading::readings_are_exact;

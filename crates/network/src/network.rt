@@ -1,0 +1,135 @@
+//! One network, seen with its archive.
+
+ghost use Rattle.std.specs.Prelude.{◌≡◌, ◌<◌, [], IfSome, MatchResult, None, Some, length, map};
+ghost use Rattle.configuration.specs.Configs.{index_of_name};
+ghost use Rattle.envstore.specs.Archives.{IsFiled, sent_of};
+ghost use Rattle.network.specs.Deeds.{IsSeat, IsSeatThere, index_of_slot};
+ghost use Rattle.network.specs.Lodgings.{IsLodged, seat_of, seats_of, slot_of};
+ghost use Rattle.network.specs.Standing.{machine_of};
+
+use crate::open_slot::OpenSlot;
+use crate::place::Place;
+use configuration::NetConfig;
+use envstore::{Archive, Filed, Shelf};
+use std::alloc::Global;
+use std::marker::Model;
+use types::{Envelope, NodeId, Refusal};
+
+/// One network: its configuration, its archive, its open slots with the hosted nodes there, and how much of
+/// its budgets is used up.
+///
+/// Contracts see all of it, numbers in the archive too; whoever owns it shows it without them.
+#[derive(Drop)]
+pub struct Network<S: Shelf> {
+    pub(crate) alloc: Global,
+    pub(crate) config: NetConfig,
+    pub(crate) archive: Archive<S>,
+    pub(crate) slots: Vec<OpenSlot>,
+    pub(crate) events: u64,
+    pub(crate) bytes: u64,
+    pub(crate) opens: u64,
+}
+
+impl<S: Shelf> Model for Network<S> {
+    ghost use Rattle.std.specs.Coded.{codes};
+    ghost use Rattle.types.specs.Trees.{members_code};
+    ghost use Rattle.network.specs.Standing.{IsStanding, Standing};
+
+    ghost Value = { Standing };
+
+    ghost coded = { Prim.hlevel (codes, members_code) };
+
+    ghost view = { λ m. record { config = m.config; archive = m.archive; slots = m.slots.items; events = m.events; bytes = m.bytes; opens = m.opens } };
+
+    ghost invariant = { λ m. IsStanding (record { config = m.config; archive = m.archive; slots = m.slots.items; events = m.events; bytes = m.bytes; opens = m.opens }) };
+}
+
+impl<S: Shelf> Network<S> {
+    /// A network where nothing has happened. It takes no memory.
+    pub fn new(alloc: Global, config: NetConfig, shelf: S) -> Network<S>
+        ensures { result ≡ record { config = config; archive = []; slots = []; events = 0; bytes = 0; opens = 0 } }
+    {
+        let _hosts = config.hosts();
+        Network {
+            alloc,
+            config,
+            archive: Archive::new(alloc, shelf),
+            slots: Vec::new(alloc),
+            events: 0,
+            bytes: 0,
+            opens: 0,
+        }
+    }
+
+    /// Its configuration.
+    pub fn config(&self) -> &NetConfig
+        ensures { result.now ≡ self.now.config }
+    {
+        &self.config
+    }
+
+    /// The envelope that was filed.
+    pub fn read(&self, filed: &Filed) -> &Envelope
+        requires { IsFiled self.now.archive filed.now }
+        ensures { result.now ≡ sent_of filed.now }
+    {
+        self.archive.read(filed)
+    }
+
+    /// The same place of the archive once more. It takes no memory.
+    pub fn again(&self, filed: &Filed) -> Filed
+        requires { IsFiled self.now.archive filed.now }
+        ensures { result ≡ filed.now }
+    {
+        self.archive.again(filed)
+    }
+
+    /// The place of a hosted node.
+    pub(crate) fn host(&self, node: &NodeId) -> Result<usize, Refusal>
+        ensures { MatchResult result (λ at. index_of_name self.now.config.hosts node.now ≡ Some at) (λ r. (r ≡ Refusal.NoSuchNode) × (index_of_name self.now.config.hosts node.now ≡ None)) }
+    {
+        self.config.place(node).ok_or(Refusal::NoSuchNode)
+    }
+
+    /// The place of an open slot.
+    pub(crate) fn open_slot(&self, slot: u64) -> Result<usize, Refusal>
+        ensures { MatchResult result (λ at. index_of_slot (map slot_of (machine_of self.now).slots) slot ≡ Some at) (λ r. (r ≡ Refusal.SlotNotOpen) × (index_of_slot (map slot_of (machine_of self.now).slots) slot ≡ None)) }
+    {
+        self.slot_at(slot).ok_or(Refusal::SlotNotOpen)
+    }
+
+    /// The place of a slot among those that are open, of which there are at most 64.
+    pub(crate) fn slot_at(&self, slot: u64) -> Option<usize>
+        ensures { result ≡ index_of_slot (map slot_of (machine_of self.now).slots) slot }
+    {
+        find_slot(&self.slots, slot)
+    }
+
+    /// The node at these places.
+    pub(crate) fn place(&self, slot_at: usize, host_at: usize) -> &Place
+        requires { IsSeatThere (machine_of self.now) slot_at host_at }
+        ensures seat { IsSeat (machine_of self.now) slot_at host_at (seat_of result.now) }
+        ensures lodged { IsLodged self.now.archive result.now }
+    {
+        &self.slots[slot_at].places()[host_at]
+    }
+}
+
+/// The place of the slot of this number.
+fn find_slot(slots: &[OpenSlot], number: u64) -> Option<usize>
+    ensures value { result ≡ index_of_slot (map slot_of (map seats_of slots.now)) number }
+    ensures within { IfSome result (λ place. place < length slots.now) }
+{
+    match slots {
+        [] => None,
+        [first, rest @ ..] => {
+            if first.number() == number {
+                return Some(0);
+            }
+            match find_slot(rest, number) {
+                None => None,
+                Some(place) => Some(place + 1),
+            }
+        }
+    }
+}

@@ -1,0 +1,112 @@
+//! An open slot.
+
+ghost use Rattle.std.specs.Prelude.{◌≡◌, ◌<◌, IfOk, IfSome, List, OnErr, OnOk, length, map, slice_get};
+ghost use Rattle.std.specs.List.{All};
+ghost use Rattle.envstore.specs.Archives.{Keeps};
+ghost use Rattle.protocol.specs.Networks.{emissions, opened, outs_at};
+ghost use Rattle.network.specs.Marks.{numbered, told_at};
+ghost use Rattle.slot.specs.Filings.{AreFiledOuts, IsFiledEvent, event_of};
+ghost use Rattle.network.specs.Changes.{IsChangedAt};
+ghost use Rattle.network.specs.Charges.{HasRoomFor, IsActed};
+ghost use Rattle.network.specs.Lodgings.{IsGiven, IsLodged, IsUncounted, place_in};
+ghost use Rattle.types.specs.Statements.{Sent};
+
+use crate::place::Place;
+use crate::plan::Charge;
+use crate::told::Noted;
+use configuration::{Host, NetConfig};
+use envstore::{Archive, Shelf};
+use slot::FiledEvent;
+use std::alloc::{AllocError, Global};
+use std::marker::Model;
+
+/// An open slot, with the hosted nodes there in the order of the configuration.
+#[derive(Drop)]
+pub(crate) struct OpenSlot {
+    number: u64,
+    places: Vec<Place>,
+}
+
+impl Model for OpenSlot {
+    ghost use Rattle.std.specs.Coded.{codes};
+    ghost use Rattle.types.specs.Trees.{members_code};
+    ghost use Rattle.network.specs.Lodgings.{Lodgings};
+
+    ghost Value = { Lodgings };
+
+    ghost coded = { Prim.hlevel (codes, members_code) };
+
+    ghost view = { λ s. record { number = s.number; places = s.places.items } };
+}
+
+impl OpenSlot {
+    /// A slot that is just opened: each hosted node begins anew, and has drawn nothing. An error says that
+    /// memory is short.
+    pub(crate) fn new(
+        alloc: Global,
+        number: u64,
+        config: &NetConfig,
+    ) -> Result<OpenSlot, AllocError>
+        ensures number { IfOk result (λ s. s.number ≡ number) }
+        ensures places { IfOk result (λ s. map place_in s.places ≡ opened config.now.hosts number) }
+        ensures lodged { IfOk result (λ s. (archive : List Sent) → All (IsLodged archive) s.places) }
+        ensures counts { IfOk result (λ s. All IsUncounted s.places) }
+    {
+        let places = fresh_places(alloc, number, config.hosts())?;
+        Ok(OpenSlot { number, places })
+    }
+
+    /// The number of the slot.
+    pub(crate) fn number(&self) -> u64
+        ensures { result ≡ self.now.number }
+    {
+        self.number
+    }
+
+    /// The hosted nodes.
+    pub(crate) fn places(&self) -> &[Place]
+        ensures { result.now ≡ self.now.places }
+    {
+        &self.places
+    }
+
+    /// One event of the node at this place, as by [`Place::act`].
+    pub(crate) fn act<S: Shelf>(
+        &mut self,
+        alloc: Global,
+        archive: &mut Archive<S>,
+        at: usize,
+        event: FiledEvent,
+        charge: &Charge,
+        copies: usize,
+    ) -> Result<Noted, AllocError>
+        requires at { at < length self.old.places }
+        requires lodged { All (IsLodged archive.old) self.old.places }
+        requires event { IsFiledEvent archive.old event }
+        requires room { IfSome (slice_get self.old.places at) (HasRoomFor charge.now) }
+        ensures acted { OnOk result (IsChangedAt (IsActed charge.now (event_of event)) at self.old.places self.new.places) }
+        ensures applied { IfOk result (IsGiven (outs_at (event_of event) (slice_get (map place_in self.old.places) at)) (numbered (told_at (slice_get (map place_in self.old.places) at)) (emissions (outs_at (event_of event) (slice_get (map place_in self.old.places) at)))) copies) }
+        ensures err { OnErr result (self.new ≡ self.old) }
+        ensures number { self.new.number ≡ self.old.number }
+        ensures lodged { All (IsLodged archive.new) self.new.places }
+        ensures filed { IfOk result (λ a. AreFiledOuts archive.new a.outs.items) }
+        ensures kept { Keeps archive.old archive.new }
+    {
+        self.places[at].act(alloc, archive, event, charge, copies)
+    }
+}
+
+/// A fresh node for each host. An error says that memory is short.
+#[tactic(auto, unfolding(protocol::specs::Networks::opened))]
+fn fresh_places(alloc: Global, number: u64, hosts: &[Host]) -> Result<Vec<Place>, AllocError>
+    ensures places { IfOk result (λ v. map place_in v.items ≡ opened hosts.now number) }
+    ensures lodged { IfOk result (λ v. (archive : List Sent) → All (IsLodged archive) v.items) }
+    ensures counts { IfOk result (λ v. All IsUncounted v.items) }
+{
+    let mut places = Vec::with_capacity(alloc, hosts.len())?;
+    for host in hosts {
+        let slices = host.slices().try_copy(alloc)?;
+        places.push(Place::new(alloc, *host.name(), number, slices))?;
+    }
+    Ok(places)
+}

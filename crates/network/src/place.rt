@@ -1,0 +1,129 @@
+//! A hosted node at a slot.
+
+ghost use Rattle.std.specs.Prelude.{◌≡◌, ◌++◌, [], IfOk, IfSome, List, OnErr, OnOk, Some, option_map};
+ghost use Rattle.types.specs.Statements.{Sent};
+ghost use Rattle.envstore.specs.Archives.{AreFiled, IsFiled, Keeps, sent_of, sents_of};
+ghost use Rattle.protocol.specs.Networks.{emissions, has_input, moved};
+ghost use Rattle.protocol.specs.Nodes.{fresh, step};
+ghost use Rattle.network.specs.Marks.{numbered};
+ghost use Rattle.slot.specs.Filings.{AreFiledOuts, IsFiledEvent, event_of};
+ghost use Rattle.network.specs.Charges.{HasRoomFor, IsActed};
+ghost use Rattle.network.specs.Lodgings.{IsGiven, IsLodged, bytes_from, events_from, place_in};
+ghost use Rattle.network.specs.Tellings.{nth_of};
+
+use crate::plan::Charge;
+use crate::tallies::{Tally, bytes_in, count, events_in, make_room};
+use crate::told::{Noted, Told};
+use envstore::{Archive, Filed, Shelf};
+use slot::{FiledEvent, Node};
+use std::alloc::{AllocError, Global};
+use std::marker::Model;
+use types::{Kind, Nested, NodeId};
+
+/// A hosted node at a slot, what it has emitted since the slot was opened, and what it drew on its shares.
+#[derive(Drop)]
+pub(crate) struct Place {
+    node: Node,
+    told: Told,
+    own: u64,
+    heard: Vec<Tally>,
+}
+
+impl Model for Place {
+    ghost use Rattle.std.specs.Coded.{codes};
+    ghost use Rattle.types.specs.Trees.{members_code};
+    ghost use Rattle.network.specs.Lodgings.{Lodging};
+
+    ghost Value = { Lodging };
+
+    ghost coded = { Prim.hlevel (codes, members_code) };
+
+    ghost view = { λ p. record { held = p.node; told = p.told; own = p.own; heard = p.heard.items } };
+}
+
+impl Place {
+    /// A node to which nothing has happened. It takes no memory.
+    pub(crate) fn new(alloc: Global, name: NodeId, slot: u64, slices: Nested) -> Place
+        ensures place { place_in result ≡ record { node = fresh slot name slices; told = [] } }
+        ensures rows { result.held.rows ≡ [] }
+        ensures told { result.told ≡ [] }
+        ensures own { result.own ≡ 0 }
+        ensures heard { result.heard ≡ [] }
+    {
+        Place {
+            node: Node::new(alloc, name, slot, slices),
+            told: Told::nothing(alloc),
+            own: 0,
+            heard: Vec::new(alloc),
+        }
+    }
+
+    /// Whether the node has been told to propose a value.
+    pub(crate) fn has_input(&self) -> bool
+        ensures { result ≡ has_input (Some (place_in self.now)) }
+    {
+        self.node.given().input.is_some()
+    }
+
+    /// The node's emission of a kind with this number, from 1 on.
+    pub(crate) fn emission(&self, kind: Kind, number: u64) -> Option<&Filed>
+        ensures sent { option_map (λ f. sent_of f.now) result ≡ nth_of kind number (place_in self.now).told }
+        ensures filed { (archive : List Sent) → IsLodged archive self.now → IfSome result (λ f. IsFiled archive f.now) }
+    {
+        self.told.emission(kind, number)
+    }
+
+    /// How many of its own events it drew since the slot was opened.
+    pub(crate) fn own(&self) -> u64
+        ensures { result ≡ self.now.own }
+    {
+        self.own
+    }
+
+    /// How many events it drew from a name since the slot was opened.
+    pub(crate) fn events_from(&self, from: &NodeId) -> u64
+        ensures { result ≡ events_from self.now.heard from.now }
+    {
+        events_in(&self.heard, from)
+    }
+
+    /// How many delivered bytes it drew from a name since the slot was opened.
+    pub(crate) fn bytes_from(&self, from: &NodeId) -> u64
+        ensures { result ≡ bytes_from self.now.heard from.now }
+    {
+        bytes_in(&self.heard, from)
+    }
+
+    /// One event of the node; what it emits is kept, and the event is counted where it draws on a share of the
+    /// node. An error says that memory is short; then nothing happened but that the archive may have more.
+    #[tactic(auto, unfolding(protocol::specs::Networks::moved))]
+    pub(crate) fn act<S: Shelf>(
+        &mut self,
+        alloc: Global,
+        archive: &mut Archive<S>,
+        event: FiledEvent,
+        charge: &Charge,
+        copies: usize,
+    ) -> Result<Noted, AllocError>
+        requires lodged { IsLodged archive.old self.old }
+        requires event { IsFiledEvent archive.old event }
+        requires room { HasRoomFor charge.now self.old }
+        ensures acted { OnOk result (IsActed charge.now (event_of event) self.old self.new) }
+        ensures applied { IfOk result (IsGiven (step (place_in self.old).node (event_of event)).1 (numbered (place_in self.old).told (emissions (step (place_in self.old).node (event_of event)).1)) copies) }
+        ensures err { OnErr result (self.new ≡ self.old) }
+        ensures lodged { IsLodged archive.new self.new }
+        ensures filed { IfOk result (λ a. AreFiledOuts archive.new a.outs.items) }
+        ensures kept { Keeps archive.old archive.new }
+    {
+        let Place {
+            node,
+            told,
+            own,
+            heard,
+        } = self;
+        make_room(heard, &charge.drawn)?;
+        let noted = told.advance(alloc, archive, node, event, copies)?;
+        count(own, heard, charge);
+        Ok(noted)
+    }
+}

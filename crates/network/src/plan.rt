@@ -1,0 +1,71 @@
+//! What is to be done for an event.
+
+use crate::open_slot::OpenSlot;
+use slot::FiledEvent;
+use types::{Envelope, NodeId};
+
+/// What is to be done, by places among the open slots and among the hosted nodes. What needs memory is made
+/// already, save that a delivered envelope is filed when it is handed over.
+#[derive(Drop)]
+pub(crate) enum Deed {
+    /// This slot is to be open.
+    Open(OpenSlot),
+    /// The open slot at this place is to be closed.
+    Close {
+        slot_at: usize,
+    },
+    /// The node at these places has this event.
+    Act {
+        slot_at: usize,
+        host_at: usize,
+        event: FiledEvent,
+    },
+    /// The node at these places is handed this envelope, which no archive has yet.
+    Hand {
+        slot_at: usize,
+        host_at: usize,
+        envelope: Envelope,
+    },
+}
+
+/// On what an event draws, by places.
+#[derive(Drop)]
+pub(crate) enum Drawn {
+    /// The budgets of the network.
+    Budgets,
+    /// The openings and closings of the network.
+    Opens,
+    /// The own share of the node at these places.
+    Own {
+        slot_at: usize,
+        host_at: usize,
+    },
+    /// What the node at these places gets from that name.
+    Pair {
+        slot_at: usize,
+        host_at: usize,
+        from: NodeId,
+    },
+}
+
+/// Where a hosted node stands at an open slot: the places of the slot and of the node.
+#[derive(Clone, Copy)]
+pub(crate) struct Spot {
+    pub slot_at: usize,
+    pub host_at: usize,
+}
+
+/// On what an event draws, and the bytes that count as delivered by it.
+#[derive(Drop)]
+pub(crate) struct Charge {
+    pub drawn: Drawn,
+    pub size: u64,
+}
+
+/// A deed, on what it draws, and the bytes that count as delivered by it.
+#[derive(Drop)]
+pub(crate) struct Plan {
+    pub deed: Deed,
+    pub drawn: Drawn,
+    pub size: u64,
+}

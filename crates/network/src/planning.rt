@@ -1,0 +1,193 @@
+//! What is to be done for an event of a network or of a node's own, or why it is refused.
+
+ghost use Rattle.std.specs.Prelude.{◌≡◌, MatchResult, Some, length, nat_lt, not, ℕ};
+ghost use Rattle.protocol.specs.Networks.{is_bad_value};
+ghost use Rattle.protocol.specs.Networks.Step.{Opens, Closes, Asks, NominationTimes, BallotTimes, Reslices};
+ghost use Rattle.configuration.specs.Configs.{index_of_name};
+ghost use Rattle.network.specs.Decoding.{step_of};
+ghost use Rattle.network.specs.Deeds.{IsOwnRoom, IsPlanned, IsPlannedOwn, IsSlotThere, IsSpot, IsSpotRefused};
+ghost use Rattle.network.specs.declared.plan.Deed.TheVariants.{Act};
+ghost use Rattle.slot.specs.Filings.{IsFiledEvent};
+
+use crate::network::Network;
+use crate::open_slot::OpenSlot;
+use crate::plan::{Deed, Drawn, Plan, Spot};
+use envstore::Shelf;
+use slot::FiledEvent;
+use types::{Event, MAX_VALUE_LENGTH, Nested, NodeId, Refusal, Value};
+
+impl<S: Shelf> Network<S> {
+    /// What is to be done for an event, or the first refusal that applies; or that memory is short, which
+    /// may come before a refusal that applies. Nothing is changed.
+    pub(crate) fn plan(&self, event: &Event) -> Result<Plan, Refusal>
+        ensures { IsPlanned self.now (step_of event.now) result }
+    {
+        match event {
+            Event::OpenSlot { slot } => self.plan_open(*slot),
+            Event::CloseSlot { slot } => self.plan_close(*slot),
+            Event::Propose { slot, node, value } => {
+                self.plan_propose(*slot, node, value.as_slice())
+            }
+            Event::Deliver { node, bytes } => self.plan_deliver(node, bytes.as_slice()),
+            Event::Hear {
+                slot,
+                node,
+                from,
+                kind,
+                number,
+            } => self.plan_hear(*slot, node, from, *kind, *number),
+            Event::NominationTimer { slot, node, round } => {
+                self.plan_nomination_timer(*slot, node, *round)
+            }
+            Event::BallotTimer {
+                slot,
+                node,
+                counter,
+            } => self.plan_ballot_timer(*slot, node, *counter),
+            Event::Reslice { slot, node, slices } => self.plan_reslice(*slot, node, slices),
+        }
+    }
+
+    /// What is to be done to open a slot.
+    fn plan_open(&self, slot: u64) -> Result<Plan, Refusal>
+        ensures { IsPlanned self.now (Opens slot) result }
+    {
+        if self.slot_at(slot).is_some() {
+            return Err(Refusal::SlotOpenAlready);
+        }
+        if self.slots_are_full() {
+            return Err(Refusal::TooManySlots);
+        }
+        let drawn = self.openings();
+        self.has_room(&drawn)?;
+        match OpenSlot::new(self.alloc, slot, &self.config) {
+            Err(_) => Err(Refusal::NoMemory),
+            Ok(opened) => Ok(Plan {
+                deed: Deed::Open(opened),
+                drawn,
+                size: 0,
+            }),
+        }
+    }
+
+    /// Whether as many slots are open as the budget has.
+    fn slots_are_full(&self) -> bool
+        ensures { result ≡ not (nat_lt (length self.now.slots) self.now.config.budgets.slots) }
+    {
+        self.slots.len() as u64 >= self.config.budgets().slots()
+    }
+
+    /// What is to be done to close a slot.
+    fn plan_close(&self, slot: u64) -> Result<Plan, Refusal>
+        ensures { IsPlanned self.now (Closes slot) result }
+    {
+        let _slots = &self.slots;
+        let slot_at = self.open_slot(slot)?;
+        let drawn = self.openings();
+        self.has_room(&drawn)?;
+        Ok(Plan {
+            deed: Deed::Close { slot_at },
+            drawn,
+            size: 0,
+        })
+    }
+
+    /// What is to be done where a node is to propose a value: 1 to 256 bytes.
+    fn plan_propose(&self, slot: u64, node: &NodeId, value: &[u8]) -> Result<Plan, Refusal>
+        ensures { IsPlanned self.now (Asks slot node.now value.now) result }
+    {
+        let _slots = &self.slots;
+        let spot = self.spot(slot, node)?;
+        if is_bad(value) {
+            return Err(Refusal::BadValue);
+        }
+        if self.place(spot.slot_at, spot.host_at).has_input() {
+            return Err(Refusal::ProposedAlready);
+        }
+        let drawn = self.own_room(&spot, node)?;
+        match Value::of(self.alloc, value) {
+            Err(_) => Err(Refusal::NoMemory),
+            Ok(value) => Ok(acting(&spot, drawn, FiledEvent::Propose(value))),
+        }
+    }
+
+    /// What is to be done where a node's nomination timer fires.
+    fn plan_nomination_timer(&self, slot: u64, node: &NodeId, round: u32) -> Result<Plan, Refusal>
+        ensures { IsPlanned self.now (NominationTimes slot node.now round) result }
+    {
+        self.plan_own(slot, node, FiledEvent::NominationTimer(round))
+    }
+
+    /// What is to be done where a node's ballot timer fires.
+    fn plan_ballot_timer(&self, slot: u64, node: &NodeId, counter: u32) -> Result<Plan, Refusal>
+        ensures { IsPlanned self.now (BallotTimes slot node.now counter) result }
+    {
+        self.plan_own(slot, node, FiledEvent::BallotTimer(counter))
+    }
+
+    /// What is to be done for an event of a node's own that nothing else refuses and that needs no memory.
+    fn plan_own(&self, slot: u64, node: &NodeId, event: FiledEvent) -> Result<Plan, Refusal>
+        requires { IsFiledEvent self.now.archive event }
+        ensures { IsPlannedOwn self.now slot node.now event result }
+    {
+        let _slots = &self.slots;
+        let spot = self.spot(slot, node)?;
+        let drawn = self.own_room(&spot, node)?;
+        Ok(acting(&spot, drawn, event))
+    }
+
+    /// What is to be done where the slices of a node change.
+    fn plan_reslice(&self, slot: u64, node: &NodeId, slices: &Nested) -> Result<Plan, Refusal>
+        ensures { IsPlanned self.now (Reslices slot node.now slices.now) result }
+    {
+        let _slots = &self.slots;
+        let spot = self.spot(slot, node)?;
+        let drawn = self.own_room(&spot, node)?;
+        match slices.try_copy(self.alloc) {
+            Err(_) => Err(Refusal::NoMemory),
+            Ok(slices) => Ok(acting(&spot, drawn, FiledEvent::Reslice(slices))),
+        }
+    }
+
+    /// Where a hosted node stands at an open slot.
+    fn spot(&self, slot: u64, node: &NodeId) -> Result<Spot, Refusal>
+        ensures { MatchResult result (IsSpot self.now slot node.now) (IsSpotRefused self.now slot node.now) }
+    {
+        let host_at = self.host(node)?;
+        let slot_at = self.open_slot(slot)?;
+        Ok(Spot { slot_at, host_at })
+    }
+
+    /// On what a node's own event draws, where there is room on it for one more.
+    fn own_room(&self, spot: &Spot, node: &NodeId) -> Result<Drawn, Refusal>
+        requires slot { (i : ℕ) × IsSlotThere self.now i spot.now.slot_at }
+        requires host { index_of_name self.now.config.hosts node.now ≡ Some spot.now.host_at }
+        ensures { IsOwnRoom self.now spot.now node.now result }
+    {
+        let drawn = self.own(spot.slot_at, spot.host_at, node);
+        self.has_room(&drawn)?;
+        Ok(drawn)
+    }
+}
+
+/// Whether bytes are no value: a value has 1 to 256.
+fn is_bad(value: &[u8]) -> bool
+    ensures { result ≡ is_bad_value value.now }
+{
+    value.is_empty() || value.len() > MAX_VALUE_LENGTH
+}
+
+/// A node's own event is to be done there, and it draws on this.
+fn acting(spot: &Spot, drawn: Drawn, event: FiledEvent) -> Plan
+    ensures { result ≡ record { deed = Act spot.now.slot_at spot.now.host_at event; drawn = drawn; size = 0 } }
+{
+    Plan {
+        deed: Deed::Act {
+            slot_at: spot.slot_at,
+            host_at: spot.host_at,
+            event,
+        },
+        drawn,
+        size: 0,
+    }
+}

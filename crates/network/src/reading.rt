@@ -1,0 +1,37 @@
+//! What bytes say, as a network reads them.
+
+ghost use Rattle.std.specs.Prelude.{◌≡◌, IfOk};
+ghost use Rattle.network.specs.Decoding.{ReadingsAreExact, reading, said_by};
+
+use codec::{CodecError, decode};
+use std::alloc::{AllocError, Global};
+use types::Envelope;
+
+/// What bytes say.
+#[derive(Drop)]
+pub(crate) enum Reading {
+    /// An envelope.
+    Says(Envelope),
+    /// They are no envelope, with the number of their fault.
+    Faulty(u8),
+}
+
+/// What the bytes say. An error says that memory is short.
+pub(crate) fn read(alloc: Global, bytes: &[u8]) -> Result<Reading, AllocError>
+    ensures { IfOk result (λ r. said_by r ≡ reading bytes.now) }
+{
+    match decode(alloc, bytes) {
+        Ok(envelope) => Ok(Reading::Says(envelope)),
+        Err(error) => match error {
+            CodecError::NoMemory => Err(AllocError),
+            CodecError::Fault(fault) => Ok(Reading::Faulty(fault.number())),
+        },
+    }
+}
+
+/// Of a text of bytes it is said exactly what it is: an envelope where it is the spelling of one, and the
+/// number of a fault where it has that fault. So what a network reads is what the grammar of envelopes
+/// leaves, without a choice.
+pub fn readings_are_exact()
+    ensures { ReadingsAreExact }
+{}

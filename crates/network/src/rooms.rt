@@ -1,0 +1,170 @@
+//! On what events draw, and whether there is room on it.
+
+ghost use Rattle.std.specs.Prelude.{◌≡◌, ◌≤◌, ◌<◌, ◌+◌, ℕ, MatchResult, Some, IsTrue, is_some, map, option_map};
+ghost use Rattle.protocol.specs.Networks.{source};
+ghost use Rattle.protocol.specs.Networks.Step.{Opens, Closes};
+ghost use Rattle.configuration.specs.Configs.{index_of_name};
+ghost use Rattle.network.specs.Deeds.{HasNoBytes, HasNoRoom, HasBytes, HasRoom, IsDrawn, IsDrawnThere, IsNodeThere, IsPaired, index_of_slot, own_source, pair_source};
+ghost use Rattle.network.specs.Lodgings.{slot_of};
+ghost use Rattle.network.specs.Standing.{machine_of};
+ghost use Rattle.network.specs.declared.plan.Drawn.TheVariants.{Own, Pair};
+
+use crate::network::Network;
+use crate::plan::Drawn;
+use configuration::Shares;
+use envstore::Shelf;
+use types::{NodeId, Refusal};
+
+impl<S: Shelf> Network<S> {
+    /// On what openings and closings draw.
+    pub(crate) fn openings(&self) -> Drawn
+        ensures opens { (i : ℕ) → IsDrawn (machine_of self.now) result (source self.now.config.roster (Opens i)) }
+        ensures closes { (i : ℕ) → IsDrawn (machine_of self.now) result (source self.now.config.roster (Closes i)) }
+    {
+        match self.config.roster() {
+            None => Drawn::Budgets,
+            Some(_) => Drawn::Opens,
+        }
+    }
+
+    /// On what a node's own events draw.
+    pub(crate) fn own(&self, slot_at: usize, host_at: usize, node: &NodeId) -> Drawn
+        requires host { index_of_name self.now.config.hosts node.now ≡ Some host_at }
+        ensures { (i : ℕ) → index_of_slot (map slot_of (machine_of self.now).slots) i ≡ Some slot_at → IsDrawn (machine_of self.now) result (own_source self.now.config.roster i node.now) }
+    {
+        match self.config.roster() {
+            None => Drawn::Budgets,
+            Some(roster) => {
+                if roster.has(node) {
+                    Drawn::Own { slot_at, host_at }
+                } else {
+                    Drawn::Budgets
+                }
+            }
+        }
+    }
+
+    /// On what comes to a node from a name draws.
+    pub(crate) fn pair(&self, slot_at: usize, host_at: usize, node: &NodeId, from: &NodeId) -> Drawn
+        requires host { index_of_name self.now.config.hosts node.now ≡ Some host_at }
+        ensures drawn { (i : ℕ) → index_of_slot (map slot_of (machine_of self.now).slots) i ≡ Some slot_at → IsDrawn (machine_of self.now) result (pair_source self.now.config.roster i node.now from.now) }
+        ensures paired { IsPaired result }
+    {
+        match self.config.roster() {
+            None => Drawn::Budgets,
+            Some(roster) => {
+                if roster.has(node) && roster.has(from) {
+                    Drawn::Pair {
+                        slot_at,
+                        host_at,
+                        from: *from,
+                    }
+                } else {
+                    Drawn::Budgets
+                }
+            }
+        }
+    }
+
+    /// Whether there is room for one more event on what it draws.
+    pub(crate) fn has_room(&self, drawn: &Drawn) -> Result<(), Refusal>
+        requires { IsDrawnThere (machine_of self.now) drawn.now }
+        ensures { MatchResult result (λ _. HasRoom (machine_of self.now) drawn.now) (λ r. HasNoRoom (machine_of self.now) drawn.now r) }
+    {
+        match drawn {
+            Drawn::Budgets => {
+                within(
+                    self.events,
+                    1,
+                    self.config.budgets().events(),
+                    Refusal::JournalFull,
+                )
+            }
+            Drawn::Opens => within(self.opens, 1, self.shares().opens(), Refusal::ShareFull),
+            Drawn::Own { slot_at, host_at } => self.has_own_room(*slot_at, *host_at),
+            Drawn::Pair {
+                slot_at,
+                host_at,
+                from,
+            } => self.has_pair_room(*slot_at, *host_at, from),
+        }
+    }
+
+    /// Whether there is room for one more event on the own share of the node at these places.
+    fn has_own_room(&self, slot_at: usize, host_at: usize) -> Result<(), Refusal>
+        requires { IsDrawnThere (machine_of self.now) (Own slot_at host_at) }
+        ensures { MatchResult result (λ _. HasRoom (machine_of self.now) (Own slot_at host_at)) (λ r. HasNoRoom (machine_of self.now) (Own slot_at host_at) r) }
+    {
+        let used = self.place(slot_at, host_at).own();
+        within(used, 1, self.shares().own(), Refusal::ShareFull)
+    }
+
+    /// Whether there is room for one more event on what the node at these places gets from a name.
+    fn has_pair_room(&self, slot_at: usize, host_at: usize, from: &NodeId) -> Result<(), Refusal>
+        requires { IsDrawnThere (machine_of self.now) (Pair slot_at host_at from.now) }
+        ensures { MatchResult result (λ _. HasRoom (machine_of self.now) (Pair slot_at host_at from.now)) (λ r. HasNoRoom (machine_of self.now) (Pair slot_at host_at from.now) r) }
+    {
+        let used = self.place(slot_at, host_at).events_from(from);
+        within(used, 1, self.shares().pair(), Refusal::ShareFull)
+    }
+
+    /// Whether there is room for so many bytes more on what is drawn by what comes to a node.
+    pub(crate) fn has_bytes(&self, drawn: &Drawn, size: u64) -> Result<(), Refusal>
+        requires drawn { IsDrawnThere (machine_of self.now) drawn.now }
+        requires paired { IsPaired drawn.now }
+        ensures { MatchResult result (λ _. HasBytes (machine_of self.now) drawn.now size) (λ r. HasNoBytes (machine_of self.now) drawn.now size r) }
+    {
+        match drawn {
+            Drawn::Budgets => {
+                within(
+                    self.bytes,
+                    size,
+                    self.config.budgets().bytes(),
+                    Refusal::BytesFull,
+                )
+            }
+            Drawn::Pair {
+                slot_at,
+                host_at,
+                from,
+            } => self.has_pair_bytes(*slot_at, *host_at, from, size),
+            Drawn::Opens | Drawn::Own { .. } => unreachable!(),
+        }
+    }
+
+    /// Whether there is room for so many bytes more on what the node at these places gets from a name.
+    fn has_pair_bytes(
+        &self,
+        slot_at: usize,
+        host_at: usize,
+        from: &NodeId,
+        size: u64,
+    ) -> Result<(), Refusal>
+        requires { IsDrawnThere (machine_of self.now) (Pair slot_at host_at from.now) }
+        ensures { MatchResult result (λ _. HasBytes (machine_of self.now) (Pair slot_at host_at from.now) size) (λ r. HasNoBytes (machine_of self.now) (Pair slot_at host_at from.now) size r) }
+    {
+        let used = self.place(slot_at, host_at).bytes_from(from);
+        within(used, size, self.shares().bytes(), Refusal::ShareBytesFull)
+    }
+
+    /// The shares of the roster.
+    pub(crate) fn shares(&self) -> Shares
+        requires { IsTrue (is_some self.now.config.roster) }
+        ensures { option_map (λ r. r.shares) self.now.config.roster ≡ Some result }
+    {
+        let Some(roster) = self.config.roster() else {
+            unreachable!()
+        };
+        *roster.shares()
+    }
+}
+
+/// Whether so much more keeps within a limit; else this refusal. Their sum may be no `u64`.
+fn within(used: u64, more: u64, limit: u64, refusal: Refusal) -> Result<(), Refusal>
+    ensures { MatchResult result (λ _. used + more ≤ limit) (λ r. (r ≡ refusal) × (limit < used + more)) }
+{
+    if used > limit || more > limit - used {
+        return Err(refusal);
+    }
+    Ok(())
+}

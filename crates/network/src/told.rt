@@ -1,0 +1,265 @@
+//! What a hosted node has emitted.
+
+ghost use Rattle.std.specs.Prelude.{◌≡◌, ◌≤◌, ◌<◌, ◌+◌, ◌++◌, ◌∷◌, [], IfOk, IfSome, List, OnErr, OnOk, ℕ, if◌then◌else◌, length, option_map, slice_get};
+ghost use Rattle.std.specs.Vec.{vec_capacity, vec_len};
+ghost use Rattle.envstore.specs.Archives.{AreFiled, IsFiled, Keeps, sent_of, sents_of};
+ghost use Rattle.types.specs.Statements.{Sent, kind_of};
+ghost use Rattle.types.specs.declared.kind.Kind.TheVariants.{Nomination, Ballot};
+ghost use Rattle.protocol.specs.Networks.{emissions};
+ghost use Rattle.protocol.specs.Nodes.{step};
+ghost use Rattle.protocol.specs.Rows.{is_kind};
+ghost use Rattle.network.specs.Marks.{numbered};
+ghost use Rattle.slot.specs.Filings.{AreFiledOuts, IsFiledEvent, IsFiledOut, event_of, outs_of};
+ghost use Rattle.network.specs.Lodgings.{HaveRoom, IsGiven};
+ghost use Rattle.network.specs.Tellings.{nth_of, places_of_kind};
+
+use envstore::{Archive, Filed, Shelf};
+use slot::{FiledEvent, FiledOut, Node};
+use std::alloc::{AllocError, Global};
+use std::marker::Model;
+use types::{Kind, Out};
+
+/// The most emissions of one event.
+const MOST_EMISSIONS: usize = 2;
+
+/// What an applied event gave out, filed, by which numbers its emissions are named, and as many whole copies
+/// of what it gave out as were asked for.
+#[derive(Drop)]
+pub(crate) struct Noted {
+    pub outs: Vec<FiledOut>,
+    pub marks: Vec<u64>,
+    pub copies: Vec<Vec<Out>>,
+}
+
+/// What a hosted node has emitted since its slot was opened, in order, with the places of each kind: so the
+/// emission of a kind with a number is found at once, however many there are.
+#[derive(Drop)]
+pub(crate) struct Told {
+    emitted: Vec<Filed>,
+    nominations: Vec<usize>,
+    ballots: Vec<usize>,
+}
+
+impl Model for Told {
+    ghost use Rattle.std.specs.Prelude.{◌≡◌, List};
+    ghost use Rattle.std.specs.Coded.{codes};
+    ghost use Rattle.types.specs.Trees.{members_code};
+    ghost use Rattle.types.specs.declared.kind.Kind.TheVariants.{Nomination, Ballot};
+    ghost use Rattle.envstore.specs.Archives.{sents_of};
+    ghost use Rattle.envstore.specs.declared.filed.Filed.{Filed};
+    ghost use Rattle.network.specs.Tellings.{places_of_kind};
+
+    ghost Value = { List Filed };
+
+    ghost coded = { Prim.hlevel (codes, members_code) };
+
+    ghost view = { λ t. t.emitted.items };
+
+    ghost invariant = { λ t. (t.nominations.items ≡ places_of_kind Nomination (sents_of t.emitted.items)) × (t.ballots.items ≡ places_of_kind Ballot (sents_of t.emitted.items)) };
+}
+
+impl Told {
+    /// Nothing is emitted yet. It takes no memory.
+    pub(crate) fn nothing(alloc: Global) -> Told
+        ensures { result ≡ [] }
+    {
+        Told {
+            emitted: Vec::new(alloc),
+            nominations: Vec::new(alloc),
+            ballots: Vec::new(alloc),
+        }
+    }
+
+    /// The emission of a kind with this number, from 1 on.
+    pub(crate) fn emission(&self, kind: Kind, number: u64) -> Option<&Filed>
+        ensures sent { option_map (λ f. sent_of f.now) result ≡ nth_of kind number (sents_of self.now) }
+        ensures filed { (archive : List Sent) → AreFiled archive self.now → IfSome result (λ f. IsFiled archive f.now) }
+    {
+        if number == 0 {
+            return None;
+        }
+        match self.place(kind, (number - 1) as usize) {
+            None => None,
+            Some(place) => filed_at(&self.emitted, place),
+        }
+    }
+
+    /// The place of the emission of a kind with this number, from 0 on.
+    fn place(&self, kind: Kind, number: usize) -> Option<usize>
+        ensures { result ≡ slice_get (places_of_kind kind (sents_of self.now)) number }
+    {
+        match kind {
+            Kind::Nomination => place_at(&self.nominations, number),
+            Kind::Ballot => place_at(&self.ballots, number),
+        }
+    }
+
+    /// One event of the node whose emissions these are: what it emits is kept. Room for that is made before
+    /// the event, of which few emissions come, so that nothing grows after it. An error says that memory is
+    /// short; then nothing happened but that the archive may have more.
+    pub(crate) fn advance<S: Shelf>(
+        &mut self,
+        alloc: Global,
+        archive: &mut Archive<S>,
+        node: &mut Node,
+        event: FiledEvent,
+        copies: usize,
+    ) -> Result<Noted, AllocError>
+        requires told { AreFiled archive.old self.old }
+        requires rows { AreFiled archive.old node.old.rows }
+        requires event { IsFiledEvent archive.old event }
+        ensures node { OnOk result (node.new.node ≡ (step node.old.node (event_of event)).0) }
+        ensures told { OnOk result (sents_of self.new ≡ sents_of self.old ++ emissions (step node.old.node (event_of event)).1) }
+        ensures applied { IfOk result (IsGiven (step node.old.node (event_of event)).1 (numbered (sents_of self.old) (emissions (step node.old.node (event_of event)).1)) copies) }
+        ensures node_err { OnErr result (node.new ≡ node.old) }
+        ensures told_err { OnErr result (self.new ≡ self.old) }
+        ensures rows { AreFiled archive.new node.new.rows }
+        ensures filed_told { AreFiled archive.new self.new }
+        ensures filed { IfOk result (λ a. AreFiledOuts archive.new a.outs.items) }
+        ensures kept { Keeps archive.old archive.new }
+    {
+        let mut marks = Vec::with_capacity(alloc, MOST_EMISSIONS)?;
+        self.emitted.reserve(MOST_EMISSIONS)?;
+        self.nominations.reserve(MOST_EMISSIONS)?;
+        self.ballots.reserve(MOST_EMISSIONS)?;
+        let given_out = node.advance(alloc, archive, event, copies)?;
+        tell_all(
+            archive,
+            &given_out.outs,
+            &mut self.emitted,
+            &mut self.nominations,
+            &mut self.ballots,
+            &mut marks,
+        );
+        Ok(Noted {
+            outs: given_out.outs,
+            marks,
+            copies: given_out.copies,
+        })
+    }
+}
+
+/// Keeps what is emitted among these outs, where there is room for it.
+#[tactic(auto, unfolding(crate::specs::Marks::numbered))]
+fn tell_all<S: Shelf>(
+    archive: &Archive<S>,
+    outs: &[FiledOut],
+    emitted: &mut Vec<Filed>,
+    nominations: &mut Vec<usize>,
+    ballots: &mut Vec<usize>,
+    marks: &mut Vec<u64>,
+)
+    requires outs { AreFiledOuts archive.now outs.now }
+    requires told { AreFiled archive.now emitted.old.items }
+    requires nominations { nominations.old.items ≡ places_of_kind Nomination (sents_of emitted.old.items) }
+    requires ballots { ballots.old.items ≡ places_of_kind Ballot (sents_of emitted.old.items) }
+    requires room { HaveRoom (length (emissions (outs_of outs.now))) emitted.old nominations.old ballots.old marks.old }
+    ensures told { sents_of emitted.new.items ≡ sents_of emitted.old.items ++ emissions (outs_of outs.now) }
+    ensures nominations { nominations.new.items ≡ places_of_kind Nomination (sents_of emitted.new.items) }
+    ensures ballots { ballots.new.items ≡ places_of_kind Ballot (sents_of emitted.new.items) }
+    ensures marks { marks.new.items ≡ marks.old.items ++ numbered (sents_of emitted.old.items) (emissions (outs_of outs.now)) }
+    ensures filed { AreFiled archive.now emitted.new.items }
+{
+    for out in outs {
+        tell(archive, out, emitted, nominations, ballots, marks);
+    }
+}
+
+/// Keeps what is emitted where this out is an emission, and there is room for it.
+#[tactic(auto, unfolding(crate::specs::Marks::numbered))]
+fn tell<S: Shelf>(
+    archive: &Archive<S>,
+    out: &FiledOut,
+    emitted: &mut Vec<Filed>,
+    nominations: &mut Vec<usize>,
+    ballots: &mut Vec<usize>,
+    marks: &mut Vec<u64>,
+)
+    requires out { IsFiledOut archive.now out.now }
+    requires told { AreFiled archive.now emitted.old.items }
+    requires nominations { nominations.old.items ≡ places_of_kind Nomination (sents_of emitted.old.items) }
+    requires ballots { ballots.old.items ≡ places_of_kind Ballot (sents_of emitted.old.items) }
+    requires room { HaveRoom (length (emissions (outs_of (out.now ∷ [])))) emitted.old nominations.old ballots.old marks.old }
+    ensures told { sents_of emitted.new.items ≡ sents_of emitted.old.items ++ emissions (outs_of (out.now ∷ [])) }
+    ensures nominations { nominations.new.items ≡ places_of_kind Nomination (sents_of emitted.new.items) }
+    ensures ballots { ballots.new.items ≡ places_of_kind Ballot (sents_of emitted.new.items) }
+    ensures marks { marks.new.items ≡ marks.old.items ++ numbered (sents_of emitted.old.items) (emissions (outs_of (out.now ∷ []))) }
+    ensures room { (count : ℕ) → HaveRoom (length (emissions (outs_of (out.now ∷ []))) + count) emitted.old nominations.old ballots.old marks.old → HaveRoom count emitted.new nominations.new ballots.new marks.new }
+    ensures filed { AreFiled archive.now emitted.new.items }
+{
+    match out {
+        FiledOut::Emit(filed) => {
+            tell_emission(archive, filed, emitted, nominations, ballots, marks)
+        }
+        FiledOut::ArmNomination(_) | FiledOut::ArmBallot(_) | FiledOut::Externalized(_) => {}
+    }
+}
+
+/// Keeps one emission, where there is room for it.
+fn tell_emission<S: Shelf>(
+    archive: &Archive<S>,
+    filed: &Filed,
+    emitted: &mut Vec<Filed>,
+    nominations: &mut Vec<usize>,
+    ballots: &mut Vec<usize>,
+    marks: &mut Vec<u64>,
+)
+    requires filed { IsFiled archive.now filed.now }
+    requires told { AreFiled archive.now emitted.old.items }
+    requires nominations { nominations.old.items ≡ places_of_kind Nomination (sents_of emitted.old.items) }
+    requires ballots { ballots.old.items ≡ places_of_kind Ballot (sents_of emitted.old.items) }
+    requires room { HaveRoom 1 emitted.old nominations.old ballots.old marks.old }
+    ensures emitted { emitted.new.items ≡ emitted.old.items ++ filed.now ∷ [] }
+    ensures nominations { nominations.new.items ≡ places_of_kind Nomination (sents_of emitted.new.items) }
+    ensures ballots { ballots.new.items ≡ places_of_kind Ballot (sents_of emitted.new.items) }
+    ensures marks { marks.new.items ≡ marks.old.items ++ numbered (sents_of emitted.old.items) (sent_of filed.now ∷ []) }
+    ensures room { (count : ℕ) → HaveRoom (1 + count) emitted.old nominations.old ballots.old marks.old → HaveRoom count emitted.new nominations.new ballots.new marks.new }
+    ensures filed { AreFiled archive.now emitted.new.items }
+{
+    let kind = archive.read(filed).body().kind();
+    let place = emitted.len();
+    let mark = note(nominations, ballots, kind, place);
+    emitted.push_reserved(archive.again(filed));
+    marks.push_reserved(mark);
+}
+
+/// Notes the place of an emission of this kind, and counts those of its kind.
+fn note(nominations: &mut Vec<usize>, ballots: &mut Vec<usize>, kind: Kind, place: usize) -> u64
+    requires nominations { vec_len nominations.old < vec_capacity nominations.old }
+    requires ballots { vec_len ballots.old < vec_capacity ballots.old }
+    ensures nominations { nominations.new.items ≡ nominations.old.items ++ (if is_kind Nomination kind then place ∷ [] else []) }
+    ensures ballots { ballots.new.items ≡ ballots.old.items ++ (if is_kind Ballot kind then place ∷ [] else []) }
+    ensures count { result ≡ (if is_kind Nomination kind then length nominations.old.items else length ballots.old.items) + 1 }
+    ensures nomination_len { vec_len nominations.new ≤ vec_len nominations.old + 1 }
+    ensures ballot_len { vec_len ballots.new ≤ vec_len ballots.old + 1 }
+    ensures nomination_room { vec_capacity nominations.old ≤ vec_capacity nominations.new }
+    ensures ballot_room { vec_capacity ballots.old ≤ vec_capacity ballots.new }
+{
+    match kind {
+        Kind::Nomination => {
+            nominations.push_reserved(place);
+            nominations.len() as u64
+        }
+        Kind::Ballot => {
+            ballots.push_reserved(place);
+            ballots.len() as u64
+        }
+    }
+}
+
+/// The place that stands there.
+fn place_at(places: &[usize], number: usize) -> Option<usize>
+    ensures { result ≡ slice_get places.now number }
+{
+    match places.get(number) {
+        None => None,
+        Some(place) => Some(*place),
+    }
+}
+
+/// What was filed there.
+fn filed_at(emitted: &[Filed], place: usize) -> Option<&Filed>
+    ensures { option_map (λ f. f.now) result ≡ slice_get emitted.now place }
+{
+    emitted.get(place)
+}
