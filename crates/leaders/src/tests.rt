@@ -1,4 +1,4 @@
-//! Hashes and leaders that were worked out elsewhere, by cases/leaders/leaders.py.
+//! Hashes and leaders that were worked out elsewhere, by tools/leaders.
 
 use crate::draw::{Draw, Purpose};
 use crate::leader;

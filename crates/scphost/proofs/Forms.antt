@@ -7,9 +7,9 @@ use Rattle.std.specs.Str.{bytes_eq}
 use Rattle.std.proofs.lemmas.Slice.Eq.{bytes_eq-Decides}
 use Rattle.std.proofs.lemmas.Option.{option_and_then_some}
 use Rattle.scphost.specs.Words.{Text, HasForm, is_plain, operands_in}
-use Rattle.scphost.specs.CommandLine.{IsCall, call_in, call_with, table_with}
+use Rattle.scphost.specs.CommandLine.{IsCall, call_in, call_with, run_with, table_with}
 use Rattle.scphost.specs.declared.call.Call.{Call}
-use Rattle.scphost.specs.declared.call.Call.TheVariants.{Table}
+use Rattle.scphost.specs.declared.call.Call.TheVariants.{Table, Run}
 use Rattle.scphost.specs.ClapCommand.{whole_command, clap_takes}
 use Rattle.clap.proofs.OnLiterals.{clap_on_literals}
 
@@ -43,6 +43,30 @@ takes_plain [] e = takes_empty
 takes_plain (x ∷ []) e = takes_one x (x == 45) refl
 takes_plain (x ∷ y ∷ more) e = takes_longer x y more (not_true (x == 45) e)
 
+runs_ended : (file : Text) → clap_takes (codes "run" ∷ codes "--" ∷ file ∷ []) ≡ true
+unfolding clap_takes whole_command clap_on_literals
+runs_ended file = refl
+
+runs_empty : clap_takes (codes "run" ∷ [] ∷ []) ≡ true
+unfolding clap_takes whole_command clap_on_literals
+runs_empty = refl
+
+runs_one : (x : ℕ) (b : Bool) → (x == 45) ≡ b
+    → clap_takes (codes "run" ∷ (x ∷ []) ∷ []) ≡ true
+unfolding clap_takes whole_command clap_on_literals
+runs_one x true e = simp e
+runs_one x false e = simp e
+
+runs_longer : (x y : ℕ) (more : Text) → (x == 45) ≡ false
+    → clap_takes (codes "run" ∷ (x ∷ y ∷ more) ∷ []) ≡ true
+unfolding clap_takes whole_command clap_on_literals
+runs_longer x y more e = simp e
+
+runs_plain : (file : Text) → is_plain file ≡ true → clap_takes (codes "run" ∷ file ∷ []) ≡ true
+runs_plain [] e = runs_empty
+runs_plain (x ∷ []) e = runs_one x (x == 45) refl
+runs_plain (x ∷ y ∷ more) e = runs_longer x y more (not_true (x == 45) e)
+
 both_true : (a b : Bool) → (a && b) ≡ true → a ≡ true
 both_true true b e = refl
 both_true false b e = cc
@@ -51,6 +75,9 @@ pub takes_call : (words : List Text) (call : Call) → IsCall words call → cla
 takes_call words (Table file) (inl p) =
     rw p.0 (takes_plain file (both_true (is_plain file) true p.1))
 takes_call words (Table file) (inr e) = rw e (takes_ended file)
+takes_call words (Run file) (inl p) =
+    rw p.0 (runs_plain file (both_true (is_plain file) true p.1))
+takes_call words (Run file) (inr e) = rw e (runs_ended file)
 
 -- ---- the matcher finds each form, and no other words
 
@@ -66,6 +93,9 @@ pub call_in_complete : (words : List Text) (call : Call) → IsCall words call �
 call_in_complete words (Table file) (inl p) =
     rw (p.0, operands_plain file (both_true (is_plain file) true p.1)) refl
 call_in_complete words (Table file) (inr e) = rw e refl
+call_in_complete words (Run file) (inl p) =
+    rw (p.0, operands_plain file (both_true (is_plain file) true p.1)) refl
+call_in_complete words (Run file) (inr e) = rw e refl
 
 same_bytes : (xs ys : Text) → bytes_eq xs ys ≡ true → xs ≡ ys
 same_bytes xs ys e = (bytes_eq-Decides xs ys).0 e
@@ -97,19 +127,32 @@ form_of_table words [] call e form = cc
 form_of_table words (file ∷ []) (Table named) e form =
     let file_is : file ≡ named = cc in
     subst (λ f. HasForm words (codes "table") (f ∷ [])) file_is form
+form_of_table words (file ∷ []) (Run named) e form = cc
 form_of_table words (file ∷ another ∷ more) call e form = cc
 
+form_of_run : (words operands : List Text) (call : Call) → run_with operands ≡ Some call
+    → HasForm words (codes "run") operands → IsCall words call
+form_of_run words [] call e form = cc
+form_of_run words (file ∷ []) (Run named) e form =
+    let file_is : file ≡ named = cc in
+    subst (λ f. HasForm words (codes "run") (f ∷ [])) file_is form
+form_of_run words (file ∷ []) (Table named) e form = cc
+form_of_run words (file ∷ another ∷ more) call e form = cc
+
 found_call : (words : List Text) (command : Text) (operands : List Text) (call : Call)
-    (is_table : Bool) → bytes_eq command (codes "table") ≡ is_table
-    → (if is_table then table_with operands else None) ≡ Some call
+    (is_table is_run : Bool) → bytes_eq command (codes "table") ≡ is_table → bytes_eq command (codes "run") ≡ is_run
+    → (if is_table then table_with operands else (if is_run then run_with operands else None)) ≡ Some call
     → HasForm words command operands → IsCall words call
-found_call words command operands call true same e form =
+found_call words command operands call true is_run same other e form =
     form_of_table words operands call e
     (subst (λ name. HasForm words name operands) (same_bytes command (codes "table") same) form)
-found_call words command operands call false same e form = cc
+found_call words command operands call false true other same e form =
+    form_of_run words operands call e
+    (subst (λ name. HasForm words name operands) (same_bytes command (codes "run") same) form)
+found_call words command operands call false false same other e form = cc
 
 pub call_in_sound : (words : List Text) (call : Call) → call_in words ≡ Some call → IsCall words call
 call_in_sound [] call e = cc
 call_in_sound (command ∷ more) call e = option_and_then_some (call_with command) (operands_in more) call e
     (λ operands found made. found_call (command ∷ more) command operands call
-    (bytes_eq command (codes "table")) refl made (operands_in_sound command more operands found))
+    (bytes_eq command (codes "table")) (bytes_eq command (codes "run")) refl refl made (operands_in_sound command more operands found))

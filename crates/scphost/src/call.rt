@@ -5,8 +5,8 @@ ghost use Rattle.std.specs.List.{list_all};
 ghost use Rattle.clap.specs.Words.{app_of, kind_of};
 ghost use Rattle.clap.specs.declared.error.kind.ErrorKind.TheVariants.{OutOfMemory};
 ghost use Rattle.scphost.specs.Words.{is_plain as plain_word, operands_in};
-ghost use Rattle.scphost.specs.ClapCommand.{whole_command, clap_faults, clap_takes};
-ghost use Rattle.scphost.specs.CommandLine.{IsCall, call_in, call_with, table_with};
+ghost use Rattle.scphost.specs.ClapCommand.{whole_command, clap_faults, clap_takes, wanting};
+ghost use Rattle.scphost.specs.CommandLine.{IsCall, call_in, call_with, run_with, table_with};
 ghost use Rattle.scphost.specs.declared.call.Call.{Call};
 ghost use Rattle.scphost.specs.declared.call.Usage.TheVariants.{NoMemory};
 
@@ -16,13 +16,37 @@ use clap::{Arg, Command, Error};
 use std::alloc::{AllocError, Global};
 use std::convert::AsStr;
 
+// The version that `--version` prints.
+const VERSION: &str = "0.1.0";
+
+// What a table file holds.
+const TABLE_HELP: &str =
+    "A table file names one node, its slot and its slices, then offers envelopes and asks.
+For example:
+  self A 1 2[A,B]
+  put B 2[A,B] prep(1:x,-,0,0,0)
+  reach";
+
+// What a script of networks holds.
+const RUN_HELP: &str =
+    "A script declares networks with their nodes, opens slots and puts events to them.
+For example:
+  net 1 events 10 bytes 0 slots 1
+  node 1 A 1[A]
+  open 1 1";
+
 /// What the command line asks for: one variant a command, with its words.
 #[derive(Drop)]
 pub enum Call {
     /// `table FILE`: run the lines of a table file.
     Table {
-        /// The name of the file.
+        /// The name of the file; `-` is the standard input.
         file: Word,
+    },
+    /// `run SCRIPT`: run the lines of a script of networks.
+    Run {
+        /// The name of the script; `-` is the standard input.
+        script: Word,
     },
 }
 
@@ -79,18 +103,47 @@ fn ask_clap<S: AsStr>(alloc: Global, words: &[S]) -> Result<(), Usage>
 fn command_line<'a>(alloc: Global) -> Result<Command<'a>, AllocError>
     ensures { IfOk result (λ c. app_of c ≡ whole_command) }
 {
-    let file = Arg::new(alloc, "FILE")
-        .required(true)
-        .help("The table file");
-    let table = Command::new(alloc, "table")
-        .about("Runs the lines of a table file")
-        .arg(file)?;
-    Command::new(alloc, "scphost")
+    let table = command_of_file(
+        alloc,
+        "table",
+        "Runs the lines of a table file",
+        TABLE_HELP,
+        "FILE",
+        "The table file, or - for the standard input",
+    )?;
+    let run = command_of_file(
+        alloc,
+        "run",
+        "Runs the lines of a script of networks",
+        RUN_HELP,
+        "SCRIPT",
+        "The script, or - for the standard input",
+    )?;
+    let bare = Command::new(alloc, "scphost")
         .bin_name("scphost")?
         .about("A host of SCP validators")
+        .version(VERSION)
         .no_binary_name(true)
-        .subcommand_required(true)
-        .subcommand(table)
+        .subcommand_required(true);
+    bare.subcommand(table)?.subcommand(run)
+}
+
+// A command with one operand, which it wants, as clap knows it; what its file holds is said behind the help.
+fn command_of_file<'a>(
+    alloc: Global,
+    name: &'a str,
+    about: &'a str,
+    holds: &'a str,
+    operand: &'a str,
+    help: &'a str,
+) -> Result<Command<'a>, AllocError>
+    ensures { IfOk result (λ c. app_of c ≡ wanting name.entry.now operand.entry.now) }
+{
+    let file = Arg::new(alloc, operand).required(true).help(help);
+    Command::new(alloc, name)
+        .about(about)
+        .after_help(holds)
+        .arg(file)
 }
 
 // What clap's refusal is to the user.
@@ -117,6 +170,7 @@ fn call_of<S: AsStr>(alloc: Global, words: &[S]) -> Result<Option<Call>, AllocEr
     };
     match operands_of(rest) {
         Some(operands) if command.as_str() == "table" => table_call(alloc, operands),
+        Some(operands) if command.as_str() == "run" => run_call(alloc, operands),
         _ => Ok(None),
     }
 }
@@ -129,6 +183,19 @@ fn table_call<S: AsStr>(alloc: Global, operands: &[S]) -> Result<Option<Call>, A
         [file] => {
             let file = Word::new(alloc, file.as_str())?;
             Ok(Some(Call::Table { file }))
+        }
+        _ => Ok(None),
+    }
+}
+
+// The call of `run` with these operands, if they are one script.
+fn run_call<S: AsStr>(alloc: Global, operands: &[S]) -> Result<Option<Call>, AllocError>
+    ensures { IfOk result (λ call. call ≡ run_with (map S.text operands.now)) }
+{
+    match operands {
+        [script] => {
+            let script = Word::new(alloc, script.as_str())?;
+            Ok(Some(Call::Run { script }))
         }
         _ => Ok(None),
     }

@@ -8,9 +8,9 @@ mod tests;
 mod word;
 
 use call::{Call, Usage, read_call};
-use perform::{perform, refuse, report};
+use perform::{perform, perform_stream, refuse, report};
 use scripts::Stop;
-use std::io::{ErrorKind, Write};
+use std::io::{ErrorKind, Input, Write};
 use std::process::ExitCode;
 use std::rt::{Env, Files};
 use std::{env, fs, io};
@@ -38,17 +38,19 @@ fn called<R: Env + AllocGlobal>(rt: &R) -> Result<Call, Usage> {
     }
 }
 
-// Opens the files of a call in order and carries it out.
-fn open_and_perform<R: Files + AllocGlobal, W: Write, E: Write>(
+// Opens the files of a call in order and carries it out. The file `-` is the standard input.
+fn open_and_perform<R: Files + Input + AllocGlobal, W: Write, E: Write>(
     rt: &R,
     call: &Call,
     out: &mut W,
     err: &mut E,
 ) -> u8 {
-    match call {
-        Call::Table { file } => match fs::open(rt, file.as_str()) {
-            Ok(mut opened) => perform(rt, call, &mut opened, &mut io::empty(), out, err),
-            Err(_) => report(Stop::CannotRead, file.as_str(), err),
-        },
+    let (Call::Table { file } | Call::Run { script: file }) = call;
+    if file.as_str() == "-" {
+        return perform_stream(rt, call, &mut rt.reader(), out, err);
+    }
+    match fs::open(rt, file.as_str()) {
+        Ok(mut opened) => perform(rt, call, &mut opened, &mut io::empty(), out, err),
+        Err(_) => report(Stop::CannotRead, file.as_str(), err),
     }
 }

@@ -1,12 +1,13 @@
 //! Carrying out a call: its files are run, and the status is answered.
 
-ghost use Rattle.std.specs.Prelude.{◌≡◌};
+ghost use Rattle.std.specs.Prelude.{◌≡◌, ◌⊎◌, Err};
 ghost use Rattle.scphost.specs.Stops.{IsRefusal, IsStatus, IsStatusOf, status_of};
 
 use crate::call::{Call, Usage};
-use scripts::{Stop, run_script};
+use runs::HostRun;
+use scripts::{LineRunner, Stop, run_script, run_stream};
 use std::alloc::Global;
-use std::io::{Read, Write};
+use std::io::{BufRead, BufWriter, Read, Write};
 use tables::TableRun;
 
 /// The status of a call that was carried out.
@@ -41,9 +42,90 @@ pub fn perform<A: AllocGlobal, R: Read, T: Read, W: Write, E: Write>(
     let alloc = rt.alloc();
     match call {
         Call::Table { file } => {
-            let ran = run_script(alloc, &mut TableRun::new(), first, out);
+            let ran = run_whole(alloc, &mut TableRun::new(), first, out);
             answer(ran, file.as_str(), err)
         }
+        Call::Run { script } => {
+            let ran = run_whole(alloc, &mut HostRun::new(alloc), first, out);
+            answer(ran, script.as_str(), err)
+        }
+    }
+}
+
+/// Carries out a call whose file is the standard input: each line is answered before the next one is
+/// waited for. Status and messages are those of [`perform`], but for a read that fails and for input
+/// that is too long: the lines before have been run, and what they printed is written.
+pub fn perform_stream<A: AllocGlobal, R: BufRead, W: Write, E: Write>(
+    rt: &A,
+    call: &Call,
+    input: &mut R,
+    out: &mut W,
+    err: &mut E,
+) -> u8
+    ensures { IsStatus result }
+{
+    let alloc = rt.alloc();
+    match call {
+        Call::Table { file } => {
+            let ran = answer_lines(alloc, &mut TableRun::new(), input, out);
+            answer(ran, file.as_str(), err)
+        }
+        Call::Run { script } => {
+            let ran = answer_lines(alloc, &mut HostRun::new(alloc), input, out);
+            answer(ran, script.as_str(), err)
+        }
+    }
+}
+
+/// Runs a script that is read whole, and hands on what it prints many lines at a time.
+pub fn run_whole<S: LineRunner, R: Read, W: Write>(
+    alloc: Global,
+    runner: &mut S,
+    file: &mut R,
+    out: &mut W,
+) -> Result<(), Stop> {
+    match BufWriter::new(alloc, out) {
+        Ok(mut buffered) => {
+            let ran = run_script(alloc, runner, file, &mut buffered);
+            finish(buffered, ran)
+        }
+        Err(_) => Err(Stop::NoMemory),
+    }
+}
+
+/// Runs a script as it comes, and hands on what a line prints in one piece.
+pub fn answer_lines<S: LineRunner, R: BufRead, W: Write>(
+    alloc: Global,
+    runner: &mut S,
+    input: &mut R,
+    out: &mut W,
+) -> Result<(), Stop> {
+    match BufWriter::new(alloc, out) {
+        Ok(mut buffered) => {
+            let ran = run_stream(alloc, runner, input, &mut buffered);
+            finish(buffered, ran)
+        }
+        Err(_) => Err(Stop::NoMemory),
+    }
+}
+
+// Writes what is still buffered, where something may be. After a write that failed it is given up, so that
+// nothing is written after the failure.
+fn finish<W: Write + Drop>(buffered: BufWriter<W>, ran: Result<(), Stop>) -> Result<(), Stop>
+    ensures { (result ≡ ran) ⊎ (result ≡ Err Stop.CannotWrite) }
+{
+    let mut buffered = buffered;
+    let flushed = leaves_nothing(&ran) || buffered.flush().is_ok();
+    let (_, _) = buffered.into_parts();
+    if flushed { ran } else { Err(Stop::CannotWrite) }
+}
+
+// Whether a run that ended so leaves nothing to write: no write follows one that failed, and a script that
+// could not be read, or was too long, left nothing in the buffer.
+fn leaves_nothing(ran: &Result<(), Stop>) -> bool {
+    match ran {
+        Err(Stop::CannotWrite | Stop::CannotRead | Stop::TooLong) => true,
+        Err(Stop::BadLine(_) | Stop::NoMemory) | Ok(()) => false,
     }
 }
 

@@ -4,4 +4,4 @@ mod answers;
 mod calls;
 mod fakes;
 mod lines;
-mod runs;
+mod running;

@@ -11,7 +11,7 @@ use Rattle.std.proofs.lemmas.List.Splits.{join_with_byte-slice_split}
 use Rattle.std.proofs.lemmas.List.Folds.{list_all-append}
 use Rattle.scripts.specs.Script.{Bytes, ended, closed, has_no_feed, AreLines, lines_of, is_field, AreFields, is_ascii, is_no_record, IsBad}
 
-both_true : (a b : Bool) → (a && b) ≡ true → (a ≡ true) × (b ≡ true)
+pub both_true : (a b : Bool) → (a && b) ≡ true → (a ≡ true) × (b ≡ true)
 both_true true b e = (refl, e)
 both_true false b e = cc
 

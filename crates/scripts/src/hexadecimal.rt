@@ -1,7 +1,8 @@
 //! Bytes as hexadecimal digits.
 
-ghost use Rattle.std.specs.Prelude.{◌≡◌, ◌<◌};
-ghost use Rattle.scripts.specs.Values.{is_lower_hex as lower_hex_test};
+ghost use Rattle.std.specs.Prelude.{◌≡◌, ◌<◌, ◌++◌, ◌∷◌, [], IsTrue, IfOk, Ok, OnOk, length, slice_index, string_bytes, Some};
+ghost use Rattle.hex.specs.Hex.{decode_of, encode_lower, lower_digits};
+ghost use Rattle.scripts.specs.Values.{is_lower_hex as lower_hex_test, is_plain};
 
 use hex::FromHexError;
 use std::alloc::{AllocError, Global};
@@ -30,7 +31,9 @@ pub(crate) fn is_lower_hex(word: &[u8]) -> bool
 }
 
 /// Adds the bytes as lower-case hexadecimal digits.
-pub(crate) fn push_hex(text: &mut String, bytes: &[u8]) -> Result<(), AllocError> {
+pub(crate) fn push_hex(text: &mut String, bytes: &[u8]) -> Result<(), AllocError>
+    ensures { OnOk result (string_bytes text.new ≡ string_bytes text.old ++ encode_lower bytes.now) }
+{
     for byte in bytes {
         text.push(digit(*byte / 16))?;
         text.push(digit(*byte % 16))?;
@@ -40,6 +43,8 @@ pub(crate) fn push_hex(text: &mut String, bytes: &[u8]) -> Result<(), AllocError
 
 fn digit(value: u8) -> char
     requires { value < 16 }
+    ensures digit { result ≡ slice_index lower_digits value }
+    ensures ascii { result < 128 }
 {
     if value < 10 {
         char::from(b'0' + value)
@@ -49,7 +54,10 @@ fn digit(value: u8) -> char
 }
 
 /// Adds letters and digits as they are.
-pub(crate) fn push_plain(text: &mut String, bytes: &[u8]) -> Result<(), AllocError> {
+pub(crate) fn push_plain(text: &mut String, bytes: &[u8]) -> Result<(), AllocError>
+    requires { IsTrue (is_plain bytes.now) }
+    ensures { OnOk result (string_bytes text.new ≡ string_bytes text.old ++ bytes.now) }
+{
     for byte in bytes {
         text.push(char::from(*byte))?;
     }

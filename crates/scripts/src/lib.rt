@@ -16,6 +16,7 @@ mod script;
 mod slices;
 mod splitting;
 mod statement;
+mod stream;
 #[cfg(test)]
 mod tests;
 mod value;
@@ -28,4 +29,5 @@ pub use run::{LineRunner, Stop, run_script};
 pub use script::{Line, LineError, Lines, fields_of};
 pub use slices::{push_slices, slices_of};
 pub use statement::{push_statement, statement_of};
+pub use stream::run_stream;
 pub use value::{ballot_of, push_ballot, push_value, value_of};

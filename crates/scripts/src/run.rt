@@ -1,19 +1,32 @@
 //! Running a script: its lines go one by one through what runs them, and what they print is
 //! written.
 
-ghost use Rattle.std.specs.Prelude.{◌≡◌, ◌≢◌, ◌⊎◌, ◌<◌, ◌≤◌, ◌++◌, ◌∷◌, [], length, Err, IfSome, OnOk, IsOkUnless};
+ghost use Rattle.std.specs.Prelude.{◌≡◌, ◌≢◌, ◌⊎◌, ◌<◌, ◌≤◌, ◌++◌, ◌∷◌, ℕ, [], length, map, option_map, string_bytes, Err, IfOk, IfSome, OnOk, IsOkUnless};
 ghost use Rattle.std.specs.Io.KnownBytes.{Appends};
+ghost use Rattle.scripts.specs.Runs.{Passes, Fails, HasRunLine, HasRunText, HasRunScript, on_a_line};
 
 use crate::input::{LONGEST_SCRIPT, ReadError, read_whole};
 use crate::script::{Line, LineError, Lines, fields_of};
 use std::alloc::Global;
-use std::io::{BufWriter, Read, Write};
+use std::io::{Read, Write};
 
 /// What runs the lines of one kind of script.
+///
+/// `tells` says what a line prints and which state it leaves, and `refuses` which lines are bad. Only
+/// want of memory is neither.
 pub trait LineRunner {
+    ghost use Rattle.scripts.specs.Runs.{Telling, Refusing};
+
+    ghost tells: { Telling Self };
+
+    ghost refuses: { Refusing Self };
+
     /// Runs one line, given as its fields, of which there is at least one, and answers what it
     /// prints, without a line feed at the end. After an error nothing is run.
-    fn line(&mut self, alloc: Global, fields: &[&[u8]]) -> Result<Option<String>, LineError>;
+    fn line(&mut self, alloc: Global, fields: &[&[u8]]) -> Result<Option<String>, LineError>
+        ensures told { IfOk result (λ printed.
+            tells self.old (map (λ field. field.now) fields.now) (option_map string_bytes printed) self.new) }
+        ensures bad { result ≡ Err LineError.Bad → refuses self.old (map (λ field. field.now) fields.now) };
 }
 
 /// Why a run ended before the end of its script.
@@ -46,7 +59,8 @@ impl From<ReadError> for Stop {
     }
 }
 
-/// Reads a script whole and runs its lines in order, up to the first that is bad.
+/// Reads a script whole and runs its lines in order, up to the first that is bad. What they print is
+/// written as it comes: a caller with many short lines hands in a writer that keeps them together.
 pub fn run_script<S: LineRunner, R: Read, W: Write>(
     alloc: Global,
     runner: &mut S,
@@ -57,14 +71,12 @@ pub fn run_script<S: LineRunner, R: Read, W: Write>(
         (IfSome (R.remaining script.old) (λ left. length left ≤ LONGEST_SCRIPT)) }
     ensures too_long { result ≡ Err Stop.TooLong
         → IfSome (R.remaining script.old) (λ left. LONGEST_SCRIPT < length left) }
+    ensures ran { HasRunScript S.tells S.refuses runner.old
+        (R.remaining script.old) (W.contents out.old) (W.contents out.new) result runner.new }
 {
-    let text = read_whole(alloc, script)?;
-    match BufWriter::new(alloc, out) {
-        Ok(mut buffered) => {
-            let ran = run_lines(alloc, runner, text.as_slice(), &mut buffered);
-            finish(buffered, ran)
-        }
-        Err(_) => Err(Stop::NoMemory),
+    match read_whole(alloc, script) {
+        Ok(text) => run_lines(alloc, runner, &text, out),
+        Err(error) => Err(Stop::from(error)),
     }
 }
 
@@ -76,7 +88,8 @@ fn run_lines<S: LineRunner, W: Write>(
     out: &mut W,
 ) -> Result<(), Stop>
     requires { length text.now ≤ LONGEST_SCRIPT }
-    ensures { result ≢ Err Stop.TooLong }
+    ensures { HasRunText S.tells S.refuses runner.old text.now
+        (W.contents out.old) (W.contents out.new) result runner.new }
 {
     for line in Lines::new(text) {
         run_line(alloc, runner, line, out)?;
@@ -84,25 +97,38 @@ fn run_lines<S: LineRunner, W: Write>(
     Ok(())
 }
 
-// Runs one line and writes what it prints.
-fn run_line<S: LineRunner, W: Write>(
+/// Runs one line and writes what it prints.
+pub(crate) fn run_line<S: LineRunner, W: Write>(
     alloc: Global,
     runner: &mut S,
     line: Line<'_>,
     out: &mut W,
 ) -> Result<(), Stop>
-    ensures { result ≢ Err Stop.TooLong }
+    ensures { HasRunLine S.tells S.refuses runner.old line.entry.number line.entry.bytes.now
+        (W.contents out.old) (W.contents out.new) result runner.new }
 {
-    let printed = match fields_of(alloc, line.bytes) {
-        Ok(Some(fields)) => runner.line(alloc, fields.as_slice()),
-        Ok(None) => Ok(None),
-        Err(error) => Err(error),
-    };
-    match printed {
+    match answer(alloc, runner, line.bytes) {
         Ok(Some(text)) => print(out, text.as_str()),
         Ok(None) => Ok(()),
         Err(LineError::Bad) => Err(Stop::BadLine(line.number)),
         Err(LineError::NoMemory) => Err(Stop::NoMemory),
+    }
+}
+
+// Runs one line and answers what it prints.
+fn answer<S: LineRunner>(
+    alloc: Global,
+    runner: &mut S,
+    line: &[u8],
+) -> Result<Option<String>, LineError>
+    ensures passes { IfOk result (λ printed.
+        Passes S.tells runner.old line.now (on_a_line (option_map string_bytes printed)) runner.new) }
+    ensures fails { result ≡ Err LineError.Bad → Fails S.refuses runner.old line.now }
+{
+    match fields_of(alloc, line) {
+        Ok(Some(fields)) => runner.line(alloc, fields.as_slice()),
+        Ok(None) => Ok(None),
+        Err(error) => Err(error),
     }
 }
 
@@ -116,15 +142,4 @@ fn print<W: Write>(out: &mut W, text: &str) -> Result<(), Stop>
         Ok(()) => Ok(()),
         Err(_) => Err(Stop::CannotWrite),
     }
-}
-
-// Writes what is still buffered, unless a write has failed already: then it is given up, so that
-// nothing is written after the failure.
-fn finish<W: Write + Drop>(buffered: BufWriter<W>, ran: Result<(), Stop>) -> Result<(), Stop>
-    ensures { (result ≡ ran) ⊎ (result ≡ Err Stop.CannotWrite) }
-{
-    let mut buffered = buffered;
-    let flushed = ran == Err(Stop::CannotWrite) || buffered.flush().is_ok();
-    let (_, _) = buffered.into_parts();
-    if flushed { ran } else { Err(Stop::CannotWrite) }
 }

@@ -1,7 +1,8 @@
 //! Values and ballots.
 
-ghost use Rattle.std.specs.Prelude.{◌≡◌, Ok, None, IfOk};
-ghost use Rattle.scripts.specs.Values.{value_in as bytes_value, digits_value, word_value};
+ghost use Rattle.std.specs.Prelude.{◌≡◌, ◌++◌, Ok, None, IfOk, OnOk, option_map, string_bytes};
+ghost use Rattle.scripts.specs.Values.{digits_value, text_of_value, value_in as bytes_value, word_value};
+ghost use Rattle.scripts.specs.Words.{counted, cut_at, text_of_ballot, with_counter as counter_before, word_ballot};
 
 use crate::hexadecimal::{is_lower_hex, push_hex, push_plain};
 use crate::number::counter_of;
@@ -54,7 +55,10 @@ fn value_of_digits(alloc: Global, digits: &[u8]) -> Result<Option<Value>, AllocE
 
 /// The ballot that a word spells, as `9:m`: a counter, a colon and a value. `None` for any other word,
 /// for which no memory is asked.
-pub fn ballot_of(alloc: Global, word: &[u8]) -> Result<Option<Ballot>, AllocError> {
+pub fn ballot_of(alloc: Global, word: &[u8]) -> Result<Option<Ballot>, AllocError>
+    ensures ballot { IfOk result (λ o. o ≡ word_ballot word.now) }
+    ensures none { word_ballot word.now ≡ None → result ≡ Ok None }
+{
     let Some((counter, value)) = ballot_fields(word) else {
         return Ok(None);
     };
@@ -64,15 +68,31 @@ pub fn ballot_of(alloc: Global, word: &[u8]) -> Result<Option<Ballot>, AllocErro
     }
 }
 
+// A counter, where it is there, and the word behind it.
+fn with_counter(counter: Option<u32>, value: &[u8]) -> Option<(u32, &[u8])>
+    ensures { option_map (λ r. (r.0, r.1.now)) result ≡ counter_before counter value.now }
+{
+    match counter {
+        Some(counter) => Some((counter, value)),
+        None => None,
+    }
+}
+
 // The counter before the colon of a ballot, and the word behind it.
-fn ballot_fields(word: &[u8]) -> Option<(u32, &[u8])> {
-    let (counter, value) = split_once(word, b':')?;
-    Some((counter_of(counter)?, value))
+fn ballot_fields(word: &[u8]) -> Option<(u32, &[u8])>
+    ensures { option_map (λ r. (r.0, r.1.now)) result ≡ counted (cut_at 58 word.now) }
+{
+    match split_once(word, b':') {
+        Some((counter, value)) => with_counter(counter_of(counter), value),
+        None => None,
+    }
 }
 
 /// Adds the value: as it is where it has letters and digits alone, else `#` and hexadecimal digits.
 /// Where memory is wanting, a part may have been added.
-pub fn push_value(text: &mut String, value: &Value) -> Result<(), AllocError> {
+pub fn push_value(text: &mut String, value: &Value) -> Result<(), AllocError>
+    ensures { OnOk result (string_bytes text.new ≡ string_bytes text.old ++ text_of_value value.now) }
+{
     let bytes = value.as_bytes();
     if is_plain(bytes) {
         return push_plain(text, bytes);
@@ -82,7 +102,9 @@ pub fn push_value(text: &mut String, value: &Value) -> Result<(), AllocError> {
 }
 
 /// Adds the ballot. Where memory is wanting, a part may have been added.
-pub fn push_ballot(text: &mut String, ballot: &Ballot) -> Result<(), AllocError> {
+pub fn push_ballot(text: &mut String, ballot: &Ballot) -> Result<(), AllocError>
+    ensures { OnOk result (string_bytes text.new ≡ string_bytes text.old ++ text_of_ballot ballot.now) }
+{
     let counter = ballot.counter;
     write!(text, "{counter}:")?;
     push_value(text, &ballot.value)

@@ -1,1 +1,2 @@
 mod Supporting
+pub mod RunLaws

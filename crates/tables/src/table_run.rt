@@ -1,5 +1,8 @@
 //! What runs the lines of a table file.
 
+ghost use Rattle.std.specs.Prelude.{◌≡◌, ◌≢◌, ◌↔◌, IsTrue, IfNone, IfOk, IfSome, None, Some, Err, map, option_map, string_bytes};
+ghost use Rattle.tables.specs.TableLines.{Asks, AsksNone, Backs, Takes, Tells};
+
 use crate::listener::{Listener, Taken};
 use codec::{CodecError, decode};
 use envstore::Places;
@@ -9,6 +12,7 @@ use scripts::{
     push_statement, slices_of, statement_of,
 };
 use std::alloc::{AllocError, Global};
+use std::marker::Model;
 use types::{Ballot, Envelope, Kind, NodeId};
 
 /// The state of one table file: nothing before its first line, then the listener of the node that the
@@ -18,14 +22,35 @@ pub struct TableRun {
     listener: Option<Listener>,
 }
 
+impl Model for TableRun {
+    ghost use Rattle.std.specs.Prelude.{Option};
+    ghost use Rattle.std.specs.Coded.{codes};
+    ghost use Rattle.types.specs.Trees.{members_code};
+    ghost use Rattle.tables.specs.Listeners.{Heard};
+
+    ghost Value = { Option Heard };
+
+    ghost coded = { Prim.hlevel (codes, members_code) };
+
+    ghost view = { λ run. run.listener };
+}
+
 impl TableRun {
     /// The state before the first line.
-    pub fn new() -> TableRun {
+    pub fn new() -> TableRun
+        ensures { result ≡ None }
+    {
         TableRun { listener: None }
     }
 }
 
 impl LineRunner for TableRun {
+    ghost use Rattle.tables.specs.TableLines.{Refuses, Tells};
+
+    ghost tells = { Tells };
+
+    ghost refuses = { Refuses };
+
     fn line(&mut self, alloc: Global, fields: &[&[u8]]) -> Result<Option<String>, LineError> {
         match &mut self.listener {
             None => {
@@ -37,10 +62,28 @@ impl LineRunner for TableRun {
     }
 }
 
+// The ballot that a line asks about: `ask BALLOT`.
+#[tactic(auto, using(crate::proofs::RunLaws::asks_two))]
+fn ballot_asked(alloc: Global, fields: &[&[u8]]) -> Result<Option<Ballot>, AllocError>
+    ensures asked { IfOk result (λ o. IfSome o (λ b. Asks (map (λ field. field.now) fields.now) b)) }
+    ensures none { IfOk result (λ o. IfNone o (AsksNone (map (λ field. field.now) fields.now))) }
+{
+    if fields.len() != 2 {
+        return Ok(None);
+    }
+    if is_word(fields[0], b"ask") {
+        ballot_of(alloc, fields[1])
+    } else {
+        Ok(None)
+    }
+}
+
 // The listener that a first line begins: `self NAME SLOT SLICES`.
-fn listener_of(alloc: Global, fields: &[&[u8]]) -> Result<Listener, LineError> {
+fn listener_of(alloc: Global, fields: &[&[u8]]) -> Result<Listener, LineError>
+    ensures { IfOk result (λ listener. Tells None (map (λ field. field.now) fields.now) None (Some listener)) }
+{
     match fields {
-        [b"self", name, slot, slices] => {
+        [word, name, slot, slices] if is_word(word, b"self") => {
             let name = name_of(name).ok_or(LineError::Bad)?;
             let slot = number_of(slot).ok_or(LineError::Bad)?;
             let slices = slices_of(alloc, slices)?.ok_or(LineError::Bad)?;
@@ -55,22 +98,35 @@ fn run(
     alloc: Global,
     listener: &mut Listener,
     fields: &[&[u8]],
+) -> Result<Option<String>, LineError>
+    ensures told { IfOk result (λ printed.
+        Tells (Some listener.old) (map (λ field. field.now) fields.now) (option_map string_bytes printed) (Some listener.new)) }
+    ensures bad { result ≡ Err LineError.Bad → AsksNone (map (λ field. field.now) fields.now) }
+{
+    match ballot_asked(alloc, fields) {
+        Ok(Some(ballot)) => ask(alloc, listener, &ballot),
+        Ok(None) => run_another(alloc, listener, fields),
+        Err(_) => Err(LineError::NoMemory),
+    }
+}
+
+// Runs a line behind the first that asks about no ballot.
+fn run_another(
+    alloc: Global,
+    listener: &mut Listener,
+    fields: &[&[u8]],
 ) -> Result<Option<String>, LineError> {
     match fields {
-        [b"env", bytes] => {
+        [word, bytes] if is_word(word, b"env") => {
             let bytes = bytes_of(alloc, bytes)?.ok_or(LineError::Bad)?;
             offer_bytes(alloc, listener, &bytes)
         }
-        [b"put", sender, slices, statement] => {
+        [word, sender, slices, statement] if is_word(word, b"put") => {
             let envelope = envelope_of(alloc, listener.slot(), sender, slices, statement)?;
             offer(alloc, listener, envelope)
         }
-        [b"ask", ballot] => {
-            let ballot = ballot_of(alloc, ballot)?.ok_or(LineError::Bad)?;
-            ask(alloc, listener, &ballot)
-        }
-        [b"show"] => show(alloc, listener),
-        [b"reach"] => show_reach(alloc, listener),
+        [word] if is_word(word, b"show") => show(alloc, listener),
+        [word] if is_word(word, b"reach") => show_reach(alloc, listener),
         _ => Err(LineError::Bad),
     }
 }
@@ -110,28 +166,44 @@ fn offer(
     alloc: Global,
     listener: &mut Listener,
     envelope: Envelope,
-) -> Result<Option<String>, LineError> {
-    let answer = match listener.take(envelope) {
-        Taken::Replaced => "replaced",
-        Taken::Stale => "stale",
-        Taken::OtherSlot => "other",
-        Taken::NoMemory => return Err(LineError::NoMemory),
-    };
-    Ok(Some(String::from_str(alloc, answer)?))
+) -> Result<Option<String>, LineError>
+    ensures takes { IfOk result (λ printed. Takes listener.old envelope (option_map string_bytes printed) listener.new) }
+    ensures runs { result ≢ Err LineError.Bad }
+{
+    match listener.take(envelope) {
+        Taken::Replaced => say(alloc, "replaced"),
+        Taken::Stale => say(alloc, "stale"),
+        Taken::OtherSlot => say(alloc, "other"),
+        Taken::NoMemory => Err(LineError::NoMemory),
+    }
 }
 
 // Answers whether the node's quorums back a ballot.
-fn ask(
-    alloc: Global,
-    listener: &mut Listener,
-    ballot: &Ballot,
-) -> Result<Option<String>, LineError> {
-    let answer = if listener.is_backed(alloc, ballot)? {
-        "yes"
+fn ask(alloc: Global, listener: &mut Listener, ballot: &Ballot) -> Result<Option<String>, LineError>
+    ensures backs { IfOk result (λ printed. Backs listener.old ballot.now (option_map string_bytes printed)) }
+    ensures unchanged { listener.new ≡ listener.old }
+    ensures runs { result ≢ Err LineError.Bad }
+{
+    if listener.is_backed(alloc, ballot)? {
+        say(alloc, "yes")
     } else {
-        "no"
-    };
-    Ok(Some(String::from_str(alloc, answer)?))
+        say(alloc, "no")
+    }
+}
+
+// The field is this word.
+fn is_word(field: &[u8], word: &[u8]) -> bool
+    ensures { IsTrue result ↔ field.now ≡ word.now }
+{
+    field == word
+}
+
+// Prints one word.
+fn say(alloc: Global, word: &str) -> Result<Option<String>, LineError>
+    ensures said { IfOk result (λ printed. option_map string_bytes printed ≡ Some word.now) }
+    ensures runs { result ≢ Err LineError.Bad }
+{
+    Ok(Some(String::from_str(alloc, word)?))
 }
 
 // The names of all nodes that the node reaches, ascending.

@@ -8,6 +8,16 @@ use std::process::Abort;
 fn calls_table<A: Abort>(rt: &A, alloc: Global, words: &[&str], wanted: &str) {
     match read_call(alloc, words) {
         Ok(Call::Table { file }) => assert!(rt; file.as_str() == wanted, "{wanted}"),
+        Ok(Call::Run { script: _ }) => assert!(rt; false, "another call: {wanted}"),
+        Err(_usage) => assert!(rt; false, "refused: {wanted}"),
+    }
+}
+
+// The words call `run` on the script.
+fn calls_run<A: Abort>(rt: &A, alloc: Global, words: &[&str], wanted: &str) {
+    match read_call(alloc, words) {
+        Ok(Call::Run { script }) => assert!(rt; script.as_str() == wanted, "{wanted}"),
+        Ok(Call::Table { file: _ }) => assert!(rt; false, "another call: {wanted}"),
         Err(_usage) => assert!(rt; false, "refused: {wanted}"),
     }
 }
@@ -37,6 +47,11 @@ fn reads_each_form(rt: HostRuntime) {
     calls_table(&rt, alloc, &["table", "--", "rows.txt"], "rows.txt");
     calls_table(&rt, alloc, &["table", "--", "-x"], "-x");
     calls_table(&rt, alloc, &["table", "--", "--"], "--");
+    calls_run(&rt, alloc, &["run", "nets.txt"], "nets.txt");
+    calls_run(&rt, alloc, &["run", "-"], "-");
+    calls_run(&rt, alloc, &["run", ""], "");
+    calls_run(&rt, alloc, &["run", "--", "nets.txt"], "nets.txt");
+    calls_run(&rt, alloc, &["run", "--", "-x"], "-x");
 }
 
 #[test]
@@ -50,6 +65,12 @@ fn helps_who_asks(rt: HostRuntime) {
     helps(&rt, alloc, &["table", "--help"], of_table);
     helps(&rt, alloc, &["table", "-h", "rows.txt"], of_table);
     helps(&rt, alloc, &["help", "table"], of_table);
+    helps(&rt, alloc, &["table", "--help"], "  self A 1 2[A,B]\n");
+    let of_run = "Usage: scphost run <SCRIPT>";
+    helps(&rt, alloc, &["run", "--help"], of_run);
+    helps(&rt, alloc, &["help", "run"], of_run);
+    helps(&rt, alloc, &["run", "--help"], "  open 1 1\n");
+    helps(&rt, alloc, &["--version"], "scphost 0.1.0\n");
 }
 
 #[test]
@@ -74,4 +95,14 @@ fn refuses_other_words(rt: HostRuntime) {
         "unexpected argument 'table'",
     );
     refuses(&rt, alloc, &["table", "a", "--"], "bad usage\n");
+}
+
+#[test]
+fn refuses_other_operands_of_run(rt: HostRuntime) {
+    let alloc = rt.alloc();
+    refuses(&rt, alloc, &["run"], "<SCRIPT>");
+    refuses(&rt, alloc, &["run", "--"], "<SCRIPT>");
+    refuses(&rt, alloc, &["run", "A", "B"], "unexpected argument 'B'");
+    refuses(&rt, alloc, &["run", "-x"], "unexpected argument '-x'");
+    refuses(&rt, alloc, &["run", "A", "--"], "bad usage\n");
 }

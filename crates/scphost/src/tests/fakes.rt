@@ -95,6 +95,10 @@ impl Write for FakeWriter {
 pub struct LastField {}
 
 impl LineRunner for LastField {
+    ghost tells = { λ s fields printed t. Unit {0} };
+
+    ghost refuses = { λ s fields. Unit {0} };
+
     fn line(&mut self, alloc: Global, fields: &[&[u8]]) -> Result<Option<String>, LineError> {
         let last = match fields.last() {
             Some(field) => *field,

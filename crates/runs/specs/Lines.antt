@@ -1,0 +1,89 @@
+-- The lines of scripts of networks that ask for events, and the events that they ask for.
+use Rattle.std.specs.Prelude.{◌≡◌, ℕ, List, [], ◌∷◌, codes}
+use Rattle.scripts.specs.Script.{Bytes}
+use Rattle.scripts.specs.Numbers.{IsDecimal, decimal}
+use Rattle.types.specs.declared.event.Event.{Event}
+use Rattle.types.specs.declared.event.Event.TheVariants.{OpenSlot, CloseSlot, Propose, Deliver, Hear, NominationTimer, BallotTimer, Reslice}
+use Rattle.types.specs.declared.kind.Kind.{Kind}
+use Rattle.types.specs.declared.kind.Kind.TheVariants.{Nomination}
+use Rattle.runs.specs.declared.verbs.Verb.{Verb}
+use Rattle.runs.specs.declared.verbs.Verb.TheVariants as verb
+
+-- the first word of a line of each kind
+abbrev pub word_of : Verb → Bytes
+word_of verb.Net = codes "net"
+word_of verb.Node = codes "node"
+word_of verb.Roster = codes "roster"
+word_of verb.Open = codes "open"
+word_of verb.Close = codes "close"
+word_of verb.Propose = codes "propose"
+word_of verb.Deliver = codes "deliver"
+word_of verb.Say = codes "say"
+word_of verb.Hear = codes "hear"
+word_of verb.NominationTimer = codes "ntimer"
+word_of verb.BallotTimer = codes "btimer"
+word_of verb.Reslice = codes "reslice"
+word_of verb.Settle = codes "settle"
+
+-- the word spells the number
+abbrev pub IsNumber : Bytes → ℕ → Type 0
+IsNumber word n = IsDecimal word × (n ≡ decimal word)
+
+-- the word of a kind of emissions
+abbrev pub word_of_kind : Kind → Bytes
+word_of_kind Nomination = codes "nom"
+word_of_kind Kind.Ballot = codes "bal"
+
+-- the fields after the number of the network ask for this event: its slot, its numbers and its kind of emissions are those that they spell.
+-- Of names, slices, values, bytes and statements this does not say yet which the words spell.
+abbrev pub AsksOpen : List Bytes → Event → Type 0
+AsksOpen (i ∷ []) (OpenSlot slot) = IsNumber i slot
+AsksOpen fields e = ⊥
+
+abbrev pub AsksClose : List Bytes → Event → Type 0
+AsksClose (i ∷ []) (CloseSlot slot) = IsNumber i slot
+AsksClose fields e = ⊥
+
+abbrev pub AsksPropose : List Bytes → Event → Type 0
+AsksPropose (i ∷ name ∷ value ∷ []) (Propose slot u x) = IsNumber i slot
+AsksPropose fields e = ⊥
+
+abbrev pub AsksDeliver : List Bytes → Event → Type 0
+AsksDeliver (name ∷ digits ∷ []) (Deliver u bytes) = Unit {0}
+AsksDeliver fields e = ⊥
+
+abbrev pub AsksSay : List Bytes → Event → Type 0
+AsksSay (name ∷ from ∷ i ∷ slices ∷ statement ∷ []) (Deliver u bytes) = Unit {0}
+AsksSay fields e = ⊥
+
+abbrev pub AsksHear : List Bytes → Event → Type 0
+AsksHear (i ∷ name ∷ sender ∷ kind ∷ number ∷ []) (Hear slot u from k n) = IsNumber i slot × (kind ≡ word_of_kind k) × IsNumber number n
+AsksHear fields e = ⊥
+
+abbrev pub AsksNominationTimer : List Bytes → Event → Type 0
+AsksNominationTimer (i ∷ name ∷ round ∷ []) (NominationTimer slot u r) = IsNumber i slot × IsNumber round r
+AsksNominationTimer fields e = ⊥
+
+abbrev pub AsksBallotTimer : List Bytes → Event → Type 0
+AsksBallotTimer (i ∷ name ∷ counter ∷ []) (BallotTimer slot u n) = IsNumber i slot × IsNumber counter n
+AsksBallotTimer fields e = ⊥
+
+abbrev pub AsksReslice : List Bytes → Event → Type 0
+AsksReslice (i ∷ name ∷ slices ∷ []) (Reslice slot u q) = IsNumber i slot
+AsksReslice fields e = ⊥
+
+-- a line of a kind, by its fields after the number of the network, asks for this event
+abbrev pub Asks : Verb → List Bytes → Event → Type 0
+Asks verb.Open fields e = AsksOpen fields e
+Asks verb.Close fields e = AsksClose fields e
+Asks verb.Propose fields e = AsksPropose fields e
+Asks verb.Deliver fields e = AsksDeliver fields e
+Asks verb.Say fields e = AsksSay fields e
+Asks verb.Hear fields e = AsksHear fields e
+Asks verb.NominationTimer fields e = AsksNominationTimer fields e
+Asks verb.BallotTimer fields e = AsksBallotTimer fields e
+Asks verb.Reslice fields e = AsksReslice fields e
+Asks verb.Net fields e = ⊥
+Asks verb.Node fields e = ⊥
+Asks verb.Roster fields e = ⊥
+Asks verb.Settle fields e = ⊥

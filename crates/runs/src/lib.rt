@@ -1,0 +1,18 @@
+//! Scripts of networks: their lines declare networks with their nodes, put events to them, and hand
+//! emissions on.
+//!
+//! A [`HostRun`] runs the lines of one script over the journals of the networks that it declares, each with
+//! an archive of its own. What may be used above is the run of lines of `scripts`.
+#![tactic(auto)]
+
+mod drafts;
+mod emissions;
+mod events;
+mod host_run;
+mod nets;
+mod refusals;
+mod replies;
+mod requests;
+mod verbs;
+
+pub use host_run::HostRun;

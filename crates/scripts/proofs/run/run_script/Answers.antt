@@ -1,0 +1,5 @@
+use Rattle.scripts.proofs.RunLaws.{unread}
+use Rattle.scripts.proofs.run.run_script.Goals as goal
+
+pub returns-in-Err-clause-ran : goal.returns-in-Err-clause-ran
+returns-in-Err-clause-ran g c = rw c.from.ensures (unread _ _ _ _ _ c.in-Err.error)

@@ -1,0 +1,67 @@
+-- The words of scripts and of printed lines: what each is read as, and what is printed.
+use Rattle.std.specs.Prelude.{◌==◌, ◌&&◌, ◌||◌, ◌++◌, ◌+◌, ◌/◌, ◌%◌, ◌^◌, ℕ, Bool, not, [], ◌∷◌, length, take, drop, nat_le, nat_lt, position, slice_index, Option, Some, None, option_map, if◌then◌else◌}
+use Rattle.std.specs.List.{list_all}
+use Rattle.std.specs.Int.{w64, to_be_bytes}
+use Rattle.std.specs.Fmt.{decimal}
+use Rattle.hex.specs.Hex.{encode_lower}
+use Rattle.types.specs.declared.ballot.Ballot.{Ballot}
+use Rattle.scripts.specs.Script.{Bytes}
+use Rattle.scripts.specs.Numbers.{is_digit, decimal as number}
+use Rattle.scripts.specs.Values.{is_plain, text_of_value, word_value}
+
+-- what stands before the first such byte, and what stands after it
+abbrev pub cut_at : ℕ → Bytes → Option (Bytes × Bytes)
+cut_at at text = option_map (λ n. (take n text, drop (n + 1) text)) (position (λ b. b == at) text)
+
+-- ---- names
+
+-- the bytes of a name: four words of 64 bits
+unfoldable pub bytes_of_name : ℕ → Bytes
+bytes_of_name u = to_be_bytes w64 (u / 2 ^ 192) ++ (to_be_bytes w64 (u / 2 ^ 128 % 2 ^ 64) ++ (to_be_bytes w64 (u / 2 ^ 64 % 2 ^ 64) ++ to_be_bytes w64 (u % 2 ^ 64)))
+
+-- without the zero bytes at the end
+abbrev pub short : Bytes → Bytes
+short [] = []
+short (b ∷ more) = if (length (short more) == 0) && (b == 0) then [] else b ∷ short more
+
+abbrev pub is_short_name : Bytes → Bool
+is_short_name front = nat_lt 0 (length front) && is_plain front
+
+-- the short form where there is one, else hexadecimal digits
+abbrev pub text_of_bytes : Bytes → Bytes
+text_of_bytes bytes = if is_short_name (short bytes) then short bytes else encode_lower bytes
+
+abbrev pub text_of_name : ℕ → Bytes
+text_of_name u = text_of_bytes (bytes_of_name u)
+
+-- ---- numbers and ballots
+
+-- decimal digits, of which the first is no 0 where there are several
+abbrev pub is_decimal : Bytes → Bool
+is_decimal word = (nat_lt 0 (length word) && list_all is_digit word) && (nat_le (length word) 1 || not (slice_index word 0 == 48))
+
+-- the number that a word spells, where it is below a bound
+abbrev pub word_number : ℕ → Bytes → Option ℕ
+word_number bound word = if is_decimal word && nat_lt (number word) bound then Some (number word) else None
+
+abbrev pub with_counter : Option ℕ → Bytes → Option (ℕ × Bytes)
+with_counter (Some counter) behind = Some (counter, behind)
+with_counter None behind = None
+
+-- a counter, and what stands behind it
+abbrev pub counted : Option (Bytes × Bytes) → Option (ℕ × Bytes)
+counted (Some parts) = with_counter (word_number (2 ^ 32) parts.0) parts.1
+counted None = None
+
+-- a counter and the word of a value as a ballot
+abbrev pub valued : Option (ℕ × Bytes) → Option Ballot
+valued (Some parts) = option_map (λ v. record { counter = parts.0; value = v }) (word_value parts.1)
+valued None = None
+
+-- the ballot that a word spells: a counter, a colon (58) and a value
+abbrev pub word_ballot : Bytes → Option Ballot
+word_ballot word = valued (counted (cut_at 58 word))
+
+-- a counter, a colon (58) and a value
+abbrev pub text_of_ballot : Ballot → Bytes
+text_of_ballot b = decimal b.counter ++ 58 ∷ text_of_value b.value
