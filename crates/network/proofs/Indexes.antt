@@ -73,12 +73,6 @@ changed-map {X} key f (x ∷ xs) u k h d = go (key x == u) (index_in (map key xs
     go false None ih y e q = absurd (cc)
     go false (Some j) ih y e q = let z : suc j ≡ k = cc in ap (λ n. changed_at n f (x ∷ xs)) (sym z) ∙ ap (λ ys. x ∷ ys) (ih j e parts.1)
 
--- writing what a change makes of what stands there
-pub set-changed : {X : Type 0} (f : X → X) (xs : List X) (k : ℕ) (x y : X) → k < length xs → x ≡ get_or xs k x → y ≡ f x → set xs k y ≡ changed_at k f xs
-set-changed f [] k x y l is e = absurd (omega (arith, l))
-set-changed f (z ∷ zs) zero x y l is e = ap (λ w. w ∷ zs) (e ∙ ap f is)
-set-changed f (z ∷ zs) (suc k) x y l is e = ap (λ ws. z ∷ ws) (set-changed f zs k x y (omega (arith, l)) is e)
-
 -- writing what is related to what stands there
 pub changed-set : {X : Type 0} (R : X → X → Type 0) (xs : List X) (k : ℕ) (x y : X) → k < length xs → x ≡ get_or xs k x → R x y → IsChangedAt R k xs (set xs k y)
 changed-set R [] k x y l is r = absurd (omega (arith, l))

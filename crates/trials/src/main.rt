@@ -11,8 +11,8 @@
 //! slices. An event that finds no memory is tried once more. It prints how many things the node gives out
 //! at each event, and 8 for one that found no memory and left a trace in the node.
 //!
-//! The tests cross crates: steps of a node told in the words of scripts, and histories and crowds at random
-//! compared with a plain slow program that follows the rules step by step.
+//! The tests cross crates: histories and crowds at random, in the words of scripts, compared with a plain slow
+//! program that follows the rules step by step; and two stories of a node that no script of networks can tell.
 #![tactic(auto)]
 
 #[cfg(test)]
@@ -23,8 +23,6 @@ mod crowds;
 mod dice;
 #[cfg(test)]
 mod histories;
-#[cfg(test)]
-mod reaching;
 #[cfg(test)]
 mod rules;
 #[cfg(test)]
