@@ -3,3 +3,6 @@ mod Growing
 mod Spelled
 mod Histories
 mod ByNumber
+mod OutsAt
+mod Configured
+mod SlicesThen

@@ -2,3 +2,4 @@ pub mod Logs
 pub mod Keeping
 pub mod Entering
 pub mod Worlds
+pub mod Lending

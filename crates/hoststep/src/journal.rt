@@ -1,13 +1,15 @@
 //! A network with its journal.
 
-ghost use Rattle.std.specs.Prelude.{◌≡◌, [], IfErr, IfOk, ◌==◌, None, OnErr, OnOk, Some, length, slice_get};
+ghost use Rattle.std.specs.Prelude.{◌≡◌, ◌++◌, [], IfErr, IfOk, ◌==◌, None, OnErr, OnOk, Some, length, option_map, slice_get, take};
 ghost use Rattle.protocol.specs.Runs.{IsRun};
 ghost use Rattle.network.specs.Decoding.{step_of};
 ghost use Rattle.hoststep.specs.Logs.{IsEntered, IsEntryAt, IsRecorded, IsRefused, extended};
 ghost use Rattle.hoststep.specs.Entering.{IsEnteredWith, outs_after};
+ghost use Rattle.hoststep.specs.Lending.{lent_step, outs_at};
 
 use crate::entered::{Entered, both, only};
-use crate::kept::{Kept, kept_event, whole_event, whole_outs};
+use crate::kept::{Kept, kept_event, push_whole_outs, whole_event};
+use crate::lent_event::{LentEvent, lent_event};
 use crate::recorded::Recorded;
 use configuration::NetConfig;
 use envstore::Shelf;
@@ -160,9 +162,38 @@ impl<S: Shelf> Journal<S> {
             None => Ok(None),
             Some(kept) => {
                 let event = whole_event(alloc, &self.network, &kept.event)?;
-                let outs = whole_outs(alloc, &self.network, &kept.outs)?;
+                let mut outs = Vec::with_capacity(alloc, kept.outs.len())?;
+                push_whole_outs(alloc, &self.network, &kept.outs, &mut outs)?;
                 Ok(Some((event, outs)))
             }
+        }
+    }
+
+    /// The event of this number, read in place; `None` past the last. It takes no memory.
+    pub fn event(&self, number: usize) -> Option<LentEvent<'_>>
+        ensures { option_map lent_step result ≡ option_map (λ x. x.event) (slice_get self.now.entries number) }
+    {
+        match self.entries.get(number) {
+            None => None,
+            Some(kept) => Some(lent_event(&self.network, &kept.event)),
+        }
+    }
+
+    /// Appends what the entry of this number gave out, with whole envelopes; nothing past the last.
+    ///
+    /// An error says that memory is short; then what was there stands in front of what was appended by then.
+    pub fn push_outs(
+        &self,
+        alloc: Global,
+        number: usize,
+        outs: &mut Vec<Out>,
+    ) -> Result<(), AllocError>
+        ensures ok { OnOk result (outs.new.items ≡ outs.old.items ++ outs_at self.now.entries number) }
+        ensures err { OnErr result (take (length outs.old.items) outs.new.items ≡ outs.old.items) }
+    {
+        match self.entries.get(number) {
+            None => Ok(()),
+            Some(kept) => push_whole_outs(alloc, &self.network, &kept.outs, outs),
         }
     }
 }

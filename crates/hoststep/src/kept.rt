@@ -1,6 +1,6 @@
 //! Entries of a journal as they are kept, in places of its archive.
 
-ghost use Rattle.std.specs.Prelude.{◌≡◌, IfOk, IfSome, List, length, option_map};
+ghost use Rattle.std.specs.Prelude.{◌≡◌, ◌++◌, IfOk, IfSome, List, OnErr, OnOk, length, option_map, take};
 ghost use Rattle.codec.specs.Steps.{IsBytes};
 ghost use Rattle.envstore.specs.Archives.{IsFiled, sent_of};
 ghost use Rattle.protocol.specs.Networks.Reading.{Read};
@@ -207,20 +207,22 @@ fn whole_bytes<S: Shelf>(
     Ok(Bytes::new(bytes))
 }
 
-/// What was given out, with whole envelopes. An error says that memory is short.
-pub(crate) fn whole_outs<S: Shelf>(
+/// Appends what was given out, with whole envelopes. An error says that memory is short; then what was there
+/// stands in front of what was appended by then.
+pub(crate) fn push_whole_outs<S: Shelf>(
     alloc: Global,
     network: &Network<S>,
     outs: &[FiledOut],
-) -> Result<Vec<Out>, AllocError>
+    whole: &mut Vec<Out>,
+) -> Result<(), AllocError>
     requires { AreFiledOuts network.now.archive outs.now }
-    ensures { IfOk result (λ v. v.items ≡ outs_of outs.now) }
+    ensures ok { OnOk result (whole.new.items ≡ whole.old.items ++ outs_of outs.now) }
+    ensures err { OnErr result (take (length whole.old.items) whole.new.items ≡ whole.old.items) }
 {
-    let mut whole = Vec::with_capacity(alloc, outs.len())?;
     for out in outs {
         whole.push(whole_out(alloc, network, out)?)?;
     }
-    Ok(whole)
+    Ok(())
 }
 
 /// One of what was given out, with its whole envelope. An error says that memory is short.

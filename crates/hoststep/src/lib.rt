@@ -6,15 +6,18 @@
 //! one archive; no contract speaks of their numbers here.
 #![tactic(auto)]
 
+mod announcing;
 mod entered;
 mod journal;
 mod kept;
+mod lent_event;
 mod machine;
 mod recorded;
 mod world;
 
 pub use configuration::{Budgets, ConfigError, Host, NetConfig, Roster, Shares};
 pub use journal::Journal;
+pub use lent_event::LentEvent;
 pub use machine::NetMachine;
 pub use recorded::Recorded;
 pub use world::{MAX_NETWORKS, World, WorldError};

@@ -1,6 +1,7 @@
 //! Machines and journals with ample memory, told by hand.
 
-use crate::{Budgets, Host, Journal, NetConfig, NetMachine};
+use crate::{Budgets, Host, Journal, LentEvent, NetConfig, NetMachine};
+use closure::Announcements;
 use codec::encode;
 use envstore::VecShelf;
 use std::alloc::Global;
@@ -19,10 +20,10 @@ fn slices(alloc: Global, number: u64) -> Option<Nested> {
     Nested::new(alloc, SliceSet::new(1, members)).ok()?
 }
 
-/// Node 1 is hosted and needs node 2, which is not. There are two events and one slot.
-fn config(alloc: Global) -> Option<NetConfig> {
+/// Node 1 is hosted and needs node 2, which is not. There are so many events and one slot.
+fn config(alloc: Global, events: u64) -> Option<NetConfig> {
     let hosts = vec![in alloc; Host::new(name(1), slices(alloc, 2)?)].ok()?;
-    NetConfig::new(alloc, 7, hosts, Budgets::new(2, 1000, 1)?).ok()
+    NetConfig::new(alloc, 7, hosts, Budgets::new(events, 1000, 1)?).ok()
 }
 
 /// The bytes by which node 2 votes for a value at slot 5.
@@ -44,13 +45,30 @@ fn delivery(bytes: Bytes) -> Event {
     }
 }
 
-/// A journal with its slot open.
-fn opened(alloc: Global) -> Option<Journal<VecShelf>> {
-    let mut journal = Journal::new(alloc, config(alloc)?, VecShelf::new(alloc));
-    match journal.apply(Event::OpenSlot { slot: 5 }) {
+/// A journal of at most so many events, with its slot open.
+fn opened(alloc: Global, events: u64) -> Option<Journal<VecShelf>> {
+    let config = config(alloc, events)?;
+    let journal = Journal::new(alloc, config, VecShelf::new(alloc));
+    with_event(journal, Event::OpenSlot { slot: 5 })
+}
+
+/// The journal with one more event, where it is not refused.
+fn with_event(mut journal: Journal<VecShelf>, event: Event) -> Option<Journal<VecShelf>> {
+    match journal.apply(event) {
         Ok(_) => Some(journal),
         Err(_) => None,
     }
+}
+
+/// A journal where slot 5 was opened, node 2 voted, and node 1 was given slices of node 3.
+fn told(alloc: Global) -> Option<Journal<VecShelf>> {
+    let journal = with_event(opened(alloc, 3)?, delivery(vote(alloc)?))?;
+    let reslice = Event::Reslice {
+        slot: 5,
+        node: name(1),
+        slices: slices(alloc, 3)?,
+    };
+    with_event(journal, reslice)
 }
 
 fn is_refused(journal: &mut Journal<VecShelf>, event: Event, by: Refusal) -> bool {
@@ -82,10 +100,66 @@ fn reads_back(
     Some(delivers(&event, wanted) && given.len() == outs)
 }
 
+/// Whether the entry of this number, read in place, delivers so many bytes of node 2 to node 1.
+fn delivers_in_place(journal: &Journal<VecShelf>, number: usize, count: u64) -> bool {
+    match &journal.event(number) {
+        Some(
+            LentEvent::Deliver {
+                node,
+                size,
+                envelope,
+            },
+        ) => { node.is_same(&name(1)) && *size == count && envelope.sender().is_same(&name(2)) }
+        _ => false,
+    }
+}
+
+/// Whether the entry of this number, read in place, opens this slot.
+fn opens_in_place(journal: &Journal<VecShelf>, number: usize, wanted: u64) -> bool {
+    match &journal.event(number) {
+        Some(LentEvent::OpenSlot { slot }) => *slot == wanted,
+        _ => false,
+    }
+}
+
+/// Whether the entry of this number announces slices of this node to node 1 at slot 5.
+fn announces(journal: &Journal<VecShelf>, number: usize, sender: u64) -> bool {
+    let Some(announcement) = journal.announcement(number) else {
+        return false;
+    };
+    announcement.slot == 5
+        && announcement.receiver.is_same(&name(1))
+        && announcement.sender.is_same(&name(sender))
+}
+
+/// Whether these are the given slices.
+fn are_slices(slices: Option<&Nested>, wanted: &Nested) -> bool {
+    match slices {
+        None => false,
+        Some(slices) => slices.is_same(wanted),
+    }
+}
+
+/// How many outs a proposal gives, and how many stand in a list to which they are appended twice.
+fn append_twice(alloc: Global) -> Option<(usize, usize)> {
+    let mut journal = opened(alloc, 2)?;
+    let proposal = Event::Propose {
+        slot: 5,
+        node: name(1),
+        value: Bytes::new(Vec::from_slice(alloc, b"a").ok()?),
+    };
+    let given = journal.apply(proposal).ok()?;
+    let mut outs = Vec::new(alloc);
+    journal.push_outs(alloc, 1, &mut outs).ok()?;
+    journal.push_outs(alloc, 2, &mut outs).ok()?;
+    journal.push_outs(alloc, 1, &mut outs).ok()?;
+    Some((given.len(), outs.len()))
+}
+
 #[test]
 fn what_is_refused_is_not_journalled(rt: HostRuntime) -> Result<(), Fail> {
     let alloc = rt.alloc();
-    let mut journal = opened(alloc).ok_or("memory")?;
+    let mut journal = opened(alloc, 2).ok_or("memory")?;
     let empty = delivery(Bytes::new(Vec::new(alloc)));
     assert!(rt; is_refused(&mut journal, empty, Refusal::BadEnvelope(1)));
     let close = Event::CloseSlot { slot: 6 };
@@ -99,7 +173,7 @@ fn what_is_refused_is_not_journalled(rt: HostRuntime) -> Result<(), Fail> {
 #[test]
 fn a_delivery_is_recorded_and_read_back(rt: HostRuntime) -> Result<(), Fail> {
     let alloc = rt.alloc();
-    let mut journal = opened(alloc).ok_or("memory")?;
+    let mut journal = opened(alloc, 2).ok_or("memory")?;
     let bytes = vote(alloc).ok_or("memory")?;
     let copy = bytes.try_copy(alloc)?;
     let recorded = journal
@@ -118,12 +192,51 @@ fn a_delivery_is_recorded_and_read_back(rt: HostRuntime) -> Result<(), Fail> {
 #[test]
 fn a_machine_gives_out_what_its_journal_says(rt: HostRuntime) -> Result<(), Fail> {
     let alloc = rt.alloc();
-    let config = config(alloc).ok_or("memory")?;
+    let config = config(alloc, 2).ok_or("memory")?;
     let mut machine = NetMachine::new(alloc, config, VecShelf::new(alloc));
     let outs = machine
         .apply(Event::OpenSlot { slot: 5 })
         .ok()
         .ok_or("refused")?;
     assert!(rt; outs.is_empty());
+    Ok(())
+}
+
+#[test]
+fn events_are_read_in_place(rt: HostRuntime) -> Result<(), Fail> {
+    let alloc = rt.alloc();
+    let journal = told(alloc).ok_or("memory")?;
+    let bytes = vote(alloc).ok_or("memory")?;
+    assert!(rt; opens_in_place(&journal, 0, 5) && !opens_in_place(&journal, 0, 6));
+    assert!(rt; delivers_in_place(&journal, 1, bytes.as_slice().len() as u64));
+    assert!(rt; journal.event(3).is_none());
+    Ok(())
+}
+
+#[test]
+fn outs_are_appended(rt: HostRuntime) -> Result<(), Fail> {
+    let (given, appended) = append_twice(rt.alloc()).ok_or("memory")?;
+    assert!(rt; given > 0 && given < 10 && appended == 2 * given);
+    Ok(())
+}
+
+#[test]
+fn deliveries_and_new_slices_are_announced(rt: HostRuntime) -> Result<(), Fail> {
+    let journal = told(rt.alloc()).ok_or("memory")?;
+    assert!(rt; journal.announcement(0).is_none() && journal.announcement(3).is_none());
+    assert!(rt; announces(&journal, 1, 2) && announces(&journal, 2, 1));
+    Ok(())
+}
+
+#[test]
+fn slices_hold_at_their_slot(rt: HostRuntime) -> Result<(), Fail> {
+    let alloc = rt.alloc();
+    let journal = told(alloc).ok_or("memory")?;
+    let configured = slices(alloc, 2).ok_or("memory")?;
+    let new = slices(alloc, 3).ok_or("memory")?;
+    assert!(rt; are_slices(journal.slices(&name(1)), &configured));
+    assert!(rt; are_slices(journal.slices_then(&name(1), 5), &new));
+    assert!(rt; are_slices(journal.slices_then(&name(1), 6), &configured));
+    assert!(rt; journal.slices(&name(2)).is_none() && journal.slices_then(&name(3), 5).is_none());
     Ok(())
 }

@@ -1,0 +1,44 @@
+-- The configured slices of a node, by its place among the hosted ones.
+use Rattle.std.proofs.Common.{◌≡◌, ℕ, suc, ◌<◌, ◌==◌, Bool, true, false, length, get_or, List, [], ◌∷◌, slice_get, Option, Some, None, option_map, if◌then◌else◌, refl, ap, ◌∙◌, sym, arith}
+use Rattle.std.proofs.lemmas.Option.{slice_get_read}
+use Rattle.types.specs.Trees.{Slices}
+use Rattle.configuration.specs.Configs.{index_in, index_of_name, names_of}
+use Rattle.protocol.specs.Networks.{Host, slices_of}
+
+pub within : (hosts : List Host) (u k : ℕ) → index_of_name hosts u ≡ Some k → k < length hosts
+within [] u k h = absurd (cc)
+within (x ∷ xs) u k h = go (x.name == u) (index_in (names_of xs) u) (λ j e. within xs u j e) refl h
+  where
+    go : (b : Bool) (o : Option ℕ) → ((j : ℕ) → index_in (names_of xs) u ≡ Some j → j < length xs) → index_in (names_of xs) u ≡ o → (if b then Some 0 else option_map suc o) ≡ Some k → k < suc (length xs)
+    go true o ih e q = let z : 0 ≡ k = cc in omega (arith, z)
+    go false None ih e q = absurd (cc)
+    go false (Some j) ih e q = let z : suc j ≡ k = cc in let l = ih j e in omega (arith, z, l)
+
+-- the slices of the node at a place
+abbrev pub slices_in : Option Host → Option Slices
+slices_in o = option_map (λ h. h.slices) o
+
+pub found : (hosts : List Host) (u k : ℕ) → index_of_name hosts u ≡ Some k → slices_of hosts u ≡ slices_in (slice_get hosts k)
+found [] u k h = absurd (cc)
+found (x ∷ xs) u k h = go (x.name == u) (index_in (names_of xs) u) (λ j e. found xs u j e) refl h
+  where
+    go : (b : Bool) (o : Option ℕ) → ((j : ℕ) → index_in (names_of xs) u ≡ Some j → slices_of xs u ≡ slices_in (slice_get xs j)) → index_in (names_of xs) u ≡ o → (if b then Some 0 else option_map suc o) ≡ Some k
+        → (if b then Some x.slices else slices_of xs u) ≡ slices_in (slice_get (x ∷ xs) k)
+    go true o ih e q = let z : 0 ≡ k = cc in ap (λ n. slices_in (slice_get (x ∷ xs) n)) z
+    go false None ih e q = absurd (cc)
+    go false (Some j) ih e q = let z : suc j ≡ k = cc in ih j e ∙ ap (λ n. slices_in (slice_get (x ∷ xs) n)) z
+
+-- those of the hosted node at the place of a name
+pub stands : (hosts : List Host) (u k : ℕ) (h : Host) (q : Slices) → index_of_name hosts u ≡ Some k → k < length hosts → h ≡ get_or hosts k h → q ≡ h.slices → Some q ≡ slices_of hosts u
+stands hosts u k h q at inside is same =
+    ap (λ (s : Slices). Some s) same ∙ sym (found hosts u k at ∙ ap slices_in (slice_get_read hosts (length hosts) k h refl inside is))
+
+-- a name without a place is not hosted
+pub missing : (hosts : List Host) (u : ℕ) → index_of_name hosts u ≡ None → slices_of hosts u ≡ None
+missing [] u h = refl
+missing (x ∷ xs) u h = go (x.name == u) (index_in (names_of xs) u) (λ e. missing xs u e) refl h
+  where
+    go : (b : Bool) (o : Option ℕ) → (index_in (names_of xs) u ≡ None → slices_of xs u ≡ None) → index_in (names_of xs) u ≡ o → (if b then Some 0 else option_map suc o) ≡ None → (if b then Some x.slices else slices_of xs u) ≡ None
+    go true o ih e q = absurd (cc)
+    go false None ih e q = ih e
+    go false (Some j) ih e q = absurd (cc)

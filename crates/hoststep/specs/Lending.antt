@@ -1,0 +1,36 @@
+-- What is read of a journal in place.
+use Rattle.std.specs.Prelude.{ℕ, slice_get, List, [], Option, Some, None}
+use Rattle.types.specs.Trees.{Slices}
+use Rattle.types.specs.declared.event.Out.{Out}
+use Rattle.protocol.specs.Hosts.{Entry}
+use Rattle.protocol.specs.Networks.{Step}
+use Rattle.protocol.specs.Networks.Reading.{Read}
+use Rattle.protocol.specs.Reslices.{slices_next}
+use Rattle.protocol.specs.Networks.Step.{Opens, Closes, Asks, Delivers, Hears, NominationTimes, BallotTimes, Reslices}
+use Rattle.hoststep.specs.declared.lent_event.LentEvent.{LentEvent}
+use Rattle.hoststep.specs.declared.lent_event.LentEvent.TheVariants.{OpenSlot, CloseSlot, Propose, Deliver, Hear, NominationTimer, BallotTimer, Reslice}
+
+-- the event, in the words of the definitions
+abbrev pub lent_step : LentEvent → Step
+lent_step (OpenSlot i) = Opens i
+lent_step (CloseSlot i) = Closes i
+lent_step (Propose i u x) = Asks i u x.now
+lent_step (Deliver u size e) = Delivers u size (Read e.now)
+lent_step (Hear i u from kind k) = Hears i u from kind k
+lent_step (NominationTimer i u r) = NominationTimes i u r
+lent_step (BallotTimer i u n) = BallotTimes i u n
+lent_step (Reslice i u q) = Reslices i u q.now
+
+-- what an entry gave out; nothing where there is none
+abbrev pub outs_in : Option Entry → List Out
+outs_in None = []
+outs_in (Some x) = x.outs
+
+-- what the entry with this number gave out, from 0 on; nothing past the last
+abbrev pub outs_at : List Entry → ℕ → List Out
+outs_at entries n = outs_in (slice_get entries n)
+
+-- the slices of a node at a slot after one more entry, if there is one
+abbrev pub slices_past : ℕ → ℕ → Slices → Slices → Option Entry → Slices
+slices_past i u configured now None = now
+slices_past i u configured now (Some x) = slices_next i u configured now x.event

@@ -1,0 +1,123 @@
+//! An event of a journal, read in place.
+
+ghost use Rattle.std.specs.Prelude.{◌≡◌};
+ghost use Rattle.hoststep.specs.Keeping.{IsKeptEvent, step_in};
+ghost use Rattle.hoststep.specs.Lending.{lent_step};
+
+use crate::kept::KeptEvent;
+use envstore::Shelf;
+use network::Network;
+use types::{Bytes, Envelope, Kind, Nested, NodeId};
+
+/// An event that a network applied, without a copy of anything: values, envelopes and slices stand where the
+/// network and its journal have them.
+#[derive(Clone, Copy)]
+pub enum LentEvent<'a> {
+    /// The slot was opened.
+    OpenSlot {
+        slot: u64,
+    },
+    /// The slot was closed.
+    CloseSlot {
+        slot: u64,
+    },
+    /// A hosted node was told to propose a value.
+    Propose {
+        slot: u64,
+        node: NodeId,
+        value: &'a Bytes,
+    },
+    /// So many bytes reached a hosted node, the one spelling of the envelope.
+    Deliver {
+        node: NodeId,
+        size: u64,
+        envelope: &'a Envelope,
+    },
+    /// A hosted node heard from another one its emission of a kind with this number, from 1 on since the slot
+    /// was opened.
+    Hear {
+        slot: u64,
+        node: NodeId,
+        from: NodeId,
+        kind: Kind,
+        number: u64,
+    },
+    /// A hosted node's nomination timer of this round fired.
+    NominationTimer {
+        slot: u64,
+        node: NodeId,
+        round: u32,
+    },
+    /// A hosted node's ballot timer for this counter fired.
+    BallotTimer {
+        slot: u64,
+        node: NodeId,
+        counter: u32,
+    },
+    /// From then on, until the slot was closed, these were a hosted node's configured slices there.
+    Reslice {
+        slot: u64,
+        node: NodeId,
+        slices: &'a Nested,
+    },
+}
+
+/// An event as it is kept, read in place. It takes no memory.
+pub(crate) fn lent_event<'a, S: Shelf>(
+    network: &'a Network<S>,
+    event: &'a KeptEvent,
+) -> LentEvent<'a>
+    requires { IsKeptEvent network.now.archive event.now }
+    ensures { lent_step result ≡ step_in event.now }
+{
+    match event {
+        KeptEvent::OpenSlot { slot } => LentEvent::OpenSlot { slot: *slot },
+        KeptEvent::CloseSlot { slot } => LentEvent::CloseSlot { slot: *slot },
+        KeptEvent::Propose { slot, node, value } => LentEvent::Propose {
+            slot: *slot,
+            node: *node,
+            value,
+        },
+        KeptEvent::Deliver {
+            node,
+            size,
+            envelope,
+        } => LentEvent::Deliver {
+            node: *node,
+            size: *size,
+            envelope: network.read(envelope),
+        },
+        KeptEvent::Hear {
+            slot,
+            node,
+            from,
+            kind,
+            number,
+        } => LentEvent::Hear {
+            slot: *slot,
+            node: *node,
+            from: *from,
+            kind: *kind,
+            number: *number,
+        },
+        KeptEvent::NominationTimer { slot, node, round } => LentEvent::NominationTimer {
+            slot: *slot,
+            node: *node,
+            round: *round,
+        },
+        KeptEvent::BallotTimer {
+            slot,
+            node,
+            counter,
+        } => LentEvent::BallotTimer {
+            slot: *slot,
+            node: *node,
+            counter: *counter,
+        },
+        KeptEvent::Reslice { slot, node, slices } => LentEvent::Reslice {
+            slot: *slot,
+            node: *node,
+            slices,
+        },
+    }
+}
