@@ -1,3 +1,5 @@
+pub mod Names
+pub mod Printed
 pub mod Numbers
 pub mod Script
 pub mod Stops

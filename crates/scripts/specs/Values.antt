@@ -1,9 +1,9 @@
 -- The values that words spell, and the words that they are printed as.
-use Rattle.std.specs.Prelude.{ℕ, Bool, ◌||◌, List, [], ◌∷◌, length, ◌==◌, nat_lt, Option, Some, None, Result, Ok, Err, if◌then◌else◌}
+use Rattle.std.specs.Prelude.{◌≡◌, ◌<◌, ◌≤◌, ℕ, Bool, ◌||◌, List, [], ◌∷◌, length, ◌==◌, nat_lt, Option, Some, None, Result, Ok, Err, if◌then◌else◌}
 use Rattle.std.specs.List.{list_all}
 use Rattle.std.specs.Int.{is_in_range}
 use Rattle.std.specs.Char.{is_ascii_alphanumeric}
-use Rattle.hex.specs.Hex.{decode_of, encode_lower}
+use Rattle.hex.specs.Hex.{IsBytes, decode_of, encode_lower}
 use Rattle.hex.specs.declared.error.FromHexError.{FromHexError}
 
 -- letters and digits alone
@@ -38,3 +38,7 @@ word_value (c ∷ rest) = if c == 35 then digits_value rest else if is_plain (c 
 -- letters and digits as they are, else `#` (35) and the digits of the bytes
 abbrev pub text_of_value : List ℕ → List ℕ
 text_of_value v = if is_plain v then v else 35 ∷ encode_lower v
+
+-- each value is what its printed word is read as
+abbrev pub ValuesReadBack : Type 0
+ValuesReadBack = (v : List ℕ) → 0 < length v → length v ≤ 256 → IsBytes v → word_value (text_of_value v) ≡ Some v

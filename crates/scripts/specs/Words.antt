@@ -13,27 +13,6 @@ use Rattle.scripts.specs.Values.{is_plain, text_of_value, word_value}
 abbrev pub cut_at : ℕ → Bytes → Option (Bytes × Bytes)
 cut_at at text = option_map (λ n. (take n text, drop (n + 1) text)) (position (λ b. b == at) text)
 
--- ---- names
-
--- the bytes of a name: four words of 64 bits
-unfoldable pub bytes_of_name : ℕ → Bytes
-bytes_of_name u = to_be_bytes w64 (u / 2 ^ 192) ++ (to_be_bytes w64 (u / 2 ^ 128 % 2 ^ 64) ++ (to_be_bytes w64 (u / 2 ^ 64 % 2 ^ 64) ++ to_be_bytes w64 (u % 2 ^ 64)))
-
--- without the zero bytes at the end
-abbrev pub short : Bytes → Bytes
-short [] = []
-short (b ∷ more) = if (length (short more) == 0) && (b == 0) then [] else b ∷ short more
-
-abbrev pub is_short_name : Bytes → Bool
-is_short_name front = nat_lt 0 (length front) && is_plain front
-
--- the short form where there is one, else hexadecimal digits
-abbrev pub text_of_bytes : Bytes → Bytes
-text_of_bytes bytes = if is_short_name (short bytes) then short bytes else encode_lower bytes
-
-abbrev pub text_of_name : ℕ → Bytes
-text_of_name u = text_of_bytes (bytes_of_name u)
-
 -- ---- numbers and ballots
 
 -- decimal digits, of which the first is no 0 where there are several

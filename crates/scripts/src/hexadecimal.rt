@@ -1,6 +1,7 @@
 //! Bytes as hexadecimal digits.
 
-ghost use Rattle.std.specs.Prelude.{◌≡◌, ◌<◌, ◌++◌, ◌∷◌, [], IsTrue, IfOk, Ok, OnOk, length, slice_index, string_bytes, Some};
+ghost use Rattle.std.specs.Prelude.{◌≡◌, ◌<◌, ◌++◌, ◌∷◌, [], IsTrue, IfOk, Ok, OnOk, length, slice_index, string_bytes, Some, option_map};
+ghost use Rattle.scripts.specs.Names.{digits_bytes, octets_in};
 ghost use Rattle.hex.specs.Hex.{decode_of, encode_lower, lower_digits};
 ghost use Rattle.scripts.specs.Values.{is_lower_hex as lower_hex_test, is_plain};
 
@@ -9,16 +10,28 @@ use std::alloc::{AllocError, Global};
 
 /// The bytes that a word spells: an even number of lower-case hexadecimal digits, or `-` for no
 /// bytes. `None` for any other word.
-pub fn bytes_of(alloc: Global, word: &[u8]) -> Result<Option<Vec<u8>>, AllocError> {
+pub fn bytes_of(alloc: Global, word: &[u8]) -> Result<Option<Vec<u8>>, AllocError>
+    ensures { IfOk result (λ o. option_map (λ v. v.items) o ≡ octets_in word.now) }
+{
     match word {
         [] => Ok(None),
         [b'-'] => Ok(Some(Vec::new(alloc))),
-        _ if !is_lower_hex(word) => Ok(None),
-        _ => match hex::decode(alloc, word) {
-            Ok(bytes) => Ok(Some(bytes)),
-            Err(FromHexError::OutOfMemory) => Err(AllocError),
-            Err(_) => Ok(None),
-        },
+        _ => digits_of(alloc, word),
+    }
+}
+
+/// The bytes that lower-case hexadecimal digits spell, of which there is an even number, or none. `None`
+/// for any other word.
+pub fn digits_of(alloc: Global, digits: &[u8]) -> Result<Option<Vec<u8>>, AllocError>
+    ensures { IfOk result (λ o. option_map (λ v. v.items) o ≡ digits_bytes digits.now) }
+{
+    if !is_lower_hex(digits) {
+        return Ok(None);
+    }
+    match hex::decode(alloc, digits) {
+        Ok(bytes) => Ok(Some(bytes)),
+        Err(FromHexError::OutOfMemory) => Err(AllocError),
+        Err(_) => Ok(None),
     }
 }
 

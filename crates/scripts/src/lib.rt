@@ -21,13 +21,13 @@ mod stream;
 mod tests;
 mod value;
 
-pub use hexadecimal::bytes_of;
+pub use hexadecimal::{bytes_of, digits_of};
 pub use input::{LONGEST_SCRIPT, ReadError, read_whole};
-pub use name::{name_of, push_name};
+pub use name::{name_of, names_read_back, push_name};
 pub use number::{counter_of, number_of};
 pub use run::{LineRunner, Stop, run_script};
 pub use script::{Line, LineError, Lines, fields_of};
 pub use slices::{push_slices, slices_of};
 pub use statement::{push_statement, statement_of};
 pub use stream::run_stream;
-pub use value::{ballot_of, push_ballot, push_value, value_of};
+pub use value::{ballot_of, push_ballot, push_value, value_of, values_read_back};

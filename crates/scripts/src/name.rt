@@ -1,6 +1,8 @@
 //! Names of nodes.
 
-ghost use Rattle.std.specs.Prelude.{◌≤◌};
+ghost use Rattle.std.specs.Prelude.{◌≡◌, ◌≤◌, ◌++◌, ◌-◌, ◌+◌, OnOk, length, take, drop, string_bytes, option_map, replicate};
+ghost use Rattle.std.specs.Int.{w64, from_be_bytes};
+ghost use Rattle.scripts.specs.Names.{bytes_of_name, name_of_bytes, short, text_of_bytes, text_of_name, digits_bytes, padded, word_bytes, word_name, NamesReadBack};
 
 use crate::hexadecimal::{is_lower_hex, push_hex, push_plain};
 use crate::splitting::is_plain;
@@ -9,44 +11,111 @@ use types::NodeId;
 
 /// The name that a word spells: one to 32 ASCII letters or digits stand for those bytes with zero
 /// bytes after them, and 64 lower-case hexadecimal digits for any 32 bytes. `None` for any other word.
-pub fn name_of(word: &[u8]) -> Option<NodeId> {
-    let mut bytes = [0u8; 32];
-    if word.len() == 64 && is_lower_hex(word) {
-        hex::decode_to_slice(word, &mut bytes).ok()?;
-    } else if !word.is_empty() && word.len() <= 32 && is_plain(word) {
-        bytes[..word.len()].copy_from_slice(word);
-    } else {
-        return None;
+pub fn name_of(word: &[u8]) -> Option<NodeId>
+    ensures { result ≡ word_name word.now }
+{
+    match bytes_of_word(word) {
+        Some(bytes) => Some(name_in(&bytes)),
+        None => None,
     }
-    let word_at = |from: usize| u64::from_be_bytes(eight_at(&bytes, from));
-    Some(NodeId::from_words(word_at(0), word_at(8), word_at(16), word_at(24)))
 }
 
-fn eight_at(bytes: &[u8; 32], from: usize) -> [u8; 8]
+// The bytes of the name that a word spells.
+fn bytes_of_word(word: &[u8]) -> Option<[u8; 32]>
+    ensures { result ≡ word_bytes word.now }
+{
+    if word.len() == 64 {
+        return bytes_of_digits(word);
+    }
+    if word.is_empty() || word.len() > 32 || !is_plain(word) {
+        return None;
+    }
+    Some(with_zeros(word))
+}
+
+// The bytes that 64 lower-case hexadecimal digits spell.
+fn bytes_of_digits(digits: &[u8]) -> Option<[u8; 32]>
+    requires { length digits.now ≡ 64 }
+    ensures { result ≡ digits_bytes digits.now }
+{
+    if !is_lower_hex(digits) {
+        return None;
+    }
+    let mut bytes = [0u8; 32];
+    match hex::decode_to_slice(digits, &mut bytes) {
+        Ok(()) => Some(bytes),
+        Err(_) => None,
+    }
+}
+
+// The bytes, and zero bytes after them.
+fn with_zeros(front: &[u8]) -> [u8; 32]
+    requires { length front.now ≤ 32 }
+    ensures { result ≡ padded front.now }
+{
+    let mut bytes = [0u8; 32];
+    bytes[..front.len()].copy_from_slice(front);
+    bytes
+}
+
+// The name of 32 bytes.
+#[tactic(auto, unfolding(crate::specs::Names::name_of_bytes))]
+fn name_in(bytes: &[u8; 32]) -> NodeId
+    ensures { result ≡ name_of_bytes bytes.now }
+{
+    let first = word_at(bytes, 0);
+    let second = word_at(bytes, 8);
+    let third = word_at(bytes, 16);
+    let fourth = word_at(bytes, 24);
+    NodeId::from_words(first, second, third, fourth)
+}
+
+// The number of the eight bytes from a place on.
+fn word_at(bytes: &[u8; 32], from: usize) -> u64
     requires { from ≤ 24 }
+    ensures { result ≡ from_be_bytes w64 (take 8 (drop from bytes.now)) }
 {
     let mut word = [0u8; 8];
     word.copy_from_slice(&bytes[from..from + 8]);
-    word
+    u64::from_be_bytes(word)
 }
 
 /// Adds the name: in the short form where it has one, else in hexadecimal. Where memory is wanting,
 /// a part may have been added.
-pub fn push_name(text: &mut String, name: &NodeId) -> Result<(), AllocError> {
-    let bytes = bytes_in(name);
-    let length = bytes
-        .iter()
-        .rposition(|byte| *byte != 0)
-        .map_or(0, |last| last + 1);
-    let front = &bytes[..length];
-    if length > 0 && is_plain(front) {
+pub fn push_name(text: &mut String, name: &NodeId) -> Result<(), AllocError>
+    ensures { OnOk result (string_bytes text.new ≡ string_bytes text.old ++ text_of_name name.now) }
+{
+    push_bytes(text, &bytes_in(name))
+}
+
+// Adds the bytes of a name: those before the last zero bytes where these are letters and digits, else all of
+// them in hexadecimal.
+fn push_bytes(text: &mut String, bytes: &[u8; 32]) -> Result<(), AllocError>
+    ensures { OnOk result (string_bytes text.new ≡ string_bytes text.old ++ text_of_bytes bytes.now) }
+{
+    let front = without_zeros(bytes);
+    if !front.is_empty() && is_plain(front) {
         push_plain(text, front)
     } else {
-        push_hex(text, &bytes)
+        push_hex(text, bytes)
     }
 }
 
-fn bytes_in(name: &NodeId) -> [u8; 32] {
+// The bytes before the zero bytes at the end.
+#[tactic(auto, using(crate::proofs::NameLaws::short_front, crate::proofs::NameLaws::short_all))]
+fn without_zeros(bytes: &[u8]) -> &[u8]
+    ensures { result.now ≡ short bytes.now }
+{
+    match bytes {
+        [rest @ .., 0] => without_zeros(rest),
+        _ => bytes,
+    }
+}
+
+// The 32 bytes of a name.
+fn bytes_in(name: &NodeId) -> [u8; 32]
+    ensures { result ≡ bytes_of_name name.now }
+{
     let (first, second, third, fourth) = name.words();
     let mut bytes = [0u8; 32];
     bytes[..8].copy_from_slice(&first.to_be_bytes());
@@ -55,3 +124,9 @@ fn bytes_in(name: &NodeId) -> [u8; 32] {
     bytes[24..].copy_from_slice(&fourth.to_be_bytes());
     bytes
 }
+
+/// A law: a name is read back from the word that it is printed as.
+#[tactic(auto, using(crate::proofs::NamesRead::names_read_back))]
+pub fn names_read_back()
+    ensures { NamesReadBack }
+{}

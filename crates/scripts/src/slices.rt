@@ -1,6 +1,7 @@
 //! Slices.
 
-ghost use Rattle.std.specs.Prelude.{◌≤◌, length, IfOk, IfSome};
+ghost use Rattle.std.specs.Prelude.{◌≡◌, ◌≤◌, ◌++◌, length, IfOk, IfSome, OnOk, string_bytes};
+ghost use Rattle.scripts.specs.Printed.{comma, text_of_slices};
 
 use crate::name::{name_of, push_name};
 use crate::number::number_of;
@@ -79,19 +80,23 @@ fn member_at(
 }
 
 /// Adds the slices. Where memory is wanting, a part may have been added.
-pub fn push_slices(text: &mut String, slices: &Nested) -> Result<(), AllocError> {
+pub fn push_slices(text: &mut String, slices: &Nested) -> Result<(), AllocError>
+    ensures { OnOk result (string_bytes text.new ≡ string_bytes text.old ++ text_of_slices slices.now) }
+{
     push_set(text, slices.set())
 }
 
-fn push_set(text: &mut String, set: &SliceSet) -> Result<(), AllocError> {
+// Adds a set: its threshold, and its members in brackets.
+#[tactic(auto, using(crate::proofs::SliceLaws::node_pushed, crate::proofs::SliceLaws::set_pushed, crate::proofs::SliceLaws::set_ended))]
+fn push_set(text: &mut String, set: &SliceSet) -> Result<(), AllocError>
+    ensures { OnOk result (string_bytes text.new ≡ string_bytes text.old ++ text_of_slices set.now) }
+{
     let threshold = set.threshold();
     write!(text, "{threshold}[")?;
     let members = set.members();
     let mut first = true;
     for member in members {
-        if !first {
-            text.push(',')?;
-        }
+        push_comma(text, first)?;
         first = false;
         match member {
             Member::Node(name) => push_name(text, name)?,
@@ -99,4 +104,14 @@ fn push_set(text: &mut String, set: &SliceSet) -> Result<(), AllocError> {
         }
     }
     text.push(']')
+}
+
+// Adds a comma, but not before the first member.
+fn push_comma(text: &mut String, first: bool) -> Result<(), AllocError>
+    ensures { OnOk result (string_bytes text.new ≡ string_bytes text.old ++ comma first) }
+{
+    match first {
+        true => Ok(()),
+        false => text.push(','),
+    }
 }

@@ -1,10 +1,14 @@
 //! Statements.
 
+ghost use Rattle.std.specs.Prelude.{◌≡◌, ◌++◌, OnOk, string_bytes};
+ghost use Rattle.std.specs.List.{flat_map};
+ghost use Rattle.scripts.specs.Printed.{behind_comma, behind_plus, fields_of_statement, kind_text, text_of_optional, text_of_statement, text_of_values};
+
 use crate::number::counter_of;
 use crate::splitting::split_once;
 use crate::value::{ballot_of, push_ballot, push_value, value_of};
 use std::alloc::{AllocError, Global};
-use types::{Ballot, Statement, Values};
+use types::{Ballot, Statement, Value, Values};
 
 /// The statement that a word spells. `None` for any other word.
 ///
@@ -136,13 +140,35 @@ fn externalize_fields(fields: &[u8]) -> Option<(&[u8], u32)> {
 }
 
 /// Adds the statement. Where memory is wanting, a part may have been added.
-pub fn push_statement(text: &mut String, statement: &Statement) -> Result<(), AllocError> {
+pub fn push_statement(text: &mut String, statement: &Statement) -> Result<(), AllocError>
+    ensures { OnOk result (string_bytes text.new ≡ string_bytes text.old ++ text_of_statement statement.now) }
+{
+    push_kind(text, statement)?;
+    push_fields(text, statement)?;
+    text.push(')')
+}
+
+// Adds the word of a statement's kind, with the bracket behind it.
+fn push_kind(text: &mut String, statement: &Statement) -> Result<(), AllocError>
+    ensures { OnOk result (string_bytes text.new ≡ string_bytes text.old ++ kind_text statement.now) }
+{
+    match statement {
+        Statement::Nominate { .. } => text.push_str("nom("),
+        Statement::Prepare { .. } => text.push_str("prep("),
+        Statement::Commit { .. } => text.push_str("comm("),
+        Statement::Externalize { .. } => text.push_str("ext("),
+    }
+}
+
+// Adds the fields of a statement.
+fn push_fields(text: &mut String, statement: &Statement) -> Result<(), AllocError>
+    ensures { OnOk result (string_bytes text.new ≡ string_bytes text.old ++ fields_of_statement statement.now) }
+{
     match statement {
         Statement::Nominate { voted, accepted } => {
-            text.push_str("nom(")?;
             push_values(text, voted)?;
             text.push('|')?;
-            push_values(text, accepted)?;
+            push_values(text, accepted)
         }
         Statement::Prepare {
             ballot,
@@ -151,11 +177,10 @@ pub fn push_statement(text: &mut String, statement: &Statement) -> Result<(), Al
             high_counter,
             commit_counter,
         } => {
-            text.push_str("prep(")?;
             push_ballot(text, ballot)?;
             text.push(',')?;
             push_optional(text, prepared)?;
-            write!(text, ",{aborted_counter},{high_counter},{commit_counter}")?;
+            push_counters(text, *aborted_counter, *high_counter, *commit_counter)
         }
         Statement::Commit {
             ballot,
@@ -163,35 +188,63 @@ pub fn push_statement(text: &mut String, statement: &Statement) -> Result<(), Al
             high_counter,
             commit_counter,
         } => {
-            text.push_str("comm(")?;
             push_ballot(text, ballot)?;
-            write!(text, ",{prepared_counter},{high_counter},{commit_counter}")?;
+            push_counters(text, *prepared_counter, *high_counter, *commit_counter)
         }
         Statement::Externalize {
             commit,
             high_counter,
         } => {
-            text.push_str("ext(")?;
             push_ballot(text, commit)?;
-            write!(text, ",{high_counter}")?;
+            push_counter(text, *high_counter)
         }
     }
-    text.push(')')
 }
 
-fn push_values(text: &mut String, values: &Values) -> Result<(), AllocError> {
-    let mut first = true;
-    for value in values.as_slice() {
-        if !first {
-            text.push('+')?;
+// Adds three counters, each behind a comma.
+fn push_counters(text: &mut String, first: u32, second: u32, third: u32) -> Result<(), AllocError>
+    ensures { OnOk result (string_bytes text.new ≡ string_bytes text.old ++ (behind_comma first ++ (behind_comma second ++ behind_comma third))) }
+{
+    push_counter(text, first)?;
+    push_counter(text, second)?;
+    push_counter(text, third)
+}
+
+// Adds a counter behind a comma.
+fn push_counter(text: &mut String, counter: u32) -> Result<(), AllocError>
+    ensures { OnOk result (string_bytes text.new ≡ string_bytes text.old ++ behind_comma counter) }
+{
+    write!(text, ",{counter}")
+}
+
+// Adds the values, with a `+` between each and the next.
+fn push_values(text: &mut String, values: &Values) -> Result<(), AllocError>
+    ensures { OnOk result (string_bytes text.new ≡ string_bytes text.old ++ text_of_values values.now) }
+{
+    match values.as_slice() {
+        [] => Ok(()),
+        [first, rest @ ..] => {
+            push_value(text, first)?;
+            push_more_values(text, rest)
         }
-        first = false;
+    }
+}
+
+// Adds the values, each behind a `+`.
+fn push_more_values(text: &mut String, values: &[Value]) -> Result<(), AllocError>
+    ensures { OnOk result (string_bytes text.new ≡ string_bytes text.old ++ flat_map behind_plus values.now) }
+{
+    for value in values {
+        text.push('+')?;
         push_value(text, value)?;
     }
     Ok(())
 }
 
-fn push_optional(text: &mut String, ballot: &Option<Ballot>) -> Result<(), AllocError> {
+// Adds a ballot, or `-` where there is none.
+fn push_optional(text: &mut String, ballot: &Option<Ballot>) -> Result<(), AllocError>
+    ensures { OnOk result (string_bytes text.new ≡ string_bytes text.old ++ text_of_optional ballot.now) }
+{
     match ballot {
         None => text.push('-'),
         Some(ballot) => push_ballot(text, ballot),

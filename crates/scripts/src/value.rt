@@ -1,7 +1,7 @@
 //! Values and ballots.
 
 ghost use Rattle.std.specs.Prelude.{◌≡◌, ◌++◌, Ok, None, IfOk, OnOk, option_map, string_bytes};
-ghost use Rattle.scripts.specs.Values.{digits_value, text_of_value, value_in as bytes_value, word_value};
+ghost use Rattle.scripts.specs.Values.{ValuesReadBack, digits_value, text_of_value, value_in as bytes_value, word_value};
 ghost use Rattle.scripts.specs.Words.{counted, cut_at, text_of_ballot, with_counter as counter_before, word_ballot};
 
 use crate::hexadecimal::{is_lower_hex, push_hex, push_plain};
@@ -109,3 +109,9 @@ pub fn push_ballot(text: &mut String, ballot: &Ballot) -> Result<(), AllocError>
     write!(text, "{counter}:")?;
     push_value(text, &ballot.value)
 }
+
+/// A law: a value is read back from the word that it is printed as.
+#[tactic(auto, using(crate::proofs::ValuesRead::values_read_back))]
+pub fn values_read_back()
+    ensures { ValuesReadBack }
+{}
