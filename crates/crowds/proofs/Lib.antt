@@ -1,0 +1,6 @@
+mod SameSteps
+mod LeastNames
+mod RosterSets
+mod MarkedSteps
+mod RunsOf
+mod Judging

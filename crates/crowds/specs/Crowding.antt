@@ -1,0 +1,36 @@
+-- What the code answers, as the definitions have it, and the theorem that each comparison carries.
+use Rattle.std.specs.Prelude.{◌≡◌, ℕ, is_some, IsTrue}
+use Rattle.protocol.specs.Sets.{among, AreWithin}
+use Rattle.protocol.specs.Networks.{slices_of}
+use Rattle.protocol.specs.Hosts.{History, hosts_of, entries}
+use Rattle.protocol.specs.Isolation.{closure, outs_of, SameCast}
+use Rattle.protocol.specs.Submissions.{answers, concerned, replied_to, config_of, SameReserves, roster_names}
+use Rattle.protocol.specs.Crowds.{Crowd, IsCrowd}
+use Rattle.protocol.specs.Crowds.Crowd.{CastDiffers, RosterDiffers, OutsideRoster, InputsDiffer, Same}
+use Rattle.network.specs.Decoding.{reading}
+use Rattle.crowds.specs.declared.verdict.Crowd.{Crowd as Told}
+use Rattle.crowds.specs.declared.verdict.Crowd.TheVariants as told
+
+abbrev pub meant : Told → Crowd
+meant (told.CastDiffers u) = CastDiffers u
+meant told.RosterDiffers = RosterDiffers
+meant (told.OutsideRoster u) = OutsideRoster u
+meant (told.InputsDiffer place) = InputsDiffer place
+meant (told.Same replies) = Same replies
+
+-- it is the verdict of two submissions, read by this host's decoder
+abbrev pub IsCrowdHere : History → History → ℕ → ℕ → ℕ → Told → Type 0
+IsCrowdHere one other g i v c = IsCrowd reading one other g i v (meant c)
+
+-- Reserved shares, of these two submissions and this host's decoder: if the closure of v in the first has the same hosted members in both,
+-- both networks have one roster with equal shares and equal budgets of open slots, the closure lies in the roster, and the submitted steps
+-- that concern it are the same in order, then so are their replies, refusals included, and each hosted member gives out the same in both.
+abbrev pub AreNeverCrowdedOut : History → History → ℕ → ℕ → ℕ → Type 0
+AreNeverCrowdedOut one other g i v =
+    let R = closure (hosts_of one.configs g) i v (entries reading one g) in
+    SameCast R v (hosts_of one.configs g) (hosts_of other.configs g)
+    → SameReserves (config_of one.configs g) (config_of other.configs g)
+    → AreWithin R (among (roster_names (config_of one.configs g)))
+    → concerned R i (answers reading one g) ≡ concerned R i (answers reading other g)
+    → (replied_to R i (answers reading one g) ≡ replied_to R i (answers reading other g))
+    × ((u : ℕ) → IsTrue (R u) → IsTrue (is_some (slices_of (hosts_of one.configs g) u)) → outs_of i u (entries reading one g) ≡ outs_of i u (entries reading other g))

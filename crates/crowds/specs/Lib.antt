@@ -1,0 +1,4 @@
+pub mod Submitted
+pub mod Least
+pub mod Replies
+pub mod Crowding

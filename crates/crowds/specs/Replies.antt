@@ -1,0 +1,19 @@
+-- Replies of a network, as the definitions have them.
+use Rattle.std.specs.Prelude.{◌≡◌, [], ◌++◌}
+use Rattle.protocol.specs.Hosts.{entered}
+use Rattle.protocol.specs.Networks.{Step, Reply, net_step}
+use Rattle.protocol.specs.Networks.Reply.{Done, Refused}
+use Rattle.protocol.specs.Runs.{state_of}
+use Rattle.hoststep.specs.Logs.{Log}
+use Rattle.crowds.specs.declared.reply.Reply.{Reply as Answered}
+use Rattle.crowds.specs.declared.reply.Reply.TheVariants as answers
+
+abbrev pub reply_of : Answered → Reply
+reply_of (answers.Done outs) = Done outs.items
+reply_of (answers.Refused r) = Refused r
+
+-- a journal and its reply after one more event
+pub record IsAnswer (old : Log) (e : Step) (r : Reply) (new : Log) : Type 0 where
+  pub config : new.config ≡ old.config
+  pub reply : r ≡ (net_step (state_of old.config old.entries) e).1
+  pub entries : new.entries ≡ old.entries ++ entered e r []

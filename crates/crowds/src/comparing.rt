@@ -1,0 +1,105 @@
+//! Comparing two submissions.
+
+ghost use Rattle.std.specs.Prelude.{◌≡◌, ℕ, IfOk, IsTrue, is_some};
+ghost use Rattle.protocol.specs.Hosts.{entries, hosts_of};
+ghost use Rattle.protocol.specs.Isolation.{closure};
+ghost use Rattle.protocol.specs.Networks.{slices_of};
+ghost use Rattle.protocol.specs.Sets.{among};
+ghost use Rattle.closure.specs.Announcing.{names_of};
+ghost use Rattle.network.specs.Decoding.{reading};
+ghost use Rattle.crowds.specs.Crowding.{AreNeverCrowdedOut, IsCrowdHere};
+
+use crate::cast::{least_unlike, slices_among};
+use crate::inputs::first_difference;
+use crate::marks::marks;
+use crate::replay::{replay, replies_to};
+use crate::reply::Replies;
+use crate::rosters::{has_same_reserves, least_outside};
+use crate::submission::Submission;
+use crate::verdict::Crowd;
+use closure::{ClosureList, closure};
+use protocol::members_are_never_crowded_out;
+use std::alloc::{AllocError, Global};
+use types::NodeId;
+
+/// Compares what was submitted to a network in two submissions, by the closure of a node at a slot in the run
+/// of the first, and answers the replies where all that is reserved and all that concerns the closure are the
+/// same (this host's profile). A submission that does not declare the network hosts nobody there.
+///
+/// Whatever is answered, want of memory included: where both networks host the members of the closure alike,
+/// have one roster with equal shares and equal budgets of open slots, the closure lies in the roster, and the
+/// submitted steps that concern it are the same in order, their replies are the same, refusals included, and
+/// so is what each hosted member gives out. There is no answer for a member that is crowded out.
+///
+/// An error says that memory was short, in an event or beside one.
+pub fn crowd(
+    alloc: Global,
+    one: &Submission,
+    other: &Submission,
+    net: u32,
+    slot: u64,
+    node: &NodeId,
+) -> Result<Crowd, AllocError>
+    ensures verdict { IfOk result (IsCrowdHere one.now other.now net slot node.now) }
+    ensures never_crowded_out { AreNeverCrowdedOut one.now other.now net slot node.now }
+{
+    are_never_crowded_out(one, other, net, slot, node);
+    let Some(config) = one.config(net) else {
+        return Ok(Crowd::CastDiffers(*node));
+    };
+    if slices_among(one.hosts(net), node).is_none() {
+        return Ok(Crowd::CastDiffers(*node));
+    }
+    let journal = replay(alloc, one, config, net)?;
+    let members = closure(alloc, &journal, slot, node)?;
+    crowd_among(alloc, one, other, net, slot, node, &members)
+}
+
+/// The same, where the first network hosts the node, by the members of its closure.
+fn crowd_among(
+    alloc: Global,
+    one: &Submission,
+    other: &Submission,
+    net: u32,
+    slot: u64,
+    node: &NodeId,
+    members: &ClosureList,
+) -> Result<Crowd, AllocError>
+    requires hosted { IsTrue (is_some (slices_of (hosts_of one.now.configs net) node.now)) }
+    requires members { (u : ℕ) → among (names_of members.now) u ≡ closure (hosts_of one.now.configs net) slot node.now (entries reading one.now net) u }
+    ensures { IfOk result (IsCrowdHere one.now other.now net slot node.now) }
+{
+    are_never_crowded_out(one, other, net, slot, node);
+    if let Some(name) = least_unlike(one.hosts(net), other.hosts(net), members) {
+        return Ok(Crowd::CastDiffers(name));
+    }
+    let Some(config) = one.config(net) else {
+        return Ok(Crowd::RosterDiffers);
+    };
+    let Some(counterpart) = other.config(net) else {
+        return Ok(Crowd::RosterDiffers);
+    };
+    if !has_same_reserves(config, counterpart) {
+        return Ok(Crowd::RosterDiffers);
+    }
+    let Some(roster) = config.roster() else {
+        return Ok(Crowd::RosterDiffers);
+    };
+    if let Some(name) = least_outside(members, roster) {
+        return Ok(Crowd::OutsideRoster(name));
+    }
+    let one_marks = marks(alloc, one.calls(), net, members, slot)?;
+    let other_marks = marks(alloc, other.calls(), net, members, slot)?;
+    if let Some(place) = first_difference(one.calls(), &one_marks, other.calls(), &other_marks) {
+        return Ok(Crowd::InputsDiffer(place));
+    }
+    let replies = replies_to(alloc, other, counterpart, net, &other_marks)?;
+    Ok(Crowd::Same(Replies::of(replies)))
+}
+
+/// Nobody crowds out the members of a closure that the roster holds.
+fn are_never_crowded_out(one: &Submission, other: &Submission, net: u32, slot: u64, node: &NodeId)
+    ensures { AreNeverCrowdedOut one.now other.now net slot node.now }
+{
+    members_are_never_crowded_out();
+}

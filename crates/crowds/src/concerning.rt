@@ -1,0 +1,71 @@
+//! Which submitted events concern the members of a closure.
+
+ghost use Rattle.std.specs.Prelude.{◌≡◌, ℕ, IfOk};
+ghost use Rattle.protocol.specs.Networks.Step.{Delivers};
+ghost use Rattle.protocol.specs.Sets.{among};
+ghost use Rattle.protocol.specs.Submissions.{concerns};
+ghost use Rattle.closure.specs.Announcing.{names_of};
+ghost use Rattle.network.specs.Decoding.{reading, step_of};
+ghost use Rattle.crowds.specs.Submitted.{IsReadAs};
+
+use closure::ClosureList;
+use codec::{CodecError, decode};
+use std::alloc::{AllocError, Global};
+use types::{Bytes, Envelope, Event, NodeId};
+
+/// Whether an event concerns the members at the slot, applied or refused: it opens or closes a slot, it
+/// happens to a member, or a member gets it from a member. An error says that memory is short.
+pub(crate) fn concerns(
+    alloc: Global,
+    event: &Event,
+    members: &ClosureList,
+    slot: u64,
+) -> Result<bool, AllocError>
+    ensures { IfOk result (λ b. b ≡ concerns (among (names_of members.now)) slot (step_of event.now)) }
+{
+    match event {
+        Event::OpenSlot { .. } => Ok(true),
+        Event::CloseSlot { .. } => Ok(true),
+        Event::Propose { slot: at, node, .. } => Ok(*at == slot && members.has(node)),
+        Event::Deliver { node, bytes } => is_between_members(alloc, node, bytes, members, slot),
+        Event::Hear {
+            slot: at,
+            node,
+            from,
+            ..
+        } => Ok(*at == slot && members.has(node) && members.has(from)),
+        Event::NominationTimer { slot: at, node, .. } => Ok(*at == slot && members.has(node)),
+        Event::BallotTimer { slot: at, node, .. } => Ok(*at == slot && members.has(node)),
+        Event::Reslice { slot: at, node, .. } => Ok(*at == slot && members.has(node)),
+    }
+}
+
+/// Whether the bytes are an envelope of the slot, delivered to a member from a member.
+fn is_between_members(
+    alloc: Global,
+    node: &NodeId,
+    bytes: &Bytes,
+    members: &ClosureList,
+    slot: u64,
+) -> Result<bool, AllocError>
+    ensures { (size : ℕ) → IfOk result (λ b. b ≡ concerns (among (names_of members.now)) slot (Delivers node.now size (reading bytes.now))) }
+{
+    if !members.has(node) {
+        return Ok(false);
+    }
+    match envelope_of(alloc, bytes.as_slice())? {
+        None => Ok(false),
+        Some(envelope) => Ok(envelope.slot() == slot && members.has(envelope.sender())),
+    }
+}
+
+/// The envelope that the bytes spell, where they spell one. An error says that memory is short.
+fn envelope_of(alloc: Global, bytes: &[u8]) -> Result<Option<Envelope>, AllocError>
+    ensures { IfOk result (IsReadAs (reading bytes.now)) }
+{
+    match decode(alloc, bytes) {
+        Ok(envelope) => Ok(Some(envelope)),
+        Err(CodecError::NoMemory) => Err(AllocError),
+        Err(CodecError::Fault(_)) => Ok(None),
+    }
+}

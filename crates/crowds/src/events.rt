@@ -1,0 +1,174 @@
+//! Which submitted events are the same steps.
+
+ghost use Rattle.std.specs.Prelude.{◌≡◌, ◌↔◌, IsTrue};
+ghost use Rattle.codec.specs.Steps.{IsBytes};
+ghost use Rattle.types.specs.declared.event.Event.TheVariants.{BallotTimer, CloseSlot, Deliver, Hear, NominationTimer, OpenSlot, Propose, Reslice};
+ghost use Rattle.network.specs.Decoding.{step_of};
+ghost use Rattle.crowds.specs.Submitted.{HasBytes, IsReadable};
+
+use types::{Bytes, Event, Kind, Nested, NodeId};
+
+/// Whether two events are the same step of a network, the first of which is no delivery of bytes that are no
+/// envelope. Deliveries are compared by their bytes, since an envelope has one spelling.
+pub(crate) fn is_same_step(one: &Event, other: &Event) -> bool
+    ensures same { IsTrue result → step_of one.now ≡ step_of other.now }
+    ensures alike { IsReadable (step_of one.now) → step_of one.now ≡ step_of other.now → IsTrue result }
+{
+    has_bytes(one);
+    has_bytes(other);
+    is_same_event(one, other)
+}
+
+/// What is delivered are bytes.
+fn has_bytes(event: &Event)
+    ensures { HasBytes event.now }
+{
+    match event {
+        Event::Deliver { bytes, .. } => are_bytes(bytes.as_slice()),
+        _ => (),
+    }
+}
+
+fn are_bytes(bytes: &[u8])
+    ensures { IsBytes bytes.now }
+{
+    let _count = bytes.len();
+}
+
+/// Whether two events are the same.
+fn is_same_event(one: &Event, other: &Event) -> bool
+    ensures { IsTrue result ↔ one.now ≡ other.now }
+{
+    match one {
+        Event::OpenSlot { slot } => is_opening(other, *slot),
+        Event::CloseSlot { slot } => is_closing(other, *slot),
+        Event::Propose { slot, node, value } => is_proposal(other, *slot, node, value),
+        Event::Deliver { node, bytes } => is_delivery(other, node, bytes),
+        Event::Hear {
+            slot,
+            node,
+            from,
+            kind,
+            number,
+        } => is_hearing(other, *slot, node, from, *kind, *number),
+        Event::NominationTimer { slot, node, round } => {
+            is_nomination_timer(other, *slot, node, *round)
+        }
+        Event::BallotTimer {
+            slot,
+            node,
+            counter,
+        } => is_ballot_timer(other, *slot, node, *counter),
+        Event::Reslice { slot, node, slices } => is_change_of_slices(other, *slot, node, slices),
+    }
+}
+
+fn is_opening(event: &Event, sought: u64) -> bool
+    ensures { IsTrue result ↔ OpenSlot sought ≡ event.now }
+{
+    match event {
+        Event::OpenSlot { slot } => sought == *slot,
+        _ => false,
+    }
+}
+
+fn is_closing(event: &Event, sought: u64) -> bool
+    ensures { IsTrue result ↔ CloseSlot sought ≡ event.now }
+{
+    match event {
+        Event::CloseSlot { slot } => sought == *slot,
+        _ => false,
+    }
+}
+
+fn is_proposal(event: &Event, sought: u64, sought_node: &NodeId, sought_value: &Bytes) -> bool
+    ensures { IsTrue result ↔ Propose sought sought_node.now sought_value.now ≡ event.now }
+{
+    match event {
+        Event::Propose { slot, node, value } => {
+            sought == *slot
+                && sought_node.is_same(node)
+                && sought_value.as_slice() == value.as_slice()
+        }
+        _ => false,
+    }
+}
+
+fn is_delivery(event: &Event, sought_node: &NodeId, sought_bytes: &Bytes) -> bool
+    ensures { IsTrue result ↔ Deliver sought_node.now sought_bytes.now ≡ event.now }
+{
+    match event {
+        Event::Deliver { node, bytes } => {
+            sought_node.is_same(node) && sought_bytes.as_slice() == bytes.as_slice()
+        }
+        _ => false,
+    }
+}
+
+fn is_hearing(
+    event: &Event,
+    sought: u64,
+    sought_node: &NodeId,
+    sought_from: &NodeId,
+    sought_kind: Kind,
+    sought_number: u64,
+) -> bool
+    ensures { IsTrue result ↔ Hear sought sought_node.now sought_from.now sought_kind sought_number ≡ event.now }
+{
+    match event {
+        Event::Hear {
+            slot,
+            node,
+            from,
+            kind,
+            number,
+        } => {
+            sought == *slot
+                && sought_node.is_same(node)
+                && sought_from.is_same(from)
+                && sought_kind == *kind
+                && sought_number == *number
+        }
+        _ => false,
+    }
+}
+
+fn is_nomination_timer(event: &Event, sought: u64, sought_node: &NodeId, sought_round: u32) -> bool
+    ensures { IsTrue result ↔ NominationTimer sought sought_node.now sought_round ≡ event.now }
+{
+    match event {
+        Event::NominationTimer { slot, node, round } => {
+            sought == *slot && sought_node.is_same(node) && sought_round == *round
+        }
+        _ => false,
+    }
+}
+
+fn is_ballot_timer(event: &Event, sought: u64, sought_node: &NodeId, sought_counter: u32) -> bool
+    ensures { IsTrue result ↔ BallotTimer sought sought_node.now sought_counter ≡ event.now }
+{
+    match event {
+        Event::BallotTimer {
+            slot,
+            node,
+            counter,
+        } => sought == *slot && sought_node.is_same(node) && sought_counter == *counter,
+        _ => false,
+    }
+}
+
+fn is_change_of_slices(
+    event: &Event,
+    sought: u64,
+    sought_node: &NodeId,
+    sought_slices: &Nested,
+) -> bool
+    ensures { IsTrue result ↔ Reslice sought sought_node.now sought_slices.now ≡ event.now }
+{
+    match event {
+        Event::Reslice { slot, node, slices } => {
+            sought == *slot && sought_node.is_same(node) && sought_slices.is_same(slices)
+        }
+        _ => false,
+    }
+}

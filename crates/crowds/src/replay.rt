@@ -1,0 +1,123 @@
+//! The run of one network, to which all that was submitted happens.
+
+ghost use Rattle.std.specs.Prelude.{◌≡◌, ◌≢◌, ◌↔◌, ◌<◌, ◌++◌, ◌∷◌, [], ℕ, IfOk, OnOk, Some, IsTrue, if◌then◌else◌, length, map, slice_get};
+ghost use Rattle.protocol.specs.Hosts.{entries};
+ghost use Rattle.protocol.specs.Networks.Reply.{Refused};
+ghost use Rattle.protocol.specs.Sets.{Names};
+ghost use Rattle.types.specs.declared.event.Refusal.TheVariants.{NoMemory};
+ghost use Rattle.protocol.specs.Submissions.{answers, config_of, replied_to};
+ghost use Rattle.network.specs.Decoding.{reading, step_of};
+ghost use Rattle.crowds.specs.Replies.{IsAnswer, reply_of};
+ghost use Rattle.crowds.specs.Submitted.{is_asked};
+
+use crate::reply::Reply;
+use crate::submission::Submission;
+use configuration::NetConfig;
+use envstore::VecShelf;
+use hoststep::Journal;
+use std::alloc::{AllocError, Global};
+use types::{Event, Refusal};
+
+/// The journal of a network after all that was submitted to it. Networks know nothing of one another, so no
+/// other is run. An error says that memory was short, in an event or beside one.
+pub(crate) fn replay(
+    alloc: Global,
+    submission: &Submission,
+    config: &NetConfig,
+    net: u32,
+) -> Result<Journal<VecShelf>, AllocError>
+    requires { config_of submission.now.configs net ≡ Some config.now }
+    ensures { IfOk result (λ j. j ≡ record { config = config.now; entries = entries reading submission.now net }) }
+{
+    let mut journal = Journal::new(alloc, config.try_copy(alloc)?, VecShelf::new(alloc));
+    for call in submission.calls() {
+        let (number, event) = call;
+        if *number == net {
+            answer(alloc, &mut journal, event)?;
+        }
+    }
+    Ok(journal)
+}
+
+/// The replies to the marked events of a network, to which all that was submitted happens. An error is as of
+/// [`replay`].
+pub(crate) fn replies_to(
+    alloc: Global,
+    submission: &Submission,
+    config: &NetConfig,
+    net: u32,
+    marks: &[bool],
+) -> Result<Vec<Reply>, AllocError>
+    requires declared { config_of submission.now.configs net ≡ Some config.now }
+    requires marked { length marks.now ≡ length submission.now.calls }
+    ensures { (R : Names) (i : ℕ) → marks.now ≡ map (is_asked R i net) submission.now.calls → IfOk result (λ v. map reply_of v.items ≡ replied_to R i (answers reading submission.now net)) }
+{
+    let mut journal = Journal::new(alloc, config.try_copy(alloc)?, VecShelf::new(alloc));
+    let mut replies = Vec::new(alloc);
+    let calls = submission.calls();
+    for place in 0..calls.len() {
+        let (number, event) = &calls[place];
+        if *number == net {
+            let reply = answer(alloc, &mut journal, event)?;
+            let is_asked = is_marked(marks, place);
+            keep(&mut replies, reply, is_asked)?;
+        }
+    }
+    Ok(replies)
+}
+
+/// What a network answers to an event. An error says that memory was short.
+fn answer(
+    alloc: Global,
+    journal: &mut Journal<VecShelf>,
+    event: &Event,
+) -> Result<Reply, AllocError>
+    ensures { IfOk result (λ r. IsAnswer journal.old (step_of event.now) (reply_of r) journal.new) }
+{
+    match journal.apply(event.try_copy(alloc)?) {
+        Ok(outs) => Ok(Reply::Done(outs)),
+        Err(refusal) => refused(refusal),
+    }
+}
+
+/// A refusal as a reply, but want of memory.
+fn refused(refusal: Refusal) -> Result<Reply, AllocError>
+    ensures reply { IfOk result (λ r. reply_of r ≡ Refused refusal) }
+    ensures other { IfOk result (λ _. refusal ≢ NoMemory) }
+{
+    if is_want_of_memory(&refusal) {
+        // Memory: the event wanted it.
+        return Err(AllocError);
+    }
+    Ok(Reply::Refused(refusal))
+}
+
+fn is_want_of_memory(refusal: &Refusal) -> bool
+    ensures { IsTrue result ↔ refusal.now ≡ NoMemory }
+{
+    // Memory: it is told from other refusals here, and not answered.
+    matches!(refusal, Refusal::NoMemory)
+}
+
+/// Whether this one is marked.
+fn is_marked(marks: &[bool], place: usize) -> bool
+    requires { place < length marks.now }
+    ensures { slice_get marks.now place ≡ Some result }
+{
+    marks[place]
+}
+
+/// A reply is kept where it is asked for.
+fn keep(replies: &mut Vec<Reply>, reply: Reply, is_asked: bool) -> Result<(), AllocError>
+    ensures { OnOk result (map reply_of replies.new.items ≡ map reply_of replies.old.items ++ (if is_asked then reply_of reply ∷ [] else [])) }
+{
+    if is_asked {
+        return match replies.push(reply) {
+            Ok(()) => Ok(()),
+            // Memory: the list has no room.
+            Err(_) => Err(AllocError),
+        };
+    }
+    drop(reply);
+    Ok(())
+}

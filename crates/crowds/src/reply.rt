@@ -1,0 +1,54 @@
+//! What a network answers to what is submitted to it.
+
+ghost use Rattle.std.specs.Prelude.{◌≡◌, map};
+ghost use Rattle.crowds.specs.Replies.{reply_of};
+
+use std::marker::Model;
+use types::{Out, Refusal};
+
+/// What a network answers to an event: what it gives out, or why it is refused.
+#[derive(Drop)]
+pub enum Reply {
+    /// The event is applied, and gives out these.
+    Done(Vec<Out>),
+    /// The event is refused.
+    Refused(Refusal),
+}
+
+/// Replies, in the order of their events.
+///
+/// Contracts see them as the replies of the protocol's definitions.
+#[derive(Drop)]
+pub struct Replies {
+    replies: Vec<Reply>,
+}
+
+impl Model for Replies {
+    ghost use Rattle.std.specs.Coded.{codes};
+    ghost use Rattle.std.specs.Prelude.{List, map};
+    ghost use Rattle.types.specs.Trees.{members_code};
+    ghost use Rattle.protocol.specs.Networks.{Reply};
+    ghost use Rattle.crowds.specs.Replies.{reply_of};
+
+    ghost Value = { List Reply };
+
+    ghost coded = { Prim.hlevel (codes, members_code) };
+
+    ghost view = { λ r. map reply_of r.replies.items };
+}
+
+impl Replies {
+    /// These replies.
+    pub(crate) fn of(replies: Vec<Reply>) -> Replies
+        ensures { result ≡ map reply_of replies.items }
+    {
+        Replies { replies }
+    }
+
+    /// The replies, in order.
+    pub fn as_slice(&self) -> &[Reply]
+        ensures { map reply_of result.now ≡ self.now }
+    {
+        &self.replies
+    }
+}

@@ -1,0 +1,141 @@
+//! What is submitted to networks.
+
+ghost use Rattle.std.specs.Prelude.{◌≡◌, ◌++◌, ◌∷◌, [], IfErr, None, OnErr, OnOk, option_map};
+ghost use Rattle.protocol.specs.Hosts.{hosts_of};
+ghost use Rattle.protocol.specs.Submissions.{config_of};
+ghost use Rattle.crowds.specs.Submitted.{IsNotDeclared, and_then, declared};
+
+use configuration::{Host, NetConfig};
+use std::alloc::{AllocError, Global};
+use std::marker::Model;
+use types::Event;
+
+/// Why a network is not declared.
+#[derive(Clone, Copy, Debug, PartialEq, Eq)]
+pub enum SubmissionError {
+    /// A network of that number is declared.
+    NetTwice,
+    /// Memory was wanting.
+    NoMemory,
+}
+
+/// Configurations of networks, no number twice, and events with the numbers of their networks, in order
+/// (this host's profile).
+///
+/// Contracts see it as the history of a host with these configurations, to which these events happen.
+#[derive(Drop)]
+pub struct Submission {
+    configs: Vec<NetConfig>,
+    calls: Vec<(u32, Event)>,
+}
+
+impl Model for Submission {
+    ghost use Rattle.std.specs.Coded.{codes};
+    ghost use Rattle.types.specs.Trees.{members_code};
+    ghost use Rattle.protocol.specs.Hosts.{History};
+
+    ghost Value = { History };
+
+    ghost coded = { Prim.hlevel (codes, members_code) };
+
+    ghost view = { λ s. record { configs = s.configs.items; calls = s.calls.items } };
+}
+
+impl Submission {
+    /// Nothing is declared, and nothing submitted. It takes no memory.
+    pub fn new(alloc: Global) -> Submission
+        ensures { result ≡ record { configs = []; calls = [] } }
+    {
+        Submission {
+            configs: Vec::new(alloc),
+            calls: Vec::new(alloc),
+        }
+    }
+
+    /// A network is declared. Events of its number may have been submitted before; they count as those that
+    /// come later do.
+    ///
+    /// An error says that a network of that number is declared, or that memory is short, in this order; the
+    /// submission is as it was.
+    pub fn declare(&mut self, config: NetConfig) -> Result<(), SubmissionError>
+        ensures ok { OnOk result (self.new ≡ declared self.old config) }
+        ensures fresh { OnOk result (config_of self.old.configs config.number ≡ None) }
+        ensures err { IfErr result (IsNotDeclared self.old.configs config.number) }
+        ensures same { OnErr result (self.new ≡ self.old) }
+    {
+        if self.config(config.number()).is_some() {
+            return Err(SubmissionError::NetTwice);
+        }
+        match self.configs.push(config) {
+            Ok(()) => Ok(()),
+            // Memory: the list has no room.
+            Err(_) => Err(SubmissionError::NoMemory),
+        }
+    }
+
+    /// An event of a network is submitted, whether or not the network is declared. An error says that memory
+    /// is short; the submission is as it was.
+    pub fn submit(&mut self, net: u32, event: Event) -> Result<(), AllocError>
+        ensures ok { OnOk result (self.new ≡ and_then self.old net event) }
+        ensures same { OnErr result (self.new ≡ self.old) }
+    {
+        match self.calls.push((net, event)) {
+            Ok(()) => Ok(()),
+            // Memory: the list has no room.
+            Err(_) => Err(AllocError),
+        }
+    }
+
+    /// The configuration of a network, where it is declared.
+    pub fn config(&self, net: u32) -> Option<&NetConfig>
+        ensures { option_map (λ c. c.now) result ≡ config_of self.now.configs net }
+    {
+        config_in(&self.configs, net)
+    }
+
+    /// The hosted nodes of a network; none where it is not declared.
+    pub fn hosts(&self, net: u32) -> &[Host]
+        ensures { result.now ≡ hosts_of self.now.configs net }
+    {
+        hosts_in(&self.configs, net)
+    }
+
+    /// The events with the numbers of their networks, in order.
+    pub fn calls(&self) -> &[(u32, Event)]
+        ensures { result.now ≡ self.now.calls }
+    {
+        &self.calls
+    }
+}
+
+/// The first configuration of a number.
+fn config_in(configs: &[NetConfig], net: u32) -> Option<&NetConfig>
+    ensures { option_map (λ c. c.now) result ≡ config_of configs.now net }
+{
+    match configs {
+        [] => None,
+        [first, rest @ ..] => {
+            if first.number() == net {
+                Some(first)
+            } else {
+                config_in(rest, net)
+            }
+        }
+    }
+}
+
+/// The hosted nodes of the first network of a number.
+fn hosts_in(configs: &[NetConfig], net: u32) -> &[Host]
+    ensures { result.now ≡ hosts_of configs.now net }
+{
+    match configs {
+        [] => &[],
+        [first, rest @ ..] => {
+            if first.number() == net {
+                first.hosts()
+            } else {
+                hosts_in(rest, net)
+            }
+        }
+    }
+}

@@ -1,0 +1,76 @@
+//! Reports as graphs in the language DOT.
+
+use crate::report::{Blockers, Report};
+use closure::ClosureList;
+use scripts::push_name;
+use std::alloc::AllocError;
+use std::fmt::Write;
+use types::NodeId;
+
+/// Adds a graph for Graphviz: the members with an arrow from each to those that it named first, hosted
+/// members filled, and a dashed arrow from each single member to the hosted ones whose slices it blocks.
+/// Where memory is wanting, a part may have been added.
+pub fn push_dot(text: &mut String, report: &Report) -> Result<(), AllocError> {
+    text.push_str("digraph closure {\n")?;
+    push_members(text, report.members())?;
+    for blockers in report.hosted() {
+        push_blockers(text, blockers)?;
+    }
+    text.push_str("}\n")?;
+    Ok(())
+}
+
+fn push_members(text: &mut String, members: &ClosureList) -> Result<(), AllocError> {
+    for place in 0..members.len() {
+        if let Some((name, namer)) = members.member(place) {
+            text.push_str("  ")?;
+            push_node(text, &name)?;
+            text.push_str(";\n")?;
+            push_naming(text, members, namer, &name, place)?;
+        }
+    }
+    Ok(())
+}
+
+/// Adds the arrow to a member from the one that named it, which the first member has none of.
+fn push_naming(
+    text: &mut String,
+    members: &ClosureList,
+    namer: usize,
+    name: &NodeId,
+    place: usize,
+) -> Result<(), AllocError> {
+    if place > 0 {
+        if let Some(namer) = members.name(namer) {
+            push_arrow(text, &namer, name)?;
+            text.push_str(";\n")?;
+        }
+    }
+    Ok(())
+}
+
+fn push_blockers(text: &mut String, blockers: &Blockers) -> Result<(), AllocError> {
+    text.push_str("  ")?;
+    push_node(text, blockers.node())?;
+    text.push_str(" [style=filled];\n")?;
+    for name in blockers.names() {
+        push_arrow(text, name, blockers.node())?;
+        text.push_str(" [style=dashed, constraint=false];\n")?;
+    }
+    Ok(())
+}
+
+fn push_arrow(text: &mut String, from: &NodeId, to: &NodeId) -> Result<(), AllocError> {
+    text.push_str("  ")?;
+    push_node(text, from)?;
+    text.push_str(" -> ")?;
+    push_node(text, to)
+}
+
+/// Adds a node: its name has letters and digits alone.
+fn push_node(text: &mut String, name: &NodeId) -> Result<(), AllocError> {
+    text.push_str("\"")?;
+    push_name(text, name)?;
+    text.push_str("\"")?;
+    Ok(())
+}

@@ -1,0 +1,33 @@
+//! A network that nobody declared.
+
+ghost use Rattle.std.specs.Prelude.{[]};
+
+use closure::{Announcement, Announcements};
+use types::{Nested, NodeId};
+
+/// A network that nobody declared: it hosts nobody, and nothing happened in it. The closure of a node
+/// in it is the node alone.
+#[derive(Clone, Copy, Debug)]
+pub struct NoNetwork;
+
+impl Announcements for NoNetwork {
+    ghost hosts = { λ _. [] };
+
+    ghost entries = { λ _. [] };
+
+    fn slices(&self, _node: &NodeId) -> Option<&Nested> {
+        None
+    }
+
+    fn slices_then(&self, _node: &NodeId, _slot: u64) -> Option<&Nested> {
+        None
+    }
+
+    fn len(&self) -> usize {
+        0
+    }
+
+    fn announcement(&self, _number: usize) -> Option<Announcement<'_>> {
+        None
+    }
+}

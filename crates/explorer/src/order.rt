@@ -1,0 +1,24 @@
+//! Members in the order of their names.
+
+ghost use Rattle.std.specs.Prelude.{◌≡◌, ℕ, IfOk};
+ghost use Rattle.protocol.specs.Sets.{IsAscending, among};
+ghost use Rattle.closure.specs.Announcing.{names_of};
+
+use closure::ClosureList;
+use std::alloc::{AllocError, Global};
+use types::NodeId;
+
+/// The members of a closure, ascending.
+pub fn ascending(alloc: Global, members: &ClosureList) -> Result<Vec<NodeId>, AllocError>
+    ensures ascending { IfOk result (λ v. IsAscending v.items) }
+    ensures all { IfOk result (λ v. (u : ℕ) → among v.items u ≡ among (names_of members.now) u) }
+{
+    let mut names = Vec::new(alloc);
+    for place in 0..members.len() {
+        if let Some(name) = members.name(place) {
+            names.push(name)?;
+        }
+    }
+    names.sort_unstable();
+    Ok(names)
+}

@@ -1,0 +1,197 @@
+-- From the parts of a comparison to its verdict.
+use Rattle.types.specs.declared.event.Out.{Out}
+use Rattle.std.proofs.Common.{◌≡◌, ℕ, zero, suc, ◌<◌, Bool, true, false, ◌==◌, ◌⊎◌, List, [], ◌∷◌, length, get_or, map, filter, Option, Some, None, is_some, cond, if◌then◌else◌, refl, sym, ◌∙◌, ap, subst, inl, inr, arith, IsTrue}
+use Rattle.std.specs.List.{AllByRecursion, Contains}
+use Rattle.std.specs.Option.{option_map}
+use Rattle.std.proofs.Math.Path.{fun_ext}
+use Rattle.std.proofs.lemmas.Bool.{eq-eqb, eqb-true, true≢false, false≢true}
+use Rattle.protocol.specs.Sets.{Names, among, IsAscending}
+use Rattle.protocol.specs.Networks.{Host, slices_of}
+use Rattle.protocol.specs.Hosts.{Entry}
+use Rattle.protocol.specs.Isolation.{closure, kept_of, outs_of, SameCast}
+use Rattle.protocol.specs.Verdicts.{IsFirstDifference, IsListOf, IsVerdict}
+use Rattle.protocol.proofs.ClosureLaws.{contains_head, contains_tail, contained_cases}
+use Rattle.closure.specs.Announcing.{Listed, names_of, IsClosureList}
+use Rattle.twoworlds.specs.declared.verdict.Verdict.TheVariants.{CastDiffers, InputsDiffer, Same}
+use Rattle.twoworlds.specs.Casts.{AreAlike, IsLeastUnlike}
+use Rattle.hoststep.specs.Logs.{Log}
+use Rattle.protocol.specs.Runs.{IsRun}
+use Rattle.protocol.proofs.RuleLists.{least-start}
+use Rattle.protocol.proofs.VerdictLaws.{isolated_runs}
+use Rattle.twoworlds.specs.declared.verdict.Verdict.{Verdict}
+use Rattle.twoworlds.specs.Meanings.{AreIsolated, IsVerdictOn, hosts_in, meant}
+use Rattle.twoworlds.specs.OutLists.{hosted_in, outs_of_each}
+
+-- ---- ascending lists
+above_head : (x : ℕ) (xs : List ℕ) → IsAscending (x ∷ xs) → (u : ℕ) → Contains xs u → x < u
+above_head x xs h u c = subst (λ z. x < z) c.2 (let l = c.1 in h zero (suc c.0) u (omega arith) (omega arith))
+
+ascending_tail : (x : ℕ) (xs : List ℕ) → IsAscending (x ∷ xs) → IsAscending xs
+ascending_tail x xs h = λ i j d l k. h (suc i) (suc j) d (omega arith) (omega arith)
+
+ascending_cons : (x : ℕ) (xs : List ℕ) → ((u : ℕ) → Contains xs u → x < u) → IsAscending xs → IsAscending (x ∷ xs)
+ascending_cons x xs f up zero zero d l k = absurd (omega arith)
+ascending_cons x xs f up zero (suc j) d l k = f (get_or xs j d) (j, omega arith, again xs j d (omega arith))
+  where
+    again : (ys : List ℕ) (n e : ℕ) → n < length ys → get_or ys n (get_or ys n e) ≡ get_or ys n e
+    again [] n e h = absurd (omega arith)
+    again (y ∷ ys) zero e h = refl
+    again (y ∷ ys) (suc n) e h = again ys n e (omega arith)
+ascending_cons x xs f up (suc i) zero d l k = absurd (omega arith)
+ascending_cons x xs f up (suc i) (suc j) d l k = up i j d (omega arith) (omega arith)
+
+-- ---- what passes a test
+module _ (R : Names) where
+  passed : (xs : List ℕ) (u : ℕ) → Contains (filter R xs) u → Contains xs u × (R u ≡ true)
+  passed [] u c = absurd (let l = c.1 in omega arith)
+  passed (x ∷ xs) u c = go (R x) refl c (passed xs u)
+    where
+      go : (b : Bool) → R x ≡ b → Contains (cond b (x ∷ filter R xs) (filter R xs)) u → (Contains (filter R xs) u → Contains xs u × (R u ≡ true)) → Contains (x ∷ xs) u × (R u ≡ true)
+      go true e k f = elim (contained_cases u x (filter R xs) k) [
+        | inl q ↦ (subst (λ y. Contains (x ∷ xs) y) q (contains_head x xs), subst (λ y. R y ≡ true) q e)
+        | inr m ↦ let r = f m in (contains_tail u x xs r.0, r.1)
+      ]
+      go false e k f = let r = f k in (contains_tail u x xs r.0, r.1)
+
+  passes : (xs : List ℕ) (u : ℕ) → Contains xs u → R u ≡ true → Contains (filter R xs) u
+  passes [] u c h = absurd (let l = c.1 in omega arith)
+  passes (x ∷ xs) u c h = go (R x) refl (contained_cases u x xs c) (λ k. passes xs u k h)
+    where
+      go : (b : Bool) → R x ≡ b → (x ≡ u) ⊎ Contains xs u → (Contains xs u → Contains (filter R xs) u) → Contains (cond b (x ∷ filter R xs) (filter R xs)) u
+      go true e (inl q) f = subst (λ y. Contains (x ∷ filter R xs) y) q (contains_head x (filter R xs))
+      go true e (inr k) f = contains_tail u x (filter R xs) (f k)
+      go false e (inl q) f = absurd (true≢false (sym h ∙ (ap R (sym q) ∙ e)))
+      go false e (inr k) f = f k
+
+  pub filter_ascends : (xs : List ℕ) → IsAscending xs → IsAscending (filter R xs)
+  filter_ascends [] up = up
+  filter_ascends (x ∷ xs) up = go (R x) (filter_ascends xs (ascending_tail x xs up))
+    where
+      go : (b : Bool) → IsAscending (filter R xs) → IsAscending (cond b (x ∷ filter R xs) (filter R xs))
+      go true r = ascending_cons x (filter R xs) (λ u c. above_head x xs up u (passed xs u c).0) r
+      go false r = r
+
+-- ---- hosted nodes
+abbrev host_names : List Host → List ℕ
+host_names hosts = map (λ h. h.name) hosts
+
+named_host : (hosts : List Host) (u : ℕ) → is_some (slices_of hosts u) ≡ true → Contains (host_names hosts) u
+named_host [] u h = absurd (false≢true h)
+named_host (x ∷ xs) u h = go (x.name == u) refl h (named_host xs u)
+  where
+    go : (b : Bool) → (x.name == u) ≡ b → is_some (if b then Some x.slices else slices_of xs u) ≡ true → (is_some (slices_of xs u) ≡ true → Contains (host_names xs) u) → Contains (x.name ∷ host_names xs) u
+    go true e k f = subst (λ y. Contains (x.name ∷ host_names xs) y) (eqb-true x.name u e) (contains_head x.name (host_names xs))
+    go false e k f = contains_tail u x.name (host_names xs) (f k)
+
+host_named : (hosts : List Host) (u : ℕ) → Contains (host_names hosts) u → is_some (slices_of hosts u) ≡ true
+host_named [] u c = absurd (let l = c.1 in omega arith)
+host_named (x ∷ xs) u c = go (x.name == u) refl (contained_cases u x.name (host_names xs) c) (host_named xs u)
+  where
+    go : (b : Bool) → (x.name == u) ≡ b → (x.name ≡ u) ⊎ Contains (host_names xs) u → (Contains (host_names xs) u → is_some (slices_of xs u) ≡ true) → is_some (if b then Some x.slices else slices_of xs u) ≡ true
+    go true e s f = refl
+    go false e (inl q) f = absurd (true≢false (sym (eq-eqb x.name u q) ∙ e))
+    go false e (inr k) f = f k
+
+-- ---- the list of hosted members
+module _ (R : Names) (hosts : List Host) (i : ℕ) (run : List Entry) where
+  names_kept : (list : List ℕ) → map (λ p. p.0) (outs_of_each i run list) ≡ list
+  names_kept [] = refl
+  names_kept (u ∷ us) = ap (λ (ys : List ℕ). u ∷ ys) (names_kept us)
+
+  each_right : (others : List Entry) (list : List ℕ) → ((u : ℕ) → Contains list u → (outs_of i u run ≡ outs_of i u others) × (IsTrue (R u) × IsTrue (is_some (slices_of hosts u))))
+      → AllByRecursion (λ p. (p.1 ≡ outs_of i p.0 others) × (IsTrue (R p.0) × IsTrue (is_some (slices_of hosts p.0)))) (outs_of_each i run list)
+  each_right others [] f = tt
+  each_right others (u ∷ us) f = (f u (contains_head u us), each_right others us (λ w c. f w (contains_tail w u us c)))
+
+  pub is_list : (others : List Entry) → IsAscending (host_names hosts) → ((u : ℕ) → IsTrue (R u) → outs_of i u run ≡ outs_of i u others) → IsListOf R hosts i others (outs_of_each i run (hosted_in R hosts))
+  is_list others up same = record {
+    outs = each_right others (hosted_in R hosts) (λ u c. let p = passed R (host_names hosts) u c in (same u p.1, (p.1, host_named hosts u p.0)));
+    all = λ u r h. subst (λ (xs : List ℕ). Contains xs u) (sym (names_kept (hosted_in R hosts))) (passes R (host_names hosts) u (named_host hosts u h) r);
+    ascending = subst IsAscending (sym (names_kept (hosted_in R hosts))) (filter_ascends R (host_names hosts) up);
+  }
+
+-- ---- verdicts
+-- a verdict is right
+abbrev IsVerdictOf : List Host → List Host → List Entry → List Entry → ℕ → ℕ → Verdict → Type 0
+IsVerdictOf one other run others i v verdict = IsVerdict one other run others i v (meant verdict)
+
+-- the same cast and the same kept steps, and so the same outs
+abbrev AreIsolatedRuns : List Host → List Host → List Entry → List Entry → ℕ → ℕ → Type 0
+AreIsolatedRuns one other run others i v =
+    let R = closure one i v run in
+    SameCast R v one other → kept_of R i run ≡ kept_of R i others → (u : ℕ) → IsTrue (R u) → outs_of i u run ≡ outs_of i u others
+
+pub closure-start : (hosts : List Host) (i v : ℕ) (run : List Entry) → closure hosts i v run v ≡ true
+unfolding closure
+closure-start hosts i v run = least-start _ v
+
+-- ---- isolation of two journals, and where a world has none
+pub isolated_both : (one other : Log) (i v : ℕ) → IsRun one.config one.entries → IsRun other.config other.entries → AreIsolated (Some one) (Some other) i v
+isolated_both one other i v a b = isolated_runs one.config other.config one.entries other.entries i v a b
+
+pub isolated_alone : (one : Log) (i v : ℕ) → AreIsolated (Some one) None i v
+isolated_alone one i v cast same u m = absurd (true≢false (sym cast.hosted ∙ ap is_some (cast.same v (closure-start one.config.hosts i v one.entries))))
+
+pub isolated_nowhere : (other : Option Log) (i v : ℕ) → AreIsolated None other i v
+isolated_nowhere other i v cast same u m = absurd (false≢true cast.hosted)
+
+module _ (one other : List Host) (run others : List Entry) (i v : ℕ) where
+  pub judged_nobody : is_some (slices_of one v) ≡ false → IsVerdictOf one other run others i v (CastDiffers v)
+  judged_nobody h = inl (h, refl)
+
+  module _ (list : Listed) (c : IsClosureList one i v run list) (hosted : is_some (slices_of one v) ≡ true) where
+    abbrev here : Names
+    here = among (names_of list)
+
+    set_is : here ≡ closure one i v run
+    set_is = fun_ext c.exactly
+
+    pub judged_unlike : (u : ℕ) → IsLeastUnlike one other (names_of list) u → IsVerdictOf one other run others i v (CastDiffers u)
+    judged_unlike u h = inr (hosted, (sym (c.exactly u) ∙ h.member, (h.unlike, λ w m l. h.least w (c.exactly w ∙ m) l)))
+
+    cast : AreAlike one other (names_of list) → SameCast (closure one i v run) v one other
+    cast a = record { hosted = hosted; same = λ u m. a u (c.exactly u ∙ m) }
+
+    -- nobody is hosted where a world lacks the network: the node itself is hosted unlike
+    pub never_alone : AreAlike one [] (names_of list) → ⊥
+    never_alone a = true≢false (sym hosted ∙ ap is_some (a v (c.exactly v ∙ closure-start one i v run)))
+
+    pub judged_inputs : AreAlike one other (names_of list) → (place : ℕ) → IsFirstDifference (kept_of here i run) (kept_of here i others) place → IsVerdictOf one other run others i v (InputsDiffer place)
+    judged_inputs a place d = (cast a, subst (λ (R : Names). IsFirstDifference (kept_of R i run) (kept_of R i others) place) set_is d)
+
+    pub judged_same : IsAscending (host_names one) → AreAlike one other (names_of list) → kept_of here i run ≡ kept_of here i others → AreIsolatedRuns one other run others i v → (given : List (ℕ × List Out)) → given ≡ outs_of_each i run (hosted_in here one)
+        → IsVerdictOf one other run others i v (Same given)
+    judged_same up a same isolated given is =
+        let R = closure one i v run in
+        let kept = subst (λ (S : Names). kept_of S i run ≡ kept_of S i others) set_is same in
+        let made : given ≡ outs_of_each i run (hosted_in R one) = is ∙ ap (λ (S : Names). outs_of_each i run (hosted_in S one)) set_is in (
+          cast a,
+          (
+            kept,
+            (
+              subst (λ (xs : List (ℕ × List Out)). IsListOf R one i run xs) (sym made) (is_list R one i run run up (λ u m. refl)),
+              subst (λ (xs : List (ℕ × List Out)). IsListOf R one i others xs) (sym made) (is_list R one i run others up (λ u m. isolated (cast a) kept u m)),
+            ),
+          ),
+        )
+
+-- ---- verdicts on what two worlds have of a network
+module _ (one : Log) (o : Option Log) (i v : ℕ) (list : Listed) (c : IsClosureList one.config.hosts i v one.entries list) (hosted : is_some (slices_of one.config.hosts v) ≡ true) (alike : AreAlike one.config.hosts (hosts_in o) (names_of list)) where
+  alike_in : (p : Option Log) → o ≡ p → AreAlike one.config.hosts (hosts_in p) (names_of list)
+  alike_in p q = subst (λ (r : Option Log). AreAlike one.config.hosts (hosts_in r) (names_of list)) q alike
+
+  pub never_without : o ≡ None → ⊥
+  never_without q = never_alone one.config.hosts [] one.entries [] i v list c hosted (alike_in None q)
+
+  module _ (other : Log) (q : o ≡ Some other) where
+    pub inputs_with : (place : ℕ) → IsFirstDifference (kept_of (among (names_of list)) i one.entries) (kept_of (among (names_of list)) i other.entries) place → IsVerdictOn (Some one) o i v (InputsDiffer place)
+    inputs_with place d = subst (λ (r : Option Log). IsVerdictOn (Some one) r i v (InputsDiffer place)) (sym q) (judged_inputs one.config.hosts other.config.hosts one.entries other.entries i v list c hosted (alike_in (Some other) q) place d)
+
+    pub same_with : IsAscending (host_names one.config.hosts) → kept_of (among (names_of list)) i one.entries ≡ kept_of (among (names_of list)) i other.entries → AreIsolated (Some one) o i v
+        → (given : List (ℕ × List Out)) → given ≡ outs_of_each i one.entries (hosted_in (among (names_of list)) one.config.hosts) → IsVerdictOn (Some one) o i v (Same given)
+    same_with up same isolated given is = subst (λ (r : Option Log). IsVerdictOn (Some one) r i v (Same given)) (sym q)
+        (judged_same one.config.hosts other.config.hosts one.entries other.entries i v list c hosted up (alike_in (Some other) q) same (subst (λ (r : Option Log). AreIsolated (Some one) r i v) q isolated) given is)
+
+pub some_mapped : {X Y : Type 0} (f : X → Y) (o : Option X) → is_some (option_map f o) ≡ is_some o
+some_mapped f None = refl
+some_mapped f (Some x) = refl

@@ -1,0 +1,5 @@
+pub mod KeptSteps
+pub mod CastLaws
+pub mod OutLaws
+pub mod Judging
+pub mod ToldLaws

@@ -1,0 +1,4 @@
+pub mod Steps
+pub mod Casts
+pub mod Meanings
+pub mod OutLists

@@ -1,0 +1,107 @@
+//! Comparing two worlds.
+
+ghost use Rattle.std.specs.Prelude.{IfOk, Some, option_map};
+ghost use Rattle.protocol.specs.Hosts.{History};
+ghost use Rattle.hoststep.specs.Worlds.{IsToldBy, log_at};
+ghost use Rattle.twoworlds.specs.Meanings.{AreIsolated, IsVerdictBetween, IsVerdictOn};
+
+use crate::cast::least_unlike;
+use crate::inputs::first_difference;
+use crate::outs::{hosted_members, outs_of_each};
+use crate::verdict::Verdict;
+use closure::{Announcements, closure};
+use envstore::Shelf;
+use hoststep::{Journal, World};
+use std::alloc::{AllocError, Global};
+use types::NodeId;
+
+/// Compares what concerned a node of a network at a slot in two worlds, by the closure of the node in the
+/// first of them. A world that lacks the network hosts nobody there. The worlds may keep their envelopes on
+/// shelves of different kinds (this host's profile).
+///
+/// Whatever is answered, want of memory included: where both worlds host the same members of the closure with
+/// the same slices, and the steps that concern the members are the same in order, each hosted member gave out
+/// the same in both. There is no answer for a leak. Where the journals of the worlds are those of two histories
+/// of hosts, the verdict is that on the histories.
+///
+/// Beside the closure, each journal is gone through once for the steps that concern the members, and the
+/// first one once more for what they gave out. An error says that memory is short.
+pub fn compare<S: Shelf, T: Shelf>(
+    alloc: Global,
+    one: &World<S>,
+    other: &World<T>,
+    net: u32,
+    slot: u64,
+    node: &NodeId,
+) -> Result<Verdict, AllocError>
+    ensures verdict { IfOk result (λ r. IsVerdictOn (log_at one.now net) (log_at other.now net) slot node.now r) }
+    ensures isolated { AreIsolated (log_at one.now net) (log_at other.now net) slot node.now }
+    ensures told { (h k : History) → IsToldBy h one.now → IsToldBy k other.now → IfOk result (IsVerdictBetween h k net slot node.now) }
+{
+    let verdict = compare_worlds(alloc, one, other, net, slot, node)?;
+    Ok(verdict)
+}
+
+/// The same, by the journals alone.
+fn compare_worlds<S: Shelf, T: Shelf>(
+    alloc: Global,
+    one: &World<S>,
+    other: &World<T>,
+    net: u32,
+    slot: u64,
+    node: &NodeId,
+) -> Result<Verdict, AllocError>
+    ensures verdict { IfOk result (λ r. IsVerdictOn (log_at one.now net) (log_at other.now net) slot node.now r) }
+    ensures isolated { AreIsolated (log_at one.now net) (log_at other.now net) slot node.now }
+{
+    match one.journal(net) {
+        None => Ok(Verdict::CastDiffers(*node)),
+        Some(journal) => compare_journal(alloc, journal, other.journal(net), slot, node),
+    }
+}
+
+/// The same for the journal of the network in the first world, and that of the second one if it has it.
+fn compare_journal<S: Shelf, T: Shelf>(
+    alloc: Global,
+    one: &Journal<S>,
+    other: Option<&Journal<T>>,
+    slot: u64,
+    node: &NodeId,
+) -> Result<Verdict, AllocError>
+    ensures verdict { IfOk result (λ r. IsVerdictOn (Some one.now) (option_map (λ j. j.now) other.entry) slot node.now r) }
+    ensures isolated { AreIsolated (Some one.now) (option_map (λ j. j.now) other.entry) slot node.now }
+{
+    are_isolated(one, other, slot, node);
+    if one.slices(node).is_none() {
+        return Ok(Verdict::CastDiffers(*node));
+    }
+    let members = closure(alloc, one, slot, node)?;
+    if let Some(name) = least_unlike(one, other, &members) {
+        return Ok(Verdict::CastDiffers(name));
+    }
+    let Some(other) = other else {
+        // The node itself is a hosted member, and would be one that they host unlike.
+        unreachable!()
+    };
+    if let Some(place) = first_difference(one, other, &members, slot) {
+        return Ok(Verdict::InputsDiffer(place));
+    }
+    let names = hosted_members(alloc, one.config().hosts(), &members)?;
+    Ok(Verdict::Same(outs_of_each(alloc, one, slot, &names)?))
+}
+
+/// A law: two journals are runs, so what concerns the members decides what they give out. A world that lacks
+/// the network does not host the node.
+fn are_isolated<S: Shelf, T: Shelf>(
+    one: &Journal<S>,
+    other: Option<&Journal<T>>,
+    slot: u64,
+    node: &NodeId,
+)
+    ensures { AreIsolated (Some one.now) (option_map (λ j. j.now) other.entry) slot node.now }
+{
+    one.replays();
+    if let Some(journal) = other {
+        journal.replays();
+    }
+}

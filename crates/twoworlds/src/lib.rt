@@ -1,0 +1,20 @@
+//! Two worlds side by side: whether what concerns a node of a network at a slot was the same in both, and
+//! what the members of its closure then gave out (this host's profile).
+//!
+//! Two worlds in which the same concerns a node give out the same for each hosted member: that is the
+//! isolation of hosted validators, and each comparison carries it in its contract, whatever it answers. So
+//! [`compare`] reads the outs of the first world alone. [`kept_entry`] finds the entry of a journal at
+//! which two worlds part.
+#![tactic(auto)]
+
+mod cast;
+mod comparing;
+mod inputs;
+mod outs;
+mod same_steps;
+mod steps;
+mod verdict;
+
+pub use comparing::compare;
+pub use inputs::kept_entry;
+pub use verdict::{MemberOuts, OutsOfMembers, Verdict};

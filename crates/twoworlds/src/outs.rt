@@ -1,0 +1,86 @@
+//! What each hosted member gave out.
+
+ghost use Rattle.std.specs.Prelude.{◌≡◌, [], IfOk, OnOk, length, map};
+ghost use Rattle.protocol.specs.Sets.{IsAscending, among};
+ghost use Rattle.closure.specs.Announcing.{names_of};
+ghost use Rattle.twoworlds.specs.OutLists.{IsNotedAt, hosted_in, outs_of_each};
+
+use crate::steps::node_at;
+use crate::verdict::{MemberOuts, OutsOfMembers};
+use closure::ClosureList;
+use configuration::Host;
+use envstore::Shelf;
+use hoststep::Journal;
+use std::alloc::{AllocError, Global};
+use types::NodeId;
+
+/// The hosted nodes that are members, in their order. An error says that memory is short.
+pub fn hosted_members(
+    alloc: Global,
+    hosts: &[Host],
+    members: &ClosureList,
+) -> Result<Vec<NodeId>, AllocError>
+    ensures { IfOk result (λ v. v.items ≡ hosted_in (among (names_of members.now)) hosts.now) }
+{
+    let mut names = Vec::new(alloc);
+    for host in hosts {
+        if members.has(host.name()) {
+            names.push(*host.name())?;
+        }
+    }
+    Ok(names)
+}
+
+/// What each of some nodes gave out at the slot. The journal is gone through once. An error says that
+/// memory is short.
+pub fn outs_of_each<S: Shelf>(
+    alloc: Global,
+    journal: &Journal<S>,
+    slot: u64,
+    names: &[NodeId],
+) -> Result<OutsOfMembers, AllocError>
+    requires { IsAscending names.now }
+    ensures { IfOk result (λ v. v ≡ outs_of_each slot journal.now.entries names.now) }
+{
+    let mut list = nothing_of_each(alloc, names)?;
+    for number in 0..journal.len() {
+        note(alloc, &mut list, names, journal, number, slot)?;
+    }
+    Ok(OutsOfMembers::of(list))
+}
+
+/// Adds what the entry of this number gave out to the node that it is of, where that is one of the names.
+/// An error says that memory is short.
+fn note<S: Shelf>(
+    alloc: Global,
+    list: &mut Vec<MemberOuts>,
+    names: &[NodeId],
+    journal: &Journal<S>,
+    number: usize,
+    slot: u64,
+) -> Result<(), AllocError>
+    requires ascending { IsAscending names.now }
+    requires same { length list.old.items ≡ length names.now }
+    ensures { OnOk result (IsNotedAt slot journal.now.entries number names.now list.old.items list.new.items) }
+{
+    let Some(node) = node_at(journal, number, slot) else {
+        return Ok(());
+    };
+    let Ok(place) = names.binary_search(&node) else {
+        return Ok(());
+    };
+    let member = &mut list[place];
+    member.extend(alloc, journal, number)?;
+    Ok(())
+}
+
+/// Each of some nodes before it has given out anything.
+fn nothing_of_each(alloc: Global, names: &[NodeId]) -> Result<Vec<MemberOuts>, AllocError>
+    ensures { IfOk result (λ v. v.items ≡ map (λ u. (u, [])) names.now) }
+{
+    let mut list = Vec::new(alloc);
+    for name in names {
+        list.push(MemberOuts::new(alloc, *name))?;
+    }
+    Ok(list)
+}

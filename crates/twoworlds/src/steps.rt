@@ -1,0 +1,85 @@
+//! Which steps concern the members of a closure, and whose they are.
+
+ghost use Rattle.std.specs.Prelude.{◌≡◌};
+ghost use Rattle.protocol.specs.Sets.{among};
+ghost use Rattle.closure.specs.Announcing.{names_of};
+ghost use Rattle.hoststep.specs.Lending.{lent_step};
+ghost use Rattle.twoworlds.specs.Steps.{at_slot, event_at, is_kept, is_kept_in, node_in, node_of};
+
+use closure::ClosureList;
+use envstore::Shelf;
+use hoststep::{Journal, LentEvent};
+use types::NodeId;
+
+/// Whether there is an entry of this number, and its step concerns the members at the slot.
+pub fn is_kept_at<S: Shelf>(
+    journal: &Journal<S>,
+    number: usize,
+    members: &ClosureList,
+    slot: u64,
+) -> bool
+    ensures { result ≡ is_kept_in (among (names_of members.now)) slot (event_at journal.now.entries number) }
+{
+    match journal.event(number) {
+        None => false,
+        Some(step) => is_kept(&step, members, slot),
+    }
+}
+
+/// Whether a step concerns the members at the slot: it opens or closes the slot, it happens to a member, or
+/// a member is reached by what a member sent.
+fn is_kept(step: &LentEvent<'_>, members: &ClosureList, slot: u64) -> bool
+    ensures { result ≡ is_kept (among (names_of members.now)) slot (lent_step step.now) }
+{
+    match step {
+        LentEvent::OpenSlot { slot: at } => *at == slot,
+        LentEvent::CloseSlot { slot: at } => *at == slot,
+        LentEvent::Propose { slot: at, node, .. } => *at == slot && members.has(node),
+        LentEvent::Deliver { node, envelope, .. } => {
+            envelope.slot() == slot && members.has(node) && members.has(envelope.sender())
+        }
+        LentEvent::Hear {
+            slot: at,
+            node,
+            from,
+            ..
+        } => *at == slot && members.has(node) && members.has(from),
+        LentEvent::NominationTimer { slot: at, node, .. } => *at == slot && members.has(node),
+        LentEvent::BallotTimer { slot: at, node, .. } => *at == slot && members.has(node),
+        LentEvent::Reslice { slot: at, node, .. } => *at == slot && members.has(node),
+    }
+}
+
+/// The node to which an entry happened, where there is an entry of this number, it is of the slot and has
+/// a node.
+pub fn node_at<S: Shelf>(journal: &Journal<S>, number: usize, slot: u64) -> Option<NodeId>
+    ensures { result ≡ node_in slot (event_at journal.now.entries number) }
+{
+    match journal.event(number) {
+        None => None,
+        Some(step) => node_of(&step, slot),
+    }
+}
+
+/// The node of a step at the slot.
+fn node_of(step: &LentEvent<'_>, slot: u64) -> Option<NodeId>
+    ensures { result ≡ node_of slot (lent_step step.now) }
+{
+    match step {
+        LentEvent::OpenSlot { .. } => None,
+        LentEvent::CloseSlot { .. } => None,
+        LentEvent::Propose { slot: at, node, .. } => when(*at == slot, node),
+        LentEvent::Deliver { node, envelope, .. } => when(envelope.slot() == slot, node),
+        LentEvent::Hear { slot: at, node, .. } => when(*at == slot, node),
+        LentEvent::NominationTimer { slot: at, node, .. } => when(*at == slot, node),
+        LentEvent::BallotTimer { slot: at, node, .. } => when(*at == slot, node),
+        LentEvent::Reslice { slot: at, node, .. } => when(*at == slot, node),
+    }
+}
+
+/// The node, where the test holds.
+fn when(holds: bool, node: &NodeId) -> Option<NodeId>
+    ensures { result ≡ at_slot holds node.now }
+{
+    if holds { Some(*node) } else { None }
+}
