@@ -1,1 +1,3 @@
 mod LineForms
+mod QuietLines
+mod SubmittedLines

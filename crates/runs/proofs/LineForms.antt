@@ -11,22 +11,22 @@ use Rattle.runs.specs.Telling.{AsksOf, Declares, IsPut, Settles, Tells}
 use Rattle.runs.specs.Telling.Tells.{declared, answered, settled}
 
 -- networks, nodes and rosters are declared
-requests-net : (fields : List Bytes) (g : ℕ) (b : _) → IsRequested fields g (Net b) → Declares fields
+pub requests-net : (fields : List Bytes) (g : ℕ) (b : _) → IsRequested fields g (Net b) → Declares fields
 requests-net [] g b h = absurd h
 requests-net (word ∷ []) g b h = absurd h
 requests-net (word ∷ number ∷ fields) g b h = inl (h.1 ∙ ap word_of h.3)
 
-requests-node : (fields : List Bytes) (g : ℕ) (u q : _) → IsRequested fields g (Node u q) → Declares fields
+pub requests-node : (fields : List Bytes) (g : ℕ) (u q : _) → IsRequested fields g (Node u q) → Declares fields
 requests-node [] g u q h = absurd h
 requests-node (word ∷ []) g u q h = absurd h
 requests-node (word ∷ number ∷ fields) g u q h = inr (inl (h.1 ∙ ap word_of h.3))
 
-requests-roster : (fields : List Bytes) (g : ℕ) (r : _) → IsRequested fields g (Roster r) → Declares fields
+pub requests-roster : (fields : List Bytes) (g : ℕ) (r : _) → IsRequested fields g (Roster r) → Declares fields
 requests-roster [] g r h = absurd h
 requests-roster (word ∷ []) g r h = absurd h
 requests-roster (word ∷ number ∷ fields) g r h = inr (inr (h.1 ∙ ap word_of h.3))
 
-requests-event : (fields : List Bytes) (g : ℕ) (e : Event) → IsRequested fields g (Apply e) → AsksOf fields g e
+pub requests-event : (fields : List Bytes) (g : ℕ) (e : Event) → IsRequested fields g (Apply e) → AsksOf fields g e
 requests-event [] g e h = absurd h
 requests-event (word ∷ []) g e h = absurd h
 requests-event (word ∷ number ∷ fields) g e h = h

@@ -1,7 +1,11 @@
 -- The lines of scripts of networks that ask for events, and the events that they ask for.
-use Rattle.std.specs.Prelude.{◌≡◌, ℕ, List, [], ◌∷◌, codes}
+use Rattle.std.specs.Prelude.{◌≡◌, ◌==◌, ℕ, List, [], ◌∷◌, codes, Option, Some, None, if◌then◌else◌}
 use Rattle.scripts.specs.Script.{Bytes}
+use Rattle.scripts.specs.Names.{digits_bytes, octets_in, word_name}
 use Rattle.scripts.specs.Numbers.{IsDecimal, decimal}
+use Rattle.scripts.specs.Values.{word_value}
+use Rattle.codec.specs.Spelling.{Spells}
+use Rattle.types.specs.Statements.{Sent}
 use Rattle.types.specs.declared.event.Event.{Event}
 use Rattle.types.specs.declared.event.Event.TheVariants.{OpenSlot, CloseSlot, Propose, Deliver, Hear, NominationTimer, BallotTimer, Reslice}
 use Rattle.types.specs.declared.kind.Kind.{Kind}
@@ -34,8 +38,17 @@ abbrev pub word_of_kind : Kind → Bytes
 word_of_kind Nomination = codes "nom"
 word_of_kind Kind.Ballot = codes "bal"
 
--- the fields after the number of the network ask for this event: its slot, its numbers and its kind of emissions are those that they spell.
--- Of names, slices, values, bytes and statements this does not say yet which the words spell.
+-- the word spells the name
+abbrev pub IsNameOf : Bytes → ℕ → Type 0
+IsNameOf word u = word_name word ≡ Some u
+
+-- the bytes that a word proposes: those of a value of letters and digits, or `#` (35) and any even number of digits
+abbrev pub word_proposal : Bytes → Option Bytes
+word_proposal [] = None
+word_proposal (c ∷ rest) = if c == 35 then digits_bytes rest else word_value (c ∷ rest)
+
+-- the fields after the number of the network ask for this event: its slot, names, numbers, bytes and kind of emissions are those that they
+-- spell. Of slices and statements this does not say yet which the words spell.
 abbrev pub AsksOpen : List Bytes → Event → Type 0
 AsksOpen (i ∷ []) (OpenSlot slot) = IsNumber i slot
 AsksOpen fields e = ⊥
@@ -45,31 +58,36 @@ AsksClose (i ∷ []) (CloseSlot slot) = IsNumber i slot
 AsksClose fields e = ⊥
 
 abbrev pub AsksPropose : List Bytes → Event → Type 0
-AsksPropose (i ∷ name ∷ value ∷ []) (Propose slot u x) = IsNumber i slot
+AsksPropose (i ∷ name ∷ value ∷ []) (Propose slot u x) = IsNumber i slot × IsNameOf name u × (word_proposal value ≡ Some x)
 AsksPropose fields e = ⊥
 
 abbrev pub AsksDeliver : List Bytes → Event → Type 0
-AsksDeliver (name ∷ digits ∷ []) (Deliver u bytes) = Unit {0}
+AsksDeliver (name ∷ digits ∷ []) (Deliver u bytes) = IsNameOf name u × (octets_in digits ≡ Some bytes)
 AsksDeliver fields e = ⊥
 
+-- the bytes spell an envelope of that sender and slot
+abbrev pub AreSaid : Bytes → Bytes → Bytes → Type 0
+AreSaid bytes from i = (e : Sent) × Spells bytes e × IsNameOf from e.sender × IsNumber i e.slot
+
 abbrev pub AsksSay : List Bytes → Event → Type 0
-AsksSay (name ∷ from ∷ i ∷ slices ∷ statement ∷ []) (Deliver u bytes) = Unit {0}
+AsksSay (name ∷ from ∷ i ∷ slices ∷ statement ∷ []) (Deliver u bytes) = IsNameOf name u × AreSaid bytes from i
 AsksSay fields e = ⊥
 
 abbrev pub AsksHear : List Bytes → Event → Type 0
-AsksHear (i ∷ name ∷ sender ∷ kind ∷ number ∷ []) (Hear slot u from k n) = IsNumber i slot × (kind ≡ word_of_kind k) × IsNumber number n
+AsksHear (i ∷ name ∷ sender ∷ kind ∷ number ∷ []) (Hear slot u from k n) =
+    IsNumber i slot × IsNameOf name u × IsNameOf sender from × (kind ≡ word_of_kind k) × IsNumber number n
 AsksHear fields e = ⊥
 
 abbrev pub AsksNominationTimer : List Bytes → Event → Type 0
-AsksNominationTimer (i ∷ name ∷ round ∷ []) (NominationTimer slot u r) = IsNumber i slot × IsNumber round r
+AsksNominationTimer (i ∷ name ∷ round ∷ []) (NominationTimer slot u r) = IsNumber i slot × IsNameOf name u × IsNumber round r
 AsksNominationTimer fields e = ⊥
 
 abbrev pub AsksBallotTimer : List Bytes → Event → Type 0
-AsksBallotTimer (i ∷ name ∷ counter ∷ []) (BallotTimer slot u n) = IsNumber i slot × IsNumber counter n
+AsksBallotTimer (i ∷ name ∷ counter ∷ []) (BallotTimer slot u n) = IsNumber i slot × IsNameOf name u × IsNumber counter n
 AsksBallotTimer fields e = ⊥
 
 abbrev pub AsksReslice : List Bytes → Event → Type 0
-AsksReslice (i ∷ name ∷ slices ∷ []) (Reslice slot u q) = IsNumber i slot
+AsksReslice (i ∷ name ∷ slices ∷ []) (Reslice slot u q) = IsNumber i slot × IsNameOf name u
 AsksReslice fields e = ⊥
 
 -- a line of a kind, by its fields after the number of the network, asks for this event

@@ -1,8 +1,14 @@
 -- What is printed of the answer to an event.
 use Rattle.std.specs.Prelude.{◌≡◌, ◌++◌, ℕ, ◌∷◌, Result, Ok, Err, List, codes}
+use Rattle.std.specs.List.{flat_map}
 use Rattle.std.specs.Fmt.{decimal}
 use Rattle.scripts.specs.Script.{Bytes}
+use Rattle.scripts.specs.Printed.{text_of_statement}
+use Rattle.scripts.specs.Values.{text_of_value}
+use Rattle.crowds.specs.declared.reply.Reply.{Reply}
+use Rattle.crowds.specs.declared.reply.Reply.TheVariants as reply
 use Rattle.types.specs.declared.event.Out.{Out}
+use Rattle.types.specs.declared.event.Out.TheVariants.{ArmNomination, ArmBallot, Emit, Externalized}
 use Rattle.types.specs.declared.event.Refusal.{Refusal}
 use Rattle.types.specs.declared.event.Refusal.TheVariants.{NoSuchNetwork, NoSuchNode, SlotNotOpen, SlotOpenAlready, TooManySlots, BadEnvelope, HostedSender, NotEmitted, JournalFull, BytesFull, BadValue, ProposedAlready, NoMemory, ShareFull, ShareBytesFull}
 
@@ -50,7 +56,23 @@ abbrev pub refusal_text : Refusal → Bytes
 refusal_text (BadEnvelope fault) = codes "refused " ++ (decimal 6 ++ 32 ∷ (codes "BadEnvelope" ++ 32 ∷ decimal fault))
 refusal_text r = codes "refused " ++ refusal_words r
 
--- the line of an answer. Of what an event gives out this does not say yet how it is printed.
+-- what an event gives out: a word, and behind a space the round, the counter, the statement or the value
+abbrev pub text_of_out : Out → Bytes
+text_of_out (ArmNomination round) = codes "arm-nomination " ++ decimal round
+text_of_out (ArmBallot counter) = codes "arm-ballot " ++ decimal counter
+text_of_out (Emit e) = codes "emit " ++ text_of_statement e.body
+text_of_out (Externalized v) = codes "externalized " ++ text_of_value v
+
+-- the same with a space (32) before it
+abbrev pub behind_space : Out → Bytes
+behind_space out = 32 ∷ text_of_out out
+
+-- the line of an answer: `ok` and what the event gives out, in order, or the line of the refusal
 abbrev pub IsReply : Result (List Out) Refusal → Bytes → Type 0
-IsReply (Ok outs) text = Unit {0}
+IsReply (Ok outs) text = text ≡ codes "ok" ++ flat_map behind_space outs
 IsReply (Err r) text = text ≡ refusal_text r
+
+-- a reply as the answer to an event
+abbrev pub answer_of : Reply → Result (List Out) Refusal
+answer_of (reply.Done outs) = Ok outs.items
+answer_of (reply.Refused r) = Err r

@@ -1,13 +1,14 @@
 //! Events as lines write them, after the number of the network. Each is a bad line where the fields have not
 //! this form.
 
-ghost use Rattle.std.specs.Prelude.{◌≡◌, IfOk, IfSome, map};
-ghost use Rattle.runs.specs.Lines.{AsksOpen, AsksClose, AsksPropose, AsksDeliver, AsksSay, AsksHear, AsksNominationTimer, AsksBallotTimer, AsksReslice, word_of_kind};
+ghost use Rattle.std.specs.Prelude.{◌≡◌, IfOk, IfSome, map, option_map};
+ghost use Rattle.runs.specs.Lines.{AreSaid, AsksOpen, AsksClose, AsksPropose, AsksDeliver, AsksSay, AsksHear, AsksNominationTimer, AsksBallotTimer, AsksReslice, word_of_kind, word_proposal};
 
 use crate::verbs::is_word;
 use codec::encode;
 use scripts::{
-    LineError, bytes_of, counter_of, name_of, number_of, slices_of, statement_of, value_of,
+    LineError, bytes_of, counter_of, digits_of, name_of, number_of, slices_of, statement_of,
+    value_of,
 };
 use std::alloc::{AllocError, Global};
 use types::{Bytes, Envelope, Event, Kind};
@@ -52,7 +53,9 @@ pub(crate) fn propose(alloc: Global, fields: &[&[u8]]) -> Result<Event, LineErro
     let Some(node) = name_of(node) else {
         return Err(LineError::Bad);
     };
-    let value = proposed(alloc, value)?.ok_or(LineError::Bad)?;
+    let Some(value) = proposed(alloc, value)? else {
+        return Err(LineError::Bad);
+    };
     Ok(Event::Propose {
         slot,
         node,
@@ -61,11 +64,11 @@ pub(crate) fn propose(alloc: Global, fields: &[&[u8]]) -> Result<Event, LineErro
 }
 
 // The bytes of a proposal: a plain value, or `#` and any even number of digits.
-fn proposed(alloc: Global, word: &[u8]) -> Result<Option<Vec<u8>>, AllocError> {
+fn proposed(alloc: Global, word: &[u8]) -> Result<Option<Vec<u8>>, AllocError>
+    ensures { IfOk result (λ o. option_map (λ v. v.items) o ≡ word_proposal word.now) }
+{
     match word {
-        [b'#'] => Ok(Some(Vec::new(alloc))),
-        [b'#', b'-'] => Ok(None),
-        [b'#', digits @ ..] => bytes_of(alloc, digits),
+        [b'#', digits @ ..] => digits_of(alloc, digits),
         _ => match value_of(alloc, word)? {
             Some(value) => Ok(Some(Vec::from_slice(alloc, value.as_bytes())?)),
             None => Ok(None),
@@ -83,7 +86,9 @@ pub(crate) fn deliver(alloc: Global, fields: &[&[u8]]) -> Result<Event, LineErro
     let Some(node) = name_of(node) else {
         return Err(LineError::Bad);
     };
-    let bytes = bytes_of(alloc, bytes)?.ok_or(LineError::Bad)?;
+    let Some(bytes) = bytes_of(alloc, bytes)? else {
+        return Err(LineError::Bad);
+    };
     Ok(Event::Deliver {
         node,
         bytes: Bytes::new(bytes),
@@ -101,6 +106,20 @@ pub(crate) fn say(alloc: Global, fields: &[&[u8]]) -> Result<Event, LineError>
     let Some(node) = name_of(node) else {
         return Err(LineError::Bad);
     };
+    let bytes = said(alloc, from, slot, slices, statement)?;
+    Ok(Event::Deliver { node, bytes })
+}
+
+// The bytes of the envelope of these words.
+fn said(
+    alloc: Global,
+    from: &[u8],
+    slot: &[u8],
+    slices: &[u8],
+    statement: &[u8],
+) -> Result<Bytes, LineError>
+    ensures { IfOk result (λ bytes. AreSaid bytes from.now slot.now) }
+{
     let Some(from) = name_of(from) else {
         return Err(LineError::Bad);
     };
@@ -109,12 +128,11 @@ pub(crate) fn say(alloc: Global, fields: &[&[u8]]) -> Result<Event, LineError>
     };
     let slices = slices_of(alloc, slices)?.ok_or(LineError::Bad)?;
     let body = statement_of(alloc, statement)?.ok_or(LineError::Bad)?;
-    let envelope = Envelope::new(from, slot, slices, body).ok_or(LineError::Bad)?;
+    let Some(envelope) = Envelope::new(from, slot, slices, body) else {
+        return Err(LineError::Bad);
+    };
     let bytes = encode(alloc, &envelope)?;
-    Ok(Event::Deliver {
-        node,
-        bytes: Bytes::new(bytes),
-    })
+    Ok(Bytes::new(bytes))
 }
 
 /// `I NAME FROM nom K` or `I NAME FROM bal K`: the node hears an emission.

@@ -1,7 +1,8 @@
 //! What runs the lines of a script of networks.
 
-ghost use Rattle.std.specs.Prelude.{◌≡◌, [], IfOk, OnOk, string_bytes};
+ghost use Rattle.std.specs.Prelude.{◌≡◌, [], IfOk, OnOk, map, string_bytes};
 ghost use Rattle.hoststep.specs.Worlds.{IsAnswered};
+ghost use Rattle.runs.specs.Quiet.{HaveJoined, IsPutQuietly, IsRunBy};
 ghost use Rattle.runs.specs.Telling.{IsBegun, IsPut};
 
 use crate::emissions::Emission;
@@ -47,6 +48,64 @@ impl HostRun {
             nets: Nets::none(alloc),
             world: World::new(alloc),
         }
+    }
+
+    /// The journals of the networks that an event has named, and after [`HostRun::finish`] of all that are
+    /// declared with nodes.
+    pub fn world(&self) -> &World<VecShelf>
+        ensures { result.now ≡ self.now }
+    {
+        &self.world
+    }
+
+    /// No line follows: the networks that are declared with nodes, and that no event has named, join the
+    /// world, and nothing has happened to them. An error says that memory is short.
+    pub fn finish(&mut self) -> Result<(), LineError>
+        ensures { OnOk result (HaveJoined self.old self.new) }
+    {
+        let numbers = self.nets.waiting_numbers()?;
+        self.begin_all(&numbers)
+    }
+
+    // The networks of these numbers join the world, as far as they are declared and not there.
+    #[tactic(auto, using(crate::proofs::QuietLines::none_joins))]
+    fn begin_all(&mut self, numbers: &[u32]) -> Result<(), LineError>
+        ensures { OnOk result (HaveJoined self.old self.new) }
+    {
+        match numbers {
+            [] => Ok(()),
+            [first, rest @ ..] => {
+                self.begin(*first)?;
+                self.begin_all(rest)
+            }
+        }
+    }
+
+    /// Runs a line without saying what it answers, and gives the number of the network that it names.
+    pub(crate) fn run_quietly(&mut self, alloc: Global, fields: &[&[u8]]) -> Result<u32, LineError>
+        ensures { OnOk result (IsRunBy (map (λ field. field.now) fields.now) self.old self.new) }
+    {
+        let (number, request) = request_of(alloc, fields)?;
+        match request {
+            Request::Net(budgets) => self.nets.declare(number, budgets)?,
+            Request::Node(name, slices) => self.nets.host(number, name, slices)?,
+            Request::Roster(roster) => self.nets.reserve(number, roster)?,
+            Request::Apply(event) => self.put(number, event)?,
+            Request::Settle(slot) => {
+                self.begin(number)?;
+                let _text = self.settle(alloc, number, slot)?;
+            }
+        }
+        Ok(number)
+    }
+
+    // Puts an event to the network of a number, whatever it answers.
+    fn put(&mut self, number: u32, event: Event) -> Result<(), LineError>
+        ensures { OnOk result (IsPutQuietly number event self.old self.new) }
+    {
+        self.begin(number)?;
+        let _answer = self.apply(number, event)?;
+        Ok(())
     }
 
     /// Readies the network of a number for an event that names it: where it is declared and this is the

@@ -10,9 +10,15 @@ mod emissions;
 mod events;
 mod host_run;
 mod nets;
+mod origins;
+mod quiet_run;
 mod refusals;
 mod replies;
 mod requests;
+mod submission_run;
 mod verbs;
 
 pub use host_run::HostRun;
+pub use quiet_run::QuietRun;
+pub use replies::{line_of_reply, push_outs};
+pub use submission_run::SubmissionRun;

@@ -6,7 +6,7 @@ use crate::drafts::{Draft, Reserved};
 use crate::emissions::{Emission, OpenSlot, OpenSlots};
 use configuration::{Budgets, NetConfig};
 use scripts::LineError;
-use std::alloc::Global;
+use std::alloc::{AllocError, Global};
 use std::collections::BTreeMap;
 use std::mem;
 use types::{Nested, NodeId};
@@ -100,6 +100,17 @@ impl Nets {
         }
     }
 
+    /// The numbers of the networks that are declared with nodes and that no event has named, ascending.
+    pub fn waiting_numbers(&self) -> Result<Vec<u32>, AllocError> {
+        let mut numbers = Vec::new(self.alloc);
+        for (number, stage) in self.stages.iter() {
+            if is_complete(stage) {
+                numbers.push(*number)?;
+            }
+        }
+        Ok(numbers)
+    }
+
     /// The network of this configuration is in the world: its events are followed from now on.
     pub fn follow(&mut self, config: &NetConfig) -> Result<(), LineError> {
         let slots = OpenSlots::none(self.alloc, config)?;
@@ -136,5 +147,13 @@ impl Nets {
             Ok(_) => Ok(()),
             Err(_) => Err(LineError::NoMemory),
         }
+    }
+}
+
+// The network is declared with nodes, and no event has named it.
+fn is_complete(stage: &Stage) -> bool {
+    match stage {
+        Stage::Drafted(draft) => !draft.is_empty(),
+        Stage::Unknown | Stage::Empty | Stage::Running(_) => false,
     }
 }

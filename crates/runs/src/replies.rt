@@ -1,10 +1,12 @@
 //! What is printed of the answer to an event.
 
-ghost use Rattle.std.specs.Prelude.{◌≡◌, IfOk, string_bytes};
+ghost use Rattle.std.specs.Prelude.{◌≡◌, ◌++◌, IfOk, OnOk, codes, string_bytes};
+ghost use Rattle.std.specs.List.{flat_map};
 ghost use Rattle.hoststep.specs.Worlds.{items_of};
-ghost use Rattle.runs.specs.Replies.{IsReply, refusal_text};
+ghost use Rattle.runs.specs.Replies.{IsReply, answer_of, behind_space, refusal_text, text_of_out};
 
 use crate::refusals::{name_of, number_of};
+use crowds::Reply;
 use scripts::{push_statement, push_value};
 use std::alloc::{AllocError, Global};
 use types::{Out, Refusal};
@@ -20,18 +22,40 @@ pub(crate) fn reply(alloc: Global, answer: &Result<Vec<Out>, Refusal>) -> Result
     }
 }
 
-/// The line of what an event gives out.
-fn applied(alloc: Global, outs: &[Out]) -> Result<String, AllocError> {
-    let mut text = String::from_str(alloc, "ok")?;
-    for out in outs {
-        text.push(' ')?;
-        push_out(&mut text, out)?;
+/// The line of a reply to what was submitted: that of the same answer to an event line.
+pub fn line_of_reply(alloc: Global, reply: &Reply) -> Result<String, AllocError>
+    ensures { IfOk result (λ text. IsReply (answer_of reply.now) (string_bytes text)) }
+{
+    match reply {
+        Reply::Done(outs) => applied(alloc, outs),
+        Reply::Refused(refusal) => refused(alloc, *refusal),
     }
+}
+
+/// The line of what an event gives out.
+fn applied(alloc: Global, outs: &[Out]) -> Result<String, AllocError>
+    ensures { IfOk result (λ text. string_bytes text ≡ codes "ok" ++ flat_map behind_space outs.now) }
+{
+    let mut text = String::from_str(alloc, "ok")?;
+    push_outs(&mut text, outs)?;
     Ok(text)
 }
 
+/// Adds what is given out, a space before each. Where memory is wanting, a part may have been added.
+pub fn push_outs(text: &mut String, outs: &[Out]) -> Result<(), AllocError>
+    ensures { OnOk result (string_bytes text.new ≡ string_bytes text.old ++ flat_map behind_space outs.now) }
+{
+    for out in outs {
+        text.push(' ')?;
+        push_out(text, out)?;
+    }
+    Ok(())
+}
+
 // Adds what is given out. Where memory is wanting, a part may have been added.
-fn push_out(text: &mut String, out: &Out) -> Result<(), AllocError> {
+fn push_out(text: &mut String, out: &Out) -> Result<(), AllocError>
+    ensures { OnOk result (string_bytes text.new ≡ string_bytes text.old ++ text_of_out out.now) }
+{
     match out {
         Out::ArmNomination(round) => write!(text, "arm-nomination {round}"),
         Out::ArmBallot(counter) => write!(text, "arm-ballot {counter}"),

@@ -1,1 +1,6 @@
+pub mod Taking
+pub mod Asking
+mod Short
+mod NumberLaws
 pub mod Forms
+mod CrowdLines

@@ -1,5 +1,5 @@
 -- The exit status of each way to end.
-use Rattle.std.specs.Prelude.{◌≡◌, ◌⊎◌, ◌==◌, ℕ, [], ◌∷◌, IsTrue, Result, MatchResult}
+use Rattle.std.specs.Prelude.{◌≡◌, ◌⊎◌, ◌==◌, ℕ, Bool, [], ◌∷◌, IsTrue, Result, MatchResult, if◌then◌else◌}
 use Rattle.std.specs.List.{list_any}
 use Rattle.scphost.specs.declared.call.Usage.{Usage}
 use Rattle.scphost.specs.declared.call.Usage.TheVariants as usage
@@ -16,7 +16,11 @@ status_of stop.CannotWrite = 4
 
 -- the status is one of those that the command line has
 abbrev pub IsStatus : ℕ → Type 0
-IsStatus status = IsTrue (list_any (λ known. known == status) (0 ∷ 2 ∷ 3 ∷ 4 ∷ []))
+IsStatus status = IsTrue (list_any (λ known. known == status) (0 ∷ 1 ∷ 2 ∷ 3 ∷ 4 ∷ []))
+
+-- the status of an answer that was written, or not: 1 where two scripts differ
+abbrev pub IsStatusOfAnswer : Bool → ℕ → Type 0
+IsStatusOfAnswer differs status = (status ≡ (if differs then 1 else 0)) ⊎ (status ≡ 4)
 
 -- the status of a run
 abbrev pub IsStatusOf : Result (Unit {0}) Stop → ℕ → Type 0

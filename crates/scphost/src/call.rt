@@ -1,39 +1,21 @@
 //! The command line: which words are a call, and what is answered to all others.
 
-ghost use Rattle.std.specs.Prelude.{◌≡◌, ◌⊎◌, List, [], true, map, IfOk, OnOk, Ok, Err, IsOkUnless, option_map};
-ghost use Rattle.std.specs.List.{list_all};
-ghost use Rattle.clap.specs.Words.{app_of, kind_of};
+ghost use Rattle.std.specs.Prelude.{◌≡◌, ◌⊎◌, List, [], true, map, IfOk, OnOk, Ok, Err, IsOkUnless};
+ghost use Rattle.clap.specs.Words.{kind_of};
 ghost use Rattle.clap.specs.declared.error.kind.ErrorKind.TheVariants.{OutOfMemory};
-ghost use Rattle.scphost.specs.Words.{is_plain as plain_word, operands_in};
-ghost use Rattle.scphost.specs.ClapCommand.{whole_command, clap_faults, clap_takes, wanting};
-ghost use Rattle.scphost.specs.CommandLine.{IsCall, call_in, call_with, run_with, table_with};
+ghost use Rattle.scphost.specs.ClapCommand.{clap_faults, clap_takes};
+ghost use Rattle.scphost.specs.CommandLine.{IsCall, call_in, closure_of, closure_with, compare_of, compare_with, crowd_of, crowd_with, run_with, table_with};
 ghost use Rattle.scphost.specs.declared.call.Call.{Call};
 ghost use Rattle.scphost.specs.declared.call.Usage.TheVariants.{NoMemory};
 
+use crate::clap_command::command_line;
+use crate::operands::{explain_and_operands, form_and_operands, operands_of};
+use crate::subject::{Format, Subject, subject_of};
 use crate::word::Word;
+use clap::Error;
 use clap::error::ErrorKind;
-use clap::{Arg, Command, Error};
 use std::alloc::{AllocError, Global};
 use std::convert::AsStr;
-
-// The version that `--version` prints.
-const VERSION: &str = "0.1.0";
-
-// What a table file holds.
-const TABLE_HELP: &str =
-    "A table file names one node, its slot and its slices, then offers envelopes and asks.
-For example:
-  self A 1 2[A,B]
-  put B 2[A,B] prep(1:x,-,0,0,0)
-  reach";
-
-// What a script of networks holds.
-const RUN_HELP: &str =
-    "A script declares networks with their nodes, opens slots and puts events to them.
-For example:
-  net 1 events 10 bytes 0 slots 1
-  node 1 A 1[A]
-  open 1 1";
 
 /// What the command line asks for: one variant a command, with its words.
 #[derive(Drop)]
@@ -47,6 +29,36 @@ pub enum Call {
     Run {
         /// The name of the script; `-` is the standard input.
         script: Word,
+    },
+    /// `closure SCRIPT NET SLOT NODE`: run a script and report whom a node depends on.
+    Closure {
+        /// The name of the script; `-` is the standard input.
+        script: Word,
+        /// The node, at a slot of a network.
+        subject: Subject,
+        /// The form of the report.
+        format: Format,
+    },
+    /// `compare SCRIPT1 SCRIPT2 NET SLOT NODE`: run two scripts and compare what concerns a node in them.
+    Compare {
+        /// The name of the first script.
+        first: Word,
+        /// The name of the second script.
+        second: Word,
+        /// The node, at a slot of a network.
+        subject: Subject,
+        /// Whether a difference is to be explained.
+        explain: bool,
+    },
+    /// `crowd SCRIPT1 SCRIPT2 NET SLOT NODE`: read two scripts and compare what they submit for a node, and the
+    /// answers to it.
+    Crowd {
+        /// The name of the first script.
+        first: Word,
+        /// The name of the second script.
+        second: Word,
+        /// The node, at a slot of a network.
+        subject: Subject,
     },
 }
 
@@ -73,7 +85,8 @@ impl From<AllocError> for Usage {
 ///
 /// A call is answered only where clap and this reading agree; the texts of help and of faults are
 /// clap's, and `bad usage` where only this reading refuses.
-#[tactic(auto, using(crate::proofs::Forms::takes_call, crate::proofs::Forms::call_in_sound, crate::proofs::Forms::call_in_complete))]
+
+#[tactic(auto, using(crate::proofs::Forms::call_in_sound, crate::proofs::Forms::call_in_complete, crate::proofs::Forms::takes_call))]
 pub fn read_call<S: AsStr>(alloc: Global, words: &[S]) -> Result<Call, Usage>
     ensures sound { IfOk result (IsCall (map S.text words.now)) }
     ensures agreed { OnOk result (clap_faults (map S.text words.now) ≡ []) }
@@ -99,53 +112,6 @@ fn ask_clap<S: AsStr>(alloc: Global, words: &[S]) -> Result<(), Usage>
     }
 }
 
-// The command line as clap knows it.
-fn command_line<'a>(alloc: Global) -> Result<Command<'a>, AllocError>
-    ensures { IfOk result (λ c. app_of c ≡ whole_command) }
-{
-    let table = command_of_file(
-        alloc,
-        "table",
-        "Runs the lines of a table file",
-        TABLE_HELP,
-        "FILE",
-        "The table file, or - for the standard input",
-    )?;
-    let run = command_of_file(
-        alloc,
-        "run",
-        "Runs the lines of a script of networks",
-        RUN_HELP,
-        "SCRIPT",
-        "The script, or - for the standard input",
-    )?;
-    let bare = Command::new(alloc, "scphost")
-        .bin_name("scphost")?
-        .about("A host of SCP validators")
-        .version(VERSION)
-        .no_binary_name(true)
-        .subcommand_required(true);
-    bare.subcommand(table)?.subcommand(run)
-}
-
-// A command with one operand, which it wants, as clap knows it; what its file holds is said behind the help.
-fn command_of_file<'a>(
-    alloc: Global,
-    name: &'a str,
-    about: &'a str,
-    holds: &'a str,
-    operand: &'a str,
-    help: &'a str,
-) -> Result<Command<'a>, AllocError>
-    ensures { IfOk result (λ c. app_of c ≡ wanting name.entry.now operand.entry.now) }
-{
-    let file = Arg::new(alloc, operand).required(true).help(help);
-    Command::new(alloc, name)
-        .about(about)
-        .after_help(holds)
-        .arg(file)
-}
-
 // What clap's refusal is to the user.
 fn usage_of(alloc: Global, error: &Error) -> Usage
     ensures { kind_of error.now ≡ OutOfMemory → result ≡ NoMemory }
@@ -168,19 +134,28 @@ fn call_of<S: AsStr>(alloc: Global, words: &[S]) -> Result<Option<Call>, AllocEr
     let [command, rest @ ..] = words else {
         return Ok(None);
     };
-    match operands_of(rest) {
-        Some(operands) if command.as_str() == "table" => table_call(alloc, operands),
-        Some(operands) if command.as_str() == "run" => run_call(alloc, operands),
-        _ => Ok(None),
+    let command = command.as_str();
+    if command == "table" {
+        table_call(alloc, rest)
+    } else if command == "run" {
+        run_call(alloc, rest)
+    } else if command == "closure" {
+        closure_call(alloc, rest)
+    } else if command == "compare" {
+        compare_call(alloc, rest)
+    } else if command == "crowd" {
+        crowd_call(alloc, rest)
+    } else {
+        Ok(None)
     }
 }
 
-// The call of `table` with these operands, if they are one file.
-fn table_call<S: AsStr>(alloc: Global, operands: &[S]) -> Result<Option<Call>, AllocError>
-    ensures { IfOk result (λ call. call ≡ table_with (map S.text operands.now)) }
+// The call of `table` with these words behind it, if they are one file.
+fn table_call<S: AsStr>(alloc: Global, rest: &[S]) -> Result<Option<Call>, AllocError>
+    ensures { IfOk result (λ call. call ≡ table_with (map S.text rest.now)) }
 {
-    match operands {
-        [file] => {
+    match operands_of(rest) {
+        Some([file]) => {
             let file = Word::new(alloc, file.as_str())?;
             Ok(Some(Call::Table { file }))
         }
@@ -188,12 +163,12 @@ fn table_call<S: AsStr>(alloc: Global, operands: &[S]) -> Result<Option<Call>, A
     }
 }
 
-// The call of `run` with these operands, if they are one script.
-fn run_call<S: AsStr>(alloc: Global, operands: &[S]) -> Result<Option<Call>, AllocError>
-    ensures { IfOk result (λ call. call ≡ run_with (map S.text operands.now)) }
+// The call of `run` with these words behind it, if they are one script.
+fn run_call<S: AsStr>(alloc: Global, rest: &[S]) -> Result<Option<Call>, AllocError>
+    ensures { IfOk result (λ call. call ≡ run_with (map S.text rest.now)) }
 {
-    match operands {
-        [script] => {
+    match operands_of(rest) {
+        Some([script]) => {
             let script = Word::new(alloc, script.as_str())?;
             Ok(Some(Call::Run { script }))
         }
@@ -201,33 +176,108 @@ fn run_call<S: AsStr>(alloc: Global, operands: &[S]) -> Result<Option<Call>, All
     }
 }
 
-// The operands in the words after a command, where options are ended or there are none.
-fn operands_of<S: AsStr>(rest: &[S]) -> Option<&[S]>
-    ensures { option_map (λ operands. map S.text operands.now) result
-        ≡ operands_in (map S.text rest.now) }
+// The call of `closure` with these words behind it, if they are a script and a subject, and the form before
+// or behind them.
+fn closure_call<S: AsStr>(alloc: Global, rest: &[S]) -> Result<Option<Call>, AllocError>
+    ensures { IfOk result (λ call. call ≡ closure_with (map S.text rest.now)) }
 {
-    let [first, more @ ..] = rest else {
-        return Some(rest);
-    };
-    if first.as_str() == "--" {
-        Some(more)
-    } else if are_plain(rest) {
-        Some(rest)
-    } else {
-        None
+    match form_and_operands(rest) {
+        Some((format, operands)) => closure_of(alloc, format, operands),
+        None => Ok(None),
     }
 }
 
-// None of the words is an option.
-fn are_plain<S: AsStr>(words: &[S]) -> bool
-    ensures { result ≡ list_all plain_word (map S.text words.now) }
+// The call of `closure` with this form and these operands, if they are a script and a subject.
+fn closure_of<S: AsStr>(
+    alloc: Global,
+    format: Format,
+    operands: &[S],
+) -> Result<Option<Call>, AllocError>
+    ensures { IfOk result (λ call. call ≡ closure_of format (map S.text operands.now)) }
 {
-    words.iter().all(|word| is_plain(word))
+    match operands {
+        [script, net, slot, node] => match subject_of(net, slot, node) {
+            Some(subject) => {
+                let script = Word::new(alloc, script.as_str())?;
+                Ok(Some(Call::Closure {
+                    script,
+                    subject,
+                    format,
+                }))
+            }
+            None => Ok(None),
+        },
+        [_, _, _, _, _, ..] => Ok(None),
+        _ => Ok(None),
+    }
 }
 
-// The word is no option.
-fn is_plain<S: AsStr>(word: &S) -> bool
-    ensures { result ≡ plain_word (S.text word.now) }
+// The call of `compare` with these words behind it, if they are two scripts and a subject, and the option
+// before or behind them.
+fn compare_call<S: AsStr>(alloc: Global, rest: &[S]) -> Result<Option<Call>, AllocError>
+    ensures { IfOk result (λ call. call ≡ compare_with (map S.text rest.now)) }
 {
-    !matches!(word.as_str().as_bytes(), [b'-', _, ..])
+    match explain_and_operands(rest) {
+        Some((explain, operands)) => compare_of(alloc, explain, operands),
+        None => Ok(None),
+    }
+}
+
+// The call of `compare` with these operands, if they are two scripts and a subject.
+fn compare_of<S: AsStr>(
+    alloc: Global,
+    explain: bool,
+    operands: &[S],
+) -> Result<Option<Call>, AllocError>
+    ensures { IfOk result (λ call. call ≡ compare_of explain (map S.text operands.now)) }
+{
+    match operands {
+        [first, second, net, slot, node] => match subject_of(net, slot, node) {
+            Some(subject) => {
+                let first = Word::new(alloc, first.as_str())?;
+                let second = Word::new(alloc, second.as_str())?;
+                Ok(Some(Call::Compare {
+                    first,
+                    second,
+                    subject,
+                    explain,
+                }))
+            }
+            None => Ok(None),
+        },
+        [_, _, _, _, _, _, ..] => Ok(None),
+        _ => Ok(None),
+    }
+}
+
+// The call of `crowd` with these words behind it, if they are two scripts and a subject.
+fn crowd_call<S: AsStr>(alloc: Global, rest: &[S]) -> Result<Option<Call>, AllocError>
+    ensures { IfOk result (λ call. call ≡ crowd_with (map S.text rest.now)) }
+{
+    match operands_of(rest) {
+        Some(operands) => crowd_of(alloc, operands),
+        None => Ok(None),
+    }
+}
+
+// The call of `crowd` with these operands, if they are two scripts and a subject.
+fn crowd_of<S: AsStr>(alloc: Global, operands: &[S]) -> Result<Option<Call>, AllocError>
+    ensures { IfOk result (λ call. call ≡ crowd_of (map S.text operands.now)) }
+{
+    match operands {
+        [first, second, net, slot, node] => match subject_of(net, slot, node) {
+            Some(subject) => {
+                let first = Word::new(alloc, first.as_str())?;
+                let second = Word::new(alloc, second.as_str())?;
+                Ok(Some(Call::Crowd {
+                    first,
+                    second,
+                    subject,
+                }))
+            }
+            None => Ok(None),
+        },
+        [_, _, _, _, _, _, ..] => Ok(None),
+        _ => Ok(None),
+    }
 }

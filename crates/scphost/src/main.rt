@@ -1,8 +1,17 @@
 //! The command line of a host of validators of the Stellar Consensus Protocol.
 #![tactic(auto)]
 
+mod answer;
 mod call;
+mod clap_command;
+mod comparing;
+mod crowding;
+mod explaining;
+mod operands;
 mod perform;
+mod quiet;
+mod reporting;
+mod subject;
 #[cfg(test)]
 mod tests;
 mod word;
@@ -10,7 +19,7 @@ mod word;
 use call::{Call, Usage, read_call};
 use perform::{perform, perform_stream, refuse, report};
 use scripts::Stop;
-use std::io::{ErrorKind, Input, Write};
+use std::io::{ErrorKind, Input, Read, Write};
 use std::process::ExitCode;
 use std::rt::{Env, Files};
 use std::{env, fs, io};
@@ -45,12 +54,66 @@ fn open_and_perform<R: Files + Input + AllocGlobal, W: Write, E: Write>(
     out: &mut W,
     err: &mut E,
 ) -> u8 {
-    let (Call::Table { file } | Call::Run { script: file }) = call;
-    if file.as_str() == "-" {
+    match call {
+        Call::Table { file } | Call::Run { script: file } | Call::Closure { script: file, .. } =>
+            perform_one(rt, call, file.as_str(), out, err),
+        Call::Compare { first, second, .. } | Call::Crowd { first, second, .. } => {
+            perform_two(rt, call, first.as_str(), second.as_str(), out, err)
+        }
+    }
+}
+
+// Opens the file of a call and carries it out.
+fn perform_one<R: Files + Input + AllocGlobal, W: Write, E: Write>(
+    rt: &R,
+    call: &Call,
+    file: &str,
+    out: &mut W,
+    err: &mut E,
+) -> u8 {
+    if file == "-" {
         return perform_stream(rt, call, &mut rt.reader(), out, err);
     }
-    match fs::open(rt, file.as_str()) {
+    match fs::open(rt, file) {
         Ok(mut opened) => perform(rt, call, &mut opened, &mut io::empty(), out, err),
-        Err(_) => report(Stop::CannotRead, file.as_str(), err),
+        Err(_) => report(Stop::CannotRead, file, err),
+    }
+}
+
+// Opens both files of a call, the first one first, and carries it out. One of them may be the standard input.
+fn perform_two<R: Files + Input + AllocGlobal, W: Write, E: Write>(
+    rt: &R,
+    call: &Call,
+    one: &str,
+    other: &str,
+    out: &mut W,
+    err: &mut E,
+) -> u8 {
+    if one == "-" {
+        return perform_with_second(rt, call, &mut rt.reader(), other, out, err);
+    }
+    let mut first = match fs::open(rt, one) {
+        Ok(first) => first,
+        Err(_) => return report(Stop::CannotRead, one, err),
+    };
+    if other == "-" {
+        return perform(rt, call, &mut first, &mut rt.reader(), out, err);
+    }
+    perform_with_second(rt, call, &mut first, other, out, err)
+}
+
+// Opens the second file of a call and carries it out. A `-` names no file here, since the first one is the
+// standard input.
+fn perform_with_second<R: Files + AllocGlobal, F: Read, W: Write, E: Write>(
+    rt: &R,
+    call: &Call,
+    first: &mut F,
+    other: &str,
+    out: &mut W,
+    err: &mut E,
+) -> u8 {
+    match fs::open(rt, other) {
+        Ok(mut second) => perform(rt, call, first, &mut second, out, err),
+        Err(_) => report(Stop::CannotRead, other, err),
     }
 }

@@ -4,14 +4,24 @@ ghost use Rattle.std.specs.Prelude.{◌≡◌, ◌⊎◌, Err};
 ghost use Rattle.scphost.specs.Stops.{IsRefusal, IsStatus, IsStatusOf, status_of};
 
 use crate::call::{Call, Usage};
+use crate::comparing::{Side, compared};
+use crate::crowding::{crowded, submitted_by};
+use crate::quiet::Told;
+use crate::reporting::reported;
+use crate::subject::{Format, Subject};
+use crate::word::Word;
 use runs::HostRun;
 use scripts::{LineRunner, Stop, run_script, run_stream};
 use std::alloc::Global;
+use std::io;
 use std::io::{BufRead, BufWriter, Read, Write};
 use tables::TableRun;
 
 /// The status of a call that was carried out.
 pub const DONE: u8 = 0;
+
+/// The status of a comparison that finds a difference.
+pub const DIFFERS: u8 = 1;
 
 /// The status of bad usage and of a script at fault.
 pub const FAULT: u8 = 2;
@@ -27,13 +37,15 @@ pub const NO_WRITE: u8 = 4;
 ///
 /// What the call prints goes to `out`, and one line on what ended it early to `err`: status 2 for
 /// a file that cannot be read, is too long or has a bad line, 3 for want of memory, 4 for a write
-/// to `out` that failed. What lines before a bad one printed is written by then. A write to `err`
-/// that fails changes nothing.
+/// to `out` that failed; status 1 is the answer of a comparison that finds a difference. Of `table` and
+/// `run` what lines before a bad one printed is written by then; `closure`, `compare` and `crowd` print
+/// nothing before all files have been run to their ends, the first one before the second is read. A write
+/// to `err` that fails changes nothing.
 pub fn perform<A: AllocGlobal, R: Read, T: Read, W: Write, E: Write>(
     rt: &A,
     call: &Call,
     first: &mut R,
-    _second: &mut T,
+    second: &mut T,
     out: &mut W,
     err: &mut E,
 ) -> u8
@@ -49,12 +61,123 @@ pub fn perform<A: AllocGlobal, R: Read, T: Read, W: Write, E: Write>(
             let ran = run_whole(alloc, &mut HostRun::new(alloc), first, out);
             answer(ran, script.as_str(), err)
         }
+        Call::Closure {
+            script,
+            subject,
+            format,
+        } => perform_closure(alloc, script, subject, *format, first, out, err),
+        Call::Compare {
+            first: one,
+            second: other,
+            subject,
+            explain,
+        } => perform_compare(
+            alloc,
+            [one, other],
+            subject,
+            *explain,
+            first,
+            second,
+            out,
+            err,
+        ),
+        Call::Crowd {
+            first: one,
+            second: other,
+            subject,
+        } => perform_crowd(alloc, [one, other], subject, first, second, out, err),
+    }
+}
+
+// Runs a script without printing, and prints the report of the subject.
+fn perform_closure<R: Read, W: Write, E: Write>(
+    alloc: Global,
+    file: &Word,
+    subject: &Subject,
+    format: Format,
+    script: &mut R,
+    out: &mut W,
+    err: &mut E,
+) -> u8
+    ensures { IsStatus result }
+{
+    let told = match Told::of(alloc, script) {
+        Ok(told) => told,
+        Err(stop) => return report(stop, file.as_str(), err),
+    };
+    match reported(alloc, &told, subject, format) {
+        Ok(answer) => answer.print(out, err),
+        Err(_) => report(Stop::NoMemory, "", err),
+    }
+}
+
+// Runs a script without printing, then another one, and prints how they compare for the subject.
+fn perform_compare<R: Read, T: Read, W: Write, E: Write>(
+    alloc: Global,
+    files: [&Word; 2],
+    subject: &Subject,
+    explain: bool,
+    first: &mut R,
+    second: &mut T,
+    out: &mut W,
+    err: &mut E,
+) -> u8
+    ensures { IsStatus result }
+{
+    let [one, other] = files;
+    let first = match Told::of(alloc, first) {
+        Ok(told) => told,
+        Err(stop) => return report(stop, one.as_str(), err),
+    };
+    let second = match Told::of(alloc, second) {
+        Ok(told) => told,
+        Err(stop) => return report(stop, other.as_str(), err),
+    };
+    let one = Side {
+        file: one.as_str(),
+        script: &first,
+    };
+    let other = Side {
+        file: other.as_str(),
+        script: &second,
+    };
+    match compared(alloc, one, other, subject, explain) {
+        Ok(answer) => answer.print(out, err),
+        Err(_) => report(Stop::NoMemory, "", err),
+    }
+}
+
+// Runs a script for what it submits, then another one, and prints how the answers compare for the subject.
+fn perform_crowd<R: Read, T: Read, W: Write, E: Write>(
+    alloc: Global,
+    files: [&Word; 2],
+    subject: &Subject,
+    first: &mut R,
+    second: &mut T,
+    out: &mut W,
+    err: &mut E,
+) -> u8
+    ensures { IsStatus result }
+{
+    let [one, other] = files;
+    let first = match submitted_by(alloc, first) {
+        Ok(run) => run,
+        Err(stop) => return report(stop, one.as_str(), err),
+    };
+    let second = match submitted_by(alloc, second) {
+        Ok(run) => run,
+        Err(stop) => return report(stop, other.as_str(), err),
+    };
+    match crowded(alloc, first.submission(), second.submission(), subject) {
+        Ok(answer) => answer.print(out, err),
+        Err(_) => report(Stop::NoMemory, "", err),
     }
 }
 
 /// Carries out a call whose file is the standard input: each line is answered before the next one is
 /// waited for. Status and messages are those of [`perform`], but for a read that fails and for input
-/// that is too long: the lines before have been run, and what they printed is written.
+/// that is too long: the lines before have been run, and what they printed is written. `closure`,
+/// `compare` and `crowd` read it whole.
 pub fn perform_stream<A: AllocGlobal, R: BufRead, W: Write, E: Write>(
     rt: &A,
     call: &Call,
@@ -73,6 +196,9 @@ pub fn perform_stream<A: AllocGlobal, R: BufRead, W: Write, E: Write>(
         Call::Run { script } => {
             let ran = answer_lines(alloc, &mut HostRun::new(alloc), input, out);
             answer(ran, script.as_str(), err)
+        }
+        Call::Closure { .. } | Call::Compare { .. } | Call::Crowd { .. } => {
+            perform(rt, call, input, &mut io::empty(), out, err)
         }
     }
 }

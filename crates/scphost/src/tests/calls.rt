@@ -1,6 +1,8 @@
 //! The forms of the command line, and what is answered to other words.
 
 use crate::call::{Call, Usage, read_call};
+use crate::subject::Format;
+use scripts::name_of;
 use std::alloc::Global;
 use std::process::Abort;
 
@@ -8,7 +10,7 @@ use std::process::Abort;
 fn calls_table<A: Abort>(rt: &A, alloc: Global, words: &[&str], wanted: &str) {
     match read_call(alloc, words) {
         Ok(Call::Table { file }) => assert!(rt; file.as_str() == wanted, "{wanted}"),
-        Ok(Call::Run { script: _ }) => assert!(rt; false, "another call: {wanted}"),
+        Ok(_other) => assert!(rt; false, "another call: {wanted}"),
         Err(_usage) => assert!(rt; false, "refused: {wanted}"),
     }
 }
@@ -17,8 +19,45 @@ fn calls_table<A: Abort>(rt: &A, alloc: Global, words: &[&str], wanted: &str) {
 fn calls_run<A: Abort>(rt: &A, alloc: Global, words: &[&str], wanted: &str) {
     match read_call(alloc, words) {
         Ok(Call::Run { script }) => assert!(rt; script.as_str() == wanted, "{wanted}"),
-        Ok(Call::Table { file: _ }) => assert!(rt; false, "another call: {wanted}"),
+        Ok(_other) => assert!(rt; false, "another call: {wanted}"),
         Err(_usage) => assert!(rt; false, "refused: {wanted}"),
+    }
+}
+
+// The words call `closure` on the script `nets.txt`, for A at slot 2 of network 1, in this form.
+fn calls_closure<A: Abort>(rt: &A, alloc: Global, words: &[&str], wanted: Format) {
+    match read_call(alloc, words) {
+        Ok(
+            Call::Closure {
+                script,
+                subject,
+                format,
+            },
+        ) => {
+            assert!(rt; script.as_str() == "nets.txt" && subject.net == 1);
+            assert!(rt; subject.slot == 2 && format == wanted);
+            assert!(rt; name_of(b"A") == Some(subject.node));
+        }
+        _other => assert!(rt; false, "no such call: {wanted:?}"),
+    }
+}
+
+// The words call `compare` on `a` and `b`, for A at slot 2 of network 1.
+fn calls_compare<A: Abort>(rt: &A, alloc: Global, words: &[&str], wanted: bool) {
+    match read_call(alloc, words) {
+        Ok(
+            Call::Compare {
+                first,
+                second,
+                subject,
+                explain,
+            },
+        ) => {
+            assert!(rt; first.as_str() == "a" && second.as_str() == "b");
+            assert!(rt; subject.net == 1 && subject.slot == 2);
+            assert!(rt; name_of(b"A") == Some(subject.node) && explain == wanted);
+        }
+        _other => assert!(rt; false, "no such call: {wanted}"),
     }
 }
 
@@ -52,6 +91,49 @@ fn reads_each_form(rt: HostRuntime) {
     calls_run(&rt, alloc, &["run", ""], "");
     calls_run(&rt, alloc, &["run", "--", "nets.txt"], "nets.txt");
     calls_run(&rt, alloc, &["run", "--", "-x"], "-x");
+}
+
+#[test]
+fn reads_each_form_of_closure(rt: HostRuntime) {
+    let alloc = rt.alloc();
+    let (text, svg) = (Format::Text, Format::Svg);
+    calls_closure(&rt, alloc, &["closure", "nets.txt", "1", "2", "A"], text);
+    calls_closure(
+        &rt,
+        alloc,
+        &["closure", "--", "nets.txt", "1", "2", "A"],
+        text,
+    );
+    calls_closure(
+        &rt,
+        alloc,
+        &["closure", "--format", "svg", "nets.txt", "1", "2", "A"],
+        svg,
+    );
+    calls_closure(
+        &rt,
+        alloc,
+        &["closure", "nets.txt", "1", "2", "A", "--format=svg"],
+        svg,
+    );
+}
+
+#[test]
+fn reads_each_form_of_compare(rt: HostRuntime) {
+    let alloc = rt.alloc();
+    calls_compare(&rt, alloc, &["compare", "a", "b", "1", "2", "A"], false);
+    calls_compare(
+        &rt,
+        alloc,
+        &["compare", "a", "b", "1", "2", "A", "--explain"],
+        true,
+    );
+    calls_compare(
+        &rt,
+        alloc,
+        &["compare", "--explain", "--", "a", "b", "1", "2", "A"],
+        true,
+    );
 }
 
 #[test]

@@ -1,0 +1,143 @@
+//! Two scripts side by side.
+
+ghost use Rattle.std.specs.Prelude.{◌≡◌, ◌++◌, ◌∷◌, [], false, IfOk, OnOk, codes, string_bytes};
+ghost use Rattle.std.specs.List.{flat_map};
+ghost use Rattle.scripts.specs.Names.{text_of_name};
+ghost use Rattle.scphost.specs.Comparisons.{IsComparison, is_difference, line_of_member, text_of_verdict};
+
+use crate::answer::Answer;
+use crate::explaining::{push_nodes, push_steps};
+use crate::quiet::Told;
+use crate::subject::Subject;
+use runs::push_outs;
+use scripts::push_name;
+use std::alloc::{AllocError, Global};
+use twoworlds::{MemberOuts, Verdict, compare};
+use types::NodeId;
+
+/// A script that has been run, and the name of its file.
+#[derive(Clone, Copy)]
+pub struct Side<'a> {
+    /// The name of the file.
+    pub file: &'a str,
+    /// What became of the networks.
+    pub script: &'a Told,
+}
+
+/// Compares what concerns the subject in two scripts; where it is asked for, a difference is explained. An
+/// error says that memory is short.
+pub fn compared(
+    alloc: Global,
+    one: Side<'_>,
+    other: Side<'_>,
+    subject: &Subject,
+    explain: bool,
+) -> Result<Answer, AllocError>
+    ensures { IfOk result (IsComparison one.entry.script.now.run other.entry.script.now.run subject.now.net subject.now.slot subject.now.node explain) }
+{
+    let verdict = compare(
+        alloc,
+        one.script.run().world(),
+        other.script.run().world(),
+        subject.net,
+        subject.slot,
+        &subject.node,
+    )?;
+    let text = text_of(alloc, one, other, subject, explain, &verdict)?;
+    let differs = is_difference(&verdict);
+    Ok(Answer { differs, text })
+}
+
+// Whether a verdict finds a difference.
+fn is_difference(verdict: &Verdict) -> bool
+    ensures { result ≡ is_difference verdict.now }
+{
+    match verdict {
+        Verdict::CastDiffers(_) | Verdict::InputsDiffer(_) => true,
+        Verdict::Same(_) => false,
+    }
+}
+
+// The lines of a verdict, and behind them what explains a difference, where it is asked for.
+fn text_of(
+    alloc: Global,
+    one: Side<'_>,
+    other: Side<'_>,
+    subject: &Subject,
+    explain: bool,
+    verdict: &Verdict,
+) -> Result<String, AllocError>
+    ensures { IfOk result (λ text. explain ≡ false → string_bytes text ≡ text_of_verdict verdict.now) }
+{
+    let mut text = plain_text(alloc, verdict)?;
+    if explain {
+        push_explanation(alloc, &mut text, one, other, subject, verdict)?;
+    }
+    Ok(text)
+}
+
+// Adds both sides of a difference.
+fn push_explanation(
+    alloc: Global,
+    text: &mut String,
+    one: Side<'_>,
+    other: Side<'_>,
+    subject: &Subject,
+    verdict: &Verdict,
+) -> Result<(), AllocError> {
+    match verdict {
+        Verdict::Same(_) => Ok(()),
+        Verdict::CastDiffers(node) => push_nodes(text, one, other, subject.net, node),
+        Verdict::InputsDiffer(place) => push_steps(alloc, text, one, other, subject, *place),
+    }
+}
+
+// The lines of a verdict.
+fn plain_text(alloc: Global, verdict: &Verdict) -> Result<String, AllocError>
+    ensures { IfOk result (λ text. string_bytes text ≡ text_of_verdict verdict.now) }
+{
+    match verdict {
+        Verdict::CastDiffers(node) => cast_differs(alloc, node),
+        Verdict::InputsDiffer(place) => format!(in alloc; "inputs differ at {place}\n"),
+        Verdict::Same(members) => same(alloc, members.as_slice()),
+    }
+}
+
+// Nothing differs: what each hosted member gave out.
+fn same(alloc: Global, members: &[MemberOuts]) -> Result<String, AllocError>
+    ensures { IfOk result (λ text. string_bytes text ≡ codes "same" ++ 10 ∷ flat_map line_of_member members.now) }
+{
+    let mut text = String::from_str(alloc, "same\n")?;
+    push_members(&mut text, members)?;
+    Ok(text)
+}
+
+// Adds a line for each member.
+fn push_members(text: &mut String, members: &[MemberOuts]) -> Result<(), AllocError>
+    ensures { OnOk result (string_bytes text.new ≡ string_bytes text.old ++ flat_map line_of_member members.now) }
+{
+    for member in members {
+        push_member(text, member)?;
+    }
+    Ok(())
+}
+
+// Adds the line of a member.
+fn push_member(text: &mut String, member: &MemberOuts) -> Result<(), AllocError>
+    ensures { OnOk result (string_bytes text.new ≡ string_bytes text.old ++ line_of_member member.now) }
+{
+    push_name(text, member.name())?;
+    push_outs(text, member.outs())?;
+    text.push('\n')?;
+    Ok(())
+}
+
+// A node is hosted in one alone, or with other slices.
+fn cast_differs(alloc: Global, node: &NodeId) -> Result<String, AllocError>
+    ensures { IfOk result (λ text. string_bytes text ≡ codes "cast differs at " ++ (text_of_name node.now ++ 10 ∷ [])) }
+{
+    let mut text = String::from_str(alloc, "cast differs at ")?;
+    push_name(&mut text, node)?;
+    text.push('\n')?;
+    Ok(text)
+}
