@@ -15,7 +15,7 @@ use Rattle.protocol.specs.Runs.{net_after, refusal_of, state_of}
 use Rattle.protocol.proofs.HostLaws.{applied-journal, steps_to}
 use Rattle.network.specs.Decoding.{reading, step_of}
 use Rattle.hoststep.specs.Logs.{IsEntered, IsRefused, Log, extended}
-use Rattle.hoststep.specs.Worlds.{IsAnswered, IsAnsweredAt, IsToldBy, items_of, and_then, configs_with, joined, log_at, logs_set, logs_with}
+use Rattle.hoststep.specs.Worlds.{IsAnswered, IsAnsweredAt, IsToldBy, items_of, adopted, and_then, configs_with, joined, log_at, logs_set, logs_with}
 
 equal : (a b : ℕ) → a ≡ b → (a == b) ≡ true
 equal a b e = grind (arith, nat_tests, e)
@@ -258,3 +258,69 @@ told-joined h ls config told none = record { configs = configs-are; entries = λ
         let at : log_at ls j ≡ Some m = sym (with-other ls l j y) ∙ found in
         told.entries j m at ∙ history-journal h ls j m told.configs at ∙ ap (journal (new_net m.config)) (sym (others-left config.number j h.calls y))
         ∙ sym (history-journal (joined config h) (logs_with l ls) j m configs-are found)
+
+-- ---- a journal more
+steps-both : (g : ℕ) (cs ds : List (ℕ × Step)) → steps_to g (cs ++ ds) ≡ steps_to g cs ++ steps_to g ds
+unfolding steps_to
+steps-both g [] ds = refl
+steps-both g (c ∷ cs) ds = go (c.0 == g) (steps-both g cs ds)
+  where
+    go : (b : Bool) → steps_to g (cs ++ ds) ≡ steps_to g cs ++ steps_to g ds
+        → (if b then c.1 ∷ steps_to g (cs ++ ds) else steps_to g (cs ++ ds)) ≡ (if b then c.1 ∷ steps_to g cs else steps_to g cs) ++ steps_to g ds
+    go true ih = ap (λ xs. c.1 ∷ xs) ih
+    go false ih = ih
+
+own-left : (g : ℕ) (calls : List (ℕ × Event)) → steps_to g (steps_of reading (filter (λ x. x.0 == g) calls)) ≡ steps_to g (steps_of reading calls)
+unfolding steps_to
+own-left g [] = refl
+own-left g (c ∷ cs) = go (c.0 == g) refl (own-left g cs)
+  where
+    go : (b : Bool) → (c.0 == g) ≡ b → steps_to g (steps_of reading (filter (λ x. x.0 == g) cs)) ≡ steps_to g (steps_of reading cs)
+        → steps_to g (steps_of reading (if b then c ∷ filter (λ x. x.0 == g) cs else filter (λ x. x.0 == g) cs)) ≡ (if b then step_of c.1 ∷ steps_to g (steps_of reading cs) else steps_to g (steps_of reading cs))
+    go true y ih = rw y (ap (λ xs. step_of c.1 ∷ xs) ih)
+    go false y ih = ih
+
+none-own : (g j : ℕ) (calls : List (ℕ × Event)) → (g == j) ≡ false → steps_to j (steps_of reading (filter (λ x. x.0 == g) calls)) ≡ []
+unfolding steps_to
+none-own g j [] other = refl
+none-own g j (c ∷ cs) other = go (c.0 == g) refl (none-own g j cs other)
+  where
+    go : (b : Bool) → (c.0 == g) ≡ b → steps_to j (steps_of reading (filter (λ x. x.0 == g) cs)) ≡ []
+        → steps_to j (steps_of reading (if b then c ∷ filter (λ x. x.0 == g) cs else filter (λ x. x.0 == g) cs)) ≡ []
+    go true y ih = rw (ap (λ n. n == j) (eqb-true c.0 g y) ∙ other) ih
+    go false y ih = ih
+
+-- the steps of a network in the history of a host that takes a journal in
+adopted-steps : (c : Config) (own h : History) (j : ℕ) → steps_to j (steps_of reading (adopted c own h).calls)
+    ≡ steps_to j (steps_of reading (filter (λ x. not (x.0 == c.number)) h.calls)) ++ steps_to j (steps_of reading (filter (λ x. x.0 == c.number) own.calls))
+adopted-steps c own h j =
+    ap (steps_to j) (map-append (λ (x : ℕ × Event). (x.0, step_of x.1)) (filter (λ x. not (x.0 == c.number)) h.calls) (filter (λ x. x.0 == c.number) own.calls))
+    ∙ steps-both j (steps_of reading (filter (λ x. not (x.0 == c.number)) h.calls)) (steps_of reading (filter (λ x. x.0 == c.number) own.calls))
+
+pub told-adopted : (h own : History) (ls : List Log) (l : Log) → IsToldBy h ls → IsToldBy own (l ∷ []) → log_at ls l.config.number ≡ None → IsToldBy (adopted l.config own h) (logs_with l ls)
+told-adopted h own ls l told mine none = record { configs = configs-are; entries = λ j m found. each j m found (l.config.number == j) refl }
+  where
+    g : ℕ
+    g = l.config.number
+
+    configs-are : map (λ k. k.config) (logs_with l ls) ≡ configs_with l.config h.configs
+    configs-are = with-configs ls l ∙ ap (configs_with l.config) told.configs
+
+    there : log_at (l ∷ []) g ≡ Some l
+    there = rw (equal g g refl) refl
+
+    each : (j : ℕ) (m : Log) → log_at (logs_with l ls) j ≡ Some m → (b : Bool) → (g == j) ≡ b → m.entries ≡ entries reading (adopted l.config own h) j
+    each j m found true y =
+        let e : g ≡ j = eqb-true g j y in
+        let q : l ≡ m = let z : Some l ≡ Some m = sym (with-own ls l none) ∙ ap (log_at (logs_with l ls)) e ∙ found in cc in
+        sym (ap (λ (x : Log). x.entries) q) ∙ mine.entries g l there ∙ history-journal own (l ∷ []) g l mine.configs there
+        ∙ ap (journal (new_net l.config)) (sym (own-left g own.calls) ∙ ap (λ (xs : List Step). xs ++ steps_to g (steps_of reading (filter (λ x. x.0 == g) own.calls))) (sym (none-left g h.calls)) ∙ sym (adopted-steps l.config own h g))
+        ∙ ap (λ (x : Log). journal (new_net x.config) (steps_to g (steps_of reading (adopted l.config own h).calls))) q
+        ∙ ap (λ n. journal (new_net m.config) (steps_to n (steps_of reading (adopted l.config own h).calls))) e
+        ∙ sym (history-journal (adopted l.config own h) (logs_with l ls) j m configs-are found)
+    each j m found false y =
+        let at : log_at ls j ≡ Some m = sym (with-other ls l j y) ∙ found in
+        told.entries j m at ∙ history-journal h ls j m told.configs at
+        ∙ ap (journal (new_net m.config)) (sym (others-left g j h.calls y) ∙ sym (append-nil (steps_to j (steps_of reading (filter (λ x. not (x.0 == g)) h.calls))))
+        ∙ ap (λ (xs : List Step). steps_to j (steps_of reading (filter (λ x. not (x.0 == g)) h.calls)) ++ xs) (sym (none-own g j own.calls y)) ∙ sym (adopted-steps l.config own h j))
+        ∙ sym (history-journal (adopted l.config own h) (logs_with l ls) j m configs-are found)

@@ -28,3 +28,18 @@ given_there kept xs entries n x is same within at =
   where
     below : (a b : ℕ) → true ≡ nat_lt a b → a < b
     below a b h = grind (arith, nat_tests, h)
+
+-- the whole entry, and none
+pub entry_there : (kept xs : List Kept) (entries : List Entry) (n : ℕ) (x : Kept) → map entry_of kept ≡ entries → xs ≡ kept → true ≡ nat_lt n (length xs) → x ≡ get_or xs n x → slice_get entries n ≡ Some (entry_of x)
+entry_there kept xs entries n x is same within at =
+    looked-up kept entries n (Some x) is (ap (λ (ys : List Kept). slice_get ys n) (sym same) ∙ slice_get_read xs (length xs) n x refl (below n (length xs) within) at)
+  where
+    below : (a b : ℕ) → true ≡ nat_lt a b → a < b
+    below a b h = grind (arith, nat_tests, h)
+
+pub no_entry_there : (kept xs : List Kept) (entries : List Entry) (n : ℕ) → map entry_of kept ≡ entries → xs ≡ kept → false ≡ nat_lt n (length xs) → slice_get entries n ≡ None
+no_entry_there kept xs entries n is same past =
+    looked-up kept entries n None is (ap (λ (ys : List Kept). slice_get ys n) (sym same) ∙ slice_get_past xs n (not-below n (length xs) past))
+  where
+    not-below : (a b : ℕ) → false ≡ nat_lt a b → b ≤ a
+    not-below a b h = grind (arith, nat_tests, h)

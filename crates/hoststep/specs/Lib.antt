@@ -3,3 +3,4 @@ pub mod Keeping
 pub mod Entering
 pub mod Worlds
 pub mod Lending
+pub mod Deciding

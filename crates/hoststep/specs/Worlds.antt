@@ -62,6 +62,10 @@ configs_with c (k ∷ ks) = if nat_lt k.number c.number then k ∷ configs_with 
 abbrev pub joined : Config → History → History
 joined c h = record { configs = configs_with c h.configs; calls = filter (λ x. not (x.0 == c.number)) h.calls }
 
+-- a history where one more network is there with what another history does to it, behind all else
+abbrev pub adopted : Config → History → History → History
+adopted c own h = record h { configs = configs_with c h.configs; calls = filter (λ x. not (x.0 == c.number)) h.calls ++ filter (λ x. x.0 == c.number) own.calls }
+
 -- the journals are those of a history: its configurations, and of each network the entries that the history applies to it
 pub record IsToldBy (h : History) (logs : List Log) : Type 0 where
   pub configs : map (λ l. l.config) logs ≡ h.configs

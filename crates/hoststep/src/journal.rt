@@ -1,14 +1,16 @@
 //! A network with its journal.
 
-ghost use Rattle.std.specs.Prelude.{◌≡◌, ◌++◌, [], IfErr, IfOk, ◌==◌, None, OnErr, OnOk, Some, length, option_map, slice_get, take};
+ghost use Rattle.std.specs.Prelude.{◌≡◌, ◌++◌, [], IfErr, IfOk, ◌==◌, None, OnErr, OnOk, Some, length, option_map, option_to_list, slice_get, take};
 ghost use Rattle.protocol.specs.Runs.{IsRun};
 ghost use Rattle.network.specs.Decoding.{step_of};
 ghost use Rattle.hoststep.specs.Logs.{IsEntered, IsEntryAt, IsRecorded, IsRefused, extended};
 ghost use Rattle.hoststep.specs.Entering.{IsEnteredWith, outs_after};
 ghost use Rattle.hoststep.specs.Lending.{lent_step, outs_at};
+ghost use Rattle.hoststep.specs.Deciding.{decided_by, decisions_at};
 
 use crate::entered::{Entered, both, only};
 use crate::kept::{Kept, kept_event, push_whole_outs, whole_event};
+use crate::lent_decision::{LentDecision, lent_decision};
 use crate::lent_event::{LentEvent, lent_event};
 use crate::recorded::Recorded;
 use configuration::NetConfig;
@@ -176,6 +178,17 @@ impl<S: Shelf> Journal<S> {
         match self.entries.get(number) {
             None => None,
             Some(kept) => Some(lent_event(&self.network, &kept.event)),
+        }
+    }
+
+    /// What the entry of this number decided, read in place: all of it, since an event decides one value at most.
+    /// `None` where it decided none, and past the last. It takes no memory.
+    pub fn decision(&self, number: usize) -> Option<LentDecision<'_>>
+        ensures { option_to_list (option_map decided_by result) ≡ decisions_at self.now.entries number }
+    {
+        match self.entries.get(number) {
+            None => None,
+            Some(kept) => lent_decision(&self.network, kept),
         }
     }
 

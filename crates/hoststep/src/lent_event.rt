@@ -1,11 +1,14 @@
 //! An event of a journal, read in place.
 
 ghost use Rattle.std.specs.Prelude.{◌≡◌};
+ghost use Rattle.envstore.specs.Archives.{IsFiled, sent_of};
+ghost use Rattle.protocol.specs.Networks.Reading.{Read};
+ghost use Rattle.protocol.specs.Networks.Step.{Delivers};
 ghost use Rattle.hoststep.specs.Keeping.{IsKeptEvent, step_in};
 ghost use Rattle.hoststep.specs.Lending.{lent_step};
 
 use crate::kept::KeptEvent;
-use envstore::Shelf;
+use envstore::{Filed, Shelf};
 use network::Network;
 use types::{Bytes, Envelope, Kind, Nested, NodeId};
 
@@ -82,11 +85,7 @@ pub(crate) fn lent_event<'a, S: Shelf>(
             node,
             size,
             envelope,
-        } => LentEvent::Deliver {
-            node: *node,
-            size: *size,
-            envelope: network.read(envelope),
-        },
+        } => lent_delivery(network, *node, *size, envelope),
         KeptEvent::Hear {
             slot,
             node,
@@ -119,5 +118,22 @@ pub(crate) fn lent_event<'a, S: Shelf>(
             node: *node,
             slices,
         },
+    }
+}
+
+/// A delivery as it is kept, with its envelope read in place.
+fn lent_delivery<'a, S: Shelf>(
+    network: &'a Network<S>,
+    node: NodeId,
+    size: u64,
+    filed: &'a Filed,
+) -> LentEvent<'a>
+    requires { IsFiled network.now.archive filed.now }
+    ensures { lent_step result ≡ Delivers node size (Read (sent_of filed.now)) }
+{
+    LentEvent::Deliver {
+        node,
+        size,
+        envelope: network.read(filed),
     }
 }

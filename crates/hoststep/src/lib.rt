@@ -10,6 +10,7 @@ mod announcing;
 mod entered;
 mod journal;
 mod kept;
+mod lent_decision;
 mod lent_event;
 mod machine;
 mod recorded;
@@ -17,6 +18,7 @@ mod world;
 
 pub use configuration::{Budgets, ConfigError, Host, NetConfig, Roster, Shares};
 pub use journal::Journal;
+pub use lent_decision::LentDecision;
 pub use lent_event::LentEvent;
 pub use machine::NetMachine;
 pub use recorded::Recorded;

@@ -240,3 +240,37 @@ fn slices_hold_at_their_slot(rt: HostRuntime) -> Result<(), Fail> {
     assert!(rt; journal.slices(&name(2)).is_none() && journal.slices_then(&name(3), 5).is_none());
     Ok(())
 }
+
+/// A journal where node 1, which needs itself alone, was told to propose a value at slot 5.
+fn decided_alone(alloc: Global) -> Option<Journal<VecShelf>> {
+    let hosts = vec![in alloc; Host::new(name(1), slices(alloc, 1)?)].ok()?;
+    let config = NetConfig::new(alloc, 7, hosts, Budgets::new(9, 1000, 1)?).ok()?;
+    let journal = Journal::new(alloc, config, VecShelf::new(alloc));
+    let journal = with_event(journal, Event::OpenSlot { slot: 5 })?;
+    let proposal = Event::Propose {
+        slot: 5,
+        node: name(1),
+        value: Bytes::new(Vec::from_slice(alloc, b"x").ok()?),
+    };
+    with_event(journal, proposal)
+}
+
+/// Whether the entry of this number, read in place, has node 1 decide this value for slot 5.
+fn decides_in_place(journal: &Journal<VecShelf>, number: usize, value: &[u8]) -> bool {
+    match &journal.decision(number) {
+        Some(decision) => {
+            decision.slot == 5
+                && decision.node.is_same(&name(1))
+                && decision.value.as_bytes() == value
+        }
+        None => false,
+    }
+}
+
+#[test]
+fn decisions_are_read_in_place(rt: HostRuntime) -> Result<(), Fail> {
+    let journal = decided_alone(rt.alloc()).ok_or("memory")?;
+    assert!(rt; decides_in_place(&journal, 1, b"x") && !decides_in_place(&journal, 1, b"y"));
+    assert!(rt; journal.decision(0).is_none() && journal.decision(2).is_none());
+    Ok(())
+}

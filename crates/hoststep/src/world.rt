@@ -1,9 +1,9 @@
 //! The journals of many networks, by number.
 
-ghost use Rattle.std.specs.Prelude.{◌≡◌, ◌<◌, ◌≢◌, [], Err, IfErr, None, OnErr, OnOk, length, option_map};
+ghost use Rattle.std.specs.Prelude.{◌≡◌, ◌<◌, ◌≢◌, [], Err, IfErr, None, OnErr, OnOk, ◌∷◌, length, option_map};
 ghost use Rattle.protocol.specs.Hosts.{History};
 ghost use Rattle.types.specs.declared.event.Refusal.TheVariants.{NoMemory};
-ghost use Rattle.hoststep.specs.Worlds.{IsAnswered, IsNotAdded, IsPlaceOf, IsToldBy, and_then, joined, log_at, logs_with};
+ghost use Rattle.hoststep.specs.Worlds.{IsAnswered, IsNotAdded, IsPlaceOf, IsToldBy, adopted, and_then, joined, log_at, logs_with};
 
 use crate::journal::Journal;
 use configuration::NetConfig;
@@ -90,11 +90,15 @@ impl<S: Shelf> World<S> {
 
     /// The journal of a network joins, with all that it has, in the place of its number. It is handed back
     /// where a network of that number is there, or 4,096 are, or memory is short; then the host is as it was.
+    ///
+    /// Where the journal is that of a history of its own, the host's history is from then on one in which the
+    /// events of that history come last; events of the host's that named its number before were refused.
     pub fn adopt(&mut self, journal: Journal<S>) -> Result<(), Journal<S>>
         ensures ok { OnOk result (self.new ≡ logs_with journal self.old) }
         ensures fresh { OnOk result (log_at self.old journal.config.number ≡ None) }
         ensures back { IfErr result (λ j. j ≡ journal) }
         ensures same { OnErr result (self.new ≡ self.old) }
+        ensures told { (h own : History) → IsToldBy h self.old → IsToldBy own (journal ∷ []) → OnOk result (IsToldBy (adopted journal.config own h) self.new) }
     {
         match self.join(journal) {
             Ok(()) => Ok(()),

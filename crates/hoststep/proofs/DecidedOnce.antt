@@ -1,0 +1,113 @@
+-- An event decides one value at most.
+use Rattle.std.proofs.Common.{◌≡◌, ℕ, ◌≤◌, ◌==◌, ◌&&◌, not, is_none, Bool, true, false, List, [], ◌∷◌, ◌++◌, length, take, slice_get, option_to_list, if◌then◌else◌, Option, Some, None, refl, sym, ap, ◌∙◌, subst, arith}
+use Rattle.types.specs.declared.ballot.Ballot.{Ballot}
+use Rattle.types.specs.declared.statement.Statement.{Statement}
+use Rattle.types.specs.declared.event.NodeEvent.{NodeEvent}
+use Rattle.types.specs.declared.event.NodeEvent.TheVariants.{Propose, Take, NominationTimer, BallotTimer, Reslice}
+use Rattle.types.specs.declared.event.Out.{Out}
+use Rattle.types.specs.declared.event.Out.TheVariants.{ArmNomination, ArmBallot, Emit, Externalized}
+use Rattle.types.specs.Statements.{Sent}
+use Rattle.protocol.specs.Hosts.{Config, Entry}
+use Rattle.protocol.specs.Networks.{Net, Place, Step, act, act_known, effect, emission, known, outs_at, places_at}
+use Rattle.protocol.specs.Networks.Reading.{Read, Fault}
+use Rattle.protocol.specs.Networks.Step.{Opens, Closes, Asks, Delivers, Hears, NominationTimes, BallotTimes, Reslices}
+use Rattle.protocol.specs.Nodes.{Node, after_change, answered, change, decided, emitted, is_externalized, outs, step, when}
+use Rattle.protocol.specs.Runs.{IsRun, state_of}
+use Rattle.protocol.specs.Sameness.{same_sent}
+use Rattle.protocol.specs.States.{counter_of, sent_nomination, sent_vote}
+use Rattle.hoststep.specs.Deciding.{values_in}
+
+abbrev AtMostOne : List Out → Type 0
+AtMostOne os = length (values_in os) ≤ 1
+
+none-there : 0 ≤ 1
+none-there = omega (arith)
+
+one-there : 1 ≤ 1
+one-there = omega (arith)
+
+values-append : (xs ys : List Out) → values_in (xs ++ ys) ≡ values_in xs ++ values_in ys
+values-append [] ys = refl
+values-append (ArmNomination r ∷ xs) ys = values-append xs ys
+values-append (ArmBallot n ∷ xs) ys = values-append xs ys
+values-append (Emit e ∷ xs) ys = values-append xs ys
+values-append (Externalized x ∷ xs) ys = ap (λ (vs : List (List ℕ)). x ∷ vs) (values-append xs ys)
+
+-- behind what decides nothing
+after-none : (xs ys : List Out) → values_in xs ≡ [] → values_in (xs ++ ys) ≡ values_in ys
+after-none xs ys h = values-append xs ys ∙ ap (λ (vs : List (List ℕ)). vs ++ values_in ys) h
+
+round-timer : (b : Bool) (r : ℕ) → values_in (when b (ArmNomination r)) ≡ []
+round-timer true r = refl
+round-timer false r = refl
+
+ballot-timer : (b : Bool) (n : ℕ) → values_in (when b (ArmBallot n)) ≡ []
+ballot-timer true n = refl
+ballot-timer false n = refl
+
+sent : (n : Node) (old new : Option Statement) → values_in (emitted n old new) ≡ []
+sent n old None = refl
+sent n old (Some s) = go (same_sent old (Some s))
+  where
+    go : (b : Bool) → values_in (if b then [] else Emit (record { sender = n.name; slot = n.slot; slices = n.slices; body = s }) ∷ []) ≡ []
+    go true = refl
+    go false = refl
+
+value : (b : Bool) (x : Option Ballot) → AtMostOne (if b then decided x else [])
+value true None = none-there
+value true (Some x) = one-there
+value false x = none-there
+
+after-sent : (a b c d e : List Out) → values_in a ≡ [] → values_in b ≡ [] → values_in c ≡ [] → values_in d ≡ [] → AtMostOne e → AtMostOne (a ++ b ++ c ++ d ++ e)
+after-sent a b c d e ha hb hc hd he =
+    subst (λ (vs : List (List ℕ)). length vs ≤ 1)
+    (sym (after-none (a ++ b ++ c ++ d) e (after-none (a ++ b ++ c) d (after-none (a ++ b) c (after-none a b ha ∙ hb) ∙ hc) ∙ hd))) he
+
+by-node : (old : Node) (new : Option Node) → AtMostOne (answered old new).1
+unfolding outs
+by-node old None = none-there
+by-node old (Some new) =
+    let is_armed = not (new.votes.armed == old.votes.armed) && (new.votes.armed == counter_of new.votes.ballot) && not (is_externalized new.votes.phase) in
+    let is_round = not (new.given.round == old.given.round) && is_none new.votes.high in
+    let is_now = is_externalized new.votes.phase && not (is_externalized old.votes.phase) in
+    after-sent (when is_round (ArmNomination new.given.round)) (when is_armed (ArmBallot new.votes.armed))
+    (emitted new (sent_nomination old.votes) (sent_nomination new.votes)) (emitted new (sent_vote old.votes) (sent_vote new.votes))
+    (if is_now then decided new.votes.ballot else [])
+    (round-timer is_round new.given.round) (ballot-timer is_armed new.votes.armed)
+    (sent new (sent_nomination old.votes) (sent_nomination new.votes)) (sent new (sent_vote old.votes) (sent_vote new.votes))
+    (value is_now new.votes.ballot)
+
+at-place : (e : NodeEvent) (p : Option Place) → AtMostOne (outs_at e p)
+unfolding step
+at-place e None = none-there
+at-place e (Some p) = by-node p.node (after_change (change p.node e))
+
+by-act : (net : Net) (i u : ℕ) (e : NodeEvent) → AtMostOne (act net i u e).1
+unfolding act
+by-act net i u e = at-place e (known (places_at net.slots i) u)
+
+by-hearing : (net : Net) (i u : ℕ) (e : Option Sent) → AtMostOne (act_known net i u e).1
+by-hearing net i u None = none-there
+by-hearing net i u (Some e) = by-act net i u (Take e)
+
+by-event : (net : Net) (e : Step) → AtMostOne (effect net e).1
+unfolding effect
+by-event net (Opens i) = none-there
+by-event net (Closes i) = none-there
+by-event net (Asks i u x) = by-act net i u (Propose x)
+by-event net (Delivers u size (Read e)) = by-act net e.slot u (Take e)
+by-event net (Delivers u size (Fault n)) = none-there
+by-event net (Hears i u from kind k) = by-hearing net i u (emission (known (places_at net.slots i) from) kind k)
+by-event net (NominationTimes i u r) = by-act net i u (NominationTimer r)
+by-event net (BallotTimes i u n) = by-act net i u (BallotTimer n)
+by-event net (Reslices i u q) = by-act net i u (Reslice q)
+
+-- of an entry in a run
+pub decided-once : (config : Config) (entries : List Entry) (k : ℕ) (x : Entry) → IsRun config entries → slice_get entries k ≡ Some x → length (values_in x.outs) ≤ 1
+decided-once config entries k x run at = subst (λ (os : List Out). length (values_in os) ≤ 1) (sym (run.outs k x at)) (by-event (state_of config (take k entries)) x.event)
+
+-- the first of one value at most is all of them
+pub first-is-all : (xs : List (List ℕ)) (o : Option (List ℕ)) → o ≡ slice_get xs 0 → length xs ≤ 1 → option_to_list o ≡ xs
+first-is-all [] o is few = ap option_to_list is
+first-is-all (x ∷ []) o is few = ap option_to_list is
+first-is-all (x ∷ y ∷ zs) o is few = absurd (omega (arith, few))

@@ -1,0 +1,57 @@
+-- What the entries of a journal decided.
+use Rattle.std.specs.Prelude.{ℕ, List, [], ◌∷◌, ◌++◌, drop, map, slice_get, Option, Some, None}
+use Rattle.types.specs.declared.event.Out.{Out}
+use Rattle.types.specs.declared.event.Out.TheVariants.{ArmNomination, ArmBallot, Emit, Externalized}
+use Rattle.protocol.specs.Hosts.{Entry}
+use Rattle.network.specs.Marks.{place_named}
+use Rattle.hoststep.specs.Logs.{Log}
+use Rattle.hoststep.specs.declared.lent_decision.LentDecision.{LentDecision}
+
+-- a node externalized a value for a slot
+pub record Decided : Type 0 where
+  pub slot : ℕ
+  pub node : ℕ
+  pub value : List ℕ
+
+-- the values that are externalized, of all that is given out
+abbrev pub values_in : List Out → List (List ℕ)
+values_in [] = []
+values_in (ArmNomination r ∷ os) = values_in os
+values_in (ArmBallot n ∷ os) = values_in os
+values_in (Emit e ∷ os) = values_in os
+values_in (Externalized x ∷ os) = x ∷ values_in os
+
+-- these values, decided at this slot by this node
+abbrev pub decided_at : Option (ℕ × ℕ) → List (List ℕ) → List Decided
+decided_at None xs = []
+decided_at (Some at) xs = map (λ x. record { slot = at.0; node = at.1; value = x }) xs
+
+-- all that an entry decided: each value that it gives out, at the slot and by the node of its event
+abbrev pub decisions_in : Entry → List Decided
+decisions_in x = decided_at (place_named x.event) (values_in x.outs)
+
+-- nothing where there is no entry
+abbrev pub decisions_in_any : Option Entry → List Decided
+decisions_in_any None = []
+decisions_in_any (Some x) = decisions_in x
+
+-- what the entry with this number decided, from 0 on; nothing past the last
+abbrev pub decisions_at : List Entry → ℕ → List Decided
+decisions_at entries n = decisions_in_any (slice_get entries n)
+
+-- all that these entries decided, in order
+abbrev pub decisions_by : List Entry → List Decided
+decisions_by [] = []
+decisions_by (x ∷ xs) = decisions_in x ++ decisions_by xs
+
+-- all that a journal decided, in order
+abbrev pub decisions_of : Log → List Decided
+decisions_of l = decisions_by l.entries
+
+-- what the entries from this number on decided
+abbrev pub decisions_from : List Entry → ℕ → List Decided
+decisions_from entries n = decisions_by (drop n entries)
+
+-- a decision that is lent
+abbrev pub decided_by : LentDecision → Decided
+decided_by d = record { slot = d.slot; node = d.node; value = d.value.now }

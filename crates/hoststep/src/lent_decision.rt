@@ -1,0 +1,73 @@
+//! A decision of a journal, read in place.
+
+ghost use Rattle.std.specs.Prelude.{◌≡◌, ◌≤◌, length, option_map, option_to_list, slice_get};
+ghost use Rattle.network.specs.Marks.{place_named};
+ghost use Rattle.slot.specs.Filings.{outs_of};
+ghost use Rattle.hoststep.specs.Deciding.{decided_at, decided_by, decisions_in, values_in};
+ghost use Rattle.hoststep.specs.Keeping.{IsKeptEvent, entry_of, step_in};
+
+use crate::kept::{Kept, KeptEvent};
+use envstore::Shelf;
+use network::Network;
+use slot::FiledOut;
+use types::{NodeId, Value};
+
+/// A hosted node externalized a value for a slot. The value stands where the journal has it.
+#[derive(Clone, Copy)]
+pub struct LentDecision<'a> {
+    pub slot: u64,
+    pub node: NodeId,
+    pub value: &'a Value,
+}
+
+/// What an entry decided, read in place. It takes no memory.
+pub(crate) fn lent_decision<'a, S: Shelf>(
+    network: &'a Network<S>,
+    kept: &'a Kept,
+) -> Option<LentDecision<'a>>
+    requires filed { IsKeptEvent network.now.archive kept.now.event }
+    requires once { length (values_in (outs_of kept.now.outs.items)) ≤ 1 }
+    ensures { option_to_list (option_map decided_by result) ≡ decisions_in (entry_of kept.now) }
+{
+    decision_at(place_named(network, &kept.event), first_value(&kept.outs))
+}
+
+/// The value, decided at this slot by this node.
+fn decision_at(place: Option<(u64, NodeId)>, value: Option<&Value>) -> Option<LentDecision<'_>>
+    ensures { option_to_list (option_map decided_by result) ≡ decided_at place (option_to_list (option_map (λ v. v.now) value.entry)) }
+{
+    match place {
+        None => None,
+        Some((slot, node)) => match value {
+            None => None,
+            Some(value) => Some(LentDecision { slot, node, value }),
+        },
+    }
+}
+
+/// The first value that is externalized, of all that was given out.
+fn first_value(outs: &[FiledOut]) -> Option<&Value>
+    ensures { option_map (λ v. v.now) result ≡ slice_get (values_in (outs_of outs.now)) 0 }
+{
+    match outs {
+        [] => None,
+        [FiledOut::Externalized(value), ..] => Some(value),
+        [_, rest @ ..] => first_value(rest),
+    }
+}
+
+/// The slot and the node of an event, where it is one of a node.
+fn place_named<S: Shelf>(network: &Network<S>, event: &KeptEvent) -> Option<(u64, NodeId)>
+    requires { IsKeptEvent network.now.archive event.now }
+    ensures { result ≡ place_named (step_in event.now) }
+{
+    match event {
+        KeptEvent::OpenSlot { .. } | KeptEvent::CloseSlot { .. } => None,
+        KeptEvent::Deliver { node, envelope, .. } => Some((network.read(envelope).slot(), *node)),
+        KeptEvent::Propose { slot, node, .. } => Some((*slot, *node)),
+        KeptEvent::Hear { slot, node, .. } => Some((*slot, *node)),
+        KeptEvent::NominationTimer { slot, node, .. } => Some((*slot, *node)),
+        KeptEvent::BallotTimer { slot, node, .. } => Some((*slot, *node)),
+        KeptEvent::Reslice { slot, node, .. } => Some((*slot, *node)),
+    }
+}
