@@ -4,6 +4,8 @@ use Rattle.scripts.specs.Script.{Bytes}
 use Rattle.scripts.specs.Names.{digits_bytes, octets_in, word_name}
 use Rattle.scripts.specs.Numbers.{IsDecimal, decimal}
 use Rattle.scripts.specs.Values.{word_value}
+use Rattle.scripts.specs.Slices.{AreSlices}
+use Rattle.scripts.specs.Statements.{word_statement}
 use Rattle.codec.specs.Spelling.{Spells}
 use Rattle.types.specs.Statements.{Sent}
 use Rattle.types.specs.declared.event.Event.{Event}
@@ -47,8 +49,8 @@ abbrev pub word_proposal : Bytes → Option Bytes
 word_proposal [] = None
 word_proposal (c ∷ rest) = if c == 35 then digits_bytes rest else word_value (c ∷ rest)
 
--- the fields after the number of the network ask for this event: its slot, names, numbers, bytes and kind of emissions are those that they
--- spell. Of slices and statements this does not say yet which the words spell.
+-- the fields after the number of the network ask for this event: its slot, names, numbers, bytes, slices and kind of emissions are those that
+-- they spell
 abbrev pub AsksOpen : List Bytes → Event → Type 0
 AsksOpen (i ∷ []) (OpenSlot slot) = IsNumber i slot
 AsksOpen fields e = ⊥
@@ -65,12 +67,13 @@ abbrev pub AsksDeliver : List Bytes → Event → Type 0
 AsksDeliver (name ∷ digits ∷ []) (Deliver u bytes) = IsNameOf name u × (octets_in digits ≡ Some bytes)
 AsksDeliver fields e = ⊥
 
--- the bytes spell an envelope of that sender and slot
-abbrev pub AreSaid : Bytes → Bytes → Bytes → Type 0
-AreSaid bytes from i = (e : Sent) × Spells bytes e × IsNameOf from e.sender × IsNumber i e.slot
+-- the bytes spell an envelope of the sender, slot, slices and statement that the words spell
+abbrev pub AreSaid : Bytes → Bytes → Bytes → Bytes → Bytes → Type 0
+AreSaid bytes from i slices statement =
+    (e : Sent) × Spells bytes e × IsNameOf from e.sender × IsNumber i e.slot × AreSlices slices (Some e.slices) × (word_statement statement ≡ Some e.body)
 
 abbrev pub AsksSay : List Bytes → Event → Type 0
-AsksSay (name ∷ from ∷ i ∷ slices ∷ statement ∷ []) (Deliver u bytes) = IsNameOf name u × AreSaid bytes from i
+AsksSay (name ∷ from ∷ i ∷ slices ∷ statement ∷ []) (Deliver u bytes) = IsNameOf name u × AreSaid bytes from i slices statement
 AsksSay fields e = ⊥
 
 abbrev pub AsksHear : List Bytes → Event → Type 0
@@ -87,7 +90,7 @@ AsksBallotTimer (i ∷ name ∷ counter ∷ []) (BallotTimer slot u n) = IsNumbe
 AsksBallotTimer fields e = ⊥
 
 abbrev pub AsksReslice : List Bytes → Event → Type 0
-AsksReslice (i ∷ name ∷ slices ∷ []) (Reslice slot u q) = IsNumber i slot × IsNameOf name u
+AsksReslice (i ∷ name ∷ slices ∷ []) (Reslice slot u q) = IsNumber i slot × IsNameOf name u × AreSlices slices (Some q)
 AsksReslice fields e = ⊥
 
 -- a line of a kind, by its fields after the number of the network, asks for this event

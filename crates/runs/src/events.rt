@@ -118,7 +118,7 @@ fn said(
     slices: &[u8],
     statement: &[u8],
 ) -> Result<Bytes, LineError>
-    ensures { IfOk result (λ bytes. AreSaid bytes from.now slot.now) }
+    ensures { IfOk result (λ bytes. AreSaid bytes from.now slot.now slices.now statement.now) }
 {
     let Some(from) = name_of(from) else {
         return Err(LineError::Bad);
@@ -126,8 +126,12 @@ fn said(
     let Some(slot) = number_of(slot) else {
         return Err(LineError::Bad);
     };
-    let slices = slices_of(alloc, slices)?.ok_or(LineError::Bad)?;
-    let body = statement_of(alloc, statement)?.ok_or(LineError::Bad)?;
+    let Some(slices) = slices_of(alloc, slices)? else {
+        return Err(LineError::Bad);
+    };
+    let Some(body) = statement_of(alloc, statement)? else {
+        return Err(LineError::Bad);
+    };
     let Some(envelope) = Envelope::new(from, slot, slices, body) else {
         return Err(LineError::Bad);
     };
@@ -232,6 +236,8 @@ pub(crate) fn reslice(alloc: Global, fields: &[&[u8]]) -> Result<Event, LineErro
     let Some(node) = name_of(node) else {
         return Err(LineError::Bad);
     };
-    let slices = slices_of(alloc, slices)?.ok_or(LineError::Bad)?;
+    let Some(slices) = slices_of(alloc, slices)? else {
+        return Err(LineError::Bad);
+    };
     Ok(Event::Reslice { slot, node, slices })
 }

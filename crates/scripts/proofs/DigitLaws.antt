@@ -1,8 +1,8 @@
 -- Bytes that are printed as hexadecimal digits are read back.
-use Rattle.std.proofs.Common.{◌≡◌, ◌∙◌, ℕ, zero, suc, ◌+◌, ◌*◌, ◌/◌, ◌%◌, ◌<◌, Bool, true, false, [], ◌∷◌, ◌++◌, length, refl, sym, ap, arith, inl, inr}
-use Rattle.std.specs.Prelude.{◌&&◌, slice_index, Some, None, Ok, if◌then◌else◌}
+use Rattle.std.proofs.Common.{◌≡◌, ℕ, zero, suc, ◌/◌, ◌%◌, ◌<◌, Bool, true, [], ◌∷◌, ◌++◌, refl, arith, inl, inr}
+use Rattle.std.specs.Prelude.{◌&&◌, slice_index, Some}
 use Rattle.std.proofs.lemmas.Bool.{cases_lt}
-use Rattle.hex.specs.Hex.{IsBytes, decode_of, encode_with, encode_lower, lower_digits}
+use Rattle.hex.specs.Hex.{IsBytes, encode_with, encode_lower, lower_digits}
 use Rattle.hex.proofs.HexLemmas.{decode_of-encode_lower}
 use Rattle.scripts.specs.Script.{Bytes}
 use Rattle.scripts.specs.Values.{is_lower_digit, is_lower_hex}

@@ -1,4 +1,4 @@
-mod NumberLaws
+pub mod NumberLaws
 pub mod ScriptLemmas
 pub mod InputLemmas
 pub mod ValueLemmas
@@ -10,3 +10,9 @@ pub mod DigitLaws
 pub mod NamesRead
 pub mod SliceLaws
 pub mod ValuesRead
+pub mod SlicesRead
+pub mod SlicesSpelled
+pub mod SlicesPrinted
+pub mod StatementsRead
+pub mod ValueLists
+pub mod FrontLaws

@@ -1,16 +1,16 @@
 -- A name is read back from the word that it is printed as.
 use Rattle.std.proofs.Common.{◌≡◌, ◌∙◌, ℕ, zero, suc, ◌+◌, ◌-◌, ◌*◌, ◌/◌, ◌%◌, ◌^◌, ◌<◌, ◌≤◌, Bool, true, false, cond, [], ◌∷◌, ◌++◌, length, take, drop, refl, sym, ap, arith, append_assoc, ne_eqb, length-append}
-use Rattle.std.specs.Prelude.{◌==◌, ◌&&◌, nat_le, nat_lt, replicate, option_map, Option, Some, None, if◌then◌else◌}
+use Rattle.std.specs.Prelude.{◌==◌, ◌&&◌, nat_le, replicate, option_map, Some}
 use Rattle.std.specs.Int.{w64, byte_at, bytes_high_first, to_be_bytes, from_be_bytes}
 use Rattle.std.proofs.Math.Seq.{take-append_seam, drop-append_seam}
 use Rattle.std.proofs.lemmas.Bool.{eq-eqb}
 use Rattle.std.proofs.lemmas.Bool.Decides.{nat_tests}
 use Rattle.std.proofs.lemmas.Nat.{from_be_bytes-to_be_bytes_8}
 use Rattle.types.specs.Trees.{IsName}
-use Rattle.hex.specs.Hex.{IsBytes, encode_lower, encode_with, lower_digits}
+use Rattle.hex.specs.Hex.{IsBytes, encode_lower, lower_digits}
 use Rattle.hex.proofs.HexLemmas.{length-encode_with}
 use Rattle.scripts.specs.Script.{Bytes}
-use Rattle.scripts.specs.Names.{bytes_of_name, name_of_bytes, long_at, short, is_short_name, padded, text_of_bytes, text_of_name, word_bytes, word_name, digits_bytes}
+use Rattle.scripts.specs.Names.{bytes_of_name, name_of_bytes, short, is_short_name, text_of_bytes, text_of_name, word_bytes, word_name}
 use Rattle.scripts.proofs.DigitLaws.{digits_read, both_bytes}
 use Rattle.scripts.proofs.RunLaws.{append_nothing}
 

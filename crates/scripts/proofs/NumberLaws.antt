@@ -55,7 +55,7 @@ below_tested n bound h = grind (arith, nat_tests)
 tested_below : (n bound : ℕ) → nat_lt n bound ≡ true → n < bound
 tested_below n bound e = grind (arith, nat_tests)
 
-read_number : (n bound : ℕ) (word : List ℕ) → IsDecimal word → decimal word < bound → n ≡ decimal word → Some n ≡ word_number bound word
+pub read_number : (n bound : ℕ) (word : List ℕ) → IsDecimal word → decimal word < bound → n ≡ decimal word → Some n ≡ word_number bound word
 read_number n bound word h below e = simp (decimal_tested word h, below_tested (decimal word) bound below) (ap Some e)
 
 no_number : (bound : ℕ) (word : List ℕ) (is below : Bool) → is_decimal word ≡ is → nat_lt (decimal word) bound ≡ below

@@ -2,7 +2,7 @@
 use Rattle.std.proofs.Common.{◌≡◌, ◌∙◌, ℕ, zero, suc, ◌+◌, ◌<◌, ◌≤◌, Bool, true, false, List, [], ◌∷◌, ◌++◌, length, drop, get_or, refl, sym, ap, arith, add-one, append_assoc}
 use Rattle.std.specs.Fmt.{decimal}
 use Rattle.std.proofs.Math.ListN.{drop_of_length-le}
-use Rattle.types.specs.Trees.{Members, none, node, inner, Slices}
+use Rattle.types.specs.Trees.{Members, node, inner, Slices}
 use Rattle.types.specs.Shape.{members_of}
 use Rattle.types.specs.declared.nested.Member.{Member}
 use Rattle.types.specs.declared.nested.Member.TheVariants.{Node, Set}

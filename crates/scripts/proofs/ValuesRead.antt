@@ -1,14 +1,14 @@
 -- A value is read back from the word that it is printed as.
-use Rattle.std.proofs.Common.{◌≡◌, ◌∙◌, ℕ, ◌<◌, ◌≤◌, Bool, true, false, cond, [], ◌∷◌, length, refl, sym, ap, arith, ne_eqb}
-use Rattle.std.specs.Prelude.{◌==◌, ◌&&◌, nat_lt, Some, None, if◌then◌else◌}
+use Rattle.std.proofs.Common.{◌≡◌, ℕ, ◌<◌, ◌≤◌, Bool, true, false, cond, [], ◌∷◌, length, refl, arith, ne_eqb}
+use Rattle.std.specs.Prelude.{◌==◌, nat_lt, Some}
 use Rattle.std.specs.List.{list_all}
 use Rattle.std.specs.Char.{is_ascii_alphanumeric}
 use Rattle.std.proofs.lemmas.Bool.{eqb-true}
 use Rattle.std.proofs.lemmas.Bool.Decides.{nat_tests}
-use Rattle.hex.specs.Hex.{IsBytes, decode_of, encode_lower}
+use Rattle.hex.specs.Hex.{IsBytes, encode_lower}
 use Rattle.hex.proofs.HexLemmas.{decode_of-encode_lower}
 use Rattle.scripts.specs.Script.{Bytes}
-use Rattle.scripts.specs.Values.{is_plain, is_lower_hex, value_in, text_of_value, word_value}
+use Rattle.scripts.specs.Values.{is_plain, value_in, text_of_value, word_value}
 use Rattle.scripts.proofs.ScriptLemmas.{both_true}
 use Rattle.scripts.proofs.DigitLaws.{digits_lower}
 

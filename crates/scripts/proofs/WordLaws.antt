@@ -6,6 +6,12 @@ use Rattle.std.proofs.Math.ListN.{drop_of_length-le}
 use Rattle.hex.specs.Hex.{encode_with, lower_digits}
 use Rattle.scripts.specs.Script.{Bytes}
 use Rattle.std.proofs.Common.{◌^◌}
+use Rattle.std.proofs.Common.{Bool, true, false, cond}
+use Rattle.std.specs.Prelude.{nat_lt, not}
+use Rattle.std.specs.List.{position_or_len}
+use Rattle.std.specs.Char.{is_ascii_alphanumeric}
+use Rattle.std.proofs.lemmas.Bool.Decides.{nat_tests}
+use Rattle.scripts.specs.Fronts.{plain_count, plain_part, behind_plain}
 use Rattle.scripts.specs.Words.{cut_at, counted, with_counter, word_number}
 use Rattle.scripts.proofs.RunLaws.{append_nothing}
 
@@ -39,3 +45,37 @@ all_digits text target bytes i end so_far =
 pub counter_read : (result : Option (ℕ × Bytes)) (word before behind : Bytes) (counter : Option ℕ)
     → Some (before, behind) ≡ cut_at 58 word → counter ≡ word_number (2 ^ 32) before → result ≡ with_counter counter behind → result ≡ counted (cut_at 58 word)
 counter_read result word before behind counter cut c e = e ∙ ap (λ n. with_counter n behind) c ∙ ap counted cut
+
+-- ---- letters and digits at the front
+
+found_at : (n m count : ℕ) (within : Bool) → cond within (Some n) None ≡ Some m → m ≡ n
+found_at n m count true e = cc
+found_at n m count false e = cc
+
+missing_at : (n count : ℕ) (within : Bool) → nat_lt n count ≡ within → cond within (Some n) None ≡ None → count ≤ n
+missing_at n count true e f = cc
+missing_at n count false e f = grind (arith, nat_tests)
+
+abbrev other : ℕ → Bool
+other b = not (is_ascii_alphanumeric b)
+
+pub plain_found : (text : Bytes) (n : ℕ) → position other text ≡ Some n → n ≡ plain_count text
+unfolding plain_count
+plain_found text n e = found_at (position_or_len other text) n (length text) (nat_lt (position_or_len other text) (length text)) e
+
+pub plain_missing : (text : Bytes) → position other text ≡ None → length text ≤ plain_count text
+unfolding plain_count
+plain_missing text e = missing_at (position_or_len other text) (length text) (nat_lt (position_or_len other text) (length text)) refl e
+
+pub part_found : (text : Bytes) (n : ℕ) → Some n ≡ position other text → take n text ≡ plain_part text
+part_found text n e = ap (λ m. take m text) (plain_found text n (sym e))
+
+pub rest_found : (text : Bytes) (n : ℕ) → Some n ≡ position other text → take (length text - n) (drop n text) ≡ behind_plain text
+rest_found text n e =
+    take_all (length text - n) (drop n text) (omega (arith, length-drop n text)) ∙ ap (λ m. drop m text) (plain_found text n (sym e))
+
+pub part_missing : (text : Bytes) → None ≡ position other text → text ≡ plain_part text
+part_missing text e = sym (take_all (plain_count text) text (plain_missing text (sym e)))
+
+pub rest_missing : (text : Bytes) → None ≡ position other text → [] ≡ behind_plain text
+rest_missing text e = sym (drop_of_length-le text (plain_missing text (sym e)))

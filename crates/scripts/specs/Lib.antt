@@ -2,6 +2,9 @@ pub mod Names
 pub mod Printed
 pub mod Numbers
 pub mod Script
+pub mod Statements
+pub mod Slices
+pub mod Fronts
 pub mod Stops
 pub mod Values
 pub mod Runs

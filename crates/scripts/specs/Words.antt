@@ -1,13 +1,11 @@
 -- The words of scripts and of printed lines: what each is read as, and what is printed.
-use Rattle.std.specs.Prelude.{◌==◌, ◌&&◌, ◌||◌, ◌++◌, ◌+◌, ◌/◌, ◌%◌, ◌^◌, ℕ, Bool, not, [], ◌∷◌, length, take, drop, nat_le, nat_lt, position, slice_index, Option, Some, None, option_map, if◌then◌else◌}
+use Rattle.std.specs.Prelude.{◌==◌, ◌&&◌, ◌||◌, ◌++◌, ◌+◌, ◌^◌, ℕ, Bool, not, ◌∷◌, length, take, drop, nat_le, nat_lt, position, slice_index, Option, Some, None, option_map, if◌then◌else◌}
 use Rattle.std.specs.List.{list_all}
-use Rattle.std.specs.Int.{w64, to_be_bytes}
 use Rattle.std.specs.Fmt.{decimal}
-use Rattle.hex.specs.Hex.{encode_lower}
 use Rattle.types.specs.declared.ballot.Ballot.{Ballot}
 use Rattle.scripts.specs.Script.{Bytes}
 use Rattle.scripts.specs.Numbers.{is_digit, decimal as number}
-use Rattle.scripts.specs.Values.{is_plain, text_of_value, word_value}
+use Rattle.scripts.specs.Values.{text_of_value, word_value}
 
 -- what stands before the first such byte, and what stands after it
 abbrev pub cut_at : ℕ → Bytes → Option (Bytes × Bytes)
@@ -23,13 +21,21 @@ is_decimal word = (nat_lt 0 (length word) && list_all is_digit word) && (nat_le 
 abbrev pub word_number : ℕ → Bytes → Option ℕ
 word_number bound word = if is_decimal word && nat_lt (number word) bound then Some (number word) else None
 
+-- the number that a word spells, where it is below 2^32
+abbrev pub word_counter : Bytes → Option ℕ
+word_counter = word_number (2 ^ 32)
+
+-- the same below 2^8
+abbrev pub word_threshold : Bytes → Option ℕ
+word_threshold = word_number (2 ^ 8)
+
 abbrev pub with_counter : Option ℕ → Bytes → Option (ℕ × Bytes)
 with_counter (Some counter) behind = Some (counter, behind)
 with_counter None behind = None
 
 -- a counter, and what stands behind it
 abbrev pub counted : Option (Bytes × Bytes) → Option (ℕ × Bytes)
-counted (Some parts) = with_counter (word_number (2 ^ 32) parts.0) parts.1
+counted (Some parts) = with_counter (word_counter parts.0) parts.1
 counted None = None
 
 -- a counter and the word of a value as a ballot

@@ -3,6 +3,7 @@
 ghost use Rattle.std.specs.Prelude.{◌≡◌, ◌<◌, ◌^◌, ◌+◌, ◌-◌, ◌*◌, ◌↔◌, IsSome, IfSome};
 ghost use Rattle.std.specs.List.{AllByRecursion};
 ghost use Rattle.scripts.specs.Numbers.{decimal, decimal_from, IsDecimal, IsDigit};
+ghost use Rattle.scripts.specs.Words.{word_counter, word_threshold};
 
 /// The number that a word spells: decimal digits without leading zeros, 0 itself excepted. `None`
 /// for any other word, and for a number of 2^64 or above.
@@ -27,6 +28,32 @@ pub fn counter_of(word: &[u8]) -> Option<u32>
         return None;
     }
     Some(number as u32)
+}
+
+/// The counter that a word spells, as the definitions of longer words say it.
+pub(crate) fn counter_in(word: &[u8]) -> Option<u32>
+    ensures { result ≡ word_counter word.now }
+{
+    counter_of(word)
+}
+
+/// The same below 2^8.
+fn byte_of(word: &[u8]) -> Option<u8>
+    ensures exactly { IsSome result ↔ IsDecimal word.now × (decimal word.now < 2 ^ 8) }
+    ensures some { IfSome result (λ n. n ≡ decimal word.now) }
+{
+    let number = number_of(word)?;
+    if number > u64::from(u8::MAX) {
+        return None;
+    }
+    Some(number as u8)
+}
+
+/// The threshold that a word spells, as the definition of slices says it.
+pub(crate) fn threshold_in(word: &[u8]) -> Option<u8>
+    ensures { result ≡ word_threshold word.now }
+{
+    byte_of(word)
 }
 
 // The number that digits spell behind a number.

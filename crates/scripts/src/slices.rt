@@ -1,21 +1,28 @@
 //! Slices.
 
-ghost use Rattle.std.specs.Prelude.{◌≡◌, ◌≤◌, ◌++◌, length, IfOk, IfSome, OnOk, string_bytes};
+ghost use Rattle.std.specs.Prelude.{◌≡◌, ◌++◌, ◌==◌, IfOk, OnOk, option_map, string_bytes};
+ghost use Rattle.scripts.specs.Fronts.{inner_front, member_front, members_in, set_front, threshold_front};
 ghost use Rattle.scripts.specs.Printed.{comma, text_of_slices};
+ghost use Rattle.scripts.specs.Slices.{AreSlices, SlicesReadBack, SlicesSpelledOnce};
 
 use crate::name::{name_of, push_name};
-use crate::number::number_of;
+use crate::number::threshold_in;
 use crate::splitting::plain_front;
 use std::alloc::{AllocError, Global};
 use types::{MAX_INNER_LEVELS, MAX_MEMBERS, Member, Nested, SliceSet};
 
 /// The slices that a word spells, as `2[B,1[C,D],2[E,F]]`: a threshold, and in brackets the members,
 /// each a name or again slices. `None` for any other word, and for slices that break a rule.
-pub fn slices_of(alloc: Global, word: &[u8]) -> Result<Option<Nested>, AllocError> {
-    match set_at(alloc, MAX_INNER_LEVELS, word)? {
-        Some((set, [])) => Nested::new(alloc, set),
-        _ => Ok(None),
+pub fn slices_of(alloc: Global, word: &[u8]) -> Result<Option<Nested>, AllocError>
+    ensures { IfOk result (λ o. AreSlices word.now o) }
+{
+    let Some((set, rest)) = set_at(alloc, MAX_INNER_LEVELS, word)? else {
+        return Ok(None);
+    };
+    if !rest.is_empty() {
+        return Ok(None);
     }
+    Nested::new(alloc, set)
 }
 
 // The set at the front of a text, with no more levels of inner sets than so many, and the rest.
@@ -25,11 +32,42 @@ fn set_at(
     levels: usize,
     text: &[u8],
 ) -> Result<Option<(SliceSet, &[u8])>, AllocError>
-    ensures { IfOk result (λ o. IfSome o (λ r. length r.1.now ≤ length text.now)) }
+    ensures { IfOk result (λ o. option_map (λ r. (r.0, r.1.now)) o ≡ set_front (inner_front levels) text.now) }
 {
-    let Some((threshold, mut rest)) = threshold_at(text) else {
+    let Some((threshold, rest)) = threshold_at(text) else {
         return Ok(None);
     };
+    match members_at(alloc, levels, rest)? {
+        Some((members, rest)) => Ok(Some((SliceSet::new(threshold, members), rest))),
+        None => Ok(None),
+    }
+}
+
+// The threshold at the front of a text, and what stands behind its bracket.
+fn threshold_at(text: &[u8]) -> Option<(u8, &[u8])>
+    ensures { option_map (λ r. (r.0, r.1.now)) result ≡ threshold_front text.now }
+{
+    let (digits, rest) = plain_front(text);
+    let Some(threshold) = threshold_in(digits) else {
+        return None;
+    };
+    match rest {
+        [b'[', rest @ ..] => Some((threshold, rest)),
+        _ => None,
+    }
+}
+
+// The members at the front of a text, up to the closing bracket, and the rest.
+#[cycle(reading)]
+#[tactic(auto, using(crate::proofs::FrontLaws::read_all, crate::proofs::FrontLaws::read_more, crate::proofs::FrontLaws::read_last, crate::proofs::FrontLaws::read_none, crate::proofs::FrontLaws::read_wrong, crate::proofs::FrontLaws::full))]
+fn members_at(
+    alloc: Global,
+    levels: usize,
+    text: &[u8],
+) -> Result<Option<(Vec<Member>, &[u8])>, AllocError>
+    ensures { IfOk result (λ o. option_map (λ r. (r.0.items, r.1.now)) o ≡ members_in (inner_front levels) text.now) }
+{
+    let mut rest = text;
     let mut members = Vec::new(alloc);
     while members.len() < MAX_MEMBERS {
         let Some((member, after)) = member_at(alloc, levels, rest)? else {
@@ -38,23 +76,11 @@ fn set_at(
         members.push(member)?;
         match after {
             [b',', more @ ..] => rest = more,
-            [b']', more @ ..] => return Ok(Some((SliceSet::new(threshold, members), more))),
+            [b']', more @ ..] => return Ok(Some((members, more))),
             _ => return Ok(None),
         }
     }
     Ok(None)
-}
-
-// The threshold at the front of a text, and what stands behind its bracket.
-fn threshold_at(text: &[u8]) -> Option<(u8, &[u8])>
-    ensures { IfSome result (λ r. length r.1.now ≤ length text.now) }
-{
-    let (digits, rest) = plain_front(text);
-    let threshold = u8::try_from(number_of(digits)?).ok()?;
-    match rest {
-        [b'[', rest @ ..] => Some((threshold, rest)),
-        _ => None,
-    }
 }
 
 // The member at the front of a text, and the rest.
@@ -64,11 +90,11 @@ fn member_at(
     levels: usize,
     text: &[u8],
 ) -> Result<Option<(Member, &[u8])>, AllocError>
-    ensures { IfOk result (λ o. IfSome o (λ r. length r.1.now ≤ length text.now)) }
+    ensures { IfOk result (λ o. option_map (λ r. (r.0, r.1.now)) o ≡ member_front (inner_front levels) text.now) }
 {
     let (word, rest) = plain_front(text);
     match rest {
-        [b'[', ..] if levels > 0 => match set_at(alloc, levels - 1, text)? {
+        [b'[', ..] => match inner_at(alloc, levels, text)? {
             Some((set, rest)) => Ok(Some((Member::Set(set), rest))),
             None => Ok(None),
         },
@@ -76,6 +102,21 @@ fn member_at(
             Some(name) => Ok(Some((Member::Node(name), rest))),
             None => Ok(None),
         },
+    }
+}
+
+// The set at the front of a text and the rest, where there may be so many levels of sets.
+#[cycle(reading)]
+fn inner_at(
+    alloc: Global,
+    levels: usize,
+    text: &[u8],
+) -> Result<Option<(SliceSet, &[u8])>, AllocError>
+    ensures { IfOk result (λ o. option_map (λ r. (r.0, r.1.now)) o ≡ inner_front levels text.now) }
+{
+    match levels {
+        0 => Ok(None),
+        _ => set_at(alloc, levels - 1, text),
     }
 }
 
@@ -115,3 +156,13 @@ fn push_comma(text: &mut String, first: bool) -> Result<(), AllocError>
         false => text.push(','),
     }
 }
+
+/// A law: slices are read back from the word that they are printed as.
+pub fn slices_read_back()
+    ensures { SlicesReadBack }
+{}
+
+/// A law: no word spells two slices that keep the rules.
+pub fn slices_spelled_once()
+    ensures { SlicesSpelledOnce }
+{}

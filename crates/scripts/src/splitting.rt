@@ -1,7 +1,10 @@
 //! Words cut at a byte.
 
-ghost use Rattle.std.specs.Prelude.{◌≡◌, ◌≤◌, ◌++◌, ◌∷◌, ◌==◌, IfSome, length, option_map, position};
+ghost use Rattle.std.specs.Prelude.{◌≡◌, ◌++◌, ◌∷◌, ◌==◌, IfSome, length, not, option_map, position};
+ghost use Rattle.std.specs.Char.{is_ascii_alphanumeric};
+ghost use Rattle.scripts.specs.Fronts.{behind_plain, plain_part};
 ghost use Rattle.scripts.specs.Values.{is_plain as plain_test};
+ghost use Rattle.scripts.specs.Statements.{cut_twice};
 ghost use Rattle.scripts.specs.Words.{cut_at};
 
 /// What stands before the first such byte, and what stands after it, where there is one.
@@ -15,6 +18,20 @@ pub(crate) fn split_once(text: &[u8], at: u8) -> Option<(&[u8], &[u8])>
     }
 }
 
+/// What stands before the first such byte, between it and the second, and behind that, where there are
+/// two.
+pub(crate) fn split_twice(text: &[u8], at: u8) -> Option<(&[u8], &[u8], &[u8])>
+    ensures { option_map (λ r. (r.0.now, r.1.now, r.2.now)) result ≡ cut_twice at text.now }
+{
+    let Some((first, rest)) = split_once(text, at) else {
+        return None;
+    };
+    match split_once(rest, at) {
+        Some((second, third)) => Some((first, second, third)),
+        None => None,
+    }
+}
+
 // The place of the first such byte.
 fn place_of(text: &[u8], at: u8) -> Option<usize>
     ensures { result ≡ position (λ byte. byte == at) text.now }
@@ -23,14 +40,22 @@ fn place_of(text: &[u8], at: u8) -> Option<usize>
 }
 
 /// The letters and digits at the front, and the rest.
+#[tactic(auto, using(crate::proofs::WordLaws::part_found, crate::proofs::WordLaws::rest_found, crate::proofs::WordLaws::part_missing, crate::proofs::WordLaws::rest_missing))]
 pub(crate) fn plain_front(text: &[u8]) -> (&[u8], &[u8])
-    ensures { result.0.now ++ result.1.now ≡ text.now }
+    ensures front { result.0.now ≡ plain_part text.now }
+    ensures rest { result.1.now ≡ behind_plain text.now }
 {
-    let place = text
-        .iter()
-        .position(|byte| !byte.is_ascii_alphanumeric())
-        .unwrap_or(text.len());
-    (&text[..place], &text[place..])
+    match other_in(text) {
+        Some(place) => (&text[..place], &text[place..]),
+        None => (text, &[]),
+    }
+}
+
+// The place of the first byte that is no letter or digit.
+fn other_in(text: &[u8]) -> Option<usize>
+    ensures { result ≡ position (λ byte. not (is_ascii_alphanumeric byte)) text.now }
+{
+    text.iter().position(|byte| !byte.is_ascii_alphanumeric())
 }
 
 /// Whether there are letters and digits alone.

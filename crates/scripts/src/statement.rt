@@ -1,11 +1,12 @@
 //! Statements.
 
-ghost use Rattle.std.specs.Prelude.{◌≡◌, ◌++◌, OnOk, string_bytes};
+ghost use Rattle.std.specs.Prelude.{◌≡◌, ◌++◌, IfOk, OnOk, option_map, string_bytes};
 ghost use Rattle.std.specs.List.{flat_map};
 ghost use Rattle.scripts.specs.Printed.{behind_comma, behind_plus, fields_of_statement, kind_text, text_of_optional, text_of_statement, text_of_values};
+ghost use Rattle.scripts.specs.Statements.{StatementsReadBack, commit_in, enclosed as enclosed_in, externalize_in, nomination_in, prepare_in, three_counters as counters_in, word_optional, word_statement, word_values};
 
-use crate::number::counter_of;
-use crate::splitting::split_once;
+use crate::number::counter_in;
+use crate::splitting::{split_once, split_twice};
 use crate::value::{ballot_of, push_ballot, push_value, value_of};
 use std::alloc::{AllocError, Global};
 use types::{Ballot, Statement, Value, Values};
@@ -15,17 +16,38 @@ use types::{Ballot, Statement, Value, Values};
 /// The forms are `nom(VOTED|ACCEPTED)`, each a list of values joined by `+` or nothing;
 /// `prep(BALLOT,PREPARED,a,h,c)`, where PREPARED is a ballot or `-`; `comm(BALLOT,prepared,h,c)`; and
 /// `ext(COMMIT,h)`. Whether the statement keeps the rules of its kind is not looked at here.
-pub fn statement_of(alloc: Global, word: &[u8]) -> Result<Option<Statement>, AllocError> {
-    match word {
-        [b'n', b'o', b'm', b'(', fields @ .., b')'] => nomination_of(alloc, fields),
-        [b'p', b'r', b'e', b'p', b'(', fields @ .., b')'] => prepare_of(alloc, fields),
-        [b'c', b'o', b'm', b'm', b'(', fields @ .., b')'] => commit_of(alloc, fields),
-        [b'e', b'x', b't', b'(', fields @ .., b')'] => externalize_of(alloc, fields),
-        _ => Ok(None),
+pub fn statement_of(alloc: Global, word: &[u8]) -> Result<Option<Statement>, AllocError>
+    ensures { IfOk result (λ o. o ≡ word_statement word.now) }
+{
+    if let Some(fields) = enclosed(word, b"nom(") {
+        return nomination_of(alloc, fields);
     }
+    if let Some(fields) = enclosed(word, b"prep(") {
+        return prepare_of(alloc, fields);
+    }
+    if let Some(fields) = enclosed(word, b"comm(") {
+        return commit_of(alloc, fields);
+    }
+    if let Some(fields) = enclosed(word, b"ext(") {
+        return externalize_of(alloc, fields);
+    }
+    Ok(None)
 }
 
-fn nomination_of(alloc: Global, fields: &[u8]) -> Result<Option<Statement>, AllocError> {
+// What stands between a front and a closing bracket at the end.
+fn enclosed<'a>(word: &'a [u8], head: &[u8]) -> Option<&'a [u8]>
+    ensures { option_map (λ r. r.now) result ≡ enclosed_in head.now word.now }
+{
+    let Some(rest) = word.strip_prefix(head) else {
+        return None;
+    };
+    rest.strip_suffix(b")")
+}
+
+// The nomination of these fields.
+fn nomination_of(alloc: Global, fields: &[u8]) -> Result<Option<Statement>, AllocError>
+    ensures { IfOk result (λ o. o ≡ nomination_in fields.now) }
+{
     let Some((voted, accepted)) = split_once(fields, b'|') else {
         return Ok(None);
     };
@@ -39,7 +61,9 @@ fn nomination_of(alloc: Global, fields: &[u8]) -> Result<Option<Statement>, Allo
 }
 
 // The values of a list joined by `+`.
-fn values_of(alloc: Global, list: &[u8]) -> Result<Option<Values>, AllocError> {
+fn values_of(alloc: Global, list: &[u8]) -> Result<Option<Values>, AllocError>
+    ensures { IfOk result (λ o. o ≡ word_values list.now) }
+{
     let mut values = Values::empty(alloc);
     if list.is_empty() {
         return Ok(Some(values));
@@ -53,8 +77,14 @@ fn values_of(alloc: Global, list: &[u8]) -> Result<Option<Values>, AllocError> {
     Ok(Some(values))
 }
 
-fn prepare_of(alloc: Global, fields: &[u8]) -> Result<Option<Statement>, AllocError> {
-    let Some((ballot, prepared, counters)) = prepare_fields(fields) else {
+// The PREPARE of these fields.
+fn prepare_of(alloc: Global, fields: &[u8]) -> Result<Option<Statement>, AllocError>
+    ensures { IfOk result (λ o. o ≡ prepare_in fields.now) }
+{
+    let Some((ballot, prepared, counters)) = split_twice(fields, b',') else {
+        return Ok(None);
+    };
+    let Some((aborted_counter, high_counter, commit_counter)) = three_counters(counters) else {
         return Ok(None);
     };
     let Some(ballot) = ballot_of(alloc, ballot)? else {
@@ -63,7 +93,6 @@ fn prepare_of(alloc: Global, fields: &[u8]) -> Result<Option<Statement>, AllocEr
     let Some(prepared) = optional_of(alloc, prepared)? else {
         return Ok(None);
     };
-    let (aborted_counter, high_counter, commit_counter) = counters;
     Ok(Some(Statement::Prepare {
         ballot,
         prepared,
@@ -73,32 +102,32 @@ fn prepare_of(alloc: Global, fields: &[u8]) -> Result<Option<Statement>, AllocEr
     }))
 }
 
-// The words of the two ballots of a PREPARE, and its counters.
-fn prepare_fields(fields: &[u8]) -> Option<(&[u8], &[u8], (u32, u32, u32))> {
-    let (ballot, rest) = split_once(fields, b',')?;
-    let (prepared, counters) = split_once(rest, b',')?;
-    Some((ballot, prepared, three_counters(counters)?))
-}
-
 // A ballot, or `-` for none.
-fn optional_of(alloc: Global, word: &[u8]) -> Result<Option<Option<Ballot>>, AllocError> {
-    match word {
-        [b'-'] => Ok(Some(None)),
-        _ => match ballot_of(alloc, word)? {
-            Some(ballot) => Ok(Some(Some(ballot))),
-            None => Ok(None),
-        },
+fn optional_of(alloc: Global, word: &[u8]) -> Result<Option<Option<Ballot>>, AllocError>
+    ensures { IfOk result (λ o. o ≡ word_optional word.now) }
+{
+    if word == b"-".as_slice() {
+        return Ok(Some(None));
+    }
+    match ballot_of(alloc, word)? {
+        Some(ballot) => Ok(Some(Some(ballot))),
+        None => Ok(None),
     }
 }
 
-fn commit_of(alloc: Global, fields: &[u8]) -> Result<Option<Statement>, AllocError> {
-    let Some((ballot, counters)) = commit_fields(fields) else {
+// The COMMIT of these fields.
+fn commit_of(alloc: Global, fields: &[u8]) -> Result<Option<Statement>, AllocError>
+    ensures { IfOk result (λ o. o ≡ commit_in fields.now) }
+{
+    let Some((ballot, counters)) = split_once(fields, b',') else {
+        return Ok(None);
+    };
+    let Some((prepared_counter, high_counter, commit_counter)) = three_counters(counters) else {
         return Ok(None);
     };
     let Some(ballot) = ballot_of(alloc, ballot)? else {
         return Ok(None);
     };
-    let (prepared_counter, high_counter, commit_counter) = counters;
     Ok(Some(Statement::Commit {
         ballot,
         prepared_counter,
@@ -107,36 +136,42 @@ fn commit_of(alloc: Global, fields: &[u8]) -> Result<Option<Statement>, AllocErr
     }))
 }
 
-// The word of the ballot of a COMMIT, and its counters.
-fn commit_fields(fields: &[u8]) -> Option<(&[u8], (u32, u32, u32))> {
-    let (ballot, counters) = split_once(fields, b',')?;
-    Some((ballot, three_counters(counters)?))
+// Three counters with a comma between each and the next.
+fn three_counters(text: &[u8]) -> Option<(u32, u32, u32)>
+    ensures { result ≡ counters_in text.now }
+{
+    let Some((first, second, third)) = split_twice(text, b',') else {
+        return None;
+    };
+    let Some(first) = counter_in(first) else {
+        return None;
+    };
+    let Some(second) = counter_in(second) else {
+        return None;
+    };
+    let Some(third) = counter_in(third) else {
+        return None;
+    };
+    Some((first, second, third))
 }
 
-// Three counters behind one another.
-fn three_counters(fields: &[u8]) -> Option<(u32, u32, u32)> {
-    let (first, rest) = split_once(fields, b',')?;
-    let (second, third) = split_once(rest, b',')?;
-    Some((counter_of(first)?, counter_of(second)?, counter_of(third)?))
-}
-
-fn externalize_of(alloc: Global, fields: &[u8]) -> Result<Option<Statement>, AllocError> {
-    let Some((commit, high_counter)) = externalize_fields(fields) else {
+// The EXTERNALIZE of these fields.
+fn externalize_of(alloc: Global, fields: &[u8]) -> Result<Option<Statement>, AllocError>
+    ensures { IfOk result (λ o. o ≡ externalize_in fields.now) }
+{
+    let Some((commit, high)) = split_once(fields, b',') else {
         return Ok(None);
     };
-    match ballot_of(alloc, commit)? {
-        Some(commit) => Ok(Some(Statement::Externalize {
-            commit,
-            high_counter,
-        })),
-        None => Ok(None),
-    }
-}
-
-// The word of the ballot of an EXTERNALIZE, and its counter.
-fn externalize_fields(fields: &[u8]) -> Option<(&[u8], u32)> {
-    let (commit, high) = split_once(fields, b',')?;
-    Some((commit, counter_of(high)?))
+    let Some(high_counter) = counter_in(high) else {
+        return Ok(None);
+    };
+    let Some(commit) = ballot_of(alloc, commit)? else {
+        return Ok(None);
+    };
+    Ok(Some(Statement::Externalize {
+        commit,
+        high_counter,
+    }))
 }
 
 /// Adds the statement. Where memory is wanting, a part may have been added.
@@ -250,3 +285,8 @@ fn push_optional(text: &mut String, ballot: &Option<Ballot>) -> Result<(), Alloc
         Some(ballot) => push_ballot(text, ballot),
     }
 }
+
+/// A law: a statement is read back from the word that it is printed as.
+pub fn statements_read_back()
+    ensures { StatementsReadBack }
+{}

@@ -1,7 +1,7 @@
 use Rattle.std.proofs.Common.{◌∙◌, ap}
 use Rattle.std.specs.Prelude.{◌^◌}
 use Rattle.scripts.specs.Words.{word_number}
-use Rattle.scphost.proofs.NumberLaws.{number_read}
+use Rattle.scripts.proofs.NumberLaws.{number_read}
 use Rattle.scphost.proofs.subject.network_of.Goals as goal
 
 pub returns : goal.returns

@@ -1,4 +1,3 @@
-use Rattle.std.proofs.Common.{length}
 use Rattle.scripts.proofs.NameLaws.{zeros_behind}
 use Rattle.scripts.proofs.name.with_zeros.Goals as goal
 
