@@ -1,0 +1,3 @@
+pub mod Balances
+pub mod Many
+pub mod Uses

@@ -1,0 +1,14 @@
+use Rattle.std.proofs.Common.{◌≡◌, ◌≤◌, ◌+◌, ◌++◌, length, vec_len, vec_capacity}
+use Rattle.crossbeam_queue.specs.Passes.{view, IsPassOf, ruled_capacity}
+use Rattle.work.specs.Queues.{parts}
+use Rattle.work.proofs.closing.drain.Given as goal
+
+abbrev pub invariant-loop-taken : goal.invariant-loop-taken
+invariant-loop-taken g l =
+    IsPassOf l.line l.whole × (parts l.whole ≡ 64)
+    × ((view l.whole).put ≡ (view l.fn.whole).put)
+    × ((view l.whole).taken ≡ (view l.fn.whole).taken ++ l.room.items)
+    × (vec_len l.room ≡ l._taken)
+    × (ruled_capacity l.line ≤ vec_capacity l.room)
+    × (length (view l.fn.whole).put ≡ length (view l.fn.whole).taken + l.many)
+    × (l.many ≤ ruled_capacity l.line)
