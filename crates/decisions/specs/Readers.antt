@@ -1,0 +1,12 @@
+-- What a reader has seen.
+use Rattle.std.specs.Prelude.{Option, Some, None, List, []}
+use Rattle.std.specs.declared.alloc.Global.{Global}
+use Rattle.left_right.specs.Sides.{view}
+use Rattle.left_right.specs.declared.reader.Reader.{Reader}
+use Rattle.decisions.specs.declared.decision.Decision.{Decision}
+use Rattle.decisions.specs.declared.board.Board.{Board}
+use Rattle.decisions.specs.declared.board.Published.{Published}
+
+abbrev pub seen_by : Option (Reader Board (List Decision) Published Global) → List Decision
+seen_by None = []
+seen_by (Some r) = view r.place

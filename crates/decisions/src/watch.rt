@@ -1,0 +1,67 @@
+//! Who reads without waiting.
+
+ghost use Rattle.std.specs.Prelude.{◌≡◌, IfNone, IfSome, List};
+ghost use mathlib.Core.List.{IsPrefix};
+ghost use Rattle.std.specs.Fn.{FnOnceReturnsAt};
+ghost use Rattle.left_right.specs.Sides.{view};
+
+use crate::board::{BoardReader, Sees};
+use crate::decision::Decision;
+use std::marker::Model;
+
+/// A reader of the decisions that a publisher publishes. It may go to any thread.
+///
+/// Contracts see it as the list that it was lent last. That list only grows, and is a beginning of what is
+/// published.
+#[derive(Drop)]
+pub struct Watch {
+    reader: Option<BoardReader>,
+}
+
+impl Model for Watch {
+    ghost use Rattle.std.specs.Prelude.{List};
+    ghost use Rattle.decisions.specs.declared.decision.Decision.{Decision};
+
+    ghost Value = { List Decision };
+
+    ghost use Rattle.std.specs.Prelude.{IsSome};
+    ghost use Rattle.decisions.specs.Readers.{seen_by};
+
+    ghost view = { λ w. seen_by w.reader };
+
+    ghost invariant = { λ w. IsSome w.reader };
+}
+
+impl Watch {
+    /// A watch that reads by this reader.
+    pub(crate) fn new(reader: BoardReader) -> Watch
+        ensures { result ≡ view reader.place }
+    {
+        Watch {
+            reader: Some(reader),
+        }
+    }
+
+    /// Lends `f` the list that is published at one step of the call, which begins with each list that this
+    /// watch was lent before, and answers what `f` answers. It waits for nobody; a publication waits for `f`.
+    /// None once the publisher is gone: then `f` is not called, and the watch is as it was.
+    pub fn read<T, F: FnOnce(&[Decision]) -> T>(&mut self, f: F) -> Option<T>
+        requires { F.IsAlwaysCallable f }
+        ensures grows { IsPrefix self.old self.new }
+        ensures read { IfSome result (λ r. FnOnceReturnsAt F.FnOnce f self.new r) }
+        ensures gone { IfNone result (self.new ≡ self.old) }
+    {
+        let reader = self.reader.take().unwrap();
+        match reader.enter_as::<Sees>() {
+            Ok(reading) => {
+                let answer = f(reading.get().as_slice());
+                self.reader = Some(reading.leave());
+                Some(answer)
+            }
+            Err(reader) => {
+                self.reader = Some(reader);
+                None
+            }
+        }
+    }
+}
