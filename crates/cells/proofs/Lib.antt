@@ -1,0 +1,4 @@
+pub mod Moves
+pub mod Seats
+pub mod Counts
+pub mod Closing

@@ -1,0 +1,644 @@
+-- Each step keeps the rule.
+use Rattle.std.proofs.Common.{◌≡◌, ◌≢◌, ◌⊎◌, ℕ, zero, suc, ◌+◌, ◌<◌, ◌≤◌, Bool, true, false, true≢false, if◌then◌else◌, ◌==◌, List, [], ◌∷◌, ◌++◌, length, set, refl, sym, ap, ◌∙◌, subst, inl, inr, ⊎_elim, arith, length-append, eq-eqb, ne_eqb, append_assoc}
+use Rattle.std.proofs.Common.{map}
+use Rattle.std.proofs.lemmas.List.{append-nil, map-append}
+use mathlib.Core.Option.{some, some-ne-none, some-injective}
+use mathlib.Core.List.{IsPrefix}
+use lib.ListN.{get_elem?}
+use Rattle.crossbeam_queue.specs.Fifo.{Pushes, Pops, Forks, Merges, Learns}
+use Rattle.atomic_table.proofs.Lists.{at_set}
+use Rattle.types.specs.declared.event.Event.{Event}
+use Rattle.protocol.specs.Hosts.{Config, Entry}
+use Rattle.cells.specs.declared.refusal.CellRefusal.{CellRefusal}
+use Rattle.cells.specs.Receipts.{Applied, Extract, entry_of, extract, extract_of, extracts_from, extracts_of}
+use Rattle.cells.specs.Views.{DeskSight, Known, nobody}
+use Rattle.cells.specs.Rule.{opener, opened, one_more, seat_of, fresh, ended, note_of, closer_of, shown, desk_at, AllBelow, History, World, Claims, Fits, AllFit, IsOpen, Holds, IsEmpty, taken, IsTaken, Agrees, added, denied, stopped, HasDesk}
+
+off : {A : Type 0} → false ≡ true → A
+off e = absurd (true≢false (sym e))
+
+is_or_not : (b : Bool) → (b ≡ true) ⊎ (b ≡ false)
+is_or_not b = elim b as (λ v. (v ≡ true) ⊎ (v ≡ false)) [ true ↦ inl refl | false ↦ inr refl ]
+
+prefix_refl : (l : List Entry) → IsPrefix l l
+prefix_refl l = ([], append-nil l)
+
+pub prefix_more : (a l : List Entry) (e : Entry) → IsPrefix a l → IsPrefix a (l ++ e ∷ [])
+prefix_more a l e p = (p.0 ++ e ∷ [], sym (append_assoc a p.0 (e ∷ [])) ∙ ap (λ (x : List Entry). x ++ e ∷ []) p.1)
+
+all_set : (F : ℕ → Known → Type 0) (views : List Known) (id : ℕ) (w : Known) → F id w → ((j : ℕ) (u : Known) → j ≢ id → get_elem? views j ≡ some u → F j u) → (j : ℕ) (u : Known) → get_elem? (set views id w) j ≡ some u → F j u
+all_set F views id w mine others j u e =
+    ⊎_elim
+    (λ (x : (j ≡ id) × (w ≡ u)). subst (λ (y : ℕ × Known). F y.0 y.1) (λ i. (sym x.0 i, x.1 i)) mine)
+    (λ (x : (j ≢ id) × (get_elem? views j ≡ some u)). others j u x.0 x.1)
+    (at_set views id j w u e)
+
+-- what stands in a list one longer
+at_end : (l : List Known) (a b : Known) (j : ℕ) → get_elem? (l ++ a ∷ []) j ≡ some b → (get_elem? l j ≡ some b) ⊎ ((j ≡ length l) × (a ≡ b))
+at_end [] a b zero e = inr (refl, some-injective a b e)
+at_end [] a b (suc j) e = absurd (some-ne-none b (sym e))
+at_end (x ∷ xs) a b zero e = inl e
+at_end (x ∷ xs) a b (suc j) e = ⊎_elim (λ h. inl h) (λ h. inr (ap suc h.0, h.1)) (at_end xs a b j e)
+
+-- the only view before the desk is there
+only : (v : Known) (views : List Known) (id : ℕ) → views ≡ opener ∷ [] → get_elem? views id ≡ some v → (id ≡ 0) × (v ≡ opener)
+only v views id is at = go id (subst (λ (l : List Known). get_elem? l id ≡ some v) is at)
+  where
+    go : (k : ℕ) → get_elem? (opener ∷ []) k ≡ some v → (k ≡ 0) × (v ≡ opener)
+    go zero e = (refl, sym (some-injective opener v e))
+    go (suc k) e = absurd (some-ne-none v (sym e))
+
+-- past the opening, the world
+past_opening : (items : List DeskSight) (views : List Known) (id : ℕ) (v : Known) → Holds items views → get_elem? views id ≡ some v → v.known ≡ true → (g : World) × IsOpen g items views
+past_opening items views id v h at known =
+    ⊎_elim (λ (o : (items ≡ []) × (views ≡ opener ∷ [])). off (sym (ap (λ (u : Known). u.known) (only v views id o.1 at).1) ∙ known)) (λ (g : (g : World) × IsOpen g items views). g) h
+
+pub begins : Holds [] (opener ∷ [])
+begins = inl (refl, refl)
+
+pub empties : (id : ℕ) (v : Known) → (v.holding ≡ true) ⊎ (v.opening ≡ true) → Learns Holds id v IsEmpty
+empties id v mine items views h at =
+    ⊎_elim (λ (o : (items ≡ []) × (views ≡ opener ∷ [])). o.0)
+    (λ (w : (g : World) × IsOpen g items views).
+    let f = w.1.fit id v at in
+    ⊎_elim (λ (m : v.holding ≡ true). w.1.away (f.holding m).free) (λ (m : v.opening ≡ true). off (sym f.opening ∙ m)) mine)
+    h
+
+-- the opening
+abbrev first_world : Config → ℕ → World
+first_world config seats = record { past = record { config = config; seats = seats; entries = []; owners = []; over = false; stopper = 0; made = 0; ended = λ _. false }; home = λ _. 0; free = true; holder = 0; opener = 0 }
+
+pub opens : (id : ℕ) (v : Known) (config : Config) (seats : ℕ) → v.opening ≡ true → Pushes Holds 1 id v (desk_at config seats [] false) (λ w. w ≡ opened config seats)
+opens id v config seats opening items views room h at =
+    ⊎_elim
+    (λ (o : (items ≡ []) × (views ≡ opener ∷ [])).
+    let is = only v views id o.1 at in
+    let w : Known = opened config seats in (
+      w,
+      inr (
+        first_world config seats,
+        record {
+          there = λ _. ap (λ (l : List DeskSight). l ++ desk_at config seats [] false ∷ []) o.0;
+          away = λ f. absurd (true≢false f);
+          paired = refl;
+          owned = tt;
+          stopper = λ f. off f;
+          made = omega arith;
+          fit = λ j u e. one u j (subst (λ (l : List Known). get_elem? l j ≡ some u) (ap (λ (y : List Known × ℕ). set y.0 y.1 w) (λ i. (o.1 i, is.0 i))) e);
+        },
+      ),
+      refl,
+    ))
+    (λ (w : (g : World) × IsOpen g items views). off (sym (w.1.fit id v at).opening ∙ opening))
+    h
+  where
+    one : (u : Known) (j : ℕ) → get_elem? (opened config seats ∷ []) j ≡ some u → Fits (first_world config seats) j u
+    one u zero e = subst (Fits (first_world config seats) 0) (some-injective (opened config seats) u e) (record {
+      opening = refl;
+      opens = λ _. (refl, refl);
+      known = λ _. (refl, refl);
+      live = λ f. off f;
+      claims = λ f. off f;
+      holding = λ f. off f;
+    })
+    one u (suc j) e = absurd (some-ne-none u (sym e))
+
+-- the desk is taken
+pub takes : (id : ℕ) (v : Known) → v.known ≡ true → v.holding ≡ false → Pops Holds id v (λ x w. IsTaken v x w)
+takes id v known away x items views h at =
+    let world = past_opening (x ∷ items) views id v h at known in
+    let g : World = world.0 in
+    let o : IsOpen g (x ∷ items) views = world.1 in
+    ⊎_elim
+    (λ (free : g.free ≡ true).
+    let both : x ∷ items ≡ desk_at g.past.config g.past.seats g.past.entries g.past.over ∷ [] = o.there free in
+    let is : x ≡ desk_at g.past.config g.past.seats g.past.entries g.past.over = cc in
+    let none : items ≡ [] = cc in
+    let f = o.fit id v at in
+    let w : Known = taken v x.log.entries x.stopped g.past.owners g.past.stopper in
+    let all : x.log.entries ≡ g.past.entries = ap (λ (d : DeskSight). d.log.entries) is in
+    let over : x.stopped ≡ g.past.over = ap (λ (d : DeskSight). d.stopped) is in
+    let g' : World = record g { free = false; holder = id } in (
+      w,
+      inr (
+        g',
+        record {
+          there = λ t. off t;
+          away = λ _. none;
+          paired = o.paired;
+          owned = o.owned;
+          stopper = o.stopper;
+          made = o.made;
+          fit = all_set (Fits g') views id w
+              (record {
+                opening = f.opening;
+                opens = f.opens;
+                known = f.known;
+                live = λ l. let c = (f.live l).1 in ((f.live l).0, record { made = c.made; seen = c.seen; stopped = c.stopped; receipts = c.receipts; stops = c.stops; ended = c.ended });
+                claims = λ l. let c = (f.claims l).1 in ((f.claims l).0, record { made = c.made; seen = c.seen; stopped = c.stopped; receipts = c.receipts; stops = c.stops; ended = c.ended });
+                holding = λ _. record { free = refl; holder = refl; all = all; owners = refl; over = over; stopper = refl };
+              })
+              (λ j u apart e. let k = o.fit j u e in record { opening = k.opening; opens = k.opens; known = k.known; live = k.live; claims = k.claims; holding = λ b. absurd (true≢false (sym free ∙ (k.holding b).free)) });
+        },
+      ),
+      record {
+        config = ap (λ (d : DeskSight). d.log.config) is ∙ sym (f.known known).0;
+        seats = ap (λ (d : DeskSight). d.seats) is ∙ sym (f.known known).1;
+        now = refl;
+        paired = o.paired ∙ sym (ap length all);
+        owned = subst (λ (n : ℕ). AllBelow n g.past.owners) (sym (f.known known).1) (below_more g.past.made g.past.seats g.past.owners o.made o.owned);
+        stopper = λ t. let a = o.stopper (sym over ∙ t) in let b = o.made in let c = (f.known known).1 in omega arith;
+        seen = λ l. subst (λ (y : List Entry). IsPrefix v.seen y) (sym all) (f.live l).1.seen;
+        stopped = λ l s. over ∙ (f.live l).1.stopped s;
+      },
+    ))
+    (λ (taken : g.free ≡ false). let none = o.away taken in absurd (cc))
+    (is_or_not g.free)
+  where
+    below_more : (m n : ℕ) (os : List ℕ) → m ≤ n → AllBelow m os → AllBelow n os
+    below_more m n [] le all = tt
+    below_more m n (o ∷ os) le all = (omega (arith, all.0), below_more m n os le all.1)
+
+same_claims : (h : History) (u w : Known) → w.number ≡ u.number → w.seen ≡ u.seen → w.stopped ≡ u.stopped → w.receipts ≡ u.receipts → w.stops ≡ u.stops → w.closed ≡ u.closed → Claims h u → Claims h w
+same_claims h u w number seen stopped receipts stops closed c = record {
+  made = subst (λ (n : ℕ). n < h.made) (sym number) c.made;
+  seen = subst (λ (l : List Entry). IsPrefix l h.entries) (sym seen) c.seen;
+  stopped = λ t. c.stopped (sym stopped ∙ t);
+  receipts = ap (map extract_of) receipts ∙ c.receipts ∙ ap (λ (n : ℕ). extracts_of h.config n h.owners h.entries) (sym number);
+  stops = λ o n. subst (λ (k : ℕ). 0 < k) (sym stops) (c.stops o (sym number ∙ n));
+  ended = closed ∙ c.ended ∙ ap h.ended (sym number);
+}
+
+-- one entry more, by o
+pub extracts_more : (config : Config) (before : List Entry) (by o : ℕ) (os : List ℕ) (e : Entry) (es : List Entry) → length os ≡ length es
+    → extracts_from config before by (os ++ o ∷ []) (es ++ e ∷ []) ≡ extracts_from config before by os es ++ (if o == by then extract config (before ++ es) e ∷ [] else [])
+extracts_more config before by o [] e [] len = append-nil (if o == by then extract config before e ∷ [] else []) ∙ ap (λ (l : List Entry). if o == by then extract config l e ∷ [] else []) (sym (append-nil before))
+extracts_more config before by o [] e (f ∷ fs) len = absurd (omega arith)
+extracts_more config before by o (p ∷ os) e [] len = absurd (omega arith)
+extracts_more config before by o (p ∷ os) e (f ∷ fs) len =
+    let head : List Extract = if p == by then extract config before f ∷ [] else [] in
+    let rest : List Extract = extracts_from config (before ++ f ∷ []) by os fs in
+    let at : (before ++ f ∷ []) ++ fs ≡ before ++ f ∷ fs = append_assoc before (f ∷ []) fs in
+    ap (λ (l : List Extract). head ++ l) (extracts_more config (before ++ f ∷ []) by o os e fs (omega arith) ∙ ap (λ (k : List Entry). rest ++ (if o == by then extract config k e ∷ [] else [])) at)
+    ∙ sym (append_assoc head rest (if o == by then extract config (before ++ f ∷ fs) e ∷ [] else []))
+
+pub extracts_mine : (config : Config) (by : ℕ) (os : List ℕ) (e : Entry) (es : List Entry) → length os ≡ length es
+    → extracts_of config by (os ++ by ∷ []) (es ++ e ∷ []) ≡ extracts_of config by os es ++ extract config es e ∷ []
+extracts_mine config by os e es len =
+    extracts_more config [] by by os e es len
+    ∙ ap (λ (b : Bool). extracts_of config by os es ++ (if b then extract config es e ∷ [] else [])) (eq-eqb by by refl)
+
+pub extracts_others : (config : Config) (by o : ℕ) (os : List ℕ) (e : Entry) (es : List Entry) → length os ≡ length es → o ≢ by
+    → extracts_of config by (os ++ o ∷ []) (es ++ e ∷ []) ≡ extracts_of config by os es
+extracts_others config by o os e es len apart =
+    extracts_more config [] by o os e es len
+    ∙ ap (λ (b : Bool). extracts_of config by os es ++ (if b then extract config es e ∷ [] else [])) (ne_eqb o by apart)
+    ∙ append-nil (extracts_of config by os es)
+
+below_snoc : (n o : ℕ) (os : List ℕ) → AllBelow n os → o < n → AllBelow n (os ++ o ∷ [])
+below_snoc n o [] all lt = (lt, tt)
+below_snoc n o (p ∷ os) all lt = (all.0, below_snoc n o os all.1 lt)
+
+abbrev grown : History → ℕ → Entry → History
+grown h by e = record h { entries = h.entries ++ e ∷ []; owners = h.owners ++ by ∷ [] }
+
+-- what is said of another seat stays
+others_grow : (h : History) (by : ℕ) (e : Entry) (u : Known) → length h.owners ≡ length h.entries → u.number ≢ by → Claims h u → Claims (grown h by e) u
+others_grow h by e u len apart c = record {
+  made = c.made;
+  seen = prefix_more u.seen h.entries e c.seen;
+  stopped = c.stopped;
+  receipts = c.receipts ∙ sym (extracts_others h.config u.number by h.owners e h.entries len (λ same. apart (sym same)));
+  stops = c.stops;
+  ended = c.ended;
+}
+
+-- another seat that is live or noted has another number
+another : (g : World) (id : ℕ) (v : Known) (j : ℕ) (u : Known) → HasDesk v → Fits g id v → Fits g j u → j ≢ id → (u.live ≡ true) ⊎ (u.claims ≡ true) → u.number ≢ v.number
+another g id v j u s f k apart is same =
+    ⊎_elim
+    (λ (l : u.live ≡ true). apart ((k.live l).0 ∙ ap g.home same ∙ sym (f.live s.live).0))
+    (λ (l : u.claims ≡ true). let c = k.claims l in off (sym s.closed ∙ (f.live s.live).1.ended ∙ ap g.past.ended (sym same) ∙ sym c.1.ended ∙ c.0))
+    is
+
+pub adds : (id : ℕ) (v : Known) (r : Applied) → HasDesk v → extract_of r ≡ extract v.config v.all (entry_of r) → Pushes Holds 1 id v (desk_at v.config v.seats (v.all ++ entry_of r ∷ []) v.over) (λ w. w ≡ added v r)
+adds id v r s is items views room h at =
+    let e : Entry = entry_of r in
+    let world = past_opening items views id v h at s.known in
+    let g : World = world.0 in
+    let o : IsOpen g items views = world.1 in
+    let f = o.fit id v at in
+    let has = f.holding s.holding in
+    let c = (f.live s.live).1 in
+    let g' : World = record g { past = grown g.past v.number e; free = true } in
+    let w : Known = added v r in
+    let x : DeskSight = desk_at v.config v.seats (v.all ++ e ∷ []) v.over in
+    let same : x ≡ desk_at g.past.config g.past.seats (g.past.entries ++ e ∷ []) g.past.over = λ i. desk_at ((f.known s.known).0 i) ((f.known s.known).1 i) (has.all i ++ e ∷ []) (has.over i) in (
+      w,
+      inr (
+        g',
+        record {
+          there = λ _. ap (λ (l : List DeskSight). l ++ x ∷ []) (o.away has.free) ∙ ap (λ (y : DeskSight). y ∷ []) same;
+          away = λ t. absurd (true≢false t);
+          paired = length-append g.past.owners (v.number ∷ []) ∙ ap (λ (n : ℕ). n + 1) o.paired ∙ sym (length-append g.past.entries (e ∷ []));
+          owned = below_snoc g.past.made v.number g.past.owners o.owned c.made;
+          stopper = o.stopper;
+          made = o.made;
+          fit = all_set (Fits g') views id w
+              (record {
+                opening = f.opening;
+                opens = f.opens;
+                known = f.known;
+                live = λ l. (
+                  (f.live s.live).0,
+                  record {
+                    made = c.made;
+                    seen = ([], append-nil (v.all ++ e ∷ []) ∙ ap (λ (y : List Entry). y ++ e ∷ []) has.all);
+                    stopped = λ t. sym has.over ∙ t;
+                    receipts = map-append extract_of v.receipts (r ∷ []) ∙ ap (λ (l : List Extract). l ++ extract_of r ∷ []) c.receipts ∙ ap (λ (x : Extract). extracts_of g.past.config v.number g.past.owners g.past.entries ++ x ∷ []) (is ∙ (λ i. extract ((f.known s.known).0 i) (has.all i) e)) ∙ sym (extracts_mine g.past.config v.number g.past.owners e g.past.entries o.paired);
+                    stops = c.stops;
+                    ended = c.ended;
+                  },
+                );
+                claims = λ l. off (sym s.claims ∙ l);
+                holding = λ b. off b;
+              })
+              (λ j u apart e'.
+              let k = o.fit j u e' in record {
+                opening = k.opening;
+                opens = k.opens;
+                known = k.known;
+                live = λ l. ((k.live l).0, others_grow g.past v.number e u o.paired (another g id v j u s f k apart (inl l)) (k.live l).1);
+                claims = λ l. ((k.claims l).0, others_grow g.past v.number e u o.paired (another g id v j u s f k apart (inr l)) (k.claims l).1);
+                holding = λ b. absurd (apart ((k.holding b).holder ∙ sym has.holder));
+              });
+        },
+      ),
+      refl,
+    )
+
+-- nothing was added, and the view has what else it wants
+pub denies : (id : ℕ) (v : Known) (event : Event) (refusal : CellRefusal) → HasDesk v → Pushes Holds 1 id v (desk_at v.config v.seats v.all v.over) (λ w. w ≡ denied v event refusal)
+denies id v event refusal s items views room h at =
+    let world = past_opening items views id v h at s.known in
+    let g : World = world.0 in
+    let o : IsOpen g items views = world.1 in
+    let f = o.fit id v at in
+    let has = f.holding s.holding in
+    let c = (f.live s.live).1 in
+    let g' : World = record g { free = true } in
+    let w : Known = denied v event refusal in
+    let x : DeskSight = desk_at v.config v.seats v.all v.over in
+    let same : x ≡ desk_at g.past.config g.past.seats g.past.entries g.past.over = λ i. desk_at ((f.known s.known).0 i) ((f.known s.known).1 i) (has.all i) (has.over i) in (
+      w,
+      inr (
+        g',
+        record {
+          there = λ _. ap (λ (l : List DeskSight). l ++ x ∷ []) (o.away has.free) ∙ ap (λ (y : DeskSight). y ∷ []) same;
+          away = λ t. absurd (true≢false t);
+          paired = o.paired;
+          owned = o.owned;
+          stopper = o.stopper;
+          made = o.made;
+          fit = all_set (Fits g') views id w
+              (record {
+                opening = f.opening;
+                opens = f.opens;
+                known = f.known;
+                live = λ l. (
+                  (f.live s.live).0,
+                  record {
+                    made = c.made;
+                    seen = ([], append-nil v.all ∙ has.all);
+                    stopped = λ t. sym has.over ∙ t;
+                    receipts = c.receipts;
+                    stops = c.stops;
+                    ended = c.ended;
+                  },
+                );
+                claims = λ l. off (sym s.claims ∙ l);
+                holding = λ b. off b;
+              })
+              (λ j u apart e'.
+              let k = o.fit j u e' in record {
+                opening = k.opening;
+                opens = k.opens;
+                known = k.known;
+                live = k.live;
+                claims = k.claims;
+                holding = λ b. absurd (apart ((k.holding b).holder ∙ sym has.holder));
+              });
+        },
+      ),
+      refl,
+    )
+
+-- the stop mark is set
+pub stops : (id : ℕ) (v : Known) → HasDesk v → Pushes Holds 1 id v (desk_at v.config v.seats v.all true) (λ w. w ≡ stopped v)
+stops id v s items views room h at =
+    let world = past_opening items views id v h at s.known in
+    let g : World = world.0 in
+    let o : IsOpen g items views = world.1 in
+    let f = o.fit id v at in
+    let has = f.holding s.holding in
+    let c = (f.live s.live).1 in
+    let first : ℕ = if g.past.over then g.past.stopper else v.number in
+    let g' : World = record g { past = record g.past { over = true; stopper = first }; free = true } in
+    let w : Known = stopped v in
+    let x : DeskSight = desk_at v.config v.seats v.all true in
+    let same : x ≡ desk_at g.past.config g.past.seats g.past.entries true = λ i. desk_at ((f.known s.known).0 i) ((f.known s.known).1 i) (has.all i) true in
+    let made : first < g.past.made = ⊎_elim
+    (λ (t : g.past.over ≡ true). subst (λ (b : Bool). (if b then g.past.stopper else v.number) < g.past.made) (sym t) (o.stopper t))
+    (λ (t : g.past.over ≡ false). subst (λ (b : Bool). (if b then g.past.stopper else v.number) < g.past.made) (sym t) c.made)
+    (is_or_not g.past.over) in
+    let stays : (u : Known) → u.number ≢ v.number → Claims g.past u → Claims g'.past u = λ u apart k. record {
+      made = k.made;
+      seen = k.seen;
+      stopped = λ _. refl;
+      receipts = k.receipts;
+      stops = λ _ n. ⊎_elim
+          (λ (t : g.past.over ≡ true). k.stops t (n ∙ ap (λ (b : Bool). if b then g.past.stopper else v.number) t))
+          (λ (t : g.past.over ≡ false). absurd (apart (n ∙ ap (λ (b : Bool). if b then g.past.stopper else v.number) t)))
+          (is_or_not g.past.over);
+      ended = k.ended;
+    } in (
+      w,
+      inr (
+        g',
+        record {
+          there = λ _. ap (λ (l : List DeskSight). l ++ x ∷ []) (o.away has.free) ∙ ap (λ (y : DeskSight). y ∷ []) same;
+          away = λ t. absurd (true≢false t);
+          paired = o.paired;
+          owned = o.owned;
+          stopper = λ _. made;
+          made = o.made;
+          fit = all_set (Fits g') views id w
+              (record {
+                opening = f.opening;
+                opens = f.opens;
+                known = f.known;
+                live = λ l. (
+                  (f.live s.live).0,
+                  record {
+                    made = c.made;
+                    seen = ([], append-nil v.all ∙ has.all);
+                    stopped = λ t. refl;
+                    receipts = c.receipts;
+                    stops = λ _ _. omega arith;
+                    ended = c.ended;
+                  },
+                );
+                claims = λ l. off (sym s.claims ∙ l);
+                holding = λ b. off b;
+              })
+              (λ j u apart e'.
+              let k = o.fit j u e' in record {
+                opening = k.opening;
+                opens = k.opens;
+                known = k.known;
+                live = λ l. ((k.live l).0, stays u (another g id v j u s f k apart (inl l)) (k.live l).1);
+                claims = λ l. ((k.claims l).0, stays u (another g id v j u s f k apart (inr l)) (k.claims l).1);
+                holding = λ b. absurd (apart ((k.holding b).holder ∙ sym has.holder));
+              });
+        },
+      ),
+      refl,
+    )
+
+-- where a view is set and another added
+all_forked : (F : ℕ → Known → Type 0) (views : List Known) (id : ℕ) (w new : Known) → F id w → F (length (set views id w)) new → ((j : ℕ) (u : Known) → j ≢ id → get_elem? views j ≡ some u → F j u) → (j : ℕ) (u : Known) → get_elem? (set views id w ++ new ∷ []) j ≡ some u → F j u
+all_forked F views id w new mine theirs others j u e =
+    ⊎_elim (λ was. all_set F views id w mine others j u was)
+    (λ (x : (j ≡ length (set views id w)) × (new ≡ u)). subst (λ (y : ℕ × Known). F y.0 y.1) (λ i. (sym x.0 i, x.1 i)) theirs)
+    (at_end (set views id w) new u j e)
+
+home_else : (home : ℕ → ℕ) (n k at : ℕ) → n < k → (if n == k then at else home n) ≡ home n
+home_else home n k at lt = ap (λ (b : Bool). if b then at else home n) (ne_eqb n k (λ e. absurd (omega arith)))
+
+none_yet : (config : Config) (before : List Entry) (n : ℕ) (os : List ℕ) (es : List Entry) → AllBelow n os → extracts_from config before n os es ≡ []
+none_yet config before n [] es all = refl
+none_yet config before n (o ∷ os) [] all = refl
+none_yet config before n (o ∷ os) (e ∷ es) all =
+    ap (λ (b : Bool). (if b then extract config before e ∷ [] else []) ++ extracts_from config (before ++ e ∷ []) n os es) (ne_eqb o n (λ (same : o ≡ n). let a = all.0 in absurd (omega arith)))
+    ∙ none_yet config (before ++ e ∷ []) n os es all.1
+
+pub sits : (id : ℕ) (v : Known) → v.opens ≡ true → v.known ≡ true → v.live ≡ false → v.claims ≡ false → v.holding ≡ false → v.made < v.seats → Forks Holds id v (one_more v) (seat_of v)
+sits id v opens known live claims holding room items views h at =
+    let world = past_opening items views id v h at known in
+    let g : World = world.0 in
+    let o : IsOpen g items views = world.1 in
+    let f = o.fit id v at in
+    let made : v.made ≡ g.past.made = (f.opens opens).1 in
+    let place : ℕ = length (set views id (one_more v)) in
+    let g' : World = record g { past = record g.past { made = suc g.past.made; ended = λ n. if n == g.past.made then false else g.past.ended n }; home = λ n. if n == g.past.made then place else g.home n } in
+    let keeps : (u : Known) → Claims g.past u → Claims g'.past u = λ u k. record {
+      made = let a = k.made in omega arith;
+      seen = k.seen;
+      stopped = k.stopped;
+      receipts = k.receipts;
+      stops = k.stops;
+      ended = k.ended ∙ sym (ap (λ (b : Bool). if b then false else g.past.ended u.number) (ne_eqb u.number g.past.made (λ e. let a = k.made in absurd (omega arith))));
+    } in
+    let same : seat_of v ≡ fresh g.past.config g.past.seats g.past.made = λ i. fresh ((f.known known).0 i) ((f.known known).1 i) (made i) in
+    inr (
+      g',
+      record {
+        there = o.there;
+        away = o.away;
+        paired = o.paired;
+        owned = below_more' g.past.made (suc g.past.made) g.past.owners (omega arith) o.owned;
+        stopper = λ t. let a = o.stopper t in omega arith;
+        made = let a = (f.known known).1 in omega arith;
+        fit = all_forked (Fits g') views id (one_more v) (seat_of v)
+            (record {
+              opening = f.opening;
+              opens = λ _. ((f.opens opens).0, ap suc made);
+              known = f.known;
+              live = λ l. off (sym live ∙ l);
+              claims = λ l. off (sym claims ∙ l);
+              holding = λ l. off (sym holding ∙ l);
+            })
+            (record {
+              opening = refl;
+              opens = λ l. off l;
+              known = λ _. f.known known;
+              live = λ _. (
+                sym (ap (λ (b : Bool). if b then place else g.home v.made) (eq-eqb v.made g.past.made made)),
+                record {
+                  made = omega arith;
+                  seen = (g.past.entries, refl);
+                  stopped = λ t. off t;
+                  receipts = sym (none_yet g.past.config [] v.made g.past.owners g.past.entries (subst (λ (n : ℕ). AllBelow n g.past.owners) (sym made) o.owned));
+                  stops = λ t n. let a = o.stopper t in absurd (omega arith);
+                  ended = sym (ap (λ (b : Bool). if b then false else g.past.ended v.made) (eq-eqb v.made g.past.made made));
+                },
+              );
+              claims = λ l. off l;
+              holding = λ l. off l;
+            })
+            (λ j u apart e.
+            let k = o.fit j u e in record {
+              opening = k.opening;
+              opens = λ l. absurd (apart ((k.opens l).0 ∙ sym (f.opens opens).0));
+              known = k.known;
+              live = λ l. let c = (k.live l).1 in ((k.live l).0 ∙ sym (home_else g.home u.number g.past.made place c.made), keeps u c);
+              claims = λ l. ((k.claims l).0, keeps u (k.claims l).1);
+              holding = λ l. let m = k.holding l in record { free = m.free; holder = m.holder; all = m.all; owners = m.owners; over = m.over; stopper = m.stopper };
+            });
+      },
+    )
+  where
+    below_more' : (m n : ℕ) (os : List ℕ) → m ≤ n → AllBelow m os → AllBelow n os
+    below_more' m n [] le all = tt
+    below_more' m n (o ∷ os) le all = (omega (arith, all.0), below_more' m n os le all.1)
+
+-- a seat ends, and a note of it is made
+pub ends : (id : ℕ) (v : Known) → v.live ≡ true → v.claims ≡ false → v.holding ≡ false → v.opens ≡ false → v.known ≡ true → Forks Holds id v (ended v) (note_of v)
+ends id v live claims holding opens known items views h at =
+    let world = past_opening items views id v h at known in
+    let g : World = world.0 in
+    let o : IsOpen g items views = world.1 in
+    let f = o.fit id v at in
+    let c = (f.live live).1 in
+    let g' : World = record g { past = record g.past { ended = λ n. if n == v.number then true else g.past.ended n } } in
+    let mine : (w : Known) → w.number ≡ v.number → w.closed ≡ true → w.closed ≡ g'.past.ended w.number = λ w n t. t ∙ sym (ap (λ (b : Bool). if b then true else g.past.ended w.number) (eq-eqb w.number v.number n)) in
+    let other : (u : Known) → u.number ≢ v.number → Claims g.past u → Claims g'.past u = λ u apart k. record {
+      made = k.made;
+      seen = k.seen;
+      stopped = k.stopped;
+      receipts = k.receipts;
+      stops = k.stops;
+      ended = k.ended ∙ sym (ap (λ (b : Bool). if b then true else g.past.ended u.number) (ne_eqb u.number v.number apart));
+    } in
+    let note : (u : Known) → u.closed ≡ true → Claims g.past u → Claims g'.past u = λ u t k. record {
+      made = k.made;
+      seen = k.seen;
+      stopped = k.stopped;
+      receipts = k.receipts;
+      stops = k.stops;
+      ended = elim (u.number == v.number) as (λ (b : Bool). u.closed ≡ (if b then true else g.past.ended u.number)) [ true ↦ t | false ↦ k.ended ];
+    } in
+    inr (
+      g',
+      record {
+        there = o.there;
+        away = o.away;
+        paired = o.paired;
+        owned = o.owned;
+        stopper = o.stopper;
+        made = o.made;
+        fit = all_forked (Fits g') views id (ended v) (note_of v)
+            (record {
+              opening = f.opening;
+              opens = f.opens;
+              known = f.known;
+              live = λ l. ((f.live live).0, record { made = c.made; seen = c.seen; stopped = c.stopped; receipts = c.receipts; stops = c.stops; ended = mine (ended v) refl refl });
+              claims = λ l. off (sym claims ∙ l);
+              holding = λ l. off (sym holding ∙ l);
+            })
+            (record {
+              opening = f.opening;
+              opens = λ l. off (sym opens ∙ l);
+              known = f.known;
+              live = λ l. off l;
+              claims = λ l. (refl, record { made = c.made; seen = c.seen; stopped = c.stopped; receipts = c.receipts; stops = c.stops; ended = mine (note_of v) refl refl });
+              holding = λ l. off (sym holding ∙ l);
+            })
+            (λ j u apart e.
+            let k = o.fit j u e in record {
+              opening = k.opening;
+              opens = k.opens;
+              known = k.known;
+              live = λ l. ((k.live l).0, other u (λ same. apart ((k.live l).0 ∙ ap g.home same ∙ sym (f.live live).0)) (k.live l).1);
+              claims = λ l. ((k.claims l).0, note u (k.claims l).0 (k.claims l).1);
+              holding = λ l. let m = k.holding l in record { free = m.free; holder = m.holder; all = m.all; owners = m.owners; over = m.over; stopper = m.stopper };
+            });
+      },
+    )
+
+-- a closer is made
+pub closes : (id : ℕ) (v : Known) → v.known ≡ true → Forks Holds id v v (closer_of v)
+closes id v known items views h at =
+    let world = past_opening items views id v h at known in
+    let g : World = world.0 in
+    let o : IsOpen g items views = world.1 in
+    let f = o.fit id v at in
+    inr (
+      g,
+      record {
+        there = o.there;
+        away = o.away;
+        paired = o.paired;
+        owned = o.owned;
+        stopper = o.stopper;
+        made = o.made;
+        fit = all_forked (Fits g) views id v (closer_of v) f
+            (record {
+              opening = refl;
+              opens = λ l. off l;
+              known = λ _. f.known known;
+              live = λ l. off l;
+              claims = λ l. off l;
+              holding = λ l. off l;
+            })
+            (λ j u apart e. o.fit j u e);
+      },
+    )
+
+-- the closer takes a note in
+pub shows : (id : ℕ) (v : Known) (other : ℕ) (n : Known) → v.known ≡ true → v.live ≡ false → v.opens ≡ false → n.claims ≡ true → Merges Holds id v other n (shown v n) nobody
+shows id v other n known live opens claims items views h at apart there =
+    let world = past_opening items views id v h at known in
+    let g : World = world.0 in
+    let o : IsOpen g items views = world.1 in
+    let f = o.fit id v at in
+    let w : Known = shown v n in
+    let was : get_elem? views other ≡ some n = ⊎_elim (λ (t : (other ≡ id) × (w ≡ n)). absurd (apart t.0)) (λ (t : (other ≢ id) × (get_elem? views other ≡ some n)). t.1) (at_set views id other w n there) in
+    let k = (o.fit other n was).claims claims in
+    let with_note : AllFit g (set views id w) = all_set (Fits g) views id w
+    (record {
+      opening = f.opening;
+      opens = λ l. off (sym opens ∙ l);
+      known = f.known;
+      live = λ l. off (sym live ∙ l);
+      claims = λ _. (k.0, record { made = k.1.made; seen = k.1.seen; stopped = k.1.stopped; receipts = k.1.receipts; stops = k.1.stops; ended = k.1.ended });
+      holding = λ l. let m = f.holding l in record { free = m.free; holder = m.holder; all = m.all; owners = m.owners; over = m.over; stopper = m.stopper };
+    })
+    (λ j u _ e. o.fit j u e) in
+    inr (
+      g,
+      record {
+        there = o.there;
+        away = o.away;
+        paired = o.paired;
+        owned = o.owned;
+        stopper = o.stopper;
+        made = o.made;
+        fit = all_set (Fits g) (set views id w) other nobody
+            (record {
+              opening = refl;
+              opens = λ l. off l;
+              known = λ l. off l;
+              live = λ l. off l;
+              claims = λ l. off l;
+              holding = λ l. off l;
+            })
+            (λ j u _ e. with_note j u e);
+      },
+    )
+
+-- the desk that the closer has agrees with the note
+pub agrees : (id : ℕ) (v : Known) → v.known ≡ true → v.holding ≡ true → v.claims ≡ true → Learns Holds id v (λ items. Agrees v)
+agrees id v known holding claims items views h at =
+    let world = past_opening items views id v h at known in
+    let g : World = world.0 in
+    let o : IsOpen g items views = world.1 in
+    let f = o.fit id v at in
+    let k = (f.claims claims).1 in
+    let m = f.holding holding in
+    record {
+      seen = subst (λ (l : List Entry). IsPrefix v.seen l) (sym m.all) k.seen;
+      stopped = λ t. m.over ∙ k.stopped t;
+      receipts = k.receipts ∙ (λ i. extracts_of (sym (f.known known).0 i) v.number (sym m.owners i) (sym m.all i));
+      stops = λ t n. k.stops (sym m.over ∙ t) (n ∙ m.stopper);
+    }

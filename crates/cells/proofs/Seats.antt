@@ -1,0 +1,245 @@
+-- What each seat knows stays right.
+use Rattle.std.proofs.Common.{◌≡◌, ◌⊎◌, ℕ, zero, suc, ◌+◌, ◌<◌, ◌≤◌, Bool, true, false, List, [], ◌∷◌, ◌++◌, length, take, Some, refl, sym, ap, ◌∙◌, subst, inl, inr, ⊎_elim, arith, length-append, append_assoc, slice_get}
+use mathlib.Core.List.{IsPrefix}
+use Rattle.std.proofs.lemmas.List.{take-append-le}
+use Rattle.std.proofs.Math.Seq.{take-append_seam, take-length}
+use Rattle.std.proofs.lemmas.Option.{slice_get_within}
+use Rattle.std.proofs.Common.{map, get_or}
+use Rattle.std.proofs.lemmas.List.{take_more, map-append}
+use Rattle.std.proofs.lemmas.List.Elements.{All-nil, All-cons, All-head, All-tail}
+use Rattle.std.specs.List.{All}
+use Rattle.atomic_table.specs.Seated.{TableId}
+use Rattle.crossbeam_queue.specs.Passes.{Pass, view}
+use Rattle.types.specs.declared.event.Event.{Event}
+use Rattle.types.specs.declared.event.Out.{Out}
+use Rattle.protocol.specs.Hosts.{Config, Entry}
+use Rattle.cells.specs.declared.refusal.CellRefusal.{CellRefusal}
+use Rattle.cells.specs.Receipts.{Applied, Extract, entry_of, extract, extract_of, receipt}
+use Rattle.cells.specs.Views.{Denial, DeskSight, Known}
+use Rattle.cells.specs.Rule.{denial, IsTaken, added, denied, stopped, HasDesk, fresh, ended}
+use Rattle.cells.specs.Sights.{Sight}
+use Rattle.cells.specs.Sounds.{Stands, IsRight, IsWhy, refused_by, AllStand, AllRight, IsRising, IsSound, IsFree, IsSeat}
+use Rattle.cells.specs.Cells.{AllFresh, IsSeatOf}
+use Rattle.cells.specs.Closing.{AllSeats, ended_sight}
+
+slice_get-snoc : {A : Type 0} (l : List A) (x y : A) (k : ℕ) → slice_get (l ++ x ∷ []) k ≡ Some y → (slice_get l k ≡ Some y) ⊎ ((k ≡ length l) × (x ≡ y))
+slice_get-snoc [] x y zero e = inr (refl, cc)
+slice_get-snoc [] x y (suc k) e = absurd (cc)
+slice_get-snoc (z ∷ l) x y zero e = inl e
+slice_get-snoc (z ∷ l) x y (suc k) e = ⊎_elim (λ h. inl h) (λ h. inr (ap suc h.0, h.1)) (slice_get-snoc l x y k e)
+
+get_front : {A : Type 0} (xs ys : List A) (k : ℕ) (p : A) → slice_get xs k ≡ Some p → slice_get (xs ++ ys) k ≡ Some p
+get_front [] ys k p e = absurd (cc)
+get_front (x ∷ xs) ys zero p e = e
+get_front (x ∷ xs) ys (suc k) p e = get_front xs ys k p e
+
+get_last : {A : Type 0} (xs : List A) (p : A) → slice_get (xs ++ p ∷ []) (length xs) ≡ Some p
+get_last [] p = refl
+get_last (x ∷ xs) p = get_last xs p
+
+take_front : (a b : List Entry) (n : ℕ) → IsPrefix a b → n ≤ length a → take n b ≡ take n a
+take_front a b n p le = ap (λ (l : List Entry). take n l) (sym p.1) ∙ take-append-le n a p.0 le
+
+prefix_length : (a b : List Entry) → IsPrefix a b → length a ≤ length b
+prefix_length a b p = let e = ap length p.1 in omega (arith, length-append a p.0)
+
+pub stand_more : (config : Config) (a b : List Entry) (rs : List Applied) → IsPrefix a b → AllStand config a rs → AllStand config b rs
+stand_more config a b [] p s = tt
+stand_more config a b (r ∷ rs) p s =
+    let t = s.0 in
+    let lt : r.number < length a = slice_get_within a r.number t.0 t.1 in
+    let le : r.number ≤ length a = omega arith in
+    ((t.0, subst (λ (l : List Entry). slice_get l r.number ≡ Some t.0) p.1 (get_front a p.0 r.number t.0 t.1), t.2 ∙ ap (λ (l : List Entry). extract config l t.0) (sym (take_front a b r.number p le))), stand_more config a b rs p s.1)
+
+pub right_more : (config : Config) (a b : List Entry) (s t : Bool) (ds : List Denial) → IsPrefix a b → (s ≡ true → t ≡ true) → AllRight config a s ds → AllRight config b t ds
+right_more config a b s t [] p up r = tt
+right_more config a b s t (d ∷ ds) p up r =
+    let one = r.0 in
+    let le : d.length ≤ length b = let l = prefix_length a b p in let k = one.0 in omega arith in
+    ((le, ⊎_elim (λ m. inl m) (λ m. inr (⊎_elim (λ c. inl (c.0, up c.1)) (λ c. inr (ap (λ (l : List Entry). refused_by config l d.event) (take_front a b d.length p one.0) ∙ c)) m)) one.1), right_more config a b s t ds p up r.1)
+
+right_snoc : (config : Config) (a : List Entry) (s : Bool) (ds : List Denial) (d : Denial) → AllRight config a s ds → IsRight config a s d → AllRight config a s (ds ++ d ∷ [])
+right_snoc config a s [] d all one = (one, tt)
+right_snoc config a s (x ∷ xs) d all one = (all.0, right_snoc config a s xs d all.1 one)
+
+stand_snoc : (config : Config) (a : List Entry) (rs : List Applied) (r : Applied) → AllStand config a rs → Stands config a r → AllStand config a (rs ++ r ∷ [])
+stand_snoc config a [] r all one = (one, tt)
+stand_snoc config a (x ∷ xs) r all one = (all.0, stand_snoc config a xs r all.1 one)
+
+rising_snoc : (config : Config) (a : List Entry) (n : ℕ) (rs : List Applied) (r : Applied) → IsRising n rs → AllStand config a rs → n ≤ r.number → length a ≤ r.number → IsRising n (rs ++ r ∷ [])
+rising_snoc config a n [] r up all le far = (le, tt)
+rising_snoc config a n (x ∷ xs) r up all le far =
+    let within : x.number < length a = slice_get_within a x.number all.0.0 all.0.1 in
+    (up.0, rising_snoc config a (suc x.number) xs r up.1 all.1 (omega arith) far)
+
+-- the seat that has the desk
+pub has_desk : (v : Known) (x : DeskSight) (w : Known) → IsFree v → v.closed ≡ false → IsTaken v x w → HasDesk w
+has_desk v x w f open_yet t = subst (λ (u : Known). HasDesk u) (sym t.now) (record { known = f.known; live = f.live; claims = f.claims; opens = f.opens; closed = open_yet; holding = refl })
+
+-- a refusal
+pub sound_denied : (v : Known) (x : DeskSight) (w : Known) (event : Event) (refusal : CellRefusal) → IsFree v → IsSound v → IsTaken v x w → IsWhy x.log.config x.log.entries x.stopped event refusal → IsSound (denied w event refusal)
+sound_denied v x w event refusal f s t why =
+    let is = t.now in
+    let all : w.all ≡ x.log.entries = ap (λ (u : Known). u.all) is in
+    let over : w.over ≡ x.stopped = ap (λ (u : Known). u.over) is in
+    let config : w.config ≡ v.config = ap (λ (u : Known). u.config) is in
+    let p = t.seen f.live in
+    let up = t.stopped f.live in
+    let right : AllRight w.config w.all w.over w.denials = subst (λ (y : Config × List Denial). AllRight y.0 w.all w.over y.1) (λ i. (sym config i, sym (ap (λ (u : Known). u.denials) is) i)) (right_more v.config v.seen w.all v.stopped w.over v.denials p up s.right) in
+    let whole : refused_by w.config (take (length w.all) w.all) event ≡ refused_by x.log.config x.log.entries event = (λ i. refused_by (config i) (take-length w.all i) event) ∙ (λ i. refused_by (sym t.config i) (all i) event) in
+    let one : IsRight w.config w.all w.over (denial event refusal (length w.all)) = (omega arith, ⊎_elim (λ m. inl m) (λ m. inr (⊎_elim (λ c. inl (c.0, over ∙ c.1)) (λ c. inr (whole ∙ c)) m)) why) in
+    record {
+      stand = subst (λ (y : Config × List Applied). AllStand y.0 w.all y.1) (λ i. (sym config i, sym (ap (λ (u : Known). u.receipts) is) i)) (stand_more v.config v.seen w.all v.receipts p s.stand);
+      rising = subst (λ (l : List Applied). IsRising 0 l) (sym (ap (λ (u : Known). u.receipts) is)) s.rising;
+      right = right_snoc w.config w.all w.over w.denials (denial event refusal (length w.all)) right one;
+    }
+
+-- an application
+pub sound_added : (v : Known) (x : DeskSight) (w : Known) (r : Applied) → IsFree v → IsSound v → IsTaken v x w → extract_of r ≡ extract w.config w.all (entry_of r) → IsSound (added w r)
+sound_added v x w r f s t made =
+    let e : Entry = entry_of r in
+    let is = t.now in
+    let config : w.config ≡ v.config = ap (λ (u : Known). u.config) is in
+    let p = t.seen f.live in
+    let up = t.stopped f.live in
+    let q : IsPrefix v.seen (w.all ++ e ∷ []) = (p.0 ++ e ∷ [], sym (append_assoc v.seen p.0 (e ∷ [])) ∙ ap (λ (l : List Entry). l ++ e ∷ []) p.1) in
+    let number : r.number ≡ length w.all = ap (λ (y : Extract). y.number) made in
+    let front : take r.number (w.all ++ e ∷ []) ≡ w.all = ap (λ (n : ℕ). take n (w.all ++ e ∷ [])) number ∙ take-append_seam w.all (e ∷ []) in
+    let here : Stands w.config (w.all ++ e ∷ []) r = (e, ap (slice_get (w.all ++ e ∷ [])) number ∙ get_last w.all e, made ∙ ap (λ (l : List Entry). extract w.config l e) (sym front)) in
+    let stand : AllStand w.config w.all w.receipts = subst (λ (y : Config × List Applied). AllStand y.0 w.all y.1) (λ i. (sym config i, sym (ap (λ (u : Known). u.receipts) is) i)) (stand_more v.config v.seen w.all v.receipts p s.stand) in
+    let rising : IsRising 0 w.receipts = subst (λ (l : List Applied). IsRising 0 l) (sym (ap (λ (u : Known). u.receipts) is)) s.rising in
+    record {
+      stand = stand_snoc w.config (w.all ++ e ∷ []) w.receipts r (stand_more w.config w.all (w.all ++ e ∷ []) w.receipts (e ∷ [], refl) stand) here;
+      rising = rising_snoc w.config w.all 0 w.receipts r rising stand (omega arith) (omega (arith, number));
+      right = subst (λ (y : Config × List Denial). AllRight y.0 (w.all ++ e ∷ []) w.over y.1) (λ i. (sym config i, sym (ap (λ (u : Known). u.denials) is) i)) (right_more v.config v.seen (w.all ++ e ∷ []) v.stopped w.over v.denials q up s.right);
+    }
+
+pub seat_denied : (p q r : Pass DeskSight Known) (n : ℕ) (rs now : List Applied) (x : DeskSight) (event : Event) (refusal : CellRefusal) → IsSeat p n rs → IsTaken (view p) x (view q) → q.me.1 ≡ p.me.1 → r.me.1 ≡ q.me.1
+    → view r ≡ denied (view q) event refusal → now ≡ rs → IsWhy x.log.config x.log.entries x.stopped event refusal → IsSeat r n now
+seat_denied p q r n rs now x event refusal s t one two is same why =
+    let f = s.free in
+    let w : Known = view q in
+    let u : Known = denied w event refusal in
+    let free : IsFree u = subst (λ (y : Known). IsFree (denied y event refusal)) (sym t.now) (record { known = f.known; live = f.live; claims = f.claims; opens = f.opens; holding = refl }) in
+    record {
+      no_slot = two ∙ one ∙ s.no_slot;
+      number = ap (λ (y : Known). y.number) is ∙ ap (λ (y : Known). y.number) t.now ∙ s.number;
+      receipts = ap (λ (y : Known). y.receipts) is ∙ ap (λ (y : Known). y.receipts) t.now ∙ s.receipts ∙ sym same;
+      free = subst IsFree (sym is) free;
+      sound = subst IsSound (sym is) (sound_denied (view p) x w event refusal f s.sound t why);
+    }
+
+pub seat_added : (p q r : Pass DeskSight Known) (n : ℕ) (rs now : List Applied) (x : DeskSight) (a : Applied) → IsSeat p n rs → IsTaken (view p) x (view q) → q.me.1 ≡ p.me.1 → r.me.1 ≡ q.me.1
+    → view r ≡ added (view q) a → now ≡ rs ++ a ∷ [] → extract_of a ≡ extract (view q).config (view q).all (entry_of a) → IsSeat r n now
+seat_added p q r n rs now x a s t one two is same made =
+    let f = s.free in
+    let w : Known = view q in
+    let u : Known = added w a in
+    let free : IsFree u = subst (λ (y : Known). IsFree (added y a)) (sym t.now) (record { known = f.known; live = f.live; claims = f.claims; opens = f.opens; holding = refl }) in
+    record {
+      no_slot = two ∙ one ∙ s.no_slot;
+      number = ap (λ (y : Known). y.number) is ∙ ap (λ (y : Known). y.number) t.now ∙ s.number;
+      receipts = ap (λ (y : Known). y.receipts) is ∙ ap (λ (y : Known). y.receipts ++ a ∷ []) t.now ∙ ap (λ (l : List Applied). l ++ a ∷ []) s.receipts ∙ sym same;
+      free = subst IsFree (sym is) free;
+      sound = subst IsSound (sym is) (sound_added (view p) x w a f s.sound t made);
+    }
+
+-- a receipt that was made at the desk
+pub made_at : (v : Known) (x : DeskSight) (w : Known) (event : Event) (outs : List Out) (a : Applied) → IsTaken v x w → a ≡ receipt x.log.config x.log.entries event outs → extract_of a ≡ extract w.config w.all (entry_of a)
+made_at v x w event outs a t is =
+    let all : x.log.entries ≡ w.all = sym (ap (λ (u : Known). u.all) t.now) in
+    let config : x.log.config ≡ w.config = t.config ∙ sym (ap (λ (u : Known). u.config) t.now) in
+    ap extract_of is ∙ (λ i. extract (config i) (all i) (entry_of (sym is i)))
+
+-- what was seen before is a beginning of what is seen after an application
+pub seen_added : (v : Known) (x : DeskSight) (w u : Known) (r : Applied) → IsFree v → IsTaken v x w → u ≡ added w r → IsPrefix v.seen u.seen
+seen_added v x w u r f t is = let p = t.seen f.live in
+    (p.0 ++ entry_of r ∷ [], sym (append_assoc v.seen p.0 (entry_of r ∷ [])) ∙ ap (λ (l : List Entry). l ++ entry_of r ∷ []) p.1 ∙ sym (ap (λ (y : Known). y.seen) is))
+
+pub seat_stopped : (p q r : Pass DeskSight Known) (n : ℕ) (rs : List Applied) (x : DeskSight) → IsSeat p n rs → IsTaken (view p) x (view q) → q.me.1 ≡ p.me.1 → r.me.1 ≡ q.me.1
+    → view r ≡ stopped (view q) → IsSeat r n rs
+seat_stopped p q r n rs x s t one two is =
+    let f = s.free in
+    let v : Known = view p in
+    let w : Known = view q in
+    let p' = t.seen f.live in
+    let config : w.config ≡ v.config = ap (λ (u : Known). u.config) t.now in
+    let free : IsFree (stopped w) = subst (λ (y : Known). IsFree (stopped y)) (sym t.now) (record { known = f.known; live = f.live; claims = f.claims; opens = f.opens; holding = refl }) in
+    let sound : IsSound (stopped w) = record {
+      stand = subst (λ (y : Config × List Applied). AllStand y.0 w.all y.1) (λ i. (sym config i, sym (ap (λ (u : Known). u.receipts) t.now) i)) (stand_more v.config v.seen w.all v.receipts p' s.sound.stand);
+      rising = subst (λ (l : List Applied). IsRising 0 l) (sym (ap (λ (u : Known). u.receipts) t.now)) s.sound.rising;
+      right = subst (λ (y : Config × List Denial). AllRight y.0 w.all true y.1) (λ i. (sym config i, sym (ap (λ (u : Known). u.denials) t.now) i)) (right_more v.config v.seen w.all v.stopped true v.denials p' (λ _. refl) s.sound.right);
+    } in
+    record {
+      no_slot = two ∙ one ∙ s.no_slot;
+      number = ap (λ (y : Known). y.number) is ∙ ap (λ (y : Known). y.number) t.now ∙ s.number;
+      receipts = ap (λ (y : Known). y.receipts) is ∙ ap (λ (y : Known). y.receipts) t.now ∙ s.receipts;
+      free = subst IsFree (sym is) free;
+      sound = subst IsSound (sym is) sound;
+    }
+
+-- a seat that was made just now
+pub seat_fresh : (p : Pass DeskSight Known) (config : Config) (seats n : ℕ) → p.me.1 ≡ [] → view p ≡ fresh config seats n → IsSeat p n []
+seat_fresh p config seats n slot is = record {
+  no_slot = slot;
+  number = ap (λ (y : Known). y.number) is;
+  receipts = ap (λ (y : Known). y.receipts) is;
+  free = subst IsFree (sym is) (record { known = refl; live = refl; claims = refl; opens = refl; holding = refl });
+  sound = subst IsSound (sym is) (record { stand = tt; rising = tt; right = tt });
+}
+
+-- one that has ended
+pub seat_ended : (p q : Pass DeskSight Known) (n : ℕ) (rs : List Applied) → IsSeat p n rs → q.me.1 ≡ p.me.1 → view q ≡ ended (view p) → IsSeat q n rs
+seat_ended p q n rs s slot is =
+    let f = s.free in
+    let o = s.sound in
+    record {
+      no_slot = slot ∙ s.no_slot;
+      number = ap (λ (y : Known). y.number) is ∙ s.number;
+      receipts = ap (λ (y : Known). y.receipts) is ∙ s.receipts;
+      free = subst IsFree (sym is) (record { known = f.known; live = f.live; claims = f.claims; opens = f.opens; holding = f.holding });
+      sound = subst IsSound (sym is) (record { stand = o.stand; rising = o.rising; right = o.right });
+    }
+
+pub seat_same : (p q : Pass DeskSight Known) (n : ℕ) (rs : List Applied) → IsSeat p n rs → q.me.1 ≡ p.me.1 → view q ≡ view p → IsSeat q n rs
+seat_same p q n rs s slot is = record {
+  no_slot = slot ∙ s.no_slot;
+  number = ap (λ (y : Known). y.number) is ∙ s.number;
+  receipts = ap (λ (y : Known). y.receipts) is ∙ s.receipts;
+  free = subst IsFree (sym is) s.free;
+  sound = subst IsSound (sym is) s.sound;
+}
+
+-- one seat more
+pub seats_more : (cell : TableId) (config : Config) (seats : ℕ) (all : List Sight) (n : ℕ) (new : Sight) → length all ≡ n → new.cell ≡ cell → new.me ≡ fresh config seats n
+    → ((k : ℕ) (s : Sight) → slice_get all k ≡ Some s → (s.cell ≡ cell) × (s.me ≡ fresh config seats k))
+    → (k : ℕ) (s : Sight) → slice_get (all ++ new ∷ []) k ≡ Some s → (s.cell ≡ cell) × (s.me ≡ fresh config seats k)
+seats_more cell config seats all n new len at me old k s e =
+    ⊎_elim (λ h. old k s h)
+    (λ (h : (k ≡ length all) × (new ≡ s)). (sym (ap (λ (t : Sight). t.cell) h.1) ∙ at, sym (ap (λ (t : Sight). t.me) h.1) ∙ me ∙ ap (fresh config seats) (sym len ∙ sym h.0)))
+    (slice_get-snoc all new s k e)
+
+-- seats that were made just now are open seats
+pub fresh_seats : (cell : TableId) (config kept : Config) (seats : ℕ) (all : List Sight) → kept ≡ config → AllFresh cell config seats all → All (IsSeatOf (record { cell = cell; config = kept; seats = seats })) all
+fresh_seats cell config kept seats all same new = each all (λ k s e. let h = new k s e in record { cell = h.0; config = ap (λ (v : Known). v.config) h.1 ∙ sym same; seats = ap (λ (v : Known). v.seats) h.1; open_yet = ap (λ (v : Known). v.closed) h.1 })
+  where
+    each : (l : List Sight) → ((k : ℕ) (s : Sight) → slice_get l k ≡ Some s → IsSeatOf (record { cell = cell; config = kept; seats = seats }) s) → All (IsSeatOf (record { cell = cell; config = kept; seats = seats })) l
+    each [] f = All-nil (IsSeatOf (record { cell = cell; config = kept; seats = seats }))
+    each (s ∷ ss) f = All-cons (IsSeatOf (record { cell = cell; config = kept; seats = seats })) s ss (f 0 s refl) (each ss (λ k u e. f (suc k) u e))
+
+pub seats_from_all : (P : Sight → Type 0) (seats : List Sight) → All P seats → AllSeats P seats
+seats_from_all P [] all = tt
+seats_from_all P (s ∷ ss) all = (All-head P s ss all, seats_from_all P ss (All-tail P s ss all))
+
+all_seats_snoc : (P : Sight → Type 0) (l : List Sight) (s : Sight) → AllSeats P l → P s → AllSeats P (l ++ s ∷ [])
+all_seats_snoc P [] s all one = (one, tt)
+all_seats_snoc P (x ∷ xs) s all one = (all.0, all_seats_snoc P xs s all.1 one)
+
+pub all_seats_more : (P : Sight → Type 0) (xs : List Sight) (i : ℕ) (x : Sight) → i < length xs → x ≡ get_or xs i x → AllSeats P (map ended_sight (take i xs)) → P (ended_sight x) → AllSeats P (map ended_sight (take (i + 1) xs))
+all_seats_more P xs i x lt is all one =
+    subst (AllSeats P) (sym (ap (map ended_sight) (take_more xs i x lt ∙ ap (λ (y : Sight). take i xs ++ y ∷ []) (sym is)) ∙ map-append ended_sight (take i xs) (x ∷ []))) (all_seats_snoc P (map ended_sight (take i xs)) (ended_sight x) all one)
+
+pub all_seats_get : (P : Sight → Type 0) (xs : List Sight) (i : ℕ) (s : Sight) → AllSeats P xs → slice_get xs i ≡ Some s → P s
+all_seats_get P [] i s all e = absurd (cc)
+all_seats_get P (x ∷ xs) zero s all e = let is : x ≡ s = cc in subst P is all.0
+all_seats_get P (x ∷ xs) (suc i) s all e = all_seats_get P xs i s all.1 e

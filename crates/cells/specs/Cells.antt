@@ -1,0 +1,65 @@
+-- Cells and their seats, and what a call of a seat leaves.
+use Rattle.std.specs.Prelude.{◌≡◌, ◌↔◌, ◌+◌, ℕ, List, [], ◌∷◌, ◌++◌, length, None, Some, slice_get, true, false}
+use mathlib.Core.List.{IsPrefix}
+use Rattle.atomic_table.specs.Seated.{TableId}
+use Rattle.types.specs.declared.event.Event.{Event}
+use Rattle.types.specs.declared.event.Out.{Out}
+use Rattle.network.specs.Decoding.{step_of}
+use Rattle.protocol.specs.Hosts.{Config, Entry}
+use Rattle.protocol.specs.Runs.{outs_given, refusal_of}
+use Rattle.hoststep.specs.Logs.{IsEntered}
+use Rattle.cells.specs.declared.refusal.CellRefusal.{CellRefusal}
+use Rattle.cells.specs.declared.refusal.CellRefusal.TheVariants.{Closed}
+use Rattle.cells.specs.declared.desk.Entered.{Entered}
+use Rattle.cells.specs.Receipts.{entry_of, receipt}
+use Rattle.cells.specs.Rule.{denial, fresh}
+use Rattle.cells.specs.Sights.{CellSight, Sight}
+use Rattle.cells.specs.Sounds.{IsWhy}
+use Rattle.cells.specs.Views.{DeskSight}
+
+-- an open seat of this cell
+pub record IsSeatOf (c : CellSight) (s : Sight) : Type 0 where
+  pub cell : s.cell ≡ c.cell
+  pub config : s.me.config ≡ c.config
+  pub seats : s.me.seats ≡ c.seats
+  pub open_yet : s.me.closed ≡ false
+
+-- seats of this cell, made just now and numbered from 0 on
+abbrev pub AllFresh : TableId → Config → ℕ → List Sight → Type 0
+AllFresh cell config seats all = (k : ℕ) (s : Sight) → slice_get all k ≡ Some s → (s.cell ≡ cell) × (s.me ≡ fresh config seats k)
+
+-- an event was entered in the journal that lies under the lock, and its receipt made
+pub record IsEnteredAt (old : DeskSight) (event : Event) (m : Entered) (new : DeskSight) : Type 0 where
+  pub running : old.stopped ≡ false
+  pub entered : IsEntered old.log (step_of event) m.answer.items
+  pub made : m.made.value ≡ receipt old.log.config old.log.entries event m.answer.items
+  pub desk : new ≡ record old { log = record old.log { entries = old.log.entries ++ entry_of m.made.value ∷ [] } }
+
+-- why it was not entered; the stop mark comes first
+abbrev pub IsDenied : DeskSight → Event → CellRefusal → Type 0
+IsDenied d event r = IsWhy d.log.config d.log.entries d.stopped event r × ((r ≡ Closed) ↔ (d.stopped ≡ true))
+
+-- The seat gained one receipt, of this event with these outs, and nothing else but what it saw. They are what the event gives out after the
+-- entries before it, after which it is not refused.
+pub record IsApplied (c : CellSight) (event : Event) (given : List Out) (old new : Sight) : Type 0 where
+  pub before : List Entry
+  pub seen_before : IsPrefix old.me.seen before
+  pub free : refusal_of c.config before (step_of event) ≡ None
+  pub outs : given ≡ outs_given c.config before (step_of event)
+  pub receipts : new.me.receipts ≡ old.me.receipts ++ receipt c.config before event given ∷ []
+  pub seen : new.me.seen ≡ before ++ entry_of (receipt c.config before event given) ∷ []
+  pub denials : new.me.denials ≡ old.me.denials
+  pub stops : new.me.stops ≡ old.me.stops
+
+-- The seat gained one denial, and nothing else but what it saw.
+pub record IsDenial (event : Event) (r : CellRefusal) (old new : Sight) : Type 0 where
+  pub receipts : new.me.receipts ≡ old.me.receipts
+  pub denials : new.me.denials ≡ old.me.denials ++ denial event r (length new.me.seen) ∷ []
+  pub stops : new.me.stops ≡ old.me.stops
+
+-- The seat set the mark once more, and gained nothing but what it saw.
+pub record IsStopped (old new : Sight) : Type 0 where
+  pub stopped : new.me.stopped ≡ true
+  pub stops : new.me.stops ≡ old.me.stops + 1
+  pub receipts : new.me.receipts ≡ old.me.receipts
+  pub denials : new.me.denials ≡ old.me.denials

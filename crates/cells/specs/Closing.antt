@@ -1,0 +1,62 @@
+-- One history of one thread, at the close.
+use Rattle.std.specs.Prelude.{◌≡◌, ℕ, ◌<◌, ◌≤◌, ◌+◌, false, true, List, [], ◌∷◌, length, map, Some, slice_get}
+use mathlib.Core.List.{IsPrefix}
+use Rattle.protocol.specs.Hosts.{Config}
+use Rattle.hoststep.specs.Logs.{Log}
+use Rattle.cells.specs.Receipts.{extract_of, extracts_of}
+use Rattle.cells.specs.Rule.{Told, AllBelow, ended}
+use Rattle.cells.specs.Sights.{Sight}
+use Rattle.cells.specs.Sounds.{IsSound, AllStand, AllRight}
+use Rattle.cells.specs.Views.{DeskSight, Known}
+
+abbrev pub AllSeats : (Sight → Type 0) → List Sight → Type 0
+AllSeats P [] = Unit {0}
+AllSeats P (s ∷ ss) = P s × AllSeats P ss
+
+abbrev pub HasNumber : List Sight → ℕ → Type 0
+HasNumber seats k = (i : ℕ) × (s : Sight) × (slice_get seats i ≡ Some s) × (s.me.number ≡ k)
+
+-- how many receipts they have
+abbrev pub receipts_in : List Sight → ℕ
+receipts_in [] = 0
+receipts_in (s ∷ ss) = length s.me.receipts + receipts_in ss
+
+-- the seat has ended, and is as it was
+abbrev pub ended_sight : Sight → Sight
+ended_sight s = record s { me = ended s.me }
+
+-- the desk, and what is known of each seat by it
+pub record Gathered (c : Config) (n : ℕ) (d : DeskSight) (seats : List Sight) : Type 0 where
+  pub owners : List ℕ
+  pub stopper : ℕ
+  pub config : d.log.config ≡ c
+  pub paired : length owners ≡ length d.log.entries
+  pub owned : AllBelow n owners
+  pub within : d.stopped ≡ true → stopper < n
+  pub told : AllSeats (λ s. Told c d.log.entries owners d.stopped stopper s.me × IsSound s.me × (s.me.config ≡ c)) seats
+
+-- Each entry is one seat's, and each seat's receipts are its entries. What each seat saw is a beginning. Each denial was right. A mark was
+-- set by some seat. Where no more seats are there than the cell has, there are as many entries as receipts.
+pub record IsOneHistory (n : ℕ) (j : Log) (seats : List Sight) : Type 0 where
+  pub owners : List ℕ
+  pub paired : length owners ≡ length j.entries
+  pub owned : AllBelow n owners
+  pub present : (k : ℕ) → k < n → HasNumber seats k
+  pub counted : length seats ≤ n → length j.entries ≡ receipts_in seats
+  pub receipts : AllSeats (λ s. map extract_of s.me.receipts ≡ extracts_of j.config s.me.number owners j.entries) seats
+  pub seen : AllSeats (λ s. IsPrefix s.me.seen j.entries) seats
+  pub stand : AllSeats (λ s. AllStand j.config j.entries s.me.receipts) seats
+  pub right : AllSeats (λ s. AllRight j.config j.entries s.me.stopped s.me.denials) seats
+  pub stops : AllSeats (λ s. s.me.stopped ≡ true → (i : ℕ) × (t : Sight) × (slice_get seats i ≡ Some t) × (0 < t.me.stops)) seats
+
+-- the closer has the desk still
+pub record Keeps (before after : Known) : Type 0 where
+  pub holding : after.holding ≡ true
+  pub live : after.live ≡ false
+  pub known : after.known ≡ true
+  pub opens : after.opens ≡ false
+  pub config : after.config ≡ before.config
+  pub all : after.all ≡ before.all
+  pub owners : after.owners ≡ before.owners
+  pub over : after.over ≡ before.over
+  pub stopper : after.stopper ≡ before.stopper

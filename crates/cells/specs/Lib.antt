@@ -1,0 +1,7 @@
+pub mod Receipts
+pub mod Views
+pub mod Rule
+pub mod Sights
+pub mod Sounds
+pub mod Cells
+pub mod Closing

@@ -1,0 +1,49 @@
+-- Receipts, and what a journal has of them.
+use Rattle.std.specs.Prelude.{ℕ, if◌then◌else◌, ◌==◌, List, [], ◌∷◌, ◌++◌, length}
+use Rattle.types.specs.declared.event.Event.{Event}
+use Rattle.types.specs.declared.event.Out.{Out}
+use Rattle.protocol.specs.Networks.{Step}
+use Rattle.protocol.specs.Hosts.{Config, Entry}
+use Rattle.network.specs.Decoding.{step_of}
+use Rattle.hoststep.specs.Logs.{marks_of}
+
+-- an event that was applied, with the network and the number of its entry, what it gave out, and the numbers by which a Hear names its
+-- emissions
+pub record Applied : Type 0 where
+  pub network : ℕ
+  pub number : ℕ
+  pub event : Event
+  pub outs : List Out
+  pub marks : List ℕ
+
+-- the same of an entry of a journal, where the bytes of the event have been read
+pub record Extract : Type 0 where
+  pub network : ℕ
+  pub number : ℕ
+  pub step : Step
+  pub outs : List Out
+  pub marks : List ℕ
+
+-- the receipt of an event with these outs, after these entries
+abbrev pub receipt : Config → List Entry → Event → List Out → Applied
+receipt config before event outs = record { network = config.number; number = length before; event = event; outs = outs; marks = marks_of config before (step_of event) }
+
+-- the entry that a receipt is of
+abbrev pub entry_of : Applied → Entry
+entry_of r = record { event = step_of r.event; outs = r.outs }
+
+abbrev pub extract_of : Applied → Extract
+extract_of r = record { network = r.network; number = r.number; step = step_of r.event; outs = r.outs; marks = r.marks }
+
+-- what the receipt of an entry has, after these entries
+abbrev pub extract : Config → List Entry → Entry → Extract
+extract config before e = record { network = config.number; number = length before; step = e.event; outs = e.outs; marks = marks_of config before e.event }
+
+-- the same of all entries that are a seat's, by the owner of each; these come after the entries before
+abbrev pub extracts_from : Config → List Entry → ℕ → List ℕ → List Entry → List Extract
+extracts_from config before by [] es = []
+extracts_from config before by (o ∷ os) [] = []
+extracts_from config before by (o ∷ os) (e ∷ es) = (if o == by then extract config before e ∷ [] else []) ++ extracts_from config (before ++ e ∷ []) by os es
+
+abbrev pub extracts_of : Config → ℕ → List ℕ → List Entry → List Extract
+extracts_of config by owners entries = extracts_from config [] by owners entries

@@ -1,0 +1,20 @@
+-- What contracts see of a cell and of a seat.
+use Rattle.std.specs.Prelude.{ℕ}
+use Rattle.atomic_table.specs.Seated.{TableId}
+use Rattle.crossbeam_queue.specs.Passes.{Pass, view}
+use Rattle.protocol.specs.Hosts.{Config}
+use Rattle.cells.specs.Views.{DeskSight, Known}
+
+-- which cell it is, the configuration of its network, and how many seats it has
+pub record CellSight : Type 0 where
+  pub cell : TableId
+  pub config : Config
+  pub seats : ℕ
+
+-- the cell that it is of, and what it knows
+pub record Sight : Type 0 where
+  pub cell : TableId
+  pub me : Known
+
+abbrev pub sight_of : Pass DeskSight Known → Sight
+sight_of p = record { cell = p.table_id; me = view p }

@@ -1,0 +1,63 @@
+-- What each seat knows is right.
+use Rattle.std.specs.Prelude.{◌≡◌, ◌⊎◌, ℕ, suc, ◌≤◌, Bool, true, false, List, [], ◌∷◌, length, option_map, take, Option, Some, slice_get}
+use Rattle.types.specs.declared.event.Event.{Event}
+use Rattle.types.specs.declared.event.Refusal.TheVariants.{NoMemory}
+use Rattle.crossbeam_queue.specs.Passes.{Pass, view}
+use Rattle.network.specs.Decoding.{step_of}
+use Rattle.protocol.specs.Hosts.{Config, Entry}
+use Rattle.protocol.specs.Runs.{refusal_of}
+use Rattle.cells.specs.declared.refusal.CellRefusal.{CellRefusal}
+use Rattle.cells.specs.declared.refusal.CellRefusal.TheVariants.{Closed, Network}
+use Rattle.cells.specs.Receipts.{Applied, extract, extract_of}
+use Rattle.cells.specs.Views.{Denial, DeskSight, Known}
+
+-- the receipt is that of the entry at its number
+abbrev pub Stands : Config → List Entry → Applied → Type 0
+Stands config entries r = (e : Entry) × (slice_get entries r.number ≡ Some e) × (extract_of r ≡ extract config (take r.number entries) e)
+
+-- the first refusal that applies to an event after these entries
+abbrev pub refused_by : Config → List Entry → Event → Option CellRefusal
+refused_by config entries event = option_map Network (refusal_of config entries (step_of event))
+
+-- why an event is refused: memory is wanting, or there is the mark, or it is the first refusal that applies
+abbrev pub IsWhy : Config → List Entry → Bool → Event → CellRefusal → Type 0
+IsWhy config entries stopped event r = (r ≡ Network NoMemory) ⊎ ((r ≡ Closed) × (stopped ≡ true)) ⊎ (refused_by config entries event ≡ Some r)
+
+-- the refusal was right after the entries of its number, and the mark is there where it says so
+abbrev pub IsRight : Config → List Entry → Bool → Denial → Type 0
+IsRight config entries stopped d = (d.length ≤ length entries) × IsWhy config (take d.length entries) stopped d.event d.refusal
+
+abbrev pub AllStand : Config → List Entry → List Applied → Type 0
+AllStand config entries [] = Unit {0}
+AllStand config entries (r ∷ rs) = Stands config entries r × AllStand config entries rs
+
+abbrev pub AllRight : Config → List Entry → Bool → List Denial → Type 0
+AllRight config entries stopped [] = Unit {0}
+AllRight config entries stopped (d ∷ ds) = IsRight config entries stopped d × AllRight config entries stopped ds
+
+-- the numbers rise, from n on
+abbrev pub IsRising : ℕ → List Applied → Type 0
+IsRising n [] = Unit {0}
+IsRising n (r ∷ rs) = (n ≤ r.number) × IsRising (suc r.number) rs
+
+-- receipts stand in what was seen, at rising numbers, and denials were right
+pub record IsSound (v : Known) : Type 0 where
+  pub stand : AllStand v.config v.seen v.receipts
+  pub rising : IsRising 0 v.receipts
+  pub right : AllRight v.config v.seen v.stopped v.denials
+
+-- a seat that may act
+pub record IsFree (v : Known) : Type 0 where
+  pub known : v.known ≡ true
+  pub live : v.live ≡ true
+  pub claims : v.claims ≡ false
+  pub opens : v.opens ≡ false
+  pub holding : v.holding ≡ false
+
+-- a pass, a number and receipts that make a seat
+pub record IsSeat (p : Pass DeskSight Known) (n : ℕ) (rs : List Applied) : Type 0 where
+  pub no_slot : p.me.1 ≡ []
+  pub number : (view p).number ≡ n
+  pub receipts : (view p).receipts ≡ rs
+  pub free : IsFree (view p)
+  pub sound : IsSound (view p)

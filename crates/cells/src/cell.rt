@@ -1,0 +1,34 @@
+//! A cell: one network under its lock.
+
+use crate::rule::Lock;
+use configuration::NetConfig;
+use envstore::Shelf;
+use std::marker::Model;
+
+pub mod acts;
+
+/// One network under its lock. Threads use it by its seats.
+///
+/// Contracts see which cell it is, the configuration of its network, and how many seats it has.
+#[derive(Drop)]
+pub struct Cell<S: Shelf> {
+    lock: Lock<S>,
+    config: NetConfig,
+    seats: u64,
+}
+
+impl<S: Shelf> Model for Cell<S> {
+    ghost use Rattle.std.specs.Prelude.{◌≡◌, ◌<◌};
+    ghost use Rattle.std.specs.Coded.{codes};
+    ghost use Rattle.crossbeam_queue.specs.Passes.{ruled_capacity};
+    ghost use Rattle.types.specs.Trees.{members_code};
+    ghost use Rattle.cells.specs.Sights.{CellSight};
+
+    ghost Value = { CellSight };
+
+    ghost coded = { Prim.hlevel (codes, members_code) };
+
+    ghost view = { λ c. record { cell = c.lock.table.shared.table_id; config = c.config; seats = c.seats } };
+
+    ghost invariant = { λ c. (ruled_capacity c.lock ≡ 1) × (0 < c.seats) };
+}

@@ -1,0 +1,24 @@
+//! Cells: one network under its lock, and the seats by which threads use it (this host's profile).
+//!
+//! A [`Cell`] has the journal of one network under a lock, which is a ruled queue of one place. Who uses it has
+//! a [`Seat`], and gets a [`Receipt`] for each event that it applied. Contracts say what each seat knows: the
+//! journal as it saw it last, its receipts and the refusals that it was answered. At the close all that adds up
+//! to one history of one thread.
+#![tactic(auto)]
+
+mod cell;
+mod desk;
+mod lock;
+mod receipt;
+mod refusal;
+mod rule;
+mod seat;
+
+pub use cell::Cell;
+pub use cell::acts::SeatsMissing;
+pub use receipt::Receipt;
+pub use refusal::CellRefusal;
+pub use seat::Seat;
+
+#[cfg(test)]
+mod tests;

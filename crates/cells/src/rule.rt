@@ -1,0 +1,138 @@
+//! The lock's rule, and what its steps tell.
+
+ghost use Rattle.std.specs.Prelude.{◌≡◌};
+
+use crate::desk::Desk;
+use crossbeam_queue::protocol::{Join, Lesson, Outcome, Protocol, Split};
+use crossbeam_queue::{Pass, RuledArrayQueue};
+use envstore::Shelf;
+use std::marker::{Brand, Model};
+
+/// What a pass knows. No value of it is made; contracts see what its specification has.
+pub struct View;
+
+impl Model for View {
+    ghost use Rattle.std.specs.Coded.{codes};
+    ghost use Rattle.types.specs.Trees.{members_code};
+    ghost use Rattle.cells.specs.Views.{Known, nobody};
+
+    ghost Value = { Known };
+
+    ghost coded = { Prim.hlevel (codes, members_code) };
+
+    ghost view = { λ _. nobody };
+}
+
+/// The rule of the lock.
+pub struct OneHistory;
+
+impl<S: Shelf> Protocol<Desk<S>, View> for OneHistory {
+    ghost use Rattle.cells.specs.Rule.{opener, Holds};
+
+    ghost holds = { Holds };
+
+    ghost first = { opener };
+}
+
+/// A view that a step leads to.
+pub trait Next {
+    ghost use Rattle.cells.specs.Views.{Known};
+
+    ghost next: { Known };
+}
+
+impl Next for Brand {
+    ghost use Rattle.cells.specs.Rule.{opener};
+
+    ghost next = { opener };
+}
+
+/// The desk is put back, and the view is the one that was named.
+pub struct Gives<N> {
+    of: std::marker::PhantomData<N>,
+}
+
+impl<N: Next, S: Shelf> Outcome<Desk<S>, View> for Gives<N> {
+    ghost use Rattle.std.specs.Prelude.{◌≡◌};
+
+    ghost then = { λ v x w. w ≡ N.next };
+}
+
+impl<N: Next, S: Shelf> Lesson<Desk<S>, View> for Gives<N> {
+    ghost use Rattle.cells.specs.Rule.{IsEmpty};
+
+    ghost fact = { λ v items. IsEmpty items };
+}
+
+/// The desk is taken.
+pub struct Takes;
+
+impl<S: Shelf> Outcome<Desk<S>, View> for Takes {
+    ghost use Rattle.cells.specs.Rule.{IsTaken};
+
+    ghost then = { IsTaken };
+}
+
+impl<S: Shelf> Lesson<Desk<S>, View> for Takes {
+    ghost fact = { λ v items. Unit {0} };
+}
+
+/// A seat is made.
+pub struct Sits;
+
+impl Split<View> for Sits {
+    ghost use Rattle.cells.specs.Rule.{one_more, seat_of};
+
+    ghost left = { one_more };
+
+    ghost right = { seat_of };
+}
+
+/// A seat ends, and a note of it is made.
+pub struct Ends;
+
+impl Split<View> for Ends {
+    ghost use Rattle.cells.specs.Rule.{ended, note_of};
+
+    ghost left = { ended };
+
+    ghost right = { note_of };
+}
+
+/// A pass that is to take the desk for good.
+pub struct Closes;
+
+impl Split<View> for Closes {
+    ghost use Rattle.cells.specs.Rule.{closer_of};
+
+    ghost left = { λ v. v };
+
+    ghost right = { closer_of };
+}
+
+/// The closer takes a note in.
+pub struct Shows;
+
+impl Join<View> for Shows {
+    ghost use Rattle.cells.specs.Rule.{shown};
+    ghost use Rattle.cells.specs.Views.{nobody};
+
+    ghost both = { shown };
+
+    ghost spent = { nobody };
+}
+
+/// The closer compares the note with the desk that it has.
+pub struct Checks;
+
+impl<S: Shelf> Lesson<Desk<S>, View> for Checks {
+    ghost use Rattle.cells.specs.Rule.{Agrees};
+
+    ghost fact = { λ v items. Agrees v };
+}
+
+/// The lock of a cell.
+pub type Lock<S> = RuledArrayQueue<Desk<S>, View, OneHistory>;
+
+/// What a thread uses a lock by.
+pub type SeatPass<S> = Pass<Desk<S>, View>;
