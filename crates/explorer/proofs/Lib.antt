@@ -1,3 +1,4 @@
 pub mod Names
 pub mod Alone
 pub mod Hosting
+mod TextLaws

@@ -1,30 +1,67 @@
 //! Reports as lines of text.
 
+ghost use Rattle.std.specs.Prelude.{◌≡◌, ◌++◌, OnOk, slice_get, string_bytes};
+ghost use Rattle.std.specs.List.{flat_map};
+ghost use Rattle.explorer.specs.Texts.{line_at, line_of_blockers, line_of_member, lines_from, name_behind_space, text_of_namer, text_of_report};
+
 use crate::report::{Blockers, Report};
+use closure::ClosureList;
 use scripts::push_name;
 use std::alloc::AllocError;
 use std::fmt::Write;
+use types::NodeId;
 
 /// Adds one line for each member: its place, its name, and the place of the member that named it first, or
 /// `-` for the first one; then for each hosted member, ascending, the word `blocks`, its name, and the single
 /// members that by themselves block its slices, ascending. Fields are separated by one space. Where memory
 /// is wanting, a part may have been added.
-pub fn push_text(text: &mut String, report: &Report) -> Result<(), AllocError> {
-    let members = report.members();
+pub fn push_text(text: &mut String, report: &Report) -> Result<(), AllocError>
+    ensures { OnOk result (string_bytes text.new ≡ string_bytes text.old ++ text_of_report report.now) }
+{
+    push_members(text, report.members())?;
+    push_hosted(text, report.hosted())?;
+    Ok(())
+}
+
+// Adds a line for each member.
+fn push_members(text: &mut String, members: &ClosureList) -> Result<(), AllocError>
+    ensures { OnOk result (string_bytes text.new ≡ string_bytes text.old ++ lines_from 0 members.now) }
+{
     for place in 0..members.len() {
-        if let Some((name, namer)) = members.member(place) {
-            write!(text, "{place} ")?;
-            push_name(text, &name)?;
-            push_namer(text, place, namer)?;
-        }
-    }
-    for blockers in report.hosted() {
-        push_blockers(text, blockers)?;
+        push_at(text, members, place)?;
     }
     Ok(())
 }
 
-fn push_namer(text: &mut String, place: usize, namer: usize) -> Result<(), AllocError> {
+// Adds the line of the member at a place, where there is one.
+fn push_at(text: &mut String, members: &ClosureList, place: usize) -> Result<(), AllocError>
+    ensures { OnOk result (string_bytes text.new ≡ string_bytes text.old ++ line_at place (slice_get members.now place)) }
+{
+    match members.member(place) {
+        None => Ok(()),
+        Some((name, namer)) => push_member(text, place, &name, namer),
+    }
+}
+
+// Adds the line of a member.
+fn push_member(
+    text: &mut String,
+    place: usize,
+    name: &NodeId,
+    namer: usize,
+) -> Result<(), AllocError>
+    ensures { OnOk result (string_bytes text.new ≡ string_bytes text.old ++ line_of_member (place, (name.now, namer))) }
+{
+    write!(text, "{place} ")?;
+    push_name(text, name)?;
+    push_namer(text, place, namer)?;
+    Ok(())
+}
+
+// Adds who named a member, and ends the line.
+fn push_namer(text: &mut String, place: usize, namer: usize) -> Result<(), AllocError>
+    ensures { OnOk result (string_bytes text.new ≡ string_bytes text.old ++ text_of_namer place namer) }
+{
     if place == 0 {
         text.push_str(" -\n")?;
     } else {
@@ -33,13 +70,34 @@ fn push_namer(text: &mut String, place: usize, namer: usize) -> Result<(), Alloc
     Ok(())
 }
 
-fn push_blockers(text: &mut String, blockers: &Blockers) -> Result<(), AllocError> {
+// Adds a line for each hosted member.
+fn push_hosted(text: &mut String, hosted: &[Blockers]) -> Result<(), AllocError>
+    ensures { OnOk result (string_bytes text.new ≡ string_bytes text.old ++ flat_map line_of_blockers hosted.now) }
+{
+    for blockers in hosted {
+        push_blockers(text, blockers)?;
+    }
+    Ok(())
+}
+
+// Adds the line of a hosted member.
+fn push_blockers(text: &mut String, blockers: &Blockers) -> Result<(), AllocError>
+    ensures { OnOk result (string_bytes text.new ≡ string_bytes text.old ++ line_of_blockers blockers.now) }
+{
     text.push_str("blocks ")?;
     push_name(text, blockers.node())?;
-    for name in blockers.names() {
-        text.push_str(" ")?;
+    push_names(text, blockers.names())?;
+    text.push('\n')?;
+    Ok(())
+}
+
+// Adds names, each behind a space.
+fn push_names(text: &mut String, names: &[NodeId]) -> Result<(), AllocError>
+    ensures { OnOk result (string_bytes text.new ≡ string_bytes text.old ++ flat_map name_behind_space names.now) }
+{
+    for name in names {
+        text.push(' ')?;
         push_name(text, name)?;
     }
-    text.push_str("\n")?;
     Ok(())
 }

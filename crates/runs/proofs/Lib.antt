@@ -1,3 +1,5 @@
+mod DraftLaws
+mod JoiningLaws
 mod LineForms
 mod QuietLines
 mod SubmittedLines

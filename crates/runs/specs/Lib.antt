@@ -1,4 +1,8 @@
+pub mod Drafts
+pub mod Hosting
+pub mod Joining
 pub mod Lines
+pub mod Preparing
 pub mod Requests
 pub mod Replies
 pub mod Telling

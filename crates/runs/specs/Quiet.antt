@@ -1,27 +1,57 @@
--- Lines of scripts that are run for what becomes of the journals, and print nothing.
-use Rattle.std.specs.Prelude.{◌≡◌, ℕ, List, Option, None, Result, Vec}
+-- Lines of scripts that are run for what becomes of the networks, and print nothing.
+use Rattle.std.specs.Prelude.{◌≡◌, ◌==◌, ◌&&◌, ◌++◌, ℕ, nat_lt, length, position, List, [], ◌∷◌, Option, Some, None, Result, Vec}
 use Rattle.std.specs.Global.{Global}
 use Rattle.scripts.specs.Script.{Bytes}
 use Rattle.types.specs.declared.event.Event.{Event}
 use Rattle.types.specs.declared.event.Out.{Out}
 use Rattle.types.specs.declared.event.Refusal.{Refusal}
 use Rattle.hoststep.specs.Logs.{Log}
-use Rattle.hoststep.specs.Worlds.{IsAnswered}
-use Rattle.runs.specs.Telling.{IsBegun, Tells}
+use Rattle.hoststep.specs.Worlds.{IsAnswered, log_at}
+use Rattle.runs.specs.Hosting.{Hosting, IsBegun, IsFinished, RefusesLine, Tells}
+use Rattle.runs.specs.Telling.{NamesNet}
 
--- the journals after the line are those after it in a script whose answers are printed
-abbrev pub IsRunBy : List Bytes → List Log → List Log → Type 0
-IsRunBy fields old new = (printed : Option Bytes) × Tells old fields printed new
+-- for each line that was run, in order, the network that it names, and how many entries the journal of that one has after it
+abbrev pub Trace : Type 0
+Trace = List (ℕ × ℕ)
 
--- what a line tells where nothing is printed
-abbrev pub TellsQuietly : List Log → List Bytes → Option Bytes → List Log → Type 0
-TellsQuietly old fields printed new = (printed ≡ None) × IsRunBy fields old new
+-- the networks of a script whose lines print nothing, and the trace of the lines, where it is kept
+pub record Quiet : Type 0 where
+  pub hosting : Hosting
+  pub trace : Option Trace
+
+-- the line names the network of a number, and the networks after it are those after it in a script whose answers are printed
+abbrev pub IsRunBy : ℕ → List Bytes → Hosting → Hosting → Type 0
+IsRunBy g fields old new = NamesNet fields g × (printed : Option Bytes) × Tells old fields printed new
 
 -- an event is put to the network of a number, whatever it answers
-abbrev pub IsPutQuietly : ℕ → Event → List Log → List Log → Type 0
-IsPutQuietly g e old new = (begun : List Log) × (r : Result (Vec Out Global) Refusal) × IsBegun g old begun × IsAnswered begun g e r new
+abbrev pub IsPutQuietly : ℕ → Event → Hosting → Hosting → Type 0
+IsPutQuietly g e old new = (begun : Hosting) × (r : Result (Vec Out Global) Refusal) × IsBegun g old begun
+    × IsAnswered begun.logs g e r new.logs × (new.waiting ≡ begun.waiting)
 
--- networks join, one after the other, and nothing has happened to them
-pub data HaveJoined : List Log → List Log → Type 0 where
-  none : {logs : List Log} → HaveJoined logs logs
-  joined : {old now new : List Log} (g : ℕ) → IsBegun g old now → HaveJoined now new → HaveJoined old new
+-- how many entries a journal has
+abbrev pub entries_in : Option Log → ℕ
+entries_in None = 0
+entries_in (Some l) = length l.entries
+
+-- a trace with a line more, which names the network of a number
+abbrev pub traced : ℕ → List Log → Option Trace → Option Trace
+traced g logs None = None
+traced g logs (Some t) = Some (t ++ (g, entries_in (log_at logs g)) ∷ [])
+
+-- what a line tells where nothing is printed
+abbrev pub TellsQuietly : Quiet → List Bytes → Option Bytes → Quiet → Type 0
+TellsQuietly old fields printed new = (g : ℕ) × (printed ≡ None) × IsRunBy g fields old.hosting new.hosting
+    × (new.trace ≡ traced g new.hosting.logs old.trace)
+
+-- the line is bad
+abbrev pub RefusesQuietly : Quiet → List Bytes → Type 0
+RefusesQuietly old fields = RefusesLine old.hosting fields
+
+-- the line that an entry of a network comes from, counted from 0: the first one after which the network has more entries than come before it
+abbrev pub origin_in : Option Trace → ℕ → ℕ → Option ℕ
+origin_in None g n = None
+origin_in (Some t) g n = position (λ line. (line.0 == g) && nat_lt n line.1) t
+
+-- after the last line all networks that wait and have nodes have joined
+abbrev pub IsFinishedQuietly : Quiet → Quiet → Type 0
+IsFinishedQuietly old new = IsFinished old.hosting new.hosting × (new.trace ≡ old.trace)

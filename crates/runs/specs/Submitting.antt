@@ -1,30 +1,42 @@
 -- What the lines of scripts of networks submit.
-use Rattle.std.specs.Prelude.{◌≡◌, ◌⊎◌, ℕ, List, Option, None}
+use Rattle.std.specs.Prelude.{◌≡◌, ℕ, is_some, List, Option, None, if◌then◌else◌}
 use Rattle.scripts.specs.Script.{Bytes}
 use Rattle.types.specs.declared.event.Event.{Event}
-use Rattle.protocol.specs.Hosts.{Config, History}
+use Rattle.protocol.specs.Hosts.{History}
 use Rattle.protocol.specs.Submissions.{config_of}
 use Rattle.crowds.specs.Submitted.{and_then, declared}
+use Rattle.runs.specs.Drafts.{Waiting}
+use Rattle.runs.specs.Joining.{HaveJoined, IsNamed, Joins}
+use Rattle.runs.specs.Preparing.{IsPrepared}
 use Rattle.runs.specs.Telling.{AsksOf, Declares}
 
--- the network of a number is declared, where its configuration is complete now; else nothing changes
-abbrev pub IsDeclared : ℕ → History → History → Type 0
-IsDeclared g old new = (new ≡ old) ⊎ ((c : Config) × (c.number ≡ g) × (config_of old.configs g ≡ None) × (new ≡ declared old c))
+-- the networks that wait for an event that names them, and what has been submitted
+pub record Submitting : Type 0 where
+  pub waiting : Waiting
+  pub history : History
+
+-- a network is declared; where one of its number is declared, it is left out
+abbrev pub declared_once : Joins History
+declared_once c h = if is_some (config_of h.configs c.number) then h else declared h c
+
+-- the network of a number is named: where the line is the first that does, the network is declared
+abbrev pub IsDeclared : ℕ → Submitting → Submitting → Type 0
+IsDeclared g old new = IsNamed declared_once g old.waiting new.waiting old.history new.history
 
 -- an event of the network of a number is submitted
-abbrev pub IsSubmitted : ℕ → Event → History → History → Type 0
-IsSubmitted g e old new = (begun : History) × IsDeclared g old begun × (new ≡ and_then begun g e)
+abbrev pub IsSubmitted : ℕ → Event → Submitting → Submitting → Type 0
+IsSubmitted g e old new = (begun : Submitting) × IsDeclared g old begun × (new.waiting ≡ begun.waiting) × (new.history ≡ and_then begun.history g e)
 
--- what a line tells, and nothing is printed: a declaration changes nothing, an event is submitted, and no line settles
-pub data Submits : History → List Bytes → Option Bytes → History → Type 0 where
-  declares : {h : History} {fields : List Bytes} → Declares fields → Submits h fields None h
-  submits : {old new : History} {fields : List Bytes} (g : ℕ) (e : Event) → AsksOf fields g e → IsSubmitted g e old new → Submits old fields None new
-
--- networks are declared, one after the other, and no event is submitted
-pub data HaveBeenDeclared : History → History → Type 0 where
-  none : {h : History} → HaveBeenDeclared h h
-  more : {old now new : History} (g : ℕ) → IsDeclared g old now → HaveBeenDeclared now new → HaveBeenDeclared old new
+-- what a line tells, and nothing is printed: a declaration submits nothing, an event is submitted, and no line settles
+pub data Submits : Submitting → List Bytes → Option Bytes → Submitting → Type 0 where
+  declares : {old new : Submitting} {fields : List Bytes} → Declares fields → IsPrepared fields old.waiting new.waiting
+      → new.history ≡ old.history → Submits old fields None new
+  submits : {old new : Submitting} {fields : List Bytes} (g : ℕ) (e : Event) → AsksOf fields g e → IsSubmitted g e old new → Submits old fields None new
 
 -- of bad lines nothing is said yet
-abbrev pub RefusesToSubmit : History → List Bytes → Type 0
-RefusesToSubmit h fields = Unit {0}
+abbrev pub RefusesToSubmit : Submitting → List Bytes → Type 0
+RefusesToSubmit old fields = Unit {0}
+
+-- after the last line all networks that wait and have nodes have been declared
+abbrev pub IsComplete : Submitting → Submitting → Type 0
+IsComplete old new = HaveJoined declared_once old.waiting old.history new.history

@@ -1,12 +1,17 @@
 //! A network while its lines are still coming.
 
-ghost use Rattle.std.specs.Prelude.{◌≡◌, IfOk};
+ghost use Rattle.std.specs.Prelude.{◌≡◌, ◌==◌, [], Err, IfOk, IsTrue, None, OnOk};
+ghost use Rattle.std.specs.List.{list_any};
+ghost use Rattle.types.specs.Trees.{all_differ as names_differ};
+ghost use Rattle.configuration.specs.Faults.{first_fault, roster_tests};
+ghost use Rattle.runs.specs.Drafts.{IsConfigOf, fresh, with_node, with_roster};
 
 use configuration::{
     Budgets, ConfigError, Host, MAX_HOSTS, MAX_ROSTER, MAX_SHARE, NetConfig, Shares,
 };
 use scripts::LineError;
-use std::alloc::{AllocError, Global};
+use std::alloc::Global;
+use std::marker::Model;
 use types::{Nested, NodeId};
 
 /// What the lines of a network have declared so far: its budgets, its nodes in the order of their lines, and
@@ -26,9 +31,26 @@ pub(crate) struct Reserved {
     pub shares: Shares,
 }
 
+impl Model for Draft {
+    ghost use Rattle.std.specs.Coded.{codes};
+    ghost use Rattle.std.specs.Prelude.{option_map};
+    ghost use Rattle.types.specs.Trees.{members_code};
+    ghost use Rattle.runs.specs.Drafts.{Drafted, IsSound};
+
+    ghost Value = { Drafted };
+
+    ghost coded = { Prim.hlevel (codes, members_code) };
+
+    ghost view = { λ d. record { budgets = d.budgets; nodes = d.nodes.items; roster = option_map (λ r. (r.names.items, r.shares)) d.roster } };
+
+    ghost invariant = { λ d. IsSound (record { budgets = d.budgets; nodes = d.nodes.items; roster = option_map (λ r. (r.names.items, r.shares)) d.roster }) };
+}
+
 impl Draft {
     /// A network with these budgets and no node. It takes no memory.
-    pub fn new(alloc: Global, budgets: Budgets) -> Draft {
+    pub fn new(alloc: Global, budgets: Budgets) -> Draft
+        ensures { result ≡ fresh budgets }
+    {
         Draft {
             alloc,
             budgets,
@@ -37,25 +59,25 @@ impl Draft {
         }
     }
 
-    /// Whether it has no node yet.
-    pub fn is_empty(&self) -> bool {
-        self.nodes.is_empty()
-    }
-
     /// One node more. It is a bad line where the network has a node of that name, or 256 nodes.
-    pub fn host(&mut self, name: NodeId, slices: Nested) -> Result<(), LineError> {
-        if self.nodes.len() >= MAX_HOSTS || self.nodes.iter().any(|node| *node.name() == name) {
+    pub fn host(&mut self, name: NodeId, slices: Nested) -> Result<(), LineError>
+        ensures { OnOk result (self.new ≡ with_node self.old name slices) }
+    {
+        if self.nodes.len() >= MAX_HOSTS || has_node(&self.nodes, &name) {
             return Err(LineError::Bad);
         }
-        self.nodes
-            .push(Host::new(name, slices))
-            .map_err(AllocError::from)?;
-        Ok(())
+        match self.nodes.push(Host::new(name, slices)) {
+            Ok(()) => Ok(()),
+            // Memory: the list has no room.
+            Err(_) => Err(LineError::NoMemory),
+        }
     }
 
     /// Its roster. It is a bad line where there is one already, and where the configuration refuses it: a
     /// name stands twice on it, it has more than 1,024 names, or a share is above 2^40.
-    pub fn reserve(&mut self, roster: Reserved) -> Result<(), LineError> {
+    pub fn reserve(&mut self, roster: Reserved) -> Result<(), LineError>
+        ensures { OnOk result (self.new ≡ with_roster self.old roster.names.items roster.shares) }
+    {
         if self.roster.is_some() || !roster.is_allowed() {
             return Err(LineError::Bad);
         }
@@ -63,10 +85,11 @@ impl Draft {
         Ok(())
     }
 
-    /// The configuration of the network of this number that has been declared. It is a bad line where the
-    /// configuration refuses it.
+    /// The configuration of the network of this number that has been declared. It is a bad line where no node
+    /// has been.
     pub fn config(self, number: u32) -> Result<NetConfig, LineError>
-        ensures { IfOk result (λ c. c.number ≡ number) }
+        ensures config { IfOk result (IsConfigOf number self) }
+        ensures bad { result ≡ Err LineError.Bad → self.nodes ≡ [] }
     {
         let Draft {
             alloc,
@@ -74,6 +97,9 @@ impl Draft {
             nodes,
             roster,
         } = self;
+        if nodes.is_empty() {
+            return Err(LineError::Bad);
+        }
         let made = match roster {
             None => NetConfig::new(alloc, number, nodes, budgets),
             Some(Reserved { names, shares }) => {
@@ -90,7 +116,9 @@ impl Draft {
 
 impl Reserved {
     // The configuration takes it.
-    fn is_allowed(&self) -> bool {
+    fn is_allowed(&self) -> bool
+        ensures { IsTrue result → first_fault (roster_tests self.now.names.items self.now.shares) ≡ None }
+    {
         let Shares {
             own,
             pair,
@@ -103,10 +131,26 @@ impl Reserved {
     }
 }
 
+// A node has the name.
+fn has_node(nodes: &[Host], name: &NodeId) -> bool
+    ensures { result ≡ list_any (λ host. host.name == name.now) nodes.now }
+{
+    nodes.iter().any(|node| *node.name() == *name)
+}
+
 // No name stands twice.
-fn all_differ(names: &[NodeId]) -> bool {
+fn all_differ(names: &[NodeId]) -> bool
+    ensures { result ≡ names_differ names.now }
+{
     match names {
         [] => true,
-        [first, rest @ ..] => !rest.iter().any(|name| *name == *first) && all_differ(rest),
+        [first, rest @ ..] => !has_name(rest, first) && all_differ(rest),
     }
+}
+
+// The name is among them.
+fn has_name(names: &[NodeId], name: &NodeId) -> bool
+    ensures { result ≡ list_any (λ w. w == name.now) names.now }
+{
+    names.iter().any(|other| *other == *name)
 }

@@ -8,15 +8,18 @@
 mod drafts;
 mod emissions;
 mod events;
+mod followed;
 mod host_run;
 mod nets;
-mod origins;
+mod networks;
 mod quiet_run;
 mod refusals;
 mod replies;
 mod requests;
 mod submission_run;
+mod trace;
 mod verbs;
+mod waiting;
 
 pub use host_run::HostRun;
 pub use quiet_run::QuietRun;

@@ -1,10 +1,10 @@
 //! What runs the lines of a script of networks for what becomes of the networks.
 
-ghost use Rattle.std.specs.Prelude.{◌≡◌, [], OnOk};
-ghost use Rattle.runs.specs.Quiet.{HaveJoined};
+ghost use Rattle.std.specs.Prelude.{◌≡◌, [], None, OnOk, Some};
+ghost use Rattle.runs.specs.Quiet.{IsFinishedQuietly, origin_in, traced};
 
 use crate::host_run::HostRun;
-use crate::origins::Origins;
+use crate::trace::Trace;
 use envstore::VecShelf;
 use hoststep::World;
 use scripts::{LineError, LineRunner};
@@ -15,47 +15,47 @@ use std::marker::Model;
 #[derive(Drop)]
 pub struct QuietRun {
     run: HostRun,
-    origins: Option<Origins>,
+    trace: Option<Trace>,
 }
 
 impl Model for QuietRun {
-    ghost use Rattle.std.specs.Prelude.{List};
     ghost use Rattle.std.specs.Coded.{codes};
     ghost use Rattle.types.specs.Trees.{members_code};
-    ghost use Rattle.hoststep.specs.Logs.{Log};
+    ghost use Rattle.runs.specs.Quiet.{Quiet};
 
-    ghost Value = { List Log };
+    ghost Value = { Quiet };
 
     ghost coded = { Prim.hlevel (codes, members_code) };
 
-    ghost view = { λ quiet. quiet.run };
+    ghost view = { λ quiet. record { hosting = quiet.run; trace = quiet.trace } };
 }
 
 impl QuietRun {
     /// The state before the first line. It takes no memory.
     pub fn new(alloc: Global) -> QuietRun
-        ensures { result ≡ [] }
+        ensures { result ≡ record { hosting = record { waiting = []; logs = [] }; trace = None } }
     {
         QuietRun {
             run: HostRun::new(alloc),
-            origins: None,
+            trace: None,
         }
     }
 
     /// The same, which keeps from which line each entry comes.
     pub fn with_origins(alloc: Global) -> QuietRun
-        ensures { result ≡ [] }
+        ensures { result ≡ record { hosting = record { waiting = []; logs = [] }; trace = Some [] } }
     {
         QuietRun {
             run: HostRun::new(alloc),
-            origins: Some(Origins::new(alloc)),
+            trace: Some(Trace::new(alloc)),
         }
     }
 
     /// No line follows: the networks that are declared with nodes, and that no event has named, join the
-    /// world, and nothing has happened to them. An error says that memory is short.
-    pub fn finish(&mut self) -> Result<(), LineError>
-        ensures { OnOk result (HaveJoined self.old self.new) }
+    /// world, and nothing has happened to them. A network without nodes does not, and is no fault. An error
+    /// says that memory is short.
+    pub fn finish(&mut self) -> Result<(), AllocError>
+        ensures { OnOk result (IsFinishedQuietly self.old self.new) }
     {
         self.run.finish()
     }
@@ -63,42 +63,44 @@ impl QuietRun {
     /// The journals of the networks that an event has named, and after [`QuietRun::finish`] of all that are
     /// declared with nodes.
     pub fn world(&self) -> &World<VecShelf>
-        ensures { result.now ≡ self.now }
+        ensures { result.now ≡ self.now.hosting.logs }
     {
         self.run.world()
     }
 
     /// From which line an entry of a network comes, counted from 0 over the lines that were run; neither
     /// empty lines nor comments are. `None` where there is no such entry, and where origins are not kept.
-    pub fn origin(&self, net: u32, entry: usize) -> Option<usize> {
-        match &self.origins {
-            Some(origins) => origins.of(net, entry),
+    pub fn origin(&self, net: u32, entry: usize) -> Option<usize>
+        ensures { result ≡ origin_in self.now.trace net entry }
+    {
+        match &self.trace {
+            Some(trace) => trace.origin(net, entry),
             None => None,
         }
     }
 
-    // Keeps from which line the new entries of a network come.
+    // Keeps that a line has been run that names a network.
     fn note(&mut self, net: u32) -> Result<(), AllocError>
-        ensures { self.new ≡ self.old }
+        ensures hosting { self.new.hosting ≡ self.old.hosting }
+        ensures trace { OnOk result (self.new.trace ≡ traced net self.old.hosting.logs self.old.trace) }
     {
         let entries = match self.run.world().journal(net) {
             Some(journal) => journal.len(),
             None => 0,
         };
-        match &mut self.origins {
-            Some(origins) => origins.note(net, entries),
+        match &mut self.trace {
+            Some(trace) => trace.note(net, entries),
             None => Ok(()),
         }
     }
 }
 
 impl LineRunner for QuietRun {
-    ghost use Rattle.runs.specs.Quiet.{TellsQuietly};
-    ghost use Rattle.runs.specs.Telling.{Refuses};
+    ghost use Rattle.runs.specs.Quiet.{RefusesQuietly, TellsQuietly};
 
     ghost tells = { TellsQuietly };
 
-    ghost refuses = { Refuses };
+    ghost refuses = { RefusesQuietly };
 
     fn line(&mut self, alloc: Global, fields: &[&[u8]]) -> Result<Option<String>, LineError> {
         let net = self.run.run_quietly(alloc, fields)?;

@@ -3,3 +3,5 @@ pub mod Asking
 mod Short
 pub mod Forms
 mod CrowdLines
+mod LineLaws
+mod PrintingLaws

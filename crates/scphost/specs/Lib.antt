@@ -5,4 +5,7 @@ pub mod Subjects
 pub mod Words
 pub mod Stops
 pub mod Comparisons
+pub mod Printing
+pub mod Reporting
+pub mod Scripts
 pub mod Crowding

@@ -1,7 +1,11 @@
 //! What the commands print that run scripts without printing.
 
+ghost use Rattle.std.specs.Prelude.{OnOk, string_bytes};
+ghost use Rattle.std.specs.Io.KnownBytes.{Appends};
+
 use crate::perform::{DIFFERS, DONE, report};
 use scripts::Stop;
+use std::io;
 use std::io::Write;
 
 /// What a command answers.
@@ -14,16 +18,24 @@ pub struct Answer {
 }
 
 impl Answer {
-    ghost use Rattle.scphost.specs.Stops.{IsStatusOfAnswer};
+    ghost use Rattle.scphost.specs.Printing.{IsPrinted};
 
     /// Prints the answer, and gives the exit status.
     pub fn print<W: Write, E: Write>(&self, out: &mut W, err: &mut E) -> u8
-        ensures { IsStatusOfAnswer self.now.differs result }
+        ensures { IsPrinted self.now (W.contents out.old) (W.contents out.new) result }
+    {
+        if self.write(out).is_err() {
+            return report(Stop::CannotWrite, "", err);
+        }
+        if self.differs { DIFFERS } else { DONE }
+    }
+
+    // Writes the whole text, and hands it on.
+    fn write<W: Write>(&self, out: &mut W) -> io::Result<()>
+        ensures { OnOk result (Appends (W.contents out.old) (W.contents out.new) (string_bytes self.now.text)) }
     {
         let text = self.text.as_str();
-        match write!(out, "{text}").and_then(|()| out.flush()) {
-            Ok(()) => { if self.differs { DIFFERS } else { DONE } }
-            Err(_) => report(Stop::CannotWrite, "", err),
-        }
+        write!(out, "{text}")?;
+        out.flush()
     }
 }

@@ -33,7 +33,7 @@ pub fn compared(
     subject: &Subject,
     explain: bool,
 ) -> Result<Answer, AllocError>
-    ensures { IfOk result (IsComparison one.entry.script.now.run other.entry.script.now.run subject.now.net subject.now.slot subject.now.node explain) }
+    ensures { IfOk result (IsComparison one.entry.script.now.run.hosting.logs other.entry.script.now.run.hosting.logs subject.now.net subject.now.slot subject.now.node explain) }
 {
     let verdict = compare(
         alloc,

@@ -4,6 +4,7 @@ ghost use Rattle.std.specs.Prelude.{◌≡◌, ◌++◌, IfOk, OnOk, codes, stri
 ghost use Rattle.std.specs.List.{flat_map};
 ghost use Rattle.scripts.specs.Names.{text_of_name};
 ghost use Rattle.scphost.specs.Crowding.{Tells, TellsCrowd, line, line_of_replied, line_of_reply as line_of};
+ghost use Rattle.scphost.specs.Scripts.{IsSubmittedBy};
 
 use crate::answer::Answer;
 use crate::subject::Subject;
@@ -18,12 +19,14 @@ use types::NodeId;
 /// Reads a script whole and runs its lines in order for what they submit, without printing. After the last
 /// one the networks that are declared with nodes and that no event has named are declared too. A line that is
 /// bad ends it.
-pub fn submitted_by<R: Read>(alloc: Global, script: &mut R) -> Result<SubmissionRun, Stop> {
+pub fn submitted_by<R: Read>(alloc: Global, script: &mut R) -> Result<SubmissionRun, Stop>
+    ensures { IfOk result (IsSubmittedBy (R.remaining script.old)) }
+{
     let mut run = SubmissionRun::new(alloc);
     run_script(alloc, &mut run, script, &mut io::sink())?;
     match run.finish() {
         Ok(()) => Ok(run),
-        // Memory: finishing has none, and fails in no other way.
+        // Memory: finishing has none.
         Err(_) => Err(Stop::NoMemory),
     }
 }

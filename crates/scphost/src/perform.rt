@@ -1,6 +1,7 @@
 //! Carrying out a call: its files are run, and the status is answered.
 
 ghost use Rattle.std.specs.Prelude.{◌≡◌, ◌⊎◌, Err};
+ghost use Rattle.scphost.specs.Printing.{HasAnswered, IsCompared, IsCrowd, IsPerformed, IsReported};
 ghost use Rattle.scphost.specs.Stops.{IsRefusal, IsStatus, IsStatusOf, status_of};
 
 use crate::call::{Call, Usage};
@@ -49,7 +50,8 @@ pub fn perform<A: AllocGlobal, R: Read, T: Read, W: Write, E: Write>(
     out: &mut W,
     err: &mut E,
 ) -> u8
-    ensures { IsStatus result }
+    ensures status { IsStatus result }
+    ensures performed { IsPerformed call.now (R.remaining first.old) (T.remaining second.old) (W.contents out.old) (W.contents out.new) result }
 {
     let alloc = rt.alloc();
     match call {
@@ -99,9 +101,9 @@ fn perform_closure<R: Read, W: Write, E: Write>(
     out: &mut W,
     err: &mut E,
 ) -> u8
-    ensures { IsStatus result }
+    ensures { HasAnswered (IsReported format subject.now (R.remaining script.old)) (W.contents out.old) (W.contents out.new) result }
 {
-    let told = match Told::of(alloc, script) {
+    let told = match Told::of(alloc, script, false) {
         Ok(told) => told,
         Err(stop) => return report(stop, file.as_str(), err),
     };
@@ -122,14 +124,15 @@ fn perform_compare<R: Read, T: Read, W: Write, E: Write>(
     out: &mut W,
     err: &mut E,
 ) -> u8
-    ensures { IsStatus result }
+    ensures { HasAnswered (IsCompared explain subject.now (R.remaining first.old) (T.remaining second.old))
+        (W.contents out.old) (W.contents out.new) result }
 {
     let [one, other] = files;
-    let first = match Told::of(alloc, first) {
+    let first = match Told::of(alloc, first, explain) {
         Ok(told) => told,
         Err(stop) => return report(stop, one.as_str(), err),
     };
-    let second = match Told::of(alloc, second) {
+    let second = match Told::of(alloc, second, explain) {
         Ok(told) => told,
         Err(stop) => return report(stop, other.as_str(), err),
     };
@@ -157,7 +160,8 @@ fn perform_crowd<R: Read, T: Read, W: Write, E: Write>(
     out: &mut W,
     err: &mut E,
 ) -> u8
-    ensures { IsStatus result }
+    ensures { HasAnswered (IsCrowd subject.now (R.remaining first.old) (T.remaining second.old))
+        (W.contents out.old) (W.contents out.new) result }
 {
     let [one, other] = files;
     let first = match submitted_by(alloc, first) {

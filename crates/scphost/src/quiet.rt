@@ -1,12 +1,16 @@
 //! Scripts of networks that are run to their end without printing.
 
-ghost use Rattle.std.specs.Prelude.{◌≡◌};
+ghost use Rattle.std.specs.Prelude.{◌≡◌, ◌≤◌, IfOk, length, option_map};
+ghost use Rattle.runs.specs.Quiet.{origin_in};
+ghost use Rattle.scphost.specs.Scripts.{HasEnded, IsLineAt, IsLineOf, IsTold, start_of};
+ghost use Rattle.scripts.specs.Script.{is_no_record as no_record};
 
 use runs::QuietRun;
-use scripts::{LONGEST_SCRIPT, Line, LineError, Lines, Stop, read_whole, run_script};
+use scripts::{LONGEST_SCRIPT, Line, Lines, Stop, read_whole, run_script};
 use std::alloc::Global;
 use std::io;
 use std::io::Read;
+use std::marker::Model;
 
 /// A script of networks that has been run to its end.
 #[derive(Drop)]
@@ -15,19 +19,31 @@ pub struct Told {
     text: Vec<u8>,
 }
 
+impl Model for Told {
+    ghost use Rattle.std.specs.Coded.{codes};
+    ghost use Rattle.std.specs.Prelude.{◌≤◌, length};
+    ghost use Rattle.types.specs.Trees.{members_code};
+    ghost use Rattle.scphost.specs.Scripts.{Story, longest_script};
+
+    ghost Value = { Story };
+
+    ghost coded = { Prim.hlevel (codes, members_code) };
+
+    ghost view = { λ told. record { run = told.run; text = told.text.items } };
+
+    ghost invariant = { λ told. length told.text.items ≤ longest_script };
+}
+
 impl Told {
     /// Reads a script whole and runs its lines in order, without printing. After the last one the networks
     /// that are declared with nodes and that no event has named are there too. A line that is bad ends it.
-    pub fn of<R: Read>(alloc: Global, script: &mut R) -> Result<Told, Stop> {
+    /// Where it is traced, it keeps from which line each entry comes.
+    pub fn of<R: Read>(alloc: Global, script: &mut R, traced: bool) -> Result<Told, Stop>
+        ensures { IfOk result (IsTold traced (R.remaining script.old)) }
+    {
         let text = read_whole(alloc, script)?;
-        let mut run = QuietRun::with_origins(alloc);
-        let mut lines = text.as_slice();
-        run_script(alloc, &mut run, &mut lines, &mut io::sink())?;
-        match run.finish() {
-            Ok(()) => Ok(Told { run, text }),
-            // Memory: finishing has none, and fails in no other way.
-            Err(_) => Err(Stop::NoMemory),
-        }
+        let run = run_to_end(alloc, &text, traced)?;
+        Ok(Told { run, text })
     }
 
     /// The run.
@@ -37,8 +53,11 @@ impl Told {
         &self.run
     }
 
-    /// The line of the script from which an entry of a network comes.
-    pub fn line(&self, net: u32, entry: usize) -> Option<Line<'_>> {
+    /// The line of the script from which an entry of a network comes; `None` where there is no such entry, and
+    /// where the script is not traced.
+    pub fn line(&self, net: u32, entry: usize) -> Option<Line<'_>>
+        ensures { IsLineAt self.now.text (origin_in self.now.run.trace net entry) (option_map (λ line. (line.number, line.bytes.now)) result) }
+    {
         match self.run.origin(net, entry) {
             Some(number) => run_line(&self.text, number),
             None => None,
@@ -46,14 +65,39 @@ impl Told {
     }
 }
 
-// A line of a script, by its number among those that are run, counted from 0.
-fn run_line(text: &[u8], number: usize) -> Option<Line<'_>> {
-    if text.len() > LONGEST_SCRIPT {
-        return None;
+// Runs the lines of a text in order without printing, and ends the run.
+fn run_to_end(alloc: Global, text: &[u8], traced: bool) -> Result<QuietRun, Stop>
+    ensures { IfOk result (HasEnded (start_of traced) text.now) }
+{
+    let mut run = new_run(alloc, traced);
+    let mut lines = text;
+    run_script(alloc, &mut run, &mut lines, &mut io::sink())?;
+    match run.finish() {
+        Ok(()) => Ok(run),
+        // Memory: finishing has none.
+        Err(_) => Err(Stop::NoMemory),
     }
+}
+
+// Before the first line.
+fn new_run(alloc: Global, traced: bool) -> QuietRun
+    ensures { result ≡ start_of traced }
+{
+    if traced {
+        QuietRun::with_origins(alloc)
+    } else {
+        QuietRun::new(alloc)
+    }
+}
+
+// A line of a script, by its number among those that are run, counted from 0.
+fn run_line(text: &[u8], number: usize) -> Option<Line<'_>>
+    requires { length text.now ≤ LONGEST_SCRIPT }
+    ensures { IsLineOf text.now number (option_map (λ line. (line.number, line.bytes.now)) result) }
+{
     let mut left = number;
     for line in Lines::new(text) {
-        if !matches!(line.bytes, [] | [b'#', ..]) {
+        if !is_no_record(line.bytes) {
             if left == 0 {
                 return Some(line);
             }
@@ -61,4 +105,11 @@ fn run_line(text: &[u8], number: usize) -> Option<Line<'_>> {
         }
     }
     None
+}
+
+// The line is empty or a comment.
+fn is_no_record(line: &[u8]) -> bool
+    ensures { result ≡ no_record line.now }
+{
+    matches!(line, [] | [b'#', ..])
 }

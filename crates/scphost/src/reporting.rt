@@ -1,5 +1,10 @@
 //! The report of a closure after a script.
 
+ghost use Rattle.std.specs.Prelude.{◌≡◌, IfOk, string_bytes};
+ghost use Rattle.hoststep.specs.Worlds.{log_at};
+ghost use Rattle.explorer.specs.Texts.{text_of_report};
+ghost use Rattle.scphost.specs.Reporting.{IsReport, IsReportOf};
+
 use crate::answer::Answer;
 use crate::quiet::Told;
 use crate::subject::{Format, Subject};
@@ -13,11 +18,10 @@ pub fn reported(
     script: &Told,
     subject: &Subject,
     format: Format,
-) -> Result<Answer, AllocError> {
-    let report = match script.run().world().journal(subject.net) {
-        Some(journal) => report_of(alloc, journal, subject.slot, &subject.node)?,
-        None => report_of(alloc, &NoNetwork, subject.slot, &subject.node)?,
-    };
+) -> Result<Answer, AllocError>
+    ensures { IfOk result (IsReport format subject.now script.now.run.hosting.logs) }
+{
+    let report = report_after(alloc, script, subject)?;
     let text = text_of(alloc, &report, format)?;
     Ok(Answer {
         differs: false,
@@ -25,8 +29,20 @@ pub fn reported(
     })
 }
 
+// The report of the subject after a script.
+fn report_after(alloc: Global, script: &Told, subject: &Subject) -> Result<Report, AllocError>
+    ensures { IfOk result (IsReportOf (log_at script.now.run.hosting.logs subject.now.net) subject.now.slot subject.now.node) }
+{
+    match script.run().world().journal(subject.net) {
+        Some(journal) => report_of(alloc, journal, subject.slot, &subject.node),
+        None => report_of(alloc, &NoNetwork, subject.slot, &subject.node),
+    }
+}
+
 // A report in a form.
-fn text_of(alloc: Global, report: &Report, format: Format) -> Result<String, AllocError> {
+fn text_of(alloc: Global, report: &Report, format: Format) -> Result<String, AllocError>
+    ensures { IfOk result (λ text. format ≡ Format.Text → string_bytes text ≡ text_of_report report.now) }
+{
     let mut text = String::new(alloc);
     match format {
         Format::Text => push_text(&mut text, report)?,

@@ -1,0 +1,83 @@
+-- What lines of scripts declare of networks, until an event names them.
+use Rattle.std.specs.Prelude.{◌≡◌, ◌≢◌, ℕ, ◌≤◌, true, ◌++◌, List, [], ◌∷◌, length, Option, Some, None, option_map}
+use Rattle.std.specs.List.Sorted.{IsPermutation}
+use Rattle.std.specs.Ordering.{nat_cmp}
+use Rattle.std.specs.BTreeMap.{insert_entry, is_at}
+use Rattle.std.specs.Map.{lookup, remove_entry, set_value}
+use Rattle.types.specs.Trees.{Slices, all_differ}
+use Rattle.protocol.specs.Sets.{IsAscending}
+use Rattle.protocol.specs.Networks.{Budgets, Host}
+use Rattle.protocol.specs.Rosters.{Roster, Shares}
+use Rattle.protocol.specs.Hosts.{Config}
+use Rattle.configuration.specs.Configs.{names_of}
+use Rattle.configuration.specs.Faults.{first_fault, roster_tests}
+use Rattle.configuration.specs.Rosters.{HasRosterOf}
+
+-- what lines have declared of a network: its budgets, its nodes in the order of their lines, and the names and the shares of its roster
+pub record Drafted : Type 0 where
+  pub budgets : Budgets
+  pub nodes : List Host
+  pub roster : Option (List ℕ × Shares)
+
+-- the networks that are declared and that no event has named, ascending by number
+abbrev pub Waiting : Type 0
+Waiting = List (ℕ × Drafted)
+
+-- ---- what lines change
+
+-- a network without nodes and without a roster
+abbrev pub fresh : Budgets → Drafted
+fresh b = record { budgets = b; nodes = []; roster = None }
+
+abbrev pub with_node : Drafted → ℕ → Slices → Drafted
+with_node d u q = record d { nodes = d.nodes ++ record { name = u; slices = q } ∷ [] }
+
+abbrev pub with_roster : Drafted → List ℕ → Shares → Drafted
+with_roster d names shares = record d { roster = Some (names, shares) }
+
+-- the network of a number, where it waits
+abbrev pub waiting_at : Waiting → ℕ → Option Drafted
+waiting_at ws g = lookup (is_at (nat_cmp g)) ws
+
+-- with one more, in the place of its number
+abbrev pub waiting_with : Waiting → ℕ → Drafted → Waiting
+waiting_with ws g d = insert_entry nat_cmp ws g d
+
+-- with that one in the place of the one of its number
+abbrev pub waiting_set : Waiting → ℕ → Drafted → Waiting
+waiting_set ws g d = set_value (is_at (nat_cmp g)) ws d
+
+-- without the one of a number
+abbrev pub waiting_without : Waiting → ℕ → Waiting
+waiting_without ws g = remove_entry (is_at (nat_cmp g)) ws
+
+-- the network of a number, which waits, is replaced by that
+abbrev pub IsRevised : ℕ → (Drafted → Drafted) → Waiting → Waiting → Type 0
+IsRevised g change old new = (d : Drafted) × (waiting_at old g ≡ Some d) × (new ≡ waiting_set old g (change d))
+
+-- ---- what becomes of them
+
+-- the configuration takes the roster, if there is one
+abbrev pub IsAllowed : Option (List ℕ × Shares) → Type 0
+IsAllowed None = Unit {0}
+IsAllowed (Some r) = first_fault (roster_tests r.0 r.1) ≡ None
+
+-- what a configuration refuses of nodes and rosters has not been declared
+pub record IsSound (d : Drafted) : Type 0 where
+  pub differ : all_differ (names_of d.nodes) ≡ true
+  pub few_nodes : length d.nodes ≤ 256
+  pub allowed : IsAllowed d.roster
+
+-- the roster is that which was declared
+abbrev pub IsRosterAs : Option (List ℕ × Shares) → Option Roster → Type 0
+IsRosterAs None roster = roster ≡ None
+IsRosterAs (Some r) roster = HasRosterOf r.0 r.1 roster
+
+-- what was declared has nodes and is this configuration, with the nodes ascending by name
+pub record IsConfigOf (g : ℕ) (d : Drafted) (c : Config) : Type 0 where
+  pub some_nodes : d.nodes ≢ []
+  pub number : c.number ≡ g
+  pub budgets : c.budgets ≡ d.budgets
+  pub hosts : IsPermutation d.nodes c.hosts
+  pub ascending : IsAscending (names_of c.hosts)
+  pub roster : IsRosterAs d.roster c.roster

@@ -1,0 +1,58 @@
+-- The networks of one script, and what its lines tell them to become and to print.
+use Rattle.std.specs.Prelude.{◌≡◌, ℕ, Bool, not, ◌&&◌, nat_lt, is_some, length, List, [], Option, Some, None, Result, Vec, if◌then◌else◌}
+use Rattle.std.specs.Global.{Global}
+use Rattle.scripts.specs.Script.{Bytes}
+use Rattle.types.specs.declared.event.Event.{Event}
+use Rattle.types.specs.declared.event.Out.{Out}
+use Rattle.types.specs.declared.event.Refusal.{Refusal}
+use Rattle.hoststep.specs.Logs.{Log}
+use Rattle.hoststep.specs.Worlds.{IsAnswered, items_of, log_at, logs_with}
+use Rattle.runs.specs.Drafts.{Waiting}
+use Rattle.runs.specs.Joining.{HaveJoined, IsNamed, Joins}
+use Rattle.runs.specs.Preparing.{IsPrepared}
+use Rattle.runs.specs.Replies.{IsReply}
+use Rattle.runs.specs.Telling.{AsksOf, Declares, Refuses, Settles}
+
+-- the networks that wait for an event that names them, and the journals of the others
+pub record Hosting : Type 0 where
+  pub waiting : Waiting
+  pub logs : List Log
+
+-- there is no network of the number, and there are fewer than 4,096
+abbrev pub has_room : List Log → ℕ → Bool
+has_room logs g = not (is_some (log_at logs g)) && nat_lt (length logs) 4096
+
+-- a network joins, and nothing has happened to it; where there is no room for it, it is left out
+abbrev pub logs_joined : Joins (List Log)
+logs_joined c logs = if has_room logs c.number then logs_with (record { config = c; entries = [] }) logs else logs
+
+-- the network of a number is named: where the line is the first that does, the network joins
+abbrev pub IsBegun : ℕ → Hosting → Hosting → Type 0
+IsBegun g old new = IsNamed logs_joined g old.waiting new.waiting old.logs new.logs
+
+-- an event is put to the network of a number, and the answer is printed
+abbrev pub IsPut : ℕ → Event → Hosting → Bytes → Hosting → Type 0
+IsPut g e old text new = (begun : Hosting) × (r : Result (Vec Out Global) Refusal) × IsBegun g old begun
+    × IsAnswered begun.logs g e r new.logs × (new.waiting ≡ begun.waiting) × IsReply (items_of r) text
+
+-- what was emitted at a slot of the network of a number is handed on: of the journals this does not say yet what they become
+abbrev pub IsSettled : ℕ → Hosting → Hosting → Type 0
+IsSettled g old new = (begun : Hosting) × IsBegun g old begun × (new.waiting ≡ begun.waiting)
+
+-- what a line tells. A declaration prints nothing, and no journal changes. An event is put to its network, and the answer is printed. Of the
+-- lines that settle this does not say yet what they print, nor which events they put to the network.
+pub data Tells : Hosting → List Bytes → Option Bytes → Hosting → Type 0 where
+  declared : {old new : Hosting} {fields : List Bytes} → Declares fields → IsPrepared fields old.waiting new.waiting → new.logs ≡ old.logs
+      → Tells old fields None new
+  answered : {old new : Hosting} {fields : List Bytes} {text : Bytes} (g : ℕ) (e : Event) → AsksOf fields g e → IsPut g e old text new
+      → Tells old fields (Some text) new
+  settled : {old new : Hosting} {fields : List Bytes} {text : Bytes} (g slot : ℕ) → Settles fields g slot → IsSettled g old new
+      → Tells old fields (Some text) new
+
+-- the line is bad
+abbrev pub RefusesLine : Hosting → List Bytes → Type 0
+RefusesLine old fields = Refuses old.logs fields
+
+-- after the last line all networks that wait and have nodes have joined
+abbrev pub IsFinished : Hosting → Hosting → Type 0
+IsFinished old new = HaveJoined logs_joined old.waiting old.logs new.logs

@@ -1,0 +1,133 @@
+//! The networks of a script that an event has named.
+
+use crate::emissions::{Emission, OpenSlot, OpenSlots};
+use configuration::NetConfig;
+use std::alloc::{AllocError, Global};
+use std::collections::BTreeMap;
+use types::{Event, Out};
+
+/// The networks of a script that an event has named, by number, with the open slots of those that had been
+/// declared by then.
+#[derive(Drop)]
+pub(crate) struct Followed {
+    alloc: Global,
+    named: BTreeMap<u32, Option<OpenSlots>>,
+}
+
+impl Followed {
+    /// No network has been named. It takes no memory.
+    pub fn none(alloc: Global) -> Followed {
+        Followed {
+            alloc,
+            named: BTreeMap::new(alloc),
+        }
+    }
+
+    /// Whether an event has named the network of a number.
+    pub fn is_named(&self, number: u32) -> bool {
+        self.named.contains_key(&number)
+    }
+
+    /// Whether an event has named the network of a number after it was declared.
+    pub fn is_running(&self, number: u32) -> bool {
+        match self.named.get(&number) {
+            Some(Some(_)) => true,
+            _ => false,
+        }
+    }
+
+    /// An event has named a number of which no network is declared.
+    pub fn name(&mut self, number: u32) -> Result<(), AllocError> {
+        if self.is_named(number) {
+            return Ok(());
+        }
+        self.put(number, None)
+    }
+
+    /// An event has named the network of this configuration: its events are followed from now on.
+    pub fn follow(&mut self, config: &NetConfig) -> Result<(), AllocError> {
+        let slots = OpenSlots::none(self.alloc, config)?;
+        self.put(config.number(), Some(slots))
+    }
+
+    /// The open slots of a network.
+    pub fn open_slots(&mut self, number: u32) -> Option<&mut OpenSlots> {
+        match self.named.get_mut(&number) {
+            Some(Some(slots)) => Some(slots),
+            _ => None,
+        }
+    }
+
+    /// The open slot of a network.
+    pub fn open_slot(&mut self, number: u32, slot: u64) -> Option<&mut OpenSlot> {
+        match self.open_slots(number) {
+            Some(slots) => slots.slot(slot),
+            None => None,
+        }
+    }
+
+    /// The first emission at a slot that has not been handed on.
+    pub fn waiting(&mut self, number: u32, slot: u64) -> Option<Emission> {
+        match self.open_slot(number, slot) {
+            Some(open) => open.waiting(),
+            None => None,
+        }
+    }
+
+    /// Keeps what settling needs of an event that was applied.
+    pub fn note(&mut self, number: u32, turn: Turn, outs: &[Out]) -> Result<(), AllocError> {
+        let Some(slots) = self.open_slots(number) else {
+            return Ok(());
+        };
+        match turn {
+            Turn::Opens(slot) => slots.open(slot),
+            Turn::Closes(slot) => {
+                slots.close(slot);
+                Ok(())
+            }
+            Turn::Within => slots.note(outs),
+        }
+    }
+
+    /// The first emission at a slot that waited has been handed on.
+    pub fn hand_on(&mut self, number: u32, slot: u64) {
+        if let Some(open) = self.open_slot(number, slot) {
+            open.hand_on();
+        }
+    }
+
+    /// The line of a slot that has settled.
+    pub fn settled(&mut self, alloc: Global, number: u32, slot: u64) -> Result<String, AllocError> {
+        let mut text = String::from_str(alloc, "settled")?;
+        if let Some(open) = self.open_slot(number, slot) {
+            open.push_decided(&mut text)?;
+        }
+        Ok(text)
+    }
+
+    // Keeps that an event has named the network of a number.
+    fn put(&mut self, number: u32, slots: Option<OpenSlots>) -> Result<(), AllocError> {
+        match self.named.insert(number, slots) {
+            Ok(_) => Ok(()),
+            // Memory: the map has no room.
+            Err(_) => Err(AllocError),
+        }
+    }
+}
+
+/// What an event does to the slots that are open.
+#[derive(Clone, Copy)]
+pub(crate) enum Turn {
+    Opens(u64),
+    Closes(u64),
+    Within,
+}
+
+/// What an event does to the slots that are open.
+pub(crate) fn turn_of(event: &Event) -> Turn {
+    match event {
+        Event::OpenSlot { slot } => Turn::Opens(*slot),
+        Event::CloseSlot { slot } => Turn::Closes(*slot),
+        _ => Turn::Within,
+    }
+}

@@ -1,0 +1,57 @@
+//! Where the networks of scripts join.
+
+ghost use Rattle.std.specs.Prelude.{◌≡◌, OnOk};
+
+use configuration::NetConfig;
+use crowds::Submission;
+use envstore::VecShelf;
+use hoststep::{MAX_NETWORKS, World};
+use std::alloc::{AllocError, Global};
+
+/// What the networks of a script join when an event names them, or after the last line. `joins` says what it
+/// is with one network more.
+pub(crate) trait Networks {
+    ghost use Rattle.runs.specs.Joining.{Joins};
+
+    ghost joins: { Joins Self };
+
+    /// A network joins, and nothing has happened to it. An error says that memory is short.
+    fn join(&mut self, alloc: Global, config: NetConfig) -> Result<(), AllocError>
+        ensures { OnOk result (self.new ≡ joins config self.old) };
+}
+
+impl Networks for World<VecShelf> {
+    ghost use Rattle.runs.specs.Hosting.{logs_joined};
+
+    ghost joins = { logs_joined };
+
+    // Lines declare no number twice, and at most as many networks as there is room for.
+    fn join(&mut self, alloc: Global, config: NetConfig) -> Result<(), AllocError> {
+        if self.journal(config.number()).is_some() || self.journals().len() >= MAX_NETWORKS {
+            return Ok(());
+        }
+        match self.add(config, VecShelf::new(alloc)) {
+            Ok(()) => Ok(()),
+            // Memory: there is room for the network, and none of its number.
+            Err(_) => Err(AllocError),
+        }
+    }
+}
+
+impl Networks for Submission {
+    ghost use Rattle.runs.specs.Submitting.{declared_once};
+
+    ghost joins = { declared_once };
+
+    // Lines declare no number twice.
+    fn join(&mut self, _alloc: Global, config: NetConfig) -> Result<(), AllocError> {
+        if self.config(config.number()).is_some() {
+            return Ok(());
+        }
+        match self.declare(config) {
+            Ok(()) => Ok(()),
+            // Memory: no network of its number is declared.
+            Err(_) => Err(AllocError),
+        }
+    }
+}

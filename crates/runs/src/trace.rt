@@ -1,0 +1,53 @@
+//! From which line of a script each entry of a journal comes.
+
+ghost use Rattle.std.specs.Prelude.{◌≡◌, ◌++◌, ◌∷◌, [], Some, OnErr, OnOk};
+ghost use Rattle.runs.specs.Quiet.{origin_in};
+
+use std::alloc::{AllocError, Global};
+use std::marker::Model;
+
+/// For each line that was run, in order, the network that it names, and how many entries that one has after
+/// it.
+#[derive(Drop)]
+pub(crate) struct Trace {
+    lines: Vec<(u32, usize)>,
+}
+
+impl Model for Trace {
+    ghost use Rattle.runs.specs.Quiet.{Trace};
+
+    ghost Value = { Trace };
+
+    ghost view = { λ trace. trace.lines.items };
+}
+
+impl Trace {
+    /// No line has been run. It takes no memory.
+    pub fn new(alloc: Global) -> Trace
+        ensures { result ≡ [] }
+    {
+        Trace {
+            lines: Vec::new(alloc),
+        }
+    }
+
+    /// A line has been run, after which the network that it names has so many entries.
+    pub fn note(&mut self, net: u32, entries: usize) -> Result<(), AllocError>
+        ensures { OnOk result (self.new ≡ self.old ++ (net, entries) ∷ []) }
+    {
+        match self.lines.push((net, entries)) {
+            Ok(()) => Ok(()),
+            // Memory: the list has no room.
+            Err(_) => Err(AllocError),
+        }
+    }
+
+    /// The line from which an entry of a network comes.
+    pub fn origin(&self, net: u32, entry: usize) -> Option<usize>
+        ensures { result ≡ origin_in (Some self.now) net entry }
+    {
+        self.lines
+            .iter()
+            .position(|line| line.0 == net && entry < line.1)
+    }
+}

@@ -1,0 +1,30 @@
+-- What the commands print that run scripts to their ends first.
+use Rattle.std.proofs.Common.{◌≡◌, ℕ, Bool, false, Option, inl, subst}
+use Rattle.scripts.specs.Script.{Bytes}
+use Rattle.protocol.specs.Hosts.{History}
+use Rattle.runs.specs.Submitting.{Submitting}
+use Rattle.scphost.specs.Comparisons.{IsComparison}
+use Rattle.scphost.specs.Crowding.{TellsCrowd}
+use Rattle.scphost.specs.Printing.{HasAnswered, IsCompared, IsCrowd, IsPrinted, IsReported}
+use Rattle.scphost.specs.Reporting.{IsReport}
+use Rattle.scphost.specs.Scripts.{IsSubmittedBy, IsTold, Story}
+use Rattle.scphost.specs.declared.answer.Answer.{Answer}
+use Rattle.scphost.specs.declared.subject.Format.{Format}
+use Rattle.scphost.specs.declared.subject.Subject.{Subject}
+
+-- an answer is printed
+pub has-reported : (format : Format) (subject : Subject) (file old new : Option Bytes) (status : ℕ) (story : Story) (a : Answer) → IsTold false file story
+    → IsReport format subject story.run.hosting.logs a → IsPrinted a old new status → HasAnswered (IsReported format subject file) old new status
+has-reported format subject file old new status story a told right printed = inl (a, (story, told, right), printed)
+
+pub has-compared : (explain : Bool) (subject : Subject) (one other old new : Option Bytes) (status : ℕ) (first second : Story) (a : Answer)
+    → IsTold explain one first → IsTold explain other second
+    → IsComparison first.run.hosting.logs second.run.hosting.logs subject.net subject.slot subject.node explain a → IsPrinted a old new status
+    → HasAnswered (IsCompared explain subject one other) old new status
+has-compared explain subject one other old new status first second a told also right printed = inl (a, (first, second, told, also, right), printed)
+
+pub has-crowded : (subject : Subject) (one other old new : Option Bytes) (status : ℕ) (first second : Submitting) (h k : History) (a : Answer)
+    → IsSubmittedBy one first → IsSubmittedBy other second → h ≡ first.history → k ≡ second.history → TellsCrowd h k subject a → IsPrinted a old new status
+    → HasAnswered (IsCrowd subject one other) old new status
+has-crowded subject one other old new status first second h k a told also e f right printed =
+    inl (a, (first, second, told, also, subst (λ x. TellsCrowd first.history x subject a) f (subst (λ x. TellsCrowd x k subject a) e right)), printed)

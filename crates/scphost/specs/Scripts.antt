@@ -1,0 +1,64 @@
+-- Scripts of networks that commands run to their end without printing.
+use Rattle.std.specs.Prelude.{◌≡◌, ℕ, Bool, not, List, [], Option, Some, None, Result, Ok, IfSome, filter, slice_get, if◌then◌else◌}
+use Rattle.std.specs.List.{enumerate_from}
+use Rattle.scripts.specs.Script.{AreLines, Bytes, is_no_record}
+use Rattle.scripts.specs.Runs.{Refusing, Runs, Telling}
+use Rattle.protocol.specs.Hosts.{History}
+use Rattle.runs.specs.Hosting.{Hosting}
+use Rattle.runs.specs.Quiet.{IsFinishedQuietly, Quiet, RefusesQuietly, TellsQuietly, origin_in}
+use Rattle.runs.specs.Submitting.{IsComplete, RefusesToSubmit, Submits, Submitting}
+
+-- all lines of a text are run in order, and none is bad
+pub record HaveRun {S : Type 0} (tells : Telling S) (refuses : Refusing S) (start : S) (text : Bytes) (end : S) : Type 0 where
+  pub lines : List Bytes
+  pub printed : Bytes
+  pub are_lines : AreLines text lines
+  pub ran : Runs tells refuses start (enumerate_from 1 lines) printed (Ok tt) end
+
+-- the text is that of a file, where that is known
+abbrev pub IsTextOf : Option Bytes → Bytes → Type 0
+IsTextOf file text = IfSome file (λ left. text ≡ left)
+
+-- the most bytes that a script may have: 64 MiB
+abbrev pub longest_script : ℕ
+longest_script = 67108864
+
+-- ---- for what becomes of the networks
+
+-- the networks after a script, and the script
+pub record Story : Type 0 where
+  pub run : Quiet
+  pub text : Bytes
+
+-- before the first line; the trace of the lines is kept where it is asked for
+abbrev pub start_of : Bool → Quiet
+start_of traced = record { hosting = record { waiting = []; logs = [] }; trace = if traced then Some [] else None }
+
+-- the lines of a text are run in order, and after the last one the networks that are declared with nodes have joined
+pub record HasEnded (start : Quiet) (text : Bytes) (end : Quiet) : Type 0 where
+  pub last : Quiet
+  pub ran : HaveRun TellsQuietly RefusesQuietly start text last
+  pub finished : IsFinishedQuietly last end
+
+-- a file is the script, which is run to its end
+abbrev pub IsTold : Bool → Option Bytes → Story → Type 0
+IsTold traced file story = IsTextOf file story.text × HasEnded (start_of traced) story.text story.run
+
+-- the line with a number, counted from 0, among those of a text that are run: neither empty lines nor comments are
+abbrev pub IsLineOf : Bytes → ℕ → Option (ℕ × Bytes) → Type 0
+IsLineOf text k line = (lines : List Bytes) × AreLines text lines × (line ≡ slice_get (filter (λ l. not (is_no_record l.1)) (enumerate_from 1 lines)) k)
+
+-- the line that an entry comes from
+abbrev pub IsLineAt : Bytes → Option ℕ → Option (ℕ × Bytes) → Type 0
+IsLineAt text None line = line ≡ None
+IsLineAt text (Some k) line = IsLineOf text k line
+
+-- ---- for what is submitted
+
+-- the lines of a file are run in order, and after the last one the networks that are declared with nodes have been declared
+pub record IsSubmittedBy (file : Option Bytes) (run : Submitting) : Type 0 where
+  pub text : Bytes
+  pub is_text : IsTextOf file text
+  pub last : Submitting
+  pub ran : HaveRun Submits RefusesToSubmit (record { waiting = []; history = record { configs = []; calls = [] } }) text last
+  pub finished : IsComplete last run
