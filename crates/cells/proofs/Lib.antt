@@ -2,3 +2,4 @@ pub mod Moves
 pub mod Seats
 pub mod Counts
 pub mod Closing
+pub mod Published

@@ -12,7 +12,7 @@ use Rattle.protocol.specs.Hosts.{Config, Entry}
 use Rattle.cells.specs.declared.refusal.CellRefusal.{CellRefusal}
 use Rattle.cells.specs.Receipts.{Applied, Extract, entry_of, extract, extract_of, extracts_from, extracts_of}
 use Rattle.cells.specs.Views.{DeskSight, Known, nobody}
-use Rattle.cells.specs.Rule.{opener, opened, one_more, seat_of, fresh, ended, note_of, closer_of, shown, desk_at, AllBelow, History, World, Claims, Fits, AllFit, IsOpen, Holds, IsEmpty, taken, IsTaken, Agrees, added, denied, stopped, HasDesk}
+use Rattle.cells.specs.Rule.{opener, opened, one_more, seat_of, fresh, ended, note_of, closer_of, shown, desk_at, AllBelow, History, World, Claims, Fits, AllFit, IsOpen, Holds, IsEmpty, taken, IsTaken, Agrees, added, denied, looked, stopped, HasDesk}
 
 off : {A : Type 0} → false ≡ true → A
 off e = absurd (true≢false (sym e))
@@ -288,6 +288,62 @@ denies id v event refusal s items views room h at =
     let c = (f.live s.live).1 in
     let g' : World = record g { free = true } in
     let w : Known = denied v event refusal in
+    let x : DeskSight = desk_at v.config v.seats v.all v.over in
+    let same : x ≡ desk_at g.past.config g.past.seats g.past.entries g.past.over = λ i. desk_at ((f.known s.known).0 i) ((f.known s.known).1 i) (has.all i) (has.over i) in (
+      w,
+      inr (
+        g',
+        record {
+          there = λ _. ap (λ (l : List DeskSight). l ++ x ∷ []) (o.away has.free) ∙ ap (λ (y : DeskSight). y ∷ []) same;
+          away = λ t. absurd (true≢false t);
+          paired = o.paired;
+          owned = o.owned;
+          stopper = o.stopper;
+          made = o.made;
+          fit = all_set (Fits g') views id w
+              (record {
+                opening = f.opening;
+                opens = f.opens;
+                known = f.known;
+                live = λ l. (
+                  (f.live s.live).0,
+                  record {
+                    made = c.made;
+                    seen = ([], append-nil v.all ∙ has.all);
+                    stopped = λ t. sym has.over ∙ t;
+                    receipts = c.receipts;
+                    stops = c.stops;
+                    ended = c.ended;
+                  },
+                );
+                claims = λ l. off (sym s.claims ∙ l);
+                holding = λ b. off b;
+              })
+              (λ j u apart e'.
+              let k = o.fit j u e' in record {
+                opening = k.opening;
+                opens = k.opens;
+                known = k.known;
+                live = k.live;
+                claims = k.claims;
+                holding = λ b. absurd (apart ((k.holding b).holder ∙ sym has.holder));
+              });
+        },
+      ),
+      refl,
+    )
+
+-- nothing was done
+pub looks : (id : ℕ) (v : Known) → HasDesk v → Pushes Holds 1 id v (desk_at v.config v.seats v.all v.over) (λ w. w ≡ looked v)
+looks id v s items views room h at =
+    let world = past_opening items views id v h at s.known in
+    let g : World = world.0 in
+    let o : IsOpen g items views = world.1 in
+    let f = o.fit id v at in
+    let has = f.holding s.holding in
+    let c = (f.live s.live).1 in
+    let g' : World = record g { free = true } in
+    let w : Known = looked v in
     let x : DeskSight = desk_at v.config v.seats v.all v.over in
     let same : x ≡ desk_at g.past.config g.past.seats g.past.entries g.past.over = λ i. desk_at ((f.known s.known).0 i) ((f.known s.known).1 i) (has.all i) (has.over i) in (
       w,

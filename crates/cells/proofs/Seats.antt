@@ -16,7 +16,7 @@ use Rattle.protocol.specs.Hosts.{Config, Entry}
 use Rattle.cells.specs.declared.refusal.CellRefusal.{CellRefusal}
 use Rattle.cells.specs.Receipts.{Applied, Extract, entry_of, extract, extract_of, receipt}
 use Rattle.cells.specs.Views.{Denial, DeskSight, Known}
-use Rattle.cells.specs.Rule.{denial, IsTaken, added, denied, stopped, HasDesk, fresh, ended}
+use Rattle.cells.specs.Rule.{denial, IsTaken, added, denied, looked, stopped, HasDesk, fresh, ended}
 use Rattle.cells.specs.Sights.{Sight}
 use Rattle.cells.specs.Sounds.{Stands, IsRight, IsWhy, refused_by, AllStand, AllRight, IsRising, IsSound, IsFree, IsSeat}
 use Rattle.cells.specs.Cells.{AllFresh, IsSeatOf}
@@ -169,6 +169,29 @@ seat_stopped p q r n rs x s t one two is =
       stand = subst (λ (y : Config × List Applied). AllStand y.0 w.all y.1) (λ i. (sym config i, sym (ap (λ (u : Known). u.receipts) t.now) i)) (stand_more v.config v.seen w.all v.receipts p' s.sound.stand);
       rising = subst (λ (l : List Applied). IsRising 0 l) (sym (ap (λ (u : Known). u.receipts) t.now)) s.sound.rising;
       right = subst (λ (y : Config × List Denial). AllRight y.0 w.all true y.1) (λ i. (sym config i, sym (ap (λ (u : Known). u.denials) t.now) i)) (right_more v.config v.seen w.all v.stopped true v.denials p' (λ _. refl) s.sound.right);
+    } in
+    record {
+      no_slot = two ∙ one ∙ s.no_slot;
+      number = ap (λ (y : Known). y.number) is ∙ ap (λ (y : Known). y.number) t.now ∙ s.number;
+      receipts = ap (λ (y : Known). y.receipts) is ∙ ap (λ (y : Known). y.receipts) t.now ∙ s.receipts;
+      free = subst IsFree (sym is) free;
+      sound = subst IsSound (sym is) sound;
+    }
+
+-- one that looked
+pub seat_looked : (p q r : Pass DeskSight Known) (n : ℕ) (rs : List Applied) (x : DeskSight) → IsSeat p n rs → IsTaken (view p) x (view q) → q.me.1 ≡ p.me.1 → r.me.1 ≡ q.me.1
+    → view r ≡ looked (view q) → IsSeat r n rs
+seat_looked p q r n rs x s t one two is =
+    let f = s.free in
+    let v : Known = view p in
+    let w : Known = view q in
+    let p' = t.seen f.live in
+    let config : w.config ≡ v.config = ap (λ (u : Known). u.config) t.now in
+    let free : IsFree (looked w) = subst (λ (y : Known). IsFree (looked y)) (sym t.now) (record { known = f.known; live = f.live; claims = f.claims; opens = f.opens; holding = refl }) in
+    let sound : IsSound (looked w) = record {
+      stand = subst (λ (y : Config × List Applied). AllStand y.0 w.all y.1) (λ i. (sym config i, sym (ap (λ (u : Known). u.receipts) t.now) i)) (stand_more v.config v.seen w.all v.receipts p' s.sound.stand);
+      rising = subst (λ (l : List Applied). IsRising 0 l) (sym (ap (λ (u : Known). u.receipts) t.now)) s.sound.rising;
+      right = subst (λ (y : Config × List Denial). AllRight y.0 w.all w.over y.1) (λ i. (sym config i, sym (ap (λ (u : Known). u.denials) t.now) i)) (right_more v.config v.seen w.all v.stopped w.over v.denials p' (t.stopped f.live) s.sound.right);
     } in
     record {
       no_slot = two ∙ one ∙ s.no_slot;

@@ -63,3 +63,9 @@ pub record IsStopped (old new : Sight) : Type 0 where
   pub stops : new.me.stops ≡ old.me.stops + 1
   pub receipts : new.me.receipts ≡ old.me.receipts
   pub denials : new.me.denials ≡ old.me.denials
+
+-- The seat gained nothing but what it saw.
+pub record IsSameButSeen (old new : Sight) : Type 0 where
+  pub receipts : new.me.receipts ≡ old.me.receipts
+  pub denials : new.me.denials ≡ old.me.denials
+  pub stops : new.me.stops ≡ old.me.stops

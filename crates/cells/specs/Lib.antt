@@ -5,3 +5,4 @@ pub mod Sights
 pub mod Sounds
 pub mod Cells
 pub mod Closing
+pub mod Publishing

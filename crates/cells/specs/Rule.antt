@@ -135,7 +135,7 @@ pub record Told (config : Config) (entries : List Entry) (owners : List ℕ) (ov
 abbrev pub Agrees : Known → Type 0
 Agrees v = Told v.config v.all v.owners v.over v.stopper v
 
--- the view after an application, a refusal and a stop
+-- the view after an application, a refusal, a look and a stop
 abbrev pub added : Known → Applied → Known
 added v r = record v { holding = false; seen = v.all ++ entry_of r ∷ []; stopped = v.over; receipts = v.receipts ++ r ∷ [] }
 
@@ -144,6 +144,10 @@ denial event refusal n = record { event = event; refusal = refusal; length = n }
 
 abbrev pub denied : Known → Event → CellRefusal → Known
 denied v event refusal = record v { holding = false; seen = v.all; stopped = v.over; denials = v.denials ++ denial event refusal (length v.all) ∷ [] }
+
+-- nothing is done, and all is seen
+abbrev pub looked : Known → Known
+looked v = record v { holding = false; seen = v.all; stopped = v.over }
 
 abbrev pub stopped : Known → Known
 stopped v = record v { holding = false; seen = v.all; stopped = true; stops = suc v.stops }

@@ -4,6 +4,7 @@ use crate::rule::Lock;
 use configuration::NetConfig;
 use envstore::Shelf;
 use std::marker::Model;
+use std::sync::Wait;
 
 pub mod acts;
 
@@ -11,13 +12,13 @@ pub mod acts;
 ///
 /// Contracts see which cell it is, the configuration of its network, and how many seats it has.
 #[derive(Drop)]
-pub struct Cell<S: Shelf> {
-    lock: Lock<S>,
+pub struct Cell<S: Shelf, H: Wait + Drop> {
+    lock: Lock<S, H>,
     config: NetConfig,
     seats: u64,
 }
 
-impl<S: Shelf> Model for Cell<S> {
+impl<S: Shelf, H: Wait + Drop> Model for Cell<S, H> {
     ghost use Rattle.std.specs.Prelude.{◌≡◌, ◌<◌};
     ghost use Rattle.std.specs.Coded.{codes};
     ghost use Rattle.crossbeam_queue.specs.Passes.{ruled_capacity};

@@ -1,27 +1,32 @@
 //! What lies under the lock of a cell.
 
 ghost use Rattle.std.specs.Prelude.{◌≡◌, ◌++◌, ◌∷◌, [], IfErr, IfOk, false, true};
+ghost use mathlib.Core.List.{IsPrefix};
 ghost use Rattle.cells.specs.Cells.{IsDenied, IsEnteredAt};
+ghost use Rattle.cells.specs.Publishing.{IsToldBut, decisions_known};
 
 use crate::receipt::Receipt;
 use crate::refusal::CellRefusal;
+use crate::watched::WatchedJournal;
 use configuration::NetConfig;
+use decisions::{Board, Publisher, Watch};
 use envstore::Shelf;
 use hoststep::{Journal, Recorded};
 use std::alloc::Global;
 use std::marker::Model;
 use std::snapshot::Snapshot;
+use std::sync::Wait;
 use types::{Event, Out, Refusal};
 
 /// The journal of a network, the stop mark, and how many seats the cell has.
 #[derive(Drop)]
-pub struct Desk<S: Shelf> {
-    journal: Journal<S>,
+pub struct Desk<S: Shelf, H: Wait + Drop> {
+    journal: WatchedJournal<S, H>,
     stopped: bool,
     seats: u64,
 }
 
-impl<S: Shelf> Model for Desk<S> {
+impl<S: Shelf, H: Wait + Drop> Model for Desk<S, H> {
     ghost use Rattle.std.specs.Coded.{codes};
     ghost use Rattle.types.specs.Trees.{members_code};
     ghost use Rattle.cells.specs.Views.{DeskSight};
@@ -47,13 +52,21 @@ pub struct Refused {
     pub(crate) refusal: CellRefusal,
 }
 
-impl<S: Shelf> Desk<S> {
-    /// A network where nothing has happened, in a cell with so many seats. It takes no memory.
-    pub(crate) fn new(alloc: Global, config: NetConfig, shelf: S, seats: u64) -> Desk<S>
+impl<S: Shelf, H: Wait + Drop> Desk<S, H> {
+    /// A network where nothing has happened, in a cell with so many seats, and a publisher with nothing appended.
+    /// It takes no memory.
+    pub(crate) fn new(
+        alloc: Global,
+        config: NetConfig,
+        shelf: S,
+        seats: u64,
+        publisher: Publisher<H>,
+    ) -> Desk<S, H>
+        requires { (publisher.0 ≡ []) × (publisher.1 ≡ []) }
         ensures { result ≡ record { log = record { config = config; entries = [] }; stopped = false; seats = seats } }
     {
         Desk {
-            journal: Journal::new(alloc, config, shelf),
+            journal: WatchedJournal::new(Journal::new(alloc, config, shelf), publisher),
             stopped: false,
             seats,
         }
@@ -66,16 +79,41 @@ impl<S: Shelf> Desk<S> {
         self.stopped = true;
     }
 
-    /// The journal.
-    pub(crate) fn into_journal(self) -> Journal<S>
-        ensures { result ≡ self.log }
+    /// The journal, and what was published of its decisions. It waits for watches that read.
+    pub(crate) fn into_parts(self) -> (Journal<S>, Box<Board>)
+        ensures log { result.0 ≡ self.log }
+        ensures published { IsPrefix result.1.value (decisions_known self.log.entries) }
     {
         let Desk {
             journal,
             stopped: _,
             seats: _,
         } = self;
-        journal
+        journal.into_parts()
+    }
+
+    /// Publishes what the journal decided, as far as there is memory. It waits for watches that read.
+    pub(crate) fn publish(self) -> Desk<S, H>
+        ensures { result ≡ self }
+    {
+        let Desk {
+            journal,
+            stopped,
+            seats,
+        } = self;
+        Desk {
+            journal: journal.publish(),
+            stopped,
+            seats,
+        }
+    }
+
+    /// Tells a watch what is published, and answers how many decisions of the journal are not yet.
+    pub(crate) fn tell<W: Wait>(&self, rt: &W, watch: &mut Watch) -> usize
+        ensures told { IsToldBut self.now.log.entries result watch.new }
+        ensures grows { IsPrefix watch.old watch.new }
+    {
+        self.journal.tell(rt, watch)
     }
 
     /// Applies an event, where there is no stop mark, and keeps its receipt behind those of a seat. An error

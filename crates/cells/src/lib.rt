@@ -3,7 +3,8 @@
 //! A [`Cell`] has the journal of one network under a lock, which is a ruled queue of one place. Who uses it has
 //! a [`Seat`], and gets a [`Receipt`] for each event that it applied. Contracts say what each seat knows: the
 //! journal as it saw it last, its receipts and the refusals that it was answered. At the close all that adds up
-//! to one history of one thread.
+//! to one history of one thread. What the network decided is published under the lock, for watches that read it
+//! without waiting.
 #![tactic(auto)]
 
 mod cell;
@@ -13,6 +14,7 @@ mod receipt;
 mod refusal;
 mod rule;
 mod seat;
+mod watched;
 
 pub use cell::Cell;
 pub use cell::acts::SeatsMissing;

@@ -4,7 +4,7 @@ ghost use Rattle.std.specs.Prelude.{◌≡◌, ◌⊎◌, ◌<◌, true, false, 
 ghost use Rattle.crossbeam_queue.specs.Fifo.{Pushes, Pops, Forks};
 ghost use Rattle.crossbeam_queue.specs.Passes.{view, IsSamePass, IsPassOf, ruled_capacity};
 ghost use Rattle.cells.specs.Receipts.{entry_of, extract, extract_of};
-ghost use Rattle.cells.specs.Rule.{Holds, IsTaken, Agrees, opener, opened, one_more, seat_of, ended, note_of, closer_of, shown, added, denied, stopped, HasDesk, desk_at};
+ghost use Rattle.cells.specs.Rule.{Holds, IsTaken, Agrees, opener, opened, one_more, seat_of, ended, note_of, closer_of, shown, added, denied, looked, stopped, HasDesk, desk_at};
 
 use crate::desk::{Desk, Refused};
 use crate::receipt::Receipt;
@@ -17,14 +17,20 @@ use std::thread;
 
 /// A lock with nothing under it yet, and the pass that is to put the desk there. An error says that memory is
 /// short.
-pub(crate) fn new<S: Shelf>(alloc: Global) -> Result<(Lock<S>, SeatPass<S>), AllocError>
+pub(crate) fn new<S: Shelf, H: Wait + Drop>(
+    alloc: Global,
+) -> Result<(Lock<S, H>, SeatPass<S, H>), AllocError>
     ensures { IfOk result (λ q. (ruled_capacity q.0 ≡ 1) × IsPassOf q.0 q.1 × (view q.1 ≡ opener)) }
 {
     Lock::ruled(alloc, 1)
 }
 
 /// Waits for the desk.
-pub(crate) fn take<S: Shelf, R: Wait>(rt: &R, lock: &Lock<S>, pass: &mut SeatPass<S>) -> Desk<S>
+pub(crate) fn take<S: Shelf, H: Wait + Drop, R: Wait>(
+    rt: &R,
+    lock: &Lock<S, H>,
+    pass: &mut SeatPass<S, H>,
+) -> Desk<S, H>
     requires queue { IsPassOf lock.now pass.old }
     requires known { (view pass.old).known ≡ true }
     requires away { (view pass.old).holding ≡ false }
@@ -41,11 +47,11 @@ pub(crate) fn take<S: Shelf, R: Wait>(rt: &R, lock: &Lock<S>, pass: &mut SeatPas
 }
 
 /// Puts the desk back. The view is then the one that was named.
-pub(crate) fn give<N: Next, S: Shelf, R: Wait>(
+pub(crate) fn give<N: Next, S: Shelf, H: Wait + Drop, R: Wait>(
     rt: &R,
-    lock: &Lock<S>,
-    pass: &mut SeatPass<S>,
-    desk: Desk<S>,
+    lock: &Lock<S, H>,
+    pass: &mut SeatPass<S, H>,
+    desk: Desk<S, H>,
 )
     requires queue { IsPassOf lock.now pass.old × (ruled_capacity lock.now ≡ 1) }
     requires mine { ((view pass.old).holding ≡ true) ⊎ ((view pass.old).opening ≡ true) }
@@ -60,11 +66,11 @@ pub(crate) fn give<N: Next, S: Shelf, R: Wait>(
 }
 
 /// Puts the desk back with one entry more.
-pub(crate) fn add<N: Next, S: Shelf, R: Wait>(
+pub(crate) fn add<N: Next, S: Shelf, H: Wait + Drop, R: Wait>(
     rt: &R,
-    lock: &Lock<S>,
-    pass: &mut SeatPass<S>,
-    desk: Desk<S>,
+    lock: &Lock<S, H>,
+    pass: &mut SeatPass<S, H>,
+    desk: Desk<S, H>,
     made: &Snapshot<Receipt>,
 )
     requires queue { IsPassOf lock.now pass.old × (ruled_capacity lock.now ≡ 1) }
@@ -75,15 +81,15 @@ pub(crate) fn add<N: Next, S: Shelf, R: Wait>(
     ensures queue { IsSamePass pass.old pass.new }
     ensures view { view pass.new ≡ added (view pass.old) made.now.value }
 {
-    give::<N, S, R>(rt, lock, pass, desk);
+    give::<N, S, H, R>(rt, lock, pass, desk);
 }
 
 /// Puts the desk back as it was, and the refused event is kept in the view.
-pub(crate) fn deny<N: Next, S: Shelf, R: Wait>(
+pub(crate) fn deny<N: Next, S: Shelf, H: Wait + Drop, R: Wait>(
     rt: &R,
-    lock: &Lock<S>,
-    pass: &mut SeatPass<S>,
-    desk: Desk<S>,
+    lock: &Lock<S, H>,
+    pass: &mut SeatPass<S, H>,
+    desk: Desk<S, H>,
     refused: &Refused,
 )
     requires queue { IsPassOf lock.now pass.old × (ruled_capacity lock.now ≡ 1) }
@@ -93,15 +99,32 @@ pub(crate) fn deny<N: Next, S: Shelf, R: Wait>(
     ensures queue { IsSamePass pass.old pass.new }
     ensures view { view pass.new ≡ denied (view pass.old) refused.now.asked.value refused.now.refusal }
 {
-    give::<N, S, R>(rt, lock, pass, desk);
+    give::<N, S, H, R>(rt, lock, pass, desk);
+}
+
+/// Puts the desk back as it was.
+pub(crate) fn leave<N: Next, S: Shelf, H: Wait + Drop, R: Wait>(
+    rt: &R,
+    lock: &Lock<S, H>,
+    pass: &mut SeatPass<S, H>,
+    desk: Desk<S, H>,
+)
+    requires queue { IsPassOf lock.now pass.old × (ruled_capacity lock.now ≡ 1) }
+    requires sits { HasDesk (view pass.old) }
+    requires desk { desk ≡ desk_at (view pass.old).config (view pass.old).seats (view pass.old).all (view pass.old).over }
+    requires next { N.next ≡ looked (view pass.old) }
+    ensures queue { IsSamePass pass.old pass.new }
+    ensures view { view pass.new ≡ looked (view pass.old) }
+{
+    give::<N, S, H, R>(rt, lock, pass, desk);
 }
 
 /// Puts the desk back with the stop mark.
-pub(crate) fn mark<N: Next, S: Shelf, R: Wait>(
+pub(crate) fn mark<N: Next, S: Shelf, H: Wait + Drop, R: Wait>(
     rt: &R,
-    lock: &Lock<S>,
-    pass: &mut SeatPass<S>,
-    desk: Desk<S>,
+    lock: &Lock<S, H>,
+    pass: &mut SeatPass<S, H>,
+    desk: Desk<S, H>,
 )
     requires queue { IsPassOf lock.now pass.old × (ruled_capacity lock.now ≡ 1) }
     requires sits { HasDesk (view pass.old) }
@@ -110,15 +133,15 @@ pub(crate) fn mark<N: Next, S: Shelf, R: Wait>(
     ensures queue { IsSamePass pass.old pass.new }
     ensures view { view pass.new ≡ stopped (view pass.old) }
 {
-    give::<N, S, R>(rt, lock, pass, desk);
+    give::<N, S, H, R>(rt, lock, pass, desk);
 }
 
 /// The first thing that the lock gets.
-pub(crate) fn put_first<N: Next, S: Shelf, R: Wait>(
+pub(crate) fn put_first<N: Next, S: Shelf, H: Wait + Drop, R: Wait>(
     rt: &R,
-    lock: &Lock<S>,
-    pass: &mut SeatPass<S>,
-    desk: Desk<S>,
+    lock: &Lock<S, H>,
+    pass: &mut SeatPass<S, H>,
+    desk: Desk<S, H>,
 )
     requires queue { IsPassOf lock.now pass.old × (ruled_capacity lock.now ≡ 1) }
     requires opening { (view pass.old).opening ≡ true }
@@ -127,11 +150,14 @@ pub(crate) fn put_first<N: Next, S: Shelf, R: Wait>(
     ensures queue { IsSamePass pass.old pass.new }
     ensures view { view pass.new ≡ opened desk.log.config desk.seats }
 {
-    give::<N, S, R>(rt, lock, pass, desk);
+    give::<N, S, H, R>(rt, lock, pass, desk);
 }
 
 /// The pass of one seat more.
-pub(crate) fn sit<S: Shelf>(lock: &Lock<S>, pass: &mut SeatPass<S>) -> SeatPass<S>
+pub(crate) fn sit<S: Shelf, H: Wait + Drop>(
+    lock: &Lock<S, H>,
+    pass: &mut SeatPass<S, H>,
+) -> SeatPass<S, H>
     requires queue { IsPassOf lock.now pass.old }
     requires opens { ((view pass.old).opens ≡ true) × ((view pass.old).known ≡ true) × ((view pass.old).live ≡ false) × ((view pass.old).claims ≡ false) × ((view pass.old).holding ≡ false) }
     requires room { (view pass.old).made < (view pass.old).seats }
@@ -142,7 +168,10 @@ pub(crate) fn sit<S: Shelf>(lock: &Lock<S>, pass: &mut SeatPass<S>) -> SeatPass<
 }
 
 /// A seat ends, and gives a note of itself.
-pub(crate) fn end<S: Shelf>(lock: &Lock<S>, pass: &mut SeatPass<S>) -> SeatPass<S>
+pub(crate) fn end<S: Shelf, H: Wait + Drop>(
+    lock: &Lock<S, H>,
+    pass: &mut SeatPass<S, H>,
+) -> SeatPass<S, H>
     requires queue { IsPassOf lock.now pass.old }
     requires seat { ((view pass.old).live ≡ true) × ((view pass.old).claims ≡ false) × ((view pass.old).holding ≡ false) × ((view pass.old).opens ≡ false) × ((view pass.old).known ≡ true) }
     ensures queue { IsSamePass pass.old pass.new × IsPassOf lock.now result }
@@ -152,7 +181,10 @@ pub(crate) fn end<S: Shelf>(lock: &Lock<S>, pass: &mut SeatPass<S>) -> SeatPass<
 }
 
 /// A pass that is to take the desk for good.
-pub(crate) fn closer<S: Shelf>(lock: &Lock<S>, pass: &mut SeatPass<S>) -> SeatPass<S>
+pub(crate) fn closer<S: Shelf, H: Wait + Drop>(
+    lock: &Lock<S, H>,
+    pass: &mut SeatPass<S, H>,
+) -> SeatPass<S, H>
     requires queue { IsPassOf lock.now pass.old }
     requires known { (view pass.old).known ≡ true }
     ensures queue { IsSamePass pass.old pass.new × IsPassOf lock.now result }
@@ -162,7 +194,11 @@ pub(crate) fn closer<S: Shelf>(lock: &Lock<S>, pass: &mut SeatPass<S>) -> SeatPa
 }
 
 /// The desk that the closer has agrees with the note.
-pub(crate) fn compare<S: Shelf>(lock: &Lock<S>, closer: &mut SeatPass<S>, note: SeatPass<S>)
+pub(crate) fn compare<S: Shelf, H: Wait + Drop>(
+    lock: &Lock<S, H>,
+    closer: &mut SeatPass<S, H>,
+    note: SeatPass<S, H>,
+)
     requires queue { IsPassOf lock.now closer.old × IsPassOf lock.now note }
     requires closer { ((view closer.old).holding ≡ true) × ((view closer.old).live ≡ false) × ((view closer.old).known ≡ true) × ((view closer.old).opens ≡ false) }
     requires note { ((view note).claims ≡ true) × ((view note).closed ≡ true) }

@@ -7,6 +7,7 @@ use crossbeam_queue::protocol::{Join, Lesson, Outcome, Protocol, Split};
 use crossbeam_queue::{Pass, RuledArrayQueue};
 use envstore::Shelf;
 use std::marker::{Brand, Model};
+use std::sync::Wait;
 
 /// What a pass knows. No value of it is made; contracts see what its specification has.
 pub struct View;
@@ -26,7 +27,7 @@ impl Model for View {
 /// The rule of the lock.
 pub struct OneHistory;
 
-impl<S: Shelf> Protocol<Desk<S>, View> for OneHistory {
+impl<S: Shelf, H: Wait + Drop> Protocol<Desk<S, H>, View> for OneHistory {
     ghost use Rattle.cells.specs.Rule.{opener, Holds};
 
     ghost holds = { Holds };
@@ -52,13 +53,13 @@ pub struct Gives<N> {
     of: std::marker::PhantomData<N>,
 }
 
-impl<N: Next, S: Shelf> Outcome<Desk<S>, View> for Gives<N> {
+impl<N: Next, S: Shelf, H: Wait + Drop> Outcome<Desk<S, H>, View> for Gives<N> {
     ghost use Rattle.std.specs.Prelude.{◌≡◌};
 
     ghost then = { λ v x w. w ≡ N.next };
 }
 
-impl<N: Next, S: Shelf> Lesson<Desk<S>, View> for Gives<N> {
+impl<N: Next, S: Shelf, H: Wait + Drop> Lesson<Desk<S, H>, View> for Gives<N> {
     ghost use Rattle.cells.specs.Rule.{IsEmpty};
 
     ghost fact = { λ v items. IsEmpty items };
@@ -67,13 +68,13 @@ impl<N: Next, S: Shelf> Lesson<Desk<S>, View> for Gives<N> {
 /// The desk is taken.
 pub struct Takes;
 
-impl<S: Shelf> Outcome<Desk<S>, View> for Takes {
+impl<S: Shelf, H: Wait + Drop> Outcome<Desk<S, H>, View> for Takes {
     ghost use Rattle.cells.specs.Rule.{IsTaken};
 
     ghost then = { IsTaken };
 }
 
-impl<S: Shelf> Lesson<Desk<S>, View> for Takes {
+impl<S: Shelf, H: Wait + Drop> Lesson<Desk<S, H>, View> for Takes {
     ghost fact = { λ v items. Unit {0} };
 }
 
@@ -125,14 +126,14 @@ impl Join<View> for Shows {
 /// The closer compares the note with the desk that it has.
 pub struct Checks;
 
-impl<S: Shelf> Lesson<Desk<S>, View> for Checks {
+impl<S: Shelf, H: Wait + Drop> Lesson<Desk<S, H>, View> for Checks {
     ghost use Rattle.cells.specs.Rule.{Agrees};
 
     ghost fact = { λ v items. Agrees v };
 }
 
 /// The lock of a cell.
-pub type Lock<S> = RuledArrayQueue<Desk<S>, View, OneHistory>;
+pub type Lock<S, H> = RuledArrayQueue<Desk<S, H>, View, OneHistory>;
 
 /// What a thread uses a lock by.
-pub type SeatPass<S> = Pass<Desk<S>, View>;
+pub type SeatPass<S, H> = Pass<Desk<S, H>, View>;

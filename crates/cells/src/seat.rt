@@ -7,19 +7,20 @@ use crate::receipt::Receipt;
 use crate::rule::SeatPass;
 use envstore::Shelf;
 use std::marker::Model;
+use std::sync::Wait;
 
 /// A seat at a cell, with the receipts of what it applied. One thread at a time uses it.
 ///
 /// Contracts see the cell that it is of, and what it knows: the journal and the stop mark as it saw them last,
 /// its receipts, the refusals that it was answered, and how often it set the mark.
 #[derive(Drop)]
-pub struct Seat<S: Shelf> {
-    pub(crate) pass: SeatPass<S>,
+pub struct Seat<S: Shelf, H: Wait + Drop> {
+    pub(crate) pass: SeatPass<S, H>,
     pub(crate) number: u64,
     pub(crate) receipts: Vec<Receipt>,
 }
 
-impl<S: Shelf> Model for Seat<S> {
+impl<S: Shelf, H: Wait + Drop> Model for Seat<S, H> {
     ghost use Rattle.std.specs.Coded.{codes};
     ghost use Rattle.types.specs.Trees.{members_code};
     ghost use Rattle.cells.specs.Sights.{Sight, sight_of};
@@ -34,7 +35,7 @@ impl<S: Shelf> Model for Seat<S> {
     ghost invariant = { λ s. IsSeat s.pass s.number s.receipts.items };
 }
 
-impl<S: Shelf> Seat<S> {
+impl<S: Shelf, H: Wait + Drop> Seat<S, H> {
     /// The number of the seat at its cell, from 0 on.
     pub fn number(&self) -> u64
         ensures { result ≡ self.now.me.number }

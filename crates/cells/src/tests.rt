@@ -6,26 +6,25 @@ ghost use Rattle.cells.specs.Cells.{IsSeatOf};
 
 use crate::{Cell, CellRefusal, Receipt, Seat};
 use configuration::{Budgets, Host, NetConfig};
+use decisions::{Board, Decision, Watch};
 use envstore::{SharedHandle, Shelf, VecShelf};
 use hoststep::Journal;
 use std::alloc::Global;
 use std::marker::Model;
 use std::sync::Wait;
 use std::test::Fail;
-use types::{
-    Bytes, Event, Member, Nested, NodeId, Out, Refusal, SliceSet, Statement, Value,
-};
+use types::{Bytes, Event, Member, Nested, NodeId, Out, Refusal, SliceSet, Statement, Value};
 
 /// A cell with its seats.
 ///
 /// Contracts see the cell.
 #[derive(Drop)]
-struct Room<S: Shelf> {
-    cell: Cell<S>,
-    seats: Vec<Seat<S>>,
+struct Room<S: Shelf, H: Wait + Drop> {
+    cell: Cell<S, H>,
+    seats: Vec<Seat<S, H>>,
 }
 
-impl<S: Shelf> Model for Room<S> {
+impl<S: Shelf, H: Wait + Drop> Model for Room<S, H> {
     ghost use Rattle.std.specs.Coded.{codes};
     ghost use Rattle.std.specs.List.{All};
     ghost use Rattle.types.specs.Trees.{members_code};
@@ -54,19 +53,31 @@ fn config(alloc: Global, events: u64) -> Option<NetConfig> {
 }
 
 /// A room with two seats.
-fn two_seats<R: Wait + Copy>(rt: &R, alloc: Global) -> Option<Room<SharedHandle<R>>> {
+fn two_seats<R: Wait + Drop + Copy>(rt: &R, alloc: Global) -> Option<Room<SharedHandle<R>, R>> {
     let (cell, seats) = Cell::open(rt, alloc, config(alloc, 10)?, 2).ok()?;
     Some(Room { cell, seats })
 }
 
+/// A room with two seats, and a watch.
+fn watched<R: Wait + Drop + Copy>(
+    rt: &R,
+    alloc: Global,
+) -> Option<(Room<SharedHandle<R>, R>, Watch)> {
+    let shelf = SharedHandle::new(alloc, *rt).ok()?;
+    let config = config(alloc, 10)?;
+    let (cell, seats, watches) = Cell::open_watched(rt, alloc, config, 2, shelf, 1).ok()?;
+    let mut watches = watches;
+    Some((Room { cell, seats }, watches.pop()?))
+}
+
 /// A room over a shelf of one owner.
-fn one_seat<R: Wait>(rt: &R, alloc: Global) -> Option<Room<VecShelf>> {
+fn one_seat<R: Wait + Drop + Copy>(rt: &R, alloc: Global) -> Option<Room<VecShelf, R>> {
     let shelf = VecShelf::new(alloc);
     let (cell, seats) = Cell::open_on(rt, alloc, config(alloc, 10)?, 1, shelf).ok()?;
     Some(Room { cell, seats })
 }
 
-impl<S: Shelf + Drop> Room<S> {
+impl<S: Shelf + Drop, H: Wait + Drop> Room<S, H> {
     /// An event by a seat.
     fn apply<R: Wait>(
         &mut self,
@@ -91,6 +102,23 @@ impl<S: Shelf + Drop> Room<S> {
         }
     }
 
+    /// A watch is told by a seat.
+    fn tell<R: Wait>(&mut self, rt: &R, seat: usize, watch: &mut Watch) -> Option<usize>
+        ensures { self.new ≡ self.old }
+    {
+        if seat >= self.seats.len() {
+            return None;
+        }
+        Some(self.cell.tell(rt, &mut self.seats[seat], watch))
+    }
+
+    /// The journal, and what was published.
+    fn close_watched<R: Wait>(self, rt: &R) -> Option<(Journal<S>, Box<Board>)> {
+        let Room { cell, seats } = self;
+        let (journal, _seats, board) = cell.close_watched(rt, seats).ok()?;
+        Some((journal, board))
+    }
+
     /// How many receipts a seat has.
     fn receipts(&self, seat: usize) -> usize {
         match self.seats.get(seat) {
@@ -100,7 +128,7 @@ impl<S: Shelf + Drop> Room<S> {
     }
 
     /// The journal and the seats.
-    fn close<R: Wait>(self, rt: &R) -> Option<(Journal<S>, Vec<Seat<S>>)> {
+    fn close<R: Wait>(self, rt: &R) -> Option<(Journal<S>, Vec<Seat<S, H>>)> {
         let Room { cell, seats } = self;
         cell.close(rt, seats).ok()
     }
@@ -128,7 +156,9 @@ fn is_x(value: &Value) -> bool {
 fn nominates(body: &Statement) -> bool {
     match body {
         Statement::Nominate { voted, accepted } => {
-            voted.as_slice().len() == 1 && accepted.is_same(voted) && voted.as_slice().iter().all(is_x)
+            voted.as_slice().len() == 1
+                && accepted.is_same(voted)
+                && voted.as_slice().iter().all(is_x)
         }
         _ => false,
     }
@@ -148,9 +178,11 @@ fn externalizes(body: &Statement) -> bool {
 /// Whether a node alone gave out this when `x` was proposed to it.
 fn decides(outs: &[Out]) -> bool {
     match outs {
-        [Out::Emit(first), Out::Emit(second), Out::Externalized(value)] => {
-            nominates(first.body()) && externalizes(second.body()) && is_x(value)
-        }
+        [
+            Out::Emit(first),
+            Out::Emit(second),
+            Out::Externalized(value),
+        ] => { nominates(first.body()) && externalizes(second.body()) && is_x(value) }
         _ => false,
     }
 }
@@ -184,10 +216,10 @@ fn has_both_receipts(receipts: &[Receipt]) -> bool {
 }
 
 /// Whether a node alone, by the first seat, decides what is proposed to it.
-fn decides_alone<S: Shelf + Drop, R: Wait>(
+fn decides_alone<S: Shelf + Drop, H: Wait + Drop, R: Wait>(
     rt: &R,
     alloc: Global,
-    room: &mut Room<S>,
+    room: &mut Room<S, H>,
 ) -> Option<bool>
     ensures { room.new ≡ room.old }
 {
@@ -247,9 +279,9 @@ fn a_stopped_cell_is_closed_to_each_seat(rt: HostRuntime) -> Result<(), Fail> {
 }
 
 /// An event, asked for once more where memory was short; then the receipts have to be as they were.
-fn insist<R: Wait + Copy>(
+fn insist<R: Wait + Drop + Copy>(
     rt: &R,
-    room: &mut Room<SharedHandle<R>>,
+    room: &mut Room<SharedHandle<R>, R>,
     first: Event,
     second: Event,
 ) -> Option<Vec<Out>>
@@ -278,7 +310,9 @@ fn made(alloc: Global) -> Option<Event> {
 #[test]
 fn a_call_that_wants_memory_leaves_all_as_it_was(rt: HostRuntime) -> Result<(), Fail> {
     let alloc = rt.alloc();
-    let mut room = two_seats(&rt, alloc).or_else(|| two_seats(&rt, alloc)).ok_or("memory")?;
+    let mut room = two_seats(&rt, alloc)
+        .or_else(|| two_seats(&rt, alloc))
+        .ok_or("memory")?;
     let opened = insist(&rt, &mut room, open(1), open(1)).ok_or("not opened")?;
     assert!(rt; opened.is_empty());
     let (first, second) = (made(alloc).ok_or("memory")?, made(alloc).ok_or("memory")?);
@@ -287,5 +321,39 @@ fn a_call_that_wants_memory_leaves_all_as_it_was(rt: HostRuntime) -> Result<(), 
     assert_eq!(rt; room.receipts(0), 2);
     let (journal, _seats) = room.close(&rt).ok_or("not closed")?;
     assert_eq!(rt; journal.len(), 2);
+    Ok(())
+}
+
+/// Whether it is the one decision of `x` for slot 1.
+fn is_decision_of_x(decisions: &[Decision]) -> bool {
+    match decisions {
+        [decision] => {
+            decision.slot == 1 && decision.node.is_same(&name()) && is_x(&decision.value)
+        }
+        _ => false,
+    }
+}
+
+#[test]
+fn a_watch_reads_what_is_decided(rt: HostRuntime) -> Result<(), Fail> {
+    let alloc = rt.alloc();
+    let (mut room, mut watch) = watched(&rt, alloc).ok_or("memory")?;
+    assert_eq!(rt;
+        watch.read(|decisions: &[Decision]| decisions.len()),
+        Some(0)
+    );
+    assert_eq!(rt; room.tell(&rt, 1, &mut watch), Some(0));
+    assert_eq!(rt;
+        watch.read(|decisions: &[Decision]| decisions.len()),
+        Some(0)
+    );
+    assert_eq!(rt; decides_alone(&rt, alloc, &mut room), Some(true));
+    assert_eq!(rt; room.tell(&rt, 1, &mut watch), Some(0));
+    let is_there = watch.read(|decisions: &[Decision]| is_decision_of_x(decisions));
+    assert_eq!(rt; is_there, Some(true));
+    let (journal, board) = room.close_watched(&rt).ok_or("not closed")?;
+    assert_eq!(rt; journal.len(), 2);
+    assert!(rt; is_decision_of_x(board.as_slice()));
+    assert_eq!(rt; watch.read(|decisions: &[Decision]| decisions.len()), None);
     Ok(())
 }

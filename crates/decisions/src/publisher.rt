@@ -137,8 +137,8 @@ impl<R: Wait + Drop> Publisher<R> {
         writer.take(&rt)
     }
 
-    /// Has a watch of this publisher see all that is published, which begins with all that it saw before. For a watch of
-    /// another publisher it may wait for ever.
+    /// Has a watch of this publisher see all that is published, which begins with all that it saw before. For a
+    /// watch of another publisher it may wait for ever.
     pub fn tell<W: Wait>(&self, rt: &W, watch: &mut Watch)
         ensures told { watch.new ≡ self.now.0 }
         ensures grows { IsPrefix watch.old watch.new }

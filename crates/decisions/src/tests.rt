@@ -167,8 +167,8 @@ fn counted(decisions: &[Decision]) -> Option<usize> {
     Some(decisions.len())
 }
 
-/// A watch that read often, and how many of its reads were wrong: of a list that lacks a decision, or that is shorter than
-/// one before.
+/// A watch that read often, and how many of its reads were wrong: of a list that lacks a decision, or that is
+/// shorter than one before.
 fn read_often(watch: Watch) -> (Watch, u32) {
     let mut watch = watch;
     let mut most = 0;

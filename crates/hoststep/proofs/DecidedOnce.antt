@@ -1,5 +1,5 @@
 -- An event decides one value at most.
-use Rattle.std.proofs.Common.{◌≡◌, ℕ, ◌≤◌, ◌==◌, ◌&&◌, not, is_none, Bool, true, false, List, [], ◌∷◌, ◌++◌, length, take, slice_get, option_to_list, if◌then◌else◌, Option, Some, None, refl, sym, ap, ◌∙◌, subst, arith}
+use Rattle.std.proofs.Common.{◌+◌, length-append, suc, ◌≡◌, ℕ, ◌≤◌, ◌==◌, ◌&&◌, not, is_none, Bool, true, false, List, [], ◌∷◌, ◌++◌, length, take, slice_get, option_to_list, if◌then◌else◌, Option, Some, None, refl, sym, ap, ◌∙◌, subst, arith}
 use Rattle.types.specs.declared.ballot.Ballot.{Ballot}
 use Rattle.types.specs.declared.statement.Statement.{Statement}
 use Rattle.types.specs.declared.event.NodeEvent.{NodeEvent}
@@ -15,7 +15,8 @@ use Rattle.protocol.specs.Nodes.{Node, after_change, answered, change, decided, 
 use Rattle.protocol.specs.Runs.{IsRun, state_of}
 use Rattle.protocol.specs.Sameness.{same_sent}
 use Rattle.protocol.specs.States.{counter_of, sent_nomination, sent_vote}
-use Rattle.hoststep.specs.Deciding.{values_in}
+use Rattle.network.specs.Marks.{place_named}
+use Rattle.hoststep.specs.Deciding.{decided_at, decisions_by, decisions_in, values_in}
 
 abbrev AtMostOne : List Out → Type 0
 AtMostOne os = length (values_in os) ≤ 1
@@ -111,3 +112,21 @@ pub first-is-all : (xs : List (List ℕ)) (o : Option (List ℕ)) → o ≡ slic
 first-is-all [] o is few = ap option_to_list is
 first-is-all (x ∷ []) o is few = ap option_to_list is
 first-is-all (x ∷ y ∷ zs) o is few = absurd (omega (arith, few))
+
+-- so no more is decided than there are entries
+by-place : (at : Option (ℕ × ℕ)) (xs : List (List ℕ)) → length xs ≤ 1 → length (decided_at at xs) ≤ 1
+by-place None xs few = none-there
+by-place (Some at) [] few = none-there
+by-place (Some at) (x ∷ []) few = one-there
+by-place (Some at) (x ∷ y ∷ zs) few = absurd (omega (arith, few))
+
+few-each : (entries : List Entry) → ((k : ℕ) (x : Entry) → slice_get entries k ≡ Some x → length (values_in x.outs) ≤ 1) → length (decisions_by entries) ≤ length entries
+few-each [] each = omega (arith)
+few-each (x ∷ xs) each =
+    let rest = few-each xs (λ k y at. each (suc k) y at) in
+    let mine = by-place (place_named x.event) (values_in x.outs) (each 0 x refl) in
+    let both = length-append (decisions_in x) (decisions_by xs) in
+    omega (arith, rest, mine, both)
+
+pub decisions-few : (config : Config) (entries : List Entry) → IsRun config entries → length (decisions_by entries) ≤ length entries
+decisions-few config entries run = few-each entries (λ k x at. decided-once config entries k x run at)

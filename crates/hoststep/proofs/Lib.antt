@@ -6,5 +6,5 @@ mod ByNumber
 mod OutsAt
 mod Configured
 mod SlicesThen
-mod DecidedOnce
+pub mod DecidedOnce
 pub mod DecisionLists

@@ -1,23 +1,25 @@
 //! What the seats of a cell do.
 
-ghost use Rattle.std.specs.Prelude.{◌≡◌, ◌≤◌, ◌<◌, ◌↔◌, false, true, length, IfOk, IfErr, Err, ℕ, IsTrue, map};
+ghost use Rattle.std.specs.Prelude.{◌≡◌, ◌≤◌, ◌<◌, ◌↔◌, false, true, length, IfOk, IfErr, Err, ℕ, IsTrue, map, replicate, []};
 ghost use Rattle.std.specs.List.{All};
 ghost use mathlib.Core.List.{IsPrefix};
 ghost use Rattle.crossbeam_queue.specs.Passes.{view, IsSamePass, IsPassOf};
 ghost use Rattle.cells.specs.declared.refusal.CellRefusal.TheVariants.{Closed};
-ghost use Rattle.cells.specs.Cells.{AllFresh, IsApplied, IsDenial, IsSeatOf, IsStopped};
+ghost use Rattle.cells.specs.Cells.{AllFresh, IsApplied, IsDenial, IsSameButSeen, IsSeatOf, IsStopped};
 ghost use Rattle.cells.specs.Closing.{AllSeats, HasNumber, ended_sight, Gathered, IsOneHistory};
+ghost use Rattle.cells.specs.Publishing.{IsToldBut, decisions_known};
 ghost use Rattle.cells.specs.Rule.{closer_of, note_of, shown, Told};
 ghost use Rattle.cells.specs.Sounds.{IsSound, IsWhy};
 
 use super::Cell;
 use crate::desk::{Desk, Refused};
 use crate::lock;
-use crate::lock::{add, closer, compare, deny, end, mark, put_first, sit, take};
+use crate::lock::{add, closer, compare, deny, end, leave, mark, put_first, sit, take};
 use crate::refusal::CellRefusal;
 use crate::rule::{Lock, SeatPass};
 use crate::seat::Seat;
 use configuration::NetConfig;
+use decisions::{Board, Publisher, Watch};
 use envstore::{SharedHandle, Shelf};
 use hoststep::Journal;
 use std::alloc::{AllocError, Global};
@@ -28,13 +30,13 @@ use types::{Event, Out};
 
 /// Not all seats of the cell were there. It and those that were are handed back.
 #[derive(Drop)]
-pub struct SeatsMissing<S: Shelf> {
-    pub cell: Cell<S>,
-    pub seats: Vec<Seat<S>>,
+pub struct SeatsMissing<S: Shelf, H: Wait + Drop> {
+    pub cell: Cell<S, H>,
+    pub seats: Vec<Seat<S, H>>,
 }
 
 /// Whether a seat has this number.
-fn has<S: Shelf>(seats: &[Seat<S>], number: u64) -> bool
+fn has<S: Shelf, H: Wait + Drop>(seats: &[Seat<S, H>], number: u64) -> bool
     ensures { IsTrue result ↔ HasNumber seats.now number }
 {
     for seat in seats {
@@ -46,7 +48,7 @@ fn has<S: Shelf>(seats: &[Seat<S>], number: u64) -> bool
 }
 
 /// Whether each number below this one is that of a seat.
-fn has_all<S: Shelf>(count: u64, seats: &[Seat<S>]) -> bool
+fn has_all<S: Shelf, H: Wait + Drop>(count: u64, seats: &[Seat<S, H>]) -> bool
     ensures all { IsTrue result → (k : ℕ) → k < count → HasNumber seats.now k }
     ensures missing { result ≡ false → (k : ℕ) × (k < count) × ¬ HasNumber seats.now k }
 {
@@ -59,7 +61,7 @@ fn has_all<S: Shelf>(count: u64, seats: &[Seat<S>]) -> bool
 }
 
 /// A pass that is to take the desk for good.
-fn closer_from<S: Shelf>(lock: &Lock<S>, seat: &mut Seat<S>) -> SeatPass<S>
+fn closer_from<S: Shelf, H: Wait + Drop>(lock: &Lock<S, H>, seat: &mut Seat<S, H>) -> SeatPass<S, H>
     requires { seat.old.cell ≡ lock.now.table.shared.table_id }
     ensures same { seat.new ≡ seat.old }
     ensures pass { IsPassOf lock.now result × (view result ≡ closer_of seat.old.me) }
@@ -68,7 +70,11 @@ fn closer_from<S: Shelf>(lock: &Lock<S>, seat: &mut Seat<S>) -> SeatPass<S>
 }
 
 /// Ends a seat, and compares it with the desk.
-fn end_seat<S: Shelf>(lock: &Lock<S>, keeper: &mut SeatPass<S>, seat: &mut Seat<S>)
+fn end_seat<S: Shelf, H: Wait + Drop>(
+    lock: &Lock<S, H>,
+    keeper: &mut SeatPass<S, H>,
+    seat: &mut Seat<S, H>,
+)
     requires seat { seat.old.cell ≡ lock.now.table.shared.table_id }
     requires queue { IsPassOf lock.now keeper.old }
     requires keeper { ((view keeper.old).holding ≡ true) × ((view keeper.old).live ≡ false) × ((view keeper.old).known ≡ true) × ((view keeper.old).opens ≡ false) }
@@ -83,13 +89,13 @@ fn end_seat<S: Shelf>(lock: &Lock<S>, keeper: &mut SeatPass<S>, seat: &mut Seat<
 }
 
 /// Takes the desk for good, and ends each seat.
-fn gather<S: Shelf, R: Wait>(
+fn gather<S: Shelf, H: Wait + Drop, R: Wait>(
     rt: &R,
-    lock: &Lock<S>,
+    lock: &Lock<S, H>,
     config: &NetConfig,
     count: u64,
-    seats: &mut [Seat<S>],
-) -> Desk<S>
+    seats: &mut [Seat<S, H>],
+) -> Desk<S, H>
     requires some { 0 < length seats.old }
     requires seats { AllSeats (λ s. (s.cell ≡ lock.now.table.shared.table_id) × (s.me.config ≡ config.now) × (s.me.seats ≡ count)) seats.old }
     ensures gathered { Gathered config.now count result seats.new }
@@ -103,35 +109,56 @@ fn gather<S: Shelf, R: Wait>(
     desk
 }
 
-impl<S: Shelf + Drop> Cell<S> {
+/// So many watches of a publisher, which have seen nothing. An error says that memory is short.
+fn watches_of<H: Wait + Drop>(
+    alloc: Global,
+    publisher: &Publisher<H>,
+    count: usize,
+) -> Result<Vec<Watch>, AllocError>
+    ensures { IfOk result (λ v. v.items ≡ replicate count []) }
+{
+    let mut watches = Vec::new(alloc);
+    for _ in 0..count {
+        watches.push(publisher.watch()?)?;
+    }
+    Ok(watches)
+}
+
+impl<S: Shelf + Drop, H: Wait + Drop> Cell<S, H> {
     /// The configuration of the network. It waits for nobody.
     pub fn config(&self) -> &NetConfig
         ensures { result.now ≡ self.now.config }
     {
         &self.config
     }
+}
 
-    /// A cell with 1 to 64 seats, numbered from 0 on, for a network where nothing has happened, over a shelf.
-    /// An error says that memory is short.
-    pub fn open_on<R: Wait>(
-        rt: &R,
+impl<S: Shelf + Drop, H: Wait + Drop + Copy> Cell<S, H> {
+    /// A cell with 1 to 64 seats, numbered from 0 on, for a network where nothing has happened, over a shelf, and
+    /// up to 64 watches of what it decides. An error says that memory is short.
+    pub fn open_watched(
+        rt: &H,
         alloc: Global,
         config: NetConfig,
         seats: u64,
         shelf: S,
-    ) -> Result<(Cell<S>, Vec<Seat<S>>), AllocError>
+        watches: usize,
+    ) -> Result<(Cell<S, H>, Vec<Seat<S, H>>, Vec<Watch>), AllocError>
         requires some { 0 < seats }
-        requires few { seats ≤ 64 }
+        requires few { (seats ≤ 64) × (watches ≤ 64) }
         ensures cell { IfOk result (λ r. (r.0.config ≡ config) × (r.0.seats ≡ seats)) }
         ensures seats { IfOk result (λ r. length r.1.items ≡ seats) }
         ensures fresh { IfOk result (λ r. AllFresh r.0.cell config seats r.1.items) }
         ensures theirs { IfOk result (λ r. All (IsSeatOf r.0) r.1.items) }
+        ensures watches { IfOk result (λ r. r.2.items ≡ replicate watches []) }
     {
         let kept = config.try_copy(alloc)?;
         let mut all = Vec::with_capacity(alloc, seats as usize)?;
+        let publisher = Publisher::new(alloc, *rt, watches + 1)?;
+        let given = watches_of(alloc, &publisher, watches)?;
         let (lock, mut opener) = lock::new(alloc)?;
-        let desk = Desk::new(alloc, config, shelf, seats);
-        put_first::<Brand, S, R>(rt, &lock, &mut opener, desk);
+        let desk = Desk::new(alloc, config, shelf, seats, publisher);
+        put_first::<Brand, S, H, H>(rt, &lock, &mut opener, desk);
         for number in 0..seats {
             let pass = sit(&lock, &mut opener);
             all.push_reserved(Seat {
@@ -145,17 +172,41 @@ impl<S: Shelf + Drop> Cell<S> {
             config: kept,
             seats,
         };
-        Ok((cell, all))
+        Ok((cell, all, given))
     }
 
+    /// A cell as by [`Cell::open_watched`], with no watch.
+    pub fn open_on(
+        rt: &H,
+        alloc: Global,
+        config: NetConfig,
+        seats: u64,
+        shelf: S,
+    ) -> Result<(Cell<S, H>, Vec<Seat<S, H>>), AllocError>
+        requires some { 0 < seats }
+        requires few { seats ≤ 64 }
+        ensures cell { IfOk result (λ r. (r.0.config ≡ config) × (r.0.seats ≡ seats)) }
+        ensures seats { IfOk result (λ r. length r.1.items ≡ seats) }
+        ensures fresh { IfOk result (λ r. AllFresh r.0.cell config seats r.1.items) }
+        ensures theirs { IfOk result (λ r. All (IsSeatOf r.0) r.1.items) }
+    {
+        let (cell, all, _watches) = Cell::open_watched(rt, alloc, config, seats, shelf, 0)?;
+        Ok((cell, all))
+    }
+}
+
+impl<S: Shelf + Drop, H: Wait + Drop> Cell<S, H> {
     /// Applies an event under the lock, and answers what it gives out; the seat gains its receipt.
+    ///
+    /// What the journal decided is published, as far as there is memory; the rest goes with a later call. Beside
+    /// the lock it waits for watches that read.
     ///
     /// An error is [`CellRefusal::Closed`] where the cell was stopped, else the first refusal of the network
     /// that applies, or says that memory is short; the network and the receipts are as they were.
     pub fn apply<R: Wait>(
         &self,
         rt: &R,
-        seat: &mut Seat<S>,
+        seat: &mut Seat<S, H>,
         event: Event,
     ) -> Result<Vec<Out>, CellRefusal>
         requires { IsSeatOf self.now seat.old }
@@ -171,19 +222,20 @@ impl<S: Shelf + Drop> Cell<S> {
         let mut desk = take(rt, &self.lock, &mut seat.pass);
         match desk.enter(&mut seat.receipts, event) {
             Ok(entered) => {
-                add::<Brand, S, R>(rt, &self.lock, &mut seat.pass, desk, &entered.made);
+                let desk = desk.publish();
+                add::<Brand, S, H, R>(rt, &self.lock, &mut seat.pass, desk, &entered.made);
                 Ok(entered.answer)
             }
             Err(refusal) => {
                 let refused = Refused { asked, refusal };
-                deny::<Brand, S, R>(rt, &self.lock, &mut seat.pass, desk, &refused);
+                deny::<Brand, S, H, R>(rt, &self.lock, &mut seat.pass, desk, &refused);
                 Err(refusal)
             }
         }
     }
 
     /// Sets the stop mark, for good. It takes no memory.
-    pub fn stop<R: Wait>(&self, rt: &R, seat: &mut Seat<S>)
+    pub fn stop<R: Wait>(&self, rt: &R, seat: &mut Seat<S, H>)
         requires { IsSeatOf self.now seat.old }
         ensures seat { IsSeatOf self.now seat.new }
         ensures number { seat.new.me.number ≡ seat.old.me.number }
@@ -192,22 +244,41 @@ impl<S: Shelf + Drop> Cell<S> {
     {
         let mut desk = take(rt, &self.lock, &mut seat.pass);
         desk.stop();
-        mark::<Brand, S, R>(rt, &self.lock, &mut seat.pass, desk);
+        mark::<Brand, S, H, R>(rt, &self.lock, &mut seat.pass, desk);
     }
 
-    /// The journal and the seats, with their receipts, where all seats of the cell are there. It takes no
-    /// memory.
+    /// Publishes what the journal decided, as far as there is memory, and has a watch of this cell see all that is
+    /// published. It answers how many more decisions the journal has that the seat has now seen: none, where there
+    /// was memory. For a watch of another cell it may wait for ever.
+    pub fn tell<R: Wait>(&self, rt: &R, seat: &mut Seat<S, H>, watch: &mut Watch) -> usize
+        requires { IsSeatOf self.now seat.old }
+        ensures seat { IsSeatOf self.now seat.new }
+        ensures number { seat.new.me.number ≡ seat.old.me.number }
+        ensures seen { IsPrefix seat.old.me.seen seat.new.me.seen }
+        ensures same { IsSameButSeen seat.old seat.new }
+        ensures told { IsToldBut seat.new.me.seen result watch.new }
+        ensures grows { IsPrefix watch.old watch.new }
+    {
+        let desk = take(rt, &self.lock, &mut seat.pass).publish();
+        let missing = desk.tell(rt, watch);
+        leave::<Brand, S, H, R>(rt, &self.lock, &mut seat.pass, desk);
+        missing
+    }
+
+    /// The journal, the seats with their receipts, and what was published, where all seats of the cell are there.
+    /// Watches read nothing from now on. It takes no memory.
     ///
     /// An error hands the cell and the seats back, as they were.
-    pub fn close<R: Wait>(
+    pub fn close_watched<R: Wait>(
         self,
         rt: &R,
-        mut seats: Vec<Seat<S>>,
-    ) -> Result<(Journal<S>, Vec<Seat<S>>), SeatsMissing<S>>
+        mut seats: Vec<Seat<S, H>>,
+    ) -> Result<(Journal<S>, Vec<Seat<S, H>>, Box<Board>), SeatsMissing<S, H>>
         requires { All (IsSeatOf self) seats.items }
         ensures config { IfOk result (λ r. r.0.config ≡ self.config) }
         ensures ended { IfOk result (λ r. r.1.items ≡ map ended_sight seats.items) }
         ensures history { IfOk result (λ r. IsOneHistory self.seats r.0 r.1.items) }
+        ensures published { IfOk result (λ r. IsPrefix r.2.value (decisions_known r.0.entries)) }
         ensures back { IfErr result (λ m. (m.cell ≡ self) × (m.seats.items ≡ seats.items)) }
         ensures missing { IfErr result (λ m. (k : ℕ) × (k < self.seats) × ¬ HasNumber seats.items k) }
     {
@@ -221,18 +292,36 @@ impl<S: Shelf + Drop> Cell<S> {
             self.seats,
             seats.as_mut_slice(),
         );
-        Ok((desk.into_journal(), seats))
+        let (journal, board) = desk.into_parts();
+        Ok((journal, seats, board))
+    }
+
+    /// As [`Cell::close_watched`], without what was published.
+    pub fn close<R: Wait>(
+        self,
+        rt: &R,
+        seats: Vec<Seat<S, H>>,
+    ) -> Result<(Journal<S>, Vec<Seat<S, H>>), SeatsMissing<S, H>>
+        requires { All (IsSeatOf self) seats.items }
+        ensures config { IfOk result (λ r. r.0.config ≡ self.config) }
+        ensures ended { IfOk result (λ r. r.1.items ≡ map ended_sight seats.items) }
+        ensures history { IfOk result (λ r. IsOneHistory self.seats r.0 r.1.items) }
+        ensures back { IfErr result (λ m. (m.cell ≡ self) × (m.seats.items ≡ seats.items)) }
+        ensures missing { IfErr result (λ m. (k : ℕ) × (k < self.seats) × ¬ HasNumber seats.items k) }
+    {
+        let (journal, seats, _board) = self.close_watched(rt, seats)?;
+        Ok((journal, seats))
     }
 }
 
-impl<R: Wait + Copy> Cell<SharedHandle<R>> {
+impl<R: Wait + Drop + Copy> Cell<SharedHandle<R>, R> {
     /// A cell as by [`Cell::open_on`], over a store of its own.
     pub fn open(
         rt: &R,
         alloc: Global,
         config: NetConfig,
         seats: u64,
-    ) -> Result<(Cell<SharedHandle<R>>, Vec<Seat<SharedHandle<R>>>), AllocError>
+    ) -> Result<(Cell<SharedHandle<R>, R>, Vec<Seat<SharedHandle<R>, R>>), AllocError>
         requires some { 0 < seats }
         requires few { seats ≤ 64 }
         ensures cell { IfOk result (λ r. (r.0.config ≡ config) × (r.0.seats ≡ seats)) }

@@ -3,7 +3,9 @@ use Rattle.types.specs.declared.event.Event.{Event}
 use Rattle.cells.specs.Sounds.{IsWhy}
 use Rattle.crossbeam_queue.specs.Passes.{view}
 use Rattle.cells.specs.Receipts.{Applied}
-use Rattle.cells.proofs.Seats.{made_at, seat_added, seat_denied}
+use mathlib.Core.List.{IsPrefix}
+use Rattle.cells.specs.Sights.{Sight}
+use Rattle.cells.proofs.Seats.{made_at, seat_added, seat_denied, seen_added}
 use Rattle.cells.proofs.cell.Cell.apply.Goals as goal
 
 pub invariant_of-seat : goal.invariant_of-seat
@@ -20,3 +22,8 @@ invariant_of-seat-in-Err g c =
     let d = c.deny.ensures in
     seat_denied c.seat.inside.pass c.take-desk.new.pass c.deny.new.pass _ _ _ _ _ _ c.seat.invariant t.rule t.queue.2 d.queue.2 d.view c.in-Err.ensures.same.1
     (subst (λ (e : Event). IsWhy c.take-desk.result.log.config c.take-desk.result.log.entries c.take-desk.result.stopped e c.in-Err.refusal) (sym c.of-asked.ensures) c.in-Err.ensures.err.0)
+
+pub returns-in-Ok-clause-seen : goal.returns-in-Ok-clause-seen
+returns-in-Ok-clause-seen g c =
+    subst (λ (s : Sight). IsPrefix s.me.seen (view c.add.new.pass).seen) c.seat.view_is
+    (seen_added (view c.seat.inside.pass) c.take-desk.result (view c.take-desk.new.pass) (view c.add.new.pass) c.in-Ok.entered.made.value c.seat.invariant.free c.take-desk.ensures.rule c.add.ensures.view)

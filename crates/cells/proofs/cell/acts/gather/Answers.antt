@@ -38,3 +38,16 @@ returns-clause-gathered g c =
     let all : length xs ≤ c.loop-seat.seat-index = let t = c.loop-seat-test.false in let a = c.loop-seat.auto.seats in omega arith in
     gathered c.args.config.now c.args.count c.take-desk.result (view c.closer_from-keeper.result) (view c.take-desk.new.pass) xs c.loop-seat.seats c.loop-seat.seat-index c.take-desk.ensures.rule
     (ap (λ (v : Known). v.config) closer ∙ first.1) (ap (λ (v : Known). v.seats) closer ∙ first.2) i.2 all i.3
+
+pub end_seat-requires-clause-seat : goal.end_seat-requires-clause-seat
+end_seat-requires-clause-seat g c =
+    let i = c.loop-seat.invariant in
+    let old : List Sight = c.args.seats.now in
+    let n = c.loop-seat.seat-index in
+    let item : Sight = c.seat-item.result in
+    let xs : List Sight = set old 0 c.closer_from-keeper.new.seat in
+    let same : xs ≡ old = ap (set old 0) c.closer_from-keeper.ensures.same ∙ set-get_or old 0 c.index-seats-0.result in
+    let lt : n < length xs = let t = c.loop-seat-test.true in let a = c.loop-seat.auto.seats in omega arith in
+    let lt' : n < length old = subst (λ (l : List Sight). n < length l) same lt in
+    let mine = all_get_or _ old n item c.requires.seats lt' in
+    ap (λ (s : Sight). s.cell) (seam_read xs c.loop-seat.seats n item lt i.2 ∙ ap (λ (l : List Sight). get_or l n item) same) ∙ mine.0

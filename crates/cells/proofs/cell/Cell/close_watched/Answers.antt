@@ -7,7 +7,7 @@ use Rattle.cells.specs.Closing.{AllSeats, ended_sight, Gathered, IsOneHistory, H
 use Rattle.cells.specs.Sights.{CellSight, Sight}
 use Rattle.cells.proofs.Closing.{all_map, one_history, has_ended, written_back}
 use Rattle.cells.proofs.Seats.{seats_from_all}
-use Rattle.cells.proofs.cell.Cell.close.Goals as goal
+use Rattle.cells.proofs.cell.Cell.close_watched.Goals as goal
 
 pub returns-then-not-has_all-clause-missing : goal.returns-then-not-has_all-clause-missing
 returns-then-not-has_all-clause-missing g c =
@@ -36,4 +36,4 @@ returns-clause-history g c =
     let count : c.self.inside.seats ≡ c.args.self.seats = ap (λ (x : CellSight). x.seats) c.self.view_is in
     let here : (k : ℕ) → k < c.args.self.seats → HasNumber new k = λ k lt. subst (λ (l : List Sight). HasNumber l k) (sym is) (has_ended old k (subst (λ (l : List Sight). HasNumber l k) c.as_slice.ensures.value (c.if-not-has_all.ensures.all refl k (subst (λ (n : ℕ). k < n) (sym count) lt)))) in
     let gathered : Gathered c.args.self.config c.args.self.seats c.gather-desk.result new = subst (λ (x : CellSight). Gathered x.config x.seats c.gather-desk.result new) c.self.view_is e.gathered in
-    subst (λ (y : Log × List Sight). IsOneHistory c.args.self.seats y.0 y.1) (λ i. (sym c.into_journal.ensures i, sym back i)) (one_history c.args.self.config c.args.self.seats c.gather-desk.result new gathered here)
+    subst (λ (y : Log × List Sight). IsOneHistory c.args.self.seats y.0 y.1) (λ i. (sym c.into_parts-journal.ensures.log i, sym back i)) (one_history c.args.self.config c.args.self.seats c.gather-desk.result new gathered here)

@@ -2,7 +2,7 @@ use Rattle.std.proofs.Common.{◌≡◌, ◌≤◌, ℕ, length, Some, slice_get
 use Rattle.crossbeam_queue.specs.Passes.{view, IsPassOf}
 use Rattle.cells.specs.Rule.{opened, fresh}
 use Rattle.cells.specs.Sights.{Sight}
-use Rattle.cells.proofs.cell.Cell.open_on.Given as goal
+use Rattle.cells.proofs.cell.Cell.open_watched.Given as goal
 
 abbrev pub ghosts-put_first : goal.ghosts-put_first
 ghosts-put_first g a = record { next = opened a.desk.log.config a.desk.seats }

@@ -5,7 +5,7 @@ use Rattle.cells.specs.Rule.{seat_of, one_more, opened}
 use Rattle.cells.specs.Sights.{sight_of}
 use Rattle.cells.specs.Sounds.{IsSeat}
 use Rattle.cells.specs.Cells.{AllFresh}
-use Rattle.cells.proofs.cell.Cell.open_on.Goals as goal
+use Rattle.cells.proofs.cell.Cell.open_watched.Goals as goal
 
 pub invariant_of-push_reserved : goal.invariant_of-push_reserved
 invariant_of-push_reserved g c =
