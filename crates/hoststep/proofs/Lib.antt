@@ -8,3 +8,4 @@ mod Configured
 mod SlicesThen
 pub mod DecidedOnce
 pub mod DecisionLists
+pub mod Crossing

@@ -1,0 +1,157 @@
+-- The types of a journal may cross threads: each owns and shows only memory, and names no thread.
+use denote.RattleType.{RattleType}
+use denote.Param.Send.{IsSend, IsSync, sendable}
+use Rattle.std.proofs.Crossing.{crosses}
+use Rattle.types.proofs.state.Given.TheSendSync as given
+use Rattle.types.proofs.state.Votes.TheSendSync as votes
+use Rattle.types.proofs.bytes.Bytes.TheSendSync as bytes
+use Rattle.types.proofs.value.Value.TheSendSync as value
+use Rattle.types.proofs.node_id.NodeId.TheSendSync as name
+use Rattle.types.proofs.kind.Kind.TheSendSync as kind
+use Rattle.types.proofs.nested.SliceSet.TheLaws.TheKnot as slices
+use Rattle.compiled.proofs.set.CompiledSet.TheLaws.TheKnot as compiled
+use Rattle.configuration.proofs.budgets.Budgets.TheSendSync as budgets
+use Rattle.configuration.proofs.roster.Roster.TheSendSync as roster
+use Rattle.network.proofs.tallies.Tally.TheSendSync as tally
+use Rattle.envstore.specs.declared.shelf.Places.{Ghosts}
+use Rattle.types.specs.contracts.nested.Nested as Nested
+use Rattle.view.specs.contracts.region.Region as Region
+use Rattle.latest.specs.contracts.places.Places as Places
+use Rattle.latest.specs.contracts.table.Table as Table
+use Rattle.slot.specs.contracts.configured.Configured as Configured
+use Rattle.slot.specs.contracts.listener.Listener as Listener
+use Rattle.slot.specs.contracts.node.Node as Node
+use Rattle.slot.specs.contracts.filed.FiledOut as FiledOut
+use Rattle.envstore.specs.contracts.filed.Filed as Filed
+use Rattle.envstore.specs.contracts.archive.Archive as Archive
+use Rattle.configuration.specs.contracts.host.Host as Host
+use Rattle.configuration.specs.contracts.config.NetConfig as NetConfig
+use Rattle.network.specs.contracts.told.Told as Told
+use Rattle.network.specs.contracts.place.Place as Place
+use Rattle.network.specs.contracts.open_slot.OpenSlot as OpenSlot
+use Rattle.network.specs.contracts.network.Network as Network
+use Rattle.hoststep.specs.contracts.kept.KeptEvent as KeptEvent
+use Rattle.hoststep.specs.contracts.kept.Kept as Kept
+use Rattle.hoststep.specs.contracts.journal.Journal as Journal
+use Rattle.hoststep.specs.contracts.world.World as World
+
+pub nested_sync : IsSync (Nested.the_row)
+nested_sync = search (sendable, crosses, slices.sync-SliceSet) depth 40
+
+pub nested_send : IsSend (Nested.the_row)
+nested_send = search (sendable, crosses, slices.send-SliceSet) depth 40
+
+region_sync : IsSync (Region.the_row)
+region_sync = search (sendable, crosses, name.the_sync, compiled.sync-CompiledSet) depth 40
+
+region_send : IsSend (Region.the_row)
+region_send = search (sendable, crosses, name.the_send, compiled.send-CompiledSet) depth 40
+
+places_sync : IsSync (Places.the_row)
+places_sync = search (sendable, crosses, name.the_sync) depth 40
+
+places_send : IsSend (Places.the_row)
+places_send = search (sendable, crosses, name.the_send) depth 40
+
+filed_sync : IsSync (Filed.the_row)
+filed_sync = search (sendable, crosses) depth 40
+
+filed_send : IsSend (Filed.the_row)
+filed_send = search (sendable, crosses) depth 40
+
+table_sync : IsSync (Table.the_row)
+table_sync = search (sendable, crosses, places_sync, filed_sync) depth 40
+
+table_send : IsSend (Table.the_row)
+table_send = search (sendable, crosses, places_send, filed_send) depth 40
+
+configured_sync : IsSync (Configured.the_field.row)
+configured_sync = search (sendable, crosses, name.the_sync, nested_sync) depth 40
+
+configured_send : IsSend (Configured.the_field.row)
+configured_send = search (sendable, crosses, name.the_send, nested_send) depth 40
+
+listener_sync : IsSync (Listener.the_row)
+listener_sync = search (sendable, crosses, configured_sync, table_sync, region_sync) depth 40
+
+listener_send : IsSend (Listener.the_row)
+listener_send = search (sendable, crosses, configured_send, table_send, region_send) depth 40
+
+node_sync : IsSync (Node.the_row)
+node_sync = search (sendable, crosses, listener_sync, given.the_field_sync, votes.the_field_sync) depth 40
+
+node_send : IsSend (Node.the_row)
+node_send = search (sendable, crosses, listener_send, given.the_field_send, votes.the_field_send) depth 40
+
+host_sync : IsSync (Host.the_row)
+host_sync = search (sendable, crosses, name.the_sync, nested_sync) depth 40
+
+host_send : IsSend (Host.the_row)
+host_send = search (sendable, crosses, name.the_send, nested_send) depth 40
+
+pub config_sync : IsSync (NetConfig.the_row)
+config_sync = search (sendable, crosses, host_sync, name.the_sync, budgets.the_sync, roster.the_sync) depth 40
+
+pub config_send : IsSend (NetConfig.the_row)
+config_send = search (sendable, crosses, host_send, name.the_send, budgets.the_send, roster.the_send) depth 40
+
+told_sync : IsSync (Told.the_row)
+told_sync = search (sendable, crosses, filed_sync) depth 40
+
+told_send : IsSend (Told.the_row)
+told_send = search (sendable, crosses, filed_send) depth 40
+
+place_sync : IsSync (Place.the_row)
+place_sync = search (sendable, crosses, node_sync, told_sync, tally.the_sync) depth 40
+
+place_send : IsSend (Place.the_row)
+place_send = search (sendable, crosses, node_send, told_send, tally.the_send) depth 40
+
+slot_sync : IsSync (OpenSlot.the_row)
+slot_sync = search (sendable, crosses, place_sync) depth 40
+
+slot_send : IsSend (OpenSlot.the_row)
+slot_send = search (sendable, crosses, place_send) depth 40
+
+out_sync : IsSync (FiledOut.the_row)
+out_sync = search (sendable, crosses, value.the_sync) depth 40
+
+out_send : IsSend (FiledOut.the_row)
+out_send = search (sendable, crosses, value.the_send) depth 40
+
+event_sync : IsSync (KeptEvent.the_field.row)
+event_sync = search (sendable, crosses, name.the_sync, bytes.the_sync, nested_sync, kind.the_field_sync) depth 40
+
+event_send : IsSend (KeptEvent.the_field.row)
+event_send = search (sendable, crosses, name.the_send, bytes.the_send, nested_send, kind.the_field_send) depth 40
+
+kept_sync : IsSync (Kept.the_row)
+kept_sync = search (sendable, crosses, event_sync, out_sync) depth 40
+
+kept_send : IsSend (Kept.the_row)
+kept_send = search (sendable, crosses, event_send, out_send) depth 40
+
+module _ (S P : RattleType) (g : Ghosts S.Denot P.Denot) where
+  archive_sync : IsSync S → IsSync P → IsSync (Archive.the_row S P g)
+  archive_sync s p = search (sendable, crosses) depth 40
+
+  archive_send : IsSend S → IsSend P → IsSend (Archive.the_row S P g)
+  archive_send s p = search (sendable, crosses) depth 40
+
+  network_sync : IsSync S → IsSync P → IsSync (Network.the_row S P g)
+  network_sync s p = let a = archive_sync s p in search (sendable, crosses, config_sync, slot_sync) depth 40
+
+  network_send : IsSend S → IsSend P → IsSend (Network.the_row S P g)
+  network_send s p = let a = archive_send s p in search (sendable, crosses, config_send, slot_send) depth 40
+
+  pub journal_sync : IsSync S → IsSync P → IsSync (Journal.the_row S P g)
+  journal_sync s p = let a = network_sync s p in search (sendable, crosses, kept_sync) depth 40
+
+  pub journal_send : IsSend S → IsSend P → IsSend (Journal.the_row S P g)
+  journal_send s p = let a = network_send s p in search (sendable, crosses, kept_send) depth 40
+
+  pub world_sync : IsSync S → IsSync P → IsSync (World.the_row S P g)
+  world_sync s p = let a = journal_sync s p in search (sendable, crosses) depth 40
+
+  pub world_send : IsSend S → IsSend P → IsSend (World.the_row S P g)
+  world_send s p = let a = journal_send s p in search (sendable, crosses) depth 40
