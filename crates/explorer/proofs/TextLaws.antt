@@ -16,7 +16,7 @@ pub next-line : (members : Listed) (k : ℕ) (before now all : Bytes) → before
 next-line members k before now all h e =
     let more : suc k ≡ k + 1 = omega arith in
     subst (λ n. now ++ lines_from (k + 1) (drop n members) ≡ all) more
-        (ap (λ t. t ++ lines_from (k + 1) (drop (suc k) members)) e
-        ∙ append_assoc before (line_at k (slice_get members k)) (lines_from (k + 1) (drop (suc k) members))
-        ∙ sym (ap (λ t. before ++ t) (split-at members k k))
-        ∙ h)
+    (ap (λ t. t ++ lines_from (k + 1) (drop (suc k) members)) e
+    ∙ append_assoc before (line_at k (slice_get members k)) (lines_from (k + 1) (drop (suc k) members))
+    ∙ sym (ap (λ t. before ++ t) (split-at members k k))
+    ∙ h)

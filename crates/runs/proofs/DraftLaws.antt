@@ -29,8 +29,8 @@ differ-more (x ∷ xs) u d n =
     let h = both (not (list_any (λ w. w == x) xs)) (all_differ xs) d in
     let parts = neither (x == u) (list_any (λ w. w == u) xs) n in
     join (not (list_any (λ w. w == x) (xs ++ u ∷ []))) (all_differ (xs ++ u ∷ []))
-        (ap not (none-more (λ w. w == x) xs u (not_is (list_any (λ w. w == x) xs) h.0) (swapped x u parts.0)))
-        (differ-more xs u h.1 parts.1)
+    (ap not (none-more (λ w. w == x) xs u (not_is (list_any (λ w. w == x) xs) h.0) (swapped x u parts.0)))
+    (differ-more xs u h.1 parts.1)
 
 names-more : (nodes : List Host) (h : Host) → names_of (nodes ++ h ∷ []) ≡ names_of nodes ++ h.name ∷ []
 names-more [] h = refl
@@ -50,11 +50,12 @@ length-more (x ∷ nodes) h = omega (arith, length-more nodes h)
 pub hosted-sound : (d : Drafted) (h : Host) (now : List Host) → IsSound d → length d.nodes < 256 → list_any (λ host. host.name == h.name) d.nodes ≡ false
     → now ≡ d.nodes ++ h ∷ [] → IsSound (record d { nodes = now })
 hosted-sound d h now sound few other e = record {
-    differ = subst (λ nodes. all_differ (names_of nodes) ≡ true) (sym e)
-        (subst (λ us. all_differ us ≡ true) (sym (names-more d.nodes h))
-            (differ-more (names_of d.nodes) h.name sound.differ (no-name d.nodes h.name other)));
-    few_nodes = subst (λ nodes. length nodes ≤ 256) (sym e) (omega (arith, few, length-more d.nodes h));
-    allowed = sound.allowed }
+  differ = subst (λ nodes. all_differ (names_of nodes) ≡ true) (sym e)
+      (subst (λ us. all_differ us ≡ true) (sym (names-more d.nodes h))
+      (differ-more (names_of d.nodes) h.name sound.differ (no-name d.nodes h.name other)));
+  few_nodes = subst (λ nodes. length nodes ≤ 256) (sym e) (omega (arith, few, length-more d.nodes h));
+  allowed = sound.allowed;
+}
 
 -- the same of a list that may have been too short of room
 pub hosted-or-same : (d : Drafted) (h : Host) (u : ℕ) (q : Slices) (seen now : List Host) (ok : Bool) → IsSound d → length d.nodes < 256
@@ -62,5 +63,5 @@ pub hosted-or-same : (d : Drafted) (h : Host) (u : ℕ) (q : Slices) (seen now :
     → now ≡ (if ok then d.nodes ++ h ∷ [] else d.nodes) → IsSound (record d { nodes = now })
 hosted-or-same d h u q seen now true sound few is same other e =
     hosted-sound d h now sound few (subst (λ x. list_any (λ host. host.name == x.name) d.nodes ≡ false) (sym is)
-        (subst (λ nodes. list_any (λ host. host.name == u) nodes ≡ false) same other)) e
+    (subst (λ nodes. list_any (λ host. host.name == u) nodes ≡ false) same other)) e
 hosted-or-same d h u q seen now false sound few is same other e = subst (λ nodes. IsSound (record d { nodes = nodes })) (sym e) sound

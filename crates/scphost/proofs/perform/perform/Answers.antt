@@ -5,14 +5,14 @@ use Rattle.scphost.proofs.perform.perform.Goals as goal
 pub returns-in-Closure-clause-performed : goal.returns-in-Closure-clause-performed
 returns-in-Closure-clause-performed g c =
     subst (λ x. IsPerformed x (g.R.Read.remaining c.args.first.now) (g.T.Read.remaining c.args.second.now) (g.W.Write.contents c.args.out.now)
-        (g.W.Write.contents c.perform_closure.new.out) c.perform_closure.result) (sym c.in-Closure.is) c.perform_closure.ensures
+    (g.W.Write.contents c.perform_closure.new.out) c.perform_closure.result) (sym c.in-Closure.is) c.perform_closure.ensures
 
 pub returns-in-Compare-clause-performed : goal.returns-in-Compare-clause-performed
 returns-in-Compare-clause-performed g c =
     subst (λ x. IsPerformed x (g.R.Read.remaining c.args.first.now) (g.T.Read.remaining c.args.second.now) (g.W.Write.contents c.args.out.now)
-        (g.W.Write.contents c.perform_compare.new.out) c.perform_compare.result) (sym c.in-Compare.is) c.perform_compare.ensures
+    (g.W.Write.contents c.perform_compare.new.out) c.perform_compare.result) (sym c.in-Compare.is) c.perform_compare.ensures
 
 pub returns-in-Crowd-clause-performed : goal.returns-in-Crowd-clause-performed
 returns-in-Crowd-clause-performed g c =
     subst (λ x. IsPerformed x (g.R.Read.remaining c.args.first.now) (g.T.Read.remaining c.args.second.now) (g.W.Write.contents c.args.out.now)
-        (g.W.Write.contents c.perform_crowd.new.out) c.perform_crowd.result) (sym c.in-Crowd.is) c.perform_crowd.ensures
+    (g.W.Write.contents c.perform_crowd.new.out) c.perform_crowd.result) (sym c.in-Crowd.is) c.perform_crowd.ensures
