@@ -3,3 +3,5 @@ pub mod CastLaws
 pub mod OutLaws
 pub mod Judging
 pub mod ToldLaws
+pub mod ManyLaws
+pub mod Crossing

@@ -52,7 +52,12 @@ second-told (Some l) hosts run same entered one ones i v r x = subst (λ k. IsVe
 second-told None hosts run same entered one ones i v r x = subst (λ k. IsVerdict one k ones run i v r) same (second-without one ones [] run i v r x)
 
 -- a verdict on the journals is one on the histories
-pub told-verdict : (h k : History) (ls ms : List Log) (g i v : ℕ) (r : code.Verdict) → IsToldBy h ls → IsToldBy k ms → IsVerdictOn (log_at ls g) (log_at ms g) i v r → IsVerdictBetween h k g i v r
-told-verdict h k ls ms g i v r one other x =
+pub told_verdict : (h k : History) (ls ms : List Log) (g i v : ℕ) (r : code.Verdict) → IsToldBy h ls → IsToldBy k ms → IsVerdictOn (log_at ls g) (log_at ms g) i v r → IsVerdictBetween h k g i v r
+told_verdict h k ls ms g i v r one other x =
     second-told (log_at ms g) (hosts_of k.configs g) (entries reading k g) (hosts-told k ms g other) (other.entries g) (hosts_of h.configs g) (entries reading h g) i v (meant r)
     (first-told (log_at ls g) (hosts_of h.configs g) (entries reading h g) (hosts-told h ls g one) (one.entries g) (hosts_in (log_at ms g)) (entries_in (log_at ms g)) i v (meant r) x)
+
+-- a world that lacks the network does not host the node
+pub told_nowhere : (h k : History) (ls ms : List Log) (g i v : ℕ) → IsToldBy h ls → IsToldBy k ms → log_at ls g ≡ None → IsVerdictBetween h k g i v (code.TheVariants.CastDiffers v)
+told_nowhere h k ls ms g i v one other lost =
+    told_verdict h k ls ms g i v (code.TheVariants.CastDiffers v) one other (subst (λ o. IsVerdictOn o (log_at ms g) i v (code.TheVariants.CastDiffers v)) (sym lost) (inl (refl, refl)))

@@ -38,26 +38,11 @@ pub fn compare<S: Shelf, T: Shelf>(
     ensures isolated { AreIsolated (log_at one.now net) (log_at other.now net) slot node.now }
     ensures told { (h k : History) → IsToldBy h one.now → IsToldBy k other.now → IfOk result (IsVerdictBetween h k net slot node.now) }
 {
-    let verdict = compare_worlds(alloc, one, other, net, slot, node)?;
+    let Some(journal) = one.journal(net) else {
+        return Ok(Verdict::CastDiffers(*node));
+    };
+    let verdict = compare_journal(alloc, journal, other.journal(net), slot, node)?;
     Ok(verdict)
-}
-
-/// The same, by the journals alone.
-fn compare_worlds<S: Shelf, T: Shelf>(
-    alloc: Global,
-    one: &World<S>,
-    other: &World<T>,
-    net: u32,
-    slot: u64,
-    node: &NodeId,
-) -> Result<Verdict, AllocError>
-    ensures verdict { IfOk result (λ r. IsVerdictOn (log_at one.now net) (log_at other.now net) slot node.now r) }
-    ensures isolated { AreIsolated (log_at one.now net) (log_at other.now net) slot node.now }
-{
-    match one.journal(net) {
-        None => Ok(Verdict::CastDiffers(*node)),
-        Some(journal) => compare_journal(alloc, journal, other.journal(net), slot, node),
-    }
 }
 
 /// The same for the journal of the network in the first world, and that of the second one if it has it.
@@ -88,6 +73,21 @@ fn compare_journal<S: Shelf, T: Shelf>(
     }
     let names = hosted_members(alloc, one.config().hosts(), &members)?;
     Ok(Verdict::Same(outs_of_each(alloc, one, slot, &names)?))
+}
+
+/// A law: the same for what two worlds have of a network.
+pub(crate) fn are_isolated_at<S: Shelf, T: Shelf>(
+    one: &World<S>,
+    other: &World<T>,
+    net: u32,
+    slot: u64,
+    node: &NodeId,
+)
+    ensures { AreIsolated (log_at one.now net) (log_at other.now net) slot node.now }
+{
+    if let Some(journal) = one.journal(net) {
+        are_isolated(journal, other.journal(net), slot, node);
+    }
 }
 
 /// A law: two journals are runs, so what concerns the members decides what they give out. A world that lacks

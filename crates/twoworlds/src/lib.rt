@@ -3,13 +3,14 @@
 //!
 //! Two worlds in which the same concerns a node give out the same for each hosted member: that is the
 //! isolation of hosted validators, and each comparison carries it in its contract, whatever it answers. So
-//! [`compare`] reads the outs of the first world alone. [`kept_entry`] finds the entry of a journal at
-//! which two worlds part.
+//! [`compare`] reads the outs of the first world alone. [`compare_all`] answers many questions about the same
+//! two worlds, in threads. [`kept_entry`] finds the entry of a journal at which two worlds part.
 #![tactic(auto)]
 
 mod cast;
 mod comparing;
 mod inputs;
+mod many;
 mod outs;
 mod same_steps;
 mod steps;
@@ -17,4 +18,5 @@ mod verdict;
 
 pub use comparing::compare;
 pub use inputs::kept_entry;
+pub use many::compare_all;
 pub use verdict::{MemberOuts, OutsOfMembers, Verdict};

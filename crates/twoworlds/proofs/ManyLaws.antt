@@ -1,0 +1,30 @@
+-- Many questions about the same two worlds: from the answer of each to the list of verdicts.
+use Rattle.std.proofs.Common.{◌≡◌, ℕ, List, [], ◌∷◌, map, Result, Ok, Err, MatchResult, IfOk, subst, Vec, Global, sym}
+use Rattle.std.specs.List.{AllZip}
+use Rattle.protocol.specs.Hosts.{History}
+use Rattle.hoststep.specs.Logs.{Log}
+use Rattle.hoststep.specs.Worlds.{IsToldBy}
+use Rattle.twoworlds.proofs.ToldLaws.{told_verdict}
+use Rattle.twoworlds.specs.Questions.{AreVerdictsBetween, AreVerdictsOn}
+use Rattle.twoworlds.specs.declared.verdict.Verdict.{Verdict}
+
+-- the answers to a list, where none of them is an error
+zip_ok : {X Y : Type 0} (E : Type 0) (R : X → Y → Type 0) (xs : List X) (ys : List Y) → AllZip (λ x (r : Result Y E). IfOk r (R x)) xs (map Ok ys) → AllZip R xs ys
+zip_ok E R [] [] h = tt
+zip_ok E R [] (y ∷ ys) h = absurd h
+zip_ok E R (x ∷ xs) [] h = absurd h
+zip_ok E R (x ∷ xs) (y ∷ ys) h = (h.0, zip_ok E R xs ys h.1)
+
+pub all_ok : {X Y E : Type 0} (Q : E → Type 0) (R : X → Y → Type 0) (xs : List X) (rs : List (Result Y E)) (r : Result (Vec Y Global) E)
+    → MatchResult r (λ v. (ys : List Y) × (rs ≡ map Ok ys) × (v.items ≡ ys)) Q → AllZip (λ x (y : Result Y E). IfOk y (R x)) xs rs → IfOk r (λ v. AllZip R xs v.items)
+all_ok {X} {Y} {E} Q R xs rs (Ok v) h z =
+    subst (λ (l : List Y). AllZip R xs l) (sym h.2) (zip_ok E R xs h.0 (subst (λ (l : List (Result Y E)). AllZip (λ x (y : Result Y E). IfOk y (R x)) xs l) h.1 z))
+all_ok Q R xs rs (Err e) h z = tt
+
+-- verdicts on the journals are verdicts on the histories
+pub told_verdicts : (h k : History) (ls ms : List Log) → IsToldBy h ls → IsToldBy k ms → (questions : List (ℕ × ℕ × ℕ)) (verdicts : List Verdict)
+    → AreVerdictsOn ls ms questions verdicts → AreVerdictsBetween h k questions verdicts
+told_verdicts h k ls ms one other [] [] x = tt
+told_verdicts h k ls ms one other [] (r ∷ rs) x = absurd x
+told_verdicts h k ls ms one other (q ∷ qs) [] x = absurd x
+told_verdicts h k ls ms one other (q ∷ qs) (r ∷ rs) x = (told_verdict h k ls ms q.0 q.1 q.2 r one other x.0, told_verdicts h k ls ms one other qs rs x.1)

@@ -1,0 +1,88 @@
+//! Many comparisons of the same two worlds, in threads.
+
+ghost use Rattle.std.specs.Prelude.{IfOk};
+ghost use Rattle.protocol.specs.Hosts.{History};
+ghost use Rattle.hoststep.specs.Worlds.{IsToldBy, log_at};
+ghost use Rattle.twoworlds.specs.Meanings.{IsVerdictOn};
+ghost use Rattle.twoworlds.specs.Questions.{AreAllIsolated, AreVerdictsBetween, AreVerdictsOn};
+
+use crate::comparing::{are_isolated_at, compare};
+use crate::verdict::Verdict;
+use envstore::Shelf;
+use hoststep::World;
+use rayon::prelude::*;
+use std::alloc::{AllocError, Global};
+use std::thread::Threads;
+use types::NodeId;
+
+/// Answers many questions about the same two worlds, each of which names a network, a slot and a node: of each
+/// question the verdict of [`compare`](crate::compare), in the order of the questions. A question may stand
+/// there more than once, and is then answered as often (this host's profile).
+///
+/// The questions are shared among threads, two pieces for each processor and 64 at most, each piece of one
+/// question or more; the threads have ended when the call returns. Each question reads the two journals of its
+/// own network alone, as `compare` does, and all of them share the worlds, which stay as they are.
+///
+/// Whatever is answered, want of memory included, each question is isolated as by `compare`: where both worlds
+/// host the same members of its closure with the same slices, and the steps that concern the members are the
+/// same in order, each hosted member gave out the same in both. Where the journals of the worlds are those of
+/// two histories of hosts, the verdicts are those on the histories.
+///
+/// An error says that memory was short, for one of the questions or for the list of verdicts; then no
+/// question has an answer.
+#[tactic(auto, using(crate::proofs::ManyLaws::told_verdicts))]
+pub fn compare_all<S: Shelf + Sync, T: Shelf + Sync>(
+    rt: &(impl Threads + Sync),
+    alloc: Global,
+    one: &World<S>,
+    other: &World<T>,
+    questions: &[(u32, u64, NodeId)],
+) -> Result<Vec<Verdict>, AllocError>
+where
+    S::Place: Sync,
+    T::Place: Sync,
+    ensures verdicts { IfOk result (λ all. AreVerdictsOn one.now other.now questions.now all.items) }
+    ensures isolated { AreAllIsolated one.now other.now questions.now }
+    ensures told { (h k : History) → IsToldBy h one.now → IsToldBy k other.now → IfOk result (λ all. AreVerdictsBetween h k questions.now all.items) }
+{
+    are_all_isolated(one, other, questions);
+    let verdicts = verdicts_of(rt, alloc, one, other, questions)?;
+    Ok(verdicts)
+}
+
+/// The verdicts alone.
+fn verdicts_of<S: Shelf + Sync, T: Shelf + Sync>(
+    rt: &(impl Threads + Sync),
+    alloc: Global,
+    one: &World<S>,
+    other: &World<T>,
+    questions: &[(u32, u64, NodeId)],
+) -> Result<Vec<Verdict>, AllocError>
+where
+    S::Place: Sync,
+    T::Place: Sync,
+    ensures { IfOk result (λ all. AreVerdictsOn one.now other.now questions.now all.items) }
+{
+    questions
+        .par_iter()
+        .with_min_len(1)
+        .map(
+            |q: &(u32, u64, NodeId)| -> Result<Verdict, AllocError>
+                ensures { IfOk result (λ r. IsVerdictOn (log_at one.entry.now q.now.0) (log_at other.entry.now q.now.0) q.now.1 q.now.2 r) }
+            { compare(alloc, one, other, q.0, q.1, &q.2) },
+        )
+        .collect::<Result<Vec<Verdict>, AllocError>>(rt, alloc)?
+}
+
+/// A law: each question is isolated.
+fn are_all_isolated<S: Shelf, T: Shelf>(
+    one: &World<S>,
+    other: &World<T>,
+    questions: &[(u32, u64, NodeId)],
+)
+    ensures { AreAllIsolated one.now other.now questions.now }
+{
+    for question in questions {
+        are_isolated_at(one, other, question.0, question.1, &question.2);
+    }
+}
