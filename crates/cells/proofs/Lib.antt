@@ -3,3 +3,4 @@ pub mod Seats
 pub mod Counts
 pub mod Closing
 pub mod Published
+pub mod Crossing
