@@ -14,6 +14,8 @@ mod many;
 mod outs;
 mod same_steps;
 mod steps;
+#[cfg(test)]
+mod tests;
 mod verdict;
 
 pub use comparing::compare;
