@@ -1,0 +1,46 @@
+-- The types of a pool may cross threads: each owns and shows only memory, and names no thread.
+use denote.RattleType.{RattleType}
+use denote.Param.Send.{IsSend, IsSync, sendable}
+use Rattle.std.proofs.Crossing.{crosses}
+use Rattle.std.specs.declared.sync.Wait.{Ghosts as WaitGhosts}
+use Rattle.types.proofs.bytes.Bytes.TheSendSync as bytes
+use Rattle.types.proofs.kind.Kind.TheSendSync as kind
+use Rattle.types.proofs.node_id.NodeId.TheSendSync as name
+use Rattle.types.specs.contracts.event.Event as Event
+use Rattle.envstore.specs.declared.shelf.Places.{Ghosts}
+use Rattle.envstore.specs.declared.shelf.Shelf.{Ghosts as ShelfGhosts}
+use Rattle.hoststep.proofs.Crossing.{nested_send, nested_sync}
+use Rattle.atomic_table.proofs.shared.Seat.TheSendSync as pass
+use Rattle.crossbeam_queue.proofs.array_queue.Slotted.TheSendSync as slotted
+use Rattle.work.specs.contracts.rule.Job as Job
+use Rattle.work.specs.contracts.line.Queue as Queue
+use Rattle.cells.proofs.Crossing.{seat_send, cell_sync}
+use Rattle.workers.specs.contracts.shared.Shared as Shared
+use Rattle.workers.specs.contracts.walk.Walk as Walk
+use Rattle.workers.specs.contracts.worker.Worker as Worker
+
+event_send : IsSend (Event.the_field.row)
+event_send = search (sendable, crosses, name.the_send, bytes.the_send, nested_send, kind.the_field_send) depth 40
+
+event_sync : IsSync (Event.the_field.row)
+event_sync = search (sendable, crosses, name.the_sync, bytes.the_sync, nested_sync, kind.the_field_sync) depth 40
+
+job_send : IsSend (Job.the_row)
+job_send = search (sendable, crosses, event_send) depth 40
+
+job_sync : IsSync (Job.the_row)
+job_sync = search (sendable, crosses, event_sync) depth 40
+
+queue_sync : IsSync (Queue.the_row)
+queue_sync = search (sendable, crosses, slotted.the_field_sync, job_send, job_sync) depth 40
+
+-- S is a shelf, P its places, and H the handle by which what was decided is published
+module _ (S H P : RattleType) (g : Ghosts S.Denot P.Denot) where
+  walk_send : IsSend S → IsSend H → IsSend P → IsSend (Walk.the_row S H P g)
+  walk_send s h p = let a = seat_send S H P g s h p in search (sendable, crosses) depth 40
+
+  pub worker_send : IsSend S → IsSend H → IsSend P → IsSend (Worker.the_row S H P g)
+  worker_send s h p = let a = walk_send s h p in search (sendable, crosses, pass.the_send, job_send) depth 40
+
+  pub shared_sync : (k : ShelfGhosts S.Denot P.Denot) (w : WaitGhosts H.Denot) → IsSend S → IsSend H → IsSend P → IsSync (Shared.the_row S H P k g w)
+  shared_sync k w s h p = let a = cell_sync S H P g k w s h p in search (sendable, crosses, queue_sync) depth 40

@@ -1,0 +1,232 @@
+-- Seats dealt, and given back.
+use Rattle.std.proofs.Common.{◌≡◌, ◌≤◌, ◌<◌, ◌+◌, ℕ, zero, suc, List, [], ◌∷◌, ◌++◌, length, length-append, get_or, slice_set, take, refl, sym, ap, ◌∙◌, subst, arith, Option, Some, None, MatchOption, vec_capacity}
+use Rattle.std.specs.Option.{option_to_list}
+use Rattle.crossbeam_queue.specs.Passes.{Pass, view}
+use Rattle.work.specs.declared.rule.Job.{Job}
+use Rattle.work.specs.declared.rule.Hand.{Hand}
+use Rattle.work.specs.declared.line.Queue.{Queue}
+use Rattle.work.specs.Hands.{weigh}
+use Rattle.work.specs.Queues.{put_by, taken_by, parts_by, parts}
+use Rattle.work.proofs.Balances.{weigh-append}
+use Rattle.cells.specs.Sights.{Sight}
+use Rattle.workers.specs.declared.deal.Bench.{Bench}
+use Rattle.workers.specs.declared.deal.Room.{Room}
+use Rattle.workers.specs.declared.walk.Walk.{Walk}
+use Rattle.workers.specs.declared.worker.Worker.{Worker}
+use Rattle.workers.specs.Sums.{AllPassing, IsPassing, parts_of, put, taken}
+use Rattle.workers.specs.Benches.{AllBlank, AllFresh, AllHave, AllHold, AllRoomy, IsDealt, IsDealtAll, IsDealtSeat, IsGiven, IsGivenSeat, IsSplit, at_work, on_benches}
+use Rattle.workers.proofs.Sums.{weigh-last}
+use Rattle.workers.proofs.Pools.{parts_weigh, put_weighs, taken_weighs}
+
+-- dealing a seat of each bench
+
+-- of the first k benches a seat was dealt
+abbrev pub IsDealtTo : {S H P : Type 0} → ℕ → List (Bench S H P) → List (Walk S H P) → List (Bench S H P) → Type 0
+IsDealtTo zero xs ws ys = (ws ≡ []) × (ys ≡ xs)
+IsDealtTo (suc k) [] ws ys = ⊥
+IsDealtTo (suc k) (a ∷ xs) [] ys = ⊥
+IsDealtTo (suc k) (a ∷ xs) (w ∷ ws) [] = ⊥
+IsDealtTo (suc k) (a ∷ xs) (w ∷ ws) (b ∷ ys) = IsDealtSeat a w b × IsDealtTo k xs ws ys
+
+dealt_to_suc : {S H P : Type 0} → (k : ℕ) (xs : List (Bench S H P)) (ws : List (Walk S H P)) (ys : List (Bench S H P)) (a b : (Bench S H P)) (w : (Walk S H P)) → IsDealtTo k xs ws ys → k < length ys → a ≡ get_or ys k a → IsDealtSeat a w b → IsDealtTo (suc k) xs (ws ++ w ∷ []) (slice_set ys k b)
+dealt_to_suc zero xs ws [] a b w all lt at one = absurd (omega arith)
+dealt_to_suc zero xs ws (y ∷ ys) a b w all lt at one =
+    subst (λ (z : List (Walk _ _ _) × List (Bench _ _ _)). IsDealtTo 1 z.1 (z.0 ++ w ∷ []) (b ∷ ys)) (λ i. (sym all.0 i, all.1 i))
+    (subst (λ (z : (Bench _ _ _)). IsDealtSeat z w b) at one, (refl, refl))
+dealt_to_suc (suc k) [] ws ys a b w all lt at one = absurd all
+dealt_to_suc (suc k) (x ∷ xs) [] ys a b w all lt at one = absurd all
+dealt_to_suc (suc k) (x ∷ xs) (v ∷ ws) [] a b w all lt at one = absurd all
+dealt_to_suc (suc k) (x ∷ xs) (v ∷ ws) (y ∷ ys) a b w all lt at one = (all.0, dealt_to_suc k xs ws ys a b w all.1 (omega arith) at one)
+
+pub dealt_to_more : {S H P : Type 0} → (k : ℕ) (xs : List (Bench S H P)) (ws : List (Walk S H P)) (ys : List (Bench S H P)) (a b : (Bench S H P)) (w : (Walk S H P)) (vs : List (Walk S H P)) → IsDealtTo k xs ws ys → k < length ys → a ≡ get_or ys k a → vs ≡ ws ++ w ∷ [] → IsDealtSeat a w b → IsDealtTo (k + 1) xs vs (slice_set ys k b)
+dealt_to_more k xs ws ys a b w vs all lt at is one =
+    let more : suc k ≡ k + 1 = omega arith in
+    subst (λ (z : ℕ × List (Walk _ _ _)). IsDealtTo z.0 xs z.1 (slice_set ys k b)) (λ i. (more i, sym is i)) (dealt_to_suc k xs ws ys a b w all lt at one)
+
+pub dealt_to_end : {S H P : Type 0} → (k : ℕ) (xs : List (Bench S H P)) (ws : List (Walk S H P)) (ys : List (Bench S H P)) → IsDealtTo k xs ws ys → length ys ≤ k → IsDealt xs ws ys
+dealt_to_end zero xs ws [] all le = subst (λ (z : List (Walk _ _ _) × List (Bench _ _ _)). IsDealt z.1 z.0 []) (λ i. (sym all.0 i, all.1 i)) tt
+dealt_to_end zero xs ws (y ∷ ys) all le = absurd (omega arith)
+dealt_to_end (suc k) [] ws ys all le = absurd all
+dealt_to_end (suc k) (x ∷ xs) [] ys all le = absurd all
+dealt_to_end (suc k) (x ∷ xs) (w ∷ ws) [] all le = absurd all
+dealt_to_end (suc k) (x ∷ xs) (w ∷ ws) (y ∷ ys) all le = (all.0, dealt_to_end k xs ws ys all.1 (omega arith))
+
+pub dealt_to_at : {S H P : Type 0} → (k : ℕ) (xs : List (Bench S H P)) (ws : List (Walk S H P)) (ys : List (Bench S H P)) (a : (Bench S H P)) → IsDealtTo k xs ws ys → k < length ys → a ≡ get_or ys k a → AllHave 1 xs → 0 < length a.seats.items
+dealt_to_at zero xs ws [] a all lt at have = absurd (omega arith)
+dealt_to_at zero xs ws (y ∷ ys) a all lt at have =
+    let h : AllHave 1 (y ∷ ys) = subst (AllHave 1) (sym all.1) have in
+    subst (λ (z : (Bench _ _ _)). 0 < length z.seats.items) (sym at) (let m = h.0 in omega arith)
+dealt_to_at (suc k) [] ws ys a all lt at have = absurd all
+dealt_to_at (suc k) (x ∷ xs) [] ys a all lt at have = absurd all
+dealt_to_at (suc k) (x ∷ xs) (w ∷ ws) [] a all lt at have = absurd all
+dealt_to_at (suc k) (x ∷ xs) (w ∷ ws) (y ∷ ys) a all lt at have = dealt_to_at k xs ws ys a all.1 (omega arith) at have.1
+
+pub dealt_len : {S H P : Type 0} → (xs : List (Bench S H P)) (ws : List (Walk S H P)) (ys : List (Bench S H P)) → IsDealt xs ws ys → (length ys ≡ length xs) × (length ws ≡ length xs)
+dealt_len [] [] [] all = (refl, refl)
+dealt_len [] [] (b ∷ ys) all = absurd all
+dealt_len [] (w ∷ ws) ys all = absurd all
+dealt_len (a ∷ xs) [] ys all = absurd all
+dealt_len (a ∷ xs) (w ∷ ws) [] all = absurd all
+dealt_len (a ∷ xs) (w ∷ ws) (b ∷ ys) all = let r = dealt_len xs ws ys all.1 in (ap suc r.0, ap suc r.1)
+
+pub dealt_have : {S H P : Type 0} → (n : ℕ) (xs : List (Bench S H P)) (ws : List (Walk S H P)) (ys : List (Bench S H P)) → IsDealt xs ws ys → AllHave (suc n) xs → AllHave n ys
+dealt_have n [] [] [] all have = tt
+dealt_have n [] [] (b ∷ ys) all have = absurd all
+dealt_have n [] (w ∷ ws) ys all have = absurd all
+dealt_have n (a ∷ xs) [] ys all have = absurd all
+dealt_have n (a ∷ xs) (w ∷ ws) [] all have = absurd all
+dealt_have n (a ∷ xs) (w ∷ ws) (b ∷ ys) all have = (
+  (let l : length a.seats.items ≡ length (b.seats.items ++ w.seat ∷ []) = ap (λ (l : List Sight). length l) all.0.seats in let m = length-append b.seats.items (w.seat ∷ []) in let h = have.0 in omega arith),
+  dealt_have n xs ws ys all.1 have.1,
+)
+
+pub have_less : {S H P : Type 0} → (m n : ℕ) (bs : List (Bench S H P)) → m ≤ n → AllHave n bs → AllHave m bs
+have_less m n [] le all = tt
+have_less m n (b ∷ bs) le all = ((let a = all.0 in omega arith), have_less m n bs le all.1)
+
+pub dealt_sum : {S H P : Type 0} → (f : Sight → ℕ) (xs : List (Bench S H P)) (ws : List (Walk S H P)) (ys : List (Bench S H P)) → IsDealt xs ws ys → on_benches f xs ≡ on_benches f ys + weigh (λ (v : (Walk S H P)). f v.seat) ws
+dealt_sum f [] [] [] all = refl
+dealt_sum f [] [] (b ∷ ys) all = absurd all
+dealt_sum f [] (w ∷ ws) ys all = absurd all
+dealt_sum f (a ∷ xs) [] ys all = absurd all
+dealt_sum f (a ∷ xs) (w ∷ ws) [] all = absurd all
+dealt_sum f (a ∷ xs) (w ∷ ws) (b ∷ ys) all =
+    let l = weigh-last f a.seats.items b.seats.items w.seat all.0.seats in
+    let r = dealt_sum f xs ws ys all.1 in omega arith
+
+-- one worker after another
+
+pub dealt_all_snoc : {S H P : Type 0} → (before : List (Bench S H P)) (ws : List (Worker S H P)) (mid : List (Bench S H P)) (w : (Worker S H P)) (after : List (Bench S H P)) → IsDealtAll before ws mid → IsDealt mid w.walks.items after → IsDealtAll before (ws ++ w ∷ []) after
+dealt_all_snoc before [] mid w after all one = (after, subst (λ (z : List (Bench _ _ _)). IsDealt z w.walks.items after) all one, refl)
+dealt_all_snoc before (x ∷ ws) mid w after all one = (all.0, all.1, dealt_all_snoc all.0 ws mid w after all.2 one)
+
+pub dealt_all_last : {S H P : Type 0} → (before : List (Bench S H P)) (ws : List (Worker S H P)) (w : (Worker S H P)) (after : List (Bench S H P)) → IsDealtAll before (ws ++ w ∷ []) after → (mid : List (Bench S H P)) × IsDealtAll before ws mid × IsDealt mid w.walks.items after
+dealt_all_last before [] w after all = (before, refl, subst (λ (z : List (Bench _ _ _)). IsDealt before w.walks.items z) (sym all.2) all.1)
+dealt_all_last before (x ∷ ws) w after all =
+    let r = dealt_all_last all.0 ws w after all.2 in
+    (r.0, (all.0, all.1, r.1), r.2)
+
+pub dealt_all_sum : {S H P : Type 0} → (f : Sight → ℕ) (before : List (Bench S H P)) (ws : List (Worker S H P)) (after : List (Bench S H P)) → IsDealtAll before ws after → on_benches f before ≡ on_benches f after + at_work f ws
+dealt_all_sum f before [] after all = (let e : on_benches f after ≡ on_benches f before = ap (on_benches f) all in omega arith)
+dealt_all_sum f before (w ∷ ws) after all =
+    let a = dealt_sum f before w.walks.items all.0 all.1 in
+    let b = dealt_all_sum f all.0 ws after all.2 in omega arith
+
+pub fresh_snoc : {S H P : Type 0} → (ws : List (Worker S H P)) (w : (Worker S H P)) → AllFresh ws → w.applied ≡ 0 → w.refused ≡ 0 → AllFresh (ws ++ w ∷ [])
+fresh_snoc [] w all a r = (a, r, tt)
+fresh_snoc (x ∷ ws) w all a r = (all.0, all.1, fresh_snoc ws w all.2 a r)
+
+pub blank_front : {S H P : Type 0} → (n : ℕ) (rs : List (Room S H P)) (r : (Room S H P)) → AllBlank n (rs ++ r ∷ []) → AllBlank n rs × (r.walks.items ≡ []) × (n ≤ vec_capacity r.walks)
+blank_front n [] r all = (tt, all.0.0, all.0.1)
+blank_front n (x ∷ rs) r all = let s = blank_front n rs r all.1 in ((all.0, s.0), s.1, s.2)
+
+pub blank_snoc : {S H P : Type 0} → (n : ℕ) (rs : List (Room S H P)) (r : (Room S H P)) → AllBlank n rs → r.walks.items ≡ [] → n ≤ vec_capacity r.walks → AllBlank n (rs ++ r ∷ [])
+blank_snoc n [] r all none room = ((none, room), tt)
+blank_snoc n (x ∷ rs) r all none room = (all.0, blank_snoc n rs r all.1 none room)
+
+-- passes that workers have
+
+pub split_none : {S H P : Type 0} (ps : List (Pass Job Hand)) → IsSplit {S = S} {H = H} {P = P} ps [] ps
+split_none ps = record { passing = λ q all. (all, tt); put_all = λ h. omega arith; taken_all = λ h. omega arith; parts_all = omega arith }
+
+hold_snoc : {S H P : Type 0} → (q : Option Queue) (ws : List (Worker S H P)) (w : (Worker S H P)) → AllHold q ws → IsPassing q w.pass → AllHold q (ws ++ w ∷ [])
+hold_snoc q [] w all one = (one, tt)
+hold_snoc q (x ∷ ws) w all one = (all.0, hold_snoc q ws w all.1 one)
+
+pub passing_cut : (q : Option Queue) (ps : List (Pass Job Hand)) (o : Option (Pass Job Hand)) → AllPassing q (ps ++ option_to_list o) → AllPassing q ps × IsPassing q o
+passing_cut q [] None all = (tt, tt)
+passing_cut q [] (Some p) all = (tt, all.0)
+passing_cut q (p ∷ ps) o all = let r = passing_cut q ps o all.1 in ((all.0, r.0), r.1)
+
+pub split_more : {S H P : Type 0} → (before : List (Pass Job Hand)) (ws : List (Worker S H P)) (w : (Worker S H P)) (mid after : List (Pass Job Hand)) → IsSplit before ws mid → mid ≡ after ++ option_to_list w.pass → IsSplit before (ws ++ w ∷ []) after
+split_more before ws w mid after s is = record {
+  passing = λ q all.
+      (let r = s.passing q all in
+      let t = passing_cut q after w.pass (subst (AllPassing q) is r.0) in
+      (t.0, hold_snoc q ws w r.1 t.1));
+  put_all = λ h.
+      (let a = s.put_all h in
+      let b : put_by h mid ≡ put_by h after + put h w = ap (put_by h) is ∙ weigh-append (λ (p : Pass Job Hand). weigh h (view p).put) after (option_to_list w.pass) ∙ ap (λ n. put_by h after + n) (put_weighs h w.pass) in
+      let d = weigh-append (put h) ws (w ∷ []) in omega arith);
+  taken_all = λ h.
+      (let a = s.taken_all h in
+      let b : taken_by h mid ≡ taken_by h after + taken h w = ap (taken_by h) is ∙ weigh-append (λ (p : Pass Job Hand). weigh h (view p).taken) after (option_to_list w.pass) ∙ ap (λ n. taken_by h after + n) (taken_weighs h w.pass) in
+      let d = weigh-append (taken h) ws (w ∷ []) in omega arith);
+  parts_all =
+      (let a = s.parts_all in
+      let b : parts_by mid ≡ parts_by after + parts_of w = ap parts_by is ∙ weigh-append parts after (option_to_list w.pass) ∙ ap (λ n. parts_by after + n) (parts_weigh w.pass) in
+      let d = weigh-append parts_of ws (w ∷ []) in omega arith);
+}
+
+-- giving seats back
+
+-- the first walks are those of before, and of the others the seats were given back
+abbrev pub IsGivenFrom : {S H P : Type 0} → List (Walk S H P) → List (Walk S H P) → List (Bench S H P) → List (Bench S H P) → Type 0
+IsGivenFrom [] ws xs ys = IsGiven xs ws ys
+IsGivenFrom (v ∷ vs) [] xs ys = ⊥
+IsGivenFrom (v ∷ vs) (w ∷ ws) [] ys = ⊥
+IsGivenFrom (v ∷ vs) (w ∷ ws) (a ∷ xs) [] = ⊥
+IsGivenFrom (v ∷ vs) (w ∷ ws) (a ∷ xs) (b ∷ ys) = (v ≡ w) × (b ≡ a) × IsGivenFrom vs ws xs ys
+
+pub given_from_all : {S H P : Type 0} → (ws : List (Walk S H P)) (xs : List (Bench S H P)) → length ws ≡ length xs → IsGivenFrom ws ws xs xs
+given_from_all [] [] len = tt
+given_from_all [] (x ∷ xs) len = absurd (omega arith)
+given_from_all (w ∷ ws) [] len = absurd (omega arith)
+given_from_all (w ∷ ws) (x ∷ xs) len = (refl, refl, given_from_all ws xs (omega arith))
+
+pub given_from_less : {S H P : Type 0} → (vs ws : List (Walk S H P)) (xs ys : List (Bench S H P)) (v : (Walk S H P)) (a b : (Bench S H P)) → IsGivenFrom (vs ++ v ∷ []) ws xs ys → a ≡ get_or ys (length vs) a → IsGivenSeat a v b → IsGivenFrom vs ws xs (slice_set ys (length vs) b)
+given_from_less [] [] xs ys v a b all at one = absurd all
+given_from_less [] (w ∷ ws) [] ys v a b all at one = absurd all
+given_from_less [] (w ∷ ws) (x ∷ xs) [] v a b all at one = absurd all
+given_from_less [] (w ∷ ws) (x ∷ xs) (y ∷ ys) v a b all at one = (subst (λ (z : (Bench _ _ _) × (Walk _ _ _)). IsGivenSeat z.0 z.1 b) (λ i. ((at ∙ all.1) i, all.0 i)) one, all.2)
+given_from_less (u ∷ vs) [] xs ys v a b all at one = absurd all
+given_from_less (u ∷ vs) (w ∷ ws) [] ys v a b all at one = absurd all
+given_from_less (u ∷ vs) (w ∷ ws) (x ∷ xs) [] v a b all at one = absurd all
+given_from_less (u ∷ vs) (w ∷ ws) (x ∷ xs) (y ∷ ys) v a b all at one = (all.0, all.1, given_from_less vs ws xs ys v a b all.2 at one)
+
+pub given_from_at : {S H P : Type 0} → (vs ws : List (Walk S H P)) (xs ys : List (Bench S H P)) (v : (Walk S H P)) (a : (Bench S H P)) → IsGivenFrom (vs ++ v ∷ []) ws xs ys → a ≡ get_or ys (length vs) a → AllRoomy xs → length a.seats.items < vec_capacity a.seats
+given_from_at [] [] xs ys v a all at room = absurd all
+given_from_at [] (w ∷ ws) [] ys v a all at room = absurd all
+given_from_at [] (w ∷ ws) (x ∷ xs) [] v a all at room = absurd all
+given_from_at [] (w ∷ ws) (x ∷ xs) (y ∷ ys) v a all at room = subst (λ (z : (Bench _ _ _)). length z.seats.items < vec_capacity z.seats) (sym (at ∙ all.1)) room.0
+given_from_at (u ∷ vs) [] xs ys v a all at room = absurd all
+given_from_at (u ∷ vs) (w ∷ ws) [] ys v a all at room = absurd all
+given_from_at (u ∷ vs) (w ∷ ws) (x ∷ xs) [] v a all at room = absurd all
+given_from_at (u ∷ vs) (w ∷ ws) (x ∷ xs) (y ∷ ys) v a all at room = given_from_at vs ws xs ys v a all.2 at room.1
+
+pub given_from_lt : {S H P : Type 0} → (vs ws : List (Walk S H P)) (xs ys : List (Bench S H P)) (v : (Walk S H P)) → IsGivenFrom (vs ++ v ∷ []) ws xs ys → length vs < length ys
+given_from_lt [] [] xs ys v all = absurd all
+given_from_lt [] (w ∷ ws) [] ys v all = absurd all
+given_from_lt [] (w ∷ ws) (x ∷ xs) [] v all = absurd all
+given_from_lt [] (w ∷ ws) (x ∷ xs) (y ∷ ys) v all = omega arith
+given_from_lt (u ∷ vs) [] xs ys v all = absurd all
+given_from_lt (u ∷ vs) (w ∷ ws) [] ys v all = absurd all
+given_from_lt (u ∷ vs) (w ∷ ws) (x ∷ xs) [] v all = absurd all
+given_from_lt (u ∷ vs) (w ∷ ws) (x ∷ xs) (y ∷ ys) v all = let r = given_from_lt vs ws xs ys v all.2 in omega arith
+
+pub given_sum : {S H P : Type 0} → (f : Sight → ℕ) (xs : List (Bench S H P)) (ws : List (Walk S H P)) (ys : List (Bench S H P)) → IsGiven xs ws ys → on_benches f ys ≡ on_benches f xs + weigh (λ (v : (Walk S H P)). f v.seat) ws
+given_sum f [] [] [] all = refl
+given_sum f [] [] (b ∷ ys) all = absurd all
+given_sum f [] (w ∷ ws) ys all = absurd all
+given_sum f (a ∷ xs) [] ys all = absurd all
+given_sum f (a ∷ xs) (w ∷ ws) [] all = absurd all
+given_sum f (a ∷ xs) (w ∷ ws) (b ∷ ys) all =
+    let l = weigh-last f b.seats.items a.seats.items w.seat all.0.seats in
+    let r = given_sum f xs ws ys all.1 in omega arith
+
+pub have_at : {S H P : Type 0} → (n : ℕ) (bs : List (Bench S H P)) (k : ℕ) (b : (Bench S H P)) → AllHave n bs → k < length bs → b ≡ get_or bs k b → n ≤ length b.seats.items
+have_at n [] k b all lt at = absurd (omega arith)
+have_at n (x ∷ bs) zero b all lt at = subst (λ (z : (Bench _ _ _)). n ≤ length z.seats.items) (sym at) all.0
+have_at n (x ∷ bs) (suc k) b all lt at = have_at n bs k b all.1 (omega arith) at
+
+have_suc : {S H P : Type 0} → (n m : ℕ) (bs : List (Bench S H P)) (k : ℕ) (b : (Bench S H P)) → AllHave n (take k bs) → m ≤ n → k < length bs → b ≡ get_or bs k b → m ≤ length b.seats.items → AllHave m (take (suc k) bs)
+have_suc n m [] k b all le lt at one = absurd (omega arith)
+have_suc n m (x ∷ bs) zero b all le lt at one = (subst (λ (z : (Bench _ _ _)). m ≤ length z.seats.items) at one, tt)
+have_suc n m (x ∷ bs) (suc k) b all le lt at one = ((let a = all.0 in omega arith), have_suc n m bs k b all.1 le (omega arith) at one)
+
+pub have_more : {S H P : Type 0} → (n m : ℕ) (bs : List (Bench S H P)) (k : ℕ) (b : (Bench S H P)) → AllHave n (take k bs) → m ≤ n → k < length bs → b ≡ get_or bs k b → m ≤ length b.seats.items → AllHave m (take (k + 1) bs)
+have_more n m bs k b all le lt at one = let more : suc k ≡ k + 1 = omega arith in subst (λ (z : ℕ). AllHave m (take z bs)) more (have_suc n m bs k b all le lt at one)
+
+pub one_left : {X : Type 0} (o : Option X) (a b : ℕ) → MatchOption o ((b ≡ 0) × (a ≡ 0)) (λ _. a + 1 ≡ b) → 0 < b → a + 1 ≡ b
+one_left None a b m lt = absurd (let e = m.0 in omega arith)
+one_left (Some x) a b m lt = m

@@ -1,0 +1,247 @@
+-- Networks by number, and what they gained.
+use Rattle.std.proofs.Common.{◌≡◌, ◌≤◌, ◌<◌, ◌+◌, nat_lt, ℕ, zero, suc, Bool, true, false, if◌then◌else◌, List, [], ◌∷◌, ◌++◌, length, length-append, get_or, take, drop, map, refl, sym, ap, ◌∙◌, subst, arith, None}
+use Rattle.std.specs.List.{insert}
+use Rattle.std.proofs.lemmas.Bool.Decides.{nat_tests}
+use Rattle.std.proofs.Math.Seq.{drop-append_seam}
+use Rattle.work.specs.declared.rule.Job.{Job}
+use Rattle.work.specs.Hands.{weigh}
+use Rattle.work.proofs.Balances.{weigh-append}
+use Rattle.cells.specs.Sights.{CellSight}
+use Rattle.cells.specs.Receipts.{Applied}
+use Rattle.cells.specs.Views.{Denial}
+use Rattle.cells.specs.Sights.{Sight}
+use Rattle.workers.specs.declared.deal.Bench.{Bench}
+use Rattle.workers.specs.declared.floor.Floor.{Floor}
+use Rattle.workers.specs.declared.running.Report.{Report}
+use Rattle.workers.specs.Sums.{IsLater, applied_of, heard_of, refused_of, seat_applied, seat_done, seat_heard, seat_refused, job, hears}
+use Rattle.workers.specs.Benches.{AllGrown, AllGrownBenches, AllHosted, IsHosted, IsWorked, on_benches}
+use Rattle.workers.specs.Floors.{IsPut, IsSameFloor}
+use Rattle.workers.specs.NetSights.{Net}
+use Rattle.workers.specs.Nets.{AllElsewhere, AllGrownNets, IsDone, IsFloor, IsLeast, NoNet, denied, done_since, gained, heard_since, nets_of, nets_with, over_nets, over_seats}
+use Rattle.workers.specs.Numbers.{AllAbove, AllLack, IsNumbered, IsRising, Lacks, number_of}
+use Rattle.workers.proofs.Numbers.{IsPlace, lacks_at}
+use Rattle.workers.proofs.Worked.{grown_none, hosted_grown}
+
+pub first_gone : {X : Type 0} (xs ys : List X) (x : X) → 0 < length xs → x ≡ get_or xs 0 x → ys ≡ take 0 xs ++ drop 1 xs → xs ≡ x ∷ ys
+first_gone [] ys x lt at is = absurd (omega arith)
+first_gone (y ∷ xs) ys x lt at is = λ i. sym at i ∷ sym is i
+
+pub hosted_len : {S H P : Type 0} → (cs : List CellSight) (bs : List (Bench S H P)) → AllHosted cs bs → length bs ≡ length cs
+hosted_len [] [] all = refl
+hosted_len [] (b ∷ bs) all = absurd all
+hosted_len (c ∷ cs) [] all = absurd all
+hosted_len (c ∷ cs) (b ∷ bs) all = ap suc (hosted_len cs bs all.1)
+
+nets_len : {S H P : Type 0} → (cs : List CellSight) (bs : List (Bench S H P)) → AllHosted cs bs → length (nets_of cs bs) ≡ length cs
+nets_len [] bs all = refl
+nets_len (c ∷ cs) [] all = absurd all
+nets_len (c ∷ cs) (b ∷ bs) all = ap suc (nets_len cs bs all.1)
+
+no_net : {S H P : Type 0} → (cs : List CellSight) (bs : List (Bench S H P)) (x : ℕ) → Lacks cs x → NoNet (nets_of cs bs) x
+no_net [] bs x l = tt
+no_net (c ∷ cs) [] x l = tt
+no_net (c ∷ cs) (b ∷ bs) x l = (l.0, no_net cs bs x l.1)
+
+elsewhere : {S H P : Type 0} → (cs : List CellSight) (bs : List (Bench S H P)) (js : List Job) → AllLack cs js → AllElsewhere (nets_of cs bs) js
+elsewhere cs bs [] all = tt
+elsewhere cs bs (j ∷ js) all = (no_net cs bs j.network all.0, elsewhere cs bs js all.1)
+
+map_len : (cs : List CellSight) → length (map number_of cs) ≡ length cs
+map_len [] = refl
+map_len (c ∷ cs) = ap suc (map_len cs)
+
+-- one network more
+
+above_all : (x : ℕ) (cs : List CellSight) → ((k : ℕ) → k < length (map number_of cs) → x < get_or (map number_of cs) k 0) → AllAbove x (map number_of cs)
+above_all x [] all = tt
+above_all x (c ∷ cs) all = (all 0 (omega arith), above_all x cs (λ k lt. all (suc k) (omega arith)))
+
+above_insert : (x : ℕ) (cs : List CellSight) (i : ℕ) (c : CellSight) → AllAbove x (map number_of cs) → x < number_of c → AllAbove x (map number_of (insert cs i c))
+above_insert x [] zero c all lt = (lt, tt)
+above_insert x [] (suc i) c all lt = (lt, tt)
+above_insert x (d ∷ cs) zero c all lt = (lt, all)
+above_insert x (d ∷ cs) (suc i) c all lt = (all.0, above_insert x cs i c all.1 lt)
+
+rising_insert : (cs : List CellSight) (i : ℕ) (c : CellSight) → IsRising (map number_of cs) → IsPlace (map number_of cs) (number_of c) i → IsRising (map number_of (insert cs i c))
+rising_insert [] zero c up p = (tt, tt)
+rising_insert [] (suc i) c up p = (tt, tt)
+rising_insert (d ∷ cs) zero c up p = ((p.2 0 (omega arith) (omega arith), above_all (number_of c) cs (λ k lt. p.2 (suc k) (omega arith) (omega arith))), up)
+rising_insert (d ∷ cs) (suc i) c up p = (
+  above_insert (number_of d) cs i c up.0 (p.1 0 (omega arith)),
+  rising_insert cs i c up.1 ((let l = p.0 in omega arith), (λ k lt. p.1 (suc k) (omega arith)), (λ k le lt. p.2 (suc k) (omega arith) (omega arith))),
+)
+
+insert_numbers : (cs : List CellSight) (i : ℕ) (c : CellSight) → insert (map number_of cs) i (number_of c) ≡ map number_of (insert cs i c)
+insert_numbers [] zero c = refl
+insert_numbers [] (suc i) c = refl
+insert_numbers (d ∷ cs) zero c = refl
+insert_numbers (d ∷ cs) (suc i) c = ap (λ l. number_of d ∷ l) (insert_numbers cs i c)
+
+insert_hosted : {S H P : Type 0} → (cs : List CellSight) (bs : List (Bench S H P)) (i : ℕ) (c : CellSight) (b : (Bench S H P)) → i ≤ length cs → AllHosted cs bs → IsHosted c b.seats.items → AllHosted (insert cs i c) (insert bs i b)
+insert_hosted [] [] zero c b le all one = (one, tt)
+insert_hosted [] [] (suc i) c b le all one = absurd (omega arith)
+insert_hosted [] (x ∷ bs) i c b le all one = absurd all
+insert_hosted (d ∷ cs) [] i c b le all one = absurd all
+insert_hosted (d ∷ cs) (x ∷ bs) zero c b le all one = (one, all)
+insert_hosted (d ∷ cs) (x ∷ bs) (suc i) c b le all one = (all.0, insert_hosted cs bs i c b (omega arith) all.1 one)
+
+is_below : (a b : ℕ) → a < b → nat_lt a b ≡ true
+is_below a b h = grind (arith, nat_tests, h)
+
+not_below : (a b : ℕ) → b < a → nat_lt a b ≡ false
+not_below a b h = grind (arith, nat_tests, h)
+
+insert_nets : {S H P : Type 0} → (cs : List CellSight) (bs : List (Bench S H P)) (i : ℕ) (c : CellSight) (b : (Bench S H P)) → AllHosted cs bs → IsPlace (map number_of cs) (number_of c) i → nets_of (insert cs i c) (insert bs i b) ≡ nets_with (record { cell = c; seats = b.seats.items }) (nets_of cs bs)
+insert_nets [] [] zero c b all p = refl
+insert_nets [] [] (suc i) c b all p = absurd (let l = p.0 in omega arith)
+insert_nets [] (x ∷ bs) i c b all p = absurd all
+insert_nets (d ∷ cs) [] i c b all p = absurd all
+insert_nets (d ∷ cs) (x ∷ bs) zero c b all p =
+    let n : Net = record { cell = c; seats = b.seats.items } in
+    let m : Net = record { cell = d; seats = x.seats.items } in
+    sym (ap (λ (t : Bool). if t then m ∷ nets_with n (nets_of cs bs) else n ∷ m ∷ nets_of cs bs) (not_below (number_of d) (number_of c) (p.2 0 (omega arith) (omega arith))))
+insert_nets (d ∷ cs) (x ∷ bs) (suc i) c b all p =
+    let n : Net = record { cell = c; seats = b.seats.items } in
+    let m : Net = record { cell = d; seats = x.seats.items } in
+    ap (λ l. m ∷ l) (insert_nets cs bs i c b all.1 ((let l = p.0 in omega arith), (λ k lt. p.1 (suc k) (omega arith)), (λ k le lt. p.2 (suc k) (omega arith) (omega arith))))
+    ∙ sym (ap (λ (t : Bool). if t then m ∷ nets_with n (nets_of cs bs) else n ∷ m ∷ nets_of cs bs) (is_below (number_of d) (number_of c) (p.1 0 (omega arith))))
+
+insert_len : (cs : List CellSight) (i : ℕ) (c : CellSight) → length (insert cs i c) ≤ suc (length cs)
+insert_len [] zero c = omega arith
+insert_len [] (suc i) c = omega arith
+insert_len (d ∷ cs) zero c = omega arith
+insert_len (d ∷ cs) (suc i) c = let r = insert_len cs i c in omega arith
+
+pub place_fits : {S H P : Type 0} → (f g : (Floor S H P)) (x i : ℕ) → IsFloor f → IsSameFloor f g → IsPlace f.shared.numbers.items x i → (i ≤ length g.shared.numbers.items) × (i ≤ length g.shared.cells.items) × (i ≤ length g.benches.items)
+place_fits f g x i is same p =
+    let a = ap (λ (l : List ℕ). length l) same.numbers in
+    let b = ap (λ (l : List CellSight). length l) same.cells in
+    let c = ap (λ (l : List (Bench _ _ _)). length l) same.benches in
+    let n = ap (λ (l : List ℕ). length l) is.numbered.0 ∙ map_len f.shared.cells.items in
+    let h = hosted_len f.shared.cells.items f.benches.items is.hosted in
+    let le = p.0 in
+    (omega arith, omega arith, omega arith)
+
+-- a network joins
+pub joins : {S H P : Type 0} → (f g h : (Floor S H P)) (i : ℕ) (c : CellSight) (seats : List Sight) → IsFloor f → IsSameFloor f g → IsPlace f.shared.numbers.items (number_of c) i → length f.shared.numbers.items < 4096 → IsHosted c seats → IsPut g i c seats h
+    → IsFloor h × (nets_of h.shared.cells.items h.benches.items ≡ nets_with (record { cell = c; seats = seats }) (nets_of f.shared.cells.items f.benches.items))
+joins f g h i c seats is same p few hosted put =
+    let cs = f.shared.cells.items in
+    let bs = f.benches.items in
+    let q : IsPlace (map number_of cs) (number_of c) i = subst (λ (l : List ℕ). IsPlace l (number_of c) i) is.numbered.0 p in
+    let numbers : h.shared.numbers.items ≡ map number_of (insert cs i c) = put.numbers ∙ ap (λ l. insert l i (number_of c)) (same.numbers ∙ is.numbered.0) ∙ insert_numbers cs i c in
+    let cells : h.shared.cells.items ≡ insert cs i c = put.cells ∙ ap (λ l. insert l i c) same.cells in
+    let benches : h.benches.items ≡ insert bs i put.bench = put.benches ∙ ap (λ l. insert l i put.bench) same.benches in
+    let le : i ≤ length cs = let a = q.0 in let b = map_len cs in omega arith in
+    let n = ap (λ (l : List ℕ). length l) is.numbered.0 ∙ map_len cs in
+    let len = insert_len cs i c in
+    let many = ap (λ (l : List CellSight). length l) cells in (
+      record {
+        numbered = (numbers ∙ sym (ap (map number_of) cells), subst IsRising (sym numbers) (rising_insert cs i c (subst IsRising is.numbered.0 is.numbered.1) q));
+        hosted = subst (λ (z : List CellSight). AllHosted z h.benches.items) (sym cells) (subst (AllHosted (insert cs i c)) (sym benches) (insert_hosted cs bs i c put.bench le is.hosted (subst (IsHosted c) (sym put.own) hosted)));
+        few = omega arith;
+        closed = put.queue ∙ same.queue ∙ is.closed;
+      },
+      (λ j. nets_of (cells j) (benches j)) ∙ insert_nets cs bs i c put.bench is.hosted q ∙ ap (λ l. nets_with (record { cell = c; seats = l }) (nets_of cs bs)) put.own,
+    )
+
+pub joins_fresh : {S H P : Type 0} → (f : (Floor S H P)) (nets : List Net) (x i : ℕ) → nets_of f.shared.cells.items f.benches.items ≡ nets → IsFloor f → IsPlace f.shared.numbers.items x i → length f.shared.numbers.items < 4096 → NoNet nets x × (length nets < 4096)
+joins_fresh f nets x i view is p few = subst (λ (l : List Net). NoNet l x × (length l < 4096)) view (
+  no_net f.shared.cells.items f.benches.items x (lacks_at f.shared.numbers.items f.shared.cells.items x i is.numbered p),
+  (let a = nets_len f.shared.cells.items f.benches.items is.hosted in
+      let n = ap (λ (l : List ℕ). length l) is.numbered.0 ∙ map_len f.shared.cells.items in omega arith),
+)
+
+pub least : {S H P : Type 0} → (c : CellSight) (seats : List Sight) (cs : List CellSight) (bs : List (Bench S H P)) → AllAbove (number_of c) (map number_of cs) → IsLeast (record { cell = c; seats = seats }) (nets_of cs bs)
+least c seats [] bs all = tt
+least c seats (d ∷ cs) [] all = tt
+least c seats (d ∷ cs) (b ∷ bs) all = (all.0, least c seats cs bs all.1)
+
+-- what was gained
+
+gains_seats : (f : Sight → ℕ) (g : Sight → Sight → ℕ) → ((a b : Sight) → IsLater a b → f b ≡ f a + g a b) → (xs ys : List Sight) → AllGrown xs ys → weigh f ys ≡ weigh f xs + over_seats g xs ys
+gains_seats f g one [] [] all = refl
+gains_seats f g one [] (y ∷ ys) all = absurd all
+gains_seats f g one (x ∷ xs) [] all = absurd all
+gains_seats f g one (x ∷ xs) (y ∷ ys) all = let a = one x y all.0 in let r = gains_seats f g one xs ys all.1 in omega arith
+
+gains : {S H P : Type 0} → (f : Sight → ℕ) (g : Sight → Sight → ℕ) → ((a b : Sight) → IsLater a b → f b ≡ f a + g a b) → (cs : List CellSight) (xs ys : List (Bench S H P)) → AllHosted cs xs → AllGrownBenches xs ys → on_benches f ys ≡ on_benches f xs + over_nets g (nets_of cs xs) (nets_of cs ys)
+gains f g one [] [] [] hosted all = refl
+gains f g one [] [] (y ∷ ys) hosted all = absurd all
+gains f g one [] (x ∷ xs) ys hosted all = absurd hosted
+gains f g one (c ∷ cs) [] ys hosted all = absurd hosted
+gains f g one (c ∷ cs) (x ∷ xs) [] hosted all = absurd all
+gains f g one (c ∷ cs) (x ∷ xs) (y ∷ ys) hosted all =
+    let a = gains_seats f g one x.seats.items y.seats.items all.0.0 in
+    let r = gains f g one cs xs ys hosted.1 all.1 in omega arith
+
+gained_is : (a b : Sight) (l : IsLater a b) → gained a b ≡ l.receipts
+gained_is a b l = ap (drop (length a.me.receipts)) l.gained ∙ drop-append_seam a.me.receipts l.receipts
+
+denied_is : (a b : Sight) (l : IsLater a b) → denied a b ≡ l.denials
+denied_is a b l = ap (drop (length a.me.denials)) l.refused ∙ drop-append_seam a.me.denials l.denials
+
+one_done : (h : Job → ℕ) (a b : Sight) → IsLater a b → seat_done h b ≡ seat_done h a + done_since h a b
+one_done h a b l =
+    let p : applied_of h b.me.config b.me.receipts ≡ applied_of h a.me.config a.me.receipts + applied_of h a.me.config (gained a b) =
+    (λ i. applied_of h (l.config i) (l.gained i)) ∙ weigh-append (λ (r : Applied). h (job a.me.config.number r.event)) a.me.receipts l.receipts ∙ ap (λ x. applied_of h a.me.config a.me.receipts + applied_of h a.me.config x) (sym (gained_is a b l)) in
+    let q : refused_of h b.me.config b.me.denials ≡ refused_of h a.me.config a.me.denials + refused_of h a.me.config (denied a b) =
+    (λ i. refused_of h (l.config i) (l.refused i)) ∙ weigh-append (λ (r : Denial). h (job a.me.config.number r.event)) a.me.denials l.denials ∙ ap (λ x. refused_of h a.me.config a.me.denials + refused_of h a.me.config x) (sym (denied_is a b l)) in
+    omega arith
+
+one_heard : (h : Job → ℕ) (a b : Sight) → IsLater a b → seat_heard h b ≡ seat_heard h a + heard_since h a b
+one_heard h a b l =
+    (λ i. heard_of h (l.config i) (l.gained i)) ∙ weigh-append (λ (r : Applied). weigh h (hears a.me.config r)) a.me.receipts l.receipts ∙ ap (λ x. heard_of h a.me.config a.me.receipts + heard_of h a.me.config x) (sym (gained_is a b l))
+
+one_applied : (a b : Sight) → IsLater a b → seat_applied b ≡ seat_applied a + length (gained a b)
+one_applied a b l = ap (λ (x : List Applied). length x) l.gained ∙ length-append a.me.receipts l.receipts ∙ ap (λ (x : List Applied). length a.me.receipts + length x) (sym (gained_is a b l))
+
+one_refused : (a b : Sight) → IsLater a b → seat_refused b ≡ seat_refused a + length (denied a b)
+one_refused a b l = ap (λ (x : List Denial). length x) l.refused ∙ length-append a.me.denials l.denials ∙ ap (λ (x : List Denial). length a.me.denials + length x) (sym (denied_is a b l))
+
+pub is_done : {S H P : Type 0} → (cs : List CellSight) (xs ys : List (Bench S H P)) (came went : (Job → ℕ) → ℕ) (r : Report) → AllHosted cs xs → AllGrownBenches xs ys → IsWorked cs xs ys came went r → IsDone (nets_of cs xs) (nets_of cs ys) came went r
+is_done cs xs ys came went r hosted grown w = record {
+  lacking = w.lacking;
+  elsewhere = elsewhere cs xs w.lacking w.elsewhere;
+  sum = λ h.
+      let s = w.sum h in
+      let a = gains (seat_done h) (done_since h) (one_done h) cs xs ys hosted grown in
+      let b = gains (seat_heard h) (heard_since h) (one_heard h) cs xs ys hosted grown in omega arith;
+  applied = (let s = w.applied in let a = gains seat_applied (λ a b. length (gained a b)) one_applied cs xs ys hosted grown in omega arith);
+  refused = (let s = w.refused in let a = gains seat_refused (λ a b. length (denied a b)) one_refused cs xs ys hosted grown in omega arith);
+  unrun = w.unrun;
+}
+
+grown_nets : {S H P : Type 0} → (cs : List CellSight) (xs ys : List (Bench S H P)) → AllHosted cs xs → AllGrownBenches xs ys → AllGrownNets (nets_of cs xs) (nets_of cs ys)
+grown_nets [] xs ys hosted all = tt
+grown_nets (c ∷ cs) [] ys hosted all = absurd hosted
+grown_nets (c ∷ cs) (x ∷ xs) [] hosted all = absurd all
+grown_nets (c ∷ cs) (x ∷ xs) (y ∷ ys) hosted all = (refl, all.0.0, grown_nets cs xs ys hosted.1 all.1)
+
+pub grown_floor : {S H P : Type 0} → (cs ds : List CellSight) (xs ys : List (Bench S H P)) → ds ≡ cs → AllHosted cs xs → AllGrownBenches xs ys → AllGrownNets (nets_of cs xs) (nets_of ds ys)
+grown_floor cs ds xs ys is hosted all = subst (λ (l : List CellSight). AllGrownNets (nets_of cs xs) (nets_of l ys)) (sym is) (grown_nets cs xs ys hosted all)
+
+pub floor_after : {S H P : Type 0} → (f g : (Floor S H P)) → IsFloor f → g.shared.numbers ≡ f.shared.numbers → g.shared.cells ≡ f.shared.cells → g.shared.queue ≡ None → AllGrownBenches f.benches.items g.benches.items → IsFloor g
+floor_after f g is numbers cells queue grown = record {
+  numbered = subst (λ (z : List ℕ × List CellSight). IsNumbered z.0 z.1) (λ i. ((sym numbers i).items, (sym cells i).items)) is.numbered;
+  hosted = subst (λ (z : List CellSight). AllHosted z g.benches.items) (λ i. (sym cells i).items) (hosted_grown f.shared.cells.items f.benches.items g.benches.items is.hosted grown);
+  few = subst (λ (z : List CellSight). length z ≤ 4096) (λ i. (sym cells i).items) is.few;
+  closed = queue;
+}
+
+pub numbered_len : (ns : List ℕ) (cs : List CellSight) → IsNumbered ns cs → length ns ≡ length cs
+numbered_len ns cs n = ap (λ (l : List ℕ). length l) n.0 ∙ map_len cs
+
+pub nets_same : (ns : List Net) → AllGrownNets ns ns
+nets_same [] = tt
+nets_same (n ∷ ns) = (refl, grown_none n.seats, nets_same ns)
+
+pub done_after : {S H P : Type 0} → (f g : (Floor S H P)) (nets : List Net) (came went : (Job → ℕ) → ℕ) (r : Report) → IsFloor f → nets_of f.shared.cells.items f.benches.items ≡ nets → g.shared.cells ≡ f.shared.cells → AllGrownBenches f.benches.items g.benches.items → IsWorked f.shared.cells.items f.benches.items g.benches.items came went r → IsDone nets (nets_of g.shared.cells.items g.benches.items) came went r
+done_after f g nets came went r is view cells grown w =
+    subst (λ (z : List Net × List CellSight). IsDone z.0 (nets_of z.1 g.benches.items) came went r) (λ i. (view i, (sym cells i).items))
+    (is_done f.shared.cells.items f.benches.items g.benches.items came went r is.hosted grown w)
+
+pub grown_after : {S H P : Type 0} → (f g : (Floor S H P)) (nets : List Net) → IsFloor f → nets_of f.shared.cells.items f.benches.items ≡ nets → g.shared.cells ≡ f.shared.cells → AllGrownBenches f.benches.items g.benches.items → AllGrownNets nets (nets_of g.shared.cells.items g.benches.items)
+grown_after f g nets is view cells grown =
+    subst (λ (l : List Net). AllGrownNets l (nets_of g.shared.cells.items g.benches.items)) view
+    (grown_floor f.shared.cells.items g.shared.cells.items f.benches.items g.benches.items (ap (λ v. v.items) cells) is.hosted grown)

@@ -1,0 +1,54 @@
+-- Numbers that rise.
+use Rattle.std.proofs.Common.{◌≡◌, ◌<◌, ◌≤◌, ℕ, zero, suc, List, [], ◌∷◌, length, map, get_or, arith, subst, Ok, Err}
+use Rattle.std.specs.Ordering.{nat_cmp}
+use Rattle.std.specs.List.Sorted.{IsBinarySearchResult}
+use Rattle.std.proofs.lemmas.List.Sorted.{searched}
+use Rattle.cells.specs.Sights.{CellSight}
+use Rattle.workers.specs.Numbers.{AllAbove, IsRising, IsNumbered, IsNumberAt, Lacks, number_of}
+
+above_at : (x : ℕ) (xs : List ℕ) (j : ℕ) → AllAbove x xs → j < length xs → x < get_or xs j 0
+above_at x [] j all lt = absurd (omega arith)
+above_at x (y ∷ ys) zero all lt = all.0
+above_at x (y ∷ ys) (suc j) all lt = above_at x ys j all.1 (omega arith)
+
+rising_at : (xs : List ℕ) → IsRising xs → (i j : ℕ) → i ≤ j → j < length xs → get_or xs i 0 ≤ get_or xs j 0
+rising_at [] up i j le lt = absurd (omega arith)
+rising_at (x ∷ xs) up zero zero le lt = omega arith
+rising_at (x ∷ xs) up zero (suc j) le lt = let a = above_at x xs j up.0 (omega arith) in omega arith
+rising_at (x ∷ xs) up (suc i) zero le lt = absurd (omega arith)
+rising_at (x ∷ xs) up (suc i) (suc j) le lt = rising_at xs up.1 i j (omega arith) (omega arith)
+
+number_there : (cs : List CellSight) (k x : ℕ) → k < length (map number_of cs) → get_or (map number_of cs) k 0 ≡ x → (k < length cs) × IsNumberAt cs k x
+number_there [] k x lt is = absurd (omega arith)
+number_there (c ∷ cs) zero x lt is = (omega arith, λ d. is)
+number_there (c ∷ cs) (suc k) x lt is = let r = number_there cs k x (omega arith) is in (omega arith, r.1)
+
+pub found : (ns : List ℕ) (cs : List CellSight) (x k : ℕ) → IsNumbered ns cs → IsBinarySearchResult (λ y. nat_cmp y x) ns (Ok k) → (k < length cs) × IsNumberAt cs k x
+found ns cs x k numbered result =
+    let s = searched ns x (Ok k) result (rising_at ns numbered.1) in
+    let t = subst (λ (l : List ℕ). (k < length l) × (get_or l k 0 ≡ x)) numbered.0 s in
+    number_there cs k x t.0 t.1
+
+lacks_by : (cs : List CellSight) (x i : ℕ) → ((k : ℕ) → k < i → get_or (map number_of cs) k 0 < x) → ((k : ℕ) → i ≤ k → k < length (map number_of cs) → x < get_or (map number_of cs) k 0) → Lacks cs x
+lacks_by [] x i low high = tt
+lacks_by (c ∷ cs) x zero low high = (
+  (λ e. let m = high 0 (omega arith) (omega arith) in omega arith),
+  lacks_by cs x zero (λ k lt. absurd (omega arith)) (λ k le lt. high (suc k) (omega arith) (omega arith)),
+)
+lacks_by (c ∷ cs) x (suc i) low high = (
+  (λ e. let m = low 0 (omega arith) in omega arith),
+  lacks_by cs x i (λ k lt. low (suc k) (omega arith)) (λ k le lt. high (suc k) (omega arith) (omega arith)),
+)
+
+-- where a number would stand
+abbrev pub IsPlace : List ℕ → ℕ → ℕ → Type 0
+IsPlace ns x i = (i ≤ length ns) × ((k : ℕ) → k < i → get_or ns k 0 < x) × ((k : ℕ) → i ≤ k → k < length ns → x < get_or ns k 0)
+
+pub place_of : (ns : List ℕ) (x i : ℕ) → IsRising ns → IsBinarySearchResult (λ y. nat_cmp y x) ns (Err i) → IsPlace ns x i
+place_of ns x i up result = searched ns x (Err i) result (rising_at ns up)
+
+pub lacks_at : (ns : List ℕ) (cs : List CellSight) (x i : ℕ) → IsNumbered ns cs → IsPlace ns x i → Lacks cs x
+lacks_at ns cs x i numbered p = let q = subst (λ (l : List ℕ). IsPlace l x i) numbered.0 p in lacks_by cs x i q.1 q.2
+
+pub absent : (ns : List ℕ) (cs : List CellSight) (x i : ℕ) → IsNumbered ns cs → IsBinarySearchResult (λ y. nat_cmp y x) ns (Err i) → Lacks cs x
+absent ns cs x i numbered result = lacks_at ns cs x i numbered (place_of ns x i numbered.1 result)

@@ -1,0 +1,558 @@
+-- One job more.
+use Rattle.std.proofs.Common.{◌≡◌, ◌≤◌, ◌<◌, ◌+◌, ℕ, zero, suc, List, [], ◌∷◌, ◌++◌, length, length-append, take, slice_set, get_or, refl, sym, ap, ◌∙◌, subst, arith, Bool, true, false, slice_get, if◌then◌else◌, append_assoc, append-nil}
+use Rattle.types.specs.declared.event.Out.{Out}
+use Rattle.types.specs.declared.event.Out.TheVariants.{ArmNomination, ArmBallot, Emit, Externalized}
+use Rattle.protocol.specs.Networks.{Host}
+use Rattle.workers.specs.declared.walk.Emission.{Emission}
+use Rattle.std.proofs.lemmas.List.{take-append-le, take_more, reverse-append, at_drop_more, at_drop_all}
+use Rattle.std.proofs.Common.{reverse}
+use Rattle.std.proofs.Math.ListN.{get_or-append}
+use Rattle.std.proofs.Common.{drop}
+use Rattle.protocol.specs.Hosts.{Config}
+use Rattle.work.specs.declared.rule.Job.{Job}
+use Rattle.work.specs.declared.rule.Hand.{Hand}
+use Rattle.work.specs.Hands.{weigh}
+use Rattle.work.proofs.Balances.{weigh-append}
+use Rattle.cells.specs.Receipts.{Applied}
+use Rattle.cells.specs.Views.{Denial}
+use Rattle.cells.specs.Sights.{CellSight}
+use Rattle.cells.specs.Cells.{IsSeatOf}
+use Rattle.cells.specs.Sights.{Sight}
+use Rattle.workers.specs.declared.walk.Walk.{Walk}
+use Rattle.workers.specs.declared.worker.Worker.{Worker}
+use Rattle.workers.specs.Numbers.{Lacks, AllLack, IsNumberAt}
+use Rattle.workers.specs.Sums.{job, hears, applied_of, refused_of, heard_of, done_by, asked_by, applied_many, refused_many, seat_done, hand_of, IsWalk, AllSeated, IsLater, AllLater, IsDone, done, asked, put, taken, IsKept, with_put, with_taken, AllPast, AllPastBut, hear_by, hears_of, hears_from, emission_in, IsNext, IsShort, SamePlaces, IsThrough, AllReady, IsSummed, IsReady, IsBusy}
+use Rattle.work.specs.declared.line.Queue.{Queue}
+use Rattle.std.proofs.Common.{Option, Some, None}
+use Rattle.crossbeam_queue.specs.Passes.{Pass}
+use Rattle.work.specs.Queues.{AllPasses, IsOf}
+use Rattle.workers.specs.Sums.{AllPassing, IsPassing}
+
+pub get_or_same : {X : Type 0} (ws : List X) (k : ℕ) (d e : X) → k < length ws → get_or ws k d ≡ get_or ws k e
+get_or_same [] k d e lt = absurd (omega arith)
+get_or_same (w ∷ ws) zero d e lt = refl
+get_or_same (w ∷ ws) (suc k) d e lt = get_or_same ws k d e (omega arith)
+
+-- lists with one element changed
+
+pub weigh_set : {S H P : Type 0} → (f : (Walk S H P) → ℕ) (ws : List (Walk S H P)) (k : ℕ) (old w : (Walk S H P)) → k < length ws → old ≡ get_or ws k old → weigh f (slice_set ws k w) + f old ≡ weigh f ws + f w
+weigh_set f [] k old w lt is = absurd (omega arith)
+weigh_set f (x ∷ xs) zero old w lt is = let s : f old ≡ f x = ap f is in omega arith
+weigh_set f (x ∷ xs) (suc k) old w lt is = let s = weigh_set f xs k old w (omega arith) is in omega arith
+
+pub seated_at : {S H P : Type 0} → (cs : List CellSight) (ws : List (Walk S H P)) (k : ℕ) (c : CellSight) (w : (Walk S H P)) → AllSeated cs ws → k < length cs → c ≡ get_or cs k c → w ≡ get_or ws k w → IsWalk c w
+seated_at [] ws k c w all lt is at = absurd (omega arith)
+seated_at (x ∷ xs) [] k c w all lt is at = absurd all
+seated_at (x ∷ xs) (y ∷ ys) zero c w all lt is at = subst (λ (z : CellSight). IsWalk z w) (sym is) (subst (λ (z : Walk _ _ _). IsWalk x z) (sym at) all.0)
+seated_at (x ∷ xs) (y ∷ ys) (suc k) c w all lt is at = seated_at xs ys k c w all.1 (omega arith) is at
+
+-- the cell there
+pub cell_at : (cs : List CellSight) (k : ℕ) → k < length cs → (c : CellSight) × (c ≡ get_or cs k c)
+cell_at [] k lt = absurd (omega arith)
+cell_at (x ∷ xs) zero lt = (x, refl)
+cell_at (x ∷ xs) (suc k) lt = cell_at xs k (omega arith)
+
+pub seated_many : {S H P : Type 0} → (cs : List CellSight) (ws : List (Walk S H P)) → AllSeated cs ws → length ws ≡ length cs
+seated_many [] [] all = refl
+seated_many [] (w ∷ ws) all = absurd all
+seated_many (c ∷ cs) [] all = absurd all
+seated_many (c ∷ cs) (w ∷ ws) all = ap suc (seated_many cs ws all.1)
+
+pub seated_set : {S H P : Type 0} → (cs : List CellSight) (ws : List (Walk S H P)) (k : ℕ) (c : CellSight) (w : (Walk S H P)) → AllSeated cs ws → k < length cs → c ≡ get_or cs k c → IsWalk c w → AllSeated cs (slice_set ws k w)
+seated_set [] ws k c w all lt is now = absurd (omega arith)
+seated_set (x ∷ xs) [] k c w all lt is now = absurd all
+seated_set (x ∷ xs) (y ∷ ys) zero c w all lt is now = (subst (λ (z : CellSight). IsWalk z w) is now, all.1)
+seated_set (x ∷ xs) (y ∷ ys) (suc k) c w all lt is now = (all.0, seated_set xs ys k c w all.1 (omega arith) is now)
+
+-- the same seat later
+
+pub later_none : (a : Sight) → IsLater a a
+later_none a = record { cell = refl; number = refl; config = refl; seats = refl; closed = refl; receipts = []; denials = []; gained = sym (append-nil _); refused = sym (append-nil _) }
+
+pub later_both : (a b c : Sight) → IsLater a b → IsLater b c → IsLater a c
+later_both a b c x y = record {
+  cell = y.cell ∙ x.cell;
+  number = y.number ∙ x.number;
+  config = y.config ∙ x.config;
+  seats = y.seats ∙ x.seats;
+  closed = y.closed ∙ x.closed;
+  receipts = x.receipts ++ y.receipts;
+  denials = x.denials ++ y.denials;
+  gained = y.gained ∙ ap (λ l. l ++ y.receipts) x.gained ∙ append_assoc a.me.receipts x.receipts y.receipts;
+  refused = y.refused ∙ ap (λ l. l ++ y.denials) x.refused ∙ append_assoc a.me.denials x.denials y.denials;
+}
+
+pub all_later_none : {S H P : Type 0} → (ws : List (Walk S H P)) → AllLater ws ws
+all_later_none [] = tt
+all_later_none (w ∷ ws) = (later_none w.seat, all_later_none ws)
+
+pub all_later_both : {S H P : Type 0} → (xs ys zs : List (Walk S H P)) → AllLater xs ys → AllLater ys zs → AllLater xs zs
+all_later_both [] [] cs x y = y
+all_later_both [] (b ∷ bs) cs x y = absurd x
+all_later_both (a ∷ xs) [] cs x y = absurd x
+all_later_both (a ∷ xs) (b ∷ ys) [] x y = absurd y
+all_later_both (a ∷ xs) (b ∷ ys) (c ∷ zs) x y = (later_both a.seat b.seat c.seat x.0 y.0, all_later_both xs ys zs x.1 y.1)
+
+pub all_later_set : {S H P : Type 0} → (ws : List (Walk S H P)) (k : ℕ) (old w : (Walk S H P)) → k < length ws → old ≡ get_or ws k old → IsLater old.seat w.seat → AllLater ws (slice_set ws k w)
+all_later_set [] k old w lt is l = absurd (omega arith)
+all_later_set (x ∷ xs) zero old w lt is l = (subst (λ (z : (Walk _ _ _)). IsLater z.seat w.seat) is l, all_later_none xs)
+all_later_set (x ∷ xs) (suc k) old w lt is l = (later_none x.seat, all_later_set xs k old w (omega arith) is l)
+
+pub later_at : {S H P : Type 0} → (xs ys : List (Walk S H P)) (k : ℕ) (a b : (Walk S H P)) → AllLater xs ys → k < length xs → a ≡ get_or xs k a → b ≡ get_or ys k b → IsLater a.seat b.seat
+later_at [] ys k a b all lt is at = absurd (omega arith)
+later_at (x ∷ xs) [] k a b all lt is at = absurd all
+later_at (x ∷ xs) (y ∷ ys) zero a b all lt is at = subst (λ (z : Walk _ _ _). IsLater z.seat b.seat) (sym is) (subst (λ (z : Walk _ _ _). IsLater x.seat z.seat) (sym at) all.0)
+later_at (x ∷ xs) (y ∷ ys) (suc k) a b all lt is at = later_at xs ys k a b all.1 (omega arith) is at
+
+-- places that stay
+
+pub places_none : {S H P : Type 0} → (ws : List (Walk S H P)) → SamePlaces ws ws
+places_none [] = tt
+places_none (w ∷ ws) = (refl, places_none ws)
+
+pub places_both : {S H P : Type 0} → (xs ys zs : List (Walk S H P)) → SamePlaces xs ys → SamePlaces ys zs → SamePlaces xs zs
+places_both [] [] zs x y = y
+places_both [] (b ∷ bs) zs x y = absurd x
+places_both (a ∷ xs) [] zs x y = absurd x
+places_both (a ∷ xs) (b ∷ ys) [] x y = absurd y
+places_both (a ∷ xs) (b ∷ ys) (c ∷ zs) x y = (y.0 ∙ x.0, places_both xs ys zs x.1 y.1)
+
+pub places_set : {S H P : Type 0} → (ws : List (Walk S H P)) (k : ℕ) (old w : (Walk S H P)) → k < length ws → old ≡ get_or ws k old → w.place ≡ old.place → SamePlaces ws (slice_set ws k w)
+places_set [] k old w lt is e = absurd (omega arith)
+places_set (x ∷ xs) zero old w lt is e = (e ∙ ap (λ (z : (Walk _ _ _)). z.place) is, places_none xs)
+places_set (x ∷ xs) (suc k) old w lt is e = (refl, places_set xs k old w (omega arith) is e)
+
+pub places_same : {S H P : Type 0} → (xs ys : List (Walk S H P)) → ys ≡ xs → SamePlaces xs ys
+places_same xs ys e = subst (SamePlaces xs) (sym e) (places_none xs)
+
+pub place_at : {S H P : Type 0} → (xs ys : List (Walk S H P)) (k : ℕ) (a b : (Walk S H P)) → SamePlaces xs ys → k < length xs → a ≡ get_or xs k a → b ≡ get_or ys k b → b.place ≡ a.place
+place_at [] ys k a b all lt is at = absurd (omega arith)
+place_at (x ∷ xs) [] k a b all lt is at = absurd all
+place_at (x ∷ xs) (y ∷ ys) zero a b all lt is at = ap (λ (z : (Walk _ _ _)). z.place) at ∙ all.0 ∙ sym (ap (λ (z : (Walk _ _ _)). z.place) is)
+place_at (x ∷ xs) (y ∷ ys) (suc k) a b all lt is at = place_at xs ys k a b all.1 (omega arith) is at
+
+pub places_many : {S H P : Type 0} → (xs ys : List (Walk S H P)) → SamePlaces xs ys → length ys ≡ length xs
+places_many [] [] all = refl
+places_many [] (b ∷ bs) all = absurd all
+places_many (a ∷ xs) [] all = absurd all
+places_many (a ∷ xs) (b ∷ ys) all = ap suc (places_many xs ys all.1)
+
+-- the receipt at the place stays, and there are no fewer
+pub next_later : {S H P : Type 0} → (a b : (Walk S H P)) (r : Applied) → IsLater a.seat b.seat → b.place ≡ a.place → a.place < length a.seat.me.receipts → IsNext a r → IsNext b r × (b.place < length b.seat.me.receipts)
+next_later a b r later place lt next =
+    let l = ap (λ (x : List Applied). length x) later.gained in
+    let m = length-append a.seat.me.receipts later.receipts in (
+      next ∙ sym (get_or-append a.seat.me.receipts later.receipts r a.place lt) ∙ (λ i. get_or (sym later.gained i) (sym place i) r),
+      omega arith,
+    )
+
+pub short_at : {S H P : Type 0} → (ws : List (Walk S H P)) (k : ℕ) (w : (Walk S H P)) → IsShort ws k → w ≡ get_or ws k w → w.place < length w.seat.me.receipts
+short_at ws k w short is = subst (λ (v : (Walk _ _ _)). v.place < length v.seat.me.receipts) (sym is) (short.1 w)
+
+pub still_next : {S H P : Type 0} → (xs ys : List (Walk S H P)) (k : ℕ) (a b : (Walk S H P)) (r : Applied) → IsShort xs k → a ≡ get_or xs k a → b ≡ get_or ys k b → SamePlaces xs ys → AllLater xs ys → IsNext a r → IsNext b r × (b.place < length b.seat.me.receipts)
+still_next xs ys k a b r short is at places later next = next_later a b r (later_at xs ys k a b later short.0 is at) (place_at xs ys k a b places short.0 is at) (short_at xs k a short is) next
+
+pub take_whole : {A : Type 0} (xs : List A) (k : ℕ) → length xs ≤ k → take k xs ≡ xs
+take_whole [] zero le = refl
+take_whole [] (suc k) le = refl
+take_whole (x ∷ xs) zero le = absurd (omega arith)
+take_whole (x ∷ xs) (suc k) le = ap (λ l. x ∷ l) (take_whole xs k (omega arith))
+
+pub moved_walk : {S H P : Type 0} → (c : CellSight) (w v : (Walk S H P)) → IsWalk c w → w.place < length w.seat.me.receipts → v.seat ≡ w.seat → v.place ≡ w.place + 1 → IsWalk c v
+moved_walk c w v walk lt seat place = (subst (IsSeatOf c) (sym seat) walk.0, (let l : length v.seat.me.receipts ≡ length w.seat.me.receipts = ap (λ (s : Sight). length s.me.receipts) seat in omega arith))
+
+-- jobs for one node more
+hears_of-append : (e : Emission) (hs : List Host) (h : Host) → hears_of e (hs ++ h ∷ []) ≡ hears_of e hs ++ hear_by e h
+hears_of-append e [] h = append-nil _
+hears_of-append e (x ∷ hs) h = ap (λ l. hear_by e x ++ l) (hears_of-append e hs h) ∙ sym (append_assoc (hear_by e x) (hears_of e hs) (hear_by e h))
+
+pub hears_more : (e : Emission) (hs : List Host) (k : ℕ) (h : Host) → k < length hs → h ≡ get_or hs k h → hears_of e (take k hs) ++ hear_by e h ≡ hears_of e (take (k + 1) hs)
+hears_more e hs k h lt at = sym (hears_of-append e (take k hs) h) ∙ ap (hears_of e) (ap (λ (x : Host). take k hs ++ x ∷ []) at ∙ sym (take_more hs k h lt))
+
+-- jobs for one out more
+
+emits : (config : Config) (os : List Out) (ns : List ℕ) (o : Out) (e : Emission) → emission_in config.number o (slice_get ns 0) ≡ Some e → hears_from config (o ∷ os) ns ≡ hears_of e config.hosts ++ hears_from config os (drop 1 ns)
+emits config os ns (ArmNomination r) e is = absurd (cc)
+emits config os ns (ArmBallot n) e is = absurd (cc)
+emits config os ns (Externalized v) e is = absurd (cc)
+emits config os [] (Emit s) e is = absurd (cc)
+emits config os (m ∷ ms) (Emit s) e is = ap (λ x. hears_of x config.hosts ++ hears_from config os ms) (some_same is)
+  where
+    some_same : {X : Type 0} {x y : X} → Some x ≡ Some y → x ≡ y
+    some_same e = cc
+
+emits_not : (config : Config) (os : List Out) (ns : List ℕ) (o : Out) → emission_in config.number o (slice_get ns 0) ≡ None → hears_from config (o ∷ os) ns ≡ hears_from config os ns
+emits_not config os ns (ArmNomination r) is = refl
+emits_not config os ns (ArmBallot n) is = refl
+emits_not config os ns (Externalized v) is = refl
+emits_not config os [] (Emit s) is = refl
+emits_not config os (m ∷ ms) (Emit s) is = absurd (cc)
+
+get_drop : (ms : List ℕ) (k : ℕ) → slice_get ms k ≡ slice_get (drop k ms) 0
+get_drop [] zero = refl
+get_drop [] (suc k) = refl
+get_drop (m ∷ ms) zero = refl
+get_drop (m ∷ ms) (suc k) = get_drop ms k
+
+drop_suc : (ms : List ℕ) (k : ℕ) → drop (suc k) ms ≡ drop 1 (drop k ms)
+drop_suc [] zero = refl
+drop_suc [] (suc k) = refl
+drop_suc (m ∷ ms) zero = refl
+drop_suc (m ∷ ms) (suc k) = drop_suc ms k
+
+pub found_some : (config : Config) (os : List Out) (ms : List ℕ) (index mark : ℕ) (o : Out) (e : Emission) → index < length os → emission_in config.number (get_or os index o) (slice_get ms mark) ≡ Some e
+    → hears_from config (drop index os) (drop mark ms) ≡ hears_of e config.hosts ++ hears_from config (drop (index + 1) os) (drop (mark + 1) ms)
+found_some config os ms index mark o e lt is =
+    let more : suc mark ≡ mark + 1 = omega arith in
+    at_drop_more (λ l. hears_from config l (drop mark ms)) os index o lt
+    ∙ emits config (drop (index + 1) os) (drop mark ms) (get_or os index o) e (ap (emission_in config.number (get_or os index o)) (sym (get_drop ms mark)) ∙ is)
+    ∙ ap (λ l. hears_of e config.hosts ++ hears_from config (drop (index + 1) os) l) (sym (drop_suc ms mark) ∙ ap (λ k. drop k ms) more)
+
+pub found_none : (config : Config) (os : List Out) (ms : List ℕ) (index mark : ℕ) (o : Out) → index < length os → emission_in config.number (get_or os index o) (slice_get ms mark) ≡ None
+    → hears_from config (drop index os) (drop mark ms) ≡ hears_from config (drop (index + 1) os) (drop mark ms)
+found_none config os ms index mark o lt is =
+    at_drop_more (λ l. hears_from config l (drop mark ms)) os index o lt
+    ∙ emits_not config (drop (index + 1) os) (drop mark ms) (get_or os index o) (ap (emission_in config.number (get_or os index o)) (sym (get_drop ms mark)) ∙ is)
+
+pub found_network : (n : ℕ) (o : Out) (m : Option ℕ) (e : Emission) → emission_in n o m ≡ Some e → e.network ≡ n
+found_network n (ArmNomination r) m e is = absurd (cc)
+found_network n (ArmBallot k) m e is = absurd (cc)
+found_network n (Externalized v) m e is = absurd (cc)
+found_network n (Emit s) None e is = absurd (cc)
+found_network n (Emit s) (Some m) e is = sym (ap (λ (x : Emission). x.network) (some_same is))
+  where
+    some_same : {X : Type 0} {x y : X} → Some x ≡ Some y → x ≡ y
+    some_same e = cc
+
+pub number_at : (cs : List CellSight) (k : ℕ) (c : CellSight) (n m : ℕ) → k < length cs → c ≡ get_or cs k c → n ≡ c.config.number → m ≡ n → IsNumberAt cs k m
+number_at cs k c n m lt at is same = λ d. ap (λ (x : CellSight). x.config.number) (get_or_same cs k d c lt ∙ sym at) ∙ sym (same ∙ is)
+
+-- all outs of the receipt were handed on
+pub hears_whole : {S H P : Type 0} (c : CellSight) (w : Walk S H P) (config : Config) (r : Applied) (index mark : ℕ) (handed : List Job) → IsWalk c w → config ≡ c.config → length r.outs ≤ index → handed ++ hears_from config (drop index r.outs) (drop mark r.marks) ≡ hears config r → handed ≡ hears w.seat.me.config r
+hears_whole c w config r index mark handed walk is le all =
+    sym (append-nil handed)
+    ∙ sym (at_drop_all (λ l. handed ++ hears_from config l (drop mark r.marks)) r.outs index le)
+    ∙ all ∙ ap (λ (k : Config). hears k r) (is ∙ sym walk.0.config)
+
+-- past all receipts but one seat's
+
+pub past_but : {S H P : Type 0} → (ws : List (Walk S H P)) (k : ℕ) → AllPast ws → AllPastBut k ws
+past_but [] k all = tt
+past_but (w ∷ ws) zero all = all.1
+past_but (w ∷ ws) (suc k) all = (all.0, past_but ws k all.1)
+
+pub past_set : {S H P : Type 0} → (ws : List (Walk S H P)) (k : ℕ) (v : (Walk S H P)) → AllPastBut k ws → AllPastBut k (slice_set ws k v)
+past_set [] k v all = tt
+past_set (w ∷ ws) zero v all = all
+past_set (w ∷ ws) (suc k) v all = (all.0, past_set ws k v all.1)
+
+pub past_all : {S H P : Type 0} → (ws : List (Walk S H P)) (k : ℕ) (w : (Walk S H P)) → AllPastBut k ws → w ≡ get_or ws k w → length w.seat.me.receipts ≤ w.place → AllPast ws
+past_all [] k w all is one = tt
+past_all (x ∷ xs) zero w all is one = (subst (λ (y : (Walk _ _ _)). length y.seat.me.receipts ≤ y.place) is one, all)
+past_all (x ∷ xs) (suc k) w all is one = (all.0, past_all xs k w all.1 is one)
+
+-- one job by one seat
+
+asked_same : {S H P : Type 0} → (h : Job → ℕ) (a b : (Walk S H P)) (more : List Applied) → b.seat.me.config ≡ a.seat.me.config → b.place ≡ a.place → b.seat.me.receipts ≡ a.seat.me.receipts ++ more → a.place ≤ length a.seat.me.receipts → asked_by h b ≡ asked_by h a
+asked_same h a b more config place gained le =
+    (λ i. heard_of h (config i) (take (place i) (gained i)))
+    ∙ ap (heard_of h a.seat.me.config) (take-append-le a.place a.seat.me.receipts more le)
+
+pub done_well : {S H P : Type 0} (a b : Walk S H P) (c : CellSight) (j : Job) (x : Applied) → c.config.number ≡ j.network → IsWalk c a → IsSeatOf c b.seat → b.place ≡ a.place → b.seat.me.number ≡ a.seat.me.number
+    → x.event ≡ j.event → b.seat.me.receipts ≡ a.seat.me.receipts ++ x ∷ [] → b.seat.me.denials ≡ a.seat.me.denials
+    → IsDone a b j true
+done_well a b c j x here walk seat place number event more same =
+    let config : b.seat.me.config ≡ a.seat.me.config = seat.config ∙ sym walk.0.config in
+    let n : ℕ = a.seat.me.config.number in
+    record {
+      later = record { cell = seat.cell ∙ sym walk.0.cell; number = number; config = config; seats = seat.seats ∙ sym walk.0.seats; closed = seat.open_yet ∙ sym walk.0.open_yet; receipts = x ∷ []; denials = []; gained = more; refused = same ∙ sym (append-nil _) };
+      place = place;
+      sum = λ h.
+          let p : applied_of h b.seat.me.config b.seat.me.receipts ≡ applied_of h a.seat.me.config a.seat.me.receipts + h (job n x.event) = (λ i. applied_of h (config i) (more i)) ∙ weigh-append (λ (r : Applied). h (job n r.event)) a.seat.me.receipts (x ∷ []) ∙ omega arith in
+          let q : h (job n x.event) ≡ h j = λ i. h (job ((ap (λ (k : Config). k.number) walk.0.config ∙ here) i) (event i)) in
+          let d : refused_of h b.seat.me.config b.seat.me.denials ≡ refused_of h a.seat.me.config a.seat.me.denials = λ i. refused_of h (config i) (same i) in
+          omega arith;
+      asked = λ h. asked_same h a b (x ∷ []) config place more walk.1;
+      applied = ap (λ (l : List Applied). length l) more ∙ length-append a.seat.me.receipts (x ∷ []);
+      refused = ap (λ (l : List Denial). length l) same ∙ omega arith;
+    }
+
+pub done_ill : {S H P : Type 0} (a b : Walk S H P) (c : CellSight) (j : Job) (x : Denial) → c.config.number ≡ j.network → IsWalk c a → IsSeatOf c b.seat → b.place ≡ a.place → b.seat.me.number ≡ a.seat.me.number
+    → x.event ≡ j.event → b.seat.me.receipts ≡ a.seat.me.receipts → b.seat.me.denials ≡ a.seat.me.denials ++ x ∷ []
+    → IsDone a b j false
+done_ill a b c j x here walk seat place number event unchanged more =
+    let config : b.seat.me.config ≡ a.seat.me.config = seat.config ∙ sym walk.0.config in
+    let same : b.seat.me.receipts ≡ a.seat.me.receipts ++ [] = unchanged ∙ sym (append-nil _) in
+    let n : ℕ = a.seat.me.config.number in
+    record {
+      later = record { cell = seat.cell ∙ sym walk.0.cell; number = number; config = config; seats = seat.seats ∙ sym walk.0.seats; closed = seat.open_yet ∙ sym walk.0.open_yet; receipts = []; denials = x ∷ []; gained = same; refused = more };
+      place = place;
+      sum = λ h.
+          let p : applied_of h b.seat.me.config b.seat.me.receipts ≡ applied_of h a.seat.me.config a.seat.me.receipts = λ i. applied_of h (config i) (unchanged i) in
+          let d : refused_of h b.seat.me.config b.seat.me.denials ≡ refused_of h a.seat.me.config a.seat.me.denials + h (job n x.event) = (λ i. refused_of h (config i) (more i)) ∙ weigh-append (λ (x : Denial). h (job n x.event)) a.seat.me.denials (x ∷ []) ∙ omega arith in
+          let q : h (job n x.event) ≡ h j = λ i. h (job ((ap (λ (k : Config). k.number) walk.0.config ∙ here) i) (event i)) in
+          omega arith;
+      asked = λ h. asked_same h a b [] config place same walk.1;
+      applied = ap (λ (l : List Applied). length l) unchanged ∙ omega arith;
+      refused = ap (λ (l : List Denial). length l) more ∙ length-append a.seat.me.denials (x ∷ []);
+    }
+
+-- what a worker keeps
+
+pub all_lack_both : (cs : List CellSight) (xs ys : List Job) → AllLack cs xs → AllLack cs ys → AllLack cs (xs ++ ys)
+all_lack_both cs [] ys a b = b
+all_lack_both cs (x ∷ xs) ys a b = (a.0, all_lack_both cs xs ys a.1 b)
+
+pub kept_none : {S H P : Type 0} → (cs : List CellSight) (a : (Worker S H P)) → IsKept cs [] a a
+kept_none cs a = record { lacking = []; elsewhere = tt; sum = λ h. omega arith; applied = omega arith; refused = omega arith; later = all_later_none a.walks.items; parts = refl }
+
+pub kept_both : {S H P : Type 0} → (cs : List CellSight) (xs ys : List Job) (a b c : (Worker S H P)) → IsKept cs xs a b → IsKept cs ys b c → IsKept cs (xs ++ ys) a c
+kept_both cs xs ys a b c k l = record {
+  lacking = k.lacking ++ l.lacking;
+  elsewhere = all_lack_both cs k.lacking l.lacking k.elsewhere l.elsewhere;
+  sum = λ h. let x = k.sum h in let y = l.sum h in let z = weigh-append h k.lacking l.lacking in let w = weigh-append h xs ys in omega arith;
+  applied = let x = k.applied in let y = l.applied in omega arith;
+  refused = let x = k.refused in let y = l.refused in let z = length-append k.lacking l.lacking in omega arith;
+  later = all_later_both a.walks.items b.walks.items c.walks.items k.later l.later;
+  parts = l.parts ∙ k.parts;
+}
+
+-- a job of no network here
+pub kept_lacking : {S H P : Type 0} → (cs : List CellSight) (a b : (Worker S H P)) (j : Job) → Lacks cs j.network → b.walks.items ≡ a.walks.items → b.pass ≡ a.pass → b.applied ≡ a.applied → b.refused ≡ a.refused + 1 → IsKept cs (j ∷ []) a b
+kept_lacking cs a b j lacks walks pass applied refused = record {
+  lacking = j ∷ [];
+  elsewhere = (lacks, tt);
+  sum = λ h.
+      let d : done h b ≡ done h a = ap (weigh (done_by h)) walks in
+      let k : asked h b ≡ asked h a = ap (weigh (asked_by h)) walks in
+      let p : put h b ≡ put h a = ap (λ p. weigh h (hand_of p).put) pass in
+      let t : taken h b ≡ taken h a = ap (λ p. weigh h (hand_of p).taken) pass in
+      omega arith;
+  applied = let m : weigh applied_many b.walks.items ≡ weigh applied_many a.walks.items = ap (weigh applied_many) walks in omega arith;
+  refused = let m : weigh refused_many b.walks.items ≡ weigh refused_many a.walks.items = ap (weigh refused_many) walks in omega arith;
+  later = subst (AllLater a.walks.items) (sym walks) (all_later_none a.walks.items);
+  parts = ap (λ p. (hand_of p).parts) pass;
+}
+
+-- a job by one seat
+pub kept_done : {S H P : Type 0} → (cs : List CellSight) (a b : (Worker S H P)) (j : Job) (k : ℕ) (old new : (Walk S H P)) (well : Bool) → k < length a.walks.items → old ≡ get_or a.walks.items k old → IsDone old new j well
+    → b.walks.items ≡ slice_set a.walks.items k new → b.pass ≡ a.pass
+    → b.applied ≡ a.applied + (if well then 1 else 0) → b.refused ≡ a.refused + (if well then 0 else 1)
+    → IsKept cs (j ∷ []) a b
+kept_done cs a b j k old new well lt at one walks pass applied refused = record {
+  lacking = [];
+  elsewhere = tt;
+  sum = λ h.
+      let d : done h b ≡ weigh (done_by h) (slice_set a.walks.items k new) = ap (weigh (done_by h)) walks in
+      let s = weigh_set (done_by h) a.walks.items k old new lt at in
+      let x = one.sum h in
+      let e : asked h b ≡ weigh (asked_by h) (slice_set a.walks.items k new) = ap (weigh (asked_by h)) walks in
+      let f = weigh_set (asked_by h) a.walks.items k old new lt at in
+      let y = one.asked h in
+      let p : put h b ≡ put h a = ap (λ p. weigh h (hand_of p).put) pass in
+      let t : taken h b ≡ taken h a = ap (λ p. weigh h (hand_of p).taken) pass in
+      omega arith;
+  applied =
+      let m : weigh applied_many b.walks.items ≡ weigh applied_many (slice_set a.walks.items k new) = ap (weigh applied_many) walks in
+      let s = weigh_set applied_many a.walks.items k old new lt at in
+      let x = one.applied in omega arith;
+  refused =
+      let m : weigh refused_many b.walks.items ≡ weigh refused_many (slice_set a.walks.items k new) = ap (weigh refused_many) walks in
+      let s = weigh_set refused_many a.walks.items k old new lt at in
+      let x = one.refused in omega arith;
+  later = subst (AllLater a.walks.items) (sym walks) (all_later_set a.walks.items k old new lt at one.later);
+  parts = ap (λ p. (hand_of p).parts) pass;
+}
+
+-- the job went into the queue
+pub kept_put : {S H P : Type 0} → (cs : List CellSight) (a b : (Worker S H P)) (j : Job) → b.walks ≡ a.walks → b.applied ≡ a.applied → b.refused ≡ a.refused → hand_of b.pass ≡ with_put (hand_of a.pass) j → IsKept cs (j ∷ []) a b
+kept_put cs a b j walks applied refused pass =
+    let items : b.walks.items ≡ a.walks.items = ap (λ v. v.items) walks in
+    record {
+      lacking = [];
+      elsewhere = tt;
+      sum = λ h.
+          let d : done h b ≡ done h a = ap (weigh (done_by h)) items in
+          let k : asked h b ≡ asked h a = ap (weigh (asked_by h)) items in
+          let p : put h b ≡ put h a + h j = ap (λ (v : Hand). weigh h v.put) pass ∙ weigh-append h (hand_of a.pass).put (j ∷ []) ∙ omega arith in
+          let t : taken h b ≡ taken h a = ap (λ (v : Hand). weigh h v.taken) pass in
+          omega arith;
+      applied = let m : weigh applied_many b.walks.items ≡ weigh applied_many a.walks.items = ap (weigh applied_many) items in omega arith;
+      refused = let m : weigh refused_many b.walks.items ≡ weigh refused_many a.walks.items = ap (weigh refused_many) items in omega arith;
+      later = subst (AllLater a.walks.items) (sym items) (all_later_none a.walks.items);
+      parts = ap (λ (v : Hand). v.parts) pass;
+    }
+
+-- nothing changed that is counted
+pub kept_same : {S H P : Type 0} → (cs : List CellSight) (xs : List Job) (a b c : (Worker S H P)) → b.walks ≡ a.walks → b.applied ≡ a.applied → b.refused ≡ a.refused → hand_of b.pass ≡ hand_of a.pass → IsKept cs xs b c → IsKept cs xs a c
+kept_same cs xs a b c walks applied refused pass kept =
+    let items : b.walks.items ≡ a.walks.items = ap (λ v. v.items) walks in
+    record {
+      lacking = kept.lacking;
+      elsewhere = kept.elsewhere;
+      sum = λ h.
+          let d : done h b ≡ done h a = ap (weigh (done_by h)) items in
+          let k : asked h b ≡ asked h a = ap (weigh (asked_by h)) items in
+          let p : put h b ≡ put h a = ap (λ (v : Hand). weigh h v.put) pass in
+          let t : taken h b ≡ taken h a = ap (λ (v : Hand). weigh h v.taken) pass in
+          let s = kept.sum h in omega arith;
+      applied = let m : weigh applied_many b.walks.items ≡ weigh applied_many a.walks.items = ap (weigh applied_many) items in let s = kept.applied in omega arith;
+      refused = let m : weigh refused_many b.walks.items ≡ weigh refused_many a.walks.items = ap (weigh refused_many) items in let s = kept.refused in omega arith;
+      later = subst (λ l. AllLater l c.walks.items) items kept.later;
+      parts = kept.parts ∙ ap (λ (v : Hand). v.parts) pass;
+    }
+
+-- the job that was taken is done
+pub kept_taken : {S H P : Type 0} → (cs : List CellSight) (a b c : (Worker S H P)) (j : Job) → b.walks ≡ a.walks → b.applied ≡ a.applied → b.refused ≡ a.refused → hand_of b.pass ≡ with_taken (hand_of a.pass) j → IsKept cs (j ∷ []) b c → IsKept cs [] a c
+kept_taken cs a b c j walks applied refused pass kept =
+    let items : b.walks.items ≡ a.walks.items = ap (λ v. v.items) walks in
+    record {
+      lacking = kept.lacking;
+      elsewhere = kept.elsewhere;
+      sum = λ h.
+          let d : done h b ≡ done h a = ap (weigh (done_by h)) items in
+          let k : asked h b ≡ asked h a = ap (weigh (asked_by h)) items in
+          let p : put h b ≡ put h a = ap (λ (v : Hand). weigh h v.put) pass in
+          let t : taken h b ≡ taken h a + h j = ap (λ (v : Hand). weigh h v.taken) pass ∙ weigh-append h (hand_of a.pass).taken (j ∷ []) ∙ omega arith in
+          let s = kept.sum h in omega arith;
+      applied = let m : weigh applied_many b.walks.items ≡ weigh applied_many a.walks.items = ap (weigh applied_many) items in let s = kept.applied in omega arith;
+      refused = let m : weigh refused_many b.walks.items ≡ weigh refused_many a.walks.items = ap (weigh refused_many) items in let s = kept.refused in omega arith;
+      later = subst (λ l. AllLater l c.walks.items) items kept.later;
+      parts = kept.parts ∙ ap (λ (v : Hand). v.parts) pass;
+    }
+
+-- the place is past a receipt whose emissions were handed on
+pub kept_moved : {S H P : Type 0} → (cs : List CellSight) (a b c : (Worker S H P)) (k : ℕ) (w v : (Walk S H P)) (r : Applied) (xs : List Job) → k < length b.walks.items → w ≡ get_or b.walks.items k w → IsNext w r → w.place < length w.seat.me.receipts
+    → xs ≡ hears w.seat.me.config r → v.seat ≡ w.seat → v.place ≡ w.place + 1
+    → c.walks.items ≡ slice_set b.walks.items k v → c.pass ≡ b.pass → c.applied ≡ b.applied → c.refused ≡ b.refused
+    → IsKept cs xs a b → IsKept cs [] a c
+kept_moved cs a b c k w v r xs lt at next short is seat place walks pass applied refused kept =
+    let later : IsLater w.seat v.seat = record {
+      cell = ap (λ (s : Sight). s.cell) seat;
+      number = ap (λ (s : Sight). s.me.number) seat;
+      config = ap (λ (s : Sight). s.me.config) seat;
+      seats = ap (λ (s : Sight). s.me.seats) seat;
+      closed = ap (λ (s : Sight). s.me.closed) seat;
+      receipts = [];
+      denials = [];
+      gained = ap (λ (s : Sight). s.me.receipts) seat ∙ sym (append-nil _);
+      refused = ap (λ (s : Sight). s.me.denials) seat ∙ sym (append-nil _);
+    } in
+    record {
+      lacking = kept.lacking;
+      elsewhere = kept.elsewhere;
+      sum = λ h.
+          let s = kept.sum h in
+          let d : done h c ≡ weigh (done_by h) (slice_set b.walks.items k v) = ap (weigh (done_by h)) walks in
+          let d' = weigh_set (done_by h) b.walks.items k w v lt at in
+          let same : done_by h v ≡ done_by h w = ap (seat_done h) seat in
+          let e : asked h c ≡ weigh (asked_by h) (slice_set b.walks.items k v) = ap (weigh (asked_by h)) walks in
+          let e' = weigh_set (asked_by h) b.walks.items k w v lt at in
+          let more : asked_by h v ≡ asked_by h w + weigh h xs =
+          (λ i. heard_of h (seat i).me.config (take (place i) (seat i).me.receipts))
+          ∙ ap (heard_of h w.seat.me.config) (take_more w.seat.me.receipts w.place r short ∙ ap (λ (x : Applied). take w.place w.seat.me.receipts ++ x ∷ []) (sym next))
+          ∙ weigh-append (λ (x : Applied). weigh h (hears w.seat.me.config x)) (take w.place w.seat.me.receipts) (r ∷ [])
+          ∙ omega arith
+          ∙ ap (λ (l : List Job). asked_by h w + weigh h l) (sym is) in
+          let p : put h c ≡ put h b = ap (λ p. weigh h (hand_of p).put) pass in
+          let t : taken h c ≡ taken h b = ap (λ p. weigh h (hand_of p).taken) pass in
+          omega arith;
+      applied =
+          let m : weigh applied_many c.walks.items ≡ weigh applied_many (slice_set b.walks.items k v) = ap (weigh applied_many) walks in
+          let n = weigh_set applied_many b.walks.items k w v lt at in
+          let same : applied_many v ≡ applied_many w = ap (λ (t : Sight). length t.me.receipts) seat in
+          let s = kept.applied in omega arith;
+      refused =
+          let m : weigh refused_many c.walks.items ≡ weigh refused_many (slice_set b.walks.items k v) = ap (weigh refused_many) walks in
+          let n = weigh_set refused_many b.walks.items k w v lt at in
+          let same : refused_many v ≡ refused_many w = ap (λ (t : Sight). length t.me.denials) seat in
+          let s = kept.refused in omega arith;
+      later = all_later_both a.walks.items b.walks.items c.walks.items kept.later (subst (AllLater b.walks.items) (sym walks) (all_later_set b.walks.items k w v lt at later));
+      parts = ap (λ p. (hand_of p).parts) pass ∙ kept.parts;
+    }
+
+summed_none : {S H P : Type 0} (cs : List CellSight) → IsSummed {S = S} {H = H} {P = P} cs [] []
+summed_none cs = record { lacking = []; elsewhere = tt; sum = λ h. refl; applied = refl; refused = refl; later = tt; parts = refl }
+
+summed_one : {S H P : Type 0} → (cs : List CellSight) (a b : (Worker S H P)) (xs ys : List (Worker S H P)) → IsKept cs [] a b → IsSummed cs xs ys → IsSummed cs (a ∷ xs) (b ∷ ys)
+summed_one cs a b xs ys k s = record {
+  lacking = k.lacking ++ s.lacking;
+  elsewhere = all_lack_both cs k.lacking s.lacking k.elsewhere s.elsewhere;
+  sum = λ h. let x = k.sum h in let y = s.sum h in let z = weigh-append h k.lacking s.lacking in omega arith;
+  applied = let x = k.applied in let y = s.applied in omega arith;
+  refused = let x = k.refused in let y = s.refused in let z = length-append k.lacking s.lacking in omega arith;
+  later = (k.later, s.later);
+  parts = let x = k.parts in let y = s.parts in omega arith;
+}
+
+-- the workers' sums are added up
+pub summed : {S H P : Type 0} → (cs : List CellSight) (q : Option Queue) (xs ys : List (Worker S H P)) → length ys ≡ length xs → ((i : ℕ) (d : (Worker S H P)) → i < length xs → IsThrough cs q (get_or xs i d) (get_or ys i d)) → IsSummed cs xs ys × AllReady cs q ys
+summed cs q [] [] len all = (summed_none cs, tt)
+summed cs q [] (y ∷ ys) len all = absurd (omega arith)
+summed cs q (x ∷ xs) [] len all = absurd (omega arith)
+summed cs q (x ∷ xs) (y ∷ ys) len all =
+    let t = all 0 x (omega arith) in
+    let r = summed cs q xs ys (omega arith) (λ i d lt. all (suc i) d (omega arith)) in
+    (summed_one cs x y xs ys t.kept r.0, (t.ready, r.1))
+
+-- what was handed, in another order
+pub kept_handed : {S H P : Type 0} → (cs : List CellSight) (xs ys : List Job) (a b : (Worker S H P)) → ((h : Job → ℕ) → weigh h xs ≡ weigh h ys) → IsKept cs xs a b → IsKept cs ys a b
+kept_handed cs xs ys a b same k = record {
+  lacking = k.lacking;
+  elsewhere = k.elsewhere;
+  sum = λ h. let x = k.sum h in let y = same h in omega arith;
+  applied = k.applied;
+  refused = k.refused;
+  later = k.later;
+  parts = k.parts;
+}
+
+-- the last of a list
+
+pub weigh-last : {X : Type 0} (f : X → ℕ) (before after : List X) (x : X) → before ≡ after ++ x ∷ [] → weigh f before ≡ weigh f after + f x
+weigh-last f before after x is = ap (weigh f) is ∙ weigh-append f after (x ∷ []) ∙ omega arith
+
+pub all_of : (q : Queue) (ps : List (Pass Job Hand)) → AllPassing (Some q) ps → AllPasses (IsOf q) ps
+all_of q [] all = tt
+all_of q (p ∷ ps) all = (all.0, all_of q ps all.1)
+
+-- states between two jobs
+
+pub is_seated : {S H P : Type 0} → (cs : List CellSight) (q : Option Queue) (k : ℕ) (w : (Worker S H P)) → IsBusy cs q k w → k < length w.walks.items
+is_seated cs q k w b = let m = seated_many cs w.walks.items b.seated in let lt = b.there in omega arith
+
+pub busy : {S H P : Type 0} → (cs : List CellSight) (q : Option Queue) (k : ℕ) (w : (Worker S H P)) → k < length cs → IsReady cs q w → IsBusy cs q k w
+busy cs q k w lt r = record { seated = r.seated; passing = r.passing; there = lt; past = past_but w.walks.items k r.past }
+
+pub settled : {S H P : Type 0} → (cs : List CellSight) (q : Option Queue) (k : ℕ) (w : (Worker S H P)) (v : (Walk S H P)) → IsBusy cs q k w → v ≡ get_or w.walks.items k v → length v.seat.me.receipts ≤ v.place → IsReady cs q w
+settled cs q k w v b is past = record { seated = b.seated; passing = b.passing; past = past_all w.walks.items k v b.past is past }
+
+-- the same walks with another pass
+pub ready_same : {S H P : Type 0} → (cs : List CellSight) (q : Option Queue) (a b : (Worker S H P)) → b.walks ≡ a.walks → IsPassing q b.pass → IsReady cs q a → IsReady cs q b
+ready_same cs q a b walks passing r =
+    let items : b.walks.items ≡ a.walks.items = ap (λ v. v.items) walks in
+    record { seated = subst (AllSeated cs) (sym items) r.seated; passing = passing; past = subst AllPast (sym items) r.past }
+
+pub busy_same : {S H P : Type 0} → (cs : List CellSight) (q : Option Queue) (k : ℕ) (a b : (Worker S H P)) → b.walks ≡ a.walks → IsPassing q b.pass → IsBusy cs q k a → IsBusy cs q k b
+busy_same cs q k a b walks passing r =
+    let items : b.walks.items ≡ a.walks.items = ap (λ v. v.items) walks in
+    record { seated = subst (AllSeated cs) (sym items) r.seated; passing = passing; there = r.there; past = subst (AllPastBut k) (sym items) r.past }
+
+-- one walk was changed
+pub busy_set : {S H P : Type 0} → (cs : List CellSight) (q : Option Queue) (k : ℕ) (a b : (Worker S H P)) (c : CellSight) (v : (Walk S H P)) → b.walks.items ≡ slice_set a.walks.items k v → b.pass ≡ a.pass → c ≡ get_or cs k c → IsWalk c v → IsBusy cs q k a → IsBusy cs q k b
+busy_set cs q k a b c v items pass at walk r = record {
+  seated = subst (AllSeated cs) (sym items) (seated_set cs a.walks.items k c v r.seated r.there at walk);
+  passing = subst (IsPassing q) (sym pass) r.passing;
+  there = r.there;
+  past = subst (AllPastBut k) (sym items) (past_set a.walks.items k v r.past);
+}
+
+pub short_of : {S H P : Type 0} → (ws : List (Walk S H P)) (k : ℕ) (w : (Walk S H P)) → k < length ws → w ≡ get_or ws k w → w.place < length w.seat.me.receipts → IsShort ws k
+short_of ws k w lt at short = (lt, λ d. subst (λ (v : (Walk _ _ _)). v.place < length v.seat.me.receipts) (at ∙ get_or_same ws k w d lt) short)
+
+weigh-reverse : {X : Type 0} (h : X → ℕ) (xs : List X) → weigh h (reverse xs) ≡ weigh h xs
+weigh-reverse h [] = refl
+weigh-reverse h (x ∷ xs) = ap (weigh h) (reverse-append (x ∷ []) xs) ∙ weigh-append h (reverse xs) (x ∷ []) ∙ (let r = weigh-reverse h xs in omega arith)
+
+pub weigh-turned : {X : Type 0} (h : X → ℕ) (xs ys : List X) → ys ≡ reverse xs → weigh h ys ≡ weigh h xs
+weigh-turned h xs ys is = ap (weigh h) is ∙ weigh-reverse h xs

@@ -1,0 +1,8 @@
+use Rattle.workers.proofs.Sums.{summed}
+use Rattle.workers.proofs.pool.work_all.Goals as goal
+
+pub returns-clause-summed : goal.returns-clause-summed
+returns-clause-summed g c = (summed _ _ _ _ c.start.ensures.len c.start.ensures.through).0
+
+pub returns-clause-ready : goal.returns-clause-ready
+returns-clause-ready g c = (summed _ _ _ _ c.start.ensures.len c.start.ensures.through).1

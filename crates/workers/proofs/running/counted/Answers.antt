@@ -1,0 +1,27 @@
+use Rattle.std.proofs.Common.{ap, ◌∙◌, arith, refl, length, ◌≤◌}
+use Rattle.work.specs.Hands.{weigh}
+use Rattle.workers.specs.Sums.{applied_by, refused_by}
+use Rattle.workers.proofs.Pools.{take_all}
+use Rattle.workers.proofs.Worked.{weigh_more}
+use Rattle.workers.proofs.running.counted.Goals as goal
+
+pub loop-worker-preserved : goal.loop-worker-preserved
+loop-worker-preserved g c =
+    let i = c.loop-worker.invariant in
+    let ws = c.args.workers.now in
+    let n = c.loop-worker.worker-index in
+    let x = c.worker-item.result in (
+      c.add-applied.ensures ∙ (let m = weigh_more applied_by ws n x c.loop-worker-test.true c.worker-item.is in let j = i.0 in omega arith),
+      c.add-refused.ensures ∙ (let m = weigh_more refused_by ws n x c.loop-worker-test.true c.worker-item.is in let j = i.1 in omega arith),
+    )
+
+pub returns : goal.returns
+returns g c =
+    let i = c.loop-worker.invariant in
+    let ws = c.args.workers.now in
+    let le : length ws ≤ c.loop-worker.worker-index = let t = c.loop-worker-test.false in omega arith in
+    record {
+      applied = i.0 ∙ ap (weigh applied_by) (take_all ws c.loop-worker.worker-index le);
+      refused = i.1 ∙ ap (weigh refused_by) (take_all ws c.loop-worker.worker-index le);
+      unrun = refl;
+    }

@@ -1,0 +1,36 @@
+use Rattle.std.proofs.Common.{◌≡◌, ap, inl, inr, refl, arith}
+use Rattle.work.specs.Hands.{weigh}
+use Rattle.work.specs.declared.rule.Job.{Job}
+use Rattle.workers.specs.declared.shared.Shared.{Shared}
+use Rattle.workers.proofs.Nets.{done_after, floor_after, grown_after, nets_same}
+use Rattle.workers.proofs.Offers.{all_left}
+use Rattle.workers.proofs.Worked.{many_ones}
+use Rattle.workers.proofs.running.offer.Goals as goal
+
+pub invariant_of-host : goal.invariant_of-host
+invariant_of-host g c =
+    let e = c.offer_on-passes.ensures in
+    floor_after c.host.inside.floor _ c.host.invariant (ap (λ (s : (Shared _ _ _)). s.numbers) e.shared) (ap (λ (s : (Shared _ _ _)). s.cells) e.shared) c.take.ensures.after e.grown
+
+pub returns-in-Some-clause-same : goal.returns-in-Some-clause-same
+returns-in-Some-clause-same g c =
+    let e = c.offer_on-passes.ensures in
+    grown_after c.host.inside.floor c.offer_on-passes.new.floor c.args.host.now c.host.invariant c.host.view_is (ap (λ (s : (Shared _ _ _)). s.cells) e.shared) e.grown
+
+pub returns-in-Some-clause-offered : goal.returns-in-Some-clause-offered
+returns-in-Some-clause-offered g c =
+    let e = c.offer_on-passes.ensures in
+    inl (done_after c.host.inside.floor c.offer_on-passes.new.floor c.args.host.now _ _ c.offer_on-passes.result.1 c.host.invariant c.host.view_is (ap (λ (s : (Shared _ _ _)). s.cells) e.shared) e.grown e.worked)
+
+pub returns-in-Err-clause-same : goal.returns-in-Err-clause-same
+returns-in-Err-clause-same g c = nets_same c.args.host.now
+
+pub returns-in-Err-clause-offered : goal.returns-in-Err-clause-offered
+returns-in-Err-clause-offered g c =
+    let ones : weigh (λ (_ : Job). 1) c.args.jobs.items ≡ c.len-in-Err.result = (let m = many_ones c.args.jobs.items in let n = c.len-in-Err.ensures in let ok = c.args.jobs.ok.0 in omega arith) in
+    inr (record {
+      same = refl;
+      applied = refl;
+      refused = refl;
+      left = all_left _ _ _ _ ones;
+    })

@@ -1,0 +1,37 @@
+-- Networks that join and leave.
+use Rattle.std.specs.Prelude.{◌≡◌, ◌<◌, ℕ, List, ◌∷◌, insert, vec_len, vec_capacity}
+use Rattle.cells.specs.Sights.{CellSight}
+use Rattle.cells.specs.Sights.{Sight}
+use Rattle.workers.specs.declared.deal.Bench.{Bench}
+use Rattle.workers.specs.declared.floor.Floor.{Floor}
+
+pub record IsSameFloor {S H P : Type 0} (a b : (Floor S H P)) : Type 0 where
+  pub numbers : b.shared.numbers.items ≡ a.shared.numbers.items
+  pub cells : b.shared.cells.items ≡ a.shared.cells.items
+  pub benches : b.benches.items ≡ a.benches.items
+  pub queue : b.shared.queue ≡ a.shared.queue
+
+-- for one network more
+pub record HasRoom {S H P : Type 0} (f : (Floor S H P)) : Type 0 where
+  pub numbers : vec_len f.shared.numbers < vec_capacity f.shared.numbers
+  pub cells : vec_len f.shared.cells < vec_capacity f.shared.cells
+  pub benches : vec_len f.benches < vec_capacity f.benches
+
+-- a network stands at the place
+pub record IsPut {S H P : Type 0} (a : (Floor S H P)) (place : ℕ) (c : CellSight) (seats : List Sight) (b : (Floor S H P)) : Type 0 where
+  pub numbers : b.shared.numbers.items ≡ insert a.shared.numbers.items place c.config.number
+  pub cells : b.shared.cells.items ≡ insert a.shared.cells.items place c
+  pub bench : (Bench S H P)
+  pub own : bench.seats.items ≡ seats
+  pub benches : b.benches.items ≡ insert a.benches.items place bench
+  pub queue : b.shared.queue ≡ a.shared.queue
+
+-- the first network is gone
+pub record IsRemoved {S H P : Type 0} (a : (Floor S H P)) (c : CellSight) (seats : List Sight) (b : (Floor S H P)) : Type 0 where
+  pub number : ℕ
+  pub numbers : a.shared.numbers.items ≡ number ∷ b.shared.numbers.items
+  pub cells : a.shared.cells.items ≡ c ∷ b.shared.cells.items
+  pub bench : (Bench S H P)
+  pub own : bench.seats.items ≡ seats
+  pub benches : a.benches.items ≡ bench ∷ b.benches.items
+  pub queue : b.shared.queue ≡ a.shared.queue

@@ -1,0 +1,8 @@
+-- What contracts see of a network of a host.
+use Rattle.std.specs.Prelude.{List}
+use Rattle.cells.specs.Sights.{CellSight, Sight}
+
+-- a network: its cell, and its seats
+pub record Net : Type 0 where
+  pub cell : CellSight
+  pub seats : List Sight

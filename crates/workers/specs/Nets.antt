@@ -1,0 +1,110 @@
+-- The networks of a host, and what a run makes of them.
+use Rattle.std.specs.Prelude.{◌≡◌, ◌<◌, ◌≤◌, ◌+◌, ◌⊎◌, ◌≢◌, nat_lt, ℕ, List, [], ◌∷◌, length, drop, map, if◌then◌else◌, None}
+use Rattle.hoststep.specs.Logs.{Log}
+use Rattle.work.specs.declared.rule.Job.{Job}
+use Rattle.work.specs.Hands.{weigh}
+use Rattle.cells.specs.Sights.{CellSight}
+use Rattle.cells.specs.Receipts.{Applied}
+use Rattle.cells.specs.Views.{Denial}
+use Rattle.cells.specs.Closing.{IsOneHistory, ended_sight}
+use Rattle.cells.specs.Sights.{Sight}
+use Rattle.workers.specs.NetSights.{Net}
+use Rattle.workers.specs.Benches.{AllGrown, AllHosted}
+use Rattle.workers.specs.Numbers.{IsNumbered}
+use Rattle.workers.specs.Sums.{applied_of, heard_of, refused_of}
+use Rattle.workers.specs.declared.deal.Bench.{Bench}
+use Rattle.workers.specs.declared.floor.Floor.{Floor}
+use Rattle.workers.specs.declared.running.Report.{Report}
+
+abbrev pub net_number : Net → ℕ
+net_number n = n.cell.config.number
+
+abbrev pub nets_of : {S H P : Type 0} → List CellSight → List (Bench S H P) → List Net
+nets_of [] bs = []
+nets_of (c ∷ cs) [] = []
+nets_of (c ∷ cs) (b ∷ bs) = record { cell = c; seats = b.seats.items } ∷ nets_of cs bs
+
+-- the cells in their order, with all seats, at most 4,096, and no queue
+pub record IsFloor {S H P : Type 0} (f : (Floor S H P)) : Type 0 where
+  pub numbered : IsNumbered f.shared.numbers.items f.shared.cells.items
+  pub hosted : AllHosted f.shared.cells.items f.benches.items
+  pub few : length f.shared.cells.items ≤ 4096
+  pub closed : f.shared.queue ≡ None
+
+-- the networks with one more, in the place of its number
+abbrev pub nets_with : Net → List Net → List Net
+nets_with n [] = n ∷ []
+nets_with n (m ∷ ms) = if nat_lt (net_number m) (net_number n) then m ∷ nets_with n ms else n ∷ m ∷ ms
+
+-- no network has this number
+abbrev pub NoNet : List Net → ℕ → Type 0
+NoNet [] number = Unit {0}
+NoNet (n ∷ ns) number = (number ≢ net_number n) × NoNet ns number
+
+-- each other network has a greater number
+abbrev pub IsLeast : Net → List Net → Type 0
+IsLeast n [] = Unit {0}
+IsLeast n (m ∷ ms) = (net_number n < net_number m) × IsLeast n ms
+
+-- the network's journal is one history of its seats
+pub record IsClosedNet (n : Net) (j : Log) (ss : List Sight) : Type 0 where
+  pub config : j.config ≡ n.cell.config
+  pub seats : ss ≡ map ended_sight n.seats
+  pub history : IsOneHistory n.cell.seats j ss
+
+-- the receipts and denials that a seat gained
+abbrev pub gained : Sight → Sight → List Applied
+gained a b = drop (length a.me.receipts) b.me.receipts
+
+abbrev pub denied : Sight → Sight → List Denial
+denied a b = drop (length a.me.denials) b.me.denials
+
+-- over all seats of all networks, before and after
+abbrev pub over_seats : (Sight → Sight → ℕ) → List Sight → List Sight → ℕ
+over_seats f [] bs = 0
+over_seats f (a ∷ xs) [] = 0
+over_seats f (a ∷ xs) (b ∷ ys) = f a b + over_seats f xs ys
+
+abbrev pub over_nets : (Sight → Sight → ℕ) → List Net → List Net → ℕ
+over_nets f [] bs = 0
+over_nets f (a ∷ xs) [] = 0
+over_nets f (a ∷ xs) (b ∷ ys) = over_seats f a.seats b.seats + over_nets f xs ys
+
+-- the same networks with the same seats, which have gained receipts and denials
+abbrev pub AllGrownNets : List Net → List Net → Type 0
+AllGrownNets [] [] = Unit {0}
+AllGrownNets [] (b ∷ bs) = ⊥
+AllGrownNets (a ∷ xs) [] = ⊥
+AllGrownNets (a ∷ xs) (b ∷ ys) = (b.cell ≡ a.cell) × AllGrown a.seats b.seats × AllGrownNets xs ys
+
+abbrev pub AllElsewhere : List Net → List Job → Type 0
+AllElsewhere nets [] = Unit {0}
+AllElsewhere nets (j ∷ js) = NoNet nets j.network × AllElsewhere nets js
+
+-- the events of the receipts and denials that a seat gained, as jobs of its network, weighed
+abbrev pub done_since : (Job → ℕ) → Sight → Sight → ℕ
+done_since h a b = applied_of h a.me.config (gained a b) + refused_of h a.me.config (denied a b)
+
+-- the jobs that the receipts that a seat gained make others hear, weighed
+abbrev pub heard_since : (Job → ℕ) → Sight → Sight → ℕ
+heard_since h a b = heard_of h a.me.config (gained a b)
+
+-- However jobs are weighed: those that came in, and one for each emission that was gained and each other hosted node of its network, are those that went out, the events that were gained as receipts and as denials, and those of networks that are not here; and the report has the numbers of these.
+pub record IsDone (xs ys : List Net) (came went : (Job → ℕ) → ℕ) (r : Report) : Type 0 where
+  pub lacking : List Job
+  pub elsewhere : AllElsewhere xs lacking
+  pub sum : (h : Job → ℕ) → came h + over_nets (heard_since h) xs ys ≡ went h + over_nets (done_since h) xs ys + weigh h lacking
+  pub applied : r.applied ≡ over_nets (λ a b. length (gained a b)) xs ys
+  pub refused : r.refused ≡ over_nets (λ a b. length (denied a b)) xs ys + length lacking
+  pub unrun : r.unrun ≡ 0
+
+-- nothing was done, and the jobs that are left are counted
+pub record IsUndone (xs ys : List Net) (came went : (Job → ℕ) → ℕ) (r : Report) : Type 0 where
+  pub same : ys ≡ xs
+  pub applied : r.applied ≡ 0
+  pub refused : r.refused ≡ 0
+  pub left : went (λ _. 1) + r.unrun ≡ came (λ _. 1)
+
+-- all was done, or nothing
+abbrev pub IsRun : List Net → List Net → ((Job → ℕ) → ℕ) → ((Job → ℕ) → ℕ) → Report → Type 0
+IsRun xs ys came went r = IsDone xs ys came went r ⊎ IsUndone xs ys came went r

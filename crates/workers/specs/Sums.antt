@@ -1,0 +1,272 @@
+-- What workers have done, weighed: any weight of jobs is counted on both sides.
+use Rattle.std.specs.Prelude.{◌≡◌, ◌==◌, ℕ, zero, suc, ◌+◌, ◌≤◌, ◌<◌, List, [], ◌∷◌, ◌++◌, length, take, Bool, if◌then◌else◌, Option, Some, None, slice_index_or}
+use Rattle.std.specs.Option.{option_to_list}
+use Rattle.crossbeam_queue.specs.Passes.{Pass, view}
+use Rattle.types.specs.declared.event.Event.{Event}
+use Rattle.types.specs.declared.event.Event.TheVariants.{Hear}
+use Rattle.types.specs.declared.event.Out.{Out}
+use Rattle.types.specs.declared.event.Out.TheVariants.{ArmNomination, ArmBallot, Emit, Externalized}
+use Rattle.types.specs.Statements.{kind_of}
+use Rattle.protocol.specs.Networks.{Host}
+use Rattle.protocol.specs.Hosts.{Config}
+use Rattle.work.specs.declared.rule.Job.{Job}
+use Rattle.work.specs.declared.rule.Hand.{Hand}
+use Rattle.work.specs.declared.line.Queue.{Queue}
+use Rattle.work.specs.Hands.{weigh, hand}
+use Rattle.work.specs.Queues.{IsOf, put_by, taken_by}
+use Rattle.cells.specs.Receipts.{Applied}
+use Rattle.cells.specs.Views.{Denial}
+use Rattle.cells.specs.Cells.{IsSeatOf}
+use Rattle.cells.specs.Sights.{CellSight, Sight}
+use Rattle.workers.specs.Numbers.{AllLack}
+use Rattle.workers.specs.declared.walk.Emission.{Emission}
+use Rattle.workers.specs.declared.walk.Walk.{Walk}
+use Rattle.workers.specs.declared.worker.Worker.{Worker}
+
+abbrev pub job : ℕ → Event → Job
+job network event = record { network = network; event = event }
+
+-- the job by which a node hears an emission, if it is not its own
+abbrev pub hear_by : Emission → Host → List Job
+hear_by e h = if h.name == e.from then [] else job e.network (Hear e.slot h.name e.from e.kind e.number) ∷ []
+
+-- one job for each other node that is hosted
+abbrev pub hears_of : Emission → List Host → List Job
+hears_of e [] = []
+hears_of e (h ∷ hs) = hear_by e h ++ hears_of e hs
+
+-- the emission that an out is, with its mark
+abbrev pub emission_in : ℕ → Out → Option ℕ → Option Emission
+emission_in network (ArmNomination r) m = None
+emission_in network (ArmBallot n) m = None
+emission_in network (Externalized v) m = None
+emission_in network (Emit e) None = None
+emission_in network (Emit e) (Some m) = Some (record { network = network; slot = e.slot; from = e.sender; kind = kind_of e.body; number = m })
+
+-- for each emission of these outs, with the marks in order
+abbrev pub hears_from : Config → List Out → List ℕ → List Job
+hears_from config [] ms = []
+hears_from config (ArmNomination r ∷ os) ms = hears_from config os ms
+hears_from config (ArmBallot n ∷ os) ms = hears_from config os ms
+hears_from config (Externalized v ∷ os) ms = hears_from config os ms
+hears_from config (Emit e ∷ os) [] = hears_from config os []
+hears_from config (Emit e ∷ os) (m ∷ ms) = hears_of (record { network = config.number; slot = e.slot; from = e.sender; kind = kind_of e.body; number = m }) config.hosts ++ hears_from config os ms
+
+-- what a receipt makes the other nodes of its network hear
+abbrev pub hears : Config → Applied → List Job
+hears config r = hears_from config r.outs r.marks
+
+-- the events of the receipts, as jobs of their network, weighed
+abbrev pub applied_of : (Job → ℕ) → Config → List Applied → ℕ
+applied_of h config rs = weigh (λ (r : Applied). h (job config.number r.event)) rs
+
+-- the refused events, as jobs of their network, weighed
+abbrev pub refused_of : (Job → ℕ) → Config → List Denial → ℕ
+refused_of h config ds = weigh (λ (d : Denial). h (job config.number d.event)) ds
+
+-- what the receipts make others hear, weighed
+abbrev pub heard_of : (Job → ℕ) → Config → List Applied → ℕ
+heard_of h config rs = weigh (λ (r : Applied). weigh h (hears config r)) rs
+
+-- what was done by a seat: applied or refused
+abbrev pub seat_done : (Job → ℕ) → Sight → ℕ
+seat_done h s = applied_of h s.me.config s.me.receipts + refused_of h s.me.config s.me.denials
+
+abbrev pub seat_heard : (Job → ℕ) → Sight → ℕ
+seat_heard h s = heard_of h s.me.config s.me.receipts
+
+abbrev pub seat_applied : Sight → ℕ
+seat_applied s = length s.me.receipts
+
+abbrev pub seat_refused : Sight → ℕ
+seat_refused s = length s.me.denials
+
+abbrev pub done_by : {S H P : Type 0} → (Job → ℕ) → (Walk S H P) → ℕ
+done_by h w = seat_done h w.seat
+
+-- what the receipts up to the place make heard
+abbrev pub asked_by : {S H P : Type 0} → (Job → ℕ) → (Walk S H P) → ℕ
+asked_by h w = heard_of h w.seat.me.config (take w.place w.seat.me.receipts)
+
+abbrev pub applied_many : {S H P : Type 0} → (Walk S H P) → ℕ
+applied_many w = seat_applied w.seat
+
+abbrev pub refused_many : {S H P : Type 0} → (Walk S H P) → ℕ
+refused_many w = seat_refused w.seat
+
+abbrev pub hand_of : Option (Pass Job Hand) → Hand
+hand_of None = hand 0 [] []
+hand_of (Some p) = view p
+
+abbrev pub with_put : Hand → Job → Hand
+with_put p j = hand p.parts (p.put ++ j ∷ []) p.taken
+
+abbrev pub with_taken : Hand → Job → Hand
+with_taken p j = hand p.parts p.put (p.taken ++ j ∷ [])
+
+-- a seat of this cell, and a place in its receipts
+abbrev pub IsWalk : {S H P : Type 0} → CellSight → (Walk S H P) → Type 0
+IsWalk c w = IsSeatOf c w.seat × (w.place ≤ length w.seat.me.receipts)
+
+-- a seat in each cell
+abbrev pub AllSeated : {S H P : Type 0} → List CellSight → List (Walk S H P) → Type 0
+AllSeated [] [] = Unit {0}
+AllSeated [] (w ∷ ws) = ⊥
+AllSeated (c ∷ cs) [] = ⊥
+AllSeated (c ∷ cs) (w ∷ ws) = IsWalk c w × AllSeated cs ws
+
+-- the same seat later: it has gained receipts and denials
+pub record IsLater (a b : Sight) : Type 0 where
+  pub cell : b.cell ≡ a.cell
+  pub number : b.me.number ≡ a.me.number
+  pub config : b.me.config ≡ a.me.config
+  pub seats : b.me.seats ≡ a.me.seats
+  pub closed : b.me.closed ≡ a.me.closed
+  pub receipts : List Applied
+  pub denials : List Denial
+  pub gained : b.me.receipts ≡ a.me.receipts ++ receipts
+  pub refused : b.me.denials ≡ a.me.denials ++ denials
+
+abbrev pub AllLater : {S H P : Type 0} → List (Walk S H P) → List (Walk S H P) → Type 0
+AllLater [] [] = Unit {0}
+AllLater [] (w ∷ ws) = ⊥
+AllLater (a ∷ xs) [] = ⊥
+AllLater (a ∷ xs) (b ∷ ys) = IsLater a.seat b.seat × AllLater xs ys
+
+-- no place is short of its receipts
+abbrev pub AllPast : {S H P : Type 0} → List (Walk S H P) → Type 0
+AllPast [] = Unit {0}
+AllPast (w ∷ ws) = (length w.seat.me.receipts ≤ w.place) × AllPast ws
+
+-- all but the one there
+abbrev pub AllPastBut : {S H P : Type 0} → ℕ → List (Walk S H P) → Type 0
+AllPastBut k [] = Unit {0}
+AllPastBut zero (w ∷ ws) = AllPast ws
+AllPastBut (suc k) (w ∷ ws) = (length w.seat.me.receipts ≤ w.place) × AllPastBut k ws
+
+-- one job more is done by a seat
+pub record IsDone {S H P : Type 0} (a b : (Walk S H P)) (j : Job) (well : Bool) : Type 0 where
+  pub later : IsLater a.seat b.seat
+  pub place : b.place ≡ a.place
+  pub sum : (h : Job → ℕ) → done_by h b ≡ done_by h a + h j
+  pub asked : (h : Job → ℕ) → asked_by h b ≡ asked_by h a
+  pub applied : applied_many b ≡ applied_many a + (if well then 1 else 0)
+  pub refused : refused_many b ≡ refused_many a + (if well then 0 else 1)
+
+abbrev pub done : {S H P : Type 0} → (Job → ℕ) → (Worker S H P) → ℕ
+done h w = weigh (done_by h) w.walks.items
+
+abbrev pub asked : {S H P : Type 0} → (Job → ℕ) → (Worker S H P) → ℕ
+asked h w = weigh (asked_by h) w.walks.items
+
+abbrev pub put : {S H P : Type 0} → (Job → ℕ) → (Worker S H P) → ℕ
+put h w = weigh h (hand_of w.pass).put
+
+abbrev pub taken : {S H P : Type 0} → (Job → ℕ) → (Worker S H P) → ℕ
+taken h w = weigh h (hand_of w.pass).taken
+
+-- how many receipts and denials the seats of a worker have
+abbrev pub receipts_of : {S H P : Type 0} → (Worker S H P) → ℕ
+receipts_of w = weigh applied_many w.walks.items
+
+abbrev pub denials_of : {S H P : Type 0} → (Worker S H P) → ℕ
+denials_of w = weigh refused_many w.walks.items
+
+-- from one moment of a worker to another: what it took, what its receipts made heard and what it was handed were as often put, applied, refused or of no network here
+pub record IsKept {S H P : Type 0} (cells : List CellSight) (handed : List Job) (a b : (Worker S H P)) : Type 0 where
+  pub lacking : List Job
+  pub elsewhere : AllLack cells lacking
+  pub sum : (h : Job → ℕ) → done h b + put h b + weigh h lacking + asked h a + taken h a ≡ done h a + put h a + asked h b + taken h b + weigh h handed
+  pub applied : b.applied + receipts_of a ≡ a.applied + receipts_of b
+  pub refused : b.refused + denials_of a ≡ a.refused + denials_of b + length lacking
+  pub later : AllLater a.walks.items b.walks.items
+  pub parts : (hand_of b.pass).parts ≡ (hand_of a.pass).parts
+
+-- a pass of this queue, or none
+abbrev pub IsPassing : Option Queue → Option (Pass Job Hand) → Type 0
+IsPassing q None = Unit {0}
+IsPassing None (Some p) = ⊥
+IsPassing (Some q) (Some p) = IsOf q p
+
+-- between two jobs: a seat in each cell, all receipts were gone through, and a pass
+pub record IsReady {S H P : Type 0} (cells : List CellSight) (queue : Option Queue) (w : (Worker S H P)) : Type 0 where
+  pub seated : AllSeated cells w.walks.items
+  pub passing : IsPassing queue w.pass
+  pub past : AllPast w.walks.items
+
+-- while the receipts of one seat are gone through
+pub record IsBusy {S H P : Type 0} (cells : List CellSight) (queue : Option Queue) (k : ℕ) (w : (Worker S H P)) : Type 0 where
+  pub seated : AllSeated cells w.walks.items
+  pub passing : IsPassing queue w.pass
+  pub there : k < length cells
+  pub past : AllPastBut k w.walks.items
+
+-- the receipt at the walk's place
+abbrev pub IsNext : {S H P : Type 0} → (Walk S H P) → Applied → Type 0
+IsNext w r = r ≡ slice_index_or w.seat.me.receipts w.place r
+
+-- the walk there is not past its receipts
+abbrev pub IsShort : {S H P : Type 0} → List (Walk S H P) → ℕ → Type 0
+IsShort ws k = (k < length ws) × ((d : (Walk _ _ _)) → (slice_index_or ws k d).place < length (slice_index_or ws k d).seat.me.receipts)
+
+abbrev pub SamePlaces : {S H P : Type 0} → List (Walk S H P) → List (Walk S H P) → Type 0
+SamePlaces [] [] = Unit {0}
+SamePlaces [] (w ∷ ws) = ⊥
+SamePlaces (a ∷ xs) [] = ⊥
+SamePlaces (a ∷ xs) (b ∷ ys) = (b.place ≡ a.place) × SamePlaces xs ys
+
+-- at work's end
+pub record IsThrough {S H P : Type 0} (cells : List CellSight) (queue : Option Queue) (a b : (Worker S H P)) : Type 0 where
+  pub ready : IsReady cells queue b
+  pub kept : IsKept cells [] a b
+
+abbrev pub AllReady : {S H P : Type 0} → List CellSight → Option Queue → List (Worker S H P) → Type 0
+AllReady cells queue [] = Unit {0}
+AllReady cells queue (w ∷ ws) = IsReady cells queue w × AllReady cells queue ws
+
+abbrev pub AllLaterWorkers : {S H P : Type 0} → List (Worker S H P) → List (Worker S H P) → Type 0
+AllLaterWorkers [] [] = Unit {0}
+AllLaterWorkers [] (w ∷ ws) = ⊥
+AllLaterWorkers (a ∷ xs) [] = ⊥
+AllLaterWorkers (a ∷ xs) (b ∷ ys) = AllLater a.walks.items b.walks.items × AllLaterWorkers xs ys
+
+abbrev pub parts_of : {S H P : Type 0} → (Worker S H P) → ℕ
+parts_of w = (hand_of w.pass).parts
+
+abbrev pub applied_by : {S H P : Type 0} → (Worker S H P) → ℕ
+applied_by w = w.applied
+
+abbrev pub refused_by : {S H P : Type 0} → (Worker S H P) → ℕ
+refused_by w = w.refused
+
+-- the same sums of all workers
+pub record IsSummed {S H P : Type 0} (cells : List CellSight) (xs ys : List (Worker S H P)) : Type 0 where
+  pub lacking : List Job
+  pub elsewhere : AllLack cells lacking
+  pub sum : (h : Job → ℕ) → weigh (done h) ys + weigh (put h) ys + weigh h lacking + weigh (asked h) xs + weigh (taken h) xs ≡ weigh (done h) xs + weigh (put h) xs + weigh (asked h) ys + weigh (taken h) ys
+  pub applied : weigh applied_by ys + weigh receipts_of xs ≡ weigh applied_by xs + weigh receipts_of ys
+  pub refused : weigh refused_by ys + weigh denials_of xs ≡ weigh refused_by xs + weigh denials_of ys + length lacking
+  pub later : AllLaterWorkers xs ys
+  pub parts : weigh parts_of ys ≡ weigh parts_of xs
+
+-- a worker without its pass
+abbrev pub at_rest : {S H P : Type 0} → (Worker S H P) → (Worker S H P)
+at_rest w = record w { pass = None }
+
+abbrev pub AllPassing : Option Queue → List (Pass Job Hand) → Type 0
+AllPassing q [] = Unit {0}
+AllPassing q (p ∷ ps) = IsPassing q (Some p) × AllPassing q ps
+
+-- the passes of the workers
+abbrev pub passes_of : {S H P : Type 0} → List (Worker S H P) → List (Pass Job Hand)
+passes_of [] = []
+passes_of (w ∷ ws) = option_to_list w.pass ++ passes_of ws
+
+-- the same sums, when the queue is closed and all that it had is done; some passes lay beside the workers
+pub record IsClosed {S H P : Type 0} (cells : List CellSight) (ps : List (Pass Job Hand)) (xs zs : List (Worker S H P)) : Type 0 where
+  pub lacking : List Job
+  pub elsewhere : AllLack cells lacking
+  pub sum : (h : Job → ℕ) → weigh (done h) zs + weigh h lacking + weigh (asked h) xs + weigh (taken h) xs + taken_by h ps ≡ weigh (done h) xs + weigh (put h) xs + weigh (asked h) zs + put_by h ps
+  pub applied : weigh applied_by zs + weigh receipts_of xs ≡ weigh applied_by xs + weigh receipts_of zs
+  pub refused : weigh refused_by zs + weigh denials_of xs ≡ weigh refused_by xs + weigh denials_of zs + length lacking
+  pub later : AllLaterWorkers xs zs

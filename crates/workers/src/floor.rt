@@ -1,0 +1,63 @@
+//! The cells of a host, and the seats at them.
+
+ghost use Rattle.std.specs.Prelude.{◌≡◌, ◌<◌, ◌≤◌, ◌∷◌, length, insert, IsTrue, vec_len, vec_capacity};
+ghost use Rattle.workers.specs.Floors.{HasRoom, IsPut, IsRemoved, IsSameFloor};
+
+use crate::deal::Bench;
+use crate::shared::Shared;
+use cells::{Cell, Seat};
+use envstore::Shelf;
+use std::sync::Wait;
+
+/// What workers share, and the seats that they do not have now, in the order of the cells.
+#[derive(Drop)]
+pub(crate) struct Floor<S: Shelf, H: Wait + Drop> {
+    pub shared: Shared<S, H>,
+    pub benches: Vec<Bench<S, H>>,
+}
+
+impl<S: Shelf + Drop, H: Wait + Drop> Floor<S, H> {
+    /// Makes room for one network more. `false` says that memory is short.
+    pub(crate) fn reserve(&mut self) -> bool
+        ensures same { IsSameFloor self.old self.new }
+        ensures room { IsTrue result → HasRoom self.new }
+    {
+        if self.shared.numbers.reserve(1).is_err() {
+            return false;
+        }
+        if self.shared.cells.reserve(1).is_err() {
+            return false;
+        }
+        self.benches.reserve(1).is_ok()
+    }
+
+    /// A network joins at a place, where there is room.
+    pub(crate) fn put_at(&mut self, place: usize, cell: Cell<S, H>, seats: Vec<Seat<S, H>>)
+        requires place { (place ≤ length self.old.shared.numbers.items) × (place ≤ length self.old.shared.cells.items) × (place ≤ length self.old.benches.items) }
+        requires room { HasRoom self.old }
+        ensures { IsPut self.old place cell seats.items self.new }
+    {
+        let number = cell.config().number();
+        let Ok(()) = self.shared.numbers.insert(place, number) else {
+            unreachable!()
+        };
+        let Ok(()) = self.shared.cells.insert(place, cell) else {
+            unreachable!()
+        };
+        let Ok(()) = self.benches.insert(place, Bench { seats }) else {
+            unreachable!()
+        };
+    }
+
+    /// The first network leaves.
+    pub(crate) fn remove_first(&mut self) -> (Cell<S, H>, Vec<Seat<S, H>>)
+        requires { (0 < length self.old.shared.numbers.items) × (0 < length self.old.shared.cells.items) × (0 < length self.old.benches.items) }
+        ensures { IsRemoved self.old result.0 result.1.items self.new }
+    {
+        self.shared.numbers.remove(0);
+        let cell = self.shared.cells.remove(0);
+        let bench = self.benches.remove(0);
+        let Bench { seats } = bench;
+        (cell, seats)
+    }
+}

@@ -1,0 +1,125 @@
+//! The networks of one host.
+
+ghost use Rattle.std.specs.Prelude.{◌≡◌, ◌<◌, ◌≤◌, [], ◌∷◌, IfErr, IfSome, IfNone, OnOk, length, Err};
+ghost use Rattle.workers.specs.Benches.{IsHosted};
+ghost use Rattle.workers.specs.NetSights.{Net};
+ghost use Rattle.workers.specs.Nets.{IsClosedNet, IsLeast, NoNet, nets_with};
+
+use crate::deal::Bench;
+use crate::floor::Floor;
+use crate::shared::Shared;
+use cells::{Cell, Seat};
+use envstore::Shelf;
+use hoststep::Journal;
+use std::alloc::Global;
+use std::marker::Model;
+use std::sync::Wait;
+
+/// The most networks of a host (this host's profile).
+pub const MAX_NETWORKS: usize = 4096;
+
+/// The networks of a host, up to 4,096, ascending by number: of each its cell and all its seats.
+///
+/// Contracts see the list of the networks, each as what is seen of its cell and of its seats.
+#[derive(Drop)]
+pub struct Host<S: Shelf, H: Wait + Drop> {
+    pub(crate) alloc: Global,
+    pub(crate) floor: Floor<S, H>,
+}
+
+impl<S: Shelf, H: Wait + Drop> Model for Host<S, H> {
+    ghost use Rattle.std.specs.Coded.{codes};
+    ghost use Rattle.std.specs.Prelude.{List};
+    ghost use Rattle.types.specs.Trees.{members_code};
+    ghost use Rattle.workers.specs.NetSights.{Net};
+
+    ghost Value = { List Net };
+
+    ghost coded = { Prim.hlevel (codes, members_code) };
+
+    ghost use Rattle.workers.specs.Nets.{IsFloor, nets_of};
+
+    ghost view = { λ h. nets_of h.floor.shared.cells.items h.floor.benches.items };
+
+    ghost invariant = { λ h. IsFloor h.floor };
+}
+
+/// All seats of a cell end, and its journal is handed over.
+fn close_net<S: Shelf + Drop, H: Wait + Drop, R: Wait>(
+    rt: &R,
+    cell: Cell<S, H>,
+    seats: Vec<Seat<S, H>>,
+) -> (Journal<S>, Vec<Seat<S, H>>)
+    requires { IsHosted cell seats.items }
+    ensures { IsClosedNet (record { cell = cell; seats = seats.items }) result.0 result.1.items }
+{
+    match cell.close(rt, seats) {
+        Ok(done) => done,
+        // All seats are there.
+        Err(_) => unreachable!(),
+    }
+}
+
+impl<S: Shelf + Drop, H: Wait + Drop> Host<S, H> {
+    /// A host without networks. It takes no memory.
+    pub fn new(alloc: Global) -> Host<S, H>
+        ensures { result ≡ [] }
+    {
+        Host {
+            alloc,
+            floor: Floor {
+                shared: Shared {
+                    numbers: Vec::new(alloc),
+                    cells: Vec::new(alloc),
+                    queue: None,
+                },
+                benches: Vec::new(alloc),
+            },
+        }
+    }
+
+    /// Takes a network in, given by its cell and all seats of it, in the place of its number.
+    ///
+    /// An error hands the cell and the seats back: a network of this number is there, or 4,096 networks are, or
+    /// memory is short. The host is then as it was.
+    pub fn add(
+        &mut self,
+        cell: Cell<S, H>,
+        seats: Vec<Seat<S, H>>,
+    ) -> Result<(), (Cell<S, H>, Vec<Seat<S, H>>)>
+        requires { IsHosted cell seats.items }
+        ensures ok { OnOk result (self.new ≡ nets_with (record { cell = cell; seats = seats.items }) self.old) }
+        ensures fresh { OnOk result (NoNet self.old cell.config.number × (length self.old < 4096)) }
+        ensures back { IfErr result (λ r. (r.0 ≡ cell) × (r.1 ≡ seats)) }
+        ensures same { IfErr result (λ _. self.new ≡ self.old) }
+    {
+        let number = cell.config().number();
+        match self.floor.shared.numbers.binary_search(&number) {
+            Ok(_) => Err((cell, seats)),
+            Err(place) => {
+                if self.floor.shared.numbers.len() >= MAX_NETWORKS {
+                    return Err((cell, seats));
+                }
+                if !self.floor.reserve() {
+                    return Err((cell, seats));
+                }
+                self.floor.put_at(place, cell, seats);
+                Ok(())
+            }
+        }
+    }
+
+    /// Takes out the network with the least number, closes its cell, and hands over its journal and its seats,
+    /// which have ended: together one history of one thread. It takes no memory. `None` says that there is no
+    /// network left.
+    pub fn close_next<R: Wait>(&mut self, rt: &R) -> Option<(Journal<S>, Vec<Seat<S, H>>)>
+        ensures none { IfNone result ((self.old ≡ []) × (self.new ≡ [])) }
+        ensures closed { IfSome result (λ r. (net : Net) × (self.old ≡ net ∷ self.new) × IsLeast net self.new × IsClosedNet net r.0 r.1.items) }
+    {
+        if self.floor.shared.cells.is_empty() {
+            return None;
+        }
+        let (cell, seats) = self.floor.remove_first();
+        Some(close_net(rt, cell, seats))
+    }
+}

@@ -1,0 +1,266 @@
+//! A worker, with a seat at each cell.
+
+ghost use Rattle.std.specs.Prelude.{◌≡◌, ◌<◌, ◌+◌, length, [], ◌∷◌, None, MatchOption, MatchResult, IfSome, slice_index_or};
+ghost use Rattle.std.specs.Option.{option_to_list};
+ghost use Rattle.cells.specs.Sights.{CellSight};
+ghost use Rattle.workers.specs.Numbers.{IsNumbered, IsNumberAt};
+ghost use Rattle.workers.specs.Sums.{IsBusy, IsKept, IsPassing, IsReady, IsShort, SamePlaces, hand_of, hear_by, hears_of, with_put, with_taken};
+
+use crate::gate::Gate;
+use crate::shared::Shared;
+use crate::walk::{Emission, Walk, apply_by, emission_at, is_short, move_on, read};
+use configuration::Host;
+use envstore::Shelf;
+use std::sync::Wait;
+use types::Event;
+use work::{Job, Pass};
+
+/// A walk at each cell, in the order of the cells, a pass as long as there is a queue, and how many jobs it
+/// has applied and refused.
+#[derive(Drop)]
+pub(crate) struct Worker<S: Shelf, H: Wait + Drop> {
+    pub walks: Vec<Walk<S, H>>,
+    pub pass: Option<Pass>,
+    pub applied: u64,
+    pub refused: u64,
+}
+
+/// The sum of two counts. No run counts so far that this waits.
+pub(crate) fn add<R: Wait>(rt: &R, count: u64, more: u64) -> u64
+    ensures { result ≡ count + more }
+{
+    match count.checked_add(more) {
+        Some(sum) => sum,
+        None => {
+            for _ in rt.forever() {}
+            unreachable!()
+        }
+    }
+}
+
+/// The job by which a node hears an emission, if it is not its own.
+fn hearing(emission: &Emission, host: &Host) -> Option<Job>
+    ensures jobs { option_to_list result ≡ hear_by emission.now host.now }
+    ensures network { IfSome result (λ j. j.network ≡ emission.now.network) }
+{
+    let node = *host.name();
+    if node == emission.from {
+        return None;
+    }
+    Some(Job {
+        network: emission.network,
+        event: Event::Hear {
+            slot: emission.slot,
+            node,
+            from: emission.from,
+            kind: emission.kind,
+            number: emission.number,
+        },
+    })
+}
+
+impl<S: Shelf + Drop, H: Wait + Drop> Worker<S, H> {
+    /// Applies a job by the seat at a cell, and counts it.
+    fn apply_at<R: Wait, G: Gate>(
+        &mut self,
+        rt: &R,
+        shared: &Shared<S, H>,
+        gate: &G,
+        k: usize,
+        job: Job,
+    )
+        requires busy { IsBusy shared.now.cells.items shared.now.queue k self.old }
+        requires job { IsNumberAt shared.now.cells.items k job.network }
+        ensures busy { IsBusy shared.now.cells.items shared.now.queue k self.new }
+        ensures places { SamePlaces self.old.walks.items self.new.walks.items }
+        ensures kept { IsKept shared.now.cells.items (job ∷ []) self.old self.new }
+    {
+        if apply_by(rt, &shared.cells[k], &mut self.walks[k], gate, job) {
+            self.applied = add(rt, self.applied, 1);
+        } else {
+            self.refused = add(rt, self.refused, 1);
+        }
+    }
+
+    /// Puts a job where there is a queue with room, or hands it back.
+    fn put<R: Wait>(&mut self, rt: &R, shared: &Shared<S, H>, job: Job) -> Result<(), Job>
+        requires { IsPassing shared.now.queue self.old.pass }
+        ensures pass { IsPassing shared.now.queue self.new.pass }
+        ensures same { (self.new.walks ≡ self.old.walks) × (self.new.applied ≡ self.old.applied) × (self.new.refused ≡ self.old.refused) }
+        ensures put { MatchResult result (λ _. hand_of self.new.pass ≡ with_put (hand_of self.old.pass) job) (λ x. (x ≡ job) × (hand_of self.new.pass ≡ hand_of self.old.pass)) }
+    {
+        match (&shared.queue, &mut self.pass) {
+            (Some(queue), Some(pass)) => queue.put(rt, pass, job),
+            _ => Err(job),
+        }
+    }
+
+    /// Takes a job where there is a queue with one.
+    fn take<R: Wait>(&mut self, rt: &R, shared: &Shared<S, H>) -> Option<Job>
+        requires { IsPassing shared.now.queue self.old.pass }
+        ensures pass { IsPassing shared.now.queue self.new.pass }
+        ensures same { (self.new.walks ≡ self.old.walks) × (self.new.applied ≡ self.old.applied) × (self.new.refused ≡ self.old.refused) }
+        ensures take { MatchOption result (hand_of self.new.pass ≡ hand_of self.old.pass) (λ x. hand_of self.new.pass ≡ with_taken (hand_of self.old.pass) x) }
+    {
+        match (&shared.queue, &mut self.pass) {
+            (Some(queue), Some(pass)) => queue.take(rt, pass),
+            _ => None,
+        }
+    }
+
+    /// Puts a job of a cell's network, or applies it where no queue has room.
+    fn ask<R: Wait, G: Gate>(&mut self, rt: &R, shared: &Shared<S, H>, gate: &G, k: usize, job: Job)
+        requires busy { IsBusy shared.now.cells.items shared.now.queue k self.old }
+        requires job { IsNumberAt shared.now.cells.items k job.network }
+        ensures busy { IsBusy shared.now.cells.items shared.now.queue k self.new }
+        ensures places { SamePlaces self.old.walks.items self.new.walks.items }
+        ensures kept { IsKept shared.now.cells.items (job ∷ []) self.old self.new }
+    {
+        match self.put(rt, shared, job) {
+            Ok(()) => {}
+            Err(job) => self.apply_at(rt, shared, gate, k, job),
+        }
+    }
+
+    /// Asks that each other node of a cell's network hears an emission.
+    fn ask_others<R: Wait, G: Gate>(
+        &mut self,
+        rt: &R,
+        shared: &Shared<S, H>,
+        gate: &G,
+        k: usize,
+        emission: Emission,
+    )
+        requires busy { IsBusy shared.now.cells.items shared.now.queue k self.old }
+        requires network { IsNumberAt shared.now.cells.items k emission.network }
+        ensures busy { IsBusy shared.now.cells.items shared.now.queue k self.new }
+        ensures places { SamePlaces self.old.walks.items self.new.walks.items }
+        ensures kept { (c : CellSight) → c ≡ slice_index_or shared.now.cells.items k c → IsKept shared.now.cells.items (hears_of emission c.config.hosts) self.old self.new }
+    {
+        let hosts = shared.cells[k].config().hosts();
+        for host in hosts {
+            match hearing(&emission, host) {
+                Some(job) => self.ask(rt, shared, gate, k, job),
+                None => {}
+            }
+        }
+    }
+
+    /// Asks that the others hear each emission of the receipt at a walk's place, and moves the place on.
+    fn ask_one<R: Wait, G: Gate>(&mut self, rt: &R, shared: &Shared<S, H>, gate: &G, k: usize)
+        requires busy { IsBusy shared.now.cells.items shared.now.queue k self.old }
+        requires place { IsShort self.old.walks.items k }
+        ensures busy { IsBusy shared.now.cells.items shared.now.queue k self.new }
+        ensures kept { IsKept shared.now.cells.items [] self.old self.new }
+    {
+        let config = shared.cells[k].config();
+        let (receipt, many) = read(&self.walks[k]);
+        let mut mark = 0;
+        for index in 0..many {
+            match emission_at(&self.walks[k], &receipt, config.number(), index, mark) {
+                Some(emission) => {
+                    self.ask_others(rt, shared, gate, k, emission);
+                    mark += 1;
+                }
+                None => {}
+            }
+        }
+        move_on(&mut self.walks[k]);
+    }
+
+    /// Goes through the receipts at one cell until its place is past them.
+    fn settle<R: Wait, G: Gate>(&mut self, rt: &R, shared: &Shared<S, H>, gate: &G, k: usize)
+        requires { IsBusy shared.now.cells.items shared.now.queue k self.old }
+        ensures ready { IsReady shared.now.cells.items shared.now.queue self.new }
+        ensures kept { IsKept shared.now.cells.items [] self.old self.new }
+    {
+        for _ in rt.forever() {
+            if is_short(&self.walks[k]) {
+                self.ask_one(rt, shared, gate, k);
+            } else {
+                break;
+            }
+        }
+    }
+
+    /// Applies a job, and what follows from it. One of a network that is not here counts as refused.
+    fn serve<R: Wait, G: Gate>(&mut self, rt: &R, shared: &Shared<S, H>, gate: &G, job: Job)
+        requires order { IsNumbered shared.now.numbers.items shared.now.cells.items }
+        requires ready { IsReady shared.now.cells.items shared.now.queue self.old }
+        ensures ready { IsReady shared.now.cells.items shared.now.queue self.new }
+        ensures kept { IsKept shared.now.cells.items (job ∷ []) self.old self.new }
+    {
+        match shared.find(job.network) {
+            Some(k) => {
+                self.apply_at(rt, shared, gate, k, job);
+                self.settle(rt, shared, gate, k);
+            }
+            None => self.refused = add(rt, self.refused, 1),
+        }
+    }
+
+    /// Takes and serves jobs until the queue was empty after the last put.
+    pub(crate) fn work<R: Wait, G: Gate>(&mut self, rt: &R, shared: &Shared<S, H>, gate: &G)
+        requires order { IsNumbered shared.now.numbers.items shared.now.cells.items }
+        requires ready { IsReady shared.now.cells.items shared.now.queue self.old }
+        ensures ready { IsReady shared.now.cells.items shared.now.queue self.new }
+        ensures kept { IsKept shared.now.cells.items [] self.old self.new }
+    {
+        for _ in rt.forever() {
+            match self.take(rt, shared) {
+                Some(job) => self.serve(rt, shared, gate, job),
+                None => break,
+            }
+        }
+    }
+
+    /// Serves jobs.
+    pub(crate) fn serve_all<R: Wait, G: Gate>(
+        &mut self,
+        rt: &R,
+        shared: &Shared<S, H>,
+        gate: &G,
+        mut jobs: Vec<Job>,
+    )
+        requires order { IsNumbered shared.now.numbers.items shared.now.cells.items }
+        requires ready { IsReady shared.now.cells.items shared.now.queue self.old }
+        ensures ready { IsReady shared.now.cells.items shared.now.queue self.new }
+        ensures kept { IsKept shared.now.cells.items jobs.items self.old self.new }
+    {
+        while let Some(job) = jobs.pop() {
+            self.serve(rt, shared, gate, job);
+        }
+    }
+
+    /// Puts a job, or serves it where no queue has room.
+    fn submit<R: Wait, G: Gate>(&mut self, rt: &R, shared: &Shared<S, H>, gate: &G, job: Job)
+        requires order { IsNumbered shared.now.numbers.items shared.now.cells.items }
+        requires ready { IsReady shared.now.cells.items shared.now.queue self.old }
+        ensures ready { IsReady shared.now.cells.items shared.now.queue self.new }
+        ensures kept { IsKept shared.now.cells.items (job ∷ []) self.old self.new }
+    {
+        match self.put(rt, shared, job) {
+            Ok(()) => {}
+            Err(job) => self.serve(rt, shared, gate, job),
+        }
+    }
+
+    /// Submits jobs in their order.
+    pub(crate) fn submit_all<R: Wait, G: Gate>(
+        &mut self,
+        rt: &R,
+        shared: &Shared<S, H>,
+        gate: &G,
+        mut jobs: Vec<Job>,
+    )
+        requires order { IsNumbered shared.now.numbers.items shared.now.cells.items }
+        requires ready { IsReady shared.now.cells.items shared.now.queue self.old }
+        ensures ready { IsReady shared.now.cells.items shared.now.queue self.new }
+        ensures kept { IsKept shared.now.cells.items jobs.items self.old self.new }
+    {
+        jobs.reverse();
+        while let Some(job) = jobs.pop() {
+            self.submit(rt, shared, gate, job);
+        }
+    }
+}
