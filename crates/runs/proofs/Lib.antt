@@ -2,4 +2,5 @@ mod DraftLaws
 mod JoiningLaws
 mod LineForms
 mod QuietLines
+mod SayingLaws
 mod SubmittedLines

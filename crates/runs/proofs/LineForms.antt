@@ -1,68 +1,76 @@
 -- What a line tells, by what it asks for.
-use Rattle.std.proofs.Common.{◌≡◌, ◌∙◌, ℕ, List, [], ◌∷◌, Some, None, inl, inr, refl, ap, subst}
+use Rattle.std.proofs.Common.{◌≡◌, ◌∙◌, ℕ, List, [], ◌∷◌, Option, Some, None, refl, sym, ap, subst}
+use Rattle.std.specs.Prelude.{option_map}
 use Rattle.scripts.specs.Script.{Bytes}
+use Rattle.scripts.specs.Words.{word_counter}
 use Rattle.types.specs.declared.event.Event.{Event}
 use Rattle.hoststep.specs.Logs.{Log}
+use Rattle.runs.specs.declared.requests.Declaration.{Declaration}
 use Rattle.runs.specs.declared.requests.Request.{Request}
-use Rattle.runs.specs.declared.requests.Request.TheVariants.{Net, Node, Roster, Apply, Settle}
-use Rattle.runs.specs.Lines.{word_of}
+use Rattle.runs.specs.declared.requests.Request.TheVariants.{Declare, Apply, Settle}
+use Rattle.runs.specs.declared.verbs.Verb.{Verb}
+use Rattle.runs.specs.Lines.{verb_in}
 use Rattle.runs.specs.Drafts.{Waiting}
 use Rattle.runs.specs.Preparing.{Prepares}
-use Rattle.runs.specs.Requests.{IsRequested}
-use Rattle.runs.specs.Hosting.{Hosting, IsPut, IsSettled, Tells}
+use Rattle.runs.specs.Requests.{IsRequested, IsRequestOf}
+use Rattle.runs.specs.Hosting.{Hosting, IsPut, IsSettled, RefusesLine, Tells}
 use Rattle.runs.specs.Hosting.Tells.{declared, answered, settled}
-use Rattle.runs.specs.Telling.{AsksOf, Declares, NamesNet, Settles}
+use Rattle.runs.specs.Telling.{HasNoNode, NamesNet}
 
--- networks, nodes and rosters are declared
-requests-net : (fields : List Bytes) (g : ℕ) (b : _) → IsRequested fields g (Net b) → Declares fields
-requests-net [] g b h = absurd h
-requests-net (word ∷ []) g b h = absurd h
-requests-net (word ∷ number ∷ fields) g b h = inl (h.1 ∙ ap word_of h.3)
+-- ---- the number of the network
 
-requests-node : (fields : List Bytes) (g : ℕ) (u q : _) → IsRequested fields g (Node u q) → Declares fields
-requests-node [] g u q h = absurd h
-requests-node (word ∷ []) g u q h = absurd h
-requests-node (word ∷ number ∷ fields) g u q h = inr (inl (h.1 ∙ ap word_of h.3))
+abbrev number_in : Option (ℕ × Request) → Option ℕ
+number_in None = None
+number_in (Some p) = Some p.0
 
-requests-roster : (fields : List Bytes) (g : ℕ) (r : _) → IsRequested fields g (Roster r) → Declares fields
-requests-roster [] g r h = absurd h
-requests-roster (word ∷ []) g r h = absurd h
-requests-roster (word ∷ number ∷ fields) g r h = inr (inr (h.1 ∙ ap word_of h.3))
+nothing-asked : (p : ℕ × Request) → Some p ≡ None → ⊥
+nothing-asked p e = cc
 
--- what prepares networks is declared
-pub declares : (fields : List Bytes) (g : ℕ) (r : Request) (old new : Waiting) → IsRequested fields g r → Prepares g r old new → Declares fields
-declares fields g (Net b) old new h p = requests-net fields g b h
-declares fields g (Node u q) old new h p = requests-node fields g u q h
-declares fields g (Roster r) old new h p = requests-roster fields g r h
-declares fields g (Apply e) old new h p = absurd p
-declares fields g (Settle slot) old new h p = absurd p
+same-number : (g k : ℕ) (r : Request) (o : Option Request)
+    → ◌≡◌ {A = Option (ℕ × Request)} (Some (g, r)) (option_map (λ x. (k, x)) o) → Some k ≡ Some g
+same-number g k r None e = absurd (nothing-asked (g, r) e)
+same-number g k r (Some x) e = sym (ap number_in e)
 
-pub requests-event : (fields : List Bytes) (g : ℕ) (e : Event) → IsRequested fields g (Apply e) → AsksOf fields g e
-requests-event [] g e h = absurd h
-requests-event (word ∷ []) g e h = absurd h
-requests-event (word ∷ number ∷ fields) g e h = h
+names-number : (v : Option Verb) (n : Option ℕ) (fields : List Bytes) (g : ℕ) (r : Request) → IsRequestOf v n fields (Some (g, r)) → n ≡ Some g
+names-number None n fields g r h = absurd (nothing-asked (g, r) h)
+names-number (Some v) None fields g r h = absurd (nothing-asked (g, r) h)
+names-number (Some v) (Some k) fields g r h = same-number g k r h.0 h.2
 
-pub requests-settle : (fields : List Bytes) (g slot : ℕ) → IsRequested fields g (Settle slot) → Settles fields g slot
-requests-settle [] g slot h = absurd h
-requests-settle (word ∷ []) g slot h = absurd h
-requests-settle (word ∷ number ∷ fields) g slot h = (h.1 ∙ ap word_of h.3.0, h.2, h.3.1)
+pub names-net : (fields : List Bytes) (g : ℕ) (r : Request) → IsRequested fields (Some (g, r)) → NamesNet fields g
+names-net [] g r h = nothing-asked (g, r) h
+names-net (word ∷ []) g r h = nothing-asked (g, r) h
+names-net (word ∷ number ∷ fields) g r h = names-number (verb_in word) (word_counter number) fields g r h
 
--- the number of the network
-pub names-net : (fields : List Bytes) (g : ℕ) (r : Request) → IsRequested fields g r → NamesNet fields g
-names-net [] g r h = absurd h
-names-net (word ∷ []) g r h = absurd h
-names-net (word ∷ number ∷ fields) g r h = h.2
+-- ---- what each tells, as the code reads it
 
--- what each tells, as the code reads it
-pub tells-declaration : (old : Hosting) (ws us : Waiting) (logs : List Log) (fields : List Bytes) (g : ℕ) (r : Request)
-    → record { waiting = ws; logs = logs } ≡ old → IsRequested fields g r → Prepares g r ws us → Tells old fields None (record { waiting = us; logs = logs })
-tells-declaration old ws us logs fields g r is h p =
-    subst (λ s. Tells s fields None (record { waiting = us; logs = logs })) is (declared (declares fields g r ws us h p) (g, r, h, p) refl)
+abbrev Asked : List Bytes → ℕ → Request → Type 0
+Asked fields g r = IsRequested fields (Some (g, r))
+
+pub tells-declaration : (old : Hosting) (ws us : Waiting) (logs : List Log) (fields : List Bytes) (g : ℕ) (r : Request) (d : Declaration)
+    → record { waiting = ws; logs = logs } ≡ old → r ≡ Declare d → Asked fields g r → Prepares g d ws us → Tells old fields None (record { waiting = us; logs = logs })
+tells-declaration old ws us logs fields g r d is e h p =
+    subst (λ s. Tells s fields None (record { waiting = us; logs = logs })) is (declared (g, d, subst (Asked fields g) e h, p) refl)
 
 pub tells-event : (old new : Hosting) (fields : List Bytes) (g : ℕ) (r : Request) (e : Event) (text : Bytes)
-    → r ≡ Apply e → IsRequested fields g r → IsPut g e old text new → Tells old fields (Some text) new
-tells-event old new fields g r e text is h put = answered g e (requests-event fields g e (subst (IsRequested fields g) is h)) put
+    → r ≡ Apply e → Asked fields g r → IsPut g e old text new → Tells old fields (Some text) new
+tells-event old new fields g r e text is h put = answered g e (subst (Asked fields g) is h) put
 
 pub tells-settle : (old new : Hosting) (fields : List Bytes) (g : ℕ) (r : Request) (slot : ℕ) (text : Bytes)
-    → r ≡ Settle slot → IsRequested fields g r → IsSettled g old new → Tells old fields (Some text) new
-tells-settle old new fields g r slot text is h done = settled g slot (requests-settle fields g slot (subst (IsRequested fields g) is h)) done
+    → r ≡ Settle slot → Asked fields g r → IsSettled g old new → Tells old fields (Some text) new
+tells-settle old new fields g r slot text is h done = settled g slot (subst (Asked fields g) is h) done
+
+-- ---- bad lines
+
+pub refuses-form : (old : Hosting) (fields : List Bytes) → IsRequested fields None → RefusesLine old fields
+refuses-form old fields h = (None, h, tt)
+
+pub refuses-declaration : (old : Hosting) (fields : List Bytes) (g : ℕ) (r : Request) (d : Declaration) → r ≡ Declare d → Asked fields g r → RefusesLine old fields
+refuses-declaration old fields g r d is h = (Some (g, Declare d), subst (Asked fields g) is h, tt)
+
+pub refuses-event : (old : Hosting) (fields : List Bytes) (g : ℕ) (r : Request) (e : Event) → r ≡ Apply e → Asked fields g r → HasNoNode old.waiting g
+    → RefusesLine old fields
+refuses-event old fields g r e is h bare = (Some (g, Apply e), subst (Asked fields g) is h, bare)
+
+pub refuses-settle : (old : Hosting) (fields : List Bytes) (g : ℕ) (r : Request) (slot : ℕ) → r ≡ Settle slot → Asked fields g r → HasNoNode old.waiting g
+    → RefusesLine old fields
+refuses-settle old fields g r slot is h bare = (Some (g, Settle slot), subst (Asked fields g) is h, bare)

@@ -1,5 +1,5 @@
 -- Lines that are run for what becomes of the networks.
-use Rattle.std.proofs.Common.{◌≡◌, List, [], Some, None, Ok, Err, refl}
+use Rattle.std.proofs.Common.{◌≡◌, ℕ, List, [], Some, None, Ok, Err, refl}
 use Rattle.std.specs.Prelude.{◌++◌, Result, Vec, codes}
 use Rattle.std.specs.List.{flat_map}
 use Rattle.std.specs.Global.{Global}
@@ -10,7 +10,8 @@ use Rattle.hoststep.specs.Logs.{Log}
 use Rattle.hoststep.specs.Worlds.{items_of}
 use Rattle.scripts.specs.Script.{Bytes}
 use Rattle.runs.specs.declared.requests.Request.{Request}
-use Rattle.runs.specs.declared.requests.Request.TheVariants.{Apply, Settle}
+use Rattle.runs.specs.declared.requests.Declaration.{Declaration}
+use Rattle.runs.specs.declared.requests.Request.TheVariants.{Declare, Apply, Settle}
 use Rattle.runs.specs.Drafts.{Waiting}
 use Rattle.runs.specs.Hosting.{Hosting, IsPut, IsSettled}
 use Rattle.runs.specs.Preparing.{Prepares}
@@ -27,16 +28,20 @@ line_of (Err refusal) = (refusal_text refusal, refl)
 put_of : (g : _) (e : Event) (old new : Hosting) → IsPutQuietly g e old new → (text : Bytes) × IsPut g e old text new
 put_of g e old new h = ((line_of h.1).0, (h.0, h.1, h.2, h.3, h.4, (line_of h.1).1))
 
-pub quiet-declaration : (old : Hosting) (ws us : Waiting) (logs : List Log) (fields : List Bytes) (g : _) (r : Request)
-    → record { waiting = ws; logs = logs } ≡ old → IsRequested fields g r → Prepares g r ws us → IsRunBy g fields old (record { waiting = us; logs = logs })
-quiet-declaration old ws us logs fields g r is h p = (names-net fields g r h, None, tells-declaration old ws us logs fields g r is h p)
+abbrev Asked : List Bytes → ℕ → Request → Type 0
+Asked fields g r = IsRequested fields (Some (g, r))
 
-pub quiet-event : (old new : Hosting) (fields : List Bytes) (g : _) (r : Request) (e : Event) → r ≡ Apply e → IsRequested fields g r
+pub quiet-declaration : (old : Hosting) (ws us : Waiting) (logs : List Log) (fields : List Bytes) (g : ℕ) (r : Request) (d : Declaration)
+    → record { waiting = ws; logs = logs } ≡ old → r ≡ Declare d → Asked fields g r → Prepares g d ws us → IsRunBy g fields old (record { waiting = us; logs = logs })
+quiet-declaration old ws us logs fields g r d is e h p =
+    (names-net fields g r h, None, tells-declaration old ws us logs fields g r d is e h p)
+
+pub quiet-event : (old new : Hosting) (fields : List Bytes) (g : ℕ) (r : Request) (e : Event) → r ≡ Apply e → Asked fields g r
     → IsPutQuietly g e old new → IsRunBy g fields old new
 quiet-event old new fields g r e is h put =
     let printed = put_of g e old new put in
     (names-net fields g r h, Some printed.0, tells-event old new fields g r e printed.0 is h printed.1)
 
-pub quiet-settle : (old new : Hosting) (fields : List Bytes) (g : _) (r : Request) (slot : _) → r ≡ Settle slot → IsRequested fields g r → IsSettled g old new
+pub quiet-settle : (old new : Hosting) (fields : List Bytes) (g : ℕ) (r : Request) (slot : ℕ) → r ≡ Settle slot → Asked fields g r → IsSettled g old new
     → IsRunBy g fields old new
 quiet-settle old new fields g r slot is h done = (names-net fields g r h, Some [], tells-settle old new fields g r slot [] is h done)

@@ -11,7 +11,7 @@ use Rattle.runs.specs.Drafts.{Waiting}
 use Rattle.runs.specs.Joining.{HaveJoined, IsNamed, Joins}
 use Rattle.runs.specs.Preparing.{IsPrepared}
 use Rattle.runs.specs.Replies.{IsReply}
-use Rattle.runs.specs.Telling.{AsksOf, Declares, Refuses, Settles}
+use Rattle.runs.specs.Telling.{AsksOf, Refuses, Settles}
 
 -- the networks that wait for an event that names them, and the journals of the others
 pub record Hosting : Type 0 where
@@ -42,7 +42,7 @@ IsSettled g old new = (begun : Hosting) × IsBegun g old begun × (new.waiting �
 -- what a line tells. A declaration prints nothing, and no journal changes. An event is put to its network, and the answer is printed. Of the
 -- lines that settle this does not say yet what they print, nor which events they put to the network.
 pub data Tells : Hosting → List Bytes → Option Bytes → Hosting → Type 0 where
-  declared : {old new : Hosting} {fields : List Bytes} → Declares fields → IsPrepared fields old.waiting new.waiting → new.logs ≡ old.logs
+  declared : {old new : Hosting} {fields : List Bytes} → IsPrepared fields old.waiting new.waiting → new.logs ≡ old.logs
       → Tells old fields None new
   answered : {old new : Hosting} {fields : List Bytes} {text : Bytes} (g : ℕ) (e : Event) → AsksOf fields g e → IsPut g e old text new
       → Tells old fields (Some text) new
@@ -51,7 +51,7 @@ pub data Tells : Hosting → List Bytes → Option Bytes → Hosting → Type 0 
 
 -- the line is bad
 abbrev pub RefusesLine : Hosting → List Bytes → Type 0
-RefusesLine old fields = Refuses old.logs fields
+RefusesLine old fields = Refuses old.waiting fields
 
 -- after the last line all networks that wait and have nodes have joined
 abbrev pub IsFinished : Hosting → Hosting → Type 0

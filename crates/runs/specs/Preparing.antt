@@ -1,19 +1,18 @@
 -- What lines of scripts that declare change of the networks that wait.
-use Rattle.std.specs.Prelude.{◌≡◌, ℕ, List, None}
+use Rattle.std.specs.Prelude.{◌≡◌, ℕ, List, Some, None}
 use Rattle.scripts.specs.Script.{Bytes}
-use Rattle.runs.specs.declared.requests.Request.{Request}
-use Rattle.runs.specs.declared.requests.Request.TheVariants.{Net, Node, Roster, Apply, Settle}
+use Rattle.runs.specs.declared.requests.Declaration.{Declaration}
+use Rattle.runs.specs.declared.requests.Declaration.TheVariants.{Net, Node, Roster}
+use Rattle.runs.specs.declared.requests.Request.TheVariants.{Declare}
 use Rattle.runs.specs.Drafts.{IsRevised, Waiting, fresh, waiting_at, waiting_with, with_node, with_roster}
 use Rattle.runs.specs.Requests.{IsRequested}
 
--- a network is declared of which none waits, or one that waits has a node more, or its roster; events declare nothing
-abbrev pub Prepares : ℕ → Request → Waiting → Waiting → Type 0
+-- a network is declared of which none waits, or one that waits has a node more, or its roster
+abbrev pub Prepares : ℕ → Declaration → Waiting → Waiting → Type 0
 Prepares g (Net b) old new = (waiting_at old g ≡ None) × (new ≡ waiting_with old g (fresh b))
 Prepares g (Node u q) old new = IsRevised g (λ d. with_node d u q) old new
 Prepares g (Roster r) old new = IsRevised g (λ d. with_roster d r.names.items r.shares) old new
-Prepares g (Apply e) old new = ⊥
-Prepares g (Settle slot) old new = ⊥
 
 -- the line declares that
 abbrev pub IsPrepared : List Bytes → Waiting → Waiting → Type 0
-IsPrepared fields old new = (g : ℕ) × (r : Request) × IsRequested fields g r × Prepares g r old new
+IsPrepared fields old new = (g : ℕ) × (d : Declaration) × IsRequested fields (Some (g, Declare d)) × Prepares g d old new

@@ -1,26 +1,80 @@
 -- What lines of scripts of networks ask for.
-use Rattle.std.specs.Prelude.{◌≡◌, ℕ, List, [], ◌∷◌}
+use Rattle.std.specs.Prelude.{◌≡◌, ◌^◌, ℕ, nat_eq, List, [], ◌∷◌, codes, Option, Some, None, option_map, option_and_then, if◌then◌else◌}
+use Rattle.std.specs.List.{slice_split}
+use lib.Pointwise.{pointwise}
 use Rattle.scripts.specs.Script.{Bytes}
+use Rattle.scripts.specs.Names.{word_name}
+use Rattle.scripts.specs.Slices.{AreSlices}
+use Rattle.scripts.specs.Words.{word_counter, word_number}
+use Rattle.types.specs.declared.event.Event.{Event}
+use Rattle.protocol.specs.Networks.{Budgets}
+use Rattle.configuration.specs.Budgets.{AreBudgets}
+use Rattle.runs.specs.declared.requests.Declaration.{Declaration}
+use Rattle.runs.specs.declared.requests.Declaration.TheVariants.{Net, Node, Roster}
 use Rattle.runs.specs.declared.requests.Request.{Request}
-use Rattle.runs.specs.declared.requests.Request.TheVariants.{Net, Node, Roster, Apply, Settle}
+use Rattle.runs.specs.declared.requests.Request.TheVariants.{Declare, Apply, Settle}
 use Rattle.runs.specs.declared.verbs.Verb.{Verb}
 use Rattle.runs.specs.declared.verbs.Verb.TheVariants as verb
-use Rattle.runs.specs.Lines.{Asks, IsNumber, word_of}
+use Rattle.runs.specs.Lines.{IsAsked, IsRead, slot_in, verb_in}
+
+-- ---- declarations
+
+-- a number behind its word, and the fields that follow
+abbrev pub counted : Bytes → List Bytes → Option (ℕ × List Bytes)
+counted name (word ∷ number ∷ more) = if pointwise nat_eq word name then option_map (λ n. (n, more)) (word_number (2 ^ 64) number) else None
+counted name fields = None
+
+abbrev pub budgets_of : ℕ → ℕ → ℕ × List Bytes → Option Budgets
+budgets_of events bytes (slots, []) = Some (record { events = events; bytes = bytes; slots = slots })
+budgets_of events bytes (slots, field ∷ more) = None
+
+-- the numbers of budgets, each behind its word
+abbrev pub budgets_in : List Bytes → Option Budgets
+budgets_in fields =
+    option_and_then (λ events. option_and_then (λ bytes. option_and_then (λ slots. budgets_of events.0 bytes.0 slots) (counted (codes "slots") bytes.1)) (counted (codes "bytes") events.1)) (counted (codes "events") fields)
+
+-- the numbers are budgets that a network can have
+abbrev pub AreAllowed : Option Budgets → Request → Type 0
+AreAllowed None r = ⊥
+AreAllowed (Some b) r = AreBudgets b.events b.bytes b.slots × (r ≡ Declare (Net b))
+
+-- the node of a name, if any, and its slices
+abbrev pub IsNode : Option ℕ → Bytes → Request → Type 0
+IsNode None slices r = ⊥
+IsNode (Some u) slices r = (q : _) × AreSlices slices (Some q) × (r ≡ Declare (Node u q))
+
+-- a name and slices
+abbrev pub AsksNode : List Bytes → Request → Type 0
+AsksNode (name ∷ slices ∷ []) r = IsNode (word_name name) slices r
+AsksNode fields r = ⊥
+
+-- a roster, if any; which one the fields declare this does not say yet
+abbrev pub IsRoster : Option Request → Type 0
+IsRoster None = Unit {0}
+IsRoster (Some r) = (d : _) × (r ≡ Declare (Roster d))
+
+-- ---- requests
 
 -- the only field is the slot
-abbrev pub NamesSlot : List Bytes → ℕ → Type 0
-NamesSlot (i ∷ []) slot = IsNumber i slot
-NamesSlot fields slot = ⊥
+abbrev pub settled : List Bytes → Option Request
+settled (i ∷ []) = option_map (λ slot. Settle slot) (slot_in i)
+settled fields = None
 
--- a line of this kind, by its fields after the number of the network, asks for this. Of what it declares this does not say yet what it is.
-abbrev pub IsRequest : Verb → List Bytes → Request → Type 0
-IsRequest v fields (Net budgets) = v ≡ verb.Net
-IsRequest v fields (Node u q) = v ≡ verb.Node
-IsRequest v fields (Roster r) = v ≡ verb.Roster
-IsRequest v fields (Apply e) = Asks v fields e
-IsRequest v fields (Settle slot) = (v ≡ verb.Settle) × NamesSlot fields slot
+-- a line of this kind, by its fields after the number of the network, asks for this, or for nothing
+abbrev pub IsRequest : Verb → List Bytes → Option Request → Type 0
+IsRequest verb.Net fields asked = IsRead (AreAllowed (budgets_in fields)) asked
+IsRequest verb.Node fields asked = IsRead (AsksNode fields) asked
+IsRequest verb.Roster fields asked = IsRoster asked
+IsRequest verb.Settle fields asked = asked ≡ settled fields
+IsRequest (verb.Event v) fields asked = (event : Option Event) × IsAsked v fields event × (asked ≡ option_map (λ e. Apply e) event)
 
--- a line asks for this of the network of a number
-abbrev pub IsRequested : List Bytes → ℕ → Request → Type 0
-IsRequested (word ∷ number ∷ fields) g r = (v : Verb) × (word ≡ word_of v) × IsNumber number g × IsRequest v fields r
-IsRequested fields g r = ⊥
+-- a line of this kind, if it is one, asks for that of the network of this number, if it is one
+abbrev pub IsRequestOf : Option Verb → Option ℕ → List Bytes → Option (ℕ × Request) → Type 0
+IsRequestOf None number fields asked = asked ≡ None
+IsRequestOf (Some v) None fields asked = asked ≡ None
+IsRequestOf (Some v) (Some g) fields asked = (r : Option Request) × IsRequest v fields r × (asked ≡ option_map (λ x. (g, x)) r)
+
+-- a line asks for this of the network of a number, or has none of the forms
+abbrev pub IsRequested : List Bytes → Option (ℕ × Request) → Type 0
+IsRequested (word ∷ number ∷ fields) asked = IsRequestOf (verb_in word) (word_counter number) fields asked
+IsRequested fields asked = asked ≡ None

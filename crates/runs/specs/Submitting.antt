@@ -1,5 +1,5 @@
 -- What the lines of scripts of networks submit.
-use Rattle.std.specs.Prelude.{◌≡◌, ℕ, is_some, List, Option, None, if◌then◌else◌}
+use Rattle.std.specs.Prelude.{◌≡◌, ℕ, is_some, List, Option, Some, None, if◌then◌else◌}
 use Rattle.scripts.specs.Script.{Bytes}
 use Rattle.types.specs.declared.event.Event.{Event}
 use Rattle.protocol.specs.Hosts.{History}
@@ -8,7 +8,10 @@ use Rattle.crowds.specs.Submitted.{and_then, declared}
 use Rattle.runs.specs.Drafts.{Waiting}
 use Rattle.runs.specs.Joining.{HaveJoined, IsNamed, Joins}
 use Rattle.runs.specs.Preparing.{IsPrepared}
-use Rattle.runs.specs.Telling.{AsksOf, Declares}
+use Rattle.runs.specs.declared.requests.Request.{Request}
+use Rattle.runs.specs.declared.requests.Request.TheVariants.{Declare, Apply, Settle}
+use Rattle.runs.specs.Requests.{IsRequested}
+use Rattle.runs.specs.Telling.{AsksOf, HasNoNode}
 
 -- the networks that wait for an event that names them, and what has been submitted
 pub record Submitting : Type 0 where
@@ -29,13 +32,23 @@ IsSubmitted g e old new = (begun : Submitting) × IsDeclared g old begun × (new
 
 -- what a line tells, and nothing is printed: a declaration submits nothing, an event is submitted, and no line settles
 pub data Submits : Submitting → List Bytes → Option Bytes → Submitting → Type 0 where
-  declares : {old new : Submitting} {fields : List Bytes} → Declares fields → IsPrepared fields old.waiting new.waiting
-      → new.history ≡ old.history → Submits old fields None new
+  declares : {old new : Submitting} {fields : List Bytes} → IsPrepared fields old.waiting new.waiting → new.history ≡ old.history → Submits old fields None new
   submits : {old new : Submitting} {fields : List Bytes} (g : ℕ) (e : Event) → AsksOf fields g e → IsSubmitted g e old new → Submits old fields None new
 
--- of bad lines nothing is said yet
+-- what asks this of the network of a number is bad: of an event only where the network has no node, and of each slot that is to settle. Which
+-- declarations are this does not say yet.
+abbrev pub IsBadRequest : Waiting → ℕ → Request → Type 0
+IsBadRequest ws g (Declare d) = Unit {0}
+IsBadRequest ws g (Apply e) = HasNoNode ws g
+IsBadRequest ws g (Settle slot) = Unit {0}
+
+abbrev pub IsBad : Waiting → Option (ℕ × Request) → Type 0
+IsBad ws None = Unit {0}
+IsBad ws (Some r) = IsBadRequest ws r.0 r.1
+
+-- the line has none of the forms, or what it asks for is bad
 abbrev pub RefusesToSubmit : Submitting → List Bytes → Type 0
-RefusesToSubmit old fields = Unit {0}
+RefusesToSubmit old fields = (asked : Option (ℕ × Request)) × IsRequested fields asked × IsBad old.waiting asked
 
 -- after the last line all networks that wait and have nodes have been declared
 abbrev pub IsComplete : Submitting → Submitting → Type 0

@@ -1,33 +1,47 @@
 -- What the lines of scripts of networks are.
-use Rattle.std.specs.Prelude.{◌≡◌, ◌⊎◌, ℕ, List, [], ◌∷◌}
+use Rattle.std.specs.Prelude.{◌≡◌, ℕ, List, [], ◌∷◌, Option, Some, None}
 use Rattle.scripts.specs.Script.{Bytes}
+use Rattle.scripts.specs.Words.{word_counter}
 use Rattle.types.specs.declared.event.Event.{Event}
-use Rattle.hoststep.specs.Logs.{Log}
-use Rattle.runs.specs.declared.verbs.Verb.{Verb}
-use Rattle.runs.specs.declared.verbs.Verb.TheVariants as verb
-use Rattle.runs.specs.Lines.{Asks, IsNumber, word_of}
-use Rattle.runs.specs.Requests.{NamesSlot}
+use Rattle.runs.specs.declared.requests.Request.{Request}
+use Rattle.runs.specs.declared.requests.Request.TheVariants.{Declare, Apply, Settle}
+use Rattle.runs.specs.Drafts.{Drafted, Waiting, waiting_at}
+use Rattle.runs.specs.Requests.{IsRequested}
 
 -- the line asks the network of a number for an event
 abbrev pub AsksOf : List Bytes → ℕ → Event → Type 0
-AsksOf (word ∷ number ∷ fields) g e = (v : Verb) × (word ≡ word_of v) × IsNumber number g × Asks v fields e
-AsksOf fields g e = ⊥
-
--- the line declares a network, a node or a roster
-abbrev pub Declares : List Bytes → Type 0
-Declares (word ∷ fields) = (word ≡ word_of verb.Net) ⊎ (word ≡ word_of verb.Node) ⊎ (word ≡ word_of verb.Roster)
-Declares [] = ⊥
+AsksOf fields g e = IsRequested fields (Some (g, Apply e))
 
 -- the line settles a slot of the network of a number
 abbrev pub Settles : List Bytes → ℕ → ℕ → Type 0
-Settles (word ∷ number ∷ fields) g slot = (word ≡ word_of verb.Settle) × IsNumber number g × NamesSlot fields slot
-Settles fields g slot = ⊥
+Settles fields g slot = IsRequested fields (Some (g, Settle slot))
 
 -- the line names the network of a number
 abbrev pub NamesNet : List Bytes → ℕ → Type 0
-NamesNet (word ∷ number ∷ fields) g = IsNumber number g
+NamesNet (word ∷ number ∷ fields) g = word_counter number ≡ Some g
 NamesNet fields g = ⊥
 
--- of bad lines nothing is said yet
-abbrev pub Refuses : List Log → List Bytes → Type 0
-Refuses logs fields = Unit {0}
+-- ---- bad lines
+
+abbrev pub IsBare : Option Drafted → Type 0
+IsBare None = ⊥
+IsBare (Some d) = d.nodes ≡ []
+
+-- the network of a number is declared, no event has named it, and it has no node
+abbrev pub HasNoNode : Waiting → ℕ → Type 0
+HasNoNode ws g = IsBare (waiting_at ws g)
+
+-- what asks this of the network of a number is bad: of an event, and of a slot that is to settle, only where the network has no node. Which
+-- declarations are this does not say yet.
+abbrev pub IsBadRequest : Waiting → ℕ → Request → Type 0
+IsBadRequest ws g (Declare d) = Unit {0}
+IsBadRequest ws g (Apply e) = HasNoNode ws g
+IsBadRequest ws g (Settle slot) = HasNoNode ws g
+
+abbrev pub IsBad : Waiting → Option (ℕ × Request) → Type 0
+IsBad ws None = Unit {0}
+IsBad ws (Some r) = IsBadRequest ws r.0 r.1
+
+-- the line has none of the forms, or what it asks for is bad
+abbrev pub Refuses : Waiting → List Bytes → Type 0
+Refuses ws fields = (asked : Option (ℕ × Request)) × IsRequested fields asked × IsBad ws asked

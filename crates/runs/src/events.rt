@@ -1,70 +1,86 @@
-//! Events as lines write them, after the number of the network. Each is a bad line where the fields have not
-//! this form.
+//! Events as lines write them, after the number of the network. Fields that have not this form ask for none.
 
 ghost use Rattle.std.specs.Prelude.{◌≡◌, IfOk, IfSome, map, option_map};
-ghost use Rattle.runs.specs.Lines.{AreSaid, AsksOpen, AsksClose, AsksPropose, AsksDeliver, AsksSay, AsksHear, AsksNominationTimer, AsksBallotTimer, AsksReslice, word_of_kind, word_proposal};
+ghost use Rattle.runs.specs.Lines.{AreSaid, AsksReslice, AsksSay, IsAsked, IsRead, ballot_timed, closed, delivered, emission_in, five, heard, kind_in, nomination_timed, opened, place_in, proposed, saying_in, slot_in, three, word_proposal};
 
-use crate::verbs::is_word;
+use crate::verbs::{EventVerb, is_word};
 use codec::encode;
 use scripts::{
-    LineError, bytes_of, counter_of, digits_of, name_of, number_of, slices_of, statement_of,
-    value_of,
+    bytes_of, counter_of, digits_of, name_of, number_of, slices_of, statement_of, value_of,
 };
 use std::alloc::{AllocError, Global};
-use types::{Bytes, Envelope, Event, Kind};
+use types::{Bytes, Envelope, Event, Kind, NodeId, Statement};
 
-/// `I`: the slot is opened.
-pub(crate) fn open(fields: &[&[u8]]) -> Result<Event, LineError>
-    ensures { IfOk result (AsksOpen (map (λ field. field.now) fields.now)) }
+/// The event that a line of this kind asks for, by its fields after the number of the network.
+pub(crate) fn event_of(
+    alloc: Global,
+    verb: EventVerb,
+    fields: &[&[u8]],
+) -> Result<Option<Event>, AllocError>
+    ensures { IfOk result (IsAsked verb (map (λ field. field.now) fields.now)) }
 {
-    let [slot] = fields else {
-        return Err(LineError::Bad);
-    };
-    let Some(slot) = number_of(slot) else {
-        return Err(LineError::Bad);
-    };
-    Ok(Event::OpenSlot { slot })
+    match verb {
+        EventVerb::Open => Ok(open(fields)),
+        EventVerb::Close => Ok(close(fields)),
+        EventVerb::Propose => propose(alloc, fields),
+        EventVerb::Deliver => deliver(alloc, fields),
+        EventVerb::Say => say(alloc, fields),
+        EventVerb::Hear => Ok(hear(fields)),
+        EventVerb::NominationTimer => Ok(nomination_timer(fields)),
+        EventVerb::BallotTimer => Ok(ballot_timer(fields)),
+        EventVerb::Reslice => reslice(alloc, fields),
+    }
 }
 
-/// `I`: the slot is closed.
-pub(crate) fn close(fields: &[&[u8]]) -> Result<Event, LineError>
-    ensures { IfOk result (AsksClose (map (λ field. field.now) fields.now)) }
+// `I`: the slot is opened.
+fn open(fields: &[&[u8]]) -> Option<Event>
+    ensures { result ≡ opened (map (λ field. field.now) fields.now) }
 {
     let [slot] = fields else {
-        return Err(LineError::Bad);
+        return None;
     };
-    let Some(slot) = number_of(slot) else {
-        return Err(LineError::Bad);
-    };
-    Ok(Event::CloseSlot { slot })
+    match number_of(slot) {
+        Some(slot) => Some(Event::OpenSlot { slot }),
+        None => None,
+    }
 }
 
-/// `I NAME VALUE`: the node is to propose the bytes of the value, whose number the network tests where they
-/// are written as digits.
-pub(crate) fn propose(alloc: Global, fields: &[&[u8]]) -> Result<Event, LineError>
-    ensures { IfOk result (AsksPropose (map (λ field. field.now) fields.now)) }
+// `I`: the slot is closed.
+fn close(fields: &[&[u8]]) -> Option<Event>
+    ensures { result ≡ closed (map (λ field. field.now) fields.now) }
 {
-    let [slot, node, value] = fields else {
-        return Err(LineError::Bad);
+    let [slot] = fields else {
+        return None;
     };
-    let Some(slot) = number_of(slot) else {
-        return Err(LineError::Bad);
+    match number_of(slot) {
+        Some(slot) => Some(Event::CloseSlot { slot }),
+        None => None,
+    }
+}
+
+// `I NAME VALUE`: the node is to propose the bytes of the value, whose number the network tests where they
+// are written as digits.
+fn propose(alloc: Global, fields: &[&[u8]]) -> Result<Option<Event>, AllocError>
+    ensures { IfOk result (λ o. o ≡ proposed (map (λ field. field.now) fields.now)) }
+{
+    let Some((slot, node, value)) = three_of(fields) else {
+        return Ok(None);
     };
-    let Some(node) = name_of(node) else {
-        return Err(LineError::Bad);
+    let Some((slot, node)) = place_of(slot, node) else {
+        return Ok(None);
     };
-    let Some(value) = proposed(alloc, value)? else {
-        return Err(LineError::Bad);
+    let Some(value) = proposal_of(alloc, value)? else {
+        return Ok(None);
     };
-    Ok(Event::Propose {
+    Ok(Some(Event::Propose {
         slot,
         node,
         value: Bytes::new(value),
-    })
+    }))
 }
 
 // The bytes of a proposal: a plain value, or `#` and any even number of digits.
-fn proposed(alloc: Global, word: &[u8]) -> Result<Option<Vec<u8>>, AllocError>
+fn proposal_of(alloc: Global, word: &[u8]) -> Result<Option<Vec<u8>>, AllocError>
     ensures { IfOk result (λ o. option_map (λ v. v.items) o ≡ word_proposal word.now) }
 {
     match word {
@@ -76,38 +92,40 @@ fn proposed(alloc: Global, word: &[u8]) -> Result<Option<Vec<u8>>, AllocError>
     }
 }
 
-/// `NAME HEX`: the bytes reach the node.
-pub(crate) fn deliver(alloc: Global, fields: &[&[u8]]) -> Result<Event, LineError>
-    ensures { IfOk result (AsksDeliver (map (λ field. field.now) fields.now)) }
+// `NAME HEX`: the bytes reach the node.
+fn deliver(alloc: Global, fields: &[&[u8]]) -> Result<Option<Event>, AllocError>
+    ensures { IfOk result (λ o. o ≡ delivered (map (λ field. field.now) fields.now)) }
 {
     let [node, bytes] = fields else {
-        return Err(LineError::Bad);
+        return Ok(None);
     };
     let Some(node) = name_of(node) else {
-        return Err(LineError::Bad);
+        return Ok(None);
     };
     let Some(bytes) = bytes_of(alloc, bytes)? else {
-        return Err(LineError::Bad);
+        return Ok(None);
     };
-    Ok(Event::Deliver {
+    Ok(Some(Event::Deliver {
         node,
         bytes: Bytes::new(bytes),
-    })
+    }))
 }
 
-/// `NAME FROM I SLICES STATEMENT`: the bytes of this envelope reach the node. A statement that is not well
-/// formed is a bad line.
-pub(crate) fn say(alloc: Global, fields: &[&[u8]]) -> Result<Event, LineError>
-    ensures { IfOk result (AsksSay (map (λ field. field.now) fields.now)) }
+// `NAME FROM I SLICES STATEMENT`: the bytes of this envelope reach the node. A statement that is not well
+// formed asks for no event.
+fn say(alloc: Global, fields: &[&[u8]]) -> Result<Option<Event>, AllocError>
+    ensures { IfOk result (IsRead (AsksSay (map (λ field. field.now) fields.now))) }
 {
-    let [node, from, slot, slices, statement] = fields else {
-        return Err(LineError::Bad);
+    let Some((node, from, slot, slices, statement)) = five_of(fields) else {
+        return Ok(None);
     };
     let Some(node) = name_of(node) else {
-        return Err(LineError::Bad);
+        return Ok(None);
     };
-    let bytes = said(alloc, from, slot, slices, statement)?;
-    Ok(Event::Deliver { node, bytes })
+    match said(alloc, from, slot, slices, statement)? {
+        Some(bytes) => Ok(Some(Event::Deliver { node, bytes })),
+        None => Ok(None),
+    }
 }
 
 // The bytes of the envelope of these words.
@@ -117,62 +135,84 @@ fn said(
     slot: &[u8],
     slices: &[u8],
     statement: &[u8],
-) -> Result<Bytes, LineError>
-    ensures { IfOk result (λ bytes. AreSaid bytes from.now slot.now slices.now statement.now) }
+) -> Result<Option<Bytes>, AllocError>
+    ensures { IfOk result (IsRead (λ bytes. AreSaid bytes from.now slot.now slices.now statement.now)) }
 {
-    let Some(from) = name_of(from) else {
-        return Err(LineError::Bad);
-    };
-    let Some(slot) = number_of(slot) else {
-        return Err(LineError::Bad);
+    let Some((from, slot, body)) = saying_of(alloc, from, slot, statement)? else {
+        return Ok(None);
     };
     let Some(slices) = slices_of(alloc, slices)? else {
-        return Err(LineError::Bad);
-    };
-    let Some(body) = statement_of(alloc, statement)? else {
-        return Err(LineError::Bad);
+        return Ok(None);
     };
     let Some(envelope) = Envelope::new(from, slot, slices, body) else {
-        return Err(LineError::Bad);
+        return Ok(None);
     };
     let bytes = encode(alloc, &envelope)?;
-    Ok(Bytes::new(bytes))
+    Ok(Some(Bytes::new(bytes)))
 }
 
-/// `I NAME FROM nom K` or `I NAME FROM bal K`: the node hears an emission.
-pub(crate) fn hear(fields: &[&[u8]]) -> Result<Event, LineError>
-    ensures { IfOk result (AsksHear (map (λ field. field.now) fields.now)) }
+// Who says it, of which slot, and the statement.
+fn saying_of(
+    alloc: Global,
+    from: &[u8],
+    slot: &[u8],
+    statement: &[u8],
+) -> Result<Option<(NodeId, u64, Statement)>, AllocError>
+    ensures { IfOk result (λ o. o ≡ saying_in from.now slot.now statement.now) }
 {
-    let [slot, node, from, kind, number] = fields else {
-        return Err(LineError::Bad);
+    let Some(from) = name_of(from) else {
+        return Ok(None);
     };
     let Some(slot) = number_of(slot) else {
-        return Err(LineError::Bad);
+        return Ok(None);
     };
-    let Some(node) = name_of(node) else {
-        return Err(LineError::Bad);
+    match statement_of(alloc, statement)? {
+        Some(body) => Ok(Some((from, slot, body))),
+        None => Ok(None),
+    }
+}
+
+// `I NAME FROM nom K` or `I NAME FROM bal K`: the node hears an emission.
+fn hear(fields: &[&[u8]]) -> Option<Event>
+    ensures { result ≡ heard (map (λ field. field.now) fields.now) }
+{
+    let Some((slot, node, from, kind, number)) = five_of(fields) else {
+        return None;
     };
+    let Some((slot, node)) = place_of(slot, node) else {
+        return None;
+    };
+    match emission_of(from, kind, number) {
+        Some((from, kind, number)) => Some(Event::Hear {
+            slot,
+            node,
+            from,
+            kind,
+            number,
+        }),
+        None => None,
+    }
+}
+
+// The emission that words name: by whom, of which kind, and its number.
+fn emission_of(from: &[u8], kind: &[u8], number: &[u8]) -> Option<(NodeId, Kind, u64)>
+    ensures { result ≡ emission_in from.now kind.now number.now }
+{
     let Some(from) = name_of(from) else {
-        return Err(LineError::Bad);
+        return None;
     };
     let Some(kind) = kind_of(kind) else {
-        return Err(LineError::Bad);
+        return None;
     };
-    let Some(number) = number_of(number) else {
-        return Err(LineError::Bad);
-    };
-    Ok(Event::Hear {
-        slot,
-        node,
-        from,
-        kind,
-        number,
-    })
+    match number_of(number) {
+        Some(number) => Some((from, kind, number)),
+        None => None,
+    }
 }
 
 // The kind of an emission that a word names.
 fn kind_of(word: &[u8]) -> Option<Kind>
-    ensures { IfSome result (λ kind. word.now ≡ word_of_kind kind) }
+    ensures { result ≡ kind_in word.now }
 {
     match word {
         _ if is_word(word, b"nom") => Some(Kind::Nomination),
@@ -181,63 +221,90 @@ fn kind_of(word: &[u8]) -> Option<Kind>
     }
 }
 
-/// `I NAME R`: the node's nomination timer of this round fires.
-pub(crate) fn nomination_timer(fields: &[&[u8]]) -> Result<Event, LineError>
-    ensures { IfOk result (AsksNominationTimer (map (λ field. field.now) fields.now)) }
+// `I NAME R`: the node's nomination timer of this round fires.
+fn nomination_timer(fields: &[&[u8]]) -> Option<Event>
+    ensures { result ≡ nomination_timed (map (λ field. field.now) fields.now) }
 {
-    let [slot, node, round] = fields else {
-        return Err(LineError::Bad);
+    let Some((slot, node, round)) = three_of(fields) else {
+        return None;
     };
-    let Some(slot) = number_of(slot) else {
-        return Err(LineError::Bad);
+    let Some((slot, node)) = place_of(slot, node) else {
+        return None;
     };
-    let Some(node) = name_of(node) else {
-        return Err(LineError::Bad);
-    };
-    let Some(round) = counter_of(round) else {
-        return Err(LineError::Bad);
-    };
-    Ok(Event::NominationTimer { slot, node, round })
+    match counter_of(round) {
+        Some(round) => Some(Event::NominationTimer { slot, node, round }),
+        None => None,
+    }
 }
 
-/// `I NAME C`: the node's ballot timer for this counter fires.
-pub(crate) fn ballot_timer(fields: &[&[u8]]) -> Result<Event, LineError>
-    ensures { IfOk result (AsksBallotTimer (map (λ field. field.now) fields.now)) }
+// `I NAME C`: the node's ballot timer for this counter fires.
+fn ballot_timer(fields: &[&[u8]]) -> Option<Event>
+    ensures { result ≡ ballot_timed (map (λ field. field.now) fields.now) }
 {
-    let [slot, node, counter] = fields else {
-        return Err(LineError::Bad);
+    let Some((slot, node, counter)) = three_of(fields) else {
+        return None;
     };
-    let Some(slot) = number_of(slot) else {
-        return Err(LineError::Bad);
+    let Some((slot, node)) = place_of(slot, node) else {
+        return None;
     };
-    let Some(node) = name_of(node) else {
-        return Err(LineError::Bad);
-    };
-    let Some(counter) = counter_of(counter) else {
-        return Err(LineError::Bad);
-    };
-    Ok(Event::BallotTimer {
-        slot,
-        node,
-        counter,
-    })
+    match counter_of(counter) {
+        Some(counter) => Some(Event::BallotTimer {
+            slot,
+            node,
+            counter,
+        }),
+        None => None,
+    }
 }
 
-/// `I NAME SLICES`: from now on these are the node's slices at the slot.
-pub(crate) fn reslice(alloc: Global, fields: &[&[u8]]) -> Result<Event, LineError>
-    ensures { IfOk result (AsksReslice (map (λ field. field.now) fields.now)) }
+// `I NAME SLICES`: from now on these are the node's slices at the slot.
+fn reslice(alloc: Global, fields: &[&[u8]]) -> Result<Option<Event>, AllocError>
+    ensures { IfOk result (IsRead (AsksReslice (map (λ field. field.now) fields.now))) }
 {
-    let [slot, node, slices] = fields else {
-        return Err(LineError::Bad);
+    let Some((slot, node, slices)) = three_of(fields) else {
+        return Ok(None);
     };
+    let Some((slot, node)) = place_of(slot, node) else {
+        return Ok(None);
+    };
+    match slices_of(alloc, slices)? {
+        Some(slices) => Ok(Some(Event::Reslice { slot, node, slices })),
+        None => Ok(None),
+    }
+}
+
+// The slot and the node that words name.
+fn place_of(slot: &[u8], node: &[u8]) -> Option<(u64, NodeId)>
+    ensures { result ≡ place_in slot.now node.now }
+{
     let Some(slot) = number_of(slot) else {
-        return Err(LineError::Bad);
+        return None;
     };
-    let Some(node) = name_of(node) else {
-        return Err(LineError::Bad);
+    match name_of(node) {
+        Some(node) => Some((slot, node)),
+        None => None,
+    }
+}
+
+// Three fields, where there are as many.
+fn three_of<'a>(fields: &[&'a [u8]]) -> Option<(&'a [u8], &'a [u8], &'a [u8])>
+    ensures { option_map (λ r. (r.0.now, r.1.now, r.2.now)) result ≡ three (map (λ field. field.now) fields.now) }
+{
+    match fields {
+        [first, second, third] => Some((first, second, third)),
+        _ => None,
+    }
+}
+
+// Five fields, where there are as many.
+fn five_of<'a>(fields: &[&'a [u8]]) -> Option<(&'a [u8], &'a [u8], &'a [u8], &'a [u8], &'a [u8])>
+    ensures { option_map (λ r. (r.0.now, r.1.now, r.2.now, r.3.now, r.4.now)) result ≡ five (map (λ field. field.now) fields.now) }
+{
+    let [first, second, more @ ..] = fields else {
+        return None;
     };
-    let Some(slices) = slices_of(alloc, slices)? else {
-        return Err(LineError::Bad);
-    };
-    Ok(Event::Reslice { slot, node, slices })
+    match three_of(more) {
+        Some((third, fourth, fifth)) => Some((first, second, third, fourth, fifth)),
+        None => None,
+    }
 }

@@ -1,9 +1,10 @@
 //! What runs the lines of a script of networks.
 
-ghost use Rattle.std.specs.Prelude.{◌≡◌, [], IfOk, OnOk, map, string_bytes};
+ghost use Rattle.std.specs.Prelude.{◌≡◌, [], Err, IfOk, OnOk, map, string_bytes};
 ghost use Rattle.hoststep.specs.Worlds.{IsAnswered};
-ghost use Rattle.runs.specs.Hosting.{IsBegun, IsFinished, IsPut, IsSettled};
+ghost use Rattle.runs.specs.Hosting.{IsBegun, IsFinished, IsPut, IsSettled, RefusesLine};
 ghost use Rattle.runs.specs.Quiet.{IsPutQuietly, IsRunBy};
+ghost use Rattle.runs.specs.Telling.{HasNoNode};
 
 use crate::emissions::Emission;
 use crate::followed::turn_of;
@@ -67,7 +68,8 @@ impl HostRun {
 
     /// Runs a line without saying what it answers, and gives the number of the network that it names.
     pub(crate) fn run_quietly(&mut self, alloc: Global, fields: &[&[u8]]) -> Result<u32, LineError>
-        ensures { IfOk result (λ g. IsRunBy g (map (λ field. field.now) fields.now) self.old self.new) }
+        ensures told { IfOk result (λ g. IsRunBy g (map (λ field. field.now) fields.now) self.old self.new) }
+        ensures bad { result ≡ Err LineError.Bad → RefusesLine self.old (map (λ field. field.now) fields.now) }
     {
         let (number, request) = request_of(alloc, fields)?;
         match request {
@@ -79,7 +81,7 @@ impl HostRun {
                 let _text = self.settle(alloc, number, slot)?;
                 Ok(number)
             }
-            declaration => {
+            Request::Declare(declaration) => {
                 self.nets.prepare(number, declaration)?;
                 Ok(number)
             }
@@ -88,7 +90,8 @@ impl HostRun {
 
     // Puts an event to the network of a number, whatever it answers.
     fn put(&mut self, number: u32, event: Event) -> Result<(), LineError>
-        ensures { OnOk result (IsPutQuietly number event self.old self.new) }
+        ensures told { OnOk result (IsPutQuietly number event self.old self.new) }
+        ensures bad { result ≡ Err LineError.Bad → HasNoNode self.old.waiting number }
     {
         self.begin(number)?;
         let _answer = self.apply(number, event)?;
@@ -98,13 +101,14 @@ impl HostRun {
     // Readies the network of a number for an event that names it: where it is declared and this is the
     // first, it is put into the world. It is a bad line where the network has no node.
     fn begin(&mut self, number: u32) -> Result<(), LineError>
-        ensures { OnOk result (IsBegun number self.old self.new) }
+        ensures begun { OnOk result (IsBegun number self.old self.new) }
+        ensures bad { result ≡ Err LineError.Bad → HasNoNode self.old.waiting number }
     {
         self.nets.begin(&mut self.world, number)
     }
 
     // Puts an event to the network of a number, and keeps what settling needs of what it gives out.
-    fn apply(&mut self, number: u32, event: Event) -> Result<Result<Vec<Out>, Refusal>, LineError>
+    fn apply(&mut self, number: u32, event: Event) -> Result<Result<Vec<Out>, Refusal>, AllocError>
         ensures answer { IfOk result (λ answer. IsAnswered self.old.logs number event answer self.new.logs) }
         ensures waiting { OnOk result (self.new.waiting ≡ self.old.waiting) }
     {
@@ -118,7 +122,8 @@ impl HostRun {
 
     // The line that is printed of an event of the network of a number.
     fn answer(&mut self, alloc: Global, number: u32, event: Event) -> Result<String, LineError>
-        ensures { IfOk result (λ text. IsPut number event self.old (string_bytes text) self.new) }
+        ensures told { IfOk result (λ text. IsPut number event self.old (string_bytes text) self.new) }
+        ensures bad { result ≡ Err LineError.Bad → HasNoNode self.old.waiting number }
     {
         self.begin(number)?;
         let answer = self.apply(number, event)?;
@@ -127,27 +132,28 @@ impl HostRun {
 
     // The line that is printed of a slot of the network of a number that is to settle.
     fn settle(&mut self, alloc: Global, number: u32, slot: u64) -> Result<String, LineError>
-        ensures { OnOk result (IsSettled number self.old self.new) }
+        ensures told { OnOk result (IsSettled number self.old self.new) }
+        ensures bad { result ≡ Err LineError.Bad → HasNoNode self.old.waiting number }
     {
         self.begin(number)?;
-        self.settle_begun(alloc, number, slot)
+        Ok(self.settle_begun(alloc, number, slot)?)
     }
 
     // Hands on what was emitted at a slot, and answers the line that is printed: what each node has
     // externalized, or the first refusal.
-    fn settle_begun(&mut self, alloc: Global, number: u32, slot: u64) -> Result<String, LineError>
+    fn settle_begun(&mut self, alloc: Global, number: u32, slot: u64) -> Result<String, AllocError>
         ensures { OnOk result (self.new.waiting ≡ self.old.waiting) }
     {
         let Some(slots) = self.nets.followed.open_slots(number) else {
-            return Ok(refused(alloc, Refusal::NoSuchNetwork)?);
+            return refused(alloc, Refusal::NoSuchNetwork);
         };
         let names = Vec::from_slice(alloc, slots.names())?;
         if slots.slot(slot).is_none() {
-            return Ok(refused(alloc, Refusal::SlotNotOpen)?);
+            return refused(alloc, Refusal::SlotNotOpen);
         }
         match self.hand_on_all(number, slot, &names)? {
-            Some(refusal) => Ok(refused(alloc, refusal)?),
-            None => Ok(self.nets.followed.settled(alloc, number, slot)?),
+            Some(refusal) => refused(alloc, refusal),
+            None => self.nets.followed.settled(alloc, number, slot),
         }
     }
 
@@ -158,7 +164,7 @@ impl HostRun {
         number: u32,
         slot: u64,
         names: &[NodeId],
-    ) -> Result<Option<Refusal>, LineError>
+    ) -> Result<Option<Refusal>, AllocError>
         ensures { OnOk result (self.new.waiting ≡ self.old.waiting) }
     {
         // Budgets and shares let a network hear fewer than 2^64 times.
@@ -181,7 +187,7 @@ impl HostRun {
         slot: u64,
         names: &[NodeId],
         emission: Emission,
-    ) -> Result<Option<Refusal>, LineError>
+    ) -> Result<Option<Refusal>, AllocError>
         ensures { OnOk result (self.new.waiting ≡ self.old.waiting) }
     {
         for name in names {
@@ -209,7 +215,7 @@ impl LineRunner for HostRun {
         match request {
             Request::Apply(event) => Ok(Some(self.answer(alloc, number, event)?)),
             Request::Settle(slot) => Ok(Some(self.settle(alloc, number, slot)?)),
-            declaration => {
+            Request::Declare(declaration) => {
                 self.nets.prepare(number, declaration)?;
                 Ok(None)
             }

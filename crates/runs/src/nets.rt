@@ -1,14 +1,15 @@
 //! The networks of a script, by number: what their lines have declared, and how far they are.
 
-ghost use Rattle.std.specs.Prelude.{◌≡◌, [], IfOk, None, OnOk};
+ghost use Rattle.std.specs.Prelude.{◌≡◌, [], Err, IfOk, None, OnOk};
 ghost use Rattle.runs.specs.Drafts.{IsRevised, fresh, waiting_at, waiting_with, with_node, with_roster};
 ghost use Rattle.runs.specs.Joining.{HasJoined, HaveJoined, IsNamed, IsTaken};
 ghost use Rattle.runs.specs.Preparing.{Prepares};
+ghost use Rattle.runs.specs.Telling.{HasNoNode};
 
 use crate::drafts::{Draft, Reserved};
 use crate::followed::Followed;
 use crate::networks::Networks;
-use crate::requests::Request;
+use crate::requests::Declaration;
 use crate::waiting::Waiting;
 use configuration::{Budgets, NetConfig};
 use scripts::LineError;
@@ -40,16 +41,14 @@ impl Nets {
         }
     }
 
-    /// A line declares this, of the network of a number. It is a bad line where that is refused; an event, and
-    /// a slot that is to settle, declare nothing.
-    pub fn prepare(&mut self, number: u32, declaration: Request) -> Result<(), LineError>
+    /// A line declares this, of the network of a number. It is a bad line where that is refused.
+    pub fn prepare(&mut self, number: u32, declaration: Declaration) -> Result<(), LineError>
         ensures { OnOk result (Prepares number declaration self.old.waiting self.new.waiting) }
     {
         match declaration {
-            Request::Net(budgets) => self.declare(number, budgets),
-            Request::Node(name, slices) => self.host(number, name, slices),
-            Request::Roster(roster) => self.reserve(number, roster),
-            Request::Apply(_) | Request::Settle(_) => Err(LineError::Bad),
+            Declaration::Net(budgets) => self.declare(number, budgets),
+            Declaration::Node(name, slices) => self.host(number, name, slices),
+            Declaration::Roster(roster) => self.reserve(number, roster),
         }
     }
 
@@ -92,7 +91,8 @@ impl Nets {
     /// An event names a network. Where it is the first and the network is declared, the network is complete
     /// and joins. It is a bad line where the network has no node.
     pub fn begin<N: Networks>(&mut self, networks: &mut N, number: u32) -> Result<(), LineError>
-        ensures { OnOk result (IsNamed N.joins number self.old.waiting self.new.waiting networks.old networks.new) }
+        ensures named { OnOk result (IsNamed N.joins number self.old.waiting self.new.waiting networks.old networks.new) }
+        ensures bad { result ≡ Err LineError.Bad → HasNoNode self.old.waiting number }
     {
         let Some(config) = self.name(number)? else {
             return Ok(());
@@ -116,8 +116,9 @@ impl Nets {
 
     // An event names a network. The configuration is answered where the network waited.
     fn name(&mut self, number: u32) -> Result<Option<NetConfig>, LineError>
-        ensures { IfOk result (λ named.
+        ensures named { IfOk result (λ named.
             IsTaken number (waiting_at self.old.waiting number) named self.old.waiting self.new.waiting) }
+        ensures bad { result ≡ Err LineError.Bad → HasNoNode self.old.waiting number }
     {
         match self.waiting.take(number) {
             Some(draft) => match draft.config(number) {

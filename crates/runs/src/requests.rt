@@ -1,12 +1,12 @@
 //! What a line asks for.
 
-ghost use Rattle.std.specs.Prelude.{◌≡◌, IfOk, map};
-ghost use Rattle.runs.specs.Lines.{Asks};
-ghost use Rattle.runs.specs.Requests.{IsRequest, IsRequested};
+ghost use Rattle.std.specs.Prelude.{◌≡◌, Err, IfOk, None, Some, map, option_map};
+ghost use Rattle.runs.specs.Lines.{IsRead};
+ghost use Rattle.runs.specs.Requests.{AreAllowed, AsksNode, IsRequest, IsRequested, IsRoster, budgets_in, counted, settled};
 
 use crate::drafts::Reserved;
-use crate::events;
-use crate::verbs::{Verb, verb_of};
+use crate::events::event_of;
+use crate::verbs::{Verb, is_word, verb_of};
 use configuration::{Budgets, Shares};
 use scripts::{LineError, counter_of, name_of, number_of, slices_of};
 use std::alloc::{AllocError, Global};
@@ -15,144 +15,200 @@ use types::{Event, Nested, NodeId};
 /// What a line asks for, of the network of a number.
 #[derive(Drop)]
 pub(crate) enum Request {
-    /// A network with its budgets.
-    Net(Budgets),
-    /// A hosted node of the network.
-    Node(NodeId, Nested),
-    /// The roster of the network.
-    Roster(Reserved),
+    /// The network, or something of it, is declared.
+    Declare(Declaration),
     /// An event of the network.
     Apply(Event),
     /// What was emitted at a slot is to be handed on.
     Settle(u64),
 }
 
+/// What a line declares.
+#[derive(Drop)]
+pub(crate) enum Declaration {
+    /// A network with its budgets.
+    Net(Budgets),
+    /// A hosted node of the network.
+    Node(NodeId, Nested),
+    /// The roster of the network.
+    Roster(Reserved),
+}
+
 /// The number of the network that a line names, and what it asks for. It is a bad line where it has none of
 /// the forms.
 pub(crate) fn request_of(alloc: Global, fields: &[&[u8]]) -> Result<(u32, Request), LineError>
-    ensures { IfOk result (λ r. IsRequested (map (λ field. field.now) fields.now) r.0 r.1) }
+    ensures asked { IfOk result (λ r. IsRequested (map (λ field. field.now) fields.now) (Some (r.0, r.1))) }
+    ensures bad { result ≡ Err LineError.Bad → IsRequested (map (λ field. field.now) fields.now) None }
+{
+    match asked_by(alloc, fields)? {
+        Some((number, request)) => Ok((number, request)),
+        None => Err(LineError::Bad),
+    }
+}
+
+// The number of the network that a line names, and what it asks for, where it has one of the forms.
+fn asked_by(alloc: Global, fields: &[&[u8]]) -> Result<Option<(u32, Request)>, AllocError>
+    ensures { IfOk result (IsRequested (map (λ field. field.now) fields.now)) }
 {
     let [word, number, rest @ ..] = fields else {
-        return Err(LineError::Bad);
+        return Ok(None);
     };
     let Some(verb) = verb_of(word) else {
-        return Err(LineError::Bad);
+        return Ok(None);
     };
     let Some(number) = counter_of(number) else {
-        return Err(LineError::Bad);
+        return Ok(None);
     };
-    match request_by(alloc, verb, rest) {
-        Ok(request) => Ok((number, request)),
-        Err(error) => Err(error),
+    match request_by(alloc, verb, rest)? {
+        Some(request) => Ok(Some((number, request))),
+        None => Ok(None),
     }
 }
 
 // What a line of this kind asks for, by the fields after the number of the network.
-fn request_by(alloc: Global, verb: Verb, fields: &[&[u8]]) -> Result<Request, LineError>
+fn request_by(alloc: Global, verb: Verb, fields: &[&[u8]]) -> Result<Option<Request>, AllocError>
     ensures { IfOk result (IsRequest verb (map (λ field. field.now) fields.now)) }
 {
     match verb {
-        Verb::Net => Ok(Request::Net(budgets_of(fields)?)),
+        Verb::Net => Ok(net_of(fields)),
         Verb::Node => node_of(alloc, fields),
-        Verb::Roster => Ok(Request::Roster(roster_of(alloc, fields)?)),
-        Verb::Settle => settle_at(fields),
-        _ => match event_of(alloc, verb, fields) {
-            Ok(event) => Ok(Request::Apply(event)),
-            Err(error) => Err(error),
+        Verb::Roster => roster_of(alloc, fields),
+        Verb::Event(verb) => match event_of(alloc, verb, fields)? {
+            Some(event) => Ok(Some(Request::Apply(event))),
+            None => Ok(None),
         },
-    }
-}
-
-// The event that a line of this kind asks for.
-fn event_of(alloc: Global, verb: Verb, fields: &[&[u8]]) -> Result<Event, LineError>
-    ensures { IfOk result (Asks verb (map (λ field. field.now) fields.now)) }
-{
-    match verb {
-        Verb::Open => events::open(fields),
-        Verb::Close => events::close(fields),
-        Verb::Propose => events::propose(alloc, fields),
-        Verb::Deliver => events::deliver(alloc, fields),
-        Verb::Say => events::say(alloc, fields),
-        Verb::Hear => events::hear(fields),
-        Verb::NominationTimer => events::nomination_timer(fields),
-        Verb::BallotTimer => events::ballot_timer(fields),
-        Verb::Reslice => events::reslice(alloc, fields),
-        Verb::Net | Verb::Node | Verb::Roster | Verb::Settle => Err(LineError::Bad),
+        Verb::Settle => Ok(settle_at(fields)),
     }
 }
 
 // `events E bytes B slots S`, where these are budgets that a network can have.
-fn budgets_of(fields: &[&[u8]]) -> Result<Budgets, LineError> {
-    let [b"events", events, b"bytes", bytes, b"slots", slots] = fields else {
-        return Err(LineError::Bad);
+fn net_of(fields: &[&[u8]]) -> Option<Request>
+    ensures { IsRead (AreAllowed (budgets_in (map (λ field. field.now) fields.now))) result }
+{
+    let Some((events, bytes, slots)) = numbers_of(fields) else {
+        return None;
     };
-    let events = number_of(events).ok_or(LineError::Bad)?;
-    let bytes = number_of(bytes).ok_or(LineError::Bad)?;
-    let slots = number_of(slots).ok_or(LineError::Bad)?;
-    Budgets::new(events, bytes, slots).ok_or(LineError::Bad)
+    match Budgets::new(events, bytes, slots) {
+        Some(budgets) => Some(Request::Declare(Declaration::Net(budgets))),
+        None => None,
+    }
+}
+
+// The numbers of budgets.
+fn numbers_of(fields: &[&[u8]]) -> Option<(u64, u64, u64)>
+    ensures { option_map (λ r. record { events = r.0; bytes = r.1; slots = r.2 }) result ≡ budgets_in (map (λ field. field.now) fields.now) }
+{
+    let Some((events, rest)) = behind_word(fields, b"events") else {
+        return None;
+    };
+    let Some((bytes, rest)) = behind_word(rest, b"bytes") else {
+        return None;
+    };
+    match behind_word(rest, b"slots") {
+        Some((slots, [])) => Some((events, bytes, slots)),
+        _ => None,
+    }
+}
+
+// The number behind a word, and the fields that follow.
+fn behind_word<'a, 'b>(fields: &'a [&'b [u8]], word: &[u8]) -> Option<(u64, &'a [&'b [u8]])>
+    ensures { option_map (λ r. (r.0, map (λ field. field.now) r.1.now)) result ≡ counted word.now (map (λ field. field.now) fields.now) }
+{
+    let [first, number, rest @ ..] = fields else {
+        return None;
+    };
+    if !is_word(first, word) {
+        return None;
+    }
+    match number_of(number) {
+        Some(number) => Some((number, rest)),
+        None => None,
+    }
 }
 
 // `NAME SLICES`.
-fn node_of(alloc: Global, fields: &[&[u8]]) -> Result<Request, LineError>
-    ensures { IfOk result (IsRequest Verb.Node (map (λ field. field.now) fields.now)) }
+fn node_of(alloc: Global, fields: &[&[u8]]) -> Result<Option<Request>, AllocError>
+    ensures { IfOk result (IsRead (AsksNode (map (λ field. field.now) fields.now))) }
 {
     let [name, slices] = fields else {
-        return Err(LineError::Bad);
+        return Ok(None);
     };
-    let name = name_of(name).ok_or(LineError::Bad)?;
-    let slices = slices_of(alloc, slices)?.ok_or(LineError::Bad)?;
-    Ok(Request::Node(name, slices))
+    let Some(name) = name_of(name) else {
+        return Ok(None);
+    };
+    match slices_of(alloc, slices)? {
+        Some(slices) => Ok(Some(Request::Declare(Declaration::Node(name, slices)))),
+        None => Ok(None),
+    }
 }
 
 // `own O pair P bytes B opens S NAME,NAME,..`.
-fn roster_of(alloc: Global, fields: &[&[u8]]) -> Result<Reserved, LineError> {
-    let [
-        b"own",
-        own,
-        b"pair",
-        pair,
-        b"bytes",
-        bytes,
-        b"opens",
-        opens,
-        names,
-    ] = fields
-    else {
-        return Err(LineError::Bad);
+fn roster_of(alloc: Global, fields: &[&[u8]]) -> Result<Option<Request>, AllocError>
+    ensures { IfOk result IsRoster }
+{
+    let Some((shares, rest)) = shares_of(fields) else {
+        return Ok(None);
     };
-    let own = number_of(own).ok_or(LineError::Bad)?;
-    let pair = number_of(pair).ok_or(LineError::Bad)?;
-    let bytes = number_of(bytes).ok_or(LineError::Bad)?;
-    let opens = number_of(opens).ok_or(LineError::Bad)?;
-    let names = names_of(alloc, names)?;
-    let shares = Shares {
-        own,
-        pair,
-        bytes,
-        opens,
+    match only_names_of(alloc, rest)? {
+        Some(names) => Ok(Some(Request::Declare(Declaration::Roster(Reserved { names, shares })))),
+        None => Ok(None),
+    }
+}
+
+// The numbers of shares, and the fields that follow.
+fn shares_of<'a, 'b>(fields: &'a [&'b [u8]]) -> Option<(Shares, &'a [&'b [u8]])> {
+    let Some((own, rest)) = behind_word(fields, b"own") else {
+        return None;
     };
-    Ok(Reserved { names, shares })
+    let Some((pair, rest)) = behind_word(rest, b"pair") else {
+        return None;
+    };
+    let Some((bytes, rest)) = behind_word(rest, b"bytes") else {
+        return None;
+    };
+    match behind_word(rest, b"opens") {
+        Some((opens, rest)) => Some((
+            Shares {
+                own,
+                pair,
+                bytes,
+                opens,
+            },
+            rest,
+        )),
+        None => None,
+    }
+}
+
+// The names of the only field.
+fn only_names_of(alloc: Global, fields: &[&[u8]]) -> Result<Option<Vec<NodeId>>, AllocError> {
+    match fields {
+        [list] => names_of(alloc, list),
+        _ => Ok(None),
+    }
 }
 
 // Names with a comma between each and the next.
-fn names_of(alloc: Global, list: &[u8]) -> Result<Vec<NodeId>, LineError> {
+fn names_of(alloc: Global, list: &[u8]) -> Result<Option<Vec<NodeId>>, AllocError> {
     let mut names = Vec::new(alloc);
     for word in list.split(|byte| *byte == b',') {
-        let name = name_of(word).ok_or(LineError::Bad)?;
-        names.push(name).map_err(AllocError::from)?;
+        match name_of(word) {
+            Some(name) => names.push(name)?,
+            None => return Ok(None),
+        }
     }
-    Ok(names)
+    Ok(Some(names))
 }
 
 // The only field is a slot.
-fn settle_at(fields: &[&[u8]]) -> Result<Request, LineError>
-    ensures { IfOk result (IsRequest Verb.Settle (map (λ field. field.now) fields.now)) }
+fn settle_at(fields: &[&[u8]]) -> Option<Request>
+    ensures { result ≡ settled (map (λ field. field.now) fields.now) }
 {
     let [slot] = fields else {
-        return Err(LineError::Bad);
+        return None;
     };
     match number_of(slot) {
-        Some(slot) => Ok(Request::Settle(slot)),
-        None => Err(LineError::Bad),
+        Some(slot) => Some(Request::Settle(slot)),
+        None => None,
     }
 }

@@ -1,7 +1,8 @@
 //! What runs the lines of a script of networks for what they submit.
 
-ghost use Rattle.std.specs.Prelude.{◌≡◌, [], OnOk};
+ghost use Rattle.std.specs.Prelude.{◌≡◌, [], Err, OnOk};
 ghost use Rattle.runs.specs.Submitting.{IsComplete, IsDeclared, IsSubmitted};
+ghost use Rattle.runs.specs.Telling.{HasNoNode};
 
 use crate::nets::Nets;
 use crate::requests::{Request, request_of};
@@ -61,14 +62,16 @@ impl SubmissionRun {
     // Readies the network of a number for an event that names it: where it is declared and this is the
     // first, it is declared in the submission. It is a bad line where the network has no node.
     fn begin(&mut self, number: u32) -> Result<(), LineError>
-        ensures { OnOk result (IsDeclared number self.old self.new) }
+        ensures begun { OnOk result (IsDeclared number self.old self.new) }
+        ensures bad { result ≡ Err LineError.Bad → HasNoNode self.old.waiting number }
     {
         self.nets.begin(&mut self.submission, number)
     }
 
     // An event is submitted to the network of a number.
     fn submit(&mut self, number: u32, event: Event) -> Result<(), LineError>
-        ensures { OnOk result (IsSubmitted number event self.old self.new) }
+        ensures told { OnOk result (IsSubmitted number event self.old self.new) }
+        ensures bad { result ≡ Err LineError.Bad → HasNoNode self.old.waiting number }
     {
         self.begin(number)?;
         self.submission.submit(number, event)?;
@@ -91,7 +94,7 @@ impl LineRunner for SubmissionRun {
                 Ok(None)
             }
             Request::Settle(_) => Err(LineError::Bad),
-            declaration => {
+            Request::Declare(declaration) => {
                 self.nets.prepare(number, declaration)?;
                 Ok(None)
             }

@@ -1,7 +1,8 @@
 //! The first words of lines.
 
-ghost use Rattle.std.specs.Prelude.{◌≡◌, ◌↔◌, IfSome, IsTrue};
-ghost use Rattle.runs.specs.Lines.{word_of};
+ghost use Rattle.std.specs.Prelude.{◌≡◌, nat_eq};
+ghost use lib.Pointwise.{pointwise};
+ghost use Rattle.runs.specs.Lines.{verb_in};
 
 /// What kind of line it is.
 #[derive(Clone, Copy, Debug, PartialEq, Eq)]
@@ -9,6 +10,13 @@ pub(crate) enum Verb {
     Net,
     Node,
     Roster,
+    Event(EventVerb),
+    Settle,
+}
+
+/// What kind of line that asks for an event it is.
+#[derive(Clone, Copy, Debug, PartialEq, Eq)]
+pub(crate) enum EventVerb {
     Open,
     Close,
     Propose,
@@ -18,26 +26,25 @@ pub(crate) enum Verb {
     NominationTimer,
     BallotTimer,
     Reslice,
-    Settle,
 }
 
 /// The kind of the lines that begin with this word, where there are such lines.
 pub(crate) fn verb_of(word: &[u8]) -> Option<Verb>
-    ensures { IfSome result (λ verb. word.now ≡ word_of verb) }
+    ensures { result ≡ verb_in word.now }
 {
     match word {
         _ if is_word(word, b"net") => Some(Verb::Net),
         _ if is_word(word, b"node") => Some(Verb::Node),
         _ if is_word(word, b"roster") => Some(Verb::Roster),
-        _ if is_word(word, b"open") => Some(Verb::Open),
-        _ if is_word(word, b"close") => Some(Verb::Close),
-        _ if is_word(word, b"propose") => Some(Verb::Propose),
-        _ if is_word(word, b"deliver") => Some(Verb::Deliver),
-        _ if is_word(word, b"say") => Some(Verb::Say),
-        _ if is_word(word, b"hear") => Some(Verb::Hear),
-        _ if is_word(word, b"ntimer") => Some(Verb::NominationTimer),
-        _ if is_word(word, b"btimer") => Some(Verb::BallotTimer),
-        _ if is_word(word, b"reslice") => Some(Verb::Reslice),
+        _ if is_word(word, b"open") => Some(Verb::Event(EventVerb::Open)),
+        _ if is_word(word, b"close") => Some(Verb::Event(EventVerb::Close)),
+        _ if is_word(word, b"propose") => Some(Verb::Event(EventVerb::Propose)),
+        _ if is_word(word, b"deliver") => Some(Verb::Event(EventVerb::Deliver)),
+        _ if is_word(word, b"say") => Some(Verb::Event(EventVerb::Say)),
+        _ if is_word(word, b"hear") => Some(Verb::Event(EventVerb::Hear)),
+        _ if is_word(word, b"ntimer") => Some(Verb::Event(EventVerb::NominationTimer)),
+        _ if is_word(word, b"btimer") => Some(Verb::Event(EventVerb::BallotTimer)),
+        _ if is_word(word, b"reslice") => Some(Verb::Event(EventVerb::Reslice)),
         _ if is_word(word, b"settle") => Some(Verb::Settle),
         _ => None,
     }
@@ -45,7 +52,7 @@ pub(crate) fn verb_of(word: &[u8]) -> Option<Verb>
 
 /// Whether a field is this word.
 pub(crate) fn is_word(field: &[u8], word: &[u8]) -> bool
-    ensures { IsTrue result ↔ field.now ≡ word.now }
+    ensures { result ≡ pointwise nat_eq field.now word.now }
 {
     field == word
 }

@@ -3,11 +3,32 @@
 ghost use Rattle.std.specs.Prelude.{◌≡◌, ◌<◌, ◌^◌, ◌+◌, ◌-◌, ◌*◌, ◌↔◌, IsSome, IfSome};
 ghost use Rattle.std.specs.List.{AllByRecursion};
 ghost use Rattle.scripts.specs.Numbers.{decimal, decimal_from, IsDecimal, IsDigit};
-ghost use Rattle.scripts.specs.Words.{word_counter, word_threshold};
+ghost use Rattle.scripts.specs.Words.{word_counter, word_number, word_threshold};
 
 /// The number that a word spells: decimal digits without leading zeros, 0 itself excepted. `None`
 /// for any other word, and for a number of 2^64 or above.
 pub fn number_of(word: &[u8]) -> Option<u64>
+    ensures { result ≡ word_number (2 ^ 64) word.now }
+{
+    decimal_of(word)
+}
+
+/// The same below 2^32.
+pub fn counter_of(word: &[u8]) -> Option<u32>
+    ensures { result ≡ word_counter word.now }
+{
+    short_decimal_of(word)
+}
+
+/// The same below 2^8, of the threshold of slices.
+pub(crate) fn threshold_of(word: &[u8]) -> Option<u8>
+    ensures { result ≡ word_threshold word.now }
+{
+    byte_of(word)
+}
+
+// The number below 2^64 that a word spells.
+fn decimal_of(word: &[u8]) -> Option<u64>
     ensures exactly { IsSome result ↔ IsDecimal word.now × (decimal word.now < 2 ^ 64) }
     ensures some { IfSome result (λ n. n ≡ decimal word.now) }
 {
@@ -18,42 +39,28 @@ pub fn number_of(word: &[u8]) -> Option<u64>
     }
 }
 
-/// The same below 2^32.
-pub fn counter_of(word: &[u8]) -> Option<u32>
+// The number below 2^32 that a word spells.
+fn short_decimal_of(word: &[u8]) -> Option<u32>
     ensures exactly { IsSome result ↔ IsDecimal word.now × (decimal word.now < 2 ^ 32) }
     ensures some { IfSome result (λ n. n ≡ decimal word.now) }
 {
-    let number = number_of(word)?;
+    let number = decimal_of(word)?;
     if number > u64::from(u32::MAX) {
         return None;
     }
     Some(number as u32)
 }
 
-/// The counter that a word spells, as the definitions of longer words say it.
-pub(crate) fn counter_in(word: &[u8]) -> Option<u32>
-    ensures { result ≡ word_counter word.now }
-{
-    counter_of(word)
-}
-
-/// The same below 2^8.
+// The number below 2^8 that a word spells.
 fn byte_of(word: &[u8]) -> Option<u8>
     ensures exactly { IsSome result ↔ IsDecimal word.now × (decimal word.now < 2 ^ 8) }
     ensures some { IfSome result (λ n. n ≡ decimal word.now) }
 {
-    let number = number_of(word)?;
+    let number = decimal_of(word)?;
     if number > u64::from(u8::MAX) {
         return None;
     }
     Some(number as u8)
-}
-
-/// The threshold that a word spells, as the definition of slices says it.
-pub(crate) fn threshold_in(word: &[u8]) -> Option<u8>
-    ensures { result ≡ word_threshold word.now }
-{
-    byte_of(word)
 }
 
 // The number that digits spell behind a number.

@@ -6,7 +6,7 @@ ghost use Rattle.scripts.specs.Printed.{comma, text_of_slices};
 ghost use Rattle.scripts.specs.Slices.{AreSlices, SlicesReadBack, SlicesSpelledOnce};
 
 use crate::name::{name_of, push_name};
-use crate::number::threshold_in;
+use crate::number::threshold_of;
 use crate::splitting::plain_front;
 use std::alloc::{AllocError, Global};
 use types::{MAX_INNER_LEVELS, MAX_MEMBERS, Member, Nested, SliceSet};
@@ -48,7 +48,7 @@ fn threshold_at(text: &[u8]) -> Option<(u8, &[u8])>
     ensures { option_map (λ r. (r.0, r.1.now)) result ≡ threshold_front text.now }
 {
     let (digits, rest) = plain_front(text);
-    let Some(threshold) = threshold_in(digits) else {
+    let Some(threshold) = threshold_of(digits) else {
         return None;
     };
     match rest {

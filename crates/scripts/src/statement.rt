@@ -5,7 +5,7 @@ ghost use Rattle.std.specs.List.{flat_map};
 ghost use Rattle.scripts.specs.Printed.{behind_comma, behind_plus, fields_of_statement, kind_text, text_of_optional, text_of_statement, text_of_values};
 ghost use Rattle.scripts.specs.Statements.{StatementsReadBack, commit_in, enclosed as enclosed_in, externalize_in, nomination_in, prepare_in, three_counters as counters_in, word_optional, word_statement, word_values};
 
-use crate::number::counter_in;
+use crate::number::counter_of;
 use crate::splitting::{split_once, split_twice};
 use crate::value::{ballot_of, push_ballot, push_value, value_of};
 use std::alloc::{AllocError, Global};
@@ -143,13 +143,13 @@ fn three_counters(text: &[u8]) -> Option<(u32, u32, u32)>
     let Some((first, second, third)) = split_twice(text, b',') else {
         return None;
     };
-    let Some(first) = counter_in(first) else {
+    let Some(first) = counter_of(first) else {
         return None;
     };
-    let Some(second) = counter_in(second) else {
+    let Some(second) = counter_of(second) else {
         return None;
     };
-    let Some(third) = counter_in(third) else {
+    let Some(third) = counter_of(third) else {
         return None;
     };
     Some((first, second, third))
@@ -162,7 +162,7 @@ fn externalize_of(alloc: Global, fields: &[u8]) -> Result<Option<Statement>, All
     let Some((commit, high)) = split_once(fields, b',') else {
         return Ok(None);
     };
-    let Some(high_counter) = counter_in(high) else {
+    let Some(high_counter) = counter_of(high) else {
         return Ok(None);
     };
     let Some(commit) = ballot_of(alloc, commit)? else {

@@ -5,7 +5,7 @@ ghost use Rattle.scripts.specs.Values.{ValuesReadBack, digits_value, text_of_val
 ghost use Rattle.scripts.specs.Words.{counted, cut_at, text_of_ballot, with_counter as counter_before, word_ballot};
 
 use crate::hexadecimal::{is_lower_hex, push_hex, push_plain};
-use crate::number::counter_in;
+use crate::number::counter_of;
 use crate::splitting::{is_plain, split_once};
 use std::alloc::{AllocError, Global};
 use types::{Ballot, MAX_VALUE_LENGTH, Value};
@@ -83,7 +83,7 @@ fn ballot_fields(word: &[u8]) -> Option<(u32, &[u8])>
     ensures { option_map (λ r. (r.0, r.1.now)) result ≡ counted (cut_at 58 word.now) }
 {
     match split_once(word, b':') {
-        Some((counter, value)) => with_counter(counter_in(counter), value),
+        Some((counter, value)) => with_counter(counter_of(counter), value),
         None => None,
     }
 }
