@@ -1,5 +1,5 @@
 -- What a line tells, by what it asks for.
-use Rattle.std.proofs.Common.{◌≡◌, ◌∙◌, ℕ, List, [], ◌∷◌, Option, Some, None, refl, sym, ap, subst}
+use Rattle.std.proofs.Common.{◌≡◌, ℕ, List, [], ◌∷◌, Option, Some, None, refl, sym, ap, subst}
 use Rattle.std.specs.Prelude.{option_map}
 use Rattle.scripts.specs.Script.{Bytes}
 use Rattle.scripts.specs.Words.{word_counter}
@@ -13,9 +13,9 @@ use Rattle.runs.specs.Lines.{verb_in}
 use Rattle.runs.specs.Drafts.{Waiting}
 use Rattle.runs.specs.Preparing.{Prepares}
 use Rattle.runs.specs.Requests.{IsRequested, IsRequestOf}
-use Rattle.runs.specs.Hosting.{Hosting, IsPut, IsSettled, RefusesLine, Tells}
+use Rattle.runs.specs.Hosting.{Hosting, IsPut, IsSettled, Tells}
 use Rattle.runs.specs.Hosting.Tells.{declared, answered, settled}
-use Rattle.runs.specs.Telling.{HasNoNode, NamesNet}
+use Rattle.runs.specs.Telling.{NamesNet}
 
 -- ---- the number of the network
 
@@ -58,19 +58,3 @@ tells-event old new fields g r e text is h put = answered g e (subst (Asked fiel
 pub tells-settle : (old new : Hosting) (fields : List Bytes) (g : ℕ) (r : Request) (slot : ℕ) (text : Bytes)
     → r ≡ Settle slot → Asked fields g r → IsSettled g old new → Tells old fields (Some text) new
 tells-settle old new fields g r slot text is h done = settled g slot (subst (Asked fields g) is h) done
-
--- ---- bad lines
-
-pub refuses-form : (old : Hosting) (fields : List Bytes) → IsRequested fields None → RefusesLine old fields
-refuses-form old fields h = (None, h, tt)
-
-pub refuses-declaration : (old : Hosting) (fields : List Bytes) (g : ℕ) (r : Request) (d : Declaration) → r ≡ Declare d → Asked fields g r → RefusesLine old fields
-refuses-declaration old fields g r d is h = (Some (g, Declare d), subst (Asked fields g) is h, tt)
-
-pub refuses-event : (old : Hosting) (fields : List Bytes) (g : ℕ) (r : Request) (e : Event) → r ≡ Apply e → Asked fields g r → HasNoNode old.waiting g
-    → RefusesLine old fields
-refuses-event old fields g r e is h bare = (Some (g, Apply e), subst (Asked fields g) is h, bare)
-
-pub refuses-settle : (old : Hosting) (fields : List Bytes) (g : ℕ) (r : Request) (slot : ℕ) → r ≡ Settle slot → Asked fields g r → HasNoNode old.waiting g
-    → RefusesLine old fields
-refuses-settle old fields g r slot is h bare = (Some (g, Settle slot), subst (Asked fields g) is h, bare)

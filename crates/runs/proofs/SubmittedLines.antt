@@ -5,13 +5,12 @@ use Rattle.types.specs.declared.event.Event.{Event}
 use Rattle.protocol.specs.Hosts.{History}
 use Rattle.runs.specs.declared.requests.Declaration.{Declaration}
 use Rattle.runs.specs.declared.requests.Request.{Request}
-use Rattle.runs.specs.declared.requests.Request.TheVariants.{Declare, Apply, Settle}
+use Rattle.runs.specs.declared.requests.Request.TheVariants.{Declare, Apply}
 use Rattle.runs.specs.Drafts.{Waiting}
 use Rattle.runs.specs.Preparing.{Prepares}
 use Rattle.runs.specs.Requests.{IsRequested}
-use Rattle.runs.specs.Submitting.{IsSubmitted, RefusesToSubmit, Submits, Submitting}
+use Rattle.runs.specs.Submitting.{IsSubmitted, Submits, Submitting}
 use Rattle.runs.specs.Submitting.Submits.{declares, submits}
-use Rattle.runs.specs.Telling.{HasNoNode}
 
 abbrev Asked : List Bytes → ℕ → Request → Type 0
 Asked fields g r = IsRequested fields (Some (g, r))
@@ -25,19 +24,3 @@ submits-declaration old ws us h fields g r d is e asked p =
 pub submits-event : (old new : Submitting) (fields : List Bytes) (g : ℕ) (r : Request) (e : Event) → r ≡ Apply e → Asked fields g r
     → IsSubmitted g e old new → Submits old fields None new
 submits-event old new fields g r e is asked put = submits g e (subst (Asked fields g) is asked) put
-
--- ---- bad lines
-
-pub refuses-form : (old : Submitting) (fields : List Bytes) → IsRequested fields None → RefusesToSubmit old fields
-refuses-form old fields h = (None, h, tt)
-
-pub refuses-declaration : (old : Submitting) (fields : List Bytes) (g : ℕ) (r : Request) (d : Declaration) → r ≡ Declare d → Asked fields g r
-    → RefusesToSubmit old fields
-refuses-declaration old fields g r d is h = (Some (g, Declare d), subst (Asked fields g) is h, tt)
-
-pub refuses-event : (old : Submitting) (fields : List Bytes) (g : ℕ) (r : Request) (e : Event) → r ≡ Apply e → Asked fields g r → HasNoNode old.waiting g
-    → RefusesToSubmit old fields
-refuses-event old fields g r e is h bare = (Some (g, Apply e), subst (Asked fields g) is h, bare)
-
-pub refuses-settle : (old : Submitting) (fields : List Bytes) (g : ℕ) (r : Request) (slot : ℕ) → r ≡ Settle slot → Asked fields g r → RefusesToSubmit old fields
-refuses-settle old fields g r slot is h = (Some (g, Settle slot), subst (Asked fields g) is h, tt)

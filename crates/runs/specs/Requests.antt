@@ -1,6 +1,5 @@
 -- What lines of scripts of networks ask for.
 use Rattle.std.specs.Prelude.{◌≡◌, ◌^◌, ℕ, nat_eq, List, [], ◌∷◌, codes, Option, Some, None, option_map, option_and_then, if◌then◌else◌}
-use Rattle.std.specs.List.{slice_split}
 use lib.Pointwise.{pointwise}
 use Rattle.scripts.specs.Script.{Bytes}
 use Rattle.scripts.specs.Names.{word_name}
@@ -9,7 +8,6 @@ use Rattle.scripts.specs.Words.{word_counter, word_number}
 use Rattle.types.specs.declared.event.Event.{Event}
 use Rattle.protocol.specs.Networks.{Budgets}
 use Rattle.configuration.specs.Budgets.{AreBudgets}
-use Rattle.runs.specs.declared.requests.Declaration.{Declaration}
 use Rattle.runs.specs.declared.requests.Declaration.TheVariants.{Net, Node, Roster}
 use Rattle.runs.specs.declared.requests.Request.{Request}
 use Rattle.runs.specs.declared.requests.Request.TheVariants.{Declare, Apply, Settle}
