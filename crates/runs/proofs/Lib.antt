@@ -1,6 +1,8 @@
 mod DraftLaws
 mod JoiningLaws
 mod LineForms
+mod NameLists
+mod RosterLaws
 mod QuietLines
 mod SayingLaws
 mod SubmittedLines

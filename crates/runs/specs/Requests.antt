@@ -1,5 +1,6 @@
 -- What lines of scripts of networks ask for.
-use Rattle.std.specs.Prelude.{◌≡◌, ◌^◌, ℕ, nat_eq, List, [], ◌∷◌, codes, Option, Some, None, option_map, option_and_then, if◌then◌else◌}
+use Rattle.std.specs.Prelude.{◌≡◌, ◌==◌, ◌^◌, ℕ, nat_eq, List, [], ◌∷◌, codes, Option, Some, None, option_map, option_and_then, if◌then◌else◌}
+use Rattle.std.specs.List.{slice_split}
 use lib.Pointwise.{pointwise}
 use Rattle.scripts.specs.Script.{Bytes}
 use Rattle.scripts.specs.Names.{word_name}
@@ -7,7 +8,10 @@ use Rattle.scripts.specs.Slices.{AreSlices}
 use Rattle.scripts.specs.Words.{word_counter, word_number}
 use Rattle.types.specs.declared.event.Event.{Event}
 use Rattle.protocol.specs.Networks.{Budgets}
+use Rattle.protocol.specs.Rosters.{Shares}
 use Rattle.configuration.specs.Budgets.{AreBudgets}
+use Rattle.runs.specs.declared.drafts.Reserved.{Reserved}
+use Rattle.runs.specs.declared.requests.Declaration.{Declaration}
 use Rattle.runs.specs.declared.requests.Declaration.TheVariants.{Net, Node, Roster}
 use Rattle.runs.specs.declared.requests.Request.{Request}
 use Rattle.runs.specs.declared.requests.Request.TheVariants.{Declare, Apply, Settle}
@@ -46,10 +50,34 @@ abbrev pub AsksNode : List Bytes → Request → Type 0
 AsksNode (name ∷ slices ∷ []) r = IsNode (word_name name) slices r
 AsksNode fields r = ⊥
 
--- a roster, if any; which one the fields declare this does not say yet
-abbrev pub IsRoster : Option Request → Type 0
-IsRoster None = Unit {0}
-IsRoster (Some r) = (d : _) × (r ≡ Declare (Roster d))
+-- the numbers of shares, each behind its word, and the fields that follow
+abbrev pub shares_in : List Bytes → Option (Shares × List Bytes)
+shares_in fields =
+    option_and_then (λ own. option_and_then (λ pair. option_and_then (λ bytes. option_map (λ opens. (record { own = own.0; pair = pair.0; bytes = bytes.0; opens = opens.0 }, opens.1))
+    (counted (codes "opens") bytes.1)) (counted (codes "bytes") pair.1)) (counted (codes "pair") own.1)) (counted (codes "own") fields)
+
+-- the names of words, where each spells one
+abbrev pub each_name : List Bytes → Option (List ℕ)
+each_name [] = Some []
+each_name (word ∷ more) = option_and_then (λ u. option_map (λ us. u ∷ us) (each_name more)) (word_name word)
+
+-- the names that a list with a comma (44) between each and the next spells
+abbrev pub names_in : Bytes → Option (List ℕ)
+names_in list = each_name (slice_split (λ b. b == 44) list)
+
+-- the only field is a list of names
+abbrev pub only_names : List Bytes → Option (List ℕ)
+only_names (list ∷ []) = names_in list
+only_names fields = None
+
+-- these shares, if any, are reserved for the names that the fields behind them spell
+abbrev pub IsReserved : Option (Shares × List Bytes) → Request → Type 0
+IsReserved None r = ⊥
+IsReserved (Some w) r = (d : Reserved) × (only_names w.1 ≡ Some d.names.items) × (d.shares ≡ w.0) × (r ≡ Declare (Roster d))
+
+-- shares and names
+abbrev pub AsksRoster : List Bytes → Request → Type 0
+AsksRoster fields r = IsReserved (shares_in fields) r
 
 -- ---- requests
 
@@ -62,7 +90,7 @@ settled fields = None
 abbrev pub IsRequest : Verb → List Bytes → Option Request → Type 0
 IsRequest verb.Net fields asked = IsRead (AreAllowed (budgets_in fields)) asked
 IsRequest verb.Node fields asked = IsRead (AsksNode fields) asked
-IsRequest verb.Roster fields asked = IsRoster asked
+IsRequest verb.Roster fields asked = IsRead (AsksRoster fields) asked
 IsRequest verb.Settle fields asked = asked ≡ settled fields
 IsRequest (verb.Event v) fields asked = (event : Option Event) × IsAsked v fields event × (asked ≡ option_map (λ e. Apply e) event)
 

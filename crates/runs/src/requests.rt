@@ -2,7 +2,7 @@
 
 ghost use Rattle.std.specs.Prelude.{◌≡◌, Err, IfOk, None, Some, map, option_map};
 ghost use Rattle.runs.specs.Lines.{IsRead};
-ghost use Rattle.runs.specs.Requests.{AreAllowed, AsksNode, IsRequest, IsRequested, IsRoster, budgets_in, counted, settled};
+ghost use Rattle.runs.specs.Requests.{AreAllowed, AsksNode, AsksRoster, IsRequest, IsRequested, budgets_in, counted, names_in, only_names, settled, shares_in};
 
 use crate::drafts::Reserved;
 use crate::events::event_of;
@@ -144,7 +144,7 @@ fn node_of(alloc: Global, fields: &[&[u8]]) -> Result<Option<Request>, AllocErro
 
 // `own O pair P bytes B opens S NAME,NAME,..`.
 fn roster_of(alloc: Global, fields: &[&[u8]]) -> Result<Option<Request>, AllocError>
-    ensures { IfOk result IsRoster }
+    ensures { IfOk result (IsRead (AsksRoster (map (λ field. field.now) fields.now))) }
 {
     let Some((shares, rest)) = shares_of(fields) else {
         return Ok(None);
@@ -156,7 +156,9 @@ fn roster_of(alloc: Global, fields: &[&[u8]]) -> Result<Option<Request>, AllocEr
 }
 
 // The numbers of shares, and the fields that follow.
-fn shares_of<'a, 'b>(fields: &'a [&'b [u8]]) -> Option<(Shares, &'a [&'b [u8]])> {
+fn shares_of<'a, 'b>(fields: &'a [&'b [u8]]) -> Option<(Shares, &'a [&'b [u8]])>
+    ensures { option_map (λ r. (r.0, map (λ field. field.now) r.1.now)) result ≡ shares_in (map (λ field. field.now) fields.now) }
+{
     let Some((own, rest)) = behind_word(fields, b"own") else {
         return None;
     };
@@ -181,7 +183,9 @@ fn shares_of<'a, 'b>(fields: &'a [&'b [u8]]) -> Option<(Shares, &'a [&'b [u8]])>
 }
 
 // The names of the only field.
-fn only_names_of(alloc: Global, fields: &[&[u8]]) -> Result<Option<Vec<NodeId>>, AllocError> {
+fn only_names_of(alloc: Global, fields: &[&[u8]]) -> Result<Option<Vec<NodeId>>, AllocError>
+    ensures { IfOk result (λ o. option_map (λ v. v.items) o ≡ only_names (map (λ field. field.now) fields.now)) }
+{
     match fields {
         [list] => names_of(alloc, list),
         _ => Ok(None),
@@ -189,7 +193,9 @@ fn only_names_of(alloc: Global, fields: &[&[u8]]) -> Result<Option<Vec<NodeId>>,
 }
 
 // Names with a comma between each and the next.
-fn names_of(alloc: Global, list: &[u8]) -> Result<Option<Vec<NodeId>>, AllocError> {
+fn names_of(alloc: Global, list: &[u8]) -> Result<Option<Vec<NodeId>>, AllocError>
+    ensures { IfOk result (λ o. option_map (λ v. v.items) o ≡ names_in list.now) }
+{
     let mut names = Vec::new(alloc);
     for word in list.split(|byte| *byte == b',') {
         match name_of(word) {
