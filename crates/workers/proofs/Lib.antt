@@ -6,3 +6,5 @@ pub mod Worked
 pub mod Nets
 pub mod Crossing
 pub mod Offers
+pub mod Handles
+pub mod Hosting

@@ -1,0 +1,20 @@
+-- A handle on a store of envelopes may cross threads, as the shelf of cells.
+use denote.RattleType.{RattleType}
+use denote.Param.Send.{IsSend, IsSync, sendable}
+use Rattle.std.proofs.Crossing.{crosses}
+use Rattle.boxcar.proofs.slot.OnceSlot.TheSendSync as slot
+use Rattle.boxcar.proofs.tag.Tag.TheSendSync as tag
+use Rattle.types.proofs.node_id.NodeId.TheSendSync as name
+use Rattle.types.proofs.statement.Statement.TheSendSync as statement
+use Rattle.types.specs.contracts.envelope.Envelope as Envelope
+use Rattle.envstore.specs.contracts.shared.SharedHandle as SharedHandle
+use Rattle.hoststep.proofs.Crossing.{nested_send, nested_sync}
+
+pub envelope_send : IsSend (Envelope.the_row)
+envelope_send = search (sendable, crosses, name.the_send, nested_send, statement.the_field_send) depth 40
+
+pub envelope_sync : IsSync (Envelope.the_row)
+envelope_sync = search (sendable, crosses, name.the_sync, nested_sync, statement.the_field_sync) depth 40
+
+pub handle_send : (R : RattleType) → IsSend R → IsSync R → IsSend (SharedHandle.the_row R)
+handle_send R s y = search (sendable, crosses, envelope_send, envelope_sync, slot.the_send, slot.the_sync, tag.the_send, tag.the_sync) depth 40
