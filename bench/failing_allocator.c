@@ -4,11 +4,12 @@
 #include <dlfcn.h>
 #include <errno.h>
 #include <fcntl.h>
+#include <stdatomic.h>
 #include <stdlib.h>
 #include <unistd.h>
 
-static long count;
-static long fails_at = -1;
+static atomic_long count;
+static atomic_long fails_at = -1;
 
 static int fails(void)
 {

@@ -100,6 +100,14 @@ impl Submission {
         hosts_in(&self.configs, net)
     }
 
+    /// The configurations, and the events with the numbers of their networks, each in order.
+    pub fn into_parts(self) -> (Vec<NetConfig>, Vec<(u32, Event)>)
+        ensures configs { result.0.items ≡ self.configs }
+        ensures calls { result.1.items ≡ self.calls }
+    {
+        (self.configs, self.calls)
+    }
+
     /// The events with the numbers of their networks, in order.
     pub fn calls(&self) -> &[(u32, Event)]
         ensures { result.now ≡ self.now.calls }

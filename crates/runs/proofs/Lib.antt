@@ -6,3 +6,4 @@ mod RosterLaws
 mod QuietLines
 mod SayingLaws
 mod SubmittedLines
+mod PlannedLines

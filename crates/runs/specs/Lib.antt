@@ -8,3 +8,5 @@ pub mod Replies
 pub mod Telling
 pub mod Quiet
 pub mod Submitting
+pub mod Plans
+pub mod Putting

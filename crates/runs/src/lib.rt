@@ -10,6 +10,7 @@ mod emissions;
 mod events;
 mod followed;
 mod host_run;
+mod job_run;
 mod nets;
 mod networks;
 mod quiet_run;
@@ -22,6 +23,7 @@ mod verbs;
 mod waiting;
 
 pub use host_run::HostRun;
+pub use job_run::JobRun;
 pub use quiet_run::QuietRun;
 pub use replies::{line_of_reply, push_outs};
 pub use submission_run::SubmissionRun;

@@ -1,11 +1,12 @@
 //! What runs the lines of a script of networks for what they submit.
 
 ghost use Rattle.std.specs.Prelude.{◌≡◌, [], Err, OnOk};
+ghost use Rattle.runs.specs.Preparing.{Prepares};
 ghost use Rattle.runs.specs.Submitting.{IsComplete, IsDeclared, IsSubmitted};
 ghost use Rattle.runs.specs.Telling.{HasNoNode};
 
 use crate::nets::Nets;
-use crate::requests::{Request, request_of};
+use crate::requests::{Declaration, Request, request_of};
 use crowds::Submission;
 use scripts::{LineError, LineRunner};
 use std::alloc::{AllocError, Global};
@@ -59,17 +60,32 @@ impl SubmissionRun {
         self.nets.finish(&mut self.submission)
     }
 
-    // Readies the network of a number for an event that names it: where it is declared and this is the
-    // first, it is declared in the submission. It is a bad line where the network has no node.
-    fn begin(&mut self, number: u32) -> Result<(), LineError>
+    /// What has been submitted, as [`SubmissionRun::submission`] lends it.
+    pub(crate) fn into_submission(self) -> Submission
+        ensures { result ≡ self.history }
+    {
+        self.submission
+    }
+
+    /// A line declares this, of the network of a number. It is a bad line where that is refused.
+    pub(crate) fn prepare(&mut self, number: u32, declaration: Declaration) -> Result<(), LineError>
+        ensures prepared { OnOk result (Prepares number declaration self.old.waiting self.new.waiting) }
+        ensures same { self.new.history ≡ self.old.history }
+    {
+        self.nets.prepare(number, declaration)
+    }
+
+    /// Readies the network of a number for an event that names it: where it is declared and this is the
+    /// first, it is declared in the submission. It is a bad line where the network has no node.
+    pub(crate) fn begin(&mut self, number: u32) -> Result<(), LineError>
         ensures begun { OnOk result (IsDeclared number self.old self.new) }
         ensures bad { result ≡ Err LineError.Bad → HasNoNode self.old.waiting number }
     {
         self.nets.begin(&mut self.submission, number)
     }
 
-    // An event is submitted to the network of a number.
-    fn submit(&mut self, number: u32, event: Event) -> Result<(), LineError>
+    /// An event is submitted to the network of a number. It is a bad line where the network has no node.
+    pub(crate) fn submit(&mut self, number: u32, event: Event) -> Result<(), LineError>
         ensures told { OnOk result (IsSubmitted number event self.old self.new) }
         ensures bad { result ≡ Err LineError.Bad → HasNoNode self.old.waiting number }
     {

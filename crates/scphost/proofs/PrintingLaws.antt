@@ -1,16 +1,18 @@
 -- What the commands print that run scripts to their ends first.
-use Rattle.std.proofs.Common.{◌≡◌, ℕ, Bool, false, Option, inl, subst}
+use Rattle.std.proofs.Common.{◌≡◌, ℕ, Bool, false, Option, Some, None, inl, subst}
+use Rattle.std.specs.Prelude.{IfSome}
 use Rattle.scripts.specs.Script.{Bytes}
 use Rattle.protocol.specs.Hosts.{History}
 use Rattle.runs.specs.Submitting.{Submitting}
 use Rattle.scphost.specs.Comparisons.{IsComparison}
 use Rattle.scphost.specs.Crowding.{TellsCrowd}
-use Rattle.scphost.specs.Printing.{HasAnswered, IsCompared, IsCrowd, IsPrinted, IsReported}
+use Rattle.scphost.specs.Printing.{HasAnswered, IsCompared, IsCrowd, IsPerformed, IsPooled, IsPrinted, IsReported}
 use Rattle.scphost.specs.Reporting.{IsReport}
 use Rattle.scphost.specs.Scripts.{IsSubmittedBy, IsTold, Story}
 use Rattle.scphost.specs.declared.answer.Answer.{Answer}
-use Rattle.scphost.specs.declared.subject.Format.{Format}
-use Rattle.scphost.specs.declared.subject.Subject.{Subject}
+use Rattle.command_line.specs.declared.call.Call.TheVariants.{Run}
+use Rattle.command_line.specs.declared.subject.Format.{Format}
+use Rattle.command_line.specs.declared.subject.Subject.{Subject}
 
 -- an answer is printed
 pub has-reported : (format : Format) (subject : Subject) (file old new : Option Bytes) (status : ℕ) (story : Story) (a : Answer) → IsTold false file story
@@ -28,3 +30,13 @@ pub has-crowded : (subject : Subject) (one other old new : Option Bytes) (status
     → HasAnswered (IsCrowd subject one other) old new status
 has-crowded subject one other old new status first second h k a told also e f right printed =
     inl (a, (first, second, told, also, subst (λ x. TellsCrowd first.history x subject a) f (subst (λ x. TellsCrowd x k subject a) e right)), printed)
+
+pub has-pooled : (workers : ℕ) (file old new : Option Bytes) (status : ℕ) (a : Answer) → IsPooled workers file a → IsPrinted a old new status
+    → HasAnswered (IsPooled workers file) old new status
+has-pooled workers file old new status a right printed = inl (a, right, printed)
+
+-- what is said of a run on workers is all that is said of a run
+pub run-performed : (script : Bytes) (workers : Option ℕ) (first second old new : Option Bytes) (status : ℕ)
+    → IfSome workers (λ n. HasAnswered (IsPooled n first) old new status) → IsPerformed (Run script workers) first second old new status
+run-performed script None first second old new status answered = tt
+run-performed script (Some n) first second old new status answered = answered

@@ -12,9 +12,9 @@ use Rattle.crowds.specs.declared.reply.Reply.{Reply as Replied}
 use Rattle.crowds.specs.declared.verdict.Crowd.{Crowd}
 use Rattle.crowds.specs.declared.verdict.Crowd.TheVariants.{CastDiffers, RosterDiffers, OutsideRoster, InputsDiffer, Same}
 use Rattle.runs.specs.Replies.{behind_space, refusal_text}
-use Rattle.scphost.specs.Words.{Text}
+use Rattle.command_line.specs.Words.{Text}
 use Rattle.scphost.specs.declared.answer.Answer.{Answer}
-use Rattle.scphost.specs.declared.subject.Subject.{Subject}
+use Rattle.command_line.specs.declared.subject.Subject.{Subject}
 
 -- the text with a line feed (10) behind it
 abbrev pub line : Text → Text

@@ -8,9 +8,9 @@ use Rattle.twoworlds.specs.Meanings.{entries_in, hosts_in}
 use Rattle.explorer.specs.Reports.{AreHosted, Shown}
 use Rattle.explorer.specs.Texts.{text_of_report}
 use Rattle.scphost.specs.declared.answer.Answer.{Answer}
-use Rattle.scphost.specs.declared.subject.Format.{Format}
-use Rattle.scphost.specs.declared.subject.Format.TheVariants as format
-use Rattle.scphost.specs.declared.subject.Subject.{Subject}
+use Rattle.command_line.specs.declared.subject.Format.{Format}
+use Rattle.command_line.specs.declared.subject.Format.TheVariants as format
+use Rattle.command_line.specs.declared.subject.Subject.{Subject}
 
 -- the closure of a node at a slot of a network, and who blocks whom in it; where there is no such network, that is the node alone
 pub record IsReportOf (log : Option Log) (slot node : ℕ) (r : Shown) : Type 0 where

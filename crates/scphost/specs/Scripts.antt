@@ -6,6 +6,8 @@ use Rattle.scripts.specs.Runs.{Refusing, Runs, Telling}
 use Rattle.protocol.specs.Hosts.{History}
 use Rattle.runs.specs.Hosting.{Hosting}
 use Rattle.runs.specs.Quiet.{IsFinishedQuietly, Quiet, RefusesQuietly, TellsQuietly, origin_in}
+use Rattle.runs.specs.Plans.{Plan, unplanned}
+use Rattle.runs.specs.Putting.{IsCompletePlan, Puts, RefusesToPut}
 use Rattle.runs.specs.Submitting.{IsComplete, RefusesToSubmit, Submits, Submitting}
 
 -- all lines of a text are run in order, and none is bad
@@ -62,3 +64,13 @@ pub record IsSubmittedBy (file : Option Bytes) (run : Submitting) : Type 0 where
   pub last : Submitting
   pub ran : HaveRun Submits RefusesToSubmit (record { waiting = []; history = record { configs = []; calls = [] } }) text last
   pub finished : IsComplete last run
+
+-- ---- for the jobs of a pool
+
+-- the lines of a file are read in order, and after the last one the networks that are declared with nodes have been declared
+pub record IsPlannedBy (file : Option Bytes) (plan : Plan) : Type 0 where
+  pub text : Bytes
+  pub is_text : IsTextOf file text
+  pub last : Plan
+  pub ran : HaveRun Puts RefusesToPut unplanned text last
+  pub finished : IsCompletePlan last plan

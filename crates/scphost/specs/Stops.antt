@@ -1,8 +1,8 @@
 -- The exit status of each way to end.
 use Rattle.std.specs.Prelude.{◌≡◌, ◌⊎◌, ◌==◌, ℕ, Bool, [], ◌∷◌, IsTrue, Result, MatchResult, if◌then◌else◌}
 use Rattle.std.specs.List.{list_any}
-use Rattle.scphost.specs.declared.call.Usage.{Usage}
-use Rattle.scphost.specs.declared.call.Usage.TheVariants as usage
+use Rattle.command_line.specs.declared.call.Usage.{Usage}
+use Rattle.command_line.specs.declared.call.Usage.TheVariants as usage
 use Rattle.scripts.specs.declared.run.Stop.{Stop}
 use Rattle.scripts.specs.declared.run.Stop.TheVariants as stop
 

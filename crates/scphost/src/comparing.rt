@@ -8,7 +8,7 @@ ghost use Rattle.scphost.specs.Comparisons.{IsComparison, is_difference, line_of
 use crate::answer::Answer;
 use crate::explaining::{push_nodes, push_steps};
 use crate::quiet::Told;
-use crate::subject::Subject;
+use command_line::Subject;
 use runs::push_outs;
 use scripts::push_name;
 use std::alloc::{AllocError, Global};

@@ -7,7 +7,7 @@ ghost use Rattle.scphost.specs.Crowding.{Tells, TellsCrowd, line, line_of_replie
 ghost use Rattle.scphost.specs.Scripts.{IsSubmittedBy};
 
 use crate::answer::Answer;
-use crate::subject::Subject;
+use command_line::Subject;
 use crowds::{Crowd, Replies, Reply, Submission, crowd};
 use runs::{SubmissionRun, line_of_reply};
 use scripts::{Stop, push_name, run_script};

@@ -1,8 +1,8 @@
 //! Both sides of a difference between two scripts.
 
 use crate::comparing::Side;
-use crate::subject::Subject;
 use closure::{Announcements, ClosureList, closure};
+use command_line::Subject;
 use envstore::VecShelf;
 use hoststep::{Journal, LentEvent};
 use scripts::{push_name, push_slices};

@@ -2,26 +2,24 @@
 #![tactic(auto)]
 
 mod answer;
-mod call;
-mod clap_command;
 mod comparing;
 mod crowding;
 mod explaining;
-mod operands;
 mod perform;
+mod pooling;
 mod quiet;
 mod reporting;
-mod subject;
 #[cfg(test)]
 mod tests;
-mod word;
 
-use call::{Call, Usage, read_call};
+use command_line::{Call, Usage, read_call};
 use perform::{perform, perform_stream, refuse, report};
 use scripts::Stop;
 use std::io::{ErrorKind, Input, Read, Write};
 use std::process::ExitCode;
 use std::rt::{Env, Files};
+use std::sync::Wait;
+use std::thread::Threads;
 use std::{env, fs, io};
 
 fn main(rt: HostRuntime) -> ExitCode {
@@ -48,15 +46,15 @@ fn called<R: Env + AllocGlobal>(rt: &R) -> Result<Call, Usage> {
 }
 
 // Opens the files of a call in order and carries it out. The file `-` is the standard input.
-fn open_and_perform<R: Files + Input + AllocGlobal, W: Write, E: Write>(
-    rt: &R,
-    call: &Call,
-    out: &mut W,
-    err: &mut E,
-) -> u8 {
+fn open_and_perform<
+    R: Files + Input + AllocGlobal + Threads + Wait + Sync + Send + Copy + Drop,
+    W: Write,
+    E: Write,
+>(rt: &R, call: &Call, out: &mut W, err: &mut E) -> u8 {
     match call {
-        Call::Table { file } | Call::Run { script: file } | Call::Closure { script: file, .. } =>
-            perform_one(rt, call, file.as_str(), out, err),
+        Call::Table { file }
+        | Call::Run { script: file, .. }
+        | Call::Closure { script: file, .. } => perform_one(rt, call, file.as_str(), out, err),
         Call::Compare { first, second, .. } | Call::Crowd { first, second, .. } => {
             perform_two(rt, call, first.as_str(), second.as_str(), out, err)
         }
@@ -64,13 +62,11 @@ fn open_and_perform<R: Files + Input + AllocGlobal, W: Write, E: Write>(
 }
 
 // Opens the file of a call and carries it out.
-fn perform_one<R: Files + Input + AllocGlobal, W: Write, E: Write>(
-    rt: &R,
-    call: &Call,
-    file: &str,
-    out: &mut W,
-    err: &mut E,
-) -> u8 {
+fn perform_one<
+    R: Files + Input + AllocGlobal + Threads + Wait + Sync + Send + Copy + Drop,
+    W: Write,
+    E: Write,
+>(rt: &R, call: &Call, file: &str, out: &mut W, err: &mut E) -> u8 {
     if file == "-" {
         return perform_stream(rt, call, &mut rt.reader(), out, err);
     }
@@ -81,14 +77,11 @@ fn perform_one<R: Files + Input + AllocGlobal, W: Write, E: Write>(
 }
 
 // Opens both files of a call, the first one first, and carries it out. One of them may be the standard input.
-fn perform_two<R: Files + Input + AllocGlobal, W: Write, E: Write>(
-    rt: &R,
-    call: &Call,
-    one: &str,
-    other: &str,
-    out: &mut W,
-    err: &mut E,
-) -> u8 {
+fn perform_two<
+    R: Files + Input + AllocGlobal + Threads + Wait + Sync + Send + Copy + Drop,
+    W: Write,
+    E: Write,
+>(rt: &R, call: &Call, one: &str, other: &str, out: &mut W, err: &mut E) -> u8 {
     if one == "-" {
         return perform_with_second(rt, call, &mut rt.reader(), other, out, err);
     }
@@ -104,14 +97,12 @@ fn perform_two<R: Files + Input + AllocGlobal, W: Write, E: Write>(
 
 // Opens the second file of a call and carries it out. A `-` names no file here, since the first one is the
 // standard input.
-fn perform_with_second<R: Files + AllocGlobal, F: Read, W: Write, E: Write>(
-    rt: &R,
-    call: &Call,
-    first: &mut F,
-    other: &str,
-    out: &mut W,
-    err: &mut E,
-) -> u8 {
+fn perform_with_second<
+    R: Files + AllocGlobal + Threads + Wait + Sync + Send + Copy + Drop,
+    F: Read,
+    W: Write,
+    E: Write,
+>(rt: &R, call: &Call, first: &mut F, other: &str, out: &mut W, err: &mut E) -> u8 {
     match fs::open(rt, other) {
         Ok(mut second) => perform(rt, call, first, &mut second, out, err),
         Err(_) => report(Stop::CannotRead, other, err),

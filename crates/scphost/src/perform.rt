@@ -1,21 +1,22 @@
 //! Carrying out a call: its files are run, and the status is answered.
 
-ghost use Rattle.std.specs.Prelude.{◌≡◌, ◌⊎◌, Err};
-ghost use Rattle.scphost.specs.Printing.{HasAnswered, IsCompared, IsCrowd, IsPerformed, IsReported};
+ghost use Rattle.std.specs.Prelude.{◌≡◌, ◌⊎◌, Err, IfSome};
+ghost use Rattle.scphost.specs.Printing.{HasAnswered, IsCompared, IsCrowd, IsPerformed, IsPooled, IsReported};
 ghost use Rattle.scphost.specs.Stops.{IsRefusal, IsStatus, IsStatusOf, status_of};
 
-use crate::call::{Call, Usage};
 use crate::comparing::{Side, compared};
 use crate::crowding::{crowded, submitted_by};
+use crate::pooling::pooled;
 use crate::quiet::Told;
 use crate::reporting::reported;
-use crate::subject::{Format, Subject};
-use crate::word::Word;
+use command_line::{Call, Format, PoolSize, Subject, Usage, Word};
 use runs::HostRun;
 use scripts::{LineRunner, Stop, run_script, run_stream};
 use std::alloc::Global;
 use std::io;
 use std::io::{BufRead, BufWriter, Read, Write};
+use std::sync::Wait;
+use std::thread::Threads;
 use tables::TableRun;
 
 /// The status of a call that was carried out.
@@ -40,16 +41,15 @@ pub const NO_WRITE: u8 = 4;
 /// a file that cannot be read, is too long or has a bad line, 3 for want of memory, 4 for a write
 /// to `out` that failed; status 1 is the answer of a comparison that finds a difference. Of `table` and
 /// `run` what lines before a bad one printed is written by then; `closure`, `compare` and `crowd` print
-/// nothing before all files have been run to their ends, the first one before the second is read. A write
-/// to `err` that fails changes nothing.
-pub fn perform<A: AllocGlobal, R: Read, T: Read, W: Write, E: Write>(
-    rt: &A,
-    call: &Call,
-    first: &mut R,
-    second: &mut T,
-    out: &mut W,
-    err: &mut E,
-) -> u8
+/// nothing before all files have been run to their ends, the first one before the second is read, and `run`
+/// with workers runs no event before all lines have been read. A write to `err` that fails changes nothing.
+pub fn perform<
+    A: AllocGlobal + Threads + Wait + Sync + Send + Copy + Drop,
+    R: Read,
+    T: Read,
+    W: Write,
+    E: Write,
+>(rt: &A, call: &Call, first: &mut R, second: &mut T, out: &mut W, err: &mut E) -> u8
     ensures status { IsStatus result }
     ensures performed { IsPerformed call.now (R.remaining first.old) (T.remaining second.old) (W.contents out.old) (W.contents out.new) result }
 {
@@ -59,10 +59,7 @@ pub fn perform<A: AllocGlobal, R: Read, T: Read, W: Write, E: Write>(
             let ran = run_whole(alloc, &mut TableRun::new(), first, out);
             answer(ran, file.as_str(), err)
         }
-        Call::Run { script } => {
-            let ran = run_whole(alloc, &mut HostRun::new(alloc), first, out);
-            answer(ran, script.as_str(), err)
-        }
+        Call::Run { script, workers } => perform_run(rt, *workers, script, first, out, err),
         Call::Closure {
             script,
             subject,
@@ -88,6 +85,42 @@ pub fn perform<A: AllocGlobal, R: Read, T: Read, W: Write, E: Write>(
             second: other,
             subject,
         } => perform_crowd(alloc, [one, other], subject, first, second, out, err),
+    }
+}
+
+// Runs the lines of a script in order, or as jobs of so many workers.
+fn perform_run<
+    A: AllocGlobal + Threads + Wait + Sync + Send + Copy + Drop,
+    R: Read,
+    W: Write,
+    E: Write,
+>(rt: &A, workers: Option<PoolSize>, file: &Word, script: &mut R, out: &mut W, err: &mut E) -> u8
+    ensures status { IsStatus result }
+    ensures pooled { IfSome workers (λ n. HasAnswered (IsPooled n (R.remaining script.old)) (W.contents out.old) (W.contents out.new) result) }
+{
+    match workers {
+        None => {
+            let alloc = rt.alloc();
+            let ran = run_whole(alloc, &mut HostRun::new(alloc), script, out);
+            answer(ran, file.as_str(), err)
+        }
+        Some(workers) => perform_pool(rt, workers, file, script, out, err),
+    }
+}
+
+// Reads a script whole for the jobs that it gives to a pool of workers, has them run these, and prints what became
+// of the networks.
+fn perform_pool<
+    A: AllocGlobal + Threads + Wait + Sync + Send + Copy + Drop,
+    R: Read,
+    W: Write,
+    E: Write,
+>(rt: &A, workers: PoolSize, file: &Word, script: &mut R, out: &mut W, err: &mut E) -> u8
+    ensures { HasAnswered (IsPooled workers (R.remaining script.old)) (W.contents out.old) (W.contents out.new) result }
+{
+    match pooled(rt, script, workers) {
+        Ok(answer) => answer.print(out, err),
+        Err(stop) => report(stop, file.as_str(), err),
     }
 }
 
@@ -181,14 +214,13 @@ fn perform_crowd<R: Read, T: Read, W: Write, E: Write>(
 /// Carries out a call whose file is the standard input: each line is answered before the next one is
 /// waited for. Status and messages are those of [`perform`], but for a read that fails and for input
 /// that is too long: the lines before have been run, and what they printed is written. `closure`,
-/// `compare` and `crowd` read it whole.
-pub fn perform_stream<A: AllocGlobal, R: BufRead, W: Write, E: Write>(
-    rt: &A,
-    call: &Call,
-    input: &mut R,
-    out: &mut W,
-    err: &mut E,
-) -> u8
+/// `compare`, `crowd` and `run` with workers read it whole.
+pub fn perform_stream<
+    A: AllocGlobal + Threads + Wait + Sync + Send + Copy + Drop,
+    R: BufRead,
+    W: Write,
+    E: Write,
+>(rt: &A, call: &Call, input: &mut R, out: &mut W, err: &mut E) -> u8
     ensures { IsStatus result }
 {
     let alloc = rt.alloc();
@@ -197,13 +229,20 @@ pub fn perform_stream<A: AllocGlobal, R: BufRead, W: Write, E: Write>(
             let ran = answer_lines(alloc, &mut TableRun::new(), input, out);
             answer(ran, file.as_str(), err)
         }
-        Call::Run { script } => {
+        Call::Run {
+            script,
+            workers: None,
+        } => {
             let ran = answer_lines(alloc, &mut HostRun::new(alloc), input, out);
             answer(ran, script.as_str(), err)
         }
-        Call::Closure { .. } | Call::Compare { .. } | Call::Crowd { .. } => {
-            perform(rt, call, input, &mut io::empty(), out, err)
+        Call::Run {
+            workers: Some(_),
+            ..
         }
+        | Call::Closure { .. }
+        | Call::Compare { .. }
+        | Call::Crowd { .. } => { perform(rt, call, input, &mut io::empty(), out, err) }
     }
 }
 

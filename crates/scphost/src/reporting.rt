@@ -7,7 +7,7 @@ ghost use Rattle.scphost.specs.Reporting.{IsReport, IsReportOf};
 
 use crate::answer::Answer;
 use crate::quiet::Told;
-use crate::subject::{Format, Subject};
+use command_line::{Format, Subject};
 use explorer::{NoNetwork, Report, push_dot, push_svg, push_text, report_of};
 use std::alloc::{AllocError, Global};
 

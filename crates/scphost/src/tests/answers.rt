@@ -1,9 +1,8 @@
 //! Table files over memory, through the call that carries them out.
 
 use super::fakes::{FakeReader, FakeWriter};
-use crate::call::Call;
 use crate::perform::perform;
-use crate::word::Word;
+use command_line::{Call, Word};
 use std::io;
 use std::process::Abort;
 use std::test::Fail;

@@ -1,9 +1,8 @@
 //! Runs of scripts over memory, with each read and each write failing in turn.
 
 use super::fakes::{FakeReader, FakeWriter, LastField};
-use crate::call::{Call, Usage};
 use crate::perform::{answer_lines, perform, perform_stream, refuse, report, run_whole};
-use crate::word::Word;
+use command_line::{Call, Usage, Word};
 use scripts::Stop;
 use std::alloc::Global;
 use std::io;

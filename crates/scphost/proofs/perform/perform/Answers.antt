@@ -1,5 +1,6 @@
 use Rattle.std.proofs.Common.{sym, subst}
 use Rattle.scphost.specs.Printing.{IsPerformed}
+use Rattle.scphost.proofs.PrintingLaws.{run-performed}
 use Rattle.scphost.proofs.perform.perform.Goals as goal
 
 pub returns-in-Closure-clause-performed : goal.returns-in-Closure-clause-performed
@@ -16,3 +17,8 @@ pub returns-in-Crowd-clause-performed : goal.returns-in-Crowd-clause-performed
 returns-in-Crowd-clause-performed g c =
     subst (λ x. IsPerformed x (g.R.Read.remaining c.args.first.now) (g.T.Read.remaining c.args.second.now) (g.W.Write.contents c.args.out.now)
     (g.W.Write.contents c.perform_crowd.new.out) c.perform_crowd.result) (sym c.in-Crowd.is) c.perform_crowd.ensures
+
+pub returns-in-Run-clause-performed : goal.returns-in-Run-clause-performed
+returns-in-Run-clause-performed g c =
+    subst (λ x. IsPerformed x (g.R.Read.remaining c.args.first.now) (g.T.Read.remaining c.args.second.now) (g.W.Write.contents c.args.out.now)
+    (g.W.Write.contents c.perform_run.new.out) c.perform_run.result) (sym c.in-Run.is) (run-performed c.in-Run.script _ _ _ _ _ _ c.perform_run.ensures.pooled)

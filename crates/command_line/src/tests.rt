@@ -1,0 +1,3 @@
+//! Words of command lines.
+
+mod calls;

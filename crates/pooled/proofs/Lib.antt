@@ -1,0 +1,7 @@
+mod OpeningLaws
+mod SortingLaws
+mod StandingLaws
+mod TellingLaws
+mod JoiningLaws
+mod HostedSeats
+mod PassLaws

@@ -1,0 +1,4 @@
+pub mod Decisions
+pub mod PoolLines
+pub mod Opening
+pub mod Pooling

@@ -1,0 +1,71 @@
+-- What becomes of a script whose events are jobs of a pool.
+use Rattle.std.specs.Prelude.{◌≡◌, ◌+◌, ◌++◌, ℕ, List, [], ◌∷◌, length, map}
+use Rattle.types.specs.declared.event.Event.{Event}
+use Rattle.protocol.specs.Hosts.{Config}
+use Rattle.protocol.specs.Runs.{IsRun as Replays}
+use Rattle.scripts.specs.Script.{Bytes}
+use Rattle.hoststep.specs.Logs.{Log}
+use Rattle.work.specs.Hands.{weigh}
+use Rattle.work.specs.declared.rule.Job.{Job}
+use Rattle.cells.specs.Sights.{Sight}
+use Rattle.workers.specs.NetSights.{Net}
+use Rattle.workers.specs.Nets.{AllGrownNets, IsClosedNet, IsRun}
+use Rattle.workers.specs.declared.running.Report.{Report}
+use Rattle.pooled.specs.Opening.{AreHosted}
+use Rattle.pooled.specs.PoolLines.{AreAllDecidedLines, AreDecidedLines, length_line, length_lines, report_line}
+
+-- the event as a job of its network
+abbrev pub job_of : ℕ × Event → Job
+job_of call = record { network = call.0; event = call.1 }
+
+-- the events as jobs, in order
+abbrev pub jobs_of : List (ℕ × Event) → List Job
+jobs_of calls = map job_of calls
+
+-- the journals of networks, in their order: each is one history of its network's seats, and a run
+abbrev pub AreJournals : List Net → List Log → Type 0
+AreJournals [] [] = Unit {0}
+AreJournals [] (l ∷ ls) = ⊥
+AreJournals (n ∷ ns) [] = ⊥
+AreJournals (n ∷ ns) (l ∷ ls) = (((seats : List Sight) × IsClosedNet n l seats) × Replays l.config l.entries) × AreJournals ns ls
+
+-- of one journal more it was told what its nodes have externalized, and how long it is
+abbrev pub IsToldMore : Log → Bytes → Bytes → Bytes → Bytes → Type 0
+IsToldMore l decided lengths more longer =
+    Replays l.config l.entries
+    × ((lines : Bytes) × AreDecidedLines l lines × (more ≡ decided ++ lines))
+    × (longer ≡ lengths ++ length_line l.config.number (length l.entries))
+
+-- what is told of networks: what their nodes have externalized, and how long their journals are
+pub record AreTold (nets : List Net) (decided lengths : Bytes) : Type 0 where
+  pub logs : List Log
+  pub journals : AreJournals nets logs
+  pub lines : AreAllDecidedLines logs decided
+  pub long : lengths ≡ length_lines logs
+
+-- what is printed of networks: what the nodes of each have externalized, then the length of each journal, then the counts of jobs
+pub record IsToldOf (nets : List Net) (one other : Report) (text : Bytes) : Type 0 where
+  pub decided : Bytes
+  pub lengths : Bytes
+  pub told : AreTold nets decided lengths
+  pub parts : text ≡ (decided ++ lengths) ++ report_line (one.applied + other.applied) (one.refused + other.refused) (one.unrun + other.unrun)
+
+-- what was done with jobs, first by one thread, then by workers. What the first put in the queue and took from it, weighed, is what the workers find there, and leave.
+pub record AreDone (jobs : List Job) (ready ended : List Net) (one other : Report) : Type 0 where
+  pub offered : List Net
+  pub put : (Job → ℕ) → ℕ
+  pub taken : (Job → ℕ) → ℕ
+  pub kept : AllGrownNets ready offered
+  pub offers : IsRun ready offered (λ h. weigh h jobs + taken h) put one
+  pub grown : AllGrownNets offered ended
+  pub runs : IsRun offered ended put taken other
+
+-- networks of these configurations join, each with so many seats and its first slots; the events are jobs; and what becomes of them is told
+pub record IsPoolText (configs : List Config) (calls : List (ℕ × Event)) (opens : List (ℕ × ℕ)) (workers : ℕ) (text : Bytes) : Type 0 where
+  pub ready : List Net
+  pub ended : List Net
+  pub one : Report
+  pub other : Report
+  pub joined : AreHosted workers opens [] configs ready
+  pub done : AreDone (jobs_of calls) ready ended one other
+  pub told : IsToldOf ended one other text

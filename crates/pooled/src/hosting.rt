@@ -1,0 +1,108 @@
+//! Networks that join a host, each with its first slots open.
+
+ghost use Rattle.std.specs.Prelude.{◌≡◌, ◌==◌, ◌<◌, ◌≤◌, OnOk, filter, map, nat_le, nat_lt};
+ghost use Rattle.std.specs.List.Sorted.{IsNonDecreasingBy};
+ghost use Rattle.cells.specs.Cells.{IsSeatOf};
+ghost use Rattle.pooled.specs.Opening.{HaveAsked, HasAsked, IsReady, slots_of};
+ghost use Rattle.workers.specs.Benches.{IsHosted};
+ghost use Rattle.workers.specs.NetSights.{Net};
+ghost use Rattle.workers.specs.Nets.{NoNet, nets_with};
+
+use cells::{Cell, Seat};
+use configuration::NetConfig;
+use envstore::SharedHandle;
+use std::alloc::{AllocError, Global};
+use std::sync::Wait;
+use types::Event;
+use workers::Host;
+
+/// A network joins the host, with so many seats, over a handle on the store of all, and its slots among those
+/// that are opened first, which stand ascending by network, are opened in order, refused or not. An error says
+/// that memory is short.
+pub fn host_network<R: Wait + Drop + Copy>(
+    rt: &R,
+    alloc: Global,
+    host: &mut Host<SharedHandle<R>, R>,
+    network: (NetConfig, SharedHandle<R>, u64),
+    opens: &[(u32, u64)],
+) -> Result<(), AllocError>
+    requires some { 0 < network.2 }
+    requires few { network.2 ≤ 64 }
+    requires rising { IsNonDecreasingBy (λ o. o.0) opens.now }
+    ensures { OnOk result ((n : Net) × IsReady network.0 network.2 (slots_of network.0.number opens.now) n × NoNet host.old network.0.number × (host.new ≡ nets_with n host.old)) }
+{
+    let (config, handle, seats) = network;
+    let own = own_opens(config.number(), opens);
+    let (cell, mut seats) = Cell::open_on(rt, alloc, config, seats, handle)?;
+    open_slots(rt, &cell, &mut seats[0], own);
+    host_cell(host, cell, seats)?;
+    Ok(())
+}
+
+/// A cell joins the host, with all its seats. An error says that there is no room.
+fn host_cell<R: Wait + Drop>(
+    host: &mut Host<SharedHandle<R>, R>,
+    cell: Cell<SharedHandle<R>, R>,
+    seats: Vec<Seat<SharedHandle<R>, R>>,
+) -> Result<(), AllocError>
+    requires { IsHosted cell seats.items }
+    ensures ok { OnOk result (host.new ≡ nets_with (record { cell = cell; seats = seats.items }) host.old) }
+    ensures fresh { OnOk result (NoNet host.old cell.config.number) }
+{
+    match host.add(cell, seats) {
+        Ok(()) => Ok(()),
+        // Memory: the host has no room; numbers and their count were tested line by line.
+        Err(_) => Err(AllocError),
+    }
+}
+
+/// Those that are of the network of a number, of openings that stand ascending by network.
+fn own_opens(number: u32, opens: &[(u32, u64)]) -> &[(u32, u64)]
+    requires { IsNonDecreasingBy (λ o. o.0) opens.now }
+    ensures { result.now ≡ filter (λ o. o.0 == number) opens.now }
+{
+    let before = opens.partition_point(
+        |open| -> bool
+            ensures { result ≡ nat_lt open.now.0 number }
+        { open.0 < number },
+    );
+    let from = &opens[before..];
+    let own = from.partition_point(
+        |open| -> bool
+            ensures { result ≡ nat_le open.now.0 number }
+        { open.0 <= number },
+    );
+    &from[..own]
+}
+
+/// Opens slots in order, refused or not.
+fn open_slots<R: Wait + Drop>(
+    rt: &R,
+    cell: &Cell<SharedHandle<R>, R>,
+    seat: &mut Seat<SharedHandle<R>, R>,
+    opens: &[(u32, u64)],
+)
+    requires { IsSeatOf cell.now seat.old }
+    ensures seat { IsSeatOf cell.now seat.new }
+    ensures number { seat.new.me.number ≡ seat.old.me.number }
+    ensures asked { HaveAsked cell.now (map (λ o. o.1) opens.now) seat.old seat.new }
+{
+    for open in opens {
+        open_slot(rt, cell, seat, open.1);
+    }
+}
+
+/// Opens a slot, or is refused.
+fn open_slot<R: Wait + Drop>(
+    rt: &R,
+    cell: &Cell<SharedHandle<R>, R>,
+    seat: &mut Seat<SharedHandle<R>, R>,
+    slot: u64,
+)
+    requires { IsSeatOf cell.now seat.old }
+    ensures seat { IsSeatOf cell.now seat.new }
+    ensures number { seat.new.me.number ≡ seat.old.me.number }
+    ensures asked { HasAsked cell.now slot seat.old seat.new }
+{
+    let _answer = cell.apply(rt, seat, Event::OpenSlot { slot });
+}

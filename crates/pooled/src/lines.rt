@@ -1,0 +1,73 @@
+//! What is printed of the journals of a pool.
+
+ghost use Rattle.std.specs.Prelude.{◌≡◌, ◌++◌, OnOk, length, string_bytes};
+ghost use Rattle.std.specs.List.{flat_map};
+ghost use Rattle.scripts.specs.Script.{Bytes};
+ghost use Rattle.pooled.specs.PoolLines.{AreDecidedLines, decided_line, length_line, report_line};
+
+use crate::decided::{Decided, decided_in};
+use envstore::Shelf;
+use hoststep::Journal;
+use scripts::{push_name, push_value};
+use std::alloc::{AllocError, Global};
+use std::fmt::Write;
+
+/// Adds a line for each node that has externalized at an open slot, ascending by slot and then by name:
+/// `decided`, the number of the network, the slot, the name and the value. Where memory is wanting, a part
+/// may have been added.
+pub fn push_decided<S: Shelf>(
+    alloc: Global,
+    text: &mut String,
+    journal: &Journal<S>,
+) -> Result<(), AllocError>
+    ensures { OnOk result ((lines : Bytes) × AreDecidedLines journal.now lines × (string_bytes text.new ≡ string_bytes text.old ++ lines)) }
+{
+    let number = journal.config().number();
+    let decided = decided_in(alloc, journal)?;
+    push_all(text, number, &decided)
+}
+
+// Adds a line for each of them.
+fn push_all(text: &mut String, number: u32, decided: &[Decided]) -> Result<(), AllocError>
+    ensures { OnOk result (string_bytes text.new ≡ string_bytes text.old ++ flat_map (decided_line number) decided.now) }
+{
+    for one in decided {
+        push_one(text, number, one)?;
+    }
+    Ok(())
+}
+
+// Adds the line of what one node has externalized.
+fn push_one(text: &mut String, number: u32, decided: &Decided) -> Result<(), AllocError>
+    ensures { OnOk result (string_bytes text.new ≡ string_bytes text.old ++ decided_line number decided.now) }
+{
+    let slot = decided.slot;
+    write!(text, "decided {number} {slot} ")?;
+    push_name(text, &decided.node)?;
+    text.push(' ')?;
+    push_value(text, &decided.value)?;
+    text.push('\n')
+}
+
+/// Adds the line of a journal: `journal`, the number of its network, and how many entries it has. Where
+/// memory is wanting, a part may have been added.
+pub fn push_length<S: Shelf>(text: &mut String, journal: &Journal<S>) -> Result<(), AllocError>
+    ensures { OnOk result (string_bytes text.new ≡ string_bytes text.old ++ length_line journal.now.config.number (length journal.now.entries)) }
+{
+    let number = journal.config().number();
+    let entries = journal.len();
+    write!(text, "journal {number} {entries}\n")
+}
+
+/// Adds the line of how many jobs were applied, refused and not run. Where memory is wanting, a part may have
+/// been added.
+pub fn push_report(
+    text: &mut String,
+    applied: u128,
+    refused: u128,
+    unrun: u128,
+) -> Result<(), AllocError>
+    ensures { OnOk result (string_bytes text.new ≡ string_bytes text.old ++ report_line applied refused unrun) }
+{
+    write!(text, "applied {applied} refused {refused} unrun {unrun}\n")
+}

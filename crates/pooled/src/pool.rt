@@ -1,0 +1,161 @@
+//! A whole script on a pool of workers.
+
+ghost use Rattle.std.specs.Prelude.{◌≡◌, ◌<◌, ◌≤◌, ◌+◌, ◌++◌, ℕ, IfOk, OnOk, [], string_bytes};
+ghost use Rattle.std.specs.List.Sorted.{IsNonDecreasingBy};
+ghost use Rattle.pooled.specs.Opening.{AreHosted, slots_of};
+ghost use Rattle.pooled.specs.PoolLines.{report_line};
+ghost use Rattle.pooled.specs.Pooling.{AreDone, IsPoolText, IsToldMore, IsToldOf, jobs_of};
+
+use crate::gate::Open;
+use crate::hosting::host_network;
+use crate::lines::{push_decided, push_length, push_report};
+use configuration::NetConfig;
+use crowds::Submission;
+use envstore::{SharedHandle, Shelf};
+use hoststep::Journal;
+use std::alloc::{AllocError, Global};
+use std::sync::Wait;
+use std::thread::Threads;
+use types::Event;
+use work::{Job, Queue};
+use workers::{Host, Report, offer, run};
+
+/// How many jobs wait at most (this host's profile).
+const PLACES: usize = 1024;
+
+/// Runs what is submitted as jobs of so many workers, 1 to 64, after the slots are opened that are named first,
+/// each with the number of its network, and answers what is printed: what each node has externalized at open
+/// slots, ascending by network, slot and name; the length of each network's journal; and how many jobs were
+/// applied, refused and not run. An error says that memory is short.
+///
+/// All networks have one store of envelopes. What the queue has no place for is applied before the workers
+/// begin. Which order the jobs take is open.
+pub fn run_pool<R: Threads + Wait + Sync + Send + Copy + Drop>(
+    rt: &R,
+    alloc: Global,
+    submission: Submission,
+    opens: Vec<(u32, u64)>,
+    workers: u64,
+) -> Result<String, AllocError>
+    requires some { 0 < workers }
+    requires few { workers ≤ 64 }
+    ensures { IfOk result (λ text. IsPoolText submission.configs submission.calls opens.items workers (string_bytes text)) }
+{
+    let (configs, calls) = submission.into_parts();
+    let mut host = host_networks(rt, alloc, configs, opens, workers)?;
+    let jobs = jobs_of(alloc, calls)?;
+    let (offered, ran) = run_jobs(rt, alloc, &mut host, jobs, workers as usize)?;
+    tell_all(rt, alloc, &mut host, offered, ran)
+}
+
+/// The networks, each with so many seats, with their first slots open.
+fn host_networks<R: Wait + Send + Copy + Drop>(
+    rt: &R,
+    alloc: Global,
+    configs: Vec<NetConfig>,
+    opens: Vec<(u32, u64)>,
+    seats: u64,
+) -> Result<Host<SharedHandle<R>, R>, AllocError>
+    requires some { 0 < seats }
+    requires few { seats ≤ 64 }
+    ensures { IfOk result (λ host. AreHosted seats opens.items [] configs.items host) }
+{
+    let opens = by_network(opens)?;
+    let handle = SharedHandle::new(alloc, *rt)?;
+    let mut host = Host::new(alloc);
+    for config in configs {
+        let shelf = handle.try_copy()?;
+        host_network(rt, alloc, &mut host, (config, shelf, seats), &opens)?;
+    }
+    Ok(host)
+}
+
+/// The openings ascending by network, those of each in their order.
+fn by_network(mut opens: Vec<(u32, u64)>) -> Result<Vec<(u32, u64)>, AllocError>
+    ensures rising { IfOk result (λ v. IsNonDecreasingBy (λ o. o.0) v.items) }
+    ensures kept { IfOk result (λ v. (g : ℕ) → slots_of g v.items ≡ slots_of g opens.items) }
+{
+    opens.sort_by_key(
+        |open| -> u32
+            ensures { result ≡ open.now.0 }
+        { open.0 },
+    )?;
+    Ok(opens)
+}
+
+/// The events as jobs, in order.
+fn jobs_of(alloc: Global, calls: Vec<(u32, Event)>) -> Result<Vec<Job>, AllocError>
+    ensures { IfOk result (λ jobs. jobs.items ≡ jobs_of calls.items) }
+{
+    let mut jobs = Vec::with_capacity(alloc, calls.len())?;
+    for (network, event) in calls {
+        jobs.push(Job { network, event })?;
+    }
+    Ok(jobs)
+}
+
+/// Puts the jobs, applies those for which there is no place, and has the workers run the others. The reports are
+/// those of before the workers, and of them.
+fn run_jobs<R: Threads + Wait + Sync + Send + Drop>(
+    rt: &R,
+    alloc: Global,
+    host: &mut Host<SharedHandle<R>, R>,
+    jobs: Vec<Job>,
+    workers: usize,
+) -> Result<(Report, Report), AllocError>
+    requires some { 0 < workers }
+    requires few { workers ≤ 64 }
+    ensures { IfOk result (λ r. AreDone jobs.items host.old host.new r.0 r.1) }
+{
+    let queue = Queue::new(alloc, PLACES, workers)?;
+    let (queue, offered) = offer(rt, host, queue, jobs, &Open);
+    let ran = run(rt, host, queue, workers, &Open);
+    Ok((offered, ran))
+}
+
+/// Closes each network, ascending, and says what became of it, and how many jobs were applied, refused and not
+/// run by both reports.
+fn tell_all<R: Wait + Drop>(
+    rt: &R,
+    alloc: Global,
+    host: &mut Host<SharedHandle<R>, R>,
+    one: Report,
+    other: Report,
+) -> Result<String, AllocError>
+    ensures { IfOk result (λ text. IsToldOf host.old one other (string_bytes text)) }
+{
+    let mut text = String::new(alloc);
+    let mut lengths = String::new(alloc);
+    while let Some((journal, _seats)) = host.close_next(rt) {
+        tell(alloc, &journal, &mut text, &mut lengths)?;
+    }
+    text.push_str(lengths.as_str())?;
+    push_both(&mut text, one, other)?;
+    Ok(text)
+}
+
+/// Adds the line of what two reports count. Where memory is wanting, a part may have been added.
+fn push_both(text: &mut String, one: Report, other: Report) -> Result<(), AllocError>
+    ensures { OnOk result (string_bytes text.new ≡ string_bytes text.old ++ report_line (one.applied + other.applied) (one.refused + other.refused) (one.unrun + other.unrun)) }
+{
+    let applied = one.applied as u128 + other.applied as u128;
+    let refused = one.refused as u128 + other.refused as u128;
+    let unrun = one.unrun as u128 + other.unrun as u128;
+    push_report(text, applied, refused, unrun)
+}
+
+/// Says of one journal more what its nodes have externalized, and how long it is. Where memory is wanting, a part
+/// may have been added.
+fn tell<S: Shelf>(
+    alloc: Global,
+    journal: &Journal<S>,
+    decided: &mut String,
+    lengths: &mut String,
+) -> Result<(), AllocError>
+    ensures { OnOk result (IsToldMore journal.now (string_bytes decided.old) (string_bytes lengths.old) (string_bytes decided.new) (string_bytes lengths.new)) }
+{
+    journal.replays();
+    push_decided(alloc, decided, journal)?;
+    push_length(lengths, journal)?;
+    Ok(())
+}

@@ -1,0 +1,5 @@
+use Rattle.scphost.proofs.PrintingLaws.{has-pooled}
+use Rattle.scphost.proofs.perform.perform_pool.Goals as goal
+
+pub returns-in-Ok : goal.returns-in-Ok
+returns-in-Ok g c = has-pooled _ _ _ _ _ c.in-Ok.answer c.in-Ok.ensures c.print.ensures
