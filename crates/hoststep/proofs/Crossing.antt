@@ -2,6 +2,7 @@
 use denote.RattleType.{RattleType}
 use denote.Param.Send.{IsSend, IsSync, sendable}
 use Rattle.std.proofs.Crossing.{crosses}
+use Rattle.std.proofs.MapsCrossing.{crosses as maps}
 use Rattle.types.proofs.state.Given.TheSendSync as given
 use Rattle.types.proofs.state.Votes.TheSendSync as votes
 use Rattle.types.proofs.bytes.Bytes.TheSendSync as bytes
@@ -16,7 +17,8 @@ use Rattle.network.proofs.tallies.Tally.TheSendSync as tally
 use Rattle.envstore.specs.declared.shelf.Places.{Ghosts}
 use Rattle.types.specs.contracts.nested.Nested as Nested
 use Rattle.view.specs.contracts.region.Region as Region
-use Rattle.latest.specs.contracts.places.Places as Places
+use Rattle.latest.specs.contracts.index.Index as Index
+use Rattle.latest.specs.contracts.places.RowPlaces as RowPlaces
 use Rattle.latest.specs.contracts.table.Table as Table
 use Rattle.slot.specs.contracts.configured.Configured as Configured
 use Rattle.slot.specs.contracts.listener.Listener as Listener
@@ -47,11 +49,17 @@ region_sync = search (sendable, crosses, name.the_sync, compiled.sync-CompiledSe
 region_send : IsSend (Region.the_row)
 region_send = search (sendable, crosses, name.the_send, compiled.send-CompiledSet) depth 40
 
-places_sync : IsSync (Places.the_row)
-places_sync = search (sendable, crosses, name.the_sync) depth 40
+places_sync : IsSync (RowPlaces.the_row)
+places_sync = search (sendable, crosses) depth 40
 
-places_send : IsSend (Places.the_row)
-places_send = search (sendable, crosses, name.the_send) depth 40
+places_send : IsSend (RowPlaces.the_row)
+places_send = search (sendable, crosses) depth 40
+
+index_sync : IsSync (Index.the_row)
+index_sync = search (sendable, crosses, maps, name.the_sync, places_sync) depth 40
+
+index_send : IsSend (Index.the_row)
+index_send = search (sendable, crosses, maps, name.the_send, places_send) depth 40
 
 filed_sync : IsSync (Filed.the_row)
 filed_sync = search (sendable, crosses) depth 40
@@ -60,10 +68,10 @@ filed_send : IsSend (Filed.the_row)
 filed_send = search (sendable, crosses) depth 40
 
 table_sync : IsSync (Table.the_row)
-table_sync = search (sendable, crosses, places_sync, filed_sync) depth 40
+table_sync = search (sendable, crosses, index_sync, filed_sync) depth 40
 
 table_send : IsSend (Table.the_row)
-table_send = search (sendable, crosses, places_send, filed_send) depth 40
+table_send = search (sendable, crosses, index_send, filed_send) depth 40
 
 configured_sync : IsSync (Configured.the_field.row)
 configured_sync = search (sendable, crosses, name.the_sync, nested_sync) depth 40

@@ -10,9 +10,8 @@ use Rattle.types.specs.declared.kind.Kind.TheVariants.{Nomination}
 use Rattle.types.specs.Statements.{Sent, kind_of}
 use Rattle.protocol.specs.Rows.{is_kind, is_row_of, row, with_row}
 use Rattle.protocol.proofs.Tables.{is_row_of-parts, is_row_of-alike}
-use Rattle.latest.specs.declared.places.Places.{Places}
 use Rattle.latest.specs.Senders.{with_name, senders}
-use Rattle.latest.specs.Places.{place_by, place_of, places_of, index_of, ascends, found, noted, place_in, only_place, with_place}
+use Rattle.latest.specs.Places.{Places, place_by, place_of, places_of, index_of, ascends, found, noted, place_in, only_place, with_place}
 
 -- ---- places in a list
 pub place-within : {X : Type 0} (p : X → Bool) (xs : List X) (i : ℕ) (d : X) → place_by p xs ≡ Some i → (i < length xs) × (find p xs ≡ Some (get_or xs i d)) × (p (get_or xs i d) ≡ true)

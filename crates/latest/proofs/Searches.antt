@@ -1,50 +1,74 @@
--- What a search in an index finds, and what a place that is noted makes of it.
-use Rattle.std.proofs.Common.{◌≡◌, ◌≢◌, ℕ, zero, suc, ◌+◌, ◌<◌, ◌≤◌, Bool, true, false, cond, ltb, List, [], ◌∷◌, length, get_or, set, None, Ok, Err, if◌then◌else◌, refl, sym, ◌∙◌, ap, arith, subst}
-use Rattle.std.specs.List.{list_all, prefix_len, insert, remove}
-use Rattle.std.specs.List.Sorted.{IsNonDecreasingBy}
-use Rattle.std.proofs.lemmas.Bool.{and_parts, and_from, ltb-true, ltb-false, lt-ltb, eq-eqb, ne_eqb}
+-- What a map from senders to places gives, and what a place noted or forgotten makes of it.
+use Rattle.std.proofs.Common.{◌≡◌, ℕ, ◌<◌, ◌==◌, Bool, true, false, cond, ltb, List, [], ◌∷◌, map, Option, Some, None, Result, Ok, Err, if◌then◌else◌, refl, sym, ◌∙◌, ap, ap₂, arith}
+use Rattle.std.specs.Prelude.{OnOk, OnErr}
+use Rattle.std.specs.List.{list_all}
+use Rattle.std.specs.Ordering.{nat_cmp, match_ordering}
+use Rattle.std.specs.declared.cmp.Ordering.TheVariants.{Less, Equal, Greater}
+use Rattle.std.specs.BTreeMap.{insert_entry, is_at}
+use Rattle.std.specs.Map.{keys_of, lookup, remove_entry}
+use Rattle.std.proofs.Math.Path.{fun_ext}
+use Rattle.std.proofs.lemmas.Bool.{and_parts, and_from, eqb-true, false≢true, lt-ltb, ltb-true, ne_eqb}
+use Rattle.std.proofs.lemmas.Bool.Decides.{nat_tests}
+use Rattle.types.specs.contracts.node_id.NodeIdOrd.TheImpl.{ghosts as ord}
+use Rattle.types.proofs.NameOrder.{name_cmp_is}
 use Rattle.types.specs.declared.kind.Kind.{Kind}
-use Rattle.latest.specs.declared.places.Places.{Places}
-use Rattle.latest.specs.Places.{IsSearched, ascends, forgotten, found, is_vacant, noted, place_in, only_place, with_place, without_place}
+use Rattle.types.specs.declared.kind.Kind.TheVariants.{Nomination}
+use Rattle.latest.specs.declared.places.RowPlaces.{RowPlaces}
+use Rattle.latest.specs.Places.{Places, ascends, forgotten, found, found_places, is_vacant, listed, noted, of_sender, only_place, place_in, with_place, without_place}
 
--- ---- how many are below
-abbrev pub below : ℕ → Places → Bool
-below u p = ltb p.sender u
+-- ---- the order of names
+pub cmps : ord.cmp ≡ nat_cmp
+cmps = fun_ext (λ a. fun_ext (λ b. name_cmp_is a b))
 
-pub prefix-unique : {X : Type 0} (p : X → Bool) (xs : List X) (i : ℕ) → i ≤ length xs → ((k : ℕ) (d : X) → k < i → p (get_or xs k d) ≡ true) → ((k : ℕ) (d : X) → i ≤ k → k < length xs → p (get_or xs k d) ≡ false) → i ≡ prefix_len p xs
-prefix-unique p [] i le t f = omega arith
-prefix-unique p (x ∷ xs) zero le t f = sym (ap (λ b. cond b (1 + prefix_len p xs) 0) (f 0 x (omega arith) (omega arith)))
-prefix-unique p (x ∷ xs) (suc i) le t f =
-    let e : i ≡ prefix_len p xs = prefix-unique p xs i (omega arith) (λ k d l. t (suc k) d (omega arith)) (λ k d l h. f (suc k) d (omega arith) (omega arith)) in
-    let s : suc i ≡ 1 + prefix_len p xs = omega arith in
-    s ∙ sym (ap (λ b. cond b (1 + prefix_len p xs) 0) (t 0 x (omega arith)))
+cmp-below : (e u : ℕ) → ltb e u ≡ true → nat_cmp u e ≡ Greater
+cmp-below e u h = grind (arith, nat_tests)
 
--- the first is below, or the count is nought
-prefix-split : (u : ℕ) (p : Places) (ps : List Places) (i : ℕ) → i ≡ prefix_len (below u) (p ∷ ps) → (b : Bool) → below u p ≡ b → i ≡ cond b (1 + prefix_len (below u) ps) 0
-prefix-split u p ps i e b h = e ∙ ap (λ c. cond c (1 + prefix_len (below u) ps) 0) h
+cmp-same : (e u : ℕ) → (e == u) ≡ true → nat_cmp u e ≡ Equal
+cmp-same e u h = grind (arith, nat_tests)
 
--- ---- the order of an index
-all_above : (w : ℕ) (ps : List Places) (k : ℕ) (d : Places) → list_all (λ q. ltb w q.sender) ps ≡ true → k < length ps → w < (get_or ps k d).sender
-all_above w [] k d h l = absurd (omega arith)
-all_above w (p ∷ ps) zero d h l = ltb-true w p.sender (and_parts (ltb w p.sender) (list_all (λ q. ltb w q.sender) ps) h).0
-all_above w (p ∷ ps) (suc k) d h l = all_above w ps k d (and_parts (ltb w p.sender) (list_all (λ q. ltb w q.sender) ps) h).1 (omega arith)
+cmp-above : (e u : ℕ) → ltb e u ≡ false → (e == u) ≡ false → nat_cmp u e ≡ Less
+cmp-above e u h n = grind (arith, nat_tests)
 
-pub ascends-rises : (ps : List Places) → ascends ps ≡ true → IsNonDecreasingBy (λ p. p.sender) ps
-ascends-rises [] h i j d le l = absurd (omega arith)
-ascends-rises (p ∷ ps) h zero zero d le l = omega arith
-ascends-rises (p ∷ ps) h zero (suc j) d le l =
-    let a : p.sender < (get_or ps j d).sender = all_above p.sender ps j d (and_parts (list_all (λ q. ltb p.sender q.sender) ps) (ascends ps) h).0 (omega arith) in omega arith
-ascends-rises (p ∷ ps) h (suc i) zero d le l = absurd (omega arith)
-ascends-rises (p ∷ ps) h (suc i) (suc j) d le l = ascends-rises ps (and_parts (list_all (λ q. ltb p.sender q.sender) ps) (ascends ps) h).1 i j d (omega arith) (omega arith)
+at-is : (e u : ℕ) → is_at (nat_cmp u) e ≡ (e == u)
+at-is e u = grind (arith, nat_tests)
 
 -- ---- found
--- what is above all has no place
-above-nowhere : (u : ℕ) (k : Kind) (ps : List Places) → list_all (λ q. ltb u q.sender) ps ≡ true → found ps u k ≡ None
-above-nowhere u k [] h = refl
-above-nowhere u k (p ∷ ps) h =
+pub place-found : (ps : List Places) (u : ℕ) (k : Kind) → place_in (found_places ps u) k ≡ found ps u k
+place-found [] u Nomination = refl
+place-found [] u Kind.Ballot = refl
+place-found (p ∷ ps) u k = go (p.sender == u) (place-found ps u k)
+  where
+    go : (b : Bool) → place_in (found_places ps u) k ≡ found ps u k → place_in (if b then p else found_places ps u) k ≡ (if b then place_in p k else found ps u k)
+    go true ih = refl
+    go false ih = ih
+
+-- the places of a sender that the map does not have
+abbrev pub no_places : ℕ → Places
+no_places u = record { sender = u; nomination = None; ballot = None }
+
+pub got : (es : List (ℕ × RowPlaces)) (u : ℕ) (p : RowPlaces) → lookup (is_at (nat_cmp u)) es ≡ Some p → of_sender u p ≡ found_places (listed es) u
+got [] u p h = cc
+got (e ∷ es) u p h = go (e.0 == u) refl (ap (λ b. cond b (Some e.1) (lookup (is_at (nat_cmp u)) es)) (sym (at-is e.0 u)) ∙ h) (got es u p)
+  where
+    go : (b : Bool) → (e.0 == u) ≡ b → cond b (Some e.1) (lookup (is_at (nat_cmp u)) es) ≡ Some p → (lookup (is_at (nat_cmp u)) es ≡ Some p → of_sender u p ≡ found_places (listed es) u) → of_sender u p ≡ (if b then of_sender e.0 e.1 else found_places (listed es) u)
+    go true q h ih = let s : e.1 ≡ p = cc in ap₂ of_sender (sym (eqb-true e.0 u q)) (sym s)
+    go false q h ih = ih h
+
+pub absent : (es : List (ℕ × RowPlaces)) (u : ℕ) → lookup (is_at (nat_cmp u)) es ≡ None → found_places (listed es) u ≡ no_places u
+absent [] u h = refl
+absent (e ∷ es) u h = go (e.0 == u) (ap (λ b. cond b (Some e.1) (lookup (is_at (nat_cmp u)) es)) (sym (at-is e.0 u)) ∙ h) (absent es u)
+  where
+    go : (b : Bool) → cond b (Some e.1) (lookup (is_at (nat_cmp u)) es) ≡ None → (lookup (is_at (nat_cmp u)) es ≡ None → found_places (listed es) u ≡ no_places u) → (if b then of_sender e.0 e.1 else found_places (listed es) u) ≡ no_places u
+    go true h ih = cc
+    go false h ih = ih h
+
+-- a sender below all others is not among them
+above-nowhere : (u : ℕ) (ps : List Places) → list_all (λ q. ltb u q.sender) ps ≡ true → found_places ps u ≡ no_places u
+above-nowhere u [] h = refl
+above-nowhere u (p ∷ ps) h =
     let a = and_parts (ltb u p.sender) (list_all (λ q. ltb u q.sender) ps) h in
     let l : u < p.sender = ltb-true u p.sender a.0 in
-    ap (λ b. if b then place_in p k else found ps u k) (ne_eqb p.sender u (λ e. omega arith)) ∙ above-nowhere u k ps a.1
+    ap (λ b. if b then p else found_places ps u) (ne_eqb p.sender u (λ e. omega arith)) ∙ above-nowhere u ps a.1
 
 above-further : (u w : ℕ) → u < w → (ps : List Places) → list_all (λ q. ltb w q.sender) ps ≡ true → list_all (λ q. ltb u q.sender) ps ≡ true
 above-further u w l [] h = refl
@@ -53,127 +77,127 @@ above-further u w l (p ∷ ps) h =
     let m : w < p.sender = ltb-true w p.sender a.0 in
     and_from (ltb u p.sender) (list_all (λ q. ltb u q.sender) ps) (lt-ltb u p.sender (omega arith)) (above-further u w l ps a.1)
 
-pub found-at : (ps : List Places) (u : ℕ) (k : Kind) (i : ℕ) (d : Places) → i ≡ prefix_len (below u) ps → i < length ps → (get_or ps i d).sender ≡ u → found ps u k ≡ place_in (get_or ps i d) k
-found-at [] u k i d e l s = absurd (omega arith)
-found-at (p ∷ ps) u k i d e l s = go i (below u p) refl (prefix-split u p ps i e (below u p) refl) l s (λ j. found-at ps u k j d)
+between-nowhere : (p : Places) (ps : List Places) (u : ℕ) → ltb p.sender u ≡ false → (p.sender == u) ≡ false → list_all (λ q. ltb p.sender q.sender) ps ≡ true → found_places ps u ≡ no_places u
+between-nowhere p ps u l n h =
+    let m : u < p.sender = grind (arith, nat_tests) in above-nowhere u ps (above-further u p.sender m ps h)
+
+-- a sender without rows has no place to lose
+vacant-none : (u : ℕ) (k : Kind) → is_vacant (without_place (no_places u) k) ≡ true
+vacant-none u Nomination = refl
+vacant-none u Kind.Ballot = refl
+
+pub absent-vacant : (es : List (ℕ × RowPlaces)) (u : ℕ) (k : Kind) → lookup (is_at (nat_cmp u)) es ≡ None → is_vacant (without_place (found_places (listed es) u) k) ≡ true
+absent-vacant es u k h = ap (λ p. is_vacant (without_place p k)) (absent es u h) ∙ vacant-none u k
+
+-- ---- put
+-- the entries with one put, as they are listed, by where its key is
+put-below : (e : ℕ × RowPlaces) (es : List (ℕ × RowPlaces)) (u : ℕ) (p : RowPlaces) → ltb e.0 u ≡ true → listed (insert_entry nat_cmp (e ∷ es) u p) ≡ of_sender e.0 e.1 ∷ listed (insert_entry nat_cmp es u p)
+put-below e es u p l = ap (λ c. listed (match_ordering c ((u, p) ∷ e ∷ es) ((e.0, p) ∷ es) (e ∷ insert_entry nat_cmp es u p))) (cmp-below e.0 u l)
+
+put-same : (e : ℕ × RowPlaces) (es : List (ℕ × RowPlaces)) (u : ℕ) (p : RowPlaces) → (e.0 == u) ≡ true → listed (insert_entry nat_cmp (e ∷ es) u p) ≡ of_sender u p ∷ listed es
+put-same e es u p q =
+    ap (λ c. listed (match_ordering c ((u, p) ∷ e ∷ es) ((e.0, p) ∷ es) (e ∷ insert_entry nat_cmp es u p))) (cmp-same e.0 u q)
+    ∙ ap (λ w. of_sender w p ∷ listed es) (eqb-true e.0 u q)
+
+put-above : (e : ℕ × RowPlaces) (es : List (ℕ × RowPlaces)) (u : ℕ) (p : RowPlaces) → ltb e.0 u ≡ false → (e.0 == u) ≡ false → listed (insert_entry nat_cmp (e ∷ es) u p) ≡ of_sender u p ∷ listed (e ∷ es)
+put-above e es u p l n = ap (λ c. listed (match_ordering c ((u, p) ∷ e ∷ es) ((e.0, p) ∷ es) (e ∷ insert_entry nat_cmp es u p))) (cmp-above e.0 u l n)
+
+below-other : (e u : ℕ) → ltb e u ≡ true → (e == u) ≡ false
+below-other e u h = grind (arith, nat_tests)
+
+pub noted-put : (es : List (ℕ × RowPlaces)) (u : ℕ) (k : Kind) (n : ℕ) (p : RowPlaces) → ascends (listed es) ≡ true → of_sender u p ≡ with_place (found_places (listed es) u) k n → listed (insert_entry nat_cmp es u p) ≡ noted (listed es) u k n
+noted-put [] u k n p a h = ap (λ (q : Places). q ∷ []) h
+noted-put (e ∷ es) u k n p a h =
+    let parts = and_parts (list_all (λ q. ltb e.0 q.sender) (listed es)) (ascends (listed es)) a in
+    go (ltb e.0 u) (e.0 == u) refl refl parts.0 h (noted-put es u k n p parts.1)
   where
-    go : (i : ℕ) (b : Bool) → below u p ≡ b → i ≡ cond b (1 + prefix_len (below u) ps) 0 → i < length (p ∷ ps) → (get_or (p ∷ ps) i d).sender ≡ u → ((j : ℕ) → j ≡ prefix_len (below u) ps → j < length ps → (get_or ps j d).sender ≡ u → found ps u k ≡ place_in (get_or ps j d) k) → found (p ∷ ps) u k ≡ place_in (get_or (p ∷ ps) i d) k
-    go zero true h e l s ih = absurd (omega arith)
-    go (suc j) true h e l s ih =
-        let m : p.sender < u = ltb-true p.sender u h in
-        ap (λ b. if b then place_in p k else found ps u k) (ne_eqb p.sender u (λ q. omega arith)) ∙ ih j (omega arith) (omega arith) s
-    go zero false h e l s ih = ap (λ b. if b then place_in p k else found ps u k) (eq-eqb p.sender u s)
-    go (suc j) false h e l s ih = absurd (omega arith)
+    first : Places
+    first = of_sender e.0 e.1
 
-pub found-nowhere : (ps : List Places) (u : ℕ) (k : Kind) (i : ℕ) → ascends ps ≡ true → i ≡ prefix_len (below u) ps → ((d : Places) → i < length ps → (get_or ps i d).sender ≢ u) → found ps u k ≡ None
-found-nowhere [] u k i a e s = refl
-found-nowhere (p ∷ ps) u k i a e s =
-    let parts = and_parts (list_all (λ q. ltb p.sender q.sender) ps) (ascends ps) a in
-    go i (below u p) refl (prefix-split u p ps i e (below u p) refl) s parts.0 (λ j. found-nowhere ps u k j parts.1)
+    go : (b c : Bool) → ltb e.0 u ≡ b → (e.0 == u) ≡ c → list_all (λ q. ltb e.0 q.sender) (listed es) ≡ true → of_sender u p ≡ with_place (if c then first else found_places (listed es) u) k n
+        → (of_sender u p ≡ with_place (found_places (listed es) u) k n → listed (insert_entry nat_cmp es u p) ≡ noted (listed es) u k n)
+        → listed (insert_entry nat_cmp (e ∷ es) u p) ≡ (if b then first ∷ noted (listed es) u k n else (if c then with_place first k n ∷ listed es else only_place u k n ∷ first ∷ listed es))
+    go true true l q up h ih = absurd (false≢true (sym (below-other e.0 u l) ∙ q))
+    go true false l q up h ih = put-below e es u p l ∙ ap (λ (ps : List Places). first ∷ ps) (ih h)
+    go false true l q up h ih = put-same e es u p q ∙ ap (λ (x : Places). x ∷ listed es) h
+    go false false l q up h ih = put-above e es u p l q ∙ ap (λ (x : Places). x ∷ first ∷ listed es) (h ∙ ap (λ x. with_place x k n) (between-nowhere first (listed es) u l q up))
+
+pub forgotten-put : (es : List (ℕ × RowPlaces)) (u : ℕ) (k : Kind) (p : RowPlaces) → ascends (listed es) ≡ true → of_sender u p ≡ without_place (found_places (listed es) u) k → is_vacant (of_sender u p) ≡ false → listed (insert_entry nat_cmp es u p) ≡ forgotten (listed es) u k
+forgotten-put [] u k p a h v = absurd (false≢true (sym v ∙ (ap is_vacant h ∙ vacant-none u k)))
+forgotten-put (e ∷ es) u k p a h v =
+    let parts = and_parts (list_all (λ q. ltb e.0 q.sender) (listed es)) (ascends (listed es)) a in
+    go (ltb e.0 u) (e.0 == u) refl refl parts.0 h (λ i. forgotten-put es u k p parts.1 i v)
   where
-    go : (i : ℕ) (b : Bool) → below u p ≡ b → i ≡ cond b (1 + prefix_len (below u) ps) 0 → ((d : Places) → i < length (p ∷ ps) → (get_or (p ∷ ps) i d).sender ≢ u) → list_all (λ q. ltb p.sender q.sender) ps ≡ true → ((j : ℕ) → j ≡ prefix_len (below u) ps → ((d : Places) → j < length ps → (get_or ps j d).sender ≢ u) → found ps u k ≡ None) → found (p ∷ ps) u k ≡ None
-    go zero true h e s a ih = absurd (omega arith)
-    go (suc j) true h e s a ih =
-        let m : p.sender < u = ltb-true p.sender u h in
-        ap (λ b. if b then place_in p k else found ps u k) (ne_eqb p.sender u (λ q. omega arith)) ∙ ih j (omega arith) (λ d l. s d (omega arith))
-    go zero false h e s a ih =
-        let n : p.sender ≢ u = s p (omega arith) in
-        let m : u ≤ p.sender = ltb-false p.sender u h in
-        ap (λ b. if b then place_in p k else found ps u k) (ne_eqb p.sender u n) ∙ above-nowhere u k ps (above-further u p.sender (omega arith) ps a)
-    go (suc j) false h e s a ih = absurd (omega arith)
+    first : Places
+    first = of_sender e.0 e.1
 
--- ---- noted
-pub noted-found : (ps : List Places) (u : ℕ) (k : Kind) (n i : ℕ) (d : Places) → i ≡ prefix_len (below u) ps → i < length ps → (get_or ps i d).sender ≡ u → noted ps u k n ≡ set ps i (with_place (get_or ps i d) k n)
-noted-found [] u k n i d e l s = absurd (omega arith)
-noted-found (p ∷ ps) u k n i d e l s = go i (below u p) refl (prefix-split u p ps i e (below u p) refl) l s (λ j. noted-found ps u k n j d)
+    go : (b c : Bool) → ltb e.0 u ≡ b → (e.0 == u) ≡ c → list_all (λ q. ltb e.0 q.sender) (listed es) ≡ true → of_sender u p ≡ without_place (if c then first else found_places (listed es) u) k
+        → (of_sender u p ≡ without_place (found_places (listed es) u) k → listed (insert_entry nat_cmp es u p) ≡ forgotten (listed es) u k)
+        → listed (insert_entry nat_cmp (e ∷ es) u p) ≡ (if c then (if is_vacant (without_place first k) then listed es else without_place first k ∷ listed es) else first ∷ forgotten (listed es) u k)
+    go true true l q up h ih = absurd (false≢true (sym (below-other e.0 u l) ∙ q))
+    go true false l q up h ih = put-below e es u p l ∙ ap (λ (ps : List Places). first ∷ ps) (ih h)
+    go false true l q up h ih =
+        put-same e es u p q
+        ∙ (ap (λ (x : Places). x ∷ listed es) h
+        ∙ ap (λ b. if b then listed es else without_place first k ∷ listed es) (sym (ap is_vacant (sym h) ∙ v)))
+    go false false l q up h ih = absurd (false≢true (sym v ∙ (ap is_vacant h ∙ (ap (λ x. is_vacant (without_place x k)) (between-nowhere first (listed es) u l q up) ∙ vacant-none u k))))
+
+-- ---- removed
+pub forgotten-removed : (es : List (ℕ × RowPlaces)) (u : ℕ) (k : Kind) → is_vacant (without_place (found_places (listed es) u) k) ≡ true → listed (remove_entry (is_at (nat_cmp u)) es) ≡ forgotten (listed es) u k
+forgotten-removed [] u k v = refl
+forgotten-removed (e ∷ es) u k v =
+    ap (λ b. listed (cond b es (e ∷ remove_entry (is_at (nat_cmp u)) es))) (at-is e.0 u) ∙ go (e.0 == u) v (forgotten-removed es u k)
   where
-    go : (i : ℕ) (b : Bool) → below u p ≡ b → i ≡ cond b (1 + prefix_len (below u) ps) 0 → i < length (p ∷ ps) → (get_or (p ∷ ps) i d).sender ≡ u → ((j : ℕ) → j ≡ prefix_len (below u) ps → j < length ps → (get_or ps j d).sender ≡ u → noted ps u k n ≡ set ps j (with_place (get_or ps j d) k n)) → noted (p ∷ ps) u k n ≡ set (p ∷ ps) i (with_place (get_or (p ∷ ps) i d) k n)
-    go zero true h e l s ih = absurd (omega arith)
-    go (suc j) true h e l s ih = rw h (ap (λ qs. p ∷ qs) (ih j (omega arith) (omega arith) s))
-    go zero false h e l s ih = rw (h, eq-eqb p.sender u s) refl
-    go (suc j) false h e l s ih = absurd (omega arith)
+    first : Places
+    first = of_sender e.0 e.1
 
-pub noted-new : (ps : List Places) (u : ℕ) (k : Kind) (n i : ℕ) → i ≡ prefix_len (below u) ps → ((d : Places) → i < length ps → (get_or ps i d).sender ≢ u) → noted ps u k n ≡ insert ps i (only_place u k n)
-noted-new [] u k n zero e s = refl
-noted-new [] u k n (suc i) e s = absurd (omega arith)
-noted-new (p ∷ ps) u k n i e s = go i (below u p) refl (prefix-split u p ps i e (below u p) refl) s (λ j. noted-new ps u k n j)
+    go : (c : Bool) → is_vacant (without_place (if c then first else found_places (listed es) u) k) ≡ true
+        → (is_vacant (without_place (found_places (listed es) u) k) ≡ true → listed (remove_entry (is_at (nat_cmp u)) es) ≡ forgotten (listed es) u k)
+        → listed (cond c es (e ∷ remove_entry (is_at (nat_cmp u)) es)) ≡ (if c then (if is_vacant (without_place first k) then listed es else without_place first k ∷ listed es) else first ∷ forgotten (listed es) u k)
+    go true v ih = ap (λ b. if b then listed es else without_place first k ∷ listed es) (sym v)
+    go false v ih = ap (λ (ps : List Places). first ∷ ps) (ih v)
+
+-- ---- as the code reads them: by the derived order of names, which is that of the numbers
+looked_up : (es : List (ℕ × RowPlaces)) (u : ℕ) (o : Option RowPlaces) → o ≡ lookup (is_at (ord.cmp u)) es → lookup (is_at (nat_cmp u)) es ≡ o
+looked_up es u o h = ap (λ c. lookup (is_at (c u)) es) (sym cmps) ∙ sym h
+
+pub got-read : (es : List (ℕ × RowPlaces)) (now : List Places) (u : ℕ) (p : RowPlaces) → listed es ≡ now → Some p ≡ lookup (is_at (ord.cmp u)) es → of_sender u p ≡ found_places now u
+got-read es now u p v h = got es u p (looked_up es u (Some p) h) ∙ ap (λ ps. found_places ps u) v
+
+pub absent-read : (es : List (ℕ × RowPlaces)) (now : List Places) (u : ℕ) (p : RowPlaces) → listed es ≡ now → None ≡ lookup (is_at (ord.cmp u)) es → p.nomination ≡ None → p.ballot ≡ None → of_sender u p ≡ found_places now u
+absent-read es now u p v h a b =
+    ap₂ (λ m n. let q : Places = record { sender = u; nomination = m; ballot = n } in q) a b
+    ∙ (sym (absent es u (looked_up es u None h)) ∙ ap (λ ps. found_places ps u) v)
+
+pub noted-read : (es : List (ℕ × RowPlaces)) (now : List Places) (u : ℕ) (k : Kind) (n : ℕ) (q p : RowPlaces)
+    → listed es ≡ now → ascends now ≡ true → of_sender u q ≡ found_places now u → of_sender u p ≡ with_place (of_sender u q) k n
+    → listed (insert_entry ord.cmp es u p) ≡ noted now u k n
+noted-read es now u k n q p v a f h =
+    ap (λ c. listed (insert_entry c es u p)) cmps
+    ∙ (noted-put es u k n p (ap ascends v ∙ a) (h ∙ ap (λ x. with_place x k n) (f ∙ ap (λ ps. found_places ps u) (sym v))) ∙ ap (λ ps. noted ps u k n) v)
+
+pub removed-read : (es : List (ℕ × RowPlaces)) (now : List Places) (u : ℕ) (k : Kind) (q p : RowPlaces)
+    → listed es ≡ now → of_sender u q ≡ found_places now u → of_sender u p ≡ without_place (of_sender u q) k → is_vacant (of_sender u p) ≡ true
+    → listed (remove_entry (is_at (ord.cmp u)) es) ≡ forgotten now u k
+removed-read es now u k q p v f h w =
+    ap (λ c. listed (remove_entry (is_at (c u)) es)) cmps
+    ∙ (forgotten-removed es u k (ap (λ ps. is_vacant (without_place (found_places ps u) k)) v ∙ (ap (λ x. is_vacant (without_place x k)) (sym f) ∙ (ap is_vacant (sym h) ∙ w)))
+    ∙ ap (λ ps. forgotten ps u k) v)
+
+pub kept-read : {A B : Type 0} (r : Result A B) (es new : List (ℕ × RowPlaces)) (now : List Places) (u : ℕ) (k : Kind) (q p : RowPlaces)
+    → OnOk r (new ≡ insert_entry ord.cmp es u p) → OnErr r (lookup (is_at (ord.cmp u)) es ≡ None)
+    → listed es ≡ now → ascends now ≡ true → of_sender u q ≡ found_places now u → of_sender u p ≡ without_place (of_sender u q) k → is_vacant (of_sender u p) ≡ false
+    → listed new ≡ forgotten now u k
+kept-read {A} {B} r es new now u k q p put none v a f h w = go r put none
   where
-    go : (i : ℕ) (b : Bool) → below u p ≡ b → i ≡ cond b (1 + prefix_len (below u) ps) 0 → ((d : Places) → i < length (p ∷ ps) → (get_or (p ∷ ps) i d).sender ≢ u) → ((j : ℕ) → j ≡ prefix_len (below u) ps → ((d : Places) → j < length ps → (get_or ps j d).sender ≢ u) → noted ps u k n ≡ insert ps j (only_place u k n)) → noted (p ∷ ps) u k n ≡ insert (p ∷ ps) i (only_place u k n)
-    go zero true h e s ih = absurd (omega arith)
-    go (suc j) true h e s ih = rw h (ap (λ qs. p ∷ qs) (ih j (omega arith) (λ d l. s d (omega arith))))
-    go zero false h e s ih = let m : p.sender ≢ u = s p (omega arith) in rw (h, ne_eqb p.sender u m) refl
-    go (suc j) false h e s ih = absurd (omega arith)
+    left : of_sender u p ≡ without_place (found_places (listed es) u) k
+    left = h ∙ ap (λ x. without_place x k) (f ∙ ap (λ ps. found_places ps u) (sym v))
 
--- ---- forgotten
--- what is above all is not among them
-forgotten-above : (u : ℕ) (k : Kind) (ps : List Places) → list_all (λ q. ltb u q.sender) ps ≡ true → forgotten ps u k ≡ ps
-forgotten-above u k [] h = refl
-forgotten-above u k (p ∷ ps) h =
-    let a = and_parts (ltb u p.sender) (list_all (λ q. ltb u q.sender) ps) h in
-    let l : u < p.sender = ltb-true u p.sender a.0 in
-    rw (ne_eqb p.sender u (λ e. omega arith)) (ap (λ qs. p ∷ qs) (forgotten-above u k ps a.1))
+    go : (r : Result A B) → OnOk r (new ≡ insert_entry ord.cmp es u p) → OnErr r (lookup (is_at (ord.cmp u)) es ≡ None) → listed new ≡ forgotten now u k
+    go (Ok x) put none =
+        ap listed put ∙ (ap (λ c. listed (insert_entry c es u p)) cmps ∙ (forgotten-put es u k p (ap ascends v ∙ a) left w ∙ ap (λ ps. forgotten ps u k) v))
+    go (Err x) put none = absurd (false≢true (sym w ∙ (ap is_vacant left ∙ absent-vacant es u k (looked_up es u None (sym none)))))
 
-pub forgotten-nowhere : (ps : List Places) (u : ℕ) (k : Kind) (i : ℕ) → ascends ps ≡ true → i ≡ prefix_len (below u) ps → ((d : Places) → i < length ps → (get_or ps i d).sender ≢ u) → forgotten ps u k ≡ ps
-forgotten-nowhere [] u k i a e s = refl
-forgotten-nowhere (p ∷ ps) u k i a e s =
-    let parts = and_parts (list_all (λ q. ltb p.sender q.sender) ps) (ascends ps) a in
-    go i (below u p) refl (prefix-split u p ps i e (below u p) refl) s parts.0 (λ j. forgotten-nowhere ps u k j parts.1)
-  where
-    go : (i : ℕ) (b : Bool) → below u p ≡ b → i ≡ cond b (1 + prefix_len (below u) ps) 0 → ((d : Places) → i < length (p ∷ ps) → (get_or (p ∷ ps) i d).sender ≢ u) → list_all (λ q. ltb p.sender q.sender) ps ≡ true → ((j : ℕ) → j ≡ prefix_len (below u) ps → ((d : Places) → j < length ps → (get_or ps j d).sender ≢ u) → forgotten ps u k ≡ ps) → forgotten (p ∷ ps) u k ≡ p ∷ ps
-    go zero true h e s a ih = absurd (omega arith)
-    go (suc j) true h e s a ih =
-        let m : p.sender < u = ltb-true p.sender u h in
-        rw (ne_eqb p.sender u (λ q. omega arith)) (ap (λ qs. p ∷ qs) (ih j (omega arith) (λ d l. s d (omega arith))))
-    go zero false h e s a ih =
-        let n : p.sender ≢ u = s p (omega arith) in
-        let m : u ≤ p.sender = ltb-false p.sender u h in
-        rw (ne_eqb p.sender u n) (ap (λ qs. p ∷ qs) (forgotten-above u k ps (above-further u p.sender (omega arith) ps a)))
-    go (suc j) false h e s a ih = absurd (omega arith)
-
-pub forgotten-found : (ps : List Places) (u : ℕ) (k : Kind) (i : ℕ) (d : Places) → i ≡ prefix_len (below u) ps → i < length ps → (get_or ps i d).sender ≡ u → forgotten ps u k ≡ (if is_vacant (without_place (get_or ps i d) k) then remove ps i else set ps i (without_place (get_or ps i d) k))
-forgotten-found [] u k i d e l s = absurd (omega arith)
-forgotten-found (p ∷ ps) u k i d e l s = go i (below u p) refl (prefix-split u p ps i e (below u p) refl) l s (λ j. forgotten-found ps u k j d)
-  where
-    pushed : (b : Bool) (xs ys : List Places) → p ∷ (if b then xs else ys) ≡ (if b then p ∷ xs else p ∷ ys)
-    pushed true xs ys = refl
-    pushed false xs ys = refl
-
-    go : (i : ℕ) (b : Bool) → below u p ≡ b → i ≡ cond b (1 + prefix_len (below u) ps) 0 → i < length (p ∷ ps) → (get_or (p ∷ ps) i d).sender ≡ u → ((j : ℕ) → j ≡ prefix_len (below u) ps → j < length ps → (get_or ps j d).sender ≡ u → forgotten ps u k ≡ (if is_vacant (without_place (get_or ps j d) k) then remove ps j else set ps j (without_place (get_or ps j d) k))) → forgotten (p ∷ ps) u k ≡ (if is_vacant (without_place (get_or (p ∷ ps) i d) k) then remove (p ∷ ps) i else set (p ∷ ps) i (without_place (get_or (p ∷ ps) i d) k))
-    go zero true h e l s ih = absurd (omega arith)
-    go (suc j) true h e l s ih =
-        let m : p.sender < u = ltb-true p.sender u h in
-        ap (λ b. if b then (if is_vacant (without_place p k) then ps else without_place p k ∷ ps) else p ∷ forgotten ps u k) (ne_eqb p.sender u (λ q. omega arith))
-        ∙ (ap (λ qs. p ∷ qs) (ih j (omega arith) (omega arith) s) ∙ pushed (is_vacant (without_place (get_or ps j d) k)) (remove ps j) (set ps j (without_place (get_or ps j d) k)))
-    go zero false h e l s ih = ap (λ b. if b then (if is_vacant (without_place p k) then ps else without_place p k ∷ ps) else p ∷ forgotten ps u k) (eq-eqb p.sender u s)
-    go (suc j) false h e l s ih = absurd (omega arith)
-
--- ---- as the code reads them
-pub found-read : (ps : List Places) (u : ℕ) (k : Kind) (i : ℕ) (x : Places) → IsSearched ps u (Ok i) → x ≡ get_or ps i x → found ps u k ≡ place_in x k
-found-read ps u k i x s e = found-at ps u k i x s.0 s.1 (s.2 x) ∙ ap (λ p. place_in p k) (sym e)
-
-pub noted-read : (ps qs : List Places) (u : ℕ) (k : Kind) (n i : ℕ) (x y : Places) → qs ≡ ps → IsSearched qs u (Ok i) → x ≡ get_or ps i x → y ≡ with_place x k n → set ps i y ≡ noted ps u k n
-noted-read ps qs u k n i x y q h e f =
-    let s : IsSearched ps u (Ok i) = subst (λ zs. IsSearched zs u (Ok i)) q h in
-    ap (set ps i) (f ∙ ap (λ p. with_place p k n) e) ∙ sym (noted-found ps u k n i x s.0 s.1 (s.2 x))
-
-pub noted-inserted : (ps qs zs : List Places) (u : ℕ) (k : Kind) (n i : ℕ) (x : Places) → qs ≡ ps → IsSearched qs u (Err i) → x ≡ only_place u k n → zs ≡ insert ps i x → zs ≡ noted ps u k n
-noted-inserted ps qs zs u k n i x q h e f =
-    let s : IsSearched ps u (Err i) = subst (λ ys. IsSearched ys u (Err i)) q h in
-    f ∙ (ap (insert ps i) e ∙ sym (noted-new ps u k n i s.0 s.2))
-
--- what is left of the index, by what is left of the sender's places
-left-read : (ps qs : List Places) (u : ℕ) (k : Kind) (i : ℕ) (x y : Places) (b : Bool) → qs ≡ ps → IsSearched qs u (Ok i) → x ≡ get_or ps i x → y ≡ without_place x k → is_vacant y ≡ b → forgotten ps u k ≡ (if b then remove ps i else set ps i y)
-left-read ps qs u k i x y b q h e f v =
-    let s : IsSearched ps u (Ok i) = subst (λ zs. IsSearched zs u (Ok i)) q h in
-    let same : without_place (get_or ps i x) k ≡ y = sym (f ∙ ap (λ p. without_place p k) e) in
-    forgotten-found ps u k i x s.0 s.1 (s.2 x) ∙ (ap (λ z. if is_vacant z then remove ps i else set ps i z) same ∙ ap (λ c. if c then remove ps i else set ps i y) v)
-
-pub forgotten-removed : (ps qs zs : List Places) (u : ℕ) (k : Kind) (i : ℕ) (x y : Places) → qs ≡ ps → IsSearched qs u (Ok i) → x ≡ get_or ps i x → y ≡ without_place x k → is_vacant y ≡ true → zs ≡ remove ps i → zs ≡ forgotten ps u k
-forgotten-removed ps qs zs u k i x y q h e f v r = r ∙ sym (left-read ps qs u k i x y true q h e f v)
-
-pub forgotten-set : (ps qs : List Places) (u : ℕ) (k : Kind) (i : ℕ) (x y : Places) → qs ≡ ps → IsSearched qs u (Ok i) → x ≡ get_or ps i x → y ≡ without_place x k → is_vacant y ≡ false → set ps i y ≡ forgotten ps u k
-forgotten-set ps qs u k i x y q h e f v = sym (left-read ps qs u k i x y false q h e f v)
-
-pub forgotten-kept : (ps qs : List Places) (u : ℕ) (k : Kind) (i : ℕ) → ascends ps ≡ true → qs ≡ ps → IsSearched qs u (Err i) → ps ≡ forgotten ps u k
-forgotten-kept ps qs u k i a q h =
-    let s : IsSearched ps u (Err i) = subst (λ zs. IsSearched zs u (Err i)) q h in sym (forgotten-nowhere ps u k i a s.0 s.2)
+pub listed-keys : (es : List (ℕ × RowPlaces)) → keys_of es ≡ map (λ (p : Places). p.sender) (listed es)
+listed-keys [] = refl
+listed-keys (e ∷ es) = ap (λ us. e.0 ∷ us) (listed-keys es)

@@ -1,10 +1,8 @@
 -- What the code of a table rests on: its rows with their index.
-use Rattle.std.proofs.Common.{◌≡◌, ◌≢◌, ◌↔◌, ℕ, ◌<◌, ◌≤◌, true, false, List, [], ◌∷◌, ◌++◌, length, get_or, set, Option, Some, None, option_map, if◌then◌else◌, refl, sym, ◌∙◌, ap, ap₂, subst}
+use Rattle.std.proofs.Common.{◌≡◌, ◌≢◌, ◌↔◌, ℕ, ◌<◌, true, false, List, [], ◌∷◌, ◌++◌, length, get_or, set, map, Option, Some, None, if◌then◌else◌, refl, sym, ◌∙◌, ap, ap₂, subst}
 use Rattle.std.specs.Prelude.{IfSome}
-use Rattle.std.specs.List.{slice_get}
 use Rattle.std.proofs.lemmas.Bool.{true≢false}
 use Rattle.std.proofs.lemmas.List.{length-map}
-use Rattle.std.proofs.lemmas.Option.{slice_get-map, slice_get_read, slice_get_past}
 use Rattle.types.specs.declared.kind.Kind.{Kind}
 use Rattle.types.specs.Statements.{Sent, kind_of}
 use Rattle.envstore.specs.declared.filed.Filed.{Filed}
@@ -15,10 +13,9 @@ use Rattle.protocol.proofs.Tables.{single-with, table_after-push}
 use Rattle.latest.specs.declared.table.Offer.{Offer}
 use Rattle.latest.specs.declared.table.Offer.TheVariants.{Replaced, Stale, NoMemory}
 use Rattle.latest.specs.declared.table.Put.{Put}
-use Rattle.latest.specs.declared.places.Places.{Places}
 use Rattle.latest.specs.Puts.{IsPut, offer_of}
 use Rattle.latest.specs.Senders.{senders}
-use Rattle.latest.specs.Places.{IsIndexed, ascends, found, index_of, noted, place_of, places_of}
+use Rattle.latest.specs.Places.{Places, IsIndexed, ascends, found, index_of, noted, place_of, places_of}
 use Rattle.latest.proofs.Indexes.{place-within, place-nowhere, index-ascends, found-index, index-push, index-set, with_row-set, with_row-push}
 
 pub indexed-empty : IsIndexed [] []
@@ -31,15 +28,13 @@ indexed-ascends rows index h = ap ascends h.indexed ∙ index-ascends rows
 pub indexed-found : (rows : List Sent) (index : List Places) (u : ℕ) (k : Kind) → IsIndexed rows index → found index u k ≡ place_of rows u k
 indexed-found rows index u k h = ap (λ ps. found ps u k) h.indexed ∙ found-index rows u k
 
-pub indexed-sender : (rows : List Sent) (index : List Places) (n : ℕ) → IsIndexed rows index → option_map (λ (p : Places). p.sender) (slice_get index n) ≡ slice_get (senders rows) n
+pub indexed-senders : (rows : List Sent) (index : List Places) → IsIndexed rows index → map (λ (p : Places). p.sender) index ≡ senders rows
 unfolding index_of
-indexed-sender rows index n h =
-    ap (λ ps. option_map (λ (p : Places). p.sender) (slice_get ps n)) h.indexed
-    ∙ (ap (option_map (λ (p : Places). p.sender)) (slice_get-map (places_of rows) (senders rows) n) ∙ back (slice_get (senders rows) n))
+indexed-senders rows index h = ap (map (λ (p : Places). p.sender)) h.indexed ∙ back (senders rows)
   where
-    back : (o : Option ℕ) → option_map (λ (p : Places). p.sender) (option_map (places_of rows) o) ≡ o
-    back None = refl
-    back (Some u) = refl
+    back : (ws : List ℕ) → map (λ (p : Places). p.sender) (map (places_of rows) ws) ≡ ws
+    back [] = refl
+    back (w ∷ ws) = ap (λ vs. w ∷ vs) (back ws)
 
 -- ---- a row by its place
 pub placed-within : (rows : List Sent) (u : ℕ) (k : Kind) (o : Option ℕ) → o ≡ place_of rows u k → IfSome o (λ i. i < length rows)
@@ -89,20 +84,11 @@ indexed-push rows index e h p = record {
 }
 
 -- ---- as the code reads them, where the rows are what the table is now
-pub found-read : (rows now : List Sent) (index ps : List Places) (u : ℕ) (k : Kind) → IsIndexed rows index → rows ≡ now → ps ≡ index → found ps u k ≡ place_of now u k
-found-read rows now index ps u k h r p = ap (λ qs. found qs u k) p ∙ (indexed-found rows index u k h ∙ ap (λ xs. place_of xs u k) r)
+pub found-read : (rows now : List Sent) (index : List Places) (u : ℕ) (k : Kind) → IsIndexed rows index → rows ≡ now → found index u k ≡ place_of now u k
+found-read rows now index u k h r = indexed-found rows index u k h ∙ ap (λ xs. place_of xs u k) r
 
-senders-read : (rows now : List Sent) (index ps : List Places) (n : ℕ) → IsIndexed rows index → rows ≡ now → ps ≡ index → option_map (λ (p : Places). p.sender) (slice_get ps n) ≡ slice_get (senders now) n
-senders-read rows now index ps n h r p =
-    ap (λ qs. option_map (λ (q : Places). q.sender) (slice_get qs n)) p ∙ (indexed-sender rows index n h ∙ ap (λ xs. slice_get (senders xs) n) r)
-
-pub sender-read : (rows now : List Sent) (index ps : List Places) (n : ℕ) (x : Places) → IsIndexed rows index → rows ≡ now → ps ≡ index → n < length ps → x ≡ get_or ps n x → Some x.sender ≡ slice_get (senders now) n
-sender-read rows now index ps n x h r p l e =
-    sym (ap (option_map (λ (q : Places). q.sender)) (slice_get_read ps (length ps) n x refl l e)) ∙ senders-read rows now index ps n h r p
-
-pub no_sender-read : (rows now : List Sent) (index ps : List Places) (n : ℕ) → IsIndexed rows index → rows ≡ now → ps ≡ index → length ps ≤ n → None ≡ slice_get (senders now) n
-no_sender-read rows now index ps n h r p l =
-    sym (ap (option_map (λ (q : Places). q.sender)) (slice_get_past ps n l)) ∙ senders-read rows now index ps n h r p
+pub senders-read : (rows now : List Sent) (index : List Places) → IsIndexed rows index → rows ≡ now → map (λ (p : Places). p.sender) index ≡ senders now
+senders-read rows now index h r = indexed-senders rows index h ∙ ap senders r
 
 pub row-read : (rows now : List Sent) (u : ℕ) (k : Kind) (i : ℕ) (x : Sent) → rows ≡ now → Some i ≡ place_of now u k → x ≡ get_or rows i x → Some x ≡ row now u k
 row-read rows now u k i x r h e = sym (row-placed now u k i x (sym h) (e ∙ ap (λ xs. get_or xs i x) r))

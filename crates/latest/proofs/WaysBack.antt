@@ -10,20 +10,16 @@ use Rattle.envstore.specs.Archives.{sent_of, sents_of}
 use Rattle.protocol.specs.Newer.{is_newer}
 use Rattle.protocol.specs.Rows.{has_single_rows, is_row_of, is_taken, row, with_row}
 use Rattle.protocol.proofs.Tables.{is_row_of-parts, is_row_of-own, is_row_of-both}
-use Rattle.latest.specs.declared.places.Places.{Places}
 use Rattle.latest.specs.Senders.{senders}
-use Rattle.latest.specs.Places.{IsIndexed, forgotten, found, index_of, is_vacant, noted, only_place, place_in, place_of, places_of, with_place, without_place}
+use Rattle.latest.specs.Places.{Places, IsIndexed, forgotten, found, index_of, is_vacant, noted, only_place, place_in, place_of, places_of, with_place, without_place}
 use Rattle.latest.specs.Puts.{with_known_row, with_row_at, without_last}
 use Rattle.latest.proofs.Filings.{sents-at, sents-push, sents-set}
 use Rattle.latest.proofs.Indexes.{found-index, has_name, index-push, place-nowhere, place-set, place-within, senders-exactly, with_row-push, with_row-set}
+use Rattle.latest.proofs.Searches.{no_places}
 use Rattle.latest.proofs.Tabled.{row-placed, set-read, taken-read}
 use Rattle.std.proofs.lemmas.List.{set-get_or, set-set}
 
 -- ---- a place that is noted and forgotten
--- a sender without rows
-abbrev no_places : ℕ → Places
-no_places u = record { sender = u; nomination = None; ballot = None }
-
 no_places-in : (u : ℕ) (k : Kind) → place_in (no_places u) k ≡ None
 no_places-in u Nomination = refl
 no_places-in u Kind.Ballot = refl

@@ -1,12 +1,18 @@
 -- Where in a list of rows the rows of a sender stand.
-use Rattle.std.specs.Prelude.{◌≡◌, ◌≢◌, ◌<◌, ◌≤◌, ℕ, suc, length, slice_index_or, Result, Ok, Err, Bool, true, List, [], ◌∷◌, ◌==◌, ◌&&◌, nat_lt, cond, map, Option, Some, None, is_none, option_map, if◌then◌else◌}
-use Rattle.std.specs.List.{list_all, prefix_len}
+use Rattle.std.specs.Prelude.{◌≡◌, ℕ, suc, Bool, true, List, [], ◌∷◌, ◌==◌, ◌&&◌, nat_lt, cond, map, Option, Some, None, is_none, option_map, if◌then◌else◌}
+use Rattle.std.specs.List.{list_all}
 use Rattle.types.specs.declared.kind.Kind.{Kind}
 use Rattle.types.specs.declared.kind.Kind.TheVariants.{Nomination}
 use Rattle.types.specs.Statements.{Sent}
 use Rattle.protocol.specs.Rows.{is_row_of, has_single_rows}
-use Rattle.latest.specs.declared.places.Places.{Places}
+use Rattle.latest.specs.declared.places.RowPlaces.{RowPlaces}
 use Rattle.latest.specs.Senders.{senders}
+
+-- a sender, and the places of both its rows
+pub record Places : Type 0 where
+  pub sender : ℕ
+  pub nomination : Option ℕ
+  pub ballot : Option ℕ
 
 -- the index of the first element that passes the test
 abbrev pub place_by : {X : Type 0} → (X → Bool) → List X → Option ℕ
@@ -43,15 +49,6 @@ abbrev pub ascends : List Places → Bool
 ascends [] = true
 ascends (p ∷ ps) = list_all (λ q. nat_lt p.sender q.sender) ps && ascends ps
 
--- how many senders are below a name
-abbrev pub count_below : List Places → ℕ → ℕ
-count_below index u = prefix_len (λ p. nat_lt p.sender u) index
-
--- where the sender is, or where it belongs
-abbrev pub IsSearched : List Places → ℕ → Result ℕ ℕ → Type 0
-IsSearched index u (Ok i) = (i ≡ count_below index u) × (i < length index) × ((d : Places) → (slice_index_or index i d).sender ≡ u)
-IsSearched index u (Err i) = (i ≡ count_below index u) × (i ≤ length index) × ((d : Places) → i < length index → (slice_index_or index i d).sender ≢ u)
-
 -- the place that an index has for a sender's row of a kind
 abbrev pub found : List Places → ℕ → Kind → Option ℕ
 found [] u k = None
@@ -75,6 +72,20 @@ is_vacant p = is_none p.nomination && is_none p.ballot
 abbrev pub forgotten : List Places → ℕ → Kind → List Places
 forgotten [] u k = []
 forgotten (p ∷ ps) u k = if p.sender == u then (if is_vacant (without_place p k) then ps else without_place p k ∷ ps) else p ∷ forgotten ps u k
+
+-- ---- an index as the code keeps it
+-- these places, as those of a sender
+abbrev pub of_sender : ℕ → RowPlaces → Places
+of_sender u p = record { sender = u; nomination = p.nomination; ballot = p.ballot }
+
+-- the index that a map from senders to places stands for
+abbrev pub listed : List (ℕ × RowPlaces) → List Places
+listed entries = map (λ e. of_sender e.0 e.1) entries
+
+-- the places that an index has for a sender: none, where it does not have the sender
+abbrev pub found_places : List Places → ℕ → Places
+found_places [] u = record { sender = u; nomination = None; ballot = None }
+found_places (p ∷ ps) u = if p.sender == u then p else found_places ps u
 
 -- rows with their index
 pub record IsIndexed (rows : List Sent) (index : List Places) : Type 0 where

@@ -6,6 +6,7 @@ ghost use Rattle.latest.specs.Senders.{senders};
 ghost use Rattle.protocol.specs.Rows.{has_single_rows, is_taken, row};
 
 use crate::newer::is_newer;
+use crate::sender_names::SenderNames;
 use crate::table::Table;
 use envstore::Archive;
 use std::marker::Model;
@@ -64,11 +65,11 @@ impl<'a, S: envstore::Places> Rows<'a, S> {
         }
     }
 
-    /// The sender that has `n` senders below it, as [`Table::sender`] says.
-    pub fn sender(&self, n: usize) -> Option<&'a NodeId>
-        ensures { option_map (λ r. r.now) result ≡ slice_get (senders self.now) n }
+    /// The senders with a row, in ascending order, each once. It takes no memory.
+    pub fn senders(&self) -> SenderNames<'a>
+        ensures { result ≡ senders self.now }
     {
-        self.table.sender(n)
+        self.table.senders()
     }
 
     /// How many senders have a row. It takes no memory.

@@ -8,8 +8,9 @@ ghost use Rattle.latest.specs.Senders.{senders};
 ghost use Rattle.protocol.specs.Rows.{has_single_rows, is_taken, offered, row, table_after};
 ghost use Rattle.types.specs.Statements.{Sent, kind_of};
 
+use crate::index::Index;
 use crate::newer::is_newer;
-use crate::places::{Places, find, forget, note};
+use crate::sender_names::SenderNames;
 use envstore::{Archive, Filed};
 use std::alloc::{AllocError, Global};
 use std::marker::Model;
@@ -58,12 +59,12 @@ impl Put {
 /// A row is the number of an envelope in an archive, which the caller lends to each call that reads a row.
 ///
 /// Contracts see it as the list of its rows, in the order in which their senders first had one of
-/// that kind; a newer envelope stands in the place of the older one. A look-up is a binary search
-/// among the senders.
+/// that kind; a newer envelope stands in the place of the older one. A look-up, a row
+/// more and one less each take a number of steps that is logarithmic in the number of senders.
 #[derive(Drop)]
 pub struct Table {
     rows: Vec<Filed>,
-    index: Vec<Places>,
+    index: Index,
 }
 
 impl Model for Table {
@@ -80,7 +81,7 @@ impl Model for Table {
 
     ghost view = { λ a. a.rows.items };
 
-    ghost invariant = { λ a. IsIndexed (sents_of a.rows.items) a.index.items };
+    ghost invariant = { λ a. IsIndexed (sents_of a.rows.items) a.index };
 }
 
 impl Table {
@@ -90,7 +91,7 @@ impl Table {
     {
         Table {
             rows: Vec::new(alloc),
-            index: Vec::new(alloc),
+            index: Index::new(alloc),
         }
     }
 
@@ -168,22 +169,18 @@ impl Table {
         }
     }
 
-    /// The sender that has `n` senders below it, each sender with a row counted once: the `n`-th in
-    /// ascending order, from 0 on. There is none exactly from their number on. It takes no memory.
-    pub fn sender(&self, n: usize) -> Option<&NodeId>
-        ensures { option_map (λ r. r.now) result ≡ slice_get (senders (sents_of self.now)) n }
+    /// The senders with a row, in ascending order, each once. It takes no memory.
+    pub fn senders(&self) -> SenderNames<'_>
+        ensures { result ≡ senders (sents_of self.now) }
     {
-        match self.index.get(n) {
-            Some(places) => Some(&places.sender),
-            None => None,
-        }
+        self.index.senders()
     }
 
     /// How many senders have a row. It takes no memory.
     pub fn sender_count(&self) -> usize
         ensures { result ≡ length (senders (sents_of self.now)) }
     {
-        self.index.len()
+        self.index.sender_count()
     }
 
     /// All rows, in the order in which their senders first had one of that kind.
@@ -218,7 +215,7 @@ impl Table {
         ensures { IfOk result (λ t. t ≡ self.now) }
     {
         let rows = copy_of_rows(alloc, archive, &self.rows)?;
-        let index = Vec::from_slice(alloc, &self.index)?;
+        let index = self.index.try_copy()?;
         Ok(Table { rows, index })
     }
 
@@ -227,7 +224,7 @@ impl Table {
         ensures value { result ≡ place_of (sents_of self.now) sender.now kind }
         ensures within { IfSome result (λ place. place < length self.now) }
     {
-        find(&self.index, sender, kind)
+        self.index.place(sender, kind)
     }
 
     /// Whether an envelope is newer than its sender's row of its kind, which stands at this place.
@@ -272,7 +269,8 @@ impl Table {
         ensures { self.new ≡ without_last self.old }
     {
         if let Some(row) = self.rows.pop() {
-            forget_row(&mut self.index, archive.read(&row));
+            let known = archive.read(&row);
+            self.index.forget(known.sender(), known.body().kind());
         }
     }
 
@@ -287,18 +285,10 @@ impl Table {
     {
         let place = self.len();
         self.rows.reserve(1)?;
-        note(&mut self.index, sender, kind, place)?;
+        self.index.note(sender, kind, place)?;
         push_reserved(&mut self.rows, envelope);
         Ok(())
     }
-}
-
-/// Forgets the place of a row that is gone.
-fn forget_row(index: &mut Vec<Places>, row: &Envelope)
-    requires { ascends index.old.items ≡ true }
-    ensures { index.new.items ≡ forgotten index.old.items row.now.sender (kind_of row.now.body) }
-{
-    forget(index, row.sender(), row.body().kind());
 }
 
 /// Adds an envelope where there is room for it.

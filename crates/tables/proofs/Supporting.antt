@@ -1,15 +1,11 @@
 -- The senders whose rows back a ballot, as the part of all senders that does.
-use Rattle.std.proofs.Common.{◌≡◌, ℕ, ◌+◌, ◌<◌, ◌≤◌, Bool, true, false, ◌||◌, List, [], ◌∷◌, ◌++◌, length, take, get_or, Option, Some, None, refl, sym, ◌∙◌, ap, add-one}
-use Rattle.std.specs.List.{filter, slice_get}
+use Rattle.std.proofs.Common.{◌≡◌, ℕ, ◌<◌, Bool, true, false, ◌||◌, List, [], ◌++◌, Option, Some, None, append-nil, refl, sym, ◌∙◌, ap}
+use Rattle.std.specs.List.{filter}
 use Rattle.std.specs.Prelude.{IsTrue}
 use Rattle.std.specs.Option.{is_some}
 use Rattle.std.proofs.Math.Path.{fun_ext}
-use Rattle.std.proofs.Math.Seq.{take-suc}
 use Rattle.std.proofs.lemmas.Bool.{false≢true}
-use Rattle.std.proofs.lemmas.List.{take_all}
-use Rattle.std.proofs.lemmas.List.Elements.{filter-append}
 use Rattle.std.proofs.lemmas.List.Kept.{AllPairs-filter}
-use Rattle.std.proofs.lemmas.Option.{slice_get_within, slice_get-get_or, get_or_from_slice_get}
 use Rattle.types.specs.declared.ballot.Ballot.{Ballot}
 use Rattle.types.specs.declared.kind.Kind.{Kind}
 use Rattle.types.specs.declared.kind.Kind.TheVariants.{Nomination}
@@ -26,24 +22,9 @@ use Rattle.quorum.proofs.Kept.{among-filter, among-from_filter}
 use Rattle.latest.specs.Senders.{senders}
 use Rattle.latest.proofs.Indexes.{senders-ascend, senders-exactly}
 
-is_no_none : (x : ℕ) → ◌≡◌ {A = Option ℕ} None (Some x) → ⊥
-is_no_none x h = false≢true (ap is_some h)
-
--- one sender more
-pub one_more : (p : Names) (xs : List ℕ) (i x : ℕ) → slice_get xs i ≡ Some x → filter p (take (i + 1) xs) ≡ filter p (take i xs) ++ filter p (x ∷ [])
-one_more p xs i x e =
-    let lt = slice_get_within xs i x e in
-    let t : take (i + 1) xs ≡ take i xs ++ x ∷ [] = rw add-one (take-suc xs i 0 lt ∙ ap (λ y. take i xs ++ y ∷ []) (get_or_from_slice_get xs i x 0 e)) in
-    ap (filter p) t ∙ filter-append p (take i xs) (x ∷ [])
-
--- there is an element at each place within a list
-pub no_gap : (o : Option ℕ) (xs : List ℕ) (i : ℕ) → i < length xs → o ≡ slice_get xs i → o ≡ None → ⊥
-no_gap o xs i lt e h =
-    let there : None ≡ Some (get_or xs i 0) = sym h ∙ e ∙ slice_get-get_or xs i 0 lt in absurd (is_no_none (get_or xs i 0) there)
-
--- all of them
-pub in_all : (p : Names) (xs : List ℕ) (n : ℕ) → length xs ≤ n → filter p (take n xs) ≡ filter p xs
-in_all p xs n h = ap (filter p) (take_all n xs h)
+-- where no sender is left, what was gathered is all
+pub all_backing : (p : Names) (sofar left all : List ℕ) → left ≡ [] → sofar ++ filter p left ≡ all → sofar ≡ all
+all_backing p sofar left all l h = sym (append-nil sofar) ∙ (ap (λ ys. sofar ++ filter p ys) (sym l) ∙ h)
 
 passed_row : (test : _) (o : Option Sent) → is_passed test o ≡ true → is_some o ≡ true
 passed_row test None h = absurd (false≢true h)

@@ -238,10 +238,8 @@ fn supporters_of<S: Places>(
     ensures all { IfOk result (λ v. among v.items ≡ backing_prepare table.now ballot.now) }
 {
     let mut supporters = Vec::new(alloc);
-    for place in 0..table.sender_count() {
-        if let Some(sender) = table.sender(place) {
-            push_backing(&mut supporters, table, sender, ballot)?;
-        }
+    for sender in table.senders() {
+        push_backing(&mut supporters, table, sender, ballot)?;
     }
     Ok(supporters)
 }

@@ -222,10 +222,8 @@ fn show_reach(alloc: Global, listener: &Listener) -> Result<Option<String>, Line
 fn show(alloc: Global, listener: &Listener) -> Result<Option<String>, LineError> {
     let table = listener.rows();
     let mut text = String::new(alloc);
-    for place in 0..table.sender_count() {
-        if let Some(sender) = table.sender(place) {
-            push_rows(&mut text, &table, sender)?;
-        }
+    for sender in table.senders() {
+        push_rows(&mut text, &table, sender)?;
     }
     if text.is_empty() {
         return Ok(None);

@@ -302,11 +302,9 @@ fn has_same_given(given: &Given, other: &Given) -> bool {
 }
 
 fn has_same_rows(rows: &Rows<'_, VecShelf>, others: &Rows<'_, VecShelf>) -> bool {
-    for place in 0..rows.sender_count() {
-        if let Some(sender) = rows.sender(place) {
-            if !has_same_rows_of(rows, others, sender) {
-                return false;
-            }
+    for sender in rows.senders() {
+        if !has_same_rows_of(rows, others, sender) {
+            return false;
         }
     }
     rows.sender_count() == others.sender_count()

@@ -113,12 +113,10 @@ impl Trial {
     pub fn rows(&self, alloc: Global) -> Result<String, AllocError> {
         let mut text = String::new(alloc);
         let table = Rows::of(self.node.table(), &self.archive);
-        for number in 0..table.sender_count() {
-            if let Some(sender) = table.sender(number) {
-                for kind in [Kind::Nomination, Kind::Ballot] {
-                    if let Some(row) = table.row(sender, kind) {
-                        push_row(&mut text, row)?;
-                    }
+        for sender in table.senders() {
+            for kind in [Kind::Nomination, Kind::Ballot] {
+                if let Some(row) = table.row(sender, kind) {
+                    push_row(&mut text, row)?;
                 }
             }
         }

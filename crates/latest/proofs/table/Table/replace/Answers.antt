@@ -7,5 +7,5 @@ use Rattle.latest.proofs.table.Table.replace.Goals as goal
 
 pub invariant_of-self : goal.invariant_of-self
 invariant_of-self c =
-    subst (λ (x : Filed). IsIndexed (sents_of (set c.self.inside.rows.items c.args.place x)) c.self.inside.index.items) (sym c.replace.ensures.after)
-    (set-filed c.self.inside.rows.items c.args.self.now c.self.inside.index.items c.args.envelope c.args.place c.self.invariant c.self.view_is c.requires.row)
+    subst (λ (x : Filed). IsIndexed (sents_of (set c.self.inside.rows.items c.args.place x)) c.self.inside.index) (sym c.replace.ensures.after)
+    (set-filed c.self.inside.rows.items c.args.self.now c.self.inside.index c.args.envelope c.args.place c.self.invariant c.self.view_is c.requires.row)

@@ -1,7 +1,7 @@
-use Rattle.std.proofs.Common.{ap, arith}
+use Rattle.std.proofs.Common.{◌∙◌, ap}
 use Rattle.envstore.specs.Archives.{sents_of}
 use Rattle.latest.proofs.Tabled.{senders-counted}
 use Rattle.latest.proofs.table.Table.sender_count.Goals as goal
 
 pub returns : goal.returns
-returns c = omega (arith, c.len.ensures, c.self.inside.index.ok.0, senders-counted (sents_of c.self.inside.rows.items) (sents_of c.args.self.now) c.self.inside.index.items c.self.invariant (ap sents_of c.self.view_is))
+returns c = c.sender_count.ensures ∙ senders-counted (sents_of c.self.inside.rows.items) (sents_of c.args.self.now) c.self.inside.index c.self.invariant (ap sents_of c.self.view_is)

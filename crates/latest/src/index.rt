@@ -1,0 +1,107 @@
+//! Where the rows of each sender stand: an index ordered by name.
+
+ghost use Rattle.std.specs.Prelude.{◌≡◌, [], IfOk, OnErr, OnOk, length, map, true};
+ghost use Rattle.latest.specs.Places.{Places, ascends, forgotten, found, found_places, noted, of_sender};
+
+use crate::places::RowPlaces;
+use crate::sender_names::SenderNames;
+use std::alloc::{AllocError, Global};
+use std::collections::BTreeMap;
+use std::marker::Model;
+use types::{Kind, NodeId};
+
+/// The places of the rows of all senders. A look-up, a sender more and one less each take a number of
+/// steps that is logarithmic in the number of senders.
+///
+/// Contracts see it as the list of the senders, ascending, each with its places.
+#[derive(Drop)]
+pub struct Index {
+    by_sender: BTreeMap<NodeId, RowPlaces>,
+}
+
+impl Model for Index {
+    ghost use Rattle.std.specs.Coded.{codes};
+    ghost use Rattle.std.specs.Prelude.{List};
+    ghost use Rattle.latest.specs.Places.{Places, listed};
+
+    ghost Value = { List Places };
+
+    ghost coded = { Prim.hlevel codes };
+
+    ghost view = { λ a. listed a.by_sender.entries };
+}
+
+impl Index {
+    /// An index of no senders. It takes no memory.
+    pub fn new(alloc: Global) -> Index
+        ensures { result ≡ [] }
+    {
+        Index {
+            by_sender: BTreeMap::new(alloc),
+        }
+    }
+
+    /// The place of a sender's row of a kind.
+    pub fn place(&self, sender: &NodeId, kind: Kind) -> Option<usize>
+        ensures { result ≡ found self.now sender.now kind }
+    {
+        self.places(sender).place(kind)
+    }
+
+    /// The places of a sender's rows; none, where it has no row.
+    fn places(&self, sender: &NodeId) -> RowPlaces
+        ensures { of_sender sender.now result ≡ found_places self.now sender.now }
+    {
+        match self.by_sender.get(sender) {
+            Some(places) => *places,
+            None => RowPlaces::none(),
+        }
+    }
+
+    /// Notes the place of a new row. Where memory is wanting the index stays as it was.
+    pub fn note(&mut self, sender: NodeId, kind: Kind, place: usize) -> Result<(), AllocError>
+        requires { ascends self.old ≡ true }
+        ensures ok { OnOk result (self.new ≡ noted self.old sender kind place) }
+        ensures err { OnErr result (self.new ≡ self.old) }
+    {
+        let places = self.places(&sender).with_place(kind, place);
+        self.by_sender.insert(sender, places)?;
+        Ok(())
+    }
+
+    /// Forgets the place of a row, and its sender where it has no other. It takes no memory.
+    pub fn forget(&mut self, sender: &NodeId, kind: Kind)
+        requires { ascends self.old ≡ true }
+        ensures { self.new ≡ forgotten self.old sender.now kind }
+    {
+        let places = self.places(sender).without_place(kind);
+        if places.is_vacant() {
+            let _ = self.by_sender.remove(sender);
+        } else {
+            let _ = self.by_sender.insert(*sender, places);
+        }
+    }
+
+    /// The names of all senders, ascending.
+    pub fn senders(&self) -> SenderNames<'_>
+        ensures { result ≡ map (λ (p : Places). p.sender) self.now }
+    {
+        SenderNames::of(self.by_sender.keys())
+    }
+
+    /// How many senders there are.
+    pub fn sender_count(&self) -> usize
+        ensures { result ≡ length self.now }
+    {
+        self.by_sender.len()
+    }
+
+    /// A copy. An error says that memory is short.
+    pub fn try_copy(&self) -> Result<Index, AllocError>
+        ensures { IfOk result (λ index. index ≡ self.now) }
+    {
+        Ok(Index {
+            by_sender: self.by_sender.clone()?,
+        })
+    }
+}
