@@ -2,5 +2,5 @@ pub mod Settles
 pub mod Emissions
 pub mod Sendings
 pub mod Answered
-pub mod Strangers
+pub mod AddedRows
 pub mod Idle

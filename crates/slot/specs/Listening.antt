@@ -1,11 +1,12 @@
 -- Who a node is, the rows that it has, and the nodes that it reaches by them.
-use Rattle.std.specs.Prelude.{ℕ, Bool, true, false, List, Option, IfSome, IsFalse, ⊤}
+use Rattle.std.specs.Prelude.{◌≡◌, ℕ, Bool, true, false, List, [], Option, IfSome, IsFalse, ⊤}
 use Rattle.types.specs.Statements.{Sent}
+use Rattle.types.specs.declared.event.NodeEvent.TheVariants.{Take}
 use Rattle.types.specs.declared.state.Given.{Given}
 use Rattle.types.specs.declared.state.Votes.{Votes}
-use Rattle.protocol.specs.Nodes.{Node}
+use Rattle.protocol.specs.Nodes.{Node, step}
 use Rattle.protocol.specs.Reach.{IsReach}
-use Rattle.protocol.specs.Rows.{with_row}
+use Rattle.protocol.specs.Rows.{offered, with_row}
 use Rattle.view.specs.declared.region.Region.{Region}
 use Rattle.view.specs.Regions.{IsEntry, IsRegion}
 use Rattle.protocol.specs.Sets.{among, IsAscending}
@@ -58,3 +59,7 @@ is_put Stale = false
 is_put NoMemory = false
 is_put Added = true
 is_put (Replaced r) = true
+
+-- an envelope of this sender is no more than a row: where it is newer than that which stands it takes its place, and nothing else happens
+abbrev pub AddsRowAlone : Node → ℕ → Type 0
+AddsRowAlone n u = (e : Sent) → e.sender ≡ u → step n (Take e) ≡ (record n { table = offered n.table e }, [])

@@ -9,7 +9,7 @@ ghost use Rattle.protocol.specs.Limits.{Reached};
 ghost use Rattle.protocol.specs.Sets.{Names, among};
 ghost use Rattle.envstore.specs.Archives.{AreFiled, IsFiled, Keeps, sent_of};
 ghost use Rattle.slot.specs.Filings.{AreFiledOuts, HasCopies, IsFiledEvent, event_of, outs_of};
-ghost use Rattle.slot.specs.Listening.{node_of};
+ghost use Rattle.slot.specs.Listening.{AddsRowAlone, node_of};
 ghost use Rattle.slot.specs.Wholes.{IsChange, IsSentBy, SendWellFormed, whole};
 ghost use Rattle.types.specs.Statements.{Sent};
 ghost use Rattle.types.specs.declared.event.NodeEvent.{NodeEvent};
@@ -21,6 +21,7 @@ use crate::configured::Configured;
 use crate::filed::{FiledEvent, FiledOut, GivenOut};
 use crate::filing::nothing;
 use crate::listener::Listener;
+use crate::outs::is_externalized;
 use envstore::{Archive, Filed, Places, Shelf};
 use latest::{Put, Table};
 use nomination::leads;
@@ -329,8 +330,18 @@ impl Node {
         }
     }
 
-    /// An envelope reaches the node. That of a stranger which is no leader is offered to the table, and
-    /// nothing else happens.
+    /// Whether an envelope of this sender is surely no more than a row to the node: a value was externalized,
+    /// so that no rule applies, or the sender is a stranger and no leader.
+    fn adds_row_alone(&self, sender: &NodeId) -> bool
+        ensures { IsTrue result → AddsRowAlone self.now.node sender.now }
+    {
+        if is_externalized(self.votes.phase) {
+            return true;
+        }
+        self.listener.is_stranger(sender) && !leads(sender, &self.given)
+    }
+
+    /// An envelope reaches the node. One that is no more than a row is offered to the table.
     fn take<S: Shelf>(
         &mut self,
         alloc: Global,
@@ -350,7 +361,7 @@ impl Node {
         ensures kept { Keeps archive.old archive.new }
     {
         let sender = archive.read(&envelope).sender();
-        if self.listener.is_stranger(sender) && !leads(sender, &self.given) {
+        if self.adds_row_alone(sender) {
             let given_out = nothing(alloc, copies)?;
             self.listener.offer(alloc, archive, envelope)?;
             return Ok(given_out);

@@ -6,7 +6,7 @@ use Rattle.envstore.specs.Archives.{sent_of, sents_of}
 use Rattle.protocol.specs.Rows.{offered}
 use Rattle.slot.proofs.Answered.{put-takes}
 use Rattle.slot.proofs.Idle.{first-taken}
-use Rattle.slot.proofs.Strangers.{offered-taken, offered-stale}
+use Rattle.slot.proofs.AddedRows.{offered-taken, offered-stale}
 use Rattle.slot.proofs.listener.Listener.offer.Goals as goal
 use Rattle.slot.proofs.listener.Listener.offer.Goals.{in-NoMemory, in-Stale, in-Added}
 

@@ -1,0 +1,109 @@
+-- Envelopes that are no more than rows: those of strangers, and all that reach a node which has externalized a value.
+use Rattle.std.proofs.Common.{◌≡◌, ℕ, Bool, true, false, not, List, [], Option, Some, None, if◌then◌else◌, refl, sym, ◌∙◌, ap, subst, inl, inr}
+use Rattle.std.proofs.lemmas.Bool.{cases_Bool, false≢true}
+use Rattle.types.specs.Statements.{Sent}
+use Rattle.types.specs.declared.event.NodeEvent.TheVariants.{Take}
+use Rattle.types.specs.declared.event.Out.{Out}
+use Rattle.types.specs.declared.state.Given.{Given}
+use Rattle.types.specs.declared.state.Phase.{Phase}
+use Rattle.types.specs.declared.state.Phase.TheVariants.{Preparing, Committing, Externalized}
+use Rattle.types.specs.declared.state.Votes.{Votes}
+use Rattle.protocol.specs.Nodes.{Node, after_change, answered, change, is_externalized, passed, settle, settled, step}
+use Rattle.protocol.specs.Passes.{pass, pass_rules, while_open}
+use Rattle.protocol.specs.Sameness.{same_votes}
+use Rattle.protocol.specs.Views.{Seen, seen}
+use Rattle.protocol.specs.Limits.{Reached}
+use Rattle.protocol.specs.Limits.Reached.{next}
+use Rattle.std.specs.Prelude.{IsFalse, IsTrue}
+use Rattle.protocol.specs.Sets.{among}
+use Rattle.protocol.specs.Rows.{is_taken, offered, with_row}
+use Rattle.protocol.proofs.NodeLaws.{outs-none, step-stale}
+use Rattle.protocol.proofs.SamenessLaws.{same_votes-refl}
+use Rattle.protocol.proofs.StrangerLaws.{strangers_add_rows}
+use Rattle.view.specs.declared.region.Region.{Region}
+use Rattle.slot.specs.declared.configured.Configured.{Configured}
+use Rattle.slot.specs.Listening.{AddsRowAlone, Heard, IsStranger, KnowsRegion, KnownAscends, node_of}
+use Rattle.envstore.specs.Archives.{sents_of}
+use Rattle.slot.specs.Wholes.{whole}
+
+-- the nodes of a region that is known ascend
+pub known-ascends : (c : Configured) (table : List Sent) (known : Option Region) → KnowsRegion c table known → KnownAscends known
+known-ascends c table None h = tt
+known-ascends c table (Some v) h = h.reach.ascending
+
+-- what is not so is false
+pub untrue : (b : Bool) → IsTrue (not b) → b ≡ false
+untrue true h = sym h
+untrue false h = refl
+
+-- ---- offers
+pub offered-taken : (table : List Sent) (x : Sent) → is_taken table x ≡ true → offered table x ≡ with_row x table
+unfolding offered
+offered-taken table x e = rw e refl
+
+pub offered-stale : (table : List Sent) (x : Sent) → is_taken table x ≡ false → offered table x ≡ table
+unfolding offered
+offered-stale table x e = rw e refl
+
+-- ---- a stranger's
+stranger-there : (h : Heard) (given : Given) (votes : Votes) (u : ℕ) → IsStranger h u → IsFalse (among given.leaders u) → Reached (node_of h given votes) → AddsRowAlone (node_of h given votes) u
+stranger-there h given votes u s l r = λ e from.
+    let n : Node = node_of h given votes in
+    let outside : IsFalse (among s.reach e.sender) = subst (λ w. IsFalse (among s.reach w)) (sym from) s.outside in
+    let led : IsFalse (among given.leaders e.sender) = subst (λ w. IsFalse (among given.leaders w)) (sym from) l in
+    elim (cases_Bool (is_taken n.table e)) [
+      | inl t ↦ strangers_add_rows n s.reach e r s.is outside led t ∙ ap {B = Node × List Out} (λ (rows : List Sent). (record n { table = rows }, [])) (sym (offered-taken n.table e t))
+      | inr f ↦ step-stale n e f ∙ ap {B = Node × List Out} (λ (rows : List Sent). (record n { table = rows }, [])) (sym (offered-stale n.table e f))
+    ]
+
+pub stranger-row : (n : Node) (h : Heard) (given : Given) (votes : Votes) (u : ℕ) → n ≡ node_of h given votes → IsStranger h u → IsFalse (among given.leaders u) → Reached (node_of h given votes) → AddsRowAlone n u
+stranger-row n h given votes u is s l r = subst (λ (m : Node). AddsRowAlone m u) (sym is) (stranger-there h given votes u s l r)
+
+-- ---- after a value was externalized
+open-no_more : (p : Phase) (f : Votes → Votes) (w : Votes) → is_externalized p ≡ true → while_open p f w ≡ w
+open-no_more Preparing f w h = absurd (false≢true h)
+open-no_more Committing f w h = absurd (false≢true h)
+open-no_more Externalized f w h = refl
+
+over-pass : (own : ℕ) (seen : Seen) (g : Given) (w : Votes) → is_externalized w.phase ≡ true → pass own seen g w ≡ w
+unfolding pass
+over-pass own seen g w h = open-no_more w.phase (pass_rules own seen g) w h
+
+over-taken : (n : Node) (e : Sent) → is_externalized n.votes.phase ≡ true → is_taken n.table e ≡ true → step n (Take e) ≡ (record n { table = with_row e n.table }, [])
+unfolding step change settle
+over-taken n e over t =
+    ap (λ b. answered n (after_change (if b then Some m else None))) t
+    ∙ (ap (λ (w : Option Votes). answered n (settled m w)) at_once
+    ∙ ap {B = Node × List Out} (λ (os : List Out). (m, os)) (outs-none n (with_row e n.table)))
+  where
+    m : Node
+    m = record n { table = with_row e n.table }
+
+    still : passed m n.votes ≡ n.votes
+    still = over-pass n.name (seen n.name n.slices n.given.leaders m.table) n.given n.votes over
+
+    at_once : settle 64 (passed m) n.votes ≡ Some n.votes
+    at_once = ap (λ b. if b then Some n.votes else settle 63 (passed m) (passed m n.votes)) (ap (λ w. same_votes w n.votes) still ∙ same_votes-refl n.votes)
+
+pub over-row : (n : Node) (u : ℕ) → is_externalized n.votes.phase ≡ true → AddsRowAlone n u
+over-row n u over = λ e from.
+    elim (cases_Bool (is_taken n.table e)) [
+      | inl t ↦ over-taken n e over t ∙ ap {B = Node × List Out} (λ (rows : List Sent). (record n { table = rows }, [])) (sym (offered-taken n.table e t))
+      | inr f ↦ step-stale n e f ∙ ap {B = Node × List Out} (λ (rows : List Sent). (record n { table = rows }, [])) (sym (offered-stale n.table e f))
+    ]
+
+-- ---- the step
+-- the listener after an offer
+offered-to : (h k : Heard) (given : Given) (votes : Votes) (x : Sent) → k.configured ≡ h.configured → sents_of k.table ≡ offered (sents_of h.table) x → whole h.configured given votes (offered (sents_of h.table) x) ≡ node_of k given votes
+offered-to h k given votes x c t = λ i. whole (sym c i) given votes (sym t i)
+
+-- the step offers the envelope, and gives nothing out
+pub row-step : (n : Node) (h k : Heard) (given : Given) (votes : Votes) (x : Sent) → n ≡ node_of h given votes → AddsRowAlone n x.sender → k.configured ≡ h.configured → sents_of k.table ≡ offered (sents_of h.table) x
+    → step n (Take x) ≡ (node_of k given votes, [])
+row-step n h k given votes x is alone c t =
+    alone x refl ∙ ap {B = Node × List Out} (λ (m : Node). (record m { table = offered m.table x }, [])) is ∙ ap {B = Node × List Out} (λ (m : Node). (m, [])) (offered-to h k given votes x c t)
+
+-- and events led to the node after it
+pub row-reached : (n : Node) (h k : Heard) (given : Given) (votes : Votes) (x : Sent) → n ≡ node_of h given votes → AddsRowAlone n x.sender → Reached (node_of h given votes) → k.configured ≡ h.configured → sents_of k.table ≡ offered (sents_of h.table) x
+    → Reached (node_of k given votes)
+row-reached n h k given votes x is alone r c t = subst (λ (p : Node × List Out). Reached p.0) (row-step n h k given votes x is alone c t) (next (subst Reached (sym is) r) (Take x))
