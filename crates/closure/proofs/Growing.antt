@@ -36,7 +36,7 @@ get_taken [] k (suc n) l = refl
 get_taken (x ∷ xs) zero (suc n) l = refl
 get_taken (x ∷ xs) (suc k) (suc n) l = get_taken xs k n (omega arith)
 
-get_appended : {X : Type 0} (xs ys : List X) (k : ℕ) → k < length xs → slice_get (xs ++ ys) k ≡ slice_get xs k
+pub get_appended : {X : Type 0} (xs ys : List X) (k : ℕ) → k < length xs → slice_get (xs ++ ys) k ≡ slice_get xs k
 get_appended [] ys k l = absurd (omega arith)
 get_appended (x ∷ xs) ys zero l = refl
 get_appended (x ∷ xs) ys (suc k) l = get_appended xs ys k (omega arith)
@@ -47,7 +47,7 @@ get_last [] x y (suc k) e h = absurd (omega arith)
 get_last (z ∷ zs) x y zero e h = absurd (omega arith)
 get_last (z ∷ zs) x y (suc k) e h = get_last zs x y k (omega arith) h
 
-names_length : (list : Listed) → length (names_of list) ≡ length list
+pub names_length : (list : Listed) → length (names_of list) ≡ length list
 names_length list = length-map list (λ m. m.0)
 
 -- a list with the same front has the names of the front
@@ -127,8 +127,8 @@ module _ (hosts : List Host) (i : ℕ) (run : List Entry) where
   pub joining_begins : (given : List ℕ) (list : Listed) → IsJoining given list list 0
   joining_begins given list = record { kept = take_all (length list) list (omega arith); longer = omega arith; chained = λ v c. c; held = λ u h. absurd (false≢true h) }
 
-  module _ (given : List ℕ) (initial now : Listed) (known place w n x : ℕ) (way : IsJoining given initial now n) (there : slice_get (names_of initial) place ≡ Some w)
-      (sound : IsGiven hosts i run (names_of initial) known w given) (next : slice_get given n ≡ Some x) where
+  module _ (given : List ℕ) (initial now : Listed) (place w n x : ℕ) (way : IsJoining given initial now n) (there : slice_get (names_of initial) place ≡ Some w)
+      (sound : IsGiven hosts i run (names_of initial) w given) (next : slice_get given n ≡ Some x) where
     taken_more : take (n + 1) given ≡ take n given ++ x ∷ []
     taken_more = take_more given n x (slice_get_within given n x next) ∙ ap (λ y. take n given ++ y ∷ []) (get_or_from_slice_get given n x x next)
 
@@ -159,11 +159,14 @@ module _ (hosts : List Host) (i : ℕ) (run : List Entry) where
     pub joining_goes_on : IsJoining given initial (with_member now x place) (n + 1)
     joining_goes_on = joined (among (names_of now) x) refl
 
-  pub turn_settles : (given : List ℕ) (initial now : Listed) (known w : ℕ) → IsJoining given initial now (length given) → IsGiven hosts i run (names_of initial) known w given
-      → (0 < known → IsSettled hosts i run (names_of initial) (take known (names_of initial)) w) → IsSettled hosts i run (names_of now) (names_of initial) w
-  turn_settles given initial now known w way sound before u h = elim (sound.complete u h) [
-    | inl k ↦ way.held u (ap (λ (xs : List ℕ). among xs u) (take_all (length given) given (omega arith)) ∙ k)
-    | inr k ↦ front_among initial now way.kept u (before k.0 u k.1)
+  -- once all have joined, what is given is there, and all that is named
+  pub all_held : (given : List ℕ) (initial now : Listed) → IsJoining given initial now (length given) → AreWithin (among given) (among (names_of now))
+  all_held given initial now way u k = way.held u (ap (λ (xs : List ℕ). among xs u) (take_all (length given) given (omega arith)) ∙ k)
+
+  pub turn_settles : (given : List ℕ) (initial now : Listed) (w : ℕ) → IsJoining given initial now (length given) → IsGiven hosts i run (names_of initial) w given → IsSettled hosts i run (names_of now) (names_of initial) w
+  turn_settles given initial now w way sound u h = elim (sound.complete u h) [
+    | inl k ↦ front_among initial now way.kept u k
+    | inr k ↦ all_held given initial now way u k
   ]
 
   -- ---- a sweep
@@ -202,16 +205,6 @@ module _ (hosts : List Host) (i : ℕ) (run : List Entry) where
       length_of_front [] more e = omega arith
       length_of_front (x ∷ xs) [] e = cc
       length_of_front (x ∷ xs) (y ∷ ys) e = let rest : take (length xs) ys ≡ xs = cc in let l = length_of_front xs ys rest in omega arith
-
-  -- what a sweep knows of a member before its turn
-  pub known_before_turn : (initial now : Listed) (place known : ℕ) → IsSweeping initial now place → known ≤ length initial
-      → (0 < known → AreSettled hosts i run (names_of initial) (take known (names_of initial)))
-      → 0 < known → place < length initial → (w : ℕ) → slice_get (names_of now) place ≡ Some w → IsSettled hosts i run (names_of now) (take known (names_of now)) w
-  known_before_turn initial now place known way within settled some inside w e u h =
-      let front = front_names initial now way.kept in
-      let was : slice_get (names_of initial) place ≡ Some w = sym (ap (λ (xs : List ℕ). slice_get xs place) front) ∙ (get_taken (names_of now) place (length initial) inside ∙ e) in
-      let same : take known (names_of now) ≡ take known (names_of initial) = sym (take-take known (length initial) (names_of now) within) ∙ ap (λ (xs : List ℕ). take known xs) front in
-      front_among initial now way.kept u (settled some place w was u (subst (λ (xs : List ℕ). IsNamedBy hosts i run (among xs) w u) same h))
 
   pub sweep_settles : (initial now : Listed) (place : ℕ) → IsSweeping initial now place → length now ≤ place → AreSettled hosts i run (names_of now) (names_of initial)
   sweep_settles initial now place way over j w e = way.settled j w (let l = slice_get_within (names_of now) j w e in omega (arith, l, over, names_length now)) e

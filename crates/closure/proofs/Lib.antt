@@ -5,4 +5,7 @@ mod NameLookups
 mod Indexing
 mod ClosureSteps
 mod Walking
+mod Readiness
 mod Growing
+mod Gathering
+mod Waking

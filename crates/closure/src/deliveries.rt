@@ -1,8 +1,8 @@
-//! The announcements of a journal at a slot, by sender.
+//! The announcements of a journal at a slot, by sender and by receiver.
 
-ghost use Rattle.std.specs.Prelude.{◌≡◌, [], None, length, get_or, IfOk, OnOk};
+ghost use Rattle.std.specs.Prelude.{◌≡◌, [], None, length, get_or, option_map, IfOk, OnOk};
 ghost use Rattle.closure.specs.Announcing.{announced_at};
-ghost use Rattle.closure.specs.Turns.{IsIndex, IsLinkedTo, found_by, sender_at};
+ghost use Rattle.closure.specs.Turns.{AreIndexed, IsLinkedTo, found_by, receiver_at, sender_at};
 
 use crate::announcing::Announcements;
 use indexmap::IndexMap;
@@ -10,16 +10,15 @@ use std::alloc::{AllocError, Global};
 use std::marker::Model;
 use types::NodeId;
 
-/// The last announcement of each sender, and for each entry the last announcement before it of the same sender:
-/// whoever follows these numbers sees all announcements of a sender, and no other.
+/// The last announcement of each party, and for each entry the last announcement before it of the same party:
+/// whoever follows these numbers sees all announcements of a party, and no other.
 #[derive(Drop)]
-pub struct Deliveries {
+pub struct Links {
     latest: IndexMap<NodeId, usize>,
     earlier: Vec<Option<usize>>,
 }
 
-impl Model for Deliveries {
-    ghost use Rattle.closure.specs.Announcing.{announced_at};
+impl Model for Links {
     ghost use Rattle.closure.specs.Turns.{Linked};
 
     ghost Value = { Linked };
@@ -27,52 +26,37 @@ impl Model for Deliveries {
     ghost view = { λ a. record { latest = a.latest.entries; earlier = a.earlier.items } };
 }
 
-impl Deliveries {
-    /// All announcements of a journal at a slot.
-    pub fn of<J: Announcements>(
-        alloc: Global,
-        journal: &J,
-        slot: u64,
-    ) -> Result<Deliveries, AllocError>
-        ensures { IfOk result (λ d. IsIndex slot (J.entries journal.now) (length (J.entries journal.now)) d) }
-    {
-        let mut deliveries = Deliveries::new(alloc);
-        for number in 0..journal.len() {
-            deliveries.push(sender_at(journal, number, slot))?;
-        }
-        Ok(deliveries)
-    }
-
+impl Links {
     /// No entries.
-    fn new(alloc: Global) -> Deliveries
+    fn new(alloc: Global) -> Links
         ensures { result ≡ record { latest = []; earlier = [] } }
     {
-        Deliveries {
+        Links {
             latest: IndexMap::new(alloc),
             earlier: Vec::new(alloc),
         }
     }
 
-    /// One more entry: an announcement of this sender at the slot, or none.
-    fn push(&mut self, sender: Option<NodeId>) -> Result<(), AllocError>
-        ensures { OnOk result (IsLinkedTo self.old self.new sender) }
+    /// One more entry: an announcement of this party, or none.
+    fn push(&mut self, party: Option<NodeId>) -> Result<(), AllocError>
+        ensures { OnOk result (IsLinkedTo self.old self.new party) }
     {
-        let before = match sender {
+        let before = match party {
             None => None,
-            Some(sender) => self.latest.insert(sender, self.earlier.len())?,
+            Some(party) => self.latest.insert(party, self.earlier.len())?,
         };
         self.earlier.push(before)?;
         Ok(())
     }
 
-    /// The number of the last announcement of a sender.
-    pub fn latest(&self, sender: &NodeId) -> Option<usize>
-        ensures { result ≡ found_by self.now.latest sender.now }
+    /// The number of the last announcement of a party.
+    pub fn latest(&self, party: &NodeId) -> Option<usize>
+        ensures { result ≡ found_by self.now.latest party.now }
     {
-        self.latest.get(sender).copied()
+        self.latest.get(party).copied()
     }
 
-    /// The number of the last announcement of the same sender before the one with this number.
+    /// The number of the last announcement of the same party before the one with this number.
     pub fn earlier(&self, number: usize) -> Option<usize>
         ensures { result ≡ get_or self.now.earlier number None }
     {
@@ -83,12 +67,72 @@ impl Deliveries {
     }
 }
 
-/// The sender of the entry with this number, where it is an announcement at the slot.
-fn sender_at<J: Announcements>(journal: &J, number: usize, slot: u64) -> Option<NodeId>
-    ensures { result ≡ sender_at slot (announced_at (J.entries journal.now) number) }
+/// The announcements of a journal at a slot, by sender and by receiver.
+#[derive(Drop)]
+pub struct Deliveries {
+    pub sent: Links,
+    pub heard: Links,
+}
+
+impl Model for Deliveries {
+    ghost use Rattle.closure.specs.Turns.{Delivered};
+
+    ghost Value = { Delivered };
+
+    ghost view = { λ a. record { sent = a.sent; heard = a.heard } };
+}
+
+impl Deliveries {
+    /// All announcements of a journal at a slot.
+    pub fn of<J: Announcements>(
+        alloc: Global,
+        journal: &J,
+        slot: u64,
+    ) -> Result<Deliveries, AllocError>
+        ensures { IfOk result (λ d. AreIndexed slot (J.entries journal.now) (length (J.entries journal.now)) d) }
+    {
+        let mut deliveries = Deliveries::new(alloc);
+        for number in 0..journal.len() {
+            let (sender, receiver) = parties_at(journal, number, slot);
+            deliveries.push(sender, receiver)?;
+        }
+        Ok(deliveries)
+    }
+
+    /// No entries.
+    fn new(alloc: Global) -> Deliveries
+        ensures sent { result.sent ≡ record { latest = []; earlier = [] } }
+        ensures heard { result.heard ≡ record { latest = []; earlier = [] } }
+    {
+        Deliveries {
+            sent: Links::new(alloc),
+            heard: Links::new(alloc),
+        }
+    }
+
+    /// One more entry: an announcement of this sender to this receiver, or none.
+    fn push(&mut self, sender: Option<NodeId>, receiver: Option<NodeId>) -> Result<(), AllocError>
+        ensures sent { OnOk result (IsLinkedTo self.old.sent self.new.sent sender) }
+        ensures heard { OnOk result (IsLinkedTo self.old.heard self.new.heard receiver) }
+    {
+        self.sent.push(sender)?;
+        self.heard.push(receiver)
+    }
+}
+
+/// The sender and the receiver of the entry with this number, where it is an announcement at the slot.
+fn parties_at<J: Announcements>(
+    journal: &J,
+    number: usize,
+    slot: u64,
+) -> (Option<NodeId>, Option<NodeId>)
+    ensures sender { result.0 ≡ sender_at slot (announced_at (J.entries journal.now) number) }
+    ensures receiver { result.1 ≡ receiver_at slot (announced_at (J.entries journal.now) number) }
 {
     match journal.announcement(number) {
-        Some(announcement) if announcement.slot == slot => Some(announcement.sender),
-        _ => None,
+        Some(announcement) if announcement.slot == slot => {
+            (Some(announcement.sender), Some(announcement.receiver))
+        }
+        _ => (None, None),
     }
 }

@@ -11,6 +11,7 @@ mod deliveries;
 mod keeping;
 mod of_journal;
 mod of_table;
+mod ready;
 mod sweep;
 #[cfg(test)]
 mod tests;

@@ -7,6 +7,7 @@ ghost use Rattle.closure.specs.Announcing.{IsClosureList};
 use crate::announcing::Announcements;
 use crate::closure_list::ClosureList;
 use crate::deliveries::Deliveries;
+use crate::ready::Ready;
 use crate::turns::Turns;
 use std::alloc::{AllocError, Global};
 use types::NodeId;
@@ -20,8 +21,9 @@ use types::NodeId;
 /// turns by place, again and again until a whole sweep adds none; in its turn a member adds the missing
 /// names that it gives, ascending, its announcements counting to the members of that moment.
 ///
-/// A sweep takes time in proportion to the members and their announcements, and the names of one
-/// are read at most twice. There are at most two sweeps more than hosted members.
+/// Each announcement is looked at a fixed number of times, however many sweeps there are, and its names are
+/// read at most once: those to a node wait until it is a member, and then for the next turn of their senders.
+/// A turn for which none is ready takes a fixed time. There are at most two sweeps more than hosted members.
 pub fn closure<J: Announcements>(
     alloc: Global,
     journal: &J,
@@ -38,11 +40,11 @@ pub fn closure<J: Announcements>(
         deliveries: &deliveries,
     };
     let mut members = ClosureList::of(alloc, node)?;
+    let mut ready = Ready::new(alloc);
     let mut known = 0;
     while known < members.len() {
-        let count = members.len();
-        turns.sweep(alloc, &mut members, known)?;
-        known = count;
+        known = members.len();
+        turns.sweep(alloc, &mut members, &mut ready)?;
     }
     Ok(members)
 }

@@ -1,17 +1,19 @@
 //! The turns of members: what each of them names joins the closure.
 
-ghost use Rattle.std.specs.Prelude.{◌≡◌, ◌+◌, ◌<◌, ◌≤◌, ◌==◌, ℕ, [], Some, length, slice_get, take, IfOk, OnOk, if◌then◌else◌};
+ghost use Rattle.std.specs.Prelude.{◌≡◌, ◌++◌, ◌≤◌, ℕ, Some, length, slice_get, IfOk, OnOk, option_map};
 ghost use Rattle.protocol.specs.Networks.{slices_of};
+ghost use Rattle.protocol.specs.Sets.{among};
 ghost use Rattle.closure.specs.Announcing.{IsChained, announced_at, names_of};
-ghost use Rattle.closure.specs.Turns.{AreSettled, IsCounted, IsGiven, IsGrown, IsIndex, IsSettled, known_names};
+ghost use Rattle.closure.specs.Turns.{AreIndexed, AreMore, AreSettled, AreWoken, IsFor, IsGiven, IsGrown, IsJoined, IsReady, IsSettled, added_names, all_added, known_names, turned};
 
 use crate::announcing::Announcements;
 use crate::closure_list::ClosureList;
 use crate::deliveries::Deliveries;
+use crate::ready::Ready;
 use std::alloc::{AllocError, Global};
 use types::{NodeId, push_names};
 
-/// A journal at a slot, with its announcements there by sender.
+/// A journal at a slot, with its announcements there by sender and by receiver.
 #[derive(Drop)]
 pub(crate) struct Turns<'a, J: Announcements> {
     pub journal: &'a J,
@@ -21,26 +23,22 @@ pub(crate) struct Turns<'a, J: Announcements> {
 
 impl<'a, J: Announcements> Turns<'a, J> {
     /// Goes through the members by place, those that it adds included: each has its turn.
-    ///
-    /// What the old members name of the first `known` members is there already, where that is not 0.
     pub fn sweep(
         &self,
         alloc: Global,
         members: &mut ClosureList,
-        known: usize,
+        ready: &mut Ready,
     ) -> Result<(), AllocError>
-        requires index { IsIndex self.now.slot (J.entries self.now.journal.now) (length (J.entries self.now.journal.now)) self.now.deliveries.now }
+        requires index { AreIndexed self.now.slot (J.entries self.now.journal.now) (length (J.entries self.now.journal.now)) self.now.deliveries.now }
         requires chained { (v : ℕ) × IsChained (J.hosts self.now.journal.now) self.now.slot v (J.entries self.now.journal.now) members.old }
-        requires within { known ≤ length members.old }
-        requires known { 0 < known → AreSettled (J.hosts self.now.journal.now) self.now.slot (J.entries self.now.journal.now) (names_of members.old) (take known (names_of members.old)) }
+        requires ready { IsReady (J.hosts self.now.journal.now) self.now.slot (J.entries self.now.journal.now) (names_of members.old) ready.old }
         ensures grown { OnOk result ((v : ℕ) → IsChained (J.hosts self.now.journal.now) self.now.slot v (J.entries self.now.journal.now) members.old → IsGrown (J.hosts self.now.journal.now) self.now.slot v (J.entries self.now.journal.now) members.old members.new) }
         ensures settled { OnOk result (AreSettled (J.hosts self.now.journal.now) self.now.slot (J.entries self.now.journal.now) (names_of members.new) (names_of members.old)) }
+        ensures ready { OnOk result (IsReady (J.hosts self.now.journal.now) self.now.slot (J.entries self.now.journal.now) (names_of members.new) ready.new) }
     {
-        let count = members.len();
         let mut place = 0;
         while place < members.len() {
-            let known_here = if place < count { known } else { 0 };
-            self.take(alloc, members, place, known_here)?;
+            self.take(alloc, members, ready, place)?;
             place += 1;
         }
         Ok(())
@@ -48,91 +46,179 @@ impl<'a, J: Announcements> Turns<'a, J> {
 
     /// The turn of the member at a place: the names that it gives and that are missing join, ascending.
     ///
-    /// Its announcements count to the members of this moment. What it names of the first `known` members
-    /// is there already, where that is not 0.
+    /// Its announcements count to the members of this moment.
     fn take(
         &self,
         alloc: Global,
         members: &mut ClosureList,
+        ready: &mut Ready,
         place: usize,
-        known: usize,
     ) -> Result<(), AllocError>
-        requires index { IsIndex self.now.slot (J.entries self.now.journal.now) (length (J.entries self.now.journal.now)) self.now.deliveries.now }
-        requires known { 0 < known → (w : ℕ) → slice_get (names_of members.old) place ≡ Some w → IsSettled (J.hosts self.now.journal.now) self.now.slot (J.entries self.now.journal.now) (names_of members.old) (take known (names_of members.old)) w }
+        requires index { AreIndexed self.now.slot (J.entries self.now.journal.now) (length (J.entries self.now.journal.now)) self.now.deliveries.now }
+        requires ready { IsReady (J.hosts self.now.journal.now) self.now.slot (J.entries self.now.journal.now) (names_of members.old) ready.old }
+        requires next { place ≤ length ready.old }
         ensures grown { OnOk result ((v : ℕ) → IsChained (J.hosts self.now.journal.now) self.now.slot v (J.entries self.now.journal.now) members.old → IsGrown (J.hosts self.now.journal.now) self.now.slot v (J.entries self.now.journal.now) members.old members.new) }
         ensures settled { OnOk result ((w : ℕ) → slice_get (names_of members.old) place ≡ Some w → IsSettled (J.hosts self.now.journal.now) self.now.slot (J.entries self.now.journal.now) (names_of members.new) (names_of members.old) w) }
+        ensures ready { OnOk result (IsReady (J.hosts self.now.journal.now) self.now.slot (J.entries self.now.journal.now) (names_of members.new) ready.new) }
+        ensures counted { OnOk result ((w : ℕ) → slice_get (names_of members.old) place ≡ Some w → length ready.new ≡ length (turned ready.old place)) }
     {
         if let Some(node) = members.name(place) {
-            let given = self.given(alloc, members, &node, known)?;
+            let given = self.given(alloc, members, ready, place, &node)?;
             for name in &given {
-                members.add(name, place)?;
+                self.join(members, ready, name, place)?;
             }
         }
         Ok(())
     }
 
-    /// The names that a node gives, ascending: those of its configured slices where it is hosted, and
-    /// those of its announcements at the slot to members. What it names of the first `known` members may
-    /// be left out, where that is not 0.
+    /// The names that the member at a place gives, ascending, save such as are members: in its first turn
+    /// all of them, then those that announcements add which became ready since the last one.
     fn given(
         &self,
         alloc: Global,
         members: &ClosureList,
+        ready: &mut Ready,
+        place: usize,
         node: &NodeId,
-        known: usize,
     ) -> Result<Vec<NodeId>, AllocError>
-        requires { IsIndex self.now.slot (J.entries self.now.journal.now) (length (J.entries self.now.journal.now)) self.now.deliveries.now }
-        ensures { IfOk result (λ v. IsGiven (J.hosts self.now.journal.now) self.now.slot (J.entries self.now.journal.now) (names_of members.now) known node.now v.items) }
+        requires index { AreIndexed self.now.slot (J.entries self.now.journal.now) (length (J.entries self.now.journal.now)) self.now.deliveries.now }
+        requires there { slice_get (names_of members.now) place ≡ Some node.now }
+        requires ready { IsReady (J.hosts self.now.journal.now) self.now.slot (J.entries self.now.journal.now) (names_of members.now) ready.old }
+        ensures given { IfOk result (λ v. IsGiven (J.hosts self.now.journal.now) self.now.slot (J.entries self.now.journal.now) (names_of members.now) node.now v.items) }
+        ensures turned { OnOk result (ready.new ≡ turned ready.old place) }
     {
-        let mut names = self.configured(alloc, node, known)?;
-        let mut next = self.deliveries.latest(node);
-        while let Some(number) = next {
-            self.count(number, members, known, &mut names)?;
-            next = self.deliveries.earlier(number);
-        }
+        let mut names = match ready.take(alloc, place)? {
+            None => self.all_names(alloc, members, node)?,
+            Some(numbers) => self.names_at(alloc, members, node, &numbers)?,
+        };
         names.sort_unstable();
         Ok(names)
     }
 
-    /// The names of a node's configured slices, where it is hosted and nothing is known yet.
-    fn configured(
+    /// All names that a node gives: those of its configured slices where it is hosted, and those of its
+    /// announcements at the slot to members.
+    fn all_names(
         &self,
         alloc: Global,
+        members: &ClosureList,
         node: &NodeId,
-        known: usize,
     ) -> Result<Vec<NodeId>, AllocError>
-        ensures { IfOk result (λ v. v.items ≡ (if known == 0 then known_names (slices_of (J.hosts self.now.journal.now) node.now) else [])) }
+        requires { AreIndexed self.now.slot (J.entries self.now.journal.now) (length (J.entries self.now.journal.now)) self.now.deliveries.now }
+        ensures { IfOk result (λ v. IsGiven (J.hosts self.now.journal.now) self.now.slot (J.entries self.now.journal.now) (names_of members.now) node.now v.items) }
     {
-        let mut names = Vec::new(alloc);
-        if known == 0 {
-            if let Some(slices) = self.journal.slices(node) {
-                push_names(slices.set(), &mut names)?;
-            }
+        let deliveries = self.deliveries;
+        let mut names = self.configured(alloc, node)?;
+        let mut next = deliveries.sent.latest(node);
+        while let Some(number) = next {
+            self.count(number, members, node, &mut names)?;
+            next = deliveries.sent.earlier(number);
         }
         Ok(names)
     }
 
-    /// Adds the names that the entry with this number announces, where its receiver is a member
-    /// that is not one of the first `known`.
+    /// The names of a node's configured slices, where it is hosted.
+    fn configured(&self, alloc: Global, node: &NodeId) -> Result<Vec<NodeId>, AllocError>
+        ensures { IfOk result (λ v. v.items ≡ known_names (slices_of (J.hosts self.now.journal.now) node.now)) }
+    {
+        let mut names = Vec::new(alloc);
+        if let Some(slices) = self.journal.slices(node) {
+            push_names(slices.set(), &mut names)?;
+        }
+        Ok(names)
+    }
+
+    /// The names that a node gives by the entries with these numbers.
+    fn names_at(
+        &self,
+        alloc: Global,
+        members: &ClosureList,
+        node: &NodeId,
+        numbers: &[usize],
+    ) -> Result<Vec<NodeId>, AllocError>
+        ensures { IfOk result (λ v. v.items ≡ all_added self.now.slot (J.entries self.now.journal.now) (names_of members.now) node.now numbers.now) }
+    {
+        let mut names = Vec::new(alloc);
+        for number in numbers {
+            self.count(*number, members, node, &mut names)?;
+        }
+        Ok(names)
+    }
+
+    /// Adds the names that the entry with this number announces, where it is an announcement of the node at
+    /// the slot to a member.
     fn count(
         &self,
         number: usize,
         members: &ClosureList,
-        known: usize,
+        node: &NodeId,
         names: &mut Vec<NodeId>,
     ) -> Result<(), AllocError>
-        ensures { OnOk result (IsCounted (names_of members.now) known names.old.items names.new.items (announced_at (J.entries self.now.journal.now) number)) }
+        ensures { OnOk result (names.new.items ≡ names.old.items ++ added_names self.now.slot (names_of members.now) node.now (announced_at (J.entries self.now.journal.now) number)) }
     {
         let Some(announcement) = self.journal.announcement(number) else {
             return Ok(());
         };
-        let Some(place) = members.place(&announcement.receiver) else {
+        if announcement.slot == self.slot
+            && announcement.sender == *node
+            && members.has(&announcement.receiver)
+        {
+            push_names(announcement.slices.set(), names)?;
+        }
+        Ok(())
+    }
+
+    /// A name joins, with the place of the member that names it, unless it is there; the announcements to it
+    /// become ready.
+    fn join(
+        &self,
+        members: &mut ClosureList,
+        ready: &mut Ready,
+        name: &NodeId,
+        place: usize,
+    ) -> Result<(), AllocError>
+        requires { AreIndexed self.now.slot (J.entries self.now.journal.now) (length (J.entries self.now.journal.now)) self.now.deliveries.now }
+        ensures { OnOk result (IsJoined self.now.slot (J.entries self.now.journal.now) members.old members.new ready.old ready.new name.now place) }
+    {
+        if !members.has(name) {
+            members.add(name, place)?;
+            self.wake(members, ready, name)?;
+        }
+        Ok(())
+    }
+
+    /// The announcements at the slot to a node become ready for their senders.
+    fn wake(
+        &self,
+        members: &ClosureList,
+        ready: &mut Ready,
+        receiver: &NodeId,
+    ) -> Result<(), AllocError>
+        requires { AreIndexed self.now.slot (J.entries self.now.journal.now) (length (J.entries self.now.journal.now)) self.now.deliveries.now }
+        ensures more { OnOk result (AreMore ready.old ready.new) }
+        ensures woken { OnOk result (AreWoken self.now.slot (J.entries self.now.journal.now) (names_of members.now) ready.new receiver.now) }
+    {
+        let deliveries = self.deliveries;
+        let mut next = deliveries.heard.latest(receiver);
+        while let Some(number) = next {
+            self.put(members, ready, number)?;
+            next = deliveries.heard.earlier(number);
+        }
+        Ok(())
+    }
+
+    /// The entry with this number becomes ready for its sender, where that is a member that had a turn.
+    fn put(&self, members: &ClosureList, ready: &mut Ready, number: usize) -> Result<(), AllocError>
+        ensures more { OnOk result (AreMore ready.old ready.new) }
+        ensures ready { OnOk result (IsFor (names_of members.now) ready.new number (announced_at (J.entries self.now.journal.now) number)) }
+    {
+        let Some(announcement) = self.journal.announcement(number) else {
             return Ok(());
         };
-        if place < known {
+        let Some(place) = members.place(&announcement.sender) else {
             return Ok(());
-        }
-        push_names(announcement.slices.set(), names)?;
+        };
+        let _count = members.len();
+        ready.put(place, number)?;
         Ok(())
     }
 }

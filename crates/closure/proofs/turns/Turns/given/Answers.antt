@@ -1,37 +1,25 @@
-use Rattle.std.proofs.Common.{◌≡◌, ◌∙◌, sym, subst, ap, None, get_or, suc, ◌≤◌, arith}
+use Rattle.std.proofs.Common.{◌≡◌, ◌∙◌, ap, sym, subst, Vec, Global, ℕ, List, slice_get, option_map, Option, Some}
+use Rattle.types.specs.declared.node_id.NodeId.{NodeId}
 use Rattle.slices.proofs.SetLists.{same_names}
 use Rattle.closure.specs.Announcing.{names_of}
-use Rattle.closure.proofs.Walking.{IsWalked, steps_left, walk_begins, walk_goes_on, walk_shortens, walk_ends}
+use Rattle.closure.specs.Turns.{IsGiven, all_added}
+use Rattle.closure.proofs.Gathering.{given_by_ready, given_sorted}
+use Rattle.closure.proofs.Readiness.{read_at}
 use Rattle.closure.proofs.turns.Turns.given.Goals as goal
+use Rattle.closure.proofs.turns.Turns.given.Goals.{in-None+in_ok-names-in-None, in-Some+in_ok-names-in-Some}
 
-pub loop-next-init : goal.loop-next-init
-loop-next-init g c =
-    walk_begins (g.J.Announcements.hosts c.args.self.now.journal.now) c.args.self.now.slot (g.J.Announcements.entries c.args.self.now.journal.now) (names_of c.args.members.now) c.args.known c.args.node.now c.in_ok-names.names.items
-    c.latest-next.result (c.latest-next.ensures ∙ c.requires.latest c.args.node.now) c.in_ok-names.ensures
-
-pub loop-next-preserved : goal.loop-next-preserved
-loop-next-preserved g c =
+pub returns-clause-given : goal.returns-clause-given
+returns-clause-given g c =
     let hosts = g.J.Announcements.hosts c.args.self.now.journal.now in
     let run = g.J.Announcements.entries c.args.self.now.journal.now in
-    subst (λ o. IsWalked hosts c.args.self.now.slot run (names_of c.args.members.now) c.args.known c.args.node.now c.in_ok-names.names.items o c.count.new.names.items) (sym c.earlier-next.ensures)
-    (walk_goes_on hosts c.args.self.now.slot run (names_of c.args.members.now) c.args.known c.args.node.now c.in_ok-names.names.items c.args.self.now.deliveries.now c.requires
-    c.in-Some.number c.loop-next.next c.loop-next.names.items c.count.new.names.items c.loop-next.invariant c.in-Some.is c.in_ok-count.ensures)
-
-pub loop-next-smaller : goal.loop-next-smaller
-loop-next-smaller g c =
-    let hosts = g.J.Announcements.hosts c.args.self.now.journal.now in
-    let run = g.J.Announcements.entries c.args.self.now.journal.now in
-    let shorter : suc (steps_left (get_or c.args.self.now.deliveries.now.earlier c.in-Some.number None)) ≤ steps_left c.loop-next.next =
-    walk_shortens hosts c.args.self.now.slot run (names_of c.args.members.now) c.args.known c.args.node.now c.in_ok-names.names.items c.args.self.now.deliveries.now c.requires
-    c.in-Some.number c.loop-next.next c.loop-next.names.items c.count.new.names.items c.loop-next.invariant c.in-Some.is in
-    let same : steps_left c.earlier-next.result ≡ steps_left (get_or c.args.self.now.deliveries.now.earlier c.in-Some.number None) = ap steps_left c.earlier-next.ensures in
-    omega (arith, shorter, same)
-
-pub returns : goal.returns
-returns g c =
-    let hosts = g.J.Announcements.hosts c.args.self.now.journal.now in
-    let run = g.J.Announcements.entries c.args.self.now.journal.now in
-    walk_ends hosts c.args.self.now.slot run (names_of c.args.members.now) c.args.known c.args.node.now c.in_ok-names.names.items c.loop-next.names.items c.sort_unstable.new.self.items
-    (subst (λ o. IsWalked hosts c.args.self.now.slot run (names_of c.args.members.now) c.args.known c.args.node.now c.in_ok-names.names.items o c.loop-next.names.items) c.in_default.is c.loop-next.invariant)
-    (same_names c.loop-next.names.items c.sort_unstable.new.self.items c.sort_unstable.ensures.permutation)
-    c.in_ok-names.ensures
+    let unsorted : IsGiven hosts c.args.self.now.slot run (names_of c.args.members.now) c.args.node.now c.match-branch-2.names.items = elim c.match-branch-2.branch [
+      | in-None+in_ok-names-in-None w ↦ subst (λ (v : Vec NodeId Global). IsGiven hosts c.args.self.now.slot run (names_of c.args.members.now) c.args.node.now v.items) (sym w.names-is) w.in_ok-names-in-None.ensures
+      | in-Some+in_ok-names-in-Some w ↦
+          let told : Some w.in-Some.numbers.items ≡ slice_get c.args.ready.now c.args.place = ap (λ (o : Option (Vec ℕ Global)). option_map (λ (v : Vec ℕ Global). v.items) o) (sym w.in-Some.is) ∙ c.in_ok-take.ensures.numbers in
+          let read = read_at c.args.ready.now c.args.place w.in-Some.numbers.items told in
+          given_by_ready hosts c.args.self.now.slot run (names_of c.args.members.now) c.args.node.now c.args.ready.now c.args.place w.in-Some.numbers.items c.match-branch-2.names.items
+          c.requires.ready read.0 c.requires.there read.1
+          (ap (λ (v : Vec NodeId Global). v.items) w.names-is ∙ (w.in_ok-names-in-Some.ensures ∙ ap (λ (ns : List ℕ). all_added c.args.self.now.slot run (names_of c.args.members.now) c.args.node.now ns) w.deref.ensures.value))
+    ] in
+    given_sorted hosts c.args.self.now.slot run (names_of c.args.members.now) c.args.node.now c.match-branch-2.names.items c.sort_unstable.new.self.items unsorted
+    (same_names c.match-branch-2.names.items c.sort_unstable.new.self.items c.sort_unstable.ensures.permutation)

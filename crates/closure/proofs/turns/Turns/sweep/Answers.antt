@@ -1,38 +1,38 @@
-use Rattle.std.proofs.Common.{◌≡◌, ◌<◌, ◌≤◌, sym, subst, suc, ℕ, slice_get, Some, length, take, arith}
+use Rattle.std.proofs.Common.{◌≡◌, ◌<◌, ◌≤◌, suc, get_or, slice_get, Some, length, arith}
+use Rattle.std.proofs.lemmas.Option.{slice_get-get_or}
 use Rattle.closure.specs.Announcing.{names_of}
-use Rattle.closure.specs.Turns.{IsSettled}
+use Rattle.closure.specs.Turns.{turned}
 use Rattle.closure.proofs.ClosureSteps.{all_given}
-use Rattle.closure.proofs.Growing.{known_before_turn, sweeping_goes_on, sweep_settles, members_bound}
+use Rattle.closure.proofs.Growing.{names_length, sweeping_begins, sweeping_goes_on, sweep_settles, members_bound}
+use Rattle.closure.proofs.Readiness.{turned_within}
 use Rattle.closure.proofs.turns.Turns.sweep.Goals as goal
-use Rattle.closure.proofs.turns.Turns.sweep.Goals.{then-place-count, else-place-count}
 
-pub take-requires-clause-known : goal.take-requires-clause-known
-take-requires-clause-known g c =
-    let hosts = g.J.Announcements.hosts c.args.self.now.journal.now in
-    let run = g.J.Announcements.entries c.args.self.now.journal.now in
-    elim c.if-place-count.branch [
-      | then-place-count w ↦ λ some.
-          subst (λ k. 0 < k → (x : ℕ) → slice_get (names_of c.loop-place.members) c.loop-place.place ≡ Some x → IsSettled hosts c.args.self.now.slot run (names_of c.loop-place.members) (take k (names_of c.loop-place.members)) x) (sym w.known_here-is)
-          (λ positive. known_before_turn hosts c.args.self.now.slot run c.args.members.now c.loop-place.members c.loop-place.place c.args.known c.loop-place.invariant c.requires.within c.requires.known
-          positive (omega (arith, w.if-place-count.true, c.len-count.ensures.value))) some
-      | else-place-count w ↦ λ some. absurd (omega (arith, some, w.known_here-is))
-    ]
+pub loop-place-init : goal.loop-place-init
+loop-place-init g c = (sweeping_begins (g.J.Announcements.hosts c.args.self.now.journal.now) c.args.self.now.slot (g.J.Announcements.entries c.args.self.now.journal.now) c.args.members.now, c.requires.ready, omega arith)
 
 pub loop-place-smaller : goal.loop-place-smaller
 loop-place-smaller g c =
     let hosts = g.J.Announcements.hosts c.args.self.now.journal.now in
     let run = g.J.Announcements.entries c.args.self.now.journal.now in
     let bound : length c.loop-place.members ≤ suc (length (all_given hosts c.args.self.now.slot run)) =
-    members_bound hosts c.args.self.now.slot run c.requires.chained.0 c.loop-place.members (c.loop-place.invariant.chained c.requires.chained.0 c.requires.chained.1) c.len.ensures.once in
+    members_bound hosts c.args.self.now.slot run c.requires.chained.0 c.loop-place.members (c.loop-place.invariant.0.chained c.requires.chained.0 c.requires.chained.1) c.len.ensures.once in
     omega (arith, bound, c.loop-place-test.true, c.len.ensures.value)
 
 pub loop-place-preserved : goal.loop-place-preserved
 loop-place-preserved g c =
-    sweeping_goes_on (g.J.Announcements.hosts c.args.self.now.journal.now) c.args.self.now.slot (g.J.Announcements.entries c.args.self.now.journal.now)
-    c.args.members.now c.loop-place.members c.take.new.members c.loop-place.place c.requires.chained.0 c.loop-place.invariant (omega (arith, c.loop-place-test.true, c.len.ensures.value)) c.requires.chained.1
-    c.in_ok-take.ensures.grown c.in_ok-take.ensures.settled
+    let within : c.loop-place.place < length c.loop-place.members = omega (arith, c.loop-place-test.true, c.len.ensures.value) in
+    let there : slice_get (names_of c.loop-place.members) c.loop-place.place ≡ Some (get_or (names_of c.loop-place.members) c.loop-place.place 0) =
+    slice_get-get_or (names_of c.loop-place.members) c.loop-place.place 0 (omega (arith, within, names_length c.loop-place.members)) in
+    let counted : length c.take.new.ready ≡ length (turned c.loop-place.ready c.loop-place.place) = c.in_ok-take.ensures.counted (get_or (names_of c.loop-place.members) c.loop-place.place 0) there in
+    let more : c.loop-place.place < length (turned c.loop-place.ready c.loop-place.place) = turned_within c.loop-place.ready c.loop-place.place c.loop-place.invariant.2 in (
+      sweeping_goes_on (g.J.Announcements.hosts c.args.self.now.journal.now) c.args.self.now.slot (g.J.Announcements.entries c.args.self.now.journal.now)
+          c.args.members.now c.loop-place.members c.take.new.members c.loop-place.place c.requires.chained.0 c.loop-place.invariant.0 within c.requires.chained.1
+          c.in_ok-take.ensures.grown c.in_ok-take.ensures.settled,
+      c.in_ok-take.ensures.ready,
+      omega (arith, counted, more),
+    )
 
 pub returns-clause-settled : goal.returns-clause-settled
 returns-clause-settled g c =
     sweep_settles (g.J.Announcements.hosts c.args.self.now.journal.now) c.args.self.now.slot (g.J.Announcements.entries c.args.self.now.journal.now)
-    c.args.members.now c.loop-place.members c.loop-place.place c.loop-place.invariant (omega (arith, c.loop-place-test.false, c.len.ensures.value))
+    c.args.members.now c.loop-place.members c.loop-place.place c.loop-place.invariant.0 (omega (arith, c.loop-place-test.false, c.len.ensures.value))

@@ -1,7 +1,0 @@
-use Rattle.std.proofs.Common.{◌∙◌, ap}
-use Rattle.closure.specs.Turns.{Linked, found_by}
-use Rattle.closure.proofs.NameLookups.{found_is}
-use Rattle.closure.proofs.deliveries.Deliveries.latest.Goals as goal
-
-pub returns : goal.returns
-returns c = c.copied.ensures ∙ (c.get.ensures.value ∙ (found_is c.args.sender.now _ ∙ ap (λ (d : Linked). found_by d.latest c.args.sender.now) c.self.view_is))
