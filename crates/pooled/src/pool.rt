@@ -20,16 +20,19 @@ use types::Event;
 use work::{Job, Queue};
 use workers::{Host, Report, offer, run};
 
-/// How many jobs wait at most (this host's profile).
-const PLACES: usize = 1024;
+/// How many places the queue has where there are fewer jobs (this host's profile).
+const FEWEST_PLACES: usize = 1024;
+
+/// How many places the queue has where there are more jobs: as many as a queue may have (this host's profile).
+const MOST_PLACES: usize = 65_536;
 
 /// Runs what is submitted as jobs of so many workers, 1 to 64, after the slots are opened that are named first,
 /// each with the number of its network, and answers what is printed: what each node has externalized at open
 /// slots, ascending by network, slot and name; the length of each network's journal; and how many jobs were
 /// applied, refused and not run. An error says that memory is short.
 ///
-/// All networks have one store of envelopes. What the queue has no place for is applied before the workers
-/// begin. Which order the jobs take is open.
+/// All networks have one store of envelopes. The queue has a place for each job, from 1,024 places up to 65,536;
+/// what it has no place for is applied before the workers begin. Which order the jobs take is open.
 pub fn run_pool<R: Threads + Wait + Sync + Send + Copy + Drop>(
     rt: &R,
     alloc: Global,
@@ -107,10 +110,18 @@ fn run_jobs<R: Threads + Wait + Sync + Send + Drop>(
     requires few { workers ≤ 64 }
     ensures { IfOk result (λ r. AreDone jobs.items host.old host.new r.0 r.1) }
 {
-    let queue = Queue::new(alloc, PLACES, workers)?;
+    let queue = Queue::new(alloc, places_for(jobs.len()), workers)?;
     let (queue, offered) = offer(rt, host, queue, jobs, &Open);
     let ran = run(rt, host, queue, workers, &Open);
     Ok((offered, ran))
+}
+
+/// How many places a queue has for so many jobs: a place for each, so that the workers do them and not the one
+/// thread that puts them.
+fn places_for(jobs: usize) -> usize
+    ensures { (0 < result) × (result ≤ 65536) }
+{
+    jobs.clamp(FEWEST_PLACES, MOST_PLACES)
 }
 
 /// Closes each network, ascending, and says what became of it, and how many jobs were applied, refused and not

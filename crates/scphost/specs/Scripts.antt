@@ -4,11 +4,11 @@ use Rattle.std.specs.List.{enumerate_from}
 use Rattle.scripts.specs.Script.{AreLines, Bytes, is_no_record}
 use Rattle.scripts.specs.Runs.{Refusing, Runs, Telling}
 use Rattle.protocol.specs.Hosts.{History}
-use Rattle.runs.specs.Hosting.{Hosting}
+use Rattle.runs.specs.Hosting.{Hosting, unhosted}
 use Rattle.runs.specs.Quiet.{IsFinishedQuietly, Quiet, RefusesQuietly, TellsQuietly, origin_in}
 use Rattle.runs.specs.Plans.{Plan, unplanned}
 use Rattle.runs.specs.Putting.{IsCompletePlan, Puts, RefusesToPut}
-use Rattle.runs.specs.Submitting.{IsComplete, RefusesToSubmit, Submits, Submitting}
+use Rattle.runs.specs.Submitting.{IsComplete, RefusesToSubmit, Submits, Submitting, unsubmitted}
 
 -- all lines of a text are run in order, and none is bad
 pub record HaveRun {S : Type 0} (tells : Telling S) (refuses : Refusing S) (start : S) (text : Bytes) (end : S) : Type 0 where
@@ -34,7 +34,7 @@ pub record Story : Type 0 where
 
 -- before the first line; the trace of the lines is kept where it is asked for
 abbrev pub start_of : Bool → Quiet
-start_of traced = record { hosting = record { waiting = []; logs = [] }; trace = if traced then Some [] else None }
+start_of traced = record { hosting = unhosted; trace = if traced then Some [] else None }
 
 -- the lines of a text are run in order, and after the last one the networks that are declared with nodes have joined
 pub record HasEnded (start : Quiet) (text : Bytes) (end : Quiet) : Type 0 where
@@ -62,7 +62,7 @@ pub record IsSubmittedBy (file : Option Bytes) (run : Submitting) : Type 0 where
   pub text : Bytes
   pub is_text : IsTextOf file text
   pub last : Submitting
-  pub ran : HaveRun Submits RefusesToSubmit (record { waiting = []; history = record { configs = []; calls = [] } }) text last
+  pub ran : HaveRun Submits RefusesToSubmit unsubmitted text last
   pub finished : IsComplete last run
 
 -- ---- for the jobs of a pool

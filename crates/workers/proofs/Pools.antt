@@ -11,7 +11,7 @@ use Rattle.work.specs.Queues.{put_by, taken_by, parts_by, parts, AllPasses, IsOf
 use Rattle.work.proofs.Balances.{weigh-append}
 use Rattle.cells.specs.Sights.{CellSight}
 use Rattle.workers.specs.declared.worker.Worker.{Worker}
-use Rattle.workers.specs.Sums.{AllLaterWorkers, AllPassing, AllReady, IsClosed, IsKept, IsPassing, IsReady, IsSummed, asked, at_rest, denials_of, done, hand_of, applied_by, refused_by, parts_of, passes_of, put, receipts_of, taken}
+use Rattle.workers.specs.Sums.{AllLaterWorkers, AllPassing, AllReady, IsClosed, IsKept, IsPassing, IsReady, IsSummed, told, at_rest, denials_of, done, hand_of, applied_by, refused_by, parts_of, passes_of, put, receipts_of, taken}
 use Rattle.workers.proofs.Sums.{all_lack_both, all_later_both, all_later_none, all_of}
 
 pub ready_at : {S H P : Type 0} → (cs : List CellSight) (q : Option Queue) (ws : List (Worker S H P)) (k : ℕ) (w : (Worker S H P)) → AllReady cs q ws → k < length ws → w ≡ get_or ws k w → IsReady cs q w
@@ -142,7 +142,7 @@ closed cs (x ∷ xs) zs ps qs a c left lt at after all close nc kept =
       sum = λ h.
           let s = k.sum h in
           let d = w (done h) in
-          let e = w (asked h) in
+          let e = w (told h) in
           let p : put_by h qs ≡ put_by h ps + weigh (put h) (x ∷ xs) = ap (put_by h) all ∙ weigh-append (λ (p : Pass Job Hand). weigh h (view p).put) ps (passes_of (x ∷ xs)) ∙ (let r = all_put h (x ∷ xs) in omega arith) in
           let t : taken_by h qs ≡ taken_by h ps + weigh (taken h) (x ∷ xs) = ap (taken_by h) all ∙ weigh-append (λ (p : Pass Job Hand). weigh h (view p).taken) ps (passes_of (x ∷ xs)) ∙ (let r = all_taken h (x ∷ xs) in omega arith) in
           let n = no_put h c.pass nc in

@@ -21,7 +21,7 @@ use Rattle.cells.specs.Sights.{Sight}
 use Rattle.workers.specs.declared.walk.Walk.{Walk}
 use Rattle.workers.specs.declared.worker.Worker.{Worker}
 use Rattle.workers.specs.Numbers.{Lacks, AllLack, IsNumberAt}
-use Rattle.workers.specs.Sums.{job, hears, applied_of, refused_of, heard_of, done_by, asked_by, applied_many, refused_many, seat_done, hand_of, IsWalk, AllSeated, IsLater, AllLater, IsDone, done, asked, put, taken, IsKept, with_put, with_taken, AllPast, AllPastBut, hear_by, hears_of, hears_from, emission_in, IsNext, IsShort, SamePlaces, IsThrough, AllReady, IsSummed, IsReady, IsBusy}
+use Rattle.workers.specs.Sums.{job, hears, applied_of, refused_of, heard_of, done_by, told_by, applied_many, refused_many, seat_done, hand_of, IsWalk, AllSeated, IsLater, AllLater, IsDone, done, told, put, taken, IsKept, with_put, with_taken, AllPast, AllPastBut, hear_by, hears_of, hears_from, emission_in, IsNext, IsShort, SamePlaces, IsThrough, AllReady, IsSummed, IsReady, IsBusy}
 use Rattle.work.specs.declared.line.Queue.{Queue}
 use Rattle.std.proofs.Common.{Option, Some, None}
 use Rattle.crossbeam_queue.specs.Passes.{Pass}
@@ -121,9 +121,6 @@ pub places_set : {S H P : Type 0} → (ws : List (Walk S H P)) (k : ℕ) (old w 
 places_set [] k old w lt is e = absurd (omega arith)
 places_set (x ∷ xs) zero old w lt is e = (e ∙ ap (λ (z : (Walk _ _ _)). z.place) is, places_none xs)
 places_set (x ∷ xs) (suc k) old w lt is e = (refl, places_set xs k old w (omega arith) is e)
-
-pub places_same : {S H P : Type 0} → (xs ys : List (Walk S H P)) → ys ≡ xs → SamePlaces xs ys
-places_same xs ys e = subst (SamePlaces xs) (sym e) (places_none xs)
 
 pub place_at : {S H P : Type 0} → (xs ys : List (Walk S H P)) (k : ℕ) (a b : (Walk S H P)) → SamePlaces xs ys → k < length xs → a ≡ get_or xs k a → b ≡ get_or ys k b → b.place ≡ a.place
 place_at [] ys k a b all lt is at = absurd (omega arith)
@@ -253,8 +250,8 @@ past_all (x ∷ xs) (suc k) w all is one = (all.0, past_all xs k w all.1 is one)
 
 -- one job by one seat
 
-asked_same : {S H P : Type 0} → (h : Job → ℕ) (a b : (Walk S H P)) (more : List Applied) → b.seat.me.config ≡ a.seat.me.config → b.place ≡ a.place → b.seat.me.receipts ≡ a.seat.me.receipts ++ more → a.place ≤ length a.seat.me.receipts → asked_by h b ≡ asked_by h a
-asked_same h a b more config place gained le =
+told_same : {S H P : Type 0} → (h : Job → ℕ) (a b : (Walk S H P)) (more : List Applied) → b.seat.me.config ≡ a.seat.me.config → b.place ≡ a.place → b.seat.me.receipts ≡ a.seat.me.receipts ++ more → a.place ≤ length a.seat.me.receipts → told_by h b ≡ told_by h a
+told_same h a b more config place gained le =
     (λ i. heard_of h (config i) (take (place i) (gained i)))
     ∙ ap (heard_of h a.seat.me.config) (take-append-le a.place a.seat.me.receipts more le)
 
@@ -272,7 +269,7 @@ done_well a b c j x here walk seat place number event more same =
           let q : h (job n x.event) ≡ h j = λ i. h (job ((ap (λ (k : Config). k.number) walk.0.config ∙ here) i) (event i)) in
           let d : refused_of h b.seat.me.config b.seat.me.denials ≡ refused_of h a.seat.me.config a.seat.me.denials = λ i. refused_of h (config i) (same i) in
           omega arith;
-      asked = λ h. asked_same h a b (x ∷ []) config place more walk.1;
+      told = λ h. told_same h a b (x ∷ []) config place more walk.1;
       applied = ap (λ (l : List Applied). length l) more ∙ length-append a.seat.me.receipts (x ∷ []);
       refused = ap (λ (l : List Denial). length l) same ∙ omega arith;
     }
@@ -292,7 +289,7 @@ done_ill a b c j x here walk seat place number event unchanged more =
           let d : refused_of h b.seat.me.config b.seat.me.denials ≡ refused_of h a.seat.me.config a.seat.me.denials + h (job n x.event) = (λ i. refused_of h (config i) (more i)) ∙ weigh-append (λ (x : Denial). h (job n x.event)) a.seat.me.denials (x ∷ []) ∙ omega arith in
           let q : h (job n x.event) ≡ h j = λ i. h (job ((ap (λ (k : Config). k.number) walk.0.config ∙ here) i) (event i)) in
           omega arith;
-      asked = λ h. asked_same h a b [] config place same walk.1;
+      told = λ h. told_same h a b [] config place same walk.1;
       applied = ap (λ (l : List Applied). length l) unchanged ∙ omega arith;
       refused = ap (λ (l : List Denial). length l) more ∙ length-append a.seat.me.denials (x ∷ []);
     }
@@ -324,7 +321,7 @@ kept_lacking cs a b j lacks walks pass applied refused = record {
   elsewhere = (lacks, tt);
   sum = λ h.
       let d : done h b ≡ done h a = ap (weigh (done_by h)) walks in
-      let k : asked h b ≡ asked h a = ap (weigh (asked_by h)) walks in
+      let k : told h b ≡ told h a = ap (weigh (told_by h)) walks in
       let p : put h b ≡ put h a = ap (λ p. weigh h (hand_of p).put) pass in
       let t : taken h b ≡ taken h a = ap (λ p. weigh h (hand_of p).taken) pass in
       omega arith;
@@ -346,9 +343,9 @@ kept_done cs a b j k old new well lt at one walks pass applied refused = record 
       let d : done h b ≡ weigh (done_by h) (slice_set a.walks.items k new) = ap (weigh (done_by h)) walks in
       let s = weigh_set (done_by h) a.walks.items k old new lt at in
       let x = one.sum h in
-      let e : asked h b ≡ weigh (asked_by h) (slice_set a.walks.items k new) = ap (weigh (asked_by h)) walks in
-      let f = weigh_set (asked_by h) a.walks.items k old new lt at in
-      let y = one.asked h in
+      let e : told h b ≡ weigh (told_by h) (slice_set a.walks.items k new) = ap (weigh (told_by h)) walks in
+      let f = weigh_set (told_by h) a.walks.items k old new lt at in
+      let y = one.told h in
       let p : put h b ≡ put h a = ap (λ p. weigh h (hand_of p).put) pass in
       let t : taken h b ≡ taken h a = ap (λ p. weigh h (hand_of p).taken) pass in
       omega arith;
@@ -373,7 +370,7 @@ kept_put cs a b j walks applied refused pass =
       elsewhere = tt;
       sum = λ h.
           let d : done h b ≡ done h a = ap (weigh (done_by h)) items in
-          let k : asked h b ≡ asked h a = ap (weigh (asked_by h)) items in
+          let k : told h b ≡ told h a = ap (weigh (told_by h)) items in
           let p : put h b ≡ put h a + h j = ap (λ (v : Hand). weigh h v.put) pass ∙ weigh-append h (hand_of a.pass).put (j ∷ []) ∙ omega arith in
           let t : taken h b ≡ taken h a = ap (λ (v : Hand). weigh h v.taken) pass in
           omega arith;
@@ -392,7 +389,7 @@ kept_same cs xs a b c walks applied refused pass kept =
       elsewhere = kept.elsewhere;
       sum = λ h.
           let d : done h b ≡ done h a = ap (weigh (done_by h)) items in
-          let k : asked h b ≡ asked h a = ap (weigh (asked_by h)) items in
+          let k : told h b ≡ told h a = ap (weigh (told_by h)) items in
           let p : put h b ≡ put h a = ap (λ (v : Hand). weigh h v.put) pass in
           let t : taken h b ≡ taken h a = ap (λ (v : Hand). weigh h v.taken) pass in
           let s = kept.sum h in omega arith;
@@ -411,7 +408,7 @@ kept_taken cs a b c j walks applied refused pass kept =
       elsewhere = kept.elsewhere;
       sum = λ h.
           let d : done h b ≡ done h a = ap (weigh (done_by h)) items in
-          let k : asked h b ≡ asked h a = ap (weigh (asked_by h)) items in
+          let k : told h b ≡ told h a = ap (weigh (told_by h)) items in
           let p : put h b ≡ put h a = ap (λ (v : Hand). weigh h v.put) pass in
           let t : taken h b ≡ taken h a + h j = ap (λ (v : Hand). weigh h v.taken) pass ∙ weigh-append h (hand_of a.pass).taken (j ∷ []) ∙ omega arith in
           let s = kept.sum h in omega arith;
@@ -446,14 +443,14 @@ kept_moved cs a b c k w v r xs lt at next short is seat place walks pass applied
           let d : done h c ≡ weigh (done_by h) (slice_set b.walks.items k v) = ap (weigh (done_by h)) walks in
           let d' = weigh_set (done_by h) b.walks.items k w v lt at in
           let same : done_by h v ≡ done_by h w = ap (seat_done h) seat in
-          let e : asked h c ≡ weigh (asked_by h) (slice_set b.walks.items k v) = ap (weigh (asked_by h)) walks in
-          let e' = weigh_set (asked_by h) b.walks.items k w v lt at in
-          let more : asked_by h v ≡ asked_by h w + weigh h xs =
+          let e : told h c ≡ weigh (told_by h) (slice_set b.walks.items k v) = ap (weigh (told_by h)) walks in
+          let e' = weigh_set (told_by h) b.walks.items k w v lt at in
+          let more : told_by h v ≡ told_by h w + weigh h xs =
           (λ i. heard_of h (seat i).me.config (take (place i) (seat i).me.receipts))
           ∙ ap (heard_of h w.seat.me.config) (take_more w.seat.me.receipts w.place r short ∙ ap (λ (x : Applied). take w.place w.seat.me.receipts ++ x ∷ []) (sym next))
           ∙ weigh-append (λ (x : Applied). weigh h (hears w.seat.me.config x)) (take w.place w.seat.me.receipts) (r ∷ [])
           ∙ omega arith
-          ∙ ap (λ (l : List Job). asked_by h w + weigh h l) (sym is) in
+          ∙ ap (λ (l : List Job). told_by h w + weigh h l) (sym is) in
           let p : put h c ≡ put h b = ap (λ p. weigh h (hand_of p).put) pass in
           let t : taken h c ≡ taken h b = ap (λ p. weigh h (hand_of p).taken) pass in
           omega arith;
@@ -532,11 +529,6 @@ pub ready_same : {S H P : Type 0} → (cs : List CellSight) (q : Option Queue) (
 ready_same cs q a b walks passing r =
     let items : b.walks.items ≡ a.walks.items = ap (λ v. v.items) walks in
     record { seated = subst (AllSeated cs) (sym items) r.seated; passing = passing; past = subst AllPast (sym items) r.past }
-
-pub busy_same : {S H P : Type 0} → (cs : List CellSight) (q : Option Queue) (k : ℕ) (a b : (Worker S H P)) → b.walks ≡ a.walks → IsPassing q b.pass → IsBusy cs q k a → IsBusy cs q k b
-busy_same cs q k a b walks passing r =
-    let items : b.walks.items ≡ a.walks.items = ap (λ v. v.items) walks in
-    record { seated = subst (AllSeated cs) (sym items) r.seated; passing = passing; there = r.there; past = subst (AllPastBut k) (sym items) r.past }
 
 -- one walk was changed
 pub busy_set : {S H P : Type 0} → (cs : List CellSight) (q : Option Queue) (k : ℕ) (a b : (Worker S H P)) (c : CellSight) (v : (Walk S H P)) → b.walks.items ≡ slice_set a.walks.items k v → b.pass ≡ a.pass → c ≡ get_or cs k c → IsWalk c v → IsBusy cs q k a → IsBusy cs q k b

@@ -17,7 +17,7 @@ use Rattle.workers.specs.declared.deal.Bench.{Bench}
 use Rattle.workers.specs.declared.running.Report.{Report}
 use Rattle.workers.specs.declared.walk.Walk.{Walk}
 use Rattle.workers.specs.declared.worker.Worker.{Worker}
-use Rattle.workers.specs.Sums.{AllLater, AllLaterWorkers, AllPassing, AllPast, AllReady, AllSeated, IsClosed, IsLater, IsReady, applied_by, asked, asked_by, denials_of, done, heard_of, parts_of, put, receipts_of, refused_by, seat_applied, seat_done, seat_heard, seat_refused, taken}
+use Rattle.workers.specs.Sums.{AllLater, AllLaterWorkers, AllPassing, AllPast, AllReady, AllSeated, IsClosed, IsLater, IsReady, applied_by, told, told_by, denials_of, done, heard_of, parts_of, put, receipts_of, refused_by, seat_applied, seat_done, seat_heard, seat_refused, taken}
 use Rattle.workers.specs.Benches.{AllFresh, AllGrown, AllGrownBenches, AllHave, AllHold, AllHosted, AllRoomy, IsCounted, IsDealt, IsDealtAll, IsGiven, IsSplit, IsWorked, at_work, on_benches}
 use Rattle.workers.proofs.Sums.{later_none, take_whole}
 use Rattle.workers.proofs.Deals.{dealt_all_sum, dealt_len, dealt_sum, given_sum, passing_cut}
@@ -171,17 +171,17 @@ fresh_sums (w ∷ ws) all =
     let r0 = r.0 in let r1 = r.1 in let a = all.0 in let b = all.1 in
     (omega arith, omega arith)
 
-asked_past : {S H P : Type 0} → (h : Job → ℕ) (ws : List (Walk S H P)) → AllPast ws → weigh (asked_by h) ws ≡ weigh (λ (v : (Walk S H P)). seat_heard h v.seat) ws
-asked_past h [] all = refl
-asked_past h (w ∷ ws) all =
-    let r = asked_past h ws all.1 in
-    let e : asked_by h w ≡ seat_heard h w.seat = ap (heard_of h w.seat.me.config) (take_whole w.seat.me.receipts w.place all.0) in omega arith
+told_past : {S H P : Type 0} → (h : Job → ℕ) (ws : List (Walk S H P)) → AllPast ws → weigh (told_by h) ws ≡ weigh (λ (v : (Walk S H P)). seat_heard h v.seat) ws
+told_past h [] all = refl
+told_past h (w ∷ ws) all =
+    let r = told_past h ws all.1 in
+    let e : told_by h w ≡ seat_heard h w.seat = ap (heard_of h w.seat.me.config) (take_whole w.seat.me.receipts w.place all.0) in omega arith
 
-asked_all : {S H P : Type 0} → (cs : List CellSight) (q : Option Queue) (h : Job → ℕ) (ws : List (Worker S H P)) → AllReady cs q ws → weigh (asked h) ws ≡ at_work (seat_heard h) ws
-asked_all cs q h [] all = refl
-asked_all cs q h (w ∷ ws) all =
-    let r = asked_all cs q h ws all.1 in
-    let e = asked_past h w.walks.items all.0.past in omega arith
+told_all : {S H P : Type 0} → (cs : List CellSight) (q : Option Queue) (h : Job → ℕ) (ws : List (Worker S H P)) → AllReady cs q ws → weigh (told h) ws ≡ at_work (seat_heard h) ws
+told_all cs q h [] all = refl
+told_all cs q h (w ∷ ws) all =
+    let r = told_all cs q h ws all.1 in
+    let e = told_past h w.walks.items all.0.past in omega arith
 
 pub worked : {S H P : Type 0} → (cs : List CellSight) (q : Option Queue) (xs mid ys : List (Bench S H P)) (ws zs : List (Worker S H P)) (ps qs : List (Pass Job Hand)) (r : Report)
     → IsDealtAll xs ws mid → ((f : Sight → ℕ) → on_benches f ys ≡ on_benches f mid + at_work f zs) → AllFresh ws → IsSplit ps ws qs → AllReady cs q ws → AllReady cs None zs
@@ -197,8 +197,8 @@ worked cs q xs mid ys ws zs ps qs r dealt given fresh split ready rest closed co
           let c = closed.sum h in
           let p = split.put_all h in
           let t = split.taken_all h in
-          let a = asked_all cs q h ws ready in
-          let b = asked_all cs None h zs rest in
+          let a = told_all cs q h ws ready in
+          let b = told_all cs None h zs rest in
           let d : weigh (done h) ws ≡ at_work (seat_done h) ws = refl in
           let e : weigh (done h) zs ≡ at_work (seat_done h) zs = refl in
           let d0 = s (seat_done h) in
@@ -313,8 +313,8 @@ offered cs q xs mid ys a b ps qs rs jobs r dealt given a0 a1 before after k pop 
       let p1 : put_by h rs ≡ put_by h qs + put h b = ap (put_by h) push ∙ weigh-append (λ (p : Pass Job Hand). weigh h (view p).put) qs (option_to_list b.pass) ∙ ap (λ n. put_by h qs + n) (put_weighs h b.pass) in
       let t0 : taken_by h ps ≡ taken_by h qs + taken h a = ap (taken_by h) pop ∙ weigh-append (λ (p : Pass Job Hand). weigh h (view p).taken) qs (option_to_list a.pass) ∙ ap (λ n. taken_by h qs + n) (taken_weighs h a.pass) in
       let t1 : taken_by h rs ≡ taken_by h qs + taken h b = ap (taken_by h) push ∙ weigh-append (λ (p : Pass Job Hand). weigh h (view p).taken) qs (option_to_list b.pass) ∙ ap (λ n. taken_by h qs + n) (taken_weighs h b.pass) in
-      let e0 = asked_past h a.walks.items before.past in
-      let e1 = asked_past h b.walks.items after.past in
+      let e0 = told_past h a.walks.items before.past in
+      let e1 = told_past h b.walks.items after.past in
       let d0 = dealt_sum (seat_done h) xs a.walks.items mid dealt in
       let d1 = given_sum (seat_done h) mid b.walks.items ys given in
       let h0 = dealt_sum (seat_heard h) xs a.walks.items mid dealt in

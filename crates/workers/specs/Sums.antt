@@ -85,8 +85,8 @@ abbrev pub done_by : {S H P : Type 0} → (Job → ℕ) → (Walk S H P) → ℕ
 done_by h w = seat_done h w.seat
 
 -- what the receipts up to the place make heard
-abbrev pub asked_by : {S H P : Type 0} → (Job → ℕ) → (Walk S H P) → ℕ
-asked_by h w = heard_of h w.seat.me.config (take w.place w.seat.me.receipts)
+abbrev pub told_by : {S H P : Type 0} → (Job → ℕ) → (Walk S H P) → ℕ
+told_by h w = heard_of h w.seat.me.config (take w.place w.seat.me.receipts)
 
 abbrev pub applied_many : {S H P : Type 0} → (Walk S H P) → ℕ
 applied_many w = seat_applied w.seat
@@ -149,15 +149,15 @@ pub record IsDone {S H P : Type 0} (a b : (Walk S H P)) (j : Job) (well : Bool) 
   pub later : IsLater a.seat b.seat
   pub place : b.place ≡ a.place
   pub sum : (h : Job → ℕ) → done_by h b ≡ done_by h a + h j
-  pub asked : (h : Job → ℕ) → asked_by h b ≡ asked_by h a
+  pub told : (h : Job → ℕ) → told_by h b ≡ told_by h a
   pub applied : applied_many b ≡ applied_many a + (if well then 1 else 0)
   pub refused : refused_many b ≡ refused_many a + (if well then 0 else 1)
 
 abbrev pub done : {S H P : Type 0} → (Job → ℕ) → (Worker S H P) → ℕ
 done h w = weigh (done_by h) w.walks.items
 
-abbrev pub asked : {S H P : Type 0} → (Job → ℕ) → (Worker S H P) → ℕ
-asked h w = weigh (asked_by h) w.walks.items
+abbrev pub told : {S H P : Type 0} → (Job → ℕ) → (Worker S H P) → ℕ
+told h w = weigh (told_by h) w.walks.items
 
 abbrev pub put : {S H P : Type 0} → (Job → ℕ) → (Worker S H P) → ℕ
 put h w = weigh h (hand_of w.pass).put
@@ -176,7 +176,7 @@ denials_of w = weigh refused_many w.walks.items
 pub record IsKept {S H P : Type 0} (cells : List CellSight) (handed : List Job) (a b : (Worker S H P)) : Type 0 where
   pub lacking : List Job
   pub elsewhere : AllLack cells lacking
-  pub sum : (h : Job → ℕ) → done h b + put h b + weigh h lacking + asked h a + taken h a ≡ done h a + put h a + asked h b + taken h b + weigh h handed
+  pub sum : (h : Job → ℕ) → done h b + put h b + weigh h lacking + told h a + taken h a ≡ done h a + put h a + told h b + taken h b + weigh h handed
   pub applied : b.applied + receipts_of a ≡ a.applied + receipts_of b
   pub refused : b.refused + denials_of a ≡ a.refused + denials_of b + length lacking
   pub later : AllLater a.walks.items b.walks.items
@@ -243,7 +243,7 @@ refused_by w = w.refused
 pub record IsSummed {S H P : Type 0} (cells : List CellSight) (xs ys : List (Worker S H P)) : Type 0 where
   pub lacking : List Job
   pub elsewhere : AllLack cells lacking
-  pub sum : (h : Job → ℕ) → weigh (done h) ys + weigh (put h) ys + weigh h lacking + weigh (asked h) xs + weigh (taken h) xs ≡ weigh (done h) xs + weigh (put h) xs + weigh (asked h) ys + weigh (taken h) ys
+  pub sum : (h : Job → ℕ) → weigh (done h) ys + weigh (put h) ys + weigh h lacking + weigh (told h) xs + weigh (taken h) xs ≡ weigh (done h) xs + weigh (put h) xs + weigh (told h) ys + weigh (taken h) ys
   pub applied : weigh applied_by ys + weigh receipts_of xs ≡ weigh applied_by xs + weigh receipts_of ys
   pub refused : weigh refused_by ys + weigh denials_of xs ≡ weigh refused_by xs + weigh denials_of ys + length lacking
   pub later : AllLaterWorkers xs ys
@@ -266,7 +266,7 @@ passes_of (w ∷ ws) = option_to_list w.pass ++ passes_of ws
 pub record IsClosed {S H P : Type 0} (cells : List CellSight) (ps : List (Pass Job Hand)) (xs zs : List (Worker S H P)) : Type 0 where
   pub lacking : List Job
   pub elsewhere : AllLack cells lacking
-  pub sum : (h : Job → ℕ) → weigh (done h) zs + weigh h lacking + weigh (asked h) xs + weigh (taken h) xs + taken_by h ps ≡ weigh (done h) xs + weigh (put h) xs + weigh (asked h) zs + put_by h ps
+  pub sum : (h : Job → ℕ) → weigh (done h) zs + weigh h lacking + weigh (told h) xs + weigh (taken h) xs + taken_by h ps ≡ weigh (done h) xs + weigh (put h) xs + weigh (told h) zs + put_by h ps
   pub applied : weigh applied_by zs + weigh receipts_of xs ≡ weigh applied_by xs + weigh receipts_of zs
   pub refused : weigh refused_by zs + weigh denials_of xs ≡ weigh refused_by xs + weigh denials_of zs + length lacking
   pub later : AllLaterWorkers xs zs

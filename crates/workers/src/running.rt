@@ -83,9 +83,10 @@ where
 /// Each worker has a pass of the queue and a seat at each network, so there are no more workers than passes, and
 /// no more than the network with the fewest seats has; each works in a thread of its own where one can be
 /// started. A job is applied by the worker's seat at its network. For each emission that is given out, each
-/// other hosted node of the network gets a job by which it hears the emission; where the queue is full, it is
-/// applied at once. A worker ends when it finds the queue empty; what another has put by then is applied by the
-/// first worker at the close.
+/// other hosted node of the network gets a job by which it hears the emission; the same worker applies it at
+/// once, by the same seat, and what follows from it in turn, before it takes the next job. So nothing is put into
+/// the queue. A worker ends when it finds the queue empty; a job that is left then is applied by the first worker
+/// at the close.
 ///
 /// However jobs are weighed: what the queue held, and one Hear for each emission of the receipts that were gained
 /// and each other hosted node, are the jobs that were applied, those that were refused, and those of networks
@@ -159,7 +160,7 @@ fn offer_on<S: Shelf + Drop, H: Wait + Drop, R: Wait, G: Gate>(
 }
 
 /// Puts jobs in their order, before a run. What a full queue hands back is applied at once by one seat of its
-/// network, and what follows from it is put, or applied, as in a run. The queue and its passes are handed back.
+/// network, and so is what follows from it, as in a run. The queue and its passes are handed back.
 ///
 /// However jobs are weighed: the jobs, what the queue held, and one Hear for each emission of the receipts that
 /// were gained and each other hosted node of its network, are what the queue holds then, the jobs that were

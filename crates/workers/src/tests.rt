@@ -19,6 +19,24 @@ impl Gate for Open {
     fn after<R: Wait>(&self, _rt: &R, _network: u32) {}
 }
 
+/// A gate that counts how often a job is of another network than the job before.
+#[derive(Drop)]
+struct Turns {
+    network: AtomicU64,
+    turns: AtomicU64,
+}
+
+impl Gate for Turns {
+    fn before<R: Wait>(&self, _rt: &R, job: &Job) {
+        let network = job.network as u64;
+        if self.network.swap(network, Ordering::SeqCst) != network {
+            self.turns.fetch_add(1, Ordering::SeqCst);
+        }
+    }
+
+    fn after<R: Wait>(&self, _rt: &R, _network: u32) {}
+}
+
 /// A gate that holds the jobs of network 1 until one of network 2 was applied.
 #[derive(Drop)]
 struct Holding {
@@ -199,19 +217,44 @@ fn what_a_full_queue_hands_back_is_applied_at_once(rt: HostRuntime) -> Result<()
 }
 
 #[test]
+fn what_follows_from_a_job_comes_before_the_next_job(rt: HostRuntime) -> Result<(), Fail> {
+    let alloc = rt.alloc();
+    let mut host = joined(&rt, alloc, 2, 3, 1).ok_or("memory")?;
+    let jobs = openings(alloc, 2).ok_or("memory")?;
+    let opened = run_jobs(&rt, alloc, &mut host, (64, 1), jobs, &Open).ok_or("memory")?;
+    assert_eq!(rt; opened.applied, 2);
+    let gate = Turns {
+        network: AtomicU64::new(0),
+        turns: AtomicU64::new(0),
+    };
+    // Network 1 and network 2 by turns, three times.
+    let jobs = proposals(alloc, 2, 3).ok_or("memory")?;
+    let report = run_jobs(&rt, alloc, &mut host, (64, 1), jobs, &gate).ok_or("memory")?;
+    let tally = close_all(&rt, alloc, &mut host).ok_or("not closed")?;
+    let served = report.applied.saturating_add(report.refused);
+    assert_eq!(rt; served, tally.emissions.saturating_mul(2).saturating_add(6));
+    assert_eq!(rt; tally.decisions, 6);
+    assert_eq!(rt; gate.turns.load(Ordering::SeqCst), 6);
+    Ok(())
+}
+
+#[test]
 fn four_workers_leave_journals_of_one_thread(rt: HostRuntime) -> Result<(), Fail> {
     let alloc = rt.alloc();
-    let mut host = joined(&rt, alloc, 64, 3, 4).ok_or("memory")?;
-    let jobs = openings(alloc, 64).ok_or("memory")?;
+    let mut host = joined(&rt, alloc, 4096, 3, 4).ok_or("memory")?;
+    let jobs = openings(alloc, 4096).ok_or("memory")?;
     let opened = run_jobs(&rt, alloc, &mut host, (256, 4), jobs, &Open).ok_or("memory")?;
-    assert_eq!(rt; (opened.applied, opened.refused, opened.unrun), (64, 0, 0));
-    let jobs = proposals(alloc, 64, 3).ok_or("memory")?;
+    assert_eq!(rt;
+        (opened.applied, opened.refused, opened.unrun),
+        (4096, 0, 0)
+    );
+    let jobs = proposals(alloc, 4096, 3).ok_or("memory")?;
     let report = run_jobs(&rt, alloc, &mut host, (256, 4), jobs, &Open).ok_or("memory")?;
     // Each journal is applied once more by one thread, which gives out the same.
     let tally = close_all(&rt, alloc, &mut host).ok_or("not closed")?;
-    assert_eq!(rt; tally.entries, report.applied.saturating_add(64));
+    assert_eq!(rt; tally.entries, report.applied.saturating_add(4096));
     assert_eq!(rt; tally.receipts, tally.entries);
-    assert_eq!(rt; tally.decisions, 192);
+    assert_eq!(rt; tally.decisions, 12_288);
     Ok(())
 }
 

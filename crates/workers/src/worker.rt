@@ -108,22 +108,8 @@ impl<S: Shelf + Drop, H: Wait + Drop> Worker<S, H> {
         }
     }
 
-    /// Puts a job of a cell's network, or applies it where no queue has room.
-    fn ask<R: Wait, G: Gate>(&mut self, rt: &R, shared: &Shared<S, H>, gate: &G, k: usize, job: Job)
-        requires busy { IsBusy shared.now.cells.items shared.now.queue k self.old }
-        requires job { IsNumberAt shared.now.cells.items k job.network }
-        ensures busy { IsBusy shared.now.cells.items shared.now.queue k self.new }
-        ensures places { SamePlaces self.old.walks.items self.new.walks.items }
-        ensures kept { IsKept shared.now.cells.items (job ∷ []) self.old self.new }
-    {
-        match self.put(rt, shared, job) {
-            Ok(()) => {}
-            Err(job) => self.apply_at(rt, shared, gate, k, job),
-        }
-    }
-
-    /// Asks that each other node of a cell's network hears an emission.
-    fn ask_others<R: Wait, G: Gate>(
+    /// Each other node of a cell's network hears an emission.
+    fn tell_others<R: Wait, G: Gate>(
         &mut self,
         rt: &R,
         shared: &Shared<S, H>,
@@ -140,14 +126,14 @@ impl<S: Shelf + Drop, H: Wait + Drop> Worker<S, H> {
         let hosts = shared.cells[k].config().hosts();
         for host in hosts {
             match hearing(&emission, host) {
-                Some(job) => self.ask(rt, shared, gate, k, job),
+                Some(job) => self.apply_at(rt, shared, gate, k, job),
                 None => {}
             }
         }
     }
 
-    /// Asks that the others hear each emission of the receipt at a walk's place, and moves the place on.
-    fn ask_one<R: Wait, G: Gate>(&mut self, rt: &R, shared: &Shared<S, H>, gate: &G, k: usize)
+    /// The others hear each emission of the receipt at a walk's place, and the place moves on.
+    fn tell_one<R: Wait, G: Gate>(&mut self, rt: &R, shared: &Shared<S, H>, gate: &G, k: usize)
         requires busy { IsBusy shared.now.cells.items shared.now.queue k self.old }
         requires place { IsShort self.old.walks.items k }
         ensures busy { IsBusy shared.now.cells.items shared.now.queue k self.new }
@@ -159,7 +145,7 @@ impl<S: Shelf + Drop, H: Wait + Drop> Worker<S, H> {
         for index in 0..many {
             match emission_at(&self.walks[k], &receipt, config.number(), index, mark) {
                 Some(emission) => {
-                    self.ask_others(rt, shared, gate, k, emission);
+                    self.tell_others(rt, shared, gate, k, emission);
                     mark += 1;
                 }
                 None => {}
@@ -168,7 +154,9 @@ impl<S: Shelf + Drop, H: Wait + Drop> Worker<S, H> {
         move_on(&mut self.walks[k]);
     }
 
-    /// Goes through the receipts at one cell until its place is past them.
+    /// Goes through the receipts at one cell until its place is past them. A hearing that is applied adds a receipt
+    /// behind the others, so what follows from hearings is one list and no call within a call; each receipt draws an
+    /// event of the network's budget, which is finite.
     fn settle<R: Wait, G: Gate>(&mut self, rt: &R, shared: &Shared<S, H>, gate: &G, k: usize)
         requires { IsBusy shared.now.cells.items shared.now.queue k self.old }
         ensures ready { IsReady shared.now.cells.items shared.now.queue self.new }
@@ -176,7 +164,7 @@ impl<S: Shelf + Drop, H: Wait + Drop> Worker<S, H> {
     {
         for _ in rt.forever() {
             if is_short(&self.walks[k]) {
-                self.ask_one(rt, shared, gate, k);
+                self.tell_one(rt, shared, gate, k);
             } else {
                 break;
             }

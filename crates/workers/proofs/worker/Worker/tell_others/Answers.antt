@@ -5,14 +5,14 @@ use Rattle.cells.specs.Sights.{CellSight}
 use Rattle.workers.specs.Sums.{IsBusy, IsKept, SamePlaces, hears_of}
 use Rattle.workers.proofs.Sums.{get_or_same, hears_more, kept_none, kept_both, places_none, places_both}
 use Rattle.workers.proofs.Pools.{take_all}
-use Rattle.workers.proofs.worker.Worker.ask_others.Goals as goal
-use Rattle.workers.proofs.worker.Worker.ask_others.Goals.{in-Some, in-None}
+use Rattle.workers.proofs.worker.Worker.tell_others.Goals as goal
+use Rattle.workers.proofs.worker.Worker.tell_others.Goals.{in-Some, in-None}
 
 pub loop-host-init : goal.loop-host-init
 loop-host-init g c = (c.requires.busy, places_none _, kept_none _ _)
 
-pub ask-requires-clause-job : goal.ask-requires-clause-job
-ask-requires-clause-job g c = λ d. c.requires.network d ∙ sym c.in-Some.ensures.network
+pub apply_at-requires-clause-job : goal.apply_at-requires-clause-job
+apply_at-requires-clause-job g c = λ d. c.requires.network d ∙ sym c.in-Some.ensures.network
 
 pub loop-host-preserved : goal.loop-host-preserved
 loop-host-preserved g c =
@@ -27,8 +27,8 @@ loop-host-preserved g c =
     let more = hears_more e hs n h c.loop-host-test.true c.host-item.is in
     elim c.match-hearing.branch [
       | in-Some w ↦
-          let s = w.ask.ensures in
-          let now = w.ask.new.self in
+          let s = w.apply_at.ensures in
+          let now = w.apply_at.new.self in
           let what = sym (ap option_to_list w.in-Some.is) ∙ c.hearing.ensures.jobs in
           subst (λ y. IsBusy cs c.args.shared.now.queue c.args.k y × SamePlaces a.walks.items y.walks.items × IsKept cs (hears_of e (take (n + 1) hs)) a y) (sym w.self-is) (
             s.busy,

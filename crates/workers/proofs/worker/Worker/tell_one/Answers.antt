@@ -5,8 +5,8 @@ use Rattle.types.specs.declared.event.Out.TheVariants.{ArmBallot}
 use Rattle.protocol.specs.Hosts.{Config}
 use Rattle.workers.specs.Sums.{IsBusy, IsKept, SamePlaces, emission_in, hears, hears_from, hears_of}
 use Rattle.workers.proofs.Sums.{busy_set, found_network, found_none, found_some, is_seated, kept_none, kept_both, kept_moved, number_at, places_none, places_both, still_next, seated_at, hears_whole, moved_walk}
-use Rattle.workers.proofs.worker.Worker.ask_one.Goals as goal
-use Rattle.workers.proofs.worker.Worker.ask_one.Goals.{in-Some, in-None}
+use Rattle.workers.proofs.worker.Worker.tell_one.Goals as goal
+use Rattle.workers.proofs.worker.Worker.tell_one.Goals.{in-Some, in-None}
 
 pub loop-index-init : goal.loop-index-init
 loop-index-init g c = (c.requires.busy, places_none _, omega arith, ([], refl, kept_none _ _))
@@ -19,8 +19,8 @@ emission_at-requires-clause-next g c =
     let i = c.loop-index.invariant in
     still_next c.args.self.now.walks.items c.loop-index.self.walks.items c.args.k c.index-2.result.now c.index-in-loop-index.result.now c.read-receipt.result.0.value c.requires.place c.index-2.ensures c.index-in-loop-index.ensures i.1 i.3.2.later c.read-receipt.ensures.0
 
-pub ask_others-requires-clause-network : goal.ask_others-requires-clause-network
-ask_others-requires-clause-network g c =
+pub tell_others-requires-clause-network : goal.tell_others-requires-clause-network
+tell_others-requires-clause-network g c =
     let found = c.emission_at.ensures (ArmBallot 0) in
     let n = c.number.ensures ∙ ap (λ (k : Config). k.number) c.config-config.ensures in
     number_at c.args.shared.now.cells.items c.args.k c.index.result.now c.number.result c.in-Some.emission.network c.requires.busy.there c.index.ensures n (found_network _ _ _ c.in-Some.emission (sym found ∙ c.in-Some.is))
@@ -43,8 +43,8 @@ loop-index-preserved g c =
     elim c.match-emission_at.branch [
       | in-Some w ↦
           let e = w.in-Some.emission in
-          let s = w.ask_others.ensures in
-          let now = w.ask_others.new.self in
+          let s = w.tell_others.ensures in
+          let now = w.tell_others.new.self in
           let more = found_some config r.outs r.marks index mark o e lt (sym found ∙ w.in-Some.is) in
           let kept = subst (λ (k : Config). IsKept cs (hears_of e k.hosts) was now) (sym c.config-config.ensures) (s.kept c.index.result.now c.index.ensures) in
           subst (λ y. IsBusy cs c.args.shared.now.queue c.args.k y × SamePlaces a.walks.items y.walks.items × (c.match-emission_at.mark ≤ index + 1)

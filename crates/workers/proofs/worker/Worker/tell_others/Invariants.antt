@@ -1,6 +1,6 @@
 use Rattle.std.proofs.Common.{take}
 use Rattle.workers.specs.Sums.{IsBusy, IsKept, SamePlaces, hears_of}
-use Rattle.workers.proofs.worker.Worker.ask_others.Given as goal
+use Rattle.workers.proofs.worker.Worker.tell_others.Given as goal
 
 abbrev pub invariant-loop-host : goal.invariant-loop-host
 invariant-loop-host g l =

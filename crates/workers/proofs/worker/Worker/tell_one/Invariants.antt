@@ -1,7 +1,7 @@
 use Rattle.std.proofs.Common.{◌≡◌, ◌≤◌, ◌++◌, List, drop}
 use Rattle.work.specs.declared.rule.Job.{Job}
 use Rattle.workers.specs.Sums.{IsBusy, IsKept, SamePlaces, hears, hears_from}
-use Rattle.workers.proofs.worker.Worker.ask_one.Given as goal
+use Rattle.workers.proofs.worker.Worker.tell_one.Given as goal
 
 abbrev pub invariant-loop-index : goal.invariant-loop-index
 invariant-loop-index g l =
