@@ -1,3 +1,4 @@
+pub mod BadLines
 mod DraftLaws
 mod JoiningLaws
 mod LineForms

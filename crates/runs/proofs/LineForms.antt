@@ -1,5 +1,5 @@
 -- What a line tells, by what it asks for.
-use Rattle.std.proofs.Common.{◌≡◌, ℕ, List, [], ◌∷◌, Option, Some, None, refl, sym, ap, subst}
+use Rattle.std.proofs.Common.{◌≡◌, ℕ, List, [], ◌∷◌, Option, Some, None, true, refl, sym, ap, subst}
 use Rattle.std.specs.Prelude.{option_map}
 use Rattle.scripts.specs.Script.{Bytes}
 use Rattle.scripts.specs.Words.{word_counter}
@@ -11,10 +11,12 @@ use Rattle.runs.specs.declared.requests.Request.TheVariants.{Declare, Apply, Set
 use Rattle.runs.specs.declared.verbs.Verb.{Verb}
 use Rattle.runs.specs.Lines.{verb_in}
 use Rattle.runs.specs.Drafts.{Waiting}
+use Rattle.runs.specs.Naming.{Named}
 use Rattle.runs.specs.Preparing.{Prepares}
 use Rattle.runs.specs.Requests.{IsRequested, IsRequestOf}
 use Rattle.runs.specs.Hosting.{Hosting, IsPut, IsSettled, Tells}
 use Rattle.runs.specs.Hosting.Tells.{declared, answered, settled}
+use Rattle.runs.specs.Taking.{takes}
 use Rattle.runs.specs.Telling.{NamesNet}
 
 -- ---- the number of the network
@@ -46,10 +48,11 @@ names-net (word ∷ number ∷ fields) g r h = names-number (verb_in word) (word
 abbrev Asked : List Bytes → ℕ → Request → Type 0
 Asked fields g r = IsRequested fields (Some (g, r))
 
-pub tells-declaration : (old : Hosting) (ws us : Waiting) (logs : List Log) (fields : List Bytes) (g : ℕ) (r : Request) (d : Declaration)
-    → record { waiting = ws; logs = logs } ≡ old → r ≡ Declare d → Asked fields g r → Prepares g d ws us → Tells old fields None (record { waiting = us; logs = logs })
-tells-declaration old ws us logs fields g r d is e h p =
-    subst (λ s. Tells s fields None (record { waiting = us; logs = logs })) is (declared (g, d, subst (Asked fields g) e h, p) refl)
+pub tells-declaration : (old : Hosting) (ws us : Waiting) (n m : Named) (logs : List Log) (fields : List Bytes) (g : ℕ) (r : Request) (d : Declaration)
+    → record { waiting = ws; named = n; logs = logs } ≡ old → r ≡ Declare d → Asked fields g r → takes ws n g d ≡ true → Prepares g d ws us → m ≡ n
+    → Tells old fields None (record { waiting = us; named = m; logs = logs })
+tells-declaration old ws us n m logs fields g r d is e h t p same =
+    subst (λ s. Tells s fields None (record { waiting = us; named = m; logs = logs })) is (declared (g, d, subst (Asked fields g) e h, t, p) same refl)
 
 pub tells-event : (old new : Hosting) (fields : List Bytes) (g : ℕ) (r : Request) (e : Event) (text : Bytes)
     → r ≡ Apply e → Asked fields g r → IsPut g e old text new → Tells old fields (Some text) new

@@ -1,5 +1,5 @@
 -- Lines that are read for the jobs that they give to a pool.
-use Rattle.std.proofs.Common.{◌≡◌, ℕ, List, Some, None, refl, subst}
+use Rattle.std.proofs.Common.{◌≡◌, ℕ, List, Some, None, true, refl, subst}
 use Rattle.scripts.specs.Script.{Bytes}
 use Rattle.types.specs.declared.event.Event.{Event}
 use Rattle.runs.specs.declared.requests.Declaration.{Declaration}
@@ -11,15 +11,17 @@ use Rattle.runs.specs.Putting.{IsPlanned, Puts}
 use Rattle.runs.specs.Putting.Puts.{declares, plans}
 use Rattle.runs.specs.Requests.{IsRequested}
 use Rattle.runs.specs.Submitting.{Submitting}
+use Rattle.runs.specs.Taking.{takes}
 
 abbrev Asked : List Bytes → ℕ → Request → Type 0
 Asked fields g r = IsRequested fields (Some (g, r))
 
 pub puts-declaration : (old : Plan) (s t : Submitting) (opens : List _) (fields : List Bytes) (g : ℕ) (r : Request) (d : Declaration)
-    → record { submitted = s; opens = opens } ≡ old → r ≡ Declare d → Asked fields g r → Prepares g d s.waiting t.waiting → t.history ≡ s.history
+    → record { submitted = s; opens = opens } ≡ old → r ≡ Declare d → Asked fields g r → takes s.waiting s.named g d ≡ true
+    → Prepares g d s.waiting t.waiting → t.named ≡ s.named → t.history ≡ s.history
     → Puts old fields None (record { submitted = t; opens = opens })
-puts-declaration old s t opens fields g r d is e asked p same =
-    subst (λ o. Puts o fields None (record { submitted = t; opens = opens })) is (declares (g, d, subst (Asked fields g) e asked, p) same refl)
+puts-declaration old s t opens fields g r d is e asked taken p named same =
+    subst (λ o. Puts o fields None (record { submitted = t; opens = opens })) is (declares (g, d, subst (Asked fields g) e asked, taken, p) named same refl)
 
 pub puts-event : (old new : Plan) (fields : List Bytes) (g : ℕ) (r : Request) (e : Event) → r ≡ Apply e → Asked fields g r → IsPlanned g e old new
     → Puts old fields None new

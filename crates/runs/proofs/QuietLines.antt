@@ -1,5 +1,5 @@
 -- Lines that are run for what becomes of the networks.
-use Rattle.std.proofs.Common.{◌≡◌, ℕ, List, [], Some, None, Ok, Err, refl}
+use Rattle.std.proofs.Common.{◌≡◌, ℕ, List, [], Some, None, Ok, Err, true, refl}
 use Rattle.std.specs.Prelude.{◌++◌, Result, Vec, codes}
 use Rattle.std.specs.List.{flat_map}
 use Rattle.std.specs.Global.{Global}
@@ -14,10 +14,12 @@ use Rattle.runs.specs.declared.requests.Declaration.{Declaration}
 use Rattle.runs.specs.declared.requests.Request.TheVariants.{Declare, Apply, Settle}
 use Rattle.runs.specs.Drafts.{Waiting}
 use Rattle.runs.specs.Hosting.{Hosting, IsPut, IsSettled}
+use Rattle.runs.specs.Naming.{Named}
 use Rattle.runs.specs.Preparing.{Prepares}
 use Rattle.runs.specs.Replies.{IsReply, behind_space, refusal_text}
 use Rattle.runs.specs.Requests.{IsRequested}
 use Rattle.runs.specs.Quiet.{IsPutQuietly, IsRunBy}
+use Rattle.runs.specs.Taking.{takes}
 use Rattle.runs.proofs.LineForms.{names-net, tells-declaration, tells-event, tells-settle}
 
 -- each answer has a line
@@ -31,10 +33,11 @@ put_of g e old new h = ((line_of h.1).0, (h.0, h.1, h.2, h.3, h.4, (line_of h.1)
 abbrev Asked : List Bytes → ℕ → Request → Type 0
 Asked fields g r = IsRequested fields (Some (g, r))
 
-pub quiet-declaration : (old : Hosting) (ws us : Waiting) (logs : List Log) (fields : List Bytes) (g : ℕ) (r : Request) (d : Declaration)
-    → record { waiting = ws; logs = logs } ≡ old → r ≡ Declare d → Asked fields g r → Prepares g d ws us → IsRunBy g fields old (record { waiting = us; logs = logs })
-quiet-declaration old ws us logs fields g r d is e h p =
-    (names-net fields g r h, None, tells-declaration old ws us logs fields g r d is e h p)
+pub quiet-declaration : (old : Hosting) (ws us : Waiting) (n m : Named) (logs : List Log) (fields : List Bytes) (g : ℕ) (r : Request) (d : Declaration)
+    → record { waiting = ws; named = n; logs = logs } ≡ old → r ≡ Declare d → Asked fields g r → takes ws n g d ≡ true → Prepares g d ws us → m ≡ n
+    → IsRunBy g fields old (record { waiting = us; named = m; logs = logs })
+quiet-declaration old ws us n m logs fields g r d is e h t p same =
+    (names-net fields g r h, None, tells-declaration old ws us n m logs fields g r d is e h t p same)
 
 pub quiet-event : (old new : Hosting) (fields : List Bytes) (g : ℕ) (r : Request) (e : Event) → r ≡ Apply e → Asked fields g r
     → IsPutQuietly g e old new → IsRunBy g fields old new

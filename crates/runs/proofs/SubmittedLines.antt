@@ -1,5 +1,5 @@
 -- Lines that are run for what they submit.
-use Rattle.std.proofs.Common.{◌≡◌, ℕ, List, Some, None, refl, subst}
+use Rattle.std.proofs.Common.{◌≡◌, ℕ, List, Some, None, true, refl, subst}
 use Rattle.scripts.specs.Script.{Bytes}
 use Rattle.types.specs.declared.event.Event.{Event}
 use Rattle.protocol.specs.Hosts.{History}
@@ -7,19 +7,21 @@ use Rattle.runs.specs.declared.requests.Declaration.{Declaration}
 use Rattle.runs.specs.declared.requests.Request.{Request}
 use Rattle.runs.specs.declared.requests.Request.TheVariants.{Declare, Apply}
 use Rattle.runs.specs.Drafts.{Waiting}
+use Rattle.runs.specs.Naming.{Named}
 use Rattle.runs.specs.Preparing.{Prepares}
 use Rattle.runs.specs.Requests.{IsRequested}
 use Rattle.runs.specs.Submitting.{IsSubmitted, Submits, Submitting}
 use Rattle.runs.specs.Submitting.Submits.{declares, submits}
+use Rattle.runs.specs.Taking.{takes}
 
 abbrev Asked : List Bytes → ℕ → Request → Type 0
 Asked fields g r = IsRequested fields (Some (g, r))
 
-pub submits-declaration : (old : Submitting) (ws us : Waiting) (h : History) (fields : List Bytes) (g : ℕ) (r : Request) (d : Declaration)
-    → record { waiting = ws; history = h } ≡ old → r ≡ Declare d → Asked fields g r → Prepares g d ws us
-    → Submits old fields None (record { waiting = us; history = h })
-submits-declaration old ws us h fields g r d is e asked p =
-    subst (λ s. Submits s fields None (record { waiting = us; history = h })) is (declares (g, d, subst (Asked fields g) e asked, p) refl)
+pub submits-declaration : (old : Submitting) (ws us : Waiting) (n m : Named) (h : History) (fields : List Bytes) (g : ℕ) (r : Request) (d : Declaration)
+    → record { waiting = ws; named = n; history = h } ≡ old → r ≡ Declare d → Asked fields g r → takes ws n g d ≡ true → Prepares g d ws us → m ≡ n
+    → Submits old fields None (record { waiting = us; named = m; history = h })
+submits-declaration old ws us n m h fields g r d is e asked t p same =
+    subst (λ s. Submits s fields None (record { waiting = us; named = m; history = h })) is (declares (g, d, subst (Asked fields g) e asked, t, p) same refl)
 
 pub submits-event : (old new : Submitting) (fields : List Bytes) (g : ℕ) (r : Request) (e : Event) → r ≡ Apply e → Asked fields g r
     → IsSubmitted g e old new → Submits old fields None new

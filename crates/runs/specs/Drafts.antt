@@ -19,7 +19,7 @@ pub record Drafted : Type 0 where
   pub nodes : List Host
   pub roster : Option (List ℕ × Shares)
 
--- the networks that are declared and that no event has named, ascending by number
+-- the networks that are declared and that no event has named since, ascending by number
 abbrev pub Waiting : Type 0
 Waiting = List (ℕ × Drafted)
 

@@ -1,8 +1,10 @@
 pub mod Drafts
 pub mod Hosting
 pub mod Joining
+pub mod Naming
 pub mod Lines
 pub mod Preparing
+pub mod Taking
 pub mod Requests
 pub mod Replies
 pub mod Telling

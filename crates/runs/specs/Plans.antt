@@ -1,6 +1,6 @@
 -- What a script gives to a pool of workers.
 use Rattle.std.specs.Prelude.{ℕ, List, []}
-use Rattle.runs.specs.Submitting.{Submitting}
+use Rattle.runs.specs.Submitting.{Submitting, unsubmitted}
 
 -- the networks with the jobs, which are what the script submits, and the slots that are opened first with the numbers of their networks
 pub record Plan : Type 0 where
@@ -9,4 +9,4 @@ pub record Plan : Type 0 where
 
 -- before the first line
 abbrev pub unplanned : Plan
-unplanned = record { submitted = record { waiting = []; history = record { configs = []; calls = [] } }; opens = [] }
+unplanned = record { submitted = unsubmitted; opens = [] }

@@ -1,11 +1,13 @@
 -- What lines of scripts that declare change of the networks that wait.
-use Rattle.std.specs.Prelude.{◌≡◌, ℕ, List, Some, None}
+use Rattle.std.specs.Prelude.{◌≡◌, ℕ, true, List, Some, None}
 use Rattle.scripts.specs.Script.{Bytes}
 use Rattle.runs.specs.declared.requests.Declaration.{Declaration}
 use Rattle.runs.specs.declared.requests.Declaration.TheVariants.{Net, Node, Roster}
 use Rattle.runs.specs.declared.requests.Request.TheVariants.{Declare}
 use Rattle.runs.specs.Drafts.{IsRevised, Waiting, fresh, waiting_at, waiting_with, with_node, with_roster}
+use Rattle.runs.specs.Naming.{Named}
 use Rattle.runs.specs.Requests.{IsRequested}
+use Rattle.runs.specs.Taking.{takes}
 
 -- a network is declared of which none waits, or one that waits has a node more, or its roster
 abbrev pub Prepares : ℕ → Declaration → Waiting → Waiting → Type 0
@@ -13,6 +15,6 @@ Prepares g (Net b) old new = (waiting_at old g ≡ None) × (new ≡ waiting_wit
 Prepares g (Node u q) old new = IsRevised g (λ d. with_node d u q) old new
 Prepares g (Roster r) old new = IsRevised g (λ d. with_roster d r.names.items r.shares) old new
 
--- the line declares that
-abbrev pub IsPrepared : List Bytes → Waiting → Waiting → Type 0
-IsPrepared fields old new = (g : ℕ) × (d : Declaration) × IsRequested fields (Some (g, Declare d)) × Prepares g d old new
+-- the line declares that, and it is taken
+abbrev pub IsPrepared : List Bytes → Named → Waiting → Waiting → Type 0
+IsPrepared fields n old new = (g : ℕ) × (d : Declaration) × IsRequested fields (Some (g, Declare d)) × (takes old n g d ≡ true) × Prepares g d old new

@@ -1,12 +1,14 @@
 -- What the lines of scripts of networks are.
-use Rattle.std.specs.Prelude.{◌≡◌, ℕ, List, [], ◌∷◌, Option, Some, None}
+use Rattle.std.specs.Prelude.{◌≡◌, ℕ, false, List, [], ◌∷◌, Option, Some, None}
 use Rattle.scripts.specs.Script.{Bytes}
 use Rattle.scripts.specs.Words.{word_counter}
 use Rattle.types.specs.declared.event.Event.{Event}
 use Rattle.runs.specs.declared.requests.Request.{Request}
 use Rattle.runs.specs.declared.requests.Request.TheVariants.{Declare, Apply, Settle}
 use Rattle.runs.specs.Drafts.{Drafted, Waiting, waiting_at}
+use Rattle.runs.specs.Naming.{Named}
 use Rattle.runs.specs.Requests.{IsRequested}
+use Rattle.runs.specs.Taking.{takes}
 
 -- the line asks the network of a number for an event
 abbrev pub AsksOf : List Bytes → ℕ → Event → Type 0
@@ -31,17 +33,17 @@ IsBare (Some d) = d.nodes ≡ []
 abbrev pub HasNoNode : Waiting → ℕ → Type 0
 HasNoNode ws g = IsBare (waiting_at ws g)
 
--- what asks this of the network of a number is bad: of an event, and of a slot that is to settle, only where the network has no node. Which
--- declarations are this does not say yet.
-abbrev pub IsBadRequest : Waiting → ℕ → Request → Type 0
-IsBadRequest ws g (Declare d) = Unit {0}
-IsBadRequest ws g (Apply e) = HasNoNode ws g
-IsBadRequest ws g (Settle slot) = HasNoNode ws g
+-- what asks this of the network of a number is bad: a declaration that is not taken; an event, and a slot that is to settle, where the network
+-- has no node
+abbrev pub IsBadRequest : Waiting → Named → ℕ → Request → Type 0
+IsBadRequest ws n g (Declare d) = takes ws n g d ≡ false
+IsBadRequest ws n g (Apply e) = HasNoNode ws g
+IsBadRequest ws n g (Settle slot) = HasNoNode ws g
 
-abbrev pub IsBad : Waiting → Option (ℕ × Request) → Type 0
-IsBad ws None = Unit {0}
-IsBad ws (Some r) = IsBadRequest ws r.0 r.1
+abbrev pub IsBad : Waiting → Named → Option (ℕ × Request) → Type 0
+IsBad ws n None = Unit {0}
+IsBad ws n (Some r) = IsBadRequest ws n r.0 r.1
 
 -- the line has none of the forms, or what it asks for is bad
-abbrev pub Refuses : Waiting → List Bytes → Type 0
-Refuses ws fields = (asked : Option (ℕ × Request)) × IsRequested fields asked × IsBad ws asked
+abbrev pub Refuses : Waiting → Named → List Bytes → Type 0
+Refuses ws n fields = (asked : Option (ℕ × Request)) × IsRequested fields asked × IsBad ws n asked

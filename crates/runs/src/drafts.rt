@@ -1,10 +1,10 @@
 //! A network while its lines are still coming.
 
-ghost use Rattle.std.specs.Prelude.{◌≡◌, ◌==◌, [], Err, IfOk, IsTrue, None, OnOk};
+ghost use Rattle.std.specs.Prelude.{◌≡◌, ◌==◌, [], Err, IfOk, None, OnOk, Some, false, true};
 ghost use Rattle.std.specs.List.{list_any};
 ghost use Rattle.types.specs.Trees.{all_differ as names_differ};
-ghost use Rattle.configuration.specs.Faults.{first_fault, roster_tests};
 ghost use Rattle.runs.specs.Drafts.{IsConfigOf, fresh, with_node, with_roster};
+ghost use Rattle.runs.specs.Taking.{is_roster, takes_node, takes_roster};
 
 use configuration::{
     Budgets, ConfigError, Host, MAX_HOSTS, MAX_ROSTER, MAX_SHARE, NetConfig, Shares,
@@ -61,7 +61,9 @@ impl Draft {
 
     /// One node more. It is a bad line where the network has a node of that name, or 256 nodes.
     pub fn host(&mut self, name: NodeId, slices: Nested) -> Result<(), LineError>
-        ensures { OnOk result (self.new ≡ with_node self.old name slices) }
+        ensures hosted { OnOk result (self.new ≡ with_node self.old name slices) }
+        ensures taken { OnOk result (takes_node (Some self.old) name ≡ true) }
+        ensures bad { result ≡ Err LineError.Bad → takes_node (Some self.old) name ≡ false }
     {
         if self.nodes.len() >= MAX_HOSTS || has_node(&self.nodes, &name) {
             return Err(LineError::Bad);
@@ -76,7 +78,9 @@ impl Draft {
     /// Its roster. It is a bad line where there is one already, and where the configuration refuses it: a
     /// name stands twice on it, it has more than 1,024 names, or a share is above 2^40.
     pub fn reserve(&mut self, roster: Reserved) -> Result<(), LineError>
-        ensures { OnOk result (self.new ≡ with_roster self.old roster.names.items roster.shares) }
+        ensures reserved { OnOk result (self.new ≡ with_roster self.old roster.names.items roster.shares) }
+        ensures taken { OnOk result (takes_roster (Some self.old) roster.names.items roster.shares ≡ true) }
+        ensures bad { result ≡ Err LineError.Bad → takes_roster (Some self.old) roster.names.items roster.shares ≡ false }
     {
         if self.roster.is_some() || !roster.is_allowed() {
             return Err(LineError::Bad);
@@ -117,7 +121,7 @@ impl Draft {
 impl Reserved {
     // The configuration takes it.
     fn is_allowed(&self) -> bool
-        ensures { IsTrue result → first_fault (roster_tests self.now.names.items self.now.shares) ≡ None }
+        ensures { result ≡ is_roster self.now.names.items self.now.shares }
     {
         let Shares {
             own,

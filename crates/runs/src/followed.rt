@@ -1,4 +1,4 @@
-//! The networks of a script that an event has named.
+//! The open slots of the networks of a script that run.
 
 use crate::emissions::{Emission, OpenSlot, OpenSlots};
 use configuration::NetConfig;
@@ -6,12 +6,12 @@ use std::alloc::{AllocError, Global};
 use std::collections::BTreeMap;
 use types::{Event, Out};
 
-/// The networks of a script that an event has named, by number, with the open slots of those that had been
-/// declared by then.
+/// The networks of a script that an event has named after they were declared, by number, with their open
+/// slots.
 #[derive(Drop)]
 pub(crate) struct Followed {
     alloc: Global,
-    named: BTreeMap<u32, Option<OpenSlots>>,
+    running: BTreeMap<u32, OpenSlots>,
 }
 
 impl Followed {
@@ -19,43 +19,23 @@ impl Followed {
     pub fn none(alloc: Global) -> Followed {
         Followed {
             alloc,
-            named: BTreeMap::new(alloc),
+            running: BTreeMap::new(alloc),
         }
-    }
-
-    /// Whether an event has named the network of a number.
-    pub fn is_named(&self, number: u32) -> bool {
-        self.named.contains_key(&number)
-    }
-
-    /// Whether an event has named the network of a number after it was declared.
-    pub fn is_running(&self, number: u32) -> bool {
-        match self.named.get(&number) {
-            Some(Some(_)) => true,
-            _ => false,
-        }
-    }
-
-    /// An event has named a number of which no network is declared.
-    pub fn name(&mut self, number: u32) -> Result<(), AllocError> {
-        if self.is_named(number) {
-            return Ok(());
-        }
-        self.put(number, None)
     }
 
     /// An event has named the network of this configuration: its events are followed from now on.
     pub fn follow(&mut self, config: &NetConfig) -> Result<(), AllocError> {
         let slots = OpenSlots::none(self.alloc, config)?;
-        self.put(config.number(), Some(slots))
+        match self.running.insert(config.number(), slots) {
+            Ok(_) => Ok(()),
+            // Memory: the map has no room.
+            Err(_) => Err(AllocError),
+        }
     }
 
     /// The open slots of a network.
     pub fn open_slots(&mut self, number: u32) -> Option<&mut OpenSlots> {
-        match self.named.get_mut(&number) {
-            Some(Some(slots)) => Some(slots),
-            _ => None,
-        }
+        self.running.get_mut(&number)
     }
 
     /// The open slot of a network.
@@ -103,15 +83,6 @@ impl Followed {
             open.push_decided(&mut text)?;
         }
         Ok(text)
-    }
-
-    // Keeps that an event has named the network of a number.
-    fn put(&mut self, number: u32, slots: Option<OpenSlots>) -> Result<(), AllocError> {
-        match self.named.insert(number, slots) {
-            Ok(_) => Ok(()),
-            // Memory: the map has no room.
-            Err(_) => Err(AllocError),
-        }
     }
 }
 

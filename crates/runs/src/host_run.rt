@@ -1,8 +1,8 @@
 //! What runs the lines of a script of networks.
 
-ghost use Rattle.std.specs.Prelude.{◌≡◌, [], Err, IfOk, OnOk, map, string_bytes};
+ghost use Rattle.std.specs.Prelude.{◌≡◌, Err, IfOk, OnOk, map, string_bytes};
 ghost use Rattle.hoststep.specs.Worlds.{IsAnswered};
-ghost use Rattle.runs.specs.Hosting.{IsBegun, IsFinished, IsPut, IsSettled, RefusesLine};
+ghost use Rattle.runs.specs.Hosting.{BadLinesTellNothing, DeclaresNothing, IsBegun, IsFinished, IsPut, IsSettled, RefusesLine, unhosted};
 ghost use Rattle.runs.specs.Quiet.{IsPutQuietly, IsRunBy};
 ghost use Rattle.runs.specs.Telling.{HasNoNode};
 
@@ -35,13 +35,13 @@ impl Model for HostRun {
 
     ghost coded = { Prim.hlevel (codes, members_code) };
 
-    ghost view = { λ run. record { waiting = run.nets.waiting; logs = run.world } };
+    ghost view = { λ run. record { waiting = run.nets.waiting; named = run.nets.named; logs = run.world } };
 }
 
 impl HostRun {
     /// The state before the first line. It takes no memory.
     pub fn new(alloc: Global) -> HostRun
-        ensures { result ≡ record { waiting = []; logs = [] } }
+        ensures { result ≡ unhosted }
     {
         HostRun {
             nets: Nets::none(alloc),
@@ -110,7 +110,7 @@ impl HostRun {
     // Puts an event to the network of a number, and keeps what settling needs of what it gives out.
     fn apply(&mut self, number: u32, event: Event) -> Result<Result<Vec<Out>, Refusal>, AllocError>
         ensures answer { IfOk result (λ answer. IsAnswered self.old.logs number event answer self.new.logs) }
-        ensures waiting { OnOk result (self.new.waiting ≡ self.old.waiting) }
+        ensures declared { OnOk result (DeclaresNothing self.old self.new) }
     {
         let turn = turn_of(&event);
         let answer = self.world.apply(number, event);
@@ -142,7 +142,7 @@ impl HostRun {
     // Hands on what was emitted at a slot, and answers the line that is printed: what each node has
     // externalized, or the first refusal.
     fn settle_begun(&mut self, alloc: Global, number: u32, slot: u64) -> Result<String, AllocError>
-        ensures { OnOk result (self.new.waiting ≡ self.old.waiting) }
+        ensures { OnOk result (DeclaresNothing self.old self.new) }
     {
         let Some(slots) = self.nets.followed.open_slots(number) else {
             return refused(alloc, Refusal::NoSuchNetwork);
@@ -165,7 +165,7 @@ impl HostRun {
         slot: u64,
         names: &[NodeId],
     ) -> Result<Option<Refusal>, AllocError>
-        ensures { OnOk result (self.new.waiting ≡ self.old.waiting) }
+        ensures { OnOk result (DeclaresNothing self.old self.new) }
     {
         // Budgets and shares let a network hear fewer than 2^64 times.
         for _ in 0..u64::MAX {
@@ -188,7 +188,7 @@ impl HostRun {
         names: &[NodeId],
         emission: Emission,
     ) -> Result<Option<Refusal>, AllocError>
-        ensures { OnOk result (self.new.waiting ≡ self.old.waiting) }
+        ensures { OnOk result (DeclaresNothing self.old self.new) }
     {
         for name in names {
             if *name != emission.from {
@@ -222,6 +222,12 @@ impl LineRunner for HostRun {
         }
     }
 }
+
+/// A law: no line is both bad and run. So a line is called bad exactly where it is, but for want of memory.
+#[tactic(auto, using(crate::proofs::BadLines::bad_lines_tell_nothing))]
+pub fn bad_lines_tell_nothing()
+    ensures { BadLinesTellNothing }
+{}
 
 // The event by which a node hears an emission.
 fn hearing(slot: u64, node: NodeId, emission: Emission) -> Event {

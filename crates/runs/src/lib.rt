@@ -11,6 +11,7 @@ mod events;
 mod followed;
 mod host_run;
 mod job_run;
+mod named;
 mod nets;
 mod networks;
 mod quiet_run;
@@ -22,7 +23,7 @@ mod trace;
 mod verbs;
 mod waiting;
 
-pub use host_run::HostRun;
+pub use host_run::{HostRun, bad_lines_tell_nothing};
 pub use job_run::JobRun;
 pub use quiet_run::QuietRun;
 pub use replies::{line_of_reply, push_outs};

@@ -1,13 +1,17 @@
 //! The networks of a script, by number: what their lines have declared, and how far they are.
 
-ghost use Rattle.std.specs.Prelude.{◌≡◌, [], Err, IfOk, None, OnOk};
+ghost use Rattle.std.specs.Prelude.{◌≡◌, [], Err, IfOk, None, OnOk, false, true};
 ghost use Rattle.runs.specs.Drafts.{IsRevised, fresh, waiting_at, waiting_with, with_node, with_roster};
 ghost use Rattle.runs.specs.Joining.{HasJoined, HaveJoined, IsNamed, IsTaken};
+ghost use Rattle.runs.specs.Naming.{named_with, unnamed};
 ghost use Rattle.runs.specs.Preparing.{Prepares};
+ghost use Rattle.runs.specs.Taking.{takes};
+ghost use Rattle.runs.specs.declared.requests.Declaration.TheVariants.{Net, Node, Roster};
 ghost use Rattle.runs.specs.Telling.{HasNoNode};
 
 use crate::drafts::{Draft, Reserved};
 use crate::followed::Followed;
+use crate::named::Named;
 use crate::networks::Networks;
 use crate::requests::Declaration;
 use crate::waiting::Waiting;
@@ -23,27 +27,31 @@ const MAX_NETWORKS: usize = 4096;
 #[derive(Drop)]
 pub(crate) struct Nets {
     alloc: Global,
-    declared: usize,
     pub waiting: Waiting,
+    pub named: Named,
     pub followed: Followed,
 }
 
 impl Nets {
     /// No network has been declared or named. It takes no memory.
     pub fn none(alloc: Global) -> Nets
-        ensures { result.waiting ≡ [] }
+        ensures waiting { result.waiting ≡ [] }
+        ensures named { result.named ≡ unnamed }
     {
         Nets {
             alloc,
-            declared: 0,
             waiting: Waiting::none(alloc),
+            named: Named::none(alloc),
             followed: Followed::none(alloc),
         }
     }
 
-    /// A line declares this, of the network of a number. It is a bad line where that is refused.
+    /// A line declares this, of the network of a number. It is a bad line exactly where that is not taken.
     pub fn prepare(&mut self, number: u32, declaration: Declaration) -> Result<(), LineError>
-        ensures { OnOk result (Prepares number declaration self.old.waiting self.new.waiting) }
+        ensures prepared { OnOk result (Prepares number declaration self.old.waiting self.new.waiting) }
+        ensures taken { OnOk result (takes self.old.waiting self.old.named number declaration ≡ true) }
+        ensures bad { result ≡ Err LineError.Bad → takes self.old.waiting self.old.named number declaration ≡ false }
+        ensures named { self.new.named ≡ self.old.named }
     {
         match declaration {
             Declaration::Net(budgets) => self.declare(number, budgets),
@@ -57,20 +65,27 @@ impl Nets {
     fn declare(&mut self, number: u32, budgets: Budgets) -> Result<(), LineError>
         ensures absent { OnOk result (waiting_at self.old.waiting number ≡ None) }
         ensures declared { OnOk result (self.new.waiting ≡ waiting_with self.old.waiting number (fresh budgets)) }
+        ensures taken { OnOk result (takes self.old.waiting self.old.named number (Net budgets) ≡ true) }
+        ensures bad { result ≡ Err LineError.Bad → takes self.old.waiting self.old.named number (Net budgets) ≡ false }
+        ensures named { self.new.named ≡ self.old.named }
     {
-        if self.declared >= MAX_NETWORKS || self.followed.is_running(number) {
+        if self.waiting.count() + self.named.count() >= MAX_NETWORKS
+            || self.named.is_running(number)
+        {
             return Err(LineError::Bad);
         }
-        self.declared += 1;
         self.waiting.declare(number, budgets)
     }
 
     // Adds a node to a network. It is a bad line where the network is not declared or has been named by an
     // event, and where the configuration refuses the node.
     fn host(&mut self, number: u32, name: NodeId, slices: Nested) -> Result<(), LineError>
-        ensures { OnOk result (IsRevised number (λ d. with_node d name slices) self.old.waiting self.new.waiting) }
+        ensures hosted { OnOk result (IsRevised number (λ d. with_node d name slices) self.old.waiting self.new.waiting) }
+        ensures taken { OnOk result (takes self.old.waiting self.old.named number (Node name slices) ≡ true) }
+        ensures bad { result ≡ Err LineError.Bad → takes self.old.waiting self.old.named number (Node name slices) ≡ false }
+        ensures named { self.new.named ≡ self.old.named }
     {
-        if self.followed.is_named(number) {
+        if self.named.has(number) {
             return Err(LineError::Bad);
         }
         self.waiting.host(number, name, slices)
@@ -79,10 +94,13 @@ impl Nets {
     // Gives a network its roster. It is a bad line where the network is not declared or has been named by an
     // event, and where the configuration refuses the roster.
     fn reserve(&mut self, number: u32, roster: Reserved) -> Result<(), LineError>
-        ensures { OnOk result
+        ensures reserved { OnOk result
             (IsRevised number (λ d. with_roster d roster.names.items roster.shares) self.old.waiting self.new.waiting) }
+        ensures taken { OnOk result (takes self.old.waiting self.old.named number (Roster roster) ≡ true) }
+        ensures bad { result ≡ Err LineError.Bad → takes self.old.waiting self.old.named number (Roster roster) ≡ false }
+        ensures named { self.new.named ≡ self.old.named }
     {
-        if self.followed.is_named(number) {
+        if self.named.has(number) {
             return Err(LineError::Bad);
         }
         self.waiting.reserve(number, roster)
@@ -91,7 +109,8 @@ impl Nets {
     /// An event names a network. Where it is the first and the network is declared, the network is complete
     /// and joins. It is a bad line where the network has no node.
     pub fn begin<N: Networks>(&mut self, networks: &mut N, number: u32) -> Result<(), LineError>
-        ensures named { OnOk result (IsNamed N.joins number self.old.waiting self.new.waiting networks.old networks.new) }
+        ensures named { OnOk result (IsNamed N.joins number self.old.waiting self.new.waiting networks.old networks.new
+            × (self.new.named ≡ named_with number (waiting_at self.old.waiting number) self.old.named)) }
         ensures bad { result ≡ Err LineError.Bad → HasNoNode self.old.waiting number }
     {
         let Some(config) = self.name(number)? else {
@@ -116,17 +135,21 @@ impl Nets {
 
     // An event names a network. The configuration is answered where the network waited.
     fn name(&mut self, number: u32) -> Result<Option<NetConfig>, LineError>
-        ensures named { IfOk result (λ named.
+        ensures taken { IfOk result (λ named.
             IsTaken number (waiting_at self.old.waiting number) named self.old.waiting self.new.waiting) }
+        ensures named { OnOk result (self.new.named ≡ named_with number (waiting_at self.old.waiting number) self.old.named) }
         ensures bad { result ≡ Err LineError.Bad → HasNoNode self.old.waiting number }
     {
         match self.waiting.take(number) {
             Some(draft) => match draft.config(number) {
-                Ok(config) => Ok(Some(config)),
+                Ok(config) => {
+                    self.named.run(number)?;
+                    Ok(Some(config))
+                }
                 Err(error) => Err(error),
             },
             None => {
-                self.followed.name(number)?;
+                self.named.name(number)?;
                 Ok(None)
             }
         }

@@ -1,6 +1,7 @@
 //! What runs the lines of a script of networks for what becomes of the networks.
 
 ghost use Rattle.std.specs.Prelude.{◌≡◌, [], None, OnOk, Some};
+ghost use Rattle.runs.specs.Hosting.{unhosted};
 ghost use Rattle.runs.specs.Quiet.{IsFinishedQuietly, origin_in, traced};
 
 use crate::host_run::HostRun;
@@ -33,7 +34,7 @@ impl Model for QuietRun {
 impl QuietRun {
     /// The state before the first line. It takes no memory.
     pub fn new(alloc: Global) -> QuietRun
-        ensures { result ≡ record { hosting = record { waiting = []; logs = [] }; trace = None } }
+        ensures { result ≡ record { hosting = unhosted; trace = None } }
     {
         QuietRun {
             run: HostRun::new(alloc),
@@ -43,7 +44,7 @@ impl QuietRun {
 
     /// The same, which keeps from which line each entry comes.
     pub fn with_origins(alloc: Global) -> QuietRun
-        ensures { result ≡ record { hosting = record { waiting = []; logs = [] }; trace = Some [] } }
+        ensures { result ≡ record { hosting = unhosted; trace = Some [] } }
     {
         QuietRun {
             run: HostRun::new(alloc),

@@ -1,8 +1,9 @@
 //! What runs the lines of a script of networks for what they submit.
 
-ghost use Rattle.std.specs.Prelude.{◌≡◌, [], Err, OnOk};
+ghost use Rattle.std.specs.Prelude.{◌≡◌, Err, OnOk, false, true};
 ghost use Rattle.runs.specs.Preparing.{Prepares};
-ghost use Rattle.runs.specs.Submitting.{IsComplete, IsDeclared, IsSubmitted};
+ghost use Rattle.runs.specs.Submitting.{IsComplete, IsDeclared, IsSubmitted, unsubmitted};
+ghost use Rattle.runs.specs.Taking.{takes};
 ghost use Rattle.runs.specs.Telling.{HasNoNode};
 
 use crate::nets::Nets;
@@ -30,13 +31,13 @@ impl Model for SubmissionRun {
 
     ghost coded = { Prim.hlevel (codes, members_code) };
 
-    ghost view = { λ run. record { waiting = run.nets.waiting; history = run.submission } };
+    ghost view = { λ run. record { waiting = run.nets.waiting; named = run.nets.named; history = run.submission } };
 }
 
 impl SubmissionRun {
     /// The state before the first line. It takes no memory.
     pub fn new(alloc: Global) -> SubmissionRun
-        ensures { result ≡ record { waiting = []; history = record { configs = []; calls = [] } } }
+        ensures { result ≡ unsubmitted }
     {
         SubmissionRun {
             nets: Nets::none(alloc),
@@ -67,9 +68,12 @@ impl SubmissionRun {
         self.submission
     }
 
-    /// A line declares this, of the network of a number. It is a bad line where that is refused.
+    /// A line declares this, of the network of a number. It is a bad line exactly where that is not taken.
     pub(crate) fn prepare(&mut self, number: u32, declaration: Declaration) -> Result<(), LineError>
         ensures prepared { OnOk result (Prepares number declaration self.old.waiting self.new.waiting) }
+        ensures taken { OnOk result (takes self.old.waiting self.old.named number declaration ≡ true) }
+        ensures bad { result ≡ Err LineError.Bad → takes self.old.waiting self.old.named number declaration ≡ false }
+        ensures named { self.new.named ≡ self.old.named }
         ensures same { self.new.history ≡ self.old.history }
     {
         self.nets.prepare(number, declaration)

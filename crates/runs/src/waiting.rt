@@ -1,7 +1,8 @@
 //! The networks of a script that are declared and that no event has named.
 
-ghost use Rattle.std.specs.Prelude.{◌≡◌, ◌∷◌, [], IfNone, IfSome, None, OnOk};
+ghost use Rattle.std.specs.Prelude.{◌<◌, ◌≡◌, ◌^◌, ◌∷◌, [], Err, IfNone, IfSome, None, OnOk, false, is_some, length, true};
 ghost use Rattle.runs.specs.Drafts.{IsRevised, fresh, waiting_at, waiting_with, waiting_without, with_node, with_roster};
+ghost use Rattle.runs.specs.Taking.{takes_node, takes_roster};
 
 use crate::drafts::{Draft, Reserved};
 use configuration::Budgets;
@@ -46,6 +47,7 @@ impl Waiting {
     pub fn declare(&mut self, number: u32, budgets: Budgets) -> Result<(), LineError>
         ensures absent { OnOk result (waiting_at self.old number ≡ None) }
         ensures declared { OnOk result (self.new ≡ waiting_with self.old number (fresh budgets)) }
+        ensures bad { result ≡ Err LineError.Bad → is_some (waiting_at self.old number) ≡ true }
     {
         if self.drafts.contains_key(&number) {
             return Err(LineError::Bad);
@@ -59,7 +61,9 @@ impl Waiting {
     /// A network has one node more. It is a bad line where the network does not wait, and where the
     /// configuration refuses the node.
     pub fn host(&mut self, number: u32, name: NodeId, slices: Nested) -> Result<(), LineError>
-        ensures { OnOk result (IsRevised number (λ d. with_node d name slices) self.old self.new) }
+        ensures hosted { OnOk result (IsRevised number (λ d. with_node d name slices) self.old self.new) }
+        ensures taken { OnOk result (takes_node (waiting_at self.old number) name ≡ true) }
+        ensures bad { result ≡ Err LineError.Bad → takes_node (waiting_at self.old number) name ≡ false }
     {
         match self.drafts.get_mut(&number) {
             Some(draft) => draft.host(name, slices),
@@ -70,12 +74,25 @@ impl Waiting {
     /// A network has a roster. It is a bad line where the network does not wait, and where the configuration
     /// refuses the roster.
     pub fn reserve(&mut self, number: u32, roster: Reserved) -> Result<(), LineError>
-        ensures { OnOk result (IsRevised number (λ d. with_roster d roster.names.items roster.shares) self.old self.new) }
+        ensures reserved { OnOk result
+            (IsRevised number (λ d. with_roster d roster.names.items roster.shares) self.old self.new) }
+        ensures taken { OnOk result
+            (takes_roster (waiting_at self.old number) roster.names.items roster.shares ≡ true) }
+        ensures bad { result ≡ Err LineError.Bad
+            → takes_roster (waiting_at self.old number) roster.names.items roster.shares ≡ false }
     {
         match self.drafts.get_mut(&number) {
             Some(draft) => draft.reserve(roster),
             None => Err(LineError::Bad),
         }
+    }
+
+    /// How many networks wait.
+    pub fn count(&self) -> usize
+        ensures count { result ≡ length self.now }
+        ensures small { result < 2 ^ 63 }
+    {
+        self.drafts.len()
     }
 
     /// The network of a number leaves.
