@@ -6,3 +6,4 @@ pub mod FoundRows
 pub mod Keeping
 pub mod RegionLaws
 pub mod EntryLaws
+pub mod AskingLaws

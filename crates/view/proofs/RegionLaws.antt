@@ -15,16 +15,12 @@ use Rattle.protocol.specs.Reach.{IsReach}
 use Rattle.protocol.specs.Rows.{row, with_row, is_row_of}
 use Rattle.protocol.specs.Views.{passing_with, blocking_passes, seen}
 use Rattle.protocol.proofs.SatisfactionLaws.{sat_local}
-use Rattle.protocol.proofs.SetLaws.{same_test}
 use Rattle.protocol.proofs.Tables.{row-with, is_row_of-parts}
-use Rattle.protocol.proofs.ViewLaws.{is_blocked-local}
-use Rattle.quorum.proofs.Kept.{among-filter, among-from_filter}
 use Rattle.closure.specs.Keeping.{KeepsReach}
 use Rattle.closure.specs.Keeping.KeepsReach.{stranger, same_slices}
 use Rattle.fedvote.proofs.VotingLaws.{quorum_of_all}
-use Rattle.fedvote.proofs.Honesty.{names_reached}
 use Rattle.compiled.specs.Places.{bit_of, Compiled}
-use Rattle.compiled.specs.Met.{picked, picked_from, one_where, met}
+use Rattle.compiled.specs.Met.{picked, picked_from, one_where}
 use Rattle.compiled.specs.Searching.{AreCompiled}
 use Rattle.view.specs.declared.region.Region.{Region}
 use Rattle.view.specs.Regions.{IsRegion}
@@ -34,7 +30,8 @@ use Rattle.view.proofs.Sightings.{itself_reached}
 abbrev pub AreBits : List ℕ → List ℕ → Names → Type 0
 AreBits us ws p = (i : ℕ) → i < length us → bit_of ws i ≡ one_where (p (get_or us i 0))
 
-one_is : (b : Bool) → (one_where b == 1) ≡ b
+-- a number is a test's where it is one exactly then
+pub one_is : (b : Bool) → (one_where b == 1) ≡ b
 one_is true = refl
 one_is false = refl
 
@@ -62,15 +59,6 @@ module _ (own : ℕ) (configured : Slices) (table : List Sent) (r : Region) (is 
       let among_reached = subst (λ (vs : List ℕ). IsTrue b ↔ HasQuorum sat slices_at (among vs) own) (picked_is us ws p bits)
       (subst (λ v. IsTrue b ↔ HasQuorum sat slices_at (among (picked us ws)) v) is.itself over_places) in
       quorum_of_all sat names slices_at sat_local p us (is.reach.closed kind) own (itself_reached own configured table us is.reach.exactly) b among_reached
-
-  -- places that meet what blocks are all who pass, where these block
-  pub blocking_found : (ws : List ℕ) (p : Names) → AreBits r.nodes.items ws p → met r.blocking ws ≡ is_blocked configured p
-  blocking_found ws p bits =
-      let us = r.nodes.items in
-      is.blocking ws ∙ is_blocked-local configured (among (picked us ws)) p (λ u named.
-      let inside : among us u ≡ true = is.reach.exactly u ∙ names_reached own configured table u named in
-      ap (λ (vs : List ℕ). among vs u) (picked_is us ws p bits)
-      ∙ same_test (among (filter p us) u) (p u) (λ h. (among-from_filter p us u h).1) (λ h. among-filter p us u inside h))
 
 pub blocking_seen : (own : ℕ) (q : Slices) (leaders : List ℕ) (table : List Sent) (k : Kind) (own_passes : Bool) (test : Statement → Bool)
     → (seen own q leaders table).blocking k own_passes test ≡ is_blocked q (passing_with own table k own_passes test)

@@ -1,2 +1,3 @@
 pub mod Watching
 pub mod Regions
+pub mod Asking

@@ -5,6 +5,7 @@
 //! both stay as they are meanwhile.
 #![tactic(auto)]
 
+mod asking;
 mod passing;
 mod reached;
 mod region;

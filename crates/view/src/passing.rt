@@ -1,8 +1,10 @@
 //! Who passes a question, by the rows of one kind.
 
-ghost use Rattle.std.specs.Prelude.{◌≡◌, ◌<◌, ℕ, IfOk, get_or, length};
+ghost use Rattle.std.specs.Prelude.{◌≡◌, ◌<◌, ◌&&◌, ℕ, IfOk, get_or, length};
+ghost use Rattle.std.specs.List.{All};
 ghost use Rattle.compiled.specs.Met.{one_where};
 ghost use Rattle.compiled.specs.Places.{bit_of};
+ghost use Rattle.protocol.specs.Sets.{among};
 ghost use Rattle.protocol.specs.Views.{passing_with};
 ghost use Rattle.fedvote.specs.Questions.{asks};
 
@@ -29,6 +31,28 @@ pub(crate) fn supporters<S: Places>(
     for place in 0..nodes.len() {
         if passes_at(own, own_passes, rows, question, place) {
             add_place(&mut places, place);
+        }
+    }
+    Ok(places)
+}
+
+/// Those at the asked places who pass a question, as places: nobody else is asked. An error says that
+/// memory is short.
+pub(crate) fn supporters_at<S: Places>(
+    alloc: Global,
+    own: &NodeId,
+    own_passes: bool,
+    rows: &ReachedRows<'_, S>,
+    question: &Question,
+    asked: &[usize],
+) -> Result<Vec<u64>, AllocError>
+    requires { All (λ i. i < length rows.now.nodes) asked.now }
+    ensures { IfOk result (λ v. (i : ℕ) → bit_of v.items i ≡ one_where (among asked.now i && passing_with own.now rows.now.table rows.now.kind own_passes (asks question.now) (get_or rows.now.nodes i 0))) }
+{
+    let mut places = no_places(alloc, rows.nodes().len())?;
+    for place in asked {
+        if passes_at(own, own_passes, rows, question, *place) {
+            add_place(&mut places, *place);
         }
     }
     Ok(places)

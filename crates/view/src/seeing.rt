@@ -5,12 +5,15 @@ ghost use Rattle.types.specs.declared.kind.Kind.{Kind};
 ghost use Rattle.protocol.specs.Rows.{has_single_rows};
 ghost use Rattle.protocol.specs.Views.{led_by, rows_seen, seen};
 ghost use Rattle.protocol.specs.Backing.{slices_by};
+ghost use Rattle.protocol.specs.Satisfaction.{names};
 ghost use Rattle.compiled.specs.Searching.{AreCompiled};
+ghost use Rattle.view.specs.Asking.{AreAsked};
 ghost use Rattle.view.specs.Regions.{IsRegion};
 ghost use Rattle.view.specs.Watching.{rows_of_others, values_in};
 ghost use Rattle.fedvote.proofs.Honesty.{seen_honest};
 
-use crate::passing::supporters;
+use crate::asking::places_to_ask;
+use crate::passing::{supporters, supporters_at};
 use crate::reached::ReachedRows;
 use crate::region::Region;
 use crate::rows::{statements_of, values_in};
@@ -27,8 +30,8 @@ use types::{Kind, Leaders, LentBallot, Nested, NodeId, Statement, Values};
 /// voting; that strangers' rows are left out is this host's profile).
 ///
 /// Rows of strangers are not looked at: each reached node's rows are looked up once, when the view is made,
-/// and both tests find them by the node's place in the reach. The reach is its owner's, who keeps it from
-/// event to event.
+/// and both tests find them by the node's place in the reach. A blocking test asks the names of the node's
+/// slices alone, where many are reached. The reach is its owner's, who keeps it from event to event.
 #[derive(Drop)]
 pub struct View<'a, S: Places> {
     own: &'a NodeId,
@@ -36,12 +39,14 @@ pub struct View<'a, S: Places> {
     leaders: &'a Leaders,
     table: &'a Rows<'a, S>,
     region: &'a Region,
+    asked: Vec<usize>,
     ballot_rows: ReachedRows<'a, S>,
     nomination_rows: ReachedRows<'a, S>,
     ballots: Vec<&'a Statement>,
     nominated: Values,
     led: Values,
     ghost known: { IsRegion own.now slices.now table.now region.now },
+    ghost names_asked: { AreAsked region.now.nodes.items (names slices.now) asked.items },
     ghost single: { has_single_rows table.now ≡ true },
     ghost ballots_kept: { ballot_rows ≡ record { nodes = region.now.nodes.items; table = table.now; kind = Kind.Ballot } },
     ghost nominations_kept: { nomination_rows ≡ record { nodes = region.now.nodes.items; table = table.now; kind = Kind.Nomination } },
@@ -72,12 +77,14 @@ impl<'a, S: Places> View<'a, S> {
         let nominated = values_in(alloc, &nominations)?;
         let leading = statements_of(alloc, leaders.as_slice(), table, Kind::Nomination)?;
         let led = values_in(alloc, &leading)?;
+        let asked = places_to_ask(alloc, slices, &region.nodes)?;
         Ok(View {
             own,
             slices,
             leaders,
             table,
             region,
+            asked,
             ballot_rows,
             nomination_rows,
             ballots,
@@ -134,7 +141,7 @@ impl<'a, S: Places> Sight for View<'a, S> {
         question: &Question,
     ) -> Result<bool, AllocError> {
         let rows = self.rows(kind);
-        let places = supporters(alloc, self.own, own_passes, rows, question)?;
+        let places = supporters_at(alloc, self.own, own_passes, rows, question, &self.asked)?;
         Ok(is_met(&self.region.blocking, &places))
     }
 

@@ -1,7 +1,9 @@
-use Rattle.std.proofs.Common.{◌∙◌, ℕ, Bor, List, ap, map}
+use Rattle.std.proofs.Common.{◌∙◌, ℕ, Bor, List, ap, map, subst}
 use Rattle.types.specs.declared.kind.Kind.{Kind}
 use Rattle.types.specs.declared.kind.Kind.TheVariants.{Nomination}
 use Rattle.types.specs.declared.statement.Statement.{Statement}
+use Rattle.protocol.specs.Satisfaction.{names}
+use Rattle.view.specs.Asking.{AreAsked}
 use Rattle.view.specs.Watching.{Kept, rows_by, rows_of_others, values_in}
 use Rattle.view.proofs.FoundRows.{values_found}
 use Rattle.view.proofs.Sightings.{leaders_rows}
@@ -21,6 +23,7 @@ invariant_of-result g c =
     let nominations = c.in_ok-nomination_rows.ensures ∙ ap (λ (us : List ℕ). at us Nomination) c.deref-2.ensures.value in
     record {
       known = c.requires;
+      names_asked = subst (λ (us : List ℕ). AreAsked us (names configured) c.in_ok-asked.asked.items) c.deref-5.ensures.value c.in_ok-asked.ensures;
       single = single;
       ballots_kept = ballots;
       nominations_kept = nominations;
