@@ -28,6 +28,7 @@ use Rattle.envstore.specs.contracts.filed.Filed as Filed
 use Rattle.envstore.specs.contracts.archive.Archive as Archive
 use Rattle.configuration.specs.contracts.host.Host as Host
 use Rattle.configuration.specs.contracts.config.NetConfig as NetConfig
+use Rattle.network.specs.contracts.tallies.Tallies as Tallies
 use Rattle.network.specs.contracts.told.Told as Told
 use Rattle.network.specs.contracts.place.Place as Place
 use Rattle.network.specs.contracts.open_slot.OpenSlot as OpenSlot
@@ -109,11 +110,17 @@ told_sync = search (sendable, crosses, filed_sync) depth 40
 told_send : IsSend (Told.the_row)
 told_send = search (sendable, crosses, filed_send) depth 40
 
+tallies_sync : IsSync (Tallies.the_row)
+tallies_sync = search (sendable, crosses, tally.the_sync) depth 40
+
+tallies_send : IsSend (Tallies.the_row)
+tallies_send = search (sendable, crosses, tally.the_send) depth 40
+
 place_sync : IsSync (Place.the_row)
-place_sync = search (sendable, crosses, node_sync, told_sync, tally.the_sync) depth 40
+place_sync = search (sendable, crosses, node_sync, told_sync, tallies_sync) depth 40
 
 place_send : IsSend (Place.the_row)
-place_send = search (sendable, crosses, node_send, told_send, tally.the_send) depth 40
+place_send = search (sendable, crosses, node_send, told_send, tallies_send) depth 40
 
 slot_sync : IsSync (OpenSlot.the_row)
 slot_sync = search (sendable, crosses, place_sync) depth 40

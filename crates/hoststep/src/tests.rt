@@ -1,6 +1,6 @@
 //! Machines and journals with ample memory, told by hand.
 
-use crate::{Budgets, Host, Journal, LentEvent, NetConfig, NetMachine};
+use crate::{Budgets, Host, Journal, LentEvent, NetConfig, NetMachine, Shares};
 use closure::Announcements;
 use codec::encode;
 use envstore::VecShelf;
@@ -28,13 +28,18 @@ fn config(alloc: Global, events: u64) -> Option<NetConfig> {
 
 /// The bytes by which node 2 votes for a value at slot 5.
 fn vote(alloc: Global) -> Option<Bytes> {
+    vote_of(alloc, 2)
+}
+
+/// The bytes by which a node votes for a value at slot 5.
+fn vote_of(alloc: Global, sender: u64) -> Option<Bytes> {
     let mut voted = Values::empty(alloc);
     voted.push(Value::of(alloc, &[b'a']).ok()?).ok()?;
     let body = Statement::Nominate {
         voted,
         accepted: Values::empty(alloc),
     };
-    let envelope = Envelope::new(name(2), 5, slices(alloc, 2)?, body)?;
+    let envelope = Envelope::new(name(sender), 5, slices(alloc, 2)?, body)?;
     Some(Bytes::new(encode(alloc, &envelope).ok()?))
 }
 
@@ -272,5 +277,107 @@ fn decisions_are_read_in_place(rt: HostRuntime) -> Result<(), Fail> {
     let journal = decided_alone(rt.alloc()).ok_or("memory")?;
     assert!(rt; decides_in_place(&journal, 1, b"x") && !decides_in_place(&journal, 1, b"y"));
     assert!(rt; journal.decision(0).is_none() && journal.decision(2).is_none());
+    Ok(())
+}
+
+/// Names 1 to 8.
+fn eight_names(alloc: Global) -> Option<Vec<NodeId>> {
+    let mut names = Vec::new(alloc);
+    for number in 1..9 {
+        names.push(name(number)).ok()?;
+    }
+    Some(names)
+}
+
+/// Node 1 is hosted, and names 1 to 8 are on the roster, with two events and so many bytes from each to it.
+fn shared_config(alloc: Global, bytes: u64) -> Option<NetConfig> {
+    let hosts = vec![in alloc; Host::new(name(1), slices(alloc, 2)?)].ok()?;
+    let shares = Shares {
+        own: 1,
+        pair: 2,
+        bytes,
+        opens: 1,
+    };
+    let names = eight_names(alloc)?;
+    NetConfig::with_roster(alloc, 7, hosts, Budgets::new(1, 1, 1)?, names, shares).ok()
+}
+
+/// A journal of that network, with its slot open.
+fn shared(alloc: Global, bytes: u64) -> Option<Journal<VecShelf>> {
+    let config = shared_config(alloc, bytes)?;
+    let journal = Journal::new(alloc, config, VecShelf::new(alloc));
+    with_event(journal, Event::OpenSlot { slot: 5 })
+}
+
+/// Why a node's vote is refused, or nothing where it is taken. Where memory is short it is told once more.
+fn told_vote(
+    alloc: Global,
+    journal: &mut Journal<VecShelf>,
+    sender: u64,
+) -> Option<Option<Refusal>> {
+    let vote = delivery(vote_of(alloc, sender)?);
+    let again = delivery(vote_of(alloc, sender)?);
+    match journal.apply(vote) {
+        Ok(_) => Some(None),
+        Err(Refusal::NoMemory) => Some(journal.apply(again).err()),
+        Err(refusal) => Some(Some(refusal)),
+    }
+}
+
+/// Whether a vote of each of these nodes is answered so, in this order.
+fn all_answered(
+    alloc: Global,
+    journal: &mut Journal<VecShelf>,
+    senders: &[u64],
+    wanted: Option<Refusal>,
+) -> Option<bool> {
+    for sender in senders {
+        let answer = told_vote(alloc, journal, *sender)?;
+        if answer != wanted {
+            return Some(false);
+        }
+    }
+    Some(true)
+}
+
+/// Whether each of these nodes has two events taken, told in two orders, and a third refused.
+fn counts_events(alloc: Global, one: &[u64], other: &[u64]) -> Option<bool> {
+    let mut journal = shared(alloc, 1000)?;
+    let first = all_answered(alloc, &mut journal, one, None)?;
+    let second = all_answered(alloc, &mut journal, other, None)?;
+    let third = all_answered(alloc, &mut journal, one, Some(Refusal::ShareFull))?;
+    Some(first && second && third && journal.len() == 15)
+}
+
+/// Whether each of these nodes has the bytes of one vote taken, and those of a second refused.
+fn counts_bytes(alloc: Global, senders: &[u64]) -> Option<bool> {
+    let size = vote(alloc)?.as_slice().len() as u64;
+    let mut journal = shared(alloc, size)?;
+    let first = all_answered(alloc, &mut journal, senders, None)?;
+    let second = all_answered(alloc, &mut journal, senders, Some(Refusal::ShareBytesFull))?;
+    Some(first && second && journal.len() == 8)
+}
+
+const ASCENDING: [u64; 7] = [2, 3, 4, 5, 6, 7, 8];
+
+const DESCENDING: [u64; 7] = [8, 7, 6, 5, 4, 3, 2];
+
+const MIXED: [u64; 7] = [5, 2, 8, 3, 7, 4, 6];
+
+#[test]
+fn events_of_each_name_count_in_any_order(rt: HostRuntime) -> Result<(), Fail> {
+    let alloc = rt.alloc();
+    assert!(rt; counts_events(alloc, &ASCENDING, &MIXED).ok_or("memory")?);
+    assert!(rt; counts_events(alloc, &DESCENDING, &ASCENDING).ok_or("memory")?);
+    assert!(rt; counts_events(alloc, &MIXED, &DESCENDING).ok_or("memory")?);
+    Ok(())
+}
+
+#[test]
+fn bytes_of_each_name_count_in_any_order(rt: HostRuntime) -> Result<(), Fail> {
+    let alloc = rt.alloc();
+    assert!(rt; counts_bytes(alloc, &ASCENDING).ok_or("memory")?);
+    assert!(rt; counts_bytes(alloc, &DESCENDING).ok_or("memory")?);
+    assert!(rt; counts_bytes(alloc, &MIXED).ok_or("memory")?);
     Ok(())
 }

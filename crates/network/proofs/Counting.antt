@@ -1,6 +1,5 @@
 -- What a node counts, and what was drawn on its shares.
-use Rattle.std.proofs.Common.{◌≡◌, ℕ, suc, ◌+◌, Bool, true, false, ◌&&◌, ◌==◌, get_or, set, List, [], ◌∷◌, ◌++◌, map, Option, Some, None, option_map, if◌then◌else◌, refl, sym, ◌∙◌, ap, ap₂, subst, arith}
-use Rattle.std.proofs.lemmas.Bool.{eqb-true}
+use Rattle.std.proofs.Common.{◌≡◌, ℕ, ◌+◌, Bool, true, false, ◌&&◌, ◌==◌, Option, Some, None, if◌then◌else◌, refl, sym, ◌∙◌, ap, ap₂, subst, arith}
 use Rattle.std.proofs.lemmas.Bool.Decides.{nat_tests}
 use Rattle.protocol.specs.Networks.{Net, Step, size_of, source}
 use Rattle.protocol.specs.Rosters.{Roster, Share, Shares, Source, events_drawn, bytes_drawn, is_on, reserved, same_share}
@@ -9,7 +8,6 @@ use Rattle.protocol.specs.Rosters.Source.{OfBudgets, OfOpens, OfShare}
 use Rattle.protocol.specs.Counts.{IsCountedAfter, is_of_share, is_opening}
 use Rattle.protocol.specs.Networks.Reading.{Read, Fault}
 use Rattle.protocol.specs.Networks.Step.{Opens, Closes, Asks, Delivers, Hears, NominationTimes, BallotTimes, Reslices}
-use Rattle.configuration.specs.Configs.{index_in}
 use Rattle.network.specs.Charges.{IsCharged, on_own, on_pair}
 use Rattle.network.specs.Deeds.{IsDrawn}
 use Rattle.network.specs.Lodgings.{IsTallied, Lodging, Seat, bytes_from, events_from, seat_of}
@@ -18,97 +16,6 @@ use Rattle.network.specs.Standing.{Machine}
 use Rattle.network.specs.declared.plan.Charge.{Charge}
 use Rattle.network.specs.declared.plan.Drawn.{Drawn}
 use Rattle.network.specs.declared.plan.Drawn.TheVariants.{Budgets as ByBudgets, Opens as ByOpens, Own as ByOwn, Pair as ByPair}
-use Rattle.network.specs.declared.tallies.Tally.{Tally}
-
--- ---- tallies
-abbrev from_by : (Tally → ℕ) → List Tally → ℕ → ℕ
-from_by val [] u = 0
-from_by val (t ∷ ts) u = if t.from == u then val t else from_by val ts u
-
-abbrev pub names_in : List Tally → List ℕ
-names_in ts = map (λ (t : Tally). t.from) ts
-
-events-by : (ts : List Tally) (u : ℕ) → events_from ts u ≡ from_by (λ t. t.events) ts u
-events-by [] u = refl
-events-by (t ∷ ts) u = ap (λ r. if t.from == u then t.events else r) (events-by ts u)
-
-bytes-by : (ts : List Tally) (u : ℕ) → bytes_from ts u ≡ from_by (λ t. t.bytes) ts u
-bytes-by [] u = refl
-bytes-by (t ∷ ts) u = ap (λ r. if t.from == u then t.bytes else r) (bytes-by ts u)
-
-another : (a w u : ℕ) → (a == w) ≡ false → (a == u) ≡ true → (w == u) ≡ false
-another a w u h k = grind (nat_tests, arith, h, k)
-
-first-more : (val : Tally → ℕ) (n : ℕ) (t : Tally) (ts : List Tally) (w : ℕ) (x y : Tally) (u : ℕ) → x ≡ t → t.from ≡ w → y.from ≡ x.from → val y ≡ val x + n
-    → (if y.from == u then val y else from_by val ts u) ≡ (if t.from == u then val t else from_by val ts u) + (if w == u then n else 0)
-first-more val n t ts w x y u is q f v =
-    let a : y.from ≡ w = f ∙ ap (λ (s : Tally). s.from) is ∙ q in
-    let b : val y ≡ val t + n = v ∙ ap (λ s. val s + n) is in
-    ap₂ (λ m k. if m == u then k else from_by val ts u) a b ∙ go (w == u) ∙ sym (ap (λ m. (if m == u then val t else from_by val ts u) + (if w == u then n else 0)) q)
-  where
-    go : (b : Bool) → (if b then val t + n else from_by val ts u) ≡ (if b then val t else from_by val ts u) + (if b then n else 0)
-    go true = refl
-    go false = omega arith
-
-rest-more : (a w u v n A B : ℕ) → (a == w) ≡ false → A ≡ B + (if w == u then n else 0) → (if a == u then v else A) ≡ (if a == u then v else B) + (if w == u then n else 0)
-rest-more a w u v n A B h is = go (a == u) refl
-  where
-    go : (c : Bool) → (a == u) ≡ c → (if c then v else A) ≡ (if c then v else B) + (if w == u then n else 0)
-    go true q = let z : (if w == u then n else 0) ≡ 0 = ap (λ b. if b then n else 0) (another a w u h q) in omega (arith, z)
-    go false q = is
-
-from-set : (val : Tally → ℕ) (n : ℕ) (ts : List Tally) (w at : ℕ) (x y : Tally) (u : ℕ) → index_in (names_in ts) w ≡ Some at → x ≡ get_or ts at x → y.from ≡ x.from → val y ≡ val x + n
-    → from_by val (set ts at y) u ≡ from_by val ts u + (if w == u then n else 0)
-from-set val n [] w at x y u h is f v = absurd (cc)
-from-set val n (t ∷ ts) w at x y u h is f v = go (t.from == w) (index_in (names_in ts) w) (λ j e g. from-set val n ts w j x y u e g f v) refl refl h
-  where
-    go : (b : Bool) (o : Option ℕ) → ((j : ℕ) → index_in (names_in ts) w ≡ Some j → x ≡ get_or ts j x → from_by val (set ts j y) u ≡ from_by val ts u + (if w == u then n else 0))
-        → (t.from == w) ≡ b → index_in (names_in ts) w ≡ o → (if b then Some 0 else option_map suc o) ≡ Some at → from_by val (set (t ∷ ts) at y) u ≡ from_by val (t ∷ ts) u + (if w == u then n else 0)
-    go true o ih q e p = let z : 0 ≡ at = cc in subst (λ k. x ≡ get_or (t ∷ ts) k x → from_by val (set (t ∷ ts) k y) u ≡ from_by val (t ∷ ts) u + (if w == u then n else 0)) z (λ g. first-more val n t ts w x y u g (eqb-true t.from w q) f v) is
-    go false None ih q e p = absurd (cc)
-    go false (Some j) ih q e p =
-        let z : suc j ≡ at = cc in
-        subst (λ k. x ≡ get_or (t ∷ ts) k x → from_by val (set (t ∷ ts) k y) u ≡ from_by val (t ∷ ts) u + (if w == u then n else 0)) z
-        (λ g. rest-more t.from w u (val t) n (from_by val (set ts j y) u) (from_by val ts u) q (ih j e g)) is
-
-from-push : (val : Tally → ℕ) (n : ℕ) (ts : List Tally) (w : ℕ) (y : Tally) (u : ℕ) → index_in (names_in ts) w ≡ None → y.from ≡ w → val y ≡ n → from_by val (ts ++ y ∷ []) u ≡ from_by val ts u + (if w == u then n else 0)
-from-push val n [] w y u h f v = let z : (if w == u then n else 0) ≡ 0 + (if w == u then n else 0) = omega arith in ap₂ (λ m k. if m == u then k else 0) f v ∙ z
-from-push val n (t ∷ ts) w y u h f v = go (t.from == w) (index_in (names_in ts) w) (λ e. from-push val n ts w y u e f v) refl refl h
-  where
-    go : (b : Bool) (o : Option ℕ) → (index_in (names_in ts) w ≡ None → from_by val (ts ++ y ∷ []) u ≡ from_by val ts u + (if w == u then n else 0))
-        → (t.from == w) ≡ b → index_in (names_in ts) w ≡ o → (if b then Some 0 else option_map suc o) ≡ None → from_by val ((t ∷ ts) ++ y ∷ []) u ≡ from_by val (t ∷ ts) u + (if w == u then n else 0)
-    go true o ih q e p = absurd (cc)
-    go false None ih q e p = rest-more t.from w u (val t) n (from_by val (ts ++ y ∷ []) u) (from_by val ts u) q (ih e)
-    go false (Some j) ih q e p = absurd (cc)
-
--- a tally that is changed, and one that is new
-pub events-set : (ts : List Tally) (w at : ℕ) (x y : Tally) → index_in (names_in ts) w ≡ Some at → x ≡ get_or ts at x → y.from ≡ x.from → y.events ≡ x.events + 1 → (u : ℕ) → events_from (set ts at y) u ≡ events_from ts u + (if w == u then 1 else 0)
-events-set ts w at x y h is f v u = events-by (set ts at y) u ∙ from-set (λ t. t.events) 1 ts w at x y u h is f v ∙ sym (ap (λ m. m + (if w == u then 1 else 0)) (events-by ts u))
-
-pub bytes-set : (n : ℕ) (ts : List Tally) (w at : ℕ) (x y : Tally) → index_in (names_in ts) w ≡ Some at → x ≡ get_or ts at x → y.from ≡ x.from → y.bytes ≡ x.bytes + n → (u : ℕ) → bytes_from (set ts at y) u ≡ bytes_from ts u + (if w == u then n else 0)
-bytes-set n ts w at x y h is f v u = bytes-by (set ts at y) u ∙ from-set (λ t. t.bytes) n ts w at x y u h is f v ∙ sym (ap (λ m. m + (if w == u then n else 0)) (bytes-by ts u))
-
-pub events-push : (ts : List Tally) (w : ℕ) (y : Tally) → index_in (names_in ts) w ≡ None → y.from ≡ w → y.events ≡ 1 → (u : ℕ) → events_from (ts ++ y ∷ []) u ≡ events_from ts u + (if w == u then 1 else 0)
-events-push ts w y h f v u = events-by (ts ++ y ∷ []) u ∙ from-push (λ t. t.events) 1 ts w y u h f v ∙ sym (ap (λ m. m + (if w == u then 1 else 0)) (events-by ts u))
-
-pub bytes-push : (n : ℕ) (ts : List Tally) (w : ℕ) (y : Tally) → index_in (names_in ts) w ≡ None → y.from ≡ w → y.bytes ≡ n → (u : ℕ) → bytes_from (ts ++ y ∷ []) u ≡ bytes_from ts u + (if w == u then n else 0)
-bytes-push n ts w y h f v u = bytes-by (ts ++ y ∷ []) u ∙ from-push (λ t. t.bytes) n ts w y u h f v ∙ sym (ap (λ m. m + (if w == u then n else 0)) (bytes-by ts u))
-
--- the tally of a name has what was drawn from it
-first-has : (val : Tally → ℕ) (ts : List Tally) (w at : ℕ) (x : Tally) → index_in (names_in ts) w ≡ Some at → x ≡ get_or ts at x → from_by val ts w ≡ val x
-first-has val [] w at x h is = absurd (cc)
-first-has val (t ∷ ts) w at x h is = go (t.from == w) (index_in (names_in ts) w) (λ j e g. first-has val ts w j x e g) refl h
-  where
-    go : (b : Bool) (o : Option ℕ) → ((j : ℕ) → index_in (names_in ts) w ≡ Some j → x ≡ get_or ts j x → from_by val ts w ≡ val x) → index_in (names_in ts) w ≡ o → (if b then Some 0 else option_map suc o) ≡ Some at → (if b then val t else from_by val ts w) ≡ val x
-    go true o ih e p = let z : 0 ≡ at = cc in subst (λ k. x ≡ get_or (t ∷ ts) k x → val t ≡ val x) z (λ g. sym (ap val g)) is
-    go false None ih e p = absurd (cc)
-    go false (Some j) ih e p = let z : suc j ≡ at = cc in subst (λ k. x ≡ get_or (t ∷ ts) k x → from_by val ts w ≡ val x) z (λ g. ih j e g) is
-
-pub events-has : (ts : List Tally) (w at : ℕ) (x : Tally) → index_in (names_in ts) w ≡ Some at → x ≡ get_or ts at x → events_from ts w ≡ x.events
-events-has ts w at x h is = events-by ts w ∙ first-has (λ t. t.events) ts w at x h is
-
-pub bytes-has : (ts : List Tally) (w at : ℕ) (x : Tally) → index_in (names_in ts) w ≡ Some at → x ≡ get_or ts at x → bytes_from ts w ≡ x.bytes
-bytes-has ts w at x h is = bytes-by ts w ∙ first-has (λ t. t.bytes) ts w at x h is
 
 -- ---- on what an event of a node draws
 -- it draws on no share of a node of this name at this slot

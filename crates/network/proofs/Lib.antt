@@ -13,5 +13,6 @@ mod Placed
 mod Planned
 mod Plans
 pub mod Readings
+mod TallyLaws
 mod Tellings
 mod Tidiness

@@ -1,10 +1,10 @@
 -- What an event adds to the counts of its node, and what that leaves of the nodes of a network.
-use Rattle.std.specs.Prelude.{◌≡◌, ◌⊎◌, ℕ, ◌<◌, ◌≤◌, ◌+◌, ◌^◌, ◌==◌, List, Some, slice_get, if◌then◌else◌, ⊤, Vec, vec_len, vec_capacity}
-use Rattle.std.specs.Global.{Global}
+use Rattle.std.specs.Prelude.{◌≡◌, ◌⊎◌, ℕ, ◌<◌, ◌≤◌, ◌+◌, ◌^◌, ◌==◌, List, Some, slice_get, if◌then◌else◌, ⊤}
 use Rattle.types.specs.declared.event.NodeEvent.{NodeEvent}
 use Rattle.protocol.specs.Networks.{moved}
 use Rattle.network.specs.Changes.{IsChangedAt}
 use Rattle.network.specs.Lodgings.{Lodging, Lodgings, bytes_from, events_from, place_in}
+use Rattle.network.specs.TallyBooks.{TallyBook}
 use Rattle.network.specs.declared.plan.Charge.{Charge}
 use Rattle.network.specs.declared.plan.Drawn.{Drawn}
 use Rattle.network.specs.declared.plan.Drawn.TheVariants.{Budgets, Opens, Own, Pair}
@@ -58,9 +58,9 @@ abbrev pub HasRoomFor : Charge → Lodging → Type 0
 HasRoomFor c l = HasRoomInCounts c.drawn c.size l.own l.heard
 
 -- there is room for one more name where it draws on what comes from one
-abbrev pub HasRoomToTally : Drawn → Vec Tally Global → Type 0
-HasRoomToTally (Pair k h u) v = vec_len v < vec_capacity v
-HasRoomToTally _ v = ⊤
+abbrev pub HasRoomToTally : Drawn → TallyBook → Type 0
+HasRoomToTally (Pair k h u) b = 0 < b.room
+HasRoomToTally _ b = ⊤
 
 -- one event of the node, which is counted
 pub record IsActed (c : Charge) (e : NodeEvent) (old new : Lodging) : Type 0 where

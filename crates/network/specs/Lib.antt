@@ -2,6 +2,7 @@ pub mod Changes
 pub mod Marks
 pub mod Decoding
 pub mod Tellings
+pub mod TallyBooks
 pub mod Lodgings
 pub mod Charges
 pub mod Standing

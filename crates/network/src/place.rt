@@ -12,7 +12,7 @@ ghost use Rattle.network.specs.Lodgings.{IsGiven, IsLodged, bytes_from, events_f
 ghost use Rattle.network.specs.Tellings.{nth_of};
 
 use crate::plan::Charge;
-use crate::tallies::{Tally, bytes_in, count, events_in, make_room};
+use crate::tallies::{Tallies, count};
 use crate::told::{Noted, Told};
 use envstore::{Archive, Filed, Shelf};
 use slot::{FiledEvent, Node};
@@ -26,7 +26,7 @@ pub(crate) struct Place {
     node: Node,
     told: Told,
     own: u64,
-    heard: Vec<Tally>,
+    heard: Tallies,
 }
 
 impl Model for Place {
@@ -38,7 +38,7 @@ impl Model for Place {
 
     ghost coded = { Prim.hlevel (codes, members_code) };
 
-    ghost view = { λ p. record { held = p.node; told = p.told; own = p.own; heard = p.heard.items } };
+    ghost view = { λ p. record { held = p.node; told = p.told; own = p.own; heard = p.heard.tallies } };
 }
 
 impl Place {
@@ -54,7 +54,7 @@ impl Place {
             node: Node::new(alloc, name, slot, slices),
             told: Told::nothing(alloc),
             own: 0,
-            heard: Vec::new(alloc),
+            heard: Tallies::nothing(alloc),
         }
     }
 
@@ -84,14 +84,14 @@ impl Place {
     pub(crate) fn events_from(&self, from: &NodeId) -> u64
         ensures { result ≡ events_from self.now.heard from.now }
     {
-        events_in(&self.heard, from)
+        self.heard.events_from(from)
     }
 
     /// How many delivered bytes it drew from a name since the slot was opened.
     pub(crate) fn bytes_from(&self, from: &NodeId) -> u64
         ensures { result ≡ bytes_from self.now.heard from.now }
     {
-        bytes_in(&self.heard, from)
+        self.heard.bytes_from(from)
     }
 
     /// One event of the node; what it emits is kept, and the event is counted where it draws on a share of the
@@ -121,7 +121,7 @@ impl Place {
             own,
             heard,
         } = self;
-        make_room(heard, &charge.drawn)?;
+        heard.make_room(&charge.drawn)?;
         let noted = told.advance(alloc, archive, node, event, copies)?;
         count(own, heard, charge);
         Ok(noted)

@@ -1,13 +1,13 @@
 //! What was drawn on shares.
 
-ghost use Rattle.std.specs.Prelude.{◌≡◌, ◌<◌, ◌≤◌, ◌+◌, ◌^◌, ◌==◌, IfSome, OnOk, if◌then◌else◌, length, map, ℕ};
-ghost use Rattle.std.specs.Vec.{vec_capacity, vec_len};
-ghost use Rattle.configuration.specs.Configs.{index_in};
+ghost use Rattle.std.specs.Prelude.{◌≡◌, ◌<◌, ◌+◌, ◌^◌, ◌==◌, OnOk, if◌then◌else◌, ℕ, []};
 ghost use Rattle.network.specs.Charges.{FitsOrNone, HasRoomInCounts, HasRoomToTally, on_own, on_pair};
 ghost use Rattle.network.specs.Lodgings.{bytes_from, events_from};
+ghost use Rattle.network.specs.TallyBooks.{IsTallyPlace};
 
 use crate::plan::{Charge, Drawn};
-use std::alloc::AllocError;
+use std::alloc::{AllocError, Global};
+use std::marker::Model;
 use types::NodeId;
 
 /// How many events and delivered bytes a node drew from a name since its slot was opened.
@@ -18,80 +18,116 @@ pub(crate) struct Tally {
     pub bytes: u64,
 }
 
-/// How many events were drawn from a name.
-pub(crate) fn events_in(tallies: &[Tally], from: &NodeId) -> u64
-    ensures { result ≡ events_from tallies.now from.now }
-{
-    match tallies {
-        [] => 0,
-        [first, rest @ ..] => {
-            if first.from == *from {
-                first.events
-            } else {
-                events_in(rest, from)
+/// What a node drew from each name since its slot was opened: a tally for each name, ascending by name, found
+/// by a binary search.
+///
+/// Contracts see the tallies, and for how many names more there is room.
+#[derive(Drop)]
+pub(crate) struct Tallies {
+    entries: Vec<Tally>,
+}
+
+impl Model for Tallies {
+    ghost use Rattle.std.specs.Prelude.{◌-◌};
+    ghost use Rattle.std.specs.Coded.{codes};
+    ghost use Rattle.std.specs.Vec.{vec_capacity, vec_len};
+    ghost use Rattle.protocol.specs.Sets.{IsAscending};
+    ghost use Rattle.network.specs.TallyBooks.{TallyBook, names_in};
+
+    ghost Value = { TallyBook };
+
+    ghost coded = { Prim.hlevel codes };
+
+    ghost view = { λ b. record { tallies = b.entries.items; room = vec_capacity b.entries - vec_len b.entries } };
+
+    ghost invariant = { λ b. IsAscending (names_in b.entries.items) };
+}
+
+impl Tallies {
+    /// Nothing was drawn. It takes no memory.
+    pub(crate) fn nothing(alloc: Global) -> Tallies
+        ensures { result.tallies ≡ [] }
+    {
+        Tallies {
+            entries: Vec::new(alloc),
+        }
+    }
+
+    /// How many events were drawn from a name.
+    pub(crate) fn events_from(&self, from: &NodeId) -> u64
+        ensures { result ≡ events_from self.now.tallies from.now }
+    {
+        match self.place(from) {
+            Ok(at) => self.entries[at].events,
+            Err(_) => 0,
+        }
+    }
+
+    /// How many delivered bytes were drawn from a name.
+    pub(crate) fn bytes_from(&self, from: &NodeId) -> u64
+        ensures { result ≡ bytes_from self.now.tallies from.now }
+    {
+        match self.place(from) {
+            Ok(at) => self.entries[at].bytes,
+            Err(_) => 0,
+        }
+    }
+
+    /// Makes room for one more name where an event draws on what a node gets from a name. An error says that
+    /// memory is short.
+    pub(crate) fn make_room(&mut self, drawn: &Drawn) -> Result<(), AllocError>
+        ensures same { self.new.tallies ≡ self.old.tallies }
+        ensures room { OnOk result (HasRoomToTally drawn.now self.new) }
+    {
+        match drawn {
+            Drawn::Budgets | Drawn::Opens | Drawn::Own { .. } => Ok(()),
+            Drawn::Pair { .. } => self.entries.reserve(1),
+        }
+    }
+
+    /// Counts one event more from a name, with so many bytes, where there is room for the name.
+    fn count_from(&mut self, from: &NodeId, size: u64)
+        requires room { 0 < self.old.room }
+        requires few_events { events_from self.old.tallies from.now < 2 ^ 40 }
+        requires few_bytes { FitsOrNone (bytes_from self.old.tallies from.now) size }
+        ensures events { (u : ℕ) → events_from self.new.tallies u ≡ events_from self.old.tallies u + (if from.now == u then 1 else 0) }
+        ensures bytes { (u : ℕ) → bytes_from self.new.tallies u ≡ bytes_from self.old.tallies u + (if from.now == u then size else 0) }
+    {
+        match self.place(from) {
+            Ok(at) => add(&mut self.entries[at], size),
+            Err(at) => {
+                let tally = Tally {
+                    from: *from,
+                    events: 1,
+                    bytes: size,
+                };
+                let Ok(()) = self.entries.insert(at, tally) else {
+                    unreachable!()
+                };
             }
         }
     }
-}
 
-/// How many delivered bytes were drawn from a name.
-pub(crate) fn bytes_in(tallies: &[Tally], from: &NodeId) -> u64
-    ensures { result ≡ bytes_from tallies.now from.now }
-{
-    match tallies {
-        [] => 0,
-        [first, rest @ ..] => {
-            if first.from == *from {
-                first.bytes
-            } else {
-                bytes_in(rest, from)
-            }
-        }
-    }
-}
-
-/// Makes room for one more name where an event draws on what a node gets from a name. An error says that
-/// memory is short.
-pub(crate) fn make_room(tallies: &mut Vec<Tally>, drawn: &Drawn) -> Result<(), AllocError>
-    ensures same { tallies.new.items ≡ tallies.old.items }
-    ensures room { OnOk result (HasRoomToTally drawn.now tallies.new) }
-{
-    match drawn {
-        Drawn::Budgets | Drawn::Opens | Drawn::Own { .. } => Ok(()),
-        Drawn::Pair { .. } => tallies.reserve(1),
+    /// The place of a name's tally, or where it would stand, by a binary search.
+    fn place(&self, from: &NodeId) -> Result<usize, usize>
+        ensures { IsTallyPlace self.now.tallies from.now result }
+    {
+        self.entries.binary_search_by_key(from, |tally| tally.from)
     }
 }
 
 /// Counts an event of a node where it draws on a share of the node, for which there is room.
-pub(crate) fn count(own: &mut u64, tallies: &mut Vec<Tally>, charge: &Charge)
-    requires few { HasRoomInCounts charge.now.drawn charge.now.size own.old tallies.old.items }
-    requires room { HasRoomToTally charge.now.drawn tallies.old }
+pub(crate) fn count(own: &mut u64, heard: &mut Tallies, charge: &Charge)
+    requires few { HasRoomInCounts charge.now.drawn charge.now.size own.old heard.old.tallies }
+    requires room { HasRoomToTally charge.now.drawn heard.old }
     ensures own { own.new ≡ own.old + on_own charge.now.drawn }
-    ensures events { (u : ℕ) → events_from tallies.new.items u ≡ events_from tallies.old.items u + on_pair charge.now.drawn 1 u }
-    ensures bytes { (u : ℕ) → bytes_from tallies.new.items u ≡ bytes_from tallies.old.items u + on_pair charge.now.drawn charge.now.size u }
+    ensures events { (u : ℕ) → events_from heard.new.tallies u ≡ events_from heard.old.tallies u + on_pair charge.now.drawn 1 u }
+    ensures bytes { (u : ℕ) → bytes_from heard.new.tallies u ≡ bytes_from heard.old.tallies u + on_pair charge.now.drawn charge.now.size u }
 {
     match &charge.drawn {
         Drawn::Budgets | Drawn::Opens => {}
         Drawn::Own { .. } => *own += 1,
-        Drawn::Pair { from, .. } => count_heard(tallies, from, charge.size),
-    }
-}
-
-/// Counts one event more from a name, with so many bytes, where there is room for the name.
-fn count_heard(tallies: &mut Vec<Tally>, from: &NodeId, size: u64)
-    requires room { vec_len tallies.old < vec_capacity tallies.old }
-    requires few_events { events_from tallies.old.items from.now < 2 ^ 40 }
-    requires few_bytes { FitsOrNone (bytes_from tallies.old.items from.now) size }
-    ensures events { (u : ℕ) → events_from tallies.new.items u ≡ events_from tallies.old.items u + (if from.now == u then 1 else 0) }
-    ensures bytes { (u : ℕ) → bytes_from tallies.new.items u ≡ bytes_from tallies.old.items u + (if from.now == u then size else 0) }
-{
-    match tally_of(tallies, from) {
-        None => tallies.push_reserved(Tally {
-            from: *from,
-            events: 1,
-            bytes: size,
-        }),
-        Some(at) => add(&mut tallies[at], size),
+        Drawn::Pair { from, .. } => heard.count_from(from, charge.size),
     }
 }
 
@@ -105,23 +141,4 @@ fn add(tally: &mut Tally, size: u64)
 {
     tally.events += 1;
     tally.bytes += size;
-}
-
-/// The place of the tally of a name.
-fn tally_of(tallies: &[Tally], from: &NodeId) -> Option<usize>
-    ensures value { result ≡ index_in (map (λ t. t.from) tallies.now) from.now }
-    ensures within { IfSome result (λ at. at < length tallies.now) }
-{
-    match tallies {
-        [] => None,
-        [first, rest @ ..] => {
-            if first.from == *from {
-                return Some(0);
-            }
-            match tally_of(rest, from) {
-                None => None,
-                Some(at) => Some(at + 1),
-            }
-        }
-    }
 }
