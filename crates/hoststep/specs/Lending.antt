@@ -1,11 +1,9 @@
 -- What is read of a journal in place.
 use Rattle.std.specs.Prelude.{ℕ, slice_get, List, [], Option, Some, None}
-use Rattle.types.specs.Trees.{Slices}
 use Rattle.types.specs.declared.event.Out.{Out}
 use Rattle.protocol.specs.Hosts.{Entry}
 use Rattle.protocol.specs.Networks.{Step}
 use Rattle.protocol.specs.Networks.Reading.{Read}
-use Rattle.protocol.specs.Reslices.{slices_next}
 use Rattle.protocol.specs.Networks.Step.{Opens, Closes, Asks, Delivers, Hears, NominationTimes, BallotTimes, Reslices}
 use Rattle.hoststep.specs.declared.lent_event.LentEvent.{LentEvent}
 use Rattle.hoststep.specs.declared.lent_event.LentEvent.TheVariants.{OpenSlot, CloseSlot, Propose, Deliver, Hear, NominationTimer, BallotTimer, Reslice}
@@ -29,8 +27,3 @@ outs_in (Some x) = x.outs
 -- what the entry with this number gave out, from 0 on; nothing past the last
 abbrev pub outs_at : List Entry → ℕ → List Out
 outs_at entries n = outs_in (slice_get entries n)
-
--- the slices of a node at a slot after one more entry, if there is one
-abbrev pub slices_past : ℕ → ℕ → Slices → Slices → Option Entry → Slices
-slices_past i u configured now None = now
-slices_past i u configured now (Some x) = slices_next i u configured now x.event

@@ -1,8 +1,10 @@
 //! A network with its journal.
 
-ghost use Rattle.std.specs.Prelude.{◌≡◌, ◌++◌, [], IfErr, IfOk, ◌==◌, None, OnErr, OnOk, Some, length, option_map, option_to_list, slice_get, take};
-ghost use Rattle.protocol.specs.Runs.{IsRun};
+ghost use Rattle.std.specs.Prelude.{◌≡◌, ◌&&◌, ◌++◌, [], IfErr, IfOk, ◌==◌, None, OnErr, OnOk, Some, is_some, length, option_map, option_to_list, slice_get, take};
+ghost use Rattle.protocol.specs.Networks.{is_open, slices_of};
+ghost use Rattle.protocol.specs.Runs.{IsRun, state_of};
 ghost use Rattle.network.specs.Decoding.{step_of};
+ghost use Rattle.network.specs.Standing.{slices_at};
 ghost use Rattle.hoststep.specs.Logs.{IsEntered, IsEntryAt, IsRecorded, IsRefused, extended};
 ghost use Rattle.hoststep.specs.Entering.{IsEnteredWith, outs_after};
 ghost use Rattle.hoststep.specs.Lending.{lent_step, outs_at};
@@ -18,7 +20,7 @@ use envstore::Shelf;
 use network::{Applied, Network};
 use std::alloc::{AllocError, Global};
 use std::marker::Model;
-use types::{Event, Out, Refusal};
+use types::{Event, Nested, NodeId, Out, Refusal};
 
 /// A network with the events that were applied to it and what they gave out, numbered from 0.
 ///
@@ -87,6 +89,15 @@ impl<S: Shelf> Journal<S> {
         ensures { IsRun self.now.config self.now.entries }
     {
         let _entries = &self.entries;
+    }
+
+    /// The slices of a hosted node at an open slot, as they are after all entries; `None` where the slot is
+    /// not open then, and where the node is not hosted. It takes no memory.
+    pub(crate) fn slices_now(&self, slot: u64, node: &NodeId) -> Option<&Nested>
+        ensures value { option_map (λ q. q.now) result ≡ slices_at (state_of self.now.config self.now.entries) slot node.now }
+        ensures there { is_some result ≡ (is_open (state_of self.now.config self.now.entries) slot && is_some (slices_of self.now.config.hosts node.now)) }
+    {
+        self.network.slices(slot, node)
     }
 
     /// One event, entered in the journal where it is not refused; what it gives out is answered whole.

@@ -65,9 +65,10 @@ fn with_event(mut journal: Journal<VecShelf>, event: Event) -> Option<Journal<Ve
     }
 }
 
-/// A journal where slot 5 was opened, node 2 voted, and node 1 was given slices of node 3.
+/// A journal where slot 5 was opened, node 2 voted, and node 1 was given slices of node 3, with room for two
+/// more events.
 fn told(alloc: Global) -> Option<Journal<VecShelf>> {
-    let journal = with_event(opened(alloc, 3)?, delivery(vote(alloc)?))?;
+    let journal = with_event(opened(alloc, 5)?, delivery(vote(alloc)?))?;
     let reslice = Event::Reslice {
         slot: 5,
         node: name(1),
@@ -243,6 +244,22 @@ fn slices_hold_at_their_slot(rt: HostRuntime) -> Result<(), Fail> {
     assert!(rt; are_slices(journal.slices_then(&name(1), 5), &new));
     assert!(rt; are_slices(journal.slices_then(&name(1), 6), &configured));
     assert!(rt; journal.slices(&name(2)).is_none() && journal.slices_then(&name(3), 5).is_none());
+    assert!(rt;
+        journal.slices_then(&name(2), 5).is_none() && journal.slices_then(&name(3), 6).is_none()
+    );
+    Ok(())
+}
+
+#[test]
+fn new_slices_end_with_their_slot(rt: HostRuntime) -> Result<(), Fail> {
+    let alloc = rt.alloc();
+    let configured = slices(alloc, 2).ok_or("memory")?;
+    let journal = told(alloc).ok_or("memory")?;
+    let closed = with_event(journal, Event::CloseSlot { slot: 5 }).ok_or("refused")?;
+    assert!(rt; are_slices(closed.slices_then(&name(1), 5), &configured));
+    let reopened = with_event(closed, Event::OpenSlot { slot: 5 }).ok_or("refused")?;
+    assert!(rt; are_slices(reopened.slices_then(&name(1), 5), &configured));
+    assert!(rt; reopened.slices_then(&name(3), 5).is_none());
     Ok(())
 }
 

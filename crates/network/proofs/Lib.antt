@@ -13,6 +13,7 @@ mod Placed
 mod Planned
 mod Plans
 pub mod Readings
+mod SlicesAt
 mod TallyLaws
 mod Tellings
 mod Tidiness

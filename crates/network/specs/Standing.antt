@@ -1,14 +1,14 @@
 -- A network as the host keeps it, and the networks of the definitions that it stands for.
-use Rattle.std.specs.Prelude.{◌≡◌, ◌⊎◌, ℕ, ◌≤◌, ◌+◌, true, List, [], map, Option, Some, slice_get, Vec, Result, Ok, Err}
+use Rattle.std.specs.Prelude.{◌≡◌, ◌⊎◌, ℕ, ◌≤◌, ◌+◌, true, List, [], map, option_map, Option, Some, slice_get, Vec, Result, Ok, Err}
 use Rattle.std.specs.Global.{Global}
 use Rattle.std.specs.List.{AllByRecursion}
 use Rattle.types.specs.Statements.{Sent}
-use Rattle.types.specs.Trees.{all_differ}
+use Rattle.types.specs.Trees.{Slices, all_differ}
 use Rattle.types.specs.declared.event.Out.{Out}
 use Rattle.types.specs.declared.event.Refusal.{Refusal}
 use Rattle.types.specs.declared.event.Refusal.TheVariants.{NoMemory}
 use Rattle.protocol.specs.Hosts.{Config}
-use Rattle.protocol.specs.Networks.{Net, Step, first_that, net_step, tests}
+use Rattle.protocol.specs.Networks.{Net, Step, first_that, known, net_step, places_at, tests}
 use Rattle.protocol.specs.Networks.Reply.{Done}
 use Rattle.protocol.specs.Rosters.{Draw}
 use Rattle.configuration.specs.Configs.{names_of}
@@ -70,6 +70,11 @@ pub record IsStanding (m : Standing) : Type 0 where
   pub lodged : AreLodged m.archive m.slots
   pub tidy : IsTidy (machine_of m)
   pub stood : IsStood (machine_of m)
+
+-- ---- what is read of a node
+-- the slices of a node at a slot of a network, as they are now; there are none where the slot is not open, and where the node is not hosted
+abbrev pub slices_at : Net → ℕ → ℕ → Option Slices
+slices_at net i u = option_map (λ p. p.node.slices) (known (places_at net.slots i) u)
 
 -- ---- what an event is answered
 -- it is the network's step, for each network for which the machine stands

@@ -1,11 +1,12 @@
 //! One network, seen with its archive.
 
-ghost use Rattle.std.specs.Prelude.{◌≡◌, ◌<◌, [], IfSome, MatchResult, None, Some, length, map};
+ghost use Rattle.std.specs.Prelude.{◌≡◌, ◌&&◌, ◌<◌, [], IfSome, MatchResult, None, Some, is_some, length, map, option_map};
+ghost use Rattle.protocol.specs.Networks.{Net, is_open, slices_of};
 ghost use Rattle.configuration.specs.Configs.{index_of_name};
 ghost use Rattle.envstore.specs.Archives.{IsFiled, sent_of};
 ghost use Rattle.network.specs.Deeds.{IsSeat, IsSeatThere, index_of_slot};
 ghost use Rattle.network.specs.Lodgings.{IsLodged, seat_of, seats_of, slot_of};
-ghost use Rattle.network.specs.Standing.{machine_of};
+ghost use Rattle.network.specs.Standing.{StandsFor, machine_of, slices_at};
 
 use crate::open_slot::OpenSlot;
 use crate::place::Place;
@@ -13,7 +14,7 @@ use configuration::NetConfig;
 use envstore::{Archive, Filed, Shelf};
 use std::alloc::Global;
 use std::marker::Model;
-use types::{Envelope, NodeId, Refusal};
+use types::{Envelope, Nested, NodeId, Refusal};
 
 /// One network: its configuration, its archive, its open slots with the hosted nodes there, and how much of
 /// its budgets is used up.
@@ -82,6 +83,21 @@ impl<S: Shelf> Network<S> {
         ensures { result ≡ filed.now }
     {
         self.archive.again(filed)
+    }
+
+    /// The slices of a hosted node at an open slot, as they are now; `None` where the slot is not open, and
+    /// where the node is not hosted. It takes no memory.
+    pub fn slices(&self, slot: u64, node: &NodeId) -> Option<&Nested>
+        ensures value { (net : Net) → StandsFor (machine_of self.now) net → option_map (λ q. q.now) result ≡ slices_at net slot node.now }
+        ensures there { (net : Net) → StandsFor (machine_of self.now) net → is_some result ≡ (is_open net slot && is_some (slices_of self.now.config.hosts node.now)) }
+    {
+        match self.slot_at(slot) {
+            None => None,
+            Some(slot_at) => match self.config.place(node) {
+                None => None,
+                Some(host_at) => Some(self.place(slot_at, host_at).slices()),
+            },
+        }
     }
 
     /// The place of a hosted node.

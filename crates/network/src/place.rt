@@ -65,6 +65,13 @@ impl Place {
         self.node.given().input.is_some()
     }
 
+    /// The slices of the node, as they are now.
+    pub(crate) fn slices(&self) -> &Nested
+        ensures { result.now ≡ (place_in self.now).node.slices }
+    {
+        self.node.slices()
+    }
+
     /// The node's emission of a kind with this number, from 1 on.
     pub(crate) fn emission(&self, kind: Kind, number: u64) -> Option<&Filed>
         ensures sent { option_map (λ f. sent_of f.now) result ≡ nth_of kind number (place_in self.now).told }
