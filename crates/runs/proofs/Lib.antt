@@ -1,5 +1,6 @@
 pub mod BadLines
 mod DraftLaws
+mod Hearings
 mod JoiningLaws
 mod LineForms
 mod NameLists

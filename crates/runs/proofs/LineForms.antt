@@ -59,5 +59,5 @@ pub tells-event : (old new : Hosting) (fields : List Bytes) (g : ℕ) (r : Reque
 tells-event old new fields g r e text is h put = answered g e (subst (Asked fields g) is h) put
 
 pub tells-settle : (old new : Hosting) (fields : List Bytes) (g : ℕ) (r : Request) (slot : ℕ) (text : Bytes)
-    → r ≡ Settle slot → Asked fields g r → IsSettled g old new → Tells old fields (Some text) new
+    → r ≡ Settle slot → Asked fields g r → IsSettled g slot old text new → Tells old fields (Some text) new
 tells-settle old new fields g r slot text is h done = settled g slot (subst (Asked fields g) is h) done

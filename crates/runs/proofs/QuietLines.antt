@@ -1,5 +1,5 @@
 -- Lines that are run for what becomes of the networks.
-use Rattle.std.proofs.Common.{◌≡◌, ℕ, List, [], Some, None, Ok, Err, true, refl}
+use Rattle.std.proofs.Common.{◌≡◌, ℕ, List, Some, None, Ok, Err, true, refl}
 use Rattle.std.specs.Prelude.{◌++◌, Result, Vec, codes}
 use Rattle.std.specs.List.{flat_map}
 use Rattle.std.specs.Global.{Global}
@@ -45,6 +45,6 @@ quiet-event old new fields g r e is h put =
     let printed = put_of g e old new put in
     (names-net fields g r h, Some printed.0, tells-event old new fields g r e printed.0 is h printed.1)
 
-pub quiet-settle : (old new : Hosting) (fields : List Bytes) (g : ℕ) (r : Request) (slot : ℕ) → r ≡ Settle slot → Asked fields g r → IsSettled g old new
-    → IsRunBy g fields old new
-quiet-settle old new fields g r slot is h done = (names-net fields g r h, Some [], tells-settle old new fields g r slot [] is h done)
+pub quiet-settle : (old new : Hosting) (fields : List Bytes) (g : ℕ) (r : Request) (slot : ℕ) (text : Bytes) → r ≡ Settle slot → Asked fields g r
+    → IsSettled g slot old text new → IsRunBy g fields old new
+quiet-settle old new fields g r slot text is h done = (names-net fields g r h, Some text, tells-settle old new fields g r slot text is h done)

@@ -12,6 +12,7 @@ use Rattle.runs.specs.Joining.{HaveJoined, IsNamed, Joins}
 use Rattle.runs.specs.Naming.{Named, named_with, unnamed}
 use Rattle.runs.specs.Preparing.{IsPrepared}
 use Rattle.runs.specs.Replies.{IsReply}
+use Rattle.runs.specs.Settling.{HasSettled}
 use Rattle.runs.specs.Telling.{AsksOf, Refuses, Settles}
 
 -- the networks that wait for an event that names them, the numbers that events have named, and the journals of the networks that joined
@@ -45,18 +46,18 @@ abbrev pub IsPut : ℕ → Event → Hosting → Bytes → Hosting → Type 0
 IsPut g e old text new = (begun : Hosting) × (r : Result (Vec Out Global) Refusal) × IsBegun g old begun
     × IsAnswered begun.logs g e r new.logs × DeclaresNothing begun new × IsReply (items_of r) text
 
--- what was emitted at a slot of the network of a number is handed on: of the journals this does not say yet what they become
-abbrev pub IsSettled : ℕ → Hosting → Hosting → Type 0
-IsSettled g old new = (begun : Hosting) × IsBegun g old begun × DeclaresNothing begun new
+-- a slot of the network of a number settles: nodes hear what others emitted there, and no other event is put to any network
+abbrev pub IsSettled : ℕ → ℕ → Hosting → Bytes → Hosting → Type 0
+IsSettled g slot old text new = (begun : Hosting) × IsBegun g old begun × DeclaresNothing begun new × HasSettled g slot begun.logs text new.logs
 
--- what a line tells. A declaration that is taken prints nothing, names nothing, and no journal changes. An event is put to its network, and the answer is printed. Of the
--- lines that settle this does not say yet what they print, nor which events they put to the network.
+-- what a line tells. A declaration that is taken prints nothing, names nothing, and no journal changes. An event is put to its network, and the answer is printed. A line
+-- that settles puts hearings alone to its network, and prints the first refusal, or what has been decided.
 pub data Tells : Hosting → List Bytes → Option Bytes → Hosting → Type 0 where
   declared : {old new : Hosting} {fields : List Bytes} → IsPrepared fields old.named old.waiting new.waiting → new.named ≡ old.named → new.logs ≡ old.logs
       → Tells old fields None new
   answered : {old new : Hosting} {fields : List Bytes} {text : Bytes} (g : ℕ) (e : Event) → AsksOf fields g e → IsPut g e old text new
       → Tells old fields (Some text) new
-  settled : {old new : Hosting} {fields : List Bytes} {text : Bytes} (g slot : ℕ) → Settles fields g slot → IsSettled g old new
+  settled : {old new : Hosting} {fields : List Bytes} {text : Bytes} (g slot : ℕ) → Settles fields g slot → IsSettled g slot old text new
       → Tells old fields (Some text) new
 
 -- the line is bad

@@ -8,6 +8,7 @@ pub mod Taking
 pub mod Requests
 pub mod Replies
 pub mod Telling
+pub mod Settling
 pub mod Quiet
 pub mod Submitting
 pub mod Plans

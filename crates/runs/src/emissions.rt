@@ -1,5 +1,8 @@
 //! What the nodes of a network have emitted and decided at its open slots, for the lines that hand it on.
 
+ghost use Rattle.std.specs.Prelude.{◌≡◌, ◌++◌, OnOk, string_bytes};
+ghost use Rattle.runs.specs.Settling.{text_of_decided, text_of_speaker, text_of_speakers};
+
 use configuration::NetConfig;
 use scripts::{push_name, push_value};
 use std::alloc::{AllocError, Global};
@@ -66,17 +69,10 @@ impl OpenSlot {
     }
 
     /// Adds for each node, ascending, ` NAME=VALUE`, or ` NAME=-` where it has not externalized.
-    pub fn push_decided(&self, text: &mut String) -> Result<(), AllocError> {
-        for speaker in &self.speakers {
-            text.push(' ')?;
-            push_name(text, &speaker.name)?;
-            text.push('=')?;
-            match &speaker.decided {
-                None => text.push('-')?,
-                Some(value) => push_value(text, value)?,
-            }
-        }
-        Ok(())
+    pub fn push_decided(&self, text: &mut String) -> Result<(), AllocError>
+        ensures { OnOk result (string_bytes text.new ≡ string_bytes text.old ++ text_of_speakers self.now.speakers.items) }
+    {
+        push_speakers(text, &self.speakers)
     }
 
     // The node of this name.
@@ -108,6 +104,16 @@ impl OpenSlot {
 }
 
 impl Speaker {
+    // Adds a space, its name, `=`, and its value or `-`.
+    fn push_to(&self, text: &mut String) -> Result<(), AllocError>
+        ensures { OnOk result (string_bytes text.new ≡ string_bytes text.old ++ text_of_speaker self.now) }
+    {
+        text.push(' ')?;
+        push_name(text, &self.name)?;
+        text.push('=')?;
+        push_value_or_none(text, &self.decided)
+    }
+
     // One emission more of a kind: its number. (A node emits fewer than 2^64 times.)
     fn count(&mut self, kind: Kind) -> u64 {
         let count = match kind {
@@ -158,6 +164,11 @@ impl OpenSlots {
         self.slots.retain(|open| open.slot != slot);
     }
 
+    /// The open slot of this number, to be read.
+    pub fn shown(&self, slot: u64) -> Option<&OpenSlot> {
+        self.slots.iter().find(|open| open.slot == slot)
+    }
+
     /// The open slot of this number.
     pub fn slot(&mut self, slot: u64) -> Option<&mut OpenSlot> {
         self.slots.iter_mut().find(|open| open.slot == slot)
@@ -182,6 +193,26 @@ impl OpenSlots {
             }
         }
         Ok(())
+    }
+}
+
+// Adds for each node, in order, a space, its name, `=`, and its value or `-`.
+fn push_speakers(text: &mut String, speakers: &[Speaker]) -> Result<(), AllocError>
+    ensures { OnOk result (string_bytes text.new ≡ string_bytes text.old ++ text_of_speakers speakers.now) }
+{
+    for speaker in speakers {
+        speaker.push_to(text)?;
+    }
+    Ok(())
+}
+
+// Adds a value, or `-` where there is none.
+fn push_value_or_none(text: &mut String, decided: &Option<Value>) -> Result<(), AllocError>
+    ensures { OnOk result (string_bytes text.new ≡ string_bytes text.old ++ text_of_decided decided.now) }
+{
+    match decided {
+        None => text.push('-'),
+        Some(value) => push_value(text, value),
     }
 }
 

@@ -1,10 +1,13 @@
 //! The open slots of the networks of a script that run.
 
+ghost use Rattle.std.specs.Prelude.{IfOk, string_bytes};
+ghost use Rattle.runs.specs.Settling.{IsSettledText};
+
 use crate::emissions::{Emission, OpenSlot, OpenSlots};
 use configuration::NetConfig;
 use std::alloc::{AllocError, Global};
 use std::collections::BTreeMap;
-use types::{Event, Out};
+use types::{Event, NodeId, Out};
 
 /// The networks of a script that an event has named after they were declared, by number, with their open
 /// slots.
@@ -33,6 +36,27 @@ impl Followed {
         }
     }
 
+    /// The hosted nodes of a network, ascending.
+    pub fn names(&self, number: u32) -> Option<&[NodeId]> {
+        match self.running.get(&number) {
+            Some(slots) => Some(slots.names()),
+            None => None,
+        }
+    }
+
+    /// Whether a slot of a network is open.
+    pub fn is_open(&self, number: u32, slot: u64) -> bool {
+        self.slot(number, slot).is_some()
+    }
+
+    // The open slot of a network, to be read.
+    fn slot(&self, number: u32, slot: u64) -> Option<&OpenSlot> {
+        match self.running.get(&number) {
+            Some(slots) => slots.shown(slot),
+            None => None,
+        }
+    }
+
     /// The open slots of a network.
     pub fn open_slots(&mut self, number: u32) -> Option<&mut OpenSlots> {
         self.running.get_mut(&number)
@@ -47,8 +71,8 @@ impl Followed {
     }
 
     /// The first emission at a slot that has not been handed on.
-    pub fn waiting(&mut self, number: u32, slot: u64) -> Option<Emission> {
-        match self.open_slot(number, slot) {
+    pub fn waiting(&self, number: u32, slot: u64) -> Option<Emission> {
+        match self.slot(number, slot) {
             Some(open) => open.waiting(),
             None => None,
         }
@@ -77,12 +101,17 @@ impl Followed {
     }
 
     /// The line of a slot that has settled.
-    pub fn settled(&mut self, alloc: Global, number: u32, slot: u64) -> Result<String, AllocError> {
+    pub fn settled(&self, alloc: Global, number: u32, slot: u64) -> Result<String, AllocError>
+        ensures { IfOk result (λ text. IsSettledText (string_bytes text)) }
+    {
         let mut text = String::from_str(alloc, "settled")?;
-        if let Some(open) = self.open_slot(number, slot) {
-            open.push_decided(&mut text)?;
+        match self.slot(number, slot) {
+            Some(open) => {
+                open.push_decided(&mut text)?;
+                Ok(text)
+            }
+            None => Ok(text),
         }
-        Ok(text)
     }
 }
 

@@ -1,9 +1,11 @@
 //! What runs the lines of a script of networks.
 
 ghost use Rattle.std.specs.Prelude.{◌≡◌, Err, IfOk, OnOk, map, string_bytes};
+ghost use Rattle.types.specs.declared.event.Event.TheVariants.{Hear};
 ghost use Rattle.hoststep.specs.Worlds.{IsAnswered};
 ghost use Rattle.runs.specs.Hosting.{BadLinesTellNothing, DeclaresNothing, IsBegun, IsFinished, IsPut, IsSettled, RefusesLine, unhosted};
 ghost use Rattle.runs.specs.Quiet.{IsPutQuietly, IsRunBy};
+ghost use Rattle.runs.specs.Settling.{AreHeard, HasSettled, IsSettledText};
 ghost use Rattle.runs.specs.Telling.{HasNoNode};
 
 use crate::emissions::Emission;
@@ -132,7 +134,7 @@ impl HostRun {
 
     // The line that is printed of a slot of the network of a number that is to settle.
     fn settle(&mut self, alloc: Global, number: u32, slot: u64) -> Result<String, LineError>
-        ensures told { OnOk result (IsSettled number self.old self.new) }
+        ensures told { IfOk result (λ text. IsSettled number slot self.old (string_bytes text) self.new) }
         ensures bad { result ≡ Err LineError.Bad → HasNoNode self.old.waiting number }
     {
         self.begin(number)?;
@@ -142,19 +144,56 @@ impl HostRun {
     // Hands on what was emitted at a slot, and answers the line that is printed: what each node has
     // externalized, or the first refusal.
     fn settle_begun(&mut self, alloc: Global, number: u32, slot: u64) -> Result<String, AllocError>
-        ensures { OnOk result (DeclaresNothing self.old self.new) }
+        ensures settled { IfOk result (λ text. HasSettled number slot self.old.logs (string_bytes text) self.new.logs) }
+        ensures declared { OnOk result (DeclaresNothing self.old self.new) }
     {
-        let Some(slots) = self.nets.followed.open_slots(number) else {
-            return refused(alloc, Refusal::NoSuchNetwork);
+        let names = match self.names(number) {
+            Some(names) => Vec::from_slice(alloc, names)?,
+            None => return refused(alloc, Refusal::NoSuchNetwork),
         };
-        let names = Vec::from_slice(alloc, slots.names())?;
-        if slots.slot(slot).is_none() {
+        if !self.is_open(number, slot) {
             return refused(alloc, Refusal::SlotNotOpen);
         }
-        match self.hand_on_all(number, slot, &names)? {
+        self.settle_open(alloc, number, slot, &names)
+    }
+
+    // Hands on what was emitted at an open slot, to the hosted nodes, ascending, and answers the line.
+    fn settle_open(
+        &mut self,
+        alloc: Global,
+        number: u32,
+        slot: u64,
+        names: &[NodeId],
+    ) -> Result<String, AllocError>
+        ensures settled { IfOk result (λ text. HasSettled number slot self.old.logs (string_bytes text) self.new.logs) }
+        ensures declared { OnOk result (DeclaresNothing self.old self.new) }
+    {
+        match self.hand_on_all(number, slot, names)? {
             Some(refusal) => refused(alloc, refusal),
-            None => self.nets.followed.settled(alloc, number, slot),
+            None => self.settled(alloc, number, slot),
         }
+    }
+
+    // The hosted nodes of a network, ascending, where an event has named it after it was declared.
+    fn names(&self, number: u32) -> Option<&[NodeId]> {
+        self.nets.followed.names(number)
+    }
+
+    // Whether a slot of a network is open.
+    fn is_open(&self, number: u32, slot: u64) -> bool {
+        self.nets.followed.is_open(number, slot)
+    }
+
+    // The first emission at a slot that has not been handed on.
+    fn waiting(&self, number: u32, slot: u64) -> Option<Emission> {
+        self.nets.followed.waiting(number, slot)
+    }
+
+    // The line of a slot that has settled.
+    fn settled(&self, alloc: Global, number: u32, slot: u64) -> Result<String, AllocError>
+        ensures { IfOk result (λ text. IsSettledText (string_bytes text)) }
+    {
+        self.nets.followed.settled(alloc, number, slot)
     }
 
     // Hands on each emission at a slot that waits, those that come meanwhile behind the others; answers the
@@ -165,15 +204,17 @@ impl HostRun {
         slot: u64,
         names: &[NodeId],
     ) -> Result<Option<Refusal>, AllocError>
-        ensures { OnOk result (DeclaresNothing self.old self.new) }
+        ensures heard { IfOk result (λ ended. AreHeard number slot self.old.logs ended self.new.logs) }
+        ensures declared { OnOk result (DeclaresNothing self.old self.new) }
     {
         // Budgets and shares let a network hear fewer than 2^64 times.
         for _ in 0..u64::MAX {
-            let Some(emission) = self.nets.followed.waiting(number, slot) else {
+            let Some(emission) = self.waiting(number, slot) else {
                 return Ok(None);
             };
-            if let Some(refusal) = self.hand_on(number, slot, names, emission)? {
-                return Ok(Some(refusal));
+            match self.hand_on(number, slot, names, emission)? {
+                Some(refusal) => return Ok(Some(refusal)),
+                None => {}
             }
         }
         Ok(None)
@@ -188,18 +229,35 @@ impl HostRun {
         names: &[NodeId],
         emission: Emission,
     ) -> Result<Option<Refusal>, AllocError>
-        ensures { OnOk result (DeclaresNothing self.old self.new) }
+        ensures heard { IfOk result (λ ended. AreHeard number slot self.old.logs ended self.new.logs) }
+        ensures declared { OnOk result (DeclaresNothing self.old self.new) }
     {
         for name in names {
-            if *name != emission.from {
-                let heard = hearing(slot, *name, emission);
-                if let Err(refusal) = self.apply(number, heard)? {
-                    return Ok(Some(refusal));
-                }
+            match self.hear(number, slot, *name, &emission)? {
+                Some(refusal) => return Ok(Some(refusal)),
+                None => {}
             }
         }
         self.nets.followed.hand_on(number, slot);
         Ok(None)
+    }
+
+    // Has a node hear an emission, where it is that of another one; answers the refusal.
+    fn hear(
+        &mut self,
+        number: u32,
+        slot: u64,
+        node: NodeId,
+        emission: &Emission,
+    ) -> Result<Option<Refusal>, AllocError>
+        ensures heard { IfOk result (λ ended. AreHeard number slot self.old.logs ended self.new.logs) }
+        ensures declared { OnOk result (DeclaresNothing self.old self.new) }
+    {
+        if node.is_same(&emission.from) {
+            return Ok(None);
+        }
+        let answer = self.apply(number, hearing(slot, node, emission))?;
+        Ok(answer.err())
     }
 }
 
@@ -230,7 +288,9 @@ pub fn bad_lines_tell_nothing()
 {}
 
 // The event by which a node hears an emission.
-fn hearing(slot: u64, node: NodeId, emission: Emission) -> Event {
+fn hearing(slot: u64, node: NodeId, emission: &Emission) -> Event
+    ensures { result ≡ Hear slot node emission.now.from emission.now.kind emission.now.number }
+{
     Event::Hear {
         slot,
         node,
