@@ -1,5 +1,5 @@
 -- Hearings, one after the other, and the line of a slot that settles.
-use Rattle.std.proofs.Common.{◌≡◌, ◌≢◌, ◌∙◌, ℕ, Bool, false, List, Option, Some, None, Ok, Err, refl, sym, subst}
+use Rattle.std.proofs.Common.{◌≡◌, ◌≢◌, ◌∙◌, ℕ, Bool, false, List, [], Option, Some, None, Ok, Err, refl, sym, subst}
 use Rattle.std.specs.Prelude.{◌↔◌, IfOk, IsTrue, Result, Vec}
 use Rattle.std.specs.Result.{result_err}
 use Rattle.std.proofs.lemmas.Bool.{false≢true}
@@ -14,6 +14,8 @@ use Rattle.types.specs.declared.kind.Kind.{Kind}
 use Rattle.hoststep.specs.Logs.{Log}
 use Rattle.hoststep.specs.Worlds.{IsAnswered}
 use Rattle.runs.specs.Replies.{refusal_text}
+use Rattle.runs.specs.Emissions.{OpenSlot}
+use Rattle.runs.specs.SettledLines.{settled_text}
 use Rattle.runs.specs.Settling.{AreHeard, HasSettled, IsSettledText}
 use Rattle.runs.specs.Settling.HasSettled.{not_there, not_open, cut_short, done as has_settled}
 use Rattle.runs.specs.Settling.AreHeard.{none, heard, refused}
@@ -65,3 +67,10 @@ pub answers-done : {X E : Type 0} (bytes : X → Bytes) (result : Result X E) (g
     → AreHeard g slot old ended new → ended ≡ None → IfOk result (λ text. IsSettledText (bytes text)) → IfOk result (λ text. HasSettled g slot old (bytes text) new)
 answers-done bytes (Ok text) g slot old new ended behind is h = has_settled (subst (λ x. AreHeard g slot old x new) is behind) h
 answers-done bytes (Err e) g slot old new ended behind is h = tt
+
+-- the line of a slot that has settled begins so
+pub settles-so : {X E : Type 0} (bytes : X → Bytes) (result : Result X E) (o : Option OpenSlot) → IfOk result (λ text. bytes text ≡ settled_text o)
+    → IfOk result (λ text. IsSettledText (bytes text))
+settles-so bytes (Ok text) None h = ([], h)
+settles-so bytes (Ok text) (Some o) h = (o.speakers, h)
+settles-so bytes (Err e) o h = tt

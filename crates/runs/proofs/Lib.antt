@@ -4,6 +4,7 @@ mod Hearings
 mod JoiningLaws
 mod LineForms
 mod NameLists
+mod Places
 mod RosterLaws
 mod QuietLines
 mod SayingLaws

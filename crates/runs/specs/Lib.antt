@@ -8,6 +8,9 @@ pub mod Taking
 pub mod Requests
 pub mod Replies
 pub mod Telling
+pub mod Emissions
+pub mod Followed
+pub mod SettledLines
 pub mod Settling
 pub mod Quiet
 pub mod Submitting

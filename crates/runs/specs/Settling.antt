@@ -1,10 +1,7 @@
 -- What a line that settles puts to its network, and what it prints.
-use Rattle.std.specs.Prelude.{◌≡◌, ◌≢◌, ◌++◌, ℕ, List, ◌∷◌, Option, Some, None, Ok, Err, Vec, codes}
-use Rattle.std.specs.List.{flat_map}
+use Rattle.std.specs.Prelude.{◌≡◌, ◌≢◌, ◌++◌, ℕ, List, Option, Some, None, Ok, Err, Vec, codes}
 use Rattle.std.specs.Global.{Global}
 use Rattle.scripts.specs.Script.{Bytes}
-use Rattle.scripts.specs.Names.{text_of_name}
-use Rattle.scripts.specs.Values.{text_of_value}
 use Rattle.types.specs.declared.event.Event.TheVariants.{Hear}
 use Rattle.types.specs.declared.event.Out.{Out}
 use Rattle.types.specs.declared.event.Refusal.{Refusal}
@@ -13,6 +10,7 @@ use Rattle.types.specs.declared.kind.Kind.{Kind}
 use Rattle.hoststep.specs.Logs.{Log}
 use Rattle.hoststep.specs.Worlds.{IsAnswered}
 use Rattle.runs.specs.Replies.{refusal_text}
+use Rattle.runs.specs.SettledLines.{text_of_speakers}
 use Rattle.runs.specs.declared.emissions.Speaker.{Speaker}
 
 -- nodes of the network of a number hear what others emitted at a slot, one hearing after the other, and each is put to the network as an event. The first that is refused
@@ -25,19 +23,6 @@ pub data AreHeard (g slot : ℕ) : List Log → Option Refusal → List Log → 
       → IsAnswered old g (Hear slot node from kind number) (Err r) new → AreHeard g slot old (Some r) new
 
 -- ---- what is printed
-
--- the value of a node, or `-` (45) where it has none
-abbrev pub text_of_decided : Option Bytes → Bytes
-text_of_decided None = codes "-"
-text_of_decided (Some v) = text_of_value v
-
--- a space (32), the name of a node, `=` (61) and what it has decided
-abbrev pub text_of_speaker : Speaker → Bytes
-text_of_speaker s = 32 ∷ (text_of_name s.name ++ 61 ∷ text_of_decided s.decided)
-
--- the same of each of them, in order
-abbrev pub text_of_speakers : List Speaker → Bytes
-text_of_speakers speakers = flat_map text_of_speaker speakers
 
 -- what begins with `settled`
 abbrev pub IsSettledText : Bytes → Type 0

@@ -1,12 +1,15 @@
 //! The open slots of the networks of a script that run.
 
-ghost use Rattle.std.specs.Prelude.{IfOk, string_bytes};
-ghost use Rattle.runs.specs.Settling.{IsSettledText};
+ghost use Rattle.std.specs.Prelude.{◌≡◌, ◌<◌, ◌^◌, [], IfOk, IfSome, OnOk, is_some, option_map, string_bytes};
+ghost use Rattle.runs.specs.Emissions.{at_number};
+ghost use Rattle.runs.specs.Followed.{followed_with, handed_at, names_at, noted, open_slot, turn_of, waiting, with_handed};
+ghost use Rattle.runs.specs.SettledLines.{settled_text};
 
 use crate::emissions::{Emission, OpenSlot, OpenSlots};
 use configuration::NetConfig;
 use std::alloc::{AllocError, Global};
 use std::collections::BTreeMap;
+use std::marker::Model;
 use types::{Event, NodeId, Out};
 
 /// The networks of a script that an event has named after they were declared, by number, with their open
@@ -17,9 +20,23 @@ pub(crate) struct Followed {
     running: BTreeMap<u32, OpenSlots>,
 }
 
+impl Model for Followed {
+    ghost use Rattle.std.specs.Coded.{codes};
+    ghost use Rattle.types.specs.Trees.{members_code};
+    ghost use Rattle.runs.specs.Followed.{Followed};
+
+    ghost Value = { Followed };
+
+    ghost coded = { Prim.hlevel (codes, members_code) };
+
+    ghost view = { λ followed. followed.running.entries };
+}
+
 impl Followed {
     /// No network has been named. It takes no memory.
-    pub fn none(alloc: Global) -> Followed {
+    pub fn none(alloc: Global) -> Followed
+        ensures { result ≡ [] }
+    {
         Followed {
             alloc,
             running: BTreeMap::new(alloc),
@@ -27,7 +44,9 @@ impl Followed {
     }
 
     /// An event has named the network of this configuration: its events are followed from now on.
-    pub fn follow(&mut self, config: &NetConfig) -> Result<(), AllocError> {
+    pub fn follow(&mut self, config: &NetConfig) -> Result<(), AllocError>
+        ensures { OnOk result (self.new ≡ followed_with config.now self.old) }
+    {
         let slots = OpenSlots::none(self.alloc, config)?;
         match self.running.insert(config.number(), slots) {
             Ok(_) => Ok(()),
@@ -36,76 +55,62 @@ impl Followed {
         }
     }
 
-    /// The hosted nodes of a network, ascending.
-    pub fn names(&self, number: u32) -> Option<&[NodeId]> {
+    /// The hosted nodes of a network, ascending, where it is followed.
+    pub fn names(&self, number: u32) -> Option<&[NodeId]>
+        ensures { option_map (λ names. names.now) result ≡ names_at self.now number }
+    {
         match self.running.get(&number) {
             Some(slots) => Some(slots.names()),
             None => None,
         }
     }
 
-    /// Whether a slot of a network is open.
-    pub fn is_open(&self, number: u32, slot: u64) -> bool {
-        self.slot(number, slot).is_some()
-    }
-
-    // The open slot of a network, to be read.
-    fn slot(&self, number: u32, slot: u64) -> Option<&OpenSlot> {
-        match self.running.get(&number) {
-            Some(slots) => slots.shown(slot),
-            None => None,
-        }
-    }
-
-    /// The open slots of a network.
-    pub fn open_slots(&mut self, number: u32) -> Option<&mut OpenSlots> {
-        self.running.get_mut(&number)
-    }
-
     /// The open slot of a network.
-    pub fn open_slot(&mut self, number: u32, slot: u64) -> Option<&mut OpenSlot> {
-        match self.open_slots(number) {
+    pub fn open_slot(&self, number: u32, slot: u64) -> Option<&OpenSlot>
+        ensures { option_map (λ o. o.now) result ≡ open_slot self.now number slot }
+    {
+        match self.running.get(&number) {
             Some(slots) => slots.slot(slot),
             None => None,
         }
     }
 
     /// The first emission at a slot that has not been handed on.
-    pub fn waiting(&self, number: u32, slot: u64) -> Option<Emission> {
-        match self.slot(number, slot) {
+    pub fn waiting(&self, number: u32, slot: u64) -> Option<Emission>
+        ensures first { result ≡ waiting self.now number slot }
+        ensures small { IfSome result (λ _. handed_at self.now number slot < 2 ^ 63) }
+    {
+        match self.open_slot(number, slot) {
             Some(open) => open.waiting(),
             None => None,
         }
     }
 
     /// Keeps what settling needs of an event that was applied.
-    pub fn note(&mut self, number: u32, turn: Turn, outs: &[Out]) -> Result<(), AllocError> {
-        let Some(slots) = self.open_slots(number) else {
-            return Ok(());
-        };
-        match turn {
-            Turn::Opens(slot) => slots.open(slot),
-            Turn::Closes(slot) => {
-                slots.close(slot);
-                Ok(())
-            }
-            Turn::Within => slots.note(outs),
+    pub fn note(&mut self, number: u32, turn: Turn, outs: &[Out]) -> Result<(), AllocError>
+        ensures { OnOk result (self.new ≡ noted number turn outs.now self.old) }
+    {
+        match self.running.get_mut(&number) {
+            Some(slots) => slots.turn(turn, outs),
+            None => Ok(()),
         }
     }
 
     /// The first emission at a slot that waited has been handed on.
-    pub fn hand_on(&mut self, number: u32, slot: u64) {
-        if let Some(open) = self.open_slot(number, slot) {
-            open.hand_on();
+    pub fn hand_on(&mut self, number: u32, slot: u64)
+        ensures { self.new ≡ with_handed number slot self.old }
+    {
+        if let Some(slots) = self.running.get_mut(&number) {
+            slots.hand_on(slot);
         }
     }
 
     /// The line of a slot that has settled.
     pub fn settled(&self, alloc: Global, number: u32, slot: u64) -> Result<String, AllocError>
-        ensures { IfOk result (λ text. IsSettledText (string_bytes text)) }
+        ensures { IfOk result (λ text. string_bytes text ≡ settled_text (open_slot self.now number slot)) }
     {
         let mut text = String::from_str(alloc, "settled")?;
-        match self.slot(number, slot) {
+        match self.open_slot(number, slot) {
             Some(open) => {
                 open.push_decided(&mut text)?;
                 Ok(text)
@@ -124,7 +129,9 @@ pub(crate) enum Turn {
 }
 
 /// What an event does to the slots that are open.
-pub(crate) fn turn_of(event: &Event) -> Turn {
+pub(crate) fn turn_of(event: &Event) -> Turn
+    ensures { result ≡ turn_of event.now }
+{
     match event {
         Event::OpenSlot { slot } => Turn::Opens(*slot),
         Event::CloseSlot { slot } => Turn::Closes(*slot),

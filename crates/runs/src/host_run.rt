@@ -181,7 +181,7 @@ impl HostRun {
 
     // Whether a slot of a network is open.
     fn is_open(&self, number: u32, slot: u64) -> bool {
-        self.nets.followed.is_open(number, slot)
+        self.nets.followed.open_slot(number, slot).is_some()
     }
 
     // The first emission at a slot that has not been handed on.

@@ -1,6 +1,6 @@
 use Rattle.std.proofs.Common.{◌≡◌, ◌++◌, drop}
 use Rattle.std.specs.Prelude.{string_bytes}
-use Rattle.runs.specs.Settling.{text_of_speakers}
+use Rattle.runs.specs.SettledLines.{text_of_speakers}
 use Rattle.runs.proofs.emissions.push_speakers.Given as goal
 
 abbrev pub invariant-loop-speaker : goal.invariant-loop-speaker

@@ -1,0 +1,61 @@
+-- The networks of a script that run, with what their nodes have emitted and decided at open slots.
+use Rattle.std.specs.Prelude.{ℕ, List, [], Option, Some, None, option_map, option_and_then}
+use Rattle.std.specs.Ordering.{nat_cmp}
+use Rattle.std.specs.BTreeMap.{insert_entry}
+use Rattle.types.specs.declared.event.Event.{Event}
+use Rattle.types.specs.declared.event.Event.TheVariants as event
+use Rattle.types.specs.declared.event.Out.{Out}
+use Rattle.protocol.specs.Hosts.{Config}
+use Rattle.configuration.specs.Configs.{names_of}
+use Rattle.runs.specs.declared.emissions.Emission.{Emission}
+use Rattle.runs.specs.declared.followed.Turn.{Turn}
+use Rattle.runs.specs.declared.followed.Turn.TheVariants.{Opens, Closes, Within}
+use Rattle.runs.specs.Emissions.{OpenSlot, OpenSlots, at_number, changed_at, handed_on, noted_outs, waits, with_slot, without_slot}
+
+-- the networks that are followed, ascending by number
+abbrev pub Followed : Type 0
+Followed = List (ℕ × OpenSlots)
+
+-- a network joins, and none of its slots is open
+abbrev pub followed_with : Config → Followed → Followed
+followed_with c f = insert_entry nat_cmp f c.number (record { names = names_of c.hosts; slots = [] })
+
+-- the hosted nodes of a network that is followed, ascending
+abbrev pub names_at : Followed → ℕ → Option (List ℕ)
+names_at f g = option_map (λ m. m.names) (at_number f g)
+
+-- the open slot of a number of a network
+abbrev pub open_slot : Followed → ℕ → ℕ → Option OpenSlot
+open_slot f g slot = option_and_then (λ m. at_number m.slots slot) (at_number f g)
+
+-- the first emission there that has not been handed on
+abbrev pub waiting : Followed → ℕ → ℕ → Option Emission
+waiting f g slot = option_and_then waits (open_slot f g slot)
+
+-- how many emissions there have been handed on
+abbrev pub handed_in : Option OpenSlot → ℕ
+handed_in None = 0
+handed_in (Some o) = o.handed
+
+abbrev pub handed_at : Followed → ℕ → ℕ → ℕ
+handed_at f g slot = handed_in (open_slot f g slot)
+
+-- the first emission there that waited has been handed on
+abbrev pub with_handed : ℕ → ℕ → Followed → Followed
+with_handed g slot f = changed_at f g (λ m. record m { slots = changed_at m.slots slot handed_on })
+
+-- what an event does to the slots that are open
+abbrev pub turn_of : Event → Turn
+turn_of (event.OpenSlot slot) = Opens slot
+turn_of (event.CloseSlot slot) = Closes slot
+turn_of _ = Within
+
+-- the slots of a network where an event has been applied that gave this out
+abbrev pub turned : Turn → List Out → OpenSlots → OpenSlots
+turned (Opens slot) outs m = with_slot slot m
+turned (Closes slot) outs m = without_slot slot m
+turned Within outs m = noted_outs outs m
+
+-- an event of the network of a number has been applied
+abbrev pub noted : ℕ → Turn → List Out → Followed → Followed
+noted g turn outs f = changed_at f g (turned turn outs)
