@@ -6,6 +6,7 @@ use Rattle.scripts.specs.Script.{Bytes}
 use Rattle.scripts.specs.Names.{word_name}
 use Rattle.scripts.specs.Words.{word_counter}
 use Rattle.types.specs.declared.event.Event.{Event}
+use Rattle.types.specs.declared.event.Event.TheVariants as event
 use Rattle.protocol.specs.Networks.{Budgets}
 use Rattle.protocol.specs.Rosters.{Shares}
 use Rattle.runs.specs.declared.drafts.Reserved.{Reserved}
@@ -21,7 +22,7 @@ use Rattle.runs.specs.Drafts.{Drafted, Waiting, waiting_at}
 use Rattle.runs.specs.Joining.{IsNamedAt, Joins}
 use Rattle.runs.specs.Naming.{Named}
 use Rattle.runs.specs.Taking.{takes}
-use Rattle.runs.specs.Lines.{IsAsked, verb_in}
+use Rattle.runs.specs.Lines.{AsksResliceOf, AsksSayOf, IsAsked, IsResliced, IsSaid, five, place_in, three, verb_in}
 use Rattle.runs.specs.Requests.{AreAllowed, AsksNode, IsNode, IsRequest, IsRequestOf, IsRequested, IsReserved, budgets_in, shares_in}
 use Rattle.runs.specs.Telling.{HasNoNode, IsBad, IsBadRequest, IsBare, Refuses}
 use Rattle.runs.specs.Hosting.{BadLinesTellNothing, Hosting, IsBegun, Tells, logs_joined}
@@ -29,15 +30,20 @@ use Rattle.runs.specs.Hosting.Tells.{declared, answered, settled}
 
 -- ---- two readings of one line ask for the same, as far as it is bad
 
-abbrev Alike : Request → Request → Type 0
+-- the event closes a slot
+abbrev pub is-closing : Event → Bool
+is-closing (event.CloseSlot slot) = true
+is-closing _ = false
+
+abbrev pub Alike : Request → Request → Type 0
 Alike (Declare d) (Declare e) = (ws : Waiting) (n : Named) (g : ℕ) → takes ws n g d ≡ takes ws n g e
-Alike (Apply e) (Apply f) = Unit {0}
+Alike (Apply e) (Apply f) = is-closing e ≡ is-closing f
 Alike (Settle i) (Settle j) = Unit {0}
 Alike r q = ⊥
 
 alike-self : (r : Request) → Alike r r
 alike-self (Declare d) = λ ws n g. refl
-alike-self (Apply e) = tt
+alike-self (Apply e) = refl
 alike-self (Settle i) = tt
 
 alike-as : (r q s t : Request) → r ≡ s → q ≡ t → Alike s t → Alike r q
@@ -87,6 +93,40 @@ no-event : (o : Option Event) → ◌≡◌ {A = Option Request} None (option_ma
 no-event None h = refl
 no-event (Some e) h = absurd (no-some (Apply e) (sym h))
 
+abbrev closing-of-some : Bool → Option Event → Bool
+closing-of-some b None = b
+closing-of-some b (Some e) = is-closing e
+
+one-event : (o : Option Event) (e f : Event) → Some e ≡ o → Some f ≡ o → is-closing e ≡ is-closing f
+one-event o e f h k = ap (closing-of-some false) (h ∙ sym k)
+
+said-to : (o : Option ℕ) (w : Bytes × Bytes × Bytes × Bytes × Bytes) (e : Event) → IsSaid o w e → is-closing e ≡ false
+said-to None w e h = absurd h
+said-to (Some u) w e h = ap is-closing h.2
+
+said-of : (o : Option (Bytes × Bytes × Bytes × Bytes × Bytes)) (e : Event) → AsksSayOf o e → is-closing e ≡ false
+said-of None e h = absurd h
+said-of (Some w) e h = said-to (word_name w.0) w e h
+
+resliced-at : (o : Option (ℕ × ℕ)) (slices : Bytes) (e : Event) → IsResliced o slices e → is-closing e ≡ false
+resliced-at None slices e h = absurd h
+resliced-at (Some at) slices e h = ap is-closing h.2
+
+resliced-of : (o : Option (Bytes × Bytes × Bytes)) (e : Event) → AsksResliceOf o e → is-closing e ≡ false
+resliced-of None e h = absurd h
+resliced-of (Some w) e h = resliced-at (place_in w.0 w.1) w.2 e h
+
+two-events : (v : EventVerb) (fields : List Bytes) (e f : Event) → IsAsked v fields (Some e) → IsAsked v fields (Some f) → is-closing e ≡ is-closing f
+two-events ask.Open fields e f h k = one-event _ e f h k
+two-events ask.Close fields e f h k = one-event _ e f h k
+two-events ask.Propose fields e f h k = one-event _ e f h k
+two-events ask.Deliver fields e f h k = one-event _ e f h k
+two-events ask.Say fields e f h k = said-of (five fields) e h ∙ sym (said-of (five fields) f k)
+two-events ask.Hear fields e f h k = one-event _ e f h k
+two-events ask.NominationTimer fields e f h k = one-event _ e f h k
+two-events ask.BallotTimer fields e f h k = one-event _ e f h k
+two-events ask.Reslice fields e f h k = resliced-of (three fields) e h ∙ sym (resliced-of (three fields) f k)
+
 two-requests : (v : Verb) (fields : List Bytes) (r q : Request) → IsRequest v fields (Some r) → IsRequest v fields (Some q) → Alike r q
 two-requests verb.Net fields r q h k = two-nets (budgets_in fields) r q h k
 two-requests verb.Node fields r q h k = two-nodes fields r q h k
@@ -95,7 +135,8 @@ two-requests verb.Settle fields r q h k = two-settles _ r q h k
 two-requests (verb.Event v) fields r q h k =
     let one = an-event h.0 r h.2 in
     let other = an-event k.0 q k.2 in
-    alike-as r q (Apply one.0) (Apply other.0) one.2 other.2 tt
+    alike-as r q (Apply one.0) (Apply other.0) one.2 other.2
+    (two-events v fields one.0 other.0 (subst (IsAsked v fields) one.1 h.1) (subst (IsAsked v fields) other.1 k.1))
 
 -- ---- what asks for something asks not for nothing
 
@@ -136,7 +177,7 @@ no-pair : (p : ℕ × Request) → Some p ≡ None → ⊥
 no-pair p e = cc
 
 -- another reading asks for something like this of the same network
-abbrev AsksAlike : ℕ → Request → Option (ℕ × Request) → Type 0
+abbrev pub AsksAlike : ℕ → Request → Option (ℕ × Request) → Type 0
 AsksAlike g r asked = (q : Request) × Alike r q × (asked ≡ Some (g, q))
 
 alike-pairs : (v : Verb) (fields : List Bytes) (m g : ℕ) (r : Request) (asked : Option (ℕ × Request)) (o p : Option Request) → IsRequest v fields o → IsRequest v fields p
@@ -152,18 +193,18 @@ asks-alike-of None number fields g r asked h k = absurd (no-pair (g, r) h)
 asks-alike-of (Some v) None fields g r asked h k = absurd (no-pair (g, r) h)
 asks-alike-of (Some v) (Some m) fields g r asked h k = alike-pairs v fields m g r asked h.0 k.0 h.1 k.1 h.2 k.2
 
-asks-alike : (fields : List Bytes) (g : ℕ) (r : Request) (asked : Option (ℕ × Request)) → IsRequested fields (Some (g, r)) → IsRequested fields asked → AsksAlike g r asked
+pub asks-alike : (fields : List Bytes) (g : ℕ) (r : Request) (asked : Option (ℕ × Request)) → IsRequested fields (Some (g, r)) → IsRequested fields asked → AsksAlike g r asked
 asks-alike [] g r asked h k = absurd (no-pair (g, r) h)
 asks-alike (word ∷ []) g r asked h k = absurd (no-pair (g, r) h)
 asks-alike (word ∷ number ∷ fields) g r asked h k = asks-alike-of (verb_in word) (word_counter number) fields g r asked h k
 
 -- ---- what is told is not bad
 
-bare-joins-nothing : {S : Type 0} (joins : Joins S) (g : ℕ) (o : Option Drafted) (ws us : Waiting) (old new : S) → IsBare o → IsNamedAt joins g o ws us old new → ⊥
+pub bare-joins-nothing : {S : Type 0} (joins : Joins S) (g : ℕ) (o : Option Drafted) (ws us : Waiting) (old new : S) → IsBare o → IsNamedAt joins g o ws us old new → ⊥
 bare-joins-nothing joins g None ws us old new h k = h
 bare-joins-nothing joins g (Some d) ws us old new h k = k.1.1.some_nodes h
 
-not-taken : (o t : Bool) → o ≡ t → o ≡ true → t ≡ false → ⊥
+pub not-taken : (o t : Bool) → o ≡ t → o ≡ true → t ≡ false → ⊥
 not-taken o t e h k = false≢true (sym k ∙ sym e ∙ h)
 
 bad-declaration : (ws : Waiting) (n : Named) (g : ℕ) (d : Declaration) (q : Request) → Alike (Declare d) q → takes ws n g d ≡ true → IsBadRequest ws n g q → ⊥

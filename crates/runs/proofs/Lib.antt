@@ -1,4 +1,5 @@
 pub mod BadLines
+pub mod BadSubmissions
 mod DraftLaws
 mod Hearings
 mod JoiningLaws

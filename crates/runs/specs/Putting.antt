@@ -53,6 +53,10 @@ IsBad ws n (Some r) = IsBadRequest ws n r.0 r.1
 abbrev pub RefusesToPut : Plan → List Bytes → Type 0
 RefusesToPut old fields = (asked : Option (ℕ × Request)) × IsRequested fields asked × IsBad old.submitted.waiting old.submitted.named asked
 
+-- no line is both bad and planned
+abbrev pub BadLinesPutNothing : Type 0
+BadLinesPutNothing = (old new : Plan) (fields : List Bytes) (printed : Option Bytes) → RefusesToPut old fields → ¬ Puts old fields printed new
+
 -- after the last line all networks that wait and have nodes have been declared
 abbrev pub IsCompletePlan : Plan → Plan → Type 0
 IsCompletePlan old new = IsComplete old.submitted new.submitted × (new.opens ≡ old.opens)

@@ -59,6 +59,10 @@ IsBad ws n (Some r) = IsBadRequest ws n r.0 r.1
 abbrev pub RefusesToSubmit : Submitting → List Bytes → Type 0
 RefusesToSubmit old fields = (asked : Option (ℕ × Request)) × IsRequested fields asked × IsBad old.waiting old.named asked
 
+-- no line is both bad and submitted
+abbrev pub BadLinesSubmitNothing : Type 0
+BadLinesSubmitNothing = (old new : Submitting) (fields : List Bytes) (printed : Option Bytes) → RefusesToSubmit old fields → ¬ Submits old fields printed new
+
 -- after the last line all networks that wait and have nodes have been declared
 abbrev pub IsComplete : Submitting → Submitting → Type 0
 IsComplete old new = HaveJoined declared_once old.waiting old.history new.history

@@ -2,7 +2,7 @@
 
 ghost use Rattle.std.specs.Prelude.{◌≡◌, Err, OnOk};
 ghost use Rattle.runs.specs.Plans.{unplanned};
-ghost use Rattle.runs.specs.Putting.{IsCompletePlan, IsNoJob, IsOpened, IsPlanned};
+ghost use Rattle.runs.specs.Putting.{BadLinesPutNothing, IsCompletePlan, IsNoJob, IsOpened, IsPlanned};
 ghost use Rattle.runs.specs.Telling.{HasNoNode};
 
 use crate::requests::{Request, request_of};
@@ -108,3 +108,10 @@ impl LineRunner for JobRun {
         }
     }
 }
+
+/// A law: no line is both bad and planned. So a line is called bad exactly where it is, but for want of
+/// memory.
+#[tactic(auto, using(crate::proofs::BadSubmissions::bad_lines_put_nothing))]
+pub fn bad_lines_put_nothing()
+    ensures { BadLinesPutNothing }
+{}

@@ -24,7 +24,7 @@ mod verbs;
 mod waiting;
 
 pub use host_run::{HostRun, bad_lines_tell_nothing};
-pub use job_run::JobRun;
+pub use job_run::{JobRun, bad_lines_put_nothing};
 pub use quiet_run::QuietRun;
 pub use replies::{line_of_reply, push_outs};
-pub use submission_run::SubmissionRun;
+pub use submission_run::{SubmissionRun, bad_lines_submit_nothing};

@@ -2,7 +2,7 @@
 
 ghost use Rattle.std.specs.Prelude.{◌≡◌, Err, OnOk, false, true};
 ghost use Rattle.runs.specs.Preparing.{Prepares};
-ghost use Rattle.runs.specs.Submitting.{IsComplete, IsDeclared, IsSubmitted, unsubmitted};
+ghost use Rattle.runs.specs.Submitting.{BadLinesSubmitNothing, IsComplete, IsDeclared, IsSubmitted, unsubmitted};
 ghost use Rattle.runs.specs.Taking.{takes};
 ghost use Rattle.runs.specs.Telling.{HasNoNode};
 
@@ -121,3 +121,10 @@ impl LineRunner for SubmissionRun {
         }
     }
 }
+
+/// A law: no line is both bad and submitted. So a line is called bad exactly where it is, but for want of
+/// memory.
+#[tactic(auto, using(crate::proofs::BadSubmissions::bad_lines_submit_nothing))]
+pub fn bad_lines_submit_nothing()
+    ensures { BadLinesSubmitNothing }
+{}
