@@ -25,8 +25,10 @@ use Rattle.runs.specs.Taking.{takes}
 use Rattle.runs.specs.Lines.{AsksResliceOf, AsksSayOf, IsAsked, IsResliced, IsSaid, five, place_in, three, verb_in}
 use Rattle.runs.specs.Requests.{AreAllowed, AsksNode, IsNode, IsRequest, IsRequestOf, IsRequested, IsReserved, budgets_in, shares_in}
 use Rattle.runs.specs.Telling.{HasNoNode, IsBad, IsBadRequest, IsBare, Refuses}
-use Rattle.runs.specs.Hosting.{BadLinesTellNothing, Hosting, IsBegun, Tells, logs_joined}
-use Rattle.runs.specs.Hosting.Tells.{declared, answered, settled}
+use Rattle.runs.specs.Followed.{also_followed}
+use Rattle.runs.specs.Hosting.{Hosting, IsBegun, logs_joined}
+use Rattle.runs.specs.Running.{BadLinesTellNothing, Tells}
+use Rattle.runs.specs.Running.Tells.{declared, answered, settled}
 
 -- ---- two readings of one line ask for the same, as far as it is bad
 
@@ -226,10 +228,11 @@ bad-as : (ws : Waiting) (n : Named) (g : ℕ) (q : Request) (asked : Option (ℕ
 bad-as ws n g q asked e bad = subst (IsBad ws n) e bad
 
 begun-has-nodes : (g : ℕ) (old new : Hosting) → HasNoNode old.waiting g → IsBegun g old new → ⊥
-begun-has-nodes g old new bare begun = bare-joins-nothing logs_joined g (waiting_at old.waiting g) old.waiting new.waiting old.logs new.logs bare begun.0
+begun-has-nodes g old new bare begun =
+    bare-joins-nothing (also_followed logs_joined) g (waiting_at old.waiting g) old.waiting new.waiting (old.logs, old.followed) (new.logs, new.followed) bare begun.0
 
 none-both : (old new : Hosting) (fields : List Bytes) (printed : Option Bytes) → Refuses old.waiting old.named fields → Tells old fields printed new → ⊥
-none-both old new fields printed bad (declared h same logs) =
+none-both old new fields printed bad (declared h same kept logs) =
     let like = asks-alike fields h.0 (Declare h.1) bad.0 h.2 bad.1 in
     bad-declaration old.waiting old.named h.0 h.1 like.0 like.1 h.3 (bad-as old.waiting old.named h.0 like.0 bad.0 like.2 bad.2)
 none-both old new fields printed bad (answered g e h put) =

@@ -1,76 +1,101 @@
 -- Hearings, one after the other, and the line of a slot that settles.
-use Rattle.std.proofs.Common.{◌≡◌, ◌≢◌, ◌∙◌, ℕ, Bool, false, List, [], Option, Some, None, Ok, Err, refl, sym, subst}
-use Rattle.std.specs.Prelude.{◌↔◌, IfOk, IsTrue, Result, Vec}
+use Rattle.std.proofs.Common.{◌≡◌, ◌∙◌, ◌==◌, ◌++◌, ◌+◌, ◌<◌, ℕ, suc, Bool, true, false, List, [], ◌∷◌, length, drop, get_or, Option, Some, None, Ok, Err, refl, sym, ap, subst, arith}
+use Rattle.std.specs.Prelude.{◌↔◌, IsTrue, Result, Vec, not}
 use Rattle.std.specs.Result.{result_err}
-use Rattle.std.proofs.lemmas.Bool.{false≢true}
 use Rattle.std.specs.Global.{Global}
+use Rattle.std.proofs.lemmas.Bool.{eq-eqb, eqb-true, false≢true}
+use Rattle.std.proofs.lemmas.List.Elements.{filter-append}
+use Rattle.std.proofs.Math.Seq.{drop-cons}
 use Rattle.types.specs.declared.event.Event.{Event}
-use Rattle.types.specs.declared.event.Event.TheVariants.{Hear}
 use Rattle.types.specs.declared.event.Out.{Out}
 use Rattle.types.specs.declared.event.Refusal.{Refusal}
-use Rattle.types.specs.declared.event.Refusal.TheVariants.{NoSuchNetwork, SlotNotOpen}
-use Rattle.scripts.specs.Script.{Bytes}
-use Rattle.types.specs.declared.kind.Kind.{Kind}
-use Rattle.hoststep.specs.Logs.{Log}
-use Rattle.hoststep.specs.Worlds.{IsAnswered}
-use Rattle.runs.specs.Replies.{refusal_text}
-use Rattle.runs.specs.Emissions.{OpenSlot}
-use Rattle.runs.specs.SettledLines.{settled_text}
-use Rattle.runs.specs.Settling.{AreHeard, HasSettled, IsSettledText}
-use Rattle.runs.specs.Settling.HasSettled.{not_there, not_open, cut_short, done as has_settled}
-use Rattle.runs.specs.Settling.AreHeard.{none, heard, refused}
+use Rattle.runs.specs.declared.emissions.Emission.{Emission}
+use Rattle.runs.specs.Followed.{waiting}
+use Rattle.runs.specs.Hosting.{Hosting, IsApplied}
+use Rattle.runs.specs.Settling.{AreHandedOn, IsHanded, IsHeardBy, hearing, others}
+use Rattle.runs.specs.Settling.IsHeardBy.{by_all, by_one, refused}
+use Rattle.runs.specs.Settling.AreHandedOn.{one_waits, cut_short}
 
--- what is heard first, and what behind it
-pub heard-behind : (g slot : ℕ) (old now new : List Log) (first ended : Option Refusal) → AreHeard g slot old first now → first ≡ None → AreHeard g slot now ended new
-    → AreHeard g slot old ended new
-heard-behind g slot old now new first ended none is rest = rest
-heard-behind g slot old now new first ended (heard node from kind number outs other answer more) is rest =
-    heard node from kind number outs other answer (heard-behind g slot _ now new first ended more is rest)
-heard-behind g slot old now new first ended (refused node from kind number r other answer) is rest = cc
+-- ---- one emission
 
--- the same, as it was answered
-pub heard-then : (g slot : ℕ) (old now new : List Log) (first ended : Option Refusal) → AreHeard g slot old None now → AreHeard g slot now first new → first ≡ ended
-    → AreHeard g slot old ended new
-heard-then g slot old now new first ended front back is =
-    heard-behind g slot old now new None ended front refl (subst (λ x. AreHeard g slot now x new) is back)
+-- what the first nodes hear, and behind it what the others do
+heard-behind : (g slot : ℕ) (e : Emission) (us vs : List ℕ) (old now new : Hosting) (first ended : Option Refusal) → IsHeardBy g slot e us old first now → first ≡ None
+    → IsHeardBy g slot e vs now ended new → IsHeardBy g slot e (us ++ vs) old ended new
+heard-behind g slot e us vs old now new first ended by_all is rest = rest
+heard-behind g slot e us vs old now new first ended (by_one outs answer more) is rest =
+    by_one outs answer (heard-behind g slot e _ vs _ now new first ended more is rest)
+heard-behind g slot e us vs old now new first ended (refused r answer) is rest = cc
 
--- two names that are not the same
-pub two-nodes : (node from : ℕ) (same : Bool) → (IsTrue same ↔ (node ≡ from)) → same ≡ false → node ≢ from
-two-nodes node from same law is e = false≢true (sym is ∙ law.1 e)
+-- a refusal of the first nodes ends it
+heard-short : (g slot : ℕ) (e : Emission) (us vs : List ℕ) (old new : Hosting) (first : Option Refusal) (r : Refusal) → IsHeardBy g slot e us old first new → first ≡ Some r
+    → IsHeardBy g slot e (us ++ vs) old (Some r) new
+heard-short g slot e us vs old new first r by_all is = cc
+heard-short g slot e us vs old new first r (by_one outs answer more) is = by_one outs answer (heard-short g slot e _ vs _ new first r more is)
+heard-short g slot e us vs old new first r (refused q answer) is =
+    subst (λ x. IsHeardBy g slot e (us ++ vs) old x new) is (refused q answer)
+
+-- the names that are not the sender's, of the first name and of those behind it
+others-behind : (e : Emission) (u : ℕ) (us : List ℕ) → others e (u ∷ us) ≡ others e (u ∷ []) ++ others e us
+others-behind e u us = filter-append (λ v. not (v == e.from)) (u ∷ []) us
+
+-- a node hears the emission, unless it is its own, and the others behind it
+pub heard-first : (g slot : ℕ) (e : Emission) (u : ℕ) (us : List ℕ) (old now new : Hosting) (first ended : Option Refusal)
+    → IsHeardBy g slot e (others e (u ∷ [])) old first now → first ≡ None → IsHeardBy g slot e (others e us) now ended new
+    → IsHeardBy g slot e (others e (u ∷ us)) old ended new
+heard-first g slot e u us old now new first ended one is rest =
+    subst (λ xs. IsHeardBy g slot e xs old ended new) (sym (others-behind e u us))
+    (heard-behind g slot e (others e (u ∷ [])) (others e us) old now new first ended one is rest)
+
+-- a name of a list, with those behind it
+pub next-name : (us : List ℕ) (i u : ℕ) → u ≡ get_or us i u → i < length us → drop i us ≡ u ∷ drop (i + 1) us
+next-name us i u is lt =
+    let more : suc i ≡ i + 1 = omega arith in
+    subst (λ k. drop i us ≡ u ∷ drop k us) more (drop-cons us i u lt ∙ ap (λ y. y ∷ drop (suc i) us) (sym is))
+
+-- it refuses, and none of the others hears it
+pub refused-first : (g slot : ℕ) (e : Emission) (u : ℕ) (us : List ℕ) (old new : Hosting) (first : Option Refusal) (r : Refusal)
+    → IsHeardBy g slot e (others e (u ∷ [])) old first new → first ≡ Some r → IsHeardBy g slot e (others e (u ∷ us)) old (Some r) new
+refused-first g slot e u us old new first r one is =
+    subst (λ xs. IsHeardBy g slot e xs old (Some r) new) (sym (others-behind e u us))
+    (heard-short g slot e (others e (u ∷ [])) (others e us) old new first r one is)
+
+-- a node does not hear its own emission
+own-is-none : (g slot : ℕ) (e : Emission) (u : ℕ) (h : Hosting) (b : Bool) → (u == e.from) ≡ b → b ≡ true → IsHeardBy g slot e (others e (u ∷ [])) h None h
+own-is-none g slot e u h true is same = rw is by_all
+own-is-none g slot e u h false is same = cc
+
+pub hears-not-its-own : (g slot : ℕ) (e : Emission) (u : ℕ) (h : Hosting) (same : Bool) → (IsTrue same ↔ (u ≡ e.from)) → same ≡ true
+    → IsHeardBy g slot e (others e (u ∷ [])) h None h
+hears-not-its-own g slot e u h same law is = own-is-none g slot e u h (u == e.from) refl (eq-eqb u e.from (law.0 is))
 
 -- a hearing that was answered, and the refusal that it was answered, if it was one
-pub one-hearing : (g slot : ℕ) (old new : List Log) (node from : ℕ) (kind : Kind) (number : ℕ) (e : Event) (answer : Result (Vec Out Global) Refusal) (ended : Option Refusal)
-    → node ≢ from → e ≡ Hear slot node from kind number → IsAnswered old g e answer new → ended ≡ result_err answer → AreHeard g slot old ended new
-one-hearing g slot old new node from kind number e (Ok outs) ended other is answer was =
-    subst (λ x. AreHeard g slot old x new) (sym was) (heard node from kind number outs other (subst (λ x. IsAnswered old g x (Ok outs) new) is answer) none)
-one-hearing g slot old new node from kind number e (Err r) ended other is answer was =
-    subst (λ x. AreHeard g slot old x new) (sym was) (refused node from kind number r other (subst (λ x. IsAnswered old g x (Err r) new) is answer))
+answered-so : (g slot : ℕ) (e : Emission) (u : ℕ) (old new : Hosting) (event : Event) (answer : Result (Vec Out Global) Refusal) → event ≡ hearing slot u e
+    → IsApplied g event answer old new → IsHeardBy g slot e (u ∷ []) old (result_err answer) new
+answered-so g slot e u old new event (Ok outs) is answer = by_one outs (subst (λ x. IsApplied g x (Ok outs) old new) is answer) by_all
+answered-so g slot e u old new event (Err r) is answer = refused r (subst (λ x. IsApplied g x (Err r) old new) is answer)
 
--- ---- the line that is printed, where memory is enough for it
+another-hears : (e : Emission) (u : ℕ) (b : Bool) → (u == e.from) ≡ b → (b ≡ true → ⊥) → others e (u ∷ []) ≡ u ∷ []
+another-hears e u true is other = absurd (other refl)
+another-hears e u false is other = rw is refl
 
-pub answers-not-there : {X E : Type 0} (bytes : X → Bytes) (result : Result X E) (g slot : ℕ) (logs : List Log)
-    → IfOk result (λ text. bytes text ≡ refusal_text NoSuchNetwork) → IfOk result (λ text. HasSettled g slot logs (bytes text) logs)
-answers-not-there bytes (Ok text) g slot logs h = not_there refl h
-answers-not-there bytes (Err e) g slot logs h = tt
+pub one-hearing : (g slot : ℕ) (e : Emission) (u : ℕ) (old new : Hosting) (same : Bool) (event : Event) (answer : Result (Vec Out Global) Refusal) (ended : Option Refusal)
+    → (IsTrue same ↔ (u ≡ e.from)) → same ≡ false → event ≡ hearing slot u e → IsApplied g event answer old new → ended ≡ result_err answer
+    → IsHeardBy g slot e (others e (u ∷ [])) old ended new
+one-hearing g slot e u old new same event answer ended law other is answered was =
+    let alone = another-hears e u (u == e.from) refl (λ k. false≢true (sym other ∙ law.1 (eqb-true u e.from k))) in
+    subst (λ xs. IsHeardBy g slot e xs old ended new) (sym alone)
+    (subst (λ x. IsHeardBy g slot e (u ∷ []) old x new) (sym was) (answered-so g slot e u old new event answer is answered))
 
-pub answers-not-open : {X E : Type 0} (bytes : X → Bytes) (result : Result X E) (g slot : ℕ) (logs : List Log)
-    → IfOk result (λ text. bytes text ≡ refusal_text SlotNotOpen) → IfOk result (λ text. HasSettled g slot logs (bytes text) logs)
-answers-not-open bytes (Ok text) g slot logs h = not_open refl h
-answers-not-open bytes (Err e) g slot logs h = tt
+-- ---- all that wait
 
-pub answers-cut-short : {X E : Type 0} (bytes : X → Bytes) (result : Result X E) (g slot : ℕ) (old new : List Log) (ended : Option Refusal) (r : Refusal)
-    → AreHeard g slot old ended new → ended ≡ Some r → IfOk result (λ text. bytes text ≡ refusal_text r) → IfOk result (λ text. HasSettled g slot old (bytes text) new)
-answers-cut-short bytes (Ok text) g slot old new ended r behind is h = cut_short r (subst (λ x. AreHeard g slot old x new) is behind) h
-answers-cut-short bytes (Err e) g slot old new ended r behind is h = tt
+-- the same where it is the first that waits, as the code reads it
+pub one-waits : (g slot : ℕ) (names : List ℕ) (old now new : Hosting) (first : Option Emission) (e : Emission) (handed ended : Option Refusal)
+    → first ≡ waiting old.followed g slot → first ≡ Some e → IsHanded g slot e names old handed now → handed ≡ None → AreHandedOn g slot names now ended new
+    → AreHandedOn g slot names old ended new
+one-waits g slot names old now new first e handed ended is some h all rest =
+    one_waits e (sym is ∙ some) (subst (λ x. IsHanded g slot e names old x now) all h) rest
 
-pub answers-done : {X E : Type 0} (bytes : X → Bytes) (result : Result X E) (g slot : ℕ) (old new : List Log) (ended : Option Refusal)
-    → AreHeard g slot old ended new → ended ≡ None → IfOk result (λ text. IsSettledText (bytes text)) → IfOk result (λ text. HasSettled g slot old (bytes text) new)
-answers-done bytes (Ok text) g slot old new ended behind is h = has_settled (subst (λ x. AreHeard g slot old x new) is behind) h
-answers-done bytes (Err e) g slot old new ended behind is h = tt
-
--- the line of a slot that has settled begins so
-pub settles-so : {X E : Type 0} (bytes : X → Bytes) (result : Result X E) (o : Option OpenSlot) → IfOk result (λ text. bytes text ≡ settled_text o)
-    → IfOk result (λ text. IsSettledText (bytes text))
-settles-so bytes (Ok text) None h = ([], h)
-settles-so bytes (Ok text) (Some o) h = (o.speakers, h)
-settles-so bytes (Err e) o h = tt
+pub waits-on : (g slot : ℕ) (names : List ℕ) (old new : Hosting) (first : Option Emission) (e : Emission) (handed : Option Refusal) (r : Refusal)
+    → first ≡ waiting old.followed g slot → first ≡ Some e → IsHanded g slot e names old handed new → handed ≡ Some r → AreHandedOn g slot names old (Some r) new
+waits-on g slot names old new first e handed r is some h short =
+    cut_short e r (sym is ∙ some) (subst (λ x. IsHanded g slot e names old x new) short h)

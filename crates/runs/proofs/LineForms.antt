@@ -14,8 +14,11 @@ use Rattle.runs.specs.Drafts.{Waiting}
 use Rattle.runs.specs.Naming.{Named}
 use Rattle.runs.specs.Preparing.{Prepares}
 use Rattle.runs.specs.Requests.{IsRequested, IsRequestOf}
-use Rattle.runs.specs.Hosting.{Hosting, IsPut, IsSettled, Tells}
-use Rattle.runs.specs.Hosting.Tells.{declared, answered, settled}
+use Rattle.runs.specs.Followed.{Followed}
+use Rattle.runs.specs.Hosting.{Hosting, IsPut}
+use Rattle.runs.specs.Running.{Tells}
+use Rattle.runs.specs.Running.Tells.{declared, answered, settled}
+use Rattle.runs.specs.Settling.{IsSettled}
 use Rattle.runs.specs.Taking.{takes}
 use Rattle.runs.specs.Telling.{NamesNet}
 
@@ -48,11 +51,12 @@ names-net (word ∷ number ∷ fields) g r h = names-number (verb_in word) (word
 abbrev Asked : List Bytes → ℕ → Request → Type 0
 Asked fields g r = IsRequested fields (Some (g, r))
 
-pub tells-declaration : (old : Hosting) (ws us : Waiting) (n m : Named) (logs : List Log) (fields : List Bytes) (g : ℕ) (r : Request) (d : Declaration)
-    → record { waiting = ws; named = n; logs = logs } ≡ old → r ≡ Declare d → Asked fields g r → takes ws n g d ≡ true → Prepares g d ws us → m ≡ n
-    → Tells old fields None (record { waiting = us; named = m; logs = logs })
-tells-declaration old ws us n m logs fields g r d is e h t p same =
-    subst (λ s. Tells s fields None (record { waiting = us; named = m; logs = logs })) is (declared (g, d, subst (Asked fields g) e h, t, p) same refl)
+pub tells-declaration : (old : Hosting) (ws us : Waiting) (n m : Named) (f k : Followed) (logs : List Log) (fields : List Bytes) (g : ℕ) (r : Request) (d : Declaration)
+    → record { waiting = ws; named = n; followed = f; logs = logs } ≡ old → r ≡ Declare d → Asked fields g r → takes ws n g d ≡ true → Prepares g d ws us → m ≡ n
+    → k ≡ f → Tells old fields None (record { waiting = us; named = m; followed = k; logs = logs })
+tells-declaration old ws us n m f k logs fields g r d is e h t p same kept =
+    subst (λ s. Tells s fields None (record { waiting = us; named = m; followed = k; logs = logs })) is
+    (declared (g, d, subst (Asked fields g) e h, t, p) same kept refl)
 
 pub tells-event : (old new : Hosting) (fields : List Bytes) (g : ℕ) (r : Request) (e : Event) (text : Bytes)
     → r ≡ Apply e → Asked fields g r → IsPut g e old text new → Tells old fields (Some text) new

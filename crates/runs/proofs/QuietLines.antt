@@ -13,7 +13,9 @@ use Rattle.runs.specs.declared.requests.Request.{Request}
 use Rattle.runs.specs.declared.requests.Declaration.{Declaration}
 use Rattle.runs.specs.declared.requests.Request.TheVariants.{Declare, Apply, Settle}
 use Rattle.runs.specs.Drafts.{Waiting}
-use Rattle.runs.specs.Hosting.{Hosting, IsPut, IsSettled}
+use Rattle.runs.specs.Followed.{Followed}
+use Rattle.runs.specs.Hosting.{Hosting, IsPut}
+use Rattle.runs.specs.Settling.{IsSettled}
 use Rattle.runs.specs.Naming.{Named}
 use Rattle.runs.specs.Preparing.{Prepares}
 use Rattle.runs.specs.Replies.{IsReply, behind_space, refusal_text}
@@ -28,16 +30,16 @@ line_of (Ok outs) = (codes "ok" ++ flat_map behind_space outs.items, refl)
 line_of (Err refusal) = (refusal_text refusal, refl)
 
 put_of : (g : _) (e : Event) (old new : Hosting) → IsPutQuietly g e old new → (text : Bytes) × IsPut g e old text new
-put_of g e old new h = ((line_of h.1).0, (h.0, h.1, h.2, h.3, h.4, (line_of h.1).1))
+put_of g e old new h = ((line_of h.1).0, (h.0, h.1, h.2, h.3, (line_of h.1).1))
 
 abbrev Asked : List Bytes → ℕ → Request → Type 0
 Asked fields g r = IsRequested fields (Some (g, r))
 
-pub quiet-declaration : (old : Hosting) (ws us : Waiting) (n m : Named) (logs : List Log) (fields : List Bytes) (g : ℕ) (r : Request) (d : Declaration)
-    → record { waiting = ws; named = n; logs = logs } ≡ old → r ≡ Declare d → Asked fields g r → takes ws n g d ≡ true → Prepares g d ws us → m ≡ n
-    → IsRunBy g fields old (record { waiting = us; named = m; logs = logs })
-quiet-declaration old ws us n m logs fields g r d is e h t p same =
-    (names-net fields g r h, None, tells-declaration old ws us n m logs fields g r d is e h t p same)
+pub quiet-declaration : (old : Hosting) (ws us : Waiting) (n m : Named) (f k : Followed) (logs : List Log) (fields : List Bytes) (g : ℕ) (r : Request) (d : Declaration)
+    → record { waiting = ws; named = n; followed = f; logs = logs } ≡ old → r ≡ Declare d → Asked fields g r → takes ws n g d ≡ true → Prepares g d ws us → m ≡ n
+    → k ≡ f → IsRunBy g fields old (record { waiting = us; named = m; followed = k; logs = logs })
+quiet-declaration old ws us n m f k logs fields g r d is e h t p same kept =
+    (names-net fields g r h, None, tells-declaration old ws us n m f k logs fields g r d is e h t p same kept)
 
 pub quiet-event : (old new : Hosting) (fields : List Bytes) (g : ℕ) (r : Request) (e : Event) → r ≡ Apply e → Asked fields g r
     → IsPutQuietly g e old new → IsRunBy g fields old new

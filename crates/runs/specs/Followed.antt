@@ -10,6 +10,7 @@ use Rattle.configuration.specs.Configs.{names_of}
 use Rattle.runs.specs.declared.emissions.Emission.{Emission}
 use Rattle.runs.specs.declared.followed.Turn.{Turn}
 use Rattle.runs.specs.declared.followed.Turn.TheVariants.{Opens, Closes, Within}
+use Rattle.runs.specs.Joining.{Joins}
 use Rattle.runs.specs.Emissions.{OpenSlot, OpenSlots, at_number, changed_at, handed_on, noted_outs, waits, with_slot, without_slot}
 
 -- the networks that are followed, ascending by number
@@ -19,6 +20,10 @@ Followed = List (ℕ × OpenSlots)
 -- a network joins, and none of its slots is open
 abbrev pub followed_with : Config → Followed → Followed
 followed_with c f = insert_entry nat_cmp f c.number (record { names = names_of c.hosts; slots = [] })
+
+-- a network joins others, and is followed from then on
+abbrev pub also_followed : {S : Type 0} → Joins S → Joins (S × Followed)
+also_followed joins c s = (joins c s.0, followed_with c s.1)
 
 -- the hosted nodes of a network that is followed, ascending
 abbrev pub names_at : Followed → ℕ → Option (List ℕ)

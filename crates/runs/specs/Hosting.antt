@@ -1,5 +1,5 @@
--- The networks of one script, and what its lines tell them to become and to print.
-use Rattle.std.specs.Prelude.{◌≡◌, ℕ, Bool, not, ◌&&◌, nat_lt, is_some, length, List, [], Option, Some, None, Result, Vec, if◌then◌else◌}
+-- The networks of one script, and what events make of them.
+use Rattle.std.specs.Prelude.{◌≡◌, ℕ, Bool, not, ◌&&◌, nat_lt, is_some, length, List, [], Option, Result, Ok, Err, Vec, if◌then◌else◌}
 use Rattle.std.specs.Global.{Global}
 use Rattle.scripts.specs.Script.{Bytes}
 use Rattle.types.specs.declared.event.Event.{Event}
@@ -8,22 +8,23 @@ use Rattle.types.specs.declared.event.Refusal.{Refusal}
 use Rattle.hoststep.specs.Logs.{Log}
 use Rattle.hoststep.specs.Worlds.{IsAnswered, items_of, log_at, logs_with}
 use Rattle.runs.specs.Drafts.{Waiting, waiting_at}
+use Rattle.runs.specs.Followed.{Followed, also_followed, noted, turn_of}
 use Rattle.runs.specs.Joining.{HaveJoined, IsNamed, Joins}
 use Rattle.runs.specs.Naming.{Named, named_with, unnamed}
-use Rattle.runs.specs.Preparing.{IsPrepared}
 use Rattle.runs.specs.Replies.{IsReply}
-use Rattle.runs.specs.Settling.{HasSettled}
-use Rattle.runs.specs.Telling.{AsksOf, Refuses, Settles}
 
--- the networks that wait for an event that names them, the numbers that events have named, and the journals of the networks that joined
+-- the networks that wait for an event that names them, the numbers that events have named, and of the networks that joined what is kept for lines that settle, and the journals
 pub record Hosting : Type 0 where
   pub waiting : Waiting
   pub named : Named
+  pub followed : Followed
   pub logs : List Log
 
 -- before the first line
 abbrev pub unhosted : Hosting
-unhosted = record { waiting = []; named = unnamed; logs = [] }
+unhosted = record { waiting = []; named = unnamed; followed = []; logs = [] }
+
+-- ---- networks that join
 
 -- there is no network of the number, and there are fewer than 4,096
 abbrev pub has_room : List Log → ℕ → Bool
@@ -33,41 +34,30 @@ has_room logs g = not (is_some (log_at logs g)) && nat_lt (length logs) 4096
 abbrev pub logs_joined : Joins (List Log)
 logs_joined c logs = if has_room logs c.number then logs_with (record { config = c; entries = [] }) logs else logs
 
--- the network of a number is named: where the line is the first that does, the network joins
+-- the network of a number is named: where the line is the first that does, the network joins, and what its nodes emit is followed from then on
 abbrev pub IsBegun : ℕ → Hosting → Hosting → Type 0
-IsBegun g old new = IsNamed logs_joined g old.waiting new.waiting old.logs new.logs × (new.named ≡ named_with g (waiting_at old.waiting g) old.named)
+IsBegun g old new = IsNamed (also_followed logs_joined) g old.waiting new.waiting (old.logs, old.followed) (new.logs, new.followed)
+    × (new.named ≡ named_with g (waiting_at old.waiting g) old.named)
+
+-- after the last line all networks that wait and have nodes have joined
+abbrev pub IsFinished : Hosting → Hosting → Type 0
+IsFinished old new = HaveJoined logs_joined old.waiting old.logs new.logs
+
+-- ---- events
 
 -- what is declared stays, and which numbers are named
 abbrev pub DeclaresNothing : Hosting → Hosting → Type 0
 DeclaresNothing old new = (new.waiting ≡ old.waiting) × (new.named ≡ old.named)
 
--- an event is put to the network of a number, and the answer is printed
+-- an event of the network of a number has been answered: what is kept of its slots follows what it gave out, and a refusal changes nothing
+abbrev pub noted_answer : ℕ → Event → Result (List Out) Refusal → Followed → Followed
+noted_answer g e (Ok outs) f = noted g (turn_of e) outs f
+noted_answer g e (Err r) f = f
+
+-- an event is put to the network of a number, and answered
+abbrev pub IsApplied : ℕ → Event → Result (Vec Out Global) Refusal → Hosting → Hosting → Type 0
+IsApplied g e r old new = IsAnswered old.logs g e r new.logs × (new.followed ≡ noted_answer g e (items_of r) old.followed) × DeclaresNothing old new
+
+-- the same where the event may be the first that names the network, and the answer is printed
 abbrev pub IsPut : ℕ → Event → Hosting → Bytes → Hosting → Type 0
-IsPut g e old text new = (begun : Hosting) × (r : Result (Vec Out Global) Refusal) × IsBegun g old begun
-    × IsAnswered begun.logs g e r new.logs × DeclaresNothing begun new × IsReply (items_of r) text
-
--- a slot of the network of a number settles: nodes hear what others emitted there, and no other event is put to any network
-abbrev pub IsSettled : ℕ → ℕ → Hosting → Bytes → Hosting → Type 0
-IsSettled g slot old text new = (begun : Hosting) × IsBegun g old begun × DeclaresNothing begun new × HasSettled g slot begun.logs text new.logs
-
--- what a line tells. A declaration that is taken prints nothing, names nothing, and no journal changes. An event is put to its network, and the answer is printed. A line
--- that settles puts hearings alone to its network, and prints the first refusal, or what has been decided.
-pub data Tells : Hosting → List Bytes → Option Bytes → Hosting → Type 0 where
-  declared : {old new : Hosting} {fields : List Bytes} → IsPrepared fields old.named old.waiting new.waiting → new.named ≡ old.named → new.logs ≡ old.logs
-      → Tells old fields None new
-  answered : {old new : Hosting} {fields : List Bytes} {text : Bytes} (g : ℕ) (e : Event) → AsksOf fields g e → IsPut g e old text new
-      → Tells old fields (Some text) new
-  settled : {old new : Hosting} {fields : List Bytes} {text : Bytes} (g slot : ℕ) → Settles fields g slot → IsSettled g slot old text new
-      → Tells old fields (Some text) new
-
--- the line is bad
-abbrev pub RefusesLine : Hosting → List Bytes → Type 0
-RefusesLine old fields = Refuses old.waiting old.named fields
-
--- no line is both bad and run: where memory is enough, the bad lines are exactly those that are called so
-abbrev pub BadLinesTellNothing : Type 0
-BadLinesTellNothing = (old new : Hosting) (fields : List Bytes) (printed : Option Bytes) → RefusesLine old fields → ¬ Tells old fields printed new
-
--- after the last line all networks that wait and have nodes have joined
-abbrev pub IsFinished : Hosting → Hosting → Type 0
-IsFinished old new = HaveJoined logs_joined old.waiting old.logs new.logs
+IsPut g e old text new = (begun : Hosting) × (r : Result (Vec Out Global) Refusal) × IsBegun g old begun × IsApplied g e r begun new × IsReply (items_of r) text

@@ -12,6 +12,7 @@ pub mod Emissions
 pub mod Followed
 pub mod SettledLines
 pub mod Settling
+pub mod Running
 pub mod Quiet
 pub mod Submitting
 pub mod Plans

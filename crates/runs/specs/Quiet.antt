@@ -6,8 +6,9 @@ use Rattle.types.specs.declared.event.Event.{Event}
 use Rattle.types.specs.declared.event.Out.{Out}
 use Rattle.types.specs.declared.event.Refusal.{Refusal}
 use Rattle.hoststep.specs.Logs.{Log}
-use Rattle.hoststep.specs.Worlds.{IsAnswered, log_at}
-use Rattle.runs.specs.Hosting.{Hosting, IsBegun, DeclaresNothing, IsFinished, RefusesLine, Tells}
+use Rattle.hoststep.specs.Worlds.{log_at}
+use Rattle.runs.specs.Hosting.{Hosting, IsApplied, IsBegun, IsFinished}
+use Rattle.runs.specs.Running.{RefusesLine, Tells}
 use Rattle.runs.specs.Telling.{NamesNet}
 
 -- for each line that was run, in order, the network that it names, and how many entries the journal of that one has after it
@@ -25,8 +26,7 @@ IsRunBy g fields old new = NamesNet fields g × (printed : Option Bytes) × Tell
 
 -- an event is put to the network of a number, whatever it answers
 abbrev pub IsPutQuietly : ℕ → Event → Hosting → Hosting → Type 0
-IsPutQuietly g e old new = (begun : Hosting) × (r : Result (Vec Out Global) Refusal) × IsBegun g old begun
-    × IsAnswered begun.logs g e r new.logs × DeclaresNothing begun new
+IsPutQuietly g e old new = (begun : Hosting) × (r : Result (Vec Out Global) Refusal) × IsBegun g old begun × IsApplied g e r begun new
 
 -- how many entries a journal has
 abbrev pub entries_in : Option Log → ℕ

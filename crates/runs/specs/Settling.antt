@@ -1,39 +1,75 @@
--- What a line that settles puts to its network, and what it prints.
-use Rattle.std.specs.Prelude.{◌≡◌, ◌≢◌, ◌++◌, ℕ, List, Option, Some, None, Ok, Err, Vec, codes}
+-- What a line that settles does to its network, and what it prints.
+use Rattle.std.specs.Prelude.{◌≡◌, ◌==◌, not, ℕ, filter, List, [], ◌∷◌, Option, Some, None, Ok, Err, Vec}
 use Rattle.std.specs.Global.{Global}
 use Rattle.scripts.specs.Script.{Bytes}
+use Rattle.types.specs.declared.event.Event.{Event}
 use Rattle.types.specs.declared.event.Event.TheVariants.{Hear}
 use Rattle.types.specs.declared.event.Out.{Out}
 use Rattle.types.specs.declared.event.Refusal.{Refusal}
 use Rattle.types.specs.declared.event.Refusal.TheVariants.{NoSuchNetwork, SlotNotOpen}
-use Rattle.types.specs.declared.kind.Kind.{Kind}
-use Rattle.hoststep.specs.Logs.{Log}
-use Rattle.hoststep.specs.Worlds.{IsAnswered}
+use Rattle.runs.specs.declared.emissions.Emission.{Emission}
+use Rattle.runs.specs.Emissions.{OpenSlot}
+use Rattle.runs.specs.Followed.{names_at, open_slot, waiting, with_handed}
+use Rattle.runs.specs.Hosting.{Hosting, IsApplied, IsBegun}
 use Rattle.runs.specs.Replies.{refusal_text}
-use Rattle.runs.specs.SettledLines.{text_of_speakers}
-use Rattle.runs.specs.declared.emissions.Speaker.{Speaker}
+use Rattle.runs.specs.SettledLines.{settled_text}
 
--- nodes of the network of a number hear what others emitted at a slot, one hearing after the other, and each is put to the network as an event. The first that is refused
--- is the last: it is answered, and changes nothing.
-pub data AreHeard (g slot : ℕ) : List Log → Option Refusal → List Log → Type 0 where
-  none : {logs : List Log} → AreHeard g slot logs None logs
-  heard : {old now new : List Log} {ended : Option Refusal} (node from : ℕ) (kind : Kind) (number : ℕ) (outs : Vec Out Global) → node ≢ from
-      → IsAnswered old g (Hear slot node from kind number) (Ok outs) now → AreHeard g slot now ended new → AreHeard g slot old ended new
-  refused : {old new : List Log} (node from : ℕ) (kind : Kind) (number : ℕ) (r : Refusal) → node ≢ from
-      → IsAnswered old g (Hear slot node from kind number) (Err r) new → AreHeard g slot old (Some r) new
+-- ---- one emission
+
+-- a node hears an emission at a slot
+abbrev pub hearing : ℕ → ℕ → Emission → Event
+hearing slot u e = Hear slot u e.from e.kind e.number
+
+-- those of the names that are not the one of its sender
+abbrev pub others : Emission → List ℕ → List ℕ
+others e names = filter (λ u. not (u == e.from)) names
+
+-- nodes hear an emission, one after the other, each by an event of the network; the first hearing that is refused is the last
+pub data IsHeardBy (g slot : ℕ) (e : Emission) : List ℕ → Hosting → Option Refusal → Hosting → Type 0 where
+  by_all : {h : Hosting} → IsHeardBy g slot e [] h None h
+  by_one : {u : ℕ} {us : List ℕ} {old now new : Hosting} {ended : Option Refusal} (outs : Vec Out Global) → IsApplied g (hearing slot u e) (Ok outs) old now
+      → IsHeardBy g slot e us now ended new → IsHeardBy g slot e (u ∷ us) old ended new
+  refused : {u : ℕ} {us : List ℕ} {old new : Hosting} (r : Refusal) → IsApplied g (hearing slot u e) (Err r) old new → IsHeardBy g slot e (u ∷ us) old (Some r) new
+
+-- ---- all that wait
+
+-- an emission that waited at a slot has been heard so far: by all, and waits no more, or up to a refusal, and waits on
+abbrev pub handed_over : ℕ → ℕ → Option Refusal → Hosting → Hosting
+handed_over g slot None h = record h { followed = with_handed g slot h.followed }
+handed_over g slot (Some r) h = h
+
+-- an emission is handed on: all other nodes hear it, in the order of the names, unless one of the hearings is refused
+abbrev pub IsHanded : ℕ → ℕ → Emission → List ℕ → Hosting → Option Refusal → Hosting → Type 0
+IsHanded g slot e names old ended new = (now : Hosting) × IsHeardBy g slot e (others e names) old ended now × (new ≡ handed_over g slot ended now)
+
+-- what waits at a slot is handed on, the first emission first, until none waits; those that come meanwhile wait behind the others. The first hearing that is refused ends it.
+pub data AreHandedOn (g slot : ℕ) (names : List ℕ) : Hosting → Option Refusal → Hosting → Type 0 where
+  none_waits : {h : Hosting} → waiting h.followed g slot ≡ None → AreHandedOn g slot names h None h
+  one_waits : {old now new : Hosting} {ended : Option Refusal} (e : Emission) → waiting old.followed g slot ≡ Some e → IsHanded g slot e names old None now
+      → AreHandedOn g slot names now ended new → AreHandedOn g slot names old ended new
+  cut_short : {old new : Hosting} (e : Emission) (r : Refusal) → waiting old.followed g slot ≡ Some e → IsHanded g slot e names old (Some r) new
+      → AreHandedOn g slot names old (Some r) new
 
 -- ---- what is printed
 
--- what begins with `settled`
-abbrev pub IsSettledText : Bytes → Type 0
-IsSettledText text = (speakers : List Speaker) × (text ≡ codes "settled" ++ text_of_speakers speakers)
+-- the refusal, if there is one; else what each node has decided at the slot
+abbrev pub line_of : Option Refusal → Option OpenSlot → Bytes
+line_of None o = settled_text o
+line_of (Some r) o = refusal_text r
 
 -- ---- what a line that settles does
 
--- what becomes of the journals, and the line that is printed. Where there is no such network or its slot is not open, that is the refusal, and nobody hears anything;
--- else nodes hear what others emitted, until a hearing is refused, which is then the line, or until the slot has settled.
-pub data HasSettled (g slot : ℕ) : List Log → Bytes → List Log → Type 0 where
-  not_there : {old new : List Log} {text : Bytes} → new ≡ old → text ≡ refusal_text NoSuchNetwork → HasSettled g slot old text new
-  not_open : {old new : List Log} {text : Bytes} → new ≡ old → text ≡ refusal_text SlotNotOpen → HasSettled g slot old text new
-  cut_short : {old new : List Log} {text : Bytes} (r : Refusal) → AreHeard g slot old (Some r) new → text ≡ refusal_text r → HasSettled g slot old text new
-  done : {old new : List Log} {text : Bytes} → AreHeard g slot old None new → IsSettledText text → HasSettled g slot old text new
+-- by the names of the nodes of the network, if it is there, and the slot, if it is open: where either is wanting, that is the refusal, and nobody hears anything; else what
+-- waits is handed on
+abbrev pub HasSettledAt : ℕ → ℕ → Option (List ℕ) → Option OpenSlot → Hosting → Bytes → Hosting → Type 0
+HasSettledAt g slot None o old text new = (new ≡ old) × (text ≡ refusal_text NoSuchNetwork)
+HasSettledAt g slot (Some names) None old text new = (new ≡ old) × (text ≡ refusal_text SlotNotOpen)
+HasSettledAt g slot (Some names) (Some o) old text new =
+    (ended : Option Refusal) × AreHandedOn g slot names old ended new × (text ≡ line_of ended (open_slot new.followed g slot))
+
+abbrev pub HasSettled : ℕ → ℕ → Hosting → Bytes → Hosting → Type 0
+HasSettled g slot old text new = HasSettledAt g slot (names_at old.followed g) (open_slot old.followed g slot) old text new
+
+-- the same where the line may be the first that names the network
+abbrev pub IsSettled : ℕ → ℕ → Hosting → Bytes → Hosting → Type 0
+IsSettled g slot old text new = (begun : Hosting) × IsBegun g old begun × HasSettled g slot begun text new

@@ -1,11 +1,12 @@
 //! What runs the lines of a script of networks.
 
-ghost use Rattle.std.specs.Prelude.{◌≡◌, Err, IfOk, OnOk, map, string_bytes};
+ghost use Rattle.std.specs.Prelude.{◌≡◌, ◌∷◌, [], Err, IfOk, OnOk, is_some, map, option_map, string_bytes};
 ghost use Rattle.types.specs.declared.event.Event.TheVariants.{Hear};
-ghost use Rattle.hoststep.specs.Worlds.{IsAnswered};
-ghost use Rattle.runs.specs.Hosting.{BadLinesTellNothing, DeclaresNothing, IsBegun, IsFinished, IsPut, IsSettled, RefusesLine, unhosted};
+ghost use Rattle.runs.specs.Followed.{names_at, open_slot, waiting};
+ghost use Rattle.runs.specs.Hosting.{IsApplied, IsBegun, IsFinished, IsPut, unhosted};
 ghost use Rattle.runs.specs.Quiet.{IsPutQuietly, IsRunBy};
-ghost use Rattle.runs.specs.Settling.{AreHeard, HasSettled, IsSettledText};
+ghost use Rattle.runs.specs.Running.{BadLinesTellNothing, RefusesLine};
+ghost use Rattle.runs.specs.Settling.{AreHandedOn, HasSettled, IsHanded, IsHeardBy, IsSettled, line_of, others};
 ghost use Rattle.runs.specs.Telling.{HasNoNode};
 
 use crate::emissions::Emission;
@@ -37,7 +38,7 @@ impl Model for HostRun {
 
     ghost coded = { Prim.hlevel (codes, members_code) };
 
-    ghost view = { λ run. record { waiting = run.nets.waiting; named = run.nets.named; logs = run.world } };
+    ghost view = { λ run. record { waiting = run.nets.waiting; named = run.nets.named; followed = run.nets.followed; logs = run.world } };
 }
 
 impl HostRun {
@@ -111,8 +112,7 @@ impl HostRun {
 
     // Puts an event to the network of a number, and keeps what settling needs of what it gives out.
     fn apply(&mut self, number: u32, event: Event) -> Result<Result<Vec<Out>, Refusal>, AllocError>
-        ensures answer { IfOk result (λ answer. IsAnswered self.old.logs number event answer self.new.logs) }
-        ensures declared { OnOk result (DeclaresNothing self.old self.new) }
+        ensures { IfOk result (λ answer. IsApplied number event answer self.old self.new) }
     {
         let turn = turn_of(&event);
         let answer = self.world.apply(number, event);
@@ -144,8 +144,7 @@ impl HostRun {
     // Hands on what was emitted at a slot, and answers the line that is printed: what each node has
     // externalized, or the first refusal.
     fn settle_begun(&mut self, alloc: Global, number: u32, slot: u64) -> Result<String, AllocError>
-        ensures settled { IfOk result (λ text. HasSettled number slot self.old.logs (string_bytes text) self.new.logs) }
-        ensures declared { OnOk result (DeclaresNothing self.old self.new) }
+        ensures { IfOk result (λ text. HasSettled number slot self.old (string_bytes text) self.new) }
     {
         let names = match self.names(number) {
             Some(names) => Vec::from_slice(alloc, names)?,
@@ -154,46 +153,46 @@ impl HostRun {
         if !self.is_open(number, slot) {
             return refused(alloc, Refusal::SlotNotOpen);
         }
-        self.settle_open(alloc, number, slot, &names)
-    }
-
-    // Hands on what was emitted at an open slot, to the hosted nodes, ascending, and answers the line.
-    fn settle_open(
-        &mut self,
-        alloc: Global,
-        number: u32,
-        slot: u64,
-        names: &[NodeId],
-    ) -> Result<String, AllocError>
-        ensures settled { IfOk result (λ text. HasSettled number slot self.old.logs (string_bytes text) self.new.logs) }
-        ensures declared { OnOk result (DeclaresNothing self.old self.new) }
-    {
-        match self.hand_on_all(number, slot, names)? {
-            Some(refusal) => refused(alloc, refusal),
-            None => self.settled(alloc, number, slot),
-        }
+        let ended = self.hand_on_all(number, slot, &names)?;
+        self.line_of(alloc, number, slot, ended)
     }
 
     // The hosted nodes of a network, ascending, where an event has named it after it was declared.
-    fn names(&self, number: u32) -> Option<&[NodeId]> {
+    fn names(&self, number: u32) -> Option<&[NodeId]>
+        ensures { option_map (λ names. names.now) result ≡ names_at self.now.followed number }
+    {
         self.nets.followed.names(number)
     }
 
     // Whether a slot of a network is open.
-    fn is_open(&self, number: u32, slot: u64) -> bool {
+    fn is_open(&self, number: u32, slot: u64) -> bool
+        ensures { result ≡ is_some (open_slot self.now.followed number slot) }
+    {
         self.nets.followed.open_slot(number, slot).is_some()
     }
 
     // The first emission at a slot that has not been handed on.
-    fn waiting(&self, number: u32, slot: u64) -> Option<Emission> {
+    fn waiting(&self, number: u32, slot: u64) -> Option<Emission>
+        ensures { result ≡ waiting self.now.followed number slot }
+    {
         self.nets.followed.waiting(number, slot)
     }
 
-    // The line of a slot that has settled.
-    fn settled(&self, alloc: Global, number: u32, slot: u64) -> Result<String, AllocError>
-        ensures { IfOk result (λ text. IsSettledText (string_bytes text)) }
+    // The line of a slot whose emissions have been handed on: the refusal that ended it, or what each node
+    // has externalized.
+    fn line_of(
+        &self,
+        alloc: Global,
+        number: u32,
+        slot: u64,
+        ended: Option<Refusal>,
+    ) -> Result<String, AllocError>
+        ensures { IfOk result (λ text. string_bytes text ≡ line_of ended (open_slot self.now.followed number slot)) }
     {
-        self.nets.followed.settled(alloc, number, slot)
+        match ended {
+            Some(refusal) => refused(alloc, refusal),
+            None => self.nets.followed.settled(alloc, number, slot),
+        }
     }
 
     // Hands on each emission at a slot that waits, those that come meanwhile behind the others; answers the
@@ -204,20 +203,19 @@ impl HostRun {
         slot: u64,
         names: &[NodeId],
     ) -> Result<Option<Refusal>, AllocError>
-        ensures heard { IfOk result (λ ended. AreHeard number slot self.old.logs ended self.new.logs) }
-        ensures declared { OnOk result (DeclaresNothing self.old self.new) }
+        ensures { IfOk result (λ ended. AreHandedOn number slot names.now self.old ended self.new) }
     {
-        // Budgets and shares let a network hear fewer than 2^64 times.
         for _ in 0..u64::MAX {
             let Some(emission) = self.waiting(number, slot) else {
                 return Ok(None);
             };
-            match self.hand_on(number, slot, names, emission)? {
+            match self.hand_on(number, slot, names, &emission)? {
                 Some(refusal) => return Ok(Some(refusal)),
                 None => {}
             }
         }
-        Ok(None)
+        // Memory: so many emissions, all of which are kept, have no room.
+        Err(AllocError)
     }
 
     // Has each other node hear an emission, ascending; answers the first refusal. Without one, the emission
@@ -227,18 +225,35 @@ impl HostRun {
         number: u32,
         slot: u64,
         names: &[NodeId],
-        emission: Emission,
+        emission: &Emission,
     ) -> Result<Option<Refusal>, AllocError>
-        ensures heard { IfOk result (λ ended. AreHeard number slot self.old.logs ended self.new.logs) }
-        ensures declared { OnOk result (DeclaresNothing self.old self.new) }
+        ensures { IfOk result (λ ended. IsHanded number slot emission.now names.now self.old ended self.new) }
+    {
+        match self.tell(number, slot, names, emission)? {
+            Some(refusal) => Ok(Some(refusal)),
+            None => {
+                self.nets.followed.hand_on(number, slot);
+                Ok(None)
+            }
+        }
+    }
+
+    // Has each other node hear an emission, ascending; answers the first refusal.
+    fn tell(
+        &mut self,
+        number: u32,
+        slot: u64,
+        names: &[NodeId],
+        emission: &Emission,
+    ) -> Result<Option<Refusal>, AllocError>
+        ensures { IfOk result (λ ended. IsHeardBy number slot emission.now (others emission.now names.now) self.old ended self.new) }
     {
         for name in names {
-            match self.hear(number, slot, *name, &emission)? {
+            match self.hear(number, slot, *name, emission)? {
                 Some(refusal) => return Ok(Some(refusal)),
                 None => {}
             }
         }
-        self.nets.followed.hand_on(number, slot);
         Ok(None)
     }
 
@@ -250,8 +265,7 @@ impl HostRun {
         node: NodeId,
         emission: &Emission,
     ) -> Result<Option<Refusal>, AllocError>
-        ensures heard { IfOk result (λ ended. AreHeard number slot self.old.logs ended self.new.logs) }
-        ensures declared { OnOk result (DeclaresNothing self.old self.new) }
+        ensures { IfOk result (λ ended. IsHeardBy number slot emission.now (others emission.now (node ∷ [])) self.old ended self.new) }
     {
         if node.is_same(&emission.from) {
             return Ok(None);
@@ -262,7 +276,7 @@ impl HostRun {
 }
 
 impl LineRunner for HostRun {
-    ghost use Rattle.runs.specs.Hosting.{RefusesLine, Tells};
+    ghost use Rattle.runs.specs.Running.{RefusesLine, Tells};
 
     ghost tells = { Tells };
 

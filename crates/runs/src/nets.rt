@@ -2,6 +2,7 @@
 
 ghost use Rattle.std.specs.Prelude.{◌≡◌, [], Err, IfOk, None, OnOk, false, true};
 ghost use Rattle.runs.specs.Drafts.{IsRevised, fresh, waiting_at, waiting_with, with_node, with_roster};
+ghost use Rattle.runs.specs.Followed.{also_followed};
 ghost use Rattle.runs.specs.Joining.{HasJoined, HaveJoined, IsNamed, IsTaken};
 ghost use Rattle.runs.specs.Naming.{named_with, unnamed};
 ghost use Rattle.runs.specs.Preparing.{Prepares};
@@ -37,6 +38,7 @@ impl Nets {
     pub fn none(alloc: Global) -> Nets
         ensures waiting { result.waiting ≡ [] }
         ensures named { result.named ≡ unnamed }
+        ensures followed { result.followed ≡ [] }
     {
         Nets {
             alloc,
@@ -52,6 +54,7 @@ impl Nets {
         ensures taken { OnOk result (takes self.old.waiting self.old.named number declaration ≡ true) }
         ensures bad { result ≡ Err LineError.Bad → takes self.old.waiting self.old.named number declaration ≡ false }
         ensures named { self.new.named ≡ self.old.named }
+        ensures followed { self.new.followed ≡ self.old.followed }
     {
         match declaration {
             Declaration::Net(budgets) => self.declare(number, budgets),
@@ -68,6 +71,7 @@ impl Nets {
         ensures taken { OnOk result (takes self.old.waiting self.old.named number (Net budgets) ≡ true) }
         ensures bad { result ≡ Err LineError.Bad → takes self.old.waiting self.old.named number (Net budgets) ≡ false }
         ensures named { self.new.named ≡ self.old.named }
+        ensures followed { self.new.followed ≡ self.old.followed }
     {
         if self.waiting.count() + self.named.count() >= MAX_NETWORKS
             || self.named.is_running(number)
@@ -84,6 +88,7 @@ impl Nets {
         ensures taken { OnOk result (takes self.old.waiting self.old.named number (Node name slices) ≡ true) }
         ensures bad { result ≡ Err LineError.Bad → takes self.old.waiting self.old.named number (Node name slices) ≡ false }
         ensures named { self.new.named ≡ self.old.named }
+        ensures followed { self.new.followed ≡ self.old.followed }
     {
         if self.named.has(number) {
             return Err(LineError::Bad);
@@ -99,6 +104,7 @@ impl Nets {
         ensures taken { OnOk result (takes self.old.waiting self.old.named number (Roster roster) ≡ true) }
         ensures bad { result ≡ Err LineError.Bad → takes self.old.waiting self.old.named number (Roster roster) ≡ false }
         ensures named { self.new.named ≡ self.old.named }
+        ensures followed { self.new.followed ≡ self.old.followed }
     {
         if self.named.has(number) {
             return Err(LineError::Bad);
@@ -109,7 +115,7 @@ impl Nets {
     /// An event names a network. Where it is the first and the network is declared, the network is complete
     /// and joins. It is a bad line where the network has no node.
     pub fn begin<N: Networks>(&mut self, networks: &mut N, number: u32) -> Result<(), LineError>
-        ensures named { OnOk result (IsNamed N.joins number self.old.waiting self.new.waiting networks.old networks.new
+        ensures named { OnOk result (IsNamed (also_followed N.joins) number self.old.waiting self.new.waiting (networks.old, self.old.followed) (networks.new, self.new.followed)
             × (self.new.named ≡ named_with number (waiting_at self.old.waiting number) self.old.named)) }
         ensures bad { result ≡ Err LineError.Bad → HasNoNode self.old.waiting number }
     {
@@ -137,6 +143,7 @@ impl Nets {
     fn name(&mut self, number: u32) -> Result<Option<NetConfig>, LineError>
         ensures taken { IfOk result (λ named.
             IsTaken number (waiting_at self.old.waiting number) named self.old.waiting self.new.waiting) }
+        ensures followed { self.new.followed ≡ self.old.followed }
         ensures named { OnOk result (self.new.named ≡ named_with number (waiting_at self.old.waiting number) self.old.named) }
         ensures bad { result ≡ Err LineError.Bad → HasNoNode self.old.waiting number }
     {

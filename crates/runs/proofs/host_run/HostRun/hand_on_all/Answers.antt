@@ -1,16 +1,17 @@
-use Rattle.std.proofs.Common.{◌∙◌, refl}
-use Rattle.runs.specs.Settling.AreHeard.{none}
-use Rattle.runs.proofs.Hearings.{heard-then}
+use Rattle.std.proofs.Common.{Some, None, sym}
+use Rattle.runs.specs.Settling.AreHandedOn.{none_waits}
+use Rattle.runs.proofs.Hearings.{one-waits, waits-on}
 use Rattle.runs.proofs.host_run.HostRun.hand_on_all.Goals as goal
 
-pub loop-init : goal.loop-init
-loop-init c = ((refl, refl), none)
+pub returns-in_default : goal.returns-in_default
+returns-in_default c = c.loop.invariant None _ (none_waits (sym c.in_default.ensures))
 
-pub returns-in-Some-2-clause-heard : goal.returns-in-Some-2-clause-heard
-returns-in-Some-2-clause-heard c = heard-then _ _ _ _ _ _ _ c.loop.invariant.1 c.in_ok-refusal.ensures.heard c.in-Some-2.is
+pub returns-in-Some-2 : goal.returns-in-Some-2
+returns-in-Some-2 c =
+    c.loop.invariant (Some c.in-Some-2.refusal) _
+    (waits-on _ _ _ c.loop.self _ c.waiting.result c.in-Some.emission _ c.in-Some-2.refusal c.waiting.ensures c.in-Some.is c.in_ok-refusal.ensures c.in-Some-2.is)
 
 pub loop-preserved : goal.loop-preserved
-loop-preserved c = (
-  (c.in_ok-refusal.ensures.declared.0 ∙ c.loop.invariant.0.0, c.in_ok-refusal.ensures.declared.1 ∙ c.loop.invariant.0.1),
-  heard-then _ _ _ _ _ _ _ c.loop.invariant.1 c.in_ok-refusal.ensures.heard c.in-None.is,
-)
+loop-preserved c = λ ended new rest.
+    c.loop.invariant ended new
+    (one-waits _ _ _ c.loop.self _ new c.waiting.result c.in-Some.emission _ ended c.waiting.ensures c.in-Some.is c.in_ok-refusal.ensures c.in-None.is rest)

@@ -8,4 +8,4 @@ pub returns-in_ok-_text-in-Settle-clause-told : goal.returns-in_ok-_text-in-Sett
 returns-in_ok-_text-in-Settle-clause-told c = quiet-settle _ _ _ c.in_ok-number.number c.in_ok-number.request c.in-Settle.slot _ c.in-Settle.is c.in_ok-number.ensures.asked c.in_ok-_text-in-Settle.ensures.told
 
 pub returns-in_ok-prepare-in-Declare-clause-told : goal.returns-in_ok-prepare-in-Declare-clause-told
-returns-in_ok-prepare-in-Declare-clause-told c = quiet-declaration _ _ _ _ _ _ _ c.in_ok-number.number c.in_ok-number.request c.in-Declare.declaration c.self.view_is c.in-Declare.is c.in_ok-number.ensures.asked c.in_ok-prepare-in-Declare.ensures.taken c.in_ok-prepare-in-Declare.ensures.prepared c.prepare.ensures.named
+returns-in_ok-prepare-in-Declare-clause-told c = quiet-declaration _ _ _ _ _ _ _ _ _ c.in_ok-number.number c.in_ok-number.request c.in-Declare.declaration c.self.view_is c.in-Declare.is c.in_ok-number.ensures.asked c.in_ok-prepare-in-Declare.ensures.taken c.in_ok-prepare-in-Declare.ensures.prepared c.prepare.ensures.named c.prepare.ensures.followed

@@ -8,4 +8,4 @@ pub returns-in_ok-settle-in-Settle-clause-told : goal.returns-in_ok-settle-in-Se
 returns-in_ok-settle-in-Settle-clause-told c = tells-settle _ _ _ c.in_ok-number.number c.in_ok-number.request c.in-Settle.slot _ c.in-Settle.is c.in_ok-number.ensures.asked c.in_ok-settle-in-Settle.ensures.told
 
 pub returns-in_ok-prepare-in-Declare-clause-told : goal.returns-in_ok-prepare-in-Declare-clause-told
-returns-in_ok-prepare-in-Declare-clause-told c = tells-declaration _ _ _ _ _ _ _ c.in_ok-number.number c.in_ok-number.request c.in-Declare.declaration c.self.view_is c.in-Declare.is c.in_ok-number.ensures.asked c.in_ok-prepare-in-Declare.ensures.taken c.in_ok-prepare-in-Declare.ensures.prepared c.prepare.ensures.named
+returns-in_ok-prepare-in-Declare-clause-told c = tells-declaration _ _ _ _ _ _ _ _ _ c.in_ok-number.number c.in_ok-number.request c.in-Declare.declaration c.self.view_is c.in-Declare.is c.in_ok-number.ensures.asked c.in_ok-prepare-in-Declare.ensures.taken c.in_ok-prepare-in-Declare.ensures.prepared c.prepare.ensures.named c.prepare.ensures.followed
