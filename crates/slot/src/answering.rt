@@ -9,7 +9,7 @@ ghost use Rattle.types.specs.Statements.{Sent};
 use crate::configured::Configured;
 use crate::filed::GivenOut;
 use crate::outs::outs;
-use crate::settling::settle;
+use crate::settling::settle_from;
 use fedvote::Sight;
 use std::alloc::{AllocError, Global};
 use types::{Given, Out, Votes};
@@ -37,14 +37,14 @@ pub(crate) fn answer_to<S: Sight>(
     old_given: &Given,
     old_votes: &Votes,
     given: &Given,
-    votes: Votes,
+    votes: &Votes,
 ) -> Result<Answer, AllocError>
-    requires settles { IsTrue (is_some (settle 64 (pass configured.now.name (S.seen sight.now) given.now) votes)) }
-    requires sends { IfSome (settle 64 (pass configured.now.name (S.seen sight.now) given.now) votes) SendWellFormed }
-    ensures votes { IfOk result (λ a. settle 64 (pass configured.now.name (S.seen sight.now) given.now) votes ≡ Some a.votes) }
+    requires settles { IsTrue (is_some (settle 64 (pass configured.now.name (S.seen sight.now) given.now) votes.now)) }
+    requires sends { IfSome (settle 64 (pass configured.now.name (S.seen sight.now) given.now) votes.now) SendWellFormed }
+    ensures votes { IfOk result (λ a. settle 64 (pass configured.now.name (S.seen sight.now) given.now) votes.now ≡ Some a.votes) }
     ensures outs { IfOk result (λ a. (before after : List Sent) → a.outs.items ≡ outs (whole configured.now old_given.now old_votes.now before) (whole configured.now given.now a.votes after)) }
 {
-    let settled = settle(alloc, &configured.name, sight, given, votes)?;
+    let settled = settle_from(alloc, &configured.name, sight, given, votes)?;
     let Some(votes) = settled else { unreachable!() };
     let outs = outs(alloc, configured, old_given, old_votes, given, &votes)?;
     Ok(Answer { votes, outs })

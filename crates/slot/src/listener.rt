@@ -173,13 +173,13 @@ impl Listener {
         old_given: &Given,
         old_votes: &Votes,
         given: &Given,
-        votes: Votes,
+        votes: &Votes,
         copies: usize,
     ) -> Result<FiledAnswer, AllocError>
         requires rows { AreFiled archive.old self.old.table }
-        requires settles { IsTrue (is_some (settle 64 (passed (node_of self.old given.now votes)) votes)) }
-        requires sends { IfSome (settle 64 (passed (node_of self.old given.now votes)) votes) SendWellFormed }
-        ensures votes { IfOk result (λ a. settle 64 (passed (node_of self.old given.now votes)) votes ≡ Some a.votes) }
+        requires settles { IsTrue (is_some (settle 64 (passed (node_of self.old given.now votes.now)) votes.now)) }
+        requires sends { IfSome (settle 64 (passed (node_of self.old given.now votes.now)) votes.now) SendWellFormed }
+        ensures votes { IfOk result (λ a. settle 64 (passed (node_of self.old given.now votes.now)) votes.now ≡ Some a.votes) }
         ensures outs { IfOk result (λ a. (before after : List Sent) → outs_of a.given_out.outs.items ≡ outs (whole self.old.configured old_given.now old_votes.now before) (whole self.old.configured given.now a.votes after)) }
         ensures same { self.new ≡ self.old }
         ensures filed { IfOk result (λ a. AreFiledOuts archive.new a.given_out.outs.items) }
@@ -200,12 +200,12 @@ impl Listener {
         old_given: &Given,
         old_votes: &Votes,
         given: &Given,
-        votes: Votes,
+        votes: &Votes,
     ) -> Result<Answer, AllocError>
         requires rows { AreFiled archive.now self.old.table }
-        requires settles { IsTrue (is_some (settle 64 (passed (node_of self.old given.now votes)) votes)) }
-        requires sends { IfSome (settle 64 (passed (node_of self.old given.now votes)) votes) SendWellFormed }
-        ensures votes { IfOk result (λ a. settle 64 (passed (node_of self.old given.now votes)) votes ≡ Some a.votes) }
+        requires settles { IsTrue (is_some (settle 64 (passed (node_of self.old given.now votes.now)) votes.now)) }
+        requires sends { IfSome (settle 64 (passed (node_of self.old given.now votes.now)) votes.now) SendWellFormed }
+        ensures votes { IfOk result (λ a. settle 64 (passed (node_of self.old given.now votes.now)) votes.now ≡ Some a.votes) }
         ensures outs { IfOk result (λ a. (before after : List Sent) → a.outs.items ≡ outs (whole self.old.configured old_given.now old_votes.now before) (whole self.old.configured given.now a.votes after)) }
         ensures same { self.new ≡ self.old }
     {
@@ -232,13 +232,13 @@ impl Listener {
         old_given: &Given,
         old_votes: &Votes,
         given: &Given,
-        votes: Votes,
+        votes: &Votes,
     ) -> Result<Answer, AllocError>
         requires rows { AreFiled archive.now self.now.table }
         requires region { IsRegion self.now.configured.name self.now.configured.slices (sents_of self.now.table) region.now }
-        requires settles { IsTrue (is_some (settle 64 (passed (node_of self.now given.now votes)) votes)) }
-        requires sends { IfSome (settle 64 (passed (node_of self.now given.now votes)) votes) SendWellFormed }
-        ensures votes { IfOk result (λ a. settle 64 (passed (node_of self.now given.now votes)) votes ≡ Some a.votes) }
+        requires settles { IsTrue (is_some (settle 64 (passed (node_of self.now given.now votes.now)) votes.now)) }
+        requires sends { IfSome (settle 64 (passed (node_of self.now given.now votes.now)) votes.now) SendWellFormed }
+        ensures votes { IfOk result (λ a. settle 64 (passed (node_of self.now given.now votes.now)) votes.now ≡ Some a.votes) }
         ensures outs { IfOk result (λ a. (before after : List Sent) → a.outs.items ≡ outs (whole self.now.configured old_given.now old_votes.now before) (whole self.now.configured given.now a.votes after)) }
     {
         let configured = &self.configured;

@@ -438,15 +438,17 @@ impl Node {
         ensures copies { IfOk result (HasCopies copies) }
         ensures kept { Keeps archive.old archive.new }
     {
-        let answer = self.listener.answer(
+        let answered = self.listener.answer(
             alloc,
             archive,
             &self.given,
             &self.votes,
             &given,
-            votes,
+            &votes,
             copies,
-        )?;
+        );
+        drop(votes);
+        let answer = answered?;
         self.given = given;
         self.votes = answer.votes;
         Ok(answer.given_out)
@@ -474,6 +476,5 @@ fn answer_anew<S: Shelf>(
     ensures copies { IfOk result (λ a. HasCopies copies a.given_out) }
     ensures kept { Keeps archive.old archive.new }
 {
-    let votes = settled.try_copy(alloc)?;
-    listener.answer(alloc, archive, given, settled, given, votes, copies)
+    listener.answer(alloc, archive, given, settled, given, settled, copies)
 }

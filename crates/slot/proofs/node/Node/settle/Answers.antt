@@ -10,22 +10,22 @@ use Rattle.slot.proofs.Answered.{node_in}
 use Rattle.slot.proofs.Answered.{settles-after, sends-after, reached-some}
 use Rattle.slot.proofs.node.Node.settle.Goals as goal
 
-pub answer-requires-clause-settles : goal.answer-requires-clause-settles
-answer-requires-clause-settles g c =
+pub answer-answered-requires-clause-settles : goal.answer-answered-requires-clause-settles
+answer-answered-requires-clause-settles g c =
     let n = c.args.self.now.node in
     let m : Node = record n { given = c.args.given; votes = c.args.votes } in
     let h = settles-after n m c.requires.change.event (subst Reached (ap node_in c.self.view_is) c.self.invariant) c.requires.change.is in
     subst (λ (x : Node). IsTrue (is_some (settle 64 (passed (record x { given = c.args.given; votes = c.args.votes })) c.args.votes))) (sym (ap node_in c.self.view_is)) h
 
-pub answer-requires-clause-sends : goal.answer-requires-clause-sends
-answer-requires-clause-sends g c =
+pub answer-answered-requires-clause-sends : goal.answer-answered-requires-clause-sends
+answer-answered-requires-clause-sends g c =
     let n = c.args.self.now.node in
     let m : Node = record n { given = c.args.given; votes = c.args.votes } in
     let h = sends-after n m c.requires.change.event (subst Reached (ap node_in c.self.view_is) c.self.invariant) c.requires.change.is in
     subst (λ (x : Node). IfSome (settle 64 (passed (record x { given = c.args.given; votes = c.args.votes })) c.args.votes) SendWellFormed) (sym (ap node_in c.self.view_is)) h
 
 pub invariant_of-self : goal.invariant_of-self
-invariant_of-self g c = subst (λ (h : Heard). Reached (node_of h c.self.inside.given c.self.inside.votes)) (sym c.answer.ensures.same) c.self.invariant
+invariant_of-self g c = subst (λ (h : Heard). Reached (node_of h c.self.inside.given c.self.inside.votes)) (sym c.answer-answered.ensures.same) c.self.invariant
 
 pub invariant_of-self-2 : goal.invariant_of-self-2
 invariant_of-self-2 g c =
@@ -34,10 +34,10 @@ invariant_of-self-2 g c =
     let w = c.in_ok-answer.answer.votes in
     let settled : settle 64 (passed m) c.args.votes ≡ Some w = subst (λ (x : Node). settle 64 (passed (record x { given = c.args.given; votes = c.args.votes })) c.args.votes ≡ Some w) (ap node_in c.self.view_is) c.in_ok-answer.ensures.votes in
     let reached = reached-some n m c.requires.change.event w (subst Reached (ap node_in c.self.view_is) c.self.invariant) c.requires.change.is settled in
-    subst (λ (h : Heard). Reached (node_of h c.args.given w)) (sym c.answer.ensures.same) (subst (λ (x : Node). Reached (record x { given = c.args.given; votes = w })) (sym (ap node_in c.self.view_is)) reached)
+    subst (λ (h : Heard). Reached (node_of h c.args.given w)) (sym c.answer-answered.ensures.same) (subst (λ (x : Node). Reached (record x { given = c.args.given; votes = w })) (sym (ap node_in c.self.view_is)) reached)
 
 pub returns-clause-rows : goal.returns-clause-rows
 returns-clause-rows g c =
     let rows = c.self.inside.listener.table in
     let before = subst (λ (h : Held). AreFiled c.args.archive.now h.rows) (sym c.self.view_is) c.requires.rows in
-    subst (λ (h : Heard). AreFiled c.answer.new.archive h.table) (sym c.answer.ensures.same) (keeps_all c.args.archive.now c.answer.new.archive rows c.answer.ensures.kept before)
+    subst (λ (h : Heard). AreFiled c.answer-answered.new.archive h.table) (sym c.answer-answered.ensures.same) (keeps_all c.args.archive.now c.answer-answered.new.archive rows c.answer-answered.ensures.kept before)

@@ -4,13 +4,13 @@ use Rattle.types.specs.declared.state.Votes.{Votes}
 use Rattle.protocol.specs.Nodes.{settle}
 use Rattle.protocol.specs.Passes.{pass}
 use Rattle.slot.proofs.Settles.{settle-same, settle-other, settle-end}
-use Rattle.slot.proofs.settling.settle.Goals as goal
+use Rattle.slot.proofs.settling.settle_on.Goals as goal
 
 pub returns-then-is_same-clause-value : goal.returns-then-is_same-clause-value
 returns-then-is_same-clause-value g c =
     let f = pass c.args.own.now (g.S.Sight.seen c.args.sight.now) c.args.given.now in
     let w = c.loop-number.settled in
-    let next : c.in_ok-next.next ≡ f w = ◌∙◌ {b = f c.in_ok-copy.copy} c.in_ok-next.ensures (ap f c.in_ok-copy.ensures) in
+    let next : c.in_ok-next.next ≡ f w = c.in_ok-next.ensures in
     let same : c.in_ok-next.next ≡ w = c.is_same.ensures.0 c.if-is_same.true in
     sym (settle-same c.loop-number.number f w (omega arith) (sym next ∙ same)) ∙ c.loop-number.invariant
 
@@ -18,7 +18,7 @@ pub loop-number-preserved : goal.loop-number-preserved
 loop-number-preserved g c =
     let f = pass c.args.own.now (g.S.Sight.seen c.args.sight.now) c.args.given.now in
     let w = c.loop-number.settled in
-    let next : c.in_ok-next.next ≡ f w = ◌∙◌ {b = f c.in_ok-copy.copy} c.in_ok-next.ensures (ap f c.in_ok-copy.ensures) in
+    let next : c.in_ok-next.next ≡ f w = c.in_ok-next.ensures in
     let other : f w ≡ w → ⊥ = λ e. false≢true (sym c.if-is_same.false ∙ c.is_same.ensures.1 (next ∙ e)) in
     ap (λ (u : Votes). settle (64 - (c.loop-number.number + 1)) f u) next ∙ sym (settle-other c.loop-number.number f w (omega arith) other) ∙ c.loop-number.invariant
 
