@@ -1,13 +1,14 @@
 //! What a node gives out after an event.
 
-ghost use Rattle.std.specs.Prelude.{◌≡◌, ◌++◌, [], List, IfOk, IfSome, OnOk, not, ◌&&◌, if◌then◌else◌};
+ghost use Rattle.std.specs.Prelude.{◌≡◌, ◌++◌, [], List, Option, IfOk, IfSome, OnOk, not, ◌&&◌, if◌then◌else◌};
 ghost use Rattle.protocol.specs.Nodes.{decided, is_externalized, outs, when};
 ghost use Rattle.protocol.specs.States.{sent_nomination, sent_vote};
 ghost use Rattle.slot.specs.Wholes.{emitted_by, whole, SendWellFormed};
 ghost use Rattle.types.specs.Statements.{IsWellFormed, Sent};
+ghost use Rattle.types.specs.declared.statement.Statement.{Statement};
 
 use crate::configured::Configured;
-use crate::sent::{envelope_of, is_same_sent, sent_nomination};
+use crate::sent::{envelope_of, is_same_sent, nominates_same, sent_nomination};
 use ballot::{counter_of, sent_vote};
 use std::alloc::{AllocError, Global};
 use types::{Given, Out, Phase, Statement, Votes, statement_of};
@@ -62,9 +63,11 @@ fn push_nomination(
     requires { IfSome (sent_nomination new.now) IsWellFormed }
     ensures { OnOk result (given_out.new.items ≡ given_out.old.items ++ emitted_by configured.now (sent_nomination old.now) (sent_nomination new.now)) }
 {
-    let before = sent_nomination(alloc, old)?;
+    if nominates_same(old, new) {
+        return Ok(());
+    }
     let after = sent_nomination(alloc, new)?;
-    push_changed(alloc, given_out, configured, &before, after)
+    push_new(alloc, given_out, configured, after)
 }
 
 /// Adds the ballot statement where another one would have been sent before.
@@ -78,6 +81,9 @@ fn push_vote(
     requires { IfSome (sent_vote new.now) IsWellFormed }
     ensures { OnOk result (given_out.new.items ≡ given_out.old.items ++ emitted_by configured.now (sent_vote old.now) (sent_vote new.now)) }
 {
+    if old.is_same(new) {
+        return Ok(());
+    }
     let before = statement_of(&sent_vote(old))?;
     let after = statement_of(&sent_vote(new))?;
     push_changed(alloc, given_out, configured, &before, after)
@@ -97,6 +103,19 @@ fn push_changed(
     if is_same_sent(before, &after) {
         return Ok(());
     }
+    push_new(alloc, given_out, configured, after)
+}
+
+/// Adds what is sent now, which is not what would have been sent before.
+fn push_new(
+    alloc: Global,
+    given_out: &mut Vec<Out>,
+    configured: &Configured,
+    after: Option<Statement>,
+) -> Result<(), AllocError>
+    requires { IfSome after IsWellFormed }
+    ensures { (before : Option Statement) → (before ≡ after → ⊥) → OnOk result (given_out.new.items ≡ given_out.old.items ++ emitted_by configured.now before after) }
+{
     match after {
         None => Ok(()),
         Some(statement) => {

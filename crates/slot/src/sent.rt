@@ -25,6 +25,13 @@ pub(crate) fn sent_nomination(alloc: Global, votes: &Votes) -> Result<Option<Sta
     }
 }
 
+/// Whether both send the same nomination, or none.
+pub(crate) fn nominates_same(one: &Votes, other: &Votes) -> bool
+    ensures { IsTrue result ↔ (one.now.voted ≡ other.now.voted) × (one.now.accepts ≡ other.now.accepts) }
+{
+    one.voted.is_same(&other.voted) && one.accepts.is_same(&other.accepts)
+}
+
 /// Whether both are the same, or neither is there.
 pub(crate) fn is_same_sent(one: &Option<Statement>, other: &Option<Statement>) -> bool
     ensures { IsTrue result ↔ one.now ≡ other.now }
