@@ -42,13 +42,15 @@ pub trait Sight {
     ) -> Result<bool, AllocError>
         ensures { IfOk result (λ b. b ≡ (seen self.now).blocking kind own_passes (asks question.now)) };
 
-    /// The values that the nomination rows of the others that are reached vote for or accept, ascending.
-    fn nominated_values(&self) -> &Values
-        ensures { result.now ≡ as_set (flat_map values_by ((seen self.now).rows Kind.Nomination)) };
+    /// The values that the nomination rows of the others that are reached vote for or accept, ascending,
+    /// gathered anew at each call.
+    fn nominated_values(&self, alloc: Global) -> Result<Values, AllocError>
+        ensures { IfOk result (λ v. v ≡ as_set (flat_map values_by ((seen self.now).rows Kind.Nomination))) };
 
-    /// The values that the nomination rows of the leaders vote for or accept, ascending.
-    fn led_values(&self) -> &Values
-        ensures { result.now ≡ as_set (flat_map values_by (seen self.now).led) };
+    /// The values that the nomination rows of the leaders vote for or accept, ascending, gathered anew at
+    /// each call.
+    fn led_values(&self, alloc: Global) -> Result<Values, AllocError>
+        ensures { IfOk result (λ v. v ≡ as_set (flat_map values_by (seen self.now).led)) };
 
     /// The greatest ballot below the bound, if there is one, that the ballot rows of the others that are
     /// reached name with a counter from 1 on.

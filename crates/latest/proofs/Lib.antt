@@ -3,3 +3,4 @@ pub mod Searches
 pub mod Indexes
 pub mod Tabled
 pub mod WaysBack
+pub mod Placing

@@ -2,6 +2,7 @@
 
 ghost use Rattle.std.specs.Prelude.{◌≡◌, length, option_map, slice_get, true};
 ghost use Rattle.envstore.specs.Archives.{AreFiled, sents_of};
+ghost use Rattle.latest.specs.Places.{place_of};
 ghost use Rattle.latest.specs.Senders.{senders};
 ghost use Rattle.protocol.specs.Rows.{has_single_rows, is_taken, row};
 
@@ -51,6 +52,28 @@ impl<'a, S: envstore::Places> Rows<'a, S> {
         ensures { option_map (λ r. r.now) result ≡ row self.now sender.now kind }
     {
         self.table.row(self.archive, sender, kind)
+    }
+
+    /// The place of the sender's row of a kind among all rows. A newer row stands in its place, and a first
+    /// one behind all others, so a place stays as long as the table only takes envelopes. It takes no memory.
+    pub fn place(&self, sender: &NodeId, kind: Kind) -> Option<usize>
+        ensures { result ≡ place_of self.now sender.now kind }
+    {
+        self.table.place(sender, kind)
+    }
+
+    /// The row at this place, if there are so many. It takes no memory.
+    pub fn at(&self, place: usize) -> Option<&'a Envelope>
+        ensures { option_map (λ r. r.now) result ≡ slice_get self.now place }
+    {
+        self.table.row_at(self.archive, place)
+    }
+
+    /// How many rows there are. It takes no memory.
+    pub fn len(&self) -> usize
+        ensures { result ≡ length self.now }
+    {
+        self.table.len()
     }
 
     /// Whether the table takes the envelope: its sender has no row of its kind, or the envelope is newer than

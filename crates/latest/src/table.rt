@@ -169,6 +169,22 @@ impl Table {
         }
     }
 
+    /// The row at this place among all rows, if there are so many. It takes no memory.
+    pub(crate) fn row_at<'a, S: envstore::Places>(
+        &self,
+        archive: &'a Archive<S>,
+        place: usize,
+    ) -> Option<&'a Envelope>
+        requires { AreFiled archive.now self.now }
+        ensures { option_map (λ r. r.now) result ≡ slice_get (sents_of self.now) place }
+    {
+        if place < self.rows.len() {
+            Some(archive.read(&self.rows[place]))
+        } else {
+            None
+        }
+    }
+
     /// The senders with a row, in ascending order, each once. It takes no memory.
     pub fn senders(&self) -> SenderNames<'_>
         ensures { result ≡ senders (sents_of self.now) }
@@ -220,7 +236,7 @@ impl Table {
     }
 
     /// The place of the sender's row of a kind.
-    fn place(&self, sender: &NodeId, kind: Kind) -> Option<usize>
+    pub(crate) fn place(&self, sender: &NodeId, kind: Kind) -> Option<usize>
         ensures value { result ≡ place_of (sents_of self.now) sender.now kind }
         ensures within { IfSome result (λ place. place < length self.now) }
     {

@@ -86,7 +86,7 @@ pub(crate) fn accept_values<S: Sight>(
 fn candidates<S: Sight>(alloc: Global, sight: &S, votes: &Votes) -> Result<Values, AllocError>
     ensures { IfOk result (λ v. v ≡ all_with votes.now.voted (as_set (flat_map values_by ((S.seen sight.now).rows Kind.Nomination)))) }
 {
-    let nominated = sight.nominated_values().try_copy(alloc)?;
+    let nominated = sight.nominated_values(alloc)?;
     with_all(nominated, votes.voted.as_slice())
 }
 
@@ -120,7 +120,7 @@ fn proposed_values<S: Sight>(
 ) -> Result<Values, AllocError>
     ensures { IfOk result (λ v. v ≡ as_set (flat_map values_by (S.seen sight.now).led ++ own_input own.now given.now)) }
 {
-    let mut proposed = sight.led_values().try_copy(alloc)?;
+    let mut proposed = sight.led_values(alloc)?;
     if let Some(input) = own_input(own, given) {
         proposed.insert(input.try_copy()?)?;
     }

@@ -58,12 +58,12 @@ impl Sight for TwoRows {
         }
     }
 
-    fn nominated_values(&self) -> &Values {
-        &self.reached.values
+    fn nominated_values(&self, alloc: Global) -> Result<Values, AllocError> {
+        self.reached.values.try_copy(alloc)
     }
 
-    fn led_values(&self) -> &Values {
-        &self.led.values
+    fn led_values(&self, alloc: Global) -> Result<Values, AllocError> {
+        self.led.values.try_copy(alloc)
     }
 
     #[tactic(auto, unfolding(protocol::specs::Candidates::greatest))]

@@ -2,7 +2,7 @@
 use Rattle.std.proofs.Common.{◌≡◌, ◌≢◌, ◌⊎◌, ℕ, ◌<◌, Bool, true, false, ◌&&◌, ◌==◌, List, [], ◌∷◌, get_or, set, length, length-set, Option, Some, None, option_map, is_some, if◌then◌else◌, IfSome, Vec, Bor, refl, sym, subst, ◌∙◌, ap, arith, inl, inr}
 use Rattle.std.specs.Global.{Global}
 use Rattle.std.proofs.lemmas.Bool.{cases_Bool, cases_lt, and_parts, and_from, or_cases, eqb-true, eq-eqb, ne_eqb, false≢true, true≢false}
-use Rattle.std.proofs.lemmas.List.{get_or-set_same, get_or-set_other}
+use Rattle.std.proofs.lemmas.List.{get_or-set_same, get_or-set_other, length-map}
 use Rattle.types.specs.Trees.{Slices}
 use Rattle.types.specs.declared.kind.Kind.{Kind}
 use Rattle.types.specs.declared.kind.Kind.TheVariants.{Nomination}
@@ -13,13 +13,16 @@ use Rattle.protocol.specs.Quorums.{is_satisfied}
 use Rattle.protocol.specs.Backing.{slices_by}
 use Rattle.protocol.specs.Reach.{IsReach}
 use Rattle.protocol.specs.Rows.{row, with_row, is_row_of, is_kind}
-use Rattle.protocol.proofs.Tables.{row-with}
+use Rattle.protocol.proofs.Tables.{is_kind-itself, row-with}
 use Rattle.compiled.specs.Places.{Compiled}
 use Rattle.compiled.specs.Met.{IsCompiled, picked}
 use Rattle.compiled.specs.Searching.{AreCompiled, met_at}
 use Rattle.view.specs.declared.region.Entry.{Entry}
 use Rattle.view.specs.declared.region.Region.{Region}
-use Rattle.view.specs.Regions.{IsCopy, IsEntry, IsFirstRow, IsRegion}
+use Rattle.latest.specs.Places.{place_of}
+use Rattle.view.specs.Asking.{AreAsked}
+use Rattle.view.specs.Regions.{IsCopy, IsEntry, IsFirstRow, IsRegion, row_places}
+use Rattle.view.proofs.PlaceLaws.{place_set, places_kept}
 use Rattle.protocol.proofs.ReachStays.{stays_with_first_rows}
 
 -- nodes at two places are two
@@ -94,26 +97,6 @@ set_compiled own configured table e k us cs p c up first another kind compiled a
 }
 
 module _ (table : List Sent) (e : Sent) (r : Region) (own : ℕ) (configured : Slices) (is : IsRegion own configured table r) where
-  -- the node's own first row, which names reached nodes alone
-  pub own_first_row : IsFirstRow table e r.nodes.items r.place → IsRegion own configured (with_row e table) r
-  own_first_row first = record {
-    reach = stays_with_first_rows own configured table r.nodes.items e first.first first.named is.reach;
-    within = is.within;
-    itself = is.itself;
-    blocking = is.blocking;
-    ballots = same_compiled own configured table e Kind.Ballot r.nodes.items r.ballots.items (others Kind.Ballot) is.ballots;
-    nominations = same_compiled own configured table e Nomination r.nodes.items r.nominations.items (others Nomination) is.nominations;
-  }
-    where
-      itself : own ≡ e.sender
-      itself = sym is.itself ∙ first.sender
-
-      others : (k : Kind) (i : ℕ) → i < length r.nodes.items → ((own == get_or r.nodes.items i 0) ≡ true) ⊎ (is_row_of (get_or r.nodes.items i 0) k e ≡ false)
-      others k i h = elim (cases_Bool (own == get_or r.nodes.items i 0)) [
-        | inl same ↦ inl same
-        | inr other ↦ inr (other_node k e (get_or r.nodes.items i 0) (ap (λ w. w == get_or r.nodes.items i 0) (sym itself) ∙ other))
-      ]
-
   module _ (x : Entry) (entry : IsEntry table e r x) where
     another : (own == e.sender) ≡ false
     another =
@@ -123,34 +106,62 @@ module _ (table : List Sent) (e : Sent) (r : Region) (own : ℕ) (configured : S
     reach : IsReach own configured (with_row e table) r.nodes.items
     reach = stays_with_first_rows own configured table r.nodes.items e entry.first_row.first entry.first_row.named is.reach
 
+    -- no other reached node's row is of the sender
+    other_sender : (i : ℕ) → i < length r.nodes.items → i ≢ x.place → (e.sender == get_or r.nodes.items i 0) ≡ false
+    other_sender i h other =
+        ap (λ w. w == get_or r.nodes.items i 0) (sym entry.first_row.sender) ∙ apart r.nodes.items x.place i is.reach.ascending entry.first_row.within h (λ same. other (sym same))
+
+    -- where the rows of its kind stand, once the place of this one is set
+    row_set : (k : Kind) → k ≡ kind_of e.body → set (row_places table k r.nodes.items) x.place (Some x.row) ≡ row_places (with_row e table) k r.nodes.items
+    row_set k same =
+        ap (λ n. set (row_places table k r.nodes.items) x.place (Some n)) entry.last
+        ∙ place_set table e k r.nodes.items x.place entry.first_row.within entry.first_row.sender
+        (and_from (e.sender == e.sender) (is_kind k (kind_of e.body)) (eq-eqb e.sender e.sender refl) (ap (is_kind k) (sym same) ∙ is_kind-itself k))
+        (ap (row table e.sender) same ∙ entry.first_row.first)
+        (λ i h other. other_node k e (get_or r.nodes.items i 0) (other_sender i h other))
+
+    -- and those of the other kind
+    rows_of_other_kind : (k : Kind) → is_kind k (kind_of e.body) ≡ false → row_places table k r.nodes.items ≡ row_places (with_row e table) k r.nodes.items
+    rows_of_other_kind k another_kind = places_kept table e k r.nodes.items (λ i h. inl (other_kind k e (get_or r.nodes.items i 0) another_kind))
+
     pub ballot_set : x.kind ≡ Kind.Ballot → (v : Vec (Option Compiled) Global) → (x.place < length r.ballots.items → v.items ≡ set r.ballots.items x.place (Some x.slices))
-        → IsRegion own configured (with_row e table) (record r { ballots = v })
-    ballot_set kind v now =
+        → (w : Vec (Option ℕ) Global) → (x.place < length r.ballot_rows.items → w.items ≡ set r.ballot_rows.items x.place (Some x.row))
+        → IsRegion own configured (with_row e table) (record r { ballots = v; ballot_rows = w })
+    ballot_set kind v now w row_now =
         let is_now = now (omega (arith, entry.first_row.within, is.ballots.as_many)) in
+        let row_is_now = row_now (omega (arith, entry.first_row.within, ap (λ (os : List (Option ℕ)). length os) is.ballot_rows, length-map r.nodes.items (λ u. place_of table u Kind.Ballot))) in
         let k : Kind.Ballot ≡ kind_of e.body = sym kind ∙ entry.kind in
         record {
           reach = reach;
           within = is.within;
           itself = is.itself;
           blocking = is.blocking;
+          asked = is.asked;
           ballots = subst (λ (cs : List (Option Compiled)). AreCompiled r.nodes.items (slices_by own configured (with_row e table) Kind.Ballot) cs) (sym is_now)
               (set_compiled own configured table e Kind.Ballot r.nodes.items r.ballots.items x.place x.slices is.reach.ascending entry.first_row another (ap (is_kind Kind.Ballot) (sym k)) entry.compiled is.ballots);
           nominations = same_compiled own configured table e Nomination r.nodes.items r.nominations.items (λ i h. inr (other_kind Nomination e (get_or r.nodes.items i 0) (ap (is_kind Nomination) (sym k)))) is.nominations;
+          ballot_rows = row_is_now ∙ ap (λ (os : List (Option ℕ)). set os x.place (Some x.row)) is.ballot_rows ∙ row_set Kind.Ballot k;
+          nomination_rows = is.nomination_rows ∙ rows_of_other_kind Nomination (ap (is_kind Nomination) (sym k));
         }
 
     pub nomination_set : x.kind ≡ Nomination → (v : Vec (Option Compiled) Global) → (x.place < length r.nominations.items → v.items ≡ set r.nominations.items x.place (Some x.slices))
-        → IsRegion own configured (with_row e table) (record r { nominations = v })
-    nomination_set kind v now =
+        → (w : Vec (Option ℕ) Global) → (x.place < length r.nomination_rows.items → w.items ≡ set r.nomination_rows.items x.place (Some x.row))
+        → IsRegion own configured (with_row e table) (record r { nominations = v; nomination_rows = w })
+    nomination_set kind v now w row_now =
         let is_now = now (omega (arith, entry.first_row.within, is.nominations.as_many)) in
+        let row_is_now = row_now (omega (arith, entry.first_row.within, ap (λ (os : List (Option ℕ)). length os) is.nomination_rows, length-map r.nodes.items (λ u. place_of table u Nomination))) in
         let k : Nomination ≡ kind_of e.body = sym kind ∙ entry.kind in
         record {
           reach = reach;
           within = is.within;
           itself = is.itself;
           blocking = is.blocking;
+          asked = is.asked;
           ballots = same_compiled own configured table e Kind.Ballot r.nodes.items r.ballots.items (λ i h. inr (other_kind Kind.Ballot e (get_or r.nodes.items i 0) (ap (is_kind Kind.Ballot) (sym k)))) is.ballots;
           nominations = subst (λ (cs : List (Option Compiled)). AreCompiled r.nodes.items (slices_by own configured (with_row e table) Nomination) cs) (sym is_now)
               (set_compiled own configured table e Nomination r.nodes.items r.nominations.items x.place x.slices is.reach.ascending entry.first_row another (ap (is_kind Nomination) (sym k)) entry.compiled is.nominations);
+          ballot_rows = is.ballot_rows ∙ rows_of_other_kind Kind.Ballot (ap (is_kind Kind.Ballot) (sym k));
+          nomination_rows = row_is_now ∙ ap (λ (os : List (Option ℕ)). set os x.place (Some x.row)) is.nomination_rows ∙ row_set Nomination k;
         }
 
 -- ---- a copy
@@ -160,8 +171,11 @@ copied old new same own configured table is = record {
   within = omega (arith, is.within, same.place, ap (λ (us : List ℕ). length us) same.nodes);
   itself = (λ i. get_or (same.nodes i) (same.place i) 0) ∙ is.itself;
   blocking = subst (λ (p : List ℕ × Compiled). IsCompiled true p.0 configured p.1) (λ i. (sym same.nodes i, sym same.blocking i)) is.blocking;
+  asked = subst (λ (p : List ℕ × List ℕ). AreAsked p.0 (names configured) p.1) (λ i. (sym same.nodes i, sym same.asked i)) is.asked;
   ballots = subst (λ (p : List ℕ × List (Option Compiled)). AreCompiled p.0 (slices_by own configured table Kind.Ballot) p.1) (λ i. (sym same.nodes i, sym same.ballots i)) is.ballots;
   nominations = subst (λ (p : List ℕ × List (Option Compiled)). AreCompiled p.0 (slices_by own configured table Nomination) p.1) (λ i. (sym same.nodes i, sym same.nominations i)) is.nominations;
+  ballot_rows = same.ballot_rows ∙ is.ballot_rows ∙ ap (row_places table Kind.Ballot) (sym same.nodes);
+  nomination_rows = same.nomination_rows ∙ is.nomination_rows ∙ ap (row_places table Nomination) (sym same.nodes);
 }
 
 -- ---- a first row as it is found

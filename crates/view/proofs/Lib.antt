@@ -7,3 +7,5 @@ pub mod Keeping
 pub mod RegionLaws
 pub mod EntryLaws
 pub mod AskingLaws
+pub mod PlaceLaws
+pub mod ListedLaws

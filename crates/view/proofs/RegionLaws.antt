@@ -1,5 +1,5 @@
 -- The two tests over places are those of the definitions, and rows with the same slices leave a region as it is.
-use Rattle.std.proofs.Common.{◌≡◌, ℕ, suc, ◌+◌, ◌<◌, Bool, true, false, cond, ◌==◌, List, [], ◌∷◌, filter, get_or, length, Option, Some, option_map, if◌then◌else◌, IsTrue, ◌↔◌, refl, sym, subst, ◌∙◌, ap, arith, inl, inr}
+use Rattle.std.proofs.Common.{◌≡◌, ℕ, suc, ◌+◌, ◌<◌, Bool, true, false, cond, ◌==◌, List, [], ◌∷◌, filter, get_or, length, Option, Some, None, option_map, if◌then◌else◌, IsTrue, ◌↔◌, refl, sym, subst, ◌∙◌, ap, arith, inl, inr}
 use Rattle.std.proofs.lemmas.Bool.{cases_Bool, true≢false, eq-eqb}
 use Rattle.std.proofs.lemmas.List.Folds.{list_any_at}
 use Rattle.types.specs.Trees.{Slices}
@@ -23,7 +23,8 @@ use Rattle.compiled.specs.Places.{bit_of, Compiled}
 use Rattle.compiled.specs.Met.{picked, picked_from, one_where}
 use Rattle.compiled.specs.Searching.{AreCompiled}
 use Rattle.view.specs.declared.region.Region.{Region}
-use Rattle.view.specs.Regions.{IsRegion}
+use Rattle.view.specs.Regions.{IsRegion, row_places}
+use Rattle.view.proofs.PlaceLaws.{places_kept}
 use Rattle.view.proofs.Sightings.{itself_reached}
 
 -- the bits are those of who is in the set
@@ -92,6 +93,19 @@ compiled_stay us table e keeps own configured k cs are = record {
       are.each i h ws ∙ ap (λ (o : Option Slices). is_satisfied sat o (among (picked us ws))) (slices_stay us table e keeps own configured k u inside);
 }
 
+-- ---- and the places of their rows
+row_there : (o : Option Sent) (q : Slices) → option_map (λ (x : Sent). x.slices) o ≡ Some q → (r : Sent) × (o ≡ Some r)
+row_there None q h = cc
+row_there (Some r) q h = (r, refl)
+
+places_stay : (us : List ℕ) (table : List Sent) (e : Sent) → KeepsReach us table e → (k : Kind) → row_places table k us ≡ row_places (with_row e table) k us
+places_stay us table e keeps k = places_kept table e k us (λ i h.
+    let u = get_or us i 0 in
+    elim (cases_Bool (is_row_of u k e)) [
+      | inl its ↦ inr (row_there (row table u k) e.slices (row_slices us table e keeps u k (list_any_at (λ y. y == u) us i 0 h (eq-eqb u u refl)) its))
+      | inr other ↦ inl other
+    ])
+
 pub region_kept : (r : Region) (table : List Sent) (e : Sent) → KeepsReach r.nodes.items table e → (own : ℕ) (configured : Slices)
     → IsRegion own configured table r → IsReach own configured (with_row e table) r.nodes.items → IsRegion own configured (with_row e table) r
 region_kept r table e keeps own configured is reach = record {
@@ -99,6 +113,9 @@ region_kept r table e keeps own configured is reach = record {
   within = is.within;
   itself = is.itself;
   blocking = is.blocking;
+  asked = is.asked;
   ballots = compiled_stay r.nodes.items table e keeps own configured Kind.Ballot r.ballots.items is.ballots;
   nominations = compiled_stay r.nodes.items table e keeps own configured Nomination r.nominations.items is.nominations;
+  ballot_rows = is.ballot_rows ∙ places_stay r.nodes.items table e keeps Kind.Ballot;
+  nomination_rows = is.nomination_rows ∙ places_stay r.nodes.items table e keeps Nomination;
 }

@@ -119,11 +119,11 @@ same_given f xs ys same y = (
 )
 
 -- ---- the greatest of the same ballots
-is_in : (ts : List Ballot) (t : Ballot) → Contains ts t → IsIn t ts
+pub is_in : (ts : List Ballot) (t : Ballot) → Contains ts t → IsIn t ts
 is_in [] t c = none_contained t c
 is_in (s ∷ ts) t c = elim (contained_cases t s ts c) [ inl q ↦ inl (sym q) | inr i ↦ inr (is_in ts t i) ]
 
-is_contained : (ts : List Ballot) (t : Ballot) → IsIn t ts → Contains ts t
+pub is_contained : (ts : List Ballot) (t : Ballot) → IsIn t ts → Contains ts t
 is_contained [] t i = absurd i
 is_contained (s ∷ ts) t (inl q) = subst (λ w. Contains (s ∷ ts) w) (sym q) (contains_head s ts)
 is_contained (s ∷ ts) t (inr i) = contains_tail t s ts (is_contained ts t i)
@@ -142,6 +142,10 @@ same_greatest ts us same = go (greatest None ts) (greatest None us) (greatest_is
     go None (Some h) (nothing e) (this b) = absurd (subst (λ (xs : List Ballot). IsIn h xs) e (back h b.has))
     go (Some g) None (this a) (nothing e) = absurd (subst (λ (xs : List Ballot). IsIn g xs) e (over g a.has))
     go (Some g) (Some h) (this a) (this b) = ap Some (greatest_is_alone us g h (record { has = over g a.has; above = λ t i. a.above t (back t i) }) b)
+
+-- and the next below a bound
+pub same_next : (bound : Option Ballot) (ts us : List Ballot) → AreSame ts us → next_under bound ts ≡ next_under bound us
+same_next bound ts us same = same_greatest _ _ (same_kept (is_under bound) ts us same)
 
 same_under : (by : Statement → List Ballot) (bound : Option Ballot) (xs ys : List Statement) → AreSame xs ys → next_under bound (filter is_counted (flat_map by xs)) ≡ next_under bound (filter is_counted (flat_map by ys))
 same_under by bound xs ys same =

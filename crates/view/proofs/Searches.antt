@@ -1,22 +1,15 @@
 -- Searches among statements, one after another.
-use Rattle.std.proofs.Common.{◌≡◌, ℕ, ◌+◌, ◌<◌, ◌≤◌, suc, add-one, drop, get_or, length, map, min, Bool, true, false, nat_lt, List, [], ◌∷◌, Option, Some, None, filter_map, flat_map, if◌then◌else◌, refl, sym, ◌∙◌, ap, arith}
+use Rattle.std.proofs.Common.{◌≡◌, ℕ, ◌+◌, ◌<◌, ◌≤◌, suc, add-one, drop, get_or, length, map, min, Bool, true, false, nat_lt, List, [], ◌∷◌, Option, Some, None, filter_map, if◌then◌else◌, refl, sym, ◌∙◌, ap, arith}
 use Rattle.std.specs.List.{cons_option}
 use Rattle.std.proofs.Math.Seq.{drop-cons}
 use Rattle.std.proofs.lemmas.List.{drop_all}
-use Rattle.types.specs.declared.ballot.Ballot.{Ballot}
 use Rattle.types.specs.declared.statement.Statement.{Statement}
-use Rattle.fedvote.specs.Searching.{bettered, counter_by, lesser, least_above, next_counter}
-use Rattle.fedvote.proofs.Bettering.{bettered_append, bettered_none}
+use Rattle.fedvote.specs.Searching.{counter_by, lesser, least_above, next_counter}
 use Rattle.view.specs.Watching.{lesser_of}
 
 -- a list from one of its elements on
 next_element : {X : Type 0} (xs : List X) (i : ℕ) (x : X) → i < length xs → x ≡ get_or xs i x → drop i xs ≡ x ∷ drop (i + 1) xs
 next_element xs i x within is = rw add-one (drop-cons xs i x within ∙ ap (λ y. y ∷ drop (suc i) xs) (sym is))
-
--- the ballots of one statement, then those of the others
-pub one_bettered : (by : Statement → List Ballot) (best bound after : Option Ballot) (s : Statement) (ss : List Statement) → after ≡ bettered best bound (by s)
-    → bettered after bound (flat_map by ss) ≡ bettered best bound (flat_map by (s ∷ ss))
-one_bettered by best bound after s ss e = ap (λ o. bettered o bound (flat_map by ss)) e ∙ bettered_append best bound (by s) (flat_map by ss)
 
 -- the lesser of three
 lesser_then : (k j : ℕ) (o : Option ℕ) → lesser (min k j) o ≡ lesser k (lesser j o)
@@ -51,19 +44,6 @@ one_lesser least n s ss = go (counter_by s)
     go (Some k) = above k (nat_lt n k)
 
 module _ {X : Type 0} (f : X → Statement) (xs : List X) (i : ℕ) where
-  -- one step of the search for the best ballot
-  pub best_goes_on : (by : Statement → List Ballot) (best bound after all : Option Ballot) (x : X) → i < length xs → x ≡ get_or xs i x → after ≡ bettered best bound (by (f x))
-      → bettered best bound (flat_map by (map f (drop i xs))) ≡ all → bettered after bound (flat_map by (map f (drop (i + 1) xs))) ≡ all
-  best_goes_on by best bound after all x within is e so_far =
-      one_bettered by best bound after (f x) (map f (drop (i + 1) xs)) e
-      ∙ ap (λ (ys : List X). bettered best bound (flat_map by (map f ys))) (sym (next_element xs i x within is))
-      ∙ so_far
-
-  -- its end
-  pub best_ends : (by : Statement → List Ballot) (best bound all : Option Ballot) → length xs ≤ i → bettered best bound (flat_map by (map f (drop i xs))) ≡ all → best ≡ all
-  best_ends by best bound all end so_far =
-      sym (bettered_none best bound) ∙ ap (λ (ys : List X). bettered best bound (flat_map by (map f ys))) (sym (drop_all i xs end)) ∙ so_far
-
   -- one step of the search for the least counter
   pub least_goes_on : (least : Option ℕ) (n : ℕ) (after all : Option ℕ) (x : X) → i < length xs → x ≡ get_or xs i x → after ≡ lesser_of least (next_counter n (f x ∷ []))
       → lesser_of least (next_counter n (map f (drop i xs))) ≡ all → lesser_of after (next_counter n (map f (drop (i + 1) xs))) ≡ all

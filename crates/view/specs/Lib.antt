@@ -1,3 +1,4 @@
 pub mod Watching
 pub mod Regions
 pub mod Asking
+pub mod Listing

@@ -1,5 +1,5 @@
 -- What a view keeps of a table.
-use Rattle.std.specs.Prelude.{ℕ, ◌==◌, List, Option, Some, None, filter_map, flat_map, if◌then◌else◌, map, option_map}
+use Rattle.std.specs.Prelude.{ℕ, ◌==◌, List, Option, Some, None, filter_map, flat_map, if◌then◌else◌, map, option_map, slice_get}
 use Rattle.types.specs.declared.kind.Kind.{Kind}
 use Rattle.types.specs.declared.statement.Statement.{Statement}
 use Rattle.types.specs.Statements.{Sent}
@@ -16,6 +16,11 @@ pub record Kept : Type 0 where
 -- the rows of a kind that these nodes have, in the order of the nodes: nothing for a node without one
 abbrev pub rows_at : Kind → List Sent → List ℕ → List (Option Sent)
 rows_at kind table nodes = map (λ u. row table u kind) nodes
+
+-- the row at a place in a table: nothing without a place
+abbrev pub row_where : List Sent → Option ℕ → Option Sent
+row_where table None = None
+row_where table (Some i) = slice_get table i
 
 -- the statements in these rows
 abbrev pub statements_in : List (Option Sent) → List Statement

@@ -6,6 +6,7 @@
 #![tactic(auto)]
 
 mod asking;
+mod listed;
 mod passing;
 mod reached;
 mod region;

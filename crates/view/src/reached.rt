@@ -2,19 +2,20 @@
 
 ghost use Rattle.std.specs.Prelude.{◌≡◌, ◌<◌, IfOk, get_or, length, map, option_map};
 ghost use Rattle.protocol.specs.Rows.{row};
+ghost use Rattle.view.specs.Regions.{row_places};
 ghost use Rattle.view.specs.Watching.{rows_of_others};
 
-use crate::rows::{rows_of, statements_of_others};
+use crate::rows::{rows_where, statements_of_others};
 use envstore::Places;
 use latest::Rows;
 use std::alloc::{AllocError, Global};
 use std::marker::Model;
 use types::{Envelope, Kind, NodeId, Statement};
 
-/// The rows of one kind that the reached nodes have in a table, each looked up once.
+/// The rows of one kind that the reached nodes have in a table, each read once.
 ///
-/// A later look-up is by a node's place among them, and so costs the same however many rows of strangers the
-/// table holds. Contracts see the nodes, the table and the kind.
+/// Each is found by the place that is kept of it, and later by its node's place among the nodes: so it costs the
+/// same however many rows of strangers the table holds. Contracts see the nodes, the table and the kind.
 #[derive(Drop)]
 pub(crate) struct ReachedRows<'a, S: Places> {
     nodes: &'a [NodeId],
@@ -39,16 +40,19 @@ impl<'a, S: Places> Model for ReachedRows<'a, S> {
 }
 
 impl<'a, S: Places> ReachedRows<'a, S> {
-    /// The rows of a kind that the nodes have in the table. An error says that memory is short.
+    /// The rows of a kind that the nodes have in the table, where these stand at the places. An error says that
+    /// memory is short.
     pub(crate) fn of(
         alloc: Global,
         nodes: &'a [NodeId],
+        places: &[Option<usize>],
         table: &'a Rows<'a, S>,
         kind: Kind,
     ) -> Result<ReachedRows<'a, S>, AllocError>
+        requires { places.now ≡ row_places table.now kind nodes.now }
         ensures { IfOk result (λ r. r ≡ record { nodes = nodes.now; table = table.now; kind = kind }) }
     {
-        let rows = rows_of(alloc, nodes, table, kind)?;
+        let rows = rows_where(alloc, places, table)?;
         Ok(ReachedRows {
             nodes,
             rows,

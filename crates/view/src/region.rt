@@ -10,8 +10,9 @@ ghost use Rattle.protocol.specs.Satisfaction.{sat};
 ghost use Rattle.protocol.specs.Sets.{IsAscending, among};
 ghost use Rattle.compiled.specs.Met.{picked};
 ghost use Rattle.compiled.specs.Searching.{AreCompiled, met_at};
-ghost use Rattle.view.specs.Regions.{IsCopy, IsEntry, IsFirstRow, IsRegion};
+ghost use Rattle.view.specs.Regions.{IsCopy, IsEntry, IsFirstRow, IsRegion, row_places};
 
+use crate::asking::places_to_ask;
 use closure::{keeps_reach, reach};
 use compiled::{CompiledSet, compile, has_places, place_of};
 use envstore::Places;
@@ -19,23 +20,31 @@ use latest::Rows;
 use std::alloc::{AllocError, Global};
 use types::{Envelope, Kind, Nested, NodeId};
 
-/// The nodes that a node reaches, where it stands among them, what blocks it, and whose slices of each kind
-/// are met by whom. Its owner keeps it from event to event.
+/// The nodes that a node reaches, where it stands among them, what blocks it, whom to ask whether it is
+/// blocked, and of each kind whose slices are met by whom and where in the table the rows of the nodes stand.
+/// Its owner keeps it from event to event.
+///
+/// A newer row stands in the place of the one before, so the places change with a first row alone.
 #[derive(Drop)]
 pub struct Region {
     pub nodes: Vec<NodeId>,
     pub place: usize,
     pub blocking: CompiledSet,
+    pub asked: Vec<usize>,
     pub ballots: Vec<Option<CompiledSet>>,
     pub nominations: Vec<Option<CompiledSet>>,
+    pub ballot_rows: Vec<Option<usize>>,
+    pub nomination_rows: Vec<Option<usize>>,
 }
 
-/// The slices in a reached node's first row of a kind, compiled: all that the row changes in a region.
+/// The slices in a reached node's first row of a kind, compiled, and where that row is to stand in the table:
+/// all that the row changes in a region.
 #[derive(Drop)]
 pub struct Entry {
     kind: Kind,
     place: usize,
     slices: CompiledSet,
+    row: usize,
 }
 
 impl Region {
@@ -51,14 +60,20 @@ impl Region {
         let nodes = reach(alloc, table, own, slices)?;
         let place = place_in(&nodes, own);
         let blocking = compile(alloc, slices.set(), &nodes, true)?;
+        let asked = places_to_ask(alloc, slices, &nodes)?;
         let ballots = compile_rows(alloc, own, slices, table, Kind::Ballot, &nodes)?;
         let nominations = compile_rows(alloc, own, slices, table, Kind::Nomination, &nodes)?;
+        let ballot_rows = row_places(alloc, table, Kind::Ballot, &nodes)?;
+        let nomination_rows = row_places(alloc, table, Kind::Nomination, &nodes)?;
         Ok(Region {
             nodes,
             place,
             blocking,
+            asked,
             ballots,
             nominations,
+            ballot_rows,
+            nomination_rows,
         })
     }
 
@@ -70,19 +85,22 @@ impl Region {
             nodes: Vec::from_slice(alloc, &self.nodes)?,
             place: self.place,
             blocking: self.blocking.try_copy(alloc)?,
+            asked: Vec::from_slice(alloc, &self.asked)?,
             ballots: copy_of_all(alloc, &self.ballots)?,
             nominations: copy_of_all(alloc, &self.nominations)?,
+            ballot_rows: Vec::from_slice(alloc, &self.ballot_rows)?,
+            nomination_rows: Vec::from_slice(alloc, &self.nomination_rows)?,
         })
     }
 
     /// Whether the region surely stays as it is where the table takes the envelope: its sender is not
-    /// reached, or has a row of that kind with the same slices, or is the node itself, whose slices are
-    /// configured, and names reached nodes alone. It takes no memory.
+    /// reached, or has a row of that kind with the same slices, in whose place the envelope then stands. It
+    /// takes no memory.
     pub fn stays<S: Places>(&self, table: &Rows<'_, S>, envelope: &Envelope) -> bool
         requires { IsAscending self.now.nodes.items }
         ensures { IsTrue result → (own : ℕ) (configured : Slices) → IsRegion own configured table.now self.now → IsRegion own configured (with_row envelope.now table.now) self.now }
     {
-        keeps_reach(&self.nodes, table, envelope) || self.is_own_first_row(table, envelope)
+        keeps_reach(&self.nodes, table, envelope)
     }
 
     /// What the region has to have for the envelope where the table takes it, if that is all that
@@ -109,6 +127,7 @@ impl Region {
             kind,
             place,
             slices,
+            row: table.len(),
         }))
     }
 
@@ -118,19 +137,14 @@ impl Region {
         ensures { (own : ℕ) (configured : Slices) (table : List Sent) (e : Sent) → IsEntry table e self.old entry → IsRegion own configured table self.old → IsRegion own configured (with_row e table) self.new }
     {
         match entry.kind {
-            Kind::Ballot => set_at(&mut self.ballots, entry.place, entry.slices),
-            Kind::Nomination => set_at(&mut self.nominations, entry.place, entry.slices),
-        }
-    }
-
-    /// Whether the envelope is the node's own first row of its kind, and names reached nodes alone.
-    fn is_own_first_row<S: Places>(&self, table: &Rows<'_, S>, envelope: &Envelope) -> bool
-        requires { IsAscending self.now.nodes.items }
-        ensures { IsTrue result → IsFirstRow table.now envelope.now self.now.nodes.items self.now.place }
-    {
-        match place_of_first_row(&self.nodes, table, envelope) {
-            None => false,
-            Some(place) => place == self.place,
+            Kind::Ballot => {
+                set_at(&mut self.ballots, entry.place, entry.slices);
+                set_row(&mut self.ballot_rows, entry.place, entry.row);
+            }
+            Kind::Nomination => {
+                set_at(&mut self.nominations, entry.place, entry.slices);
+                set_row(&mut self.nomination_rows, entry.place, entry.row);
+            }
         }
     }
 }
@@ -161,6 +175,15 @@ fn set_at(entries: &mut [Option<CompiledSet>], place: usize, slices: CompiledSet
 {
     if place < entries.len() {
         entries[place] = Some(slices);
+    }
+}
+
+/// Sets where the row of the node at a place stands, where there is such a place.
+fn set_row(rows: &mut [Option<usize>], place: usize, row: usize)
+    ensures { place < length rows.old → rows.new ≡ set rows.old place (Some row) }
+{
+    if place < rows.len() {
+        rows[place] = Some(row);
     }
 }
 
@@ -240,4 +263,20 @@ fn compile_row<S: Places>(
         None => Ok(None),
         Some(row) => Ok(Some(compile(alloc, row.slices().set(), nodes, false)?)),
     }
+}
+
+/// Where the rows of a kind that the nodes have stand in the table, in the order of the nodes.
+fn row_places<S: Places>(
+    alloc: Global,
+    table: &Rows<'_, S>,
+    kind: Kind,
+    nodes: &[NodeId],
+) -> Result<Vec<Option<usize>>, AllocError>
+    ensures { IfOk result (λ v. v.items ≡ row_places table.now kind nodes.now) }
+{
+    let mut places = Vec::with_capacity(alloc, nodes.len())?;
+    for node in nodes {
+        places.push(table.place(node, kind))?;
+    }
+    Ok(places)
 }

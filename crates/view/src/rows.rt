@@ -2,7 +2,7 @@
 
 ghost use Rattle.std.specs.Prelude.{◌≡◌, IfOk, OnOk, filter_map, map, option_map};
 ghost use Rattle.protocol.specs.Candidates.{all_with, values_by};
-ghost use Rattle.view.specs.Watching.{rows_at, rows_by, said_by_another, statements_in, values_in};
+ghost use Rattle.view.specs.Watching.{row_where, rows_at, rows_by, said_by_another, statements_in, values_in};
 
 use envstore::Places;
 use latest::Rows;
@@ -23,6 +23,31 @@ pub(crate) fn rows_of<'a, S: Places>(
         rows.push(table.row(node, kind))?;
     }
     Ok(rows)
+}
+
+/// The rows at these places in a table, in their order: nothing without a place.
+pub(crate) fn rows_where<'a, S: Places>(
+    alloc: Global,
+    places: &[Option<usize>],
+    table: &'a Rows<'a, S>,
+) -> Result<Vec<Option<&'a Envelope>>, AllocError>
+    ensures { IfOk result (λ v. map (λ o. option_map (λ r. r.now) o) v.items ≡ map (row_where table.now) places.now) }
+{
+    let mut rows = Vec::with_capacity(alloc, places.len())?;
+    for place in places {
+        rows.push(row_where(table, *place))?;
+    }
+    Ok(rows)
+}
+
+/// The row at a place in a table.
+fn row_where<'a, S: Places>(table: &'a Rows<'a, S>, place: Option<usize>) -> Option<&'a Envelope>
+    ensures { option_map (λ r. r.now) result ≡ row_where table.now place }
+{
+    match place {
+        None => None,
+        Some(place) => table.at(place),
+    }
 }
 
 /// The statements in these rows, in their order.
@@ -49,7 +74,7 @@ pub(crate) fn statements_of_others<'a>(
 ) -> Result<Vec<&'a Statement>, AllocError>
     ensures { IfOk result (λ v. map (λ s. s.now) v.items ≡ filter_map (said_by_another own.now) (map (λ o. option_map (λ r. r.now) o) rows.now)) }
 {
-    let mut statements = Vec::new(alloc);
+    let mut statements = Vec::with_capacity(alloc, rows.len())?;
     for row in rows {
         if let Some(statement) = said_by_another(own, *row) {
             statements.push(statement)?;

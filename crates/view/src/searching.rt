@@ -1,40 +1,11 @@
-//! Searches among the ballot statements that a node sees.
+//! The search for a counter among the ballot statements that a node sees.
 
 ghost use Rattle.std.specs.Prelude.{◌≡◌, ◌∷◌, [], map};
-ghost use Rattle.protocol.specs.Candidates.{committed_in, named_in};
-ghost use Rattle.fedvote.specs.Searching.{bettered, next_counter, next_under};
+ghost use Rattle.fedvote.specs.Searching.{next_counter};
 ghost use Rattle.view.specs.Watching.{lesser_of};
 
-use fedvote::{better_committed, better_named, counter_by, lesser};
-use types::{LentBallot, Statement};
-
-/// The greatest ballot below the bound that the statements name with a counter from 1 on.
-pub(crate) fn next_named<'a>(
-    statements: &[&'a Statement],
-    bound: &Option<LentBallot>,
-) -> Option<LentBallot<'a>>
-    ensures { result ≡ next_under bound.now (named_in (map (λ s. s.now) statements.now)) }
-{
-    let mut best = None;
-    for statement in statements {
-        best = better_named(best, bound, statement);
-    }
-    best
-}
-
-/// The greatest ballot below the bound at whose counter, from 1 on, a statement speaks of commit.
-pub(crate) fn next_committed<'a>(
-    statements: &[&'a Statement],
-    bound: &Option<LentBallot>,
-) -> Option<LentBallot<'a>>
-    ensures { result ≡ next_under bound.now (committed_in (map (λ s. s.now) statements.now)) }
-{
-    let mut best = None;
-    for statement in statements {
-        best = better_committed(best, bound, statement);
-    }
-    best
-}
+use fedvote::{counter_by, lesser};
+use types::Statement;
 
 /// The least counter above this one that a statement has.
 pub(crate) fn next_counter(statements: &[&Statement], above: u32) -> Option<u32>

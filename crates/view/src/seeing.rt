@@ -3,21 +3,21 @@
 ghost use Rattle.std.specs.Prelude.{◌≡◌, IfOk, map, true};
 ghost use Rattle.types.specs.declared.kind.Kind.{Kind};
 ghost use Rattle.protocol.specs.Rows.{has_single_rows};
-ghost use Rattle.protocol.specs.Views.{led_by, rows_seen, seen};
+ghost use Rattle.protocol.specs.Views.{seen};
 ghost use Rattle.protocol.specs.Backing.{slices_by};
-ghost use Rattle.protocol.specs.Satisfaction.{names};
 ghost use Rattle.compiled.specs.Searching.{AreCompiled};
-ghost use Rattle.view.specs.Asking.{AreAsked};
+ghost use Rattle.protocol.specs.Candidates.{committed_in, named_in};
+ghost use Rattle.view.specs.Listing.{StandsFor};
 ghost use Rattle.view.specs.Regions.{IsRegion};
-ghost use Rattle.view.specs.Watching.{rows_of_others, values_in};
+ghost use Rattle.view.specs.Watching.{rows_of_others};
 ghost use Rattle.fedvote.proofs.Honesty.{seen_honest};
 
-use crate::asking::places_to_ask;
+use crate::listed::ListedBallots;
 use crate::passing::{supporters, supporters_at};
 use crate::reached::ReachedRows;
 use crate::region::Region;
 use crate::rows::{statements_of, values_in};
-use crate::searching::{next_committed, next_counter, next_named};
+use crate::searching::next_counter;
 use compiled::{CompiledSet, in_quorum, is_met};
 use envstore::Places;
 use fedvote::{Question, Sight};
@@ -31,7 +31,10 @@ use types::{Kind, Leaders, LentBallot, Nested, NodeId, Statement, Values};
 ///
 /// Rows of strangers are not looked at: each reached node's rows are looked up once, when the view is made,
 /// and both tests find them by the node's place in the reach. A blocking test asks the names of the node's
-/// slices alone, where many are reached. The reach is its owner's, who keeps it from event to event.
+/// slices alone, where many are reached. The ballots that a search goes through are listed in order, once a
+/// view, since the rules ask for the next one below a bound again and again; nominated values are gathered
+/// when a rule asks for them, since most events ask for none. The reach is its owner's, who keeps it from
+/// event to event.
 #[derive(Drop)]
 pub struct View<'a, S: Places> {
     own: &'a NodeId,
@@ -39,20 +42,18 @@ pub struct View<'a, S: Places> {
     leaders: &'a Leaders,
     table: &'a Rows<'a, S>,
     region: &'a Region,
-    asked: Vec<usize>,
     ballot_rows: ReachedRows<'a, S>,
     nomination_rows: ReachedRows<'a, S>,
     ballots: Vec<&'a Statement>,
-    nominated: Values,
-    led: Values,
+    named: ListedBallots<'a>,
+    committed: ListedBallots<'a>,
     ghost known: { IsRegion own.now slices.now table.now region.now },
-    ghost names_asked: { AreAsked region.now.nodes.items (names slices.now) asked.items },
     ghost single: { has_single_rows table.now ≡ true },
     ghost ballots_kept: { ballot_rows ≡ record { nodes = region.now.nodes.items; table = table.now; kind = Kind.Ballot } },
     ghost nominations_kept: { nomination_rows ≡ record { nodes = region.now.nodes.items; table = table.now; kind = Kind.Nomination } },
     ghost ballots_found: { map (λ s. s.now) ballots.items ≡ rows_of_others own.now Kind.Ballot table.now region.now.nodes.items },
-    ghost nominated_seen: { nominated ≡ values_in (rows_seen own.now slices.now table.now Kind.Nomination) },
-    ghost led_seen: { led ≡ values_in (led_by leaders.now table.now) },
+    ghost named_listed: { StandsFor named (named_in (rows_of_others own.now Kind.Ballot table.now region.now.nodes.items)) },
+    ghost committed_listed: { StandsFor committed (committed_in (rows_of_others own.now Kind.Ballot table.now region.now.nodes.items)) },
 }
 
 impl<'a, S: Places> View<'a, S> {
@@ -70,26 +71,29 @@ impl<'a, S: Places> View<'a, S> {
         ensures { IfOk result (λ v. ⟦<View<'a, S> as Sight>⟧.seen v ≡ seen own.now slices.now leaders.now table.now) }
     {
         table.are_single();
-        let ballot_rows = ReachedRows::of(alloc, &region.nodes, table, Kind::Ballot)?;
-        let nomination_rows = ReachedRows::of(alloc, &region.nodes, table, Kind::Nomination)?;
+        let nodes = &region.nodes;
+        let ballot_rows = ReachedRows::of(alloc, nodes, &region.ballot_rows, table, Kind::Ballot)?;
+        let nomination_rows = ReachedRows::of(
+            alloc,
+            nodes,
+            &region.nomination_rows,
+            table,
+            Kind::Nomination,
+        )?;
         let ballots = ballot_rows.statements_of_others(alloc, own)?;
-        let nominations = nomination_rows.statements_of_others(alloc, own)?;
-        let nominated = values_in(alloc, &nominations)?;
-        let leading = statements_of(alloc, leaders.as_slice(), table, Kind::Nomination)?;
-        let led = values_in(alloc, &leading)?;
-        let asked = places_to_ask(alloc, slices, &region.nodes)?;
+        let named = ListedBallots::named(alloc, &ballots)?;
+        let committed = ListedBallots::committed(alloc, &ballots)?;
         Ok(View {
             own,
             slices,
             leaders,
             table,
             region,
-            asked,
             ballot_rows,
             nomination_rows,
             ballots,
-            nominated,
-            led,
+            named,
+            committed,
         })
     }
 
@@ -141,24 +145,35 @@ impl<'a, S: Places> Sight for View<'a, S> {
         question: &Question,
     ) -> Result<bool, AllocError> {
         let rows = self.rows(kind);
-        let places = supporters_at(alloc, self.own, own_passes, rows, question, &self.asked)?;
+        let places = supporters_at(
+            alloc,
+            self.own,
+            own_passes,
+            rows,
+            question,
+            &self.region.asked,
+        )?;
         Ok(is_met(&self.region.blocking, &places))
     }
 
-    fn nominated_values(&self) -> &Values {
-        &self.nominated
+    fn nominated_values(&self, alloc: Global) -> Result<Values, AllocError> {
+        let nominations = self.nomination_rows.statements_of_others(alloc, self.own)?;
+        let values = values_in(alloc, &nominations)?;
+        Ok(values)
     }
 
-    fn led_values(&self) -> &Values {
-        &self.led
+    fn led_values(&self, alloc: Global) -> Result<Values, AllocError> {
+        let leading = statements_of(alloc, self.leaders.as_slice(), self.table, Kind::Nomination)?;
+        let values = values_in(alloc, &leading)?;
+        Ok(values)
     }
 
     fn next_named<'b>(&'b self, bound: &Option<LentBallot>) -> Option<LentBallot<'b>> {
-        next_named(&self.ballots, bound)
+        self.named.next(bound)
     }
 
     fn next_committed<'b>(&'b self, bound: &Option<LentBallot>) -> Option<LentBallot<'b>> {
-        next_committed(&self.ballots, bound)
+        self.committed.next(bound)
     }
 
     fn next_counter(&self, above: u32) -> Option<u32> {

@@ -3,9 +3,7 @@
 ghost use Rattle.std.specs.Prelude.{IfOk};
 ghost use Rattle.protocol.specs.Sets.{IsAscending};
 
-use crate::reached::ReachedRows;
 use crate::{Region, View};
-use closure::reach;
 use compiled::{CompiledSet, is_met};
 use envstore::{Archive, VecShelf};
 use fedvote::{Question, Sight};
@@ -209,10 +207,14 @@ fn searches_see_neither_strangers_nor_the_node_itself(rt: HostRuntime) -> Result
 fn check_values<S: Sight>(rt: &impl Abort, alloc: Global, sight: &S) -> Result<(), AllocError> {
     assert!(rt;
         sight
-            .nominated_values()
+            .nominated_values(alloc)?
             .is_same(&values(alloc, &[b'a', b'b'])?)
     );
-    assert!(rt; sight.led_values().is_same(&values(alloc, &[b'a', b'z'])?));
+    assert!(rt;
+        sight
+            .led_values(alloc)?
+            .is_same(&values(alloc, &[b'a', b'z'])?)
+    );
     Ok(())
 }
 
@@ -234,41 +236,6 @@ fn values_of_leaders_count_where_they_are_strangers(rt: HostRuntime) -> Result<(
     let region = Region::of(alloc, &own, &slices, &table)?;
     let view = View::of(alloc, &own, &slices, &leaders, &table, &region)?;
     check_values(&rt, alloc, &view)?;
-    Ok(())
-}
-
-/// The counter of a row's PREPARE, if it is one.
-fn counter_in(row: Option<&Envelope>) -> Option<u32> {
-    let Some(row) = row else {
-        return None;
-    };
-    match row.body() {
-        Statement::Prepare { ballot, .. } => Some(ballot.counter),
-        _ => None,
-    }
-}
-
-/// The counter of the PREPARE of a reached node, if it has one.
-fn counter_at(rows: &ReachedRows<'_, VecShelf>, number: u64) -> Option<u32> {
-    for (place, node) in rows.nodes().iter().enumerate() {
-        if *node == name(number) {
-            return counter_in(rows.row_at(place));
-        }
-    }
-    None
-}
-
-#[test]
-fn each_node_has_its_own_row(rt: HostRuntime) -> Result<(), Fail> {
-    let alloc = rt.alloc();
-    let kept = small_table(&rt, alloc)?;
-    let table = kept.rows();
-    let reached = reach(alloc, &table, &name(OWN), &announced(alloc, OWN)?)?;
-    let rows = ReachedRows::of(alloc, &reached, &table, Kind::Ballot)?;
-    assert_eq!(rt; counter_at(&rows, OWN), Some(7));
-    assert_eq!(rt; counter_at(&rows, 2), Some(3));
-    assert_eq!(rt; counter_at(&rows, 3), Some(5));
-    assert_eq!(rt; counter_at(&rows, STRANGER), None);
     Ok(())
 }
 
@@ -351,6 +318,9 @@ fn assert_same(
 ) -> Result<(), AllocError> {
     assert!(rt; one.nodes.as_slice() == other.nodes.as_slice());
     assert_eq!(rt; one.place, other.place);
+    assert!(rt; one.asked.as_slice() == other.asked.as_slice());
+    assert!(rt; one.ballot_rows.as_slice() == other.ballot_rows.as_slice());
+    assert!(rt; one.nomination_rows.as_slice() == other.nomination_rows.as_slice());
     assert!(rt;
         answers_of(alloc, &one.ballots)?.as_slice() == answers_of(alloc, &other.ballots)?.as_slice()
     );

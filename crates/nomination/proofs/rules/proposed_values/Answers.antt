@@ -9,10 +9,10 @@ use Rattle.nomination.proofs.rules.proposed_values.Goals.{in-Some+in_ok-try_copy
 pub returns : goal.returns
 returns g c =
     let led = flat_map values_by (g.S.Sight.seen c.args.sight.now).led in
-    let copied = c.in_ok-proposed.ensures ∙ c.led_values.ensures in
+    let gathered = c.in_ok-proposed.ensures in
     let and_input = λ (xs : List (List ℕ)). as_set (led ++ xs) in
     let values_of = λ (o : Option (Bor (List ℕ))). option_to_list (option_map (λ v. v.now) o) in
     elim c.match-own_input.branch [
-      | in-Some+in_ok-try_copy+in_ok-insert w ↦ w.proposed-is ∙ (simp w.in_ok-try_copy.ensures at w.in_ok-insert.ensures.ok) ∙ ap (with_value w.in-Some.input.now) copied ∙ set_and_one w.in-Some.input.now led ∙ ap and_input (ap values_of (sym w.in-Some.is) ∙ c.own_input.ensures)
-      | in_default w ↦ w.proposed-is ∙ copied ∙ ap as_set (sym (append-nil led)) ∙ ap and_input (ap values_of (sym w.in_default.is) ∙ c.own_input.ensures)
+      | in-Some+in_ok-try_copy+in_ok-insert w ↦ w.proposed-is ∙ (simp w.in_ok-try_copy.ensures at w.in_ok-insert.ensures.ok) ∙ ap (with_value w.in-Some.input.now) gathered ∙ set_and_one w.in-Some.input.now led ∙ ap and_input (ap values_of (sym w.in-Some.is) ∙ c.own_input.ensures)
+      | in_default w ↦ w.proposed-is ∙ gathered ∙ ap as_set (sym (append-nil led)) ∙ ap and_input (ap values_of (sym w.in_default.is) ∙ c.own_input.ensures)
     ]

@@ -2,20 +2,15 @@ use Rattle.std.proofs.Common.{List, ℕ, sym, subst}
 use Rattle.protocol.specs.Reach.{IsReach}
 use Rattle.protocol.specs.Rows.{with_row}
 use Rattle.closure.specs.Keeping.{KeepsReach}
-use Rattle.view.proofs.EntryLaws.{own_first_row}
 use Rattle.view.proofs.RegionLaws.{region_kept}
 use Rattle.view.proofs.region.Region.stays.Goals as goal
 
-pub returns-then-keeps_reach : goal.returns-then-keeps_reach
-returns-then-keeps_reach g c = λ yes own configured is.
+pub returns : goal.returns
+returns g c = λ yes own configured is.
     let t = c.args.table.now in
     let e = c.args.envelope.now in
     let us = c.args.self.now.nodes.items in
-    let keeps = subst (λ (vs : List ℕ). KeepsReach vs t e) c.deref.ensures.value (c.keeps_reach.ensures.exactly.0 c.if-keeps_reach.true) in
+    let keeps = subst (λ (vs : List ℕ). KeepsReach vs t e) c.deref.ensures.value (c.keeps_reach.ensures.exactly.0 yes) in
     let before = subst (λ (vs : List ℕ). IsReach own configured t vs) (sym c.deref.ensures.value) is.reach in
-    let after = subst (λ (vs : List ℕ). IsReach own configured (with_row e t) vs) c.deref.ensures.value (c.keeps_reach.ensures.stays c.if-keeps_reach.true own configured before) in
+    let after = subst (λ (vs : List ℕ). IsReach own configured (with_row e t) vs) c.deref.ensures.value (c.keeps_reach.ensures.stays yes own configured before) in
     region_kept c.args.self.now t e keeps own configured is after
-
-pub returns-else-keeps_reach : goal.returns-else-keeps_reach
-returns-else-keeps_reach g c = λ yes own configured is.
-    own_first_row c.args.table.now c.args.envelope.now c.args.self.now own configured is (c.is_own_first_row.ensures yes)

@@ -1,4 +1,4 @@
-use Rattle.std.proofs.Common.{◌∙◌, Bor, List, ap, map, sym}
+use Rattle.std.proofs.Common.{◌∙◌, List, ap, sym}
 use Rattle.types.specs.declared.kind.Kind.{Kind}
 use Rattle.types.specs.declared.statement.Statement.{Statement}
 use Rattle.protocol.specs.Candidates.{named_in}
@@ -10,8 +10,8 @@ use Rattle.view.proofs.seeing.ViewSight.next_named.Goals as goal
 pub returns : goal.returns
 returns g c =
     let view = c.args.self.now in
-    let search = λ (ss : List Statement). next_under c.args.bound.now (named_in ss) in
-    c.next_named.ensures
-    ∙ ap search (ap (λ (xs : List (Bor Statement)). map (λ (s : Bor Statement). s.now) xs) c.deref.ensures.value ∙ view.ballots_found)
-    ∙ named_found view.own.now view.slices.now view.table.now view.region.now.nodes.items view.known.reach.exactly view.single c.args.bound.now
-    ∙ ap search (sym (seen_rows view.own.now view.slices.now view.leaders.now view.table.now Kind.Ballot))
+    let reach = view.region.now.nodes.items in
+    c.next.ensures
+    ∙ view.named_listed c.args.bound.now
+    ∙ named_found view.own.now view.slices.now view.table.now reach view.known.reach.exactly view.single c.args.bound.now
+    ∙ ap (λ (ss : List Statement). next_under c.args.bound.now (named_in ss)) (sym (seen_rows view.own.now view.slices.now view.leaders.now view.table.now Kind.Ballot))

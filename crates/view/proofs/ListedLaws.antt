@@ -1,0 +1,271 @@
+-- A list that descends: a ballot that is put in its place keeps it so, and the first one below a bound is the next.
+use Rattle.std.proofs.Common.{◌≡◌, ℕ, zero, suc, ◌+◌, ◌-◌, ◌<◌, ◌≤◌, Bool, true, false, not, nat_lt, List, [], ◌∷◌, ◌++◌, Option, Some, None, filter, flat_map, get_or, length, map, take, IsTrue, OnOk, Result, Ok, Err, refl, sym, ◌∙◌, ap, ap₂, subst, inl, inr, ◌⊎◌, ◌↔◌, arith}
+use Rattle.std.specs.List.{Contains, insert}
+use Rattle.std.specs.List.Sorted.{IsPartitionedBy, IsPartitionPoint, IsPermutation}
+use Rattle.std.proofs.lemmas.Bool.{cases_Bool, false≢true, true≢false, not-true, not-false, not_from_false}
+use Rattle.std.proofs.lemmas.Bool.Decides.{nat_tests}
+use Rattle.std.proofs.lemmas.Grind.{flat_map-append}
+use Rattle.std.proofs.lemmas.List.{append-nil, append_assoc, get_or_default, map-append, take_all, take_more}
+use Rattle.std.proofs.lemmas.List.Edits.{get_or-insert_above, get_or-insert_at, get_or-insert_below, length-insert}
+use Rattle.std.proofs.lemmas.List.Elements.{Contains-append_cases, Contains-append_left, Contains-append_right, Contains-push_cases, filter-append}
+use Rattle.std.proofs.lemmas.List.Sorted.{Contains-permutation, IsPermutation-insert, IsPermutation-sym, IsPermutation-to_front, IsPermutation-trans}
+use Rattle.types.specs.declared.ballot.Ballot.{Ballot}
+use Rattle.types.specs.declared.statement.Statement.{Statement}
+use Rattle.protocol.specs.Candidates.{greatest, is_counted}
+use Rattle.protocol.specs.Extremes.{IsGreatest, IsGreatestIn}
+use Rattle.protocol.specs.Extremes.IsGreatestIn.{nothing, this}
+use Rattle.protocol.specs.States.{below}
+use Rattle.protocol.proofs.BallotOrder.{below-along, below-asym, below-self, one_ballot}
+use Rattle.protocol.proofs.GreatestLaws.{greatest_is_alone, greatest_is_exact}
+use Rattle.fedvote.specs.Searching.{is_under, next_under}
+use Rattle.view.specs.Listing.{AreListed, IsDescending, IsPlaceUnder, StandsFor}
+use Rattle.view.proofs.SameRows.{is_contained, is_in, kept_from, kept_to, none_contained, same_next}
+
+less_or_same : (i j : ℕ) → i ≤ j → (i < j) ⊎ (i ≡ j)
+less_or_same i j l = elim (cases_Bool (nat_lt i j)) [ inl e ↦ inl (is_less i j e) | inr e ↦ inr (is_same i j l e) ]
+  where
+    is_less : (i j : ℕ) → nat_lt i j ≡ true → i < j
+    is_less i j e = grind (arith, nat_tests)
+
+    is_same : (i j : ℕ) → i ≤ j → nat_lt i j ≡ false → i ≡ j
+    is_same i j l e = grind (arith, nat_tests)
+
+less_or_from : (i j : ℕ) → (i < j) ⊎ (j ≤ i)
+less_or_from i j = elim (cases_Bool (nat_lt i j)) [ inl e ↦ inl (is_less i j e) | inr e ↦ inr (is_from i j e) ]
+  where
+    is_less : (i j : ℕ) → nat_lt i j ≡ true → i < j
+    is_less i j e = grind (arith, nat_tests)
+
+    is_from : (i j : ℕ) → nat_lt i j ≡ false → j ≤ i
+    is_from i j e = grind (arith, nat_tests)
+
+-- ---- the place at which those begin that are below a bound
+pub parted : (ts : List Ballot) → IsDescending ts → (bound : Ballot) → IsPartitionedBy (λ t. not (below t bound)) ts
+parted ts down bound i j d l m h = elim (less_or_same i j l) [
+  | inl k ↦ elim (cases_Bool (below (get_or ts i d) bound)) [
+    | inl e ↦ absurd (true≢false (sym (below-along (get_or ts j d) (get_or ts i d) bound (down i j d k m) e) ∙ not-true (below (get_or ts j d) bound) h))
+    | inr e ↦ not_from_false (below (get_or ts i d) bound) e
+  ]
+  | inr q ↦ subst (λ n. not (below (get_or ts n d) bound) ≡ true) (sym q) h
+]
+
+pub placed : (ts : List Ballot) (bound : Ballot) (p : ℕ) → p ≤ length ts → IsPartitionPoint (λ t. not (below t bound) ≡ true) (λ t. not (below t bound) ≡ false) ts p → IsPlaceUnder (Some bound) ts p
+placed ts bound p within h = record {
+  within = within;
+  before = λ i d l. not-true (below (get_or ts i d) bound) (h.0 i d (omega arith) l);
+  from = λ i d l m. not-false (below (get_or ts i d) bound) (h.1 i d l m);
+}
+
+pub some_place : (p : ℕ) → (p ≡ 0 → ⊥) → 0 < p
+some_place zero h = absurd (h refl)
+some_place (suc p) h = omega arith
+
+-- ---- whether a ballot is listed
+module _ (ts : List Ballot) (t : Ballot) (p : ℕ) (place : IsPlaceUnder (Some t) ts p) where
+  -- a ballot of the list that is this one stands before the place
+  before_place : (c : Contains ts t) → c.0 < p
+  before_place c = elim (less_or_from c.0 p) [
+    | inl l ↦ l
+    | inr l ↦ absurd (true≢false (sym (place.from c.0 t l c.1) ∙ (ap (λ x. below x t) c.2 ∙ below-self t)))
+  ]
+
+  pub none_before : p ≡ 0 → Contains ts t → ⊥
+  none_before is c = let l = before_place c in omega (arith, l, is)
+
+module _ (ts : List Ballot) (t : Ballot) (p : ℕ) (place : IsPlaceUnder (Some t) ts p) (down : IsDescending ts) where
+  -- it is the one right before the place, or that one is above it and so are all before
+  pub last_before : (u : Ballot) → 0 < p → u ≡ get_or ts (p - 1) u → (b : Bool) → b ≡ not (below t u) → IsTrue b ↔ Contains ts t
+  last_before u some is b e = (λ h. listed (not-true (below t u) (sym e ∙ h)), λ c. e ∙ not_from_false (below t u) (not_above c))
+    where
+      last : p - 1 < length ts
+      last = let w = place.within in omega (arith, w, some)
+
+      one : below t u ≡ false → u ≡ t
+      one h = one_ballot u t (subst (λ x. below x t ≡ false) (sym is) (place.before (p - 1) u (omega (arith, some)))) h
+
+      listed : below t u ≡ false → Contains ts t
+      listed h = subst (λ x. Contains ts x) (one h) (p - 1, last, sym is)
+
+      above : (c : Contains ts t) → (c.0 < p - 1) ⊎ (c.0 ≡ p - 1) → below t u ≡ false
+      above c (inl l) = absurd (true≢false (sym (subst (λ x. below x t ≡ true) (sym is) (ap (λ y. below (get_or ts (p - 1) u) y) (sym (get_or_default ts c.0 u t c.1 ∙ c.2)) ∙ down c.0 (p - 1) u l last)) ∙ subst (λ x. below x t ≡ false) (sym is) (place.before (p - 1) u (omega (arith, some)))))
+      above c (inr q) =
+          let same : u ≡ t = is ∙ (ap (λ n. get_or ts n u) (sym q) ∙ (get_or_default ts c.0 u t c.1 ∙ c.2)) in
+          subst (λ x. below t x ≡ false) (sym same) (below-self t)
+
+      not_above : Contains ts t → below t u ≡ false
+      not_above c = let l = before_place ts t p place c in above c (less_or_same c.0 (p - 1) (omega (arith, l)))
+
+  -- ---- a ballot that is put there
+  above_it : (Contains ts t → ⊥) → (i : ℕ) (d : Ballot) → i < p → below t (get_or ts i d) ≡ true
+  above_it missing i d l = elim (cases_Bool (below t (get_or ts i d))) [
+    | inl e ↦ e
+    | inr e ↦
+        let within = place.within in
+        let inside : i < length ts = omega (arith, l, within) in
+        let same : get_or ts i d ≡ t = one_ballot (get_or ts i d) t (place.before i d l) e in
+        absurd (missing (i, inside, get_or_default ts i t d inside ∙ same))
+  ]
+
+  stands : (k : ℕ) → (k < p) ⊎ ((k ≡ p) ⊎ ((n : ℕ) × (k ≡ n + 1) × (p ≤ n)))
+  stands k = elim (less_or_from k p) [
+    | inl l ↦ inl l
+    | inr l ↦ elim (less_or_same p k l) [
+      | inl m ↦ inr (inr (k - 1, omega (arith, m), omega (arith, m)))
+      | inr e ↦ inr (inl (sym e))
+    ]
+  ]
+
+  pub insert_descends : (Contains ts t → ⊥) → IsDescending (insert ts p t)
+  insert_descends missing i j d l m = go (stands i) (stands j)
+    where
+      now : List Ballot
+      now = insert ts p t
+
+      size : length now ≡ length ts + 1
+      size = length-insert ts p t place.within
+
+      under : (k : ℕ) → k < p → get_or now k d ≡ get_or ts k d
+      under k h = get_or-insert_below ts p t d k h place.within
+
+      here : (k : ℕ) → k ≡ p → get_or now k d ≡ t
+      here k e = ap (λ n. get_or now n d) e ∙ get_or-insert_at ts p t d place.within
+
+      over : (k n : ℕ) → k ≡ n + 1 → p ≤ n → get_or now k d ≡ get_or ts n d
+      over k n e h = ap (λ x. get_or now x d) e ∙ get_or-insert_above ts p t d n h place.within
+
+      go : (i < p) ⊎ ((i ≡ p) ⊎ ((n : ℕ) × (i ≡ n + 1) × (p ≤ n))) → (j < p) ⊎ ((j ≡ p) ⊎ ((n : ℕ) × (j ≡ n + 1) × (p ≤ n))) → below (get_or now j d) (get_or now i d) ≡ true
+      go (inl a) (inl b) = ap₂ below (under j b) (under i a) ∙ down i j d l (let w = place.within in omega (arith, b, w))
+      go (inl a) (inr (inl b)) = ap₂ below (here j b) (under i a) ∙ above_it missing i d a
+      go (inl a) (inr (inr b)) = ap₂ below (over j b.0 b.1 b.2) (under i a) ∙ down i b.0 d (let h = b.2 in omega (arith, a, h)) (let e = b.1 in let s = size in omega (arith, e, m, s))
+      go (inr (inl a)) (inl b) = absurd (omega (arith, l, a, b))
+      go (inr (inl a)) (inr (inl b)) = absurd (omega (arith, l, a, b))
+      go (inr (inl a)) (inr (inr b)) = ap₂ below (over j b.0 b.1 b.2) (here i a) ∙ place.from b.0 d b.2 (let e = b.1 in let s = size in omega (arith, e, m, s))
+      go (inr (inr a)) (inl b) = absurd (let e = a.1 in let h = a.2 in omega (arith, l, e, h, b))
+      go (inr (inr a)) (inr (inl b)) = absurd (let e = a.1 in let h = a.2 in omega (arith, l, e, h, b))
+      go (inr (inr a)) (inr (inr b)) = ap₂ below (over j b.0 b.1 b.2) (over i a.0 a.1 a.2) ∙ down a.0 b.0 d (let e = a.1 in let f = b.1 in omega (arith, e, f, l)) (let e = b.1 in let s = size in omega (arith, e, m, s))
+
+-- ---- what is listed
+pub insert_listed : (ts : List Ballot) (p : ℕ) (t : Ballot) → AreListed (insert ts p t) (ts ++ t ∷ [])
+insert_listed ts p t x =
+    let moved : IsPermutation (ts ++ t ∷ []) (insert ts p t) = IsPermutation-trans (ts ++ t ∷ []) (t ∷ ts) (insert ts p t) (IsPermutation-to_front ts t) (IsPermutation-insert ts p t) in
+    (λ c. Contains-permutation (insert ts p t) (ts ++ t ∷ []) x (IsPermutation-sym (ts ++ t ∷ []) (insert ts p t) moved) c, λ c. Contains-permutation (ts ++ t ∷ []) (insert ts p t) x moved c)
+
+pub has_listed : (ts : List Ballot) (t : Ballot) → Contains ts t → AreListed ts (ts ++ t ∷ [])
+has_listed ts t has x = (
+  λ c. Contains-append_left ts (t ∷ []) x c,
+  λ c. elim (Contains-push_cases ts t x c) [ inl i ↦ i | inr q ↦ subst (λ y. Contains ts y) q has ],
+)
+
+-- a ballot with a counter from 1 on is added, and no other
+pub counted_listed : (now ts : List Ballot) (t : Ballot) → is_counted t ≡ true → AreListed now (ts ++ t ∷ []) → AreListed now (ts ++ filter is_counted (t ∷ []))
+counted_listed now ts t h listed = rw h listed
+
+-- a counter that is not 0 is one from 1 on
+pub is_counted-from : (n : ℕ) (t : Ballot) → n ≡ t.counter → (n ≡ 0 → ⊥) → is_counted t ≡ true
+is_counted-from n t is h = ap (λ k. nat_lt 0 k) (sym is) ∙ above n (some_place n h)
+  where
+    above : (k : ℕ) → 0 < k → nat_lt 0 k ≡ true
+    above k l = grind (arith, nat_tests)
+
+-- some are added, and then others
+pub listed_then : (old mid now ts us : List Ballot) → AreListed mid (old ++ filter is_counted ts) → AreListed now (mid ++ filter is_counted us) → AreListed now (old ++ filter is_counted (ts ++ us))
+listed_then old mid now ts us first then x =
+    subst (λ (ys : List Ballot). Contains now x ↔ Contains ys x) joined (over, back)
+  where
+    fs : List Ballot
+    fs = filter is_counted ts
+
+    gs : List Ballot
+    gs = filter is_counted us
+
+    joined : (old ++ fs) ++ gs ≡ old ++ filter is_counted (ts ++ us)
+    joined = append_assoc old fs gs ∙ ap (λ ys. old ++ ys) (sym (filter-append is_counted ts us))
+
+    over : Contains now x → Contains ((old ++ fs) ++ gs) x
+    over c = elim (Contains-append_cases mid gs x ((then x).0 c)) [
+      | inl i ↦ Contains-append_left (old ++ fs) gs x ((first x).0 i)
+      | inr i ↦ Contains-append_right (old ++ fs) gs x i
+    ]
+
+    back : Contains ((old ++ fs) ++ gs) x → Contains now x
+    back c = elim (Contains-append_cases (old ++ fs) gs x c) [
+      | inl i ↦ (then x).1 (Contains-append_left mid gs x ((first x).1 i))
+      | inr i ↦ (then x).1 (Contains-append_right mid gs x i)
+    ]
+
+on_ok : {A E : Type 0} (r : Result A E) (P Q : Type 0) → (P → Q) → OnOk r P → OnOk r Q
+on_ok (Ok x) P Q f h = f h
+on_ok (Err e) P Q f h = h
+
+-- the same where the second may want memory, and the ballots are named otherwise
+pub then_listed : {A E : Type 0} (r : Result A E) (old mid now ts us all : List Ballot) → ts ++ us ≡ all → AreListed mid (old ++ filter is_counted ts) → OnOk r (AreListed now (mid ++ filter is_counted us)) → OnOk r (AreListed now (old ++ filter is_counted all))
+then_listed r old mid now ts us all is first then = on_ok r _ _ (λ h. subst (λ (ys : List Ballot). AreListed now (old ++ filter is_counted ys)) is (listed_then old mid now ts us first h)) then
+
+-- those of one statement are added to those of the statements before it
+pub one_listed : {X : Type 0} (f : X → Statement) (by : Statement → List Ballot) (xs : List X) (i : ℕ) (x : X) (mid now : List Ballot) → i < length xs → x ≡ get_or xs i x
+    → AreListed mid (filter is_counted (flat_map by (map f (take i xs)))) → AreListed now (mid ++ filter is_counted (by (f x))) → AreListed now (filter is_counted (flat_map by (map f (take (i + 1) xs))))
+one_listed {X} f by xs i x mid now within is first then =
+    let more : take (i + 1) xs ≡ take i xs ++ x ∷ [] = take_more xs i x within ∙ ap (λ y. take i xs ++ y ∷ []) (sym is) in
+    let joined : flat_map by (map f (take (i + 1) xs)) ≡ flat_map by (map f (take i xs)) ++ by (f x) =
+    ap (λ (ys : List X). flat_map by (map f ys)) more
+    ∙ ap (flat_map by) (map-append f (take i xs) (x ∷ []))
+    ∙ flat_map-append by (map f (take i xs)) (f x ∷ [])
+    ∙ ap (λ ys. flat_map by (map f (take i xs)) ++ ys) (append-nil (by (f x))) in
+    subst (λ (ts : List Ballot). AreListed now (filter is_counted ts)) (sym joined) (listed_then [] mid now (flat_map by (map f (take i xs))) (by (f x)) first then)
+
+-- at the end those of all statements are listed
+pub all_listed : {X : Type 0} (f : X → Statement) (by : Statement → List Ballot) (xs : List X) (i : ℕ) (now : List Ballot) → length xs ≤ i
+    → AreListed now (filter is_counted (flat_map by (map f (take i xs)))) → AreListed now (filter is_counted (flat_map by (map f xs)))
+all_listed {X} f by xs i now end listed = subst (λ (ys : List X). AreListed now (filter is_counted (flat_map by (map f ys)))) (take_all i xs end) listed
+
+-- ---- the next below a bound
+module _ (bound : Option Ballot) (ts : List Ballot) (p : ℕ) (down : IsDescending ts) (place : IsPlaceUnder bound ts p) where
+  from_place : (x : Ballot) (c : Contains ts x) → is_under bound x ≡ true → p ≤ c.0
+  from_place x c h = elim (less_or_from c.0 p) [
+    | inl l ↦ absurd (true≢false (sym h ∙ (ap (is_under bound) (sym c.2) ∙ place.before c.0 x l)))
+    | inr l ↦ l
+  ]
+
+  not_above_first : (t : Ballot) → p < length ts → t ≡ get_or ts p t → (x : Ballot) (c : Contains ts x) → (p < c.0) ⊎ (p ≡ c.0) → below t x ≡ false
+  not_above_first t within is x c (inl l) =
+      below-asym x t (subst (λ y. below y t ≡ true) c.2 (subst (λ y. below (get_or ts c.0 x) y ≡ true) (get_or_default ts p x t within ∙ sym is) (down p c.0 x l c.1)))
+  not_above_first t within is x c (inr e) =
+      let same : t ≡ x = is ∙ (get_or_default ts p t x within ∙ (ap (λ n. get_or ts n x) e ∙ c.2)) in
+      subst (λ y. below t y ≡ false) same (below-self t)
+
+  pub next_there : (t : Ballot) → p < length ts → t ≡ get_or ts p t → Some t ≡ next_under bound ts
+  next_there t within is = go (next_under bound ts) (greatest_is_exact None fs)
+    where
+      fs : List Ballot
+      fs = filter (is_under bound) ts
+
+      inside : Contains fs t
+      inside = kept_to (is_under bound) ts t (p, within, sym is) (ap (is_under bound) is ∙ place.from p t (omega arith) within)
+
+      first : IsGreatest fs t
+      first = record {
+        has = is_in fs t inside;
+        above = λ x i. let r = kept_from (is_under bound) ts x (is_contained fs x i) in not_above_first t within is x r.0 (less_or_same p r.0.0 (from_place x r.0 r.1));
+      }
+
+      go : (o : Option Ballot) → IsGreatestIn fs o → Some t ≡ o
+      go None (nothing e) = absurd (none_contained t (subst (λ (ys : List Ballot). Contains ys t) e inside))
+      go (Some g) (this a) = ap Some (greatest_is_alone fs t g first a)
+
+  pub next_nowhere : length ts ≤ p → None ≡ next_under bound ts
+  next_nowhere end = go (next_under bound ts) (greatest_is_exact None fs)
+    where
+      fs : List Ballot
+      fs = filter (is_under bound) ts
+
+      go : (o : Option Ballot) → IsGreatestIn fs o → None ≡ o
+      go None (nothing e) = refl
+      go (Some g) (this a) =
+          let r = kept_from (is_under bound) ts g (is_contained fs g a.has) in
+          let l = from_place g r.0 r.1 in
+          let m = r.0.1 in
+          absurd (omega (arith, l, m, end))
+
+-- listed ballots stand for the ballots that they are
+pub listed_stand : (listed ts us : List Ballot) → ts ≡ us → AreListed listed ts → StandsFor listed us
+listed_stand listed ts us is same bound = same_next bound listed ts same ∙ ap (next_under bound) is

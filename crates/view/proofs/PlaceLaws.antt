@@ -1,0 +1,66 @@
+-- Where the rows of the nodes stand in a table: what is read there, and what an envelope that the table takes leaves of it.
+use Rattle.std.proofs.Common.{◌≡◌, ◌≢◌, ◌⊎◌, ℕ, zero, suc, ◌+◌, ◌<◌, ◌==◌, Bool, true, false, List, [], ◌∷◌, get_or, set, length, length-set, map, Option, Some, None, refl, sym, subst, ◌∙◌, ap, ap₂, arith, inl, inr}
+use Rattle.std.proofs.lemmas.Bool.{cases_Bool, eqb-true, eq-eqb, true≢false}
+use Rattle.std.proofs.lemmas.List.{get_or-map, get_or-set_same, get_or-set_other, length-map}
+use Rattle.types.specs.declared.kind.Kind.{Kind}
+use Rattle.types.specs.Statements.{Sent, kind_of}
+use Rattle.protocol.specs.Rows.{is_row_of, row, with_row}
+use Rattle.latest.specs.Places.{place_of}
+use Rattle.latest.proofs.Placing.{place-of_others, place-of_replaced, place-of_first, row-at_place, row-without_place}
+use Rattle.view.specs.Regions.{row_places}
+use Rattle.view.specs.Watching.{row_where, rows_at}
+
+-- what stands at the place of a row is the row
+one_where : (table : List Sent) (u : ℕ) (k : Kind) (o : Option ℕ) → place_of table u k ≡ o → row_where table o ≡ row table u k
+one_where table u k None is = sym (row-without_place table u k is)
+one_where table u k (Some i) is = row-at_place table u k i is
+
+-- and so for all nodes
+pub rows_where_placed : (table : List Sent) (k : Kind) (us : List ℕ) → map (row_where table) (row_places table k us) ≡ rows_at k table us
+rows_where_placed table k [] = refl
+rows_where_placed table k (u ∷ us) = ap₂ (λ x xs. x ∷ xs) (one_where table u k (place_of table u k) refl) (rows_where_placed table k us)
+
+-- lists that are the same place by place
+same_lists : {X : Type 0} (d : X) (xs ys : List X) → length xs ≡ length ys → ((i : ℕ) → i < length xs → get_or xs i d ≡ get_or ys i d) → xs ≡ ys
+same_lists d [] [] l h = refl
+same_lists d [] (y ∷ ys) l h = absurd (omega (arith, l))
+same_lists d (x ∷ xs) [] l h = absurd (omega (arith, l))
+same_lists d (x ∷ xs) (y ∷ ys) l h = ap₂ (λ z zs. z ∷ zs) (h 0 (omega arith)) (same_lists d xs ys (omega (arith, l)) (λ i within. h (suc i) (omega (arith, within))))
+
+-- a row that is none of a node's, or replaces one, leaves the place of the node's row
+abbrev pub LeavesPlace : List Sent → Sent → Kind → ℕ → Type 0
+LeavesPlace table e k u = (is_row_of u k e ≡ false) ⊎ ((r : Sent) × (row table u k ≡ Some r))
+
+place_kept : (table : List Sent) (e : Sent) (k : Kind) (u : ℕ) → LeavesPlace table e k u → place_of (with_row e table) u k ≡ place_of table u k
+place_kept table e k u (inl other) = place-of_others e table u k other
+place_kept table e k u (inr there) = elim (cases_Bool (is_row_of u k e)) [
+  | inl its ↦ place-of_replaced e table u k there.0 there.1 its
+  | inr other ↦ place-of_others e table u k other
+]
+
+pub places_kept : (table : List Sent) (e : Sent) (k : Kind) (us : List ℕ) → ((i : ℕ) → i < length us → LeavesPlace table e k (get_or us i 0)) → row_places table k us ≡ row_places (with_row e table) k us
+places_kept table e k [] leaves = refl
+places_kept table e k (u ∷ us) leaves = ap₂ (λ x xs. x ∷ xs) (sym (place_kept table e k u (leaves 0 (omega arith)))) (places_kept table e k us (λ i within. leaves (suc i) (omega (arith, within))))
+
+-- a first row stands behind all others, and leaves the places of all other nodes' rows
+pub place_set : (table : List Sent) (e : Sent) (k : Kind) (us : List ℕ) (p : ℕ) → p < length us → get_or us p 0 ≡ e.sender → is_row_of e.sender k e ≡ true → row table e.sender k ≡ None
+    → ((i : ℕ) → i < length us → i ≢ p → is_row_of (get_or us i 0) k e ≡ false) → set (row_places table k us) p (Some (length table)) ≡ row_places (with_row e table) k us
+place_set table e k us p within sender its first others =
+    let old = λ (u : ℕ). place_of table u k in
+    let new = λ (u : ℕ). place_of (with_row e table) u k in
+    same_lists None (set (map old us) p (Some (length table))) (map new us) (length-set (map old us) p (Some (length table)) ∙ length-map us old ∙ sym (length-map us new))
+    (λ i inside.
+    let here : i < length us = omega (arith, inside, length-set (map old us) p (Some (length table)), length-map us old) in
+    elim (cases_Bool (i == p)) [
+      | inl same ↦
+          let is : i ≡ p = eqb-true i p same in
+          ap (λ j. get_or (set (map old us) p (Some (length table))) j None) is
+          ∙ get_or-set_same (map old us) p (Some (length table)) None (omega (arith, within, length-map us old))
+          ∙ sym (get_or-map new us i 0 None here ∙ ap new (ap (λ j. get_or us j 0) is ∙ sender) ∙ place-of_first e table e.sender k first its)
+      | inr apart ↦
+          let other : i ≢ p = λ is. true≢false (sym (eq-eqb i p is) ∙ apart) in
+          get_or-set_other (map old us) p i (Some (length table)) None other
+          ∙ get_or-map old us i 0 None here
+          ∙ sym (place-of_others e table (get_or us i 0) k (others i here other))
+          ∙ sym (get_or-map new us i 0 None here)
+    ])

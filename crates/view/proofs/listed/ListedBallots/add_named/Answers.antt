@@ -1,0 +1,30 @@
+use Rattle.std.proofs.Common.{◌∙◌, ◌++◌, ◌∷◌, [], List, Option, ap, ap₂, filter, option_to_list, subst, sym}
+use Rattle.types.specs.declared.ballot.Ballot.{Ballot}
+use Rattle.protocol.specs.Candidates.{is_counted, named_by}
+use Rattle.protocol.specs.States.{ballot_at}
+use Rattle.view.specs.Listing.{AreListed}
+use Rattle.view.proofs.ListedLaws.{then_listed}
+use Rattle.view.proofs.listed.ListedBallots.add_named.Goals as goal
+
+pub returns-in-None : goal.returns-in-None
+returns-in-None c =
+    let is = ap (λ (b : Ballot). b ∷ []) c.of.ensures ∙ ap (λ (o : Option Ballot). c.in-Prepare.ballot ∷ option_to_list o) (sym c.in-None.is) ∙ ap named_by (sym c.in-Prepare.is) in
+    subst (λ (ts : List Ballot). AreListed c.add.new.self (c.args.self.now ++ filter is_counted ts)) is c.in_ok-add-in-Prepare.ensures
+
+pub returns-in-Some : goal.returns-in-Some
+returns-in-Some c =
+    then_listed c.add-in-Some.result c.args.self.now c.add.new.self c.add-in-Some.new.self (c.of.result ∷ []) (c.of-in-Some.result ∷ []) (named_by c.args.statement.now)
+    (ap₂ (λ (b p : Ballot). b ∷ p ∷ []) c.of.ensures c.of-in-Some.ensures
+    ∙ ap (λ (o : Option Ballot). c.in-Prepare.ballot ∷ option_to_list o) (sym c.in-Some.is)
+    ∙ ap named_by (sym c.in-Prepare.is)) c.in_ok-add-in-Prepare.ensures c.add-in-Some.ensures
+
+pub returns-in_ok-add-in-Commit : goal.returns-in_ok-add-in-Commit
+returns-in_ok-add-in-Commit c =
+    let v = c.in-Commit.ballot.value in
+    then_listed c.add_ends.result c.args.self.now c.add-in-Commit.new.self c.add_ends.new.self (c.of-in-Commit.result ∷ []) (ballot_at c.in-Commit.prepared_counter v ∷ ballot_at c.in-Commit.high_counter v ∷ []) (named_by c.args.statement.now)
+    (ap (λ (b : Ballot). b ∷ ballot_at c.in-Commit.prepared_counter v ∷ ballot_at c.in-Commit.high_counter v ∷ []) c.of-in-Commit.ensures ∙ ap named_by (sym c.in-Commit.is)) c.in_ok-add-in-Commit.ensures c.add_ends.ensures
+
+pub returns-in_ok-add-in-Externalize : goal.returns-in_ok-add-in-Externalize
+returns-in_ok-add-in-Externalize c =
+    then_listed c.add-in-Externalize-2.result c.args.self.now c.add-in-Externalize.new.self c.add-in-Externalize-2.new.self (c.of-in-Externalize.result ∷ []) (c.at.result ∷ []) (named_by c.args.statement.now)
+    (ap₂ (λ (low high : Ballot). low ∷ high ∷ []) c.of-in-Externalize.ensures c.at.ensures ∙ ap named_by (sym c.in-Externalize.is)) c.in_ok-add-in-Externalize.ensures c.add-in-Externalize-2.ensures

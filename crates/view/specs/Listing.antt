@@ -1,0 +1,24 @@
+-- Ballots that are listed once, so that each search goes through them in order.
+use Rattle.std.specs.Prelude.{◌≡◌, ℕ, ◌<◌, ◌≤◌, ◌↔◌, true, false, List, Option, get_or, length}
+use Rattle.std.specs.List.{Contains}
+use Rattle.types.specs.declared.ballot.Ballot.{Ballot}
+use Rattle.protocol.specs.States.{below}
+use Rattle.fedvote.specs.Searching.{is_under, next_under}
+
+-- each ballot is below all before it, so that none stands twice
+abbrev pub IsDescending : List Ballot → Type 0
+IsDescending ts = (i j : ℕ) (d : Ballot) → i < j → j < length ts → below (get_or ts j d) (get_or ts i d) ≡ true
+
+-- listed are these ballots and no others
+abbrev pub AreListed : List Ballot → List Ballot → Type 0
+AreListed listed ts = (t : Ballot) → Contains listed t ↔ Contains ts t
+
+-- each search in the list finds what it would find among these ballots
+abbrev pub StandsFor : List Ballot → List Ballot → Type 0
+StandsFor listed ts = (bound : Option Ballot) → next_under bound listed ≡ next_under bound ts
+
+-- the place in a list at which those begin that are below the bound, where there is one
+pub record IsPlaceUnder (bound : Option Ballot) (ts : List Ballot) (place : ℕ) : Type 0 where
+  pub within : place ≤ length ts
+  pub before : (i : ℕ) (d : Ballot) → i < place → is_under bound (get_or ts i d) ≡ false
+  pub from : (i : ℕ) (d : Ballot) → place ≤ i → i < length ts → is_under bound (get_or ts i d) ≡ true
