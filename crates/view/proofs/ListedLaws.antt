@@ -2,7 +2,7 @@
 use Rattle.std.proofs.Common.{◌≡◌, ℕ, zero, suc, ◌+◌, ◌-◌, ◌<◌, ◌≤◌, Bool, true, false, not, nat_lt, List, [], ◌∷◌, ◌++◌, Option, Some, None, filter, flat_map, get_or, length, map, take, IsTrue, OnOk, Result, Ok, Err, refl, sym, ◌∙◌, ap, ap₂, subst, inl, inr, ◌⊎◌, ◌↔◌, arith}
 use Rattle.std.specs.List.{Contains, insert}
 use Rattle.std.specs.List.Sorted.{IsPartitionedBy, IsPartitionPoint, IsPermutation}
-use Rattle.std.proofs.lemmas.Bool.{cases_Bool, false≢true, true≢false, not-true, not-false, not_from_false}
+use Rattle.std.proofs.lemmas.Bool.{cases_Bool, true≢false, not-true, not-false, not_from_false}
 use Rattle.std.proofs.lemmas.Bool.Decides.{nat_tests}
 use Rattle.std.proofs.lemmas.Grind.{flat_map-append}
 use Rattle.std.proofs.lemmas.List.{append-nil, append_assoc, get_or_default, map-append, take_all, take_more}
@@ -11,7 +11,7 @@ use Rattle.std.proofs.lemmas.List.Elements.{Contains-append_cases, Contains-appe
 use Rattle.std.proofs.lemmas.List.Sorted.{Contains-permutation, IsPermutation-insert, IsPermutation-sym, IsPermutation-to_front, IsPermutation-trans}
 use Rattle.types.specs.declared.ballot.Ballot.{Ballot}
 use Rattle.types.specs.declared.statement.Statement.{Statement}
-use Rattle.protocol.specs.Candidates.{greatest, is_counted}
+use Rattle.protocol.specs.Candidates.{is_counted}
 use Rattle.protocol.specs.Extremes.{IsGreatest, IsGreatestIn}
 use Rattle.protocol.specs.Extremes.IsGreatestIn.{nothing, this}
 use Rattle.protocol.specs.States.{below}

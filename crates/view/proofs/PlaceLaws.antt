@@ -1,9 +1,9 @@
 -- Where the rows of the nodes stand in a table: what is read there, and what an envelope that the table takes leaves of it.
-use Rattle.std.proofs.Common.{◌≡◌, ◌≢◌, ◌⊎◌, ℕ, zero, suc, ◌+◌, ◌<◌, ◌==◌, Bool, true, false, List, [], ◌∷◌, get_or, set, length, length-set, map, Option, Some, None, refl, sym, subst, ◌∙◌, ap, ap₂, arith, inl, inr}
+use Rattle.std.proofs.Common.{◌≡◌, ◌≢◌, ◌⊎◌, ℕ, suc, ◌<◌, ◌==◌, true, false, List, [], ◌∷◌, get_or, set, length, length-set, map, Option, Some, None, refl, sym, ◌∙◌, ap, ap₂, arith, inl, inr}
 use Rattle.std.proofs.lemmas.Bool.{cases_Bool, eqb-true, eq-eqb, true≢false}
 use Rattle.std.proofs.lemmas.List.{get_or-map, get_or-set_same, get_or-set_other, length-map}
 use Rattle.types.specs.declared.kind.Kind.{Kind}
-use Rattle.types.specs.Statements.{Sent, kind_of}
+use Rattle.types.specs.Statements.{Sent}
 use Rattle.protocol.specs.Rows.{is_row_of, row, with_row}
 use Rattle.latest.specs.Places.{place_of}
 use Rattle.latest.proofs.Placing.{place-of_others, place-of_replaced, place-of_first, row-at_place, row-without_place}

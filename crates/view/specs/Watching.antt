@@ -1,10 +1,11 @@
 -- What a view keeps of a table.
-use Rattle.std.specs.Prelude.{ℕ, ◌==◌, List, Option, Some, None, filter_map, flat_map, if◌then◌else◌, map, option_map, slice_get}
+use Rattle.std.specs.Prelude.{ℕ, ◌==◌, List, Bool, Option, Some, None, filter_map, flat_map, get_or, if◌then◌else◌, map, option_map, slice_get}
 use Rattle.types.specs.declared.kind.Kind.{Kind}
 use Rattle.types.specs.declared.statement.Statement.{Statement}
 use Rattle.types.specs.Statements.{Sent}
 use Rattle.protocol.specs.Rows.{row}
 use Rattle.protocol.specs.Candidates.{as_set, values_by}
+use Rattle.protocol.specs.Views.{passing_with}
 use Rattle.fedvote.specs.Searching.{lesser}
 
 -- the rows of a kind that some nodes have in a table, kept for look-ups
@@ -16,6 +17,10 @@ pub record Kept : Type 0 where
 -- the rows of a kind that these nodes have, in the order of the nodes: nothing for a node without one
 abbrev pub rows_at : Kind → List Sent → List ℕ → List (Option Sent)
 rows_at kind table nodes = map (λ u. row table u kind) nodes
+
+-- whether the node at a place passes a test: the one at the own place where its position does, another where its row does
+abbrev pub passes_at : Kept → ℕ → Bool → (Statement → Bool) → ℕ → Bool
+passes_at rows own_place own_passes test i = passing_with (get_or rows.nodes own_place 0) rows.table rows.kind own_passes test (get_or rows.nodes i 0)
 
 -- the row at a place in a table: nothing without a place
 abbrev pub row_where : List Sent → Option ℕ → Option Sent

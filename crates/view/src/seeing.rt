@@ -1,29 +1,34 @@
 //! A node's view of its table.
 
-ghost use Rattle.std.specs.Prelude.{◌≡◌, IfOk, map, true};
+ghost use Rattle.std.specs.Prelude.{◌≡◌, IfOk, length, map, true};
 ghost use Rattle.types.specs.declared.kind.Kind.{Kind};
 ghost use Rattle.protocol.specs.Rows.{has_single_rows};
 ghost use Rattle.protocol.specs.Views.{seen};
 ghost use Rattle.protocol.specs.Backing.{slices_by};
 ghost use Rattle.compiled.specs.Searching.{AreCompiled};
 ghost use Rattle.protocol.specs.Candidates.{committed_in, named_in};
+ghost use Rattle.fedvote.specs.Questions.{asks};
+ghost use Rattle.view.specs.Asking.{IsEmptySet};
 ghost use Rattle.view.specs.Listing.{StandsFor};
 ghost use Rattle.view.specs.Regions.{IsRegion};
 ghost use Rattle.view.specs.Watching.{rows_of_others};
 ghost use Rattle.fedvote.proofs.Honesty.{seen_honest};
 
 use crate::listed::ListedBallots;
-use crate::passing::{supporters, supporters_at};
+use crate::passing::{add_supporters, add_supporters_at};
 use crate::reached::ReachedRows;
 use crate::region::Region;
 use crate::rows::{statements_of, values_in};
 use crate::searching::next_counter;
-use compiled::{CompiledSet, in_quorum, is_met};
+use compiled::{CompiledSet, in_quorum, is_met, no_places};
 use envstore::Places;
 use fedvote::{Question, Sight};
 use latest::Rows;
 use std::alloc::{AllocError, Global};
 use types::{Kind, Leaders, LentBallot, Nested, NodeId, Statement, Values};
+
+/// A set of the reached nodes stands in so many words on the stack, where they have room for all of them.
+const FEW_WORDS: usize = 8;
 
 /// What a node with these slices and leaders sees of a table: the rows of the other nodes that it reaches,
 /// and the nomination rows of its leaders, reached or not (the Stellar Consensus Protocol draft, of federated
@@ -116,6 +121,39 @@ impl<'a, S: Places> View<'a, S> {
             Kind::Ballot => &self.region.ballots,
         }
     }
+
+    /// Whether some quorum that contains the node all passes. The words are the empty set of the reached nodes.
+    fn has_quorum(
+        &self,
+        places: &mut [u64],
+        kind: Kind,
+        own_passes: bool,
+        question: &Question,
+    ) -> bool
+        requires { IsEmptySet (length self.now.region.now.nodes.items) places.old }
+        ensures { result ≡ (seen self.now.own.now self.now.slices.now self.now.leaders.now self.now.table.now).quorum kind own_passes (asks question.now) }
+    {
+        let place = self.region.place;
+        add_supporters(places, self.rows(kind), place, own_passes, question);
+        in_quorum(places, place, self.compiled(kind))
+    }
+
+    /// Whether those who pass block the node's slices. The words are the empty set of the reached nodes.
+    fn is_blocked(
+        &self,
+        places: &mut [u64],
+        kind: Kind,
+        own_passes: bool,
+        question: &Question,
+    ) -> bool
+        requires { IsEmptySet (length self.now.region.now.nodes.items) places.old }
+        ensures { result ≡ (seen self.now.own.now self.now.slices.now self.now.leaders.now self.now.table.now).blocking kind own_passes (asks question.now) }
+    {
+        let rows = self.rows(kind);
+        let asked = &self.region.asked;
+        add_supporters_at(places, rows, self.region.place, own_passes, question, asked);
+        is_met(&self.region.blocking, places)
+    }
 }
 
 impl<'a, S: Places> Sight for View<'a, S> {
@@ -131,10 +169,13 @@ impl<'a, S: Places> Sight for View<'a, S> {
         if !own_passes {
             return Ok(false);
         }
-        let rows = self.rows(kind);
-        let mut places = supporters(alloc, self.own, own_passes, rows, question)?;
-        let compiled = self.compiled(kind);
-        Ok(in_quorum(&mut places, self.region.place, compiled))
+        let count = self.region.nodes.len();
+        if count <= 64 * FEW_WORDS {
+            let mut places = [0u64; FEW_WORDS];
+            return Ok(self.has_quorum(&mut places, kind, own_passes, question));
+        }
+        let mut places = no_places(alloc, count)?;
+        Ok(self.has_quorum(&mut places, kind, own_passes, question))
     }
 
     fn blocking(
@@ -144,16 +185,13 @@ impl<'a, S: Places> Sight for View<'a, S> {
         own_passes: bool,
         question: &Question,
     ) -> Result<bool, AllocError> {
-        let rows = self.rows(kind);
-        let places = supporters_at(
-            alloc,
-            self.own,
-            own_passes,
-            rows,
-            question,
-            &self.region.asked,
-        )?;
-        Ok(is_met(&self.region.blocking, &places))
+        let count = self.region.nodes.len();
+        if count <= 64 * FEW_WORDS {
+            let mut places = [0u64; FEW_WORDS];
+            return Ok(self.is_blocked(&mut places, kind, own_passes, question));
+        }
+        let mut places = no_places(alloc, count)?;
+        Ok(self.is_blocked(&mut places, kind, own_passes, question))
     }
 
     fn nominated_values(&self, alloc: Global) -> Result<Values, AllocError> {

@@ -1,4 +1,4 @@
-use Rattle.std.proofs.Common.{rules, ◌∙◌, List, Some, length, not, subst, sym}
+use Rattle.std.proofs.Common.{rules, ◌∙◌, List, Some, not, subst, sym}
 use Rattle.std.proofs.lemmas.List.Sorted.{IsPartitionPoint-from_clause}
 use Rattle.types.specs.declared.ballot.Ballot.{Ballot}
 use Rattle.protocol.specs.States.{below}

@@ -1,5 +1,4 @@
 use Rattle.std.proofs.Common.{◌∙◌, List, Option, ap, map}
-use Rattle.types.specs.Statements.{Sent}
 use Rattle.view.specs.Watching.{row_where}
 use Rattle.view.proofs.PlaceLaws.{rows_where_placed}
 use Rattle.view.proofs.reached.ReachedRows.of.Goals as goal
