@@ -31,33 +31,21 @@ impl<'a> Model for ListedBallots<'a> {
 }
 
 impl<'a> ListedBallots<'a> {
-    /// The ballots that the statements name with a counter from 1 on. An error says that memory is short.
-    pub(crate) fn named(
+    /// The ballots that the statements name, and those at whose counters they speak of commit, both with
+    /// counters from 1 on. An error says that memory is short.
+    pub(crate) fn named_and_committed(
         alloc: Global,
         statements: &[&'a Statement],
-    ) -> Result<ListedBallots<'a>, AllocError>
-        ensures { IfOk result (λ l. AreListed l (named_in (map (λ s. s.now) statements.now))) }
+    ) -> Result<(ListedBallots<'a>, ListedBallots<'a>), AllocError>
+        ensures { IfOk result (λ l. AreListed l.0 (named_in (map (λ s. s.now) statements.now)) × AreListed l.1 (committed_in (map (λ s. s.now) statements.now))) }
     {
-        let mut listed = ListedBallots::nothing(alloc);
+        let mut named = ListedBallots::nothing(alloc);
+        let mut committed = ListedBallots::nothing(alloc);
         for statement in statements {
-            listed.add_named(statement)?;
+            named.add_named(statement)?;
+            committed.add_committed(statement)?;
         }
-        Ok(listed)
-    }
-
-    /// The ballots at whose counters, from 1 on, the statements speak of commit. An error says that memory
-    /// is short.
-    pub(crate) fn committed(
-        alloc: Global,
-        statements: &[&'a Statement],
-    ) -> Result<ListedBallots<'a>, AllocError>
-        ensures { IfOk result (λ l. AreListed l (committed_in (map (λ s. s.now) statements.now))) }
-    {
-        let mut listed = ListedBallots::nothing(alloc);
-        for statement in statements {
-            listed.add_committed(statement)?;
-        }
-        Ok(listed)
+        Ok((named, committed))
     }
 
     /// The greatest of them below the bound.

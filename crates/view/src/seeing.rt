@@ -34,12 +34,12 @@ const FEW_WORDS: usize = 8;
 /// and the nomination rows of its leaders, reached or not (the Stellar Consensus Protocol draft, of federated
 /// voting; that strangers' rows are left out is this host's profile).
 ///
-/// Rows of strangers are not looked at: each reached node's rows are looked up once, when the view is made,
-/// and both tests find them by the node's place in the reach. A blocking test asks the names of the node's
-/// slices alone, where many are reached. The ballots that a search goes through are listed in order, once a
-/// view, since the rules ask for the next one below a bound again and again; nominated values are gathered
-/// when a rule asks for them, since most events ask for none. The reach is its owner's, who keeps it from
-/// event to event.
+/// Rows of strangers are not looked at: each reached node's rows are read once, when the view is made, at the
+/// places that the region keeps of them, and both tests find them by the node's place in the reach; rows of
+/// leaders are looked up when a rule asks for them. A blocking test asks the names of the node's slices alone,
+/// where many are reached. The ballots that a search goes through are listed in order, once a view, since the
+/// rules ask for the next one below a bound again and again; nominated values are gathered when a rule asks
+/// for them, since most events ask for none. The region is its owner's, who keeps it from event to event.
 #[derive(Drop)]
 pub struct View<'a, S: Places> {
     own: &'a NodeId,
@@ -86,8 +86,7 @@ impl<'a, S: Places> View<'a, S> {
             Kind::Nomination,
         )?;
         let ballots = ballot_rows.statements_of_others(alloc, own)?;
-        let named = ListedBallots::named(alloc, &ballots)?;
-        let committed = ListedBallots::committed(alloc, &ballots)?;
+        let (named, committed) = ListedBallots::named_and_committed(alloc, &ballots)?;
         Ok(View {
             own,
             slices,

@@ -16,12 +16,14 @@ invariant_of-result g c =
     let ballots = c.in_ok-ballot_rows.ensures ∙ ap (λ (us : List ℕ). at us Kind.Ballot) c.deref.ensures.value in
     let said = λ (xs : List (Bor Statement)). map (λ (s : Bor Statement). s.now) xs in
     let others = c.in_ok-ballots.ensures ∙ ap found ballots in
+    let statements = said c.deref-5.result.now in
+    let same = ap said c.deref-5.ensures.value ∙ others in
     record {
       known = c.requires;
       single = c.are_single.ensures;
       ballots_kept = ballots;
       nominations_kept = c.in_ok-nomination_rows.ensures ∙ ap (λ (us : List ℕ). at us Nomination) c.deref-3.ensures.value;
       ballots_found = others;
-      named_listed = listed_stand c.in_ok-named.named (named_in (said c.deref-5.result.now)) _ (ap named_in (ap said c.deref-5.ensures.value ∙ others)) c.in_ok-named.ensures;
-      committed_listed = listed_stand c.in_ok-committed.committed (committed_in (said c.deref-6.result.now)) _ (ap committed_in (ap said c.deref-6.ensures.value ∙ others)) c.in_ok-committed.ensures;
+      named_listed = listed_stand c.in_ok-named.named (named_in statements) _ (ap named_in same) c.in_ok-named.ensures.0;
+      committed_listed = listed_stand c.in_ok-named.committed (committed_in statements) _ (ap committed_in same) c.in_ok-named.ensures.1;
     }
