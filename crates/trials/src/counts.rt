@@ -2,6 +2,7 @@
 
 use crate::slow::{Phase, Votes};
 use crate::statements::{Ballot, Row, Set, Statement, Trust, has};
+use std::alloc::AllocError;
 
 /// A node at one moment, with the ballot statement that it sent last.
 #[derive(Clone, Copy)]
@@ -30,6 +31,8 @@ pub struct Counts {
     pub echoed: u32,
     /// The most passes that an event has taken.
     pub passes: u32,
+    /// How many histories were begun.
+    pub histories: u32,
 }
 
 impl Counts {
@@ -46,6 +49,7 @@ impl Counts {
             moved: 0,
             echoed: 0,
             passes: 0,
+            histories: 0,
         }
     }
 
@@ -63,21 +67,39 @@ impl Counts {
         count(&mut self.echoed, echoes_from_afar(old, new));
     }
 
-    /// Each with its words.
-    pub fn named(self) -> [(&'static str, u32); 10] {
-        [
-            ("commits entered", self.entered),
-            ("commits widened", self.widened),
-            ("ballots aborted", self.aborted),
-            ("counters raised", self.raised),
-            ("rounds timed out", self.rounds),
-            ("counters timed out", self.counters),
-            ("statements not newer", self.not_newer),
-            ("values externalized", self.externalized),
-            ("votes changed by new slices", self.moved),
-            ("values voted for with a leader out of reach", self.echoed),
-        ]
+    /// Which of them was seen, a line each.
+    pub fn push_seen(&self, text: &mut String) -> Result<(), AllocError> {
+        writeln!(
+            text,
+            "{} histories, at most {} passes an event",
+            self.histories, self.passes
+        )?;
+        push_seen(text, "commits entered", self.entered)?;
+        push_seen(text, "commits widened", self.widened)?;
+        push_seen(text, "ballots aborted", self.aborted)?;
+        push_seen(text, "counters raised", self.raised)?;
+        push_seen(text, "rounds timed out", self.rounds)?;
+        push_seen(text, "counters timed out", self.counters)?;
+        self.push_seen_of_votes(text)
     }
+
+    fn push_seen_of_votes(&self, text: &mut String) -> Result<(), AllocError> {
+        push_seen(text, "statements not newer", self.not_newer)?;
+        push_seen(text, "values externalized", self.externalized)?;
+        push_seen(text, "votes changed by new slices", self.moved)?;
+        push_seen(
+            text,
+            "values voted for with a leader out of reach",
+            self.echoed,
+        )
+    }
+}
+
+/// A line for what was seen, and another one for what never was.
+fn push_seen(text: &mut String, words: &str, count: u32) -> Result<(), AllocError> {
+    text.push_str(if count > 0 { "seen: " } else { "never: " })?;
+    text.push_str(words)?;
+    text.push('\n')
 }
 
 fn count(number: &mut u32, happened: bool) {
@@ -213,6 +235,8 @@ pub struct Reaches {
     pub slices_grew: u32,
     pub slices_shrank: u32,
     pub again: u32,
+    /// How many crowds were begun.
+    pub crowds: u32,
 }
 
 impl Reaches {
@@ -231,6 +255,7 @@ impl Reaches {
             slices_grew: 0,
             slices_shrank: 0,
             again: 0,
+            crowds: 0,
         }
     }
 
@@ -284,38 +309,50 @@ impl Reaches {
         count(&mut self.again, returned != 0);
     }
 
-    /// Each with its words.
-    pub fn named(self) -> [(&'static str, u32); 13] {
-        [
-            ("rows of strangers", self.strangers),
-            ("stale rows with other slices", self.stale),
-            ("rows with the slices of those before", self.alike),
-            (
-                "first rows that named reached nodes alone",
-                self.first_within,
-            ),
-            ("first rows that named strangers", self.first_beyond),
-            (
-                "rows with other slices that left the reach",
-                self.others_kept,
-            ),
-            ("rows with other slices by which it grew", self.others_grew),
-            (
-                "rows with other slices by which it shrank",
-                self.others_shrank,
-            ),
-            (
-                "rows with other slices that changed votes",
-                self.others_moved,
-            ),
-            ("rows right after new slices", self.after_slices),
-            ("new slices by which the reach grew", self.slices_grew),
-            ("new slices by which it shrank", self.slices_shrank),
-            (
-                "events that brought back who was reached before",
-                self.again,
-            ),
-        ]
+    /// Which of them was seen, a line each.
+    pub fn push_seen(&self, text: &mut String) -> Result<(), AllocError> {
+        writeln!(text, "{} crowds", self.crowds)?;
+        self.push_seen_rows(text)?;
+        push_seen(text, "rows right after new slices", self.after_slices)?;
+        push_seen(text, "new slices by which the reach grew", self.slices_grew)?;
+        push_seen(text, "new slices by which it shrank", self.slices_shrank)?;
+        push_seen(
+            text,
+            "events that brought back who was reached before",
+            self.again,
+        )
+    }
+
+    fn push_seen_rows(&self, text: &mut String) -> Result<(), AllocError> {
+        push_seen(text, "rows of strangers", self.strangers)?;
+        push_seen(text, "stale rows with other slices", self.stale)?;
+        push_seen(text, "rows with the slices of those before", self.alike)?;
+        push_seen(
+            text,
+            "first rows that named reached nodes alone",
+            self.first_within,
+        )?;
+        push_seen(text, "first rows that named strangers", self.first_beyond)?;
+        push_seen(
+            text,
+            "rows with other slices that left the reach",
+            self.others_kept,
+        )?;
+        push_seen(
+            text,
+            "rows with other slices by which it grew",
+            self.others_grew,
+        )?;
+        push_seen(
+            text,
+            "rows with other slices by which it shrank",
+            self.others_shrank,
+        )?;
+        push_seen(
+            text,
+            "rows with other slices that changed votes",
+            self.others_moved,
+        )
     }
 }
 

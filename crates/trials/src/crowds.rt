@@ -3,12 +3,11 @@
 
 use crate::counts::{Coming, Counts, Reaches};
 use crate::dice::Dice;
+use crate::halt::{Halt, agree};
 use crate::slow::Votes;
 use crate::statements::{Kind, Row, Set, Statement, Trust};
 use crate::twin::{Happening, Twin};
-use std::alloc::{AllocError, Global};
-use std::process::Abort;
-use std::test::Fail;
+use std::alloc::Global;
 
 const SENDERS: u32 = 8;
 
@@ -32,12 +31,12 @@ struct Bearing {
 }
 
 impl Crowd {
-    fn new(rt: &impl Abort, alloc: Global, seed: u64) -> Result<Crowd, AllocError> {
+    fn new(alloc: Global, seed: u64) -> Result<Crowd, Halt> {
         let mut dice = Dice::new(seed);
         let node = dice.number(SENDERS);
         let trust = dice.few(SENDERS);
         Ok(Crowd {
-            twin: Twin::new(rt, alloc, node, trust)?,
+            twin: Twin::new(alloc, node, trust)?,
             dice,
             said: None,
             is_resliced: false,
@@ -111,22 +110,16 @@ impl Crowd {
     }
 
     /// One event.
-    fn go_on(
-        &mut self,
-        rt: &impl Abort,
-        alloc: Global,
-        turn: u32,
-        reaches: &mut Reaches,
-    ) -> Result<(), AllocError> {
+    fn go_on(&mut self, alloc: Global, turn: u32, reaches: &mut Reaches) -> Result<(), Halt> {
         let happening = self.happening(turn);
         let old = self.standing(happening);
         let before = self.bearing();
-        self.twin.meet(rt, alloc, happening, &mut Counts::none())?;
+        self.twin.meet(alloc, happening, &mut Counts::none())?;
         let after = self.bearing();
         match happening {
             Happening::Said { sender, row } => {
                 let coming = self.coming(sender, row, old, before, after);
-                assert!(rt; !coming.surely_stays() || before.reach == after.reach);
+                agree(!coming.surely_stays() || before.reach == after.reach)?;
                 reaches.note(coming);
             }
             Happening::Resliced(_) => reaches.note_slices(before.reach, after.reach),
@@ -190,24 +183,20 @@ fn joined(said: Statement, old: Statement) -> Statement {
     }
 }
 
-/// What so many crowds show.
-fn run(rt: &impl Abort, alloc: Global, crowds: u64) -> Result<Reaches, AllocError> {
-    let mut reaches = Reaches::none();
-    for seed in 0..crowds {
-        let mut crowd = Crowd::new(rt, alloc, seed)?;
-        for turn in 0..80u32 {
-            crowd.go_on(rt, alloc, turn, &mut reaches)?;
-        }
+/// One crowd of eighty events.
+fn run_one(alloc: Global, seed: u64, reaches: &mut Reaches) -> Result<(), Halt> {
+    let mut crowd = Crowd::new(alloc, seed)?;
+    for turn in 0..80u32 {
+        crowd.go_on(alloc, turn, reaches)?;
     }
-    Ok(reaches)
+    Ok(())
 }
 
-#[test]
-fn four_hundred_crowds(rt: HostRuntime) -> Result<(), Fail> {
-    let reaches = run(&rt, rt.alloc(), 400)?;
-    for (words, count) in reaches.named() {
-        println!(rt; "{count} {words}")?;
-        assert!(rt; count > 0);
+/// So many crowds, and what they show.
+pub fn run(alloc: Global, crowds: u64, reaches: &mut Reaches) -> Result<(), Halt> {
+    for seed in 0..crowds {
+        reaches.crowds = reaches.crowds.saturating_add(1);
+        run_one(alloc, seed, reaches)?;
     }
     Ok(())
 }

@@ -3,11 +3,10 @@
 
 use crate::counts::Counts;
 use crate::dice::Dice;
-use crate::statements::{NODES, Row, Trust, bit, has};
+use crate::halt::Halt;
+use crate::statements::{NODES, Row, Set, Trust, bit, has};
 use crate::twin::{Happening, Twin};
-use std::alloc::{AllocError, Global};
-use std::process::Abort;
-use std::test::Fail;
+use std::alloc::Global;
 
 /// Most of the first nodes.
 fn majority(count: u32) -> Trust {
@@ -33,7 +32,7 @@ struct History {
 }
 
 impl History {
-    fn new(rt: &impl Abort, alloc: Global, seed: u64) -> Result<History, AllocError> {
+    fn new(alloc: Global, seed: u64) -> Result<History, Halt> {
         let mut dice = Dice::new(seed);
         let count = dice.from_to(1, 6);
         let alike = dice.is_one_in(2);
@@ -45,7 +44,7 @@ impl History {
                 } else {
                     dice.trust(count)
                 };
-                twins.push(Twin::new(rt, alloc, node, trust)?)?;
+                twins.push(Twin::new(alloc, node, trust)?)?;
             }
         }
         Ok(History { twins, dice })
@@ -100,12 +99,7 @@ impl History {
     }
 
     /// One event at one node, or the same statement of several senders there.
-    fn go_on(
-        &mut self,
-        rt: &impl Abort,
-        alloc: Global,
-        counts: &mut Counts,
-    ) -> Result<(), AllocError> {
+    fn go_on(&mut self, alloc: Global, counts: &mut Counts) -> Result<(), Halt> {
         let count = self.count();
         let node = self.dice.number(count);
         let happening = self.happening(node);
@@ -114,44 +108,50 @@ impl History {
         } else {
             0
         };
-        let Some(twin) = self.twins.get_mut(node as usize) else {
-            return Ok(());
-        };
-        twin.meet(rt, alloc, happening, counts)?;
-        if let Happening::Said { row, .. } = happening {
-            for sender in NODES {
-                if has(senders, sender) && sender != node {
-                    twin.meet(rt, alloc, Happening::Said { sender, row }, counts)?;
-                }
+        match self.twins.get_mut(node as usize) {
+            None => Ok(()),
+            Some(twin) => meet_all(alloc, twin, node, happening, senders, counts),
+        }
+    }
+}
+
+/// The node meets the event; where it is a statement, these senders say the same.
+fn meet_all(
+    alloc: Global,
+    twin: &mut Twin,
+    node: u8,
+    happening: Happening,
+    senders: Set,
+    counts: &mut Counts,
+) -> Result<(), Halt> {
+    twin.meet(alloc, happening, counts)?;
+    if let Happening::Said { row, .. } = happening {
+        for sender in NODES {
+            if has(senders, sender) && sender != node {
+                twin.meet(alloc, Happening::Said { sender, row }, counts)?;
             }
         }
-        Ok(())
     }
+    Ok(())
 }
 
-/// What these histories show.
-fn run(rt: &impl Abort, alloc: Global, from: u64, to: u64) -> Result<Counts, AllocError> {
-    let mut counts = Counts::none();
-    for seed in from..to {
-        let mut history = History::new(rt, alloc, seed)?;
-        for _ in 0..30u32 {
-            history.go_on(rt, alloc, &mut counts)?;
-        }
-        for twin in history.twins.as_slice() {
-            counts.passes = counts.passes.max(twin.slow.most_passes);
-        }
+/// One history of thirty events.
+fn run_one(alloc: Global, seed: u64, counts: &mut Counts) -> Result<(), Halt> {
+    let mut history = History::new(alloc, seed)?;
+    for _ in 0..30u32 {
+        history.go_on(alloc, counts)?;
     }
-    Ok(counts)
+    for twin in history.twins.as_slice() {
+        counts.passes = counts.passes.max(twin.slow.most_passes);
+    }
+    Ok(())
 }
 
-#[test]
-fn three_thousand_histories(rt: HostRuntime) -> Result<(), Fail> {
-    let counts = run(&rt, rt.alloc(), 0, 3000)?;
-    println!(rt; "at most {} passes an event", counts.passes)?;
-    assert_eq!(rt; counts.passes, 4);
-    for (words, count) in counts.named() {
-        println!(rt; "{count} {words}")?;
-        assert!(rt; count > 0);
+/// So many histories, and what they show.
+pub fn run(alloc: Global, histories: u64, counts: &mut Counts) -> Result<(), Halt> {
+    for seed in 0..histories {
+        counts.histories = counts.histories.saturating_add(1);
+        run_one(alloc, seed, counts)?;
     }
     Ok(())
 }

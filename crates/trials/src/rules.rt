@@ -161,31 +161,43 @@ impl State {
 
     // ---- balloting
 
+    /// The ballots that the rules try, those with a counter from 1 on, each once.
     pub fn candidates(
         &self,
         alloc: Global,
         votes: Votes,
         of_commit: bool,
     ) -> Result<Vec<Ballot>, AllocError> {
+        let all = self.named(alloc, votes, of_commit)?;
+        counted(alloc, &all)
+    }
+
+    /// The ballots that reached statements and the node's own position name.
+    fn named(
+        &self,
+        alloc: Global,
+        votes: Votes,
+        of_commit: bool,
+    ) -> Result<Vec<Ballot>, AllocError> {
+        let reach = self.reach();
         let mut all = Vec::new(alloc);
-        let mut said = self.seen(alloc, Kind::Balloting)?;
-        if let Some(own) = State::position(votes) {
-            said.push(own)?;
-        }
-        for statement in said.as_slice() {
-            if of_commit {
-                statement.push_commits(&mut all)?;
-            } else {
-                statement.push_named(&mut all)?;
+        for node in NODES {
+            if let Some(said) = self.said_by(node, reach, votes) {
+                push_candidates(&mut all, said, of_commit)?;
             }
         }
-        let mut counted = Vec::new(alloc);
-        for ballot in all.as_slice() {
-            if ballot.counter >= 1 && !is_in(*ballot, &counted) {
-                counted.push(*ballot)?;
-            }
+        Ok(all)
+    }
+
+    /// The node's own position, and what another node said that is reached.
+    fn said_by(&self, node: u8, reach: Set, votes: Votes) -> Option<Statement> {
+        if node == self.own {
+            return State::position(votes);
         }
-        Ok(counted)
+        match self.row(node, Kind::Balloting) {
+            Some(row) if has(reach, node) => Some(row.said),
+            _ => None,
+        }
     }
 
     pub fn is_accepted(&self, votes: Votes, t: Ballot) -> bool {
@@ -471,6 +483,28 @@ impl State {
             votes
         }
     }
+}
+
+fn push_candidates(
+    all: &mut Vec<Ballot>,
+    said: Statement,
+    of_commit: bool,
+) -> Result<(), AllocError> {
+    if of_commit {
+        said.push_commits(all)
+    } else {
+        said.push_named(all)
+    }
+}
+
+fn counted(alloc: Global, all: &[Ballot]) -> Result<Vec<Ballot>, AllocError> {
+    let mut counted = Vec::new(alloc);
+    for ballot in all {
+        if ballot.counter >= 1 && !is_in(*ballot, &counted) {
+            counted.push(*ballot)?;
+        }
+    }
+    Ok(counted)
 }
 
 fn is_in(ballot: Ballot, ballots: &[Ballot]) -> bool {

@@ -155,20 +155,6 @@ impl State {
         reach
     }
 
-    /// The statements in the rows of the others that are reached: the node's own position stands for it.
-    pub fn seen(&self, alloc: Global, kind: Kind) -> Result<Vec<Statement>, AllocError> {
-        let reach = self.reach();
-        let mut seen = Vec::new(alloc);
-        for node in NODES {
-            if has(reach, node) && node != self.own {
-                if let Some(row) = self.row(node, kind) {
-                    seen.push(row.said)?;
-                }
-            }
-        }
-        Ok(seen)
-    }
-
     pub fn passing(&self, kind: Kind, position: Option<Statement>, ask: Ask) -> Set {
         let mut passing = 0;
         for node in NODES {
@@ -190,17 +176,19 @@ impl State {
     }
 
     pub fn is_quorum(&self, kind: Kind, set: Set) -> bool {
-        let mut is_quorum = true;
         for node in NODES {
-            if has(set, node) {
-                is_quorum = is_quorum
-                    && match self.trust_of(node, kind) {
-                        None => false,
-                        Some(trust) => trust.is_satisfied(set),
-                    };
+            if has(set, node) && !self.is_satisfied(node, kind, set) {
+                return false;
             }
         }
-        is_quorum
+        true
+    }
+
+    fn is_satisfied(&self, node: u8, kind: Kind, set: Set) -> bool {
+        match self.trust_of(node, kind) {
+            None => false,
+            Some(trust) => trust.is_satisfied(set),
+        }
     }
 
     /// All quorums that contain the node.

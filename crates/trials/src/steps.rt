@@ -3,7 +3,6 @@
 use crate::slow::{Phase, State, Votes};
 use crate::statements::{Kind, Row, Statement, Trust};
 use std::alloc::{AllocError, Global};
-use std::process::Abort;
 
 /// What one node gives out.
 #[derive(Clone, Copy, PartialEq, Eq)]
@@ -30,10 +29,9 @@ impl State {
         Ok(self.arm(self.raise(votes)))
     }
 
-    /// Passes until one changes nothing, and what is given out.
+    /// Passes until one changes nothing, or 64 of them, and what is given out.
     pub fn settled(
         &mut self,
-        rt: &impl Abort,
         alloc: Global,
         old_round: u32,
         old: Votes,
@@ -49,7 +47,7 @@ impl State {
             }
             self.votes = next;
         }
-        panic!(rt; "an event settles in less than 64 passes")
+        self.outs(alloc, old_round, old)
     }
 
     pub fn outs(&self, alloc: Global, old_round: u32, old: Votes) -> Result<Vec<Out>, AllocError> {
@@ -86,7 +84,6 @@ impl State {
     /// The input is set, and round 1 begins with its leader.
     pub fn propose(
         &mut self,
-        rt: &impl Abort,
         alloc: Global,
         value: u8,
         leader: u8,
@@ -95,17 +92,11 @@ impl State {
         self.input = Some(value);
         self.round = 1;
         self.leaders.push(leader)?;
-        self.settled(rt, alloc, old_round, self.votes)
+        self.settled(alloc, old_round, self.votes)
     }
 
     /// A statement reaches the node, with its sender's slices.
-    pub fn take(
-        &mut self,
-        rt: &impl Abort,
-        alloc: Global,
-        sender: u8,
-        row: Row,
-    ) -> Result<Vec<Out>, AllocError> {
+    pub fn take(&mut self, alloc: Global, sender: u8, row: Row) -> Result<Vec<Out>, AllocError> {
         let kind = row.said.kind();
         if let Some(old) = self.row(sender, kind) {
             if !row.said.is_newer(old.said) {
@@ -118,24 +109,18 @@ impl State {
                 Kind::Balloting => rows.balloting = Some(row),
             }
         }
-        self.settled(rt, alloc, self.round, self.votes)
+        self.settled(alloc, self.round, self.votes)
     }
 
     /// The slices of the node change.
-    pub fn reslice(
-        &mut self,
-        rt: &impl Abort,
-        alloc: Global,
-        trust: Trust,
-    ) -> Result<Vec<Out>, AllocError> {
+    pub fn reslice(&mut self, alloc: Global, trust: Trust) -> Result<Vec<Out>, AllocError> {
         self.trust = trust;
-        self.settled(rt, alloc, self.round, self.votes)
+        self.settled(alloc, self.round, self.votes)
     }
 
     /// The nomination timer of a round fires; `leader` is that of the next round.
     pub fn nomination_timer(
         &mut self,
-        rt: &impl Abort,
         alloc: Global,
         round: u32,
         leader: u8,
@@ -145,16 +130,11 @@ impl State {
         }
         self.round = round.saturating_add(1);
         self.leaders.push(leader)?;
-        self.settled(rt, alloc, round, self.votes)
+        self.settled(alloc, round, self.votes)
     }
 
     /// The ballot timer of a counter fires.
-    pub fn ballot_timer(
-        &mut self,
-        rt: &impl Abort,
-        alloc: Global,
-        counter: u32,
-    ) -> Result<Vec<Out>, AllocError> {
+    pub fn ballot_timer(&mut self, alloc: Global, counter: u32) -> Result<Vec<Out>, AllocError> {
         let old = self.votes;
         let Some(ballot) = old.ballot else {
             return Ok(Vec::new(alloc));
@@ -168,6 +148,6 @@ impl State {
         }
         self.fired = self.fired.saturating_add(1);
         self.votes.ballot = Some(State::raised(old, ballot, counter.saturating_add(1)));
-        self.settled(rt, alloc, self.round, old)
+        self.settled(alloc, self.round, old)
     }
 }

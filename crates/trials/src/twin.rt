@@ -1,25 +1,22 @@
 //! One node twice: the real one, and the plain slow program.
 
+use crate::alone::Alone;
 use crate::counts::{Counts, Moment};
 use crate::dice::Dice;
+use crate::halt::{Halt, agree};
 use crate::slow::State;
 use crate::statements::{NODES, Row, Statement, Trust, has};
 use crate::steps::Out;
-use crate::trial::Trial;
-use crate::wording::{letter, push_statement, push_trust, rows_of, state_of, word, words_of};
+use crate::wording::{answer_of, letter, push_statement, push_trust, rows_of, word};
 use leaders::leader;
-use scripts::{name_of, slices_of};
+use scripts::name_of;
 use std::alloc::{AllocError, Global};
-use std::process::Abort;
-use types::{Nested, NodeId};
 
 /// One node twice, and the newest that it emitted of each kind, with the slices that it had then.
 #[derive(Drop)]
 pub struct Twin {
     pub slow: State,
-    real: Trial,
-    name: NodeId,
-    slices: Nested,
+    real: Alone,
     nominated: Option<Row>,
     balloted: Option<Row>,
 }
@@ -35,16 +32,13 @@ pub enum Happening {
 }
 
 impl Twin {
-    pub fn new(rt: &impl Abort, alloc: Global, node: u8, trust: Trust) -> Result<Twin, AllocError> {
+    pub fn new(alloc: Global, node: u8, trust: Trust) -> Result<Twin, Halt> {
         let mut words = String::new(alloc);
         push_trust(&mut words, trust)?;
-        let words = words.as_str().as_bytes();
-        let name = letter(node).as_bytes();
+        let real = Alone::of_words(alloc, letter(node).as_bytes(), words.as_str().as_bytes())?;
         Ok(Twin {
             slow: State::new(alloc, node, trust),
-            real: Trial::new(rt, alloc, name, words)?,
-            name: name_of(name).expect(rt, "a name"),
-            slices: slices_of(alloc, words)?.expect(rt, "slices"),
+            real,
             nominated: None,
             balloted: None,
         })
@@ -52,7 +46,8 @@ impl Twin {
 
     /// The leader of a round, by number.
     fn leader(&self, round: u32) -> u8 {
-        let chosen = leader(1, round, &self.name, &self.slices);
+        let node = &self.real.node;
+        let chosen = leader(1, round, node.name(), node.slices());
         let mut number = 0;
         for node in NODES {
             if name_of(letter(node).as_bytes()) == Some(chosen) {
@@ -64,54 +59,24 @@ impl Twin {
 
     fn line(alloc: Global, happening: Happening) -> Result<String, AllocError> {
         let mut line = String::new(alloc);
-        match happening {
-            Happening::Said { sender, row } => {
-                write!(line, "say {} ", letter(sender))?;
-                push_trust(&mut line, row.trust)?;
-                line.push(' ')?;
-                push_statement(&mut line, row.said)?;
-            }
-            Happening::Proposed(value) => write!(line, "propose {}", word(value))?,
-            Happening::NominationTimer(round) => write!(line, "ntimer {round}")?,
-            Happening::BallotTimer(counter) => write!(line, "btimer {counter}")?,
-            Happening::Resliced(trust) => {
-                line.push_str("reslice ")?;
-                push_trust(&mut line, trust)?;
-            }
-        }
+        push_line(&mut line, happening)?;
         Ok(line)
     }
 
-    fn slow_outs(
-        &mut self,
-        rt: &impl Abort,
-        alloc: Global,
-        happening: Happening,
-    ) -> Result<Vec<Out>, AllocError> {
+    fn slow_outs(&mut self, alloc: Global, happening: Happening) -> Result<Vec<Out>, AllocError> {
         match happening {
-            Happening::Said { sender, row } => self.slow.take(rt, alloc, sender, row),
+            Happening::Said { sender, row } => self.slow.take(alloc, sender, row),
             Happening::Proposed(value) => {
                 let leader = self.leader(1);
-                self.slow.propose(rt, alloc, value, leader)
+                self.slow.propose(alloc, value, leader)
             }
             Happening::NominationTimer(round) => {
                 let leader = self.leader(round.saturating_add(1));
-                self.slow.nomination_timer(rt, alloc, round, leader)
+                self.slow.nomination_timer(alloc, round, leader)
             }
-            Happening::BallotTimer(counter) => self.slow.ballot_timer(rt, alloc, counter),
-            Happening::Resliced(trust) => {
-                self.trust_in(rt, alloc, trust)?;
-                self.slow.reslice(rt, alloc, trust)
-            }
+            Happening::BallotTimer(counter) => self.slow.ballot_timer(alloc, counter),
+            Happening::Resliced(trust) => self.slow.reslice(alloc, trust),
         }
-    }
-
-    /// The leaders of later rounds are chosen by other slices.
-    fn trust_in(&mut self, rt: &impl Abort, alloc: Global, trust: Trust) -> Result<(), AllocError> {
-        let mut words = String::new(alloc);
-        push_trust(&mut words, trust)?;
-        self.slices = slices_of(alloc, words.as_str().as_bytes())?.expect(rt, "slices");
-        Ok(())
     }
 
     /// Some leader is not reached.
@@ -139,26 +104,26 @@ impl Twin {
     /// Both take the event, answer the same, and come to the same state and table.
     pub fn meet(
         &mut self,
-        rt: &impl Abort,
         alloc: Global,
         happening: Happening,
         counts: &mut Counts,
-    ) -> Result<(), AllocError> {
+    ) -> Result<(), Halt> {
         let before = self.moment();
-        let line = Twin::line(alloc, happening)?;
-        let outs = self.slow_outs(rt, alloc, happening)?;
-        let expected = words_of(alloc, &outs)?;
-        let answer = self.real.answer(rt, alloc, line.as_str().as_bytes())?;
-        assert_eq!(rt; answer.as_str(), expected.as_str());
-        assert_eq!(rt;
-            self.real.state(alloc)?.as_str(),
-            state_of(alloc, &self.slow)?.as_str()
-        );
-        assert!(rt; self.has_same_rows(alloc)?);
+        let outs = self.slow_outs(alloc, happening)?;
         self.keep(&outs);
-        assert!(rt; self.has_emitted_what_it_sends());
+        self.answers(alloc, happening, &outs)?;
+        self.has_same_rows(alloc)?;
+        agree(self.has_emitted_what_it_sends())?;
         counts.note(before, self.moment());
         Ok(())
+    }
+
+    /// The node answers so.
+    fn answers(&mut self, alloc: Global, happening: Happening, outs: &[Out]) -> Result<(), Halt> {
+        let line = Twin::line(alloc, happening)?;
+        let answer = self.real.answer(alloc, line.as_str().as_bytes())?;
+        let expected = answer_of(alloc, &self.slow, outs)?;
+        agree(answer.as_str() == expected.as_str())
     }
 
     fn keep(&mut self, outs: &[Out]) {
@@ -191,9 +156,10 @@ impl Twin {
     }
 
     /// Their tables have the same rows.
-    fn has_same_rows(&self, alloc: Global) -> Result<bool, AllocError> {
+    fn has_same_rows(&self, alloc: Global) -> Result<(), Halt> {
         let rows = self.real.rows(alloc)?;
-        Ok(rows.as_str() == rows_of(alloc, &self.slow)?.as_str())
+        let expected = rows_of(alloc, &self.slow)?;
+        agree(rows.as_str() == expected.as_str())
     }
 
     pub fn emitted(&self, dice: &mut Dice) -> Option<Row> {
@@ -209,5 +175,28 @@ fn said_in(row: Option<Row>) -> Option<Statement> {
     match row {
         None => None,
         Some(row) => Some(row.said),
+    }
+}
+
+fn push_line(line: &mut String, happening: Happening) -> Result<(), AllocError> {
+    match happening {
+        Happening::Said { sender, row } => {
+            line.push_str("say ")?;
+            line.push_str(letter(sender))?;
+            line.push(' ')?;
+            push_trust(line, row.trust)?;
+            line.push(' ')?;
+            push_statement(line, row.said)
+        }
+        Happening::Proposed(value) => {
+            line.push_str("propose ")?;
+            line.push_str(word(value))
+        }
+        Happening::NominationTimer(round) => write!(line, "ntimer {round}"),
+        Happening::BallotTimer(counter) => write!(line, "btimer {counter}"),
+        Happening::Resliced(trust) => {
+            line.push_str("reslice ")?;
+            push_trust(line, trust)
+        }
     }
 }

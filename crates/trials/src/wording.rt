@@ -1,7 +1,7 @@
 //! What the plain slow program says, in the words of scripts.
 
 use crate::slow::{Phase, State, Votes};
-use crate::statements::{Ballot, Kind, NODES, Set, Statement, Trust, has};
+use crate::statements::{Ballot, Kind, NODES, Row, Set, Statement, Trust, has};
 use crate::steps::Out;
 use std::alloc::{AllocError, Global};
 
@@ -38,17 +38,25 @@ fn push_members(text: &mut String, members: Set) -> Result<bool, AllocError> {
 }
 
 pub fn push_trust(text: &mut String, trust: Trust) -> Result<(), AllocError> {
-    write!(text, "{}[", trust.threshold)?;
+    push_threshold(text, trust.threshold)?;
     let some = push_members(text, trust.members)?;
     if trust.inner != 0 {
-        if some {
-            text.push(',')?;
-        }
-        write!(text, "{}[", trust.inner_threshold)?;
-        push_members(text, trust.inner)?;
-        text.push(']')?;
+        push_inner(text, some, trust)?;
     }
     text.push(']')
+}
+
+fn push_inner(text: &mut String, some: bool, trust: Trust) -> Result<(), AllocError> {
+    if some {
+        text.push(',')?;
+    }
+    push_threshold(text, trust.inner_threshold)?;
+    push_members(text, trust.inner)?;
+    text.push(']')
+}
+
+fn push_threshold(text: &mut String, threshold: u32) -> Result<(), AllocError> {
+    write!(text, "{threshold}[")
 }
 
 fn push_set(text: &mut String, set: Set, between: &str) -> Result<(), AllocError> {
@@ -66,7 +74,8 @@ fn push_set(text: &mut String, set: Set, between: &str) -> Result<(), AllocError
 }
 
 fn push_ballot(text: &mut String, ballot: Ballot) -> Result<(), AllocError> {
-    write!(text, "{}:{}", ballot.counter, word(ballot.value))
+    write!(text, "{}:", ballot.counter)?;
+    text.push_str(word(ballot.value))
 }
 
 fn push_known(text: &mut String, ballot: Option<Ballot>) -> Result<(), AllocError> {
@@ -78,12 +87,7 @@ fn push_known(text: &mut String, ballot: Option<Ballot>) -> Result<(), AllocErro
 
 pub fn push_statement(text: &mut String, statement: Statement) -> Result<(), AllocError> {
     match statement {
-        Statement::Nominate { voted, accepted } => {
-            text.push_str("nom(")?;
-            push_set(text, voted, "+")?;
-            text.push('|')?;
-            push_set(text, accepted, "+")?;
-        }
+        Statement::Nominate { voted, accepted } => push_nomination(text, voted, accepted),
         Statement::Prepare {
             ballot,
             prepared,
@@ -91,11 +95,10 @@ pub fn push_statement(text: &mut String, statement: Statement) -> Result<(), All
             high,
             commit,
         } => {
-            text.push_str("prep(")?;
-            push_ballot(text, ballot)?;
+            push_word_and_ballot(text, "prep(", ballot)?;
             text.push(',')?;
             push_known(text, prepared)?;
-            write!(text, ",{aborted},{high},{commit}")?;
+            push_counters(text, aborted, high, commit)
         }
         Statement::Commit {
             ballot,
@@ -103,62 +106,87 @@ pub fn push_statement(text: &mut String, statement: Statement) -> Result<(), All
             high,
             commit,
         } => {
-            text.push_str("comm(")?;
-            push_ballot(text, ballot)?;
-            write!(text, ",{prepared},{high},{commit}")?;
+            push_word_and_ballot(text, "comm(", ballot)?;
+            push_counters(text, prepared, high, commit)
         }
         Statement::Externalize { commit, high } => {
-            text.push_str("ext(")?;
-            push_ballot(text, commit)?;
-            write!(text, ",{high}")?;
+            push_word_and_ballot(text, "ext(", commit)?;
+            write!(text, ",{high})")
         }
     }
+}
+
+fn push_nomination(text: &mut String, voted: Set, accepted: Set) -> Result<(), AllocError> {
+    text.push_str("nom(")?;
+    push_set(text, voted, "+")?;
+    text.push('|')?;
+    push_set(text, accepted, "+")?;
     text.push(')')
 }
 
-/// What the slow program gives out, in the words of the node.
-pub fn words_of(alloc: Global, outs: &[Out]) -> Result<String, AllocError> {
+fn push_word_and_ballot(text: &mut String, word: &str, ballot: Ballot) -> Result<(), AllocError> {
+    text.push_str(word)?;
+    push_ballot(text, ballot)
+}
+
+/// Three counters behind a ballot, and the end of the statement.
+fn push_counters(text: &mut String, first: u32, second: u32, third: u32) -> Result<(), AllocError> {
+    write!(text, ",{first},{second},{third})")
+}
+
+/// What the slow program gives out and its state, in the words of the node.
+pub fn answer_of(alloc: Global, state: &State, outs: &[Out]) -> Result<String, AllocError> {
     let mut text = String::new(alloc);
     text.push_str("ok")?;
     for out in outs {
-        match *out {
-            Out::ArmNomination(round) => write!(text, " arm-nomination {round}")?,
-            Out::ArmBallot(counter) => write!(text, " arm-ballot {counter}")?,
-            Out::Emit(statement) => {
-                text.push_str(" emit ")?;
-                push_statement(&mut text, statement)?;
-            }
-            Out::Externalized(value) => {
-                text.push_str(" externalized ")?;
-                text.push_str(word(value))?;
-            }
+        push_out(&mut text, *out)?;
+    }
+    text.push('\n')?;
+    push_state(&mut text, state)?;
+    Ok(text)
+}
+
+fn push_out(text: &mut String, out: Out) -> Result<(), AllocError> {
+    match out {
+        Out::ArmNomination(round) => write!(text, " arm-nomination {round}"),
+        Out::ArmBallot(counter) => write!(text, " arm-ballot {counter}"),
+        Out::Emit(statement) => {
+            text.push_str(" emit ")?;
+            push_statement(text, statement)
+        }
+        Out::Externalized(value) => {
+            text.push_str(" externalized ")?;
+            text.push_str(word(value))
         }
     }
-    Ok(text)
 }
 
 /// The rows of the slow program, in the words of the node.
 pub fn rows_of(alloc: Global, state: &State) -> Result<String, AllocError> {
     let mut text = String::new(alloc);
     for node in NODES {
-        for kind in [Kind::Nomination, Kind::Balloting] {
-            if let Some(row) = state.row(node, kind) {
-                write!(text, "{} ", letter(node))?;
-                push_trust(&mut text, row.trust)?;
-                text.push(' ')?;
-                push_statement(&mut text, row.said)?;
-                text.push('\n')?;
-            }
-        }
+        push_row(&mut text, node, state.row(node, Kind::Nomination))?;
+        push_row(&mut text, node, state.row(node, Kind::Balloting))?;
     }
     Ok(text)
 }
 
+fn push_row(text: &mut String, node: u8, row: Option<Row>) -> Result<(), AllocError> {
+    let Some(row) = row else {
+        return Ok(());
+    };
+    text.push_str(letter(node))?;
+    text.push(' ')?;
+    push_trust(text, row.trust)?;
+    text.push(' ')?;
+    push_statement(text, row.said)?;
+    text.push('\n')
+}
+
 /// The state of the slow program, in the words of the node.
-pub fn state_of(alloc: Global, state: &State) -> Result<String, AllocError> {
-    let mut text = String::new(alloc);
+fn push_state(text: &mut String, state: &State) -> Result<(), AllocError> {
     write!(text, "rows {} ", state.row_count())?;
-    push_trust(&mut text, state.trust)?;
+    push_trust(text, state.trust)?;
     write!(text, " round {} fired {} leaders", state.round, state.fired)?;
     for leader in state.leaders.as_slice() {
         text.push(' ')?;
@@ -168,39 +196,38 @@ pub fn state_of(alloc: Global, state: &State) -> Result<String, AllocError> {
         text.push_str(" input ")?;
         text.push_str(word(input))?;
     }
-    push_votes(&mut text, state.votes)?;
-    Ok(text)
+    push_votes(text, state.votes)
 }
 
 fn push_votes(text: &mut String, votes: Votes) -> Result<(), AllocError> {
-    for (name, set) in [
-        (" voted", votes.voted),
-        (" accepts", votes.accepts),
-        (" confirms", votes.confirms),
-    ] {
-        text.push_str(name)?;
-        if set != 0 {
-            text.push(' ')?;
-        }
-        push_set(text, set, " ")?;
-    }
+    push_named_set(text, " voted", votes.voted)?;
+    push_named_set(text, " accepts", votes.accepts)?;
+    push_named_set(text, " confirms", votes.confirms)?;
     text.push_str(match votes.phase {
         Phase::Preparing => " preparing",
         Phase::Committing => " committing",
         Phase::Externalized => " externalized",
     })?;
-    for (name, ballot) in [
-        (" ballot ", votes.ballot),
-        (" prepared ", votes.prepared),
-        (" high ", votes.high),
-        (" commit ", votes.commit),
-    ] {
-        text.push_str(name)?;
-        push_known(text, ballot)?;
-    }
+    push_named(text, " ballot ", votes.ballot)?;
+    push_named(text, " prepared ", votes.prepared)?;
+    push_named(text, " high ", votes.high)?;
+    push_named(text, " commit ", votes.commit)?;
     write!(
         text,
         " aborted {} lo {} hi {} armed {}",
         votes.aborted, votes.lo, votes.hi, votes.armed
     )
+}
+
+fn push_named_set(text: &mut String, name: &str, set: Set) -> Result<(), AllocError> {
+    text.push_str(name)?;
+    if set != 0 {
+        text.push(' ')?;
+    }
+    push_set(text, set, " ")
+}
+
+fn push_named(text: &mut String, name: &str, ballot: Option<Ballot>) -> Result<(), AllocError> {
+    text.push_str(name)?;
+    push_known(text, ballot)
 }

@@ -1,0 +1,35 @@
+//! Why a comparison ends early.
+
+ghost use Rattle.std.specs.Prelude.{◌≡◌};
+ghost use Rattle.trials.specs.declared.halt.Halt.TheVariants.{NoMemory};
+
+use std::alloc::{AllocError, AllocFailed};
+
+#[derive(Clone, Copy)]
+pub enum Halt {
+    /// Memory is short.
+    NoMemory,
+    /// The node and the slow program differ, or words tell nothing.
+    Differs,
+}
+
+impl From<AllocError> for Halt {
+    ghost from_gives = { λ _ halt. halt ≡ NoMemory };
+
+    fn from(_error: AllocError) -> Halt {
+        Halt::NoMemory
+    }
+}
+
+impl<T: Drop> From<AllocFailed<T>> for Halt {
+    ghost from_gives = { λ _ halt. halt ≡ NoMemory };
+
+    fn from(_error: AllocFailed<T>) -> Halt {
+        Halt::NoMemory
+    }
+}
+
+/// Ends a comparison unless this holds.
+pub fn agree(holds: bool) -> Result<(), Halt> {
+    if holds { Ok(()) } else { Err(Halt::Differs) }
+}

@@ -1,0 +1,181 @@
+//! How one node bears many events: `trials REACHED STRANGERS EVENTS`, for measuring.
+
+ghost use Rattle.envstore.specs.Archives.{AreFiled};
+
+use crate::alone::Alone;
+use envstore::{Archive, VecShelf};
+use slot::{FiledEvent, FiledOut, GivenOut, Node};
+use std::alloc::{AllocError, Global};
+use types::{Ballot, Envelope, Member, Nested, NodeId, SliceSet, Statement, Value, Values};
+
+/// The most nodes that slices name.
+const MOST_NAMED: u64 = 64;
+
+/// The sizes of a run.
+#[derive(Clone, Copy)]
+pub struct Sizes {
+    pub reached: u64,
+    pub strangers: u64,
+    pub events: u64,
+}
+
+impl Alone {
+    /// A nomination and a ballot of each reached node come, and a ballot of each stranger.
+    fn meet(&mut self, alloc: Global, sizes: Sizes) -> Result<(), AllocError> {
+        for number in 0..sizes.reached {
+            self.nominate(alloc, sizes, number)?;
+            self.raise(alloc, sizes, number, 1)?;
+        }
+        for number in 0..sizes.strangers {
+            self.raise(alloc, sizes, number.saturating_add(1_000_000), 1)?;
+        }
+        Ok(())
+    }
+
+    /// The reached nodes raise their ballots, one after another: how many statements it sends meanwhile.
+    fn bear(&mut self, alloc: Global, sizes: Sizes) -> Result<u64, AllocError> {
+        let mut sent = 0u64;
+        for number in 0..sizes.events {
+            let Some(sender) = number.checked_rem(sizes.reached) else {
+                return Ok(sent);
+            };
+            let Some(turn) = number.checked_div(sizes.reached) else {
+                return Ok(sent);
+            };
+            let counter = turn.saturating_add(2).min(1_000_000) as u32;
+            sent = sent.saturating_add(self.raise(alloc, sizes, sender, counter)?);
+        }
+        Ok(sent)
+    }
+
+    fn nominate(&mut self, alloc: Global, sizes: Sizes, sender: u64) -> Result<u64, AllocError> {
+        let body = nomination(alloc)?;
+        self.take(alloc, sizes, sender, body)
+    }
+
+    fn raise(
+        &mut self,
+        alloc: Global,
+        sizes: Sizes,
+        sender: u64,
+        counter: u32,
+    ) -> Result<u64, AllocError> {
+        let body = prepare(alloc, counter)?;
+        self.take(alloc, sizes, sender, body)
+    }
+
+    /// How many statements a sender's statement makes it send.
+    fn take(
+        &mut self,
+        alloc: Global,
+        sizes: Sizes,
+        sender: u64,
+        body: Statement,
+    ) -> Result<u64, AllocError> {
+        let Alone { archive, node } = self;
+        let outs = take(alloc, archive, node, sizes, sender, body)?;
+        Ok(sent_among(&outs))
+    }
+}
+
+/// How many statements the node sends during the events.
+pub fn sent_in(alloc: Global, sizes: Sizes) -> Result<u64, AllocError> {
+    let Some(mut node) = node_of(alloc, sizes)? else {
+        return Ok(0);
+    };
+    node.meet(alloc, sizes)?;
+    node.bear(alloc, sizes)
+}
+
+fn sent_among(outs: &[FiledOut]) -> u64 {
+    let mut sent = 0u64;
+    for out in outs {
+        if let FiledOut::Emit(_) = out {
+            sent = sent.saturating_add(1);
+        }
+    }
+    sent
+}
+
+fn node_of(alloc: Global, sizes: Sizes) -> Result<Option<Alone>, AllocError> {
+    match slices_from(alloc, 0, sizes.reached)? {
+        None => Ok(None),
+        Some(slices) => Ok(Some(Alone::new(alloc, name(u64::MAX), slices))),
+    }
+}
+
+fn take(
+    alloc: Global,
+    archive: &mut Archive<VecShelf>,
+    node: &mut Node,
+    sizes: Sizes,
+    sender: u64,
+    body: Statement,
+) -> Result<Vec<FiledOut>, AllocError>
+    requires { AreFiled archive.old node.old.rows }
+    ensures { AreFiled archive.new node.new.rows }
+{
+    let Some(slices) = slices_from(alloc, sender, sizes.reached)? else {
+        return Ok(Vec::new(alloc));
+    };
+    match Envelope::new(name(sender), 1, slices, body) {
+        None => Ok(Vec::new(alloc)),
+        Some(envelope) => {
+            let filed = archive.put(envelope)?;
+            let GivenOut { outs, copies: _ } = node.advance(
+                alloc,
+                archive,
+                FiledEvent::Take(filed),
+                0,
+            )?;
+            Ok(outs)
+        }
+    }
+}
+
+fn name(number: u64) -> NodeId {
+    NodeId::from_words(number, 0, 0, 0)
+}
+
+/// The slices of a node: more than two thirds of those from this one on, beginning anew behind the last; of
+/// strangers the same among themselves.
+fn slices_from(alloc: Global, from: u64, reached: u64) -> Result<Option<Nested>, AllocError> {
+    let named = reached.min(MOST_NAMED);
+    let mut members = Vec::new(alloc);
+    for step in 0..named {
+        let number = from.saturating_add(step);
+        let number = if from >= reached {
+            number
+        } else {
+            number.checked_rem(reached).unwrap_or(0)
+        };
+        members.push(Member::Node(name(number)))?;
+    }
+    let threshold = (named.saturating_mul(2) / 3).saturating_add(1) as u8;
+    Nested::new(alloc, SliceSet::new(threshold, members))
+}
+
+fn nomination(alloc: Global) -> Result<Statement, AllocError> {
+    let mut voted = Values::empty(alloc);
+    voted.push(Value::of(alloc, b"x")?)?;
+    Ok(Statement::Nominate {
+        voted,
+        accepted: Values::empty(alloc),
+    })
+}
+
+/// A statement whose two ballots share one value.
+fn prepare(alloc: Global, counter: u32) -> Result<Statement, AllocError> {
+    let ballot = Ballot {
+        counter,
+        value: Value::of(alloc, b"x")?,
+    };
+    let prepared = ballot.try_copy()?;
+    Ok(Statement::Prepare {
+        ballot,
+        prepared: Some(prepared),
+        aborted_counter: 0,
+        high_counter: 0,
+        commit_counter: 0,
+    })
+}

@@ -1,0 +1,57 @@
+//! What is printed of the comparisons of a node with the slow program.
+
+use crate::counts::{Counts, Reaches};
+use crate::halt::Halt;
+use crate::memory::told;
+use crate::{crowds, histories, stories};
+use std::alloc::{AllocError, Global};
+
+/// How many histories there are.
+const HISTORIES: u64 = 3000;
+
+/// How many crowds.
+const CROWDS: u64 = 400;
+
+/// The digits of the story, and what was met in histories, crowds and stories.
+pub fn compared(alloc: Global) -> Result<String, AllocError> {
+    let mut text = String::new(alloc);
+    push_told(alloc, &mut text)?;
+    push_histories(alloc, &mut text)?;
+    push_crowds(alloc, &mut text)?;
+    push_stories(alloc, &mut text)?;
+    Ok(text)
+}
+
+fn push_told(alloc: Global, text: &mut String) -> Result<(), AllocError> {
+    let digits = told(alloc)?;
+    writeln!(text, "{digits}")
+}
+
+fn push_histories(alloc: Global, text: &mut String) -> Result<(), AllocError> {
+    let mut counts = Counts::none();
+    let end = histories::run(alloc, HISTORIES, &mut counts);
+    counts.push_seen(text)?;
+    push_end(text, end)
+}
+
+fn push_crowds(alloc: Global, text: &mut String) -> Result<(), AllocError> {
+    let mut reaches = Reaches::none();
+    let end = crowds::run(alloc, CROWDS, &mut reaches);
+    reaches.push_seen(text)?;
+    push_end(text, end)
+}
+
+fn push_stories(alloc: Global, text: &mut String) -> Result<(), AllocError> {
+    let end = stories::run(alloc);
+    text.push_str("stories of a node alone\n")?;
+    push_end(text, end)
+}
+
+/// How a comparison ended. One that ended early did so in the last history or crowd that was begun.
+fn push_end(text: &mut String, end: Result<(), Halt>) -> Result<(), AllocError> {
+    match end {
+        Ok(()) => text.push_str("the same throughout\n"),
+        Err(Halt::Differs) => text.push_str("differs\n"),
+        Err(Halt::NoMemory) => Err(AllocError),
+    }
+}
