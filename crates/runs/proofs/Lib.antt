@@ -11,3 +11,8 @@ mod QuietLines
 mod SayingLaws
 mod SubmittedLines
 mod PlannedLines
+mod NumberedRows
+mod SlotsByEntries
+mod OutsAtPlaces
+mod NetsByEntries
+pub mod FollowedLaws

@@ -13,6 +13,7 @@ pub mod Followed
 pub mod SettledLines
 pub mod Settling
 pub mod Running
+pub mod ByJournals
 pub mod Quiet
 pub mod Submitting
 pub mod Plans

@@ -2,6 +2,7 @@
 
 ghost use Rattle.std.specs.Prelude.{◌≡◌, ◌∷◌, [], Err, IfOk, OnOk, is_some, map, option_map, string_bytes};
 ghost use Rattle.types.specs.declared.event.Event.TheVariants.{Hear};
+ghost use Rattle.runs.specs.ByJournals.{LinesFollowJournals, RunsFollowJournals};
 ghost use Rattle.runs.specs.Followed.{names_at, open_slot, waiting};
 ghost use Rattle.runs.specs.Hosting.{IsApplied, IsBegun, IsFinished, IsPut, unhosted};
 ghost use Rattle.runs.specs.Quiet.{IsPutQuietly, IsRunBy};
@@ -299,6 +300,14 @@ impl LineRunner for HostRun {
 #[tactic(auto, using(crate::proofs::BadLines::bad_lines_tell_nothing))]
 pub fn bad_lines_tell_nothing()
     ensures { BadLinesTellNothing }
+{}
+
+/// A law: what is kept of open slots, for lines that settle, is what the journals have. So it is before the
+/// first line, each line that is run keeps it, and so it is after the lines of a text, all of which were run.
+#[tactic(auto, using(crate::proofs::FollowedLaws::lines_follow_journals))]
+pub fn open_slots_follow_journals()
+    ensures lines { LinesFollowJournals }
+    ensures runs { RunsFollowJournals }
 {}
 
 // The event by which a node hears an emission.

@@ -1,0 +1,422 @@
+-- What is kept of open slots is what the journals have.
+use Rattle.std.proofs.Common.{◌≡◌, ◌∙◌, ◌==◌, ◌||◌, ◌&&◌, ◌++◌, ◌+◌, ◌≤◌, ◌<◌, ℕ, suc, Bool, true, false, not, nat_lt, List, [], ◌∷◌, length, Option, Some, None, Ok, Err, is_some, if◌then◌else◌, refl, sym, ap, ap₂, subst, arith}
+use Rattle.std.specs.Prelude.{Result, Vec, option_map}
+use Rattle.std.specs.Global.{Global}
+use Rattle.std.proofs.lemmas.Bool.{and_parts, eqb-true, false≢true, lt-ltb, ltb-true, not-true, or_parts, true≢false}
+use Rattle.std.specs.List.{enumerate_from}
+use Rattle.scripts.specs.Script.{Bytes}
+use Rattle.scripts.specs.Runs.{Passes, Runs}
+use Rattle.scripts.specs.Runs.Passes.{skipped, told}
+use Rattle.scripts.specs.Runs.Runs.{ends, next, bad, short}
+use Rattle.scripts.specs.declared.run.Stop.{Stop}
+use Rattle.types.specs.declared.event.Event.{Event}
+use Rattle.types.specs.declared.event.Event.TheVariants as event
+use Rattle.types.specs.declared.event.Out.{Out}
+use Rattle.types.specs.declared.event.Refusal.{Refusal}
+use Rattle.types.specs.Trees.{all_differ}
+use Rattle.protocol.specs.Networks.{Step}
+use Rattle.protocol.specs.Counts.{since_opened}
+use Rattle.protocol.specs.Hosts.{Config, Entry}
+use Rattle.protocol.specs.Runs.{net_after, state_of}
+use Rattle.protocol.specs.Networks.{is_open}
+use Rattle.configuration.specs.Configs.{names_of}
+use Rattle.configuration.proofs.Names.{names-differ}
+use Rattle.network.specs.Decoding.{step_of}
+use Rattle.hoststep.specs.Logs.{Log, extended}
+use Rattle.hoststep.specs.Worlds.{IsAnsweredAt, items_of, log_at, logs_set, logs_with}
+use Rattle.runs.specs.Drafts.{Drafted, IsConfigOf, IsRevised, Waiting, fresh, waiting_at, waiting_set, waiting_without}
+use Rattle.runs.specs.Emissions.{OpenSlot, OpenSlots, at_number, changed_at, handed_on}
+use Rattle.runs.specs.Followed.{Followed, also_followed, followed_with, turn_of, turned, with_handed}
+use Rattle.runs.specs.Hosting.{Hosting, IsApplied, IsBegun, has_room, logs_joined, noted_answer, unhosted}
+use Rattle.runs.specs.Joining.{IsNamedAt}
+use Rattle.runs.specs.Naming.{Named, is_in, named_with}
+use Rattle.runs.specs.Preparing.{Prepares}
+use Rattle.runs.specs.Running.{RefusesLine, Tells}
+use Rattle.runs.specs.Running.Tells.{declared, answered, settled}
+use Rattle.runs.specs.Settling.{AreHandedOn, HasSettledAt, IsHeardBy, handed_over, hearing}
+use Rattle.runs.specs.Settling.IsHeardBy.{by_all, by_one, refused}
+use Rattle.runs.specs.Settling.AreHandedOn.{none_waits, one_waits, cut_short}
+use Rattle.runs.specs.Taking.{declared_count, takes}
+use Rattle.runs.specs.declared.emissions.Emission.{Emission}
+use Rattle.runs.specs.declared.requests.Declaration.{Declaration}
+use Rattle.runs.specs.declared.requests.Declaration.TheVariants.{Net, Node, Roster}
+use Rattle.runs.specs.ByJournals.{AreFollowed, AreSlotsAt, AreSlotsBy, FollowsJournals, HaveRoom, IsSlotBy, LinesFollowJournals, RunsFollowJournals, StandOnce}
+use Rattle.runs.proofs.NumberedRows.{at-changed, at-inserted, at-removed, at-set, equal-flip, has-inserted, keys-inserted, length-inserted, length-removed, length-set, once-changed, once-inserted, once-removed, once-set}
+use Rattle.runs.proofs.NetsByEntries.{slots-next, turn_in}
+
+-- ---- journals by number
+
+log-number : (ls : List Log) (g : ℕ) (l : Log) → log_at ls g ≡ Some l → l.config.number ≡ g
+log-number [] g l at = absurd (cc)
+log-number (k ∷ ks) g l at = go (k.config.number == g) refl at (log-number ks g l)
+  where
+    go : (b : Bool) → (k.config.number == g) ≡ b → (if b then Some k else log_at ks g) ≡ Some l → (log_at ks g ≡ Some l → l.config.number ≡ g) → l.config.number ≡ g
+    go true e h rest = let same : k ≡ l = cc in sym (ap (λ (x : Log). x.config.number) same) ∙ eqb-true k.config.number g e
+    go false e h rest = rest h
+
+log-set : (ls : List Log) (m : Log) (j : ℕ) → is_some (log_at ls m.config.number) ≡ true → log_at (logs_set m ls) j ≡ (if m.config.number == j then Some m else log_at ls j)
+log-set [] m j there = absurd (false≢true there)
+log-set (k ∷ ks) m j there = go (k.config.number == m.config.number) refl there (log-set ks m j)
+  where
+    go : (b : Bool) → (k.config.number == m.config.number) ≡ b → is_some (if b then Some k else log_at ks m.config.number) ≡ true
+        → (is_some (log_at ks m.config.number) ≡ true → log_at (logs_set m ks) j ≡ (if m.config.number == j then Some m else log_at ks j))
+        → log_at (if b then m ∷ ks else k ∷ logs_set m ks) j ≡ (if m.config.number == j then Some m else (if k.config.number == j then Some k else log_at ks j))
+    go true e h rest = by (m.config.number == j) (ap (λ n. n == j) (eqb-true k.config.number m.config.number e))
+      where
+        by : (b : Bool) → (k.config.number == j) ≡ b → (if b then Some m else log_at ks j) ≡ (if b then Some m else (if k.config.number == j then Some k else log_at ks j))
+        by true f = refl
+        by false f = rw f refl
+    go false e h rest = by (k.config.number == j) refl (m.config.number == j) refl (rest h)
+      where
+        by : (b : Bool) → (k.config.number == j) ≡ b → (c : Bool) → (m.config.number == j) ≡ c → log_at (logs_set m ks) j ≡ (if c then Some m else log_at ks j)
+            → (if b then Some k else log_at (logs_set m ks) j) ≡ (if c then Some m else (if b then Some k else log_at ks j))
+        by true f true g r = absurd (false≢true (sym e ∙ (ap (λ n. n == m.config.number) (eqb-true k.config.number j f) ∙ (equal-flip j m.config.number ∙ g))))
+        by true f false g r = refl
+        by false f true g r = r
+        by false f false g r = r
+
+length-log-set : (ls : List Log) (m : Log) → length (logs_set m ls) ≡ length ls
+length-log-set [] m = refl
+length-log-set (k ∷ ks) m = go (k.config.number == m.config.number) (length-log-set ks m)
+  where
+    go : (b : Bool) → length (logs_set m ks) ≡ length ks → length (if b then m ∷ ks else k ∷ logs_set m ks) ≡ suc (length ks)
+    go true h = refl
+    go false h = ap suc h
+
+log-with : (ls : List Log) (l : Log) (j : ℕ) → log_at (logs_with l ls) j ≡ (if l.config.number == j then Some l else log_at ls j)
+log-with [] l j = refl
+log-with (k ∷ ks) l j = go (nat_lt k.config.number l.config.number) refl (log-with ks l j)
+  where
+    lies-below : (a b : ℕ) → a < b → a ≡ b → ⊥
+    lies-below a b h e = omega (arith, h, e)
+
+    go : (b : Bool) → nat_lt k.config.number l.config.number ≡ b → log_at (logs_with l ks) j ≡ (if l.config.number == j then Some l else log_at ks j)
+        → log_at (if b then k ∷ logs_with l ks else l ∷ k ∷ ks) j ≡ (if l.config.number == j then Some l else (if k.config.number == j then Some k else log_at ks j))
+    go false e rest = refl
+    go true e rest = by (k.config.number == j) refl (l.config.number == j) refl rest
+      where
+        by : (b : Bool) → (k.config.number == j) ≡ b → (c : Bool) → (l.config.number == j) ≡ c → log_at (logs_with l ks) j ≡ (if c then Some l else log_at ks j)
+            → (if b then Some k else log_at (logs_with l ks) j) ≡ (if c then Some l else (if b then Some k else log_at ks j))
+        by true f true g r = absurd (lies-below k.config.number l.config.number (ltb-true k.config.number l.config.number e) (eqb-true k.config.number j f ∙ sym (eqb-true l.config.number j g)))
+        by true f false g r = refl
+        by false f true g r = r
+        by false f false g r = r
+
+length-log-with : (ls : List Log) (l : Log) → length (logs_with l ls) ≡ length ls + 1
+length-log-with [] l = omega arith
+length-log-with (k ∷ ks) l = go (nat_lt k.config.number l.config.number) (length-log-with ks l)
+  where
+    go : (b : Bool) → length (logs_with l ks) ≡ length ks + 1 → length (if b then k ∷ logs_with l ks else l ∷ k ∷ ks) ≡ suc (length ks) + 1
+    go true h = omega (arith, h)
+    go false h = omega arith
+
+-- ---- an event
+
+turn-is : (e : Event) → turn_of e ≡ turn_in (step_of e)
+turn-is (event.OpenSlot slot) = refl
+turn-is (event.CloseSlot slot) = refl
+turn-is (event.Propose slot u x) = refl
+turn-is (event.Deliver u bytes) = refl
+turn-is (event.Hear slot u from kind k) = refl
+turn-is (event.NominationTimer slot u r) = refl
+turn-is (event.BallotTimer slot u n) = refl
+turn-is (event.Reslice slot u q) = refl
+
+-- the network of a number, with another journal and other slots
+module _ (logs now : List Log) (f kept : Followed) (g : ℕ) (l new : Log) (change : OpenSlots → OpenSlots)
+    (at : log_at logs g ≡ Some l) (logs_now : (j : ℕ) → log_at now j ≡ (if g == j then Some new else log_at logs j)) (kept_now : (j : ℕ) → at_number kept j ≡ (if g == j then option_map change (at_number f j) else at_number f j))
+    (changes : (m : OpenSlots) → AreSlotsBy l.config l.entries m → AreSlotsBy new.config new.entries (change m)) where
+  changed-follows : AreFollowed logs f → AreFollowed now kept
+  changed-follows h j = subst (λ (o : Option Log). AreSlotsAt o (at_number kept j)) (sym (logs_now j)) (subst (λ (o : Option OpenSlots). AreSlotsAt (if g == j then Some new else log_at logs j) o) (sym (kept_now j)) (go (g == j) refl))
+    where
+      there : (o : Option OpenSlots) → AreSlotsAt (Some l) o → AreSlotsAt (Some new) (option_map change o)
+      there None s = s
+      there (Some m) s = changes m s
+
+      go : (b : Bool) → (g == j) ≡ b → AreSlotsAt (if b then Some new else log_at logs j) (if b then option_map change (at_number f j) else at_number f j)
+      go true e = there (at_number f j) (subst (λ (o : Option Log). AreSlotsAt o (at_number f j)) (ap (log_at logs) (sym (eqb-true g j e)) ∙ at) (h j))
+      go false e = h j
+
+no-ok : {A B : Type 0} (x : A) (y : B) → ◌≡◌ {A = Result A B} (Ok x) (Err y) → ⊥
+no-ok x y h = cc
+
+-- what is kept follows an answer
+answer-follows : (logs now : List Log) (f kept : Followed) (g : ℕ) (e : Event) (r : Result (List Out) Refusal) (o : Option Log) → log_at logs g ≡ o → IsAnsweredAt o logs (step_of e) r now
+    → kept ≡ noted_answer g e r f → AreFollowed logs f → AreFollowed now kept
+answer-follows logs now f kept g e (Ok os) None at h k s = absurd (no-ok _ _ h.0)
+answer-follows logs now f kept g e (Err r) None at h k s = λ j. subst (λ (x : List Log × Followed). AreSlotsAt (log_at x.0 j) (at_number x.1 j)) (λ i. (sym h.1 i, sym k i)) (s j)
+answer-follows logs now f kept g e (Err r) (Some l) at h k s = λ j. subst (λ (x : List Log × Followed). AreSlotsAt (log_at x.0 j) (at_number x.1 j)) (λ i. (sym h.1 i, sym k i)) (s j)
+answer-follows logs now f kept g e (Ok os) (Some l) at h k s =
+    let new : Log = extended l (step_of e) os in
+    let named : new.config.number ≡ g = log-number logs g l at in
+    let there : is_some (log_at logs new.config.number) ≡ true = ap (λ n. is_some (log_at logs n)) named ∙ ap (λ (o : Option Log). is_some o) at in
+    changed-follows logs now f kept g l new (turned (turn_of e) os) at
+    (λ j. ap (λ (xs : List Log). log_at xs j) h.1 ∙ (log-set logs new j there ∙ ap (λ n. if n == j then Some new else log_at logs j) named))
+    (λ j. ap (λ (xs : Followed). at_number xs j) k ∙ at-changed g (turned (turn_of e) os) j f)
+    (λ m sm. subst (λ t. AreSlotsBy l.config new.entries (turned t os m)) (sym (turn-is e)) (slots-next l.config l.entries m (step_of e) os sm h.0.0 h.0.1)) s
+
+-- no network comes or goes
+record SameNumbers (logs now : List Log) : Type 0 where
+  there : (j : ℕ) → is_some (log_at now j) ≡ is_some (log_at logs j)
+  count : length now ≡ length logs
+
+same-numbers : (logs now : List Log) → now ≡ logs → SameNumbers logs now
+same-numbers logs now e = record { there = λ j. ap (λ (xs : List Log). is_some (log_at xs j)) e; count = ap (λ (xs : List Log). length xs) e }
+
+answer-numbers : (logs now : List Log) (g : ℕ) (e : Step) (r : Result (List Out) Refusal) (o : Option Log) → log_at logs g ≡ o → IsAnsweredAt o logs e r now → SameNumbers logs now
+answer-numbers logs now g e (Ok os) None at h = absurd (no-ok _ _ h.0)
+answer-numbers logs now g e (Err r) None at h = same-numbers logs now h.1
+answer-numbers logs now g e (Err r) (Some l) at h = same-numbers logs now h.1
+answer-numbers logs now g e (Ok os) (Some l) at h =
+    let new : Log = extended l e os in
+    let named : new.config.number ≡ g = log-number logs g l at in
+    let there : is_some (log_at logs new.config.number) ≡ true = ap (λ n. is_some (log_at logs n)) named ∙ ap (λ (o : Option Log). is_some o) at in
+    record {
+      there = λ j. ap (λ (xs : List Log). is_some (log_at xs j)) h.1 ∙ (ap (λ (o : Option Log). is_some o) (log-set logs new j there) ∙ some-as new j (new.config.number == j) refl there);
+      count = ap (λ (xs : List Log). length xs) h.1 ∙ length-log-set logs new;
+    }
+  where
+    some-as : (m : Log) (j : ℕ) (b : Bool) → (m.config.number == j) ≡ b → is_some (log_at logs m.config.number) ≡ true → is_some (if b then Some m else log_at logs j) ≡ is_some (log_at logs j)
+    some-as m j true e k = sym (ap (λ n. is_some (log_at logs n)) (sym (eqb-true m.config.number j e)) ∙ k)
+    some-as m j false e k = refl
+
+room-as : (ws us : Waiting) (n k : Named) (logs now : List Log) → us ≡ ws → k ≡ n → SameNumbers logs now → HaveRoom ws n logs → HaveRoom us k now
+room-as ws us n k logs now w e same h =
+    let count = same.count in
+    let counted = h.counted in
+    let short : length now ≤ length n.running = omega (arith, count, counted) in
+    subst (λ (x : Waiting × Named). HaveRoom x.0 x.1 now) (λ i. (sym w i, sym e i))
+    (record { joined = λ g j. h.joined g (sym (same.there g) ∙ j); counted = short; apart = h.apart; once = h.once; few = h.few })
+
+applied-follows : (g : ℕ) (e : Event) (r : Result (Vec Out Global) Refusal) (old new : Hosting) → FollowsJournals old → IsApplied g e r old new → FollowsJournals new
+applied-follows g e r old new s h = record {
+  room = room-as old.waiting new.waiting old.named new.named old.logs new.logs h.2.0 h.2.1 (answer-numbers old.logs new.logs g (step_of e) (items_of r) (log_at old.logs g) refl h.0) s.room;
+  slots = answer-follows old.logs new.logs old.followed new.followed g e (items_of r) (log_at old.logs g) refl h.0 h.1 s.slots;
+}
+
+-- ---- a network that joins
+
+none-opened : (c : Config) → all_differ (names_of c.hosts) ≡ true → AreSlotsBy c [] (record { names = names_of c.hosts; slots = [] })
+unfolding net_after
+none-opened c single = record { names = refl; single = single; once = tt; opens = λ i. refl; kept = λ i o at. absurd (none-there o at) }
+  where
+    none-there : (o : OpenSlot) → None ≡ Some o → ⊥
+    none-there o h = cc
+
+some-less : (a b c d : ℕ) → a + 1 ≡ b → b + c ≤ 4096 → d ≤ c → d < 4096
+some-less a b c d e f h = omega (arith, e, f, h)
+
+module _ (ws : Waiting) (n : Named) (logs : List Log) (f : Followed) (g : ℕ) (d : Drafted) (c : Config) (room : HaveRoom ws n logs) (at : waiting_at ws g ≡ Some d) (is : IsConfigOf g d c) where
+  waits-there : is_some (waiting_at ws g) ≡ true
+  waits-there = ap (λ (o : Option Drafted). is_some o) at
+
+  not-running : is_in n.running g ≡ false
+  not-running = room.apart g waits-there
+
+  not-joined : is_some (log_at logs g) ≡ false
+  not-joined = go (is_some (log_at logs g)) refl
+    where
+      go : (b : Bool) → is_some (log_at logs g) ≡ b → b ≡ false
+      go true e = absurd (false≢true (sym not-running ∙ room.joined g e))
+      go false e = refl
+
+  few-joined : length logs < 4096
+  few-joined =
+      let less = length-removed g ws waits-there in
+      let all = room.few in
+      let joined = room.counted in
+      some-less _ (length ws) (length n.running) (length logs) less all joined
+
+  joins-there : logs_joined c logs ≡ logs_with (record { config = c; entries = [] }) logs
+  joins-there =
+      ap (λ b. if b then logs_with (record { config = c; entries = [] }) logs else logs)
+      (ap₂ (λ a b. not a && b) (ap (λ k. is_some (log_at logs k)) is.number ∙ not-joined) (lt-ltb (length logs) 4096 few-joined))
+
+  joined-follows : AreFollowed logs f → AreFollowed (logs_joined c logs) (followed_with c f)
+  joined-follows s j =
+      subst (λ (xs : List Log). AreSlotsAt (log_at xs j) (at_number (followed_with c f) j)) (sym joins-there)
+      (subst (λ (o : Option Log). AreSlotsAt o (at_number (followed_with c f) j)) (sym (log-with logs (record { config = c; entries = [] }) j))
+      (subst (λ (o : Option OpenSlots). AreSlotsAt (if c.number == j then Some (record { config = c; entries = [] }) else log_at logs j) o) (sym (at-inserted c.number (record { names = names_of c.hosts; slots = [] }) j f))
+      (go (c.number == j))))
+    where
+      go : (b : Bool) → AreSlotsAt (if b then Some (record { config = c; entries = [] }) else log_at logs j) (if b then Some (record { names = names_of c.hosts; slots = [] }) else at_number f j)
+      go true = none-opened c (names-differ (names_of c.hosts) is.ascending)
+      go false = s j
+
+  joined-room : HaveRoom (waiting_without ws g) (named_with g (Some d) n) (logs_joined c logs)
+  joined-room = record {
+    joined = λ j h. has-inserted g j n.running ∙ joined j (c.number == j) refl (sym (ap (λ (o : Option Log). is_some o) (ap (λ (xs : List Log). log_at xs j) joins-there ∙ log-with logs (record { config = c; entries = [] }) j)) ∙ h);
+    counted = let a = length-log-with logs (record { config = c; entries = [] }) in let b = ap (λ (xs : List Log). length xs) joins-there in let e = keys-inserted g n.running not-running in let k = room.counted in omega (arith, a, b, e, k);
+    apart = λ j h. has-inserted g j n.running ∙ apart j (g == j) refl (sym (ap (λ (o : Option Drafted). is_some o) (at-removed g j ws room.once)) ∙ h);
+    once = once-removed g ws room.once;
+    few = let a = length-removed g ws waits-there in let e = keys-inserted g n.running not-running in let k = room.few in omega (arith, a, e, k);
+  }
+    where
+      joined : (j : ℕ) (b : Bool) → (c.number == j) ≡ b → is_some (if c.number == j then Some (record { config = c; entries = [] }) else log_at logs j) ≡ true → ((g == j) || is_in n.running j) ≡ true
+      joined j true e h = ap (λ k. (k == j) || is_in n.running j) (sym is.number) ∙ rw e refl
+      joined j false e h = ap (λ k. (k == j) || is_in n.running j) (sym is.number) ∙ rw e (room.joined j (sym (ap (λ b. is_some (if b then Some (record { config = c; entries = [] }) else log_at logs j)) e) ∙ h))
+
+      apart : (j : ℕ) (b : Bool) → (g == j) ≡ b → is_some (if g == j then None else at_number ws j) ≡ true → ((g == j) || is_in n.running j) ≡ false
+      apart j true e h = absurd (none-some (sym (ap (λ b. is_some (if b then None else at_number ws j)) e) ∙ h))
+        where
+          none-some : false ≡ true → ⊥
+          none-some k = false≢true k
+      apart j false e h = rw e (room.apart j (sym (ap (λ b. is_some (if b then None else at_number ws j)) e) ∙ h))
+
+begun-follows : (g : ℕ) (old new : Hosting) → FollowsJournals old → IsBegun g old new → FollowsJournals new
+begun-follows g old new s h = go (waiting_at old.waiting g) refl h.0 h.1
+  where
+    go : (o : Option Drafted) → waiting_at old.waiting g ≡ o → IsNamedAt (also_followed logs_joined) g o old.waiting new.waiting (old.logs, old.followed) (new.logs, new.followed) → new.named ≡ named_with g o old.named → FollowsJournals new
+    go None at k named = record {
+      room = subst (λ (x : Waiting × Named × List Log). HaveRoom x.0 x.1 x.2) (λ i. (sym k.0 i, sym named i, (sym k.1 i).0)) (record { joined = s.room.joined; counted = s.room.counted; apart = s.room.apart; once = s.room.once; few = s.room.few });
+      slots = subst (λ (x : List Log × Followed). AreFollowed x.0 x.1) (sym k.1) s.slots;
+    }
+    go (Some d) at k named = record {
+      room = subst (λ (x : Waiting × Named × List Log). HaveRoom x.0 x.1 x.2) (λ i. (sym k.0 i, sym named i, (sym k.1.2 i).0)) (joined-room old.waiting old.named old.logs old.followed g d k.1.0 s.room at k.1.1);
+      slots = subst (λ (x : List Log × Followed). AreFollowed x.0 x.1) (sym k.1.2) (joined-follows old.waiting old.named old.logs old.followed g d k.1.0 s.room at k.1.1 s.slots);
+    }
+
+-- ---- a declaration
+
+revised-room : (g : ℕ) (change : Drafted → Drafted) (ws us : Waiting) (n : Named) (logs : List Log) → IsRevised g change ws us → HaveRoom ws n logs → HaveRoom us n logs
+revised-room g change ws us n logs h room =
+    subst (λ (x : Waiting). HaveRoom x n logs) (sym h.2)
+    (record {
+      joined = room.joined;
+      counted = room.counted;
+      apart = λ j k. room.apart j (was j (g == j) refl (sym (ap (λ (o : Option Drafted). is_some o) (at-set g (change h.0) j ws there)) ∙ k));
+      once = once-set g (change h.0) ws there room.once;
+      few = let a = length-set g (change h.0) ws in let k = room.few in omega (arith, a, k);
+    })
+  where
+    there : is_some (waiting_at ws g) ≡ true
+    there = ap (λ (o : Option Drafted). is_some o) h.1
+
+    was : (j : ℕ) (b : Bool) → (g == j) ≡ b → is_some (if g == j then Some (change h.0) else at_number ws j) ≡ true → is_some (waiting_at ws j) ≡ true
+    was j true e k = ap (λ m. is_some (waiting_at ws m)) (sym (eqb-true g j e)) ∙ there
+    was j false e k = sym (ap (λ b. is_some (if b then Some (change h.0) else at_number ws j)) e) ∙ k
+
+declared-room : (g : ℕ) (d : Declaration) (ws us : Waiting) (n : Named) (logs : List Log) → takes ws n g d ≡ true → Prepares g d ws us → HaveRoom ws n logs → HaveRoom us n logs
+declared-room g (Node u q) ws us n logs t p room = revised-room g _ ws us n logs p room
+declared-room g (Roster r) ws us n logs t p room = revised-room g _ ws us n logs p room
+declared-room g (Net b) ws us n logs t p room =
+    subst (λ (x : Waiting). HaveRoom x n logs) (sym p.1)
+    (record {
+      joined = room.joined;
+      counted = room.counted;
+      apart = λ j k. apart j (g == j) refl (sym (ap (λ (o : Option Drafted). is_some o) (at-inserted g (fresh b) j ws)) ∙ k);
+      once = once-inserted g (fresh b) ws p.0 room.once;
+      few = let a = length-inserted g (fresh b) ws in let k = ltb-true (declared_count ws n) 4096 taken.1 in omega (arith, a, k);
+    })
+  where
+    taken : (not (is_some (waiting_at ws g) || is_in n.running g) ≡ true) × (nat_lt (declared_count ws n) 4096 ≡ true)
+    taken = and_parts (not (is_some (waiting_at ws g) || is_in n.running g)) (nat_lt (declared_count ws n) 4096) t
+
+    new : is_in n.running g ≡ false
+    new = (or_parts (is_some (waiting_at ws g)) (is_in n.running g) (not-true (is_some (waiting_at ws g) || is_in n.running g) taken.0)).1
+
+    apart : (j : ℕ) (c : Bool) → (g == j) ≡ c → is_some (if g == j then Some (fresh b) else at_number ws j) ≡ true → is_in n.running j ≡ false
+    apart j true e k = ap (is_in n.running) (sym (eqb-true g j e)) ∙ new
+    apart j false e k = room.apart j (sym (ap (λ c. is_some (if c then Some (fresh b) else at_number ws j)) e) ∙ k)
+
+-- ---- a line that settles
+
+one-handed : (names : List ℕ) (i : ℕ) (since : List Entry) (o : OpenSlot) → IsSlotBy names i since o → IsSlotBy names i since (handed_on o)
+one-handed names i since o s = record { speakers = s.speakers; emissions = s.emissions; handed = go (nat_lt o.handed (length o.emissions)) refl }
+  where
+    go : (b : Bool) → nat_lt o.handed (length o.emissions) ≡ b → (if b then o.handed + 1 else o.handed) ≤ length o.emissions
+    go true e = let less = ltb-true o.handed (length o.emissions) e in omega (arith, less)
+    go false e = s.handed
+
+slots-handed : (config : Config) (entries : List Entry) (slot : ℕ) (m : OpenSlots) → AreSlotsBy config entries m → AreSlotsBy config entries (record m { slots = changed_at m.slots slot handed_on })
+slots-handed config entries slot m s = record {
+  names = s.names;
+  single = s.single;
+  once = once-changed slot handed_on m.slots s.once;
+  opens = λ i. ap (λ (o : Option OpenSlot). is_some o) (at-changed slot handed_on i m.slots) ∙ (as-open (slot == i) (at_number m.slots i) ∙ s.opens i);
+  kept = λ i o at. kept i o (slot == i) (at_number m.slots i) refl (sym (at-changed slot handed_on i m.slots) ∙ at);
+}
+  where
+    as-open : (b : Bool) (o : Option OpenSlot) → is_some (if b then option_map handed_on o else o) ≡ is_some o
+    as-open true None = refl
+    as-open true (Some o) = refl
+    as-open false o = refl
+
+    none-there : (o : OpenSlot) → None ≡ Some o → ⊥
+    none-there o h = cc
+
+    one-there : (a b : OpenSlot) → Some a ≡ Some b → a ≡ b
+    one-there a b h = cc
+
+    kept : (i : ℕ) (o : OpenSlot) (b : Bool) (p : Option OpenSlot) → at_number m.slots i ≡ p → (if b then option_map handed_on (at_number m.slots i) else at_number m.slots i) ≡ Some o → IsSlotBy m.names i (since_opened i entries) o
+    kept i o false p is at = s.kept i o at
+    kept i o true None is at = absurd (none-there o (ap (option_map handed_on) (sym is) ∙ at))
+    kept i o true (Some x) is at =
+        subst (λ y. IsSlotBy m.names i (since_opened i entries) y) (one-there (handed_on x) o (ap (option_map handed_on) (sym is) ∙ at)) (one-handed m.names i (since_opened i entries) x (s.kept i x is))
+
+abbrev with_handed_on : ℕ → OpenSlots → OpenSlots
+with_handed_on slot m = record m { slots = changed_at m.slots slot handed_on }
+
+handed-follows : (g slot : ℕ) (logs : List Log) (f : Followed) → AreFollowed logs f → AreFollowed logs (with_handed g slot f)
+handed-follows g slot logs f s j =
+    subst (λ (o : Option OpenSlots). AreSlotsAt (log_at logs j) o) (sym (at-changed g (with_handed_on slot) j f)) (go (g == j) (log_at logs j) (at_number f j) (s j))
+  where
+    go : (b : Bool) (l : Option Log) (o : Option OpenSlots) → AreSlotsAt l o → AreSlotsAt l (if b then option_map (with_handed_on slot) o else o)
+    go false l o h = h
+    go true None None h = h
+    go true None (Some m) h = h
+    go true (Some l) None h = h
+    go true (Some l) (Some m) h = slots-handed l.config l.entries slot m h
+
+heard-follows : (g slot : ℕ) (e : Emission) (us : List ℕ) (old new : Hosting) (ended : Option Refusal) → FollowsJournals old → IsHeardBy g slot e us old ended new → FollowsJournals new
+heard-follows g slot e us old new ended s by_all = s
+heard-follows g slot e us old new ended s (by_one {u = u} outs answer rest) = heard-follows g slot e _ _ new ended (applied-follows g (hearing slot u e) (Ok outs) old _ s answer) rest
+heard-follows g slot e us old new ended s (refused {u = u} r answer) = applied-follows g (hearing slot u e) (Err r) old new s answer
+
+over-follows : (g slot : ℕ) (ended : Option Refusal) (h : Hosting) → FollowsJournals h → FollowsJournals (handed_over g slot ended h)
+over-follows g slot None h s = record { room = s.room; slots = handed-follows g slot h.logs h.followed s.slots }
+over-follows g slot (Some r) h s = s
+
+handed-on-follows : (g slot : ℕ) (names : List ℕ) (old new : Hosting) (ended : Option Refusal) → FollowsJournals old → AreHandedOn g slot names old ended new → FollowsJournals new
+handed-on-follows g slot names old new ended s (none_waits none) = s
+handed-on-follows g slot names old new ended s (one_waits e waits h rest) =
+    handed-on-follows g slot names _ new ended (subst FollowsJournals (sym h.2) (over-follows g slot None h.0 (heard-follows g slot e _ old h.0 None s h.1))) rest
+handed-on-follows g slot names old new ended s (cut_short e r waits h) =
+    subst FollowsJournals (sym h.2) (over-follows g slot (Some r) h.0 (heard-follows g slot e _ old h.0 (Some r) s h.1))
+
+settled-follows : (g slot : ℕ) (names : Option (List ℕ)) (o : Option OpenSlot) (old new : Hosting) (text : Bytes) → FollowsJournals old → HasSettledAt g slot names o old text new → FollowsJournals new
+settled-follows g slot None o old new text s h = subst FollowsJournals (sym h.0) s
+settled-follows g slot (Some names) None old new text s h = subst FollowsJournals (sym h.0) s
+settled-follows g slot (Some names) (Some o) old new text s h = handed-on-follows g slot names old new h.0 s h.1
+
+-- ---- a line, and all lines
+
+line-follows : (old new : Hosting) (fields : List Bytes) (printed : Option Bytes) → FollowsJournals old → Tells old fields printed new → FollowsJournals new
+line-follows old new fields printed s (declared p named kept logs) = record {
+  room = subst (λ (x : Named × List Log). HaveRoom new.waiting x.0 x.1) (λ i. (sym named i, sym logs i)) (declared-room p.0 p.1 old.waiting new.waiting old.named old.logs p.3 p.4 s.room);
+  slots = subst (λ (x : List Log × Followed). AreFollowed x.0 x.1) (λ i. (sym logs i, sym kept i)) s.slots;
+}
+line-follows old new fields printed s (answered g e asked put) = applied-follows g e put.1 put.0 new (begun-follows g old put.0 s put.2) put.3
+line-follows old new fields printed s (settled g slot asked done) = settled-follows g slot _ _ done.0 new _ (begun-follows g old done.0 s done.1) done.2
+
+first-follows : FollowsJournals unhosted
+first-follows = record {
+  room = record { joined = λ g h. absurd (false≢true h); counted = omega arith; apart = λ g h. absurd (false≢true h); once = tt; few = omega arith };
+  slots = λ g. tt;
+}
+
+pub lines_follow_journals : LinesFollowJournals
+lines_follow_journals = (first-follows, line-follows)
+
+passed-follows : (s t : Hosting) (line written : Bytes) → FollowsJournals s → Passes Tells s line written t → FollowsJournals t
+passed-follows s t line written h (skipped empty) = h
+passed-follows s t line written h (told are tells) = line-follows s t _ _ h tells
+
+runs-follow : (s t : Hosting) (lines : List (ℕ × Bytes)) (printed : Bytes) (end : Result (Unit {0}) Stop) → FollowsJournals s → end ≡ Ok tt → Runs Tells RefusesLine s lines printed end t → FollowsJournals t
+runs-follow s t lines printed end h ok ends = h
+runs-follow s t lines printed end h ok (next passes more) = runs-follow _ t _ _ end (passed-follows s _ _ _ h passes) ok more
+runs-follow s t lines printed end h ok (bad fails) = absurd (no-ok _ _ (sym ok))
+runs-follow s t lines printed end h ok short = absurd (no-ok _ _ (sym ok))
+
+pub runs_follow_journals : RunsFollowJournals
+runs_follow_journals text before after new run = runs-follow unhosted new (enumerate_from 1 run.lines) run.printed (Ok tt) first-follows refl run.ran

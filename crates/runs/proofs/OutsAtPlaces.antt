@@ -1,0 +1,292 @@
+-- What an event gives out is its node's, at its slot, and what it decides it also emits.
+use Rattle.std.proofs.Common.{◌≡◌, ◌∙◌, ◌==◌, ◌&&◌, ◌||◌, ◌+◌, ◌++◌, ℕ, zero, suc, Bool, true, false, not, cond, List, [], ◌∷◌, map, filter, Option, Some, None, is_some, is_none, if◌then◌else◌, refl, sym, ap, ap₂, subst}
+use Rattle.std.specs.Prelude.{option_map}
+use Rattle.std.specs.List.{AllByRecursion}
+use Rattle.std.proofs.lemmas.Bool.{eqb-true, false≢true, not-false}
+use Rattle.std.proofs.lemmas.List.Elements.{filter_map-append}
+use Rattle.types.specs.Statements.{Sent}
+use Rattle.types.specs.declared.ballot.Ballot.{Ballot}
+use Rattle.types.specs.declared.statement.Statement.{Statement}
+use Rattle.types.specs.declared.state.Phase.{Phase}
+use Rattle.types.specs.declared.state.Phase.TheVariants as phase
+use Rattle.types.specs.declared.state.Votes.{Votes}
+use Rattle.types.specs.declared.event.NodeEvent.{NodeEvent}
+use Rattle.types.specs.declared.event.NodeEvent.TheVariants.{Propose, Take, NominationTimer, BallotTimer, Reslice}
+use Rattle.types.specs.declared.event.Out.{Out}
+use Rattle.types.specs.declared.event.Out.TheVariants.{ArmNomination, ArmBallot, Emit, Externalized}
+use Rattle.types.specs.declared.event.Refusal.{Refusal}
+use Rattle.protocol.specs.Rows.{is_taken, with_row}
+use Rattle.protocol.specs.States.{counter_of, sent_in, sent_nomination, sent_vote}
+use Rattle.protocol.specs.Sameness.{same_sent}
+use Rattle.protocol.specs.Nodes.{Node, after_change, answered, change, decided, emitted, fresh, in_round, is_counter_live, is_externalized, is_round_live, outs, passed, resliced, settle, settled, step, timed_out, when}
+use Rattle.protocol.specs.Networks.{Host, Net, Place, Slot, Step, act, act_in, act_known, counted, effect, emission, emissions, first_that, known, moved, net_step, opened, outs_at, place_of, places_at, replied, size_of, source, tests}
+use Rattle.protocol.specs.Networks.Reading.{Read, Fault}
+use Rattle.protocol.specs.Networks.Step.{Opens, Closes, Asks, Delivers, Hears, NominationTimes, BallotTimes, Reslices}
+use Rattle.protocol.specs.Hosts.{Config, Entry, new_net}
+use Rattle.protocol.specs.Runs.{net_after}
+use Rattle.network.specs.Marks.{place_named}
+use Rattle.hoststep.specs.Deciding.{values_in}
+use Rattle.runs.proofs.SlotsByEntries.{AreFrom}
+
+-- all that is emitted is this node's, at this slot; and where nothing is emitted, nothing is decided
+pub record IsGivenBy (i u : ℕ) (os : List Out) : Type 0 where
+  pub from : AreFrom i u (emissions os)
+  pub beside : emissions os ≡ [] → values_in os ≡ []
+
+-- what an event gives out, by the slot and the node that it names
+abbrev pub IsGivenAt : Option (ℕ × ℕ) → List Out → Type 0
+IsGivenAt None os = os ≡ []
+IsGivenAt (Some at) os = IsGivenBy at.0 at.1 os
+
+nothing-given : (i u : ℕ) → IsGivenBy i u []
+nothing-given i u = record { from = tt; beside = λ e. refl }
+
+-- ---- a node
+
+module _ (i u : ℕ) where
+  from-both : (xs ys : List Out) → AreFrom i u (emissions xs) → AreFrom i u (emissions ys) → AreFrom i u (emissions (xs ++ ys))
+  from-both [] ys h k = k
+  from-both (ArmNomination r ∷ xs) ys h k = from-both xs ys h k
+  from-both (ArmBallot n ∷ xs) ys h k = from-both xs ys h k
+  from-both (Emit e ∷ xs) ys h k = (h.0, from-both xs ys h.1 k)
+  from-both (Externalized x ∷ xs) ys h k = from-both xs ys h k
+
+  from-timer : (b : Bool) (x : Out) → AreFrom i u (emissions (x ∷ [])) → AreFrom i u (emissions (when b x))
+  from-timer true x h = h
+  from-timer false x h = tt
+
+  from-decided : (b : Bool) (x : Option Ballot) → AreFrom i u (emissions (if b then decided x else []))
+  from-decided true None = tt
+  from-decided true (Some x) = tt
+  from-decided false x = tt
+
+from-emitted : (n : Node) (old new : Option Statement) → AreFrom n.slot n.name (emissions (emitted n old new))
+from-emitted n old None = tt
+from-emitted n old (Some s) = go (same_sent old (Some s))
+  where
+    go : (b : Bool) → AreFrom n.slot n.name (emissions (if b then [] else Emit (record { sender = n.name; slot = n.slot; slices = n.slices; body = s }) ∷ []))
+    go true = tt
+    go false = ((refl, refl), tt)
+
+values-both : (xs ys : List Out) → values_in (xs ++ ys) ≡ values_in xs ++ values_in ys
+values-both [] ys = refl
+values-both (ArmNomination r ∷ xs) ys = values-both xs ys
+values-both (ArmBallot n ∷ xs) ys = values-both xs ys
+values-both (Emit e ∷ xs) ys = values-both xs ys
+values-both (Externalized x ∷ xs) ys = ap (λ (vs : List (List ℕ)). x ∷ vs) (values-both xs ys)
+
+no-values : (xs ys : List Out) → values_in xs ≡ [] → values_in ys ≡ [] → values_in (xs ++ ys) ≡ []
+no-values xs ys h k = values-both xs ys ∙ ap₂ (λ (a b : List (List ℕ)). a ++ b) h k
+
+no-values-timer : (b : Bool) (x : Out) → values_in (x ∷ []) ≡ [] → values_in (when b x) ≡ []
+no-values-timer true x h = h
+no-values-timer false x h = refl
+
+no-values-emitted : (n : Node) (old new : Option Statement) → values_in (emitted n old new) ≡ []
+no-values-emitted n old None = refl
+no-values-emitted n old (Some s) = go (same_sent old (Some s))
+  where
+    go : (b : Bool) → values_in (if b then [] else Emit (record { sender = n.name; slot = n.slot; slices = n.slices; body = s }) ∷ []) ≡ []
+    go true = refl
+    go false = refl
+
+none-of-either : {A : Type 0} (xs ys : List A) → xs ++ ys ≡ [] → (xs ≡ []) × (ys ≡ [])
+none-of-either [] ys h = (refl, h)
+none-of-either (x ∷ xs) ys h = absurd (cc)
+
+none-emitted : (xs ys : List Out) → emissions (xs ++ ys) ≡ [] → (emissions xs ≡ []) × (emissions ys ≡ [])
+none-emitted xs ys h = none-of-either (emissions xs) (emissions ys) (sym (filter_map-append _ xs ys) ∙ h)
+
+-- a node that externalizes emits that
+emits-decision : (n : Node) (old new : Votes) → emissions (emitted n (sent_vote old) (sent_vote new)) ≡ [] → values_in (if is_externalized new.phase && not (is_externalized old.phase) then decided new.ballot else []) ≡ []
+unfolding sent_vote sent_in
+emits-decision n old new h = go new.phase old.phase new.ballot old.ballot h
+  where
+    go : (p q : Phase) (b c : Option Ballot) → emissions (emitted n (option_map (sent_in q old) c) (option_map (sent_in p new) b)) ≡ [] → values_in (if is_externalized p && not (is_externalized q) then decided b else []) ≡ []
+    go phase.Preparing q b c h = refl
+    go phase.Committing q b c h = refl
+    go phase.Externalized phase.Externalized b c h = refl
+    go phase.Externalized phase.Preparing None c h = refl
+    go phase.Externalized phase.Preparing (Some b) None h = absurd (cc)
+    go phase.Externalized phase.Preparing (Some b) (Some c) h = absurd (cc)
+    go phase.Externalized phase.Committing None c h = refl
+    go phase.Externalized phase.Committing (Some b) None h = absurd (cc)
+    go phase.Externalized phase.Committing (Some b) (Some c) h = absurd (cc)
+
+outs-given-by : (old new : Node) → IsGivenBy new.slot new.name (outs old new)
+unfolding outs
+outs-given-by old new =
+    let a = when (not (new.given.round == old.given.round) && is_none new.votes.high) (ArmNomination new.given.round) in
+    let b = when (not (new.votes.armed == old.votes.armed) && (new.votes.armed == counter_of new.votes.ballot) && not (is_externalized new.votes.phase)) (ArmBallot new.votes.armed) in
+    let c = emitted new (sent_nomination old.votes) (sent_nomination new.votes) in
+    let d = emitted new (sent_vote old.votes) (sent_vote new.votes) in
+    let now = is_externalized new.votes.phase && not (is_externalized old.votes.phase) in
+    let e = if now then decided new.votes.ballot else [] in
+    record {
+      from = from-both new.slot new.name (((a ++ b) ++ c) ++ d) e
+          (from-both new.slot new.name ((a ++ b) ++ c) d
+          (from-both new.slot new.name (a ++ b) c
+          (from-both new.slot new.name a b (from-timer new.slot new.name _ (ArmNomination new.given.round) tt) (from-timer new.slot new.name _ (ArmBallot new.votes.armed) tt))
+          (from-emitted new (sent_nomination old.votes) (sent_nomination new.votes)))
+          (from-emitted new (sent_vote old.votes) (sent_vote new.votes)))
+          (from-decided new.slot new.name now new.votes.ballot);
+      beside = λ none.
+          let before = none-emitted (((a ++ b) ++ c) ++ d) e none in
+          let last = none-emitted ((a ++ b) ++ c) d before.0 in
+          no-values (((a ++ b) ++ c) ++ d) e
+          (no-values ((a ++ b) ++ c) d
+          (no-values (a ++ b) c
+          (no-values a b (no-values-timer _ (ArmNomination new.given.round) refl) (no-values-timer _ (ArmBallot new.votes.armed) refl))
+          (no-values-emitted new (sent_nomination old.votes) (sent_nomination new.votes)))
+          (no-values-emitted new (sent_vote old.votes) (sent_vote new.votes)))
+          (emits-decision new old.votes new.votes last.1);
+    }
+
+-- ---- a step of a node
+
+-- it is the node of this slot and this name still, and gives out what is its own
+pub record StaysAt (i u : ℕ) (r : Node × List Out) : Type 0 where
+  pub name : r.0.name ≡ u
+  pub slot : r.0.slot ≡ i
+  pub given : IsGivenBy i u r.1
+
+settled-stays : (n m : Node) (o : Option Votes) → m.name ≡ n.name → m.slot ≡ n.slot → StaysAt n.slot n.name (answered n (settled m o))
+settled-stays n m None name slot = record { name = refl; slot = refl; given = nothing-given n.slot n.name }
+settled-stays n m (Some w) name slot =
+    let new : Node = record m { votes = w } in
+    record { name = name; slot = slot; given = subst (λ i. IsGivenBy i n.name (outs n new)) slot (subst (λ u. IsGivenBy m.slot u (outs n new)) name (outs-given-by n new)) }
+
+stays : (n : Node) (b : Bool) (m : Node) → m.name ≡ n.name → m.slot ≡ n.slot → StaysAt n.slot n.name (answered n (after_change (if b then Some m else None)))
+stays n false m name slot = record { name = refl; slot = refl; given = nothing-given n.slot n.name }
+stays n true m name slot = settled-stays n m (settle 64 (passed m) m.votes) name slot
+
+step-stays : (n : Node) (e : NodeEvent) → StaysAt n.slot n.name (step n e)
+unfolding step change
+step-stays n (Propose x) = stays n true (in_round (record n { given = record n.given { input = Some x } }) 1) refl refl
+step-stays n (Take e) = stays n (is_taken n.table e) (record n { table = with_row e n.table }) refl refl
+step-stays n (NominationTimer k) = stays n (is_round_live n k) (in_round n (k + 1)) refl refl
+step-stays n (BallotTimer c) = stays n (is_counter_live n c) (timed_out n) refl refl
+step-stays n (Reslice q) = stays n true (resliced n q) refl refl
+
+-- ---- the places of a network
+
+-- at each open slot stand nodes of that slot
+abbrev pub AreAt : ℕ → List Place → Type 0
+AreAt i ps = AllByRecursion (λ p. p.node.slot ≡ i) ps
+
+abbrev pub AreInPlace : List Slot → Type 0
+AreInPlace ss = AllByRecursion (λ s. AreAt s.number s.places) ss
+
+opened-in-place : (hosts : List Host) (i : ℕ) → AreAt i (opened hosts i)
+unfolding opened fresh
+opened-in-place [] i = tt
+opened-in-place (h ∷ hs) i = (refl, opened-in-place hs i)
+
+moved-in-place : (i : ℕ) (e : NodeEvent) (p : Place) → p.node.slot ≡ i → (moved e p).node.slot ≡ i
+unfolding moved
+moved-in-place i e p at = (step-stays p.node e).slot ∙ at
+
+acted-in-place : (i u : ℕ) (e : NodeEvent) (ps : List Place) → AreAt i ps → AreAt i (act_in u e ps)
+acted-in-place i u e [] h = tt
+acted-in-place i u e (p ∷ ps) h = (one (p.node.name == u), acted-in-place i u e ps h.1)
+  where
+    one : (b : Bool) → (if b then moved e p else p).node.slot ≡ i
+    one true = moved-in-place i e p h.0
+    one false = h.0
+
+act-in-place : (net : Net) (i u : ℕ) (e : NodeEvent) → AreInPlace net.slots → AreInPlace (act net i u e).0.slots
+unfolding act
+act-in-place net i u e h = each net.slots h
+  where
+    each : (ss : List Slot) → AreInPlace ss → AreInPlace (map {B = Slot} (λ (s : Slot). if s.number == i then record s { places = act_in u e s.places } else s) ss)
+    each [] h = tt
+    each (s ∷ ss) h = (one (s.number == i), each ss h.1)
+      where
+        one : (b : Bool) → AreAt (if b then record s { places = act_in u e s.places } else s).number (if b then record s { places = act_in u e s.places } else s).places
+        one true = acted-in-place s.number u e s.places h.0
+        one false = h.0
+
+pushed-in-place : (ss : List Slot) (s : Slot) → AreInPlace ss → AreAt s.number s.places → AreInPlace (ss ++ s ∷ [])
+pushed-in-place [] s h k = (k, tt)
+pushed-in-place (x ∷ xs) s h k = (h.0, pushed-in-place xs s h.1 k)
+
+left-in-place : (p : Slot → Bool) (ss : List Slot) → AreInPlace ss → AreInPlace (filter p ss)
+left-in-place p [] h = tt
+left-in-place p (s ∷ ss) h = go (p s) (left-in-place p ss h.1)
+  where
+    go : (b : Bool) → AreInPlace (filter p ss) → AreInPlace (cond b (s ∷ filter p ss) (filter p ss))
+    go true k = (h.0, k)
+    go false k = k
+
+effect-in-place : (net : Net) (e : Step) → AreInPlace net.slots → AreInPlace (effect net e).0.slots
+unfolding effect
+effect-in-place net (Opens i) h = pushed-in-place net.slots (record { number = i; places = opened net.hosts i }) h (opened-in-place net.hosts i)
+effect-in-place net (Closes i) h = left-in-place (λ s. not (s.number == i)) net.slots h
+effect-in-place net (Asks i u x) h = act-in-place net i u (Propose x) h
+effect-in-place net (Delivers u size (Read e)) h = act-in-place net e.slot u (Take e) h
+effect-in-place net (Delivers u size (Fault n)) h = h
+effect-in-place net (Hears i u from kind k) h = heard (emission (known (places_at net.slots i) from) kind k)
+  where
+    heard : (o : Option Sent) → AreInPlace (act_known net i u o).0.slots
+    heard None = h
+    heard (Some e) = act-in-place net i u (Take e) h
+effect-in-place net (NominationTimes i u r) h = act-in-place net i u (NominationTimer r) h
+effect-in-place net (BallotTimes i u n) h = act-in-place net i u (BallotTimer n) h
+effect-in-place net (Reslices i u q) h = act-in-place net i u (Reslice q) h
+
+step-in-place : (net : Net) (e : Step) → AreInPlace net.slots → AreInPlace (net_step net e).0.slots
+unfolding net_step
+step-in-place net e h = go (first_that (tests net e))
+  where
+    go : (o : Option Refusal) → AreInPlace (replied net e o).0.slots
+    go None = effect-in-place net e h
+    go (Some n) = h
+
+pub run-in-place : (net : Net) (entries : List Entry) → AreInPlace net.slots → AreInPlace (net_after net entries).slots
+unfolding net_after
+run-in-place net [] h = h
+run-in-place net (x ∷ xs) h = run-in-place (net_step net x.event).0 xs (step-in-place net x.event h)
+
+-- ---- what an event gives out
+
+named-so : (ps : List Place) (u : ℕ) (p : Place) (i : ℕ) → place_of ps u ≡ Some p → AreAt i ps → (p.node.name ≡ u) × (p.node.slot ≡ i)
+named-so [] u p i at h = absurd (cc)
+named-so (q ∷ ps) u p i at h = go (q.node.name == u) refl at (λ k. named-so ps u p i k h.1)
+  where
+    go : (b : Bool) → (q.node.name == u) ≡ b → (if b then Some q else place_of ps u) ≡ Some p → (place_of ps u ≡ Some p → (p.node.name ≡ u) × (p.node.slot ≡ i)) → (p.node.name ≡ u) × (p.node.slot ≡ i)
+    go true e k rest = let same : q ≡ p = cc in (sym (ap (λ (x : Place). x.node.name) same) ∙ eqb-true q.node.name u e, sym (ap (λ (x : Place). x.node.slot) same) ∙ h.0)
+    go false e k rest = rest k
+
+known-so : (ss : List Slot) (i u : ℕ) (p : Place) → known (places_at ss i) u ≡ Some p → AreInPlace ss → (p.node.name ≡ u) × (p.node.slot ≡ i)
+known-so [] i u p at h = absurd (cc)
+known-so (s ∷ ss) i u p at h = go (s.number == i) refl at (λ k. known-so ss i u p k h.1)
+  where
+    go : (b : Bool) → (s.number == i) ≡ b → known (if b then Some s.places else places_at ss i) u ≡ Some p → (known (places_at ss i) u ≡ Some p → (p.node.name ≡ u) × (p.node.slot ≡ i)) → (p.node.name ≡ u) × (p.node.slot ≡ i)
+    go true e k rest = let so = named-so s.places u p s.number k h.0 in (so.0, so.1 ∙ eqb-true s.number i e)
+    go false e k rest = rest k
+
+act-given : (net : Net) (i u : ℕ) (e : NodeEvent) → AreInPlace net.slots → IsGivenBy i u (act net i u e).1
+unfolding act
+act-given net i u e h = go (known (places_at net.slots i) u) refl
+  where
+    go : (o : Option Place) → known (places_at net.slots i) u ≡ o → IsGivenBy i u (outs_at e o)
+    go None k = nothing-given i u
+    go (Some p) k =
+        let so = known-so net.slots i u p k h in
+        subst (λ j. IsGivenBy j u (step p.node e).1) so.1 (subst (λ w. IsGivenBy p.node.slot w (step p.node e).1) so.0 ((step-stays p.node e).given))
+
+heard-given : (net : Net) (i u : ℕ) (o : Option Sent) → AreInPlace net.slots → IsGivenBy i u (act_known net i u o).1
+heard-given net i u None h = nothing-given i u
+heard-given net i u (Some e) h = act-given net i u (Take e) h
+
+pub effect-given : (net : Net) (e : Step) → AreInPlace net.slots → IsGivenAt (place_named e) (effect net e).1
+unfolding effect
+effect-given net (Opens i) h = refl
+effect-given net (Closes i) h = refl
+effect-given net (Asks i u x) h = act-given net i u (Propose x) h
+effect-given net (Delivers u size (Read e)) h = act-given net e.slot u (Take e) h
+effect-given net (Delivers u size (Fault n)) h = refl
+effect-given net (Hears i u from kind k) h = heard-given net i u (emission (known (places_at net.slots i) from) kind k) h
+effect-given net (NominationTimes i u r) h = act-given net i u (NominationTimer r) h
+effect-given net (BallotTimes i u n) h = act-given net i u (BallotTimer n) h
+effect-given net (Reslices i u q) h = act-given net i u (Reslice q) h
