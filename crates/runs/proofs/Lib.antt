@@ -16,3 +16,4 @@ mod SlotsByEntries
 mod OutsAtPlaces
 mod NetsByEntries
 pub mod FollowedLaws
+pub mod Handing

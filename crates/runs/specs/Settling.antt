@@ -1,5 +1,5 @@
 -- What a line that settles does to its network, and what it prints.
-use Rattle.std.specs.Prelude.{◌≡◌, ◌==◌, not, ℕ, filter, List, [], ◌∷◌, Option, Some, None, Ok, Err, Vec}
+use Rattle.std.specs.Prelude.{◌≡◌, ◌+◌, ◌==◌, not, ℕ, filter, List, [], ◌∷◌, Option, Some, None, Ok, Err, Vec}
 use Rattle.std.specs.Global.{Global}
 use Rattle.scripts.specs.Script.{Bytes}
 use Rattle.types.specs.declared.event.Event.{Event}
@@ -9,7 +9,7 @@ use Rattle.types.specs.declared.event.Refusal.{Refusal}
 use Rattle.types.specs.declared.event.Refusal.TheVariants.{NoSuchNetwork, SlotNotOpen}
 use Rattle.runs.specs.declared.emissions.Emission.{Emission}
 use Rattle.runs.specs.Emissions.{OpenSlot}
-use Rattle.runs.specs.Followed.{names_at, open_slot, waiting, with_handed}
+use Rattle.runs.specs.Followed.{handed_at, names_at, open_slot, waiting, with_handed}
 use Rattle.runs.specs.Hosting.{Hosting, IsApplied, IsBegun}
 use Rattle.runs.specs.Replies.{refusal_text}
 use Rattle.runs.specs.SettledLines.{settled_text}
@@ -49,6 +49,16 @@ pub data AreHandedOn (g slot : ℕ) (names : List ℕ) : Hosting → Option Refu
       → AreHandedOn g slot names now ended new → AreHandedOn g slot names old ended new
   cut_short : {old new : Hosting} (e : Emission) (r : Refusal) → waiting old.followed g slot ≡ Some e → IsHanded g slot e names old (Some r) new
       → AreHandedOn g slot names old (Some r) new
+
+-- while nodes hear the emission that waits first, it goes on waiting first, and as many have been handed on as before
+abbrev pub HeardWaitsOn : Type 0
+HeardWaitsOn = (g slot : ℕ) (e : Emission) (us : List ℕ) (old now : Hosting) (ended : Option Refusal) → waiting old.followed g slot ≡ Some e → IsHeardBy g slot e us old ended now
+    → (waiting now.followed g slot ≡ Some e) × (handed_at now.followed g slot ≡ handed_at old.followed g slot)
+
+-- so the one that is handed on is the one that was heard, and it is one more
+abbrev pub HandedOnIsCounted : Type 0
+HandedOnIsCounted = (g slot : ℕ) (e : Emission) (names : List ℕ) (old now : Hosting) → waiting old.followed g slot ≡ Some e → IsHanded g slot e names old None now
+    → handed_at now.followed g slot ≡ handed_at old.followed g slot + 1
 
 -- ---- what is printed
 

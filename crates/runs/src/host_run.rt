@@ -1,13 +1,13 @@
 //! What runs the lines of a script of networks.
 
-ghost use Rattle.std.specs.Prelude.{◌≡◌, ◌∷◌, [], Err, IfOk, OnOk, is_some, map, option_map, string_bytes};
+ghost use Rattle.std.specs.Prelude.{◌≡◌, ◌<◌, ◌^◌, ◌∷◌, [], Err, IfOk, IfSome, OnOk, is_some, map, option_map, string_bytes};
 ghost use Rattle.types.specs.declared.event.Event.TheVariants.{Hear};
 ghost use Rattle.runs.specs.ByJournals.{LinesFollowJournals, RunsFollowJournals};
-ghost use Rattle.runs.specs.Followed.{names_at, open_slot, waiting};
+ghost use Rattle.runs.specs.Followed.{handed_at, names_at, open_slot, waiting};
 ghost use Rattle.runs.specs.Hosting.{IsApplied, IsBegun, IsFinished, IsPut, unhosted};
 ghost use Rattle.runs.specs.Quiet.{IsPutQuietly, IsRunBy};
 ghost use Rattle.runs.specs.Running.{BadLinesTellNothing, RefusesLine};
-ghost use Rattle.runs.specs.Settling.{AreHandedOn, HasSettled, IsHanded, IsHeardBy, IsSettled, line_of, others};
+ghost use Rattle.runs.specs.Settling.{AreHandedOn, HandedOnIsCounted, HasSettled, HeardWaitsOn, IsHanded, IsHeardBy, IsSettled, line_of, others};
 ghost use Rattle.runs.specs.Telling.{HasNoNode};
 
 use crate::emissions::Emission;
@@ -174,7 +174,8 @@ impl HostRun {
 
     // The first emission at a slot that has not been handed on.
     fn waiting(&self, number: u32, slot: u64) -> Option<Emission>
-        ensures { result ≡ waiting self.now.followed number slot }
+        ensures first { result ≡ waiting self.now.followed number slot }
+        ensures small { IfSome result (λ _. handed_at self.now.followed number slot < 2 ^ 63) }
     {
         self.nets.followed.waiting(number, slot)
     }
@@ -206,17 +207,13 @@ impl HostRun {
     ) -> Result<Option<Refusal>, AllocError>
         ensures { IfOk result (λ ended. AreHandedOn number slot names.now self.old ended self.new) }
     {
-        for _ in 0..u64::MAX {
-            let Some(emission) = self.waiting(number, slot) else {
-                return Ok(None);
-            };
+        while let Some(emission) = self.waiting(number, slot) {
             match self.hand_on(number, slot, names, &emission)? {
                 Some(refusal) => return Ok(Some(refusal)),
                 None => {}
             }
         }
-        // Memory: so many emissions, all of which are kept, have no room.
-        Err(AllocError)
+        Ok(None)
     }
 
     // Has each other node hear an emission, ascending; answers the first refusal. Without one, the emission
@@ -308,6 +305,14 @@ pub fn bad_lines_tell_nothing()
 pub fn open_slots_follow_journals()
     ensures lines { LinesFollowJournals }
     ensures runs { RunsFollowJournals }
+{}
+
+/// A law: while the other nodes hear the emission that waits first at a slot, it goes on waiting first; so the
+/// one that is handed on then is the one that they heard.
+#[tactic(auto, using(crate::proofs::Handing::heard_waits_on))]
+pub fn emission_handed_on_was_heard()
+    ensures heard { HeardWaitsOn }
+    ensures counted { HandedOnIsCounted }
 {}
 
 // The event by which a node hears an emission.

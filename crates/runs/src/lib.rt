@@ -23,7 +23,9 @@ mod trace;
 mod verbs;
 mod waiting;
 
-pub use host_run::{HostRun, bad_lines_tell_nothing, open_slots_follow_journals};
+pub use host_run::{
+    HostRun, bad_lines_tell_nothing, emission_handed_on_was_heard, open_slots_follow_journals,
+};
 pub use job_run::{JobRun, bad_lines_put_nothing};
 pub use quiet_run::QuietRun;
 pub use replies::{line_of_reply, push_outs};
