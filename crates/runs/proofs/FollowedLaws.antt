@@ -1,8 +1,8 @@
 -- What is kept of open slots is what the journals have.
-use Rattle.std.proofs.Common.{◌≡◌, ◌∙◌, ◌==◌, ◌||◌, ◌&&◌, ◌++◌, ◌+◌, ◌≤◌, ◌<◌, ℕ, suc, Bool, true, false, not, nat_lt, List, [], ◌∷◌, length, Option, Some, None, Ok, Err, is_some, if◌then◌else◌, refl, sym, ap, ap₂, subst, arith}
+use Rattle.std.proofs.Common.{◌≡◌, ◌∙◌, ◌==◌, ◌||◌, ◌&&◌, ◌+◌, ◌≤◌, ◌<◌, ℕ, suc, Bool, true, false, not, nat_lt, List, [], ◌∷◌, length, Option, Some, None, Ok, Err, is_some, if◌then◌else◌, refl, sym, ap, ap₂, subst, arith}
 use Rattle.std.specs.Prelude.{Result, Vec, option_map}
 use Rattle.std.specs.Global.{Global}
-use Rattle.std.proofs.lemmas.Bool.{and_parts, eqb-true, false≢true, lt-ltb, ltb-true, not-true, or_parts, true≢false}
+use Rattle.std.proofs.lemmas.Bool.{and_parts, eqb-true, false≢true, lt-ltb, ltb-true, not-true, or_parts}
 use Rattle.std.specs.List.{enumerate_from}
 use Rattle.scripts.specs.Script.{Bytes}
 use Rattle.scripts.specs.Runs.{Passes, Runs}
@@ -17,17 +17,16 @@ use Rattle.types.specs.Trees.{all_differ}
 use Rattle.protocol.specs.Networks.{Step}
 use Rattle.protocol.specs.Counts.{since_opened}
 use Rattle.protocol.specs.Hosts.{Config, Entry}
-use Rattle.protocol.specs.Runs.{net_after, state_of}
-use Rattle.protocol.specs.Networks.{is_open}
+use Rattle.protocol.specs.Runs.{net_after}
 use Rattle.configuration.specs.Configs.{names_of}
 use Rattle.configuration.proofs.Names.{names-differ}
 use Rattle.network.specs.Decoding.{step_of}
 use Rattle.hoststep.specs.Logs.{Log, extended}
 use Rattle.hoststep.specs.Worlds.{IsAnsweredAt, items_of, log_at, logs_set, logs_with}
-use Rattle.runs.specs.Drafts.{Drafted, IsConfigOf, IsRevised, Waiting, fresh, waiting_at, waiting_set, waiting_without}
+use Rattle.runs.specs.Drafts.{Drafted, IsConfigOf, IsRevised, Waiting, fresh, waiting_at, waiting_without}
 use Rattle.runs.specs.Emissions.{OpenSlot, OpenSlots, at_number, changed_at, handed_on}
 use Rattle.runs.specs.Followed.{Followed, also_followed, followed_with, turn_of, turned, with_handed}
-use Rattle.runs.specs.Hosting.{Hosting, IsApplied, IsBegun, has_room, logs_joined, noted_answer, unhosted}
+use Rattle.runs.specs.Hosting.{Hosting, IsApplied, IsBegun, logs_joined, noted_answer, unhosted}
 use Rattle.runs.specs.Joining.{IsNamedAt}
 use Rattle.runs.specs.Naming.{Named, is_in, named_with}
 use Rattle.runs.specs.Preparing.{Prepares}
@@ -40,7 +39,7 @@ use Rattle.runs.specs.Taking.{declared_count, takes}
 use Rattle.runs.specs.declared.emissions.Emission.{Emission}
 use Rattle.runs.specs.declared.requests.Declaration.{Declaration}
 use Rattle.runs.specs.declared.requests.Declaration.TheVariants.{Net, Node, Roster}
-use Rattle.runs.specs.ByJournals.{AreFollowed, AreSlotsAt, AreSlotsBy, FollowsJournals, HaveRoom, IsSlotBy, LinesFollowJournals, RunsFollowJournals, StandOnce}
+use Rattle.runs.specs.ByJournals.{AreFollowed, AreSlotsAt, AreSlotsBy, FollowsJournals, HaveRoom, IsSlotBy, LinesFollowJournals, RunsFollowJournals}
 use Rattle.runs.proofs.NumberedRows.{at-changed, at-inserted, at-removed, at-set, equal-flip, has-inserted, keys-inserted, length-inserted, length-removed, length-set, once-changed, once-inserted, once-removed, once-set}
 use Rattle.runs.proofs.NetsByEntries.{slots-next, turn_in}
 

@@ -1,15 +1,14 @@
 -- The open slots of a network, by its journal.
-use Rattle.std.proofs.Common.{◌≡◌, ◌∙◌, ◌==◌, ◌||◌, ◌&&◌, ◌++◌, ◌≤◌, ℕ, Bool, true, false, not, cond, List, [], ◌∷◌, length, map, filter, fold, Option, Some, None, is_some, is_none, if◌then◌else◌, refl, sym, ap, subst, arith}
+use Rattle.std.proofs.Common.{◌≡◌, ◌∙◌, ◌==◌, ◌||◌, ◌&&◌, ◌++◌, ℕ, Bool, true, false, not, cond, List, [], ◌∷◌, map, filter, fold, Option, Some, None, is_some, if◌then◌else◌, refl, sym, ap, subst, arith}
 use Rattle.std.specs.Prelude.{option_map}
 use Rattle.std.specs.List.{list_any}
 use Rattle.std.proofs.lemmas.Bool.{eqb-true, false≢true, true≢false}
 use Rattle.std.proofs.lemmas.List.Sums.{fold-append}
-use Rattle.types.specs.Statements.{Sent, kind_of}
+use Rattle.types.specs.Statements.{Sent}
 use Rattle.types.specs.declared.event.Out.{Out}
 use Rattle.types.specs.declared.event.Out.TheVariants.{ArmNomination, ArmBallot, Emit, Externalized}
 use Rattle.types.specs.declared.event.Refusal.{Refusal}
-use Rattle.types.specs.declared.event.Refusal.TheVariants.{NoSuchNode, SlotOpenAlready}
-use Rattle.protocol.specs.Networks.{Host, Net, Place, Slot, Step, counted, effect, emission, emissions, first_that, is_full, is_full_of_bytes, is_hosted, is_open, known, net_step, places_at, replied, size_of, slices_of, source, tests}
+use Rattle.protocol.specs.Networks.{Host, Net, Slot, Step, effect, emissions, first_that, is_hosted, is_open, net_step, places_at, replied, slices_of, tests}
 use Rattle.protocol.specs.Networks.Reading.{Read, Fault}
 use Rattle.protocol.specs.Networks.Step.{Opens, Closes, Asks, Delivers, Hears, NominationTimes, BallotTimes, Reslices}
 use Rattle.protocol.specs.Counts.{is_opening, since_opened}
@@ -18,7 +17,7 @@ use Rattle.protocol.specs.Runs.{net_after, outs_given, refusal_of, state_of}
 use Rattle.protocol.proofs.EffectLaws.{effect-keeps, numbers, opened_after}
 use Rattle.configuration.specs.Configs.{names_of}
 use Rattle.network.specs.Marks.{place_named}
-use Rattle.hoststep.specs.Deciding.{Decided, decided_at, values_in}
+use Rattle.hoststep.specs.Deciding.{decided_at, values_in}
 use Rattle.runs.specs.declared.followed.Turn.{Turn}
 use Rattle.runs.specs.declared.followed.Turn.TheVariants as turn
 use Rattle.runs.specs.Emissions.{OpenSlot, OpenSlots, at_number, changed_at, first_emitted, given_out, given_out_by, just_opened, noted_outs, with_slot, without_slot}

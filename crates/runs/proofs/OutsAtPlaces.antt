@@ -1,8 +1,8 @@
 -- What an event gives out is its node's, at its slot, and what it decides it also emits.
-use Rattle.std.proofs.Common.{◌≡◌, ◌∙◌, ◌==◌, ◌&&◌, ◌||◌, ◌+◌, ◌++◌, ℕ, zero, suc, Bool, true, false, not, cond, List, [], ◌∷◌, map, filter, Option, Some, None, is_some, is_none, if◌then◌else◌, refl, sym, ap, ap₂, subst}
+use Rattle.std.proofs.Common.{◌≡◌, ◌∙◌, ◌==◌, ◌&&◌, ◌+◌, ◌++◌, ℕ, Bool, true, false, not, cond, List, [], ◌∷◌, map, filter, Option, Some, None, is_none, if◌then◌else◌, refl, sym, ap, ap₂, subst}
 use Rattle.std.specs.Prelude.{option_map}
 use Rattle.std.specs.List.{AllByRecursion}
-use Rattle.std.proofs.lemmas.Bool.{eqb-true, false≢true, not-false}
+use Rattle.std.proofs.lemmas.Bool.{eqb-true}
 use Rattle.std.proofs.lemmas.List.Elements.{filter_map-append}
 use Rattle.types.specs.Statements.{Sent}
 use Rattle.types.specs.declared.ballot.Ballot.{Ballot}
@@ -19,10 +19,10 @@ use Rattle.protocol.specs.Rows.{is_taken, with_row}
 use Rattle.protocol.specs.States.{counter_of, sent_in, sent_nomination, sent_vote}
 use Rattle.protocol.specs.Sameness.{same_sent}
 use Rattle.protocol.specs.Nodes.{Node, after_change, answered, change, decided, emitted, fresh, in_round, is_counter_live, is_externalized, is_round_live, outs, passed, resliced, settle, settled, step, timed_out, when}
-use Rattle.protocol.specs.Networks.{Host, Net, Place, Slot, Step, act, act_in, act_known, counted, effect, emission, emissions, first_that, known, moved, net_step, opened, outs_at, place_of, places_at, replied, size_of, source, tests}
+use Rattle.protocol.specs.Networks.{Host, Net, Place, Slot, Step, act, act_in, act_known, effect, emission, emissions, first_that, known, moved, net_step, opened, outs_at, place_of, places_at, replied, tests}
 use Rattle.protocol.specs.Networks.Reading.{Read, Fault}
 use Rattle.protocol.specs.Networks.Step.{Opens, Closes, Asks, Delivers, Hears, NominationTimes, BallotTimes, Reslices}
-use Rattle.protocol.specs.Hosts.{Config, Entry, new_net}
+use Rattle.protocol.specs.Hosts.{Entry}
 use Rattle.protocol.specs.Runs.{net_after}
 use Rattle.network.specs.Marks.{place_named}
 use Rattle.hoststep.specs.Deciding.{values_in}

@@ -1,5 +1,5 @@
 -- An open slot, by the entries since it was opened.
-use Rattle.std.proofs.Common.{◌≡◌, ◌∙◌, ◌==◌, ◌&&◌, ◌||◌, ◌+◌, ◌≤◌, ◌++◌, ℕ, suc, Bool, true, false, not, cond, List, [], ◌∷◌, length, map, filter, fold, Option, Some, None, is_some, if◌then◌else◌, refl, sym, ap, ap₂, subst, arith, append-nil, append_assoc, length-append}
+use Rattle.std.proofs.Common.{◌≡◌, ◌∙◌, ◌==◌, ◌&&◌, ◌||◌, ◌+◌, ◌≤◌, ◌++◌, ℕ, Bool, true, false, not, List, [], ◌∷◌, length, map, filter, fold, Option, Some, None, if◌then◌else◌, refl, sym, ap, ap₂, subst, arith, append-nil, append_assoc, length-append}
 use Rattle.std.specs.Prelude.{option_map}
 use Rattle.std.specs.List.{AllByRecursion, flat_map, last_or, list_any}
 use Rattle.std.proofs.lemmas.Bool.{and_parts, eqb-true, eq-eqb, false≢true, or_parts, not-true}
@@ -21,7 +21,7 @@ use Rattle.hoststep.specs.Deciding.{Decided, decided_at, decisions_by, decisions
 use Rattle.hoststep.proofs.DecisionLists.{decisions_by-append}
 use Rattle.runs.specs.declared.emissions.Emission.{Emission}
 use Rattle.runs.specs.declared.emissions.Speaker.{Speaker}
-use Rattle.runs.specs.Emissions.{OpenSlot, count_of, emitted, given_out, just_opened, next_number, numbered, silent, speaker_at, with_decision, with_emission, with_speaker}
+use Rattle.runs.specs.Emissions.{OpenSlot, count_of, emitted, given_out, next_number, numbered, speaker_at, with_decision, with_emission, with_speaker}
 use Rattle.runs.specs.ByJournals.{IsSlotBy, count_among, numbered_behind, sent_at, speaker_of, values_at}
 use Rattle.runs.proofs.NumberedRows.{equal-flip, equal-self}
 

@@ -89,7 +89,7 @@ pub record HaveRoom (ws : Waiting) (n : Named) (logs : List Log) : Type 0 where
   pub once : StandOnce ws
   pub few : length ws + length n.running ≤ 4096
 
--- the networks of a script, in a state in which what is kept of open slots is what their journals have
+-- the networks of a script, in a state in which what is kept of open slots is what their journals have. (Those that join after the last line are not followed: no line comes that could settle.)
 pub record FollowsJournals (h : Hosting) : Type 0 where
   pub room : HaveRoom h.waiting h.named h.logs
   pub slots : AreFollowed h.logs h.followed
