@@ -17,3 +17,4 @@ mod OutsAtPlaces
 mod NetsByEntries
 pub mod FollowedLaws
 pub mod Handing
+pub mod HeardByNumber

@@ -49,7 +49,7 @@ run-hosts net [] = refl
 run-hosts net (x ∷ xs) = run-hosts (net_step net x.event).0 xs ∙ step-hosts net x.event
 
 -- a slot is open where its number is among those of the open ones
-open-numbers : (ss : List Slot) (i : ℕ) → is_some (places_at ss i) ≡ list_any (λ n. n == i) (numbers ss)
+pub open-numbers : (ss : List Slot) (i : ℕ) → is_some (places_at ss i) ≡ list_any (λ n. n == i) (numbers ss)
 open-numbers [] i = refl
 open-numbers (s ∷ ss) i = go (s.number == i) (open-numbers ss i)
   where
@@ -96,16 +96,16 @@ any-dropped i j (n ∷ ns) = go (n == j) refl (any-dropped i j ns)
         other false f false g = refl
 
 -- the entries since an opening, with one more
-since-more : (i : ℕ) (xs : List Entry) (x : Entry) → since_opened i (xs ++ x ∷ []) ≡ (if is_opening i x.event then [] else since_opened i xs ++ x ∷ [])
+pub since-more : (i : ℕ) (xs : List Entry) (x : Entry) → since_opened i (xs ++ x ∷ []) ≡ (if is_opening i x.event then [] else since_opened i xs ++ x ∷ [])
 since-more i xs x = fold-append (λ (since : List Entry) (y : Entry). if is_opening i y.event then [] else since ++ y ∷ []) [] xs (x ∷ [])
 
 -- ---- what is not refused
 
-abbrev first_test : List (Bool × Refusal) → Bool
+abbrev pub first_test : List (Bool × Refusal) → Bool
 first_test [] = false
 first_test (t ∷ ts) = t.0
 
-passes-first : (ts : List (Bool × Refusal)) → first_that ts ≡ None → first_test ts ≡ false
+pub passes-first : (ts : List (Bool × Refusal)) → first_that ts ≡ None → first_test ts ≡ false
 passes-first [] h = refl
 passes-first (t ∷ ts) h = go t.0 (first_that ts) h
   where
@@ -170,11 +170,11 @@ none-first (ArmBallot n ∷ os) is = none-first os is
 none-first (Emit x ∷ os) is = absurd (cc)
 none-first (Externalized x ∷ os) is = none-first os is
 
-is-none : {A : Type 0} (o : Option A) → is_some o ≡ false → o ≡ None
+pub is-none : {A : Type 0} (o : Option A) → is_some o ≡ false → o ≡ None
 is-none None h = refl
 is-none (Some x) h = absurd (true≢false h)
 
-some-same : {A : Type 0} (x y : A) → Some x ≡ Some y → x ≡ y
+pub some-same : {A : Type 0} (x y : A) → Some x ≡ Some y → x ≡ y
 some-same x y h = cc
 
 -- ---- one entry more

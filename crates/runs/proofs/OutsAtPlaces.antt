@@ -218,7 +218,7 @@ left-in-place p (s ∷ ss) h = go (p s) (left-in-place p ss h.1)
     go true k = (h.0, k)
     go false k = k
 
-effect-in-place : (net : Net) (e : Step) → AreInPlace net.slots → AreInPlace (effect net e).0.slots
+pub effect-in-place : (net : Net) (e : Step) → AreInPlace net.slots → AreInPlace (effect net e).0.slots
 unfolding effect
 effect-in-place net (Opens i) h = pushed-in-place net.slots (record { number = i; places = opened net.hosts i }) h (opened-in-place net.hosts i)
 effect-in-place net (Closes i) h = left-in-place (λ s. not (s.number == i)) net.slots h
@@ -265,7 +265,7 @@ known-so (s ∷ ss) i u p at h = go (s.number == i) refl at (λ k. known-so ss i
     go true e k rest = let so = named-so s.places u p s.number k h.0 in (so.0, so.1 ∙ eqb-true s.number i e)
     go false e k rest = rest k
 
-act-given : (net : Net) (i u : ℕ) (e : NodeEvent) → AreInPlace net.slots → IsGivenBy i u (act net i u e).1
+pub act-given : (net : Net) (i u : ℕ) (e : NodeEvent) → AreInPlace net.slots → IsGivenBy i u (act net i u e).1
 unfolding act
 act-given net i u e h = go (known (places_at net.slots i) u) refl
   where

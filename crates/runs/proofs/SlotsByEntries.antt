@@ -177,7 +177,7 @@ by-sender : (i u : ℕ) (es : List Sent) → AreFrom i u es → AllByRecursion (
 by-sender i u [] all = tt
 by-sender i u (e ∷ es) all = (all.0.0, by-sender i u es all.1)
 
-sent-there : (i u : ℕ) (es : List Sent) → AreFrom i u es → filter (λ e. e.slot == i) es ≡ es
+pub sent-there : (i u : ℕ) (es : List Sent) → AreFrom i u es → filter (λ e. e.slot == i) es ≡ es
 sent-there i u [] all = refl
 sent-there i u (e ∷ es) all = rw (eq-eqb e.slot i all.0.1) (ap (λ (xs : List Sent). e ∷ xs) (sent-there i u es all.1))
 
@@ -185,7 +185,7 @@ pub sent-elsewhere : (i j u : ℕ) (es : List Sent) → AreFrom j u es → (j ==
 sent-elsewhere i j u [] all other = refl
 sent-elsewhere i j u (e ∷ es) all other = rw (ap (λ n. n == i) all.0.1 ∙ other) (sent-elsewhere i j u es all.1 other)
 
-sent-more : (i : ℕ) (xs : List Entry) (x : Entry) → sent_at i (xs ++ x ∷ []) ≡ sent_at i xs ++ filter (λ e. e.slot == i) (emissions x.outs)
+pub sent-more : (i : ℕ) (xs : List Entry) (x : Entry) → sent_at i (xs ++ x ∷ []) ≡ sent_at i xs ++ filter (λ e. e.slot == i) (emissions x.outs)
 sent-more i xs x =
     ap (filter (λ e. e.slot == i)) (flat_map-append (λ (y : Entry). emissions y.outs) xs (x ∷ []))
     ∙ (filter-append (λ e. e.slot == i) (flat_map (λ (y : Entry). emissions y.outs) xs) (emissions x.outs ++ [])

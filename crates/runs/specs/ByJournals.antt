@@ -1,14 +1,14 @@
 -- What is kept of open slots, by the journals.
-use Rattle.std.specs.Prelude.{◌≡◌, ◌≤◌, ◌+◌, ◌==◌, ◌&&◌, ℕ, true, false, filter, map, length, List, [], ◌∷◌, ◌++◌, Option, Some, None, is_some, Ok}
+use Rattle.std.specs.Prelude.{◌≡◌, ◌≤◌, ◌+◌, ◌==◌, ◌&&◌, ℕ, true, false, filter, map, length, List, [], ◌∷◌, ◌++◌, Option, Some, None, is_some, slice_get, Ok}
 use Rattle.std.specs.List.{flat_map, last_or}
 use Rattle.types.specs.Statements.{Sent, kind_of}
 use Rattle.types.specs.Trees.{all_differ}
 use Rattle.types.specs.declared.kind.Kind.{Kind}
 use Rattle.types.specs.declared.kind.Kind.TheVariants.{Nomination}
 use Rattle.protocol.specs.Rows.{is_row_of}
-use Rattle.protocol.specs.Networks.{emissions, is_open}
+use Rattle.protocol.specs.Networks.{emission, emissions, is_open, known, places_at}
 use Rattle.protocol.specs.Hosts.{Config, Entry}
-use Rattle.protocol.specs.Runs.{state_of}
+use Rattle.protocol.specs.Runs.{IsRun, state_of}
 use Rattle.protocol.specs.Counts.{since_opened}
 use Rattle.configuration.specs.Configs.{names_of}
 use Rattle.hoststep.specs.Deciding.{decisions_by}
@@ -101,3 +101,10 @@ LinesFollowJournals = FollowsJournals unhosted × ((old new : Hosting) (fields :
 -- so it is after the lines of any text, all of which were run from the first one on
 abbrev pub RunsFollowJournals : Type 0
 RunsFollowJournals = (text : Bytes) (before after : Option Bytes) (new : Hosting) → HasRun Tells RefusesLine unhosted text before after (Ok tt) new → FollowsJournals new
+
+-- each emission that is kept of an open slot, of a network whose journal is a run, is found among what its node has emitted, by its number, as the one that the entries emitted; so that is
+-- what a node gets that hears it
+abbrev pub KeptAreFound : Type 0
+KeptAreFound = (config : Config) (entries : List Entry) (m : OpenSlots) → IsRun config entries → AreSlotsBy config entries m
+    → (i n : ℕ) (o : OpenSlot) (e : Emission) → at_number m.slots i ≡ Some o → slice_get o.emissions n ≡ Some e
+    → (x : Sent) × (slice_get (sent_at i (since_opened i entries)) n ≡ Some x) × (emission (known (places_at (state_of config entries).slots i) e.from) e.kind e.number ≡ Some x)

@@ -2,7 +2,7 @@
 
 ghost use Rattle.std.specs.Prelude.{◌≡◌, ◌<◌, ◌^◌, ◌∷◌, [], Err, IfOk, IfSome, OnOk, is_some, map, option_map, string_bytes};
 ghost use Rattle.types.specs.declared.event.Event.TheVariants.{Hear};
-ghost use Rattle.runs.specs.ByJournals.{LinesFollowJournals, RunsFollowJournals};
+ghost use Rattle.runs.specs.ByJournals.{KeptAreFound, LinesFollowJournals, RunsFollowJournals};
 ghost use Rattle.runs.specs.Followed.{handed_at, names_at, open_slot, waiting};
 ghost use Rattle.runs.specs.Hosting.{IsApplied, IsBegun, IsFinished, IsPut, unhosted};
 ghost use Rattle.runs.specs.Quiet.{IsPutQuietly, IsRunBy};
@@ -313,6 +313,13 @@ pub fn open_slots_follow_journals()
 pub fn emission_handed_on_was_heard()
     ensures heard { HeardWaitsOn }
     ensures counted { HandedOnIsCounted }
+{}
+
+/// A law: each emission that is kept of an open slot is found by its number among what its node has emitted
+/// there, as the one that the entries of the journal emitted. So that is what a node gets that hears it.
+#[tactic(auto, using(crate::proofs::HeardByNumber::kept_are_found))]
+pub fn kept_emissions_are_found()
+    ensures { KeptAreFound }
 {}
 
 // The event by which a node hears an emission.

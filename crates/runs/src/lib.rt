@@ -24,7 +24,8 @@ mod verbs;
 mod waiting;
 
 pub use host_run::{
-    HostRun, bad_lines_tell_nothing, emission_handed_on_was_heard, open_slots_follow_journals,
+    HostRun, bad_lines_tell_nothing, emission_handed_on_was_heard, kept_emissions_are_found,
+    open_slots_follow_journals,
 };
 pub use job_run::{JobRun, bad_lines_put_nothing};
 pub use quiet_run::QuietRun;

@@ -1,0 +1,271 @@
+-- What is kept of an opened_there slot is found by its number among what its nodes have emitted.
+use Rattle.std.proofs.Common.{◌≡◌, ◌∙◌, ◌==◌, ◌&&◌, ◌++◌, ◌+◌, ℕ, zero, suc, Bool, true, false, not, cond, List, [], ◌∷◌, length, filter, slice_get, take, Option, Some, None, is_some, if◌then◌else◌, refl, sym, ap, ap₂, subst, arith, append-nil, append_assoc}
+use Rattle.std.specs.Prelude.{option_map}
+use Rattle.std.specs.List.{list_any}
+use Rattle.std.proofs.lemmas.Bool.{eqb-true, eq-eqb, false≢true}
+use Rattle.std.proofs.lemmas.List.Elements.{filter-append}
+use Rattle.types.specs.Statements.{Sent, kind_of}
+use Rattle.types.specs.declared.kind.Kind.{Kind}
+use Rattle.types.specs.declared.kind.Kind.TheVariants.{Nomination}
+use Rattle.types.specs.declared.event.NodeEvent.{NodeEvent}
+use Rattle.types.specs.declared.event.NodeEvent.TheVariants.{Propose, Take, NominationTimer, BallotTimer, Reslice}
+use Rattle.types.specs.declared.event.Out.{Out}
+use Rattle.types.specs.declared.event.Refusal.{Refusal}
+use Rattle.protocol.specs.Nodes.{fresh}
+use Rattle.protocol.specs.Rows.{is_kind, is_row_of}
+use Rattle.protocol.specs.Networks.{Host, Net, Place, Slot, Step, act, act_known, counted, effect, emission, emissions, first_that, is_open, known, moved, net_step, opened, outs_at, place_of, places_at, replied, size_of, source, tests}
+use Rattle.protocol.specs.Networks.Reading.{Read, Fault}
+use Rattle.protocol.specs.Networks.Step.{Opens, Closes, Asks, Delivers, Hears, NominationTimes, BallotTimes, Reslices}
+use Rattle.protocol.specs.Counts.{is_opening, since_opened}
+use Rattle.protocol.specs.Hosts.{Entry, new_net}
+use Rattle.protocol.specs.Runs.{net_after}
+use Rattle.protocol.proofs.EffectLaws.{effect-keeps, numbers, opened_after}
+use Rattle.protocol.proofs.EventLaws.{places_at-drop, places_at-drop_other, places_at-push, places_at-push_other}
+use Rattle.protocol.proofs.Sights.{known-elsewhere, known-other, known-same}
+use Rattle.network.specs.Marks.{told_at}
+use Rattle.runs.specs.declared.emissions.Emission.{Emission}
+use Rattle.runs.specs.Emissions.{OpenSlot}
+use Rattle.runs.specs.ByJournals.{KeptAreFound, count_among, numbered_behind, sent_at}
+use Rattle.runs.proofs.NumberedRows.{equal-flip, equal-self}
+use Rattle.runs.proofs.SlotsByEntries.{AreFrom, sent-elsewhere, sent-more, sent-there}
+use Rattle.runs.proofs.OutsAtPlaces.{AreInPlace, act-given, effect-in-place}
+use Rattle.runs.proofs.NetsByEntries.{is-none, open-numbers, passes-first, since-more}
+
+-- ---- what a node has emitted is what the entries emitted, since its slot was opened
+
+abbrev by_node : ℕ → List Sent → List Sent
+by_node u es = filter (λ e. e.sender == u) es
+
+abbrev IsTold : List Entry → Net → Type 0
+IsTold before net = (i u : ℕ) → is_open net i ≡ true → told_at (known (places_at net.slots i) u) ≡ by_node u (sent_at i (since_opened i before))
+
+by-itself : (i u : ℕ) (es : List Sent) → AreFrom i u es → by_node u es ≡ es
+by-itself i u [] all = refl
+by-itself i u (e ∷ es) all = rw (eq-eqb e.sender u all.0.0) (ap (λ (xs : List Sent). e ∷ xs) (by-itself i u es all.1))
+
+by-nobody : (i u w : ℕ) (es : List Sent) → AreFrom i u es → (w == u) ≡ false → by_node w es ≡ []
+by-nobody i u w [] all other = refl
+by-nobody i u w (e ∷ es) all other = rw (ap (λ n. n == w) all.0.0 ∙ (equal-flip u w ∙ other)) (by-nobody i u w es all.1 other)
+
+module _ (before : List Entry) (e : Step) (os : List Out) where
+  abbrev entry : Entry
+  entry = record { event = e; outs = os }
+
+  -- what a node emitted, with one entry more
+  told-more : (i w : ℕ) → is_opening i e ≡ false → by_node w (sent_at i (since_opened i (before ++ entry ∷ []))) ≡ by_node w (sent_at i (since_opened i before)) ++ by_node w (filter (λ x. x.slot == i) (emissions os))
+  told-more i w not_opened =
+      ap (λ (xs : List Entry). by_node w (sent_at i xs)) (since-more i before entry ∙ ap (λ b. if b then [] else since_opened i before ++ entry ∷ []) not_opened)
+      ∙ (ap (by_node w) (sent-more i (since_opened i before) entry) ∙ filter-append (λ x. x.sender == w) (sent_at i (since_opened i before)) (filter (λ x. x.slot == i) (emissions os)))
+
+  told-same : (i w : ℕ) → is_opening i e ≡ false → by_node w (filter (λ x. x.slot == i) (emissions os)) ≡ [] → by_node w (sent_at i (since_opened i before)) ≡ by_node w (sent_at i (since_opened i (before ++ entry ∷ [])))
+  told-same i w not_opened none =
+      sym (told-more i w not_opened ∙ (ap (λ (xs : List Sent). by_node w (sent_at i (since_opened i before)) ++ xs) none ∙ append-nil (by_node w (sent_at i (since_opened i before)))))
+
+  -- nothing is given out, and the places are as they were
+  silent-tells : (net next : Net) → os ≡ [] → ((i : ℕ) → is_opening i e ≡ false) → next.slots ≡ net.slots → IsTold before net → IsTold (before ++ entry ∷ []) next
+  silent-tells net next none not_opening same told i w opened_there =
+      ap (λ (ss : List Slot). told_at (known (places_at ss i) w)) same
+      ∙ (told i w (ap (λ (ss : List Slot). is_some (places_at ss i)) (sym same) ∙ opened_there)
+      ∙ told-same i w (not_opening i) (ap (λ (xs : List Out). by_node w (filter (λ x. x.slot == i) (emissions xs))) none))
+
+moved-tells : (e : NodeEvent) (o : Option Place) → told_at (option_map (moved e) o) ≡ told_at o ++ emissions (outs_at e o)
+unfolding moved
+moved-tells e None = refl
+moved-tells e (Some p) = refl
+
+act-outs : (net : Net) (j u : ℕ) (e : NodeEvent) → (act net j u e).1 ≡ outs_at e (known (places_at net.slots j) u)
+unfolding act
+act-outs net j u e = refl
+
+-- a step of a node
+module _ (before : List Entry) (e : Step) (net : Net) (j u : ℕ) (x : NodeEvent) (placed : AreInPlace net.slots) (told : IsTold before net) (not_opening : (i : ℕ) → is_opening i e ≡ false) where
+  abbrev given : List Out
+  given = (act net j u x).1
+
+  abbrev more : Entry
+  more = record { event = e; outs = given }
+
+  all_from : AreFrom j u (emissions given)
+  all_from = (act-given net j u x placed).from
+
+  act-elsewhere : (i w : ℕ) → is_open net i ≡ true → (j == i) ≡ false → told_at (known (places_at (act net j u x).0.slots i) w) ≡ by_node w (sent_at i (since_opened i (before ++ more ∷ [])))
+  act-elsewhere i w opened_there other =
+      ap told_at (known-elsewhere net j i u w x other)
+      ∙ (told i w opened_there ∙ told-same before e given i w (not_opening i) (ap (by_node w) (sent-elsewhere i j u (emissions given) all_from other)))
+
+  act-other : (w : ℕ) → is_open net j ≡ true → (w == u) ≡ false → told_at (known (places_at (act net j u x).0.slots j) w) ≡ by_node w (sent_at j (since_opened j (before ++ more ∷ [])))
+  act-other w opened_there other =
+      ap told_at (known-other net j u w x other)
+      ∙ (told j w opened_there ∙ told-same before e given j w (not_opening j) (ap (by_node w) (sent-there j u (emissions given) all_from) ∙ by-nobody j u w (emissions given) all_from other))
+
+  act-itself : is_open net j ≡ true → told_at (known (places_at (act net j u x).0.slots j) u) ≡ by_node u (sent_at j (since_opened j (before ++ more ∷ [])))
+  act-itself opened_there =
+      ap told_at (known-same net j u x)
+      ∙ (moved-tells x (known (places_at net.slots j) u)
+      ∙ (ap₂ (λ (a b : List Sent). a ++ b) (told j u opened_there) (ap (λ (os : List Out). emissions os) (sym (act-outs net j u x))
+      ∙ sym (ap (by_node u) (sent-there j u (emissions given) all_from) ∙ by-itself j u (emissions given) all_from))
+      ∙ sym (told-more before e given j u (not_opening j))))
+
+  act-tells : ((i : ℕ) → is_open (act net j u x).0 i ≡ is_open net i) → IsTold (before ++ more ∷ []) (act net j u x).0
+  act-tells same i w opened_there = go (j == i) refl (w == u) refl
+    where
+      was : is_open net i ≡ true
+      was = sym (same i) ∙ opened_there
+
+      go : (a : Bool) → (j == i) ≡ a → (b : Bool) → (w == u) ≡ b → told_at (known (places_at (act net j u x).0.slots i) w) ≡ by_node w (sent_at i (since_opened i (before ++ more ∷ [])))
+      go false f b h = act-elsewhere i w was f
+      go true f false h =
+          let there : j ≡ i = eqb-true j i f in
+          subst (λ k. told_at (known (places_at (act net j u x).0.slots k) w) ≡ by_node w (sent_at k (since_opened k (before ++ more ∷ [])))) there (act-other w (ap (is_open net) there ∙ was) h)
+      go true f true h =
+          let there : j ≡ i = eqb-true j i f in
+          subst (λ v. told_at (known (places_at (act net j u x).0.slots i) v) ≡ by_node v (sent_at i (since_opened i (before ++ more ∷ [])))) (sym (eqb-true w u h))
+          (subst (λ k. told_at (known (places_at (act net j u x).0.slots k) u) ≡ by_node u (sent_at k (since_opened k (before ++ more ∷ [])))) there (act-itself (ap (is_open net) there ∙ was)))
+
+-- ---- a run
+
+numbers-stay : (net : Net) (e : Step) → opened_after e (numbers net.slots) ≡ numbers net.slots → (i : ℕ) → is_open (effect net e).0 i ≡ is_open net i
+numbers-stay net e same i = open-numbers (effect net e).0.slots i ∙ (ap (list_any (λ n. n == i)) ((effect-keeps net e).slots ∙ same) ∙ sym (open-numbers net.slots i))
+
+nobody-told : (hosts : List Host) (j u : ℕ) → told_at (place_of (opened hosts j) u) ≡ []
+unfolding opened fresh
+nobody-told [] j u = refl
+nobody-told (h ∷ hs) j u = go (h.name == u) (nobody-told hs j u)
+  where
+    go : (b : Bool) → told_at (place_of (opened hs j) u) ≡ [] → told_at (if b then Some (record { node = fresh j h.name h.slices; told = [] }) else place_of (opened hs j) u) ≡ []
+    go true ih = refl
+    go false ih = ih
+
+effect-tells : (before : List Entry) (net : Net) (e : Step) → first_that (tests net e) ≡ None → AreInPlace net.slots → IsTold before net → IsTold (before ++ record { event = e; outs = (effect net e).1 } ∷ []) (effect net e).0
+unfolding effect
+effect-tells before net (Opens j) free placed told = λ i w there. go i w there (j == i) refl
+  where
+    slot : Slot
+    slot = record { number = j; places = opened net.hosts j }
+
+    closed : places_at net.slots j ≡ None
+    closed = is-none (places_at net.slots j) (passes-first (tests net (Opens j)) free)
+
+    next : List Entry
+    next = before ++ record { event = Opens j; outs = [] } ∷ []
+
+    go : (i w : ℕ) → is_some (places_at (net.slots ++ slot ∷ []) i) ≡ true → (b : Bool) → (j == i) ≡ b → told_at (known (places_at (net.slots ++ slot ∷ []) i) w) ≡ by_node w (sent_at i (since_opened i next))
+    go i w there true h =
+        let same : j ≡ i = eqb-true j i h in
+        let anew : since_opened i next ≡ [] = since-more i before (record { event = Opens j; outs = [] }) ∙ ap (λ b. if b then [] else since_opened i before ++ record { event = Opens j; outs = [] } ∷ []) h in
+        ap (λ (o : Option (List Place)). told_at (known o w)) (places_at-push net.slots slot i h (ap (places_at net.slots) (sym same) ∙ closed))
+        ∙ (nobody-told net.hosts j w ∙ sym (ap (λ (xs : List Entry). by_node w (sent_at i xs)) anew))
+    go i w there false h =
+        ap (λ (o : Option (List Place)). told_at (known o w)) (places_at-push_other net.slots slot i h)
+        ∙ (told i w (ap (λ (o : Option (List Place)). is_some o) (sym (places_at-push_other net.slots slot i h)) ∙ there) ∙ told-same before (Opens j) [] i w h refl)
+effect-tells before net (Closes j) free placed told = λ i w there. go i w there (j == i) refl
+  where
+    left : List Slot
+    left = filter (λ s. not (s.number == j)) net.slots
+
+    go : (i w : ℕ) → is_some (places_at left i) ≡ true → (b : Bool) → (j == i) ≡ b → told_at (known (places_at left i) w) ≡ by_node w (sent_at i (since_opened i (before ++ record { event = Closes j; outs = [] } ∷ [])))
+    go i w there true h = absurd (false≢true (sym (ap (λ k. is_some (places_at left k)) (sym (eqb-true j i h)) ∙ ap (λ (o : Option (List Place)). is_some o) (places_at-drop net.slots j)) ∙ there))
+    go i w there false h =
+        ap (λ (o : Option (List Place)). told_at (known o w)) (places_at-drop_other net.slots j i h)
+        ∙ (told i w (ap (λ (o : Option (List Place)). is_some o) (sym (places_at-drop_other net.slots j i h)) ∙ there) ∙ told-same before (Closes j) [] i w refl refl)
+effect-tells before net (Asks j u x) free placed told = act-tells before (Asks j u x) net j u (Propose x) placed told (λ i. refl) (numbers-stay net (Asks j u x) refl)
+effect-tells before net (Delivers u size (Read e)) free placed told = act-tells before (Delivers u size (Read e)) net e.slot u (Take e) placed told (λ i. refl) (numbers-stay net (Delivers u size (Read e)) refl)
+effect-tells before net (Delivers u size (Fault n)) free placed told = silent-tells before (Delivers u size (Fault n)) [] net net refl (λ i. refl) refl told
+effect-tells before net (Hears j u from kind k) free placed told = go (emission (known (places_at net.slots j) from) kind k) (numbers-stay net (Hears j u from kind k) refl)
+  where
+    go : (o : Option Sent) → ((i : ℕ) → is_open (act_known net j u o).0 i ≡ is_open net i) → IsTold (before ++ record { event = Hears j u from kind k; outs = (act_known net j u o).1 } ∷ []) (act_known net j u o).0
+    go None same = silent-tells before (Hears j u from kind k) [] net net refl (λ i. refl) refl told
+    go (Some e) same = act-tells before (Hears j u from kind k) net j u (Take e) placed told (λ i. refl) same
+effect-tells before net (NominationTimes j u r) free placed told = act-tells before (NominationTimes j u r) net j u (NominationTimer r) placed told (λ i. refl) (numbers-stay net (NominationTimes j u r) refl)
+effect-tells before net (BallotTimes j u n) free placed told = act-tells before (BallotTimes j u n) net j u (BallotTimer n) placed told (λ i. refl) (numbers-stay net (BallotTimes j u n) refl)
+effect-tells before net (Reslices j u q) free placed told = act-tells before (Reslices j u q) net j u (Reslice q) placed told (λ i. refl) (numbers-stay net (Reslices j u q) refl)
+
+record RunsFrom (net : Net) (xs : List Entry) : Type 0 where
+  applied : (k : ℕ) (x : Entry) → slice_get xs k ≡ Some x → first_that (tests (net_after net (take k xs)) x.event) ≡ None
+  outs : (k : ℕ) (x : Entry) → slice_get xs k ≡ Some x → x.outs ≡ (effect (net_after net (take k xs)) x.event).1
+
+told-run : (xs before : List Entry) (net : Net) → AreInPlace net.slots → IsTold before net → RunsFrom net xs → IsTold (before ++ xs) (net_after net xs)
+unfolding net_after net_step
+told-run [] before net placed told r = subst (λ (ys : List Entry). IsTold ys net) (sym (append-nil before)) told
+told-run (x ∷ xs) before net placed told r = go (first_that (tests net x.event)) refl (r.applied zero x refl) (λ n. told-run xs (before ++ x ∷ []) n)
+  where
+    go : (o : Option Refusal) → first_that (tests net x.event) ≡ o → o ≡ None → ((n : Net) → AreInPlace n.slots → IsTold (before ++ x ∷ []) n → RunsFrom n xs → IsTold ((before ++ x ∷ []) ++ xs) (net_after n xs))
+        → IsTold (before ++ x ∷ xs) (net_after (replied net x.event o).0 xs)
+    go (Some n) q e ih = cc
+    go None q e ih =
+        let n : Net = counted (source net.roster x.event) (size_of x.event) (effect net x.event).0 in
+        let moves : (ys : List Entry) → net_after net (x ∷ ys) ≡ net_after n ys = λ ys. ap (λ o. net_after (replied net x.event o).0 ys) q in
+        let rest : RunsFrom n xs = record {
+          applied = λ k y g. sym (ap (λ m. first_that (tests m y.event)) (moves (take k xs))) ∙ r.applied (suc k) y g;
+          outs = λ k y g. r.outs (suc k) y g ∙ ap (λ m. (effect m y.event).1) (moves (take k xs));
+        } in
+        let tells : IsTold (before ++ x ∷ []) n = subst (λ (os : List Out). IsTold (before ++ record { event = x.event; outs = os } ∷ []) n) (sym (r.outs zero x refl)) (effect-tells before net x.event q placed told) in
+        subst (λ (ys : List Entry). IsTold ys (net_after n xs)) (append_assoc before (x ∷ []) xs) (ih n (effect-in-place net x.event placed) tells rest)
+
+-- ---- by its number
+
+at-the-end : {A : Type 0} (xs ys : List A) (x : A) → slice_get (xs ++ x ∷ ys) (length xs) ≡ Some x
+at-the-end [] ys x = refl
+at-the-end (y ∷ xs) ys x = at-the-end xs ys x
+
+one-more : (n : ℕ) → n + 1 ≡ suc n
+one-more n = omega arith
+
+kind-itself : (k : Kind) → is_kind k k ≡ true
+kind-itself Nomination = refl
+kind-itself Kind.Ballot = refl
+
+record IsFoundAs (told : List Sent) (m : Emission) (x : Sent) : Type 0 where
+  place : ℕ
+  number : m.number ≡ suc place
+  there : slice_get (filter (is_row_of m.from m.kind) told) place ≡ Some x
+
+found-first : (before es : List Sent) (e : Sent) (m : Emission) → record { from = e.sender; kind = kind_of e.body; number = count_among e.sender (kind_of e.body) before + 1 } ≡ m → IsFoundAs (before ++ e ∷ es) m e
+found-first before es e m is =
+    subst (λ y. IsFoundAs (before ++ e ∷ es) y e) is (record {
+      place = count_among e.sender (kind_of e.body) before;
+      number = one-more (count_among e.sender (kind_of e.body) before);
+      there =
+          ap (λ (xs : List Sent). slice_get xs (count_among e.sender (kind_of e.body) before)) (filter-append (is_row_of e.sender (kind_of e.body)) before (e ∷ es))
+          ∙ rw (equal-self e.sender, kind-itself (kind_of e.body)) (at-the-end (filter (is_row_of e.sender (kind_of e.body)) before) (filter (is_row_of e.sender (kind_of e.body)) es) e);
+    })
+
+found-numbered : (es before : List Sent) (n : ℕ) (m : Emission) → slice_get (numbered_behind before es) n ≡ Some m → (x : Sent) × (slice_get es n ≡ Some x) × IsFoundAs (before ++ es) m x
+found-numbered [] before n m at = absurd (cc)
+found-numbered (e ∷ es) before zero m at = (e, refl, found-first before es e m (first-is at))
+  where
+    first-is : {a b : Emission} → Some a ≡ Some b → a ≡ b
+    first-is h = cc
+found-numbered (e ∷ es) before (suc n) m at =
+    let found = found-numbered es (before ++ e ∷ []) n m at in
+    (found.0, found.1, subst (λ (xs : List Sent). IsFoundAs xs m found.0) (append_assoc before (e ∷ []) es) found.2)
+
+of-both : (u : ℕ) (k : Kind) (es : List Sent) → filter (λ e. is_kind k (kind_of e.body)) (by_node u es) ≡ filter (is_row_of u k) es
+of-both u k [] = refl
+of-both u k (e ∷ es) = go (e.sender == u) (is_kind k (kind_of e.body)) refl (of-both u k es)
+  where
+    go : (a b : Bool) → is_kind k (kind_of e.body) ≡ b → filter (λ x. is_kind k (kind_of x.body)) (by_node u es) ≡ filter (is_row_of u k) es
+        → filter (λ x. is_kind k (kind_of x.body)) (cond a (e ∷ by_node u es) (by_node u es)) ≡ cond (a && b) (e ∷ filter (is_row_of u k) es) (filter (is_row_of u k) es)
+    go true true h ih = rw h (ap (λ (xs : List Sent). e ∷ xs) ih)
+    go true false h ih = rw h ih
+    go false b h ih = ih
+
+emission-at : (o : Option Place) (k : Kind) (n : ℕ) → emission o k (suc n) ≡ slice_get (filter (λ e. is_kind k (kind_of e.body)) (told_at o)) n
+emission-at None k n = refl
+emission-at (Some p) k n = refl
+
+pub kept_are_found : KeptAreFound
+kept_are_found config entries m run s i n o e at is =
+    let told : IsTold entries (net_after (new_net config) entries) =
+    told-run entries [] (new_net config) tt (λ j u h. absurd (false≢true h)) (record { applied = run.applied; outs = run.outs }) in
+    let slot = s.kept i o at in
+    let found = found-numbered (sent_at i (since_opened i entries)) [] n e (ap (λ (xs : List Emission). slice_get xs n) (sym slot.emissions) ∙ is) in
+    let there : is_open (net_after (new_net config) entries) i ≡ true = sym (s.opens i) ∙ ap (λ (x : Option OpenSlot). is_some x) at in
+    let place : Option Place = known (places_at (net_after (new_net config) entries).slots i) e.from in (
+      found.0,
+      found.1,
+      ap (emission place e.kind) found.2.number
+          ∙ (emission-at place e.kind found.2.place
+          ∙ (ap (λ (xs : List Sent). slice_get (filter (λ x. is_kind e.kind (kind_of x.body)) xs) found.2.place) (told i e.from there)
+          ∙ (ap (λ (xs : List Sent). slice_get xs found.2.place) (of-both e.from e.kind (sent_at i (since_opened i entries))) ∙ found.2.there))),
+    )
