@@ -1,9 +1,12 @@
 -- What is kept of open slots is what the journals have.
-use Rattle.std.proofs.Common.{◌≡◌, ◌∙◌, ◌==◌, ◌||◌, ◌&&◌, ◌+◌, ◌≤◌, ◌<◌, ℕ, suc, Bool, true, false, not, nat_lt, List, [], ◌∷◌, length, Option, Some, None, Ok, Err, is_some, if◌then◌else◌, refl, sym, ap, ap₂, subst, arith}
+use Rattle.std.proofs.Common.{◌≡◌, ◌∙◌, ◌==◌, ◌||◌, ◌&&◌, ◌+◌, ◌≤◌, ◌<◌, ℕ, suc, Bool, true, false, not, nat_lt, List, [], ◌∷◌, length, Option, Some, None, Ok, Err, is_some, if◌then◌else◌, refl, sym, ap, ap₂, subst, arith, ◌++◌, ◌⊎◌, inl, inr, ⊎_elim, take, slice_get, zero}
 use Rattle.std.specs.Prelude.{Result, Vec, option_map}
 use Rattle.std.specs.Global.{Global}
 use Rattle.std.proofs.lemmas.Bool.{and_parts, eqb-true, false≢true, lt-ltb, ltb-true, not-true, or_parts}
 use Rattle.std.specs.List.{enumerate_from}
+use Rattle.std.proofs.lemmas.List.{take-append-le}
+use Rattle.std.proofs.lemmas.Option.{slice_get_within}
+use Rattle.std.proofs.Math.Seq.{take-append_seam}
 use Rattle.scripts.specs.Script.{Bytes}
 use Rattle.scripts.specs.Runs.{Passes, Runs}
 use Rattle.scripts.specs.Runs.Passes.{skipped, told}
@@ -17,7 +20,7 @@ use Rattle.types.specs.Trees.{all_differ}
 use Rattle.protocol.specs.Networks.{Step}
 use Rattle.protocol.specs.Counts.{since_opened}
 use Rattle.protocol.specs.Hosts.{Config, Entry}
-use Rattle.protocol.specs.Runs.{net_after}
+use Rattle.protocol.specs.Runs.{net_after, IsRun, outs_given, refusal_of}
 use Rattle.configuration.specs.Configs.{names_of}
 use Rattle.configuration.proofs.Names.{names-differ}
 use Rattle.network.specs.Decoding.{step_of}
@@ -121,16 +124,37 @@ turn-is (event.NominationTimer slot u r) = refl
 turn-is (event.BallotTimer slot u n) = refl
 turn-is (event.Reslice slot u q) = refl
 
+-- an element of a list one longer stands in the old part, or is the new one
+old-or-new : {A : Type 0} (xs : List A) (x y : A) (k : ℕ) → slice_get (xs ++ x ∷ []) k ≡ Some y → (slice_get xs k ≡ Some y) ⊎ ((k ≡ length xs) × (x ≡ y))
+old-or-new [] x y zero e = inr (refl, cc)
+old-or-new [] x y (suc k) e = absurd (cc)
+old-or-new (z ∷ xs) x y zero e = inl e
+old-or-new (z ∷ xs) x y (suc k) e = ⊎_elim (λ h. inl h) (λ h. inr (ap suc h.0, h.1)) (old-or-new xs x y k e)
+
+abbrev IsNext : Config → List Entry → Entry → Type 0
+IsNext config before x = (refusal_of config before x.event ≡ None) × (x.outs ≡ outs_given config before x.event)
+
+-- a run goes on with what is not refused
+run-next : (config : Config) (es : List Entry) (x : Entry) → IsRun config es → IsNext config es x → IsRun config (es ++ x ∷ [])
+run-next config es x run is = record { applied = λ k y at. (all k y at).0; outs = λ k y at. (all k y at).1 }
+  where
+    all : (k : ℕ) (y : Entry) → slice_get (es ++ x ∷ []) k ≡ Some y → IsNext config (take k (es ++ x ∷ [])) y
+    all k y at =
+        ⊎_elim
+        (λ (h : slice_get es k ≡ Some y). let lt : k < length es = slice_get_within es k y h in let le : k ≤ length es = omega arith in subst (λ (l : List Entry). IsNext config l y) (sym (take-append-le k es (x ∷ []) le)) (run.applied k y h, run.outs k y h))
+        (λ (h : (k ≡ length es) × (x ≡ y)). subst (λ (z : List Entry × Entry). IsNext config z.0 z.1) (λ i. (sym (ap (λ n. take n (es ++ x ∷ [])) h.0 ∙ take-append_seam es (x ∷ [])) i, h.1 i)) is)
+        (old-or-new es x y k at)
+
 -- the network of a number, with another journal and other slots
 module _ (logs now : List Log) (f kept : Followed) (g : ℕ) (l new : Log) (change : OpenSlots → OpenSlots)
     (at : log_at logs g ≡ Some l) (logs_now : (j : ℕ) → log_at now j ≡ (if g == j then Some new else log_at logs j)) (kept_now : (j : ℕ) → at_number kept j ≡ (if g == j then option_map change (at_number f j) else at_number f j))
-    (changes : (m : OpenSlots) → AreSlotsBy l.config l.entries m → AreSlotsBy new.config new.entries (change m)) where
+    (goes_on : IsRun l.config l.entries → IsRun new.config new.entries) (changes : (m : OpenSlots) → AreSlotsBy l.config l.entries m → AreSlotsBy new.config new.entries (change m)) where
   changed-follows : AreFollowed logs f → AreFollowed now kept
   changed-follows h j = subst (λ (o : Option Log). AreSlotsAt o (at_number kept j)) (sym (logs_now j)) (subst (λ (o : Option OpenSlots). AreSlotsAt (if g == j then Some new else log_at logs j) o) (sym (kept_now j)) (go (g == j) refl))
     where
       there : (o : Option OpenSlots) → AreSlotsAt (Some l) o → AreSlotsAt (Some new) (option_map change o)
       there None s = s
-      there (Some m) s = changes m s
+      there (Some m) s = (goes_on s.0, changes m s.1)
 
       go : (b : Bool) → (g == j) ≡ b → AreSlotsAt (if b then Some new else log_at logs j) (if b then option_map change (at_number f j) else at_number f j)
       go true e = there (at_number f j) (subst (λ (o : Option Log). AreSlotsAt o (at_number f j)) (ap (log_at logs) (sym (eqb-true g j e)) ∙ at) (h j))
@@ -152,6 +176,7 @@ answer-follows logs now f kept g e (Ok os) (Some l) at h k s =
     changed-follows logs now f kept g l new (turned (turn_of e) os) at
     (λ j. ap (λ (xs : List Log). log_at xs j) h.1 ∙ (log-set logs new j there ∙ ap (λ n. if n == j then Some new else log_at logs j) named))
     (λ j. ap (λ (xs : Followed). at_number xs j) k ∙ at-changed g (turned (turn_of e) os) j f)
+    (λ run. run-next l.config l.entries (record { event = step_of e; outs = os }) run h.0)
     (λ m sm. subst (λ t. AreSlotsBy l.config new.entries (turned t os m)) (sym (turn-is e)) (slots-next l.config l.entries m (step_of e) os sm h.0.0 h.0.1)) s
 
 -- no network comes or goes
@@ -202,6 +227,12 @@ none-opened c single = record { names = refl; single = single; once = tt; opens 
     none-there : (o : OpenSlot) → None ≡ Some o → ⊥
     none-there o h = cc
 
+nothing-run : (c : Config) → IsRun c []
+nothing-run c = record { applied = λ k x at. absurd (nothing-there k x at); outs = λ k x at. absurd (nothing-there k x at) }
+  where
+    nothing-there : (k : ℕ) (x : Entry) → slice_get [] k ≡ Some x → ⊥
+    nothing-there k x at = cc
+
 some-less : (a b c d : ℕ) → a + 1 ≡ b → b + c ≤ 4096 → d ≤ c → d < 4096
 some-less a b c d e f h = omega (arith, e, f, h)
 
@@ -239,7 +270,7 @@ module _ (ws : Waiting) (n : Named) (logs : List Log) (f : Followed) (g : ℕ) (
       (go (c.number == j))))
     where
       go : (b : Bool) → AreSlotsAt (if b then Some (record { config = c; entries = [] }) else log_at logs j) (if b then Some (record { names = names_of c.hosts; slots = [] }) else at_number f j)
-      go true = none-opened c (names-differ (names_of c.hosts) is.ascending)
+      go true = (nothing-run c, none-opened c (names-differ (names_of c.hosts) is.ascending))
       go false = s j
 
   joined-room : HaveRoom (waiting_without ws g) (named_with g (Some d) n) (logs_joined c logs)
@@ -365,7 +396,7 @@ handed-follows g slot logs f s j =
     go true None None h = h
     go true None (Some m) h = h
     go true (Some l) None h = h
-    go true (Some l) (Some m) h = slots-handed l.config l.entries slot m h
+    go true (Some l) (Some m) h = (h.0, slots-handed l.config l.entries slot m h.1)
 
 heard-follows : (g slot : ℕ) (e : Emission) (us : List ℕ) (old new : Hosting) (ended : Option Refusal) → FollowsJournals old → IsHeardBy g slot e us old ended new → FollowsJournals new
 heard-follows g slot e us old new ended s by_all = s

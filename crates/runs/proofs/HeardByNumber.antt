@@ -1,6 +1,6 @@
 -- What is kept of an opened_there slot is found by its number among what its nodes have emitted.
 use Rattle.std.proofs.Common.{◌≡◌, ◌∙◌, ◌==◌, ◌&&◌, ◌++◌, ◌+◌, ℕ, zero, suc, Bool, true, false, not, cond, List, [], ◌∷◌, length, filter, slice_get, take, Option, Some, None, is_some, if◌then◌else◌, refl, sym, ap, ap₂, subst, arith, append-nil, append_assoc}
-use Rattle.std.specs.Prelude.{option_map}
+use Rattle.std.specs.Prelude.{option_map, option_and_then}
 use Rattle.std.specs.List.{list_any}
 use Rattle.std.proofs.lemmas.Bool.{eqb-true, eq-eqb, false≢true}
 use Rattle.std.proofs.lemmas.List.Elements.{filter-append}
@@ -17,15 +17,16 @@ use Rattle.protocol.specs.Networks.{Host, Net, Place, Slot, Step, act, act_known
 use Rattle.protocol.specs.Networks.Reading.{Read, Fault}
 use Rattle.protocol.specs.Networks.Step.{Opens, Closes, Asks, Delivers, Hears, NominationTimes, BallotTimes, Reslices}
 use Rattle.protocol.specs.Counts.{is_opening, since_opened}
-use Rattle.protocol.specs.Hosts.{Entry, new_net}
-use Rattle.protocol.specs.Runs.{net_after}
+use Rattle.protocol.specs.Hosts.{Entry, new_net, Config}
+use Rattle.protocol.specs.Runs.{net_after, IsRun}
 use Rattle.protocol.proofs.EffectLaws.{effect-keeps, numbers, opened_after}
 use Rattle.protocol.proofs.EventLaws.{places_at-drop, places_at-drop_other, places_at-push, places_at-push_other}
 use Rattle.protocol.proofs.Sights.{known-elsewhere, known-other, known-same}
 use Rattle.network.specs.Marks.{told_at}
+use Rattle.hoststep.specs.Logs.{Log}
 use Rattle.runs.specs.declared.emissions.Emission.{Emission}
-use Rattle.runs.specs.Emissions.{OpenSlot}
-use Rattle.runs.specs.ByJournals.{KeptAreFound, count_among, numbered_behind, sent_at}
+use Rattle.runs.specs.Emissions.{OpenSlot, OpenSlots, at_number}
+use Rattle.runs.specs.ByJournals.{KeptAreFound, count_among, numbered_behind, sent_at, AreSlotsAt, AreSlotsBy}
 use Rattle.runs.proofs.NumberedRows.{equal-flip, equal-self}
 use Rattle.runs.proofs.SlotsByEntries.{AreFrom, sent-elsewhere, sent-more, sent-there}
 use Rattle.runs.proofs.OutsAtPlaces.{AreInPlace, act-given, effect-in-place}
@@ -254,8 +255,12 @@ emission-at : (o : Option Place) (k : Kind) (n : ℕ) → emission o k (suc n) �
 emission-at None k n = refl
 emission-at (Some p) k n = refl
 
-pub kept_are_found : KeptAreFound
-kept_are_found config entries m run s i n o e at is =
+abbrev IsFoundIn : Config → List Entry → ℕ → ℕ → Emission → Type 0
+IsFoundIn config entries i n e = (x : Sent) × (slice_get (sent_at i (since_opened i entries)) n ≡ Some x) × (emission (known (places_at (net_after (new_net config) entries).slots i) e.from) e.kind e.number ≡ Some x)
+
+found-in : (config : Config) (entries : List Entry) (m : OpenSlots) → IsRun config entries → AreSlotsBy config entries m → (i n : ℕ) (o : OpenSlot) (e : Emission) → at_number m.slots i ≡ Some o → slice_get o.emissions n ≡ Some e
+    → IsFoundIn config entries i n e
+found-in config entries m run s i n o e at is =
     let told : IsTold entries (net_after (new_net config) entries) =
     told-run entries [] (new_net config) tt (λ j u h. absurd (false≢true h)) (record { applied = run.applied; outs = run.outs }) in
     let slot = s.kept i o at in
@@ -269,3 +274,10 @@ kept_are_found config entries m run s i n o e at is =
           ∙ (ap (λ (xs : List Sent). slice_get (filter (λ x. is_kind e.kind (kind_of x.body)) xs) found.2.place) (told i e.from there)
           ∙ (ap (λ (xs : List Sent). slice_get xs found.2.place) (of-both e.from e.kind (sent_at i (since_opened i entries))) ∙ found.2.there))),
     )
+
+found-at : (l : Log) (m : Option OpenSlots) → AreSlotsAt (Some l) m → (i n : ℕ) (o : OpenSlot) (e : Emission) → option_and_then (λ x. at_number x.slots i) m ≡ Some o → slice_get o.emissions n ≡ Some e → IsFoundIn l.config l.entries i n e
+found-at l None s i n o e at is = absurd s
+found-at l (Some m) s i n o e at is = found-in l.config l.entries m s.0 s.1 i n o e at is
+
+pub kept_are_found : KeptAreFound
+kept_are_found h s g i n l o e there at is = found-at l (at_number h.followed g) (subst (λ (x : Option Log). AreSlotsAt x (at_number h.followed g)) there (s.slots g)) i n o e at is

@@ -20,7 +20,7 @@ use Rattle.scripts.specs.Script.{Bytes}
 use Rattle.scripts.specs.Runs.{HasRun}
 use Rattle.runs.specs.Drafts.{Waiting, waiting_at}
 use Rattle.runs.specs.Emissions.{OpenSlot, OpenSlots, at_number}
-use Rattle.runs.specs.Followed.{Followed}
+use Rattle.runs.specs.Followed.{Followed, open_slot}
 use Rattle.runs.specs.Hosting.{Hosting, unhosted}
 use Rattle.runs.specs.Naming.{Named, is_in}
 use Rattle.runs.specs.Running.{RefusesLine, Tells}
@@ -70,12 +70,12 @@ pub record AreSlotsBy (config : Config) (entries : List Entry) (m : OpenSlots) :
   pub opens : (i : ℕ) → is_some (at_number m.slots i) ≡ is_open (state_of config entries) i
   pub kept : (i : ℕ) (o : OpenSlot) → at_number m.slots i ≡ Some o → IsSlotBy m.names i (since_opened i entries) o
 
--- of the network of a number, by its journal: where there is a journal, the network is followed, and where there is none, it is not
+-- of the network of a number, by its journal, which is a run: where there is a journal, the network is followed, and where there is none, it is not
 abbrev pub AreSlotsAt : Option Log → Option OpenSlots → Type 0
 AreSlotsAt None None = Unit {0}
 AreSlotsAt None (Some m) = ⊥
 AreSlotsAt (Some l) None = ⊥
-AreSlotsAt (Some l) (Some m) = AreSlotsBy l.config l.entries m
+AreSlotsAt (Some l) (Some m) = IsRun l.config l.entries × AreSlotsBy l.config l.entries m
 
 -- what is followed is what the journals have
 abbrev pub AreFollowed : List Log → Followed → Type 0
@@ -102,9 +102,8 @@ LinesFollowJournals = FollowsJournals unhosted × ((old new : Hosting) (fields :
 abbrev pub RunsFollowJournals : Type 0
 RunsFollowJournals = (text : Bytes) (before after : Option Bytes) (new : Hosting) → HasRun Tells RefusesLine unhosted text before after (Ok tt) new → FollowsJournals new
 
--- each emission that is kept of an open slot, of a network whose journal is a run, is found among what its node has emitted, by its number, as the one that the entries emitted; so that is
--- what a node gets that hears it
+-- in such a state each emission that is kept of an open slot is found by its number among what its node has emitted there, as the one that the entries emitted; so that is what a node
+-- gets that hears it
 abbrev pub KeptAreFound : Type 0
-KeptAreFound = (config : Config) (entries : List Entry) (m : OpenSlots) → IsRun config entries → AreSlotsBy config entries m
-    → (i n : ℕ) (o : OpenSlot) (e : Emission) → at_number m.slots i ≡ Some o → slice_get o.emissions n ≡ Some e
-    → (x : Sent) × (slice_get (sent_at i (since_opened i entries)) n ≡ Some x) × (emission (known (places_at (state_of config entries).slots i) e.from) e.kind e.number ≡ Some x)
+KeptAreFound = (h : Hosting) → FollowsJournals h → (g i n : ℕ) (l : Log) (o : OpenSlot) (e : Emission) → log_at h.logs g ≡ Some l → open_slot h.followed g i ≡ Some o → slice_get o.emissions n ≡ Some e
+    → (x : Sent) × (slice_get (sent_at i (since_opened i l.entries)) n ≡ Some x) × (emission (known (places_at (state_of l.config l.entries).slots i) e.from) e.kind e.number ≡ Some x)
