@@ -1,21 +1,47 @@
--- The marked steps of a submission are those that concern the members of a closure.
-use Rattle.std.proofs.Common.{◌≡◌, ℕ, Bool, List, Some, map, sym, ◌∙◌, ap, ap₂}
+-- From the parts of a comparison to its verdict.
+use Rattle.std.proofs.Common.{◌≡◌, ℕ, Bool, true, List, Option, Some, is_some, map, IsTrue, sym, ◌∙◌, ap, ap₂, subst}
 use Rattle.std.proofs.Math.Path.{fun_ext}
 use Rattle.types.specs.declared.event.Event.{Event}
-use Rattle.protocol.specs.Sets.{Names, among}
-use Rattle.protocol.specs.Hosts.{Config, History}
-use Rattle.protocol.specs.Submissions.{answers, concerned, config_of}
+use Rattle.protocol.specs.Sets.{Names, among, AreWithin}
+use Rattle.protocol.specs.Networks.{Host, slices_of}
+use Rattle.protocol.specs.Rosters.{Roster}
+use Rattle.protocol.specs.Hosts.{Config, History, entries, hosts_of}
+use Rattle.protocol.specs.Isolation.{closure, SameCast}
+use Rattle.protocol.specs.Submissions.{answers, concerned, config_of, names_on, roster_names, SameReserves}
+use Rattle.differences.specs.Hosting.{AreAlike}
+use Rattle.differences.specs.Least.{AreAll}
 use Rattle.network.specs.Decoding.{reading}
+use Rattle.crowds.specs.Listing.{IsOn}
 use Rattle.crowds.specs.Submitted.{is_asked, marked}
 use Rattle.crowds.proofs.MarkedSteps.{marked_asked}
 use Rattle.crowds.proofs.RunsOf.{concerned_asked}
 
-module _ (g i : ℕ) (R : Names) (members : List ℕ) (exactly : (u : ℕ) → among members u ≡ R u) where
-  one_set : among members ≡ R
-  one_set = fun_ext exactly
+-- ---- the marked steps of a submission are those that concern the members of a closure
+module _ (g i : ℕ) (R : Names) (members : List ℕ) (exactly : (u : ℕ) → among members u ≡ R u) (h : History) (c : Config) (is : config_of h.configs g ≡ Some c) where
+  -- what was submitted, the marks beside it, and both as they are read
+  pub record AreInputs (calls : List (ℕ × Event)) (marks : List Bool) : Type 0 where
+    pub marks_are : marks ≡ map (is_asked R i g) h.calls
+    pub steps_are : marked marks calls ≡ concerned R i (answers reading h g)
 
-  pub marks_are : (h : History) (calls : List (ℕ × Event)) (marks : List Bool) → calls ≡ h.calls → marks ≡ map (is_asked (among members) i g) calls → marks ≡ map (is_asked R i g) h.calls
-  marks_are h calls marks e f = f ∙ ap (map (is_asked (among members) i g)) e ∙ ap (λ (S : Names). map (is_asked S i g) h.calls) one_set
+  pub are_inputs : (calls again : List (ℕ × Event)) (marks made : List Bool) → again ≡ h.calls → made ≡ map (is_asked (among members) i g) again → calls ≡ h.calls → marks ≡ made → AreInputs calls marks
+  are_inputs calls again marks made e f p q =
+      let ms : marks ≡ map (is_asked R i g) h.calls = q ∙ f ∙ ap (map (is_asked (among members) i g)) e ∙ ap (λ (S : Names). map (is_asked S i g) h.calls) (fun_ext exactly) in
+      record { marks_are = ms; steps_are = ap₂ marked ms p ∙ marked_asked R i g h.calls ∙ sym (concerned_asked h c g is R i) }
 
-  pub inputs_are : (h : History) (c : Config) → config_of h.configs g ≡ Some c → (calls : List (ℕ × Event)) (marks : List Bool) → calls ≡ h.calls → marks ≡ map (is_asked R i g) h.calls → marked marks calls ≡ concerned R i (answers reading h g)
-  inputs_are h c is calls marks e f = ap₂ marked f e ∙ marked_asked R i g h.calls ∙ sym (concerned_asked h c g is R i)
+-- ---- the members are hosted alike, the same is reserved, and for all of them
+module _ (one other : History) (g i v : ℕ) (members : List ℕ) where
+  abbrev inner : Names
+  inner = closure (hosts_of one.configs g) i v (entries reading one g)
+
+  pub record AreReserved : Type 0 where
+    pub cast : SameCast inner v (hosts_of one.configs g) (hosts_of other.configs g)
+    pub reserves : SameReserves (config_of one.configs g) (config_of other.configs g)
+    pub inside : AreWithin inner (among (roster_names (config_of one.configs g)))
+
+  pub are_reserved : ((u : ℕ) → among members u ≡ inner u) → IsTrue (is_some (slices_of (hosts_of one.configs g) v)) → (hosts others : List Host) → hosts ≡ hosts_of one.configs g → others ≡ hosts_of other.configs g → AreAlike hosts others members
+      → (c d : Config) → Some c ≡ config_of one.configs g → Some d ≡ config_of other.configs g → SameReserves (Some c) (Some d) → (r : Roster) → Some r ≡ c.roster → AreAll (IsOn r.names) members → AreReserved
+  are_reserved exactly hosted hosts others p q alike c d first second same r roster on = record {
+    cast = record { hosted = hosted; same = λ u m. ap (λ (hs : List Host). slices_of hs u) (sym p) ∙ (alike u (exactly u ∙ m) ∙ ap (λ (hs : List Host). slices_of hs u) q) };
+    reserves = subst (λ (z : Option Config × Option Config). SameReserves z.0 z.1) (λ j. (first j, second j)) same;
+    inside = λ u m. subst (λ (xs : List ℕ). among xs u ≡ true) (ap names_on roster ∙ ap roster_names first) (on u (exactly u ∙ m));
+  }

@@ -1,5 +1,4 @@
 mod SameSteps
-mod LeastNames
 mod RosterSets
 mod MarkedSteps
 mod RunsOf

@@ -1,8 +1,7 @@
 -- The run of one network, event after event.
 use Rattle.std.proofs.Common.{◌≡◌, ◌≢◌, Result, Ok, Err, inl, inr, ℕ, zero, suc, ◌+◌, ◌≤◌, Bool, true, false, ◌&&◌, ◌==◌, Option, Some, None, List, [], ◌∷◌, ◌++◌, filter, length, map, take, slice_get, if◌then◌else◌, is_some, refl, sym, ◌∙◌, ap, subst}
-use Rattle.std.proofs.lemmas.List.{append-nil, map-append, take_all, take_more}
+use Rattle.std.proofs.lemmas.List.{append-nil, map-append, take_all}
 use Rattle.std.proofs.lemmas.List.Elements.{filter-append}
-use Rattle.std.proofs.lemmas.Option.{get_or_from_slice_get, slice_get_within}
 use Rattle.types.specs.declared.event.Event.{Event}
 use Rattle.std.specs.Prelude.{IfOk}
 use Rattle.types.specs.declared.event.Refusal.{Refusal}
@@ -14,6 +13,7 @@ use Rattle.protocol.specs.Hosts.{Config, Entry, History, applied, hosts_of, ente
 use Rattle.protocol.specs.Runs.{net_after, refusal_of, state_of}
 use Rattle.protocol.specs.Submissions.{Answer, answers, answers_of, concerned, concerning, concerns, config_of, net_run, replied_to}
 use Rattle.protocol.proofs.HostLaws.{answers-run, applied-journal, steps_to}
+use Rattle.differences.proofs.Places.{front_at}
 use Rattle.network.specs.Decoding.{reading, step_of}
 use Rattle.hoststep.specs.Logs.{IsEntered, IsRefused, Log, extended}
 use Rattle.crowds.specs.Replies.{IsAnswer}
@@ -111,7 +111,7 @@ module _ (h : History) (c : Config) (g : ℕ) (is : config_of h.configs g ≡ So
 
   module _ (k : ℕ) (call : ℕ × Event) (there : slice_get h.calls k ≡ Some call) where
     one_more : take (k + 1) h.calls ≡ take k h.calls ++ call ∷ []
-    one_more = take_more h.calls k call (slice_get_within h.calls k call there) ∙ ap (λ (x : ℕ × Event). take k h.calls ++ x ∷ []) (get_or_from_slice_get h.calls k call call there)
+    one_more = front_at h.calls k call there
 
     steps_more : steps (take (k + 1) h.calls) ≡ steps (take k h.calls) ++ (if call.0 == g then step_of call.1 ∷ [] else [])
     unfolding steps

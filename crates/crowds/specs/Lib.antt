@@ -1,4 +1,4 @@
 pub mod Submitted
-pub mod Least
+pub mod Listing
 pub mod Replies
 pub mod Crowding

@@ -4,11 +4,12 @@ ghost use Rattle.std.specs.Prelude.{◌≡◌, ◌↔◌, ℕ, IsTrue, MatchOpti
 ghost use Rattle.closure.specs.Announcing.{names_of};
 ghost use Rattle.protocol.specs.Sets.{among, within};
 ghost use Rattle.protocol.specs.Submissions.{SameReserves, SameRoster};
-ghost use Rattle.crowds.specs.Least.{AreAll, IsLeast, IsOff, IsOn};
+ghost use Rattle.differences.specs.Least.{AreAll, IsLeast};
+ghost use Rattle.crowds.specs.Listing.{IsOff, IsOn};
 
-use crate::cast::lesser;
 use closure::ClosureList;
 use configuration::{NetConfig, Roster, Shares};
+use differences::least_failing;
 use types::NodeId;
 
 /// Whether both networks have a roster, of the same names and with equal shares, and equal budgets of open
@@ -65,13 +66,5 @@ fn is_same_share(one: &Shares, other: &Shares) -> bool
 pub(crate) fn least_outside(members: &ClosureList, roster: &Roster) -> Option<NodeId>
     ensures { MatchOption result (AreAll (IsOn roster.now.names) (names_of members.now)) (IsLeast (IsOff roster.now.names) (IsOn roster.now.names) (names_of members.now)) }
 {
-    let mut least = None;
-    for place in 0..members.len() {
-        if let Some(name) = members.name(place) {
-            if !roster.has(&name) {
-                least = lesser(least, name);
-            }
-        }
-    }
-    least
+    least_failing(members, |name| roster.has(name))
 }

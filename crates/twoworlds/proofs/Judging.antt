@@ -1,10 +1,11 @@
 -- From the parts of a comparison to its verdict.
 use Rattle.types.specs.declared.event.Out.{Out}
-use Rattle.std.proofs.Common.{◌≡◌, ℕ, zero, suc, ◌<◌, Bool, true, false, ◌==◌, ◌⊎◌, List, [], ◌∷◌, length, get_or, map, filter, Option, Some, None, is_some, cond, if◌then◌else◌, refl, sym, ◌∙◌, ap, subst, inl, inr, arith, IsTrue}
+use Rattle.std.proofs.Common.{◌≡◌, ℕ, ◌<◌, Bool, true, false, ◌==◌, ◌⊎◌, List, [], ◌∷◌, map, filter, Option, Some, None, is_some, cond, if◌then◌else◌, refl, sym, ◌∙◌, ap, subst, inl, inr, arith, IsTrue}
 use Rattle.std.specs.List.{AllByRecursion, Contains}
 use Rattle.std.specs.Option.{option_map}
 use Rattle.std.proofs.Math.Path.{fun_ext}
 use Rattle.std.proofs.lemmas.Bool.{eq-eqb, eqb-true, true≢false, false≢true}
+use Rattle.std.proofs.lemmas.List.Kept.{AllPairs-filter}
 use Rattle.protocol.specs.Sets.{Names, among, IsAscending}
 use Rattle.protocol.specs.Networks.{Host, slices_of}
 use Rattle.protocol.specs.Hosts.{Entry}
@@ -13,7 +14,7 @@ use Rattle.protocol.specs.Verdicts.{IsFirstDifference, IsListOf, IsVerdict}
 use Rattle.protocol.proofs.ClosureLaws.{contains_head, contains_tail, contained_cases}
 use Rattle.closure.specs.Announcing.{Listed, names_of, IsClosureList}
 use Rattle.twoworlds.specs.declared.verdict.Verdict.TheVariants.{CastDiffers, InputsDiffer, Same}
-use Rattle.twoworlds.specs.Casts.{AreAlike, IsLeastUnlike}
+use Rattle.differences.specs.Hosting.{AreAlike, IsLeastUnlike}
 use Rattle.hoststep.specs.Logs.{Log}
 use Rattle.protocol.specs.Runs.{IsRun}
 use Rattle.protocol.proofs.RuleLists.{least-start}
@@ -21,24 +22,6 @@ use Rattle.protocol.proofs.VerdictLaws.{isolated_runs}
 use Rattle.twoworlds.specs.declared.verdict.Verdict.{Verdict}
 use Rattle.twoworlds.specs.Meanings.{AreIsolated, IsVerdictOn, hosts_in, meant}
 use Rattle.twoworlds.specs.OutLists.{hosted_in, outs_of_each}
-
--- ---- ascending lists
-above_head : (x : ℕ) (xs : List ℕ) → IsAscending (x ∷ xs) → (u : ℕ) → Contains xs u → x < u
-above_head x xs h u c = subst (λ z. x < z) c.2 (let l = c.1 in h zero (suc c.0) u (omega arith) (omega arith))
-
-ascending_tail : (x : ℕ) (xs : List ℕ) → IsAscending (x ∷ xs) → IsAscending xs
-ascending_tail x xs h = λ i j d l k. h (suc i) (suc j) d (omega arith) (omega arith)
-
-ascending_cons : (x : ℕ) (xs : List ℕ) → ((u : ℕ) → Contains xs u → x < u) → IsAscending xs → IsAscending (x ∷ xs)
-ascending_cons x xs f up zero zero d l k = absurd (omega arith)
-ascending_cons x xs f up zero (suc j) d l k = f (get_or xs j d) (j, omega arith, again xs j d (omega arith))
-  where
-    again : (ys : List ℕ) (n e : ℕ) → n < length ys → get_or ys n (get_or ys n e) ≡ get_or ys n e
-    again [] n e h = absurd (omega arith)
-    again (y ∷ ys) zero e h = refl
-    again (y ∷ ys) (suc n) e h = again ys n e (omega arith)
-ascending_cons x xs f up (suc i) zero d l k = absurd (omega arith)
-ascending_cons x xs f up (suc i) (suc j) d l k = up i j d (omega arith) (omega arith)
 
 -- ---- what passes a test
 module _ (R : Names) where
@@ -62,14 +45,6 @@ module _ (R : Names) where
       go true e (inr k) f = contains_tail u x (filter R xs) (f k)
       go false e (inl q) f = absurd (true≢false (sym h ∙ (ap R (sym q) ∙ e)))
       go false e (inr k) f = f k
-
-  pub filter_ascends : (xs : List ℕ) → IsAscending xs → IsAscending (filter R xs)
-  filter_ascends [] up = up
-  filter_ascends (x ∷ xs) up = go (R x) (filter_ascends xs (ascending_tail x xs up))
-    where
-      go : (b : Bool) → IsAscending (filter R xs) → IsAscending (cond b (x ∷ filter R xs) (filter R xs))
-      go true r = ascending_cons x (filter R xs) (λ u c. above_head x xs up u (passed xs u c).0) r
-      go false r = r
 
 -- ---- hosted nodes
 abbrev host_names : List Host → List ℕ
@@ -107,7 +82,7 @@ module _ (R : Names) (hosts : List Host) (i : ℕ) (run : List Entry) where
   is_list others up same = record {
     outs = each_right others (hosted_in R hosts) (λ u c. let p = passed R (host_names hosts) u c in (same u p.1, (p.1, host_named hosts u p.0)));
     all = λ u r h. subst (λ (xs : List ℕ). Contains xs u) (sym (names_kept (hosted_in R hosts))) (passes R (host_names hosts) u (named_host hosts u h) r);
-    ascending = subst IsAscending (sym (names_kept (hosted_in R hosts))) (filter_ascends R (host_names hosts) up);
+    ascending = subst IsAscending (sym (names_kept (hosted_in R hosts))) (AllPairs-filter (λ x y. x < y) R (host_names hosts) up);
   }
 
 -- ---- verdicts
@@ -147,7 +122,7 @@ module _ (one other : List Host) (run others : List Entry) (i v : ℕ) where
     set_is = fun_ext c.exactly
 
     pub judged_unlike : (u : ℕ) → IsLeastUnlike one other (names_of list) u → IsVerdictOf one other run others i v (CastDiffers u)
-    judged_unlike u h = inr (hosted, (sym (c.exactly u) ∙ h.member, (h.unlike, λ w m l. h.least w (c.exactly w ∙ m) l)))
+    judged_unlike u h = inr (hosted, (sym (c.exactly u) ∙ h.member, (h.bad, λ w m l. h.least w (c.exactly w ∙ m) l)))
 
     cast : AreAlike one other (names_of list) → SameCast (closure one i v run) v one other
     cast a = record { hosted = hosted; same = λ u m. a u (c.exactly u ∙ m) }

@@ -1,9 +1,9 @@
 -- What is kept of a run, entry after entry, and where two runs part.
-use Rattle.std.proofs.Common.{◌≡◌, ◌≢◌, ℕ, zero, suc, ◌+◌, ◌<◌, ◌≤◌, Bool, true, false, ◌&&◌, ◌==◌, inl, inr, List, [], ◌∷◌, ◌++◌, length, take, drop, slice_get, Option, Some, None, option_map, if◌then◌else◌, refl, sym, ◌∙◌, ap, subst, arith, append-nil}
+use Rattle.std.proofs.Common.{◌≡◌, ◌≢◌, ℕ, ◌+◌, ◌<◌, ◌≤◌, Bool, true, false, ◌&&◌, ◌==◌, inl, inr, List, [], ◌∷◌, ◌++◌, length, take, drop, slice_get, Option, Some, None, option_map, if◌then◌else◌, refl, sym, ◌∙◌, ap, arith, append-nil}
 use Rattle.std.proofs.lemmas.Bool.{cases_lt}
-use Rattle.std.proofs.lemmas.List.{drop_more, drop_all, take_all, take_at, take_more, take-append-drop}
+use Rattle.std.proofs.lemmas.List.{drop_all, take_all, take-append-drop}
 use Rattle.std.proofs.lemmas.List.Elements.{filter_map-append}
-use Rattle.std.proofs.lemmas.Option.{get_or_from_slice_get, slice_get_within}
+use Rattle.std.proofs.lemmas.Option.{slice_get_within}
 use Rattle.protocol.specs.Sets.{Names}
 use Rattle.protocol.specs.Networks.{Step}
 use Rattle.protocol.specs.Networks.Reading.{Read, Fault}
@@ -11,6 +11,8 @@ use Rattle.protocol.specs.Networks.Step.{Opens, Closes, Asks, Delivers, Hears, N
 use Rattle.protocol.specs.Hosts.{Entry}
 use Rattle.protocol.specs.Isolation.{Kept, kept, kept_of, when_kept}
 use Rattle.protocol.specs.Verdicts.{IsFirstDifference}
+use Rattle.differences.proofs.Places.{at_seam, front_at, rest_at, there_is}
+use Rattle.differences.proofs.SideBySide.{IsAgreed, agreed_at_first, agreed_more, parts_at_end, parts_at_other_end, parts_unlike}
 use Rattle.twoworlds.specs.Steps.{event_at, is_kept, is_kept_in, core, IsNextKept, IsKeptEntry}
 
 when_is : (b : Bool) (k : Kept) → when_kept b k ≡ (if b then Some k else None)
@@ -28,41 +30,27 @@ kept_is R i (NominationTimes j u r) = when_is ((j == i) && R u) (core (Nominatio
 kept_is R i (BallotTimes j u n) = when_is ((j == i) && R u) (core (BallotTimes j u n))
 kept_is R i (Reslices j u q) = when_is ((j == i) && R u) (core (Reslices j u q))
 
--- there is an entry of each number below the length
-pub entry_at : (run : List Entry) (n : ℕ) → n < length run → (x : Entry) × (slice_get run n ≡ Some x)
-entry_at [] n l = absurd (omega arith)
-entry_at (x ∷ xs) zero l = (x, refl)
-entry_at (x ∷ xs) (suc n) l = entry_at xs n (omega arith)
-
 pub core_at : (run : List Entry) (n : ℕ) (x : Entry) → slice_get run n ≡ Some x → option_map core (event_at run n) ≡ Some (core x.event)
 core_at run n x e = ap (λ (o : Option Entry). option_map core (option_map (λ (y : Entry). y.event) o)) e
 
 is_one : (z w : Kept) → Some z ≡ Some w → z ≡ w
 is_one z w e = cc
 
--- what is at the seam of two lists
-at_seam : (ws zs : List Kept) → slice_get (ws ++ zs) (length ws) ≡ slice_get zs 0
-at_seam [] zs = refl
-at_seam (w ∷ ws) zs = at_seam ws zs
-
 module _ (R : Names) (i : ℕ) where
-  rest_from : (run : List Entry) (n : ℕ) (x : Entry) → slice_get run n ≡ Some x → drop n run ≡ x ∷ drop (n + 1) run
-  rest_from run n x e = drop_more run n x (slice_get_within run n x e) ∙ ap (λ (y : Entry). y ∷ drop (n + 1) run) (get_or_from_slice_get run n x x e)
-
   kept_head : (x : Entry) (xs : List Entry) (b : Bool) → is_kept R i x.event ≡ b → kept_of R i (x ∷ xs) ≡ (if b then core x.event ∷ kept_of R i xs else kept_of R i xs)
   unfolding kept_of
   kept_head x xs true e = let k : kept R i x.event ≡ Some (core x.event) = kept_is R i x.event ∙ ap (λ b. if b then Some (core x.event) else None) e in rw k refl
   kept_head x xs false e = let k : kept R i x.event ≡ None = kept_is R i x.event ∙ ap (λ b. if b then Some (core x.event) else None) e in rw k refl
 
   pub kept_skip : (run : List Entry) (n : ℕ) (x : Entry) → slice_get run n ≡ Some x → is_kept R i x.event ≡ false → kept_of R i (drop n run) ≡ kept_of R i (drop (n + 1) run)
-  kept_skip run n x e h = ap (λ (ys : List Entry). kept_of R i ys) (rest_from run n x e) ∙ kept_head x (drop (n + 1) run) false h
+  kept_skip run n x e h = ap (λ (ys : List Entry). kept_of R i ys) (rest_at run n x e) ∙ kept_head x (drop (n + 1) run) false h
 
   pub kept_next : (run : List Entry) (from n : ℕ) (x : Entry) → from ≤ n → slice_get run n ≡ Some x → is_kept R i x.event ≡ true → kept_of R i (drop from run) ≡ kept_of R i (drop n run) → IsNextKept R i run from n
   kept_next run from n x l e h same = record {
     inside = slice_get_within run n x e;
     after = l;
     splits = λ y q. let is : x ≡ y = one (sym e ∙ q) in
-        same ∙ (ap (λ (ys : List Entry). kept_of R i ys) (rest_from run n x e) ∙ (kept_head x (drop (n + 1) run) true h ∙ ap (λ (z : Entry). core z.event ∷ kept_of R i (drop (n + 1) run)) is));
+        same ∙ (ap (λ (ys : List Entry). kept_of R i ys) (rest_at run n x e) ∙ (kept_head x (drop (n + 1) run) true h ∙ ap (λ (z : Entry). core z.event ∷ kept_of R i (drop (n + 1) run)) is));
   }
     where
       one : {y : Entry} → Some x ≡ Some y → x ≡ y
@@ -77,16 +65,16 @@ module _ (R : Names) (i : ℕ) where
   here_is run n x e b h = ap (λ (o : Option Entry). is_kept_in R i (option_map (λ (y : Entry). y.event) o)) (sym e) ∙ h
 
   pub skip_at : (run : List Entry) (n : ℕ) → n < length run → is_kept_in R i (event_at run n) ≡ false → kept_of R i (drop n run) ≡ kept_of R i (drop (n + 1) run)
-  skip_at run n l h = let p = entry_at run n l in kept_skip run n p.0 p.1 (here_is run n p.0 p.1 false h)
+  skip_at run n l h = let p = there_is run n l in kept_skip run n p.0 p.1 (here_is run n p.0 p.1 false h)
 
   pub next_at : (run : List Entry) (from n : ℕ) → from ≤ n → n < length run → is_kept_in R i (event_at run n) ≡ true → kept_of R i (drop from run) ≡ kept_of R i (drop n run) → IsNextKept R i run from n
-  next_at run from n f l h same = let p = entry_at run n l in kept_next run from n p.0 f p.1 (here_is run n p.0 p.1 true h) same
+  next_at run from n f l h same = let p = there_is run n l in kept_next run from n p.0 f p.1 (here_is run n p.0 p.1 true h) same
 
   -- ---- so many kept steps before an entry
   front_is : (run : List Entry) (n : ℕ) (x : Entry) → slice_get run n ≡ Some x → kept_of R i (take (n + 1) run) ≡ kept_of R i (take n run) ++ kept_of R i (x ∷ [])
   unfolding kept_of
   front_is run n x e =
-      ap (λ (ys : List Entry). kept_of R i ys) (take_more run n x (slice_get_within run n x e) ∙ ap (λ (y : Entry). take n run ++ y ∷ []) (get_or_from_slice_get run n x x e))
+      ap (λ (ys : List Entry). kept_of R i ys) (front_at run n x e)
       ∙ filter_map-append (λ (y : Entry). kept R i y.event) (take n run) (x ∷ [])
 
   nothing_kept : kept_of R i [] ≡ []
@@ -103,7 +91,7 @@ module _ (R : Names) (i : ℕ) where
 
   pub counts_one : (run : List Entry) (n before : ℕ) → n < length run → is_kept_in R i (event_at run n) ≡ true → before ≡ length (kept_of R i (take n run)) → before + 1 ≡ length (kept_of R i (take (n + 1) run))
   counts_one run n before l h was =
-      let p = entry_at run n l in
+      let p = there_is run n l in
       let one : kept_of R i (p.0 ∷ []) ≡ core p.0.event ∷ [] = kept_head p.0 [] true (here_is run n p.0 p.1 true h) ∙ ap (λ (ys : List Kept). core p.0.event ∷ ys) nothing_kept in
       let now = ap (λ (ys : List Kept). length ys) (front_is run n p.0 p.1 ∙ ap (λ (ys : List Kept). kept_of R i (take n run) ++ ys) one) in
       let sum = count_one (kept_of R i (take n run)) (core p.0.event ∷ []) in
@@ -111,7 +99,7 @@ module _ (R : Names) (i : ℕ) where
 
   pub counts_none : (run : List Entry) (n before : ℕ) → n < length run → is_kept_in R i (event_at run n) ≡ false → before ≡ length (kept_of R i (take n run)) → before ≡ length (kept_of R i (take (n + 1) run))
   counts_none run n before l h was =
-      let p = entry_at run n l in
+      let p = there_is run n l in
       let none : kept_of R i (p.0 ∷ []) ≡ [] = kept_head p.0 [] false (here_is run n p.0 p.1 false h) ∙ nothing_kept in
       was ∙ sym (ap (λ (ys : List Kept). length ys) (front_is run n p.0 p.1 ∙ (ap (λ (ys : List Kept). kept_of R i (take n run) ++ ys) none ∙ append-nil (kept_of R i (take n run)))))
 
@@ -121,9 +109,9 @@ module _ (R : Names) (i : ℕ) where
 
   pub counted_there : (run : List Entry) (n place : ℕ) → n < length run → is_kept_in R i (event_at run n) ≡ true → place ≡ length (kept_of R i (take n run)) → IsKeptEntry R i run place n
   counted_there run n place l h was =
-      let p = entry_at run n l in
+      let p = there_is run n l in
       let is = here_is run n p.0 p.1 true h in
-      let rest : kept_of R i (drop n run) ≡ core p.0.event ∷ kept_of R i (drop (n + 1) run) = ap (λ (ys : List Entry). kept_of R i ys) (rest_from run n p.0 p.1) ∙ kept_head p.0 (drop (n + 1) run) true is in
+      let rest : kept_of R i (drop n run) ≡ core p.0.event ∷ kept_of R i (drop (n + 1) run) = ap (λ (ys : List Entry). kept_of R i ys) (rest_at run n p.0 p.1) ∙ kept_head p.0 (drop (n + 1) run) true is in
       let seam = at_seam (kept_of R i (take n run)) (core p.0.event ∷ kept_of R i (drop (n + 1) run)) in
       record {
         entry = p.0;
@@ -142,89 +130,39 @@ module _ (R : Names) (i : ℕ) where
   counted_all run n before place l was few = let all = ap (λ (ys : List Entry). length (kept_of R i ys)) (take_all n run l) in omega (arith, was, all, few)
 
   -- ---- two runs side by side
+  -- what is kept of a run from a number on
+  abbrev pub kept_from : List Entry → ℕ → List Kept
+  kept_from run n = kept_of R i (drop n run)
+
   -- the kept steps before these numbers are the same, and this many
-  pub record IsAgreed (one other : List Entry) (here there place : ℕ) : Type 0 where
-    pub common : List Kept
-    pub first : kept_of R i one ≡ common ++ kept_of R i (drop here one)
-    pub second : kept_of R i other ≡ common ++ kept_of R i (drop there other)
-    pub counted : length common ≡ place
-    pub few : place ≤ here
-    pub inside : here ≤ length one
-    pub within : there ≤ length other
+  abbrev pub AreAgreed : List Entry → List Entry → ℕ → ℕ → ℕ → Type 0
+  AreAgreed one other here there place = IsAgreed (kept_from one) (kept_from other) (length one) (length other) here there place
 
-  pub agreed_at_first : (one other : List Entry) → IsAgreed one other 0 0 0
-  agreed_at_first one other = record { common = []; first = refl; second = refl; counted = refl; few = omega arith; inside = omega arith; within = omega arith }
+  pub agreed_before : (one other : List Entry) → AreAgreed one other 0 0 0
+  agreed_before one other = agreed_at_first (kept_from one) (kept_from other) (length one) (length other)
 
-  append_one : (xs ys : List Kept) (x : Kept) → xs ++ (x ∷ ys) ≡ (xs ++ x ∷ []) ++ ys
-  append_one [] ys x = refl
-  append_one (z ∷ zs) ys x = ap (λ (ws : List Kept). z ∷ ws) (append_one zs ys x)
+  module _ (one other : List Entry) (here there place : ℕ) (way : AreAgreed one other here there place) where
+    module _ (k m : ℕ) (a : IsNextKept R i one here k) (b : IsNextKept R i other there m) where
+      pub agreed_on : option_map core (event_at one k) ≡ option_map core (event_at other m) → AreAgreed one other (k + 1) (m + 1) (place + 1)
+      agreed_on same =
+          let x = there_is one k a.inside in
+          let y = there_is other m b.inside in
+          agreed_more (kept_from one) (kept_from other) (length one) (length other) here there place way k m (core x.0.event) (core y.0.event) a.after a.inside b.inside (a.splits x.0 x.1) (b.splits y.0 y.1)
+          (is_one (core x.0.event) (core y.0.event) (sym (core_at one k x.0 x.1) ∙ (same ∙ core_at other m y.0 y.1)))
 
-  length_one : (xs : List Kept) (x : Kept) → length (xs ++ x ∷ []) ≡ length xs + 1
-  length_one [] x = omega arith
-  length_one (z ∷ zs) x = let r = length_one zs x in omega arith
+      pub parted_at : option_map core (event_at one k) ≢ option_map core (event_at other m) → IsFirstDifference (kept_of R i one) (kept_of R i other) place
+      parted_at unlike =
+          let x = there_is one k a.inside in
+          let y = there_is other m b.inside in
+          parts_unlike (kept_from one) (kept_from other) (length one) (length other) here there place way (core x.0.event) (core y.0.event) (kept_from one (k + 1)) (kept_from other (m + 1)) (a.splits x.0 x.1) (b.splits y.0 y.1)
+          (λ e. unlike (core_at one k x.0 x.1 ∙ (ap (λ (z : Kept). Some z) e ∙ sym (core_at other m y.0 y.1))))
 
-  module _ (one other : List Entry) (here there place k m : ℕ) (x y : Entry) (way : IsAgreed one other here there place) (a : IsNextKept R i one here k) (b : IsNextKept R i other there m)
-      (p : slice_get one k ≡ Some x) (q : slice_get other m ≡ Some y) where
-    pub agreed_more : core x.event ≡ core y.event → IsAgreed one other (k + 1) (m + 1) (place + 1)
-    agreed_more same = record {
-      common = way.common ++ core x.event ∷ [];
-      first = way.first ∙ (ap (λ (ks : List Kept). way.common ++ ks) (a.splits x p) ∙ append_one way.common (kept_of R i (drop (k + 1) one)) (core x.event));
-      second = way.second ∙ (ap (λ (ks : List Kept). way.common ++ ks) (b.splits y q)
-          ∙ (append_one way.common (kept_of R i (drop (m + 1) other)) (core y.event) ∙ ap (λ (z : Kept). (way.common ++ z ∷ []) ++ kept_of R i (drop (m + 1) other)) (sym same)));
-      counted = let l = way.counted in omega (arith, l, length_one way.common (core x.event));
-      few = let l = way.few in let h = a.after in omega arith;
-      inside = let l = a.inside in omega arith;
-      within = let l = b.inside in omega arith;
-    }
+    pub ended_there : (k : ℕ) → IsNextKept R i one here k → kept_from other there ≡ [] → IsFirstDifference (kept_of R i one) (kept_of R i other) place
+    ended_there k a none =
+        let x = there_is one k a.inside in
+        parts_at_end (kept_from one) (kept_from other) (length one) (length other) here there place way (core x.0.event) (kept_from one (k + 1)) (a.splits x.0 x.1) none
 
-  parted : (common rest others : List Kept) (xs ys : List Kept) → xs ≡ common ++ rest → ys ≡ common ++ others → slice_get rest 0 ≢ slice_get others 0 → IsFirstDifference xs ys (length common)
-  parted common rest others xs ys a b differ = record {
-    before = ap (λ (zs : List Kept). take (length common) zs) a ∙ (take_at common rest (length common) refl ∙ sym (ap (λ (zs : List Kept). take (length common) zs) b ∙ take_at common others (length common) refl));
-    there = λ e. differ (sym (ap (λ (zs : List Kept). slice_get zs (length common)) a ∙ at_seam common rest) ∙ (e ∙ (ap (λ (zs : List Kept). slice_get zs (length common)) b ∙ at_seam common others)));
-  }
-
-  module _ (one other : List Entry) (here there place : ℕ) (way : IsAgreed one other here there place) where
-    parts : (rest others : List Kept) → kept_of R i (drop here one) ≡ rest → kept_of R i (drop there other) ≡ others → slice_get rest 0 ≢ slice_get others 0 → IsFirstDifference (kept_of R i one) (kept_of R i other) place
-    parts rest others a b differ = subst (λ n. IsFirstDifference (kept_of R i one) (kept_of R i other) n) way.counted
-        (parted way.common rest others (kept_of R i one) (kept_of R i other) (way.first ∙ ap (λ (ks : List Kept). way.common ++ ks) a) (way.second ∙ ap (λ (ks : List Kept). way.common ++ ks) b) differ)
-
-    pub parts_at_end : (k : ℕ) (x : Entry) → IsNextKept R i one here k → slice_get one k ≡ Some x → kept_of R i (drop there other) ≡ [] → IsFirstDifference (kept_of R i one) (kept_of R i other) place
-    parts_at_end k x a p none = parts (core x.event ∷ kept_of R i (drop (k + 1) one)) [] (a.splits x p) none (λ e. differ (core x.event) e)
-      where
-        differ : (z : Kept) → Some z ≡ None → ⊥
-        differ z e = cc
-
-    pub parts_at_other_end : (m : ℕ) (y : Entry) → IsNextKept R i other there m → slice_get other m ≡ Some y → kept_of R i (drop here one) ≡ [] → IsFirstDifference (kept_of R i one) (kept_of R i other) place
-    parts_at_other_end m y b q none = parts [] (core y.event ∷ kept_of R i (drop (m + 1) other)) none (b.splits y q) (λ e. differ (core y.event) e)
-      where
-        differ : (z : Kept) → None ≡ Some z → ⊥
-        differ z e = cc
-
-    pub parts_unlike : (k m : ℕ) (x y : Entry) → IsNextKept R i one here k → IsNextKept R i other there m → slice_get one k ≡ Some x → slice_get other m ≡ Some y → core x.event ≢ core y.event → IsFirstDifference (kept_of R i one) (kept_of R i other) place
-    parts_unlike k m x y a b p q unlike = parts (core x.event ∷ kept_of R i (drop (k + 1) one)) (core y.event ∷ kept_of R i (drop (m + 1) other)) (a.splits x p) (b.splits y q) (λ e. unlike (one_of (core x.event) (core y.event) e))
-      where
-        one_of : (z w : Kept) → Some z ≡ Some w → z ≡ w
-        one_of z w e = cc
-
-    pub agreed_whole : kept_of R i (drop here one) ≡ [] → kept_of R i (drop there other) ≡ [] → kept_of R i one ≡ kept_of R i other
-    agreed_whole a b = way.first ∙ (ap (λ (ks : List Kept). way.common ++ ks) (a ∙ sym b) ∙ sym way.second)
-
-  module _ (one other : List Entry) (here there place k m : ℕ) (way : IsAgreed one other here there place) (a : IsNextKept R i one here k) (b : IsNextKept R i other there m) where
-    pub agreed_on : option_map core (event_at one k) ≡ option_map core (event_at other m) → IsAgreed one other (k + 1) (m + 1) (place + 1)
-    agreed_on same =
-        let x = entry_at one k a.inside in
-        let y = entry_at other m b.inside in
-        agreed_more one other here there place k m x.0 y.0 way a b x.1 y.1 (is_one (core x.0.event) (core y.0.event) (sym (core_at one k x.0 x.1) ∙ (same ∙ core_at other m y.0 y.1)))
-
-    pub parted_at : option_map core (event_at one k) ≢ option_map core (event_at other m) → IsFirstDifference (kept_of R i one) (kept_of R i other) place
-    parted_at unlike =
-        let x = entry_at one k a.inside in
-        let y = entry_at other m b.inside in
-        parts_unlike one other here there place way k m x.0 y.0 a b x.1 y.1 (λ e. unlike (core_at one k x.0 x.1 ∙ (ap (λ (z : Kept). Some z) e ∙ sym (core_at other m y.0 y.1))))
-
-  module _ (one other : List Entry) (here there place : ℕ) (way : IsAgreed one other here there place) where
-    pub ended_there : (k : ℕ) → IsNextKept R i one here k → kept_of R i (drop there other) ≡ [] → IsFirstDifference (kept_of R i one) (kept_of R i other) place
-    ended_there k a none = let x = entry_at one k a.inside in parts_at_end one other here there place way k x.0 a x.1 none
-
-    pub ended_here : (m : ℕ) → IsNextKept R i other there m → kept_of R i (drop here one) ≡ [] → IsFirstDifference (kept_of R i one) (kept_of R i other) place
-    ended_here m b none = let y = entry_at other m b.inside in parts_at_other_end one other here there place way m y.0 b y.1 none
+    pub ended_here : (m : ℕ) → IsNextKept R i other there m → kept_from one here ≡ [] → IsFirstDifference (kept_of R i one) (kept_of R i other) place
+    ended_here m b none =
+        let y = there_is other m b.inside in
+        parts_at_other_end (kept_from one) (kept_from other) (length one) (length other) here there place way (core y.0.event) (kept_from other (m + 1)) (b.splits y.0 y.1) none

@@ -1,5 +1,4 @@
 pub mod KeptSteps
-pub mod CastLaws
 pub mod OutLaws
 pub mod Judging
 pub mod ToldLaws

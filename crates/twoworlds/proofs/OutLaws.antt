@@ -2,7 +2,7 @@
 use Rattle.types.specs.declared.event.Out.{Out}
 use Rattle.std.proofs.Common.{◌≡◌, ◌≢◌, ℕ, zero, suc, ◌+◌, ◌<◌, ◌≤◌, Bool, true, false, ◌&&◌, ◌==◌, List, [], ◌∷◌, ◌++◌, length, get_or, take, map, slice_get, slice_set, flat_map, Option, Some, None, Ok, Err, if◌then◌else◌, option_map, refl, sym, ◌∙◌, ap, subst, inl, inr, arith}
 use Rattle.std.proofs.lemmas.Bool.{cases_lt, eq-eqb, ne_eqb}
-use Rattle.std.proofs.lemmas.List.{take_more, append-nil, append_assoc}
+use Rattle.std.proofs.lemmas.List.{append-nil, append_assoc}
 use Rattle.std.proofs.lemmas.Option.{slice_get_within, get_or_from_slice_get, slice_get-get_or}
 use Rattle.std.specs.List.Sorted.{IsBinarySearchResult}
 use Rattle.std.specs.Ordering.{nat_cmp}
@@ -16,7 +16,7 @@ use Rattle.protocol.specs.Isolation.{is_of, outs_of}
 use Rattle.twoworlds.specs.Steps.{at_slot, event_at, node_in, node_of}
 use Rattle.twoworlds.specs.OutLists.{IsNoted, IsNotedAt, outs_of_each}
 use Rattle.twoworlds.specs.OutLists.IsNoted.{nobody, somebody}
-use Rattle.twoworlds.proofs.KeptSteps.{entry_at}
+use Rattle.differences.proofs.Places.{front_at, there_is}
 
 -- the node is the one that is there
 abbrev is_node : Option ℕ → ℕ → Bool
@@ -43,12 +43,9 @@ flat_more f [] x = append-nil (f x)
 flat_more f (z ∷ zs) x = ap (λ ys. f z ++ ys) (flat_more f zs x) ∙ sym (append_assoc (f z) (flat_map f zs) (f x))
 
 module _ (i : ℕ) (run : List Entry) (n : ℕ) (x : Entry) (there : slice_get run n ≡ Some x) where
-  one_more : take (n + 1) run ≡ take n run ++ x ∷ []
-  one_more = take_more run n x (slice_get_within run n x there) ∙ ap (λ (y : Entry). take n run ++ y ∷ []) (get_or_from_slice_get run n x x there)
-
   outs_more : (u : ℕ) → outs_of i u (take (n + 1) run) ≡ outs_of i u (take n run) ++ (if is_of i u x.event then x.outs else [])
   unfolding outs_of
-  outs_more u = ap (λ (es : List Entry). flat_map (λ (y : Entry). if is_of i u y.event then y.outs else []) es) one_more ∙ flat_more (λ (y : Entry). if is_of i u y.event then y.outs else []) (take n run) x
+  outs_more u = ap (λ (es : List Entry). flat_map (λ (y : Entry). if is_of i u y.event then y.outs else []) es) (front_at run n x there) ∙ flat_more (λ (y : Entry). if is_of i u y.event then y.outs else []) (take n run) x
 
   outs_same : (u : ℕ) → is_of i u x.event ≡ false → outs_of i u (take (n + 1) run) ≡ outs_of i u (take n run)
   outs_same u h = outs_more u ∙ (ap (λ b. outs_of i u (take n run) ++ (if b then x.outs else [])) h ∙ append-nil (outs_of i u (take n run)))
@@ -130,7 +127,7 @@ noted_there i x list old new w place e up found h =
 
 -- ---- by number
 pub noted_by : (i : ℕ) (run : List Entry) (n : ℕ) (list : List ℕ) (old new : List (ℕ × List Out)) → n < length run → old ≡ outs_of_each i (take n run) list → IsNotedAt i run n list old new → new ≡ outs_of_each i (take (n + 1) run) list
-noted_by i run n list old new l was h = let p = entry_at run n l in noted_is i run n p.0 list old new p.1 was (h p.0 p.1)
+noted_by i run n list old new l was h = let p = there_is run n l in noted_is i run n p.0 list old new p.1 was (h p.0 p.1)
 
 pub node_is : (i : ℕ) (run : List Entry) (n : ℕ) (x : Entry) (o : Option ℕ) → slice_get run n ≡ Some x → o ≡ node_in i (event_at run n) → node_of i x.event ≡ o
 node_is i run n x o e h = ap (λ (y : Option Entry). node_in i (option_map (λ (z : Entry). z.event) y)) (sym e) ∙ sym h

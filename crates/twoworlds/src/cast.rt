@@ -1,12 +1,13 @@
 //! Whether two worlds host the same members.
 
-ghost use Rattle.std.specs.Prelude.{◌≡◌, ◌↔◌, IsTrue, MatchOption, option_map};
+ghost use Rattle.std.specs.Prelude.{◌≡◌, MatchOption, option_map};
 ghost use Rattle.protocol.specs.Networks.{slices_of};
 ghost use Rattle.closure.specs.Announcing.{names_of};
-ghost use Rattle.twoworlds.specs.Casts.{AreAlike, IsLeastUnlike, lesser};
+ghost use Rattle.differences.specs.Hosting.{AreAlike, IsLeastUnlike};
 ghost use Rattle.twoworlds.specs.Meanings.{hosts_in};
 
 use closure::{Announcements, ClosureList};
+use differences::{is_hosted_alike, least_failing};
 use envstore::Shelf;
 use hoststep::Journal;
 use types::{Nested, NodeId};
@@ -20,15 +21,9 @@ pub fn least_unlike<S: Shelf, T: Shelf>(
 ) -> Option<NodeId>
     ensures { MatchOption result (AreAlike one.now.config.hosts (hosts_in (option_map (λ j. j.now) other.entry)) (names_of members.now)) (λ u. IsLeastUnlike one.now.config.hosts (hosts_in (option_map (λ j. j.now) other.entry)) (names_of members.now) u) }
 {
-    let mut least = None;
-    for place in 0..members.len() {
-        if let Some(name) = members.name(place) {
-            if !is_same_option(one.slices(&name), slices_in(other, &name)) {
-                least = lesser(least, name);
-            }
-        }
-    }
-    least
+    least_failing(members, |name| {
+        is_hosted_alike(one.slices(name), slices_in(other, name))
+    })
 }
 
 /// The configured slices of a node in a world, where it has the network and the node is hosted there.
@@ -38,26 +33,5 @@ fn slices_in<'a, S: Shelf>(journal: Option<&'a Journal<S>>, node: &NodeId) -> Op
     match journal {
         None => None,
         Some(journal) => journal.slices(node),
-    }
-}
-
-/// The lesser of the names.
-fn lesser(best: Option<NodeId>, name: NodeId) -> Option<NodeId>
-    ensures { result ≡ lesser best name }
-{
-    match best {
-        Some(best) if best < name => Some(best),
-        _ => Some(name),
-    }
-}
-
-/// Whether both are none, or the same slices.
-fn is_same_option(one: Option<&Nested>, other: Option<&Nested>) -> bool
-    ensures { IsTrue result ↔ option_map (λ q. q.now) one.entry ≡ option_map (λ q. q.now) other.entry }
-{
-    match (one, other) {
-        (None, None) => true,
-        (Some(one), Some(other)) => one.is_same(other),
-        _ => false,
     }
 }

@@ -1,65 +1,24 @@
-use Rattle.std.proofs.Common.{◌≡◌, ◌∙◌, ℕ, List, Option, Some, true, sym, ap, subst}
-use Rattle.protocol.specs.Sets.{among, AreWithin}
-use Rattle.protocol.specs.Networks.{Host, Step, slices_of}
-use Rattle.protocol.specs.Hosts.{Config, entries, hosts_of}
-use Rattle.protocol.specs.Isolation.{closure, SameCast}
-use Rattle.protocol.specs.Submissions.{answers, concerned, config_of, names_on, roster_names, SameReserves}
+use Rattle.std.proofs.Common.{◌∙◌, List, sym, subst}
+use Rattle.protocol.specs.Networks.{Step}
 use Rattle.protocol.specs.Verdicts.{IsFirstDifference}
 use Rattle.closure.specs.Announcing.{names_of}
-use Rattle.network.specs.Decoding.{reading}
-use Rattle.crowds.proofs.Judging.{inputs_are, marks_are}
+use Rattle.crowds.proofs.Judging.{are_inputs, are_reserved}
 use Rattle.crowds.proofs.comparing.crowd_among.Goals as goal
 
 pub returns-in-Some-first_difference : goal.returns-in-Some-first_difference
 returns-in-Some-first_difference c =
-    let one = c.args.one.now in
-    let other = c.args.other.now in
-    let g = c.args.net in
-    let i = c.args.slot in
-    let v = c.args.node.now in
-    let R = closure (hosts_of one.configs g) i v (entries reading one g) in
-    let members = names_of c.args.members.now in
-    let cast : SameCast R v (hosts_of one.configs g) (hosts_of other.configs g) = record {
-      hosted = c.requires.hosted;
-      same = λ u r. ap (λ (hs : List Host). slices_of hs u) (sym c.hosts.ensures) ∙ (c.in_default.ensures u (c.requires.members u ∙ r) ∙ ap (λ (hs : List Host). slices_of hs u) c.hosts-2.ensures);
-    } in
-    let first : Some c.in-Some-config.config.now ≡ config_of one.configs g = c.in-Some-config.ensures in
-    let second : Some c.in-Some-config-2.counterpart.now ≡ config_of other.configs g = c.in-Some-config-2.ensures in
-    let reserves : SameReserves (config_of one.configs g) (config_of other.configs g) =
-    subst (λ (p : Option Config × Option Config). SameReserves p.0 p.1) (λ j. (first j, second j)) (c.has_same_reserves.ensures.0 c.if-not-has_same_reserves.false) in
-    let roster : Some c.in-Some-roster.roster.now ≡ c.in-Some-config.config.now.roster = c.in-Some-roster.ensures in
-    let listed : c.in-Some-roster.roster.now.names ≡ roster_names (config_of one.configs g) = ap names_on roster ∙ ap roster_names first in
-    let inside : AreWithin R (among (roster_names (config_of one.configs g))) = λ u r. subst (λ (xs : List ℕ). among xs u ≡ true) listed (c.in_default-least_outside.ensures u (c.requires.members u ∙ r)) in
-    let ms = marks_are g i R members c.requires.members one c.calls.result.now c.in_ok-one_marks.one_marks.items c.calls.ensures c.in_ok-one_marks.ensures in
-    let ns = marks_are g i R members c.requires.members other c.calls-2.result.now c.in_ok-other_marks.other_marks.items c.calls-2.ensures c.in_ok-other_marks.ensures in
-    let xs = inputs_are g i R members c.requires.members one c.in-Some-config.config.now (sym first) c.calls-3.result.now c.deref.result.now c.calls-3.ensures (c.deref.ensures.value ∙ ms) in
-    let ys = inputs_are g i R members c.requires.members other c.in-Some-config-2.counterpart.now (sym second) c.calls-4.result.now c.deref-2.result.now c.calls-4.ensures (c.deref-2.ensures.value ∙ ns) in
-    (cast, (reserves, (inside, subst (λ (p : List Step × List Step). IsFirstDifference p.0 p.1 c.in-Some-first_difference.place) (λ j. (xs j, ys j)) c.in-Some-first_difference.ensures)))
+    let r = are_reserved c.args.one.now c.args.other.now c.args.net c.args.slot c.args.node.now (names_of c.args.members.now) c.requires.members c.requires.hosted _ _ c.hosts.ensures c.hosts-2.ensures c.in_default.ensures
+    _ _ c.in-Some-config.ensures c.in-Some-config-2.ensures (c.has_same_reserves.ensures.0 c.if-not-has_same_reserves.false) _ c.in-Some-roster.ensures c.in_default-least_outside.ensures in
+    let x = are_inputs c.args.net c.args.slot _ (names_of c.args.members.now) c.requires.members c.args.one.now _ (sym c.in-Some-config.ensures) _ _ _ _ c.calls.ensures c.in_ok-one_marks.ensures c.calls-3.ensures c.deref.ensures.value in
+    let y = are_inputs c.args.net c.args.slot _ (names_of c.args.members.now) c.requires.members c.args.other.now _ (sym c.in-Some-config-2.ensures) _ _ _ _ c.calls-2.ensures c.in_ok-other_marks.ensures c.calls-4.ensures c.deref-2.ensures.value in
+    (r.cast, (r.reserves, (r.inside, subst (λ (p : List Step × List Step). IsFirstDifference p.0 p.1 c.in-Some-first_difference.place) (λ j. (x.steps_are j, y.steps_are j)) c.in-Some-first_difference.ensures)))
 
 pub returns : goal.returns
 returns c =
-    let one = c.args.one.now in
-    let other = c.args.other.now in
-    let g = c.args.net in
-    let i = c.args.slot in
-    let v = c.args.node.now in
-    let R = closure (hosts_of one.configs g) i v (entries reading one g) in
-    let members = names_of c.args.members.now in
-    let cast : SameCast R v (hosts_of one.configs g) (hosts_of other.configs g) = record {
-      hosted = c.requires.hosted;
-      same = λ u r. ap (λ (hs : List Host). slices_of hs u) (sym c.hosts.ensures) ∙ (c.in_default.ensures u (c.requires.members u ∙ r) ∙ ap (λ (hs : List Host). slices_of hs u) c.hosts-2.ensures);
-    } in
-    let first : Some c.in-Some-config.config.now ≡ config_of one.configs g = c.in-Some-config.ensures in
-    let second : Some c.in-Some-config-2.counterpart.now ≡ config_of other.configs g = c.in-Some-config-2.ensures in
-    let reserves : SameReserves (config_of one.configs g) (config_of other.configs g) =
-    subst (λ (p : Option Config × Option Config). SameReserves p.0 p.1) (λ j. (first j, second j)) (c.has_same_reserves.ensures.0 c.if-not-has_same_reserves.false) in
-    let roster : Some c.in-Some-roster.roster.now ≡ c.in-Some-config.config.now.roster = c.in-Some-roster.ensures in
-    let listed : c.in-Some-roster.roster.now.names ≡ roster_names (config_of one.configs g) = ap names_on roster ∙ ap roster_names first in
-    let inside : AreWithin R (among (roster_names (config_of one.configs g))) = λ u r. subst (λ (xs : List ℕ). among xs u ≡ true) listed (c.in_default-least_outside.ensures u (c.requires.members u ∙ r)) in
-    let ms = marks_are g i R members c.requires.members one c.calls.result.now c.in_ok-one_marks.one_marks.items c.calls.ensures c.in_ok-one_marks.ensures in
-    let ns = marks_are g i R members c.requires.members other c.calls-2.result.now c.in_ok-other_marks.other_marks.items c.calls-2.ensures c.in_ok-other_marks.ensures in
-    let xs = inputs_are g i R members c.requires.members one c.in-Some-config.config.now (sym first) c.calls-3.result.now c.deref.result.now c.calls-3.ensures (c.deref.ensures.value ∙ ms) in
-    let ys = inputs_are g i R members c.requires.members other c.in-Some-config-2.counterpart.now (sym second) c.calls-4.result.now c.deref-2.result.now c.calls-4.ensures (c.deref-2.ensures.value ∙ ns) in
-    let same : concerned R i (answers reading one g) ≡ concerned R i (answers reading other g) = sym xs ∙ (c.in_default-first_difference.ensures ∙ ys) in
-    let there = c.of.ensures ∙ c.in_ok-replies.ensures R i (c.deref-3.ensures.value ∙ ns) in
-    (cast, (reserves, (inside, (same, (there ∙ sym (c.are_never_crowded_out.ensures cast reserves inside same).0, there)))))
+    let r = are_reserved c.args.one.now c.args.other.now c.args.net c.args.slot c.args.node.now (names_of c.args.members.now) c.requires.members c.requires.hosted _ _ c.hosts.ensures c.hosts-2.ensures c.in_default.ensures
+    _ _ c.in-Some-config.ensures c.in-Some-config-2.ensures (c.has_same_reserves.ensures.0 c.if-not-has_same_reserves.false) _ c.in-Some-roster.ensures c.in_default-least_outside.ensures in
+    let x = are_inputs c.args.net c.args.slot _ (names_of c.args.members.now) c.requires.members c.args.one.now _ (sym c.in-Some-config.ensures) _ _ _ _ c.calls.ensures c.in_ok-one_marks.ensures c.calls-3.ensures c.deref.ensures.value in
+    let y = are_inputs c.args.net c.args.slot _ (names_of c.args.members.now) c.requires.members c.args.other.now _ (sym c.in-Some-config-2.ensures) _ _ _ _ c.calls-2.ensures c.in_ok-other_marks.ensures c.calls-4.ensures c.deref-2.ensures.value in
+    let same = sym x.steps_are ∙ (c.in_default-first_difference.ensures ∙ y.steps_are) in
+    let there = c.of.ensures ∙ c.in_ok-replies.ensures _ c.args.slot (c.deref-3.ensures.value ∙ (sym c.deref-2.ensures.value ∙ y.marks_are)) in
+    (r.cast, (r.reserves, (r.inside, (same, (there ∙ sym (c.are_never_crowded_out.ensures r.cast r.reserves r.inside same).0, there)))))

@@ -1,4 +1,4 @@
-use Rattle.std.proofs.Common.{Option, Some, option_map, sym, subst}
+use Rattle.std.proofs.Common.{Option, Some, sym, subst}
 use Rattle.hoststep.specs.Logs.{Log}
 use Rattle.hoststep.specs.Worlds.{log_at}
 use Rattle.twoworlds.specs.Meanings.{IsVerdictOn}

@@ -1,9 +1,10 @@
-use Rattle.std.proofs.Common.{◌≡◌, ◌∙◌, sym, ap, subst, List, map, is_some, not, true, option_map}
+use Rattle.std.proofs.Common.{◌≡◌, ◌∙◌, ◌<◌, sym, ap, subst, List, map, is_some, not, true, option_map}
+use Rattle.std.proofs.lemmas.List.Kept.{AllPairs-filter}
 use Rattle.protocol.specs.Sets.{IsAscending, among}
 use Rattle.protocol.specs.Networks.{Host, slices_of}
 use Rattle.closure.specs.Announcing.{names_of}
 use Rattle.twoworlds.specs.OutLists.{hosted_in, outs_of_each}
-use Rattle.twoworlds.proofs.Judging.{filter_ascends, some_mapped, never_without, inputs_with, same_with}
+use Rattle.twoworlds.proofs.Judging.{some_mapped, never_without, inputs_with, same_with}
 use Rattle.twoworlds.proofs.comparing.compare_journal.Goals as goal
 
 pub unreachable-requires : goal.unreachable-requires
@@ -23,7 +24,7 @@ pub outs_of_each-requires : goal.outs_of_each-requires
 outs_of_each-requires g c =
     let R = among (names_of c.in_ok-members.members) in
     let hosts_are : c.hosts.result.now ≡ c.args.one.now.config.hosts = c.hosts.ensures.value ∙ ap (λ x. x.hosts) c.config.ensures in
-    subst IsAscending (sym (c.deref.ensures.value ∙ (c.in_ok-names.ensures ∙ ap (λ (hs : List Host). hosted_in R hs) hosts_are))) (filter_ascends R (map (λ (h : Host). h.name) c.args.one.now.config.hosts) c.slices.ensures.ascending)
+    subst IsAscending (sym (c.deref.ensures.value ∙ (c.in_ok-names.ensures ∙ ap (λ (hs : List Host). hosted_in R hs) hosts_are))) (AllPairs-filter (λ x y. x < y) R (map (λ (h : Host). h.name) c.args.one.now.config.hosts) c.slices.ensures.ascending)
 
 pub returns-clause-verdict : goal.returns-clause-verdict
 returns-clause-verdict g c =

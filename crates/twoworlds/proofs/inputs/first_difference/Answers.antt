@@ -2,7 +2,7 @@ use Rattle.std.proofs.Common.{◌∙◌, sym}
 use Rattle.std.proofs.lemmas.Bool.{true≢false}
 use Rattle.protocol.specs.Sets.{among}
 use Rattle.closure.specs.Announcing.{names_of}
-use Rattle.twoworlds.proofs.KeptSteps.{agreed_at_first, agreed_on, parted_at, ended_there, ended_here}
+use Rattle.twoworlds.proofs.KeptSteps.{agreed_before, agreed_on, parted_at, ended_there, ended_here}
 use Rattle.twoworlds.proofs.inputs.first_difference.Goals as goal
 
 pub returns-in_default-next_kept : goal.returns-in_default-next_kept
@@ -12,13 +12,13 @@ returns-in_default-next_kept g c =
 
 pub returns-then-not-is_same_at : goal.returns-then-not-is_same_at
 returns-then-not-is_same_at g c =
-    parted_at (among (names_of c.args.members.now)) c.args.slot c.args.one.now.entries c.args.other.now.entries c.loop-number.here c.loop-number.there c.loop-number.place c.in-Some.number c.in-Some-next_kept.counterpart
-    c.loop-number.invariant c.in-Some.ensures.found c.in-Some-next_kept.ensures.found (λ e. true≢false (sym (c.is_same_at.ensures.1 e) ∙ c.if-not-is_same_at.true))
+    parted_at (among (names_of c.args.members.now)) c.args.slot c.args.one.now.entries c.args.other.now.entries c.loop-number.here c.loop-number.there c.loop-number.place c.loop-number.invariant
+    c.in-Some.number c.in-Some-next_kept.counterpart c.in-Some.ensures.found c.in-Some-next_kept.ensures.found (λ e. true≢false (sym (c.is_same_at.ensures.1 e) ∙ c.if-not-is_same_at.true))
 
 pub loop-number-preserved : goal.loop-number-preserved
 loop-number-preserved g c =
-    agreed_on (among (names_of c.args.members.now)) c.args.slot c.args.one.now.entries c.args.other.now.entries c.loop-number.here c.loop-number.there c.loop-number.place c.in-Some.number c.in-Some-next_kept.counterpart
-    c.loop-number.invariant c.in-Some.ensures.found c.in-Some-next_kept.ensures.found (c.is_same_at.ensures.0 c.if-not-is_same_at.false)
+    agreed_on (among (names_of c.args.members.now)) c.args.slot c.args.one.now.entries c.args.other.now.entries c.loop-number.here c.loop-number.there c.loop-number.place c.loop-number.invariant
+    c.in-Some.number c.in-Some-next_kept.counterpart c.in-Some.ensures.found c.in-Some-next_kept.ensures.found (c.is_same_at.ensures.0 c.if-not-is_same_at.false)
 
 pub returns-in-Some-next_kept-2 : goal.returns-in-Some-next_kept-2
 returns-in-Some-next_kept-2 g c =
@@ -26,4 +26,4 @@ returns-in-Some-next_kept-2 g c =
     c.in-Some-next_kept-2.field-0 c.in-Some-next_kept-2.ensures.found c.in_default.ensures.found
 
 pub loop-number-init : goal.loop-number-init
-loop-number-init g c = agreed_at_first (among (names_of c.args.members.now)) c.args.slot c.args.one.now.entries c.args.other.now.entries
+loop-number-init g c = agreed_before (among (names_of c.args.members.now)) c.args.slot c.args.one.now.entries c.args.other.now.entries

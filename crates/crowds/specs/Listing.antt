@@ -1,0 +1,10 @@
+-- Names on a roster.
+use Rattle.std.specs.Prelude.{ℕ, List, IsTrue, IsFalse}
+use Rattle.protocol.specs.Sets.{among}
+
+-- a name is on a roster, or not
+abbrev pub IsOn : List ℕ → ℕ → Type 0
+IsOn names u = IsTrue (among names u)
+
+abbrev pub IsOff : List ℕ → ℕ → Type 0
+IsOff names u = IsFalse (among names u)
