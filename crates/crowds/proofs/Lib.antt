@@ -3,3 +3,4 @@ mod RosterSets
 mod MarkedSteps
 mod RunsOf
 mod Judging
+mod IndexLaws

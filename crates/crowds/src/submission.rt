@@ -7,6 +7,7 @@ ghost use Rattle.crowds.specs.Submitted.{IsNotDeclared, and_then, declared};
 
 use configuration::{Host, NetConfig};
 use std::alloc::{AllocError, Global};
+use std::collections::BTreeMap;
 use std::marker::Model;
 use types::Event;
 
@@ -22,10 +23,13 @@ pub enum SubmissionError {
 /// Configurations of networks, no number twice, and events with the numbers of their networks, in order
 /// (this host's profile).
 ///
+/// A network is found by its number in a number of steps that is logarithmic in the number of networks.
+///
 /// Contracts see it as the history of a host with these configurations, to which these events happen.
 #[derive(Drop)]
 pub struct Submission {
     configs: Vec<NetConfig>,
+    places: BTreeMap<u32, usize>,
     calls: Vec<(u32, Event)>,
 }
 
@@ -33,12 +37,15 @@ impl Model for Submission {
     ghost use Rattle.std.specs.Coded.{codes};
     ghost use Rattle.types.specs.Trees.{members_code};
     ghost use Rattle.protocol.specs.Hosts.{History};
+    ghost use Rattle.crowds.specs.Indexed.{IsIndexed};
 
     ghost Value = { History };
 
     ghost coded = { Prim.hlevel (codes, members_code) };
 
     ghost view = { λ s. record { configs = s.configs.items; calls = s.calls.items } };
+
+    ghost invariant = { λ s. IsIndexed s.configs.items s.places };
 }
 
 impl Submission {
@@ -48,6 +55,7 @@ impl Submission {
     {
         Submission {
             configs: Vec::new(alloc),
+            places: BTreeMap::new(alloc),
             calls: Vec::new(alloc),
         }
     }
@@ -63,14 +71,23 @@ impl Submission {
         ensures err { IfErr result (IsNotDeclared self.old.configs config.number) }
         ensures same { OnErr result (self.new ≡ self.old) }
     {
-        if self.config(config.number()).is_some() {
+        let number = config.number();
+        if self.config(number).is_some() {
             return Err(SubmissionError::NetTwice);
         }
-        match self.configs.push(config) {
-            Ok(()) => Ok(()),
+        if self.configs.reserve(1).is_err() {
             // Memory: the list has no room.
-            Err(_) => Err(SubmissionError::NoMemory),
+            return Err(SubmissionError::NoMemory);
         }
+        let place = self.configs.len();
+        if self.places.insert(number, place).is_err() {
+            // Memory: the map has no room.
+            return Err(SubmissionError::NoMemory);
+        }
+        let Ok(()) = self.configs.push(config) else {
+            unreachable!()
+        };
+        Ok(())
     }
 
     /// An event of a network is submitted, whether or not the network is declared. An error says that memory
@@ -90,14 +107,20 @@ impl Submission {
     pub fn config(&self, net: u32) -> Option<&NetConfig>
         ensures { option_map (λ c. c.now) result ≡ config_of self.now.configs net }
     {
-        config_in(&self.configs, net)
+        match self.places.get(&net) {
+            Some(place) => Some(&self.configs[*place]),
+            None => None,
+        }
     }
 
     /// The hosted nodes of a network; none where it is not declared.
     pub fn hosts(&self, net: u32) -> &[Host]
         ensures { result.now ≡ hosts_of self.now.configs net }
     {
-        hosts_in(&self.configs, net)
+        match self.config(net) {
+            Some(config) => config.hosts(),
+            None => &[],
+        }
     }
 
     /// The configurations, and the events with the numbers of their networks, each in order.
@@ -113,37 +136,5 @@ impl Submission {
         ensures { result.now ≡ self.now.calls }
     {
         &self.calls
-    }
-}
-
-/// The first configuration of a number.
-fn config_in(configs: &[NetConfig], net: u32) -> Option<&NetConfig>
-    ensures { option_map (λ c. c.now) result ≡ config_of configs.now net }
-{
-    match configs {
-        [] => None,
-        [first, rest @ ..] => {
-            if first.number() == net {
-                Some(first)
-            } else {
-                config_in(rest, net)
-            }
-        }
-    }
-}
-
-/// The hosted nodes of the first network of a number.
-fn hosts_in(configs: &[NetConfig], net: u32) -> &[Host]
-    ensures { result.now ≡ hosts_of configs.now net }
-{
-    match configs {
-        [] => &[],
-        [first, rest @ ..] => {
-            if first.number() == net {
-                first.hosts()
-            } else {
-                hosts_in(rest, net)
-            }
-        }
     }
 }

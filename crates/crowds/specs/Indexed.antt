@@ -1,0 +1,14 @@
+-- Where in a list of configurations the networks stand.
+use Rattle.std.specs.Prelude.{◌≡◌, ℕ, suc, ◌==◌, List, [], ◌∷◌, Option, Some, None, option_map, if◌then◌else◌}
+use Rattle.std.specs.Ordering.{nat_cmp}
+use Rattle.std.specs.BTreeMap.{BTreeMap, get}
+use Rattle.protocol.specs.Hosts.{Config}
+
+-- the place of the first configuration of a number
+abbrev pub place_of : List Config → ℕ → Option ℕ
+place_of [] g = None
+place_of (c ∷ cs) g = if c.number == g then Some 0 else option_map suc (place_of cs g)
+
+-- each number has its place in the map, and a number that no configuration has has none
+pub record IsIndexed (configs : List Config) (places : BTreeMap ℕ ℕ) : Type 0 where
+  pub at : (g : ℕ) → get nat_cmp places g ≡ place_of configs g
