@@ -1,33 +1,68 @@
 -- What is told of journals, one after the other.
-use Rattle.std.proofs.Common.{◌≡◌, ◌∙◌, List, [], ◌∷◌, ◌++◌, length, refl, sym, ap, subst}
-use Rattle.std.proofs.lemmas.List.{append-nil, append_assoc}
+use Rattle.std.proofs.Common.{◌≡◌, ◌∙◌, List, [], ◌∷◌, ◌++◌, length, sym, ap, subst}
+use Rattle.std.specs.Prelude.{reverse}
+use Rattle.std.proofs.lemmas.List.{append-nil, append_assoc, reverse-append}
+use Rattle.protocol.specs.Runs.{IsRun as Replays}
 use Rattle.scripts.specs.Script.{Bytes}
 use Rattle.hoststep.specs.Logs.{Log}
 use Rattle.cells.specs.Sights.{Sight}
 use Rattle.workers.specs.NetSights.{Net}
 use Rattle.workers.specs.Nets.{IsClosedNet}
-use Rattle.pooled.specs.Pooling.{AreJournals, AreTold, IsToldMore}
+use Rattle.pooled.specs.Pooling.{AreClosed, AreJournals, AreTold, IsToldMore}
 use Rattle.pooled.specs.PoolLines.{AreAllDecidedLines, AreDecidedLines, length_line, length_lines}
 use Rattle.pooled.specs.PoolLines.AreAllDecidedLines.{none, more}
 
--- of these networks it has been told, and those are left
-pub record IsPartTold (all left : List Net) (decided lengths : Bytes) : Type 0 where
-  pub closed : List Net
-  pub told : AreTold closed decided lengths
-  pub whole : all ≡ closed ++ left
+-- ---- networks close, the last first
+closed_more : (ns : List Net) (ls : List Log) (n : Net) (l : Log) (seats : List Sight) → AreClosed ns ls → IsClosedNet n l seats → AreClosed (ns ++ n ∷ []) (ls ++ l ∷ [])
+closed_more [] [] n l seats all one = ((seats, one), tt)
+closed_more [] (k ∷ ks) n l seats all one = absurd all
+closed_more (m ∷ ms) [] n l seats all one = absurd all
+closed_more (m ∷ ms) (k ∷ ks) n l seats all one = (all.0, closed_more ms ks n l seats all.1 one)
 
-pub part_none : (nets : List Net) (decided lengths : Bytes) → decided ≡ [] → lengths ≡ [] → IsPartTold nets nets decided lengths
-part_none nets decided lengths e f = record {
-  closed = [];
-  told = record { logs = []; journals = tt; lines = subst (AreAllDecidedLines []) (sym e) none; long = f };
-  whole = refl;
+reversed_more : (js : List Log) (l : Log) → reverse (js ++ l ∷ []) ≡ l ∷ reverse js
+reversed_more js l = reverse-append js (l ∷ [])
+
+-- whatever the journals of those that are left will be, they and these are the journals of all
+abbrev pub Closes : List Net → List Net → List Log → Type 0
+Closes all left js = (ls : List Log) → AreClosed left ls → AreClosed all (ls ++ reverse js)
+
+pub closes_none : (all : List Net) (js : List Log) → js ≡ [] → Closes all all js
+closes_none all js e ls h = subst (AreClosed all) (sym (ap (λ ks. ls ++ reverse ks) e ∙ append-nil ls)) h
+
+pub closes_more : (all left rest : List Net) (js now : List Log) (n : Net) (l : Log) (seats : List Sight) → left ≡ rest ++ n ∷ [] → IsClosedNet n l seats → now ≡ js ++ l ∷ [] → Closes all left js → Closes all rest now
+closes_more all left rest js now n l seats is done grown whole ls h =
+    let old : AreClosed all ((ls ++ l ∷ []) ++ reverse js) = whole (ls ++ l ∷ []) (subst (λ ns. AreClosed ns (ls ++ l ∷ [])) (sym is) (closed_more rest ls n l seats h done)) in
+    subst (AreClosed all) (append_assoc ls (l ∷ []) (reverse js) ∙ ap (λ ks. ls ++ ks) (sym (ap (λ ks. reverse ks) grown ∙ reversed_more js l))) old
+
+pub all_closed : (all left : List Net) (js : List Log) → left ≡ [] → Closes all left js → AreClosed all (reverse js)
+all_closed all left js empty whole = whole [] (subst (λ ns. AreClosed ns []) (sym empty) tt)
+
+-- ---- journals are told, one after the other
+-- each is a run
+abbrev pub AreRuns : List Log → Type 0
+AreRuns [] = Unit {0}
+AreRuns (l ∷ ls) = Replays l.config l.entries × AreRuns ls
+
+runs_more : (ls : List Log) (l : Log) → AreRuns ls → Replays l.config l.entries → AreRuns (ls ++ l ∷ [])
+runs_more [] l all one = (one, tt)
+runs_more (k ∷ ks) l all one = (all.0, runs_more ks l all.1 one)
+
+-- some of the journals of networks have been told, and those are left
+pub record IsPartTold (nets : List Net) (left : List Log) (decided lengths : Bytes) : Type 0 where
+  pub told : List Log
+  pub closed : AreClosed nets (told ++ left)
+  pub runs : AreRuns told
+  pub lines : AreAllDecidedLines told decided
+  pub long : lengths ≡ length_lines told
+
+pub part_none : (nets : List Net) (left : List Log) (decided lengths : Bytes) → AreClosed nets left → decided ≡ [] → lengths ≡ [] → IsPartTold nets left decided lengths
+part_none nets left decided lengths closed e f = record {
+  told = [];
+  closed = closed;
+  runs = tt;
+  lines = subst (AreAllDecidedLines []) (sym e) none;
+  long = f;
 }
-
-journals_more : (ns : List Net) (ls : List Log) (n : Net) (l : Log) → AreJournals ns ls → AreJournals (n ∷ []) (l ∷ []) → AreJournals (ns ++ n ∷ []) (ls ++ l ∷ [])
-journals_more [] [] n l all one = one
-journals_more [] (k ∷ ks) n l all one = absurd all
-journals_more (m ∷ ms) [] n l all one = absurd all
-journals_more (m ∷ ms) (k ∷ ks) n l all one = (all.0, journals_more ms ks n l all.1 one)
 
 lines_more : (ls : List Log) (l : Log) (text lines : Bytes) → AreAllDecidedLines ls text → AreDecidedLines l lines → AreAllDecidedLines (ls ++ l ∷ []) (text ++ lines)
 lines_more [] l _ lines none one = subst (AreAllDecidedLines (l ∷ [])) (append-nil lines) (more one none)
@@ -40,20 +75,28 @@ lengths_more (k ∷ ks) l =
     ap (λ s. length_line k.config.number (length k.entries) ++ s) (lengths_more ks l)
     ∙ sym (append_assoc (length_line k.config.number (length k.entries)) (length_lines ks) (length_line l.config.number (length l.entries)))
 
-pub part_more : (all left rest : List Net) (n : Net) (l : Log) (seats : List Sight) (decided lengths wider longer : Bytes) → left ≡ n ∷ rest → IsClosedNet n l seats
-    → IsToldMore l decided lengths wider longer → IsPartTold all left decided lengths → IsPartTold all rest wider longer
-part_more all left rest n l seats decided lengths wider longer is done next part = record {
-  closed = part.closed ++ n ∷ [];
-  told = record {
-    logs = part.told.logs ++ l ∷ [];
-    journals = journals_more part.closed part.told.logs n l part.told.journals (((seats, done), next.0), tt);
-    lines = subst (AreAllDecidedLines (part.told.logs ++ l ∷ [])) (sym next.1.2) (lines_more part.told.logs l decided next.1.0 part.told.lines next.1.1);
-    long = next.2 ∙ ap (λ s. s ++ length_line l.config.number (length l.entries)) part.told.long ∙ sym (lengths_more part.told.logs l);
-  };
-  whole = part.whole ∙ ap (λ ns. part.closed ++ ns) is ∙ sym (append_assoc part.closed (n ∷ []) rest);
+-- the last of a list of journals is told, which stand the other way round
+pub part_more : (nets : List Net) (js rest : List Log) (l : Log) (decided lengths wider longer : Bytes) → js ≡ rest ++ l ∷ [] → IsToldMore l decided lengths wider longer
+    → IsPartTold nets (reverse js) decided lengths → IsPartTold nets (reverse rest) wider longer
+part_more nets js rest l decided lengths wider longer is next part = record {
+  told = part.told ++ l ∷ [];
+  closed = subst (AreClosed nets) (ap (λ ks. part.told ++ ks) (ap (λ ks. reverse ks) is ∙ reversed_more rest l) ∙ sym (append_assoc part.told (l ∷ []) (reverse rest))) part.closed;
+  runs = runs_more part.told l part.runs next.0;
+  lines = subst (AreAllDecidedLines (part.told ++ l ∷ [])) (sym next.1.2) (lines_more part.told l decided next.1.0 part.lines next.1.1);
+  long = next.2 ∙ ap (λ s. s ++ length_line l.config.number (length l.entries)) part.long ∙ sym (lengths_more part.told l);
 }
 
+journals_of : (ns : List Net) (ls : List Log) → AreClosed ns ls → AreRuns ls → AreJournals ns ls
+journals_of [] [] closed runs = tt
+journals_of [] (l ∷ ls) closed runs = absurd closed
+journals_of (n ∷ ns) [] closed runs = absurd closed
+journals_of (n ∷ ns) (l ∷ ls) closed runs = ((closed.0, runs.0), journals_of ns ls closed.1 runs.1)
+
 -- when none is left, it has been told of all
-pub all_told : (all left : List Net) (decided lengths : Bytes) → left ≡ [] → IsPartTold all left decided lengths → AreTold all decided lengths
-all_told all left decided lengths empty part =
-    subst (λ ns. AreTold ns decided lengths) (sym (part.whole ∙ ap (λ ns. part.closed ++ ns) empty ∙ append-nil part.closed)) part.told
+pub all_told : (nets : List Net) (js : List Log) (decided lengths : Bytes) → js ≡ [] → IsPartTold nets (reverse js) decided lengths → AreTold nets decided lengths
+all_told nets js decided lengths empty part = record {
+  logs = part.told;
+  journals = journals_of nets part.told (subst (AreClosed nets) (ap (λ ks. part.told ++ reverse ks) empty ∙ append-nil part.told) part.closed) part.runs;
+  lines = part.lines;
+  long = part.long;
+}

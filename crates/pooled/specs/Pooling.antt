@@ -22,7 +22,14 @@ job_of call = record { network = call.0; event = call.1 }
 abbrev pub jobs_of : List (ℕ × Event) → List Job
 jobs_of calls = map job_of calls
 
--- the journals of networks, in their order: each is one history of its network's seats, and a run
+-- the journals of networks, in their order: each is one history of its network's seats
+abbrev pub AreClosed : List Net → List Log → Type 0
+AreClosed [] [] = Unit {0}
+AreClosed [] (l ∷ ls) = ⊥
+AreClosed (n ∷ ns) [] = ⊥
+AreClosed (n ∷ ns) (l ∷ ls) = ((seats : List Sight) × IsClosedNet n l seats) × AreClosed ns ls
+
+-- the same, and a run
 abbrev pub AreJournals : List Net → List Log → Type 0
 AreJournals [] [] = Unit {0}
 AreJournals [] (l ∷ ls) = ⊥

@@ -1,10 +1,10 @@
 //! A whole script on a pool of workers.
 
-ghost use Rattle.std.specs.Prelude.{◌≡◌, ◌<◌, ◌≤◌, ◌+◌, ◌++◌, ℕ, IfOk, OnOk, [], string_bytes};
+ghost use Rattle.std.specs.Prelude.{◌≡◌, ◌<◌, ◌≤◌, ◌+◌, ◌++◌, ℕ, IfOk, OnOk, [], reverse, string_bytes};
 ghost use Rattle.std.specs.List.Sorted.{IsNonDecreasingBy};
 ghost use Rattle.pooled.specs.Opening.{AreHosted, slots_of};
 ghost use Rattle.pooled.specs.PoolLines.{report_line};
-ghost use Rattle.pooled.specs.Pooling.{AreDone, IsPoolText, IsToldMore, IsToldOf, jobs_of};
+ghost use Rattle.pooled.specs.Pooling.{AreClosed, AreDone, IsPoolText, IsToldMore, IsToldOf, jobs_of};
 
 use crate::gate::Open;
 use crate::hosting::host_network;
@@ -124,7 +124,7 @@ fn places_for(jobs: usize) -> usize
     jobs.clamp(FEWEST_PLACES, MOST_PLACES)
 }
 
-/// Closes each network, ascending, and says what became of it, and how many jobs were applied, refused and not
+/// Closes each network, and says, ascending, what became of it, and how many jobs were applied, refused and not
 /// run by both reports.
 fn tell_all<R: Wait + Drop>(
     rt: &R,
@@ -135,14 +135,30 @@ fn tell_all<R: Wait + Drop>(
 ) -> Result<String, AllocError>
     ensures { IfOk result (λ text. IsToldOf host.old one other (string_bytes text)) }
 {
+    let mut journals = close_all(rt, alloc, host)?;
     let mut text = String::new(alloc);
     let mut lengths = String::new(alloc);
-    while let Some((journal, _seats)) = host.close_next(rt) {
+    while let Some(journal) = journals.pop() {
         tell(alloc, &journal, &mut text, &mut lengths)?;
     }
     text.push_str(lengths.as_str())?;
     push_both(&mut text, one, other)?;
     Ok(text)
+}
+
+/// Closes each network. The journals stand descending by network.
+fn close_all<R: Wait + Drop>(
+    rt: &R,
+    alloc: Global,
+    host: &mut Host<SharedHandle<R>, R>,
+) -> Result<Vec<Journal<SharedHandle<R>>>, AllocError>
+    ensures { IfOk result (λ journals. AreClosed host.old (reverse journals.items)) }
+{
+    let mut journals = Vec::with_capacity(alloc, host.len())?;
+    while let Some((journal, _seats)) = host.close_last(rt) {
+        journals.push(journal)?;
+    }
+    Ok(journals)
 }
 
 /// Adds the line of what two reports count. Where memory is wanting, a part may have been added.

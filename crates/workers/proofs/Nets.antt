@@ -1,7 +1,8 @@
 -- Networks by number, and what they gained.
-use Rattle.std.proofs.Common.{◌≡◌, ◌≤◌, ◌<◌, ◌+◌, nat_lt, ℕ, zero, suc, Bool, true, false, if◌then◌else◌, List, [], ◌∷◌, ◌++◌, length, length-append, get_or, take, drop, map, refl, sym, ap, ◌∙◌, subst, arith, None}
+use Rattle.std.proofs.Common.{◌≡◌, ◌≤◌, ◌<◌, ◌+◌, nat_lt, ℕ, zero, suc, Bool, true, false, if◌then◌else◌, List, [], ◌∷◌, ◌++◌, length, length-append, get_or, drop, map, refl, sym, ap, ◌∙◌, subst, arith, None}
 use Rattle.std.specs.List.{insert}
 use Rattle.std.proofs.lemmas.Bool.Decides.{nat_tests}
+use Rattle.std.proofs.lemmas.List.{same_from_push}
 use Rattle.std.proofs.Math.Seq.{drop-append_seam}
 use Rattle.work.specs.declared.rule.Job.{Job}
 use Rattle.work.specs.Hands.{weigh}
@@ -15,16 +16,12 @@ use Rattle.workers.specs.declared.floor.Floor.{Floor}
 use Rattle.workers.specs.declared.running.Report.{Report}
 use Rattle.workers.specs.Sums.{IsLater, applied_of, heard_of, refused_of, seat_applied, seat_done, seat_heard, seat_refused, job, hears}
 use Rattle.workers.specs.Benches.{AllGrown, AllGrownBenches, AllHosted, IsHosted, IsWorked, on_benches}
-use Rattle.workers.specs.Floors.{IsPut, IsSameFloor}
+use Rattle.workers.specs.Floors.{IsPut, IsRemoved, IsSameFloor}
 use Rattle.workers.specs.NetSights.{Net}
-use Rattle.workers.specs.Nets.{AllElsewhere, AllGrownNets, IsDone, IsFloor, IsLeast, NoNet, denied, done_since, gained, heard_since, nets_of, nets_with, over_nets, over_seats}
+use Rattle.workers.specs.Nets.{AllElsewhere, AllGrownNets, IsDone, IsFloor, IsGreatest, NoNet, denied, done_since, gained, heard_since, nets_of, nets_with, over_nets, over_seats}
 use Rattle.workers.specs.Numbers.{AllAbove, AllLack, IsNumbered, IsRising, Lacks, number_of}
 use Rattle.workers.proofs.Numbers.{IsPlace, lacks_at}
 use Rattle.workers.proofs.Worked.{grown_none, hosted_grown}
-
-pub first_gone : {X : Type 0} (xs ys : List X) (x : X) → 0 < length xs → x ≡ get_or xs 0 x → ys ≡ take 0 xs ++ drop 1 xs → xs ≡ x ∷ ys
-first_gone [] ys x lt at is = absurd (omega arith)
-first_gone (y ∷ xs) ys x lt at is = λ i. sym at i ∷ sym is i
 
 pub hosted_len : {S H P : Type 0} → (cs : List CellSight) (bs : List (Bench S H P)) → AllHosted cs bs → length bs ≡ length cs
 hosted_len [] [] all = refl
@@ -32,7 +29,7 @@ hosted_len [] (b ∷ bs) all = absurd all
 hosted_len (c ∷ cs) [] all = absurd all
 hosted_len (c ∷ cs) (b ∷ bs) all = ap suc (hosted_len cs bs all.1)
 
-nets_len : {S H P : Type 0} → (cs : List CellSight) (bs : List (Bench S H P)) → AllHosted cs bs → length (nets_of cs bs) ≡ length cs
+pub nets_len : {S H P : Type 0} → (cs : List CellSight) (bs : List (Bench S H P)) → AllHosted cs bs → length (nets_of cs bs) ≡ length cs
 nets_len [] bs all = refl
 nets_len (c ∷ cs) [] all = absurd all
 nets_len (c ∷ cs) (b ∷ bs) all = ap suc (nets_len cs bs all.1)
@@ -152,10 +149,65 @@ joins_fresh f nets x i view is p few = subst (λ (l : List Net). NoNet l x × (l
       let n = ap (λ (l : List ℕ). length l) is.numbered.0 ∙ map_len f.shared.cells.items in omega arith),
 )
 
-pub least : {S H P : Type 0} → (c : CellSight) (seats : List Sight) (cs : List CellSight) (bs : List (Bench S H P)) → AllAbove (number_of c) (map number_of cs) → IsLeast (record { cell = c; seats = seats }) (nets_of cs bs)
-least c seats [] bs all = tt
-least c seats (d ∷ cs) [] all = tt
-least c seats (d ∷ cs) (b ∷ bs) all = (all.0, least c seats cs bs all.1)
+-- the last network leaves
+
+above_front : (n : ℕ) (xs : List ℕ) (x : ℕ) → AllAbove n (xs ++ x ∷ []) → AllAbove n xs
+above_front n [] x all = tt
+above_front n (y ∷ xs) x all = (all.0, above_front n xs x all.1)
+
+above_last : (n : ℕ) (xs : List ℕ) (x : ℕ) → AllAbove n (xs ++ x ∷ []) → n < x
+above_last n [] x all = all.0
+above_last n (y ∷ xs) x all = above_last n xs x all.1
+
+rising_front : (xs : List ℕ) (x : ℕ) → IsRising (xs ++ x ∷ []) → IsRising xs
+rising_front [] x up = tt
+rising_front (y ∷ xs) x up = (above_front y xs x up.0, rising_front xs x up.1)
+
+numbers_last : (cs : List CellSight) (c : CellSight) → map number_of (cs ++ c ∷ []) ≡ map number_of cs ++ number_of c ∷ []
+numbers_last [] c = refl
+numbers_last (d ∷ cs) c = ap (λ l. number_of d ∷ l) (numbers_last cs c)
+
+hosted_last : {S H P : Type 0} → (cs : List CellSight) (bs : List (Bench S H P)) (c : CellSight) (b : (Bench S H P)) → AllHosted (cs ++ c ∷ []) (bs ++ b ∷ []) → AllHosted cs bs × IsHosted c b.seats.items
+hosted_last [] [] c b all = (tt, all.0)
+hosted_last [] (x ∷ []) c b all = absurd all.1
+hosted_last [] (x ∷ y ∷ bs) c b all = absurd all.1
+hosted_last (d ∷ []) [] c b all = absurd all.1
+hosted_last (d ∷ e ∷ cs) [] c b all = absurd all.1
+hosted_last (d ∷ cs) (x ∷ bs) c b all = let r = hosted_last cs bs c b all.1 in ((all.0, r.0), r.1)
+
+nets_last : {S H P : Type 0} → (cs : List CellSight) (bs : List (Bench S H P)) (c : CellSight) (b : (Bench S H P)) → AllHosted cs bs → nets_of (cs ++ c ∷ []) (bs ++ b ∷ []) ≡ nets_of cs bs ++ record { cell = c; seats = b.seats.items } ∷ []
+nets_last [] [] c b all = refl
+nets_last [] (x ∷ bs) c b all = absurd all
+nets_last (d ∷ cs) [] c b all = absurd all
+nets_last (d ∷ cs) (x ∷ bs) c b all = ap (λ l. record { cell = d; seats = x.seats.items } ∷ l) (nets_last cs bs c b all.1)
+
+greatest : {S H P : Type 0} → (c : CellSight) (seats : List Sight) (cs : List CellSight) (bs : List (Bench S H P)) → IsRising (map number_of cs ++ number_of c ∷ []) → IsGreatest (record { cell = c; seats = seats }) (nets_of cs bs)
+greatest c seats [] bs up = tt
+greatest c seats (d ∷ cs) [] up = tt
+greatest c seats (d ∷ cs) (b ∷ bs) up = (above_last (number_of d) (map number_of cs) (number_of c) up.0, greatest c seats cs bs up.1)
+
+pub leaves : {S H P : Type 0} → (f g : (Floor S H P)) (c : CellSight) (seats : List Sight) → IsFloor f → IsRemoved f c seats g
+    → IsFloor g × IsHosted c seats × IsGreatest (record { cell = c; seats = seats }) (nets_of g.shared.cells.items g.benches.items)
+    × (nets_of f.shared.cells.items f.benches.items ≡ nets_of g.shared.cells.items g.benches.items ++ record { cell = c; seats = seats } ∷ [])
+leaves {S} {H} {P} f g c seats is gone =
+    let ns = g.shared.numbers.items in
+    let cs = g.shared.cells.items in
+    let bs = g.benches.items in
+    let both = hosted_last cs bs c gone.bench (subst (λ (z : List CellSight × List (Bench S H P)). AllHosted z.0 z.1) (λ i. (gone.cells i, gone.benches i)) is.hosted) in
+    let same : ns ++ gone.number ∷ [] ≡ map number_of cs ++ number_of c ∷ [] = sym gone.numbers ∙ is.numbered.0 ∙ ap (map number_of) gone.cells ∙ numbers_last cs c in
+    let up : IsRising (ns ++ gone.number ∷ []) = subst IsRising gone.numbers is.numbered.1 in
+    let n = ap (λ (l : List CellSight). length l) gone.cells ∙ length-append cs (c ∷ []) in
+    let few = is.few in (
+      record {
+        numbered = ((same_from_push ns (map number_of cs) gone.number (number_of c) same).0, rising_front ns gone.number up);
+        hosted = both.0;
+        few = omega arith;
+        closed = gone.queue ∙ is.closed;
+      },
+      subst (IsHosted c) gone.own both.1,
+      greatest c seats cs bs (subst IsRising same up),
+      (λ i. nets_of (gone.cells i) (gone.benches i)) ∙ nets_last cs bs c gone.bench both.0 ∙ ap (λ (l : List Sight). nets_of cs bs ++ record { cell = c; seats = l } ∷ []) gone.own,
+    )
 
 -- what was gained
 

@@ -1,5 +1,5 @@
 -- Networks that join and leave.
-use Rattle.std.specs.Prelude.{◌≡◌, ◌<◌, ℕ, List, ◌∷◌, insert, vec_len, vec_capacity}
+use Rattle.std.specs.Prelude.{◌≡◌, ◌<◌, ℕ, List, [], ◌∷◌, ◌++◌, insert, vec_len, vec_capacity}
 use Rattle.cells.specs.Sights.{CellSight}
 use Rattle.cells.specs.Sights.{Sight}
 use Rattle.workers.specs.declared.deal.Bench.{Bench}
@@ -26,12 +26,12 @@ pub record IsPut {S H P : Type 0} (a : (Floor S H P)) (place : ℕ) (c : CellSig
   pub benches : b.benches.items ≡ insert a.benches.items place bench
   pub queue : b.shared.queue ≡ a.shared.queue
 
--- the first network is gone
+-- the last network is gone
 pub record IsRemoved {S H P : Type 0} (a : (Floor S H P)) (c : CellSight) (seats : List Sight) (b : (Floor S H P)) : Type 0 where
   pub number : ℕ
-  pub numbers : a.shared.numbers.items ≡ number ∷ b.shared.numbers.items
-  pub cells : a.shared.cells.items ≡ c ∷ b.shared.cells.items
+  pub numbers : a.shared.numbers.items ≡ b.shared.numbers.items ++ number ∷ []
+  pub cells : a.shared.cells.items ≡ b.shared.cells.items ++ c ∷ []
   pub bench : (Bench S H P)
   pub own : bench.seats.items ≡ seats
-  pub benches : a.benches.items ≡ bench ∷ b.benches.items
+  pub benches : a.benches.items ≡ b.benches.items ++ bench ∷ []
   pub queue : b.shared.queue ≡ a.shared.queue

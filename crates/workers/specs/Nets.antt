@@ -41,10 +41,10 @@ abbrev pub NoNet : List Net → ℕ → Type 0
 NoNet [] number = Unit {0}
 NoNet (n ∷ ns) number = (number ≢ net_number n) × NoNet ns number
 
--- each other network has a greater number
-abbrev pub IsLeast : Net → List Net → Type 0
-IsLeast n [] = Unit {0}
-IsLeast n (m ∷ ms) = (net_number n < net_number m) × IsLeast n ms
+-- each other network has a lesser number
+abbrev pub IsGreatest : Net → List Net → Type 0
+IsGreatest n [] = Unit {0}
+IsGreatest n (m ∷ ms) = (net_number m < net_number n) × IsGreatest n ms
 
 -- the network's journal is one history of its seats
 pub record IsClosedNet (n : Net) (j : Log) (ss : List Sight) : Type 0 where

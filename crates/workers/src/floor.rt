@@ -49,14 +49,20 @@ impl<S: Shelf + Drop, H: Wait + Drop> Floor<S, H> {
         };
     }
 
-    /// The first network leaves.
-    pub(crate) fn remove_first(&mut self) -> (Cell<S, H>, Vec<Seat<S, H>>)
+    /// The last network leaves.
+    pub(crate) fn remove_last(&mut self) -> (Cell<S, H>, Vec<Seat<S, H>>)
         requires { (0 < length self.old.shared.numbers.items) × (0 < length self.old.shared.cells.items) × (0 < length self.old.benches.items) }
         ensures { IsRemoved self.old result.0 result.1.items self.new }
     {
-        self.shared.numbers.remove(0);
-        let cell = self.shared.cells.remove(0);
-        let bench = self.benches.remove(0);
+        let Some(_number) = self.shared.numbers.pop() else {
+            unreachable!()
+        };
+        let Some(cell) = self.shared.cells.pop() else {
+            unreachable!()
+        };
+        let Some(bench) = self.benches.pop() else {
+            unreachable!()
+        };
         let Bench { seats } = bench;
         (cell, seats)
     }

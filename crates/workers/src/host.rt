@@ -1,9 +1,9 @@
 //! The networks of one host.
 
-ghost use Rattle.std.specs.Prelude.{◌≡◌, ◌<◌, ◌≤◌, [], ◌∷◌, IfErr, IfSome, IfNone, OnOk, length, Err};
+ghost use Rattle.std.specs.Prelude.{◌≡◌, ◌<◌, ◌≤◌, [], ◌∷◌, ◌++◌, IfErr, IfSome, IfNone, OnOk, length, Err};
 ghost use Rattle.workers.specs.Benches.{IsHosted};
 ghost use Rattle.workers.specs.NetSights.{Net};
-ghost use Rattle.workers.specs.Nets.{IsClosedNet, IsLeast, NoNet, nets_with};
+ghost use Rattle.workers.specs.Nets.{IsClosedNet, IsGreatest, NoNet, nets_with};
 
 use crate::deal::Bench;
 use crate::floor::Floor;
@@ -78,6 +78,13 @@ impl<S: Shelf + Drop, H: Wait + Drop> Host<S, H> {
         }
     }
 
+    /// How many networks there are.
+    pub fn len(&self) -> usize
+        ensures { result ≡ length self.now }
+    {
+        self.floor.shared.cells.len()
+    }
+
     /// Takes a network in, given by its cell and all seats of it, in the place of its number.
     ///
     /// An error hands the cell and the seats back: a network of this number is there, or 4,096 networks are, or
@@ -109,17 +116,18 @@ impl<S: Shelf + Drop, H: Wait + Drop> Host<S, H> {
         }
     }
 
-    /// Takes out the network with the least number, closes its cell, and hands over its journal and its seats,
-    /// which have ended: together one history of one thread. It takes no memory. `None` says that there is no
-    /// network left.
-    pub fn close_next<R: Wait>(&mut self, rt: &R) -> Option<(Journal<S>, Vec<Seat<S, H>>)>
+    /// Takes out the network with the greatest number, closes its cell, and hands over its journal and its seats,
+    /// which have ended: together one history of one thread. `None` says that there is no network left.
+    ///
+    /// It takes no memory, and time by the seats of this network alone, however many others the host has.
+    pub fn close_last<R: Wait>(&mut self, rt: &R) -> Option<(Journal<S>, Vec<Seat<S, H>>)>
         ensures none { IfNone result ((self.old ≡ []) × (self.new ≡ [])) }
-        ensures closed { IfSome result (λ r. (net : Net) × (self.old ≡ net ∷ self.new) × IsLeast net self.new × IsClosedNet net r.0 r.1.items) }
+        ensures closed { IfSome result (λ r. (net : Net) × (self.old ≡ self.new ++ net ∷ []) × IsGreatest net self.new × IsClosedNet net r.0 r.1.items) }
     {
         if self.floor.shared.cells.is_empty() {
             return None;
         }
-        let (cell, seats) = self.floor.remove_first();
+        let (cell, seats) = self.floor.remove_last();
         Some(close_net(rt, cell, seats))
     }
 }

@@ -259,7 +259,7 @@ fn four_workers_leave_journals_of_one_thread(rt: HostRuntime) -> Result<(), Fail
 }
 
 #[test]
-fn a_number_joins_once_and_networks_close_ascending(rt: HostRuntime) -> Result<(), Fail> {
+fn a_number_joins_once_and_networks_close_descending(rt: HostRuntime) -> Result<(), Fail> {
     let alloc = rt.alloc();
     let mut host = Host::new(alloc);
     for (number, is_new) in [
@@ -273,11 +273,12 @@ fn a_number_joins_once_and_networks_close_ascending(rt: HostRuntime) -> Result<(
         let answer = fixtures::join(&rt, alloc, &mut host, (number, 1, 1));
         assert_eq!(rt; answer, Some(is_new), "at {number}");
     }
-    for number in [1u32, 2, 5, 9] {
-        let (journal, seats) = host.close_next(&rt).ok_or("closed already")?;
+    assert_eq!(rt; host.len(), 4);
+    for number in [9u32, 5, 2, 1] {
+        let (journal, seats) = host.close_last(&rt).ok_or("closed already")?;
         assert_eq!(rt; journal.config().number(), number);
         assert_eq!(rt; seats.len(), 1);
     }
-    assert!(rt; host.close_next(&rt).is_none());
+    assert!(rt; host.close_last(&rt).is_none());
     Ok(())
 }

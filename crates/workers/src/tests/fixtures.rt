@@ -237,7 +237,7 @@ pub(super) fn close_all<R: Wait + Drop>(
         emissions: 0,
         decisions: 0,
     };
-    while let Some((journal, seats)) = host.close_next(rt) {
+    while let Some((journal, seats)) = host.close_last(rt) {
         count_journal(alloc, &journal, &mut tally)?;
         count_seats(&seats, &mut tally);
     }

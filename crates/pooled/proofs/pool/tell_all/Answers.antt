@@ -1,12 +1,21 @@
-use Rattle.std.proofs.Common.{rules}
-use Rattle.pooled.proofs.TellingLaws.{part_more, part_none}
+use Rattle.std.proofs.Common.{rules, ◌≡◌, []}
+use Rattle.std.specs.Prelude.{string_bytes}
+use Rattle.pooled.proofs.TellingLaws.{all_told, part_more, part_none}
 use Rattle.pooled.proofs.pool.tell_all.Goals as goal
 
 pub loop-journal-init : goal.loop-journal-init
-loop-journal-init g c = part_none _ _ _ (search rules) (search rules)
+loop-journal-init g c = part_none _ _ _ _ c.in_ok-journals.ensures (search rules) (search rules)
 
 pub loop-journal-preserved : goal.loop-journal-preserved
 loop-journal-preserved g c =
-    let closed = c.in-Some.ensures.closed in
-    part_more c.args.host.now c.loop-journal.host c.close_next.new.self closed.0 c.in-Some.journal c.in-Some._seats.items _ _ _ _
-    closed.1 closed.3 c.in_ok-tell.ensures c.loop-journal.invariant
+    part_more c.args.host.now c.loop-journal.journals.items c.pop.new.self.items c.in-Some.journal _ _ _ _ (search rules) c.in_ok-tell.ensures c.loop-journal.invariant
+
+pub returns : goal.returns
+returns g c =
+    let empty : c.loop-journal.journals.items ≡ [] = search rules in
+    record {
+      decided = string_bytes c.loop-journal.text;
+      lengths = string_bytes c.loop-journal.lengths;
+      told = all_told c.args.host.now c.loop-journal.journals.items (string_bytes c.loop-journal.text) (string_bytes c.loop-journal.lengths) empty c.loop-journal.invariant;
+      parts = search rules;
+    }

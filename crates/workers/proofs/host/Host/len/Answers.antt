@@ -1,0 +1,10 @@
+use Rattle.std.proofs.Common.{List, length, sym, ◌∙◌, ap}
+use Rattle.workers.specs.NetSights.{Net}
+use Rattle.workers.specs.Nets.{nets_of}
+use Rattle.workers.proofs.Nets.{nets_len}
+use Rattle.workers.proofs.host.Host.len.Goals as goal
+
+pub returns : goal.returns
+returns g c =
+    let f = c.self.inside.floor in
+    c.len.ensures ∙ f.shared.cells.ok.0 ∙ sym (nets_len f.shared.cells.items f.benches.items c.self.invariant.hosted) ∙ ap (λ (ns : List Net). length ns) c.self.view_is
