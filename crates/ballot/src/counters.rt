@@ -11,7 +11,7 @@ use crate::positions::own_position;
 use fedvote::{Question, Sight, counter_by, lesser};
 use std::alloc::{AllocError, Global};
 use timers::cap;
-use types::{Ballot, Given, Kind, LentBallot, Phase, Statement, Value, Values, Votes};
+use types::{Ballot, Given, Kind, LentBallot, Phase, SharedValues, Statement, Value, Votes};
 
 /// Raises the ballot to the lowest counter, from its own on, at which those with greater counters do
 /// not block; the cap is the greatest to which it is raised, and a counter above the cap stays. The
@@ -172,7 +172,7 @@ fn known_or<'a>(known: Option<&'a Value>, value: &'a Value) -> &'a Value
 
 /// What a set of values is combined to: the greatest of them (this host's profile).
 #[tactic(auto, unfolding(protocol::specs::Candidates::combine))]
-pub(crate) fn combine(values: &Values) -> Option<&Value>
+pub(crate) fn combine(values: &SharedValues) -> Option<&Value>
     ensures { option_map (λ v. v.now) result ≡ combine values.now }
 {
     match values.as_slice() {

@@ -5,7 +5,7 @@ ghost use Rattle.types.specs.Votes.{has_value};
 ghost use Rattle.protocol.specs.Candidates.{all_with};
 
 use std::alloc::{AllocError, Global};
-use types::{Value, Values};
+use types::{SharedValues, Value, Values};
 
 /// A test of values.
 pub trait ValueTest {
@@ -20,7 +20,7 @@ pub trait ValueTest {
 /// Whether a value is not in a set.
 #[derive(Drop)]
 pub struct IsNew<'a> {
-    pub set: &'a Values,
+    pub set: &'a SharedValues,
 }
 
 impl<'a> ValueTest for IsNew<'a> {
@@ -66,4 +66,20 @@ pub fn with_all(set: Values, values: &[Value]) -> Result<Values, AllocError>
         left = rest;
     }
     Ok(set)
+}
+
+/// A set with these values too; where there are none it is the same set, and takes no memory. An error says that
+/// memory is short, and the set handed over is dropped.
+pub fn joined(
+    alloc: Global,
+    set: SharedValues,
+    values: &[Value],
+) -> Result<SharedValues, AllocError>
+    ensures { IfOk result (λ s. s ≡ all_with values.now set) }
+{
+    if values.is_empty() {
+        return Ok(set);
+    }
+    let own = set.to_values(alloc)?;
+    SharedValues::new(alloc, with_all(own, values)?)
 }

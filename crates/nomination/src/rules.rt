@@ -7,11 +7,11 @@ ghost use Rattle.protocol.specs.Candidates.{all_with, as_set, values_by};
 ghost use Rattle.protocol.specs.Sets.{among};
 ghost use Rattle.protocol.specs.Nominating.{accept_values, confirm_values, echo, nominate, own_input};
 
-use crate::choosing::{IsNew, choose, with_all};
+use crate::choosing::{IsNew, choose, joined, with_all};
 use crate::voting::{IsConfirmed, IsNewlyAccepted};
 use fedvote::Sight;
 use std::alloc::{AllocError, Global};
-use types::{Given, MAX_NOMINATED, NodeId, Value, Values, Votes};
+use types::{Given, MAX_NOMINATED, NodeId, SharedValues, Value, Values, Votes};
 
 /// The rules of nomination, in order, each with what the one before it made; while no ballot is
 /// confirmed as prepared (after the Stellar Consensus Protocol draft). An error says that memory is
@@ -55,7 +55,7 @@ pub(crate) fn echo<S: Sight>(
     let proposed = proposed_values(alloc, own, sight, given)?;
     let is_new = IsNew { set: &votes.voted };
     let new = choose(alloc, proposed.as_slice(), room_in(&votes.voted), &is_new)?;
-    let voted = with_all(votes.voted, new.as_slice())?;
+    let voted = joined(alloc, votes.voted, new.as_slice())?;
     Ok(Votes { voted, ..votes })
 }
 
@@ -77,7 +77,7 @@ pub(crate) fn accept_values<S: Sight>(
     };
     let room = room_in(&votes.accepts);
     let new = choose(alloc, candidates.as_slice(), room, &is_accepted)?;
-    let accepts = with_all(votes.accepts, new.as_slice())?;
+    let accepts = joined(alloc, votes.accepts, new.as_slice())?;
     Ok(Votes { accepts, ..votes })
 }
 
@@ -106,7 +106,7 @@ pub(crate) fn confirm_values<S: Sight>(
     };
     let accepted = votes.accepts.as_slice();
     let new = choose(alloc, accepted, accepted.len(), &is_confirmed)?;
-    let confirms = with_all(votes.confirms, new.as_slice())?;
+    let confirms = joined(alloc, votes.confirms, new.as_slice())?;
     Ok(Votes { confirms, ..votes })
 }
 
@@ -150,7 +150,7 @@ pub fn leads(node: &NodeId, given: &Given) -> bool
 }
 
 /// How many values may still be added.
-fn room_in(set: &Values) -> usize
+fn room_in(set: &SharedValues) -> usize
     ensures { result ≡ most_nominated - length set.now }
 {
     MAX_NOMINATED.saturating_sub(set.as_slice().len())

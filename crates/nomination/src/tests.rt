@@ -76,11 +76,10 @@ fn nominates_where_there_is_memory(rt: HostRuntime) -> Result<(), Fail> {
     let alloc = rt.alloc();
     let own = NodeId::from_words(1, 0, 0, 0);
     let given = given(alloc, own)?;
-    let votes = nominate(alloc, &own, &Nobody, &given, Votes::none(alloc))?;
-    let mut input = Values::empty(alloc);
-    input.push(Value::of(alloc, b"i")?)?;
-    assert!(rt; votes.voted.is_same(&input));
-    assert!(rt; votes.accepts.is_same(&input));
-    assert!(rt; votes.confirms.is_same(&input));
+    let votes = nominate(alloc, &own, &Nobody, &given, Votes::none())?;
+    let input = Value::of(alloc, b"i")?;
+    assert!(rt; votes.voted.has(&input));
+    assert!(rt; votes.accepts.has(&input));
+    assert!(rt; votes.confirms.has(&input));
     Ok(())
 }

@@ -88,13 +88,13 @@ pub(crate) fn fired(alloc: Global, given: &Given) -> Result<Given, AllocError>
     Ok(given)
 }
 
-/// The votes with the ballot one counter up, its value chosen as after a raise. An error says that
-/// memory is short.
-pub(crate) fn bumped(alloc: Global, votes: &Votes) -> Result<Votes, AllocError>
+/// The votes with the ballot one counter up, its value chosen as after a raise. It takes no memory; an error
+/// says that a value has too many owners.
+pub(crate) fn bumped(votes: &Votes) -> Result<Votes, AllocError>
     requires { counter_of votes.now.ballot < 4294967295 }
     ensures { IfOk result (λ w. w ≡ bumped votes.now votes.now.ballot) }
 {
-    let mut next = votes.try_copy(alloc)?;
+    let mut next = votes.try_copy()?;
     if let Some(ballot) = &votes.ballot {
         next.ballot = Some(raised(votes, ballot, ballot.counter + 1).try_copy()?);
     }

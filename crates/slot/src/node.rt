@@ -67,7 +67,7 @@ impl Node {
         Node {
             listener: Listener::new(alloc, Configured { name, slot, slices }),
             given: Given::nothing(alloc),
-            votes: Votes::none(alloc),
+            votes: Votes::none(),
         }
     }
 
@@ -83,7 +83,7 @@ impl Node {
         Ok(Node {
             listener: self.listener.try_copy(alloc, archive)?,
             given: self.given.try_copy(alloc)?,
-            votes: self.votes.try_copy(alloc)?,
+            votes: self.votes.try_copy()?,
         })
     }
 
@@ -236,7 +236,7 @@ impl Node {
         ensures kept { Keeps archive.old archive.new }
     {
         let given = proposed(alloc, self.listener.configured(), &self.given, value)?;
-        let votes = self.votes.try_copy(alloc)?;
+        let votes = self.votes.try_copy()?;
         self.settle(alloc, archive, given, votes, copies)
     }
 
@@ -263,7 +263,7 @@ impl Node {
             return Ok(given_out);
         }
         let given = in_next_round(alloc, self.listener.configured(), &self.given, round)?;
-        let votes = self.votes.try_copy(alloc)?;
+        let votes = self.votes.try_copy()?;
         self.settle(alloc, archive, given, votes, copies)
     }
 
@@ -290,7 +290,7 @@ impl Node {
             return Ok(given_out);
         }
         let given = fired(alloc, &self.given)?;
-        let votes = bumped(alloc, &self.votes)?;
+        let votes = bumped(&self.votes)?;
         self.settle(alloc, archive, given, votes, copies)
     }
 

@@ -17,8 +17,8 @@ pub(crate) fn sent_nomination(alloc: Global, votes: &Votes) -> Result<Option<Sta
 {
     if votes.voted.as_slice().len() > 0 || votes.accepts.as_slice().len() > 0 {
         Ok(Some(Statement::Nominate {
-            voted: votes.voted.try_copy(alloc)?,
-            accepted: votes.accepts.try_copy(alloc)?,
+            voted: votes.voted.to_values(alloc)?,
+            accepted: votes.accepts.to_values(alloc)?,
         }))
     } else {
         Ok(None)

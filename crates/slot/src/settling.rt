@@ -78,6 +78,6 @@ fn next_of<S: Sight>(
 ) -> Result<Votes, AllocError>
     ensures { IfOk result (λ w. w ≡ pass own.now (S.seen sight.now) given.now votes.now) }
 {
-    let copy = votes.try_copy(alloc)?;
+    let copy = votes.try_copy()?;
     pass(alloc, own, sight, given, copy)
 }

@@ -8,9 +8,9 @@ use latest::Table;
 use std::mem::size_of;
 use types::Votes;
 
-const _: () = prove!(size_of::<Node>() - size_of::<Table>() <= 560);
+const _: () = prove!(size_of::<Node>() - size_of::<Table>() <= 544);
 
-const _: () = prove!(size_of::<Votes>() <= 200);
+const _: () = prove!(size_of::<Votes>() <= 176);
 
 const _: () = prove!(size_of::<FiledEvent>() <= 40);
 

@@ -14,7 +14,7 @@ use scripts::{
 use slot::{FiledEvent, FiledOut, Node};
 use std::alloc::{AllocError, Global};
 use std::marker::Model;
-use types::{Ballot, Envelope, Kind, Nested, NodeId, Phase, Values, Votes};
+use types::{Ballot, Envelope, Kind, Nested, NodeId, Phase, SharedValues, Votes};
 
 /// One node at slot 1, with the archive of its envelopes.
 #[derive(Drop)]
@@ -299,7 +299,7 @@ fn push_votes(text: &mut String, votes: &Votes) -> Result<(), AllocError> {
     )
 }
 
-fn push_set(text: &mut String, word: &str, values: &Values) -> Result<(), AllocError> {
+fn push_set(text: &mut String, word: &str, values: &SharedValues) -> Result<(), AllocError> {
     text.push_str(word)?;
     for value in values.as_slice() {
         text.push(' ')?;

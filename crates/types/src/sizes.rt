@@ -10,7 +10,7 @@ const _: () = prove!(size_of::<Statement>() <= 64);
 
 const _: () = prove!(size_of::<Envelope>() <= 160);
 
-const _: () = prove!(size_of::<Votes>() <= 200);
+const _: () = prove!(size_of::<Votes>() <= 176);
 
 const _: () = prove!(size_of::<Out>() <= 160);
 

@@ -4,8 +4,8 @@ ghost use Rattle.std.specs.Prelude.{◌≡◌, ◌↔◌, ◌++◌, ◌∷◌, [
 
 use crate::ballot::{Ballot, copy_of, is_same};
 use crate::node_id::NodeId;
+use crate::shared_values::SharedValues;
 use crate::value::Value;
-use crate::values::Values;
 use std::alloc::{AllocError, Global};
 use std::marker::Model;
 
@@ -118,11 +118,11 @@ impl Given {
 #[derive(Debug, Drop)]
 pub struct Votes {
     /// The values that it votes to nominate, ascending.
-    pub voted: Values,
+    pub voted: SharedValues,
     /// The values that it accepts as nominated, ascending.
-    pub accepts: Values,
+    pub accepts: SharedValues,
     /// The values that it confirms as nominated, ascending.
-    pub confirms: Values,
+    pub confirms: SharedValues,
     /// How far its balloting is.
     pub phase: Phase,
     /// The ballot that it tries to prepare and to commit; none before the first.
@@ -147,13 +147,13 @@ pub struct Votes {
 
 impl Votes {
     /// No votes. It takes no memory.
-    pub fn none(alloc: Global) -> Votes
+    pub fn none() -> Votes
         ensures { result ≡ record { voted = []; accepts = []; confirms = []; phase = Phase.Preparing; ballot = None; prepared = None; aborted = 0; high = None; commit = None; lo = 0; hi = 0; armed = 0 } }
     {
         Votes {
-            voted: Values::empty(alloc),
-            accepts: Values::empty(alloc),
-            confirms: Values::empty(alloc),
+            voted: SharedValues::empty(),
+            accepts: SharedValues::empty(),
+            confirms: SharedValues::empty(),
             phase: Phase::Preparing,
             ballot: None,
             prepared: None,
@@ -166,15 +166,15 @@ impl Votes {
         }
     }
 
-    /// A copy, which shares the bytes of each value. An error says that memory is short, or that a value
-    /// has too many owners.
-    pub fn try_copy(&self, alloc: Global) -> Result<Votes, AllocError>
+    /// The same votes, which share their values. It takes no memory; an error says that a value, or a list of
+    /// values, has too many owners.
+    pub fn try_copy(&self) -> Result<Votes, AllocError>
         ensures { IfOk result (λ w. w ≡ self.now) }
     {
         Ok(Votes {
-            voted: self.voted.try_copy(alloc)?,
-            accepts: self.accepts.try_copy(alloc)?,
-            confirms: self.confirms.try_copy(alloc)?,
+            voted: self.voted.try_copy()?,
+            accepts: self.accepts.try_copy()?,
+            confirms: self.confirms.try_copy()?,
             phase: self.phase,
             ballot: copy_of(&self.ballot)?,
             prepared: copy_of(&self.prepared)?,

@@ -125,7 +125,8 @@ fn is_ascending(items: &[Value]) -> bool
     }
 }
 
-fn are_same(items: &[Value], others: &[Value]) -> bool
+/// Whether both lists have the same values, in the same order.
+pub(crate) fn are_same(items: &[Value], others: &[Value]) -> bool
     ensures { IsTrue result ↔ items.now ≡ others.now }
 {
     match items {
