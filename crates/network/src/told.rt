@@ -17,6 +17,7 @@ use envstore::{Archive, Filed, Shelf};
 use slot::{FiledEvent, FiledOut, Node};
 use std::alloc::{AllocError, Global};
 use std::marker::Model;
+use std::mem;
 use types::{Kind, Out};
 
 /// The most emissions of one event.
@@ -32,12 +33,14 @@ pub(crate) struct Noted {
 }
 
 /// What a hosted node has emitted since its slot was opened, in order, with the places of each kind: so the
-/// emission of a kind with a number is found at once, however many there are.
+/// emission of a kind with a number is found at once, however many there are. Room for the numbers of the next
+/// event's emissions is kept where the last event had none, as most have.
 #[derive(Drop)]
 pub(crate) struct Told {
     emitted: Vec<Filed>,
     nominations: Vec<usize>,
     ballots: Vec<usize>,
+    room: Vec<u64>,
 }
 
 impl Model for Told {
@@ -67,6 +70,7 @@ impl Told {
             emitted: Vec::new(alloc),
             nominations: Vec::new(alloc),
             ballots: Vec::new(alloc),
+            room: Vec::new(alloc),
         }
     }
 
@@ -118,7 +122,9 @@ impl Told {
         ensures filed { IfOk result (λ a. AreFiledOuts archive.new a.outs.items) }
         ensures kept { Keeps archive.old archive.new }
     {
-        let mut marks = Vec::with_capacity(alloc, MOST_EMISSIONS)?;
+        let mut marks = mem::replace(&mut self.room, Vec::new(alloc));
+        marks.clear();
+        marks.reserve(MOST_EMISSIONS)?;
         self.emitted.reserve(MOST_EMISSIONS)?;
         self.nominations.reserve(MOST_EMISSIONS)?;
         self.ballots.reserve(MOST_EMISSIONS)?;
@@ -133,9 +139,21 @@ impl Told {
         );
         Ok(Noted {
             outs: given_out.outs,
-            marks,
+            marks: given_or_kept(alloc, marks, &mut self.room),
             copies: given_out.copies,
         })
+    }
+}
+
+/// The numbers, where there are any; the room of none is kept.
+fn given_or_kept(alloc: Global, marks: Vec<u64>, room: &mut Vec<u64>) -> Vec<u64>
+    ensures { result.items ≡ marks.items }
+{
+    if marks.is_empty() {
+        *room = marks;
+        Vec::new(alloc)
+    } else {
+        marks
     }
 }
 

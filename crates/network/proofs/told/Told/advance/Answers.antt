@@ -9,14 +9,13 @@ pub tell_all-requires-clause-room : goal.tell_all-requires-clause-room
 tell_all-requires-clause-room g c =
     let given = ap outs_of c.deref.ensures.value ∙ c.in_ok-given_out.ensures.outs in
     let few : length (emissions (outs_of c.deref.result.now)) ≤ 2 = subst (λ (os : List Out). length (emissions os) ≤ 2) (sym given) (few_emissions c.args.node.now.node (event_of c.args.event)) in
-    let r1 = c.in_ok-reserve.ensures.ok in
-    let r2 = c.in_ok-reserve-2.ensures.ok in
-    let r3 = c.in_ok-reserve-3.ensures.ok in
-    let m1 = c.in_ok-marks.ensures.len in
-    let m2 = c.in_ok-marks.ensures.capacity in
+    let r0 = c.in_ok-reserve.ensures.ok in
+    let r1 = c.in_ok-reserve-2.ensures.ok in
+    let r2 = c.in_ok-reserve-3.ensures.ok in
+    let r3 = c.in_ok-reserve-4.ensures.ok in
     record {
       emissions = omega (arith, few, r1);
       nominations_room = omega (arith, few, r2);
       ballots_room = omega (arith, few, r3);
-      marks_room = omega (arith, few, m1, m2);
+      marks_room = omega (arith, few, r0);
     }
