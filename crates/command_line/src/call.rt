@@ -104,7 +104,7 @@ pub fn read_call<S: AsStr>(alloc: Global, words: &[S]) -> Result<Call, Usage>
     }
 }
 
-// Gives the words to clap, of which only its refusal counts.
+/// Gives the words to clap, of which only its refusal counts.
 fn ask_clap<S: AsStr>(alloc: Global, words: &[S]) -> Result<(), Usage>
     ensures agrees { OnOk result (clap_faults (map S.text words.now) ≡ []) }
     ensures taken { clap_takes (map S.text words.now) ≡ true → IsOkUnless result NoMemory }
@@ -116,7 +116,7 @@ fn ask_clap<S: AsStr>(alloc: Global, words: &[S]) -> Result<(), Usage>
     }
 }
 
-// What clap's refusal is to the user.
+/// What clap's refusal is to the user.
 fn usage_of(alloc: Global, error: &Error) -> Usage
     ensures { kind_of error.now ≡ OutOfMemory → result ≡ NoMemory }
 {
@@ -131,7 +131,7 @@ fn usage_of(alloc: Global, error: &Error) -> Usage
     }
 }
 
-// The call that the words are, if they have the form of one.
+/// The call that the words are, if they have the form of one.
 fn call_of<S: AsStr>(alloc: Global, words: &[S]) -> Result<Option<Call>, AllocError>
     ensures { IfOk result (λ call. call ≡ call_in (map S.text words.now)) }
 {
@@ -154,7 +154,7 @@ fn call_of<S: AsStr>(alloc: Global, words: &[S]) -> Result<Option<Call>, AllocEr
     }
 }
 
-// The call of `table` with these words behind it, if they are one file.
+/// The call of `table` with these words behind it, if they are one file.
 fn table_call<S: AsStr>(alloc: Global, rest: &[S]) -> Result<Option<Call>, AllocError>
     ensures { IfOk result (λ call. call ≡ table_with (map S.text rest.now)) }
 {
@@ -167,8 +167,8 @@ fn table_call<S: AsStr>(alloc: Global, rest: &[S]) -> Result<Option<Call>, Alloc
     }
 }
 
-// The call of `run` with these words behind it, if they are one script, and how many workers there are
-// before or behind it.
+/// The call of `run` with these words behind it, if they are one script, and how many workers there are
+/// before or behind it.
 fn run_call<S: AsStr>(alloc: Global, rest: &[S]) -> Result<Option<Call>, AllocError>
     ensures { IfOk result (λ call. call ≡ run_with (map S.text rest.now)) }
 {
@@ -178,7 +178,7 @@ fn run_call<S: AsStr>(alloc: Global, rest: &[S]) -> Result<Option<Call>, AllocEr
     }
 }
 
-// The call of `run` with so many workers and these operands, if they are one script.
+/// The call of `run` with so many workers and these operands, if they are one script.
 fn run_of<S: AsStr>(
     alloc: Global,
     workers: Option<PoolSize>,
@@ -195,8 +195,8 @@ fn run_of<S: AsStr>(
     }
 }
 
-// The call of `closure` with these words behind it, if they are a script and a subject, and the form before
-// or behind them.
+/// The call of `closure` with these words behind it, if they are a script and a subject, and the form before
+/// or behind them.
 fn closure_call<S: AsStr>(alloc: Global, rest: &[S]) -> Result<Option<Call>, AllocError>
     ensures { IfOk result (λ call. call ≡ closure_with (map S.text rest.now)) }
 {
@@ -206,7 +206,7 @@ fn closure_call<S: AsStr>(alloc: Global, rest: &[S]) -> Result<Option<Call>, All
     }
 }
 
-// The call of `closure` with this form and these operands, if they are a script and a subject.
+/// The call of `closure` with this form and these operands, if they are a script and a subject.
 fn closure_of<S: AsStr>(
     alloc: Global,
     format: Format,
@@ -231,8 +231,8 @@ fn closure_of<S: AsStr>(
     }
 }
 
-// The call of `compare` with these words behind it, if they are two scripts and a subject, and the option
-// before or behind them.
+/// The call of `compare` with these words behind it, if they are two scripts and a subject, and the option
+/// before or behind them.
 fn compare_call<S: AsStr>(alloc: Global, rest: &[S]) -> Result<Option<Call>, AllocError>
     ensures { IfOk result (λ call. call ≡ compare_with (map S.text rest.now)) }
 {
@@ -242,7 +242,7 @@ fn compare_call<S: AsStr>(alloc: Global, rest: &[S]) -> Result<Option<Call>, All
     }
 }
 
-// The call of `compare` with these operands, if they are two scripts and a subject.
+/// The call of `compare` with these operands, if they are two scripts and a subject.
 fn compare_of<S: AsStr>(
     alloc: Global,
     explain: bool,
@@ -269,7 +269,7 @@ fn compare_of<S: AsStr>(
     }
 }
 
-// The call of `crowd` with these words behind it, if they are two scripts and a subject.
+/// The call of `crowd` with these words behind it, if they are two scripts and a subject.
 fn crowd_call<S: AsStr>(alloc: Global, rest: &[S]) -> Result<Option<Call>, AllocError>
     ensures { IfOk result (λ call. call ≡ crowd_with (map S.text rest.now)) }
 {
@@ -279,7 +279,7 @@ fn crowd_call<S: AsStr>(alloc: Global, rest: &[S]) -> Result<Option<Call>, Alloc
     }
 }
 
-// The call of `crowd` with these operands, if they are two scripts and a subject.
+/// The call of `crowd` with these operands, if they are two scripts and a subject.
 fn crowd_of<S: AsStr>(alloc: Global, operands: &[S]) -> Result<Option<Call>, AllocError>
     ensures { IfOk result (λ call. call ≡ crowd_of (map S.text operands.now)) }
 {

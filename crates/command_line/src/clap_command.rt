@@ -7,10 +7,10 @@ ghost use Rattle.command_line.specs.ClapCommand.{closure_command, compare_comman
 use clap::{Arg, ArgAction, Command};
 use std::alloc::{AllocError, Global};
 
-// The version that `--version` prints.
+/// The version that `--version` prints.
 const VERSION: &str = "0.1.0";
 
-// What a table file holds.
+/// What a table file holds.
 const TABLE_HELP: &str =
     "A table file names one node, its slot and its slices, then offers envelopes and asks.
 For example:
@@ -18,7 +18,7 @@ For example:
   put B 2[A,B] prep(1:x,-,0,0,0)
   reach";
 
-// What a script of networks holds, and what a pool does with it.
+/// What a script of networks holds, and what a pool does with it.
 const RUN_HELP: &str =
     "A script declares networks with their nodes, opens slots and puts events to them.
 For example:
@@ -33,7 +33,7 @@ each journal has, and how many jobs were applied, refused and not run. For examp
   scphost run nets.txt --workers 4
   scphost run --workers=4 nets.txt";
 
-// What a closure is.
+/// What a closure is.
 const CLOSURE_HELP: &str =
     "The script is run without printing. Then there is a line for each node that NODE depends on at
 SLOT of network NET, with who named it, and one for each hosted one of them, with those single
@@ -42,7 +42,7 @@ nodes that block its slices. For example:
   scphost closure nets.txt 1 1 A --format svg
   scphost closure --format=dot nets.txt 1 1 A";
 
-// What a comparison says.
+/// What a comparison says.
 const COMPARE_HELP: &str =
     "Both scripts are run without printing. Where what concerns NODE at SLOT of network NET is the same
 in both, so is what each hosted node on which it depends gave out: `same` and these. Else the
@@ -51,7 +51,7 @@ first difference is named, and the status is 1. For example:
   scphost compare quiet.txt flooded.txt 1 1 A --explain
   scphost compare --explain quiet.txt flooded.txt 1 1 A";
 
-// What a comparison of what was submitted says.
+/// What a comparison of what was submitted says.
 const CROWD_HELP: &str =
     "Both scripts are run without printing. Where the nodes on which NODE depends at SLOT of network NET
 stand on one roster, and the same was submitted for them, applied or refused, so are the answers:
@@ -89,7 +89,7 @@ pub fn command_line<'a>(alloc: Global) -> Result<Command<'a>, AllocError>
         .subcommand(crowd)
 }
 
-// `run SCRIPT`.
+/// `run SCRIPT`.
 fn run_command<'a>(alloc: Global) -> Result<Command<'a>, AllocError>
     ensures { IfOk result (λ c. app_of c ≡ run_command) }
 {
@@ -110,7 +110,7 @@ fn run_command<'a>(alloc: Global) -> Result<Command<'a>, AllocError>
     )
 }
 
-// `closure SCRIPT NET SLOT NODE`.
+/// `closure SCRIPT NET SLOT NODE`.
 fn closure_command<'a>(alloc: Global) -> Result<Command<'a>, AllocError>
     ensures { IfOk result (λ c. app_of c ≡ closure_command) }
 {
@@ -132,7 +132,7 @@ fn closure_command<'a>(alloc: Global) -> Result<Command<'a>, AllocError>
     )
 }
 
-// `compare SCRIPT1 SCRIPT2 NET SLOT NODE`.
+/// `compare SCRIPT1 SCRIPT2 NET SLOT NODE`.
 fn compare_command<'a>(alloc: Global) -> Result<Command<'a>, AllocError>
     ensures { IfOk result (λ c. app_of c ≡ compare_command) }
 {
@@ -159,7 +159,7 @@ fn compare_command<'a>(alloc: Global) -> Result<Command<'a>, AllocError>
     )
 }
 
-// `crowd SCRIPT1 SCRIPT2 NET SLOT NODE`.
+/// `crowd SCRIPT1 SCRIPT2 NET SLOT NODE`.
 fn crowd_command<'a>(alloc: Global) -> Result<Command<'a>, AllocError>
     ensures { IfOk result (λ c. app_of c ≡ crowd_command) }
 {
@@ -180,7 +180,7 @@ fn crowd_command<'a>(alloc: Global) -> Result<Command<'a>, AllocError>
     subject(alloc, command)
 }
 
-// A command with one operand, which it wants, as clap knows it; what its file holds is said behind the help.
+/// A command with one operand, which it wants, as clap knows it; what its file holds is said behind the help.
 fn command_of_file<'a>(
     alloc: Global,
     name: &'a str,
@@ -195,7 +195,7 @@ fn command_of_file<'a>(
     operand(alloc, command, file, help)
 }
 
-// The command with the three operands that name a subject.
+/// The command with the three operands that name a subject.
 fn subject<'a>(alloc: Global, command: Command<'a>) -> Result<Command<'a>, AllocError>
     ensures { IfOk result (λ c. app_of c ≡ with_subject (app_of command.entry)) }
 {
@@ -204,7 +204,7 @@ fn subject<'a>(alloc: Global, command: Command<'a>) -> Result<Command<'a>, Alloc
     operand(alloc, command, "NODE", "The name of the node")
 }
 
-// The command with one operand more, which it wants.
+/// The command with one operand more, which it wants.
 fn operand<'a>(
     alloc: Global,
     command: Command<'a>,
@@ -217,7 +217,7 @@ fn operand<'a>(
     command.arg(operand)
 }
 
-// The command with an option that has a value.
+/// The command with an option that has a value.
 fn option<'a>(
     alloc: Global,
     command: Command<'a>,
@@ -231,7 +231,7 @@ fn option<'a>(
     command.arg(option)
 }
 
-// The command with an option that has none.
+/// The command with an option that has none.
 fn flag<'a>(
     alloc: Global,
     command: Command<'a>,

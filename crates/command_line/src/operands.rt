@@ -22,7 +22,7 @@ pub fn form_and_operands<S: AsStr>(rest: &[S]) -> Option<(Format, &[S])>
     }
 }
 
-// The same, where the option does not stand before the operands.
+/// The same, where the option does not stand before the operands.
 fn form_behind<S: AsStr>(rest: &[S]) -> Option<(Format, &[S])>
     ensures { option_map (λ p. (p.0, map S.text p.1.now)) result ≡ form_behind (map S.text rest.now) }
 {
@@ -32,8 +32,8 @@ fn form_behind<S: AsStr>(rest: &[S]) -> Option<(Format, &[S])>
     }
 }
 
-// The form that the words behind the operands name, where they do and the operands are no options; else it is
-// left out.
+/// The form that the words behind the operands name, where they do and the operands are no options; else it is
+/// left out.
 fn form_chosen<'a, S: AsStr>(
     operands: &'a [S],
     behind: &'a [S],
@@ -56,7 +56,7 @@ fn form_chosen<'a, S: AsStr>(
     }
 }
 
-// The same, where the option is left out.
+/// The same, where the option is left out.
 fn text_form<S: AsStr>(rest: &[S]) -> Option<(Format, &[S])>
     ensures { option_map (λ p. (p.0, map S.text p.1.now)) result ≡ form_or_text (map S.text rest.now) }
 {
@@ -66,7 +66,7 @@ fn text_form<S: AsStr>(rest: &[S]) -> Option<(Format, &[S])>
     }
 }
 
-// The form that the first words name, and the words behind them.
+/// The form that the first words name, and the words behind them.
 fn form_before<S: AsStr>(words: &[S]) -> Option<(Format, &[S])>
     ensures { option_map (λ p. (p.0, map S.text p.1.now)) result ≡ form_before (map S.text words.now) }
 {
@@ -83,7 +83,7 @@ fn form_before<S: AsStr>(words: &[S]) -> Option<(Format, &[S])>
     }
 }
 
-// The form that an option asks for in one word.
+/// The form that an option asks for in one word.
 fn attached_form(option: &str) -> Option<Format>
     ensures { result ≡ attached_form option.now }
 {
@@ -95,7 +95,7 @@ fn attached_form(option: &str) -> Option<Format>
     }
 }
 
-// The form that the first word names, and the words behind it.
+/// The form that the first word names, and the words behind it.
 fn form_named<S: AsStr>(words: &[S]) -> Option<(Format, &[S])>
     ensures { option_map (λ p. (p.0, map S.text p.1.now)) result ≡ form_named (map S.text words.now) }
 {
@@ -127,7 +127,7 @@ pub fn explain_and_operands<S: AsStr>(rest: &[S]) -> Option<(bool, &[S])>
     }
 }
 
-// The same, where the option does not stand before the operands.
+/// The same, where the option does not stand before the operands.
 fn explain_behind<S: AsStr>(rest: &[S]) -> Option<(bool, &[S])>
     ensures { option_map (λ p. (p.0, map S.text p.1.now)) result ≡ explain_behind (map S.text rest.now) }
 {
@@ -144,7 +144,7 @@ fn explain_behind<S: AsStr>(rest: &[S]) -> Option<(bool, &[S])>
     }
 }
 
-// The same, where the option is left out.
+/// The same, where the option is left out.
 fn unexplained<S: AsStr>(rest: &[S]) -> Option<(bool, &[S])>
     ensures { option_map (λ p. (p.0, map S.text p.1.now)) result ≡ unexplained (map S.text rest.now) }
 {
@@ -154,7 +154,7 @@ fn unexplained<S: AsStr>(rest: &[S]) -> Option<(bool, &[S])>
     }
 }
 
-// The word asks for an explanation.
+/// The word asks for an explanation.
 fn is_explain<S: AsStr>(word: &S) -> bool
     ensures { result ≡ bytes_eq (S.text word.now) (codes "--explain") }
 {
@@ -185,7 +185,7 @@ pub fn are_plain<S: AsStr>(words: &[S]) -> bool
     words.iter().all(|word| is_plain(word))
 }
 
-// The word is no option.
+/// The word is no option.
 fn is_plain<S: AsStr>(word: &S) -> bool
     ensures { result ≡ plain_word (S.text word.now) }
 {

@@ -22,7 +22,7 @@ pub fn pool_and_operands<S: AsStr>(rest: &[S]) -> Option<(Option<PoolSize>, &[S]
     }
 }
 
-// The same, where the option does not stand before the operand.
+/// The same, where the option does not stand before the operand.
 fn workers_behind<S: AsStr>(rest: &[S]) -> Option<(Option<PoolSize>, &[S])>
     ensures { option_map (λ p. (p.0, map S.text p.1.now)) result ≡ workers_behind (map S.text rest.now) }
 {
@@ -32,8 +32,8 @@ fn workers_behind<S: AsStr>(rest: &[S]) -> Option<(Option<PoolSize>, &[S])>
     }
 }
 
-// How many workers the words behind the operands ask for, where they do and the operands are no options; else
-// none.
+/// How many workers the words behind the operands ask for, where they do and the operands are no options; else
+/// none.
 fn workers_chosen<'a, S: AsStr>(
     operands: &'a [S],
     behind: &'a [S],
@@ -47,7 +47,7 @@ fn workers_chosen<'a, S: AsStr>(
     }
 }
 
-// So many workers, where nothing stands behind their number and the operands are no options; else none.
+/// So many workers, where nothing stands behind their number and the operands are no options; else none.
 fn workers_only<'a, S: AsStr>(
     workers: PoolSize,
     more: &'a [S],
@@ -62,7 +62,7 @@ fn workers_only<'a, S: AsStr>(
     }
 }
 
-// So many workers, where the operands are no options; else none.
+/// So many workers, where the operands are no options; else none.
 fn workers_alone<'a, S: AsStr>(
     workers: PoolSize,
     operands: &'a [S],
@@ -77,7 +77,7 @@ fn workers_alone<'a, S: AsStr>(
     }
 }
 
-// The same, where the option is left out.
+/// The same, where the option is left out.
 fn without_workers<S: AsStr>(rest: &[S]) -> Option<(Option<PoolSize>, &[S])>
     ensures { option_map (λ p. (p.0, map S.text p.1.now)) result ≡ without_workers (map S.text rest.now) }
 {
@@ -87,7 +87,7 @@ fn without_workers<S: AsStr>(rest: &[S]) -> Option<(Option<PoolSize>, &[S])>
     }
 }
 
-// How many workers the first words ask for, and the words behind them.
+/// How many workers the first words ask for, and the words behind them.
 fn workers_before<S: AsStr>(words: &[S]) -> Option<(PoolSize, &[S])>
     ensures { option_map (λ p. (p.0, map S.text p.1.now)) result ≡ workers_before (map S.text words.now) }
 {
@@ -104,7 +104,7 @@ fn workers_before<S: AsStr>(words: &[S]) -> Option<(PoolSize, &[S])>
     }
 }
 
-// How many workers an option of one word asks for.
+/// How many workers an option of one word asks for.
 fn attached_workers(option: &[u8]) -> Option<PoolSize>
     ensures { result ≡ attached_workers option.now }
 {
@@ -114,14 +114,14 @@ fn attached_workers(option: &[u8]) -> Option<PoolSize>
     }
 }
 
-// What stands behind these bytes at the beginning of a word.
+/// What stands behind these bytes at the beginning of a word.
 fn behind<'a>(front: &[u8], word: &'a [u8]) -> Option<&'a [u8]>
     ensures { option_map (λ w. w.now) result ≡ behind front.now word.entry.now }
 {
     word.strip_prefix(front)
 }
 
-// How many workers the first word asks for, and the words behind it.
+/// How many workers the first word asks for, and the words behind it.
 fn workers_named<S: AsStr>(words: &[S]) -> Option<(PoolSize, &[S])>
     ensures { option_map (λ p. (p.0, map S.text p.1.now)) result ≡ workers_named (map S.text words.now) }
 {
@@ -134,7 +134,7 @@ fn workers_named<S: AsStr>(words: &[S]) -> Option<(PoolSize, &[S])>
     }
 }
 
-// How many workers a word asks for.
+/// How many workers a word asks for.
 fn workers_in(word: &[u8]) -> Option<PoolSize>
     ensures { result ≡ workers_in word.now }
 {

@@ -119,7 +119,7 @@ impl Draft {
 }
 
 impl Reserved {
-    // The configuration takes it.
+    /// The configuration takes it.
     fn is_allowed(&self) -> bool
         ensures { result ≡ is_roster self.now.names.items self.now.shares }
     {
@@ -135,14 +135,14 @@ impl Reserved {
     }
 }
 
-// A node has the name.
+/// A node has the name.
 fn has_node(nodes: &[Host], name: &NodeId) -> bool
     ensures { result ≡ list_any (λ host. host.name == name.now) nodes.now }
 {
     nodes.iter().any(|node| *node.name() == *name)
 }
 
-// No name stands twice.
+/// No name stands twice.
 fn all_differ(names: &[NodeId]) -> bool
     ensures { result ≡ names_differ names.now }
 {
@@ -152,7 +152,7 @@ fn all_differ(names: &[NodeId]) -> bool
     }
 }
 
-// The name is among them.
+/// The name is among them.
 fn has_name(names: &[NodeId], name: &NodeId) -> bool
     ensures { result ≡ list_any (λ w. w == name.now) names.now }
 {

@@ -90,7 +90,7 @@ impl OpenSlot {
         push_speakers(text, &self.speakers)
     }
 
-    // An event of a node has given this out, in order.
+    /// An event of a node has given this out, in order.
     fn note(&mut self, node: &NodeId, outs: &[Out]) -> Result<(), AllocError>
         ensures { OnOk result (self.new ≡ fold (given_out node.now) self.old outs.now) }
     {
@@ -100,7 +100,7 @@ impl OpenSlot {
         Ok(())
     }
 
-    // An event of a node has given this out.
+    /// An event of a node has given this out.
     fn note_out(&mut self, node: &NodeId, out: &Out) -> Result<(), AllocError>
         ensures { OnOk result (self.new ≡ given_out node.now self.old out.now) }
     {
@@ -111,7 +111,7 @@ impl OpenSlot {
         }
     }
 
-    // A node has emitted.
+    /// A node has emitted.
     fn emitted(&mut self, from: NodeId, kind: Kind) -> Result<(), AllocError>
         ensures { OnOk result (self.new ≡ emitted from kind self.old) }
     {
@@ -126,7 +126,7 @@ impl OpenSlot {
 }
 
 impl Speaker {
-    // A node that has emitted and decided nothing.
+    /// A node that has emitted and decided nothing.
     fn new(name: NodeId) -> Speaker
         ensures { result ≡ silent name }
     {
@@ -138,7 +138,7 @@ impl Speaker {
         }
     }
 
-    // One emission more of a kind: its number.
+    /// One emission more of a kind: its number.
     fn count(&mut self, kind: Kind) -> Result<u64, AllocError>
         ensures number { IfOk result (λ n. n ≡ count_of kind self.old + 1) }
         ensures counted { OnOk result (self.new ≡ with_emission kind self.old) }
@@ -155,7 +155,7 @@ impl Speaker {
         }
     }
 
-    // It has externalized.
+    /// It has externalized.
     fn decide(&mut self, value: &Value) -> Result<(), AllocError>
         ensures { OnOk result (self.new ≡ with_decision value.now self.old) }
     {
@@ -164,7 +164,7 @@ impl Speaker {
         Ok(())
     }
 
-    // Adds a space, its name, `=`, and its value or `-`.
+    /// Adds a space, its name, `=`, and its value or `-`.
     fn push_to(&self, text: &mut String) -> Result<(), AllocError>
         ensures { OnOk result (string_bytes text.new ≡ string_bytes text.old ++ text_of_speaker self.now) }
     {
@@ -281,7 +281,7 @@ impl OpenSlots {
         }
     }
 
-    // One event of a node at a slot has given this out.
+    /// One event of a node at a slot has given this out.
     fn note_at(&mut self, slot: u64, node: &NodeId, outs: &[Out]) -> Result<(), AllocError>
         ensures { OnOk result (self.new ≡ record self.old { slots = changed_at self.old.slots slot (λ o. fold (given_out node.now) o outs.now) }) }
     {
@@ -292,14 +292,14 @@ impl OpenSlots {
     }
 }
 
-// The nodes of these names, which have emitted and decided nothing.
+/// The nodes of these names, which have emitted and decided nothing.
 fn silent_nodes(alloc: Global, names: &[NodeId]) -> Result<Vec<Speaker>, AllocError>
     ensures { IfOk result (λ nodes. nodes.items ≡ map silent names.now) }
 {
     names.iter().map(|name| Speaker::new(*name)).collect(alloc)
 }
 
-// One more.
+/// One more.
 fn one_more(count: u64) -> Result<u64, AllocError>
     ensures { IfOk result (λ n. n ≡ count + 1) }
 {
@@ -310,7 +310,7 @@ fn one_more(count: u64) -> Result<u64, AllocError>
     }
 }
 
-// The node of a name has emitted once more of a kind: the number of that emission.
+/// The node of a name has emitted once more of a kind: the number of that emission.
 fn count_in(speakers: &mut [Speaker], name: &NodeId, kind: Kind) -> Result<Option<u64>, AllocError>
     ensures number { IfOk result (λ n. n ≡ next_number speakers.old name.now kind) }
     ensures counted { OnOk result (speakers.new ≡ with_speaker name.now (with_emission kind) speakers.old) }
@@ -324,7 +324,7 @@ fn count_in(speakers: &mut [Speaker], name: &NodeId, kind: Kind) -> Result<Optio
     }
 }
 
-// The node of a name has externalized.
+/// The node of a name has externalized.
 fn decide_in(speakers: &mut [Speaker], name: &NodeId, value: &Value) -> Result<(), AllocError>
     ensures { OnOk result (speakers.new ≡ with_speaker name.now (with_decision value.now) speakers.old) }
 {
@@ -337,7 +337,7 @@ fn decide_in(speakers: &mut [Speaker], name: &NodeId, value: &Value) -> Result<(
     }
 }
 
-// The place of the node of a name.
+/// The place of the node of a name.
 fn place_of(speakers: &[Speaker], name: &NodeId) -> Option<usize>
     ensures first { result ≡ position_from (λ s. s.name == name.now) 0 speakers.now }
     ensures within { IfSome result (λ place. place < length speakers.now) }
@@ -345,7 +345,7 @@ fn place_of(speakers: &[Speaker], name: &NodeId) -> Option<usize>
     speakers.iter().position(|speaker| speaker.name == *name)
 }
 
-// What was emitted first.
+/// What was emitted first.
 fn first_emitted(outs: &[Out]) -> Option<&Envelope>
     ensures { option_map (λ e. e.now) result ≡ first_emitted outs.now }
 {
@@ -356,7 +356,7 @@ fn first_emitted(outs: &[Out]) -> Option<&Envelope>
     }
 }
 
-// Adds for each node, in order, a space, its name, `=`, and its value or `-`.
+/// Adds for each node, in order, a space, its name, `=`, and its value or `-`.
 fn push_speakers(text: &mut String, speakers: &[Speaker]) -> Result<(), AllocError>
     ensures { OnOk result (string_bytes text.new ≡ string_bytes text.old ++ text_of_speakers speakers.now) }
 {
@@ -366,7 +366,7 @@ fn push_speakers(text: &mut String, speakers: &[Speaker]) -> Result<(), AllocErr
     Ok(())
 }
 
-// Adds a value, or `-` where there is none.
+/// Adds a value, or `-` where there is none.
 fn push_value_or_none(text: &mut String, decided: &Option<Value>) -> Result<(), AllocError>
     ensures { OnOk result (string_bytes text.new ≡ string_bytes text.old ++ text_of_decided decided.now) }
 {

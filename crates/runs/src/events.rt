@@ -32,7 +32,7 @@ pub(crate) fn event_of(
     }
 }
 
-// `I`: the slot is opened.
+/// `I`: the slot is opened.
 fn open(fields: &[&[u8]]) -> Option<Event>
     ensures { result ≡ opened (map (λ field. field.now) fields.now) }
 {
@@ -45,7 +45,7 @@ fn open(fields: &[&[u8]]) -> Option<Event>
     }
 }
 
-// `I`: the slot is closed.
+/// `I`: the slot is closed.
 fn close(fields: &[&[u8]]) -> Option<Event>
     ensures { result ≡ closed (map (λ field. field.now) fields.now) }
 {
@@ -58,8 +58,8 @@ fn close(fields: &[&[u8]]) -> Option<Event>
     }
 }
 
-// `I NAME VALUE`: the node is to propose the bytes of the value, whose number the network tests where they
-// are written as digits.
+/// `I NAME VALUE`: the node is to propose the bytes of the value, whose number the network tests where they
+/// are written as digits.
 fn propose(alloc: Global, fields: &[&[u8]]) -> Result<Option<Event>, AllocError>
     ensures { IfOk result (λ o. o ≡ proposed (map (λ field. field.now) fields.now)) }
 {
@@ -79,7 +79,7 @@ fn propose(alloc: Global, fields: &[&[u8]]) -> Result<Option<Event>, AllocError>
     }))
 }
 
-// The bytes of a proposal: a plain value, or `#` and any even number of digits.
+/// The bytes of a proposal: a plain value, or `#` and any even number of digits.
 fn proposal_of(alloc: Global, word: &[u8]) -> Result<Option<Vec<u8>>, AllocError>
     ensures { IfOk result (λ o. option_map (λ v. v.items) o ≡ word_proposal word.now) }
 {
@@ -92,7 +92,7 @@ fn proposal_of(alloc: Global, word: &[u8]) -> Result<Option<Vec<u8>>, AllocError
     }
 }
 
-// `NAME HEX`: the bytes reach the node.
+/// `NAME HEX`: the bytes reach the node.
 fn deliver(alloc: Global, fields: &[&[u8]]) -> Result<Option<Event>, AllocError>
     ensures { IfOk result (λ o. o ≡ delivered (map (λ field. field.now) fields.now)) }
 {
@@ -111,8 +111,8 @@ fn deliver(alloc: Global, fields: &[&[u8]]) -> Result<Option<Event>, AllocError>
     }))
 }
 
-// `NAME FROM I SLICES STATEMENT`: the bytes of this envelope reach the node. A statement that is not well
-// formed asks for no event.
+/// `NAME FROM I SLICES STATEMENT`: the bytes of this envelope reach the node. A statement that is not well
+/// formed asks for no event.
 fn say(alloc: Global, fields: &[&[u8]]) -> Result<Option<Event>, AllocError>
     ensures { IfOk result (IsRead (AsksSay (map (λ field. field.now) fields.now))) }
 {
@@ -128,7 +128,7 @@ fn say(alloc: Global, fields: &[&[u8]]) -> Result<Option<Event>, AllocError>
     }
 }
 
-// The bytes of the envelope of these words.
+/// The bytes of the envelope of these words.
 fn said(
     alloc: Global,
     from: &[u8],
@@ -151,7 +151,7 @@ fn said(
     Ok(Some(Bytes::new(bytes)))
 }
 
-// Who says it, of which slot, and the statement.
+/// Who says it, of which slot, and the statement.
 fn saying_of(
     alloc: Global,
     from: &[u8],
@@ -172,7 +172,7 @@ fn saying_of(
     }
 }
 
-// `I NAME FROM nom K` or `I NAME FROM bal K`: the node hears an emission.
+/// `I NAME FROM nom K` or `I NAME FROM bal K`: the node hears an emission.
 fn hear(fields: &[&[u8]]) -> Option<Event>
     ensures { result ≡ heard (map (λ field. field.now) fields.now) }
 {
@@ -194,7 +194,7 @@ fn hear(fields: &[&[u8]]) -> Option<Event>
     }
 }
 
-// The emission that words name: by whom, of which kind, and its number.
+/// The emission that words name: by whom, of which kind, and its number.
 fn emission_of(from: &[u8], kind: &[u8], number: &[u8]) -> Option<(NodeId, Kind, u64)>
     ensures { result ≡ emission_in from.now kind.now number.now }
 {
@@ -210,7 +210,7 @@ fn emission_of(from: &[u8], kind: &[u8], number: &[u8]) -> Option<(NodeId, Kind,
     }
 }
 
-// The kind of an emission that a word names.
+/// The kind of an emission that a word names.
 fn kind_of(word: &[u8]) -> Option<Kind>
     ensures { result ≡ kind_in word.now }
 {
@@ -221,7 +221,7 @@ fn kind_of(word: &[u8]) -> Option<Kind>
     }
 }
 
-// `I NAME R`: the node's nomination timer of this round fires.
+/// `I NAME R`: the node's nomination timer of this round fires.
 fn nomination_timer(fields: &[&[u8]]) -> Option<Event>
     ensures { result ≡ nomination_timed (map (λ field. field.now) fields.now) }
 {
@@ -237,7 +237,7 @@ fn nomination_timer(fields: &[&[u8]]) -> Option<Event>
     }
 }
 
-// `I NAME C`: the node's ballot timer for this counter fires.
+/// `I NAME C`: the node's ballot timer for this counter fires.
 fn ballot_timer(fields: &[&[u8]]) -> Option<Event>
     ensures { result ≡ ballot_timed (map (λ field. field.now) fields.now) }
 {
@@ -257,7 +257,7 @@ fn ballot_timer(fields: &[&[u8]]) -> Option<Event>
     }
 }
 
-// `I NAME SLICES`: from now on these are the node's slices at the slot.
+/// `I NAME SLICES`: from now on these are the node's slices at the slot.
 fn reslice(alloc: Global, fields: &[&[u8]]) -> Result<Option<Event>, AllocError>
     ensures { IfOk result (IsRead (AsksReslice (map (λ field. field.now) fields.now))) }
 {
@@ -273,7 +273,7 @@ fn reslice(alloc: Global, fields: &[&[u8]]) -> Result<Option<Event>, AllocError>
     }
 }
 
-// The slot and the node that words name.
+/// The slot and the node that words name.
 fn place_of(slot: &[u8], node: &[u8]) -> Option<(u64, NodeId)>
     ensures { result ≡ place_in slot.now node.now }
 {
@@ -286,7 +286,7 @@ fn place_of(slot: &[u8], node: &[u8]) -> Option<(u64, NodeId)>
     }
 }
 
-// Three fields, where there are as many.
+/// Three fields, where there are as many.
 fn three_of<'a>(fields: &[&'a [u8]]) -> Option<(&'a [u8], &'a [u8], &'a [u8])>
     ensures { option_map (λ r. (r.0.now, r.1.now, r.2.now)) result ≡ three (map (λ field. field.now) fields.now) }
 {
@@ -296,7 +296,7 @@ fn three_of<'a>(fields: &[&'a [u8]]) -> Option<(&'a [u8], &'a [u8], &'a [u8])>
     }
 }
 
-// Five fields, where there are as many.
+/// Five fields, where there are as many.
 fn five_of<'a>(fields: &[&'a [u8]]) -> Option<(&'a [u8], &'a [u8], &'a [u8], &'a [u8], &'a [u8])>
     ensures { option_map (λ r. (r.0.now, r.1.now, r.2.now, r.3.now, r.4.now)) result ≡ five (map (λ field. field.now) fields.now) }
 {

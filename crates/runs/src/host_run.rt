@@ -92,7 +92,7 @@ impl HostRun {
         }
     }
 
-    // Puts an event to the network of a number, whatever it answers.
+    /// Puts an event to the network of a number, whatever it answers.
     fn put(&mut self, number: u32, event: Event) -> Result<(), LineError>
         ensures told { OnOk result (IsPutQuietly number event self.old self.new) }
         ensures bad { result ≡ Err LineError.Bad → HasNoNode self.old.waiting number }
@@ -102,8 +102,8 @@ impl HostRun {
         Ok(())
     }
 
-    // Readies the network of a number for an event that names it: where it is declared and this is the
-    // first, it is put into the world. It is a bad line where the network has no node.
+    /// Readies the network of a number for an event that names it: where it is declared and this is the
+    /// first, it is put into the world. It is a bad line where the network has no node.
     fn begin(&mut self, number: u32) -> Result<(), LineError>
         ensures begun { OnOk result (IsBegun number self.old self.new) }
         ensures bad { result ≡ Err LineError.Bad → HasNoNode self.old.waiting number }
@@ -111,7 +111,7 @@ impl HostRun {
         self.nets.begin(&mut self.world, number)
     }
 
-    // Puts an event to the network of a number, and keeps what settling needs of what it gives out.
+    /// Puts an event to the network of a number, and keeps what settling needs of what it gives out.
     fn apply(&mut self, number: u32, event: Event) -> Result<Result<Vec<Out>, Refusal>, AllocError>
         ensures { IfOk result (λ answer. IsApplied number event answer self.old self.new) }
     {
@@ -123,7 +123,7 @@ impl HostRun {
         Ok(answer)
     }
 
-    // The line that is printed of an event of the network of a number.
+    /// The line that is printed of an event of the network of a number.
     fn answer(&mut self, alloc: Global, number: u32, event: Event) -> Result<String, LineError>
         ensures told { IfOk result (λ text. IsPut number event self.old (string_bytes text) self.new) }
         ensures bad { result ≡ Err LineError.Bad → HasNoNode self.old.waiting number }
@@ -133,7 +133,7 @@ impl HostRun {
         Ok(reply(alloc, &answer)?)
     }
 
-    // The line that is printed of a slot of the network of a number that is to settle.
+    /// The line that is printed of a slot of the network of a number that is to settle.
     fn settle(&mut self, alloc: Global, number: u32, slot: u64) -> Result<String, LineError>
         ensures told { IfOk result (λ text. IsSettled number slot self.old (string_bytes text) self.new) }
         ensures bad { result ≡ Err LineError.Bad → HasNoNode self.old.waiting number }
@@ -142,8 +142,8 @@ impl HostRun {
         Ok(self.settle_begun(alloc, number, slot)?)
     }
 
-    // Hands on what was emitted at a slot, and answers the line that is printed: what each node has
-    // externalized, or the first refusal.
+    /// Hands on what was emitted at a slot, and answers the line that is printed: what each node has
+    /// externalized, or the first refusal.
     fn settle_begun(&mut self, alloc: Global, number: u32, slot: u64) -> Result<String, AllocError>
         ensures { IfOk result (λ text. HasSettled number slot self.old (string_bytes text) self.new) }
     {
@@ -158,21 +158,21 @@ impl HostRun {
         self.line_of(alloc, number, slot, ended)
     }
 
-    // The hosted nodes of a network, ascending, where an event has named it after it was declared.
+    /// The hosted nodes of a network, ascending, where an event has named it after it was declared.
     fn names(&self, number: u32) -> Option<&[NodeId]>
         ensures { option_map (λ names. names.now) result ≡ names_at self.now.followed number }
     {
         self.nets.followed.names(number)
     }
 
-    // Whether a slot of a network is open.
+    /// Whether a slot of a network is open.
     fn is_open(&self, number: u32, slot: u64) -> bool
         ensures { result ≡ is_some (open_slot self.now.followed number slot) }
     {
         self.nets.followed.open_slot(number, slot).is_some()
     }
 
-    // The first emission at a slot that has not been handed on.
+    /// The first emission at a slot that has not been handed on.
     fn waiting(&self, number: u32, slot: u64) -> Option<Emission>
         ensures first { result ≡ waiting self.now.followed number slot }
         ensures small { IfSome result (λ _. handed_at self.now.followed number slot < 2 ^ 63) }
@@ -180,8 +180,8 @@ impl HostRun {
         self.nets.followed.waiting(number, slot)
     }
 
-    // The line of a slot whose emissions have been handed on: the refusal that ended it, or what each node
-    // has externalized.
+    /// The line of a slot whose emissions have been handed on: the refusal that ended it, or what each node
+    /// has externalized.
     fn line_of(
         &self,
         alloc: Global,
@@ -197,8 +197,8 @@ impl HostRun {
         }
     }
 
-    // Hands on each emission at a slot that waits, those that come meanwhile behind the others; answers the
-    // first refusal.
+    /// Hands on each emission at a slot that waits, those that come meanwhile behind the others; answers the
+    /// first refusal.
     fn hand_on_all(
         &mut self,
         number: u32,
@@ -216,8 +216,8 @@ impl HostRun {
         Ok(None)
     }
 
-    // Has each other node hear an emission, ascending; answers the first refusal. Without one, the emission
-    // has been handed on.
+    /// Has each other node hear an emission, ascending; answers the first refusal. Without one, the emission
+    /// has been handed on.
     fn hand_on(
         &mut self,
         number: u32,
@@ -236,7 +236,7 @@ impl HostRun {
         }
     }
 
-    // Has each other node hear an emission, ascending; answers the first refusal.
+    /// Has each other node hear an emission, ascending; answers the first refusal.
     fn tell(
         &mut self,
         number: u32,
@@ -255,7 +255,7 @@ impl HostRun {
         Ok(None)
     }
 
-    // Has a node hear an emission, where it is that of another one; answers the refusal.
+    /// Has a node hear an emission, where it is that of another one; answers the refusal.
     fn hear(
         &mut self,
         number: u32,
@@ -322,7 +322,7 @@ pub fn kept_emissions_are_found()
     ensures { KeptAreFound }
 {}
 
-// The event by which a node hears an emission.
+/// The event by which a node hears an emission.
 fn hearing(slot: u64, node: NodeId, emission: &Emission) -> Event
     ensures { result ≡ Hear slot node emission.now.from emission.now.kind emission.now.number }
 {

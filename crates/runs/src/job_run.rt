@@ -63,7 +63,7 @@ impl JobRun {
         (self.run.into_submission(), self.opens)
     }
 
-    // A slot of the network of a number is to be opened first.
+    /// A slot of the network of a number is to be opened first.
     fn open(&mut self, number: u32, slot: u64) -> Result<(), LineError>
         ensures opened { OnOk result (IsOpened number slot self.old self.new) }
         ensures bad { result ≡ Err LineError.Bad → HasNoNode self.old.submitted.waiting number }
@@ -73,7 +73,7 @@ impl JobRun {
         Ok(())
     }
 
-    // An event of the network of a number is a job. It is a bad line where it closes a slot.
+    /// An event of the network of a number is a job. It is a bad line where it closes a slot.
     fn put(&mut self, number: u32, event: Event) -> Result<(), LineError>
         ensures planned { OnOk result (IsPlanned number event self.old self.new) }
         ensures bad { result ≡ Err LineError.Bad → IsNoJob self.old.submitted.waiting number event }

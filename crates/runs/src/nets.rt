@@ -63,8 +63,8 @@ impl Nets {
         }
     }
 
-    // Declares a network with its budgets. It is a bad line where the number is used already, or where
-    // 4,096 networks are declared.
+    /// Declares a network with its budgets. It is a bad line where the number is used already, or where
+    /// 4,096 networks are declared.
     fn declare(&mut self, number: u32, budgets: Budgets) -> Result<(), LineError>
         ensures absent { OnOk result (waiting_at self.old.waiting number ≡ None) }
         ensures declared { OnOk result (self.new.waiting ≡ waiting_with self.old.waiting number (fresh budgets)) }
@@ -81,8 +81,8 @@ impl Nets {
         self.waiting.declare(number, budgets)
     }
 
-    // Adds a node to a network. It is a bad line where the network is not declared or has been named by an
-    // event, and where the configuration refuses the node.
+    /// Adds a node to a network. It is a bad line where the network is not declared or has been named by an
+    /// event, and where the configuration refuses the node.
     fn host(&mut self, number: u32, name: NodeId, slices: Nested) -> Result<(), LineError>
         ensures hosted { OnOk result (IsRevised number (λ d. with_node d name slices) self.old.waiting self.new.waiting) }
         ensures taken { OnOk result (takes self.old.waiting self.old.named number (Node name slices) ≡ true) }
@@ -96,8 +96,8 @@ impl Nets {
         self.waiting.host(number, name, slices)
     }
 
-    // Gives a network its roster. It is a bad line where the network is not declared or has been named by an
-    // event, and where the configuration refuses the roster.
+    /// Gives a network its roster. It is a bad line where the network is not declared or has been named by an
+    /// event, and where the configuration refuses the roster.
     fn reserve(&mut self, number: u32, roster: Reserved) -> Result<(), LineError>
         ensures reserved { OnOk result
             (IsRevised number (λ d. with_roster d roster.names.items roster.shares) self.old.waiting self.new.waiting) }
@@ -139,7 +139,7 @@ impl Nets {
         self.finish(networks)
     }
 
-    // An event names a network. The configuration is answered where the network waited.
+    /// An event names a network. The configuration is answered where the network waited.
     fn name(&mut self, number: u32) -> Result<Option<NetConfig>, LineError>
         ensures taken { IfOk result (λ named.
             IsTaken number (waiting_at self.old.waiting number) named self.old.waiting self.new.waiting) }
@@ -163,7 +163,7 @@ impl Nets {
     }
 }
 
-// What lines have declared of the network of a number joins, where it has nodes.
+/// What lines have declared of the network of a number joins, where it has nodes.
 fn join_complete<N: Networks>(
     alloc: Global,
     networks: &mut N,

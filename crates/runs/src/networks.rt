@@ -25,7 +25,7 @@ impl Networks for World<VecShelf> {
 
     ghost joins = { logs_joined };
 
-    // Lines declare no number twice, and at most as many networks as there is room for.
+    /// Lines declare no number twice, and at most as many networks as there is room for.
     fn join(&mut self, alloc: Global, config: NetConfig) -> Result<(), AllocError> {
         if self.journal(config.number()).is_some() || self.journals().len() >= MAX_NETWORKS {
             return Ok(());
@@ -43,7 +43,7 @@ impl Networks for Submission {
 
     ghost joins = { declared_once };
 
-    // Lines declare no number twice.
+    /// Lines declare no number twice.
     fn join(&mut self, _alloc: Global, config: NetConfig) -> Result<(), AllocError> {
         if self.config(config.number()).is_some() {
             return Ok(());

@@ -80,7 +80,7 @@ impl QuietRun {
         }
     }
 
-    // Keeps that a line has been run that names a network.
+    /// Keeps that a line has been run that names a network.
     fn note(&mut self, net: u32) -> Result<(), AllocError>
         ensures hosting { self.new.hosting ≡ self.old.hosting }
         ensures trace { OnOk result (self.new.trace ≡ traced net self.old.hosting.logs self.old.trace) }

@@ -52,7 +52,7 @@ pub fn push_outs(text: &mut String, outs: &[Out]) -> Result<(), AllocError>
     Ok(())
 }
 
-// Adds what is given out. Where memory is wanting, a part may have been added.
+/// Adds what is given out. Where memory is wanting, a part may have been added.
 fn push_out(text: &mut String, out: &Out) -> Result<(), AllocError>
     ensures { OnOk result (string_bytes text.new ≡ string_bytes text.old ++ text_of_out out.now) }
 {

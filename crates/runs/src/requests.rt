@@ -46,7 +46,7 @@ pub(crate) fn request_of(alloc: Global, fields: &[&[u8]]) -> Result<(u32, Reques
     }
 }
 
-// The number of the network that a line names, and what it asks for, where it has one of the forms.
+/// The number of the network that a line names, and what it asks for, where it has one of the forms.
 fn asked_by(alloc: Global, fields: &[&[u8]]) -> Result<Option<(u32, Request)>, AllocError>
     ensures { IfOk result (IsRequested (map (λ field. field.now) fields.now)) }
 {
@@ -65,7 +65,7 @@ fn asked_by(alloc: Global, fields: &[&[u8]]) -> Result<Option<(u32, Request)>, A
     }
 }
 
-// What a line of this kind asks for, by the fields after the number of the network.
+/// What a line of this kind asks for, by the fields after the number of the network.
 fn request_by(alloc: Global, verb: Verb, fields: &[&[u8]]) -> Result<Option<Request>, AllocError>
     ensures { IfOk result (IsRequest verb (map (λ field. field.now) fields.now)) }
 {
@@ -81,7 +81,7 @@ fn request_by(alloc: Global, verb: Verb, fields: &[&[u8]]) -> Result<Option<Requ
     }
 }
 
-// `events E bytes B slots S`, where these are budgets that a network can have.
+/// `events E bytes B slots S`, where these are budgets that a network can have.
 fn net_of(fields: &[&[u8]]) -> Option<Request>
     ensures { IsRead (AreAllowed (budgets_in (map (λ field. field.now) fields.now))) result }
 {
@@ -94,7 +94,7 @@ fn net_of(fields: &[&[u8]]) -> Option<Request>
     }
 }
 
-// The numbers of budgets.
+/// The numbers of budgets.
 fn numbers_of(fields: &[&[u8]]) -> Option<(u64, u64, u64)>
     ensures { option_map (λ r. record { events = r.0; bytes = r.1; slots = r.2 }) result ≡ budgets_in (map (λ field. field.now) fields.now) }
 {
@@ -110,7 +110,7 @@ fn numbers_of(fields: &[&[u8]]) -> Option<(u64, u64, u64)>
     }
 }
 
-// The number behind a word, and the fields that follow.
+/// The number behind a word, and the fields that follow.
 fn behind_word<'a, 'b>(fields: &'a [&'b [u8]], word: &[u8]) -> Option<(u64, &'a [&'b [u8]])>
     ensures { option_map (λ r. (r.0, map (λ field. field.now) r.1.now)) result ≡ counted word.now (map (λ field. field.now) fields.now) }
 {
@@ -126,7 +126,7 @@ fn behind_word<'a, 'b>(fields: &'a [&'b [u8]], word: &[u8]) -> Option<(u64, &'a 
     }
 }
 
-// `NAME SLICES`.
+/// `NAME SLICES`.
 fn node_of(alloc: Global, fields: &[&[u8]]) -> Result<Option<Request>, AllocError>
     ensures { IfOk result (IsRead (AsksNode (map (λ field. field.now) fields.now))) }
 {
@@ -142,7 +142,7 @@ fn node_of(alloc: Global, fields: &[&[u8]]) -> Result<Option<Request>, AllocErro
     }
 }
 
-// `own O pair P bytes B opens S NAME,NAME,..`.
+/// `own O pair P bytes B opens S NAME,NAME,..`.
 fn roster_of(alloc: Global, fields: &[&[u8]]) -> Result<Option<Request>, AllocError>
     ensures { IfOk result (IsRead (AsksRoster (map (λ field. field.now) fields.now))) }
 {
@@ -155,7 +155,7 @@ fn roster_of(alloc: Global, fields: &[&[u8]]) -> Result<Option<Request>, AllocEr
     }
 }
 
-// The numbers of shares, and the fields that follow.
+/// The numbers of shares, and the fields that follow.
 fn shares_of<'a, 'b>(fields: &'a [&'b [u8]]) -> Option<(Shares, &'a [&'b [u8]])>
     ensures { option_map (λ r. (r.0, map (λ field. field.now) r.1.now)) result ≡ shares_in (map (λ field. field.now) fields.now) }
 {
@@ -182,7 +182,7 @@ fn shares_of<'a, 'b>(fields: &'a [&'b [u8]]) -> Option<(Shares, &'a [&'b [u8]])>
     }
 }
 
-// The names of the only field.
+/// The names of the only field.
 fn only_names_of(alloc: Global, fields: &[&[u8]]) -> Result<Option<Vec<NodeId>>, AllocError>
     ensures { IfOk result (λ o. option_map (λ v. v.items) o ≡ only_names (map (λ field. field.now) fields.now)) }
 {
@@ -192,7 +192,7 @@ fn only_names_of(alloc: Global, fields: &[&[u8]]) -> Result<Option<Vec<NodeId>>,
     }
 }
 
-// Names with a comma between each and the next.
+/// Names with a comma between each and the next.
 fn names_of(alloc: Global, list: &[u8]) -> Result<Option<Vec<NodeId>>, AllocError>
     ensures { IfOk result (λ o. option_map (λ v. v.items) o ≡ names_in list.now) }
 {
@@ -206,7 +206,7 @@ fn names_of(alloc: Global, list: &[u8]) -> Result<Option<Vec<NodeId>>, AllocErro
     Ok(Some(names))
 }
 
-// The only field is a slot.
+/// The only field is a slot.
 fn settle_at(fields: &[&[u8]]) -> Option<Request>
     ensures { result ≡ settled (map (λ field. field.now) fields.now) }
 {

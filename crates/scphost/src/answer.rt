@@ -30,7 +30,7 @@ impl Answer {
         if self.differs { DIFFERS } else { DONE }
     }
 
-    // Writes the whole text, and hands it on.
+    /// Writes the whole text, and hands it on.
     fn write<W: Write>(&self, out: &mut W) -> io::Result<()>
         ensures { OnOk result (Appends (W.contents out.old) (W.contents out.new) (string_bytes self.now.text)) }
     {

@@ -48,7 +48,7 @@ pub fn compared(
     Ok(Answer { differs, text })
 }
 
-// Whether a verdict finds a difference.
+/// Whether a verdict finds a difference.
 fn is_difference(verdict: &Verdict) -> bool
     ensures { result ≡ is_difference verdict.now }
 {
@@ -58,7 +58,7 @@ fn is_difference(verdict: &Verdict) -> bool
     }
 }
 
-// The lines of a verdict, and behind them what explains a difference, where it is asked for.
+/// The lines of a verdict, and behind them what explains a difference, where it is asked for.
 fn text_of(
     alloc: Global,
     one: Side<'_>,
@@ -76,7 +76,7 @@ fn text_of(
     Ok(text)
 }
 
-// Adds both sides of a difference.
+/// Adds both sides of a difference.
 fn push_explanation(
     alloc: Global,
     text: &mut String,
@@ -92,7 +92,7 @@ fn push_explanation(
     }
 }
 
-// The lines of a verdict.
+/// The lines of a verdict.
 fn plain_text(alloc: Global, verdict: &Verdict) -> Result<String, AllocError>
     ensures { IfOk result (λ text. string_bytes text ≡ text_of_verdict verdict.now) }
 {
@@ -103,7 +103,7 @@ fn plain_text(alloc: Global, verdict: &Verdict) -> Result<String, AllocError>
     }
 }
 
-// Nothing differs: what each hosted member gave out.
+/// Nothing differs: what each hosted member gave out.
 fn same(alloc: Global, members: &[MemberOuts]) -> Result<String, AllocError>
     ensures { IfOk result (λ text. string_bytes text ≡ codes "same" ++ 10 ∷ flat_map line_of_member members.now) }
 {
@@ -112,7 +112,7 @@ fn same(alloc: Global, members: &[MemberOuts]) -> Result<String, AllocError>
     Ok(text)
 }
 
-// Adds a line for each member.
+/// Adds a line for each member.
 fn push_members(text: &mut String, members: &[MemberOuts]) -> Result<(), AllocError>
     ensures { OnOk result (string_bytes text.new ≡ string_bytes text.old ++ flat_map line_of_member members.now) }
 {
@@ -122,7 +122,7 @@ fn push_members(text: &mut String, members: &[MemberOuts]) -> Result<(), AllocEr
     Ok(())
 }
 
-// Adds the line of a member.
+/// Adds the line of a member.
 fn push_member(text: &mut String, member: &MemberOuts) -> Result<(), AllocError>
     ensures { OnOk result (string_bytes text.new ≡ string_bytes text.old ++ line_of_member member.now) }
 {
@@ -132,7 +132,7 @@ fn push_member(text: &mut String, member: &MemberOuts) -> Result<(), AllocError>
     Ok(())
 }
 
-// A node is hosted in one alone, or with other slices.
+/// A node is hosted in one alone, or with other slices.
 fn cast_differs(alloc: Global, node: &NodeId) -> Result<String, AllocError>
     ensures { IfOk result (λ text. string_bytes text ≡ codes "cast differs at " ++ (text_of_name node.now ++ 10 ∷ [])) }
 {

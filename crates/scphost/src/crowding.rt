@@ -46,7 +46,7 @@ pub fn crowded(
     Ok(answer)
 }
 
-// The answer that tells a verdict.
+/// The answer that tells a verdict.
 fn told(alloc: Global, verdict: &Crowd) -> Result<Answer, AllocError>
     ensures { IfOk result (Tells verdict.now) }
 {
@@ -89,7 +89,7 @@ fn told(alloc: Global, verdict: &Crowd) -> Result<Answer, AllocError>
     }
 }
 
-// A line that ends in the name of a node.
+/// A line that ends in the name of a node.
 fn at_node(alloc: Global, words: &str, node: &NodeId) -> Result<String, AllocError>
     ensures { IfOk result (λ text. string_bytes text ≡ line (words.now ++ text_of_name node.now)) }
 {
@@ -99,7 +99,7 @@ fn at_node(alloc: Global, words: &str, node: &NodeId) -> Result<String, AllocErr
     Ok(text)
 }
 
-// Nothing differs: the replies.
+/// Nothing differs: the replies.
 #[tactic(auto, using(crate::proofs::CrowdLines::lines_of_model))]
 fn same(alloc: Global, replies: &Replies) -> Result<String, AllocError>
     ensures { IfOk result (λ text. string_bytes text ≡ line (codes "same") ++ flat_map line_of replies.now) }
@@ -109,7 +109,7 @@ fn same(alloc: Global, replies: &Replies) -> Result<String, AllocError>
     Ok(text)
 }
 
-// Adds a line for each reply. Where memory is wanting, a part may have been added.
+/// Adds a line for each reply. Where memory is wanting, a part may have been added.
 fn push_replies(alloc: Global, text: &mut String, replies: &[Reply]) -> Result<(), AllocError>
     ensures { OnOk result (string_bytes text.new ≡ string_bytes text.old ++ flat_map line_of_replied replies.now) }
 {
@@ -119,7 +119,7 @@ fn push_replies(alloc: Global, text: &mut String, replies: &[Reply]) -> Result<(
     Ok(())
 }
 
-// Adds the line of a reply.
+/// Adds the line of a reply.
 #[tactic(auto, using(crate::proofs::CrowdLines::line_of_one))]
 fn push_reply(alloc: Global, text: &mut String, reply: &Reply) -> Result<(), AllocError>
     ensures { OnOk result (string_bytes text.new ≡ string_bytes text.old ++ line_of_replied reply.now) }

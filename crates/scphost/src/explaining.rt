@@ -22,7 +22,7 @@ pub fn push_nodes(
     push_node(text, other, net, node)
 }
 
-// Adds `FILE: node NET NAME SLICES`, or `FILE: not hosted`.
+/// Adds `FILE: node NET NAME SLICES`, or `FILE: not hosted`.
 fn push_node(text: &mut String, side: Side<'_>, net: u32, node: &NodeId) -> Result<(), AllocError> {
     let file = side.file;
     let Some(journal) = side.script.run().world().journal(net) else {
@@ -58,7 +58,7 @@ pub fn push_steps(
     push_step(text, other, subject, &members, place)
 }
 
-// Adds `FILE:LINE: ..` with the line of the step, or `FILE: end` where there are fewer.
+/// Adds `FILE:LINE: ..` with the line of the step, or `FILE: end` where there are fewer.
 fn push_step(
     text: &mut String,
     side: Side<'_>,
@@ -85,7 +85,7 @@ fn push_step(
     Ok(text.push('\n')?)
 }
 
-// Adds the characters of a line; a script is ASCII.
+/// Adds the characters of a line; a script is ASCII.
 fn push_bytes(text: &mut String, bytes: &[u8]) -> Result<(), AllocError> {
     for byte in bytes {
         text.push(char::from(*byte))?;
@@ -93,7 +93,7 @@ fn push_bytes(text: &mut String, bytes: &[u8]) -> Result<(), AllocError> {
     Ok(())
 }
 
-// Adds which hearing of those that a line hands on it is.
+/// Adds which hearing of those that a line hands on it is.
 fn push_hearing(
     text: &mut String,
     net: u32,
@@ -121,7 +121,7 @@ fn push_hearing(
     }
 }
 
-// The word of a kind of emissions.
+/// The word of a kind of emissions.
 fn word_of_kind(kind: Kind) -> &'static str {
     match kind {
         Kind::Nomination => "nom",

@@ -32,7 +32,7 @@ fn main(rt: HostRuntime) -> ExitCode {
     ExitCode::from(status)
 }
 
-// Reads the words of the command line. A word that is no text is a bad usage.
+/// Reads the words of the command line. A word that is no text is a bad usage.
 fn called<R: Env + AllocGlobal>(rt: &R) -> Result<Call, Usage> {
     let alloc = rt.alloc();
     match env::args(rt) {
@@ -45,7 +45,7 @@ fn called<R: Env + AllocGlobal>(rt: &R) -> Result<Call, Usage> {
     }
 }
 
-// Opens the files of a call in order and carries it out. The file `-` is the standard input.
+/// Opens the files of a call in order and carries it out. The file `-` is the standard input.
 fn open_and_perform<
     R: Files + Input + AllocGlobal + Threads + Wait + Sync + Send + Copy + Drop,
     W: Write,
@@ -61,7 +61,7 @@ fn open_and_perform<
     }
 }
 
-// Opens the file of a call and carries it out.
+/// Opens the file of a call and carries it out.
 fn perform_one<
     R: Files + Input + AllocGlobal + Threads + Wait + Sync + Send + Copy + Drop,
     W: Write,
@@ -76,7 +76,7 @@ fn perform_one<
     }
 }
 
-// Opens both files of a call, the first one first, and carries it out. One of them may be the standard input.
+/// Opens both files of a call, the first one first, and carries it out. One of them may be the standard input.
 fn perform_two<
     R: Files + Input + AllocGlobal + Threads + Wait + Sync + Send + Copy + Drop,
     W: Write,
@@ -95,8 +95,8 @@ fn perform_two<
     perform_with_second(rt, call, &mut first, other, out, err)
 }
 
-// Opens the second file of a call and carries it out. A `-` names no file here, since the first one is the
-// standard input.
+/// Opens the second file of a call and carries it out. A `-` names no file here, since the first one is the
+/// standard input.
 fn perform_with_second<
     R: Files + AllocGlobal + Threads + Wait + Sync + Send + Copy + Drop,
     F: Read,

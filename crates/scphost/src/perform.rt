@@ -88,7 +88,7 @@ pub fn perform<
     }
 }
 
-// Runs the lines of a script in order, or as jobs of so many workers.
+/// Runs the lines of a script in order, or as jobs of so many workers.
 fn perform_run<
     A: AllocGlobal + Threads + Wait + Sync + Send + Copy + Drop,
     R: Read,
@@ -108,8 +108,8 @@ fn perform_run<
     }
 }
 
-// Reads a script whole for the jobs that it gives to a pool of workers, has them run these, and prints what became
-// of the networks.
+/// Reads a script whole for the jobs that it gives to a pool of workers, has them run these, and prints what became
+/// of the networks.
 fn perform_pool<
     A: AllocGlobal + Threads + Wait + Sync + Send + Copy + Drop,
     R: Read,
@@ -124,7 +124,7 @@ fn perform_pool<
     }
 }
 
-// Runs a script without printing, and prints the report of the subject.
+/// Runs a script without printing, and prints the report of the subject.
 fn perform_closure<R: Read, W: Write, E: Write>(
     alloc: Global,
     file: &Word,
@@ -146,7 +146,7 @@ fn perform_closure<R: Read, W: Write, E: Write>(
     }
 }
 
-// Runs a script without printing, then another one, and prints how they compare for the subject.
+/// Runs a script without printing, then another one, and prints how they compare for the subject.
 fn perform_compare<R: Read, T: Read, W: Write, E: Write>(
     alloc: Global,
     files: [&Word; 2],
@@ -183,7 +183,7 @@ fn perform_compare<R: Read, T: Read, W: Write, E: Write>(
     }
 }
 
-// Runs a script for what it submits, then another one, and prints how the answers compare for the subject.
+/// Runs a script for what it submits, then another one, and prints how the answers compare for the subject.
 fn perform_crowd<R: Read, T: Read, W: Write, E: Write>(
     alloc: Global,
     files: [&Word; 2],
@@ -278,8 +278,8 @@ pub fn answer_lines<S: LineRunner, R: BufRead, W: Write>(
     }
 }
 
-// Writes what is still buffered, where something may be. After a write that failed it is given up, so that
-// nothing is written after the failure.
+/// Writes what is still buffered, where something may be. After a write that failed it is given up, so that
+/// nothing is written after the failure.
 fn finish<W: Write + Drop>(buffered: BufWriter<W>, ran: Result<(), Stop>) -> Result<(), Stop>
     ensures { (result ≡ ran) ⊎ (result ≡ Err Stop.CannotWrite) }
 {
@@ -289,8 +289,8 @@ fn finish<W: Write + Drop>(buffered: BufWriter<W>, ran: Result<(), Stop>) -> Res
     if flushed { ran } else { Err(Stop::CannotWrite) }
 }
 
-// Whether a run that ended so leaves nothing to write: no write follows one that failed, and a script that
-// could not be read, or was too long, left nothing in the buffer.
+/// Whether a run that ended so leaves nothing to write: no write follows one that failed, and a script that
+/// could not be read, or was too long, left nothing in the buffer.
 fn leaves_nothing(ran: &Result<(), Stop>) -> bool {
     match ran {
         Err(Stop::CannotWrite | Stop::CannotRead | Stop::TooLong) => true,
@@ -315,7 +315,7 @@ pub fn refuse<W: Write, E: Write>(usage: &Usage, out: &mut W, err: &mut E) -> u8
     }
 }
 
-// The status of a run of the named file.
+/// The status of a run of the named file.
 fn answer<E: Write>(ran: Result<(), Stop>, file: &str, err: &mut E) -> u8
     ensures { IsStatusOf ran result }
 {

@@ -37,8 +37,8 @@ pub fn pooled<A: AllocGlobal + Threads + Wait + Sync + Send + Copy + Drop, R: Re
     }
 }
 
-// Reads a script whole for the jobs of its lines. After the last one the networks that are declared with nodes
-// and that no event has named are declared too. A line that is bad ends it.
+/// Reads a script whole for the jobs of its lines. After the last one the networks that are declared with nodes
+/// and that no event has named are declared too. A line that is bad ends it.
 fn jobs_by<R: Read>(alloc: Global, script: &mut R) -> Result<JobRun, Stop>
     ensures { IfOk result (IsPlannedBy (R.remaining script.old)) }
 {

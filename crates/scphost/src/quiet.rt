@@ -65,7 +65,7 @@ impl Told {
     }
 }
 
-// Runs the lines of a text in order without printing, and ends the run.
+/// Runs the lines of a text in order without printing, and ends the run.
 fn run_to_end(alloc: Global, text: &[u8], traced: bool) -> Result<QuietRun, Stop>
     ensures { IfOk result (HasEnded (start_of traced) text.now) }
 {
@@ -79,7 +79,7 @@ fn run_to_end(alloc: Global, text: &[u8], traced: bool) -> Result<QuietRun, Stop
     }
 }
 
-// Before the first line.
+/// Before the first line.
 fn new_run(alloc: Global, traced: bool) -> QuietRun
     ensures { result ≡ start_of traced }
 {
@@ -90,7 +90,7 @@ fn new_run(alloc: Global, traced: bool) -> QuietRun
     }
 }
 
-// A line of a script, by its number among those that are run, counted from 0.
+/// A line of a script, by its number among those that are run, counted from 0.
 fn run_line(text: &[u8], number: usize) -> Option<Line<'_>>
     requires { length text.now ≤ LONGEST_SCRIPT }
     ensures { IsLineOf text.now number (option_map (λ line. (line.number, line.bytes.now)) result) }
@@ -107,7 +107,7 @@ fn run_line(text: &[u8], number: usize) -> Option<Line<'_>>
     None
 }
 
-// The line is empty or a comment.
+/// The line is empty or a comment.
 fn is_no_record(line: &[u8]) -> bool
     ensures { result ≡ no_record line.now }
 {

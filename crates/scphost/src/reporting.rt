@@ -29,7 +29,7 @@ pub fn reported(
     })
 }
 
-// The report of the subject after a script.
+/// The report of the subject after a script.
 fn report_after(alloc: Global, script: &Told, subject: &Subject) -> Result<Report, AllocError>
     ensures { IfOk result (IsReportOf (log_at script.now.run.hosting.logs subject.now.net) subject.now.slot subject.now.node) }
 {
@@ -39,7 +39,7 @@ fn report_after(alloc: Global, script: &Told, subject: &Subject) -> Result<Repor
     }
 }
 
-// A report in a form.
+/// A report in a form.
 fn text_of(alloc: Global, report: &Report, format: Format) -> Result<String, AllocError>
     ensures { IfOk result (λ text. format ≡ Format.Text → string_bytes text ≡ text_of_report report.now) }
 {

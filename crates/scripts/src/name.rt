@@ -20,7 +20,7 @@ pub fn name_of(word: &[u8]) -> Option<NodeId>
     }
 }
 
-// The bytes of the name that a word spells.
+/// The bytes of the name that a word spells.
 fn bytes_of_word(word: &[u8]) -> Option<[u8; 32]>
     ensures { result ≡ word_bytes word.now }
 {
@@ -33,7 +33,7 @@ fn bytes_of_word(word: &[u8]) -> Option<[u8; 32]>
     Some(with_zeros(word))
 }
 
-// The bytes that 64 lower-case hexadecimal digits spell.
+/// The bytes that 64 lower-case hexadecimal digits spell.
 fn bytes_of_digits(digits: &[u8]) -> Option<[u8; 32]>
     requires { length digits.now ≡ 64 }
     ensures { result ≡ digits_bytes digits.now }
@@ -48,7 +48,7 @@ fn bytes_of_digits(digits: &[u8]) -> Option<[u8; 32]>
     }
 }
 
-// The bytes, and zero bytes after them.
+/// The bytes, and zero bytes after them.
 fn with_zeros(front: &[u8]) -> [u8; 32]
     requires { length front.now ≤ 32 }
     ensures { result ≡ padded front.now }
@@ -58,7 +58,7 @@ fn with_zeros(front: &[u8]) -> [u8; 32]
     bytes
 }
 
-// The name of 32 bytes.
+/// The name of 32 bytes.
 #[tactic(auto, unfolding(crate::specs::Names::name_of_bytes))]
 fn name_in(bytes: &[u8; 32]) -> NodeId
     ensures { result ≡ name_of_bytes bytes.now }
@@ -70,7 +70,7 @@ fn name_in(bytes: &[u8; 32]) -> NodeId
     NodeId::from_words(first, second, third, fourth)
 }
 
-// The number of the eight bytes from a place on.
+/// The number of the eight bytes from a place on.
 fn word_at(bytes: &[u8; 32], from: usize) -> u64
     requires { from ≤ 24 }
     ensures { result ≡ from_be_bytes w64 (take 8 (drop from bytes.now)) }
@@ -88,8 +88,8 @@ pub fn push_name(text: &mut String, name: &NodeId) -> Result<(), AllocError>
     push_bytes(text, &bytes_in(name))
 }
 
-// Adds the bytes of a name: those before the last zero bytes where these are letters and digits, else all of
-// them in hexadecimal.
+/// Adds the bytes of a name: those before the last zero bytes where these are letters and digits, else all of
+/// them in hexadecimal.
 fn push_bytes(text: &mut String, bytes: &[u8; 32]) -> Result<(), AllocError>
     ensures { OnOk result (string_bytes text.new ≡ string_bytes text.old ++ text_of_bytes bytes.now) }
 {
@@ -101,7 +101,7 @@ fn push_bytes(text: &mut String, bytes: &[u8; 32]) -> Result<(), AllocError>
     }
 }
 
-// The bytes before the zero bytes at the end.
+/// The bytes before the zero bytes at the end.
 #[tactic(auto, using(crate::proofs::NameLaws::short_front, crate::proofs::NameLaws::short_all))]
 fn without_zeros(bytes: &[u8]) -> &[u8]
     ensures { result.now ≡ short bytes.now }
@@ -112,7 +112,7 @@ fn without_zeros(bytes: &[u8]) -> &[u8]
     }
 }
 
-// The 32 bytes of a name.
+/// The 32 bytes of a name.
 fn bytes_in(name: &NodeId) -> [u8; 32]
     ensures { result ≡ bytes_of_name name.now }
 {

@@ -27,7 +27,7 @@ pub(crate) fn threshold_of(word: &[u8]) -> Option<u8>
     byte_of(word)
 }
 
-// The number below 2^64 that a word spells.
+/// The number below 2^64 that a word spells.
 fn decimal_of(word: &[u8]) -> Option<u64>
     ensures exactly { IsSome result ↔ IsDecimal word.now × (decimal word.now < 2 ^ 64) }
     ensures some { IfSome result (λ n. n ≡ decimal word.now) }
@@ -39,7 +39,7 @@ fn decimal_of(word: &[u8]) -> Option<u64>
     }
 }
 
-// The number below 2^32 that a word spells.
+/// The number below 2^32 that a word spells.
 fn short_decimal_of(word: &[u8]) -> Option<u32>
     ensures exactly { IsSome result ↔ IsDecimal word.now × (decimal word.now < 2 ^ 32) }
     ensures some { IfSome result (λ n. n ≡ decimal word.now) }
@@ -51,7 +51,7 @@ fn short_decimal_of(word: &[u8]) -> Option<u32>
     Some(number as u32)
 }
 
-// The number below 2^8 that a word spells.
+/// The number below 2^8 that a word spells.
 fn byte_of(word: &[u8]) -> Option<u8>
     ensures exactly { IsSome result ↔ IsDecimal word.now × (decimal word.now < 2 ^ 8) }
     ensures some { IfSome result (λ n. n ≡ decimal word.now) }
@@ -63,7 +63,7 @@ fn byte_of(word: &[u8]) -> Option<u8>
     Some(number as u8)
 }
 
-// The number that digits spell behind a number.
+/// The number that digits spell behind a number.
 #[tactic(auto, using(crate::proofs::NumberLaws::grows))]
 fn digits_from(number: u64, digits: &[u8]) -> Option<u64>
     ensures exactly { IsSome result ↔ AllByRecursion IsDigit digits.now × (decimal_from number digits.now < 2 ^ 64) }
@@ -78,7 +78,7 @@ fn digits_from(number: u64, digits: &[u8]) -> Option<u64>
     }
 }
 
-// The number that one digit behind a number makes.
+/// The number that one digit behind a number makes.
 fn with_digit(number: u64, digit: u8) -> Option<u64>
     ensures exactly { IsSome result ↔ IsDigit digit × (number * 10 + (digit - 48) < 2 ^ 64) }
     ensures some { IfSome result (λ n. n ≡ number * 10 + (digit - 48)) }

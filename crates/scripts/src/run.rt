@@ -80,7 +80,7 @@ pub fn run_script<S: LineRunner, R: Read, W: Write>(
     }
 }
 
-// Runs the lines of a text in order, up to the first that does not run.
+/// Runs the lines of a text in order, up to the first that does not run.
 fn run_lines<S: LineRunner, W: Write>(
     alloc: Global,
     runner: &mut S,
@@ -115,7 +115,7 @@ pub(crate) fn run_line<S: LineRunner, W: Write>(
     }
 }
 
-// Runs one line and answers what it prints.
+/// Runs one line and answers what it prints.
 fn answer<S: LineRunner>(
     alloc: Global,
     runner: &mut S,
@@ -132,7 +132,7 @@ fn answer<S: LineRunner>(
     }
 }
 
-// Writes one printed line.
+/// Writes one printed line.
 fn print<W: Write>(out: &mut W, text: &str) -> Result<(), Stop>
     ensures printed { OnOk result
         (Appends (W.contents out.old) (W.contents out.new) (text.now ++ 10 ∷ [])) }

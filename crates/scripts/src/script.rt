@@ -79,7 +79,7 @@ impl<'a> Iterator for Lines<'a> {
     }
 }
 
-// The first line of a text, and what follows the line feed that ends it.
+/// The first line of a text, and what follows the line feed that ends it.
 #[tactic(auto, using(crate::proofs::ScriptLemmas::line_before_feed, crate::proofs::ScriptLemmas::line_without_feed))]
 fn first_line(text: &[u8]) -> (&[u8], &[u8])
     requires { 0 < length text.now }
@@ -92,7 +92,7 @@ fn first_line(text: &[u8]) -> (&[u8], &[u8])
     }
 }
 
-// The place of the first line feed.
+/// The place of the first line feed.
 fn feed_in(text: &[u8]) -> Option<usize>
     ensures { result ≡ position (λ byte. byte == 10) text.now }
 {
@@ -140,21 +140,21 @@ pub fn fields_of<'a>(alloc: Global, line: &'a [u8]) -> Result<Option<Vec<&'a [u8
     }
 }
 
-// Each byte is below 128.
+/// Each byte is below 128.
 fn is_ascii(line: &[u8]) -> bool
     ensures { result ≡ ascii_test line.now }
 {
     line.iter().all(|byte| *byte < 128)
 }
 
-// The line is empty or begins with `#`.
+/// The line is empty or begins with `#`.
 fn is_no_record(line: &[u8]) -> bool
     ensures { result ≡ no_record_test line.now }
 {
     matches!(line, [] | [b'#', ..])
 }
 
-// The parts of a line round its spaces.
+/// The parts of a line round its spaces.
 fn cut_at_spaces<'a>(alloc: Global, line: &'a [u8]) -> Result<Vec<&'a [u8]>, AllocError>
     ensures { IfOk result (λ parts.
         map (λ part. part.now) parts.items ≡ slice_split (λ byte. byte == 32) line.now) }
@@ -162,14 +162,14 @@ fn cut_at_spaces<'a>(alloc: Global, line: &'a [u8]) -> Result<Vec<&'a [u8]>, All
     line.split(|byte| *byte == b' ').collect(alloc)
 }
 
-// Each of the parts is a field.
+/// Each of the parts is a field.
 fn are_fields(parts: &[&[u8]]) -> bool
     ensures { result ≡ list_all field_test (map (λ part. part.now) parts.now) }
 {
     parts.iter().all(|part| is_field(part))
 }
 
-// There are bytes, and each is a printed character other than the space.
+/// There are bytes, and each is a printed character other than the space.
 fn is_field(bytes: &[u8]) -> bool
     ensures { result ≡ field_test bytes.now }
 {

@@ -25,7 +25,7 @@ pub fn slices_of(alloc: Global, word: &[u8]) -> Result<Option<Nested>, AllocErro
     Nested::new(alloc, set)
 }
 
-// The set at the front of a text, with no more levels of inner sets than so many, and the rest.
+/// The set at the front of a text, with no more levels of inner sets than so many, and the rest.
 #[cycle(reading)]
 fn set_at(
     alloc: Global,
@@ -43,7 +43,7 @@ fn set_at(
     }
 }
 
-// The threshold at the front of a text, and what stands behind its bracket.
+/// The threshold at the front of a text, and what stands behind its bracket.
 fn threshold_at(text: &[u8]) -> Option<(u8, &[u8])>
     ensures { option_map (λ r. (r.0, r.1.now)) result ≡ threshold_front text.now }
 {
@@ -57,7 +57,7 @@ fn threshold_at(text: &[u8]) -> Option<(u8, &[u8])>
     }
 }
 
-// The members at the front of a text, up to the closing bracket, and the rest.
+/// The members at the front of a text, up to the closing bracket, and the rest.
 #[cycle(reading)]
 #[tactic(auto, using(crate::proofs::FrontLaws::read_all, crate::proofs::FrontLaws::read_more, crate::proofs::FrontLaws::read_last, crate::proofs::FrontLaws::read_none, crate::proofs::FrontLaws::read_wrong, crate::proofs::FrontLaws::full))]
 fn members_at(
@@ -83,7 +83,7 @@ fn members_at(
     Ok(None)
 }
 
-// The member at the front of a text, and the rest.
+/// The member at the front of a text, and the rest.
 #[cycle(reading)]
 fn member_at(
     alloc: Global,
@@ -105,7 +105,7 @@ fn member_at(
     }
 }
 
-// The set at the front of a text and the rest, where there may be so many levels of sets.
+/// The set at the front of a text and the rest, where there may be so many levels of sets.
 #[cycle(reading)]
 fn inner_at(
     alloc: Global,
@@ -127,7 +127,7 @@ pub fn push_slices(text: &mut String, slices: &Nested) -> Result<(), AllocError>
     push_set(text, slices.set())
 }
 
-// Adds a set: its threshold, and its members in brackets.
+/// Adds a set: its threshold, and its members in brackets.
 #[tactic(auto, using(crate::proofs::SliceLaws::node_pushed, crate::proofs::SliceLaws::set_pushed, crate::proofs::SliceLaws::set_ended))]
 fn push_set(text: &mut String, set: &SliceSet) -> Result<(), AllocError>
     ensures { OnOk result (string_bytes text.new ≡ string_bytes text.old ++ text_of_slices set.now) }
@@ -147,7 +147,7 @@ fn push_set(text: &mut String, set: &SliceSet) -> Result<(), AllocError>
     text.push(']')
 }
 
-// Adds a comma, but not before the first member.
+/// Adds a comma, but not before the first member.
 fn push_comma(text: &mut String, first: bool) -> Result<(), AllocError>
     ensures { OnOk result (string_bytes text.new ≡ string_bytes text.old ++ comma first) }
 {

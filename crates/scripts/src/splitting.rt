@@ -32,7 +32,7 @@ pub(crate) fn split_twice(text: &[u8], at: u8) -> Option<(&[u8], &[u8], &[u8])>
     }
 }
 
-// The place of the first such byte.
+/// The place of the first such byte.
 fn place_of(text: &[u8], at: u8) -> Option<usize>
     ensures { result ≡ position (λ byte. byte == at) text.now }
 {
@@ -51,7 +51,7 @@ pub(crate) fn plain_front(text: &[u8]) -> (&[u8], &[u8])
     }
 }
 
-// The place of the first byte that is no letter or digit.
+/// The place of the first byte that is no letter or digit.
 fn other_in(text: &[u8]) -> Option<usize>
     ensures { result ≡ position (λ byte. not (is_ascii_alphanumeric byte)) text.now }
 {

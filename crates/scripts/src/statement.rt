@@ -34,7 +34,7 @@ pub fn statement_of(alloc: Global, word: &[u8]) -> Result<Option<Statement>, All
     Ok(None)
 }
 
-// What stands between a front and a closing bracket at the end.
+/// What stands between a front and a closing bracket at the end.
 fn enclosed<'a>(word: &'a [u8], head: &[u8]) -> Option<&'a [u8]>
     ensures { option_map (λ r. r.now) result ≡ enclosed_in head.now word.now }
 {
@@ -44,7 +44,7 @@ fn enclosed<'a>(word: &'a [u8], head: &[u8]) -> Option<&'a [u8]>
     rest.strip_suffix(b")")
 }
 
-// The nomination of these fields.
+/// The nomination of these fields.
 fn nomination_of(alloc: Global, fields: &[u8]) -> Result<Option<Statement>, AllocError>
     ensures { IfOk result (λ o. o ≡ nomination_in fields.now) }
 {
@@ -60,7 +60,7 @@ fn nomination_of(alloc: Global, fields: &[u8]) -> Result<Option<Statement>, Allo
     Ok(Some(Statement::Nominate { voted, accepted }))
 }
 
-// The values of a list joined by `+`.
+/// The values of a list joined by `+`.
 fn values_of(alloc: Global, list: &[u8]) -> Result<Option<Values>, AllocError>
     ensures { IfOk result (λ o. o ≡ word_values list.now) }
 {
@@ -77,7 +77,7 @@ fn values_of(alloc: Global, list: &[u8]) -> Result<Option<Values>, AllocError>
     Ok(Some(values))
 }
 
-// The PREPARE of these fields.
+/// The PREPARE of these fields.
 fn prepare_of(alloc: Global, fields: &[u8]) -> Result<Option<Statement>, AllocError>
     ensures { IfOk result (λ o. o ≡ prepare_in fields.now) }
 {
@@ -102,7 +102,7 @@ fn prepare_of(alloc: Global, fields: &[u8]) -> Result<Option<Statement>, AllocEr
     }))
 }
 
-// A ballot, or `-` for none.
+/// A ballot, or `-` for none.
 fn optional_of(alloc: Global, word: &[u8]) -> Result<Option<Option<Ballot>>, AllocError>
     ensures { IfOk result (λ o. o ≡ word_optional word.now) }
 {
@@ -115,7 +115,7 @@ fn optional_of(alloc: Global, word: &[u8]) -> Result<Option<Option<Ballot>>, All
     }
 }
 
-// The COMMIT of these fields.
+/// The COMMIT of these fields.
 fn commit_of(alloc: Global, fields: &[u8]) -> Result<Option<Statement>, AllocError>
     ensures { IfOk result (λ o. o ≡ commit_in fields.now) }
 {
@@ -136,7 +136,7 @@ fn commit_of(alloc: Global, fields: &[u8]) -> Result<Option<Statement>, AllocErr
     }))
 }
 
-// Three counters with a comma between each and the next.
+/// Three counters with a comma between each and the next.
 fn three_counters(text: &[u8]) -> Option<(u32, u32, u32)>
     ensures { result ≡ counters_in text.now }
 {
@@ -155,7 +155,7 @@ fn three_counters(text: &[u8]) -> Option<(u32, u32, u32)>
     Some((first, second, third))
 }
 
-// The EXTERNALIZE of these fields.
+/// The EXTERNALIZE of these fields.
 fn externalize_of(alloc: Global, fields: &[u8]) -> Result<Option<Statement>, AllocError>
     ensures { IfOk result (λ o. o ≡ externalize_in fields.now) }
 {
@@ -183,7 +183,7 @@ pub fn push_statement(text: &mut String, statement: &Statement) -> Result<(), Al
     text.push(')')
 }
 
-// Adds the word of a statement's kind, with the bracket behind it.
+/// Adds the word of a statement's kind, with the bracket behind it.
 fn push_kind(text: &mut String, statement: &Statement) -> Result<(), AllocError>
     ensures { OnOk result (string_bytes text.new ≡ string_bytes text.old ++ kind_text statement.now) }
 {
@@ -195,7 +195,7 @@ fn push_kind(text: &mut String, statement: &Statement) -> Result<(), AllocError>
     }
 }
 
-// Adds the fields of a statement.
+/// Adds the fields of a statement.
 fn push_fields(text: &mut String, statement: &Statement) -> Result<(), AllocError>
     ensures { OnOk result (string_bytes text.new ≡ string_bytes text.old ++ fields_of_statement statement.now) }
 {
@@ -236,7 +236,7 @@ fn push_fields(text: &mut String, statement: &Statement) -> Result<(), AllocErro
     }
 }
 
-// Adds three counters, each behind a comma.
+/// Adds three counters, each behind a comma.
 fn push_counters(text: &mut String, first: u32, second: u32, third: u32) -> Result<(), AllocError>
     ensures { OnOk result (string_bytes text.new ≡ string_bytes text.old ++ (behind_comma first ++ (behind_comma second ++ behind_comma third))) }
 {
@@ -245,14 +245,14 @@ fn push_counters(text: &mut String, first: u32, second: u32, third: u32) -> Resu
     push_counter(text, third)
 }
 
-// Adds a counter behind a comma.
+/// Adds a counter behind a comma.
 fn push_counter(text: &mut String, counter: u32) -> Result<(), AllocError>
     ensures { OnOk result (string_bytes text.new ≡ string_bytes text.old ++ behind_comma counter) }
 {
     write!(text, ",{counter}")
 }
 
-// Adds the values, with a `+` between each and the next.
+/// Adds the values, with a `+` between each and the next.
 fn push_values(text: &mut String, values: &Values) -> Result<(), AllocError>
     ensures { OnOk result (string_bytes text.new ≡ string_bytes text.old ++ text_of_values values.now) }
 {
@@ -265,7 +265,7 @@ fn push_values(text: &mut String, values: &Values) -> Result<(), AllocError>
     }
 }
 
-// Adds the values, each behind a `+`.
+/// Adds the values, each behind a `+`.
 fn push_more_values(text: &mut String, values: &[Value]) -> Result<(), AllocError>
     ensures { OnOk result (string_bytes text.new ≡ string_bytes text.old ++ flat_map behind_plus values.now) }
 {
@@ -276,7 +276,7 @@ fn push_more_values(text: &mut String, values: &[Value]) -> Result<(), AllocErro
     Ok(())
 }
 
-// Adds a ballot, or `-` where there is none.
+/// Adds a ballot, or `-` where there is none.
 fn push_optional(text: &mut String, ballot: &Option<Ballot>) -> Result<(), AllocError>
     ensures { OnOk result (string_bytes text.new ≡ string_bytes text.old ++ text_of_optional ballot.now) }
 {

@@ -34,7 +34,7 @@ pub fn run_stream<S: LineRunner, R: BufRead, W: Write>(
     run_read(alloc, runner, &mut limited, out)
 }
 
-// Runs the lines that a reader gives.
+/// Runs the lines that a reader gives.
 fn run_read<S: LineRunner, R: BufRead, W: Write>(
     alloc: Global,
     runner: &mut S,
@@ -69,8 +69,8 @@ fn run_read<S: LineRunner, R: BufRead, W: Write>(
     }
 }
 
-// The next bytes of a reader, up to its next line feed, of which there may be so many. Nothing is left
-// where there are none.
+/// The next bytes of a reader, up to its next line feed, of which there may be so many. Nothing is left
+/// where there are none.
 fn next_bytes<R: BufRead>(alloc: Global, reader: &mut R, room: usize) -> Result<Vec<u8>, ReadError>
     ensures next { IfOk result (λ bytes. IsNext (R.remaining reader.old) (R.remaining reader.new) bytes.items) }
     ensures fits { IfOk result (λ bytes. vec_len bytes ≤ room) }
@@ -84,7 +84,7 @@ fn next_bytes<R: BufRead>(alloc: Global, reader: &mut R, room: usize) -> Result<
     }
 }
 
-// The bytes without a line feed at their end, and whether there was one.
+/// The bytes without a line feed at their end, and whether there was one.
 fn without_feed(bytes: &[u8]) -> (&[u8], bool)
     ensures line { result.0.now ≡ strip_last 10 bytes.now }
     ensures ended { result.1 ≡ ends_with_byte 10 bytes.now }
@@ -95,7 +95,7 @@ fn without_feed(bytes: &[u8]) -> (&[u8], bool)
     }
 }
 
-// Runs one line and hands on what it prints.
+/// Runs one line and hands on what it prints.
 fn answer_line<S: LineRunner, W: Write>(
     alloc: Global,
     runner: &mut S,
@@ -109,7 +109,7 @@ fn answer_line<S: LineRunner, W: Write>(
     flush(out)
 }
 
-// Hands on what was written.
+/// Hands on what was written.
 fn flush<W: Write>(out: &mut W) -> Result<(), Stop>
     ensures kept { OnOk result (Keeps (W.contents out.old) (W.contents out.new)) }
     ensures failed { IsOkUnless result Stop.CannotWrite }

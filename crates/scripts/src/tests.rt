@@ -49,7 +49,7 @@ fn printed_statement(alloc: Global, word: &[u8]) -> Result<Option<String>, Alloc
     Ok(Some(text))
 }
 
-// What a word is printed as once it is read, or nothing where it is no such word.
+/// What a word is printed as once it is read, or nothing where it is no such word.
 fn answers(
     rt: &impl Abort,
     printed: Result<Option<String>, AllocError>,

@@ -25,7 +25,7 @@ pub fn value_of(alloc: Global, word: &[u8]) -> Result<Option<Value>, AllocError>
     }
 }
 
-// The bytes as a value, where they are one to 256.
+/// The bytes as a value, where they are one to 256.
 fn value_in(alloc: Global, bytes: &[u8]) -> Result<Option<Value>, AllocError>
     ensures value { IfOk result (λ o. o ≡ bytes_value bytes.now) }
     ensures none { bytes_value bytes.now ≡ None → result ≡ Ok None }
@@ -36,7 +36,7 @@ fn value_in(alloc: Global, bytes: &[u8]) -> Result<Option<Value>, AllocError>
     Ok(Some(Value::of(alloc, bytes)?))
 }
 
-// The value that hexadecimal digits spell.
+/// The value that hexadecimal digits spell.
 #[tactic(auto, using(crate::proofs::ValueLemmas::sized, crate::proofs::ValueLemmas::long_digits))]
 fn value_of_digits(alloc: Global, digits: &[u8]) -> Result<Option<Value>, AllocError>
     ensures value { IfOk result (λ o. o ≡ digits_value digits.now) }
@@ -68,7 +68,7 @@ pub fn ballot_of(alloc: Global, word: &[u8]) -> Result<Option<Ballot>, AllocErro
     }
 }
 
-// A counter, where it is there, and the word behind it.
+/// A counter, where it is there, and the word behind it.
 fn with_counter(counter: Option<u32>, value: &[u8]) -> Option<(u32, &[u8])>
     ensures { option_map (λ r. (r.0, r.1.now)) result ≡ counter_before counter value.now }
 {
@@ -78,7 +78,7 @@ fn with_counter(counter: Option<u32>, value: &[u8]) -> Option<(u32, &[u8])>
     }
 }
 
-// The counter before the colon of a ballot, and the word behind it.
+/// The counter before the colon of a ballot, and the word behind it.
 fn ballot_fields(word: &[u8]) -> Option<(u32, &[u8])>
     ensures { option_map (λ r. (r.0, r.1.now)) result ≡ counted (cut_at 58 word.now) }
 {

@@ -146,7 +146,7 @@ impl Listener {
         answer
     }
 
-    // The reach that is known, or else found anew. It is not known afterwards.
+    /// The reach that is known, or else found anew. It is not known afterwards.
     fn take_reach(&mut self, alloc: Global) -> Result<Vec<NodeId>, AllocError>
         ensures reach { IfOk result (λ v. IsReach self.old.own self.old.configured self.old.rows v.items) }
         ensures unchanged { self.new ≡ self.old }
@@ -157,7 +157,7 @@ impl Listener {
         }
     }
 
-    // Keeps the reach for the next question.
+    /// Keeps the reach for the next question.
     fn keep_reach(&mut self, region: Vec<NodeId>)
         requires { IsReach self.old.own self.old.configured self.old.rows region.items }
         ensures { self.new ≡ self.old }
@@ -165,7 +165,7 @@ impl Listener {
         self.known_reach = Some(region);
     }
 
-    // The answer by the rows of the nodes that the node reaches.
+    /// The answer by the rows of the nodes that the node reaches.
     fn is_backed_within(
         &self,
         alloc: Global,
@@ -186,7 +186,7 @@ impl Listener {
     }
 }
 
-// Whether a reach that is known surely stays as it is where the envelope is offered to the table.
+/// Whether a reach that is known surely stays as it is where the envelope is offered to the table.
 fn stays_known<S: Places>(
     known: &Option<Vec<NodeId>>,
     table: &Rows<'_, S>,
@@ -201,7 +201,7 @@ fn stays_known<S: Places>(
     }
 }
 
-// The slices that a node knows of: its own, and those of ballot rows.
+/// The slices that a node knows of: its own, and those of ballot rows.
 #[derive(Drop)]
 struct KnownSlices<'a, S: Places> {
     own: &'a NodeId,
@@ -228,7 +228,7 @@ impl<'a, S: Places> SlicesOf for KnownSlices<'a, S> {
     }
 }
 
-// The senders whose ballot row backs the ballot, ascending.
+/// The senders whose ballot row backs the ballot, ascending.
 fn supporters_of<S: Places>(
     alloc: Global,
     table: &Rows<'_, S>,
@@ -244,7 +244,7 @@ fn supporters_of<S: Places>(
     Ok(supporters)
 }
 
-// Adds the sender where its ballot row backs the ballot.
+/// Adds the sender where its ballot row backs the ballot.
 fn push_backing<S: Places>(
     supporters: &mut Vec<NodeId>,
     table: &Rows<'_, S>,
@@ -259,7 +259,7 @@ fn push_backing<S: Places>(
     Ok(())
 }
 
-// Whether the sender's ballot row votes for or accepts that the ballot is prepared.
+/// Whether the sender's ballot row votes for or accepts that the ballot is prepared.
 fn backs<S: Places>(table: &Rows<'_, S>, sender: &NodeId, ballot: &Ballot) -> bool
     ensures { result ≡ backing_prepare table.now ballot.now sender.now }
 {

@@ -62,7 +62,7 @@ impl LineRunner for TableRun {
     }
 }
 
-// The ballot that a line asks about: `ask BALLOT`.
+/// The ballot that a line asks about: `ask BALLOT`.
 #[tactic(auto, using(crate::proofs::RunLaws::asks_two))]
 fn ballot_asked(alloc: Global, fields: &[&[u8]]) -> Result<Option<Ballot>, AllocError>
     ensures asked { IfOk result (λ o. IfSome o (λ b. Asks (map (λ field. field.now) fields.now) b)) }
@@ -78,7 +78,7 @@ fn ballot_asked(alloc: Global, fields: &[&[u8]]) -> Result<Option<Ballot>, Alloc
     }
 }
 
-// The listener that a first line begins: `self NAME SLOT SLICES`.
+/// The listener that a first line begins: `self NAME SLOT SLICES`.
 fn listener_of(alloc: Global, fields: &[&[u8]]) -> Result<Listener, LineError>
     ensures { IfOk result (λ listener. Tells None (map (λ field. field.now) fields.now) None (Some listener)) }
 {
@@ -93,7 +93,7 @@ fn listener_of(alloc: Global, fields: &[&[u8]]) -> Result<Listener, LineError>
     }
 }
 
-// Runs a line behind the first.
+/// Runs a line behind the first.
 fn run(
     alloc: Global,
     listener: &mut Listener,
@@ -110,7 +110,7 @@ fn run(
     }
 }
 
-// Runs a line behind the first that asks about no ballot.
+/// Runs a line behind the first that asks about no ballot.
 fn run_another(
     alloc: Global,
     listener: &mut Listener,
@@ -131,7 +131,7 @@ fn run_another(
     }
 }
 
-// The envelope that a sender, slices and a statement make, where they are well formed.
+/// The envelope that a sender, slices and a statement make, where they are well formed.
 fn envelope_of(
     alloc: Global,
     slot: u64,
@@ -145,7 +145,7 @@ fn envelope_of(
     Envelope::new(sender, slot, slices, body).ok_or(LineError::Bad)
 }
 
-// Offers the envelope that the bytes spell, or answers what is wrong with them.
+/// Offers the envelope that the bytes spell, or answers what is wrong with them.
 fn offer_bytes(
     alloc: Global,
     listener: &mut Listener,
@@ -161,7 +161,7 @@ fn offer_bytes(
     }
 }
 
-// Offers an envelope and answers what became of it.
+/// Offers an envelope and answers what became of it.
 fn offer(
     alloc: Global,
     listener: &mut Listener,
@@ -178,7 +178,7 @@ fn offer(
     }
 }
 
-// Answers whether the node's quorums back a ballot.
+/// Answers whether the node's quorums back a ballot.
 fn ask(alloc: Global, listener: &mut Listener, ballot: &Ballot) -> Result<Option<String>, LineError>
     ensures backs { IfOk result (λ printed. Backs listener.old ballot.now (option_map string_bytes printed)) }
     ensures unchanged { listener.new ≡ listener.old }
@@ -191,14 +191,14 @@ fn ask(alloc: Global, listener: &mut Listener, ballot: &Ballot) -> Result<Option
     }
 }
 
-// The field is this word.
+/// The field is this word.
 fn is_word(field: &[u8], word: &[u8]) -> bool
     ensures { IsTrue result ↔ field.now ≡ word.now }
 {
     field == word
 }
 
-// Prints one word.
+/// Prints one word.
 fn say(alloc: Global, word: &str) -> Result<Option<String>, LineError>
     ensures said { IfOk result (λ printed. option_map string_bytes printed ≡ Some word.now) }
     ensures runs { result ≢ Err LineError.Bad }
@@ -206,7 +206,7 @@ fn say(alloc: Global, word: &str) -> Result<Option<String>, LineError>
     Ok(Some(String::from_str(alloc, word)?))
 }
 
-// The names of all nodes that the node reaches, ascending.
+/// The names of all nodes that the node reaches, ascending.
 fn show_reach(alloc: Global, listener: &Listener) -> Result<Option<String>, LineError> {
     let mut text = String::new(alloc);
     for name in &listener.reach(alloc)? {
@@ -218,7 +218,7 @@ fn show_reach(alloc: Global, listener: &Listener) -> Result<Option<String>, Line
     Ok(Some(text))
 }
 
-// The rows, a line each, ascending by sender, the nomination row first.
+/// The rows, a line each, ascending by sender, the nomination row first.
 fn show(alloc: Global, listener: &Listener) -> Result<Option<String>, LineError> {
     let table = listener.rows();
     let mut text = String::new(alloc);
@@ -245,7 +245,7 @@ fn push_rows<S: Places>(
     Ok(())
 }
 
-// Adds a row on a line of its own.
+/// Adds a row on a line of its own.
 fn push_row(text: &mut String, row: &Envelope) -> Result<(), AllocError> {
     if !text.is_empty() {
         text.push('\n')?;

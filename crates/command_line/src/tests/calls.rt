@@ -6,7 +6,7 @@ use scripts::name_of;
 use std::alloc::Global;
 use std::process::Abort;
 
-// The words call `table` on the file.
+/// The words call `table` on the file.
 fn calls_table<A: Abort>(rt: &A, alloc: Global, words: &[&str], wanted: &str) {
     match read_call(alloc, words) {
         Ok(Call::Table { file }) => assert!(rt; file.as_str() == wanted, "{wanted}"),
@@ -15,7 +15,7 @@ fn calls_table<A: Abort>(rt: &A, alloc: Global, words: &[&str], wanted: &str) {
     }
 }
 
-// The words call `run` on the script, with so many workers, or with none where 0 is wanted.
+/// The words call `run` on the script, with so many workers, or with none where 0 is wanted.
 fn run_called<A: Abort>(rt: &A, alloc: Global, words: &[&str], wanted: &str, wanted_workers: u64) {
     match read_call(alloc, words) {
         Ok(Call::Run { script, workers }) => {
@@ -31,17 +31,17 @@ fn run_called<A: Abort>(rt: &A, alloc: Global, words: &[&str], wanted: &str, wan
     }
 }
 
-// The words call `run` on the script, without workers.
+/// The words call `run` on the script, without workers.
 fn calls_run<A: Abort>(rt: &A, alloc: Global, words: &[&str], wanted: &str) {
     run_called(rt, alloc, words, wanted, 0);
 }
 
-// The words call `run` on the script `nets.txt`, with so many workers.
+/// The words call `run` on the script `nets.txt`, with so many workers.
 fn calls_pool<A: Abort>(rt: &A, alloc: Global, words: &[&str], wanted: u64) {
     run_called(rt, alloc, words, "nets.txt", wanted);
 }
 
-// The words call `closure` on the script `nets.txt`, for A at slot 2 of network 1, in this form.
+/// The words call `closure` on the script `nets.txt`, for A at slot 2 of network 1, in this form.
 fn calls_closure<A: Abort>(rt: &A, alloc: Global, words: &[&str], wanted: Format) {
     match read_call(alloc, words) {
         Ok(
@@ -59,7 +59,7 @@ fn calls_closure<A: Abort>(rt: &A, alloc: Global, words: &[&str], wanted: Format
     }
 }
 
-// The words call `compare` on `a` and `b`, for A at slot 2 of network 1.
+/// The words call `compare` on `a` and `b`, for A at slot 2 of network 1.
 fn calls_compare<A: Abort>(rt: &A, alloc: Global, words: &[&str], wanted: bool) {
     match read_call(alloc, words) {
         Ok(
@@ -78,7 +78,7 @@ fn calls_compare<A: Abort>(rt: &A, alloc: Global, words: &[&str], wanted: bool) 
     }
 }
 
-// The words are answered by a help text that has this part.
+/// The words are answered by a help text that has this part.
 fn helps<A: Abort>(rt: &A, alloc: Global, words: &[&str], part: &str) {
     match read_call(alloc, words) {
         Err(Usage::Help(text)) => assert!(rt; text.contains(part), "{text}"),
@@ -86,7 +86,7 @@ fn helps<A: Abort>(rt: &A, alloc: Global, words: &[&str], part: &str) {
     }
 }
 
-// The words are refused by a text that has this part.
+/// The words are refused by a text that has this part.
 fn refuses<A: Abort>(rt: &A, alloc: Global, words: &[&str], part: &str) {
     match read_call(alloc, words) {
         Err(Usage::Bad(text)) => assert!(rt; text.contains(part), "{text}"),

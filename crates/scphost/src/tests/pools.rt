@@ -7,7 +7,7 @@ use std::alloc::{AllocError, Global};
 use std::io;
 use std::test::Fail;
 
-// Four nodes, each of which wants three of them; all propose x.
+/// Four nodes, each of which wants three of them; all propose x.
 const FOUR: &[u8] = b"net 1 events 1000 bytes 0 slots 1
 node 1 A 3[A,B,C,D]
 node 1 B 3[A,B,C,D]
@@ -20,7 +20,7 @@ propose 1 1 C x
 propose 1 1 D x
 ";
 
-// The call of `run` on a script, with so many workers.
+/// The call of `run` on a script, with so many workers.
 fn call_of(alloc: Global, workers: u64) -> Result<Call, AllocError> {
     Ok(Call::Run {
         script: Word::new(alloc, "-")?,
@@ -28,7 +28,7 @@ fn call_of(alloc: Global, workers: u64) -> Result<Call, AllocError> {
     })
 }
 
-// What the numbers are in the lines of a journal and of the counts, if the lines are right.
+/// What the numbers are in the lines of a journal and of the counts, if the lines are right.
 fn numbers(printed: &str) -> Option<(u64, u64)> {
     let rest = printed.strip_prefix(
         "decided 1 1 A x\ndecided 1 1 B x\ndecided 1 1 C x\ndecided 1 1 D x\njournal 1 ",
@@ -78,7 +78,7 @@ fn a_pool_reads_the_standard_input_whole(rt: HostRuntime) -> Result<(), Fail> {
     Ok(())
 }
 
-// More jobs than the queue has places for.
+/// More jobs than the queue has places for.
 #[test]
 fn a_pool_applies_each_of_many_jobs(rt: HostRuntime) -> Result<(), Fail> {
     let mut script = Vec::new(rt.alloc());

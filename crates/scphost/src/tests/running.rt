@@ -125,8 +125,8 @@ fn answers_line_by_line(rt: HostRuntime) {
     }
 }
 
-// Each answer is flushed before the next read: one write and one flush a line that prints, and one
-// flush a line that does not, and at the end.
+/// Each answer is flushed before the next read: one write and one flush a line that prints, and one
+/// flush a line that does not, and at the end.
 #[test]
 fn flushes_each_answer(rt: HostRuntime) {
     let mut out = FakeWriter::new(rt.alloc(), 100, 0);
