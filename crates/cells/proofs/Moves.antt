@@ -11,8 +11,8 @@ use Rattle.types.specs.declared.event.Event.{Event}
 use Rattle.protocol.specs.Hosts.{Config, Entry}
 use Rattle.cells.specs.declared.refusal.CellRefusal.{CellRefusal}
 use Rattle.cells.specs.Receipts.{Applied, Extract, entry_of, extract, extract_of, extracts_from, extracts_of}
-use Rattle.cells.specs.Views.{DeskSight, Known, nobody}
-use Rattle.cells.specs.Rule.{opener, opened, one_more, seat_of, fresh, ended, note_of, closer_of, shown, desk_at, AllBelow, History, World, Claims, Fits, AllFit, IsOpen, Holds, IsEmpty, taken, IsTaken, Agrees, added, denied, looked, stopped, HasDesk}
+use Rattle.cells.specs.Views.{Denial, DeskSight, Known, nobody}
+use Rattle.cells.specs.Rule.{opener, opened, one_more, seat_of, fresh, ended, note_of, closer_of, shown, desk_at, AllBelow, History, World, Claims, Has, Fits, AllFit, IsOpen, Holds, IsEmpty, taken, IsTaken, Agrees, added, denial, denied, looked, stopped, HasDesk}
 
 off : {A : Type 0} → false ≡ true → A
 off e = absurd (true≢false (sym e))
@@ -47,6 +47,30 @@ only v views id is at = go id (subst (λ (l : List Known). get_elem? l id ≡ so
     go : (k : ℕ) → get_elem? (opener ∷ []) k ≡ some v → (k ≡ 0) × (v ≡ opener)
     go zero e = (refl, sym (some-injective opener v e))
     go (suc k) e = absurd (some-ne-none v (sym e))
+
+-- a view that has and claims nothing fits
+fits_idle : (g : World) (id : ℕ) (v : Known) → v.opening ≡ false → v.opens ≡ false → v.live ≡ false → v.claims ≡ false → v.holding ≡ false
+    → (v.known ≡ true → (v.config ≡ g.past.config) × (v.seats ≡ g.past.seats)) → Fits g id v
+fits_idle g id v opening opens live claims holding known = record {
+  opening = opening;
+  opens = λ l. off (sym opens ∙ l);
+  known = known;
+  live = λ l. off (sym live ∙ l);
+  claims = λ l. off (sym claims ∙ l);
+  holding = λ l. off (sym holding ∙ l);
+}
+
+-- so many seats are made, these have ended, and they are at home there
+abbrev seated : World → ℕ → (ℕ → Bool) → (ℕ → ℕ) → World
+seated g made gone home = record g { past = record g.past { made = made; ended = gone }; home = home }
+
+has_seated : (g : World) (made : ℕ) (gone : ℕ → Bool) (home : ℕ → ℕ) (id : ℕ) (v : Known) → Has g id v → Has (seated g made gone home) id v
+has_seated g made gone home id v m = record { free = m.free; holder = m.holder; all = m.all; owners = m.owners; over = m.over; stopper = m.stopper }
+
+-- the desk stays where it is
+open_seated : (g : World) (gone : ℕ → Bool) (items : List DeskSight) (views now : List Known) → IsOpen g items views
+    → AllFit (seated g g.past.made gone g.home) now → IsOpen (seated g g.past.made gone g.home) items now
+open_seated g gone items views now o fit = record { there = o.there; away = o.away; paired = o.paired; owned = o.owned; stopper = o.stopper; made = o.made; fit = fit }
 
 -- past the opening, the world
 past_opening : (items : List DeskSight) (views : List Known) (id : ℕ) (v : Known) → Holds items views → get_elem? views id ≡ some v → v.known ≡ true → (g : World) × IsOpen g items views
@@ -103,6 +127,21 @@ opens id v config seats opening items views room h at =
     })
     one u (suc j) e = absurd (some-ne-none u (sym e))
 
+below_more : (m n : ℕ) (os : List ℕ) → m ≤ n → AllBelow m os → AllBelow n os
+below_more m n [] le all = tt
+below_more m n (o ∷ os) le all = (omega (arith, all.0), below_more m n os le all.1)
+
+-- what a view claims of a seat stays where that part of it stays
+same_claims : (h : History) (u w : Known) → w.number ≡ u.number → w.seen ≡ u.seen → w.stopped ≡ u.stopped → w.receipts ≡ u.receipts → w.stops ≡ u.stops → w.closed ≡ u.closed → Claims h u → Claims h w
+same_claims h u w number seen stopped receipts stops closed c = record {
+  made = subst (λ (n : ℕ). n < h.made) (sym number) c.made;
+  seen = subst (λ (l : List Entry). IsPrefix l h.entries) (sym seen) c.seen;
+  stopped = λ t. c.stopped (sym stopped ∙ t);
+  receipts = ap (map extract_of) receipts ∙ c.receipts ∙ ap (λ (n : ℕ). extracts_of h.config n h.owners h.entries) (sym number);
+  stops = λ o n. subst (λ (k : ℕ). 0 < k) (sym stops) (c.stops o (sym number ∙ n));
+  ended = closed ∙ c.ended ∙ ap h.ended (sym number);
+}
+
 -- the desk is taken
 pub takes : (id : ℕ) (v : Known) → v.known ≡ true → v.holding ≡ false → Pops Holds id v (λ x w. IsTaken v x w)
 takes id v known away x items views h at =
@@ -134,8 +173,8 @@ takes id v known away x items views h at =
                 opening = f.opening;
                 opens = f.opens;
                 known = f.known;
-                live = λ l. let c = (f.live l).1 in ((f.live l).0, record { made = c.made; seen = c.seen; stopped = c.stopped; receipts = c.receipts; stops = c.stops; ended = c.ended });
-                claims = λ l. let c = (f.claims l).1 in ((f.claims l).0, record { made = c.made; seen = c.seen; stopped = c.stopped; receipts = c.receipts; stops = c.stops; ended = c.ended });
+                live = λ l. ((f.live l).0, same_claims g.past v w refl refl refl refl refl refl (f.live l).1);
+                claims = λ l. ((f.claims l).0, same_claims g.past v w refl refl refl refl refl refl (f.claims l).1);
                 holding = λ _. record { free = refl; holder = refl; all = all; owners = refl; over = over; stopper = refl };
               })
               (λ j u apart e. let k = o.fit j u e in record { opening = k.opening; opens = k.opens; known = k.known; live = k.live; claims = k.claims; holding = λ b. absurd (true≢false (sym free ∙ (k.holding b).free)) });
@@ -154,20 +193,6 @@ takes id v known away x items views h at =
     ))
     (λ (taken : g.free ≡ false). let none = o.away taken in absurd (cc))
     (is_or_not g.free)
-  where
-    below_more : (m n : ℕ) (os : List ℕ) → m ≤ n → AllBelow m os → AllBelow n os
-    below_more m n [] le all = tt
-    below_more m n (o ∷ os) le all = (omega (arith, all.0), below_more m n os le all.1)
-
-same_claims : (h : History) (u w : Known) → w.number ≡ u.number → w.seen ≡ u.seen → w.stopped ≡ u.stopped → w.receipts ≡ u.receipts → w.stops ≡ u.stops → w.closed ≡ u.closed → Claims h u → Claims h w
-same_claims h u w number seen stopped receipts stops closed c = record {
-  made = subst (λ (n : ℕ). n < h.made) (sym number) c.made;
-  seen = subst (λ (l : List Entry). IsPrefix l h.entries) (sym seen) c.seen;
-  stopped = λ t. c.stopped (sym stopped ∙ t);
-  receipts = ap (map extract_of) receipts ∙ c.receipts ∙ ap (λ (n : ℕ). extracts_of h.config n h.owners h.entries) (sym number);
-  stops = λ o n. subst (λ (k : ℕ). 0 < k) (sym stops) (c.stops o (sym number ∙ n));
-  ended = closed ∙ c.ended ∙ ap h.ended (sym number);
-}
 
 -- one entry more, by o
 pub extracts_more : (config : Config) (before : List Entry) (by o : ℕ) (os : List ℕ) (e : Entry) (es : List Entry) → length os ≡ length es
@@ -221,6 +246,62 @@ another g id v j u s f k apart is same =
     (λ (l : u.claims ≡ true). let c = k.claims l in off (sym s.closed ∙ (f.live s.live).1.ended ∙ ap g.past.ended (sym same) ∙ sym c.1.ended ∙ c.0))
     is
 
+-- ---- the desk comes back
+
+-- the view of one who puts it back
+abbrev back : Known → List Entry → Bool → List Applied → List Denial → ℕ → Known
+back v seen stop receipts denials stops = record v { holding = false; seen = seen; stopped = stop; receipts = receipts; denials = denials; stops = stops }
+
+-- what was done, with another journal or another mark
+abbrev renewed : History → List Entry → List ℕ → Bool → ℕ → History
+renewed h entries owners over stopper = record h { entries = entries; owners = owners; over = over; stopper = stopper }
+
+-- the desk with that history fits it, and so does what was claimed
+record IsBack (past : History) (v : Known) (x : DeskSight) (w : Known) (now : History) : Type 0 where
+  desk : x ≡ desk_at now.config now.seats now.entries now.over
+  paired : length now.owners ≡ length now.entries
+  owned : AllBelow now.made now.owners
+  stopper : now.over ≡ true → now.stopper < now.made
+  mine : Claims now w
+  others : (u : Known) → u.number ≢ v.number → Claims past u → Claims now u
+
+gives : (g : World) (items : List DeskSight) (views : List Known) (id : ℕ) (v : Known) (x : DeskSight) (seen : List Entry) (stop : Bool) (receipts : List Applied) (denials : List Denial) (stops : ℕ)
+    (entries : List Entry) (owners : List ℕ) (over : Bool) (stopper : ℕ) → HasDesk v → IsOpen g items views → get_elem? views id ≡ some v
+    → IsBack g.past v x (back v seen stop receipts denials stops) (renewed g.past entries owners over stopper) → Holds (items ++ x ∷ []) (set views id (back v seen stop receipts denials stops))
+gives g items views id v x seen stop receipts denials stops entries owners over stopper s o at b =
+    let f = o.fit id v at in
+    let has = f.holding s.holding in
+    let g' : World = record g { past = renewed g.past entries owners over stopper; free = true } in
+    inr (
+      g',
+      record {
+        there = λ _. ap (λ (l : List DeskSight). l ++ x ∷ []) (o.away has.free) ∙ ap (λ (y : DeskSight). y ∷ []) b.desk;
+        away = λ t. absurd (true≢false t);
+        paired = b.paired;
+        owned = b.owned;
+        stopper = b.stopper;
+        made = o.made;
+        fit = all_set (Fits g') views id (back v seen stop receipts denials stops)
+            (record {
+              opening = f.opening;
+              opens = f.opens;
+              known = f.known;
+              live = λ _. ((f.live s.live).0, b.mine);
+              claims = λ l. off (sym s.claims ∙ l);
+              holding = λ l. off l;
+            })
+            (λ j u apart e.
+            let k = o.fit j u e in record {
+              opening = k.opening;
+              opens = k.opens;
+              known = k.known;
+              live = λ l. ((k.live l).0, b.others u (another g id v j u s f k apart (inl l)) (k.live l).1);
+              claims = λ l. ((k.claims l).0, b.others u (another g id v j u s f k apart (inr l)) (k.claims l).1);
+              holding = λ l. absurd (apart ((k.holding l).holder ∙ sym has.holder));
+            });
+      },
+    )
+
 pub adds : (id : ℕ) (v : Known) (r : Applied) → HasDesk v → extract_of r ≡ extract v.config v.all (entry_of r) → Pushes Holds 1 id v (desk_at v.config v.seats (v.all ++ entry_of r ∷ []) v.over) (λ w. w ≡ added v r)
 adds id v r s is items views room h at =
     let e : Entry = entry_of r in
@@ -230,164 +311,62 @@ adds id v r s is items views room h at =
     let f = o.fit id v at in
     let has = f.holding s.holding in
     let c = (f.live s.live).1 in
-    let g' : World = record g { past = grown g.past v.number e; free = true } in
-    let w : Known = added v r in
-    let x : DeskSight = desk_at v.config v.seats (v.all ++ e ∷ []) v.over in
-    let same : x ≡ desk_at g.past.config g.past.seats (g.past.entries ++ e ∷ []) g.past.over = λ i. desk_at ((f.known s.known).0 i) ((f.known s.known).1 i) (has.all i ++ e ∷ []) (has.over i) in (
-      w,
-      inr (
-        g',
-        record {
-          there = λ _. ap (λ (l : List DeskSight). l ++ x ∷ []) (o.away has.free) ∙ ap (λ (y : DeskSight). y ∷ []) same;
-          away = λ t. absurd (true≢false t);
-          paired = length-append g.past.owners (v.number ∷ []) ∙ ap (λ (n : ℕ). n + 1) o.paired ∙ sym (length-append g.past.entries (e ∷ []));
-          owned = below_snoc g.past.made v.number g.past.owners o.owned c.made;
-          stopper = o.stopper;
-          made = o.made;
-          fit = all_set (Fits g') views id w
-              (record {
-                opening = f.opening;
-                opens = f.opens;
-                known = f.known;
-                live = λ l. (
-                  (f.live s.live).0,
-                  record {
-                    made = c.made;
-                    seen = ([], append-nil (v.all ++ e ∷ []) ∙ ap (λ (y : List Entry). y ++ e ∷ []) has.all);
-                    stopped = λ t. sym has.over ∙ t;
-                    receipts = map-append extract_of v.receipts (r ∷ []) ∙ ap (λ (l : List Extract). l ++ extract_of r ∷ []) c.receipts ∙ ap (λ (x : Extract). extracts_of g.past.config v.number g.past.owners g.past.entries ++ x ∷ []) (is ∙ (λ i. extract ((f.known s.known).0 i) (has.all i) e)) ∙ sym (extracts_mine g.past.config v.number g.past.owners e g.past.entries o.paired);
-                    stops = c.stops;
-                    ended = c.ended;
-                  },
-                );
-                claims = λ l. off (sym s.claims ∙ l);
-                holding = λ b. off b;
-              })
-              (λ j u apart e'.
-              let k = o.fit j u e' in record {
-                opening = k.opening;
-                opens = k.opens;
-                known = k.known;
-                live = λ l. ((k.live l).0, others_grow g.past v.number e u o.paired (another g id v j u s f k apart (inl l)) (k.live l).1);
-                claims = λ l. ((k.claims l).0, others_grow g.past v.number e u o.paired (another g id v j u s f k apart (inr l)) (k.claims l).1);
-                holding = λ b. absurd (apart ((k.holding b).holder ∙ sym has.holder));
-              });
-        },
-      ),
+    let past = g.past in
+    let now : History = grown past v.number e in
+    let mine : Claims now (added v r) = record {
+      made = c.made;
+      seen = ([], append-nil (v.all ++ e ∷ []) ∙ ap (λ (y : List Entry). y ++ e ∷ []) has.all);
+      stopped = λ t. sym has.over ∙ t;
+      receipts = map-append extract_of v.receipts (r ∷ []) ∙ ap (λ (l : List Extract). l ++ extract_of r ∷ []) c.receipts
+          ∙ ap (λ (x : Extract). extracts_of past.config v.number past.owners past.entries ++ x ∷ []) (is ∙ (λ i. extract ((f.known s.known).0 i) (has.all i) e))
+          ∙ sym (extracts_mine past.config v.number past.owners e past.entries o.paired);
+      stops = c.stops;
+      ended = c.ended;
+    } in (
+      added v r,
+      gives g items views id v (desk_at v.config v.seats (v.all ++ e ∷ []) v.over) (v.all ++ e ∷ []) v.over (v.receipts ++ r ∷ []) v.denials v.stops
+          now.entries now.owners past.over past.stopper s o at
+          (record {
+            desk = λ i. desk_at ((f.known s.known).0 i) ((f.known s.known).1 i) (has.all i ++ e ∷ []) (has.over i);
+            paired = length-append past.owners (v.number ∷ []) ∙ ap (λ (n : ℕ). n + 1) o.paired ∙ sym (length-append past.entries (e ∷ []));
+            owned = below_snoc past.made v.number past.owners o.owned c.made;
+            stopper = o.stopper;
+            mine = mine;
+            others = λ u apart k. others_grow past v.number e u o.paired apart k;
+          }),
       refl,
     )
 
 -- nothing was added, and the view has what else it wants
-pub denies : (id : ℕ) (v : Known) (event : Event) (refusal : CellRefusal) → HasDesk v → Pushes Holds 1 id v (desk_at v.config v.seats v.all v.over) (λ w. w ≡ denied v event refusal)
-denies id v event refusal s items views room h at =
+sees : (id : ℕ) (v : Known) (denials : List Denial) → HasDesk v
+    → Pushes Holds 1 id v (desk_at v.config v.seats v.all v.over) (λ w. w ≡ back v v.all v.over v.receipts denials v.stops)
+sees id v denials s items views room h at =
     let world = past_opening items views id v h at s.known in
     let g : World = world.0 in
     let o : IsOpen g items views = world.1 in
     let f = o.fit id v at in
     let has = f.holding s.holding in
     let c = (f.live s.live).1 in
-    let g' : World = record g { free = true } in
-    let w : Known = denied v event refusal in
-    let x : DeskSight = desk_at v.config v.seats v.all v.over in
-    let same : x ≡ desk_at g.past.config g.past.seats g.past.entries g.past.over = λ i. desk_at ((f.known s.known).0 i) ((f.known s.known).1 i) (has.all i) (has.over i) in (
-      w,
-      inr (
-        g',
-        record {
-          there = λ _. ap (λ (l : List DeskSight). l ++ x ∷ []) (o.away has.free) ∙ ap (λ (y : DeskSight). y ∷ []) same;
-          away = λ t. absurd (true≢false t);
-          paired = o.paired;
-          owned = o.owned;
-          stopper = o.stopper;
-          made = o.made;
-          fit = all_set (Fits g') views id w
-              (record {
-                opening = f.opening;
-                opens = f.opens;
-                known = f.known;
-                live = λ l. (
-                  (f.live s.live).0,
-                  record {
-                    made = c.made;
-                    seen = ([], append-nil v.all ∙ has.all);
-                    stopped = λ t. sym has.over ∙ t;
-                    receipts = c.receipts;
-                    stops = c.stops;
-                    ended = c.ended;
-                  },
-                );
-                claims = λ l. off (sym s.claims ∙ l);
-                holding = λ b. off b;
-              })
-              (λ j u apart e'.
-              let k = o.fit j u e' in record {
-                opening = k.opening;
-                opens = k.opens;
-                known = k.known;
-                live = k.live;
-                claims = k.claims;
-                holding = λ b. absurd (apart ((k.holding b).holder ∙ sym has.holder));
-              });
-        },
-      ),
+    let past = g.past in (
+      back v v.all v.over v.receipts denials v.stops,
+      gives g items views id v (desk_at v.config v.seats v.all v.over) v.all v.over v.receipts denials v.stops past.entries past.owners past.over past.stopper s o at
+          (record {
+            desk = λ i. desk_at ((f.known s.known).0 i) ((f.known s.known).1 i) (has.all i) (has.over i);
+            paired = o.paired;
+            owned = o.owned;
+            stopper = o.stopper;
+            mine = record { made = c.made; seen = ([], append-nil v.all ∙ has.all); stopped = λ t. sym has.over ∙ t; receipts = c.receipts; stops = c.stops; ended = c.ended };
+            others = λ u apart k. k;
+          }),
       refl,
     )
 
+pub denies : (id : ℕ) (v : Known) (event : Event) (refusal : CellRefusal) → HasDesk v → Pushes Holds 1 id v (desk_at v.config v.seats v.all v.over) (λ w. w ≡ denied v event refusal)
+denies id v event refusal s = sees id v (v.denials ++ denial event refusal (length v.all) ∷ []) s
+
 -- nothing was done
 pub looks : (id : ℕ) (v : Known) → HasDesk v → Pushes Holds 1 id v (desk_at v.config v.seats v.all v.over) (λ w. w ≡ looked v)
-looks id v s items views room h at =
-    let world = past_opening items views id v h at s.known in
-    let g : World = world.0 in
-    let o : IsOpen g items views = world.1 in
-    let f = o.fit id v at in
-    let has = f.holding s.holding in
-    let c = (f.live s.live).1 in
-    let g' : World = record g { free = true } in
-    let w : Known = looked v in
-    let x : DeskSight = desk_at v.config v.seats v.all v.over in
-    let same : x ≡ desk_at g.past.config g.past.seats g.past.entries g.past.over = λ i. desk_at ((f.known s.known).0 i) ((f.known s.known).1 i) (has.all i) (has.over i) in (
-      w,
-      inr (
-        g',
-        record {
-          there = λ _. ap (λ (l : List DeskSight). l ++ x ∷ []) (o.away has.free) ∙ ap (λ (y : DeskSight). y ∷ []) same;
-          away = λ t. absurd (true≢false t);
-          paired = o.paired;
-          owned = o.owned;
-          stopper = o.stopper;
-          made = o.made;
-          fit = all_set (Fits g') views id w
-              (record {
-                opening = f.opening;
-                opens = f.opens;
-                known = f.known;
-                live = λ l. (
-                  (f.live s.live).0,
-                  record {
-                    made = c.made;
-                    seen = ([], append-nil v.all ∙ has.all);
-                    stopped = λ t. sym has.over ∙ t;
-                    receipts = c.receipts;
-                    stops = c.stops;
-                    ended = c.ended;
-                  },
-                );
-                claims = λ l. off (sym s.claims ∙ l);
-                holding = λ b. off b;
-              })
-              (λ j u apart e'.
-              let k = o.fit j u e' in record {
-                opening = k.opening;
-                opens = k.opens;
-                known = k.known;
-                live = k.live;
-                claims = k.claims;
-                holding = λ b. absurd (apart ((k.holding b).holder ∙ sym has.holder));
-              });
-        },
-      ),
-      refl,
-    )
+looks id v s = sees id v v.denials s
 
 -- the stop mark is set
 pub stops : (id : ℕ) (v : Known) → HasDesk v → Pushes Holds 1 id v (desk_at v.config v.seats v.all true) (λ w. w ≡ stopped v)
@@ -398,66 +377,32 @@ stops id v s items views room h at =
     let f = o.fit id v at in
     let has = f.holding s.holding in
     let c = (f.live s.live).1 in
-    let first : ℕ = if g.past.over then g.past.stopper else v.number in
-    let g' : World = record g { past = record g.past { over = true; stopper = first }; free = true } in
-    let w : Known = stopped v in
-    let x : DeskSight = desk_at v.config v.seats v.all true in
-    let same : x ≡ desk_at g.past.config g.past.seats g.past.entries true = λ i. desk_at ((f.known s.known).0 i) ((f.known s.known).1 i) (has.all i) true in
-    let made : first < g.past.made = ⊎_elim
-    (λ (t : g.past.over ≡ true). subst (λ (b : Bool). (if b then g.past.stopper else v.number) < g.past.made) (sym t) (o.stopper t))
-    (λ (t : g.past.over ≡ false). subst (λ (b : Bool). (if b then g.past.stopper else v.number) < g.past.made) (sym t) c.made)
-    (is_or_not g.past.over) in
-    let stays : (u : Known) → u.number ≢ v.number → Claims g.past u → Claims g'.past u = λ u apart k. record {
-      made = k.made;
-      seen = k.seen;
-      stopped = λ _. refl;
-      receipts = k.receipts;
-      stops = λ _ n. ⊎_elim
-          (λ (t : g.past.over ≡ true). k.stops t (n ∙ ap (λ (b : Bool). if b then g.past.stopper else v.number) t))
-          (λ (t : g.past.over ≡ false). absurd (apart (n ∙ ap (λ (b : Bool). if b then g.past.stopper else v.number) t)))
-          (is_or_not g.past.over);
-      ended = k.ended;
-    } in (
-      w,
-      inr (
-        g',
-        record {
-          there = λ _. ap (λ (l : List DeskSight). l ++ x ∷ []) (o.away has.free) ∙ ap (λ (y : DeskSight). y ∷ []) same;
-          away = λ t. absurd (true≢false t);
-          paired = o.paired;
-          owned = o.owned;
-          stopper = λ _. made;
-          made = o.made;
-          fit = all_set (Fits g') views id w
-              (record {
-                opening = f.opening;
-                opens = f.opens;
-                known = f.known;
-                live = λ l. (
-                  (f.live s.live).0,
-                  record {
-                    made = c.made;
-                    seen = ([], append-nil v.all ∙ has.all);
-                    stopped = λ t. refl;
-                    receipts = c.receipts;
-                    stops = λ _ _. omega arith;
-                    ended = c.ended;
-                  },
-                );
-                claims = λ l. off (sym s.claims ∙ l);
-                holding = λ b. off b;
-              })
-              (λ j u apart e'.
-              let k = o.fit j u e' in record {
-                opening = k.opening;
-                opens = k.opens;
-                known = k.known;
-                live = λ l. ((k.live l).0, stays u (another g id v j u s f k apart (inl l)) (k.live l).1);
-                claims = λ l. ((k.claims l).0, stays u (another g id v j u s f k apart (inr l)) (k.claims l).1);
-                holding = λ b. absurd (apart ((k.holding b).holder ∙ sym has.holder));
-              });
-        },
-      ),
+    let past = g.past in
+    let first : ℕ = if past.over then past.stopper else v.number in
+    let made : first < past.made = ⊎_elim
+    (λ (t : past.over ≡ true). subst (λ (b : Bool). (if b then past.stopper else v.number) < past.made) (sym t) (o.stopper t))
+    (λ (t : past.over ≡ false). subst (λ (b : Bool). (if b then past.stopper else v.number) < past.made) (sym t) c.made)
+    (is_or_not past.over) in (
+      stopped v,
+      gives g items views id v (desk_at v.config v.seats v.all true) v.all true v.receipts v.denials (suc v.stops) past.entries past.owners true first s o at
+          (record {
+            desk = λ i. desk_at ((f.known s.known).0 i) ((f.known s.known).1 i) (has.all i) true;
+            paired = o.paired;
+            owned = o.owned;
+            stopper = λ _. made;
+            mine = record { made = c.made; seen = ([], append-nil v.all ∙ has.all); stopped = λ t. refl; receipts = c.receipts; stops = λ _ _. omega arith; ended = c.ended };
+            others = λ u apart k. record {
+              made = k.made;
+              seen = k.seen;
+              stopped = λ _. refl;
+              receipts = k.receipts;
+              stops = λ _ n. ⊎_elim
+                  (λ (t : past.over ≡ true). k.stops t (n ∙ ap (λ (b : Bool). if b then past.stopper else v.number) t))
+                  (λ (t : past.over ≡ false). absurd (apart (n ∙ ap (λ (b : Bool). if b then past.stopper else v.number) t)))
+                  (is_or_not past.over);
+              ended = k.ended;
+            };
+          }),
       refl,
     )
 
@@ -486,7 +431,9 @@ sits id v opens known live claims holding room items views h at =
     let f = o.fit id v at in
     let made : v.made ≡ g.past.made = (f.opens opens).1 in
     let place : ℕ = length (set views id (one_more v)) in
-    let g' : World = record g { past = record g.past { made = suc g.past.made; ended = λ n. if n == g.past.made then false else g.past.ended n }; home = λ n. if n == g.past.made then place else g.home n } in
+    let gone : ℕ → Bool = λ n. if n == g.past.made then false else g.past.ended n in
+    let home : ℕ → ℕ = λ n. if n == g.past.made then place else g.home n in
+    let g' : World = seated g (suc g.past.made) gone home in
     let keeps : (u : Known) → Claims g.past u → Claims g'.past u = λ u k. record {
       made = let a = k.made in omega arith;
       seen = k.seen;
@@ -502,7 +449,7 @@ sits id v opens known live claims holding room items views h at =
         there = o.there;
         away = o.away;
         paired = o.paired;
-        owned = below_more' g.past.made (suc g.past.made) g.past.owners (omega arith) o.owned;
+        owned = below_more g.past.made (suc g.past.made) g.past.owners (omega arith) o.owned;
         stopper = λ t. let a = o.stopper t in omega arith;
         made = let a = (f.known known).1 in omega arith;
         fit = all_forked (Fits g') views id (one_more v) (seat_of v)
@@ -539,14 +486,10 @@ sits id v opens known live claims holding room items views h at =
               known = k.known;
               live = λ l. let c = (k.live l).1 in ((k.live l).0 ∙ sym (home_else g.home u.number g.past.made place c.made), keeps u c);
               claims = λ l. ((k.claims l).0, keeps u (k.claims l).1);
-              holding = λ l. let m = k.holding l in record { free = m.free; holder = m.holder; all = m.all; owners = m.owners; over = m.over; stopper = m.stopper };
+              holding = λ l. has_seated g (suc g.past.made) gone home j u (k.holding l);
             });
       },
     )
-  where
-    below_more' : (m n : ℕ) (os : List ℕ) → m ≤ n → AllBelow m os → AllBelow n os
-    below_more' m n [] le all = tt
-    below_more' m n (o ∷ os) le all = (omega (arith, all.0), below_more' m n os le all.1)
 
 -- a seat ends, and a note of it is made
 pub ends : (id : ℕ) (v : Known) → v.live ≡ true → v.claims ≡ false → v.holding ≡ false → v.opens ≡ false → v.known ≡ true → Forks Holds id v (ended v) (note_of v)
@@ -556,7 +499,8 @@ ends id v live claims holding opens known items views h at =
     let o : IsOpen g items views = world.1 in
     let f = o.fit id v at in
     let c = (f.live live).1 in
-    let g' : World = record g { past = record g.past { ended = λ n. if n == v.number then true else g.past.ended n } } in
+    let gone : ℕ → Bool = λ n. if n == v.number then true else g.past.ended n in
+    let g' : World = seated g g.past.made gone g.home in
     let mine : (w : Known) → w.number ≡ v.number → w.closed ≡ true → w.closed ≡ g'.past.ended w.number = λ w n t. t ∙ sym (ap (λ (b : Bool). if b then true else g.past.ended w.number) (eq-eqb w.number v.number n)) in
     let other : (u : Known) → u.number ≢ v.number → Claims g.past u → Claims g'.past u = λ u apart k. record {
       made = k.made;
@@ -576,40 +520,33 @@ ends id v live claims holding opens known items views h at =
     } in
     inr (
       g',
-      record {
-        there = o.there;
-        away = o.away;
-        paired = o.paired;
-        owned = o.owned;
-        stopper = o.stopper;
-        made = o.made;
-        fit = all_forked (Fits g') views id (ended v) (note_of v)
-            (record {
-              opening = f.opening;
-              opens = f.opens;
-              known = f.known;
-              live = λ l. ((f.live live).0, record { made = c.made; seen = c.seen; stopped = c.stopped; receipts = c.receipts; stops = c.stops; ended = mine (ended v) refl refl });
-              claims = λ l. off (sym claims ∙ l);
-              holding = λ l. off (sym holding ∙ l);
-            })
-            (record {
-              opening = f.opening;
-              opens = λ l. off (sym opens ∙ l);
-              known = f.known;
-              live = λ l. off l;
-              claims = λ l. (refl, record { made = c.made; seen = c.seen; stopped = c.stopped; receipts = c.receipts; stops = c.stops; ended = mine (note_of v) refl refl });
-              holding = λ l. off (sym holding ∙ l);
-            })
-            (λ j u apart e.
-            let k = o.fit j u e in record {
-              opening = k.opening;
-              opens = k.opens;
-              known = k.known;
-              live = λ l. ((k.live l).0, other u (λ same. apart ((k.live l).0 ∙ ap g.home same ∙ sym (f.live live).0)) (k.live l).1);
-              claims = λ l. ((k.claims l).0, note u (k.claims l).0 (k.claims l).1);
-              holding = λ l. let m = k.holding l in record { free = m.free; holder = m.holder; all = m.all; owners = m.owners; over = m.over; stopper = m.stopper };
-            });
-      },
+      open_seated g gone items views (set views id (ended v) ++ note_of v ∷ []) o
+          (all_forked (Fits g') views id (ended v) (note_of v)
+          (record {
+            opening = f.opening;
+            opens = f.opens;
+            known = f.known;
+            live = λ l. ((f.live l).0, record { made = c.made; seen = c.seen; stopped = c.stopped; receipts = c.receipts; stops = c.stops; ended = mine (ended v) refl refl });
+            claims = λ l. off (sym claims ∙ l);
+            holding = λ l. off (sym holding ∙ l);
+          })
+          (record {
+            opening = f.opening;
+            opens = λ l. off (sym opens ∙ l);
+            known = f.known;
+            live = λ l. off l;
+            claims = λ l. (refl, record { made = c.made; seen = c.seen; stopped = c.stopped; receipts = c.receipts; stops = c.stops; ended = mine (note_of v) refl refl });
+            holding = λ l. off (sym holding ∙ l);
+          })
+          (λ j u apart e.
+          let k = o.fit j u e in record {
+            opening = k.opening;
+            opens = k.opens;
+            known = k.known;
+            live = λ l. ((k.live l).0, other u (λ same. apart ((k.live l).0 ∙ ap g.home same ∙ sym (f.live live).0)) (k.live l).1);
+            claims = λ l. ((k.claims l).0, note u (k.claims l).0 (k.claims l).1);
+            holding = λ l. has_seated g g.past.made gone g.home j u (k.holding l);
+          })),
     )
 
 -- a closer is made
@@ -621,24 +558,8 @@ closes id v known items views h at =
     let f = o.fit id v at in
     inr (
       g,
-      record {
-        there = o.there;
-        away = o.away;
-        paired = o.paired;
-        owned = o.owned;
-        stopper = o.stopper;
-        made = o.made;
-        fit = all_forked (Fits g) views id v (closer_of v) f
-            (record {
-              opening = refl;
-              opens = λ l. off l;
-              known = λ _. f.known known;
-              live = λ l. off l;
-              claims = λ l. off l;
-              holding = λ l. off l;
-            })
-            (λ j u apart e. o.fit j u e);
-      },
+      open_seated g g.past.ended items views (set views id v ++ closer_of v ∷ []) o
+          (all_forked (Fits g) views id v (closer_of v) f (fits_idle g (length (set views id v)) (closer_of v) refl refl refl refl refl (λ _. f.known known)) (λ j u apart e. o.fit j u e)),
     )
 
 -- the closer takes a note in
@@ -657,30 +578,14 @@ shows id v other n known live opens claims items views h at apart there =
       opens = λ l. off (sym opens ∙ l);
       known = f.known;
       live = λ l. off (sym live ∙ l);
-      claims = λ _. (k.0, record { made = k.1.made; seen = k.1.seen; stopped = k.1.stopped; receipts = k.1.receipts; stops = k.1.stops; ended = k.1.ended });
+      claims = λ _. (k.0, same_claims g.past n w refl refl refl refl refl refl k.1);
       holding = λ l. let m = f.holding l in record { free = m.free; holder = m.holder; all = m.all; owners = m.owners; over = m.over; stopper = m.stopper };
     })
     (λ j u _ e. o.fit j u e) in
     inr (
       g,
-      record {
-        there = o.there;
-        away = o.away;
-        paired = o.paired;
-        owned = o.owned;
-        stopper = o.stopper;
-        made = o.made;
-        fit = all_set (Fits g) (set views id w) other nobody
-            (record {
-              opening = refl;
-              opens = λ l. off l;
-              known = λ l. off l;
-              live = λ l. off l;
-              claims = λ l. off l;
-              holding = λ l. off l;
-            })
-            (λ j u _ e. with_note j u e);
-      },
+      open_seated g g.past.ended items views (set (set views id w) other nobody) o
+          (all_set (Fits g) (set views id w) other nobody (fits_idle g other nobody refl refl refl refl refl (λ l. off l)) (λ j u _ e. with_note j u e)),
     )
 
 -- the desk that the closer has agrees with the note

@@ -76,73 +76,83 @@ rising_snoc config a n (x ∷ xs) r up all le far =
 pub has_desk : (v : Known) (x : DeskSight) (w : Known) → IsFree v → v.closed ≡ false → IsTaken v x w → HasDesk w
 has_desk v x w f open_yet t = subst (λ (u : Known). HasDesk u) (sym t.now) (record { known = f.known; live = f.live; claims = f.claims; opens = f.opens; closed = open_yet; holding = refl })
 
--- a refusal
-pub sound_denied : (v : Known) (x : DeskSight) (w : Known) (event : Event) (refusal : CellRefusal) → IsFree v → IsSound v → IsTaken v x w → IsWhy x.log.config x.log.entries x.stopped event refusal → IsSound (denied w event refusal)
-sound_denied v x w event refusal f s t why =
-    let is = t.now in
-    let all : w.all ≡ x.log.entries = ap (λ (u : Known). u.all) is in
-    let over : w.over ≡ x.stopped = ap (λ (u : Known). u.over) is in
-    let config : w.config ≡ v.config = ap (λ (u : Known). u.config) is in
+-- what a seat claims is right of all that it sees at the desk
+sound_seen : (v : Known) (x : DeskSight) (w : Known) (over : Bool) (stops : ℕ) → IsFree v → IsSound v → IsTaken v x w → (v.stopped ≡ true → over ≡ true)
+    → IsSound (record w { holding = false; seen = w.all; stopped = over; stops = stops })
+sound_seen v x w over stops f s t up =
+    let config : w.config ≡ v.config = ap (λ (u : Known). u.config) t.now in
+    let receipts : w.receipts ≡ v.receipts = ap (λ (u : Known). u.receipts) t.now in
+    let denials : w.denials ≡ v.denials = ap (λ (u : Known). u.denials) t.now in
     let p = t.seen f.live in
-    let up = t.stopped f.live in
-    let right : AllRight w.config w.all w.over w.denials = subst (λ (y : Config × List Denial). AllRight y.0 w.all w.over y.1) (λ i. (sym config i, sym (ap (λ (u : Known). u.denials) is) i)) (right_more v.config v.seen w.all v.stopped w.over v.denials p up s.right) in
-    let whole : refused_by w.config (take (length w.all) w.all) event ≡ refused_by x.log.config x.log.entries event = (λ i. refused_by (config i) (take-length w.all i) event) ∙ (λ i. refused_by (sym t.config i) (all i) event) in
-    let one : IsRight w.config w.all w.over (denial event refusal (length w.all)) = (omega arith, ⊎_elim (λ m. inl m) (λ m. inr (⊎_elim (λ c. inl (c.0, over ∙ c.1)) (λ c. inr (whole ∙ c)) m)) why) in
     record {
-      stand = subst (λ (y : Config × List Applied). AllStand y.0 w.all y.1) (λ i. (sym config i, sym (ap (λ (u : Known). u.receipts) is) i)) (stand_more v.config v.seen w.all v.receipts p s.stand);
-      rising = subst (λ (l : List Applied). IsRising 0 l) (sym (ap (λ (u : Known). u.receipts) is)) s.rising;
-      right = right_snoc w.config w.all w.over w.denials (denial event refusal (length w.all)) right one;
+      stand = subst (λ (y : Config × List Applied). AllStand y.0 w.all y.1) (λ i. (sym config i, sym receipts i)) (stand_more v.config v.seen w.all v.receipts p s.stand);
+      rising = subst (λ (l : List Applied). IsRising 0 l) (sym receipts) s.rising;
+      right = subst (λ (y : Config × List Denial). AllRight y.0 w.all over y.1) (λ i. (sym config i, sym denials i)) (right_more v.config v.seen w.all v.stopped over v.denials p up s.right);
     }
 
+-- a refusal
+sound_denied : (v : Known) (x : DeskSight) (w : Known) (event : Event) (refusal : CellRefusal) → IsFree v → IsSound v → IsTaken v x w → IsWhy x.log.config x.log.entries x.stopped event refusal → IsSound (denied w event refusal)
+sound_denied v x w event refusal f s t why =
+    let all : w.all ≡ x.log.entries = ap (λ (u : Known). u.all) t.now in
+    let over : w.over ≡ x.stopped = ap (λ (u : Known). u.over) t.now in
+    let config : w.config ≡ v.config = ap (λ (u : Known). u.config) t.now in
+    let whole : refused_by w.config (take (length w.all) w.all) event ≡ refused_by x.log.config x.log.entries event = (λ i. refused_by (config i) (take-length w.all i) event) ∙ (λ i. refused_by (sym t.config i) (all i) event) in
+    let one : IsRight w.config w.all w.over (denial event refusal (length w.all)) = (omega arith, ⊎_elim (λ m. inl m) (λ m. inr (⊎_elim (λ c. inl (c.0, over ∙ c.1)) (λ c. inr (whole ∙ c)) m)) why) in
+    let before = sound_seen v x w w.over w.stops f s t (t.stopped f.live) in
+    record { stand = before.stand; rising = before.rising; right = right_snoc w.config w.all w.over w.denials (denial event refusal (length w.all)) before.right one }
+
 -- an application
-pub sound_added : (v : Known) (x : DeskSight) (w : Known) (r : Applied) → IsFree v → IsSound v → IsTaken v x w → extract_of r ≡ extract w.config w.all (entry_of r) → IsSound (added w r)
+sound_added : (v : Known) (x : DeskSight) (w : Known) (r : Applied) → IsFree v → IsSound v → IsTaken v x w → extract_of r ≡ extract w.config w.all (entry_of r) → IsSound (added w r)
 sound_added v x w r f s t made =
     let e : Entry = entry_of r in
-    let is = t.now in
-    let config : w.config ≡ v.config = ap (λ (u : Known). u.config) is in
-    let p = t.seen f.live in
-    let up = t.stopped f.live in
-    let q : IsPrefix v.seen (w.all ++ e ∷ []) = (p.0 ++ e ∷ [], sym (append_assoc v.seen p.0 (e ∷ [])) ∙ ap (λ (l : List Entry). l ++ e ∷ []) p.1) in
     let number : r.number ≡ length w.all = ap (λ (y : Extract). y.number) made in
     let front : take r.number (w.all ++ e ∷ []) ≡ w.all = ap (λ (n : ℕ). take n (w.all ++ e ∷ [])) number ∙ take-append_seam w.all (e ∷ []) in
     let here : Stands w.config (w.all ++ e ∷ []) r = (e, ap (slice_get (w.all ++ e ∷ [])) number ∙ get_last w.all e, made ∙ ap (λ (l : List Entry). extract w.config l e) (sym front)) in
-    let stand : AllStand w.config w.all w.receipts = subst (λ (y : Config × List Applied). AllStand y.0 w.all y.1) (λ i. (sym config i, sym (ap (λ (u : Known). u.receipts) is) i)) (stand_more v.config v.seen w.all v.receipts p s.stand) in
-    let rising : IsRising 0 w.receipts = subst (λ (l : List Applied). IsRising 0 l) (sym (ap (λ (u : Known). u.receipts) is)) s.rising in
+    let before = sound_seen v x w w.over w.stops f s t (t.stopped f.live) in
     record {
-      stand = stand_snoc w.config (w.all ++ e ∷ []) w.receipts r (stand_more w.config w.all (w.all ++ e ∷ []) w.receipts (e ∷ [], refl) stand) here;
-      rising = rising_snoc w.config w.all 0 w.receipts r rising stand (omega arith) (omega (arith, number));
-      right = subst (λ (y : Config × List Denial). AllRight y.0 (w.all ++ e ∷ []) w.over y.1) (λ i. (sym config i, sym (ap (λ (u : Known). u.denials) is) i)) (right_more v.config v.seen (w.all ++ e ∷ []) v.stopped w.over v.denials q up s.right);
+      stand = stand_snoc w.config (w.all ++ e ∷ []) w.receipts r (stand_more w.config w.all (w.all ++ e ∷ []) w.receipts (e ∷ [], refl) before.stand) here;
+      rising = rising_snoc w.config w.all 0 w.receipts r before.rising before.stand (omega arith) (omega (arith, number));
+      right = right_more w.config w.all (w.all ++ e ∷ []) w.over w.over w.denials (e ∷ [], refl) (λ over. over) before.right;
     }
+
+-- the view after the desk was put back: the seat is the same and may act
+abbrev IsBack : Known → Known → Type 0
+IsBack w u = (u.number ≡ w.number) × (u.known ≡ w.known) × (u.live ≡ w.live) × (u.claims ≡ w.claims) × (u.opens ≡ w.opens) × (u.holding ≡ false)
+
+seat_back : (p q r : Pass DeskSight Known) (n : ℕ) (rs now : List Applied) (x : DeskSight) (u : Known) → IsSeat p n rs → IsTaken (view p) x (view q) → q.me.1 ≡ p.me.1 → r.me.1 ≡ q.me.1
+    → view r ≡ u → IsBack (view q) u → u.receipts ≡ now → IsSound u → IsSeat r n now
+seat_back p q r n rs now x u s t one two is same receipts sound =
+    let f = s.free in
+    let free : IsFree u = record {
+      known = same.1 ∙ ap (λ (y : Known). y.known) t.now ∙ f.known;
+      live = same.2 ∙ ap (λ (y : Known). y.live) t.now ∙ f.live;
+      claims = same.3 ∙ ap (λ (y : Known). y.claims) t.now ∙ f.claims;
+      opens = same.4 ∙ ap (λ (y : Known). y.opens) t.now ∙ f.opens;
+      holding = same.5;
+    } in
+    record {
+      no_slot = two ∙ one ∙ s.no_slot;
+      number = ap (λ (y : Known). y.number) is ∙ same.0 ∙ ap (λ (y : Known). y.number) t.now ∙ s.number;
+      receipts = ap (λ (y : Known). y.receipts) is ∙ receipts;
+      free = subst IsFree (sym is) free;
+      sound = subst IsSound (sym is) sound;
+    }
+
+-- the receipts of one that took the desk
+receipts_there : (p q : Pass DeskSight Known) (n : ℕ) (rs : List Applied) (x : DeskSight) → IsSeat p n rs → IsTaken (view p) x (view q) → (view q).receipts ≡ rs
+receipts_there p q n rs x s t = ap (λ (y : Known). y.receipts) t.now ∙ s.receipts
 
 pub seat_denied : (p q r : Pass DeskSight Known) (n : ℕ) (rs now : List Applied) (x : DeskSight) (event : Event) (refusal : CellRefusal) → IsSeat p n rs → IsTaken (view p) x (view q) → q.me.1 ≡ p.me.1 → r.me.1 ≡ q.me.1
     → view r ≡ denied (view q) event refusal → now ≡ rs → IsWhy x.log.config x.log.entries x.stopped event refusal → IsSeat r n now
 seat_denied p q r n rs now x event refusal s t one two is same why =
-    let f = s.free in
-    let w : Known = view q in
-    let u : Known = denied w event refusal in
-    let free : IsFree u = subst (λ (y : Known). IsFree (denied y event refusal)) (sym t.now) (record { known = f.known; live = f.live; claims = f.claims; opens = f.opens; holding = refl }) in
-    record {
-      no_slot = two ∙ one ∙ s.no_slot;
-      number = ap (λ (y : Known). y.number) is ∙ ap (λ (y : Known). y.number) t.now ∙ s.number;
-      receipts = ap (λ (y : Known). y.receipts) is ∙ ap (λ (y : Known). y.receipts) t.now ∙ s.receipts ∙ sym same;
-      free = subst IsFree (sym is) free;
-      sound = subst IsSound (sym is) (sound_denied (view p) x w event refusal f s.sound t why);
-    }
+    seat_back p q r n rs now x (denied (view q) event refusal) s t one two is (refl, refl, refl, refl, refl, refl) (receipts_there p q n rs x s t ∙ sym same)
+    (sound_denied (view p) x (view q) event refusal s.free s.sound t why)
 
 pub seat_added : (p q r : Pass DeskSight Known) (n : ℕ) (rs now : List Applied) (x : DeskSight) (a : Applied) → IsSeat p n rs → IsTaken (view p) x (view q) → q.me.1 ≡ p.me.1 → r.me.1 ≡ q.me.1
     → view r ≡ added (view q) a → now ≡ rs ++ a ∷ [] → extract_of a ≡ extract (view q).config (view q).all (entry_of a) → IsSeat r n now
 seat_added p q r n rs now x a s t one two is same made =
-    let f = s.free in
-    let w : Known = view q in
-    let u : Known = added w a in
-    let free : IsFree u = subst (λ (y : Known). IsFree (added y a)) (sym t.now) (record { known = f.known; live = f.live; claims = f.claims; opens = f.opens; holding = refl }) in
-    record {
-      no_slot = two ∙ one ∙ s.no_slot;
-      number = ap (λ (y : Known). y.number) is ∙ ap (λ (y : Known). y.number) t.now ∙ s.number;
-      receipts = ap (λ (y : Known). y.receipts) is ∙ ap (λ (y : Known). y.receipts ++ a ∷ []) t.now ∙ ap (λ (l : List Applied). l ++ a ∷ []) s.receipts ∙ sym same;
-      free = subst IsFree (sym is) free;
-      sound = subst IsSound (sym is) (sound_added (view p) x w a f s.sound t made);
-    }
+    seat_back p q r n rs now x (added (view q) a) s t one two is (refl, refl, refl, refl, refl, refl)
+    (ap (λ (l : List Applied). l ++ a ∷ []) (receipts_there p q n rs x s t) ∙ sym same) (sound_added (view p) x (view q) a s.free s.sound t made)
 
 -- a receipt that was made at the desk
 pub made_at : (v : Known) (x : DeskSight) (w : Known) (event : Event) (outs : List Out) (a : Applied) → IsTaken v x w → a ≡ receipt x.log.config x.log.entries event outs → extract_of a ≡ extract w.config w.all (entry_of a)
@@ -159,47 +169,15 @@ seen_added v x w u r f t is = let p = t.seen f.live in
 pub seat_stopped : (p q r : Pass DeskSight Known) (n : ℕ) (rs : List Applied) (x : DeskSight) → IsSeat p n rs → IsTaken (view p) x (view q) → q.me.1 ≡ p.me.1 → r.me.1 ≡ q.me.1
     → view r ≡ stopped (view q) → IsSeat r n rs
 seat_stopped p q r n rs x s t one two is =
-    let f = s.free in
-    let v : Known = view p in
-    let w : Known = view q in
-    let p' = t.seen f.live in
-    let config : w.config ≡ v.config = ap (λ (u : Known). u.config) t.now in
-    let free : IsFree (stopped w) = subst (λ (y : Known). IsFree (stopped y)) (sym t.now) (record { known = f.known; live = f.live; claims = f.claims; opens = f.opens; holding = refl }) in
-    let sound : IsSound (stopped w) = record {
-      stand = subst (λ (y : Config × List Applied). AllStand y.0 w.all y.1) (λ i. (sym config i, sym (ap (λ (u : Known). u.receipts) t.now) i)) (stand_more v.config v.seen w.all v.receipts p' s.sound.stand);
-      rising = subst (λ (l : List Applied). IsRising 0 l) (sym (ap (λ (u : Known). u.receipts) t.now)) s.sound.rising;
-      right = subst (λ (y : Config × List Denial). AllRight y.0 w.all true y.1) (λ i. (sym config i, sym (ap (λ (u : Known). u.denials) t.now) i)) (right_more v.config v.seen w.all v.stopped true v.denials p' (λ _. refl) s.sound.right);
-    } in
-    record {
-      no_slot = two ∙ one ∙ s.no_slot;
-      number = ap (λ (y : Known). y.number) is ∙ ap (λ (y : Known). y.number) t.now ∙ s.number;
-      receipts = ap (λ (y : Known). y.receipts) is ∙ ap (λ (y : Known). y.receipts) t.now ∙ s.receipts;
-      free = subst IsFree (sym is) free;
-      sound = subst IsSound (sym is) sound;
-    }
+    seat_back p q r n rs rs x (stopped (view q)) s t one two is (refl, refl, refl, refl, refl, refl) (receipts_there p q n rs x s t)
+    (sound_seen (view p) x (view q) true (suc (view q).stops) s.free s.sound t (λ _. refl))
 
 -- one that looked
 pub seat_looked : (p q r : Pass DeskSight Known) (n : ℕ) (rs : List Applied) (x : DeskSight) → IsSeat p n rs → IsTaken (view p) x (view q) → q.me.1 ≡ p.me.1 → r.me.1 ≡ q.me.1
     → view r ≡ looked (view q) → IsSeat r n rs
 seat_looked p q r n rs x s t one two is =
-    let f = s.free in
-    let v : Known = view p in
-    let w : Known = view q in
-    let p' = t.seen f.live in
-    let config : w.config ≡ v.config = ap (λ (u : Known). u.config) t.now in
-    let free : IsFree (looked w) = subst (λ (y : Known). IsFree (looked y)) (sym t.now) (record { known = f.known; live = f.live; claims = f.claims; opens = f.opens; holding = refl }) in
-    let sound : IsSound (looked w) = record {
-      stand = subst (λ (y : Config × List Applied). AllStand y.0 w.all y.1) (λ i. (sym config i, sym (ap (λ (u : Known). u.receipts) t.now) i)) (stand_more v.config v.seen w.all v.receipts p' s.sound.stand);
-      rising = subst (λ (l : List Applied). IsRising 0 l) (sym (ap (λ (u : Known). u.receipts) t.now)) s.sound.rising;
-      right = subst (λ (y : Config × List Denial). AllRight y.0 w.all w.over y.1) (λ i. (sym config i, sym (ap (λ (u : Known). u.denials) t.now) i)) (right_more v.config v.seen w.all v.stopped w.over v.denials p' (t.stopped f.live) s.sound.right);
-    } in
-    record {
-      no_slot = two ∙ one ∙ s.no_slot;
-      number = ap (λ (y : Known). y.number) is ∙ ap (λ (y : Known). y.number) t.now ∙ s.number;
-      receipts = ap (λ (y : Known). y.receipts) is ∙ ap (λ (y : Known). y.receipts) t.now ∙ s.receipts;
-      free = subst IsFree (sym is) free;
-      sound = subst IsSound (sym is) sound;
-    }
+    seat_back p q r n rs rs x (looked (view q)) s t one two is (refl, refl, refl, refl, refl, refl) (receipts_there p q n rs x s t)
+    (sound_seen (view p) x (view q) (view q).over (view q).stops s.free s.sound t (t.stopped s.free.live))
 
 -- a seat that was made just now
 pub seat_fresh : (p : Pass DeskSight Known) (config : Config) (seats n : ℕ) → p.me.1 ≡ [] → view p ≡ fresh config seats n → IsSeat p n []

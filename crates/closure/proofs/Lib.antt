@@ -1,6 +1,7 @@
 pub mod Noted
 mod Underway
 mod ReachKept
+mod Dropped
 mod NameLookups
 mod Indexing
 mod ClosureSteps

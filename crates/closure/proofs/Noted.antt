@@ -1,10 +1,16 @@
 -- Names that are noted one after another.
-use Rattle.std.proofs.Common.{◌≡◌, ℕ, ◌+◌, ◌<◌, ◌≤◌, Bool, true, false, not, ◌&&◌, ◌||◌, ◌==◌, List, [], ◌∷◌, ◌++◌, length, take, drop, get_or, Err, refl, sym, ◌∙◌, ap, subst, inl, inr, arith, IsTrue, length-append, ap₂, ◌-◌}
-use Rattle.std.specs.List.{insert}
-use Rattle.std.specs.List.Sorted.{IsBinarySearchResult}
-use Rattle.std.specs.Ordering.{nat_cmp}
-use Rattle.std.proofs.lemmas.Bool.{cases_lt, or_cases, or_left, or_right, and_parts, eqb-true, false≢true}
-use Rattle.std.proofs.lemmas.List.{take-append-drop}
+use Rattle.std.proofs.Common.{◌≡◌, ℕ, ◌+◌, ◌<◌, ◌≤◌, Bool, cond, true, false, not, ◌&&◌, ◌||◌, ◌==◌, List, [], ◌∷◌, ◌++◌, length, get_or, Err, refl, sym, ◌∙◌, ap, subst, inl, inr, arith, IsTrue, length-append, ap₂, ◌-◌}
+use Rattle.std.specs.List.{insert, list_any}
+use Rattle.std.specs.List.Sorted.{IsBinarySearchResult, IsStrictlySortedBy}
+use Rattle.std.specs.Ordering.{is_eq, nat_cmp}
+use Rattle.std.specs.declared.cmp.Ordering.TheVariants.{Less}
+use Rattle.std.specs.BTreeMap.{is_at}
+use Rattle.std.proofs.Math.Path.{fun_ext}
+use Rattle.std.proofs.lemmas.Bool.Decides.{nat_tests}
+use Rattle.std.proofs.lemmas.Map.Keys.{Less-from_sorted}
+use Rattle.types.specs.contracts.node_id.NodeIdOrd.TheImpl.{ghosts as ord}
+use Rattle.types.proofs.NameOrder.{name_cmp_is}
+use Rattle.std.proofs.lemmas.Bool.{cases_lt, or_cases, or_left, or_right, and_parts, false≢true}
 use Rattle.std.proofs.lemmas.List.Edits.{length-insert, get_or-insert_below, get_or-insert_at, get_or-insert_above}
 use Rattle.std.proofs.lemmas.List.{get_or_default}
 use Rattle.std.proofs.lemmas.List.Folds.{list_any-append}
@@ -15,17 +21,6 @@ use Rattle.closure.specs.Sweeps.{Swept, just, AreNoted}
 -- ---- an ascending list with one more name
 pub among_append : (xs ys : List ℕ) (u : ℕ) → among (xs ++ ys) u ≡ (among xs u || among ys u)
 among_append xs ys u = list_any-append (λ x. x == u) xs ys
-
-among_insert : (xs : List ℕ) (i x u : ℕ) → among (insert xs i x) u ≡ ((x == u) || among xs u)
-among_insert xs i x u =
-    among_append (take i xs) (x ∷ drop i xs) u
-    ∙ (moved (among (take i xs) u) (x == u) (among (drop i xs) u)
-    ∙ ap (λ b. (x == u) || b) (sym (among_append (take i xs) (drop i xs) u) ∙ ap (λ (ys : List ℕ). among ys u) (take-append-drop i xs)))
-  where
-    moved : (a b c : Bool) → (a || (b || c)) ≡ (b || (a || c))
-    moved true true c = refl
-    moved true false c = refl
-    moved false b c = refl
 
 -- a place in an ascending list with smaller names before it and greater ones from it on
 pub record IsPlace (xs : List ℕ) (x i : ℕ) : Type 0 where
@@ -79,19 +74,31 @@ pub is_place : (xs : List ℕ) (x i : ℕ) → IsAscending xs → IsBinarySearch
 is_place xs x i up h = let s = searched xs x (Err i) h (rises xs up) in record { inside = s.0; below = s.1; above = s.2 }
 
 -- ---- one name
--- a name that was found before changes nothing
-pub noted_again : (s : Swept) (x : ℕ) → IsAscending s.found → among s.found x ≡ true → AreNoted s s (just x)
-noted_again s x up there = record {
-  ascending = up;
-  found = λ u. go u (x == u) refl;
-  pending = λ u h. or_right (x == u) (among s.pending u) h;
-  done = λ u h. h;
-  counted = omega arith;
-}
+-- a set looks a name up by its order
+looked_up : (xs : List ℕ) (u : ℕ) → list_any (is_at (ord.cmp u)) xs ≡ among xs u
+looked_up xs u = ap (λ (test : ℕ → Bool). list_any test xs) (fun_ext (λ x. ap is_eq (name_cmp_is u x) ∙ same x))
   where
-    go : (u : ℕ) (b : Bool) → (x == u) ≡ b → among s.found u ≡ (b || among s.found u)
-    go u true e = subst (λ w. among s.found w ≡ true) (eqb-true x u e) there
-    go u false e = refl
+    same : (x : ℕ) → is_eq (nat_cmp u x) ≡ (x == u)
+    same x = grind (arith, nat_tests)
+
+-- the set with one more name, as it answers for each
+pub found_with : (xs ys : List ℕ) (x : ℕ) → ((u : ℕ) → list_any (is_at (ord.cmp u)) ys ≡ cond (is_at (ord.cmp x) u) true (list_any (is_at (ord.cmp u)) xs)) → (u : ℕ) → among ys u ≡ ((x == u) || among xs u)
+found_with xs ys x is u =
+    sym (looked_up ys u) ∙ (is u ∙ (ap₂ (λ a b. cond a true b) (ap is_eq (name_cmp_is x u) ∙ same) (looked_up xs u) ∙ either (x == u) (among xs u)))
+  where
+    either : (a b : Bool) → cond a true b ≡ (a || b)
+    either true b = refl
+    either false b = refl
+
+    same : is_eq (nat_cmp x u) ≡ (x == u)
+    same = grind (arith, nat_tests)
+
+-- its names ascend
+pub ascends : (xs : List ℕ) → IsStrictlySortedBy ord.cmp xs → IsAscending xs
+ascends xs up i j d l h = below (get_or xs i d) (get_or xs j d) (sym (name_cmp_is (get_or xs i d) (get_or xs j d)) ∙ Less-from_sorted ord.cmp xs i j d up l h)
+  where
+    below : (x y : ℕ) → nat_cmp x y ≡ Less → x < y
+    below x y h = grind (arith, nat_tests)
 
 done_before : (b f p : Bool) → ((b || f) && not (p || (b || false))) ≡ true → (f && not p) ≡ true
 done_before true f true h = absurd (false≢true h)
@@ -100,16 +107,15 @@ done_before false f true h = absurd (false≢true (and_parts f false h).1)
 done_before false f false h = h
 
 -- a name that is new is found and pending
-pub noted_first : (s t : Swept) (x i : ℕ) → IsAscending s.found → IsPlace s.found x i → t.found ≡ insert s.found i x → t.pending ≡ s.pending ++ x ∷ [] → AreNoted s t (just x)
-noted_first s t x i up place found pending =
-    let is : (u : ℕ) → among t.found u ≡ ((x == u) || among s.found u) = λ u. ap (λ (xs : List ℕ). among xs u) found ∙ among_insert s.found i x u in
+pub noted_first : (s t : Swept) (x : ℕ) → IsAscending t.found → ((u : ℕ) → among t.found u ≡ ((x == u) || among s.found u)) → length t.found ≡ length s.found + 1 → t.pending ≡ s.pending ++ x ∷ [] → AreNoted s t (just x)
+noted_first s t x up is one pending =
     let waits : (u : ℕ) → among t.pending u ≡ (among s.pending u || ((x == u) || false)) = λ u. ap (λ (xs : List ℕ). among xs u) pending ∙ among_append s.pending (x ∷ []) u in
     record {
-      ascending = subst IsAscending (sym found) (ascending_insert s.found x i up place);
+      ascending = up;
       found = is;
       pending = λ u h. swap (x == u) (among s.pending u) (sym (waits u) ∙ h);
       done = λ u h. done_before (x == u) (among s.found u) (among s.pending u) (sym (ap₂ (λ a b. a && not b) (is u) (waits u)) ∙ h);
-      counted = omega (arith, ap length found, ap length pending, length-insert s.found i x place.inside, length-append s.pending (x ∷ []));
+      counted = omega (arith, one, ap length pending, length-append s.pending (x ∷ []));
     }
   where
     swap : (b p : Bool) → (p || (b || false)) ≡ true → (b || p) ≡ true

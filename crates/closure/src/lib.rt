@@ -19,6 +19,6 @@ mod turns;
 
 pub use announcing::{Announcement, Announcements};
 pub use closure_list::ClosureList;
-pub use keeping::keeps_reach;
+pub use keeping::{drops_none, keeps_reach};
 pub use of_journal::closure;
 pub use of_table::reach;

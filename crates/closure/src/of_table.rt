@@ -34,7 +34,8 @@ pub fn reach<S: Places>(
     while let Some(next) = sweep.take() {
         note_rows_of(alloc, table, &next, &mut sweep)?;
     }
-    Ok(sweep.into_nodes())
+    let nodes = sweep.nodes(alloc)?;
+    Ok(nodes)
 }
 
 /// Notes the names in the rows of a node, of either kind.

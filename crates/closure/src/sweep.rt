@@ -1,17 +1,19 @@
 //! A sweep: nodes are found, and what each of them names is found in turn.
 
-ghost use Rattle.std.specs.Prelude.{◌≡◌, [], OnOk, MatchOption};
+ghost use Rattle.std.specs.Prelude.{◌≡◌, [], IfOk, OnOk, MatchOption};
 ghost use Rattle.protocol.specs.Sets.{among, IsAscending};
 ghost use Rattle.closure.specs.Sweeps.{AreNoted, IsTaken, just};
 
 use std::alloc::{AllocError, Global};
+use std::collections::BTreeSet;
 use std::marker::Model;
 use types::NodeId;
 
-/// The nodes that were found, and those of them whose rows were not looked at yet.
+/// The nodes that were found, and those of them whose rows were not looked at yet. To find a name among the
+/// first, and to add one, takes a number of steps that is logarithmic in how many there are.
 #[derive(Drop)]
 pub struct Sweep {
-    found: Vec<NodeId>,
+    found: BTreeSet<NodeId>,
     pending: Vec<NodeId>,
 }
 
@@ -20,7 +22,7 @@ impl Model for Sweep {
 
     ghost Value = { Swept };
 
-    ghost view = { λ a. record { found = a.found.items; pending = a.pending.items } };
+    ghost view = { λ a. record { found = a.found.keys; pending = a.pending.items } };
 }
 
 impl Sweep {
@@ -29,7 +31,7 @@ impl Sweep {
         ensures { result ≡ record { found = []; pending = [] } }
     {
         Sweep {
-            found: Vec::new(alloc),
+            found: BTreeSet::new(alloc),
             pending: Vec::new(alloc),
         }
     }
@@ -39,8 +41,11 @@ impl Sweep {
         requires { IsAscending self.old.found }
         ensures { OnOk result (AreNoted self.old self.new (just node.now)) }
     {
-        if let Err(place) = self.found.binary_search(node) {
-            self.found.insert(place, *node)?;
+        let Ok(is_new) = self.found.insert(*node) else {
+            // Memory: the set has no room.
+            return Err(AllocError);
+        };
+        if is_new {
             self.pending.push(*node)?;
         }
         Ok(())
@@ -64,10 +69,10 @@ impl Sweep {
         self.pending.pop()
     }
 
-    /// All that was found.
-    pub fn into_nodes(self) -> Vec<NodeId>
-        ensures { result.items ≡ self.found }
+    /// All that was found. An error says that memory is short.
+    pub fn nodes(&self, alloc: Global) -> Result<Vec<NodeId>, AllocError>
+        ensures { IfOk result (λ v. v.items ≡ self.now.found) }
     {
-        self.found
+        self.found.iter().copied().collect(alloc)
     }
 }

@@ -1,12 +1,15 @@
 -- Clap takes each form of `closure`, `compare` and `crowd`.
-use Rattle.std.proofs.Common.{◌≡◌, ℕ, true, List, [], ◌∷◌, refl, codes}
-use Rattle.std.specs.Prelude.{find, unwrap_or}
-use Rattle.clap.specs.Walk.{Rule, answers_to, arg_by_index, nothing_held, walk_from, walked}
+use Rattle.std.proofs.Common.{◌≡◌, ℕ, suc, Bool, true, false, List, [], ◌∷◌, ◌++◌, Some, refl, sym, subst, codes}
+use Rattle.std.specs.Prelude.{◌==◌, find, not, unwrap_or}
+use Rattle.std.specs.List.{list_all}
+use Rattle.clap.specs.Walk.{Held, Rule, Walk, answers_to, arg_by_index, nothing_held, to_positional, walk_from, walked}
 use Rattle.clap.specs.Simple.{Shape, built, label_of, new_rule, new_shape}
+use Rattle.clap.specs.Takes.{positional_passes}
 use Rattle.clap.proofs.OnLiterals.{clap_on_literals}
+use Rattle.scripts.proofs.ScriptLemmas.{both_true}
 use Rattle.command_line.specs.Words.{Text, is_plain}
 use Rattle.command_line.specs.ClapCommand.{whole_command, clap_takes}
-use Rattle.command_line.proofs.Taking.{enters, level, level_next, step}
+use Rattle.command_line.proofs.Taking.{at, enters, level, level_next, step, value_step, valued}
 
 -- a subcommand as clap builds it
 abbrev leaf : Text → Shape
@@ -27,154 +30,170 @@ crowd_entered : (words : List Text) → level (leaf (codes "crowd")) (walk_from 
 unfolding clap_takes whole_command clap_on_literals
 crowd_entered words inner = enters (built whole_command) (leaf (codes "crowd")) (codes "crowd") words refl refl refl refl inner
 
+-- ---- operands, one after another
+
+-- where a walk stands after an operand at this position
+abbrev met : Shape → ℕ → Held → Text → Walk
+met s p h word = to_positional s.rules (Some (rule s p)) word (at p h) h
+
+-- and after several
+abbrev after : Shape → ℕ → Held → List Text → Walk
+after s p h [] = at p h
+after s p h (word ∷ words) = after s (suc p) (met s p h word).held words
+
+-- there is a rule at each position, which takes the operand
+abbrev AreOperands : Shape → ℕ → Held → List Text → Type 0
+AreOperands s p h [] = Unit {0}
+AreOperands s p h (word ∷ words) =
+    (arg_by_index s.rules p ≡ Some (rule s p)) × (positional_passes s.rules s.args_override_self (rule s p) h ≡ true)
+    × (met s p h word ≡ at (suc p) (met s p h word).held) × AreOperands s (suc p) (met s p h word).held words
+
+operands : (s : Shape) (p : ℕ) (h : Held) (words rest : List Text) → list_all is_plain words ≡ true → AreOperands s p h words
+    → level s (after s p h words) rest ≡ true → level s (at p h) (words ++ rest) ≡ true
+operands s p h [] rest plain are left = left
+operands s p h (word ∷ words) rest plain are left =
+    let each = both_true (is_plain word) (list_all is_plain words) plain in
+    let next = met s p h word in
+    step s (rule s p) p h word (words ++ rest) each.0 are.0 are.1
+    (subst (λ w. level s w (words ++ rest) ≡ true) (sym are.2) (operands s (suc p) next.held words rest each.1 are.3 left))
+
 -- ---- `closure`
 
-closure_untold_level : (a b d e : Text) → is_plain a ≡ true → is_plain b ≡ true → is_plain d ≡ true → is_plain e ≡ true → level (leaf (codes "closure")) (walk_from nothing_held) (a ∷ b ∷ d ∷ e ∷ []) ≡ true
+closure_level : (a b d e : Text) → list_all is_plain (a ∷ b ∷ d ∷ e ∷ []) ≡ true → level (leaf (codes "closure")) (walk_from nothing_held) (a ∷ b ∷ d ∷ e ∷ []) ≡ true
 unfolding whole_command clap_on_literals level
-closure_untold_level a b d e pa pb pd pe =
-    step (leaf (codes "closure")) (rule (leaf (codes "closure")) 1) 1 nothing_held a (b ∷ d ∷ e ∷ []) pa refl refl
-    (step (leaf (codes "closure")) (rule (leaf (codes "closure")) 2) 2 _ b (d ∷ e ∷ []) pb refl refl
-    (step (leaf (codes "closure")) (rule (leaf (codes "closure")) 3) 3 _ d (e ∷ []) pd refl refl
-    (step (leaf (codes "closure")) (rule (leaf (codes "closure")) 4) 4 _ e ([]) pe refl refl refl)))
+closure_level a b d e plain =
+    operands (leaf (codes "closure")) 1 nothing_held (a ∷ b ∷ d ∷ e ∷ []) [] plain
+    (refl, refl, refl, (refl, refl, refl, (refl, refl, refl, (refl, refl, refl, tt)))) refl
 
-pub closure_untold : (a b d e : Text) → is_plain a ≡ true → is_plain b ≡ true → is_plain d ≡ true → is_plain e ≡ true → clap_takes (codes "closure" ∷ a ∷ b ∷ d ∷ e ∷ []) ≡ true
-closure_untold a b d e pa pb pd pe = closure_entered (a ∷ b ∷ d ∷ e ∷ []) (closure_untold_level a b d e pa pb pd pe)
-
-closure_text_behind_level : (a b d e : Text) → is_plain a ≡ true → is_plain b ≡ true → is_plain d ≡ true → is_plain e ≡ true → level (leaf (codes "closure")) (walk_from nothing_held) (a ∷ b ∷ d ∷ e ∷ codes "--format=text" ∷ []) ≡ true
-unfolding whole_command clap_on_literals level
-closure_text_behind_level a b d e pa pb pd pe =
-    step (leaf (codes "closure")) (rule (leaf (codes "closure")) 1) 1 nothing_held a (b ∷ d ∷ e ∷ codes "--format=text" ∷ []) pa refl refl
-    (step (leaf (codes "closure")) (rule (leaf (codes "closure")) 2) 2 _ b (d ∷ e ∷ codes "--format=text" ∷ []) pb refl refl
-    (step (leaf (codes "closure")) (rule (leaf (codes "closure")) 3) 3 _ d (e ∷ codes "--format=text" ∷ []) pd refl refl
-    (step (leaf (codes "closure")) (rule (leaf (codes "closure")) 4) 4 _ e (codes "--format=text" ∷ []) pe refl refl refl)))
-
-pub closure_text_behind : (a b d e : Text) → is_plain a ≡ true → is_plain b ≡ true → is_plain d ≡ true → is_plain e ≡ true → clap_takes (codes "closure" ∷ a ∷ b ∷ d ∷ e ∷ codes "--format=text" ∷ []) ≡ true
-closure_text_behind a b d e pa pb pd pe = closure_entered (a ∷ b ∷ d ∷ e ∷ codes "--format=text" ∷ []) (closure_text_behind_level a b d e pa pb pd pe)
-
-closure_text_named_behind_level : (a b d e : Text) → is_plain a ≡ true → is_plain b ≡ true → is_plain d ≡ true → is_plain e ≡ true → level (leaf (codes "closure")) (walk_from nothing_held) (a ∷ b ∷ d ∷ e ∷ codes "--format" ∷ codes "text" ∷ []) ≡ true
-unfolding whole_command clap_on_literals level
-closure_text_named_behind_level a b d e pa pb pd pe =
-    step (leaf (codes "closure")) (rule (leaf (codes "closure")) 1) 1 nothing_held a (b ∷ d ∷ e ∷ codes "--format" ∷ codes "text" ∷ []) pa refl refl
-    (step (leaf (codes "closure")) (rule (leaf (codes "closure")) 2) 2 _ b (d ∷ e ∷ codes "--format" ∷ codes "text" ∷ []) pb refl refl
-    (step (leaf (codes "closure")) (rule (leaf (codes "closure")) 3) 3 _ d (e ∷ codes "--format" ∷ codes "text" ∷ []) pd refl refl
-    (step (leaf (codes "closure")) (rule (leaf (codes "closure")) 4) 4 _ e (codes "--format" ∷ codes "text" ∷ []) pe refl refl refl)))
-
-pub closure_text_named_behind : (a b d e : Text) → is_plain a ≡ true → is_plain b ≡ true → is_plain d ≡ true → is_plain e ≡ true → clap_takes (codes "closure" ∷ a ∷ b ∷ d ∷ e ∷ codes "--format" ∷ codes "text" ∷ []) ≡ true
-closure_text_named_behind a b d e pa pb pd pe = closure_entered (a ∷ b ∷ d ∷ e ∷ codes "--format" ∷ codes "text" ∷ []) (closure_text_named_behind_level a b d e pa pb pd pe)
-
-closure_dot_behind_level : (a b d e : Text) → is_plain a ≡ true → is_plain b ≡ true → is_plain d ≡ true → is_plain e ≡ true → level (leaf (codes "closure")) (walk_from nothing_held) (a ∷ b ∷ d ∷ e ∷ codes "--format=dot" ∷ []) ≡ true
-unfolding whole_command clap_on_literals level
-closure_dot_behind_level a b d e pa pb pd pe =
-    step (leaf (codes "closure")) (rule (leaf (codes "closure")) 1) 1 nothing_held a (b ∷ d ∷ e ∷ codes "--format=dot" ∷ []) pa refl refl
-    (step (leaf (codes "closure")) (rule (leaf (codes "closure")) 2) 2 _ b (d ∷ e ∷ codes "--format=dot" ∷ []) pb refl refl
-    (step (leaf (codes "closure")) (rule (leaf (codes "closure")) 3) 3 _ d (e ∷ codes "--format=dot" ∷ []) pd refl refl
-    (step (leaf (codes "closure")) (rule (leaf (codes "closure")) 4) 4 _ e (codes "--format=dot" ∷ []) pe refl refl refl)))
-
-pub closure_dot_behind : (a b d e : Text) → is_plain a ≡ true → is_plain b ≡ true → is_plain d ≡ true → is_plain e ≡ true → clap_takes (codes "closure" ∷ a ∷ b ∷ d ∷ e ∷ codes "--format=dot" ∷ []) ≡ true
-closure_dot_behind a b d e pa pb pd pe = closure_entered (a ∷ b ∷ d ∷ e ∷ codes "--format=dot" ∷ []) (closure_dot_behind_level a b d e pa pb pd pe)
-
-closure_dot_named_behind_level : (a b d e : Text) → is_plain a ≡ true → is_plain b ≡ true → is_plain d ≡ true → is_plain e ≡ true → level (leaf (codes "closure")) (walk_from nothing_held) (a ∷ b ∷ d ∷ e ∷ codes "--format" ∷ codes "dot" ∷ []) ≡ true
-unfolding whole_command clap_on_literals level
-closure_dot_named_behind_level a b d e pa pb pd pe =
-    step (leaf (codes "closure")) (rule (leaf (codes "closure")) 1) 1 nothing_held a (b ∷ d ∷ e ∷ codes "--format" ∷ codes "dot" ∷ []) pa refl refl
-    (step (leaf (codes "closure")) (rule (leaf (codes "closure")) 2) 2 _ b (d ∷ e ∷ codes "--format" ∷ codes "dot" ∷ []) pb refl refl
-    (step (leaf (codes "closure")) (rule (leaf (codes "closure")) 3) 3 _ d (e ∷ codes "--format" ∷ codes "dot" ∷ []) pd refl refl
-    (step (leaf (codes "closure")) (rule (leaf (codes "closure")) 4) 4 _ e (codes "--format" ∷ codes "dot" ∷ []) pe refl refl refl)))
-
-pub closure_dot_named_behind : (a b d e : Text) → is_plain a ≡ true → is_plain b ≡ true → is_plain d ≡ true → is_plain e ≡ true → clap_takes (codes "closure" ∷ a ∷ b ∷ d ∷ e ∷ codes "--format" ∷ codes "dot" ∷ []) ≡ true
-closure_dot_named_behind a b d e pa pb pd pe = closure_entered (a ∷ b ∷ d ∷ e ∷ codes "--format" ∷ codes "dot" ∷ []) (closure_dot_named_behind_level a b d e pa pb pd pe)
-
-closure_svg_behind_level : (a b d e : Text) → is_plain a ≡ true → is_plain b ≡ true → is_plain d ≡ true → is_plain e ≡ true → level (leaf (codes "closure")) (walk_from nothing_held) (a ∷ b ∷ d ∷ e ∷ codes "--format=svg" ∷ []) ≡ true
-unfolding whole_command clap_on_literals level
-closure_svg_behind_level a b d e pa pb pd pe =
-    step (leaf (codes "closure")) (rule (leaf (codes "closure")) 1) 1 nothing_held a (b ∷ d ∷ e ∷ codes "--format=svg" ∷ []) pa refl refl
-    (step (leaf (codes "closure")) (rule (leaf (codes "closure")) 2) 2 _ b (d ∷ e ∷ codes "--format=svg" ∷ []) pb refl refl
-    (step (leaf (codes "closure")) (rule (leaf (codes "closure")) 3) 3 _ d (e ∷ codes "--format=svg" ∷ []) pd refl refl
-    (step (leaf (codes "closure")) (rule (leaf (codes "closure")) 4) 4 _ e (codes "--format=svg" ∷ []) pe refl refl refl)))
-
-pub closure_svg_behind : (a b d e : Text) → is_plain a ≡ true → is_plain b ≡ true → is_plain d ≡ true → is_plain e ≡ true → clap_takes (codes "closure" ∷ a ∷ b ∷ d ∷ e ∷ codes "--format=svg" ∷ []) ≡ true
-closure_svg_behind a b d e pa pb pd pe = closure_entered (a ∷ b ∷ d ∷ e ∷ codes "--format=svg" ∷ []) (closure_svg_behind_level a b d e pa pb pd pe)
-
-closure_svg_named_behind_level : (a b d e : Text) → is_plain a ≡ true → is_plain b ≡ true → is_plain d ≡ true → is_plain e ≡ true → level (leaf (codes "closure")) (walk_from nothing_held) (a ∷ b ∷ d ∷ e ∷ codes "--format" ∷ codes "svg" ∷ []) ≡ true
-unfolding whole_command clap_on_literals level
-closure_svg_named_behind_level a b d e pa pb pd pe =
-    step (leaf (codes "closure")) (rule (leaf (codes "closure")) 1) 1 nothing_held a (b ∷ d ∷ e ∷ codes "--format" ∷ codes "svg" ∷ []) pa refl refl
-    (step (leaf (codes "closure")) (rule (leaf (codes "closure")) 2) 2 _ b (d ∷ e ∷ codes "--format" ∷ codes "svg" ∷ []) pb refl refl
-    (step (leaf (codes "closure")) (rule (leaf (codes "closure")) 3) 3 _ d (e ∷ codes "--format" ∷ codes "svg" ∷ []) pd refl refl
-    (step (leaf (codes "closure")) (rule (leaf (codes "closure")) 4) 4 _ e (codes "--format" ∷ codes "svg" ∷ []) pe refl refl refl)))
-
-pub closure_svg_named_behind : (a b d e : Text) → is_plain a ≡ true → is_plain b ≡ true → is_plain d ≡ true → is_plain e ≡ true → clap_takes (codes "closure" ∷ a ∷ b ∷ d ∷ e ∷ codes "--format" ∷ codes "svg" ∷ []) ≡ true
-closure_svg_named_behind a b d e pa pb pd pe = closure_entered (a ∷ b ∷ d ∷ e ∷ codes "--format" ∷ codes "svg" ∷ []) (closure_svg_named_behind_level a b d e pa pb pd pe)
-
--- ---- `compare`
-
-compare_untold_level : (a b d e f : Text) → is_plain a ≡ true → is_plain b ≡ true → is_plain d ≡ true → is_plain e ≡ true → is_plain f ≡ true → level (leaf (codes "compare")) (walk_from nothing_held) (a ∷ b ∷ d ∷ e ∷ f ∷ []) ≡ true
-unfolding whole_command clap_on_literals level
-compare_untold_level a b d e f pa pb pd pe pf =
-    step (leaf (codes "compare")) (rule (leaf (codes "compare")) 1) 1 nothing_held a (b ∷ d ∷ e ∷ f ∷ []) pa refl refl
-    (step (leaf (codes "compare")) (rule (leaf (codes "compare")) 2) 2 _ b (d ∷ e ∷ f ∷ []) pb refl refl
-    (step (leaf (codes "compare")) (rule (leaf (codes "compare")) 3) 3 _ d (e ∷ f ∷ []) pd refl refl
-    (step (leaf (codes "compare")) (rule (leaf (codes "compare")) 4) 4 _ e (f ∷ []) pe refl refl
-    (step (leaf (codes "compare")) (rule (leaf (codes "compare")) 5) 5 _ f ([]) pf refl refl refl))))
-
-pub compare_untold : (a b d e f : Text) → is_plain a ≡ true → is_plain b ≡ true → is_plain d ≡ true → is_plain e ≡ true → is_plain f ≡ true → clap_takes (codes "compare" ∷ a ∷ b ∷ d ∷ e ∷ f ∷ []) ≡ true
-compare_untold a b d e f pa pb pd pe pf = compare_entered (a ∷ b ∷ d ∷ e ∷ f ∷ []) (compare_untold_level a b d e f pa pb pd pe pf)
-
-compare_behind_level : (a b d e f : Text) → is_plain a ≡ true → is_plain b ≡ true → is_plain d ≡ true → is_plain e ≡ true → is_plain f ≡ true → level (leaf (codes "compare")) (walk_from nothing_held) (a ∷ b ∷ d ∷ e ∷ f ∷ codes "--explain" ∷ []) ≡ true
-unfolding whole_command clap_on_literals level
-compare_behind_level a b d e f pa pb pd pe pf =
-    step (leaf (codes "compare")) (rule (leaf (codes "compare")) 1) 1 nothing_held a (b ∷ d ∷ e ∷ f ∷ codes "--explain" ∷ []) pa refl refl
-    (step (leaf (codes "compare")) (rule (leaf (codes "compare")) 2) 2 _ b (d ∷ e ∷ f ∷ codes "--explain" ∷ []) pb refl refl
-    (step (leaf (codes "compare")) (rule (leaf (codes "compare")) 3) 3 _ d (e ∷ f ∷ codes "--explain" ∷ []) pd refl refl
-    (step (leaf (codes "compare")) (rule (leaf (codes "compare")) 4) 4 _ e (f ∷ codes "--explain" ∷ []) pe refl refl
-    (step (leaf (codes "compare")) (rule (leaf (codes "compare")) 5) 5 _ f (codes "--explain" ∷ []) pf refl refl refl))))
-
-pub compare_behind : (a b d e f : Text) → is_plain a ≡ true → is_plain b ≡ true → is_plain d ≡ true → is_plain e ≡ true → is_plain f ≡ true → clap_takes (codes "compare" ∷ a ∷ b ∷ d ∷ e ∷ f ∷ codes "--explain" ∷ []) ≡ true
-compare_behind a b d e f pa pb pd pe pf = compare_entered (a ∷ b ∷ d ∷ e ∷ f ∷ codes "--explain" ∷ []) (compare_behind_level a b d e f pa pb pd pe pf)
-
--- ---- `crowd`
-
-crowd_plain_level : (a b d e f : Text) → is_plain a ≡ true → is_plain b ≡ true → is_plain d ≡ true → is_plain e ≡ true → is_plain f ≡ true → level (leaf (codes "crowd")) (walk_from nothing_held) (a ∷ b ∷ d ∷ e ∷ f ∷ []) ≡ true
-unfolding whole_command clap_on_literals level
-crowd_plain_level a b d e f pa pb pd pe pf =
-    step (leaf (codes "crowd")) (rule (leaf (codes "crowd")) 1) 1 nothing_held a (b ∷ d ∷ e ∷ f ∷ []) pa refl refl
-    (step (leaf (codes "crowd")) (rule (leaf (codes "crowd")) 2) 2 _ b (d ∷ e ∷ f ∷ []) pb refl refl
-    (step (leaf (codes "crowd")) (rule (leaf (codes "crowd")) 3) 3 _ d (e ∷ f ∷ []) pd refl refl
-    (step (leaf (codes "crowd")) (rule (leaf (codes "crowd")) 4) 4 _ e (f ∷ []) pe refl refl
-    (step (leaf (codes "crowd")) (rule (leaf (codes "crowd")) 5) 5 _ f ([]) pf refl refl refl))))
-
-pub crowd_plain : (a b d e f : Text) → is_plain a ≡ true → is_plain b ≡ true → is_plain d ≡ true → is_plain e ≡ true → is_plain f ≡ true → clap_takes (codes "crowd" ∷ a ∷ b ∷ d ∷ e ∷ f ∷ []) ≡ true
-crowd_plain a b d e f pa pb pd pe pf = crowd_entered (a ∷ b ∷ d ∷ e ∷ f ∷ []) (crowd_plain_level a b d e f pa pb pd pe pf)
-
--- ---- words behind `--`
+pub closure_untold : (a b d e : Text) → list_all is_plain (a ∷ b ∷ d ∷ e ∷ []) ≡ true → clap_takes (codes "closure" ∷ a ∷ b ∷ d ∷ e ∷ []) ≡ true
+closure_untold a b d e plain = closure_entered (a ∷ b ∷ d ∷ e ∷ []) (closure_level a b d e plain)
 
 pub closure_ended : (a b d e : Text) → clap_takes (codes "closure" ∷ codes "--" ∷ a ∷ b ∷ d ∷ e ∷ []) ≡ true
 unfolding clap_takes whole_command clap_on_literals
 closure_ended a b d e = refl
 
-pub closure_text_ended : (a b d e : Text) → clap_takes (codes "closure" ∷ codes "--format=text" ∷ codes "--" ∷ a ∷ b ∷ d ∷ e ∷ []) ≡ true
-unfolding clap_takes whole_command clap_on_literals
-closure_text_ended a b d e = refl
+-- the option in one word
+abbrev attached : Walk → Text → Walk
+attached w n = walked (leaf (codes "closure")).rules [] w (codes "--format=" ++ n)
 
-pub closure_text_named_ended : (a b d e : Text) → clap_takes (codes "closure" ∷ codes "--format" ∷ codes "text" ∷ codes "--" ∷ a ∷ b ∷ d ∷ e ∷ []) ≡ true
-unfolding clap_takes whole_command clap_on_literals
-closure_text_named_ended a b d e = refl
+attached_before_level : (n a b d e : Text) → list_all is_plain (a ∷ b ∷ d ∷ e ∷ []) ≡ true
+    → level (leaf (codes "closure")) (walk_from nothing_held) ((codes "--format=" ++ n) ∷ a ∷ b ∷ d ∷ e ∷ []) ≡ true
+unfolding whole_command clap_on_literals level
+attached_before_level n a b d e plain =
+    level_next (leaf (codes "closure")) (walk_from nothing_held) (attached (walk_from nothing_held) n) (codes "--format=" ++ n) (a ∷ b ∷ d ∷ e ∷ []) refl refl
+    (operands (leaf (codes "closure")) 1 (attached (walk_from nothing_held) n).held (a ∷ b ∷ d ∷ e ∷ []) [] plain
+    (refl, refl, refl, (refl, refl, refl, (refl, refl, refl, (refl, refl, refl, tt)))) refl)
 
-pub closure_dot_ended : (a b d e : Text) → clap_takes (codes "closure" ∷ codes "--format=dot" ∷ codes "--" ∷ a ∷ b ∷ d ∷ e ∷ []) ≡ true
-unfolding clap_takes whole_command clap_on_literals
-closure_dot_ended a b d e = refl
+pub closure_attached_before : (n a b d e : Text) → list_all is_plain (a ∷ b ∷ d ∷ e ∷ []) ≡ true → clap_takes (codes "closure" ∷ (codes "--format=" ++ n) ∷ a ∷ b ∷ d ∷ e ∷ []) ≡ true
+closure_attached_before n a b d e plain = closure_entered ((codes "--format=" ++ n) ∷ a ∷ b ∷ d ∷ e ∷ []) (attached_before_level n a b d e plain)
 
-pub closure_dot_named_ended : (a b d e : Text) → clap_takes (codes "closure" ∷ codes "--format" ∷ codes "dot" ∷ codes "--" ∷ a ∷ b ∷ d ∷ e ∷ []) ≡ true
-unfolding clap_takes whole_command clap_on_literals
-closure_dot_named_ended a b d e = refl
+attached_behind_level : (n a b d e : Text) → list_all is_plain (a ∷ b ∷ d ∷ e ∷ []) ≡ true
+    → level (leaf (codes "closure")) (walk_from nothing_held) (a ∷ b ∷ d ∷ e ∷ (codes "--format=" ++ n) ∷ []) ≡ true
+unfolding whole_command clap_on_literals level
+attached_behind_level n a b d e plain =
+    operands (leaf (codes "closure")) 1 nothing_held (a ∷ b ∷ d ∷ e ∷ []) ((codes "--format=" ++ n) ∷ []) plain
+    (refl, refl, refl, (refl, refl, refl, (refl, refl, refl, (refl, refl, refl, tt)))) refl
 
-pub closure_svg_ended : (a b d e : Text) → clap_takes (codes "closure" ∷ codes "--format=svg" ∷ codes "--" ∷ a ∷ b ∷ d ∷ e ∷ []) ≡ true
-unfolding clap_takes whole_command clap_on_literals
-closure_svg_ended a b d e = refl
+pub closure_attached_behind : (n a b d e : Text) → list_all is_plain (a ∷ b ∷ d ∷ e ∷ []) ≡ true → clap_takes (codes "closure" ∷ a ∷ b ∷ d ∷ e ∷ (codes "--format=" ++ n) ∷ []) ≡ true
+closure_attached_behind n a b d e plain = closure_entered (a ∷ b ∷ d ∷ e ∷ (codes "--format=" ++ n) ∷ []) (attached_behind_level n a b d e plain)
 
-pub closure_svg_named_ended : (a b d e : Text) → clap_takes (codes "closure" ∷ codes "--format" ∷ codes "svg" ∷ codes "--" ∷ a ∷ b ∷ d ∷ e ∷ []) ≡ true
+pub closure_attached_ended : (n a b d e : Text) → clap_takes (codes "closure" ∷ (codes "--format=" ++ n) ∷ codes "--" ∷ a ∷ b ∷ d ∷ e ∷ []) ≡ true
 unfolding clap_takes whole_command clap_on_literals
-closure_svg_named_ended a b d e = refl
+closure_attached_ended n a b d e = refl
+
+-- the option with its value behind it: a word with no hyphen in front
+abbrev pub is_value : Text → Bool
+is_value [] = false
+is_value (x ∷ n) = not (x == 45)
+
+no_hyphen : (x : ℕ) (b : Bool) → (x == 45) ≡ b → not b ≡ true → (x == 45) ≡ false
+no_hyphen x true is e = cc
+no_hyphen x false is e = is
+
+-- after the option, which waits for its value
+abbrev waiting : Walk → Walk
+waiting w = walked (leaf (codes "closure")).rules [] w (codes "--format")
+
+-- and after the value
+abbrev given : Walk → ℕ → ℕ → Text → Walk
+given w p x n = valued (leaf (codes "closure")) (codes "FORM") p (waiting w).held (x ∷ n)
+
+named_before_level : (x : ℕ) (n a b d e : Text) → (x == 45) ≡ false → list_all is_plain (a ∷ b ∷ d ∷ e ∷ []) ≡ true
+    → level (leaf (codes "closure")) (walk_from nothing_held) (codes "--format" ∷ (x ∷ n) ∷ a ∷ b ∷ d ∷ e ∷ []) ≡ true
+unfolding whole_command clap_on_literals level
+named_before_level x n a b d e value plain =
+    level_next (leaf (codes "closure")) (walk_from nothing_held) (waiting (walk_from nothing_held)) (codes "--format") ((x ∷ n) ∷ a ∷ b ∷ d ∷ e ∷ []) refl refl
+    (value_step (leaf (codes "closure")) (codes "FORM") 1 x n (waiting (walk_from nothing_held)).held (a ∷ b ∷ d ∷ e ∷ []) value
+    (operands (leaf (codes "closure")) 1 (given (walk_from nothing_held) 1 x n).held (a ∷ b ∷ d ∷ e ∷ []) [] plain
+    (refl, refl, refl, (refl, refl, refl, (refl, refl, refl, (refl, refl, refl, tt)))) refl))
+
+pub closure_named_before : (n a b d e : Text) → is_value n ≡ true → list_all is_plain (a ∷ b ∷ d ∷ e ∷ []) ≡ true
+    → clap_takes (codes "closure" ∷ codes "--format" ∷ n ∷ a ∷ b ∷ d ∷ e ∷ []) ≡ true
+closure_named_before [] a b d e value plain = cc
+closure_named_before (x ∷ n) a b d e value plain =
+    closure_entered (codes "--format" ∷ (x ∷ n) ∷ a ∷ b ∷ d ∷ e ∷ []) (named_before_level x n a b d e (no_hyphen x (x == 45) refl value) plain)
+
+named_behind_level : (x : ℕ) (n a b d e : Text) → (x == 45) ≡ false → list_all is_plain (a ∷ b ∷ d ∷ e ∷ []) ≡ true
+    → level (leaf (codes "closure")) (walk_from nothing_held) (a ∷ b ∷ d ∷ e ∷ codes "--format" ∷ (x ∷ n) ∷ []) ≡ true
+unfolding whole_command clap_on_literals level
+named_behind_level x n a b d e value plain =
+    let w = after (leaf (codes "closure")) 1 nothing_held (a ∷ b ∷ d ∷ e ∷ []) in
+    operands (leaf (codes "closure")) 1 nothing_held (a ∷ b ∷ d ∷ e ∷ []) (codes "--format" ∷ (x ∷ n) ∷ []) plain
+    (refl, refl, refl, (refl, refl, refl, (refl, refl, refl, (refl, refl, refl, tt))))
+    (level_next (leaf (codes "closure")) w (waiting w) (codes "--format") ((x ∷ n) ∷ []) refl refl
+    (value_step (leaf (codes "closure")) (codes "FORM") 5 x n (waiting w).held [] value refl))
+
+pub closure_named_behind : (n a b d e : Text) → is_value n ≡ true → list_all is_plain (a ∷ b ∷ d ∷ e ∷ []) ≡ true
+    → clap_takes (codes "closure" ∷ a ∷ b ∷ d ∷ e ∷ codes "--format" ∷ n ∷ []) ≡ true
+closure_named_behind [] a b d e value plain = cc
+closure_named_behind (x ∷ n) a b d e value plain =
+    closure_entered (a ∷ b ∷ d ∷ e ∷ codes "--format" ∷ (x ∷ n) ∷ []) (named_behind_level x n a b d e (no_hyphen x (x == 45) refl value) plain)
+
+named_ended_level : (x : ℕ) (n a b d e : Text) → (x == 45) ≡ false
+    → level (leaf (codes "closure")) (walk_from nothing_held) (codes "--format" ∷ (x ∷ n) ∷ codes "--" ∷ a ∷ b ∷ d ∷ e ∷ []) ≡ true
+unfolding whole_command clap_on_literals level
+named_ended_level x n a b d e value =
+    level_next (leaf (codes "closure")) (walk_from nothing_held) (waiting (walk_from nothing_held)) (codes "--format") ((x ∷ n) ∷ codes "--" ∷ a ∷ b ∷ d ∷ e ∷ []) refl refl
+    (value_step (leaf (codes "closure")) (codes "FORM") 1 x n (waiting (walk_from nothing_held)).held (codes "--" ∷ a ∷ b ∷ d ∷ e ∷ []) value refl)
+
+pub closure_named_ended : (n a b d e : Text) → is_value n ≡ true → clap_takes (codes "closure" ∷ codes "--format" ∷ n ∷ codes "--" ∷ a ∷ b ∷ d ∷ e ∷ []) ≡ true
+closure_named_ended [] a b d e value = cc
+closure_named_ended (x ∷ n) a b d e value =
+    closure_entered (codes "--format" ∷ (x ∷ n) ∷ codes "--" ∷ a ∷ b ∷ d ∷ e ∷ []) (named_ended_level x n a b d e (no_hyphen x (x == 45) refl value))
+
+-- ---- `compare`
+
+compare_level : (a b d e f : Text) → list_all is_plain (a ∷ b ∷ d ∷ e ∷ f ∷ []) ≡ true
+    → level (leaf (codes "compare")) (walk_from nothing_held) (a ∷ b ∷ d ∷ e ∷ f ∷ []) ≡ true
+unfolding whole_command clap_on_literals level
+compare_level a b d e f plain =
+    operands (leaf (codes "compare")) 1 nothing_held (a ∷ b ∷ d ∷ e ∷ f ∷ []) [] plain
+    (refl, refl, refl, (refl, refl, refl, (refl, refl, refl, (refl, refl, refl, (refl, refl, refl, tt))))) refl
+
+pub compare_untold : (a b d e f : Text) → list_all is_plain (a ∷ b ∷ d ∷ e ∷ f ∷ []) ≡ true → clap_takes (codes "compare" ∷ a ∷ b ∷ d ∷ e ∷ f ∷ []) ≡ true
+compare_untold a b d e f plain = compare_entered (a ∷ b ∷ d ∷ e ∷ f ∷ []) (compare_level a b d e f plain)
+
+compare_before_level : (a b d e f : Text) → list_all is_plain (a ∷ b ∷ d ∷ e ∷ f ∷ []) ≡ true
+    → level (leaf (codes "compare")) (walk_from nothing_held) (codes "--explain" ∷ a ∷ b ∷ d ∷ e ∷ f ∷ []) ≡ true
+unfolding whole_command clap_on_literals level
+compare_before_level a b d e f plain =
+    let w = walked (leaf (codes "compare")).rules [] (walk_from nothing_held) (codes "--explain") in
+    level_next (leaf (codes "compare")) (walk_from nothing_held) w (codes "--explain") (a ∷ b ∷ d ∷ e ∷ f ∷ []) refl refl
+    (operands (leaf (codes "compare")) 1 w.held (a ∷ b ∷ d ∷ e ∷ f ∷ []) [] plain
+    (refl, refl, refl, (refl, refl, refl, (refl, refl, refl, (refl, refl, refl, (refl, refl, refl, tt))))) refl)
+
+pub compare_before : (a b d e f : Text) → list_all is_plain (a ∷ b ∷ d ∷ e ∷ f ∷ []) ≡ true → clap_takes (codes "compare" ∷ codes "--explain" ∷ a ∷ b ∷ d ∷ e ∷ f ∷ []) ≡ true
+compare_before a b d e f plain = compare_entered (codes "--explain" ∷ a ∷ b ∷ d ∷ e ∷ f ∷ []) (compare_before_level a b d e f plain)
+
+compare_behind_level : (a b d e f : Text) → list_all is_plain (a ∷ b ∷ d ∷ e ∷ f ∷ []) ≡ true
+    → level (leaf (codes "compare")) (walk_from nothing_held) (a ∷ b ∷ d ∷ e ∷ f ∷ codes "--explain" ∷ []) ≡ true
+unfolding whole_command clap_on_literals level
+compare_behind_level a b d e f plain =
+    operands (leaf (codes "compare")) 1 nothing_held (a ∷ b ∷ d ∷ e ∷ f ∷ []) (codes "--explain" ∷ []) plain
+    (refl, refl, refl, (refl, refl, refl, (refl, refl, refl, (refl, refl, refl, (refl, refl, refl, tt))))) refl
+
+pub compare_behind : (a b d e f : Text) → list_all is_plain (a ∷ b ∷ d ∷ e ∷ f ∷ []) ≡ true → clap_takes (codes "compare" ∷ a ∷ b ∷ d ∷ e ∷ f ∷ codes "--explain" ∷ []) ≡ true
+compare_behind a b d e f plain = compare_entered (a ∷ b ∷ d ∷ e ∷ f ∷ codes "--explain" ∷ []) (compare_behind_level a b d e f plain)
 
 pub compare_ended : (a b d e f : Text) → clap_takes (codes "compare" ∷ codes "--" ∷ a ∷ b ∷ d ∷ e ∷ f ∷ []) ≡ true
 unfolding clap_takes whole_command clap_on_literals
@@ -184,96 +203,18 @@ pub compare_told_ended : (a b d e f : Text) → clap_takes (codes "compare" ∷ 
 unfolding clap_takes whole_command clap_on_literals
 compare_told_ended a b d e f = refl
 
+-- ---- `crowd`
+
+crowd_level : (a b d e f : Text) → list_all is_plain (a ∷ b ∷ d ∷ e ∷ f ∷ []) ≡ true
+    → level (leaf (codes "crowd")) (walk_from nothing_held) (a ∷ b ∷ d ∷ e ∷ f ∷ []) ≡ true
+unfolding whole_command clap_on_literals level
+crowd_level a b d e f plain =
+    operands (leaf (codes "crowd")) 1 nothing_held (a ∷ b ∷ d ∷ e ∷ f ∷ []) [] plain
+    (refl, refl, refl, (refl, refl, refl, (refl, refl, refl, (refl, refl, refl, (refl, refl, refl, tt))))) refl
+
+pub crowd_plain : (a b d e f : Text) → list_all is_plain (a ∷ b ∷ d ∷ e ∷ f ∷ []) ≡ true → clap_takes (codes "crowd" ∷ a ∷ b ∷ d ∷ e ∷ f ∷ []) ≡ true
+crowd_plain a b d e f plain = crowd_entered (a ∷ b ∷ d ∷ e ∷ f ∷ []) (crowd_level a b d e f plain)
+
 pub crowd_ended : (a b d e f : Text) → clap_takes (codes "crowd" ∷ codes "--" ∷ a ∷ b ∷ d ∷ e ∷ f ∷ []) ≡ true
 unfolding clap_takes whole_command clap_on_literals
 crowd_ended a b d e f = refl
-
--- ---- options before the operands
-
-closure_text_before_level : (a b d e : Text) → is_plain a ≡ true → is_plain b ≡ true → is_plain d ≡ true → is_plain e ≡ true → level (leaf (codes "closure")) (walk_from nothing_held) (codes "--format=text" ∷ a ∷ b ∷ d ∷ e ∷ []) ≡ true
-unfolding whole_command clap_on_literals level
-closure_text_before_level a b d e pa pb pd pe =
-    level_next (leaf (codes "closure")) (walk_from nothing_held) (walked (leaf (codes "closure")).rules [] (walk_from nothing_held) (codes "--format=text")) (codes "--format=text") (a ∷ b ∷ d ∷ e ∷ []) refl refl
-    (step (leaf (codes "closure")) (rule (leaf (codes "closure")) 1) 1 (walked (leaf (codes "closure")).rules [] (walk_from nothing_held) (codes "--format=text")).held a (b ∷ d ∷ e ∷ []) pa refl refl
-    (step (leaf (codes "closure")) (rule (leaf (codes "closure")) 2) 2 _ b (d ∷ e ∷ []) pb refl refl
-    (step (leaf (codes "closure")) (rule (leaf (codes "closure")) 3) 3 _ d (e ∷ []) pd refl refl
-    (step (leaf (codes "closure")) (rule (leaf (codes "closure")) 4) 4 _ e ([]) pe refl refl refl))))
-
-pub closure_text_before : (a b d e : Text) → is_plain a ≡ true → is_plain b ≡ true → is_plain d ≡ true → is_plain e ≡ true → clap_takes (codes "closure" ∷ codes "--format=text" ∷ a ∷ b ∷ d ∷ e ∷ []) ≡ true
-closure_text_before a b d e pa pb pd pe = closure_entered (codes "--format=text" ∷ a ∷ b ∷ d ∷ e ∷ []) (closure_text_before_level a b d e pa pb pd pe)
-
-closure_text_named_before_level : (a b d e : Text) → is_plain a ≡ true → is_plain b ≡ true → is_plain d ≡ true → is_plain e ≡ true → level (leaf (codes "closure")) (walk_from nothing_held) (codes "--format" ∷ codes "text" ∷ a ∷ b ∷ d ∷ e ∷ []) ≡ true
-unfolding whole_command clap_on_literals level
-closure_text_named_before_level a b d e pa pb pd pe =
-    level_next (leaf (codes "closure")) (walk_from nothing_held) (walked (leaf (codes "closure")).rules [] (walk_from nothing_held) (codes "--format")) (codes "--format") (codes "text" ∷ a ∷ b ∷ d ∷ e ∷ []) refl refl
-    (level_next (leaf (codes "closure")) (walked (leaf (codes "closure")).rules [] (walk_from nothing_held) (codes "--format")) (walked (leaf (codes "closure")).rules [] (walked (leaf (codes "closure")).rules [] (walk_from nothing_held) (codes "--format")) (codes "text")) (codes "text") (a ∷ b ∷ d ∷ e ∷ []) refl refl
-    (step (leaf (codes "closure")) (rule (leaf (codes "closure")) 1) 1 (walked (leaf (codes "closure")).rules [] (walked (leaf (codes "closure")).rules [] (walk_from nothing_held) (codes "--format")) (codes "text")).held a (b ∷ d ∷ e ∷ []) pa refl refl
-    (step (leaf (codes "closure")) (rule (leaf (codes "closure")) 2) 2 _ b (d ∷ e ∷ []) pb refl refl
-    (step (leaf (codes "closure")) (rule (leaf (codes "closure")) 3) 3 _ d (e ∷ []) pd refl refl
-    (step (leaf (codes "closure")) (rule (leaf (codes "closure")) 4) 4 _ e ([]) pe refl refl refl)))))
-
-pub closure_text_named_before : (a b d e : Text) → is_plain a ≡ true → is_plain b ≡ true → is_plain d ≡ true → is_plain e ≡ true → clap_takes (codes "closure" ∷ codes "--format" ∷ codes "text" ∷ a ∷ b ∷ d ∷ e ∷ []) ≡ true
-closure_text_named_before a b d e pa pb pd pe = closure_entered (codes "--format" ∷ codes "text" ∷ a ∷ b ∷ d ∷ e ∷ []) (closure_text_named_before_level a b d e pa pb pd pe)
-
-closure_dot_before_level : (a b d e : Text) → is_plain a ≡ true → is_plain b ≡ true → is_plain d ≡ true → is_plain e ≡ true → level (leaf (codes "closure")) (walk_from nothing_held) (codes "--format=dot" ∷ a ∷ b ∷ d ∷ e ∷ []) ≡ true
-unfolding whole_command clap_on_literals level
-closure_dot_before_level a b d e pa pb pd pe =
-    level_next (leaf (codes "closure")) (walk_from nothing_held) (walked (leaf (codes "closure")).rules [] (walk_from nothing_held) (codes "--format=dot")) (codes "--format=dot") (a ∷ b ∷ d ∷ e ∷ []) refl refl
-    (step (leaf (codes "closure")) (rule (leaf (codes "closure")) 1) 1 (walked (leaf (codes "closure")).rules [] (walk_from nothing_held) (codes "--format=dot")).held a (b ∷ d ∷ e ∷ []) pa refl refl
-    (step (leaf (codes "closure")) (rule (leaf (codes "closure")) 2) 2 _ b (d ∷ e ∷ []) pb refl refl
-    (step (leaf (codes "closure")) (rule (leaf (codes "closure")) 3) 3 _ d (e ∷ []) pd refl refl
-    (step (leaf (codes "closure")) (rule (leaf (codes "closure")) 4) 4 _ e ([]) pe refl refl refl))))
-
-pub closure_dot_before : (a b d e : Text) → is_plain a ≡ true → is_plain b ≡ true → is_plain d ≡ true → is_plain e ≡ true → clap_takes (codes "closure" ∷ codes "--format=dot" ∷ a ∷ b ∷ d ∷ e ∷ []) ≡ true
-closure_dot_before a b d e pa pb pd pe = closure_entered (codes "--format=dot" ∷ a ∷ b ∷ d ∷ e ∷ []) (closure_dot_before_level a b d e pa pb pd pe)
-
-closure_dot_named_before_level : (a b d e : Text) → is_plain a ≡ true → is_plain b ≡ true → is_plain d ≡ true → is_plain e ≡ true → level (leaf (codes "closure")) (walk_from nothing_held) (codes "--format" ∷ codes "dot" ∷ a ∷ b ∷ d ∷ e ∷ []) ≡ true
-unfolding whole_command clap_on_literals level
-closure_dot_named_before_level a b d e pa pb pd pe =
-    level_next (leaf (codes "closure")) (walk_from nothing_held) (walked (leaf (codes "closure")).rules [] (walk_from nothing_held) (codes "--format")) (codes "--format") (codes "dot" ∷ a ∷ b ∷ d ∷ e ∷ []) refl refl
-    (level_next (leaf (codes "closure")) (walked (leaf (codes "closure")).rules [] (walk_from nothing_held) (codes "--format")) (walked (leaf (codes "closure")).rules [] (walked (leaf (codes "closure")).rules [] (walk_from nothing_held) (codes "--format")) (codes "dot")) (codes "dot") (a ∷ b ∷ d ∷ e ∷ []) refl refl
-    (step (leaf (codes "closure")) (rule (leaf (codes "closure")) 1) 1 (walked (leaf (codes "closure")).rules [] (walked (leaf (codes "closure")).rules [] (walk_from nothing_held) (codes "--format")) (codes "dot")).held a (b ∷ d ∷ e ∷ []) pa refl refl
-    (step (leaf (codes "closure")) (rule (leaf (codes "closure")) 2) 2 _ b (d ∷ e ∷ []) pb refl refl
-    (step (leaf (codes "closure")) (rule (leaf (codes "closure")) 3) 3 _ d (e ∷ []) pd refl refl
-    (step (leaf (codes "closure")) (rule (leaf (codes "closure")) 4) 4 _ e ([]) pe refl refl refl)))))
-
-pub closure_dot_named_before : (a b d e : Text) → is_plain a ≡ true → is_plain b ≡ true → is_plain d ≡ true → is_plain e ≡ true → clap_takes (codes "closure" ∷ codes "--format" ∷ codes "dot" ∷ a ∷ b ∷ d ∷ e ∷ []) ≡ true
-closure_dot_named_before a b d e pa pb pd pe = closure_entered (codes "--format" ∷ codes "dot" ∷ a ∷ b ∷ d ∷ e ∷ []) (closure_dot_named_before_level a b d e pa pb pd pe)
-
-closure_svg_before_level : (a b d e : Text) → is_plain a ≡ true → is_plain b ≡ true → is_plain d ≡ true → is_plain e ≡ true → level (leaf (codes "closure")) (walk_from nothing_held) (codes "--format=svg" ∷ a ∷ b ∷ d ∷ e ∷ []) ≡ true
-unfolding whole_command clap_on_literals level
-closure_svg_before_level a b d e pa pb pd pe =
-    level_next (leaf (codes "closure")) (walk_from nothing_held) (walked (leaf (codes "closure")).rules [] (walk_from nothing_held) (codes "--format=svg")) (codes "--format=svg") (a ∷ b ∷ d ∷ e ∷ []) refl refl
-    (step (leaf (codes "closure")) (rule (leaf (codes "closure")) 1) 1 (walked (leaf (codes "closure")).rules [] (walk_from nothing_held) (codes "--format=svg")).held a (b ∷ d ∷ e ∷ []) pa refl refl
-    (step (leaf (codes "closure")) (rule (leaf (codes "closure")) 2) 2 _ b (d ∷ e ∷ []) pb refl refl
-    (step (leaf (codes "closure")) (rule (leaf (codes "closure")) 3) 3 _ d (e ∷ []) pd refl refl
-    (step (leaf (codes "closure")) (rule (leaf (codes "closure")) 4) 4 _ e ([]) pe refl refl refl))))
-
-pub closure_svg_before : (a b d e : Text) → is_plain a ≡ true → is_plain b ≡ true → is_plain d ≡ true → is_plain e ≡ true → clap_takes (codes "closure" ∷ codes "--format=svg" ∷ a ∷ b ∷ d ∷ e ∷ []) ≡ true
-closure_svg_before a b d e pa pb pd pe = closure_entered (codes "--format=svg" ∷ a ∷ b ∷ d ∷ e ∷ []) (closure_svg_before_level a b d e pa pb pd pe)
-
-closure_svg_named_before_level : (a b d e : Text) → is_plain a ≡ true → is_plain b ≡ true → is_plain d ≡ true → is_plain e ≡ true → level (leaf (codes "closure")) (walk_from nothing_held) (codes "--format" ∷ codes "svg" ∷ a ∷ b ∷ d ∷ e ∷ []) ≡ true
-unfolding whole_command clap_on_literals level
-closure_svg_named_before_level a b d e pa pb pd pe =
-    level_next (leaf (codes "closure")) (walk_from nothing_held) (walked (leaf (codes "closure")).rules [] (walk_from nothing_held) (codes "--format")) (codes "--format") (codes "svg" ∷ a ∷ b ∷ d ∷ e ∷ []) refl refl
-    (level_next (leaf (codes "closure")) (walked (leaf (codes "closure")).rules [] (walk_from nothing_held) (codes "--format")) (walked (leaf (codes "closure")).rules [] (walked (leaf (codes "closure")).rules [] (walk_from nothing_held) (codes "--format")) (codes "svg")) (codes "svg") (a ∷ b ∷ d ∷ e ∷ []) refl refl
-    (step (leaf (codes "closure")) (rule (leaf (codes "closure")) 1) 1 (walked (leaf (codes "closure")).rules [] (walked (leaf (codes "closure")).rules [] (walk_from nothing_held) (codes "--format")) (codes "svg")).held a (b ∷ d ∷ e ∷ []) pa refl refl
-    (step (leaf (codes "closure")) (rule (leaf (codes "closure")) 2) 2 _ b (d ∷ e ∷ []) pb refl refl
-    (step (leaf (codes "closure")) (rule (leaf (codes "closure")) 3) 3 _ d (e ∷ []) pd refl refl
-    (step (leaf (codes "closure")) (rule (leaf (codes "closure")) 4) 4 _ e ([]) pe refl refl refl)))))
-
-pub closure_svg_named_before : (a b d e : Text) → is_plain a ≡ true → is_plain b ≡ true → is_plain d ≡ true → is_plain e ≡ true → clap_takes (codes "closure" ∷ codes "--format" ∷ codes "svg" ∷ a ∷ b ∷ d ∷ e ∷ []) ≡ true
-closure_svg_named_before a b d e pa pb pd pe = closure_entered (codes "--format" ∷ codes "svg" ∷ a ∷ b ∷ d ∷ e ∷ []) (closure_svg_named_before_level a b d e pa pb pd pe)
-
-compare_before_level : (a b d e f : Text) → is_plain a ≡ true → is_plain b ≡ true → is_plain d ≡ true → is_plain e ≡ true → is_plain f ≡ true → level (leaf (codes "compare")) (walk_from nothing_held) (codes "--explain" ∷ a ∷ b ∷ d ∷ e ∷ f ∷ []) ≡ true
-unfolding whole_command clap_on_literals level
-compare_before_level a b d e f pa pb pd pe pf =
-    level_next (leaf (codes "compare")) (walk_from nothing_held) (walked (leaf (codes "compare")).rules [] (walk_from nothing_held) (codes "--explain")) (codes "--explain") (a ∷ b ∷ d ∷ e ∷ f ∷ []) refl refl
-    (step (leaf (codes "compare")) (rule (leaf (codes "compare")) 1) 1 (walked (leaf (codes "compare")).rules [] (walk_from nothing_held) (codes "--explain")).held a (b ∷ d ∷ e ∷ f ∷ []) pa refl refl
-    (step (leaf (codes "compare")) (rule (leaf (codes "compare")) 2) 2 _ b (d ∷ e ∷ f ∷ []) pb refl refl
-    (step (leaf (codes "compare")) (rule (leaf (codes "compare")) 3) 3 _ d (e ∷ f ∷ []) pd refl refl
-    (step (leaf (codes "compare")) (rule (leaf (codes "compare")) 4) 4 _ e (f ∷ []) pe refl refl
-    (step (leaf (codes "compare")) (rule (leaf (codes "compare")) 5) 5 _ f ([]) pf refl refl refl)))))
-
-pub compare_before : (a b d e f : Text) → is_plain a ≡ true → is_plain b ≡ true → is_plain d ≡ true → is_plain e ≡ true → is_plain f ≡ true → clap_takes (codes "compare" ∷ codes "--explain" ∷ a ∷ b ∷ d ∷ e ∷ f ∷ []) ≡ true
-compare_before a b d e f pa pb pd pe pf = compare_entered (codes "--explain" ∷ a ∷ b ∷ d ∷ e ∷ f ∷ []) (compare_before_level a b d e f pa pb pd pe pf)

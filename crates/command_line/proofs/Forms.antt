@@ -1,17 +1,15 @@
 -- The forms of the command line, and the words that they are.
-use Rattle.std.proofs.Common.{◌≡◌, ◌∙◌, ◌⊎◌, inl, inr, ℕ, Bool, true, false, List, [], ◌∷◌, ◌++◌, Option, Some, None, refl, sym, ap, subst, codes, true≢false}
-use Rattle.std.specs.Prelude.{◌&&◌, ◌==◌, ◌^◌, not, if◌then◌else◌, option_and_then, option_map}
+use Rattle.std.proofs.Common.{◌≡◌, ◌∙◌, inl, inr, ℕ, Bool, true, false, List, [], ◌∷◌, ◌++◌, Option, Some, None, refl, sym, ap, subst, codes, true≢false}
+use Rattle.std.specs.Prelude.{◌&&◌, ◌==◌, ◌^◌, if◌then◌else◌, option_and_then, option_map}
 use Rattle.std.specs.List.{list_all}
 use Rattle.std.specs.Str.{bytes_eq}
-use Rattle.std.proofs.lemmas.Slice.Eq.{bytes_eq-Decides}
 use Rattle.std.proofs.lemmas.Option.{option_and_then_some}
-use Rattle.scripts.proofs.ScriptLemmas.{both_true}
 use Rattle.clap.proofs.OnLiterals.{clap_on_literals}
 use Rattle.command_line.specs.ClapCommand.{whole_command, clap_takes}
-use Rattle.command_line.proofs.OperandLaws.{Alone, Behind, append_nil, first_true, form_of, found_operands, in_front, no_option, not_true, operands_plain, operands_sound, same_bytes, with_command}
+use Rattle.command_line.proofs.OperandLaws.{Alone, Behind, append_nil, first_true, form_of, in_front, no_option, not_true, operands_plain, operands_sound, same_bytes, with_command}
 use Rattle.command_line.proofs.WorkerForms.{Pooled, pool_complete, pool_sound, takes_run}
 use Rattle.command_line.specs.Workers.{AsksWorkers, pool_in}
-use Rattle.command_line.proofs.Asking.{closure_untold, closure_ended, closure_text_before, closure_text_behind, closure_text_ended, closure_text_named_before, closure_text_named_behind, closure_text_named_ended, closure_dot_before, closure_dot_behind, closure_dot_ended, closure_dot_named_before, closure_dot_named_behind, closure_dot_named_ended, closure_svg_before, closure_svg_behind, closure_svg_ended, closure_svg_named_before, closure_svg_named_behind, closure_svg_named_ended, compare_untold, compare_ended, compare_before, compare_behind, compare_told_ended, crowd_ended, crowd_plain}
+use Rattle.command_line.proofs.Asking.{closure_untold, closure_ended, closure_attached_before, closure_attached_behind, closure_attached_ended, closure_named_before, closure_named_behind, closure_named_ended, is_value, compare_untold, compare_ended, compare_before, compare_behind, compare_told_ended, crowd_ended, crowd_plain}
 use Rattle.scripts.specs.Names.{word_name}
 use Rattle.scripts.specs.Words.{word_number}
 use Rattle.command_line.specs.Words.{Text, HasForm, is_plain, operands_in}
@@ -78,53 +76,31 @@ told_behind : (f : Format) (options : List Text) (script net slot node : Text) �
 told_behind f options script net slot node found e =
     rw (plain_before script (net ∷ slot ∷ node ∷ options) (first_true (is_plain script) (list_all is_plain (net ∷ slot ∷ node ∷ [])) e), found, e) refl
 
-format_found : (name : Text) (f : Format) (is_text is_dot is_svg : Bool) → bytes_eq name (codes "text") ≡ is_text → bytes_eq name (codes "dot") ≡ is_dot
-    → bytes_eq name (codes "svg") ≡ is_svg
+-- a word that is found among the spellings of the three forms is that of the form
+form_found : (spelling : Format → Text) (word : Text) (f : Format) (is_text is_dot is_svg : Bool) → bytes_eq word (spelling format.Text) ≡ is_text
+    → bytes_eq word (spelling format.Dot) ≡ is_dot → bytes_eq word (spelling format.Svg) ≡ is_svg
     → (if is_text then Some format.Text else (if is_dot then Some format.Dot else (if is_svg then Some format.Svg else None))) ≡ Some f
-    → name ≡ name_of_format f
-format_found name f true is_dot is_svg one two three e =
-    let f_is : format.Text ≡ f = cc in same_bytes name (codes "text") one ∙ ap name_of_format f_is
-format_found name f false true is_svg one two three e =
-    let f_is : format.Dot ≡ f = cc in same_bytes name (codes "dot") two ∙ ap name_of_format f_is
-format_found name f false false true one two three e =
-    let f_is : format.Svg ≡ f = cc in same_bytes name (codes "svg") three ∙ ap name_of_format f_is
-format_found name f false false false one two three e = cc
-
-attached_found : (option : Text) (f : Format) (is_text is_dot is_svg : Bool) → bytes_eq option (codes "--format=text") ≡ is_text → bytes_eq option (codes "--format=dot") ≡ is_dot
-    → bytes_eq option (codes "--format=svg") ≡ is_svg
-    → (if is_text then Some format.Text else (if is_dot then Some format.Dot else (if is_svg then Some format.Svg else None))) ≡ Some f
-    → option ≡ word_of_format f
-attached_found option f true is_dot is_svg one two three e =
-    let f_is : format.Text ≡ f = cc in same_bytes option (codes "--format=text") one ∙ ap word_of_format f_is
-attached_found option f false true is_svg one two three e =
-    let f_is : format.Dot ≡ f = cc in same_bytes option (codes "--format=dot") two ∙ ap word_of_format f_is
-attached_found option f false false true one two three e =
-    let f_is : format.Svg ≡ f = cc in same_bytes option (codes "--format=svg") three ∙ ap word_of_format f_is
-attached_found option f false false false one two three e = cc
+    → word ≡ spelling f
+form_found spelling word f true is_dot is_svg one two three e =
+    let f_is : format.Text ≡ f = cc in same_bytes word (spelling format.Text) one ∙ ap spelling f_is
+form_found spelling word f false true is_svg one two three e =
+    let f_is : format.Dot ≡ f = cc in same_bytes word (spelling format.Dot) two ∙ ap spelling f_is
+form_found spelling word f false false true one two three e =
+    let f_is : format.Svg ≡ f = cc in same_bytes word (spelling format.Svg) three ∙ ap spelling f_is
+form_found spelling word f false false false one two three e = cc
 
 abbrev with_words : List Text → Format → Format × List Text
 with_words rest f = (f, rest)
 
-abbrev paired : Format → List Text → Format × List Text
-paired f words = (f, words)
+-- what was read from the options, beside the words
+abbrev beside : {A : Type 0} → A → List Text → A × List Text
+beside a words = (a, words)
 
-abbrev marked : Bool → List Text → Bool × List Text
-marked b words = (b, words)
-
-same_pair : {A B : Type 0} (p q : A × B) → Some p ≡ Some q → p ≡ q
-same_pair p q e = cc
-
-form_same : (f g : Format) (xs ys : List Text) → Some (paired f xs) ≡ Some (paired g ys) → f ≡ g
-form_same f g xs ys e = ap (λ (p : Format × List Text). p.0) (same_pair (paired f xs) (paired g ys) e)
-
-words_same : (f g : Format) (xs ys : List Text) → Some (paired f xs) ≡ Some (paired g ys) → xs ≡ ys
-words_same f g xs ys e = ap (λ (p : Format × List Text). p.1) (same_pair (paired f xs) (paired g ys) e)
-
-mark_same : (a b : Bool) (xs ys : List Text) → Some (marked a xs) ≡ Some (marked b ys) → a ≡ b
-mark_same a b xs ys e = ap (λ (p : Bool × List Text). p.0) (same_pair (marked a xs) (marked b ys) e)
-
-marked_same : (a b : Bool) (xs ys : List Text) → Some (marked a xs) ≡ Some (marked b ys) → xs ≡ ys
-marked_same a b xs ys e = ap (λ (p : Bool × List Text). p.1) (same_pair (marked a xs) (marked b ys) e)
+same_read : {A : Type 0} (a b : A) (xs ys : List Text) → Some (beside a xs) ≡ Some (beside b ys) → (a ≡ b) × (xs ≡ ys)
+same_read {A} a b xs ys e = (ap (λ (p : A × List Text). p.0) same, ap (λ (p : A × List Text). p.1) same)
+  where
+    same : beside a xs ≡ beside b ys
+    same = cc
 
 -- the options are found in front
 abbrev Told : List Text → Format → List Text → Type 0
@@ -137,18 +113,18 @@ told_named option (name ∷ rest) f more is e = told_by (format_in name) refl e
     told_by : (r : Option Format) → format_in name ≡ r → option_map (with_words rest) r ≡ Some (f, more) → Told (option ∷ name ∷ rest) f more
     told_by None by e' = cc
     told_by (Some g) by e' =
-        let g_is : g ≡ f = form_same g f rest more e' in
-        let rest_is : rest ≡ more = words_same g f rest more e' in
-        let name_is : name ≡ name_of_format f = format_found name f (bytes_eq name (codes "text")) (bytes_eq name (codes "dot")) (bytes_eq name (codes "svg")) refl refl refl (by ∙ ap Some g_is) in
+        let g_is : g ≡ f = (same_read g f rest more e').0 in
+        let rest_is : rest ≡ more = (same_read g f rest more e').1 in
+        let name_is : name ≡ name_of_format f = form_found name_of_format name f (bytes_eq name (codes "text")) (bytes_eq name (codes "dot")) (bytes_eq name (codes "svg")) refl refl refl (by ∙ ap Some g_is) in
         (codes "--format" ∷ name_of_format f ∷ [], inr (inl refl), rw (is, name_is, rest_is) refl)
 
 told_attached : (option : Text) (rest : List Text) (f : Format) (more : List Text) (r : Option Format) → attached_form option ≡ r
     → option_map (with_words rest) r ≡ Some (f, more) → Told (option ∷ rest) f more
 told_attached option rest f more None by e = cc
 told_attached option rest f more (Some g) by e =
-    let g_is : g ≡ f = form_same g f rest more e in
-    let rest_is : rest ≡ more = words_same g f rest more e in
-    let option_is : option ≡ word_of_format f = attached_found option f (bytes_eq option (codes "--format=text")) (bytes_eq option (codes "--format=dot")) (bytes_eq option (codes "--format=svg")) refl refl refl (by ∙ ap Some g_is) in
+    let g_is : g ≡ f = (same_read g f rest more e).0 in
+    let rest_is : rest ≡ more = (same_read g f rest more e).1 in
+    let option_is : option ≡ word_of_format f = form_found word_of_format option f (bytes_eq option (codes "--format=text")) (bytes_eq option (codes "--format=dot")) (bytes_eq option (codes "--format=svg")) refl refl refl (by ∙ ap Some g_is) in
     (word_of_format f ∷ [], inr (inr refl), rw (option_is, rest_is) refl)
 
 told_first : (option : Text) (rest : List Text) (f : Format) (more : List Text) (is_format : Bool) → bytes_eq option (codes "--format") ≡ is_format
@@ -165,11 +141,11 @@ abbrev Understood : List Text → Format → List Text → Type 0
 Understood rest f operands = (options : List Text) × AsksFormat options f × Behind rest options operands
 
 alone_text : (rest : List Text) (f : Format) (operands : List Text) (r : Option (List Text)) → operands_in rest ≡ r
-    → option_map (paired format.Text) r ≡ Some (f, operands) → Understood rest f operands
+    → option_map (beside format.Text) r ≡ Some (f, operands) → Understood rest f operands
 alone_text rest f operands None is e = cc
 alone_text rest f operands (Some found) is e =
-    let f_is : f ≡ format.Text = sym (form_same format.Text f found operands e) in
-    let found_is : found ≡ operands = words_same format.Text f found operands e in
+    let f_is : f ≡ format.Text = sym (same_read format.Text f found operands e).0 in
+    let found_is : found ≡ operands = (same_read format.Text f found operands e).1 in
     ([], inl (refl, f_is), in_front [] rest operands rest refl (operands_sound rest operands (is ∙ ap Some found_is)))
 
 text_sound : (rest : List Text) (f : Format) (operands : List Text) → form_or_text rest ≡ Some (f, operands) → Understood rest f operands
@@ -178,8 +154,8 @@ text_sound rest f operands e = alone_text rest f operands (operands_in rest) ref
 plain_behind : (g f : Format) (front options operands : List Text) (plain : Bool) → Told options g [] → list_all is_plain front ≡ plain
     → (if plain then Some (g, front) else form_or_text (front ++ options)) ≡ Some (f, operands) → Understood (front ++ options) f operands
 plain_behind g f front options operands true told plain e =
-    let g_is : g ≡ f = form_same g f front operands e in
-    let front_is : front ≡ operands = words_same g f front operands e in (
+    let g_is : g ≡ f = (same_read g f front operands e).0 in
+    let front_is : front ≡ operands = (same_read g f front operands e).1 in (
       told.0,
       subst (AsksFormat told.0) g_is told.1,
       inr (inr (ap (λ xs. front ++ xs) (told.2 ∙ append_nil told.0) ∙ ap (λ xs. xs ++ told.0) front_is, subst (λ xs. list_all is_plain xs ≡ true) front_is plain)),
@@ -201,11 +177,11 @@ behind_sound (a ∷ b ∷ d ∷ []) f operands e = text_sound (a ∷ b ∷ d ∷
 behind_sound (a ∷ b ∷ d ∷ h ∷ options) f operands e = chosen_sound f (a ∷ b ∷ d ∷ h ∷ []) options operands (form_before options) refl e
 
 with_found : (rest more : List Text) (g f : Format) (operands : List Text) (r : Option (List Text)) → Told rest g more → operands_in more ≡ r
-    → option_map (paired g) r ≡ Some (f, operands) → Understood rest f operands
+    → option_map (beside g) r ≡ Some (f, operands) → Understood rest f operands
 with_found rest more g f operands None told is e = cc
 with_found rest more g f operands (Some found) told is e =
-    let g_is : g ≡ f = form_same g f found operands e in
-    let found_is : found ≡ operands = words_same g f found operands e in
+    let g_is : g ≡ f = (same_read g f found operands e).0 in
+    let found_is : found ≡ operands = (same_read g f found operands e).1 in
     (told.0, subst (AsksFormat told.0) g_is told.1, in_front told.0 more operands rest told.2 (operands_sound more operands (is ∙ ap Some found_is)))
 
 form_with_sound : (rest : List Text) (f : Format) (operands : List Text) (r : Option (Format × List Text)) → form_before rest ≡ r
@@ -222,11 +198,11 @@ abbrev Explained : List Text → Bool → List Text → Type 0
 Explained rest explain operands = (options : List Text) × AsksExplanation options explain × Behind rest options operands
 
 unexplained_by : (rest : List Text) (explain : Bool) (operands : List Text) (r : Option (List Text)) → operands_in rest ≡ r
-    → option_map (marked false) r ≡ Some (explain, operands) → Explained rest explain operands
+    → option_map (beside false) r ≡ Some (explain, operands) → Explained rest explain operands
 unexplained_by rest explain operands None is e = cc
-unexplained_by rest true operands (Some found) is e = absurd (true≢false (sym (mark_same false true found operands e)))
+unexplained_by rest true operands (Some found) is e = absurd (true≢false (sym (same_read false true found operands e).0))
 unexplained_by rest false operands (Some found) is e =
-    let found_is : found ≡ operands = marked_same false false found operands e in
+    let found_is : found ≡ operands = (same_read false false found operands e).1 in
     ([], refl, in_front [] rest operands rest refl (operands_sound rest operands (is ∙ ap Some found_is)))
 
 unexplained_sound : (rest : List Text) (explain : Bool) (operands : List Text) → unexplained rest ≡ Some (explain, operands) → Explained rest explain operands
@@ -237,7 +213,7 @@ explained_last : (front : List Text) (option : Text) (explain : Bool) (operands 
     → (if is_option && plain then Some (true, front) else unexplained (front ++ option ∷ [])) ≡ Some (explain, operands)
     → Explained (front ++ option ∷ []) explain operands
 explained_last front option true operands true true is plain e =
-    let front_is : front ≡ operands = marked_same true true front operands e in (
+    let front_is : front ≡ operands = (same_read true true front operands e).1 in (
       codes "--explain" ∷ [],
       refl,
       inr (inr (
@@ -245,7 +221,7 @@ explained_last front option true operands true true is plain e =
         subst (λ xs. list_all is_plain xs ≡ true) front_is plain,
       )),
     )
-explained_last front option false operands true true is plain e = absurd (true≢false (mark_same true false front operands e))
+explained_last front option false operands true true is plain e = absurd (true≢false (same_read true false front operands e).0)
 explained_last front option explain operands true false is plain e = unexplained_sound (front ++ option ∷ []) explain operands e
 explained_last front option explain operands false plain is all e = unexplained_sound (front ++ option ∷ []) explain operands e
 
@@ -261,15 +237,15 @@ explained_behind (a ∷ b ∷ d ∷ h ∷ i ∷ option ∷ []) x operands e = ex
 explained_behind (a ∷ b ∷ d ∷ h ∷ i ∷ j ∷ k ∷ more) x operands e = unexplained_sound (a ∷ b ∷ d ∷ h ∷ i ∷ j ∷ k ∷ more) x operands e
 
 explained_with : (option : Text) (rest : List Text) (explain : Bool) (operands : List Text) (r : Option (List Text)) → option ≡ codes "--explain" → operands_in rest ≡ r
-    → option_map (marked true) r ≡ Some (explain, operands) → Explained (option ∷ rest) explain operands
+    → option_map (beside true) r ≡ Some (explain, operands) → Explained (option ∷ rest) explain operands
 explained_with option rest explain operands None is found e = cc
-explained_with option rest false operands (Some front) is found e = absurd (true≢false (mark_same true false front operands e))
+explained_with option rest false operands (Some front) is found e = absurd (true≢false (same_read true false front operands e).0)
 explained_with option rest true operands (Some front) is found e =
-    let front_is : front ≡ operands = marked_same true true front operands e in
+    let front_is : front ≡ operands = (same_read true true front operands e).1 in
     (codes "--explain" ∷ [], refl, in_front (codes "--explain" ∷ []) rest operands (option ∷ rest) (ap (λ x. x ∷ rest) is) (operands_sound rest operands (found ∙ ap Some front_is)))
 
 explained_first : (option : Text) (rest : List Text) (explain : Bool) (operands : List Text) (is_option : Bool) → bytes_eq option (codes "--explain") ≡ is_option
-    → (if is_option then option_map (marked true) (operands_in rest) else explain_behind (option ∷ rest)) ≡ Some (explain, operands)
+    → (if is_option then option_map (beside true) (operands_in rest) else explain_behind (option ∷ rest)) ≡ Some (explain, operands)
     → Explained (option ∷ rest) explain operands
 explained_first option rest explain operands true is e = explained_with option rest explain operands (operands_in rest) (same_bytes option (codes "--explain") is) refl e
 explained_first option rest explain operands false is e = explained_behind (option ∷ rest) explain operands e
@@ -503,81 +479,39 @@ takes_plain [] e = takes_empty
 takes_plain (x ∷ []) e = takes_one x (x == 45) refl
 takes_plain (x ∷ y ∷ more) e = takes_longer x y more (not_true (x == 45) e)
 
-all_four : (a b d e : Text) → list_all is_plain (a ∷ b ∷ d ∷ e ∷ []) ≡ true
-    → (is_plain a ≡ true) × (is_plain b ≡ true) × (is_plain d ≡ true) × (is_plain e ≡ true)
-all_four a b d e h =
-    let one = both_true (is_plain a) _ h in
-    let two = both_true (is_plain b) _ one.1 in
-    let three = both_true (is_plain d) _ two.1 in
-    let four = both_true (is_plain e) _ three.1 in
-    (one.0, two.0, three.0, four.0)
+attached_word : (f : Format) → word_of_format f ≡ codes "--format=" ++ name_of_format f
+attached_word format.Text = refl
+attached_word format.Dot = refl
+attached_word format.Svg = refl
 
-all_five : (a b d e f : Text) → list_all is_plain (a ∷ b ∷ d ∷ e ∷ f ∷ []) ≡ true
-    → (is_plain a ≡ true) × (is_plain b ≡ true) × (is_plain d ≡ true) × (is_plain e ≡ true) × (is_plain f ≡ true)
-all_five a b d e f h =
-    let one = both_true (is_plain a) _ h in
-    let rest = all_four b d e f one.1 in
-    (one.0, rest.0, rest.1, rest.2, rest.3)
-
-takes_word_before : (f : Format) (a b d e : Text) → list_all is_plain (a ∷ b ∷ d ∷ e ∷ []) ≡ true → clap_takes (codes "closure" ∷ word_of_format f ∷ a ∷ b ∷ d ∷ e ∷ []) ≡ true
-takes_word_before format.Text a b d e h = let p = all_four a b d e h in closure_text_before a b d e p.0 p.1 p.2 p.3
-takes_word_before format.Dot a b d e h = let p = all_four a b d e h in closure_dot_before a b d e p.0 p.1 p.2 p.3
-takes_word_before format.Svg a b d e h = let p = all_four a b d e h in closure_svg_before a b d e p.0 p.1 p.2 p.3
-
-takes_word_behind : (f : Format) (a b d e : Text) → list_all is_plain (a ∷ b ∷ d ∷ e ∷ []) ≡ true → clap_takes (codes "closure" ∷ a ∷ b ∷ d ∷ e ∷ word_of_format f ∷ []) ≡ true
-takes_word_behind format.Text a b d e h = let p = all_four a b d e h in closure_text_behind a b d e p.0 p.1 p.2 p.3
-takes_word_behind format.Dot a b d e h = let p = all_four a b d e h in closure_dot_behind a b d e p.0 p.1 p.2 p.3
-takes_word_behind format.Svg a b d e h = let p = all_four a b d e h in closure_svg_behind a b d e p.0 p.1 p.2 p.3
-
-takes_word_ended : (f : Format) (a b d e : Text) → clap_takes (codes "closure" ∷ word_of_format f ∷ codes "--" ∷ a ∷ b ∷ d ∷ e ∷ []) ≡ true
-takes_word_ended format.Text a b d e = closure_text_ended a b d e
-takes_word_ended format.Dot a b d e = closure_dot_ended a b d e
-takes_word_ended format.Svg a b d e = closure_svg_ended a b d e
-
-takes_name_before : (f : Format) (a b d e : Text) → list_all is_plain (a ∷ b ∷ d ∷ e ∷ []) ≡ true → clap_takes (codes "closure" ∷ codes "--format" ∷ name_of_format f ∷ a ∷ b ∷ d ∷ e ∷ []) ≡ true
-takes_name_before format.Text a b d e h = let p = all_four a b d e h in closure_text_named_before a b d e p.0 p.1 p.2 p.3
-takes_name_before format.Dot a b d e h = let p = all_four a b d e h in closure_dot_named_before a b d e p.0 p.1 p.2 p.3
-takes_name_before format.Svg a b d e h = let p = all_four a b d e h in closure_svg_named_before a b d e p.0 p.1 p.2 p.3
-
-takes_name_behind : (f : Format) (a b d e : Text) → list_all is_plain (a ∷ b ∷ d ∷ e ∷ []) ≡ true → clap_takes (codes "closure" ∷ a ∷ b ∷ d ∷ e ∷ codes "--format" ∷ name_of_format f ∷ []) ≡ true
-takes_name_behind format.Text a b d e h = let p = all_four a b d e h in closure_text_named_behind a b d e p.0 p.1 p.2 p.3
-takes_name_behind format.Dot a b d e h = let p = all_four a b d e h in closure_dot_named_behind a b d e p.0 p.1 p.2 p.3
-takes_name_behind format.Svg a b d e h = let p = all_four a b d e h in closure_svg_named_behind a b d e p.0 p.1 p.2 p.3
-
-takes_name_ended : (f : Format) (a b d e : Text) → clap_takes (codes "closure" ∷ codes "--format" ∷ name_of_format f ∷ codes "--" ∷ a ∷ b ∷ d ∷ e ∷ []) ≡ true
-takes_name_ended format.Text a b d e = closure_text_named_ended a b d e
-takes_name_ended format.Dot a b d e = closure_dot_named_ended a b d e
-takes_name_ended format.Svg a b d e = closure_svg_named_ended a b d e
-
-takes_untold : (a b d e : Text) → list_all is_plain (a ∷ b ∷ d ∷ e ∷ []) ≡ true → clap_takes (codes "closure" ∷ a ∷ b ∷ d ∷ e ∷ []) ≡ true
-takes_untold a b d e h = let p = all_four a b d e h in closure_untold a b d e p.0 p.1 p.2 p.3
+name_is_value : (f : Format) → is_value (name_of_format f) ≡ true
+name_is_value format.Text = refl
+name_is_value format.Dot = refl
+name_is_value format.Svg = refl
 
 takes_closure : (words options : List Text) (f : Format) (a b d e : Text) → AsksFormat options f
     → HasFormWith words (codes "closure") options (a ∷ b ∷ d ∷ e ∷ []) → clap_takes words ≡ true
-takes_closure words options f a b d e (inl p) (inl q) = rw (q.0, p.0) (takes_untold a b d e q.1)
+takes_closure words options f a b d e (inl p) (inl q) = rw (q.0, p.0) (closure_untold a b d e q.1)
 takes_closure words options f a b d e (inl p) (inr (inl h)) = rw (h, p.0) (closure_ended a b d e)
-takes_closure words options f a b d e (inl p) (inr (inr q)) = rw (q.0, p.0) (takes_untold a b d e q.1)
-takes_closure words options f a b d e (inr (inl is)) (inl q) = rw (q.0, is) (takes_name_before f a b d e q.1)
-takes_closure words options f a b d e (inr (inl is)) (inr (inl h)) = rw (h, is) (takes_name_ended f a b d e)
-takes_closure words options f a b d e (inr (inl is)) (inr (inr q)) = rw (q.0, is) (takes_name_behind f a b d e q.1)
-takes_closure words options f a b d e (inr (inr is)) (inl q) = rw (q.0, is) (takes_word_before f a b d e q.1)
-takes_closure words options f a b d e (inr (inr is)) (inr (inl h)) = rw (h, is) (takes_word_ended f a b d e)
-takes_closure words options f a b d e (inr (inr is)) (inr (inr q)) = rw (q.0, is) (takes_word_behind f a b d e q.1)
-
-takes_compare_untold : (a b d e f : Text) → list_all is_plain (a ∷ b ∷ d ∷ e ∷ f ∷ []) ≡ true → clap_takes (codes "compare" ∷ a ∷ b ∷ d ∷ e ∷ f ∷ []) ≡ true
-takes_compare_untold a b d e f h = let p = all_five a b d e f h in compare_untold a b d e f p.0 p.1 p.2 p.3 p.4
+takes_closure words options f a b d e (inl p) (inr (inr q)) = rw (q.0, p.0) (closure_untold a b d e q.1)
+takes_closure words options f a b d e (inr (inl is)) (inl q) = rw (q.0, is) (closure_named_before (name_of_format f) a b d e (name_is_value f) q.1)
+takes_closure words options f a b d e (inr (inl is)) (inr (inl h)) = rw (h, is) (closure_named_ended (name_of_format f) a b d e (name_is_value f))
+takes_closure words options f a b d e (inr (inl is)) (inr (inr q)) = rw (q.0, is) (closure_named_behind (name_of_format f) a b d e (name_is_value f) q.1)
+takes_closure words options f a b d e (inr (inr is)) (inl q) = rw (q.0, is, attached_word f) (closure_attached_before (name_of_format f) a b d e q.1)
+takes_closure words options f a b d e (inr (inr is)) (inr (inl h)) = rw (h, is, attached_word f) (closure_attached_ended (name_of_format f) a b d e)
+takes_closure words options f a b d e (inr (inr is)) (inr (inr q)) = rw (q.0, is, attached_word f) (closure_attached_behind (name_of_format f) a b d e q.1)
 
 takes_compare : (words options : List Text) (explain : Bool) (a b d e f : Text) → AsksExplanation options explain
     → HasFormWith words (codes "compare") options (a ∷ b ∷ d ∷ e ∷ f ∷ []) → clap_takes words ≡ true
-takes_compare words options false a b d e f is (inl q) = rw (q.0, is) (takes_compare_untold a b d e f q.1)
+takes_compare words options false a b d e f is (inl q) = rw (q.0, is) (compare_untold a b d e f q.1)
 takes_compare words options false a b d e f is (inr (inl h)) = rw (h, is) (compare_ended a b d e f)
-takes_compare words options false a b d e f is (inr (inr q)) = rw (q.0, is) (takes_compare_untold a b d e f q.1)
-takes_compare words options true a b d e f is (inl q) = rw (q.0, is) (let p = all_five a b d e f q.1 in compare_before a b d e f p.0 p.1 p.2 p.3 p.4)
+takes_compare words options false a b d e f is (inr (inr q)) = rw (q.0, is) (compare_untold a b d e f q.1)
+takes_compare words options true a b d e f is (inl q) = rw (q.0, is) (compare_before a b d e f q.1)
 takes_compare words options true a b d e f is (inr (inl h)) = rw (h, is) (compare_told_ended a b d e f)
-takes_compare words options true a b d e f is (inr (inr q)) = rw (q.0, is) (let p = all_five a b d e f q.1 in compare_behind a b d e f p.0 p.1 p.2 p.3 p.4)
+takes_compare words options true a b d e f is (inr (inr q)) = rw (q.0, is) (compare_behind a b d e f q.1)
 
 takes_crowd : (words : List Text) (a b d e f : Text) → HasForm words (codes "crowd") (a ∷ b ∷ d ∷ e ∷ f ∷ []) → clap_takes words ≡ true
-takes_crowd words a b d e f (inl p) = rw p.0 (let q = all_five a b d e f p.1 in crowd_plain a b d e f q.0 q.1 q.2 q.3 q.4)
+takes_crowd words a b d e f (inl p) = rw p.0 (crowd_plain a b d e f p.1)
 takes_crowd words a b d e f (inr is) = rw is (crowd_ended a b d e f)
 
 pub takes_call : (words : List Text) (call : Call) → IsCall words call → clap_takes words ≡ true

@@ -1,7 +1,7 @@
 -- How many workers `run` asks for, as it is found.
-use Rattle.std.proofs.Common.{◌≡◌, ◌∙◌, ◌⊎◌, inl, inr, ◌<◌, ℕ, Bool, true, false, List, [], ◌∷◌, ◌++◌, take, drop, length, Option, Some, None, refl, sym, ap, subst, codes, arith}
-use Rattle.std.specs.Prelude.{◌&&◌, ◌==◌, ◌^◌, nat_lt, nat_le, not, if◌then◌else◌, option_and_then, option_map, slice_index}
-use Rattle.std.specs.List.{AllByRecursion, list_all}
+use Rattle.std.proofs.Common.{◌≡◌, ◌∙◌, inl, inr, ◌<◌, ℕ, Bool, true, false, List, [], ◌∷◌, ◌++◌, take, drop, length, Option, Some, None, refl, sym, ap, subst, codes, arith}
+use Rattle.std.specs.Prelude.{◌&&◌, ◌==◌, ◌^◌, nat_lt, if◌then◌else◌, option_and_then, option_map}
+use Rattle.std.specs.List.{list_all}
 use Rattle.std.specs.Str.{bytes_eq}
 use Rattle.std.proofs.lemmas.Bool.Decides.{nat_tests}
 use Rattle.std.proofs.lemmas.List.{take-append-drop}
@@ -10,7 +10,7 @@ use Rattle.scripts.specs.Numbers.{IsDigit, decimal}
 use Rattle.scripts.specs.Words.{is_decimal, word_number}
 use Rattle.command_line.specs.Words.{Text, is_plain, operands_in}
 use Rattle.command_line.specs.Options.{HasFormWith}
-use Rattle.command_line.specs.Workers.{AreWorkers, AsksWorkers, attached_workers, behind, pool_in, without_workers, worker_count, workers_alone, workers_before, workers_behind, workers_chosen, workers_in, workers_named, workers_with}
+use Rattle.command_line.specs.Workers.{AreWorkers, AsksWorkers, attached_workers, behind, pool_in, without_workers, worker_count, workers_before, workers_behind, workers_chosen, workers_in, workers_named, workers_with}
 use Rattle.command_line.specs.ClapCommand.{clap_takes}
 use Rattle.scripts.proofs.NumberLaws.{tested_decimal}
 use Rattle.command_line.proofs.OperandLaws.{Behind, first_true, in_front, no_option, not_true, operands_plain, operands_sound, same_bytes}

@@ -34,11 +34,15 @@ run_command = with_rule (wanting (codes "run") (codes "SCRIPT")) (option_rule (c
 abbrev pub closure_command : App
 closure_command = with_rule (with_subject (wanting (codes "closure") (codes "SCRIPT"))) (option_rule (codes "FORM") (codes "format"))
 
+-- a command that wants two scripts and a subject
+abbrev pub comparing : Text → App
+comparing name = with_subject (with_rule (wanting name (codes "SCRIPT1")) (operand_rule (codes "SCRIPT2")))
+
 abbrev pub compare_command : App
-compare_command = with_rule (with_subject (with_rule (wanting (codes "compare") (codes "SCRIPT1")) (operand_rule (codes "SCRIPT2")))) (flag_rule (codes "explain"))
+compare_command = with_rule (comparing (codes "compare")) (flag_rule (codes "explain"))
 
 abbrev pub crowd_command : App
-crowd_command = with_subject (with_rule (wanting (codes "crowd") (codes "SCRIPT1")) (operand_rule (codes "SCRIPT2")))
+crowd_command = comparing (codes "crowd")
 
 abbrev pub bare_command : App
 bare_command =

@@ -2,7 +2,7 @@
 
 ghost use Rattle.std.specs.Prelude.{◌≡◌, IfOk};
 ghost use Rattle.clap.specs.Words.{app_of, with_rule};
-ghost use Rattle.command_line.specs.ClapCommand.{closure_command, compare_command, crowd_command, flag_rule, operand_rule, option_rule, run_command, wanting, whole_command, with_subject};
+ghost use Rattle.command_line.specs.ClapCommand.{closure_command, compare_command, comparing, crowd_command, flag_rule, operand_rule, option_rule, run_command, wanting, whole_command, with_subject};
 
 use clap::{Arg, ArgAction, Command};
 use std::alloc::{AllocError, Global};
@@ -136,21 +136,12 @@ fn closure_command<'a>(alloc: Global) -> Result<Command<'a>, AllocError>
 fn compare_command<'a>(alloc: Global) -> Result<Command<'a>, AllocError>
     ensures { IfOk result (λ c. app_of c ≡ compare_command) }
 {
-    let command = command_of_file(
+    let command = command_of_two_scripts(
         alloc,
         "compare",
         "Compares what concerns a node in two scripts, and what it gave out",
         COMPARE_HELP,
-        "SCRIPT1",
-        "The first script, or - for the standard input",
     )?;
-    let command = operand(
-        alloc,
-        command,
-        "SCRIPT2",
-        "The second script, or - for the standard input",
-    )?;
-    let command = subject(alloc, command)?;
     flag(
         alloc,
         command,
@@ -163,21 +154,12 @@ fn compare_command<'a>(alloc: Global) -> Result<Command<'a>, AllocError>
 fn crowd_command<'a>(alloc: Global) -> Result<Command<'a>, AllocError>
     ensures { IfOk result (λ c. app_of c ≡ crowd_command) }
 {
-    let command = command_of_file(
+    command_of_two_scripts(
         alloc,
         "crowd",
         "Compares what was submitted for a node in two scripts, and the answers",
         CROWD_HELP,
-        "SCRIPT1",
-        "The first script, or - for the standard input",
-    )?;
-    let command = operand(
-        alloc,
-        command,
-        "SCRIPT2",
-        "The second script, or - for the standard input",
-    )?;
-    subject(alloc, command)
+    )
 }
 
 /// A command with one operand, which it wants, as clap knows it; what its file holds is said behind the help.
@@ -193,6 +175,32 @@ fn command_of_file<'a>(
 {
     let command = Command::new(alloc, name).about(about).after_help(holds);
     operand(alloc, command, file, help)
+}
+
+/// A command that compares two scripts, and wants them and a subject; what it says is said behind the help.
+fn command_of_two_scripts<'a>(
+    alloc: Global,
+    name: &'a str,
+    about: &'a str,
+    says: &'a str,
+) -> Result<Command<'a>, AllocError>
+    ensures { IfOk result (λ c. app_of c ≡ comparing name.entry.now) }
+{
+    let command = command_of_file(
+        alloc,
+        name,
+        about,
+        says,
+        "SCRIPT1",
+        "The first script, or - for the standard input",
+    )?;
+    let command = operand(
+        alloc,
+        command,
+        "SCRIPT2",
+        "The second script, or - for the standard input",
+    )?;
+    subject(alloc, command)
 }
 
 /// The command with the three operands that name a subject.

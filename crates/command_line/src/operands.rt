@@ -114,7 +114,7 @@ pub fn explain_and_operands<S: AsStr>(rest: &[S]) -> Option<(bool, &[S])>
     ensures { option_map (λ p. (p.0, map S.text p.1.now)) result ≡ explain_in (map S.text rest.now) }
 {
     match rest {
-        [] => unexplained(rest),
+        [] => without_explanation(rest),
         [option, more @ ..] => {
             if !is_explain(option) {
                 return explain_behind(rest);
@@ -136,16 +136,16 @@ fn explain_behind<S: AsStr>(rest: &[S]) -> Option<(bool, &[S])>
             if is_explain(option) && are_plain(&rest[..5]) {
                 Some((true, &rest[..5]))
             } else {
-                unexplained(rest)
+                without_explanation(rest)
             }
         }
-        [_, _, _, _, _, _, _, ..] => unexplained(rest),
-        _ => unexplained(rest),
+        [_, _, _, _, _, _, _, ..] => without_explanation(rest),
+        _ => without_explanation(rest),
     }
 }
 
 /// The same, where the option is left out.
-fn unexplained<S: AsStr>(rest: &[S]) -> Option<(bool, &[S])>
+fn without_explanation<S: AsStr>(rest: &[S]) -> Option<(bool, &[S])>
     ensures { option_map (λ p. (p.0, map S.text p.1.now)) result ≡ unexplained (map S.text rest.now) }
 {
     match operands_of(rest) {

@@ -16,6 +16,7 @@ use Rattle.protocol.proofs.HostLaws.{answers-run, applied-journal, steps_to}
 use Rattle.differences.proofs.Places.{front_at}
 use Rattle.network.specs.Decoding.{reading, step_of}
 use Rattle.hoststep.specs.Logs.{IsEntered, IsRefused, Log, extended}
+use Rattle.hoststep.proofs.Histories.{journal-snoc, steps-snoc}
 use Rattle.crowds.specs.Replies.{IsAnswer}
 use Rattle.crowds.specs.Submitted.{asked, is_asked}
 
@@ -29,28 +30,6 @@ declared-net (k ∷ ks) g c h = go (k.number == g) refl h (declared-net ks g c)
     go false y e ih = rw y (ih e)
 
 -- ---- one step more
-steps-snoc : (g : ℕ) (cs : List (ℕ × Step)) (c : ℕ × Step) → steps_to g (cs ++ c ∷ []) ≡ steps_to g cs ++ (if c.0 == g then c.1 ∷ [] else [])
-unfolding steps_to
-steps-snoc g [] c = refl
-steps-snoc g (x ∷ xs) c = go (x.0 == g) (steps-snoc g xs c)
-  where
-    go : (b : Bool) → steps_to g (xs ++ c ∷ []) ≡ steps_to g xs ++ (if c.0 == g then c.1 ∷ [] else [])
-        → (if b then x.1 ∷ steps_to g (xs ++ c ∷ []) else steps_to g (xs ++ c ∷ [])) ≡ (if b then x.1 ∷ steps_to g xs else steps_to g xs) ++ (if c.0 == g then c.1 ∷ [] else [])
-    go true ih = ap (λ ys. x.1 ∷ ys) ih
-    go false ih = ih
-
-journal-snoc : (es : List Step) (net : Net) (e : Step) → journal net (es ++ e ∷ []) ≡ journal net es ++ entered e (net_step (net_after net (journal net es)) e).1 []
-unfolding journal net_after net_step
-journal-snoc [] net e = refl
-journal-snoc (x ∷ xs) net e = go (first_that (tests net x)) refl (λ n. journal-snoc xs n e)
-  where
-    go : (o : Option Refusal) → first_that (tests net x) ≡ o → ((n : Net) → journal n (xs ++ e ∷ []) ≡ journal n xs ++ entered e (net_step (net_after n (journal n xs)) e).1 [])
-        → entered x (replied net x o).1 (journal (replied net x o).0 (xs ++ e ∷ [])) ≡ entered x (replied net x o).1 (journal (replied net x o).0 xs) ++ entered e (net_step (net_after net (entered x (replied net x o).1 (journal (replied net x o).0 xs))) e).1 []
-    go (Some r) q ih = ih net
-    go None q ih =
-        let next : Net = (replied net x None).0 in
-        ap (λ ys. record { event = x; outs = (effect net x).1 } ∷ ys) (ih next ∙ ap (λ (p : Option Refusal). journal next xs ++ entered e (net_step (net_after (replied net x p).0 (journal next xs)) e).1 []) (sym q))
-
 run-snoc : (es : List Step) (net : Net) (e : Step) → net_run net (es ++ e ∷ []) ≡ net_run net es ++ record { step = e; reply = (net_step (net_after net (journal net es)) e).1 } ∷ []
 unfolding journal net_after net_run net_step
 run-snoc [] net e = refl
@@ -118,7 +97,7 @@ module _ (h : History) (c : Config) (g : ℕ) (is : config_of h.configs g ≡ So
     steps_more =
         ap (λ (cs : List (ℕ × Event)). steps_to g (steps_of reading cs)) one_more
         ∙ ap (steps_to g) (map-append (λ (x : ℕ × Event). (x.0, step_of x.1)) (take k h.calls) (call ∷ []))
-        ∙ steps-snoc g (steps_of reading (take k h.calls)) (call.0, step_of call.1)
+        ∙ steps-snoc g (steps_of reading (take k h.calls)) call.0 (step_of call.1)
 
     -- an event of another network
     same_steps : (call.0 == g) ≡ false → steps (take (k + 1) h.calls) ≡ steps (take k h.calls)

@@ -76,12 +76,12 @@ fn answer(
 {
     match journal.apply(event.try_copy(alloc)?) {
         Ok(outs) => Ok(Reply::Done(outs)),
-        Err(refusal) => refused(refusal),
+        Err(refusal) => reply_of_refusal(refusal),
     }
 }
 
 /// A refusal as a reply, but want of memory.
-fn refused(refusal: Refusal) -> Result<Reply, AllocError>
+fn reply_of_refusal(refusal: Refusal) -> Result<Reply, AllocError>
     ensures reply { IfOk result (λ r. reply_of r ≡ Refused refusal) }
     ensures other { IfOk result (λ _. refusal ≢ NoMemory) }
 {

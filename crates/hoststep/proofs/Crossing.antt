@@ -14,6 +14,7 @@ use Rattle.compiled.proofs.set.CompiledSet.TheLaws.TheKnot as compiled
 use Rattle.configuration.proofs.budgets.Budgets.TheSendSync as budgets
 use Rattle.configuration.proofs.roster.Roster.TheSendSync as roster
 use Rattle.network.proofs.tallies.Tally.TheSendSync as tally
+use Rattle.network.proofs.slot_index.SlotPlace.TheSendSync as slot_place
 use Rattle.envstore.specs.declared.shelf.Places.{Ghosts}
 use Rattle.types.specs.contracts.nested.Nested as Nested
 use Rattle.view.specs.contracts.region.Region as Region
@@ -32,6 +33,8 @@ use Rattle.network.specs.contracts.tallies.Tallies as Tallies
 use Rattle.network.specs.contracts.told.Told as Told
 use Rattle.network.specs.contracts.place.Place as Place
 use Rattle.network.specs.contracts.open_slot.OpenSlot as OpenSlot
+use Rattle.network.specs.contracts.slot_index.SlotIndex as SlotIndex
+use Rattle.network.specs.contracts.open_slots.OpenSlots as OpenSlots
 use Rattle.network.specs.contracts.network.Network as Network
 use Rattle.hoststep.specs.contracts.kept.KeptEvent as KeptEvent
 use Rattle.hoststep.specs.contracts.kept.Kept as Kept
@@ -128,6 +131,18 @@ slot_sync = search (sendable, crosses, place_sync) depth 40
 slot_send : IsSend (OpenSlot.the_row)
 slot_send = search (sendable, crosses, place_send) depth 40
 
+slot_index_sync : IsSync (SlotIndex.the_row)
+slot_index_sync = search (sendable, crosses, slot_place.the_sync) depth 40
+
+slot_index_send : IsSend (SlotIndex.the_row)
+slot_index_send = search (sendable, crosses, slot_place.the_send) depth 40
+
+slots_sync : IsSync (OpenSlots.the_row)
+slots_sync = search (sendable, crosses, slot_sync, slot_index_sync) depth 40
+
+slots_send : IsSend (OpenSlots.the_row)
+slots_send = search (sendable, crosses, slot_send, slot_index_send) depth 40
+
 out_sync : IsSync (FiledOut.the_row)
 out_sync = search (sendable, crosses, value.the_sync) depth 40
 
@@ -154,10 +169,10 @@ module _ (S P : RattleType) (g : Ghosts S.Denot P.Denot) where
   archive_send s p = search (sendable, crosses) depth 40
 
   network_sync : IsSync S → IsSync P → IsSync (Network.the_row S P g)
-  network_sync s p = let a = archive_sync s p in search (sendable, crosses, config_sync, slot_sync) depth 40
+  network_sync s p = let a = archive_sync s p in search (sendable, crosses, config_sync, slots_sync) depth 40
 
   network_send : IsSend S → IsSend P → IsSend (Network.the_row S P g)
-  network_send s p = let a = archive_send s p in search (sendable, crosses, config_send, slot_send) depth 40
+  network_send s p = let a = archive_send s p in search (sendable, crosses, config_send, slots_send) depth 40
 
   pub journal_sync : IsSync S → IsSync P → IsSync (Journal.the_row S P g)
   journal_sync s p = let a = network_sync s p in search (sendable, crosses, kept_sync) depth 40

@@ -43,7 +43,7 @@ history-journal : (h : History) (ls : List Log) (g : ℕ) (l : Log) → map (λ 
 history-journal h ls g l c at = applied-journal g (steps_of reading h.calls) (nets h.configs) (new_net l.config) (ap (λ cs. net_at (nets cs) g) (sym c) ∙ has-net ls g l at)
 
 -- ---- one event more
-steps-snoc : (g : ℕ) (cs : List (ℕ × Step)) (j : ℕ) (e : Step) → steps_to g (cs ++ (j, e) ∷ []) ≡ steps_to g cs ++ (if j == g then e ∷ [] else [])
+pub steps-snoc : (g : ℕ) (cs : List (ℕ × Step)) (j : ℕ) (e : Step) → steps_to g (cs ++ (j, e) ∷ []) ≡ steps_to g cs ++ (if j == g then e ∷ [] else [])
 unfolding steps_to
 steps-snoc g [] j e = refl
 steps-snoc g (c ∷ cs) j e = go (c.0 == g) (steps-snoc g cs j e)
@@ -53,7 +53,7 @@ steps-snoc g (c ∷ cs) j e = go (c.0 == g) (steps-snoc g cs j e)
     go true ih = ap (λ xs. c.1 ∷ xs) ih
     go false ih = ih
 
-journal-snoc : (es : List Step) (net : Net) (e : Step) → journal net (es ++ e ∷ []) ≡ journal net es ++ entered e (net_step (net_after net (journal net es)) e).1 []
+pub journal-snoc : (es : List Step) (net : Net) (e : Step) → journal net (es ++ e ∷ []) ≡ journal net es ++ entered e (net_step (net_after net (journal net es)) e).1 []
 unfolding journal net_after net_step
 journal-snoc [] net e = refl
 journal-snoc (x ∷ xs) net e = go (first_that (tests net x)) refl (λ n. journal-snoc xs n e)

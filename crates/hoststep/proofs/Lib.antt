@@ -1,7 +1,7 @@
 mod Begins
 mod Growing
 mod Spelled
-mod Histories
+pub mod Histories
 mod ByNumber
 mod OutsAt
 mod Configured

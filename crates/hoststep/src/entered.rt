@@ -13,7 +13,7 @@ pub(crate) struct Entered {
 }
 
 /// The one copy that was asked for.
-pub(crate) fn only(mut copies: Vec<Vec<Out>>) -> Vec<Out>
+pub(crate) fn only_copy(mut copies: Vec<Vec<Out>>) -> Vec<Out>
     requires { length copies.items ≡ 1 }
     ensures { copies.items ≡ result ∷ [] }
 {
@@ -24,7 +24,7 @@ pub(crate) fn only(mut copies: Vec<Vec<Out>>) -> Vec<Out>
 }
 
 /// The two copies that were asked for.
-pub(crate) fn both(mut copies: Vec<Vec<Out>>) -> (Vec<Out>, Vec<Out>)
+pub(crate) fn both_copies(mut copies: Vec<Vec<Out>>) -> (Vec<Out>, Vec<Out>)
     requires { length copies.items ≡ 2 }
     ensures { copies.items ≡ result.0 ∷ result.1 ∷ [] }
 {

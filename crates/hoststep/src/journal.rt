@@ -10,7 +10,7 @@ ghost use Rattle.hoststep.specs.Entering.{IsEnteredWith, outs_after};
 ghost use Rattle.hoststep.specs.Lending.{lent_step, outs_at};
 ghost use Rattle.hoststep.specs.Deciding.{decided_by, decisions_at};
 
-use crate::entered::{Entered, both, only};
+use crate::entered::{Entered, both_copies, only_copy};
 use crate::kept::{Kept, kept_event, push_whole_outs, whole_event};
 use crate::lent_decision::{LentDecision, lent_decision};
 use crate::lent_event::{LentEvent, lent_event};
@@ -110,7 +110,7 @@ impl<S: Shelf> Journal<S> {
         ensures same { OnErr result (self.new ≡ self.old) }
     {
         let entered = self.enter(event, 1)?;
-        Ok(only(entered.copies))
+        Ok(only_copy(entered.copies))
     }
 
     /// One event as by [`Journal::apply`], with the entry that it makes and by which numbers its emissions
@@ -128,7 +128,7 @@ impl<S: Shelf> Journal<S> {
             return Err(Refusal::NoMemory);
         };
         let entered = self.enter(copy, 2)?;
-        let (outs, answer) = both(entered.copies);
+        let (outs, answer) = both_copies(entered.copies);
         Ok(Recorded {
             number,
             event,

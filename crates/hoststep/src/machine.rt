@@ -5,7 +5,7 @@ ghost use Rattle.protocol.specs.Hosts.{new_net};
 ghost use Rattle.network.specs.Decoding.{step_of};
 ghost use Rattle.network.specs.Standing.{IsRefusal, IsStep, StandsFor};
 
-use crate::entered::only;
+use crate::entered::only_copy;
 use configuration::NetConfig;
 use envstore::Shelf;
 use network::Network;
@@ -63,6 +63,6 @@ impl<S: Shelf> NetMachine<S> {
         ensures same { OnErr result (self.new ≡ self.old) }
     {
         let applied = self.network.apply(&event, 1)?;
-        Ok(only(applied.copies))
+        Ok(only_copy(applied.copies))
     }
 }

@@ -51,7 +51,7 @@ fn delivery(bytes: Bytes) -> Event {
 }
 
 /// A journal of at most so many events, with its slot open.
-fn opened(alloc: Global, events: u64) -> Option<Journal<VecShelf>> {
+fn open_journal(alloc: Global, events: u64) -> Option<Journal<VecShelf>> {
     let config = config(alloc, events)?;
     let journal = Journal::new(alloc, config, VecShelf::new(alloc));
     with_event(journal, Event::OpenSlot { slot: 5 })
@@ -67,8 +67,8 @@ fn with_event(mut journal: Journal<VecShelf>, event: Event) -> Option<Journal<Ve
 
 /// A journal where slot 5 was opened, node 2 voted, and node 1 was given slices of node 3, with room for two
 /// more events.
-fn told(alloc: Global) -> Option<Journal<VecShelf>> {
-    let journal = with_event(opened(alloc, 5)?, delivery(vote(alloc)?))?;
+fn resliced_journal(alloc: Global) -> Option<Journal<VecShelf>> {
+    let journal = with_event(open_journal(alloc, 5)?, delivery(vote(alloc)?))?;
     let reslice = Event::Reslice {
         slot: 5,
         node: name(1),
@@ -148,7 +148,7 @@ fn are_slices(slices: Option<&Nested>, wanted: &Nested) -> bool {
 
 /// How many outs a proposal gives, and how many stand in a list to which they are appended twice.
 fn append_twice(alloc: Global) -> Option<(usize, usize)> {
-    let mut journal = opened(alloc, 2)?;
+    let mut journal = open_journal(alloc, 2)?;
     let proposal = Event::Propose {
         slot: 5,
         node: name(1),
@@ -165,7 +165,7 @@ fn append_twice(alloc: Global) -> Option<(usize, usize)> {
 #[test]
 fn what_is_refused_is_not_journalled(rt: HostRuntime) -> Result<(), Fail> {
     let alloc = rt.alloc();
-    let mut journal = opened(alloc, 2).ok_or("memory")?;
+    let mut journal = open_journal(alloc, 2).ok_or("memory")?;
     let empty = delivery(Bytes::new(Vec::new(alloc)));
     assert!(rt; is_refused(&mut journal, empty, Refusal::BadEnvelope(1)));
     let close = Event::CloseSlot { slot: 6 };
@@ -179,7 +179,7 @@ fn what_is_refused_is_not_journalled(rt: HostRuntime) -> Result<(), Fail> {
 #[test]
 fn a_delivery_is_recorded_and_read_back(rt: HostRuntime) -> Result<(), Fail> {
     let alloc = rt.alloc();
-    let mut journal = opened(alloc, 2).ok_or("memory")?;
+    let mut journal = open_journal(alloc, 2).ok_or("memory")?;
     let bytes = vote(alloc).ok_or("memory")?;
     let copy = bytes.try_copy(alloc)?;
     let recorded = journal
@@ -211,7 +211,7 @@ fn a_machine_gives_out_what_its_journal_says(rt: HostRuntime) -> Result<(), Fail
 #[test]
 fn events_are_read_in_place(rt: HostRuntime) -> Result<(), Fail> {
     let alloc = rt.alloc();
-    let journal = told(alloc).ok_or("memory")?;
+    let journal = resliced_journal(alloc).ok_or("memory")?;
     let bytes = vote(alloc).ok_or("memory")?;
     assert!(rt; opens_in_place(&journal, 0, 5) && !opens_in_place(&journal, 0, 6));
     assert!(rt; delivers_in_place(&journal, 1, bytes.as_slice().len() as u64));
@@ -228,7 +228,7 @@ fn outs_are_appended(rt: HostRuntime) -> Result<(), Fail> {
 
 #[test]
 fn deliveries_and_new_slices_are_announced(rt: HostRuntime) -> Result<(), Fail> {
-    let journal = told(rt.alloc()).ok_or("memory")?;
+    let journal = resliced_journal(rt.alloc()).ok_or("memory")?;
     assert!(rt; journal.announcement(0).is_none() && journal.announcement(3).is_none());
     assert!(rt; announces(&journal, 1, 2) && announces(&journal, 2, 1));
     Ok(())
@@ -237,7 +237,7 @@ fn deliveries_and_new_slices_are_announced(rt: HostRuntime) -> Result<(), Fail> 
 #[test]
 fn slices_hold_at_their_slot(rt: HostRuntime) -> Result<(), Fail> {
     let alloc = rt.alloc();
-    let journal = told(alloc).ok_or("memory")?;
+    let journal = resliced_journal(alloc).ok_or("memory")?;
     let configured = slices(alloc, 2).ok_or("memory")?;
     let new = slices(alloc, 3).ok_or("memory")?;
     assert!(rt; are_slices(journal.slices(&name(1)), &configured));
@@ -254,7 +254,7 @@ fn slices_hold_at_their_slot(rt: HostRuntime) -> Result<(), Fail> {
 fn new_slices_end_with_their_slot(rt: HostRuntime) -> Result<(), Fail> {
     let alloc = rt.alloc();
     let configured = slices(alloc, 2).ok_or("memory")?;
-    let journal = told(alloc).ok_or("memory")?;
+    let journal = resliced_journal(alloc).ok_or("memory")?;
     let closed = with_event(journal, Event::CloseSlot { slot: 5 }).ok_or("refused")?;
     assert!(rt; are_slices(closed.slices_then(&name(1), 5), &configured));
     let reopened = with_event(closed, Event::OpenSlot { slot: 5 }).ok_or("refused")?;
@@ -264,7 +264,7 @@ fn new_slices_end_with_their_slot(rt: HostRuntime) -> Result<(), Fail> {
 }
 
 /// A journal where node 1, which needs itself alone, was told to propose a value at slot 5.
-fn decided_alone(alloc: Global) -> Option<Journal<VecShelf>> {
+fn journal_of_a_decision(alloc: Global) -> Option<Journal<VecShelf>> {
     let hosts = vec![in alloc; Host::new(name(1), slices(alloc, 1)?)].ok()?;
     let config = NetConfig::new(alloc, 7, hosts, Budgets::new(9, 1000, 1)?).ok()?;
     let journal = Journal::new(alloc, config, VecShelf::new(alloc));
@@ -291,7 +291,7 @@ fn decides_in_place(journal: &Journal<VecShelf>, number: usize, value: &[u8]) ->
 
 #[test]
 fn decisions_are_read_in_place(rt: HostRuntime) -> Result<(), Fail> {
-    let journal = decided_alone(rt.alloc()).ok_or("memory")?;
+    let journal = journal_of_a_decision(rt.alloc()).ok_or("memory")?;
     assert!(rt; decides_in_place(&journal, 1, b"x") && !decides_in_place(&journal, 1, b"y"));
     assert!(rt; journal.decision(0).is_none() && journal.decision(2).is_none());
     Ok(())
@@ -320,7 +320,7 @@ fn shared_config(alloc: Global, bytes: u64) -> Option<NetConfig> {
 }
 
 /// A journal of that network, with its slot open.
-fn shared(alloc: Global, bytes: u64) -> Option<Journal<VecShelf>> {
+fn shared_journal(alloc: Global, bytes: u64) -> Option<Journal<VecShelf>> {
     let config = shared_config(alloc, bytes)?;
     let journal = Journal::new(alloc, config, VecShelf::new(alloc));
     with_event(journal, Event::OpenSlot { slot: 5 })
@@ -342,7 +342,7 @@ fn told_vote(
 }
 
 /// Whether a vote of each of these nodes is answered so, in this order.
-fn all_answered(
+fn are_answered(
     alloc: Global,
     journal: &mut Journal<VecShelf>,
     senders: &[u64],
@@ -359,19 +359,19 @@ fn all_answered(
 
 /// Whether each of these nodes has two events taken, told in two orders, and a third refused.
 fn counts_events(alloc: Global, one: &[u64], other: &[u64]) -> Option<bool> {
-    let mut journal = shared(alloc, 1000)?;
-    let first = all_answered(alloc, &mut journal, one, None)?;
-    let second = all_answered(alloc, &mut journal, other, None)?;
-    let third = all_answered(alloc, &mut journal, one, Some(Refusal::ShareFull))?;
+    let mut journal = shared_journal(alloc, 1000)?;
+    let first = are_answered(alloc, &mut journal, one, None)?;
+    let second = are_answered(alloc, &mut journal, other, None)?;
+    let third = are_answered(alloc, &mut journal, one, Some(Refusal::ShareFull))?;
     Some(first && second && third && journal.len() == 15)
 }
 
 /// Whether each of these nodes has the bytes of one vote taken, and those of a second refused.
 fn counts_bytes(alloc: Global, senders: &[u64]) -> Option<bool> {
     let size = vote(alloc)?.as_slice().len() as u64;
-    let mut journal = shared(alloc, size)?;
-    let first = all_answered(alloc, &mut journal, senders, None)?;
-    let second = all_answered(alloc, &mut journal, senders, Some(Refusal::ShareBytesFull))?;
+    let mut journal = shared_journal(alloc, size)?;
+    let first = are_answered(alloc, &mut journal, senders, None)?;
+    let second = are_answered(alloc, &mut journal, senders, Some(Refusal::ShareBytesFull))?;
     Some(first && second && journal.len() == 8)
 }
 

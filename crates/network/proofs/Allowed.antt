@@ -8,7 +8,7 @@ use Rattle.configuration.specs.Configs.{index_in, index_of_name, names_of}
 use Rattle.network.specs.Deeds.{IsSlotThere, index_of_slot}
 use Rattle.network.specs.Lodgings.{slot_of}
 use Rattle.network.specs.Standing.{Standing, StandsFor, machine_of}
-use Rattle.network.proofs.Indexes.{at_key, at-index, at-none, index-within, mapped-length}
+use Rattle.network.proofs.Indexes.{at-index, at-none, index-within, mapped-length}
 use Rattle.network.proofs.Plans.{places_at-is, slices_of-is}
 
 -- ---- lists of tests

@@ -1,9 +1,9 @@
 -- From a deed to the step of the network.
-use Rattle.std.proofs.Common.{◌≡◌, ◌⊎◌, ℕ, zero, suc, ◌<◌, ◌≤◌, ◌+◌, ◌^◌, Bool, true, false, not, ◌||◌, ◌==◌, length, take, drop, List, [], ◌∷◌, ◌++◌, map, replicate, slice_get, Option, Some, None, option_map, if◌then◌else◌, refl, sym, ◌∙◌, ap, ap₂, subst, inl, inr, arith}
+use Rattle.std.proofs.Common.{◌≡◌, ℕ, zero, suc, ◌<◌, ◌≤◌, ◌+◌, ◌^◌, Bool, true, false, not, ◌||◌, ◌==◌, length, take, drop, List, [], ◌∷◌, ◌++◌, map, replicate, slice_get, Option, Some, None, option_map, if◌then◌else◌, refl, sym, ◌∙◌, ap, ap₂, subst, inl, inr, arith}
 use Rattle.std.specs.List.{All, AllByRecursion, list_any, remove}
 use Rattle.std.proofs.lemmas.Bool.{false≢true, and_parts, eqb-true}
 use Rattle.std.proofs.lemmas.Bool.Decides.{nat_tests}
-use Rattle.std.proofs.lemmas.List.{drop-map, map-append, take-map}
+use Rattle.std.proofs.lemmas.List.{map-append}
 use Rattle.std.proofs.lemmas.List.Elements.{All-append, All-cons, All-drop, All-head, All-map, All-nil, All-tail, All-take, All-weaker}
 use Rattle.types.specs.Statements.{Sent}
 use Rattle.types.specs.Trees.{all_differ}
@@ -17,7 +17,7 @@ use Rattle.protocol.specs.Rosters.Share.{Own, Pair}
 use Rattle.protocol.specs.Counts.{HasBytes, HasEvents, HasRoom, IsCountedAfter, is_of_share, is_opening}
 use Rattle.protocol.proofs.CountLaws.{applied_where_room, next}
 use Rattle.protocol.proofs.EffectLaws.{effect-keeps}
-use Rattle.protocol.proofs.RoomLaws.{steps_are_counted}
+use Rattle.protocol.proofs.RoomLaws.{room-bytes, room-events, steps_are_counted}
 use Rattle.slot.specs.Filings.{event_of, outs_of}
 use Rattle.configuration.specs.Configs.{index_in, names_of}
 use Rattle.configuration.specs.Budgets.{AreShares}
@@ -26,6 +26,7 @@ use Rattle.network.specs.Changes.{IsChangedAt, changed_at}
 use Rattle.network.specs.Charges.{HasRoomInCounts, HasRoomOnNetwork, IsActed, IsReady, IsSlotActed, on_budgets_of, on_opens_of}
 use Rattle.network.specs.Deeds.{IsDrawn, IsNamed, IsNodeOf, IsPlan, IsThere, acted, handed, node_at, outs_after, slots_after}
 use Rattle.network.specs.Doings.{IsAnswer, IsDoable, IsDone, marks_after, slots_of}
+use Rattle.network.specs.Keyed.{at_key}
 use Rattle.network.specs.Lodgings.{AreTallied, IsLodged, IsTallied, IsUncounted, Lodging, Lodgings, Seat, Seats, bytes_from, events_from, place_in, seat_of, seats_of, slot_of}
 use Rattle.network.specs.Marks.{marks_in, numbered, place_named, told_at, told_before}
 use Rattle.network.specs.Standing.{IsStanding, IsStep, IsTidy, Machine, Standing, StandsFor, machine_of, net_of}
@@ -37,7 +38,9 @@ use Rattle.network.specs.declared.plan.Drawn.{Drawn}
 use Rattle.network.specs.declared.plan.Drawn.TheVariants.{Budgets as ByBudgets, Opens as ByOpens, Own as ByOwn, Pair as ByPair}
 use Rattle.network.specs.declared.plan.Plan.{Plan}
 use Rattle.network.proofs.Counting.{Agrees, IsSourceOf, agrees, moves, pair_of, source-of, spared-name, spared-none, spared-slot, stays}
-use Rattle.network.proofs.Indexes.{at_key, at-index}
+use Rattle.network.proofs.Indexes.{at-index}
+use Rattle.network.proofs.KeyPlaces.{map-remove}
+use Rattle.network.proofs.SlotPlaceLaws.{numbers-are}
 use Rattle.network.proofs.Tidiness.{IsFresh, Neat, absent, fresh-of, moved-name, names_at, neat, slot_numbers}
 
 -- ---- a place that is the only one
@@ -54,6 +57,10 @@ none-any (n ∷ ns) i h = let p = both (n == i) (list_any (λ w. w == i) ns) h i
     both : (b c : Bool) → (b || c) ≡ false → (b ≡ false) × (c ≡ false)
     both true c h = absurd (false≢true (sym h))
     both false c h = (refl, h)
+
+none-index : (ns : List ℕ) (i : ℕ) → AllByRecursion (λ m. (m == i) ≡ false) ns → index_in ns i ≡ None
+none-index [] i a = refl
+none-index (n ∷ ns) i a = ap (λ b. if b then Some 0 else option_map suc (index_in ns i)) a.0 ∙ ap (option_map suc) (none-index ns i a.1)
 
 pub only-at : (ns : List ℕ) (i k : ℕ) → index_in ns i ≡ Some k → all_differ ns ≡ true → IsOnlyAt i k ns
 only-at [] i k h d = absurd (cc)
@@ -106,10 +113,6 @@ names-are : (ps : List Lodging) → map (λ (x : Seat). x.place.node.name) (map 
 names-are [] = refl
 names-are (p ∷ ps) = ap (λ (ns : List ℕ). name_at p ∷ ns) (names-are ps)
 
-pub numbers-are : (ss : List Lodgings) → map (λ (s : Slot). s.number) (slots_of ss) ≡ map number_at ss
-numbers-are [] = refl
-numbers-are (s ∷ ss) = ap (λ (ns : List ℕ). s.number ∷ ns) (numbers-are ss)
-
 seat-numbers : (ss : List Lodgings) → map (λ (s : Seats). s.number) (map seats_of ss) ≡ map number_at ss
 seat-numbers [] = refl
 seat-numbers (s ∷ ss) = ap (λ (ns : List ℕ). s.number ∷ ns) (seat-numbers ss)
@@ -126,9 +129,6 @@ acted-slots c e h k (x ∷ xs) [] r = absurd r
 acted-slots c e h zero (x ∷ xs) (y ∷ ys) r =
     ap₂ {C = List Slot} (λ (s : Slot) (ss : List Slot). s ∷ ss) (λ j. record { number = r.0.number j; places = acted-places c e h x.places y.places r.0.places j }) (sym (ap slots_of r.1))
 acted-slots c e h (suc k) (x ∷ xs) (y ∷ ys) r = ap₂ {C = List Slot} (λ (s : Slot) (ss : List Slot). s ∷ ss) (sym (ap (λ (s : Lodgings). slot_of (seats_of s)) r.0)) (acted-slots c e h k xs ys r.1)
-
-map-remove : {X Y : Type 0} (f : X → Y) (xs : List X) (k : ℕ) → map f (remove xs k) ≡ remove (map f xs) k
-map-remove f xs k = map-append f (take k xs) (drop (suc k) xs) ∙ ap₂ (λ ys zs. ys ++ zs) (sym (take-map f k xs)) (sym (drop-map f (suc k) xs))
 
 pub done-slots : (c : Charge) (d : Deed) (old new : List Lodgings) → IsDone c d old new → slots_of new ≡ slots_after (slots_of old) d
 done-slots c (Open s) old new h = ap slots_of h ∙ ap (map slot_of) (map-append seats_of old (s ∷ [])) ∙ map-append slot_of (map seats_of old) (seats_of s ∷ [])
@@ -325,27 +325,6 @@ known-at ns slots i u k h names q r = ap (λ o. known o u) (places_at-is slots i
     go None e = refl
     go (Some s) e = known-place ns s.places u h (at-slot (λ (s : Slot). names_at s.places ≡ ns) slots k s names e) r
 
--- ---- room
-has-events : (net : Net) (e : Step) → HasRoom net e → HasEvents net (source net.roster e)
-has-events net (Opens i) h = h.1
-has-events net (Closes i) h = h
-has-events net (Asks i u x) h = h
-has-events net (Delivers u size d) h = h.0
-has-events net (Hears i u from kind k) h = h
-has-events net (NominationTimes i u r) h = h
-has-events net (BallotTimes i u n) h = h
-has-events net (Reslices i u q) h = h
-
-has-bytes : (net : Net) (e : Step) → HasRoom net e → HasBytes net (source net.roster e) (size_of e) ⊎ (size_of e ≡ 0)
-has-bytes net (Opens i) h = inr refl
-has-bytes net (Closes i) h = inr refl
-has-bytes net (Asks i u x) h = inr refl
-has-bytes net (Delivers u size d) h = inl h.1
-has-bytes net (Hears i u from kind k) h = inr refl
-has-bytes net (NominationTimes i u r) h = inr refl
-has-bytes net (BallotTimes i u n) h = inr refl
-has-bytes net (Reslices i u q) h = inr refl
-
 -- ---- the step
 abbrev pub charge_of : Plan → Charge
 charge_of p = record { drawn = p.drawn; size = p.size }
@@ -516,7 +495,7 @@ module _ (m : Standing) (e : Step) (p : Plan) (t : IsStanding m) (plan : IsPlan 
   room = applied_where_room stood e (plan.allowed stood (record { is = refl; tallied = t.stood.1 }))
 
   bytes-kept : (d : Drawn) → IsDrawn (machine_of m) d its → m.bytes + on_budgets_of d p.size ≤ m.config.budgets.bytes
-  bytes-kept ByBudgets q = elim (has-bytes stood e room) [
+  bytes-kept ByBudgets q = elim (room-bytes stood e room) [
     | inl f ↦ let l : m.bytes + size_of e ≤ m.config.budgets.bytes = subst (λ z. HasBytes stood z (size_of e)) q f in let z = plan.size in omega (arith, l, z)
     | inr z ↦ let l = t.tidy.bytes in let s = plan.size in omega (arith, l, z, s)
   ]
@@ -526,11 +505,11 @@ module _ (m : Standing) (e : Step) (p : Plan) (t : IsStanding m) (plan : IsPlan 
 
   network-room : (d : Drawn) → IsDrawn (machine_of m) d its → HasRoomOnNetwork d p.size m.events m.bytes m.opens
   network-room ByBudgets q =
-      let l : m.events < m.config.budgets.events = subst (HasEvents stood) q (has-events stood e room) in
+      let l : m.events < m.config.budgets.events = subst (HasEvents stood) q (room-events stood e room) in
       let b : m.bytes + p.size ≤ m.config.budgets.bytes = bytes-kept ByBudgets q in
       (omega (arith, l, few_events), omega (arith, b, few_bytes))
   network-room ByOpens q =
-      let l : m.opens < q.0.shares.opens = subst (HasEvents stood) q.2 (has-events stood e room) in
+      let l : m.opens < q.0.shares.opens = subst (HasEvents stood) q.2 (room-events stood e room) in
       let s = (few q.0 q.1).few_opens in
       omega (arith, l, s)
   network-room (ByOwn k h) q = tt
@@ -544,14 +523,14 @@ module _ (m : Standing) (e : Step) (p : Plan) (t : IsStanding m) (plan : IsPlan 
   node-room ByOpens i u x y q s xn yn tl = tt
   node-room (ByOwn k h) i u x y q s xn yn tl =
       let f = subst (IsSourceOf i u) q.6 s in
-      let l : events_drawn q.1.number (Own q.2.place.node.name) t.stood.0 < q.0.shares.own = subst (HasEvents stood) q.6 (has-events stood e room) in
+      let l : events_drawn q.1.number (Own q.2.place.node.name) t.stood.0 < q.0.shares.own = subst (HasEvents stood) q.6 (room-events stood e room) in
       let same = ap₂ (λ a b. events_drawn a (Own b) t.stood.0) (f.0 ∙ sym xn) (f.1 ∙ sym yn) in
       let o = tl.own in
       let b = (few q.0 q.3).few_own in
       omega (arith, l, same, o, b)
   node-room (ByPair k h w) i u x y q s xn yn tl =
       let f = subst (IsSourceOf i u) q.6 s in
-      let l : events_drawn q.1.number (Pair q.2.place.node.name w) t.stood.0 < q.0.shares.pair = subst (HasEvents stood) q.6 (has-events stood e room) in
+      let l : events_drawn q.1.number (Pair q.2.place.node.name w) t.stood.0 < q.0.shares.pair = subst (HasEvents stood) q.6 (room-events stood e room) in
       let same = ap₂ (λ a b. events_drawn a (Pair b w) t.stood.0) (f.0 ∙ sym xn) (f.1 ∙ sym yn) in
       let size-same = ap₂ (λ a b. bytes_drawn a (Pair b w) t.stood.0) (f.0 ∙ sym xn) (f.1 ∙ sym yn) in
       let o = tl.events w in
@@ -560,7 +539,7 @@ module _ (m : Standing) (e : Step) (p : Plan) (t : IsStanding m) (plan : IsPlan 
       let c = (few q.0 q.3).few_bytes in
       let z = plan.size in (
         omega (arith, l, same, o, b),
-        elim (has-bytes stood e room) [
+        elim (room-bytes stood e room) [
           | inl g ↦ inl (let k : bytes_drawn q.1.number (Pair q.2.place.node.name w) t.stood.0 + size_of e ≤ q.0.shares.bytes = subst (λ a. HasBytes stood a (size_of e)) q.6 g in omega (arith, k, size-same, r, c, z))
           | inr g ↦ inr (z ∙ g)
         ],
@@ -576,8 +555,12 @@ module _ (m : Standing) (e : Step) (p : Plan) (t : IsStanding m) (plan : IsPlan 
       record { slot = x.it; place = y.it; slot_is = x.is; place_is = y.is; room = node-room p.drawn a.0 a.1 x.it y.it plan.drawn (source-of m.config.roster e a.0 a.1 a.2) x.named y.named tl }
 
   doable-by : (d : Deed) → IsNamed (machine_of m) e d → IsThere m.archive (slots_of m.slots) d → IsDoable m.archive (charge_of p) m.slots d
-  doable-by (Open s) nm th = th.0
-  doable-by (Close k) nm th = let a = map-length slot_of (map seats_of m.slots) in let b = map-length seats_of m.slots in let l : k < length (slots_of m.slots) = th in omega (arith, a, b, l)
+  doable-by (Open s) nm th = (th.0, none-index (map number_at m.slots) s.number (out-of m e p t plan t.stood.0 t.stood.1 s.number nm))
+  doable-by (Close k) nm th =
+      let a = map-length slot_of (map seats_of m.slots) in
+      let b = map-length seats_of m.slots in
+      let l : k < length (slots_of m.slots) = th in
+      (omega (arith, a, b, l), ap all_differ (sym (seat-numbers m.slots)) ∙ t.tidy.apart)
   doable-by (Act k h x) nm th = (ready k h nm, th.1)
   doable-by (Hand k h x) nm th = ready k h nm
 

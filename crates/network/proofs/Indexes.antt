@@ -2,14 +2,15 @@
 use Rattle.std.proofs.Common.{◌≡◌, ℕ, zero, suc, ◌<◌, Bool, true, false, not, ◌||◌, ◌==◌, length, get_or, set, List, [], ◌∷◌, map, slice_get, Option, Some, None, option_map, if◌then◌else◌, refl, sym, ◌∙◌, ap, subst, arith}
 use Rattle.std.specs.List.{list_any}
 use Rattle.std.proofs.lemmas.Bool.{false≢true, and_parts, eqb-true}
+use Rattle.std.proofs.lemmas.Bool.Decides.{nat_tests}
 use Rattle.types.specs.Trees.{all_differ}
-use Rattle.network.specs.Changes.{IsChangedAt, changed_at}
 use Rattle.configuration.specs.Configs.{index_in}
+use Rattle.network.specs.Changes.{IsChangedAt, changed_at}
+use Rattle.network.specs.Keyed.{at_key}
 
--- the value at the first of a key
-abbrev pub at_key : {X Y : Type 0} → (X → ℕ) → (X → Y) → List X → ℕ → Option Y
-at_key key val [] u = None
-at_key key val (x ∷ xs) u = if key x == u then Some (val x) else at_key key val xs u
+-- a number that is the one and not the other
+pub another : (a w u : ℕ) → (a == w) ≡ false → (a == u) ≡ true → (w == u) ≡ false
+another a w u h k = grind (nat_tests, arith, h, k)
 
 pub at-index : {X Y : Type 0} (key : X → ℕ) (val : X → Y) (xs : List X) (u k : ℕ) → index_in (map key xs) u ≡ Some k → at_key key val xs u ≡ option_map val (slice_get xs k)
 at-index key val [] u k h = cc

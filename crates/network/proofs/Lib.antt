@@ -7,6 +7,7 @@ mod Emitted
 mod FewOuts
 mod Handings
 mod Indexes
+mod KeyPlaces
 mod Noted
 mod Openings
 mod Placed
@@ -14,6 +15,7 @@ mod Planned
 mod Plans
 pub mod Readings
 mod SlicesAt
+mod SlotPlaceLaws
 mod TallyLaws
 mod Tellings
 mod Tidiness

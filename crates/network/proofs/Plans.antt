@@ -12,7 +12,8 @@ use Rattle.network.specs.Changes.{changed_at}
 use Rattle.network.specs.Deeds.{IsNodeThere, IsSeat, acted, index_of_slot, node_at}
 use Rattle.network.specs.Lodgings.{Seat, Seats, slot_of}
 use Rattle.network.specs.Standing.{IsTidy, Machine, StandsFor, net_of}
-use Rattle.network.proofs.Indexes.{at_key, at-index, at-none, changed-map, index-within, mapped-length}
+use Rattle.network.specs.Keyed.{at_key}
+use Rattle.network.proofs.Indexes.{at-index, at-none, changed-map, index-within, mapped-length}
 
 abbrev number_of : Slot → ℕ
 number_of s = s.number

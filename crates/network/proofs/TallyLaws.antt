@@ -1,21 +1,12 @@
 -- What is found among tallies, and what one that is changed or new adds.
-use Rattle.std.proofs.Common.{◌≡◌, ℕ, zero, suc, ◌+◌, ◌-◌, ◌<◌, ◌≤◌, Bool, true, false, ◌==◌, length, get_or, set, take, drop, List, [], ◌∷◌, ◌++◌, Option, Some, None, option_map, Result, Ok, Err, if◌then◌else◌, refl, sym, ◌∙◌, ap, ap₂, subst, arith}
+use Rattle.std.proofs.Common.{◌≡◌, ℕ, zero, suc, ◌+◌, Bool, true, false, ◌==◌, get_or, set, List, [], ◌∷◌, Option, Some, None, option_map, if◌then◌else◌, refl, sym, ◌∙◌, ap, ap₂, subst, arith}
 use Rattle.std.specs.List.{insert}
-use Rattle.std.specs.List.Sorted.{IsBinarySearchResult, IsNonDecreasingBy, IsSearchInRange}
-use Rattle.std.specs.Ordering.{nat_cmp, ordering_index}
-use Rattle.std.proofs.Math.Seq.{map-set_same}
 use Rattle.std.proofs.lemmas.Bool.{eqb-true}
-use Rattle.std.proofs.lemmas.Bool.Decides.{nat_tests}
-use Rattle.std.proofs.lemmas.Cmp.{ranked}
-use Rattle.std.proofs.lemmas.List.{drop-map, get_or-map, get_or_default, length-map, map-append, take-map}
-use Rattle.std.proofs.lemmas.List.Edits.{get_or-insert_above, get_or-insert_at, get_or-insert_below, length-insert}
-use Rattle.std.proofs.lemmas.List.Sorted.{IsNonDecreasingBy-from_default}
-use Rattle.protocol.specs.Sets.{IsAscending}
 use Rattle.configuration.specs.Configs.{index_in}
-use Rattle.configuration.proofs.Names.{index-first, index-nowhere}
 use Rattle.network.specs.Lodgings.{bytes_from, events_from}
-use Rattle.network.specs.TallyBooks.{IsTallyPlace, names_in}
+use Rattle.network.specs.TallyBooks.{names_in}
 use Rattle.network.specs.declared.tallies.Tally.{Tally}
+use Rattle.network.proofs.Indexes.{another}
 
 -- ---- what is counted
 abbrev from_by : (Tally → ℕ) → List Tally → ℕ → ℕ
@@ -29,9 +20,6 @@ events-by (t ∷ ts) u = ap (λ r. if t.from == u then t.events else r) (events-
 bytes-by : (ts : List Tally) (u : ℕ) → bytes_from ts u ≡ from_by (λ t. t.bytes) ts u
 bytes-by [] u = refl
 bytes-by (t ∷ ts) u = ap (λ r. if t.from == u then t.bytes else r) (bytes-by ts u)
-
-another : (a w u : ℕ) → (a == w) ≡ false → (a == u) ≡ true → (w == u) ≡ false
-another a w u h k = grind (nat_tests, arith, h, k)
 
 first-more : (val : Tally → ℕ) (n : ℕ) (t : Tally) (ts : List Tally) (w : ℕ) (x y : Tally) (u : ℕ) → x ≡ t → t.from ≡ w → y.from ≡ x.from → val y ≡ val x + n
     → (if y.from == u then val y else from_by val ts u) ≡ (if t.from == u then val t else from_by val ts u) + (if w == u then n else 0)
@@ -128,60 +116,3 @@ events-none ts w h = events-by ts w ∙ first-none (λ t. t.events) ts w h
 
 pub bytes-none : (ts : List Tally) (w : ℕ) → index_in (names_in ts) w ≡ None → bytes_from ts w ≡ 0
 bytes-none ts w h = bytes-by ts w ∙ first-none (λ t. t.bytes) ts w h
-
--- ---- where a tally stands
-no-tally : Tally
-no-tally = record { from = 0; events = 0; bytes = 0 }
-
-names-at : (ts : List Tally) (k : ℕ) → k < length ts → get_or (names_in ts) k 0 ≡ (get_or ts k no-tally).from
-names-at ts k l = get_or-map (λ (t : Tally). t.from) ts k no-tally 0 l
-
-names-length : (ts : List Tally) → length (names_in ts) ≡ length ts
-names-length ts = length-map ts (λ (t : Tally). t.from)
-
--- a name among ascending ones is found by its place, or lies between two of them
-module _ (xs : List ℕ) (up : IsAscending xs) (x at : ℕ) (inside : at ≤ length xs) (below : (k : ℕ) → k < at → get_or xs k 0 < x) (above : (k : ℕ) → at ≤ k → k < length xs → x < get_or xs k 0) where
-  pub ascending-insert : IsAscending (insert xs at x)
-  ascending-insert i j d l m =
-      let longer = length-insert xs at x inside in
-      let under : (k : ℕ) → k < at → get_or (insert xs at x) k d ≡ get_or xs k 0 = λ k h. get_or-insert_below xs at x d k h inside ∙ get_or_default xs k d 0 (omega (arith, h, inside)) in
-      let here : (k : ℕ) → k ≡ at → get_or (insert xs at x) k d ≡ x = λ k h. rw h (get_or-insert_at xs at x d inside) in
-      let over : (k : ℕ) → at < k → k < length xs + 1 → get_or (insert xs at x) k d ≡ get_or xs (k - 1) 0 =
-      λ k h q. subst (λ n. get_or (insert xs at x) n d ≡ get_or xs (k - 1) 0) {x = k - 1 + 1} (omega (arith, h)) (get_or-insert_above xs at x d (k - 1) (omega (arith, h)) inside ∙ get_or_default xs (k - 1) d 0 (omega (arith, h, q))) in
-      grind (arith, under i, here i, over i, under j, here j, over j, up i j 0, up i (j - 1) 0, up (i - 1) (j - 1) 0, below i, above (j - 1))
-
--- what a binary search answers
-module _ (ts : List Tally) (u : ℕ) (up : IsAscending (names_in ts)) where
-  answers-rise : IsNonDecreasingBy (λ (t : Tally). ordering_index (nat_cmp t.from u)) ts
-  answers-rise = IsNonDecreasingBy-from_default (λ (t : Tally). ordering_index (nat_cmp t.from u)) ts no-tally (λ i j l m.
-      let a = names-at ts i (omega (arith, l, m)) in
-      let b = names-at ts j m in
-      let q : j < length (names_in ts) = rw (names-length ts) m in
-      let rise : get_or (names_in ts) i 0 ≤ get_or (names_in ts) j 0 = grind (arith, up i j 0, λ (same : i ≡ j). ap (λ k. get_or (names_in ts) k 0) same) in
-      grind (arith, nat_tests))
-
-  pub tally-place : (r : Result ℕ ℕ) → IsSearchInRange r (length ts) → IsBinarySearchResult (λ (t : Tally). nat_cmp t.from u) ts r → IsTallyPlace ts u r
-  tally-place (Ok at) inside same =
-      let within : at < length (names_in ts) = rw (names-length ts) inside in
-      let is : get_or (names_in ts) at 0 ≡ u = names-at ts at inside ∙ ranked (get_or ts at no-tally).from u _ (sym (same no-tally)) in
-      (index-first (names_in ts) u at within is (λ j l. subst (λ n. get_or (names_in ts) j 0 < n) is (up j at 0 l within)), inside)
-  tally-place (Err at) inside parted =
-      let apart = parted answers-rise in
-      let length-is = names-length ts in
-      let below : (k : ℕ) → k < at → get_or (names_in ts) k 0 < u = λ k l. rw (names-at ts k (omega (arith, l, inside))) (ranked _ u _ (sym (apart.0 k no-tally (omega arith) l))) in
-      let above : (k : ℕ) → at ≤ k → k < length (names_in ts) → u < get_or (names_in ts) k 0 = λ k l m. let n : k < length ts = subst (λ z. k < z) length-is m in rw (names-at ts k n) (ranked _ u _ (sym (apart.1 k no-tally l n))) in (
-        index-nowhere (names_in ts) u at (λ k l m. below k l) above,
-        inside,
-        ascending-insert (names_in ts) up u at (subst (λ z. at ≤ z) (sym length-is) inside) below above,
-      )
-
--- ---- the names after a change
-pub names-set : (ts : List Tally) (at : ℕ) (x y : Tally) → x ≡ get_or ts at x → y.from ≡ x.from → IsAscending (names_in ts) → IsAscending (names_in (set ts at y))
-names-set ts at x y is same up = subst IsAscending (sym (map-set_same (λ (t : Tally). t.from) ts at y x (same ∙ ap (λ (t : Tally). t.from) is))) up
-
-pub names-insert : (ts : List Tally) (at : ℕ) (y : Tally) → IsAscending (insert (names_in ts) at y.from) → IsAscending (names_in (insert ts at y))
-names-insert ts at y up =
-    let same : names_in (insert ts at y) ≡ insert (names_in ts) at y.from =
-    map-append (λ (t : Tally). t.from) (take at ts) (y ∷ drop at ts)
-    ∙ ap₂ {C = List ℕ} (λ (a b : List ℕ). a ++ y.from ∷ b) (sym (take-map (λ (t : Tally). t.from) at ts)) (sym (drop-map (λ (t : Tally). t.from) at ts)) in
-    subst IsAscending (sym same) up

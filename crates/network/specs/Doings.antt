@@ -1,17 +1,20 @@
 -- What a deed makes of the open slots, and what it gives out.
-use Rattle.std.specs.Prelude.{◌≡◌, ℕ, ◌<◌, length, List, [], ◌∷◌, ◌++◌, map, replicate, slice_get, Option, option_map, IfSome}
+use Rattle.std.specs.Prelude.{◌≡◌, ℕ, ◌<◌, length, List, [], ◌∷◌, ◌++◌, map, replicate, slice_get, Option, None, option_map, IfSome, true}
 use Rattle.std.specs.List.{All, remove}
 use Rattle.types.specs.Statements.{Sent}
+use Rattle.types.specs.Trees.{all_differ}
 use Rattle.types.specs.declared.event.NodeEvent.{NodeEvent}
 use Rattle.types.specs.declared.event.Out.{Out}
 use Rattle.protocol.specs.Networks.{Slot, emissions}
 use Rattle.envstore.specs.Archives.{IsFiled, sent_of}
 use Rattle.slot.specs.Filings.{AreFiledOuts, IsFiledEvent, event_of, outs_of}
+use Rattle.configuration.specs.Configs.{index_in}
 use Rattle.network.specs.Charges.{IsReady, IsSlotActed}
 use Rattle.network.specs.Changes.{IsChangedAt}
 use Rattle.network.specs.Deeds.{node_at, outs_after}
 use Rattle.network.specs.Lodgings.{IsLodged, Lodgings, seats_of, slot_of}
 use Rattle.network.specs.Marks.{numbered, told_at}
+use Rattle.network.specs.SlotPlaces.{numbers_of}
 use Rattle.network.specs.declared.applied.Applied.{Applied}
 use Rattle.network.specs.declared.plan.Charge.{Charge}
 use Rattle.network.specs.declared.plan.Deed.{Deed}
@@ -21,10 +24,11 @@ use Rattle.network.specs.declared.plan.Deed.TheVariants.{Open, Close, Act, Hand}
 abbrev pub slots_of : List Lodgings → List Slot
 slots_of slots = map slot_of (map seats_of slots)
 
--- what is read at its places is there, and the archive has what it speaks of
+-- what is read at its places is there, and the archive has what it speaks of; no open slot has the number of one that is opened, and no
+-- two have one number where one is closed
 abbrev pub IsDoable : List Sent → Charge → List Lodgings → Deed → Type 0
-IsDoable archive c slots (Open s) = All (IsLodged archive) s.places
-IsDoable archive c slots (Close k) = k < length slots
+IsDoable archive c slots (Open s) = All (IsLodged archive) s.places × (index_in (numbers_of slots) s.number ≡ None)
+IsDoable archive c slots (Close k) = (k < length slots) × (all_differ (numbers_of slots) ≡ true)
 IsDoable archive c slots (Act k h e) = IsReady c slots k h × IsFiledEvent archive e
 IsDoable archive c slots (Hand k h e) = IsReady c slots k h
 

@@ -1,9 +1,11 @@
 pub mod Changes
+pub mod Keyed
 pub mod Marks
 pub mod Decoding
 pub mod Tellings
 pub mod TallyBooks
 pub mod Lodgings
+pub mod SlotPlaces
 pub mod Charges
 pub mod Standing
 pub mod Deeds

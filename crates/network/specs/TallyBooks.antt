@@ -1,7 +1,6 @@
 -- What a node drew from names, in a book that is ordered by name and has room for more of them.
-use Rattle.std.specs.Prelude.{◌≡◌, ℕ, ◌<◌, ◌≤◌, List, length, insert, map, Some, None, Result, Ok, Err}
-use Rattle.protocol.specs.Sets.{IsAscending}
-use Rattle.configuration.specs.Configs.{index_in}
+use Rattle.std.specs.Prelude.{ℕ, List, map, Result}
+use Rattle.network.specs.Keyed.{IsKeyPlace}
 use Rattle.network.specs.declared.tallies.Tally.{Tally}
 
 -- a tally for each name, and for how many names more there is room
@@ -15,5 +14,4 @@ names_in ts = map (λ t. t.from) ts
 
 -- the place of a name's tally; or it has none, and this is where one would keep the names ascending
 abbrev pub IsTallyPlace : List Tally → ℕ → Result ℕ ℕ → Type 0
-IsTallyPlace ts u (Ok at) = (index_in (names_in ts) u ≡ Some at) × (at < length ts)
-IsTallyPlace ts u (Err at) = (index_in (names_in ts) u ≡ None) × (at ≤ length ts) × IsAscending (insert (names_in ts) at u)
+IsTallyPlace ts u r = IsKeyPlace (λ t. t.from) ts u r

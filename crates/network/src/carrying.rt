@@ -1,8 +1,10 @@
 //! What was planned is done.
 
-ghost use Rattle.std.specs.Prelude.{◌≡◌, ◌<◌, ◌≤◌, ◌+◌, ◌^◌, ◌++◌, ◌∷◌, [], IfErr, IfOk, List, None, OnErr, OnOk, Some, length, map, replicate};
+ghost use Rattle.std.specs.Prelude.{◌≡◌, ◌<◌, ◌≤◌, ◌+◌, ◌^◌, ◌++◌, ◌∷◌, [], IfErr, IfOk, List, None, OnErr, OnOk, Some, length, map, replicate, true};
 ghost use Rattle.std.specs.List.{All, remove};
+ghost use Rattle.types.specs.Trees.{all_differ};
 ghost use Rattle.configuration.specs.Budgets.{AreShares};
+ghost use Rattle.configuration.specs.Configs.{index_in};
 ghost use Rattle.envstore.specs.Archives.{Keeps};
 ghost use Rattle.protocol.specs.Rosters.{Roster as Names};
 ghost use Rattle.slot.specs.Filings.{IsFiledEvent, event_of};
@@ -14,11 +16,13 @@ ghost use Rattle.network.specs.Decoding.{step_of};
 ghost use Rattle.network.specs.Deeds.{IsPlan, handed, node_at, outs_after};
 ghost use Rattle.network.specs.Doings.{IsAnswer, IsDoable, IsDone, marks_after, slots_of};
 ghost use Rattle.network.specs.Lodgings.{AreLodged, IsLodged};
+ghost use Rattle.network.specs.SlotPlaces.{numbers_of};
 ghost use Rattle.network.specs.Standing.{IsRefusal, machine_of};
 
 use crate::applied::Applied;
 use crate::network::Network;
 use crate::open_slot::OpenSlot;
+use crate::open_slots::OpenSlots;
 use crate::plan::{Charge, Deed, Drawn, Plan};
 use configuration::Roster;
 use envstore::{Archive, Filed, Shelf};
@@ -119,17 +123,17 @@ fn count(events: &mut u64, bytes: &mut u64, opens: &mut u64, charge: &Charge)
 fn perform<S: Shelf>(
     alloc: Global,
     archive: &mut Archive<S>,
-    slots: &mut Vec<OpenSlot>,
+    slots: &mut OpenSlots,
     deed: Deed,
     charge: &Charge,
     copies: usize,
 ) -> Result<Applied, AllocError>
-    requires lodged { AreLodged archive.old slots.old.items }
-    requires doable { IsDoable archive.old charge.now slots.old.items deed }
-    ensures done { OnOk result (IsDone charge.now deed slots.old.items slots.new.items) }
-    ensures answer { IfOk result (IsAnswer (outs_after (slots_of slots.old.items) deed) (marks_after (slots_of slots.old.items) deed) (handed deed) copies archive.new) }
-    ensures err { OnErr result (slots.new.items ≡ slots.old.items) }
-    ensures lodged { AreLodged archive.new slots.new.items }
+    requires lodged { AreLodged archive.old slots.old }
+    requires doable { IsDoable archive.old charge.now slots.old deed }
+    ensures done { OnOk result (IsDone charge.now deed slots.old slots.new) }
+    ensures answer { IfOk result (IsAnswer (outs_after (slots_of slots.old) deed) (marks_after (slots_of slots.old) deed) (handed deed) copies archive.new) }
+    ensures err { OnErr result (slots.new ≡ slots.old) }
+    ensures lodged { AreLodged archive.new slots.new }
     ensures kept { Keeps archive.old archive.new }
 {
     match deed {
@@ -140,35 +144,51 @@ fn perform<S: Shelf>(
             host_at,
             event,
         } => act(
-            alloc, archive, slots, slot_at, host_at, event, charge, copies,
+            alloc,
+            archive,
+            &mut slots.slots,
+            slot_at,
+            host_at,
+            event,
+            charge,
+            copies,
         ),
         Deed::Hand {
             slot_at,
             host_at,
             envelope,
         } => hand(
-            alloc, archive, slots, slot_at, host_at, envelope, charge, copies,
+            alloc,
+            archive,
+            &mut slots.slots,
+            slot_at,
+            host_at,
+            envelope,
+            charge,
+            copies,
         ),
     }
 }
 
-/// One open slot more. An error says that memory is short; then nothing happened.
+/// One open slot more, of a number that none of them has. An error says that memory is short; then nothing
+/// happened.
 fn open<S: Shelf>(
     alloc: Global,
     archive: &Archive<S>,
-    slots: &mut Vec<OpenSlot>,
+    slots: &mut OpenSlots,
     slot: OpenSlot,
     copies: usize,
 ) -> Result<Applied, AllocError>
-    requires lodged { AreLodged archive.now slots.old.items }
+    requires lodged { AreLodged archive.now slots.old }
     requires slot { All (IsLodged archive.now) slot.places }
-    ensures done { OnOk result (slots.new.items ≡ slots.old.items ++ slot ∷ []) }
+    requires fresh { index_in (numbers_of slots.old) slot.number ≡ None }
+    ensures done { OnOk result (slots.new ≡ slots.old ++ slot ∷ []) }
     ensures answer { IfOk result (IsAnswer [] [] None copies archive.now) }
-    ensures err { OnErr result (slots.new.items ≡ slots.old.items) }
-    ensures lodged { AreLodged archive.now slots.new.items }
+    ensures err { OnErr result (slots.new ≡ slots.old) }
+    ensures lodged { AreLodged archive.now slots.new }
 {
     let applied = nothing(alloc, archive, copies)?;
-    slots.push(slot)?;
+    slots.open(slot)?;
     Ok(applied)
 }
 
@@ -176,19 +196,20 @@ fn open<S: Shelf>(
 fn close<S: Shelf>(
     alloc: Global,
     archive: &Archive<S>,
-    slots: &mut Vec<OpenSlot>,
+    slots: &mut OpenSlots,
     slot_at: usize,
     copies: usize,
 ) -> Result<Applied, AllocError>
-    requires lodged { AreLodged archive.now slots.old.items }
-    requires at { slot_at < length slots.old.items }
-    ensures done { OnOk result (slots.new.items ≡ remove slots.old.items slot_at) }
+    requires lodged { AreLodged archive.now slots.old }
+    requires at { slot_at < length slots.old }
+    requires apart { all_differ (numbers_of slots.old) ≡ true }
+    ensures done { OnOk result (slots.new ≡ remove slots.old slot_at) }
     ensures answer { IfOk result (IsAnswer [] [] None copies archive.now) }
-    ensures err { OnErr result (slots.new.items ≡ slots.old.items) }
-    ensures lodged { AreLodged archive.now slots.new.items }
+    ensures err { OnErr result (slots.new ≡ slots.old) }
+    ensures lodged { AreLodged archive.now slots.new }
 {
     let applied = nothing(alloc, archive, copies)?;
-    let _ = slots.remove(slot_at);
+    slots.close(slot_at);
     Ok(applied)
 }
 

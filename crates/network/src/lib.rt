@@ -10,11 +10,13 @@ mod carrying;
 mod handing;
 mod network;
 mod open_slot;
+mod open_slots;
 mod place;
 mod plan;
 mod planning;
 mod reading;
 mod rooms;
+mod slot_index;
 mod tallies;
 mod told;
 

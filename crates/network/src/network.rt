@@ -1,14 +1,14 @@
 //! One network, seen with its archive.
 
-ghost use Rattle.std.specs.Prelude.{◌≡◌, ◌&&◌, ◌<◌, [], IfSome, MatchResult, None, Some, is_some, length, map, option_map};
+ghost use Rattle.std.specs.Prelude.{◌≡◌, ◌&&◌, [], MatchResult, None, Some, is_some, map, option_map};
 ghost use Rattle.protocol.specs.Networks.{Net, is_open, slices_of};
 ghost use Rattle.configuration.specs.Configs.{index_of_name};
 ghost use Rattle.envstore.specs.Archives.{IsFiled, sent_of};
 ghost use Rattle.network.specs.Deeds.{IsSeat, IsSeatThere, index_of_slot};
-ghost use Rattle.network.specs.Lodgings.{IsLodged, seat_of, seats_of, slot_of};
+ghost use Rattle.network.specs.Lodgings.{IsLodged, seat_of, slot_of};
 ghost use Rattle.network.specs.Standing.{StandsFor, machine_of, slices_at};
 
-use crate::open_slot::OpenSlot;
+use crate::open_slots::OpenSlots;
 use crate::place::Place;
 use configuration::NetConfig;
 use envstore::{Archive, Filed, Shelf};
@@ -25,7 +25,7 @@ pub struct Network<S: Shelf> {
     pub(crate) alloc: Global,
     pub(crate) config: NetConfig,
     pub(crate) archive: Archive<S>,
-    pub(crate) slots: Vec<OpenSlot>,
+    pub(crate) slots: OpenSlots,
     pub(crate) events: u64,
     pub(crate) bytes: u64,
     pub(crate) opens: u64,
@@ -40,9 +40,9 @@ impl<S: Shelf> Model for Network<S> {
 
     ghost coded = { Prim.hlevel (codes, members_code) };
 
-    ghost view = { λ m. record { config = m.config; archive = m.archive; slots = m.slots.items; events = m.events; bytes = m.bytes; opens = m.opens } };
+    ghost view = { λ m. record { config = m.config; archive = m.archive; slots = m.slots; events = m.events; bytes = m.bytes; opens = m.opens } };
 
-    ghost invariant = { λ m. IsStanding (record { config = m.config; archive = m.archive; slots = m.slots.items; events = m.events; bytes = m.bytes; opens = m.opens }) };
+    ghost invariant = { λ m. IsStanding (record { config = m.config; archive = m.archive; slots = m.slots; events = m.events; bytes = m.bytes; opens = m.opens }) };
 }
 
 impl<S: Shelf> Network<S> {
@@ -55,7 +55,7 @@ impl<S: Shelf> Network<S> {
             alloc,
             config,
             archive: Archive::new(alloc, shelf),
-            slots: Vec::new(alloc),
+            slots: OpenSlots::nothing(alloc),
             events: 0,
             bytes: 0,
             opens: 0,
@@ -114,11 +114,11 @@ impl<S: Shelf> Network<S> {
         self.slot_at(slot).ok_or(Refusal::SlotNotOpen)
     }
 
-    /// The place of a slot among those that are open, of which there are at most 64.
+    /// The place of a slot among those that are open, by a binary search.
     pub(crate) fn slot_at(&self, slot: u64) -> Option<usize>
         ensures { result ≡ index_of_slot (map slot_of (machine_of self.now).slots) slot }
     {
-        find_slot(&self.slots, slot)
+        self.slots.place(slot)
     }
 
     /// The node at these places.
@@ -127,25 +127,6 @@ impl<S: Shelf> Network<S> {
         ensures seat { IsSeat (machine_of self.now) slot_at host_at (seat_of result.now) }
         ensures lodged { IsLodged self.now.archive result.now }
     {
-        &self.slots[slot_at].places()[host_at]
-    }
-}
-
-/// The place of the slot of this number.
-fn find_slot(slots: &[OpenSlot], number: u64) -> Option<usize>
-    ensures value { result ≡ index_of_slot (map slot_of (map seats_of slots.now)) number }
-    ensures within { IfSome result (λ place. place < length slots.now) }
-{
-    match slots {
-        [] => None,
-        [first, rest @ ..] => {
-            if first.number() == number {
-                return Some(0);
-            }
-            match find_slot(rest, number) {
-                None => None,
-                Some(place) => Some(place + 1),
-            }
-        }
+        &self.slots.slot(slot_at).places()[host_at]
     }
 }

@@ -5,3 +5,4 @@ mod TellingLaws
 mod JoiningLaws
 mod HostedSeats
 mod PassLaws
+mod Crossing

@@ -1,7 +1,7 @@
 -- What is told of journals, one after the other.
-use Rattle.std.proofs.Common.{◌≡◌, ◌∙◌, List, [], ◌∷◌, ◌++◌, length, sym, ap, subst}
+use Rattle.std.proofs.Common.{◌≡◌, ◌∙◌, ℕ, List, [], ◌∷◌, ◌++◌, drop, length, take, refl, sym, ap, ap₂, subst}
 use Rattle.std.specs.Prelude.{reverse}
-use Rattle.std.proofs.lemmas.List.{append-nil, append_assoc, reverse-append}
+use Rattle.std.proofs.lemmas.List.{append-nil, append_assoc, reverse-append, take-append-drop}
 use Rattle.protocol.specs.Runs.{IsRun as Replays}
 use Rattle.scripts.specs.Script.{Bytes}
 use Rattle.hoststep.specs.Logs.{Log}
@@ -69,11 +69,14 @@ lines_more [] l _ lines none one = subst (AreAllDecidedLines (l ∷ [])) (append
 lines_more (k ∷ ks) l _ lines (more {lines = own} {others = others} first rest) one =
     subst (AreAllDecidedLines (k ∷ (ks ++ l ∷ []))) (sym (append_assoc own others lines)) (more first (lines_more ks l others lines rest one))
 
+lengths_both : (ls ks : List Log) → length_lines (ls ++ ks) ≡ length_lines ls ++ length_lines ks
+lengths_both [] ks = refl
+lengths_both (l ∷ ls) ks =
+    ap (λ s. length_line l.config.number (length l.entries) ++ s) (lengths_both ls ks)
+    ∙ sym (append_assoc (length_line l.config.number (length l.entries)) (length_lines ls) (length_lines ks))
+
 lengths_more : (ls : List Log) (l : Log) → length_lines (ls ++ l ∷ []) ≡ length_lines ls ++ length_line l.config.number (length l.entries)
-lengths_more [] l = append-nil (length_line l.config.number (length l.entries))
-lengths_more (k ∷ ks) l =
-    ap (λ s. length_line k.config.number (length k.entries) ++ s) (lengths_more ks l)
-    ∙ sym (append_assoc (length_line k.config.number (length k.entries)) (length_lines ks) (length_line l.config.number (length l.entries)))
+lengths_more ls l = lengths_both ls (l ∷ []) ∙ ap (λ s. length_lines ls ++ s) (append-nil (length_line l.config.number (length l.entries)))
 
 -- the last of a list of journals is told, which stand the other way round
 pub part_more : (nets : List Net) (js rest : List Log) (l : Log) (decided lengths wider longer : Bytes) → js ≡ rest ++ l ∷ [] → IsToldMore l decided lengths wider longer
@@ -100,3 +103,32 @@ all_told nets js decided lengths empty part = record {
   lines = part.lines;
   long = part.long;
 }
+
+-- ---- of some networks it has been told, and of the others
+
+journals_both : (ns ms : List Net) (ls ks : List Log) → AreJournals ns ls → AreJournals ms ks → AreJournals (ns ++ ms) (ls ++ ks)
+journals_both [] ms [] ks one other = other
+journals_both [] ms (l ∷ ls) ks one other = absurd one
+journals_both (n ∷ ns) ms [] ks one other = absurd one
+journals_both (n ∷ ns) ms (l ∷ ls) ks one other = (one.0, journals_both ns ms ls ks one.1 other)
+
+lines_both : (ls ks : List Log) (text lines : Bytes) → AreAllDecidedLines ls text → AreAllDecidedLines ks lines → AreAllDecidedLines (ls ++ ks) (text ++ lines)
+lines_both [] ks _ lines none other = other
+lines_both (l ∷ ls) ks _ lines (more {lines = own} {others = others} first rest) other =
+    subst (AreAllDecidedLines (l ∷ (ls ++ ks))) (sym (append_assoc own others lines)) (more first (lines_both ls ks others lines rest other))
+
+told_all : (ns ms : List Net) (decided lines lengths longer : Bytes) → AreTold ns decided lengths → AreTold ms lines longer → AreTold (ns ++ ms) (decided ++ lines) (lengths ++ longer)
+told_all ns ms decided lines lengths longer one other = record {
+  logs = one.logs ++ other.logs;
+  journals = journals_both ns ms one.logs other.logs one.journals other.journals;
+  lines = lines_both one.logs other.logs decided lines one.lines other.lines;
+  long = ap₂ (λ s t. s ++ t) one.long other.long ∙ sym (lengths_both one.logs other.logs);
+}
+
+-- of the first so many networks, and of those behind
+pub told_both : (nets low high : List Net) (count : ℕ) (decided lines lengths longer all whole : Bytes) → low ≡ take count nets → high ≡ drop count nets
+    → AreTold low decided lengths → AreTold high lines longer → all ≡ decided ++ lines → whole ≡ lengths ++ longer → AreTold nets all whole
+told_both nets low high count decided lines lengths longer all whole low_is high_is one other all_is whole_is =
+    let nets_are : low ++ high ≡ nets = ap₂ (λ a b. a ++ b) low_is high_is ∙ take-append-drop count nets in
+    subst (λ (ns : List Net). AreTold ns all whole) nets_are
+    (subst (λ (z : Bytes × Bytes). AreTold (low ++ high) z.0 z.1) (λ i. (sym all_is i, sym whole_is i)) (told_all low high decided lines lengths longer one other))

@@ -2,9 +2,10 @@
 
 ghost use Rattle.std.specs.Prelude.{◌≡◌, ◌<◌, ◌≤◌, ◌+◌, ◌++◌, ℕ, IfOk, OnOk, [], reverse, string_bytes};
 ghost use Rattle.std.specs.List.Sorted.{IsNonDecreasingBy};
+ghost use Rattle.std.specs.Thread.{IsSend, IsSync};
 ghost use Rattle.pooled.specs.Opening.{AreHosted, slots_of};
 ghost use Rattle.pooled.specs.PoolLines.{report_line};
-ghost use Rattle.pooled.specs.Pooling.{AreClosed, AreDone, IsPoolText, IsToldMore, IsToldOf, jobs_of};
+ghost use Rattle.pooled.specs.Pooling.{AreClosed, AreDone, AreTold, IsPoolText, IsToldMore, IsToldOf, jobs_of};
 
 use crate::gate::Open;
 use crate::hosting::host_network;
@@ -15,6 +16,7 @@ use envstore::{SharedHandle, Shelf};
 use hoststep::Journal;
 use std::alloc::{AllocError, Global};
 use std::sync::Wait;
+use std::thread;
 use std::thread::Threads;
 use types::Event;
 use work::{Job, Queue};
@@ -25,6 +27,13 @@ const FEWEST_PLACES: usize = 1024;
 
 /// How many places the queue has where there are more jobs: as many as a queue may have (this host's profile).
 const MOST_PLACES: usize = 65_536;
+
+/// What is told of networks: what their nodes have externalized, and how long their journals are.
+#[derive(Drop)]
+struct Told {
+    decided: String,
+    lengths: String,
+}
 
 /// Runs what is submitted as jobs of so many workers, 1 to 64, after the slots are opened that are named first,
 /// each with the number of its network, and answers what is printed: what each node has externalized at open
@@ -47,8 +56,9 @@ pub fn run_pool<R: Threads + Wait + Sync + Send + Copy + Drop>(
     let (configs, calls) = submission.into_parts();
     let mut host = host_networks(rt, alloc, configs, opens, workers)?;
     let jobs = jobs_of(alloc, calls)?;
-    let (offered, ran) = run_jobs(rt, alloc, &mut host, jobs, workers as usize)?;
-    tell_all(rt, alloc, &mut host, offered, ran)
+    let threads = workers as usize;
+    let reports = run_jobs(rt, alloc, &mut host, jobs, threads)?;
+    tell_all(rt, alloc, host, threads, reports)
 }
 
 /// The networks, each with so many seats, with their first slots open.
@@ -125,25 +135,86 @@ fn places_for(jobs: usize) -> usize
 }
 
 /// Closes each network, and says, ascending, what became of it, and how many jobs were applied, refused and not
-/// run by both reports.
-fn tell_all<R: Wait + Drop>(
+/// run by both reports. So many threads close and tell.
+fn tell_all<R: Threads + Wait + Sync + Send + Drop>(
     rt: &R,
     alloc: Global,
-    host: &mut Host<SharedHandle<R>, R>,
-    one: Report,
-    other: Report,
+    host: Host<SharedHandle<R>, R>,
+    threads: usize,
+    reports: (Report, Report),
 ) -> Result<String, AllocError>
-    ensures { IfOk result (λ text. IsToldOf host.old one other (string_bytes text)) }
+    ensures { IfOk result (λ text. IsToldOf host reports.0 reports.1 (string_bytes text)) }
 {
-    let mut journals = close_all(rt, alloc, host)?;
-    let mut text = String::new(alloc);
+    let (one, other) = reports;
+    let told = tell_by(rt, alloc, host, threads)?;
+    let Told {
+        mut decided,
+        lengths,
+    } = told;
+    decided.push_str(lengths.as_str())?;
+    push_both(&mut decided, one, other)?;
+    Ok(decided)
+}
+
+/// Closes each network, and tells of it, by so many threads: each half of the networks by half of them, as long as
+/// there are several, and by this one where no other can be started.
+#[cycle(telling)]
+fn tell_by<R: Threads + Wait + Sync + Send + Drop>(
+    rt: &R,
+    alloc: Global,
+    host: Host<SharedHandle<R>, R>,
+    threads: usize,
+) -> Result<Told, AllocError>
+    ensures { IfOk result (λ told. AreTold host (string_bytes told.decided) (string_bytes told.lengths)) }
+{
+    if threads < 2 {
+        return tell_alone(rt, alloc, host);
+    }
+    let count = host.len() / 2;
+    let (low, high) = host.split_at(count)?;
+    let fewer = threads / 2;
+    let more = threads - fewer;
+    let tell_low = move || -> Result<Told, AllocError>
+        requires { IsSync R.row × IsSend R.row }
+        ensures { IfOk result (λ told. AreTold low (string_bytes told.decided) (string_bytes told.lengths)) }
+    { tell_by(rt, alloc, low, fewer) };
+    let tell_high = move || -> Result<Told, AllocError>
+        requires { IsSync R.row × IsSend R.row }
+        ensures { IfOk result (λ told. AreTold high (string_bytes told.decided) (string_bytes told.lengths)) }
+    { tell_by(rt, alloc, high, more) };
+    let (first, others) = thread::join(rt, tell_low, tell_high);
+    let told = tell_both(first?, others?)?;
+    Ok(told)
+}
+
+/// What is told of some networks, and then of others.
+fn tell_both(first: Told, others: Told) -> Result<Told, AllocError>
+    ensures { IfOk result (λ told. (string_bytes told.decided ≡ string_bytes first.decided ++ string_bytes others.decided) × (string_bytes told.lengths ≡ string_bytes first.lengths ++ string_bytes others.lengths)) }
+{
+    let Told {
+        mut decided,
+        mut lengths,
+    } = first;
+    decided.push_str(others.decided.as_str())?;
+    lengths.push_str(others.lengths.as_str())?;
+    Ok(Told { decided, lengths })
+}
+
+/// Closes each network, and tells of it, in this thread.
+fn tell_alone<R: Wait + Drop>(
+    rt: &R,
+    alloc: Global,
+    mut host: Host<SharedHandle<R>, R>,
+) -> Result<Told, AllocError>
+    ensures { IfOk result (λ told. AreTold host (string_bytes told.decided) (string_bytes told.lengths)) }
+{
+    let mut journals = close_all(rt, alloc, &mut host)?;
+    let mut decided = String::new(alloc);
     let mut lengths = String::new(alloc);
     while let Some(journal) = journals.pop() {
-        tell(alloc, &journal, &mut text, &mut lengths)?;
+        tell(alloc, &journal, &mut decided, &mut lengths)?;
     }
-    text.push_str(lengths.as_str())?;
-    push_both(&mut text, one, other)?;
-    Ok(text)
+    Ok(Told { decided, lengths })
 }
 
 /// Closes each network. The journals stand descending by network.

@@ -48,6 +48,10 @@ pub mod ReachedNodes
 pub mod SendableVotes
 pub mod SentLaws
 pub mod ReachedLaws
+pub mod RowsOfKinds
+pub mod RulesOfKinds
+pub mod BallotingSets
+pub mod StirringLaws
 pub mod VotesGrow
 pub mod LastSentLaws
 pub mod StrangerLaws

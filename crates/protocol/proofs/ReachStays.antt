@@ -53,7 +53,7 @@ stays_with_same_slices own configured table us e old h q r =
 
 -- ---- a row of a sender that is not reached
 -- the rows of the new table are the envelope and rows of the old one
-came : (e x : Sent) (table : List Sent) → Contains (with_row e table) x → (e ≡ x) ⊎ Contains table x
+pub came : (e x : Sent) (table : List Sent) → Contains (with_row e table) x → (e ≡ x) ⊎ Contains table x
 unfolding with_row
 came e x [] c = contained_cases x e [] c
 came e x (y ∷ ys) c = go (is_row_of e.sender (kind_of e.body) y) c (came e x ys)

@@ -52,7 +52,7 @@ unfolding net_step
 steps_are_counted net e h = subst (λ o. IsCountedAfter net e (replied net e o).0) (sym h) (counted-next net e)
 
 -- ---- no more is drawn than there is
-room-events : (net : Net) (e : Step) → HasRoom net e → HasEvents net (source net.roster e)
+pub room-events : (net : Net) (e : Step) → HasRoom net e → HasEvents net (source net.roster e)
 room-events net (Opens i) h = h.1
 room-events net (Closes i) h = h
 room-events net (Asks i u x) h = h
@@ -63,10 +63,10 @@ room-events net (BallotTimes i u n) h = h
 room-events net (Reslices i u q) h = h
 
 -- bytes that fit, or none
-abbrev FitsOr : Net → Step → Type 0
+abbrev pub FitsOr : Net → Step → Type 0
 FitsOr net e = HasBytes net (source net.roster e) (size_of e) ⊎ (size_of e ≡ 0)
 
-room-bytes : (net : Net) (e : Step) → HasRoom net e → FitsOr net e
+pub room-bytes : (net : Net) (e : Step) → HasRoom net e → FitsOr net e
 room-bytes net (Opens i) h = inr refl
 room-bytes net (Closes i) h = inr refl
 room-bytes net (Asks i u x) h = inr refl

@@ -21,11 +21,11 @@ same_value-refl (n ∷ ns) = and_from (n == n) (same_value ns ns) (eqb-refl n) (
 pub same_value-true : (x y : List ℕ) → same_value x y ≡ true → x ≡ y
 same_value-true x y h = same_text x y (sym h)
 
-same_values-refl : (xs : List (List ℕ)) → same_values xs xs ≡ true
+pub same_values-refl : (xs : List (List ℕ)) → same_values xs xs ≡ true
 same_values-refl [] = refl
 same_values-refl (x ∷ xs) = and_from (same_value x x) (same_values xs xs) (same_value-refl x) (same_values-refl xs)
 
-same_values-true : (xs ys : List (List ℕ)) → same_values xs ys ≡ true → xs ≡ ys
+pub same_values-true : (xs ys : List (List ℕ)) → same_values xs ys ≡ true → xs ≡ ys
 same_values-true [] [] h = refl
 same_values-true [] (y ∷ ys) h = absurd (false≢true h)
 same_values-true (x ∷ xs) [] h = absurd (false≢true h)

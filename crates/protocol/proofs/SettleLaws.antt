@@ -67,7 +67,7 @@ start-none s w e = elim (cases_Option w.ballot) [
     not_none : {A : Type 0} (b : Ballot) → Some b ≡ None → A
     not_none b e = cc
 
-nominate-frame : (v : ℕ) (s : Seen) (g : Given) (w : Votes) → nominate v s g w ≡ record w { voted = (nominate v s g w).voted; accepts = (nominate v s g w).accepts; confirms = (nominate v s g w).confirms }
+pub nominate-frame : (v : ℕ) (s : Seen) (g : Given) (w : Votes) → nominate v s g w ≡ record w { voted = (nominate v s g w).voted; accepts = (nominate v s g w).accepts; confirms = (nominate v s g w).confirms }
 nominate-frame v s g w = elim (cases_Bool (is_none w.high)) [
   | inl e ↦ let p = nominate-is v s g w e in p ∙ (λ i. record w { voted = (sym p i).voted; accepts = (sym p i).accepts; confirms = (sym p i).confirms })
   | inr e ↦ let p = nominate-not v s g w e in p ∙ (λ i. record w { voted = (sym p i).voted; accepts = (sym p i).accepts; confirms = (sym p i).confirms })
@@ -100,18 +100,18 @@ begun-facts v s g w sound =
     })
 
 -- One pass of a sound state
-record Passed (v : ℕ) (s : Seen) (g : Given) (w y : Votes) : Type 0 where
-  sound : Sound y
-  voted : y.voted ≡ (nominate v s g w).voted
-  accepts : y.accepts ≡ (nominate v s g w).accepts
-  confirms : y.confirms ≡ (nominate v s g w).confirms
-  stays : is_none w.high ≡ false → is_none y.high ≡ false
-  ends : Ends s g y ⊎ ((y.phase ≡ Preparing) × (y.ballot ≡ None) × (start s y ≡ y))
+pub record Passed (v : ℕ) (s : Seen) (g : Given) (w y : Votes) : Type 0 where
+  pub sound : Sound y
+  pub voted : y.voted ≡ (nominate v s g w).voted
+  pub accepts : y.accepts ≡ (nominate v s g w).accepts
+  pub confirms : y.confirms ≡ (nominate v s g w).confirms
+  pub stays : is_none w.high ≡ false → is_none y.high ≡ false
+  pub ends : Ends s g y ⊎ ((y.phase ≡ Preparing) × (y.ballot ≡ None) × (start s y ≡ y))
 
 went-step : (v : ℕ) (s : Seen) (g : Given) (w x y : Votes) → Begun v s g w x → Went s g x y → Passed v s g w y
 went-step v s g w x y B W = record { sound = W.sound; voted = W.voted ∙ B.voted; accepts = W.accepts ∙ B.accepts; confirms = W.confirms ∙ B.confirms; stays = λ h. W.stays (ap is_none B.high ∙ h); ends = inl W.ends }
 
-stepped : (v : ℕ) (s : Seen) → Fair s → (g : Given) (w : Votes) → Sound w → (w.phase ≡ Preparing) ⊎ (w.phase ≡ Committing) → Passed v s g w (pass v s g w)
+pub stepped : (v : ℕ) (s : Seen) → Fair s → (g : Given) (w : Votes) → Sound w → (w.phase ≡ Preparing) ⊎ (w.phase ≡ Committing) → Passed v s g w (pass v s g w)
 stepped v s f g w sound (inr ph) =
     let B = begun-facts v s g w sound in
     let h = sound.committing ph in
@@ -132,7 +132,7 @@ stepped v s f g w sound (inl ph) =
 abbrev pub Quiet : ℕ → Seen → Given → Votes → Type 0
 Quiet v s g w = QuietAt v s g w.voted w.accepts w.confirms ⊎ (is_none w.high ≡ false)
 
-quiet-same : (v : ℕ) (s : Seen) (g : Given) (w : Votes) → Quiet v s g w → nominate v s g w ≡ w
+pub quiet-same : (v : ℕ) (s : Seen) (g : Given) (w : Votes) → Quiet v s g w → nominate v s g w ≡ w
 quiet-same v s g w (inl q) = q w refl refl refl
 quiet-same v s g w (inr h) = nominate-not v s g w h
 
@@ -140,7 +140,7 @@ quiet-on : (v : ℕ) (s : Seen) (g : Given) (w y : Votes) → y.voted ≡ w.vote
 quiet-on v s g w y a b c d (inl q) = inl (λ u i j k. q u (i ∙ a) (j ∙ b) (k ∙ c))
 quiet-on v s g w y a b c d (inr h) = inr (d h)
 
-phases : (p : Phase) → (p ≡ Externalized) ⊎ ((p ≡ Preparing) ⊎ (p ≡ Committing))
+pub phases : (p : Phase) → (p ≡ Externalized) ⊎ ((p ≡ Preparing) ⊎ (p ≡ Committing))
 phases Preparing = inr (inl refl)
 phases Committing = inr (inr refl)
 phases Externalized = inl refl
@@ -181,13 +181,13 @@ pub record Fit (w : Votes) : Type 0 where
   pub ascending : Ascending w.confirms
 
 -- one pass: it stays fit, and nomination is at rest
-record Once (v : ℕ) (s : Seen) (g : Given) (w y : Votes) : Type 0 where
-  fit : Fit y
-  quiet : Quiet v s g y
-  ends : Ends s g y ⊎ ((y.phase ≡ Preparing) × (y.ballot ≡ None) × (start s y ≡ y))
+pub record Once (v : ℕ) (s : Seen) (g : Given) (w y : Votes) : Type 0 where
+  pub fit : Fit y
+  pub quiet : Quiet v s g y
+  pub ends : Ends s g y ⊎ ((y.phase ≡ Preparing) × (y.ballot ≡ None) × (start s y ≡ y))
 
 module _ (v : ℕ) (s : Seen) (f : Fair s) (g : Given) where
-  once : (w : Votes) → Fit w → (w.phase ≡ Preparing) ⊎ (w.phase ≡ Committing) → Once v s g w (pass v s g w)
+  pub once : (w : Votes) → Fit w → (w.phase ≡ Preparing) ⊎ (w.phase ≡ Committing) → Once v s g w (pass v s g w)
   once w fit ph =
       let S = stepped v s f g w fit.sound ph in
       elim (cases_Bool (is_none w.high)) [
@@ -209,7 +209,7 @@ module _ (v : ℕ) (s : Seen) (f : Fair s) (g : Given) where
             }
       ]
 
-  pass-fit : (w : Votes) → Fit w → Fit (pass v s g w)
+  pub pass-fit : (w : Votes) → Fit w → Fit (pass v s g w)
   pass-fit w fit = elim (phases w.phase) [
     | inl e ↦ subst Fit (sym (pass-externalized v s g w e)) fit
     | inr ph ↦ (once w fit ph).fit
@@ -302,9 +302,13 @@ pub reached-fit : {n : Node} → Reached n → Fit n.votes
 reached-fit (begin slot v q) = fresh-fit slot v q
 reached-fit (next {n} r e) = step-fit n e (reached-fit r)
 
+-- an event's own change
+pub changed-fit : (n : Node) (e : NodeEvent) (m : Node) → Fit n.votes → change n e ≡ Some m → Fit m.votes
+changed-fit n e m h c = subst if_fit c (change-fit n e h)
+
 -- for each node whose votes are fit
 pub fit-four : (n : Node) (e : NodeEvent) (m : Node) (k : ℕ) → Fit n.votes → change n e ≡ Some m → IsSome (settle (suc (suc (suc (suc k)))) (passed m) m.votes)
-fit-four n e m k h c = four m.name (seen m.name m.slices m.given.leaders m.table) (seen-fair m.name m.slices m.given.leaders m.table) m.given k m.votes (subst if_fit c (change-fit n e h))
+fit-four n e m k h c = four m.name (seen m.name m.slices m.given.leaders m.table) (seen-fair m.name m.slices m.given.leaders m.table) m.given k m.votes (changed-fit n e m h c)
 
 pub never_limited : NeverLimited
 never_limited n r e m c = fit-four n e m 60 (reached-fit r) c

@@ -30,6 +30,7 @@ pub mod Runs
 pub mod WithoutRoster
 pub mod Counts
 pub mod Limits
+pub mod Stirring
 pub mod Strangers
 pub mod Reslices
 pub mod LastSent

@@ -97,10 +97,22 @@ voting seen w1 =
 unfoldable pub counting : Seen → Given → Votes → Votes
 counting seen g w = on_ballot (arm seen) (on_ballot (raise seen g) w)
 
--- all rules: nomination, the first ballot, voting, and counters unless a value was externalized by then
+-- the rules of balloting: the first ballot, voting, and counters unless a value was externalized by then
+abbrev pub balloting : Seen → Given → Votes → Votes
+balloting seen g w = unless_over (counting seen g) (voting seen (start seen w))
+
+-- all rules: nomination, and then balloting
 unfoldable pub pass_rules : ℕ → Seen → Given → Votes → Votes
-pass_rules own seen g w = unless_over (counting seen g) (voting seen (start seen (nominate own seen g w)))
+pass_rules own seen g w = balloting seen g (nominate own seen g w)
 
 -- One pass. After EXTERNALIZE none changes anything.
 unfoldable pub pass : ℕ → Seen → Given → Votes → Votes
 pass own seen g w = unless_over (pass_rules own seen g) w
+
+-- The part of a pass that is nomination.
+unfoldable pub nominated_in : ℕ → Seen → Given → Votes → Votes
+nominated_in own seen g w = unless_over (nominate own seen g) w
+
+-- The part of a pass that is balloting.
+unfoldable pub balloted_in : Seen → Given → Votes → Votes
+balloted_in seen g w = unless_over (balloting seen g) w

@@ -24,7 +24,7 @@ pub use headline::{
     agree, closures_are_the_same, isolation, journals_are_runs, members_stay_within_closures,
     networks_agree, prefix, quiet, verdicts_are_determined,
 };
-pub use limits::four_passes_are_enough;
+pub use limits::{four_passes_are_enough, rows_stir_their_kind};
 pub use quorums::{blocking_is_counted, quorum_cut, quorums_are_found};
 pub use reached::{
     last_emitted_is_sent, reached_nodes_send_well_formed, slices_follow_events, strangers_add_rows,

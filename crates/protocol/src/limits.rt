@@ -1,6 +1,7 @@
 //! The limit of passes: no event meets it.
 
 ghost use Rattle.protocol.specs.Limits.{NeverLimited, WithinFour, RunsReach};
+ghost use Rattle.protocol.specs.Stirring.{BallotRowsStirBallots, NominationRestsAfterAPass, NominationRowsStirNomination};
 
 /// Four passes are enough for each event of a node that events lead to, the last of which changes
 /// nothing: so no event is undone by the limit of 64 passes. And each node in a network's run is one
@@ -10,4 +11,13 @@ pub fn four_passes_are_enough()
     ensures limit { NeverLimited }
     ensures four { WithinFour }
     ensures runs { RunsReach }
+{}
+
+/// In the passes after an event of a node that events lead to, nomination changes nothing but in the
+/// first. After a ballot row by which the node reaches no other nodes it changes nothing at all; and
+/// after such a nomination row balloting changes nothing where nomination confirms no value.
+pub fn rows_stir_their_kind()
+    ensures later { NominationRestsAfterAPass }
+    ensures ballots { BallotRowsStirBallots }
+    ensures nominations { NominationRowsStirNomination }
 {}

@@ -26,6 +26,7 @@ use Rattle.configuration.proofs.Names.{names-differ}
 use Rattle.network.specs.Decoding.{step_of}
 use Rattle.hoststep.specs.Logs.{Log, extended}
 use Rattle.hoststep.specs.Worlds.{IsAnsweredAt, items_of, log_at, logs_set, logs_with}
+use Rattle.hoststep.proofs.Histories.{has-number}
 use Rattle.runs.specs.Drafts.{Drafted, IsConfigOf, IsRevised, Waiting, fresh, waiting_at, waiting_without}
 use Rattle.runs.specs.Emissions.{OpenSlot, OpenSlots, at_number, changed_at, handed_on}
 use Rattle.runs.specs.Followed.{Followed, also_followed, followed_with, turn_of, turned, with_handed}
@@ -47,14 +48,6 @@ use Rattle.runs.proofs.NumberedRows.{at-changed, at-inserted, at-removed, at-set
 use Rattle.runs.proofs.NetsByEntries.{slots-next, turn_in}
 
 -- ---- journals by number
-
-log-number : (ls : List Log) (g : ℕ) (l : Log) → log_at ls g ≡ Some l → l.config.number ≡ g
-log-number [] g l at = absurd (cc)
-log-number (k ∷ ks) g l at = go (k.config.number == g) refl at (log-number ks g l)
-  where
-    go : (b : Bool) → (k.config.number == g) ≡ b → (if b then Some k else log_at ks g) ≡ Some l → (log_at ks g ≡ Some l → l.config.number ≡ g) → l.config.number ≡ g
-    go true e h rest = let same : k ≡ l = cc in sym (ap (λ (x : Log). x.config.number) same) ∙ eqb-true k.config.number g e
-    go false e h rest = rest h
 
 log-set : (ls : List Log) (m : Log) (j : ℕ) → is_some (log_at ls m.config.number) ≡ true → log_at (logs_set m ls) j ≡ (if m.config.number == j then Some m else log_at ls j)
 log-set [] m j there = absurd (false≢true there)
@@ -171,7 +164,7 @@ answer-follows logs now f kept g e (Err r) None at h k s = λ j. subst (λ (x : 
 answer-follows logs now f kept g e (Err r) (Some l) at h k s = λ j. subst (λ (x : List Log × Followed). AreSlotsAt (log_at x.0 j) (at_number x.1 j)) (λ i. (sym h.1 i, sym k i)) (s j)
 answer-follows logs now f kept g e (Ok os) (Some l) at h k s =
     let new : Log = extended l (step_of e) os in
-    let named : new.config.number ≡ g = log-number logs g l at in
+    let named : new.config.number ≡ g = has-number logs g l at in
     let there : is_some (log_at logs new.config.number) ≡ true = ap (λ n. is_some (log_at logs n)) named ∙ ap (λ (o : Option Log). is_some o) at in
     changed-follows logs now f kept g l new (turned (turn_of e) os) at
     (λ j. ap (λ (xs : List Log). log_at xs j) h.1 ∙ (log-set logs new j there ∙ ap (λ n. if n == j then Some new else log_at logs j) named))
@@ -193,7 +186,7 @@ answer-numbers logs now g e (Err r) None at h = same-numbers logs now h.1
 answer-numbers logs now g e (Err r) (Some l) at h = same-numbers logs now h.1
 answer-numbers logs now g e (Ok os) (Some l) at h =
     let new : Log = extended l e os in
-    let named : new.config.number ≡ g = log-number logs g l at in
+    let named : new.config.number ≡ g = has-number logs g l at in
     let there : is_some (log_at logs new.config.number) ≡ true = ap (λ n. is_some (log_at logs n)) named ∙ ap (λ (o : Option Log). is_some o) at in
     record {
       there = λ j. ap (λ (xs : List Log). is_some (log_at xs j)) h.1 ∙ (ap (λ (o : Option Log). is_some o) (log-set logs new j there) ∙ some-as new j (new.config.number == j) refl there);

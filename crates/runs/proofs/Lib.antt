@@ -4,7 +4,6 @@ mod DraftLaws
 mod Hearings
 mod JoiningLaws
 mod LineForms
-mod NameLists
 mod Places
 mod RosterLaws
 mod QuietLines

@@ -23,7 +23,7 @@ use Rattle.runs.specs.declared.followed.Turn.TheVariants as turn
 use Rattle.runs.specs.Emissions.{OpenSlot, OpenSlots, at_number, changed_at, first_emitted, given_out, given_out_by, just_opened, noted_outs, with_slot, without_slot}
 use Rattle.runs.specs.Followed.{turned}
 use Rattle.runs.specs.ByJournals.{AreSlotsBy, IsSlotBy, values_at}
-use Rattle.runs.proofs.NumberedRows.{at-changed, at-inserted, at-removed, equal-flip, once-changed, once-inserted, once-removed}
+use Rattle.runs.proofs.NumberedRows.{at-changed, at-inserted, at-removed, equal-flip, once-changed, once-inserted, once-removed, or-swapped}
 use Rattle.runs.proofs.SlotsByEntries.{AreFrom, slot-next, slot-still, sent-elsewhere, values-by, values-at}
 use Rattle.runs.proofs.OutsAtPlaces.{IsGivenAt, IsGivenBy, effect-given, run-in-place}
 
@@ -64,13 +64,7 @@ open-then net e i free =
 
 any-pushed : (i j : ℕ) (ns : List ℕ) → list_any (λ n. n == i) (ns ++ j ∷ []) ≡ ((j == i) || list_any (λ n. n == i) ns)
 any-pushed i j [] = refl
-any-pushed i j (n ∷ ns) = ap (λ b. (n == i) || b) (any-pushed i j ns) ∙ swap (n == i) (j == i) (list_any (λ k. k == i) ns)
-  where
-    swap : (a b c : Bool) → (a || (b || c)) ≡ (b || (a || c))
-    swap true true c = refl
-    swap true false c = refl
-    swap false true c = refl
-    swap false false c = refl
+any-pushed i j (n ∷ ns) = ap (λ b. (n == i) || b) (any-pushed i j ns) ∙ or-swapped (n == i) (j == i) (list_any (λ k. k == i) ns)
 
 any-dropped : (i j : ℕ) (ns : List ℕ) → list_any (λ n. n == i) (filter (λ n. not (n == j)) ns) ≡ (if j == i then false else list_any (λ n. n == i) ns)
 any-dropped i j [] = go (j == i)

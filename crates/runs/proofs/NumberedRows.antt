@@ -230,6 +230,12 @@ module _ {X : Type 0} (k : ℕ) where
 
 -- ---- lists of numbers, with one more
 
+pub or-swapped : (a b c : Bool) → (a || (b || c)) ≡ (b || (a || c))
+or-swapped true true c = refl
+or-swapped true false c = refl
+or-swapped false true c = refl
+or-swapped false false c = refl
+
 module _ (k : ℕ) where
   abbrev Has : List ℕ → ℕ → Bool
   Has us n = list_any (is_at (nat_cmp n)) us
@@ -238,12 +244,6 @@ module _ (k : ℕ) where
   has-inserted n [] = rw (is-at n k, equal-flip n k) refl
   has-inserted n (u ∷ us) = by (stands k u) (has-inserted n us)
     where
-      swap : (a b c : Bool) → (a || (b || c)) ≡ (b || (a || c))
-      swap true true c = refl
-      swap true false c = refl
-      swap false true c = refl
-      swap false false c = refl
-
       twice : (a b : Bool) → (a || b) ≡ (a || (a || b))
       twice true b = refl
       twice false b = refl
@@ -252,7 +252,7 @@ module _ (k : ℕ) where
           → list_any (is_at (nat_cmp n)) (insert_key nat_cmp (u ∷ us) k) ≡ ((k == n) || list_any (is_at (nat_cmp n)) (u ∷ us))
       by (before lt eq) ih = rw (lt) (ap (λ b. b || list_any (is_at (nat_cmp n)) (u ∷ us)) (is-at n k ∙ equal-flip n k))
       by (same lt eq) ih = rw (lt, eq) (rw (is-at n u ∙ equal-flip n u ∙ sym (equal-as k u n eq)) (twice (k == n) (list_any (is_at (nat_cmp n)) us)))
-      by (behind lt eq) ih = rw (lt, eq) (ap (λ b. is_at (nat_cmp n) u || b) ih ∙ swap (is_at (nat_cmp n) u) (k == n) (list_any (is_at (nat_cmp n)) us))
+      by (behind lt eq) ih = rw (lt, eq) (ap (λ b. is_at (nat_cmp n) u || b) ih ∙ or-swapped (is_at (nat_cmp n) u) (k == n) (list_any (is_at (nat_cmp n)) us))
 
   pub keys-inserted : (us : List ℕ) → list_any (is_at (nat_cmp k)) us ≡ false → length (insert_key nat_cmp us k) ≡ length us + 1
   keys-inserted [] new = omega arith

@@ -6,6 +6,7 @@ use Rattle.scripts.specs.Script.{Bytes}
 use Rattle.scripts.specs.Names.{word_name}
 use Rattle.scripts.specs.Slices.{AreSlices}
 use Rattle.scripts.specs.Words.{word_counter, word_number}
+use Rattle.scripts.specs.WordLists.{each_word}
 use Rattle.types.specs.declared.event.Event.{Event}
 use Rattle.protocol.specs.Networks.{Budgets}
 use Rattle.protocol.specs.Rosters.{Shares}
@@ -55,14 +56,9 @@ shares_in fields =
     option_and_then (λ own. option_and_then (λ pair. option_and_then (λ bytes. option_map (λ opens. (record { own = own.0; pair = pair.0; bytes = bytes.0; opens = opens.0 }, opens.1))
     (counted (codes "opens") bytes.1)) (counted (codes "bytes") pair.1)) (counted (codes "pair") own.1)) (counted (codes "own") fields)
 
--- the names of words, where each spells one
-abbrev pub each_name : List Bytes → Option (List ℕ)
-each_name [] = Some []
-each_name (word ∷ more) = option_and_then (λ u. option_map (λ us. u ∷ us) (each_name more)) (word_name word)
-
 -- the names that a list with a comma (44) between each and the next spells
 abbrev pub names_in : Bytes → Option (List ℕ)
-names_in list = each_name (slice_split (λ b. b == 44) list)
+names_in list = each_word word_name (slice_split (λ b. b == 44) list)
 
 -- the only field is a list of names
 abbrev pub only_names : List Bytes → Option (List ℕ)

@@ -105,14 +105,14 @@ impl OpenSlot {
         ensures { OnOk result (self.new ≡ given_out node.now self.old out.now) }
     {
         match out {
-            Out::Emit(envelope) => self.emitted(*envelope.sender(), envelope.body().kind()),
+            Out::Emit(envelope) => self.note_emission(*envelope.sender(), envelope.body().kind()),
             Out::Externalized(value) => decide_in(&mut self.speakers, node, value),
             Out::ArmNomination(_) | Out::ArmBallot(_) => Ok(()),
         }
     }
 
     /// A node has emitted.
-    fn emitted(&mut self, from: NodeId, kind: Kind) -> Result<(), AllocError>
+    fn note_emission(&mut self, from: NodeId, kind: Kind) -> Result<(), AllocError>
         ensures { OnOk result (self.new ≡ emitted from kind self.old) }
     {
         match count_in(&mut self.speakers, &from, kind)? {

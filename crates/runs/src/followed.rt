@@ -106,7 +106,12 @@ impl Followed {
     }
 
     /// The line of a slot that has settled.
-    pub fn settled(&self, alloc: Global, number: u32, slot: u64) -> Result<String, AllocError>
+    pub fn line_of_settled(
+        &self,
+        alloc: Global,
+        number: u32,
+        slot: u64,
+    ) -> Result<String, AllocError>
         ensures { IfOk result (λ text. string_bytes text ≡ settled_text (open_slot self.now number slot)) }
     {
         let mut text = String::from_str(alloc, "settled")?;

@@ -13,7 +13,7 @@ ghost use Rattle.runs.specs.Telling.{HasNoNode};
 use crate::emissions::Emission;
 use crate::followed::turn_of;
 use crate::nets::Nets;
-use crate::replies::{refused, reply};
+use crate::replies::{line_of_refusal, reply};
 use crate::requests::{Request, request_of};
 use envstore::VecShelf;
 use hoststep::World;
@@ -149,10 +149,10 @@ impl HostRun {
     {
         let names = match self.names(number) {
             Some(names) => Vec::from_slice(alloc, names)?,
-            None => return refused(alloc, Refusal::NoSuchNetwork),
+            None => return line_of_refusal(alloc, Refusal::NoSuchNetwork),
         };
         if !self.is_open(number, slot) {
-            return refused(alloc, Refusal::SlotNotOpen);
+            return line_of_refusal(alloc, Refusal::SlotNotOpen);
         }
         let ended = self.hand_on_all(number, slot, &names)?;
         self.line_of(alloc, number, slot, ended)
@@ -192,8 +192,8 @@ impl HostRun {
         ensures { IfOk result (λ text. string_bytes text ≡ line_of ended (open_slot self.now.followed number slot)) }
     {
         match ended {
-            Some(refusal) => refused(alloc, refusal),
-            None => self.nets.followed.settled(alloc, number, slot),
+            Some(refusal) => line_of_refusal(alloc, refusal),
+            None => self.nets.followed.line_of_settled(alloc, number, slot),
         }
     }
 

@@ -17,8 +17,8 @@ pub(crate) fn reply(alloc: Global, answer: &Result<Vec<Out>, Refusal>) -> Result
     ensures { IfOk result (λ text. IsReply (items_of answer.now) (string_bytes text)) }
 {
     match answer {
-        Ok(outs) => applied(alloc, outs),
-        Err(refusal) => refused(alloc, *refusal),
+        Ok(outs) => line_of_outs(alloc, outs),
+        Err(refusal) => line_of_refusal(alloc, *refusal),
     }
 }
 
@@ -27,13 +27,13 @@ pub fn line_of_reply(alloc: Global, reply: &Reply) -> Result<String, AllocError>
     ensures { IfOk result (λ text. IsReply (answer_of reply.now) (string_bytes text)) }
 {
     match reply {
-        Reply::Done(outs) => applied(alloc, outs),
-        Reply::Refused(refusal) => refused(alloc, *refusal),
+        Reply::Done(outs) => line_of_outs(alloc, outs),
+        Reply::Refused(refusal) => line_of_refusal(alloc, *refusal),
     }
 }
 
 /// The line of what an event gives out.
-fn applied(alloc: Global, outs: &[Out]) -> Result<String, AllocError>
+fn line_of_outs(alloc: Global, outs: &[Out]) -> Result<String, AllocError>
     ensures { IfOk result (λ text. string_bytes text ≡ codes "ok" ++ flat_map behind_space outs.now) }
 {
     let mut text = String::from_str(alloc, "ok")?;
@@ -72,7 +72,7 @@ fn push_out(text: &mut String, out: &Out) -> Result<(), AllocError>
 
 /// The line of a refusal: `refused`, its number, its name, and the number of the fault where bytes are no
 /// envelope.
-pub(crate) fn refused(alloc: Global, refusal: Refusal) -> Result<String, AllocError>
+pub(crate) fn line_of_refusal(alloc: Global, refusal: Refusal) -> Result<String, AllocError>
     ensures { IfOk result (λ text. string_bytes text ≡ refusal_text refusal) }
 {
     let number = number_of(refusal);

@@ -14,5 +14,5 @@ pub mod SlicesRead
 pub mod SlicesSpelled
 pub mod SlicesPrinted
 pub mod StatementsRead
-pub mod ValueLists
+pub mod WordLists
 pub mod FrontLaws

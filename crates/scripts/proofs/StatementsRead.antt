@@ -14,10 +14,11 @@ use Rattle.types.specs.Statements.{HasWidths, IsBallot}
 use Rattle.types.specs.declared.ballot.Ballot.{Ballot}
 use Rattle.types.specs.declared.statement.Statement.TheVariants.{Nominate, Prepare, Commit, Externalize}
 use Rattle.scripts.specs.Script.{Bytes}
-use Rattle.scripts.specs.Values.{is_plain, is_lower_digit, text_of_value}
+use Rattle.scripts.specs.Values.{is_plain, is_lower_digit, text_of_value, word_value}
 use Rattle.scripts.specs.Words.{cut_at, text_of_ballot, word_ballot, word_counter}
+use Rattle.scripts.specs.WordLists.{each_word}
 use Rattle.scripts.specs.Printed.{behind_plus, fields_of_statement, text_of_optional, text_of_values}
-use Rattle.scripts.specs.Statements.{HasBytes, StatementsReadBack, before_bracket, commit_in, cut_twice, each_value, externalize_in, nomination_in, prepare_in, three_counters, word_optional, word_values}
+use Rattle.scripts.specs.Statements.{HasBytes, StatementsReadBack, before_bracket, commit_in, cut_twice, externalize_in, nomination_in, prepare_in, three_counters, word_optional, word_values}
 use Rattle.scripts.proofs.DigitLaws.{digits_lower}
 use Rattle.scripts.proofs.RunLaws.{append_nothing}
 use Rattle.scripts.proofs.ScriptLemmas.{both_true}
@@ -158,7 +159,7 @@ value_no_plus : (v : Bytes) → IsBytes v → lacks 43 (text_of_value v) ≡ tru
 value_no_plus v fits = all_pass is_of_value (λ b. not (b == 43)) no_plus (text_of_value v) (value_text v fits)
 
 each_back : (v : Bytes) (more : List Bytes) → AllByRecursion IsValue (v ∷ more) → AllByRecursion IsBytes (v ∷ more)
-    → each_value (slice_split (λ b. b == 43) (text_of_value v ++ flat_map behind_plus more)) ≡ Some (v ∷ more)
+    → each_word word_value (slice_split (λ b. b == 43) (text_of_value v ++ flat_map behind_plus more)) ≡ Some (v ∷ more)
 each_back v [] h k = rw (append_nothing (text_of_value v), split_none 43 (text_of_value v) (value_no_plus v k.0), values_read_back v h.0.0 h.0.1 k.0) refl
 each_back v (w ∷ more) h k =
     rw (split_at 43 (text_of_value v) (text_of_value w ++ flat_map behind_plus more) (value_no_plus v k.0), values_read_back v h.0.0 h.0.1 k.0, each_back w more h.1 k.1) refl

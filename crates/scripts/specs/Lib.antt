@@ -10,3 +10,4 @@ pub mod Values
 pub mod Runs
 pub mod Streams
 pub mod Words
+pub mod WordLists

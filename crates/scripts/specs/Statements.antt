@@ -11,6 +11,7 @@ use Rattle.scripts.specs.Script.{Bytes}
 use Rattle.scripts.specs.Values.{word_value}
 use Rattle.scripts.specs.Printed.{text_of_statement}
 use Rattle.scripts.specs.Words.{cut_at, word_ballot, word_counter}
+use Rattle.scripts.specs.WordLists.{each_word}
 
 -- ---- pieces of a word
 
@@ -32,14 +33,9 @@ enclosed head word = option_and_then before_bracket (behind head word)
 
 -- ---- values, ballots and counters
 
--- the values of words, where each spells one
-abbrev pub each_value : List Bytes → Option (List Bytes)
-each_value [] = Some []
-each_value (word ∷ more) = option_and_then (λ v. option_map (λ vs. v ∷ vs) (each_value more)) (word_value word)
-
 -- the values that a list with a `+` (43) between each and the next spells, which is empty for none
 abbrev pub word_values : Bytes → Option (List Bytes)
-word_values list = if length list == 0 then Some [] else each_value (slice_split (λ b. b == 43) list)
+word_values list = if length list == 0 then Some [] else each_word word_value (slice_split (λ b. b == 43) list)
 
 -- a ballot, or `-` (45) for none
 abbrev pub word_optional : Bytes → Option (Option Ballot)

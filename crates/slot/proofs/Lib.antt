@@ -1,4 +1,6 @@
 pub mod Settles
+pub mod StirredRows
+pub mod StirredPasses
 pub mod Emissions
 pub mod Sendings
 pub mod Answered

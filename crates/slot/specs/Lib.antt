@@ -1,3 +1,4 @@
 pub mod Wholes
 pub mod Listening
 pub mod Filings
+pub mod Stirrings

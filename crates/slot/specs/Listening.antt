@@ -1,5 +1,6 @@
 -- Who a node is, the rows that it has, and the nodes that it reaches by them.
-use Rattle.std.specs.Prelude.{◌≡◌, ℕ, Bool, true, false, List, [], Option, IfSome, IsFalse, ⊤}
+use Rattle.std.specs.Prelude.{◌≡◌, ℕ, Bool, Box, true, false, List, [], Option, IfSome, IsFalse, ⊤, box_value, option_map}
+use Rattle.std.specs.Global.{Global}
 use Rattle.types.specs.Statements.{Sent}
 use Rattle.types.specs.declared.event.NodeEvent.TheVariants.{Take}
 use Rattle.types.specs.declared.state.Given.{Given}
@@ -33,6 +34,10 @@ pub record Held : Type 0 where
 abbrev pub node_of : Heard → Given → Votes → Node
 node_of h given votes = whole h.configured given votes (sents_of h.table)
 
+-- the region that is kept on the heap, if one is
+abbrev pub region_in : Option (Box Region Global) → Option Region
+region_in = option_map box_value
+
 -- a region that is known is what the configuration and the table give
 abbrev pub KnowsRegion : Configured → List Sent → Option Region → Type 0
 KnowsRegion c table known = IfSome known (λ r. IsRegion c.name c.slices table r)
@@ -41,11 +46,11 @@ KnowsRegion c table known = IfSome known (λ r. IsRegion c.name c.slices table r
 abbrev pub KnownAscends : Option Region → Type 0
 KnownAscends known = IfSome known (λ r. IsAscending r.nodes.items)
 
--- what an envelope does to what is known where the table takes it: nothing, one entry is set, or it is not known any more
-abbrev pub IsEffect : List Sent → Sent → Option Region → Effect → Type 0
-IsEffect table e known Nothing = (c : Configured) → KnowsRegion c table known → KnowsRegion c (with_row e table) known
-IsEffect table e known (Sets x) = IfSome known (λ r. IsEntry table e r x)
-IsEffect table e known Forgets = ⊤
+-- what an envelope does to what such a node knows where the table takes it: nothing, one entry is set, or it is not known any more
+abbrev pub IsEffect : Configured → List Sent → Sent → Option Region → Effect → Type 0
+IsEffect c table e known Nothing = KnowsRegion c table known → KnowsRegion c (with_row e table) known
+IsEffect c table e known (Sets x) = IfSome known (λ r. IsEntry c.name c.slices table e r x)
+IsEffect c table e known Forgets = ⊤
 
 -- a node that is not among those that are reached
 pub record IsStranger (h : Heard) (u : ℕ) : Type 0 where

@@ -3,6 +3,7 @@
 ghost use Rattle.std.specs.Prelude.{◌≡◌, List, IfOk, IfSome, IsTrue, Some, is_some};
 ghost use Rattle.protocol.specs.Nodes.{outs, settle};
 ghost use Rattle.protocol.specs.Passes.{pass};
+ghost use Rattle.slot.specs.Stirrings.{Stirs};
 ghost use Rattle.slot.specs.Wholes.{whole, SendWellFormed};
 ghost use Rattle.types.specs.Statements.{Sent};
 
@@ -10,6 +11,7 @@ use crate::configured::Configured;
 use crate::filed::GivenOut;
 use crate::outs::outs;
 use crate::settling::settle_from;
+use crate::stirring::Stirred;
 use fedvote::Sight;
 use std::alloc::{AllocError, Global};
 use types::{Given, Out, Votes};
@@ -28,8 +30,8 @@ pub(crate) struct FiledAnswer {
     pub given_out: GivenOut,
 }
 
-/// Passes, from what was given and these votes on, and what is given out since the old state. An error
-/// says that memory is short.
+/// Passes, from what was given and these votes on, after an event that stirs these rules, and what is given
+/// out since the old state. An error says that memory is short.
 pub(crate) fn answer_to<S: Sight>(
     alloc: Global,
     configured: &Configured,
@@ -38,13 +40,15 @@ pub(crate) fn answer_to<S: Sight>(
     old_votes: &Votes,
     given: &Given,
     votes: &Votes,
+    stirred: Stirred,
 ) -> Result<Answer, AllocError>
+    requires stirs { Stirs stirred configured.now.name (S.seen sight.now) given.now votes.now }
     requires settles { IsTrue (is_some (settle 64 (pass configured.now.name (S.seen sight.now) given.now) votes.now)) }
     requires sends { IfSome (settle 64 (pass configured.now.name (S.seen sight.now) given.now) votes.now) SendWellFormed }
     ensures votes { IfOk result (λ a. settle 64 (pass configured.now.name (S.seen sight.now) given.now) votes.now ≡ Some a.votes) }
     ensures outs { IfOk result (λ a. (before after : List Sent) → a.outs.items ≡ outs (whole configured.now old_given.now old_votes.now before) (whole configured.now given.now a.votes after)) }
 {
-    let settled = settle_from(alloc, &configured.name, sight, given, votes)?;
+    let settled = settle_from(alloc, &configured.name, sight, given, votes, stirred)?;
     let Some(votes) = settled else { unreachable!() };
     let outs = outs(alloc, configured, old_given, old_votes, given, &votes)?;
     Ok(Answer { votes, outs })

@@ -1,13 +1,14 @@
 //! What a listener knows of the nodes that it reaches: it is kept from one event to the next, and a row that
 //! comes leaves it, changes one entry of it, or makes it unknown.
 
-ghost use Rattle.std.specs.Prelude.{◌≡◌, IfOk, List, None, Some};
+ghost use Rattle.std.specs.Prelude.{◌≡◌, IfOk, IsTrue, List, None, Some, is_some, box_value};
 ghost use Rattle.envstore.specs.Archives.{AreFiled, IsFiled, sent_of, sents_of};
 ghost use Rattle.latest.specs.Puts.{IsFiledPut, IsPut, undone};
 ghost use Rattle.protocol.specs.Rows.{with_row};
 ghost use Rattle.protocol.specs.Sets.{IsAscending};
+ghost use Rattle.protocol.specs.Stirring.{KeepsReach};
 ghost use Rattle.slot.specs.declared.configured.Configured.{Configured};
-ghost use Rattle.slot.specs.Listening.{IsEffect, KnownAscends, KnowsRegion, is_put};
+ghost use Rattle.slot.specs.Listening.{IsEffect, KnownAscends, KnowsRegion, is_put, region_in};
 ghost use Rattle.types.specs.Statements.{Sent};
 ghost use Rattle.view.specs.Regions.{IsRegion};
 
@@ -33,58 +34,84 @@ pub(crate) enum Effect {
 /// short.
 pub(crate) fn take_region<S: Places>(
     alloc: Global,
-    known: &mut Option<Region>,
+    known: &mut Option<Box<Region>>,
     configured: &Configured,
     table: &Table,
     archive: &Archive<S>,
-) -> Result<Region, AllocError>
+) -> Result<Box<Region>, AllocError>
     requires rows { AreFiled archive.now table.now }
-    requires known { KnowsRegion configured.now (sents_of table.now) known.old }
-    ensures region { IfOk result (λ r. IsRegion configured.now.name configured.now.slices (sents_of table.now) r) }
+    requires known { KnowsRegion configured.now (sents_of table.now) (region_in known.old) }
+    ensures region { IfOk result (λ r. IsRegion configured.now.name configured.now.slices (sents_of table.now) (box_value r)) }
     ensures forgotten { known.new ≡ None }
 {
     match known.take() {
         Some(region) => Ok(region),
         None => {
             let rows = Rows::of(table, archive);
-            Region::of(alloc, &configured.name, &configured.slices, &rows)
+            let region = Region::of(alloc, &configured.name, &configured.slices, &rows)?;
+            boxed(alloc, region)
         }
+    }
+}
+
+/// The region on the heap, so that a node has no place for it before it is found. An error says that memory is
+/// short.
+fn boxed(alloc: Global, region: Region) -> Result<Box<Region>, AllocError>
+    ensures { IfOk result (λ b. box_value b ≡ region) }
+{
+    match Box::new(alloc, region) {
+        Ok(boxed) => Ok(boxed),
+        // Memory: the region has no room.
+        Err(_) => Err(AllocError),
     }
 }
 
 /// A copy of what is known. An error says that memory is short.
 pub(crate) fn copy_of_known(
     alloc: Global,
-    known: &Option<Region>,
-) -> Result<Option<Region>, AllocError>
-    ensures { IfOk result (λ copy. (c : Configured) (table : List Sent) → KnowsRegion c table known.now → KnowsRegion c table copy) }
+    known: &Option<Box<Region>>,
+) -> Result<Option<Box<Region>>, AllocError>
+    ensures { IfOk result (λ copy. (c : Configured) (table : List Sent) → KnowsRegion c table (region_in known.now) → KnowsRegion c table (region_in copy)) }
 {
     match known {
         None => Ok(None),
-        Some(region) => Ok(Some(region.try_copy(alloc)?)),
+        Some(region) => {
+            let copy = region.try_copy(alloc)?;
+            Ok(Some(boxed(alloc, copy)?))
+        }
     }
 }
 
 /// Puts the envelope into the table. What is known is afterwards as the row wants it; where memory is
-/// short for that, nothing is known, and the put goes on.
+/// short for that, nothing is known, and the put goes on. Where something is known still, the node reaches
+/// whom it reached before.
 pub(crate) fn put_row<S: Places>(
     alloc: Global,
+    configured: &Configured,
     table: &mut Table,
-    known: &mut Option<Region>,
+    known: &mut Option<Box<Region>>,
     archive: &Archive<S>,
     envelope: Filed,
 ) -> Put
     requires rows { AreFiled archive.now table.old }
     requires envelope { IsFiled archive.now envelope }
-    requires known { KnownAscends known.old }
+    requires known { KnownAscends (region_in known.old) }
     ensures put { IsPut table.old (sent_of envelope) result table.new }
     ensures back { undone result table.new ≡ table.old }
-    ensures known { (c : Configured) → KnowsRegion c (sents_of table.old) known.old → KnowsRegion c (sents_of table.new) known.new }
+    ensures known { KnowsRegion configured.now (sents_of table.old) (region_in known.old) → KnowsRegion configured.now (sents_of table.new) (region_in known.new) }
+    ensures reach { IsTrue (is_some known.new) → KnowsRegion configured.now (sents_of table.old) (region_in known.old) → KeepsReach configured.now.name configured.now.slices (sents_of table.old) (sents_of table.new) }
     ensures filed { AreFiled archive.now table.new }
     ensures replaced { IsFiledPut archive.now result }
 {
     // What memory this wants, it wants before the table changes.
-    let effect = effect_of(alloc, known, table, archive, archive.read(&envelope));
+    let effect = effect_of(
+        alloc,
+        configured,
+        known,
+        table,
+        archive,
+        archive.read(&envelope),
+    );
     let put = table.put(archive, envelope);
     if is_put(&put) {
         apply(known, effect);
@@ -95,20 +122,21 @@ pub(crate) fn put_row<S: Places>(
 /// What the envelope does to what is known where the table takes it.
 fn effect_of<S: Places>(
     alloc: Global,
-    known: &Option<Region>,
+    configured: &Configured,
+    known: &Option<Box<Region>>,
     table: &Table,
     archive: &Archive<S>,
     envelope: &Envelope,
 ) -> Effect
     requires rows { AreFiled archive.now table.now }
-    requires known { KnownAscends known.now }
-    ensures { IsEffect (sents_of table.now) envelope.now known.now result }
+    requires known { KnownAscends (region_in known.now) }
+    ensures { IsEffect configured.now (sents_of table.now) envelope.now (region_in known.now) result }
 {
     match known {
         None => Effect::Nothing,
         Some(region) => {
             let rows = Rows::of(table, archive);
-            effect_on(alloc, region, &rows, envelope)
+            effect_on(alloc, configured, region, &rows, envelope)
         }
     }
 }
@@ -116,17 +144,19 @@ fn effect_of<S: Places>(
 /// What the envelope does to a region that is known where the table takes it.
 fn effect_on<S: Places>(
     alloc: Global,
+    configured: &Configured,
     region: &Region,
     rows: &Rows<'_, S>,
     envelope: &Envelope,
 ) -> Effect
     requires { IsAscending region.now.nodes.items }
-    ensures { IsEffect rows.now envelope.now (Some region.now) result }
+    ensures { IsEffect configured.now rows.now envelope.now (Some region.now) result }
 {
     if region.stays(rows, envelope) {
         return Effect::Nothing;
     }
-    match region.entry_for(alloc, rows, envelope) {
+    let own = &configured.name;
+    match region.entry_for(alloc, own, &configured.slices, rows, envelope) {
         Ok(Some(entry)) => Effect::Sets(entry),
         Ok(None) => Effect::Forgets,
         Err(_) => Effect::Forgets,
@@ -134,8 +164,9 @@ fn effect_on<S: Places>(
 }
 
 /// Does it.
-fn apply(known: &mut Option<Region>, effect: Effect)
-    ensures { (c : Configured) (table : List Sent) (e : Sent) → IsEffect table e known.old effect → KnowsRegion c table known.old → KnowsRegion c (with_row e table) known.new }
+fn apply(known: &mut Option<Box<Region>>, effect: Effect)
+    ensures known { (c : Configured) (table : List Sent) (e : Sent) → IsEffect c table e (region_in known.old) effect → KnowsRegion c table (region_in known.old) → KnowsRegion c (with_row e table) (region_in known.new) }
+    ensures reach { IsTrue (is_some known.new) → (c : Configured) (table : List Sent) (e : Sent) → IsEffect c table e (region_in known.old) effect → KnowsRegion c table (region_in known.old) → KeepsReach c.name c.slices table (with_row e table) }
 {
     match effect {
         Effect::Nothing => {}

@@ -15,6 +15,7 @@ mod passing;
 mod sent;
 mod settling;
 mod sizes;
+mod stirring;
 
 pub use filed::{FiledEvent, FiledOut, GivenOut};
 pub use node::Node;

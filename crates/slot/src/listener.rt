@@ -8,6 +8,7 @@ ghost use Rattle.view.specs.Regions.{IsRegion};
 ghost use Rattle.protocol.specs.Rows.{is_taken, offered};
 ghost use Rattle.slot.specs.Filings.{AreFiledOuts, HasCopies, outs_of};
 ghost use Rattle.slot.specs.Listening.{IsStranger, node_of};
+ghost use Rattle.slot.specs.Stirrings.{IsStirred, StirsIn};
 ghost use Rattle.slot.specs.Wholes.{SendWellFormed, whole};
 ghost use Rattle.types.specs.Statements.{Sent};
 
@@ -15,6 +16,7 @@ use crate::answering::{Answer, FiledAnswer, answer_to};
 use crate::configured::Configured;
 use crate::filing::file_copied;
 use crate::known::{copy_of_known, put_row, take_region};
+use crate::stirring::{Stirred, stirred_by};
 use envstore::{Archive, Filed, Places, Shelf};
 use latest::{Put, Rows, Table};
 use slices::is_among;
@@ -27,20 +29,20 @@ use view::{Region, View};
 /// Who a node is, and the rows that it has.
 ///
 /// The nodes that it reaches and their slices, compiled, are kept from one event to the next, until a row
-/// or slices come that may change them. A reached node's first row that names reached nodes alone changes
-/// one entry of them.
+/// or slices come that may change the reach. A reached node's row that surely leaves it, and has slices that
+/// are new there, changes one entry.
 #[derive(Drop)]
 pub(crate) struct Listener {
     configured: Configured,
     table: Table,
-    known: Option<Region>,
+    known: Option<Box<Region>>,
 }
 
 impl Model for Listener {
     ghost use Rattle.std.specs.Coded.{codes};
     ghost use Rattle.types.specs.Trees.{members_code};
     ghost use Rattle.envstore.specs.Archives.{sents_of};
-    ghost use Rattle.slot.specs.Listening.{Heard, KnowsRegion};
+    ghost use Rattle.slot.specs.Listening.{Heard, KnowsRegion, region_in};
 
     ghost Value = { Heard };
 
@@ -48,7 +50,7 @@ impl Model for Listener {
 
     ghost view = { λ l. record { configured = l.configured; table = l.table } };
 
-    ghost invariant = { λ l. KnowsRegion l.configured (sents_of l.table) l.known };
+    ghost invariant = { λ l. KnowsRegion l.configured (sents_of l.table) (region_in l.known) };
 }
 
 impl Listener {
@@ -118,29 +120,46 @@ impl Listener {
         ensures idle { is_taken (sents_of self.old.table) (sent_of envelope) ≡ false → IsTrue (is_ok result) }
         ensures filed { AreFiled archive.now self.new.table }
     {
-        match self.put(alloc, archive, envelope) {
+        let (put, _) = self.put(alloc, archive, envelope);
+        match put {
             Put::NoMemory => Err(AllocError),
             Put::Stale => Ok(()),
             Put::Added | Put::Replaced(_) => Ok(()),
         }
     }
 
-    /// Puts the envelope into the table, as [`Table::put`] does.
+    /// Puts the envelope into the table, as [`Table::put`] does, and says which rules it stirs where the
+    /// table takes it.
     pub(crate) fn put<S: Places>(
         &mut self,
         alloc: Global,
         archive: &Archive<S>,
         envelope: Filed,
-    ) -> Put
+    ) -> (Put, Stirred)
         requires rows { AreFiled archive.now self.old.table }
         requires envelope { IsFiled archive.now envelope }
-        ensures put { IsPut self.old.table (sent_of envelope) result self.new.table }
-        ensures back { undone result self.new.table ≡ self.old.table }
+        ensures put { IsPut self.old.table (sent_of envelope) result.0 self.new.table }
+        ensures back { undone result.0 self.new.table ≡ self.old.table }
+        ensures stirs { IsStirred result.1 self.old.configured (sents_of self.old.table) (sent_of envelope) (sents_of self.new.table) }
         ensures same { self.new.configured ≡ self.old.configured }
         ensures filed { AreFiled archive.now self.new.table }
-        ensures known { IsFiledPut archive.now result }
+        ensures known { IsFiledPut archive.now result.0 }
     {
-        put_row(alloc, &mut self.table, &mut self.known, archive, envelope)
+        let kind = archive.read(&envelope).body().kind();
+        let put = put_row(
+            alloc,
+            &self.configured,
+            &mut self.table,
+            &mut self.known,
+            archive,
+            envelope,
+        );
+        // Slices that are known still are those of the nodes that were reached before.
+        if self.known.is_some() {
+            (put, stirred_by(kind))
+        } else {
+            (put, Stirred::All)
+        }
     }
 
     /// Undoes a put, as [`Table::undo`] does.
@@ -163,8 +182,8 @@ impl Listener {
         mem::replace(&mut self.configured.slices, slices)
     }
 
-    /// What passes make of what was given and these votes, by the rows, and what is given out since the
-    /// old state, filed, with so many whole copies that are made before. What contracts see of the listener
+    /// What passes make of what was given and these votes, by the rows, after an event that stirs these rules,
+    /// and what is given out since the old state, filed, with so many whole copies that are made before. What contracts see of the listener
     /// stays as it was, and an error says that memory is short.
     pub(crate) fn answer<S: Shelf>(
         &mut self,
@@ -174,9 +193,11 @@ impl Listener {
         old_votes: &Votes,
         given: &Given,
         votes: &Votes,
+        stirred: Stirred,
         copies: usize,
     ) -> Result<FiledAnswer, AllocError>
         requires rows { AreFiled archive.old self.old.table }
+        requires stirs { StirsIn stirred (node_of self.old given.now votes.now) }
         requires settles { IsTrue (is_some (settle 64 (passed (node_of self.old given.now votes.now)) votes.now)) }
         requires sends { IfSome (settle 64 (passed (node_of self.old given.now votes.now)) votes.now) SendWellFormed }
         ensures votes { IfOk result (λ a. settle 64 (passed (node_of self.old given.now votes.now)) votes.now ≡ Some a.votes) }
@@ -186,7 +207,9 @@ impl Listener {
         ensures copies { IfOk result (λ a. HasCopies copies a.given_out) }
         ensures kept { Keeps archive.old archive.new }
     {
-        let answer = self.answer_by_rows(alloc, archive, old_given, old_votes, given, votes)?;
+        let answer = self.answer_by_rows(
+            alloc, archive, old_given, old_votes, given, votes, stirred,
+        )?;
         let Answer { votes, outs } = answer;
         let given_out = file_copied(alloc, archive, outs, copies)?;
         Ok(FiledAnswer { votes, given_out })
@@ -201,8 +224,10 @@ impl Listener {
         old_votes: &Votes,
         given: &Given,
         votes: &Votes,
+        stirred: Stirred,
     ) -> Result<Answer, AllocError>
         requires rows { AreFiled archive.now self.old.table }
+        requires stirs { StirsIn stirred (node_of self.old given.now votes.now) }
         requires settles { IsTrue (is_some (settle 64 (passed (node_of self.old given.now votes.now)) votes.now)) }
         requires sends { IfSome (settle 64 (passed (node_of self.old given.now votes.now)) votes.now) SendWellFormed }
         ensures votes { IfOk result (λ a. settle 64 (passed (node_of self.old given.now votes.now)) votes.now ≡ Some a.votes) }
@@ -217,7 +242,7 @@ impl Listener {
             archive,
         )?;
         let answer = self.answer_within(
-            alloc, archive, &region, old_given, old_votes, given, votes,
+            alloc, archive, &region, old_given, old_votes, given, votes, stirred,
         );
         self.known = Some(region);
         answer
@@ -233,8 +258,10 @@ impl Listener {
         old_votes: &Votes,
         given: &Given,
         votes: &Votes,
+        stirred: Stirred,
     ) -> Result<Answer, AllocError>
         requires rows { AreFiled archive.now self.now.table }
+        requires stirs { StirsIn stirred (node_of self.now given.now votes.now) }
         requires region { IsRegion self.now.configured.name self.now.configured.slices (sents_of self.now.table) region.now }
         requires settles { IsTrue (is_some (settle 64 (passed (node_of self.now given.now votes.now)) votes.now)) }
         requires sends { IfSome (settle 64 (passed (node_of self.now given.now votes.now)) votes.now) SendWellFormed }
@@ -251,6 +278,8 @@ impl Listener {
             &rows,
             region,
         )?;
-        answer_to(alloc, configured, &view, old_given, old_votes, given, votes)
+        answer_to(
+            alloc, configured, &view, old_given, old_votes, given, votes, stirred,
+        )
     }
 }

@@ -10,6 +10,7 @@ ghost use Rattle.protocol.specs.Sets.{Names, among};
 ghost use Rattle.envstore.specs.Archives.{AreFiled, IsFiled, Keeps, sent_of};
 ghost use Rattle.slot.specs.Filings.{AreFiledOuts, HasCopies, IsFiledEvent, event_of, outs_of};
 ghost use Rattle.slot.specs.Listening.{AddsRowAlone, node_of};
+ghost use Rattle.slot.specs.Stirrings.{StirsIn};
 ghost use Rattle.slot.specs.Wholes.{IsChange, IsSentBy, SendWellFormed, whole};
 ghost use Rattle.types.specs.Statements.{Sent};
 ghost use Rattle.types.specs.declared.event.NodeEvent.{NodeEvent};
@@ -22,6 +23,7 @@ use crate::filed::{FiledEvent, FiledOut, GivenOut};
 use crate::filing::nothing;
 use crate::listener::Listener;
 use crate::outs::is_externalized;
+use crate::stirring::Stirred;
 use envstore::{Archive, Filed, Places, Shelf};
 use latest::{Put, Table};
 use nomination::leads;
@@ -318,7 +320,15 @@ impl Node {
             votes: settled,
         } = self;
         let old_slices = listener.exchange_slices(slices);
-        match answer_anew(alloc, archive, listener, given, settled, copies) {
+        match answer_anew(
+            alloc,
+            archive,
+            listener,
+            given,
+            settled,
+            Stirred::All,
+            copies,
+        ) {
             Ok(FiledAnswer { votes, given_out }) => {
                 *settled = votes;
                 Ok(given_out)
@@ -389,7 +399,7 @@ impl Node {
         ensures copies { IfOk result (HasCopies copies) }
         ensures kept { Keeps archive.old archive.new }
     {
-        let put = self.listener.put(alloc, archive, envelope);
+        let (put, stirred) = self.listener.put(alloc, archive, envelope);
         match put {
             Put::Stale => {
                 let given_out = nothing(alloc, copies)?;
@@ -402,7 +412,7 @@ impl Node {
                     given,
                     votes: settled,
                 } = self;
-                match answer_anew(alloc, archive, listener, given, settled, copies) {
+                match answer_anew(alloc, archive, listener, given, settled, stirred, copies) {
                     Ok(FiledAnswer { votes, given_out }) => {
                         // The row stays, and the way back is let go.
                         drop(put);
@@ -445,6 +455,7 @@ impl Node {
             &self.votes,
             &given,
             &votes,
+            Stirred::All,
             copies,
         );
         drop(votes);
@@ -455,18 +466,20 @@ impl Node {
     }
 }
 
-/// What passes make of the votes of a node whose rows or slices are other ones now, and what is given out
-/// since they settled, with so many whole copies. What contracts see of the listener stays as it was, and
-/// an error says that memory is short.
+/// What passes make of the votes of a node whose rows or slices are other ones now, by an event that stirs
+/// these rules, and what is given out since they settled, with so many whole copies. What contracts see of
+/// the listener stays as it was, and an error says that memory is short.
 fn answer_anew<S: Shelf>(
     alloc: Global,
     archive: &mut Archive<S>,
     listener: &mut Listener,
     given: &Given,
     settled: &Votes,
+    stirred: Stirred,
     copies: usize,
 ) -> Result<FiledAnswer, AllocError>
     requires rows { AreFiled archive.old listener.old.table }
+    requires stirs { StirsIn stirred (node_of listener.old given.now settled.now) }
     requires settles { IsTrue (is_some (settle 64 (passed (node_of listener.old given.now settled.now)) settled.now)) }
     requires sends { IfSome (settle 64 (passed (node_of listener.old given.now settled.now)) settled.now) SendWellFormed }
     ensures votes { IfOk result (λ a. settle 64 (passed (node_of listener.old given.now settled.now)) settled.now ≡ Some a.votes) }
@@ -476,5 +489,7 @@ fn answer_anew<S: Shelf>(
     ensures copies { IfOk result (λ a. HasCopies copies a.given_out) }
     ensures kept { Keeps archive.old archive.new }
 {
-    listener.answer(alloc, archive, given, settled, given, settled, copies)
+    listener.answer(
+        alloc, archive, given, settled, given, settled, stirred, copies,
+    )
 }

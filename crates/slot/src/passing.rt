@@ -1,7 +1,7 @@
 //! One pass of the rules.
 
 ghost use Rattle.std.specs.Prelude.{◌≡◌, IfOk};
-ghost use Rattle.protocol.specs.Passes.{arm, counting, in_prepare, on_ballot, pass, pass_rules, raise, voting};
+ghost use Rattle.protocol.specs.Passes.{arm, balloted_in, balloting, counting, in_prepare, nominated_in, on_ballot, pass, pass_rules, raise, voting};
 ghost use Rattle.protocol.specs.Balloting.{accept_commit, accept_prepared, confirm_commit, confirm_prepared};
 
 use ballot::{accept_commit, accept_prepared, arm, confirm_commit, confirm_prepared, raise, start};
@@ -29,7 +29,40 @@ pub fn pass<S: Sight>(
     }
 }
 
-/// Nomination, the first ballot, voting, and counters unless a value was externalized by then.
+/// The part of a pass that is nomination. An error says that memory is short.
+#[tactic(auto, unfolding(protocol::specs::Passes::nominated_in))]
+pub(crate) fn nominated_in<S: Sight>(
+    alloc: Global,
+    own: &NodeId,
+    sight: &S,
+    given: &Given,
+    votes: Votes,
+) -> Result<Votes, AllocError>
+    ensures { IfOk result (λ w. w ≡ nominated_in own.now (S.seen sight.now) given.now votes) }
+{
+    match votes.phase {
+        Phase::Externalized => Ok(votes),
+        Phase::Preparing | Phase::Committing => nominate(alloc, own, sight, given, votes),
+    }
+}
+
+/// The part of a pass that is balloting. An error says that memory is short.
+#[tactic(auto, unfolding(protocol::specs::Passes::balloted_in))]
+pub(crate) fn balloted_in<S: Sight>(
+    alloc: Global,
+    sight: &S,
+    given: &Given,
+    votes: Votes,
+) -> Result<Votes, AllocError>
+    ensures { IfOk result (λ w. w ≡ balloted_in (S.seen sight.now) given.now votes) }
+{
+    match votes.phase {
+        Phase::Externalized => Ok(votes),
+        Phase::Preparing | Phase::Committing => balloting(alloc, sight, given, votes),
+    }
+}
+
+/// Nomination, and then balloting.
 #[tactic(auto, unfolding(protocol::specs::Passes::pass_rules))]
 fn pass_rules<S: Sight>(
     alloc: Global,
@@ -40,7 +73,19 @@ fn pass_rules<S: Sight>(
 ) -> Result<Votes, AllocError>
     ensures { IfOk result (λ w. w ≡ pass_rules own.now (S.seen sight.now) given.now votes) }
 {
-    let votes = nominate(alloc, own, sight, given, votes)?;
+    let nominated = nominate(alloc, own, sight, given, votes)?;
+    balloting(alloc, sight, given, nominated)
+}
+
+/// The first ballot, voting, and counters unless a value was externalized by then.
+fn balloting<S: Sight>(
+    alloc: Global,
+    sight: &S,
+    given: &Given,
+    votes: Votes,
+) -> Result<Votes, AllocError>
+    ensures { IfOk result (λ w. w ≡ balloting (S.seen sight.now) given.now votes) }
+{
     let votes = start(alloc, sight, votes)?;
     let votes = voting(alloc, sight, votes)?;
     match votes.phase {

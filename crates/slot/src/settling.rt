@@ -2,9 +2,12 @@
 
 ghost use Rattle.std.specs.Prelude.{◌≡◌, IfOk, IfSome};
 ghost use Rattle.protocol.specs.Nodes.{settle};
-ghost use Rattle.protocol.specs.Passes.{pass};
+ghost use Rattle.protocol.specs.Passes.{nominated_in, pass};
+ghost use Rattle.protocol.specs.Stirring.{settle_after, settle_nominations};
+ghost use Rattle.slot.specs.Stirrings.{Stirs, part};
 
-use crate::passing::pass;
+use crate::passing::{balloted_in, nominated_in, pass};
+use crate::stirring::Stirred;
 use fedvote::Sight;
 use std::alloc::{AllocError, Global};
 use types::{Given, NodeId, Votes};
@@ -24,42 +27,85 @@ pub fn settle<S: Sight>(
     ensures value { IfOk result (λ o. o ≡ settle 64 (pass own.now (S.seen sight.now) given.now) votes) }
     ensures calm { IfOk result (λ o. IfSome o (λ w. pass own.now (S.seen sight.now) given.now w ≡ w)) }
 {
-    settle_from(alloc, own, sight, given, &votes)
+    let next = part_of(alloc, own, sight, given, &votes, Stirred::All)?;
+    if next.is_same(&votes) {
+        return Ok(Some(next));
+    }
+    settle_on(alloc, own, sight, given, next, Stirred::All)
 }
 
-/// The same, from votes that stay: where the first pass changes nothing, as after most events, they are
-/// copied once.
+/// The same, from votes that stay, after an event that stirs these rules alone: where a first pass changes
+/// nothing, as after most events, the votes are copied once.
 pub(crate) fn settle_from<S: Sight>(
     alloc: Global,
     own: &NodeId,
     sight: &S,
     given: &Given,
     votes: &Votes,
+    stirred: Stirred,
 ) -> Result<Option<Votes>, AllocError>
-    ensures value { IfOk result (λ o. o ≡ settle 64 (pass own.now (S.seen sight.now) given.now) votes.now) }
-    ensures calm { IfOk result (λ o. IfSome o (λ w. pass own.now (S.seen sight.now) given.now w ≡ w)) }
+    requires { Stirs stirred own.now (S.seen sight.now) given.now votes.now }
+    ensures { IfOk result (λ o. o ≡ settle 64 (pass own.now (S.seen sight.now) given.now) votes.now) }
 {
-    let next = next_of(alloc, own, sight, given, votes)?;
-    if next.is_same(votes) {
-        return Ok(Some(next));
+    let next = part_of(alloc, own, sight, given, votes, stirred)?;
+    match stirred {
+        Stirred::All => settle_after(alloc, own, sight, given, votes, next),
+        Stirred::Ballots => settle_after(alloc, own, sight, given, votes, next),
+        Stirred::Nominations => settle_nominated(alloc, own, sight, given, votes, next),
     }
-    settle_on(alloc, own, sight, given, next)
 }
 
-/// The votes after the passes that are left once a first one has changed something.
+/// The votes after a first pass of which only nomination is done: where it confirmed no value it is at
+/// rest, and balloting still is.
+fn settle_nominated<S: Sight>(
+    alloc: Global,
+    own: &NodeId,
+    sight: &S,
+    given: &Given,
+    before: &Votes,
+    nominated: Votes,
+) -> Result<Option<Votes>, AllocError>
+    requires { nominated ≡ nominated_in own.now (S.seen sight.now) given.now before.now }
+    ensures { IfOk result (λ o. o ≡ settle_nominations own.now (S.seen sight.now) given.now before.now) }
+{
+    if nominated.confirms.is_same(&before.confirms) {
+        return Ok(Some(nominated));
+    }
+    let next = balloted_in(alloc, sight, given, nominated)?;
+    settle_after(alloc, own, sight, given, before, next)
+}
+
+/// The votes after the passes that follow on a first one: in these nomination changes nothing.
+fn settle_after<S: Sight>(
+    alloc: Global,
+    own: &NodeId,
+    sight: &S,
+    given: &Given,
+    before: &Votes,
+    after: Votes,
+) -> Result<Option<Votes>, AllocError>
+    ensures { IfOk result (λ o. o ≡ settle_after (S.seen sight.now) given.now before.now after) }
+{
+    if after.is_same(before) {
+        return Ok(Some(after));
+    }
+    settle_on(alloc, own, sight, given, after, Stirred::Ballots)
+}
+
+/// The votes after the passes that are left once a first one has changed something, each of these rules.
 fn settle_on<S: Sight>(
     alloc: Global,
     own: &NodeId,
     sight: &S,
     given: &Given,
     votes: Votes,
+    rules: Stirred,
 ) -> Result<Option<Votes>, AllocError>
-    ensures value { IfOk result (λ o. o ≡ settle 63 (pass own.now (S.seen sight.now) given.now) votes) }
-    ensures calm { IfOk result (λ o. IfSome o (λ w. pass own.now (S.seen sight.now) given.now w ≡ w)) }
+    ensures { IfOk result (λ o. o ≡ settle 63 (part rules own.now (S.seen sight.now) given.now) votes) }
 {
     let mut settled = votes;
     for number in 1..MOST_PASSES {
-        let next = next_of(alloc, own, sight, given, &settled)?;
+        let next = part_of(alloc, own, sight, given, &settled, rules)?;
         if next.is_same(&settled) {
             return Ok(Some(settled));
         }
@@ -68,16 +114,21 @@ fn settle_on<S: Sight>(
     Ok(None)
 }
 
-/// What a pass makes of votes that stay. An error says that memory is short.
-fn next_of<S: Sight>(
+/// What the part of a pass with these rules makes of votes that stay. An error says that memory is short.
+fn part_of<S: Sight>(
     alloc: Global,
     own: &NodeId,
     sight: &S,
     given: &Given,
     votes: &Votes,
+    rules: Stirred,
 ) -> Result<Votes, AllocError>
-    ensures { IfOk result (λ w. w ≡ pass own.now (S.seen sight.now) given.now votes.now) }
+    ensures { IfOk result (λ w. w ≡ part rules own.now (S.seen sight.now) given.now votes.now) }
 {
     let copy = votes.try_copy()?;
-    pass(alloc, own, sight, given, copy)
+    match rules {
+        Stirred::All => pass(alloc, own, sight, given, copy),
+        Stirred::Ballots => balloted_in(alloc, sight, given, copy),
+        Stirred::Nominations => nominated_in(alloc, own, sight, given, copy),
+    }
 }

@@ -8,7 +8,7 @@ use latest::Table;
 use std::mem::size_of;
 use types::Votes;
 
-const _: () = prove!(size_of::<Node>() - size_of::<Table>() <= 544);
+const _: () = prove!(size_of::<Node>() - size_of::<Table>() <= 352);
 
 const _: () = prove!(size_of::<Votes>() <= 176);
 

@@ -62,14 +62,14 @@ impl Alone {
     /// `btimer COUNTER` or `reslice SLICES`. The step beside the node and the step in place answer the same,
     /// and the former leaves the node as it was.
     pub fn answer(&mut self, alloc: Global, line: &[u8]) -> Result<String, Halt> {
-        let beside = self.beside(alloc, line)?;
+        let beside = self.step_beside(alloc, line)?;
         let answer = self.advance(alloc, line)?;
         agree(answer.as_str() == beside.as_str())?;
         Ok(answer)
     }
 
     /// The answer and the state of a step beside the node.
-    fn beside(&mut self, alloc: Global, line: &[u8]) -> Result<String, Halt> {
+    fn step_beside(&mut self, alloc: Global, line: &[u8]) -> Result<String, Halt> {
         let before = self.state(alloc)?;
         let answer = self.step(alloc, line)?;
         agree(self.state(alloc)?.as_str() == before.as_str())?;
@@ -141,13 +141,15 @@ pub fn event_of(
         Err(LineError::NoMemory) => return Err(AllocError),
     };
     match fields.as_slice() {
-        [b"say", sender, slices, statement] => taken(alloc, archive, sender, slices, statement),
+        [b"say", sender, slices, statement] => take_event(
+            alloc, archive, sender, slices, statement,
+        ),
         [word, rest] => other_event(alloc, archive, word, rest),
         _ => Ok(None),
     }
 }
 
-fn taken(
+fn take_event(
     alloc: Global,
     archive: &mut Archive<VecShelf>,
     sender: &[u8],

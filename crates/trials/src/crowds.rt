@@ -60,12 +60,12 @@ impl Crowd {
             1 => Happening::NominationTimer(round),
             2 => Happening::BallotTimer(armed),
             3 | 4 => Happening::Resliced(self.dice.few(SENDERS)),
-            _ => self.told(turn),
+            _ => self.say_something(turn),
         }
     }
 
     /// What a sender at random says.
-    fn told(&mut self, turn: u32) -> Happening {
+    fn say_something(&mut self, turn: u32) -> Happening {
         let sender = self.dice.number(SENDERS);
         let said = self.statement(sender, turn);
         self.said = Some(said);
@@ -87,7 +87,7 @@ impl Crowd {
         let said = self.dice.talk(least);
         match (said, self.twin.slow.row(sender, said.kind())) {
             (_, None) => said,
-            (Statement::Nominate { .. }, Some(old)) => joined(said, old.said),
+            (Statement::Nominate { .. }, Some(old)) => join_nominations(said, old.said),
             (_, Some(old)) => match old.said {
                 Statement::Commit { .. } => self.dice.commit_from(least),
                 _ => said,
@@ -112,7 +112,7 @@ impl Crowd {
     /// One event.
     fn go_on(&mut self, alloc: Global, turn: u32, reaches: &mut Reaches) -> Result<(), Halt> {
         let happening = self.happening(turn);
-        let old = self.standing(happening);
+        let old = self.row_of_sender(happening);
         let before = self.bearing();
         self.twin.meet(alloc, happening, &mut Counts::none())?;
         let after = self.bearing();
@@ -132,7 +132,7 @@ impl Crowd {
     }
 
     /// The row in whose place what is said may come.
-    fn standing(&self, happening: Happening) -> Option<Row> {
+    fn row_of_sender(&self, happening: Happening) -> Option<Row> {
         match happening {
             Happening::Said { sender, row } => self.twin.slow.row(sender, row.said.kind()),
             _ => None,
@@ -167,7 +167,7 @@ fn is_resliced(happening: Happening) -> bool {
 }
 
 /// A nomination with what another one has, too.
-fn joined(said: Statement, old: Statement) -> Statement {
+fn join_nominations(said: Statement, old: Statement) -> Statement {
     match (said, old) {
         (
             Statement::Nominate { voted, accepted },

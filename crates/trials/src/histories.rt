@@ -65,7 +65,7 @@ impl History {
         let sender = self.dice.number(count);
         if let Some(twin) = self.twins.get(sender as usize) {
             if sender != node && !self.dice.is_one_in(3) {
-                if let Some(row) = twin.emitted(&mut self.dice) {
+                if let Some(row) = twin.emission_at_random(&mut self.dice) {
                     return Happening::Said { sender, row };
                 }
             }

@@ -33,8 +33,8 @@ mod twin;
 mod wording;
 
 use crate::measure::{Sizes, sent_in};
-use crate::memory::told;
-use crate::report::compared;
+use crate::memory::story_digits;
+use crate::report::report_of_comparisons;
 use scripts::number_of;
 use std::alloc::{AllocError, Global};
 use std::env;
@@ -55,7 +55,7 @@ fn main(rt: HostRuntime) -> ExitCode {
     let Some(call) = call_of(&rt) else {
         return ExitCode::from(2);
     };
-    match printed(rt.alloc(), call) {
+    match output_of(rt.alloc(), call) {
         Err(_) => ExitCode::from(3),
         Ok(text) => match out.write_all(text.as_str().as_bytes()) {
             Ok(()) => ExitCode::from(0),
@@ -65,11 +65,11 @@ fn main(rt: HostRuntime) -> ExitCode {
 }
 
 /// What the call prints.
-fn printed(alloc: Global, call: Call) -> Result<String, AllocError> {
+fn output_of(alloc: Global, call: Call) -> Result<String, AllocError> {
     match call {
         Call::Measure(sizes) => line_of(alloc, sent_in(alloc, sizes)?),
-        Call::Story => line_of(alloc, told(alloc)?),
-        Call::Compare => compared(alloc),
+        Call::Story => line_of(alloc, story_digits(alloc)?),
+        Call::Compare => report_of_comparisons(alloc),
     }
 }
 

@@ -33,8 +33,8 @@ const TRACE: u64 = 8;
 
 /// How many things the node A with the slices `2[B,C,D]` gives out at each event: a digit each, from the
 /// first on.
-pub fn told(alloc: Global) -> Result<u64, AllocError> {
-    match begun_or_again(alloc)? {
+pub fn story_digits(alloc: Global) -> Result<u64, AllocError> {
+    match begin_or_again(alloc)? {
         None => Ok(NO_EVENT),
         Some(mut node) => node.digits(alloc),
     }
@@ -54,20 +54,20 @@ impl Alone {
     /// The digit of a line of the story.
     fn hear(&mut self, alloc: Global, line: &[u8]) -> Result<u64, AllocError> {
         let Alone { archive, node } = self;
-        twice_tried(alloc, archive, node, line)
+        try_twice(alloc, archive, node, line)
     }
 }
 
 /// The node of the story before its first event, tried once more where it finds no memory.
-fn begun_or_again(alloc: Global) -> Result<Option<Alone>, AllocError> {
-    match begun(alloc) {
+fn begin_or_again(alloc: Global) -> Result<Option<Alone>, AllocError> {
+    match begin(alloc) {
         Ok(node) => Ok(node),
-        Err(_) => begun(alloc),
+        Err(_) => begin(alloc),
     }
 }
 
 /// The digit of an event, which is tried once more where it finds no memory.
-fn twice_tried(
+fn try_twice(
     alloc: Global,
     archive: &mut Archive<VecShelf>,
     node: &mut Node,
@@ -76,12 +76,16 @@ fn twice_tried(
     requires { AreFiled archive.old node.old.rows }
     ensures { AreFiled archive.new node.new.rows }
 {
-    let before = copied(alloc, archive, node)?;
-    tried_or_again(alloc, archive, node, &before, line)
+    let before = copy_or_again(alloc, archive, node)?;
+    try_or_again(alloc, archive, node, &before, line)
 }
 
 /// A copy, tried once more where it finds no memory.
-fn copied(alloc: Global, archive: &Archive<VecShelf>, node: &Node) -> Result<Node, AllocError>
+fn copy_or_again(
+    alloc: Global,
+    archive: &Archive<VecShelf>,
+    node: &Node,
+) -> Result<Node, AllocError>
     requires { AreFiled archive.now node.now.rows }
     ensures { IfOk result (λ copy. copy ≡ node.now) }
 {
@@ -91,7 +95,8 @@ fn copied(alloc: Global, archive: &Archive<VecShelf>, node: &Node) -> Result<Nod
     }
 }
 
-fn tried_or_again(
+/// The digit of an event. Where it finds no memory it is tried once more, if it has left the node as it was.
+fn try_or_again(
     alloc: Global,
     archive: &mut Archive<VecShelf>,
     node: &mut Node,
@@ -102,28 +107,13 @@ fn tried_or_again(
     requires before_rows { AreFiled archive.old before.now.rows }
     ensures { AreFiled archive.new node.new.rows }
 {
-    match tried(alloc, archive, node, line) {
-        Ok(given_out) => Ok(given_out),
-        Err(_) => tried_again(alloc, archive, node, before, line),
+    if let Ok(given_out) = count_given_out(alloc, archive, node, line) {
+        return Ok(given_out);
     }
-}
-
-fn tried_again(
-    alloc: Global,
-    archive: &mut Archive<VecShelf>,
-    node: &mut Node,
-    before: &Node,
-    line: &[u8],
-) -> Result<u64, AllocError>
-    requires rows { AreFiled archive.old node.old.rows }
-    requires before_rows { AreFiled archive.old before.now.rows }
-    ensures { AreFiled archive.new node.new.rows }
-{
-    if is_as(archive, node, before) {
-        tried(alloc, archive, node, line)
-    } else {
-        Ok(TRACE)
+    if !is_as(archive, node, before) {
+        return Ok(TRACE);
     }
+    count_given_out(alloc, archive, node, line)
 }
 
 /// Whether two nodes have the same slices and votes, were given the same, and have the same statements and
@@ -181,7 +171,7 @@ fn has_same_row(
     }
 }
 
-fn begun(alloc: Global) -> Result<Option<Alone>, AllocError> {
+fn begin(alloc: Global) -> Result<Option<Alone>, AllocError> {
     let Some(name) = name_of(b"A") else {
         return Ok(None);
     };
@@ -191,7 +181,8 @@ fn begun(alloc: Global) -> Result<Option<Alone>, AllocError> {
     }
 }
 
-fn tried(
+/// How many things a line's event gives out.
+fn count_given_out(
     alloc: Global,
     archive: &mut Archive<VecShelf>,
     node: &mut Node,

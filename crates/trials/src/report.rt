@@ -2,7 +2,7 @@
 
 use crate::counts::{Counts, Reaches};
 use crate::halt::Halt;
-use crate::memory::told;
+use crate::memory::story_digits;
 use crate::{crowds, histories, stories};
 use std::alloc::{AllocError, Global};
 
@@ -13,17 +13,17 @@ const HISTORIES: u64 = 3000;
 const CROWDS: u64 = 400;
 
 /// The digits of the story, and what was met in histories, crowds and stories.
-pub fn compared(alloc: Global) -> Result<String, AllocError> {
+pub fn report_of_comparisons(alloc: Global) -> Result<String, AllocError> {
     let mut text = String::new(alloc);
-    push_told(alloc, &mut text)?;
+    push_story(alloc, &mut text)?;
     push_histories(alloc, &mut text)?;
     push_crowds(alloc, &mut text)?;
     push_stories(alloc, &mut text)?;
     Ok(text)
 }
 
-fn push_told(alloc: Global, text: &mut String) -> Result<(), AllocError> {
-    let digits = told(alloc)?;
+fn push_story(alloc: Global, text: &mut String) -> Result<(), AllocError> {
+    let digits = story_digits(alloc)?;
     writeln!(text, "{digits}")
 }
 

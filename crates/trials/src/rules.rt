@@ -129,7 +129,7 @@ impl State {
             let backs = Ask::BacksNominate(value);
             let accepting = Ask::AcceptsNominate(value);
             if has(candidates, value)
-                && self.accepted(Kind::Nomination, position, backs, accepting)
+                && self.is_accepted_by(Kind::Nomination, position, backs, accepting)
             {
                 accepts |= bit(value);
             }
@@ -145,7 +145,9 @@ impl State {
         let mut confirms = votes.confirms;
         for value in VALUES {
             let accepting = Ask::AcceptsNominate(value);
-            if has(votes.accepts, value) && self.confirmed(Kind::Nomination, position, accepting) {
+            if has(votes.accepts, value)
+                && self.is_confirmed_by(Kind::Nomination, position, accepting)
+            {
                 confirms |= bit(value);
             }
         }
@@ -168,12 +170,12 @@ impl State {
         votes: Votes,
         of_commit: bool,
     ) -> Result<Vec<Ballot>, AllocError> {
-        let all = self.named(alloc, votes, of_commit)?;
-        counted(alloc, &all)
+        let all = self.named_ballots(alloc, votes, of_commit)?;
+        with_counters(alloc, &all)
     }
 
     /// The ballots that reached statements and the node's own position name.
-    fn named(
+    fn named_ballots(
         &self,
         alloc: Global,
         votes: Votes,
@@ -202,7 +204,7 @@ impl State {
 
     pub fn is_accepted(&self, votes: Votes, t: Ballot) -> bool {
         let position = State::position(votes);
-        self.accepted(
+        self.is_accepted_by(
             Kind::Balloting,
             position,
             Ask::BacksPrepare(t),
@@ -211,7 +213,7 @@ impl State {
     }
 
     pub fn is_confirmed(&self, votes: Votes, t: Ballot) -> bool {
-        self.confirmed(
+        self.is_confirmed_by(
             Kind::Balloting,
             State::position(votes),
             Ask::AcceptsPrepare(t),
@@ -223,10 +225,10 @@ impl State {
         let position = State::position(votes);
         let accepts = Ask::AcceptsCommit(value, low, high);
         match claim {
-            Claim::Confirmed => self.confirmed(Kind::Balloting, position, accepts),
+            Claim::Confirmed => self.is_confirmed_by(Kind::Balloting, position, accepts),
             Claim::Accepted => {
                 let backs = Ask::BacksCommit(value, low, high);
-                self.accepted(Kind::Balloting, position, backs, accepts)
+                self.is_accepted_by(Kind::Balloting, position, backs, accepts)
             }
         }
     }
@@ -249,7 +251,7 @@ impl State {
         if votes.ballot.is_some() {
             return Ok(votes);
         }
-        if let Some(value) = combined(votes.confirms) {
+        if let Some(value) = greatest_of(votes.confirms) {
             return Ok(Votes {
                 ballot: Some(at(1, value)),
                 ..votes
@@ -428,7 +430,7 @@ impl State {
         self.fired.saturating_add(1000)
     }
 
-    pub fn raised(votes: Votes, ballot: Ballot, counter: u32) -> Ballot {
+    pub fn raise_to(votes: Votes, ballot: Ballot, counter: u32) -> Ballot {
         if counter == ballot.counter {
             return ballot;
         }
@@ -436,7 +438,7 @@ impl State {
             ballot.value
         } else if let Some(high) = votes.high {
             high.value
-        } else if let Some(value) = combined(votes.confirms) {
+        } else if let Some(value) = greatest_of(votes.confirms) {
             value
         } else if let Some(prepared) = votes.prepared {
             prepared.value
@@ -460,7 +462,7 @@ impl State {
             counter = counter.saturating_add(1);
         }
         Votes {
-            ballot: Some(State::raised(votes, ballot, counter)),
+            ballot: Some(State::raise_to(votes, ballot, counter)),
             ..votes
         }
     }
@@ -497,7 +499,7 @@ fn push_candidates(
     }
 }
 
-fn counted(alloc: Global, all: &[Ballot]) -> Result<Vec<Ballot>, AllocError> {
+fn with_counters(alloc: Global, all: &[Ballot]) -> Result<Vec<Ballot>, AllocError> {
     let mut counted = Vec::new(alloc);
     for ballot in all {
         if ballot.counter >= 1 && !is_in(*ballot, &counted) {
@@ -525,7 +527,7 @@ fn greater(best: Option<Ballot>, t: Ballot) -> Option<Ballot> {
 }
 
 /// The greatest value of a set.
-fn combined(values: Set) -> Option<u8> {
+fn greatest_of(values: Set) -> Option<u8> {
     let mut greatest = None;
     for value in VALUES {
         if has(values, value) {

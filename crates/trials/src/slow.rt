@@ -137,7 +137,7 @@ impl State {
         names
     }
 
-    pub fn grown(&self, set: Set) -> Set {
+    pub fn with_named(&self, set: Set) -> Set {
         let mut grown = set;
         for node in NODES {
             if has(set, node) {
@@ -150,7 +150,7 @@ impl State {
     pub fn reach(&self) -> Set {
         let mut reach = bit(self.own);
         for _ in NODES {
-            reach = self.grown(reach);
+            reach = self.with_named(reach);
         }
         reach
     }
@@ -239,7 +239,7 @@ impl State {
         true
     }
 
-    pub fn accepted(
+    pub fn is_accepted_by(
         &self,
         kind: Kind,
         position: Option<Statement>,
@@ -250,7 +250,7 @@ impl State {
             || self.blocks(self.passing(kind, position, accepts))
     }
 
-    pub fn confirmed(&self, kind: Kind, position: Option<Statement>, accepts: Ask) -> bool {
+    pub fn is_confirmed_by(&self, kind: Kind, position: Option<Statement>, accepts: Ask) -> bool {
         self.has_quorum(kind, self.passing(kind, position, accepts))
     }
 }

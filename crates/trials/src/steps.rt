@@ -30,7 +30,7 @@ impl State {
     }
 
     /// Passes until one changes nothing, or 64 of them, and what is given out.
-    pub fn settled(
+    pub fn settle(
         &mut self,
         alloc: Global,
         old_round: u32,
@@ -92,7 +92,7 @@ impl State {
         self.input = Some(value);
         self.round = 1;
         self.leaders.push(leader)?;
-        self.settled(alloc, old_round, self.votes)
+        self.settle(alloc, old_round, self.votes)
     }
 
     /// A statement reaches the node, with its sender's slices.
@@ -109,13 +109,13 @@ impl State {
                 Kind::Balloting => rows.balloting = Some(row),
             }
         }
-        self.settled(alloc, self.round, self.votes)
+        self.settle(alloc, self.round, self.votes)
     }
 
     /// The slices of the node change.
     pub fn reslice(&mut self, alloc: Global, trust: Trust) -> Result<Vec<Out>, AllocError> {
         self.trust = trust;
-        self.settled(alloc, self.round, self.votes)
+        self.settle(alloc, self.round, self.votes)
     }
 
     /// The nomination timer of a round fires; `leader` is that of the next round.
@@ -130,7 +130,7 @@ impl State {
         }
         self.round = round.saturating_add(1);
         self.leaders.push(leader)?;
-        self.settled(alloc, round, self.votes)
+        self.settle(alloc, round, self.votes)
     }
 
     /// The ballot timer of a counter fires.
@@ -147,7 +147,7 @@ impl State {
             return Ok(Vec::new(alloc));
         }
         self.fired = self.fired.saturating_add(1);
-        self.votes.ballot = Some(State::raised(old, ballot, counter.saturating_add(1)));
-        self.settled(alloc, self.round, old)
+        self.votes.ballot = Some(State::raise_to(old, ballot, counter.saturating_add(1)));
+        self.settle(alloc, self.round, old)
     }
 }

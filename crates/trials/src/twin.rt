@@ -162,7 +162,7 @@ impl Twin {
         agree(rows.as_str() == expected.as_str())
     }
 
-    pub fn emitted(&self, dice: &mut Dice) -> Option<Row> {
+    pub fn emission_at_random(&self, dice: &mut Dice) -> Option<Row> {
         if dice.is_one_in(3) {
             self.nominated
         } else {

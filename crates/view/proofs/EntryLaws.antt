@@ -21,9 +21,8 @@ use Rattle.view.specs.declared.region.Entry.{Entry}
 use Rattle.view.specs.declared.region.Region.{Region}
 use Rattle.latest.specs.Places.{place_of}
 use Rattle.view.specs.Asking.{AreAsked}
-use Rattle.view.specs.Regions.{IsCopy, IsEntry, IsFirstRow, IsRegion, row_places}
+use Rattle.view.specs.Regions.{IsCopy, IsEntry, IsRegion, row_places}
 use Rattle.view.proofs.PlaceLaws.{place_set, places_kept}
-use Rattle.protocol.proofs.ReachStays.{stays_with_first_rows}
 
 -- nodes at two places are two
 apart : (us : List ℕ) (i j : ℕ) → IsAscending us → i < length us → j < length us → i ≢ j → (get_or us i 0 == get_or us j 0) ≡ false
@@ -73,23 +72,23 @@ slices_now own configured table e k another kind =
     (row-with e table e.sender k ∙ ap (λ b. if b then Some e else row table e.sender k) (and_from (e.sender == e.sender) (is_kind k (kind_of e.body)) (eq-eqb e.sender e.sender refl) kind))
 
 set_compiled : (own : ℕ) (configured : Slices) (table : List Sent) (e : Sent) (k : Kind) (us : List ℕ) (cs : List (Option Compiled)) (p : ℕ) (c : Compiled)
-    → IsAscending us → IsFirstRow table e us p → (own == e.sender) ≡ false → is_kind k (kind_of e.body) ≡ true → IsCompiled false us e.slices c
+    → IsAscending us → p < length us → get_or us p 0 ≡ e.sender → (own == e.sender) ≡ false → is_kind k (kind_of e.body) ≡ true → IsCompiled false us e.slices c
     → AreCompiled us (slices_by own configured table k) cs → AreCompiled us (slices_by own configured (with_row e table) k) (set cs p (Some c))
-set_compiled own configured table e k us cs p c up first another kind compiled are = record {
+set_compiled own configured table e k us cs p c up inside sender_is another kind compiled are = record {
   as_many = length-set cs p (Some c) ∙ are.as_many;
   each = λ i h ws. elim (cases_Bool (i == p)) [
     | inl here ↦
         let is : i ≡ p = eqb-true i p here in
-        let room : p < length cs = omega (arith, first.within, are.as_many) in
+        let room : p < length cs = omega (arith, inside, are.as_many) in
         let now = ap (λ j. slices_by own configured (with_row e table) k (get_or us j 0)) is
-        ∙ (ap (slices_by own configured (with_row e table) k) first.sender ∙ slices_now own configured table e k another kind) in
+        ∙ (ap (slices_by own configured (with_row e table) k) sender_is ∙ slices_now own configured table e k another kind) in
         ap (λ j. met_at (get_or (set cs p (Some c)) j None) ws) is
         ∙ (ap (λ (o : Option Compiled). met_at o ws) (get_or-set_same cs p (Some c) None room)
         ∙ (compiled ws ∙ sym (ap (λ (o : Option Slices). is_satisfied sat o (among (picked us ws))) now)))
     | inr there ↦
         let other : i ≢ p = λ is. true≢false (sym (eq-eqb i p is) ∙ there) in
         let sender : (e.sender == get_or us i 0) ≡ false =
-        ap (λ w. w == get_or us i 0) (sym first.sender) ∙ apart us p i up first.within h (λ is. other (sym is)) in
+        ap (λ w. w == get_or us i 0) (sym sender_is) ∙ apart us p i up inside h (λ is. other (sym is)) in
         ap (λ (o : Option Compiled). met_at o ws) (get_or-set_other cs p i (Some c) None other)
         ∙ (are.each i h ws
         ∙ ap (λ (o : Option Slices). is_satisfied sat o (among (picked us ws))) (slices_same own configured table e k (get_or us i 0) (inr (other_node k e (get_or us i 0) sender))))
@@ -97,27 +96,25 @@ set_compiled own configured table e k us cs p c up first another kind compiled a
 }
 
 module _ (table : List Sent) (e : Sent) (r : Region) (own : ℕ) (configured : Slices) (is : IsRegion own configured table r) where
-  module _ (x : Entry) (entry : IsEntry table e r x) where
+  module _ (x : Entry) (entry : IsEntry own configured table e r x) where
     another : (own == e.sender) ≡ false
     another =
-        (λ i. sym is.itself i == sym entry.first_row.sender i)
-        ∙ apart r.nodes.items r.place x.place is.reach.ascending is.within entry.first_row.within (λ same. entry.another (sym same))
+        (λ i. sym is.itself i == sym entry.sender i)
+        ∙ apart r.nodes.items r.place x.place is.reach.ascending is.within entry.within (λ same. entry.another (sym same))
 
     reach : IsReach own configured (with_row e table) r.nodes.items
-    reach = stays_with_first_rows own configured table r.nodes.items e entry.first_row.first entry.first_row.named is.reach
+    reach = entry.reach is.reach
 
     -- no other reached node's row is of the sender
     other_sender : (i : ℕ) → i < length r.nodes.items → i ≢ x.place → (e.sender == get_or r.nodes.items i 0) ≡ false
     other_sender i h other =
-        ap (λ w. w == get_or r.nodes.items i 0) (sym entry.first_row.sender) ∙ apart r.nodes.items x.place i is.reach.ascending entry.first_row.within h (λ same. other (sym same))
+        ap (λ w. w == get_or r.nodes.items i 0) (sym entry.sender) ∙ apart r.nodes.items x.place i is.reach.ascending entry.within h (λ same. other (sym same))
 
     -- where the rows of its kind stand, once the place of this one is set
     row_set : (k : Kind) → k ≡ kind_of e.body → set (row_places table k r.nodes.items) x.place (Some x.row) ≡ row_places (with_row e table) k r.nodes.items
     row_set k same =
-        ap (λ n. set (row_places table k r.nodes.items) x.place (Some n)) entry.last
-        ∙ place_set table e k r.nodes.items x.place entry.first_row.within entry.first_row.sender
-        (and_from (e.sender == e.sender) (is_kind k (kind_of e.body)) (eq-eqb e.sender e.sender refl) (ap (is_kind k) (sym same) ∙ is_kind-itself k))
-        (ap (row table e.sender) same ∙ entry.first_row.first)
+        place_set table e k r.nodes.items x.place x.row entry.within entry.sender
+        (ap (λ j. place_of (with_row e table) e.sender j) same ∙ entry.row)
         (λ i h other. other_node k e (get_or r.nodes.items i 0) (other_sender i h other))
 
     -- and those of the other kind
@@ -128,8 +125,8 @@ module _ (table : List Sent) (e : Sent) (r : Region) (own : ℕ) (configured : S
         → (w : Vec (Option ℕ) Global) → (x.place < length r.ballot_rows.items → w.items ≡ set r.ballot_rows.items x.place (Some x.row))
         → IsRegion own configured (with_row e table) (record r { ballots = v; ballot_rows = w })
     ballot_set kind v now w row_now =
-        let is_now = now (omega (arith, entry.first_row.within, is.ballots.as_many)) in
-        let row_is_now = row_now (omega (arith, entry.first_row.within, ap (λ (os : List (Option ℕ)). length os) is.ballot_rows, length-map r.nodes.items (λ u. place_of table u Kind.Ballot))) in
+        let is_now = now (omega (arith, entry.within, is.ballots.as_many)) in
+        let row_is_now = row_now (omega (arith, entry.within, ap (λ (os : List (Option ℕ)). length os) is.ballot_rows, length-map r.nodes.items (λ u. place_of table u Kind.Ballot))) in
         let k : Kind.Ballot ≡ kind_of e.body = sym kind ∙ entry.kind in
         record {
           reach = reach;
@@ -138,7 +135,7 @@ module _ (table : List Sent) (e : Sent) (r : Region) (own : ℕ) (configured : S
           blocking = is.blocking;
           asked = is.asked;
           ballots = subst (λ (cs : List (Option Compiled)). AreCompiled r.nodes.items (slices_by own configured (with_row e table) Kind.Ballot) cs) (sym is_now)
-              (set_compiled own configured table e Kind.Ballot r.nodes.items r.ballots.items x.place x.slices is.reach.ascending entry.first_row another (ap (is_kind Kind.Ballot) (sym k)) entry.compiled is.ballots);
+              (set_compiled own configured table e Kind.Ballot r.nodes.items r.ballots.items x.place x.slices is.reach.ascending entry.within entry.sender another (ap (is_kind Kind.Ballot) (sym k)) entry.compiled is.ballots);
           nominations = same_compiled own configured table e Nomination r.nodes.items r.nominations.items (λ i h. inr (other_kind Nomination e (get_or r.nodes.items i 0) (ap (is_kind Nomination) (sym k)))) is.nominations;
           ballot_rows = row_is_now ∙ ap (λ (os : List (Option ℕ)). set os x.place (Some x.row)) is.ballot_rows ∙ row_set Kind.Ballot k;
           nomination_rows = is.nomination_rows ∙ rows_of_other_kind Nomination (ap (is_kind Nomination) (sym k));
@@ -148,8 +145,8 @@ module _ (table : List Sent) (e : Sent) (r : Region) (own : ℕ) (configured : S
         → (w : Vec (Option ℕ) Global) → (x.place < length r.nomination_rows.items → w.items ≡ set r.nomination_rows.items x.place (Some x.row))
         → IsRegion own configured (with_row e table) (record r { nominations = v; nomination_rows = w })
     nomination_set kind v now w row_now =
-        let is_now = now (omega (arith, entry.first_row.within, is.nominations.as_many)) in
-        let row_is_now = row_now (omega (arith, entry.first_row.within, ap (λ (os : List (Option ℕ)). length os) is.nomination_rows, length-map r.nodes.items (λ u. place_of table u Nomination))) in
+        let is_now = now (omega (arith, entry.within, is.nominations.as_many)) in
+        let row_is_now = row_now (omega (arith, entry.within, ap (λ (os : List (Option ℕ)). length os) is.nomination_rows, length-map r.nodes.items (λ u. place_of table u Nomination))) in
         let k : Nomination ≡ kind_of e.body = sym kind ∙ entry.kind in
         record {
           reach = reach;
@@ -159,7 +156,7 @@ module _ (table : List Sent) (e : Sent) (r : Region) (own : ℕ) (configured : S
           asked = is.asked;
           ballots = same_compiled own configured table e Kind.Ballot r.nodes.items r.ballots.items (λ i h. inr (other_kind Kind.Ballot e (get_or r.nodes.items i 0) (ap (is_kind Kind.Ballot) (sym k)))) is.ballots;
           nominations = subst (λ (cs : List (Option Compiled)). AreCompiled r.nodes.items (slices_by own configured (with_row e table) Nomination) cs) (sym is_now)
-              (set_compiled own configured table e Nomination r.nodes.items r.nominations.items x.place x.slices is.reach.ascending entry.first_row another (ap (is_kind Nomination) (sym k)) entry.compiled is.nominations);
+              (set_compiled own configured table e Nomination r.nodes.items r.nominations.items x.place x.slices is.reach.ascending entry.within entry.sender another (ap (is_kind Nomination) (sym k)) entry.compiled is.nominations);
           ballot_rows = is.ballot_rows ∙ rows_of_other_kind Kind.Ballot (ap (is_kind Kind.Ballot) (sym k));
           nomination_rows = row_is_now ∙ ap (λ (os : List (Option ℕ)). set os x.place (Some x.row)) is.nomination_rows ∙ row_set Nomination k;
         }
@@ -176,29 +173,4 @@ copied old new same own configured table is = record {
   nominations = subst (λ (p : List ℕ × List (Option Compiled)). AreCompiled p.0 (slices_by own configured table Nomination) p.1) (λ i. (sym same.nodes i, sym same.nominations i)) is.nominations;
   ballot_rows = same.ballot_rows ∙ is.ballot_rows ∙ ap (row_places table Kind.Ballot) (sym same.nodes);
   nomination_rows = same.nomination_rows ∙ is.nomination_rows ∙ ap (row_places table Nomination) (sym same.nodes);
-}
-
--- ---- a first row as it is found
-all_within : (xs : List ℕ) (s : Names) → within xs s ≡ true → AreWithin (among xs) s
-all_within [] s h = λ u c. absurd (false≢true c)
-all_within (x ∷ xs) s h = λ u c.
-    let p = and_parts (s x) (within xs s) h in
-    elim (or_cases (x == u) (among xs u) c) [
-      | inl e ↦ subst (λ w. s w ≡ true) (eqb-true x u e) p.0
-      | inr e ↦ all_within xs s p.1 u e
-    ]
-
-none_there : (o : Option (Bor Sent)) (r : Option Sent) → is_some o ≡ false → option_map (λ (x : Bor Sent). x.now) o ≡ r → r ≡ None
-none_there None r none is = sym is
-none_there (Some x) r none is = absurd (true≢false none)
-
-pub first_row_found : (table : List Sent) (e : Sent) (us : List ℕ) (o : Option (Bor Sent)) (found : Option ℕ) → is_some o ≡ false
-    → option_map (λ (x : Bor Sent). x.now) o ≡ row table e.sender (kind_of e.body) → within (names e.slices) (among us) ≡ true
-    → IfSome found (λ i. (i < length us) × (get_or us i 0 ≡ e.sender)) → IfSome found (λ i. IsFirstRow table e us i)
-first_row_found table e us o None none is named at = tt
-first_row_found table e us o (Some i) none is named at = record {
-  first = none_there o (row table e.sender (kind_of e.body)) none is;
-  named = all_within (names e.slices) (among us) named;
-  within = at.0;
-  sender = at.1;
 }

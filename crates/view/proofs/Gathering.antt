@@ -1,10 +1,11 @@
 -- Sets of values that are gathered from the last value back to the first.
-use Rattle.std.proofs.Common.{◌≡◌, ◌≤◌, ◌<◌, ◌-◌, ℕ, List, [], ◌∷◌, ◌++◌, flat_map, get_or, length, length-take, map, take, refl, sym, ◌∙◌, ap, arith}
+use Rattle.std.proofs.Common.{◌≡◌, ◌≤◌, ◌<◌, ◌+◌, ◌-◌, ℕ, List, [], ◌∷◌, ◌++◌, Option, Some, None, filter_map, flat_map, get_or, length, length-take, option_to_list, take, refl, sym, ◌∙◌, ap, arith}
+use Rattle.std.specs.List.{cons_option}
+use Rattle.std.proofs.lemmas.List.{take_more}
 use Rattle.types.specs.declared.statement.Statement.{Statement}
 use Rattle.protocol.specs.Candidates.{all_with, values_by}
 use Rattle.protocol.proofs.ValueSets as ValueSets
 use Rattle.protocol.proofs.ValueSets.{split_last}
-use Rattle.view.specs.Watching.{values_in}
 
 -- the later values first
 pub all_with_append : (ys zs xs : List (List ℕ)) → all_with (ys ++ zs) xs ≡ all_with ys (all_with zs xs)
@@ -14,27 +15,55 @@ append_none : (xs : List (List ℕ)) → xs ++ [] ≡ xs
 append_none [] = refl
 append_none (x ∷ xs) = ap (λ (ys : List (List ℕ)). x ∷ ys) (append_none xs)
 
--- the last statement first
-pub last_statement : (ss : List Statement) (s : Statement) (xs : List (List ℕ)) → all_with (flat_map values_by (ss ++ s ∷ [])) xs ≡ all_with (flat_map values_by ss) (all_with (values_by s) xs)
-last_statement [] s xs = ap (λ (ys : List (List ℕ)). all_with ys xs) (append_none (values_by s))
-last_statement (t ∷ ss) s xs =
-    all_with_append (values_by t) (flat_map values_by (ss ++ s ∷ [])) xs
-    ∙ ap (all_with (values_by t)) (last_statement ss s xs)
-    ∙ sym (all_with_append (values_by t) (flat_map values_by ss) (all_with (values_by s) xs))
+-- the values of one statement, where there is one
+pub one_said : (s : Statement) (xs : List (List ℕ)) → all_with (values_by s) xs ≡ all_with (flat_map values_by (s ∷ [])) xs
+one_said s xs = ap (λ (ys : List (List ℕ)). all_with ys xs) (sym (append_none (values_by s)))
 
-map_append : {X Y : Type 0} (f : X → Y) (xs ys : List X) → map f (xs ++ ys) ≡ map f xs ++ map f ys
-map_append f [] ys = refl
-map_append f (x ∷ xs) ys = ap (λ zs. f x ∷ zs) (map_append f xs ys)
+module _ (said : ℕ → Option Statement) where
+  -- what the last of these nodes says is added first
+  last_said : (us : List ℕ) (u : ℕ) (xs : List (List ℕ)) → all_with (flat_map values_by (filter_map said (us ++ u ∷ []))) xs ≡ all_with (flat_map values_by (filter_map said us)) (all_with (flat_map values_by (option_to_list (said u))) xs)
+  last_said [] u xs = go (said u)
+    where
+      go : (o : Option Statement) → all_with (flat_map values_by (cons_option o [])) xs ≡ all_with (flat_map values_by (option_to_list o)) xs
+      go None = refl
+      go (Some s) = refl
+  last_said (w ∷ us) u xs = go (said w) (last_said us u xs)
+    where
+      more : List Statement
+      more = filter_map said (us ++ u ∷ [])
 
--- the last statement, and then all before it
-pub statement_before : {X : Type 0} (f : X → Statement) (left more : List X) (x : X) (values after : List (List ℕ)) → 0 < length left → x ≡ get_or left (length left - 1) x
-    → length left ≤ length more → all_with (flat_map values_by (map f left)) values ≡ values_in (map f more) → after ≡ all_with (values_by (f x)) values
-    → (length (take (length left - 1) left) ≤ length more) × (all_with (flat_map values_by (map f (take (length left - 1) left))) after ≡ values_in (map f more))
-statement_before {X} f left more x values after some is within so_far inserted = (
-  omega (arith, length-take (length left - 1) left, within),
-  ap (all_with (flat_map values_by (map f (take (length left - 1) left)))) inserted
-      ∙ sym (last_statement (map f (take (length left - 1) left)) (f x) values)
-      ∙ ap (λ (ss : List Statement). all_with (flat_map values_by ss) values) (sym (map_append f (take (length left - 1) left) (x ∷ [])))
-      ∙ ap (λ (ys : List X). all_with (flat_map values_by (map f ys)) values) (split_last left x some is)
-      ∙ so_far,
-)
+      first : List (List ℕ)
+      first = all_with (flat_map values_by (option_to_list (said u))) xs
+
+      go : (o : Option Statement) → all_with (flat_map values_by more) xs ≡ all_with (flat_map values_by (filter_map said us)) first
+          → all_with (flat_map values_by (cons_option o more)) xs ≡ all_with (flat_map values_by (cons_option o (filter_map said us))) first
+      go None e = e
+      go (Some s) e =
+          all_with_append (values_by s) (flat_map values_by more) xs
+          ∙ ap (all_with (values_by s)) e
+          ∙ sym (all_with_append (values_by s) (flat_map values_by (filter_map said us)) first)
+
+  -- the last node, and then all before it
+  pub values_before : (us : List ℕ) (u : ℕ) (values after all : List (List ℕ)) → after ≡ all_with (flat_map values_by (option_to_list (said u))) values
+      → all_with (flat_map values_by (filter_map said (us ++ u ∷ []))) values ≡ all → all_with (flat_map values_by (filter_map said us)) after ≡ all
+  values_before us u values after all inserted so_far =
+      ap (all_with (flat_map values_by (filter_map said us))) inserted ∙ sym (last_said us u values) ∙ so_far
+
+  -- the node before a place, and then those before it
+  pub place_before : (us : List ℕ) (p : ℕ) (values after all : List (List ℕ)) → 0 < p → p ≤ length us → after ≡ all_with (flat_map values_by (option_to_list (said (get_or us (p - 1) 0)))) values
+      → all_with (flat_map values_by (filter_map said (take p us))) values ≡ all → all_with (flat_map values_by (filter_map said (take (p - 1) us))) after ≡ all
+  place_before us p values after all some within inserted so_far =
+      let one : p - 1 + 1 ≡ p = omega (arith, some) in
+      let whole : take (p - 1) us ++ get_or us (p - 1) 0 ∷ [] ≡ take p us = sym (take_more us (p - 1) 0 (omega (arith, some, within))) ∙ ap (λ n. take n us) one in
+      values_before (take (p - 1) us) (get_or us (p - 1) 0) values after all inserted
+      (ap (λ ws. all_with (flat_map values_by (filter_map said ws)) values) whole ∙ so_far)
+
+  -- the last node of those that are left, and then all before it
+  pub node_before : (left more : List ℕ) (u : ℕ) (values after all : List (List ℕ)) → 0 < length left → u ≡ get_or left (length left - 1) u → length left ≤ length more
+      → after ≡ all_with (flat_map values_by (option_to_list (said u))) values → all_with (flat_map values_by (filter_map said left)) values ≡ all
+      → (length (take (length left - 1) left) ≤ length more) × (all_with (flat_map values_by (filter_map said (take (length left - 1) left))) after ≡ all)
+  node_before left more u values after all some is within inserted so_far = (
+    omega (arith, length-take (length left - 1) left, within),
+    values_before (take (length left - 1) left) u values after all inserted
+        (ap (λ ws. all_with (flat_map values_by (filter_map said ws)) values) (split_last left u some is) ∙ so_far),
+  )

@@ -1,31 +1,34 @@
--- The rows that are kept: their statements, and the row at a node's place.
-use Rattle.std.proofs.Common.{◌≡◌, ℕ, ◌<◌, List, [], ◌∷◌, Option, filter_map, option_map, length, get_or, map, refl, sym, ◌∙◌, ap, subst}
-use Rattle.std.specs.List.{cons_option}
+-- The rows that are kept: the row at a node's place, gathered or where it stands.
+use Rattle.std.proofs.Common.{◌≡◌, ℕ, ◌<◌, List, Option, None, length, get_or, map, sym, ◌∙◌, ap, subst}
 use Rattle.std.proofs.lemmas.List.{get_or-map, length-map}
 use Rattle.types.specs.declared.kind.Kind.{Kind}
 use Rattle.types.specs.Statements.{Sent}
+use Rattle.latest.specs.Places.{place_of}
 use Rattle.protocol.specs.Rows.{row}
-use Rattle.view.specs.Watching.{rows_at, rows_by, rows_of_others, said_by_another, statements_in}
+use Rattle.view.specs.Regions.{row_places}
+use Rattle.view.specs.Watching.{row_where}
+use Rattle.view.proofs.PlaceLaws.{one_where, rows_where_placed}
 
--- the statements in the rows that nodes have
-pub statements_at : (kind : Kind) (table : List Sent) (nodes : List ℕ) → statements_in (rows_at kind table nodes) ≡ rows_by kind table nodes
-statements_at kind table [] = refl
-statements_at kind table (u ∷ us) = ap (cons_option (option_map (λ (e : Sent). e.body) (row table u kind))) (statements_at kind table us)
+module _ (kind : Kind) (table : List Sent) (nodes : List ℕ) where
+  -- there is a place for each node
+  pub as_many : (places : List (Option ℕ)) → places ≡ row_places table kind nodes → length places ≡ length nodes
+  as_many places is = ap (λ (os : List (Option ℕ)). length os) is ∙ length-map nodes (λ u. place_of table u kind)
 
--- and those of others among them
-pub others_at : (own : ℕ) (kind : Kind) (table : List Sent) (nodes : List ℕ) → filter_map (said_by_another own) (rows_at kind table nodes) ≡ rows_of_others own kind table nodes
-others_at own kind table [] = refl
-others_at own kind table (u ∷ us) = ap (cons_option (said_by_another own (row table u kind))) (others_at own kind table us)
+  -- what stands at a node's place is its row
+  pub row_there : (places : List (Option ℕ)) (i : ℕ) (o : Option ℕ) → places ≡ row_places table kind nodes → i < length nodes → o ≡ get_or places i o → row_where table o ≡ row table (get_or nodes i 0) kind
+  row_there places i o is inside at =
+      one_where table (get_or nodes i 0) kind o (sym (at ∙ ap (λ (os : List (Option ℕ)). get_or os i o) is ∙ get_or-map (λ (u : ℕ). place_of table u kind) nodes i 0 o inside))
 
-module _ {X : Type 0} (f : X → Option Sent) (xs : List X) (kind : Kind) (table : List Sent) (nodes : List ℕ) (kept : map f xs ≡ rows_at kind table nodes) where
-  -- there is one for each node
-  as_many : length xs ≡ length nodes
-  as_many = sym (length-map xs f) ∙ ap length kept ∙ length-map nodes (λ u. row table u kind)
+  -- and so is what was read there
+  pub row_gathered : {X : Type 0} (f : X → Option Sent) (xs : List X) (d : X) (places : List (Option ℕ)) → map f xs ≡ map (row_where table) places → places ≡ row_places table kind nodes
+      → (i : ℕ) → i < length xs → f (get_or xs i d) ≡ row table (get_or nodes i 0) kind
+  row_gathered {X} f xs d places read is i inside =
+      sym (get_or-map f xs i d None inside)
+      ∙ ap (λ (os : List (Option Sent)). get_or os i None) kept
+      ∙ get_or-map (λ (u : ℕ). row table u kind) nodes i 0 None (subst (λ n. i < n) many inside)
+    where
+      kept : map f xs ≡ map (λ (u : ℕ). row table u kind) nodes
+      kept = read ∙ ap (map (row_where table)) is ∙ rows_where_placed table kind nodes
 
-  -- the one at a node's place is that node's row
-  pub row_at : (i : ℕ) (x : X) → i < length nodes → x ≡ get_or xs i x → f x ≡ row table (get_or nodes i 0) kind
-  row_at i x inside is =
-      ap f is
-      ∙ sym (get_or-map f xs i x (f x) (subst (λ n. i < n) (sym as_many) inside))
-      ∙ ap (λ (os : List (Option Sent)). get_or os i (f x)) kept
-      ∙ get_or-map (λ (u : ℕ). row table u kind) nodes i 0 (f x) inside
+      many : length xs ≡ length nodes
+      many = sym (length-map xs f) ∙ ap length kept ∙ length-map nodes (λ u. row table u kind)

@@ -1,11 +1,15 @@
 -- A list that descends: a ballot that is put in its place keeps it so, and the first one below a bound is the next.
-use Rattle.std.proofs.Common.{◌≡◌, ℕ, zero, suc, ◌+◌, ◌-◌, ◌<◌, ◌≤◌, Bool, true, false, not, nat_lt, List, [], ◌∷◌, ◌++◌, Option, Some, None, filter, flat_map, get_or, length, map, take, IsTrue, OnOk, Result, Ok, Err, refl, sym, ◌∙◌, ap, ap₂, subst, inl, inr, ◌⊎◌, ◌↔◌, arith}
-use Rattle.std.specs.List.{Contains, insert}
-use Rattle.std.specs.List.Sorted.{IsPartitionedBy, IsPartitionPoint, IsPermutation}
-use Rattle.std.proofs.lemmas.Bool.{cases_Bool, true≢false, not-true, not-false, not_from_false}
+use Rattle.std.proofs.Common.{◌≡◌, ℕ, zero, suc, ◌+◌, ◌-◌, ◌<◌, ◌≤◌, true, false, nat_lt, List, [], ◌∷◌, ◌++◌, Option, Some, None, filter, filter_map, flat_map, option_to_list, get_or, length, take, OnOk, Result, Ok, Err, refl, sym, ◌∙◌, ap, ap₂, subst, inl, inr, ◌⊎◌, ◌↔◌, arith}
+use Rattle.std.specs.List.{Contains, cons_option, insert}
+use Rattle.std.specs.List.Sorted.{IsNonDecreasingBy, IsPartitionPoint, IsPermutation}
+use Rattle.std.specs.Ordering.{is_lt, ordering_index, ordering_reverse}
+use Rattle.std.specs.declared.cmp.Ordering.{Ordering}
+use Rattle.std.specs.declared.cmp.Ordering.TheVariants.{Less, Equal, Greater}
+use Rattle.std.proofs.lemmas.Bool.{cases_Bool, false≢true, true≢false}
 use Rattle.std.proofs.lemmas.Bool.Decides.{nat_tests}
+use Rattle.std.proofs.lemmas.Cmp.{tied_itself}
 use Rattle.std.proofs.lemmas.Grind.{flat_map-append}
-use Rattle.std.proofs.lemmas.List.{append-nil, append_assoc, get_or_default, map-append, take_all, take_more}
+use Rattle.std.proofs.lemmas.List.{append-nil, append_assoc, get_or_default, take_all, take_more}
 use Rattle.std.proofs.lemmas.List.Edits.{get_or-insert_above, get_or-insert_at, get_or-insert_below, length-insert}
 use Rattle.std.proofs.lemmas.List.Elements.{Contains-append_cases, Contains-append_left, Contains-append_right, Contains-push_cases, filter-append}
 use Rattle.std.proofs.lemmas.List.Sorted.{Contains-permutation, IsPermutation-insert, IsPermutation-sym, IsPermutation-to_front, IsPermutation-trans}
@@ -15,10 +19,11 @@ use Rattle.protocol.specs.Candidates.{is_counted}
 use Rattle.protocol.specs.Extremes.{IsGreatest, IsGreatestIn}
 use Rattle.protocol.specs.Extremes.IsGreatestIn.{nothing, this}
 use Rattle.protocol.specs.States.{below}
-use Rattle.protocol.proofs.BallotOrder.{below-along, below-asym, below-self, one_ballot}
+use Rattle.types.specs.Orders.{ballot_cmp}
+use Rattle.protocol.proofs.BallotOrder.{ballots_ordered, below-asym, below-self, below-trans, one_ballot}
 use Rattle.protocol.proofs.GreatestLaws.{greatest_is_alone, greatest_is_exact}
 use Rattle.fedvote.specs.Searching.{is_under, next_under}
-use Rattle.view.specs.Listing.{AreListed, IsDescending, IsPlaceUnder, StandsFor}
+use Rattle.view.specs.Listing.{AreListed, IsBallotPlace, IsDescending, IsPlaceUnder, StandsFor}
 use Rattle.view.proofs.SameRows.{is_contained, is_in, kept_from, kept_to, none_contained, same_next}
 
 less_or_same : (i j : ℕ) → i ≤ j → (i < j) ⊎ (i ≡ j)
@@ -39,63 +44,81 @@ less_or_from i j = elim (cases_Bool (nat_lt i j)) [ inl e ↦ inl (is_less i j e
     is_from : (i j : ℕ) → nat_lt i j ≡ false → j ≤ i
     is_from i j e = grind (arith, nat_tests)
 
--- ---- the place at which those begin that are below a bound
-pub parted : (ts : List Ballot) → IsDescending ts → (bound : Ballot) → IsPartitionedBy (λ t. not (below t bound)) ts
-parted ts down bound i j d l m h = elim (less_or_same i j l) [
-  | inl k ↦ elim (cases_Bool (below (get_or ts i d) bound)) [
-    | inl e ↦ absurd (true≢false (sym (below-along (get_or ts j d) (get_or ts i d) bound (down i j d k m) e) ∙ not-true (below (get_or ts j d) bound) h))
-    | inr e ↦ not_from_false (below (get_or ts i d) bound) e
+-- ---- the place of a ballot
+is_less : (o : Ordering) → is_lt o ≡ true → o ≡ Less
+is_less Less h = refl
+is_less Equal h = absurd (false≢true h)
+is_less Greater h = absurd (false≢true h)
+
+turned : (a b : Ballot) (o : Ordering) → ballot_cmp a b ≡ o → ballot_cmp b a ≡ ordering_reverse o
+turned a b o is = ballots_ordered.antisymm b a ∙ ap ordering_reverse is
+
+-- the lesser a ballot is, the more is this one above it
+rises : (t a b : Ballot) → below b a ≡ true → ordering_index (ballot_cmp t a) ≤ ordering_index (ballot_cmp t b)
+rises t a b under = elim (cases_Bool (below t a)) [
+  | inl h ↦ subst (λ o. ordering_index o ≤ ordering_index (ballot_cmp t b)) (sym (is_less (ballot_cmp t a) h)) (omega arith)
+  | inr h ↦ elim (cases_Bool (below b t)) [
+    | inl k ↦ subst (λ o. ordering_index (ballot_cmp t a) ≤ ordering_index o) (sym (turned b t Less (is_less (ballot_cmp b t) k))) (most (ballot_cmp t a))
+    | inr k ↦ absurd (true≢false (sym under ∙ below-trans b t a k h))
   ]
-  | inr q ↦ subst (λ n. not (below (get_or ts n d) bound) ≡ true) (sym q) h
 ]
+  where
+    most : (o : Ordering) → ordering_index o ≤ 2
+    most Less = omega arith
+    most Equal = omega arith
+    most Greater = omega arith
 
-pub placed : (ts : List Ballot) (bound : Ballot) (p : ℕ) → p ≤ length ts → IsPartitionPoint (λ t. not (below t bound) ≡ true) (λ t. not (below t bound) ≡ false) ts p → IsPlaceUnder (Some bound) ts p
-placed ts bound p within h = record {
-  within = within;
-  before = λ i d l. not-true (below (get_or ts i d) bound) (h.0 i d (omega arith) l);
-  from = λ i d l m. not-false (below (get_or ts i d) bound) (h.1 i d l m);
-}
+-- ballots with one counter and one value
+pub same_ballots : (a b : Ballot) → a.counter ≡ b.counter → a.value ≡ b.value → Equal ≡ ballot_cmp a b
+same_ballots a b counters values =
+    let one : a ≡ b = (λ i. record { counter = counters i; value = values i }) in
+    sym (tied_itself ballots_ordered a) ∙ ap (ballot_cmp a) one
 
-pub some_place : (p : ℕ) → (p ≡ 0 → ⊥) → 0 < p
-some_place zero h = absurd (h refl)
-some_place (suc p) h = omega arith
-
--- ---- whether a ballot is listed
-module _ (ts : List Ballot) (t : Ballot) (p : ℕ) (place : IsPlaceUnder (Some t) ts p) where
-  -- a ballot of the list that is this one stands before the place
-  before_place : (c : Contains ts t) → c.0 < p
-  before_place c = elim (less_or_from c.0 p) [
-    | inl l ↦ l
-    | inr l ↦ absurd (true≢false (sym (place.from c.0 t l c.1) ∙ (ap (λ x. below x t) c.2 ∙ below-self t)))
+module _ (ts : List Ballot) (t : Ballot) (down : IsDescending ts) where
+  rising : IsNonDecreasingBy (λ u. ordering_index (ballot_cmp t u)) ts
+  rising i j d l m = elim (less_or_same i j l) [
+    | inl k ↦ rises t (get_or ts i d) (get_or ts j d) (down i j d k m)
+    | inr q ↦ subst (λ n. ordering_index (ballot_cmp t (get_or ts i d)) ≤ ordering_index (ballot_cmp t (get_or ts n d))) q (omega arith)
   ]
 
-  pub none_before : p ≡ 0 → Contains ts t → ⊥
-  none_before is c = let l = before_place c in omega (arith, l, is)
-
-module _ (ts : List Ballot) (t : Ballot) (p : ℕ) (place : IsPlaceUnder (Some t) ts p) (down : IsDescending ts) where
-  -- it is the one right before the place, or that one is above it and so are all before
-  pub last_before : (u : Ballot) → 0 < p → u ≡ get_or ts (p - 1) u → (b : Bool) → b ≡ not (below t u) → IsTrue b ↔ Contains ts t
-  last_before u some is b e = (λ h. listed (not-true (below t u) (sym e ∙ h)), λ c. e ∙ not_from_false (below t u) (not_above c))
+  -- those begin behind it that are below it
+  pub behind : (i : ℕ) → i < length ts → get_or ts i t ≡ t → IsPlaceUnder (Some t) ts (i + 1)
+  behind i inside is = record {
+    within = omega (arith, inside);
+    before = λ k d l. elim (less_or_same k i (omega (arith, l))) [
+      | inl m ↦ below-asym t (get_or ts k d) (subst (λ u. below u (get_or ts k d) ≡ true) (here d) (down k i d m inside))
+      | inr q ↦ subst (λ u. below u t ≡ false) (sym (ap (λ n. get_or ts n d) q ∙ here d)) (below-self t)
+    ];
+    from = λ k d l m. subst (λ u. below (get_or ts k d) u ≡ true) (here d) (down i k d (omega (arith, l)) m);
+  }
     where
-      last : p - 1 < length ts
-      last = let w = place.within in omega (arith, w, some)
+      here : (d : Ballot) → get_or ts i d ≡ t
+      here d = get_or_default ts i d t inside ∙ is
 
-      one : below t u ≡ false → u ≡ t
-      one h = one_ballot u t (subst (λ x. below x t ≡ false) (sym is) (place.before (p - 1) u (omega (arith, some)))) h
+  -- what a binary search finds: the ballot
+  pub found_there : (i : ℕ) → i < length ts → ((d : Ballot) → ballot_cmp t (get_or ts i d) ≡ Equal) → IsBallotPlace t ts (Ok (i + 1))
+  found_there i within at =
+      let u = get_or ts i t in
+      let is : u ≡ t = one_ballot u t (ap is_lt (turned t u Equal (at t))) (ap is_lt (at t)) in
+      (behind i within is, (i, within, is))
 
-      listed : below t u ≡ false → Contains ts t
-      listed h = subst (λ x. Contains ts x) (one h) (p - 1, last, sym is)
+  -- or the place between those above it and those below it
+  pub found_nowhere : (p : ℕ) → p ≤ length ts
+      → (IsNonDecreasingBy (λ u. ordering_index (ballot_cmp t u)) ts → IsPartitionPoint (λ u. ballot_cmp t u ≡ Less) (λ u. ballot_cmp t u ≡ Greater) ts p) → IsBallotPlace t ts (Err p)
+  found_nowhere p within parts = (
+    record {
+      within = within;
+      before = λ i d l. ap is_lt (turned t (get_or ts i d) Less ((parts rising).0 i d (omega arith) l));
+      from = λ i d l m. ap is_lt (turned t (get_or ts i d) Greater ((parts rising).1 i d l m));
+    },
+    λ c. elim (less_or_from c.0 p) [
+      | inl l ↦ absurd (true≢false (sym (ap is_lt (subst (λ u. ballot_cmp t u ≡ Less) c.2 ((parts rising).0 c.0 t (omega arith) l))) ∙ below-self t))
+      | inr l ↦ absurd (true≢false (sym (ap is_lt (turned t t Greater (subst (λ u. ballot_cmp t u ≡ Greater) c.2 ((parts rising).1 c.0 t l c.1)))) ∙ below-self t))
+    ],
+  )
 
-      above : (c : Contains ts t) → (c.0 < p - 1) ⊎ (c.0 ≡ p - 1) → below t u ≡ false
-      above c (inl l) = absurd (true≢false (sym (subst (λ x. below x t ≡ true) (sym is) (ap (λ y. below (get_or ts (p - 1) u) y) (sym (get_or_default ts c.0 u t c.1 ∙ c.2)) ∙ down c.0 (p - 1) u l last)) ∙ subst (λ x. below x t ≡ false) (sym is) (place.before (p - 1) u (omega (arith, some)))))
-      above c (inr q) =
-          let same : u ≡ t = is ∙ (ap (λ n. get_or ts n u) (sym q) ∙ (get_or_default ts c.0 u t c.1 ∙ c.2)) in
-          subst (λ x. below t x ≡ false) (sym same) (below-self t)
-
-      not_above : Contains ts t → below t u ≡ false
-      not_above c = let l = before_place ts t p place c in above c (less_or_same c.0 (p - 1) (omega (arith, l)))
-
-  -- ---- a ballot that is put there
+-- ---- a ballot that is put in its place
+module _ (ts : List Ballot) (t : Ballot) (p : ℕ) (place : IsPlaceUnder (Some t) ts p) (down : IsDescending ts) where
   above_it : (Contains ts t → ⊥) → (i : ℕ) (d : Ballot) → i < p → below t (get_or ts i d) ≡ true
   above_it missing i d l = elim (cases_Bool (below t (get_or ts i d))) [
     | inl e ↦ e
@@ -160,12 +183,20 @@ has_listed ts t has x = (
 pub counted_listed : (now ts : List Ballot) (t : Ballot) → is_counted t ≡ true → AreListed now (ts ++ t ∷ []) → AreListed now (ts ++ filter is_counted (t ∷ []))
 counted_listed now ts t h listed = rw h listed
 
+some_place : (p : ℕ) → (p ≡ 0 → ⊥) → 0 < p
+some_place zero h = absurd (h refl)
+some_place (suc p) h = omega arith
+
 -- a counter that is not 0 is one from 1 on
 pub is_counted-from : (n : ℕ) (t : Ballot) → n ≡ t.counter → (n ≡ 0 → ⊥) → is_counted t ≡ true
 is_counted-from n t is h = ap (λ k. nat_lt 0 k) (sym is) ∙ above n (some_place n h)
   where
     above : (k : ℕ) → 0 < k → nat_lt 0 k ≡ true
     above k l = grind (arith, nat_tests)
+
+-- no ballots are added
+pub as_before : (ts : List Ballot) → AreListed ts (ts ++ [])
+as_before ts x = subst (λ (us : List Ballot). Contains ts x ↔ Contains us x) (sym (append-nil ts)) (λ c. c, λ c. c)
 
 -- some are added, and then others
 pub listed_then : (old mid now ts us : List Ballot) → AreListed mid (old ++ filter is_counted ts) → AreListed now (mid ++ filter is_counted us) → AreListed now (old ++ filter is_counted (ts ++ us))
@@ -201,22 +232,45 @@ on_ok (Err e) P Q f h = h
 pub then_listed : {A E : Type 0} (r : Result A E) (old mid now ts us all : List Ballot) → ts ++ us ≡ all → AreListed mid (old ++ filter is_counted ts) → OnOk r (AreListed now (mid ++ filter is_counted us)) → OnOk r (AreListed now (old ++ filter is_counted all))
 then_listed r old mid now ts us all is first then = on_ok r _ _ (λ h. subst (λ (ys : List Ballot). AreListed now (old ++ filter is_counted ys)) is (listed_then old mid now ts us first h)) then
 
--- those of one statement are added to those of the statements before it
-pub one_listed : {X : Type 0} (f : X → Statement) (by : Statement → List Ballot) (xs : List X) (i : ℕ) (x : X) (mid now : List Ballot) → i < length xs → x ≡ get_or xs i x
-    → AreListed mid (filter is_counted (flat_map by (map f (take i xs)))) → AreListed now (mid ++ filter is_counted (by (f x))) → AreListed now (filter is_counted (flat_map by (map f (take (i + 1) xs))))
-one_listed {X} f by xs i x mid now within is first then =
-    let more : take (i + 1) xs ≡ take i xs ++ x ∷ [] = take_more xs i x within ∙ ap (λ y. take i xs ++ y ∷ []) (sym is) in
-    let joined : flat_map by (map f (take (i + 1) xs)) ≡ flat_map by (map f (take i xs)) ++ by (f x) =
-    ap (λ (ys : List X). flat_map by (map f ys)) more
-    ∙ ap (flat_map by) (map-append f (take i xs) (x ∷ []))
-    ∙ flat_map-append by (map f (take i xs)) (f x ∷ [])
-    ∙ ap (λ ys. flat_map by (map f (take i xs)) ++ ys) (append-nil (by (f x))) in
-    subst (λ (ts : List Ballot). AreListed now (filter is_counted ts)) (sym joined) (listed_then [] mid now (flat_map by (map f (take i xs))) (by (f x)) first then)
+-- what one node more says comes last
+said_more : (said : ℕ → Option Statement) (us : List ℕ) (u : ℕ) → filter_map said (us ++ u ∷ []) ≡ filter_map said us ++ option_to_list (said u)
+said_more said [] u = go (said u)
+  where
+    go : (o : Option Statement) → cons_option o [] ≡ option_to_list o
+    go None = refl
+    go (Some s) = refl
+said_more said (w ∷ us) u = go (said w) (said_more said us u)
+  where
+    go : (o : Option Statement) → filter_map said (us ++ u ∷ []) ≡ filter_map said us ++ option_to_list (said u)
+        → cons_option o (filter_map said (us ++ u ∷ [])) ≡ cons_option o (filter_map said us) ++ option_to_list (said u)
+    go None e = e
+    go (Some s) e = ap (λ ss. s ∷ ss) e
 
--- at the end those of all statements are listed
-pub all_listed : {X : Type 0} (f : X → Statement) (by : Statement → List Ballot) (xs : List X) (i : ℕ) (now : List Ballot) → length xs ≤ i
-    → AreListed now (filter is_counted (flat_map by (map f (take i xs)))) → AreListed now (filter is_counted (flat_map by (map f xs)))
-all_listed {X} f by xs i now end listed = subst (λ (ys : List X). AreListed now (filter is_counted (flat_map by (map f ys)))) (take_all i xs end) listed
+module _ (said : ℕ → Option Statement) (by : Statement → List Ballot) (us : List ℕ) (i : ℕ) where
+  more : i < length us → filter_map said (take (i + 1) us) ≡ filter_map said (take i us) ++ option_to_list (said (get_or us i 0))
+  more within = ap (filter_map said) (take_more us i 0 within) ∙ said_more said (take i us) (get_or us i 0)
+
+  -- what the node at the place says is added to them
+  pub one_listed : (s : Statement) (mid now : List Ballot) → i < length us → Some s ≡ said (get_or us i 0)
+      → AreListed mid (filter is_counted (flat_map by (filter_map said (take i us)))) → AreListed now (mid ++ filter is_counted (by s)) → AreListed now (filter is_counted (flat_map by (filter_map said (take (i + 1) us))))
+  one_listed s mid now within is first then =
+      let joined : flat_map by (filter_map said (take (i + 1) us)) ≡ flat_map by (filter_map said (take i us)) ++ by s =
+      ap (flat_map by) (more within)
+      ∙ ap (λ o. flat_map by (filter_map said (take i us) ++ option_to_list o)) (sym is)
+      ∙ flat_map-append by (filter_map said (take i us)) (s ∷ [])
+      ∙ ap (λ ys. flat_map by (filter_map said (take i us)) ++ ys) (append-nil (by s)) in
+      subst (λ (ts : List Ballot). AreListed now (filter is_counted ts)) (sym joined) (listed_then [] mid now (flat_map by (filter_map said (take i us))) (by s) first then)
+
+  -- or it says nothing
+  pub none_listed : (now : List Ballot) → i < length us → None ≡ said (get_or us i 0)
+      → AreListed now (filter is_counted (flat_map by (filter_map said (take i us)))) → AreListed now (filter is_counted (flat_map by (filter_map said (take (i + 1) us))))
+  none_listed now within is first =
+      let same : filter_map said (take i us) ≡ filter_map said (take (i + 1) us) = sym (more within ∙ ap (λ o. filter_map said (take i us) ++ option_to_list o) (sym is) ∙ append-nil (filter_map said (take i us))) in
+      subst (λ (ss : List Statement). AreListed now (filter is_counted (flat_map by ss))) same first
+
+  -- at the end those of all are listed
+  pub all_listed : (now : List Ballot) → length us ≤ i → AreListed now (filter is_counted (flat_map by (filter_map said (take i us)))) → AreListed now (filter is_counted (flat_map by (filter_map said us)))
+  all_listed now end listed = subst (λ (ws : List ℕ). AreListed now (filter is_counted (flat_map by (filter_map said ws)))) (take_all i us end) listed
 
 -- ---- the next below a bound
 module _ (bound : Option Ballot) (ts : List Ballot) (p : ℕ) (down : IsDescending ts) (place : IsPlaceUnder bound ts p) where

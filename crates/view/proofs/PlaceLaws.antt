@@ -1,17 +1,18 @@
 -- Where the rows of the nodes stand in a table: what is read there, and what an envelope that the table takes leaves of it.
-use Rattle.std.proofs.Common.{◌≡◌, ◌≢◌, ◌⊎◌, ℕ, suc, ◌<◌, ◌==◌, true, false, List, [], ◌∷◌, get_or, set, length, length-set, map, Option, Some, None, refl, sym, ◌∙◌, ap, ap₂, arith, inl, inr}
+use Rattle.std.proofs.Common.{◌≡◌, ◌≢◌, ◌⊎◌, ℕ, suc, ◌<◌, ◌==◌, Bool, true, false, cond, List, [], ◌∷◌, get_or, set, length, length-set, map, Option, Some, None, option_map, unwrap_or, if◌then◌else◌, refl, sym, ◌∙◌, ap, ap₂, arith, inl, inr}
 use Rattle.std.proofs.lemmas.Bool.{cases_Bool, eqb-true, eq-eqb, true≢false}
 use Rattle.std.proofs.lemmas.List.{get_or-map, get_or-set_same, get_or-set_other, length-map}
 use Rattle.types.specs.declared.kind.Kind.{Kind}
-use Rattle.types.specs.Statements.{Sent}
+use Rattle.types.specs.Statements.{Sent, kind_of}
 use Rattle.protocol.specs.Rows.{is_row_of, row, with_row}
 use Rattle.latest.specs.Places.{place_of}
-use Rattle.latest.proofs.Placing.{place-of_others, place-of_replaced, place-of_first, row-at_place, row-without_place}
+use Rattle.protocol.proofs.Tables.{is_row_of-own}
+use Rattle.latest.proofs.Placing.{place-of_others, place-of_replaced, row-at_place, row-without_place}
 use Rattle.view.specs.Regions.{row_places}
 use Rattle.view.specs.Watching.{row_where, rows_at}
 
 -- what stands at the place of a row is the row
-one_where : (table : List Sent) (u : ℕ) (k : Kind) (o : Option ℕ) → place_of table u k ≡ o → row_where table o ≡ row table u k
+pub one_where : (table : List Sent) (u : ℕ) (k : Kind) (o : Option ℕ) → place_of table u k ≡ o → row_where table o ≡ row table u k
 one_where table u k None is = sym (row-without_place table u k is)
 one_where table u k (Some i) is = row-at_place table u k i is
 
@@ -42,24 +43,46 @@ pub places_kept : (table : List Sent) (e : Sent) (k : Kind) (us : List ℕ) → 
 places_kept table e k [] leaves = refl
 places_kept table e k (u ∷ us) leaves = ap₂ (λ x xs. x ∷ xs) (sym (place_kept table e k u (leaves 0 (omega arith)))) (places_kept table e k us (λ i within. leaves (suc i) (omega (arith, within))))
 
--- a first row stands behind all others, and leaves the places of all other nodes' rows
-pub place_set : (table : List Sent) (e : Sent) (k : Kind) (us : List ℕ) (p : ℕ) → p < length us → get_or us p 0 ≡ e.sender → is_row_of e.sender k e ≡ true → row table e.sender k ≡ None
-    → ((i : ℕ) → i < length us → i ≢ p → is_row_of (get_or us i 0) k e ≡ false) → set (row_places table k us) p (Some (length table)) ≡ row_places (with_row e table) k us
-place_set table e k us p within sender its first others =
+-- a row that comes stands in the place of the one before it, or behind all others
+stands_at : (e : Sent) (table : List Sent) → place_of (with_row e table) e.sender (kind_of e.body) ≡ Some (unwrap_or (place_of table e.sender (kind_of e.body)) (length table))
+unfolding with_row
+stands_at e [] = rw (is_row_of-own e) refl
+stands_at e (x ∷ xs) = go (is_row_of e.sender (kind_of e.body) x) refl (place_of xs e.sender (kind_of e.body)) (stands_at e xs)
+  where
+    later : (o : Option ℕ) → suc (unwrap_or o (length xs)) ≡ unwrap_or (option_map suc o) (suc (length xs))
+    later None = refl
+    later (Some i) = refl
+
+    go : (b : Bool) → is_row_of e.sender (kind_of e.body) x ≡ b → (o : Option ℕ) → place_of (with_row e xs) e.sender (kind_of e.body) ≡ Some (unwrap_or o (length xs))
+        → place_of (if b then e ∷ xs else x ∷ with_row e xs) e.sender (kind_of e.body) ≡ Some (unwrap_or (cond b (Some 0) (option_map suc o)) (suc (length xs)))
+    go true its o ih = rw (is_row_of-own e) refl
+    go false its o ih = rw its (ap (option_map suc) ih ∙ ap Some (later o))
+
+-- as the code reads it
+pub stands_behind : (e : Sent) (table : List Sent) → None ≡ place_of table e.sender (kind_of e.body) → place_of (with_row e table) e.sender (kind_of e.body) ≡ Some (length table)
+stands_behind e table none = stands_at e table ∙ ap (λ o. Some (unwrap_or o (length table))) (sym none)
+
+pub stands_there : (e : Sent) (table : List Sent) (i : ℕ) → Some i ≡ place_of table e.sender (kind_of e.body) → place_of (with_row e table) e.sender (kind_of e.body) ≡ Some i
+stands_there e table i there = stands_at e table ∙ ap (λ o. Some (unwrap_or o (length table))) (sym there)
+
+-- where the row of one node then stands, while those of all others keep their places
+pub place_set : (table : List Sent) (e : Sent) (k : Kind) (us : List ℕ) (p n : ℕ) → p < length us → get_or us p 0 ≡ e.sender → place_of (with_row e table) e.sender k ≡ Some n
+    → ((i : ℕ) → i < length us → i ≢ p → is_row_of (get_or us i 0) k e ≡ false) → set (row_places table k us) p (Some n) ≡ row_places (with_row e table) k us
+place_set table e k us p n within sender stands others =
     let old = λ (u : ℕ). place_of table u k in
     let new = λ (u : ℕ). place_of (with_row e table) u k in
-    same_lists None (set (map old us) p (Some (length table))) (map new us) (length-set (map old us) p (Some (length table)) ∙ length-map us old ∙ sym (length-map us new))
+    same_lists None (set (map old us) p (Some n)) (map new us) (length-set (map old us) p (Some n) ∙ length-map us old ∙ sym (length-map us new))
     (λ i inside.
-    let here : i < length us = omega (arith, inside, length-set (map old us) p (Some (length table)), length-map us old) in
+    let here : i < length us = omega (arith, inside, length-set (map old us) p (Some n), length-map us old) in
     elim (cases_Bool (i == p)) [
       | inl same ↦
           let is : i ≡ p = eqb-true i p same in
-          ap (λ j. get_or (set (map old us) p (Some (length table))) j None) is
-          ∙ get_or-set_same (map old us) p (Some (length table)) None (omega (arith, within, length-map us old))
-          ∙ sym (get_or-map new us i 0 None here ∙ ap new (ap (λ j. get_or us j 0) is ∙ sender) ∙ place-of_first e table e.sender k first its)
+          ap (λ j. get_or (set (map old us) p (Some n)) j None) is
+          ∙ get_or-set_same (map old us) p (Some n) None (omega (arith, within, length-map us old))
+          ∙ sym (get_or-map new us i 0 None here ∙ ap new (ap (λ j. get_or us j 0) is ∙ sender) ∙ stands)
       | inr apart ↦
           let other : i ≢ p = λ is. true≢false (sym (eq-eqb i p is) ∙ apart) in
-          get_or-set_other (map old us) p i (Some (length table)) None other
+          get_or-set_other (map old us) p i (Some n) None other
           ∙ get_or-map old us i 0 None here
           ∙ sym (place-of_others e table (get_or us i 0) k (others i here other))
           ∙ sym (get_or-map new us i 0 None here)

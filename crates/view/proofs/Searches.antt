@@ -1,15 +1,11 @@
 -- Searches among statements, one after another.
-use Rattle.std.proofs.Common.{◌≡◌, ℕ, ◌+◌, ◌<◌, ◌≤◌, suc, add-one, drop, get_or, length, map, min, Bool, true, false, nat_lt, List, [], ◌∷◌, Option, Some, None, filter_map, if◌then◌else◌, refl, sym, ◌∙◌, ap, arith}
+use Rattle.std.proofs.Common.{◌≡◌, ℕ, ◌+◌, ◌<◌, ◌≤◌, add-one, drop, get_or, length, min, option_to_list, Bool, true, false, nat_lt, List, [], ◌∷◌, Option, Some, None, filter_map, if◌then◌else◌, refl, sym, ◌∙◌, ap, arith}
 use Rattle.std.specs.List.{cons_option}
 use Rattle.std.proofs.Math.Seq.{drop-cons}
 use Rattle.std.proofs.lemmas.List.{drop_all}
 use Rattle.types.specs.declared.statement.Statement.{Statement}
 use Rattle.fedvote.specs.Searching.{counter_by, lesser, least_above, next_counter}
 use Rattle.view.specs.Watching.{lesser_of}
-
--- a list from one of its elements on
-next_element : {X : Type 0} (xs : List X) (i : ℕ) (x : X) → i < length xs → x ≡ get_or xs i x → drop i xs ≡ x ∷ drop (i + 1) xs
-next_element xs i x within is = rw add-one (drop-cons xs i x within ∙ ap (λ y. y ∷ drop (suc i) xs) (sym is))
 
 -- the lesser of three
 lesser_then : (k j : ℕ) (o : Option ℕ) → lesser (min k j) o ≡ lesser k (lesser j o)
@@ -43,21 +39,32 @@ one_lesser least n s ss = go (counter_by s)
     go None = drop_it least
     go (Some k) = above k (nat_lt n k)
 
-module _ {X : Type 0} (f : X → Statement) (xs : List X) (i : ℕ) where
-  -- one step of the search for the least counter
-  pub least_goes_on : (least : Option ℕ) (n : ℕ) (after all : Option ℕ) (x : X) → i < length xs → x ≡ get_or xs i x → after ≡ lesser_of least (next_counter n (f x ∷ []))
-      → lesser_of least (next_counter n (map f (drop i xs))) ≡ all → lesser_of after (next_counter n (map f (drop (i + 1) xs))) ≡ all
-  least_goes_on least n after all x within is e so_far =
-      ap (λ (o : Option ℕ). lesser_of o (next_counter n (map f (drop (i + 1) xs)))) e
-      ∙ one_lesser least n (f x) (map f (drop (i + 1) xs))
-      ∙ ap (λ (ys : List X). lesser_of least (next_counter n (map f ys))) (sym (next_element xs i x within is))
+-- and where there may be none
+one_lesser_if : (least : Option ℕ) (n : ℕ) (o : Option Statement) (ss : List Statement) → lesser_of (lesser_of least (next_counter n (option_to_list o))) (next_counter n ss) ≡ lesser_of least (next_counter n (cons_option o ss))
+unfolding least_above
+one_lesser_if least n None ss = ap (λ (o : Option ℕ). lesser_of o (next_counter n ss)) (none_left least)
+  where
+    none_left : (o : Option ℕ) → lesser_of o None ≡ o
+    none_left None = refl
+    none_left (Some k) = refl
+one_lesser_if least n (Some s) ss = one_lesser least n s ss
+
+module _ (said : ℕ → Option Statement) (us : List ℕ) (i : ℕ) where
+  -- one step of the search for the least counter among what the nodes say
+  pub least_goes_on : (least : Option ℕ) (n : ℕ) (after all : Option ℕ) → i < length us → after ≡ lesser_of least (next_counter n (option_to_list (said (get_or us i 0))))
+      → lesser_of least (next_counter n (filter_map said (drop i us))) ≡ all → lesser_of after (next_counter n (filter_map said (drop (i + 1) us))) ≡ all
+  least_goes_on least n after all within is so_far =
+      let next : drop i us ≡ get_or us i 0 ∷ drop (i + 1) us = rw add-one (drop-cons us i 0 within) in
+      ap (λ (o : Option ℕ). lesser_of o (next_counter n (filter_map said (drop (i + 1) us)))) is
+      ∙ one_lesser_if least n (said (get_or us i 0)) (filter_map said (drop (i + 1) us))
+      ∙ ap (λ (ws : List ℕ). lesser_of least (next_counter n (filter_map said ws))) (sym next)
       ∙ so_far
 
   -- its end
-  pub least_ends : (least : Option ℕ) (n : ℕ) (all : Option ℕ) → length xs ≤ i → lesser_of least (next_counter n (map f (drop i xs))) ≡ all → least ≡ all
+  pub least_ends : (least : Option ℕ) (n : ℕ) (all : Option ℕ) → length us ≤ i → lesser_of least (next_counter n (filter_map said (drop i us))) ≡ all → least ≡ all
   unfolding least_above
   least_ends least n all end so_far =
-      sym (none_left least) ∙ ap (λ (ys : List X). lesser_of least (next_counter n (map f ys))) (sym (drop_all i xs end)) ∙ so_far
+      sym (none_left least) ∙ ap (λ (ws : List ℕ). lesser_of least (next_counter n (filter_map said ws))) (sym (drop_all i us end)) ∙ so_far
     where
       none_left : (o : Option ℕ) → lesser_of o (next_counter n []) ≡ o
       none_left None = refl

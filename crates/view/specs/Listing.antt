@@ -1,5 +1,5 @@
 -- Ballots that are listed once, so that each search goes through them in order.
-use Rattle.std.specs.Prelude.{◌≡◌, ℕ, ◌<◌, ◌≤◌, ◌↔◌, true, false, List, Option, get_or, length}
+use Rattle.std.specs.Prelude.{◌≡◌, ℕ, ◌<◌, ◌≤◌, ◌↔◌, true, false, List, [], ◌∷◌, Option, Some, None, Result, Ok, Err, get_or, length}
 use Rattle.std.specs.List.{Contains}
 use Rattle.types.specs.declared.ballot.Ballot.{Ballot}
 use Rattle.protocol.specs.States.{below}
@@ -22,3 +22,13 @@ pub record IsPlaceUnder (bound : Option Ballot) (ts : List Ballot) (place : ℕ)
   pub within : place ≤ length ts
   pub before : (i : ℕ) (d : Ballot) → i < place → is_under bound (get_or ts i d) ≡ false
   pub from : (i : ℕ) (d : Ballot) → place ≤ i → i < length ts → is_under bound (get_or ts i d) ≡ true
+
+-- whether a ballot is listed, and the place at which those begin that are below it
+abbrev pub IsBallotPlace : Ballot → List Ballot → Result ℕ ℕ → Type 0
+IsBallotPlace t ts (Ok i) = IsPlaceUnder (Some t) ts i × Contains ts t
+IsBallotPlace t ts (Err i) = IsPlaceUnder (Some t) ts i × (Contains ts t → ⊥)
+
+-- the two ballots of a pair, where there is one
+abbrev pub both_of : Option (Ballot × Ballot) → List Ballot
+both_of None = []
+both_of (Some (a, b)) = a ∷ b ∷ []

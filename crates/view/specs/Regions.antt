@@ -1,14 +1,13 @@
 -- The nodes that a node reaches, and slices compiled against them.
-use Rattle.std.specs.Prelude.{◌≡◌, ◌≢◌, ℕ, ◌<◌, List, Option, None, get_or, length, map, false, true}
+use Rattle.std.specs.Prelude.{◌≡◌, ◌≢◌, ℕ, ◌<◌, List, Option, Some, get_or, length, map, false, true}
 use Rattle.types.specs.Trees.{Slices}
 use Rattle.types.specs.Statements.{Sent, kind_of}
 use Rattle.types.specs.declared.kind.Kind.{Kind}
 use Rattle.types.specs.declared.kind.Kind.TheVariants.{Nomination}
 use Rattle.protocol.specs.Backing.{slices_by}
 use Rattle.protocol.specs.Reach.{IsReach}
-use Rattle.protocol.specs.Rows.{row}
+use Rattle.protocol.specs.Rows.{with_row}
 use Rattle.protocol.specs.Satisfaction.{names}
-use Rattle.protocol.specs.Sets.{among, AreWithin}
 use Rattle.compiled.specs.Met.{IsCompiled}
 use Rattle.compiled.specs.Searching.{AreCompiled}
 use Rattle.latest.specs.Places.{place_of}
@@ -43,17 +42,12 @@ pub record IsCopy (old new : Region) : Type 0 where
   pub ballot_rows : new.ballot_rows.items ≡ old.ballot_rows.items
   pub nomination_rows : new.nomination_rows.items ≡ old.nomination_rows.items
 
--- a first row of its kind, of the node at this place among the nodes, that names none but these nodes
-pub record IsFirstRow (table : List Sent) (e : Sent) (nodes : List ℕ) (place : ℕ) : Type 0 where
-  pub first : row table e.sender (kind_of e.body) ≡ None
-  pub named : AreWithin (among (names e.slices)) (among nodes)
-  pub within : place < length nodes
-  pub sender : get_or nodes place 0 ≡ e.sender
-
--- what a region has to have once such a row of another node came: the row's slices, compiled, for its kind and at its sender's place, and that it stands behind all other rows
-pub record IsEntry (table : List Sent) (e : Sent) (r : Region) (x : Entry) : Type 0 where
-  pub first_row : IsFirstRow table e r.nodes.items x.place
+-- what a region has to have once a row of another node came that leaves the reach as it is: the row's slices, compiled, for its kind and at its sender's place, and where the row then stands
+pub record IsEntry (own : ℕ) (configured : Slices) (table : List Sent) (e : Sent) (r : Region) (x : Entry) : Type 0 where
+  pub reach : IsReach own configured table r.nodes.items → IsReach own configured (with_row e table) r.nodes.items
+  pub within : x.place < length r.nodes.items
+  pub sender : get_or r.nodes.items x.place 0 ≡ e.sender
   pub kind : x.kind ≡ kind_of e.body
   pub another : x.place ≢ r.place
   pub compiled : IsCompiled false r.nodes.items e.slices x.slices
-  pub last : x.row ≡ length table
+  pub row : place_of (with_row e table) e.sender (kind_of e.body) ≡ Some x.row

@@ -27,10 +27,6 @@ abbrev pub row_where : List Sent → Option ℕ → Option Sent
 row_where table None = None
 row_where table (Some i) = slice_get table i
 
--- the statements in these rows
-abbrev pub statements_in : List (Option Sent) → List Statement
-statements_in rows = filter_map (λ o. option_map (λ e. e.body) o) rows
-
 -- the statements in the rows of a kind that these nodes have
 abbrev pub rows_by : Kind → List Sent → List ℕ → List Statement
 rows_by kind table nodes = filter_map (λ u. option_map (λ e. e.body) (row table u kind)) nodes

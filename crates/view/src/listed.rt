@@ -1,15 +1,18 @@
 //! The ballots that a search goes through, listed once.
 
-ghost use Rattle.std.specs.Prelude.{◌≡◌, ◌∷◌, ◌++◌, ◌↔◌, [], IfOk, IsTrue, OnOk, Some, filter, map, not};
-ghost use Rattle.std.specs.List.{Contains};
+ghost use Rattle.std.specs.Prelude.{◌≡◌, ◌∷◌, ◌++◌, [], IfOk, OnOk, Some, filter};
 ghost use Rattle.protocol.specs.Candidates.{committed_by, committed_in, is_counted, named_by, named_in};
-ghost use Rattle.protocol.specs.States.{ballot_at, below};
 ghost use Rattle.fedvote.specs.Searching.{next_under};
-ghost use Rattle.view.specs.Listing.{AreListed, IsPlaceUnder};
+ghost use Rattle.types.specs.Orders.{ballot_cmp};
+ghost use Rattle.view.specs.Listing.{AreListed, IsBallotPlace, IsPlaceUnder, both_of};
+ghost use Rattle.view.specs.Watching.{rows_of_others};
 
+use crate::reached::ReachedRows;
+use envstore::Places;
 use std::alloc::{AllocError, Global};
+use std::cmp::Ordering;
 use std::marker::Model;
-use types::{Ballot, LentBallot, Statement};
+use types::{LentBallot, NodeId, Statement};
 
 /// Ballots in descending order, none twice: a search for the greatest one below a bound is a binary search.
 /// Contracts see the list.
@@ -33,15 +36,19 @@ impl<'a> Model for ListedBallots<'a> {
 impl<'a> ListedBallots<'a> {
     /// The ballots that the statements name, and those at whose counters they speak of commit, both with
     /// counters from 1 on. An error says that memory is short.
-    pub(crate) fn named_and_committed(
+    pub(crate) fn named_and_committed<S: Places>(
         alloc: Global,
-        statements: &[&'a Statement],
+        own: &NodeId,
+        rows: &ReachedRows<'a, S>,
     ) -> Result<(ListedBallots<'a>, ListedBallots<'a>), AllocError>
-        ensures { IfOk result (λ l. AreListed l.0 (named_in (map (λ s. s.now) statements.now)) × AreListed l.1 (committed_in (map (λ s. s.now) statements.now))) }
+        ensures { IfOk result (λ l. AreListed l.0 (named_in (rows_of_others own.now rows.now.kind rows.now.table rows.now.nodes)) × AreListed l.1 (committed_in (rows_of_others own.now rows.now.kind rows.now.table rows.now.nodes))) }
     {
         let mut named = ListedBallots::nothing(alloc);
         let mut committed = ListedBallots::nothing(alloc);
-        for statement in statements {
+        for place in 0..rows.nodes().len() {
+            let Some(statement) = rows.said_by_another(own, place) else {
+                continue;
+            };
             named.add_named(statement)?;
             committed.add_committed(statement)?;
         }
@@ -91,14 +98,16 @@ impl<'a> ListedBallots<'a> {
                 ..
             } => {
                 self.add(LentBallot::of(ballot))?;
-                self.add_ends(ballot, *prepared_counter, *high_counter)
+                let low = LentBallot::at(*prepared_counter, &ballot.value);
+                let high = LentBallot::at(*high_counter, &ballot.value);
+                self.add_both(low, high)
             }
             Statement::Externalize {
                 commit,
                 high_counter,
             } => {
-                self.add(LentBallot::of(commit))?;
-                self.add(LentBallot::at(*high_counter, &commit.value))
+                let high = LentBallot::at(*high_counter, &commit.value);
+                self.add_both(LentBallot::of(commit), high)
             }
         }
     }
@@ -108,36 +117,18 @@ impl<'a> ListedBallots<'a> {
     fn add_committed(&mut self, statement: &'a Statement) -> Result<(), AllocError>
         ensures { OnOk result (AreListed self.new (self.old ++ filter is_counted (committed_by statement.now))) }
     {
-        match statement {
-            Statement::Nominate { .. } => Ok(()),
-            Statement::Prepare {
-                ballot,
-                high_counter,
-                commit_counter,
-                ..
-            } => self.add_ends(ballot, *commit_counter, *high_counter),
-            Statement::Commit {
-                ballot,
-                high_counter,
-                commit_counter,
-                ..
-            } => self.add_ends(ballot, *commit_counter, *high_counter),
-            Statement::Externalize {
-                commit,
-                high_counter,
-            } => {
-                self.add(LentBallot::of(commit))?;
-                self.add(LentBallot::at(*high_counter, &commit.value))
-            }
+        match committed_by(statement) {
+            None => Ok(()),
+            Some((low, high)) => self.add_both(low, high),
         }
     }
 
-    /// Lists the two ballots at these counters, with the ballot's value. An error says that memory is short.
-    fn add_ends(&mut self, ballot: &'a Ballot, low: u32, high: u32) -> Result<(), AllocError>
-        ensures { OnOk result (AreListed self.new (self.old ++ filter is_counted (ballot_at low ballot.now.value ∷ ballot_at high ballot.now.value ∷ []))) }
+    /// Lists two ballots. An error says that memory is short.
+    fn add_both(&mut self, one: LentBallot<'a>, other: LentBallot<'a>) -> Result<(), AllocError>
+        ensures { OnOk result (AreListed self.new (self.old ++ filter is_counted (one.entry ∷ other.entry ∷ []))) }
     {
-        self.add(LentBallot::at(low, &ballot.value))?;
-        self.add(LentBallot::at(high, &ballot.value))
+        self.add(one)?;
+        self.add(other)
     }
 
     /// Lists a ballot whose counter is from 1 on, where it is not listed yet. An error says that memory is
@@ -148,23 +139,13 @@ impl<'a> ListedBallots<'a> {
         if ballot.counter() == 0 {
             return Ok(());
         }
-        let place = self.place_below(&ballot);
-        if self.has(&ballot, place) {
-            return Ok(());
+        match self.find(&ballot) {
+            Ok(_) => Ok(()),
+            Err(place) => {
+                self.ballots.insert(place, ballot)?;
+                Ok(())
+            }
         }
-        self.ballots.insert(place, ballot)?;
-        Ok(())
-    }
-
-    /// Whether the ballot is listed, by the place at which those below it begin.
-    fn has(&self, ballot: &LentBallot, place: usize) -> bool
-        requires { IsPlaceUnder (Some ballot.now) self.now place }
-        ensures { IsTrue result ↔ Contains self.now ballot.now }
-    {
-        if place == 0 {
-            return false;
-        }
-        !ballot.is_below(&self.ballots[place - 1])
     }
 
     /// The place of the first of them that is below the bound, or behind all of them.
@@ -181,10 +162,71 @@ impl<'a> ListedBallots<'a> {
     fn place_below(&self, bound: &LentBallot) -> usize
         ensures { IsPlaceUnder (Some bound.now) self.now result }
     {
-        self.ballots.partition_point(
-            |ballot| -> bool
-                ensures { result ≡ not (below ballot.now bound.entry.now) }
-            { !ballot.is_below(bound) },
-        )
+        match self.find(bound) {
+            Ok(place) => place,
+            Err(place) => place,
+        }
     }
+
+    /// The place of the first of them that is below a ballot, or behind all of them: in `Ok` where the ballot is
+    /// listed, right before it, and in `Err` where it is not.
+    fn find(&self, ballot: &LentBallot) -> Result<usize, usize>
+        ensures { IsBallotPlace ballot.now self.now result }
+    {
+        match self
+            .ballots
+            .binary_search_by(|listed| order(ballot, listed))
+        {
+            Ok(place) => Ok(place + 1),
+            Err(place) => Err(place),
+        }
+    }
+}
+
+/// The ballots at the counters at which a statement speaks of commit.
+fn committed_by<'a>(statement: &'a Statement) -> Option<(LentBallot<'a>, LentBallot<'a>)>
+    ensures { both_of result ≡ committed_by statement.now }
+{
+    match statement {
+        Statement::Nominate { .. } => None,
+        Statement::Prepare {
+            ballot,
+            high_counter,
+            commit_counter,
+            ..
+        } => {
+            let low = LentBallot::at(*commit_counter, &ballot.value);
+            Some((low, LentBallot::at(*high_counter, &ballot.value)))
+        }
+        Statement::Commit {
+            ballot,
+            high_counter,
+            commit_counter,
+            ..
+        } => {
+            let low = LentBallot::at(*commit_counter, &ballot.value);
+            Some((low, LentBallot::at(*high_counter, &ballot.value)))
+        }
+        Statement::Externalize {
+            commit,
+            high_counter,
+        } => {
+            let high = LentBallot::at(*high_counter, &commit.value);
+            Some((LentBallot::of(commit), high))
+        }
+    }
+}
+
+/// How two ballots are ordered: by counter, then value. That two values are the same is seen sooner than which
+/// of them is above the other.
+fn order(ballot: &LentBallot, other: &LentBallot) -> Ordering
+    ensures { result ≡ ballot_cmp ballot.now other.now }
+{
+    if ballot.counter() != other.counter() {
+        return ballot.counter().cmp(&other.counter());
+    }
+    if ballot.value().is_same(other.value()) {
+        return Ordering::Equal;
+    }
+    ballot.value().cmp(other.value())
 }

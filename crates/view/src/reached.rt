@@ -1,34 +1,41 @@
 //! The rows of one kind that the reached nodes have, at hand for many look-ups.
 
-ghost use Rattle.std.specs.Prelude.{◌≡◌, ◌<◌, IfOk, get_or, length, map, option_map};
+ghost use Rattle.std.specs.Prelude.{◌≡◌, ◌<◌, IfOk, get_or, length, option_map};
 ghost use Rattle.protocol.specs.Rows.{row};
 ghost use Rattle.view.specs.Regions.{row_places};
-ghost use Rattle.view.specs.Watching.{rows_of_others};
+ghost use Rattle.view.specs.Watching.{said_by_another};
 
-use crate::rows::{rows_where, statements_of_others};
+use crate::rows::{row_where, rows_where};
 use envstore::Places;
 use latest::Rows;
 use std::alloc::{AllocError, Global};
 use std::marker::Model;
 use types::{Envelope, Kind, NodeId, Statement};
 
-/// The rows of one kind that the reached nodes have in a table, each read once.
+/// Of so many nodes the rows are read where they stand, whenever one is asked for: to gather them would cost more.
+const FEW_NODES: usize = 8;
+
+/// The rows of one kind that the reached nodes have in a table.
 ///
-/// Each is found by the place that is kept of it, and later by its node's place among the nodes: so it costs the
-/// same however many rows of strangers the table holds. Contracts see the nodes, the table and the kind.
+/// Each is found by the place that is kept of it: so it costs the same however many rows of strangers the table
+/// holds. Rows that are gathered are read there once, and later found by their nodes' places among the nodes.
+/// Contracts see the nodes, the table and the kind.
 #[derive(Drop)]
 pub(crate) struct ReachedRows<'a, S: Places> {
     nodes: &'a [NodeId],
-    rows: Vec<Option<&'a Envelope>>,
+    places: &'a [Option<usize>],
+    gathered: Vec<Option<&'a Envelope>>,
     table: &'a Rows<'a, S>,
     kind: Kind,
 }
 
 impl<'a, S: Places> Model for ReachedRows<'a, S> {
     ghost use Rattle.std.specs.Coded.{codes};
-    ghost use Rattle.std.specs.Prelude.{◌≡◌, map, option_map};
+    ghost use Rattle.std.specs.Prelude.{◌≡◌, ◌<◌, ℕ, None, get_or, length, option_map};
+    ghost use Rattle.protocol.specs.Rows.{row};
     ghost use Rattle.types.specs.Trees.{members_code};
-    ghost use Rattle.view.specs.Watching.{Kept, rows_at};
+    ghost use Rattle.view.specs.Regions.{row_places};
+    ghost use Rattle.view.specs.Watching.{Kept};
 
     ghost Value = { Kept };
 
@@ -36,26 +43,51 @@ impl<'a, S: Places> Model for ReachedRows<'a, S> {
 
     ghost view = { λ a. record { nodes = a.nodes.now; table = a.table.now; kind = a.kind } };
 
-    ghost invariant = { λ a. map (λ o. option_map (λ r. r.now) o) a.rows.items ≡ rows_at a.kind a.table.now a.nodes.now };
+    ghost invariant = { λ a. (a.places.now ≡ row_places a.table.now a.kind a.nodes.now) × ((i : ℕ) → i < length a.gathered.items → option_map (λ r. r.now) (get_or a.gathered.items i None) ≡ row a.table.now (get_or a.nodes.now i 0) a.kind) };
 }
 
 impl<'a, S: Places> ReachedRows<'a, S> {
-    /// The rows of a kind that the nodes have in the table, where these stand at the places. An error says that
-    /// memory is short.
-    pub(crate) fn of(
+    /// The rows of a kind that the nodes have in the table, where these stand at the places. None is gathered, and
+    /// it takes no memory.
+    pub(crate) fn in_place(
         alloc: Global,
         nodes: &'a [NodeId],
-        places: &[Option<usize>],
+        places: &'a [Option<usize>],
+        table: &'a Rows<'a, S>,
+        kind: Kind,
+    ) -> ReachedRows<'a, S>
+        requires { places.now ≡ row_places table.now kind nodes.now }
+        ensures { result ≡ record { nodes = nodes.now; table = table.now; kind = kind } }
+    {
+        ReachedRows {
+            nodes,
+            places,
+            gathered: Vec::new(alloc),
+            table,
+            kind,
+        }
+    }
+
+    /// The same for rows that are asked for often: they are gathered, where the nodes are many. An error says that
+    /// memory is short.
+    pub(crate) fn gathered(
+        alloc: Global,
+        nodes: &'a [NodeId],
+        places: &'a [Option<usize>],
         table: &'a Rows<'a, S>,
         kind: Kind,
     ) -> Result<ReachedRows<'a, S>, AllocError>
         requires { places.now ≡ row_places table.now kind nodes.now }
         ensures { IfOk result (λ r. r ≡ record { nodes = nodes.now; table = table.now; kind = kind }) }
     {
-        let rows = rows_where(alloc, places, table)?;
+        if nodes.len() <= FEW_NODES {
+            return Ok(ReachedRows::in_place(alloc, nodes, places, table, kind));
+        }
+        let gathered = rows_where(alloc, places, table)?;
         Ok(ReachedRows {
             nodes,
-            rows,
+            places,
+            gathered,
             table,
             kind,
         })
@@ -69,22 +101,30 @@ impl<'a, S: Places> ReachedRows<'a, S> {
     }
 
     /// The row of the node at this place among the reached ones.
-    pub(crate) fn row_at(&self, place: usize) -> Option<&Envelope>
+    pub(crate) fn row_at(&self, place: usize) -> Option<&'a Envelope>
         requires { place < length self.now.nodes }
         ensures { option_map (λ r. r.now) result ≡ row self.now.table (get_or self.now.nodes place 0) self.now.kind }
     {
-        self.rows[place]
+        match self.gathered.get(place) {
+            Some(row) => *row,
+            None => row_where(self.table, self.places[place]),
+        }
     }
 
-    /// The statements that others than this node have in these rows, in the order of the nodes. An error
-    /// says that memory is short.
-    pub(crate) fn statements_of_others(
-        &self,
-        alloc: Global,
-        own: &NodeId,
-    ) -> Result<Vec<&'a Statement>, AllocError>
-        ensures { IfOk result (λ v. map (λ s. s.now) v.items ≡ rows_of_others own.now self.now.kind self.now.table self.now.nodes) }
+    /// What the row of the node at this place says, where it is another's than this node.
+    pub(crate) fn said_by_another(&self, own: &NodeId, place: usize) -> Option<&'a Statement>
+        requires { place < length self.now.nodes }
+        ensures { option_map (λ s. s.now) result ≡ said_by_another own.now (row self.now.table (get_or self.now.nodes place 0) self.now.kind) }
     {
-        statements_of_others(alloc, own, &self.rows)
+        match self.row_at(place) {
+            None => None,
+            Some(row) => {
+                if *own == *row.sender() {
+                    None
+                } else {
+                    Some(row.body())
+                }
+            }
+        }
     }
 }

@@ -1,19 +1,21 @@
 //! The nodes that a node reaches, and slices compiled against them.
 
 ghost use Rattle.std.specs.Prelude.{◌≡◌, ◌<◌, ℕ, List, IfOk, IfSome, IsTrue, Some, get_or, length, set};
-ghost use Rattle.types.specs.Statements.{Sent};
+ghost use Rattle.types.specs.Statements.{Sent, kind_of};
 ghost use Rattle.types.specs.Trees.{Slices};
 ghost use Rattle.protocol.specs.Backing.{slices_by};
 ghost use Rattle.protocol.specs.Quorums.{is_satisfied};
+ghost use Rattle.protocol.specs.Reach.{IsReach};
 ghost use Rattle.protocol.specs.Rows.{with_row};
 ghost use Rattle.protocol.specs.Satisfaction.{sat};
 ghost use Rattle.protocol.specs.Sets.{IsAscending, among};
 ghost use Rattle.compiled.specs.Met.{picked};
 ghost use Rattle.compiled.specs.Searching.{AreCompiled, met_at};
-ghost use Rattle.view.specs.Regions.{IsCopy, IsEntry, IsFirstRow, IsRegion, row_places};
+ghost use Rattle.latest.specs.Places.{place_of};
+ghost use Rattle.view.specs.Regions.{IsCopy, IsEntry, IsRegion, row_places};
 
 use crate::asking::places_to_ask;
-use closure::{keeps_reach, reach};
+use closure::{drops_none, keeps_reach, reach};
 use compiled::{CompiledSet, compile, has_places, place_of};
 use envstore::Places;
 use latest::Rows;
@@ -37,8 +39,8 @@ pub struct Region {
     pub nomination_rows: Vec<Option<usize>>,
 }
 
-/// The slices in a reached node's first row of a kind, compiled, and where that row is to stand in the table:
-/// all that the row changes in a region.
+/// The slices in a reached node's row of a kind, compiled, and where that row is to stand in the table: all that
+/// a row changes in a region whose reach stays.
 #[derive(Drop)]
 pub struct Entry {
     kind: Kind,
@@ -103,38 +105,46 @@ impl Region {
         keeps_reach(&self.nodes, table, envelope)
     }
 
-    /// What the region has to have for the envelope where the table takes it, if that is all that
-    /// changes: it is a reached node's first row of its kind, and names reached nodes alone. An error says
-    /// that memory is short.
+    /// What the region has to have for the envelope where the table takes it, if that is all that changes: a
+    /// reached node's first row of its kind, or one with other slices than the row that it replaces. It names
+    /// reached nodes alone, and what it does not name any more of that row is this node or a name of its own
+    /// slices, and so is reached anyhow. An error says that memory is short.
+    ///
+    /// It costs some searches by name and the compiling of one set of slices, however many rows there are.
     pub fn entry_for<S: Places>(
         &self,
         alloc: Global,
+        own: &NodeId,
+        slices: &Nested,
         table: &Rows<'_, S>,
         envelope: &Envelope,
     ) -> Result<Option<Entry>, AllocError>
         requires { IsAscending self.now.nodes.items }
-        ensures { IfOk result (λ o. IfSome o (λ x. IsEntry table.now envelope.now self.now x)) }
+        ensures { IfOk result (λ o. IfSome o (λ x. IsEntry own.now slices.now table.now envelope.now self.now x)) }
     {
-        let Some(place) = place_of_first_row(&self.nodes, table, envelope) else {
+        let Some(place) = place_of(&self.nodes, envelope.sender()) else {
             return Ok(None);
         };
         if place == self.place {
             return Ok(None);
         }
-        let slices = compile(alloc, envelope.slices().set(), &self.nodes, false)?;
-        let kind = envelope.body().kind();
+        let stays = leaves_reach(alloc, own, slices, table, envelope, &self.nodes)?;
+        if !stays {
+            return Ok(None);
+        }
+        let compiled = compile(alloc, envelope.slices().set(), &self.nodes, false)?;
         Ok(Some(Entry {
-            kind,
+            kind: envelope.body().kind(),
             place,
-            slices,
-            row: table.len(),
+            slices: compiled,
+            row: row_place(table, envelope),
         }))
     }
 
     /// Sets what [`Region::entry_for`] found. The region is then that of the table with the row. It takes
     /// no memory.
     pub fn set_entry(&mut self, entry: Entry)
-        ensures { (own : ℕ) (configured : Slices) (table : List Sent) (e : Sent) → IsEntry table e self.old entry → IsRegion own configured table self.old → IsRegion own configured (with_row e table) self.new }
+        ensures { (own : ℕ) (configured : Slices) (table : List Sent) (e : Sent) → IsEntry own configured table e self.old entry → IsRegion own configured table self.old → IsRegion own configured (with_row e table) self.new }
     {
         match entry.kind {
             Kind::Ballot => {
@@ -149,24 +159,36 @@ impl Region {
     }
 }
 
-/// The place of the envelope's sender, if it is reached, has no row of that kind, and names reached nodes
-/// alone.
-fn place_of_first_row<S: Places>(
-    nodes: &[NodeId],
+/// Whether the reach surely stays as it is where the table takes the envelope: it names reached nodes alone,
+/// and drops no name but such as the node reaches by itself. An error says that memory is short.
+fn leaves_reach<S: Places>(
+    alloc: Global,
+    own: &NodeId,
+    slices: &Nested,
     table: &Rows<'_, S>,
     envelope: &Envelope,
-) -> Option<usize>
+    nodes: &[NodeId],
+) -> Result<bool, AllocError>
     requires { IsAscending nodes.now }
-    ensures { IfSome result (λ i. IsFirstRow table.now envelope.now nodes.now i) }
+    ensures { IfOk result (λ b. IsTrue b → IsReach own.now slices.now table.now nodes.now → IsReach own.now slices.now (with_row envelope.now table.now) nodes.now) }
 {
-    let sender = envelope.sender();
-    if table.row(sender, envelope.body().kind()).is_some() {
-        return None;
-    }
     if !has_places(envelope.slices().set(), nodes) {
-        return None;
+        return Ok(false);
     }
-    place_of(nodes, sender)
+    let stays = drops_none(alloc, own, slices, table, envelope)?;
+    Ok(stays)
+}
+
+/// Where the envelope stands where the table takes it: in the place of its sender's row of that kind, or behind
+/// all others.
+#[tactic(auto, using(crate::proofs::PlaceLaws::stands_behind, crate::proofs::PlaceLaws::stands_there))]
+fn row_place<S: Places>(table: &Rows<'_, S>, envelope: &Envelope) -> usize
+    ensures { place_of (with_row envelope.now table.now) envelope.now.sender (kind_of envelope.now.body) ≡ Some result }
+{
+    match table.place(envelope.sender(), envelope.body().kind()) {
+        None => table.len(),
+        Some(place) => place,
+    }
 }
 
 /// Sets the slices at a place, where there is one.

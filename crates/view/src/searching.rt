@@ -1,28 +1,37 @@
 //! The search for a counter among the ballot statements that a node sees.
 
-ghost use Rattle.std.specs.Prelude.{◌≡◌, ◌∷◌, [], map};
+ghost use Rattle.std.specs.Prelude.{◌≡◌, option_map, option_to_list};
 ghost use Rattle.fedvote.specs.Searching.{next_counter};
-ghost use Rattle.view.specs.Watching.{lesser_of};
+ghost use Rattle.view.specs.Watching.{lesser_of, rows_of_others};
 
+use crate::reached::ReachedRows;
+use envstore::Places;
 use fedvote::{counter_by, lesser};
-use types::Statement;
+use types::{NodeId, Statement};
 
 /// The least counter above this one that a statement has.
-pub(crate) fn next_counter(statements: &[&Statement], above: u32) -> Option<u32>
-    ensures { result ≡ next_counter above (map (λ s. s.now) statements.now) }
+pub(crate) fn next_counter<S: Places>(
+    own: &NodeId,
+    rows: &ReachedRows<'_, S>,
+    above: u32,
+) -> Option<u32>
+    ensures { result ≡ next_counter above (rows_of_others own.now rows.now.kind rows.now.table rows.now.nodes) }
 {
     let mut least = None;
-    for statement in statements {
-        least = lesser_counter(least, above, statement);
+    for place in 0..rows.nodes().len() {
+        least = lesser_counter(least, above, rows.said_by_another(own, place));
     }
     least
 }
 
-/// The lesser of the counter so far and of the statement's, where that is above this one.
+/// The lesser of the counter so far and of that of what is said, if something is, where it is above this one.
 #[tactic(auto, unfolding(fedvote::specs::Searching::least_above))]
-fn lesser_counter(least: Option<u32>, above: u32, statement: &Statement) -> Option<u32>
-    ensures { result ≡ lesser_of least (next_counter above (statement.now ∷ [])) }
+fn lesser_counter(least: Option<u32>, above: u32, said: Option<&Statement>) -> Option<u32>
+    ensures { result ≡ lesser_of least (next_counter above (option_to_list (option_map (λ s. s.now) said.entry))) }
 {
+    let Some(statement) = said else {
+        return least;
+    };
     let Some(counter) = counter_by(statement) else {
         return least;
     };

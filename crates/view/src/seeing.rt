@@ -1,6 +1,6 @@
 //! A node's view of its table.
 
-ghost use Rattle.std.specs.Prelude.{◌≡◌, IfOk, length, map, true};
+ghost use Rattle.std.specs.Prelude.{◌≡◌, IfOk, length, true};
 ghost use Rattle.types.specs.declared.kind.Kind.{Kind};
 ghost use Rattle.protocol.specs.Rows.{has_single_rows};
 ghost use Rattle.protocol.specs.Views.{seen};
@@ -18,14 +18,14 @@ use crate::listed::ListedBallots;
 use crate::passing::{add_supporters, add_supporters_at};
 use crate::reached::ReachedRows;
 use crate::region::Region;
-use crate::rows::{statements_of, values_in};
+use crate::rows::{values_of, values_of_others};
 use crate::searching::next_counter;
 use compiled::{CompiledSet, in_quorum, is_met, no_places};
 use envstore::Places;
 use fedvote::{Question, Sight};
 use latest::Rows;
 use std::alloc::{AllocError, Global};
-use types::{Kind, Leaders, LentBallot, Nested, NodeId, Statement, Values};
+use types::{Kind, Leaders, LentBallot, Nested, NodeId, Values};
 
 /// A set of the reached nodes stands in so many words on the stack, where they have room for all of them.
 const FEW_WORDS: usize = 8;
@@ -34,10 +34,11 @@ const FEW_WORDS: usize = 8;
 /// and the nomination rows of its leaders, reached or not (the Stellar Consensus Protocol draft, of federated
 /// voting; that strangers' rows are left out is this host's profile).
 ///
-/// Rows of strangers are not looked at: each reached node's rows are read once, when the view is made, at the
-/// places that the region keeps of them, and both tests find them by the node's place in the reach; rows of
-/// leaders are looked up when a rule asks for them. A blocking test asks the names of the node's slices alone,
-/// where many are reached. The ballots that a search goes through are listed in order, once a view, since the
+/// Rows of strangers are not looked at: each reached node's rows stand at the places that the region keeps of
+/// them, and both tests find them by the node's place in the reach. Where many are reached, their ballots are read
+/// once, when the view is made; their nominations, for which rules of nomination alone ask, are read where they
+/// stand, and rows of leaders are looked up. A blocking test asks the names of the node's slices alone, where many
+/// are reached. The ballots that a search goes through are listed in order, once a view, since the
 /// rules ask for the next one below a bound again and again; nominated values are gathered when a rule asks
 /// for them, since most events ask for none. The region is its owner's, who keeps it from event to event.
 #[derive(Drop)]
@@ -47,16 +48,14 @@ pub struct View<'a, S: Places> {
     leaders: &'a Leaders,
     table: &'a Rows<'a, S>,
     region: &'a Region,
-    ballot_rows: ReachedRows<'a, S>,
-    nomination_rows: ReachedRows<'a, S>,
-    ballots: Vec<&'a Statement>,
+    ballots: ReachedRows<'a, S>,
+    nominations: ReachedRows<'a, S>,
     named: ListedBallots<'a>,
     committed: ListedBallots<'a>,
     ghost known: { IsRegion own.now slices.now table.now region.now },
     ghost single: { has_single_rows table.now ≡ true },
-    ghost ballots_kept: { ballot_rows ≡ record { nodes = region.now.nodes.items; table = table.now; kind = Kind.Ballot } },
-    ghost nominations_kept: { nomination_rows ≡ record { nodes = region.now.nodes.items; table = table.now; kind = Kind.Nomination } },
-    ghost ballots_found: { map (λ s. s.now) ballots.items ≡ rows_of_others own.now Kind.Ballot table.now region.now.nodes.items },
+    ghost ballots_kept: { ballots ≡ record { nodes = region.now.nodes.items; table = table.now; kind = Kind.Ballot } },
+    ghost nominations_kept: { nominations ≡ record { nodes = region.now.nodes.items; table = table.now; kind = Kind.Nomination } },
     ghost named_listed: { StandsFor named (named_in (rows_of_others own.now Kind.Ballot table.now region.now.nodes.items)) },
     ghost committed_listed: { StandsFor committed (committed_in (rows_of_others own.now Kind.Ballot table.now region.now.nodes.items)) },
 }
@@ -77,25 +76,29 @@ impl<'a, S: Places> View<'a, S> {
     {
         table.are_single();
         let nodes = &region.nodes;
-        let ballot_rows = ReachedRows::of(alloc, nodes, &region.ballot_rows, table, Kind::Ballot)?;
-        let nomination_rows = ReachedRows::of(
+        let ballots = ReachedRows::gathered(
+            alloc,
+            nodes,
+            &region.ballot_rows,
+            table,
+            Kind::Ballot,
+        )?;
+        let nominations = ReachedRows::in_place(
             alloc,
             nodes,
             &region.nomination_rows,
             table,
             Kind::Nomination,
-        )?;
-        let ballots = ballot_rows.statements_of_others(alloc, own)?;
-        let (named, committed) = ListedBallots::named_and_committed(alloc, &ballots)?;
+        );
+        let (named, committed) = ListedBallots::named_and_committed(alloc, own, &ballots)?;
         Ok(View {
             own,
             slices,
             leaders,
             table,
             region,
-            ballot_rows,
-            nomination_rows,
             ballots,
+            nominations,
             named,
             committed,
         })
@@ -106,8 +109,8 @@ impl<'a, S: Places> View<'a, S> {
         ensures { result.now ≡ record { nodes = self.now.region.now.nodes.items; table = self.now.table.now; kind = kind } }
     {
         match kind {
-            Kind::Nomination => &self.nomination_rows,
-            Kind::Ballot => &self.ballot_rows,
+            Kind::Nomination => &self.nominations,
+            Kind::Ballot => &self.ballots,
         }
     }
 
@@ -194,14 +197,12 @@ impl<'a, S: Places> Sight for View<'a, S> {
     }
 
     fn nominated_values(&self, alloc: Global) -> Result<Values, AllocError> {
-        let nominations = self.nomination_rows.statements_of_others(alloc, self.own)?;
-        let values = values_in(alloc, &nominations)?;
+        let values = values_of_others(alloc, self.own, &self.nominations)?;
         Ok(values)
     }
 
     fn led_values(&self, alloc: Global) -> Result<Values, AllocError> {
-        let leading = statements_of(alloc, self.leaders.as_slice(), self.table, Kind::Nomination)?;
-        let values = values_in(alloc, &leading)?;
+        let values = values_of(alloc, self.leaders.as_slice(), self.table, Kind::Nomination)?;
         Ok(values)
     }
 
@@ -214,7 +215,7 @@ impl<'a, S: Places> Sight for View<'a, S> {
     }
 
     fn next_counter(&self, above: u32) -> Option<u32> {
-        next_counter(&self.ballots, above)
+        next_counter(self.own, &self.ballots, above)
     }
 
     ghost honest = { λ s. seen_honest s.own.now s.slices.now s.leaders.now s.table.now };

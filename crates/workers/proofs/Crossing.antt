@@ -14,7 +14,8 @@ use Rattle.atomic_table.proofs.shared.Seat.TheSendSync as pass
 use Rattle.crossbeam_queue.proofs.array_queue.Slotted.TheSendSync as slotted
 use Rattle.work.specs.contracts.rule.Job as Job
 use Rattle.work.specs.contracts.line.Queue as Queue
-use Rattle.cells.proofs.Crossing.{seat_send, cell_sync}
+use Rattle.cells.proofs.Crossing.{cell_send, cell_sync, seat_send}
+use Rattle.workers.specs.contracts.host.Host as Host
 use Rattle.workers.specs.contracts.shared.Shared as Shared
 use Rattle.workers.specs.contracts.walk.Walk as Walk
 use Rattle.workers.specs.contracts.worker.Worker as Worker
@@ -31,6 +32,9 @@ job_send = search (sendable, crosses, event_send) depth 40
 job_sync : IsSync (Job.the_row)
 job_sync = search (sendable, crosses, event_sync) depth 40
 
+queue_send : IsSend (Queue.the_row)
+queue_send = search (sendable, crosses, slotted.the_field_send, job_send, job_sync) depth 40
+
 queue_sync : IsSync (Queue.the_row)
 queue_sync = search (sendable, crosses, slotted.the_field_sync, job_send, job_sync) depth 40
 
@@ -44,3 +48,9 @@ module _ (S H P : RattleType) (g : Ghosts S.Denot P.Denot) where
 
   pub shared_sync : (k : ShelfGhosts S.Denot P.Denot) (w : WaitGhosts H.Denot) → IsSend S → IsSend H → IsSend P → IsSync (Shared.the_row S H P k g w)
   shared_sync k w s h p = let a = cell_sync S H P g k w s h p in search (sendable, crosses, queue_sync) depth 40
+
+  pub host_send : (k : ShelfGhosts S.Denot P.Denot) (w : WaitGhosts H.Denot) → IsSend S → IsSend H → IsSend P → IsSend (Host.the_row S H P k g w)
+  host_send k w s h p =
+      let a = cell_send S H P g k w s h p in
+      let b = seat_send S H P g s h p in
+      search (sendable, crosses, queue_send) depth 60

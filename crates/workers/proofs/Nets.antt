@@ -1,5 +1,5 @@
 -- Networks by number, and what they gained.
-use Rattle.std.proofs.Common.{◌≡◌, ◌≤◌, ◌<◌, ◌+◌, nat_lt, ℕ, zero, suc, Bool, true, false, if◌then◌else◌, List, [], ◌∷◌, ◌++◌, length, length-append, get_or, drop, map, refl, sym, ap, ◌∙◌, subst, arith, None}
+use Rattle.std.proofs.Common.{◌≡◌, ◌≤◌, ◌<◌, ◌+◌, nat_lt, ℕ, zero, suc, Bool, true, false, if◌then◌else◌, List, [], ◌∷◌, ◌++◌, length, length-append, get_or, drop, take, map, refl, sym, ap, ◌∙◌, subst, arith, None}
 use Rattle.std.specs.List.{insert}
 use Rattle.std.proofs.lemmas.Bool.Decides.{nat_tests}
 use Rattle.std.proofs.lemmas.List.{same_from_push}
@@ -16,7 +16,7 @@ use Rattle.workers.specs.declared.floor.Floor.{Floor}
 use Rattle.workers.specs.declared.running.Report.{Report}
 use Rattle.workers.specs.Sums.{IsLater, applied_of, heard_of, refused_of, seat_applied, seat_done, seat_heard, seat_refused, job, hears}
 use Rattle.workers.specs.Benches.{AllGrown, AllGrownBenches, AllHosted, IsHosted, IsWorked, on_benches}
-use Rattle.workers.specs.Floors.{IsPut, IsRemoved, IsSameFloor}
+use Rattle.workers.specs.Floors.{AreParts, IsPut, IsRemoved, IsSameFloor}
 use Rattle.workers.specs.NetSights.{Net}
 use Rattle.workers.specs.Nets.{AllElsewhere, AllGrownNets, IsDone, IsFloor, IsGreatest, NoNet, denied, done_since, gained, heard_since, nets_of, nets_with, over_nets, over_seats}
 use Rattle.workers.specs.Numbers.{AllAbove, AllLack, IsNumbered, IsRising, Lacks, number_of}
@@ -208,6 +208,114 @@ leaves {S} {H} {P} f g c seats is gone =
       greatest c seats cs bs (subst IsRising same up),
       (λ i. nets_of (gone.cells i) (gone.benches i)) ∙ nets_last cs bs c gone.bench both.0 ∙ ap (λ (l : List Sight). nets_of cs bs ++ record { cell = c; seats = l } ∷ []) gone.own,
     )
+
+-- networks part
+
+above_drop : (n k : ℕ) (xs : List ℕ) → AllAbove n xs → AllAbove n (drop k xs)
+above_drop n zero xs all = all
+above_drop n (suc k) [] all = all
+above_drop n (suc k) (x ∷ xs) all = above_drop n k xs all.1
+
+above_take : (n k : ℕ) (xs : List ℕ) → AllAbove n xs → AllAbove n (take k xs)
+above_take n zero xs all = tt
+above_take n (suc k) [] all = all
+above_take n (suc k) (x ∷ xs) all = (all.0, above_take n k xs all.1)
+
+rising_drop : (k : ℕ) (xs : List ℕ) → IsRising xs → IsRising (drop k xs)
+rising_drop zero xs up = up
+rising_drop (suc k) [] up = up
+rising_drop (suc k) (x ∷ xs) up = rising_drop k xs up.1
+
+rising_take : (k : ℕ) (xs : List ℕ) → IsRising xs → IsRising (take k xs)
+rising_take zero xs up = tt
+rising_take (suc k) [] up = up
+rising_take (suc k) (x ∷ xs) up = (above_take x k xs up.0, rising_take k xs up.1)
+
+numbers_drop : (k : ℕ) (cs : List CellSight) → drop k (map number_of cs) ≡ map number_of (drop k cs)
+numbers_drop zero cs = refl
+numbers_drop (suc k) [] = refl
+numbers_drop (suc k) (c ∷ cs) = numbers_drop k cs
+
+numbers_take : (k : ℕ) (cs : List CellSight) → take k (map number_of cs) ≡ map number_of (take k cs)
+numbers_take zero cs = refl
+numbers_take (suc k) [] = refl
+numbers_take (suc k) (c ∷ cs) = ap (λ l. number_of c ∷ l) (numbers_take k cs)
+
+hosted_drop : {S H P : Type 0} → (k : ℕ) (cs : List CellSight) (bs : List (Bench S H P)) → AllHosted cs bs → AllHosted (drop k cs) (drop k bs)
+hosted_drop zero cs bs all = all
+hosted_drop (suc k) [] [] all = tt
+hosted_drop (suc k) [] (b ∷ bs) all = absurd all
+hosted_drop (suc k) (c ∷ cs) [] all = absurd all
+hosted_drop (suc k) (c ∷ cs) (b ∷ bs) all = hosted_drop k cs bs all.1
+
+hosted_take : {S H P : Type 0} → (k : ℕ) (cs : List CellSight) (bs : List (Bench S H P)) → AllHosted cs bs → AllHosted (take k cs) (take k bs)
+hosted_take zero cs bs all = tt
+hosted_take (suc k) [] [] all = tt
+hosted_take (suc k) [] (b ∷ bs) all = absurd all
+hosted_take (suc k) (c ∷ cs) [] all = absurd all
+hosted_take (suc k) (c ∷ cs) (b ∷ bs) all = (all.0, hosted_take k cs bs all.1)
+
+nets_drop : {S H P : Type 0} → (k : ℕ) (cs : List CellSight) (bs : List (Bench S H P)) → AllHosted cs bs → nets_of (drop k cs) (drop k bs) ≡ drop k (nets_of cs bs)
+nets_drop zero cs bs all = refl
+nets_drop (suc k) [] [] all = refl
+nets_drop (suc k) [] (b ∷ bs) all = absurd all
+nets_drop (suc k) (c ∷ cs) [] all = absurd all
+nets_drop (suc k) (c ∷ cs) (b ∷ bs) all = nets_drop k cs bs all.1
+
+nets_take : {S H P : Type 0} → (k : ℕ) (cs : List CellSight) (bs : List (Bench S H P)) → AllHosted cs bs → nets_of (take k cs) (take k bs) ≡ take k (nets_of cs bs)
+nets_take zero cs bs all = refl
+nets_take (suc k) [] [] all = refl
+nets_take (suc k) [] (b ∷ bs) all = absurd all
+nets_take (suc k) (c ∷ cs) [] all = absurd all
+nets_take (suc k) (c ∷ cs) (b ∷ bs) all = ap (λ l. record { cell = c; seats = b.seats.items } ∷ l) (nets_take k cs bs all.1)
+
+cells_drop : (k : ℕ) (cs : List CellSight) → length (drop k cs) ≤ length cs
+cells_drop zero cs = omega arith
+cells_drop (suc k) [] = omega arith
+cells_drop (suc k) (c ∷ cs) = let r = cells_drop k cs in omega arith
+
+cells_take : (k : ℕ) (cs : List CellSight) → length (take k cs) ≤ length cs
+cells_take zero cs = omega arith
+cells_take (suc k) [] = omega arith
+cells_take (suc k) (c ∷ cs) = let r = cells_take k cs in omega arith
+
+-- a floor as its lists are said to be
+floor_by : {S H P : Type 0} → (f : (Floor S H P)) (ns : List ℕ) (cs : List CellSight) (bs : List (Bench S H P)) → f.shared.numbers.items ≡ ns → f.shared.cells.items ≡ cs → f.benches.items ≡ bs
+    → IsNumbered ns cs → AllHosted cs bs → length cs ≤ 4096 → f.shared.queue ≡ None → IsFloor f
+floor_by {S} {H} {P} f ns cs bs numbers cells benches numbered hosted few closed = record {
+  numbered = subst (λ (z : List ℕ × List CellSight). IsNumbered z.0 z.1) (λ i. (sym numbers i, sym cells i)) numbered;
+  hosted = subst (λ (z : List CellSight × List (Bench S H P)). AllHosted z.0 z.1) (λ i. (sym cells i, sym benches i)) hosted;
+  few = subst (λ (z : List CellSight). length z ≤ 4096) (sym cells) few;
+  closed = closed;
+}
+
+pub parted : {S H P : Type 0} → (f g h : (Floor S H P)) (k : ℕ) → IsFloor f → AreParts f k g h
+    → IsFloor g × IsFloor h × (nets_of g.shared.cells.items g.benches.items ≡ take k (nets_of f.shared.cells.items f.benches.items))
+    × (nets_of h.shared.cells.items h.benches.items ≡ drop k (nets_of f.shared.cells.items f.benches.items))
+parted f g h k is parts =
+    let ns = f.shared.numbers.items in
+    let cs = f.shared.cells.items in
+    let bs = f.benches.items in
+    let few = is.few in
+    let front = cells_take k cs in
+    let back = cells_drop k cs in (
+      floor_by g (take k ns) (take k cs) (take k bs) parts.first_numbers parts.first_cells parts.first_benches
+          (ap (take k) is.numbered.0 ∙ numbers_take k cs, rising_take k ns is.numbered.1) (hosted_take k cs bs is.hosted) (omega arith) (parts.queue ∙ is.closed),
+      floor_by h (drop k ns) (drop k cs) (drop k bs) parts.numbers parts.cells parts.benches
+          (ap (drop k) is.numbered.0 ∙ numbers_drop k cs, rising_drop k ns is.numbered.1) (hosted_drop k cs bs is.hosted) (omega arith) parts.none,
+      (λ i. nets_of (parts.first_cells i) (parts.first_benches i)) ∙ nets_take k cs bs is.hosted,
+      (λ i. nets_of (parts.cells i) (parts.benches i)) ∙ nets_drop k cs bs is.hosted,
+    )
+
+-- as many as there are networks there are of each
+pub parts_fit : {S H P : Type 0} → (f : (Floor S H P)) (nets : List Net) (k : ℕ) → nets_of f.shared.cells.items f.benches.items ≡ nets → IsFloor f → k ≤ length nets
+    → (k ≤ length f.shared.numbers.items) × (k ≤ length f.shared.cells.items) × (k ≤ length f.benches.items)
+parts_fit f nets k view is le =
+    let a = ap (λ (l : List Net). length l) view in
+    let m = nets_len f.shared.cells.items f.benches.items is.hosted in
+    let b = hosted_len f.shared.cells.items f.benches.items is.hosted in
+    let n = ap (λ (l : List ℕ). length l) is.numbered.0 ∙ map_len f.shared.cells.items in
+    (omega arith, omega arith, omega arith)
 
 -- what was gained
 

@@ -1,5 +1,5 @@
 -- Numbers that rise.
-use Rattle.std.proofs.Common.{◌≡◌, ◌<◌, ◌≤◌, ℕ, zero, suc, List, [], ◌∷◌, length, map, get_or, arith, subst, Ok, Err}
+use Rattle.std.proofs.Common.{◌≡◌, ◌<◌, ◌≤◌, ℕ, zero, suc, List, [], ◌∷◌, length, map, get_or, arith, subst, Result, Ok, Err}
 use Rattle.std.specs.Ordering.{nat_cmp}
 use Rattle.std.specs.List.Sorted.{IsBinarySearchResult}
 use Rattle.std.proofs.lemmas.List.Sorted.{searched}
@@ -46,6 +46,13 @@ IsPlace ns x i = (i ≤ length ns) × ((k : ℕ) → k < i → get_or ns k 0 < x
 
 pub place_of : (ns : List ℕ) (x i : ℕ) → IsRising ns → IsBinarySearchResult (λ y. nat_cmp y x) ns (Err i) → IsPlace ns x i
 place_of ns x i up result = searched ns x (Err i) result (rising_at ns up)
+
+-- the same of a search for this number among these numbers, as the code names both
+pub found_place : (ns seen : List ℕ) (x y i : ℕ) (r : Result ℕ ℕ) → IsRising ns → seen ≡ ns → y ≡ x → r ≡ Err i
+    → IsBinarySearchResult (λ k. nat_cmp k y) seen r → IsPlace ns x i
+found_place ns seen x y i r up same named is result =
+    subst (λ k. IsPlace ns k i) named
+    (place_of ns y i up (subst (λ (s : List ℕ × Result ℕ ℕ). IsBinarySearchResult (λ k. nat_cmp k y) s.0 s.1) (λ j. (same j, is j)) result))
 
 pub lacks_at : (ns : List ℕ) (cs : List CellSight) (x i : ℕ) → IsNumbered ns cs → IsPlace ns x i → Lacks cs x
 lacks_at ns cs x i numbered p = let q = subst (λ (l : List ℕ). IsPlace l x i) numbered.0 p in lacks_by cs x i q.1 q.2

@@ -380,25 +380,6 @@ kept_put cs a b j walks applied refused pass =
       parts = ap (λ (v : Hand). v.parts) pass;
     }
 
--- nothing changed that is counted
-pub kept_same : {S H P : Type 0} → (cs : List CellSight) (xs : List Job) (a b c : (Worker S H P)) → b.walks ≡ a.walks → b.applied ≡ a.applied → b.refused ≡ a.refused → hand_of b.pass ≡ hand_of a.pass → IsKept cs xs b c → IsKept cs xs a c
-kept_same cs xs a b c walks applied refused pass kept =
-    let items : b.walks.items ≡ a.walks.items = ap (λ v. v.items) walks in
-    record {
-      lacking = kept.lacking;
-      elsewhere = kept.elsewhere;
-      sum = λ h.
-          let d : done h b ≡ done h a = ap (weigh (done_by h)) items in
-          let k : told h b ≡ told h a = ap (weigh (told_by h)) items in
-          let p : put h b ≡ put h a = ap (λ (v : Hand). weigh h v.put) pass in
-          let t : taken h b ≡ taken h a = ap (λ (v : Hand). weigh h v.taken) pass in
-          let s = kept.sum h in omega arith;
-      applied = let m : weigh applied_many b.walks.items ≡ weigh applied_many a.walks.items = ap (weigh applied_many) items in let s = kept.applied in omega arith;
-      refused = let m : weigh refused_many b.walks.items ≡ weigh refused_many a.walks.items = ap (weigh refused_many) items in let s = kept.refused in omega arith;
-      later = subst (λ l. AllLater l c.walks.items) items kept.later;
-      parts = kept.parts ∙ ap (λ (v : Hand). v.parts) pass;
-    }
-
 -- the job that was taken is done
 pub kept_taken : {S H P : Type 0} → (cs : List CellSight) (a b c : (Worker S H P)) (j : Job) → b.walks ≡ a.walks → b.applied ≡ a.applied → b.refused ≡ a.refused → hand_of b.pass ≡ with_taken (hand_of a.pass) j → IsKept cs (j ∷ []) b c → IsKept cs [] a c
 kept_taken cs a b c j walks applied refused pass kept =
@@ -508,6 +489,16 @@ kept_handed cs xs ys a b same k = record {
 
 pub weigh-last : {X : Type 0} (f : X → ℕ) (before after : List X) (x : X) → before ≡ after ++ x ∷ [] → weigh f before ≡ weigh f after + f x
 weigh-last f before after x is = ap (weigh f) is ∙ weigh-append f after (x ∷ []) ∙ omega arith
+
+-- one job more was handed out, the last of those that were left
+pub one_handed : {S H P : Type 0} → (cs : List CellSight) (all left now handed : List Job) (j : Job) (a b c : (Worker S H P)) → left ≡ now ++ j ∷ []
+    → ((h : Job → ℕ) → weigh h handed + weigh h left ≡ weigh h all) → IsKept cs handed a b → IsKept cs (j ∷ []) b c
+    → (more : List Job) × ((h : Job → ℕ) → weigh h more + weigh h now ≡ weigh h all) × IsKept cs more a c
+one_handed cs all left now handed j a b c is sum kept one = (
+  handed ++ j ∷ [],
+  λ h. let x = weigh-last h left now j is in let y = weigh-append h handed (j ∷ []) in let z = sum h in omega arith,
+  kept_both cs handed (j ∷ []) a b c kept one,
+)
 
 pub all_of : (q : Queue) (ps : List (Pass Job Hand)) → AllPassing (Some q) ps → AllPasses (IsOf q) ps
 all_of q [] all = tt

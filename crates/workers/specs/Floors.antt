@@ -1,5 +1,5 @@
 -- Networks that join and leave.
-use Rattle.std.specs.Prelude.{◌≡◌, ◌<◌, ℕ, List, [], ◌∷◌, ◌++◌, insert, vec_len, vec_capacity}
+use Rattle.std.specs.Prelude.{◌≡◌, ◌<◌, ℕ, List, [], ◌∷◌, ◌++◌, None, drop, insert, take, vec_len, vec_capacity}
 use Rattle.cells.specs.Sights.{CellSight}
 use Rattle.cells.specs.Sights.{Sight}
 use Rattle.workers.specs.declared.deal.Bench.{Bench}
@@ -35,3 +35,14 @@ pub record IsRemoved {S H P : Type 0} (a : (Floor S H P)) (c : CellSight) (seats
   pub own : bench.seats.items ≡ seats
   pub benches : a.benches.items ≡ b.benches.items ++ bench ∷ []
   pub queue : b.shared.queue ≡ a.shared.queue
+
+-- the first so many networks, with the queue, and the others
+pub record AreParts {S H P : Type 0} (a : (Floor S H P)) (count : ℕ) (b c : (Floor S H P)) : Type 0 where
+  pub first_numbers : b.shared.numbers.items ≡ take count a.shared.numbers.items
+  pub first_cells : b.shared.cells.items ≡ take count a.shared.cells.items
+  pub first_benches : b.benches.items ≡ take count a.benches.items
+  pub queue : b.shared.queue ≡ a.shared.queue
+  pub numbers : c.shared.numbers.items ≡ drop count a.shared.numbers.items
+  pub cells : c.shared.cells.items ≡ drop count a.shared.cells.items
+  pub benches : c.benches.items ≡ drop count a.benches.items
+  pub none : c.shared.queue ≡ None

@@ -1,12 +1,13 @@
 //! The cells of a host, and the seats at them.
 
-ghost use Rattle.std.specs.Prelude.{◌≡◌, ◌<◌, ◌≤◌, ◌∷◌, length, insert, IsTrue, vec_len, vec_capacity};
-ghost use Rattle.workers.specs.Floors.{HasRoom, IsPut, IsRemoved, IsSameFloor};
+ghost use Rattle.std.specs.Prelude.{◌≡◌, ◌<◌, ◌≤◌, ◌∷◌, IfOk, length, insert, IsTrue, vec_len, vec_capacity};
+ghost use Rattle.workers.specs.Floors.{AreParts, HasRoom, IsPut, IsRemoved, IsSameFloor};
 
 use crate::deal::Bench;
 use crate::shared::Shared;
 use cells::{Cell, Seat};
 use envstore::Shelf;
+use std::alloc::AllocError;
 use std::sync::Wait;
 
 /// What workers share, and the seats that they do not have now, in the order of the cells.
@@ -65,5 +66,38 @@ impl<S: Shelf + Drop, H: Wait + Drop> Floor<S, H> {
         };
         let Bench { seats } = bench;
         (cell, seats)
+    }
+    /// The first so many networks, with the queue, and the others. An error says that memory is short.
+    pub(crate) fn split_at(self, count: usize) -> Result<(Floor<S, H>, Floor<S, H>), AllocError>
+        requires { (count ≤ length self.shared.numbers.items) × (count ≤ length self.shared.cells.items) × (count ≤ length self.benches.items) }
+        ensures { IfOk result (λ r. AreParts self count r.0 r.1) }
+    {
+        let Floor {
+            shared,
+            mut benches,
+        } = self;
+        let Shared {
+            mut numbers,
+            mut cells,
+            queue,
+        } = shared;
+        let others = Shared {
+            numbers: numbers.split_off(count)?,
+            cells: cells.split_off(count)?,
+            queue: None,
+        };
+        let behind = benches.split_off(count)?;
+        let shared = Shared {
+            numbers,
+            cells,
+            queue,
+        };
+        Ok((
+            Floor { shared, benches },
+            Floor {
+                shared: others,
+                benches: behind,
+            },
+        ))
     }
 }

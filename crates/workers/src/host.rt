@@ -1,6 +1,6 @@
 //! The networks of one host.
 
-ghost use Rattle.std.specs.Prelude.{◌≡◌, ◌<◌, ◌≤◌, [], ◌∷◌, ◌++◌, IfErr, IfSome, IfNone, OnOk, length, Err};
+ghost use Rattle.std.specs.Prelude.{◌≡◌, ◌<◌, ◌≤◌, [], ◌∷◌, ◌++◌, IfErr, IfOk, IfSome, IfNone, OnOk, drop, length, take, Err};
 ghost use Rattle.workers.specs.Benches.{IsHosted};
 ghost use Rattle.workers.specs.NetSights.{Net};
 ghost use Rattle.workers.specs.Nets.{IsClosedNet, IsGreatest, NoNet, nets_with};
@@ -11,7 +11,7 @@ use crate::shared::Shared;
 use cells::{Cell, Seat};
 use envstore::Shelf;
 use hoststep::Journal;
-use std::alloc::Global;
+use std::alloc::{AllocError, Global};
 use std::marker::Model;
 use std::sync::Wait;
 
@@ -129,5 +129,24 @@ impl<S: Shelf + Drop, H: Wait + Drop> Host<S, H> {
         }
         let (cell, seats) = self.floor.remove_last();
         Some(close_net(rt, cell, seats))
+    }
+    /// The first so many networks, and the others, each as a host of their own. An error says that memory is
+    /// short, and all networks are gone.
+    pub fn split_at(self, count: usize) -> Result<(Host<S, H>, Host<S, H>), AllocError>
+        requires { count ≤ length self }
+        ensures { IfOk result (λ r. (r.0 ≡ take count self) × (r.1 ≡ drop count self)) }
+    {
+        let Host { alloc, floor } = self;
+        let (first, others) = floor.split_at(count)?;
+        Ok((
+            Host {
+                alloc,
+                floor: first,
+            },
+            Host {
+                alloc,
+                floor: others,
+            },
+        ))
     }
 }

@@ -26,6 +26,6 @@ loop-next-smaller g c =
 
 pub returns : goal.returns
 returns g c =
-    let found : c.into_nodes.result.items ≡ c.loop-next.sweep.found = c.into_nodes.ensures ∙ ap (λ (s : Swept). s.found) c.in_default.ensures.1 in
+    let found : c.in_ok-nodes.nodes.items ≡ c.loop-next.sweep.found = c.in_ok-nodes.ensures ∙ ap (λ (s : Swept). s.found) c.in_default.ensures.1 in
     subst (λ (xs : List ℕ). IsReach c.args.node.now c.args.slices.now c.args.table.now xs) (sym found)
     (is_reach c.args.node.now c.args.slices.now c.args.table.now c.loop-next.sweep c.loop-next.invariant c.in_default.ensures.0 c.are_single.ensures)

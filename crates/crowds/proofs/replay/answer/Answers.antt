@@ -14,5 +14,5 @@ returns-in-Ok c =
 
 pub returns-in-Err : goal.returns-in-Err
 returns-in-Err c =
-    subst (λ (e : Event). IfOk c.refused.result (λ r. IsAnswer c.args.journal.now (step_of e) (reply_of r) c.apply.new.self)) c.in_ok-try_copy.ensures
-    (refused_is reply_of c.args.journal.now c.apply.new.self (step_of c.in_ok-try_copy.field-0) c.in-Err.refusal c.refused.result c.refused.ensures.reply c.refused.ensures.other c.in-Err.ensures.err c.in-Err.ensures.same)
+    subst (λ (e : Event). IfOk c.reply_of_refusal.result (λ r. IsAnswer c.args.journal.now (step_of e) (reply_of r) c.apply.new.self)) c.in_ok-try_copy.ensures
+    (refused_is reply_of c.args.journal.now c.apply.new.self (step_of c.in_ok-try_copy.field-0) c.in-Err.refusal c.reply_of_refusal.result c.reply_of_refusal.ensures.reply c.reply_of_refusal.ensures.other c.in-Err.ensures.err c.in-Err.ensures.same)

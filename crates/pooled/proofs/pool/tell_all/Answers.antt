@@ -1,21 +1,11 @@
-use Rattle.std.proofs.Common.{rules, ◌≡◌, []}
+use Rattle.std.proofs.Common.{rules}
 use Rattle.std.specs.Prelude.{string_bytes}
-use Rattle.pooled.proofs.TellingLaws.{all_told, part_more, part_none}
 use Rattle.pooled.proofs.pool.tell_all.Goals as goal
 
-pub loop-journal-init : goal.loop-journal-init
-loop-journal-init g c = part_none _ _ _ _ c.in_ok-journals.ensures (search rules) (search rules)
-
-pub loop-journal-preserved : goal.loop-journal-preserved
-loop-journal-preserved g c =
-    part_more c.args.host.now c.loop-journal.journals.items c.pop.new.self.items c.in-Some.journal _ _ _ _ (search rules) c.in_ok-tell.ensures c.loop-journal.invariant
-
 pub returns : goal.returns
-returns g c =
-    let empty : c.loop-journal.journals.items ≡ [] = search rules in
-    record {
-      decided = string_bytes c.loop-journal.text;
-      lengths = string_bytes c.loop-journal.lengths;
-      told = all_told c.args.host.now c.loop-journal.journals.items (string_bytes c.loop-journal.text) (string_bytes c.loop-journal.lengths) empty c.loop-journal.invariant;
-      parts = search rules;
-    }
+returns g c = record {
+  decided = string_bytes c.in_ok-told.told.decided;
+  lengths = string_bytes c.in_ok-told.told.lengths;
+  told = c.in_ok-told.ensures;
+  parts = search rules;
+}

@@ -1,24 +1,11 @@
-use Rattle.std.proofs.Common.{◌≡◌, ◌∙◌, Option, Some, IfOk, sym, ap, subst, arith}
-use Rattle.std.proofs.lemmas.Bool.{false≢true}
-use Rattle.types.specs.declared.state.Votes.{Votes}
-use Rattle.protocol.specs.Nodes.{settle}
-use Rattle.protocol.specs.Passes.{pass}
-use Rattle.slot.proofs.Settles.{settle-same, settle-other}
+use Rattle.slot.proofs.StirredPasses.{all-arm, ballots-arm, nominations-arm}
 use Rattle.slot.proofs.settling.settle_from.Goals as goal
 
-pub returns-then-is_same-clause-value : goal.returns-then-is_same-clause-value
-returns-then-is_same-clause-value g c =
-    let f = pass c.args.own.now (g.S.Sight.seen c.args.sight.now) c.args.given.now in
-    let w = c.args.votes.now in
-    let next : c.in_ok-next.next ≡ f w = c.in_ok-next.ensures in
-    let same : c.in_ok-next.next ≡ w = c.is_same.ensures.0 c.if-is_same.true in
-    ap {B = Option Votes} Some same ∙ sym (settle-same 0 f w (omega arith) (sym next ∙ same))
+pub returns-in-All : goal.returns-in-All
+returns-in-All g c = all-arm c.args.stirred c.args.own.now (g.S.Sight.seen c.args.sight.now) c.args.given.now c.args.votes.now c.in_ok-next.next c.settle_after.result c.in-All.is c.requires c.in_ok-next.ensures c.settle_after.ensures
 
-pub returns-clause-value : goal.returns-clause-value
-returns-clause-value g c =
-    let f = pass c.args.own.now (g.S.Sight.seen c.args.sight.now) c.args.given.now in
-    let w = c.args.votes.now in
-    let next : c.in_ok-next.next ≡ f w = c.in_ok-next.ensures in
-    let other : f w ≡ w → ⊥ = λ e. false≢true (sym c.if-is_same.false ∙ c.is_same.ensures.1 (next ∙ e)) in
-    let all = ap (λ (u : Votes). settle 63 f u) next ∙ sym (settle-other 0 f w (omega arith) other) in
-    subst (λ (o : Option Votes). IfOk c.settle_on.result (λ r. r ≡ o)) all c.settle_on.ensures.value
+pub returns-in-Ballots : goal.returns-in-Ballots
+returns-in-Ballots g c = ballots-arm c.args.stirred c.args.own.now (g.S.Sight.seen c.args.sight.now) c.args.given.now c.args.votes.now c.in_ok-next.next c.settle_after-in-Ballots.result c.in-Ballots.is c.requires c.in_ok-next.ensures c.settle_after-in-Ballots.ensures
+
+pub returns-in-Nominations : goal.returns-in-Nominations
+returns-in-Nominations g c = nominations-arm c.args.stirred c.args.own.now (g.S.Sight.seen c.args.sight.now) c.args.given.now c.args.votes.now c.settle_nominated.result c.in-Nominations.is c.requires c.settle_nominated.ensures

@@ -1,10 +1,10 @@
 use Rattle.std.proofs.Common.{◌≡◌, ◌-◌}
 use Rattle.protocol.specs.Nodes.{settle}
-use Rattle.protocol.specs.Passes.{pass}
+use Rattle.slot.specs.Stirrings.{part}
 use Rattle.slot.proofs.settling.settle_on.Given as goal
 
 -- the passes that are left lead where all of them do
 abbrev pub invariant-loop-number : goal.invariant-loop-number
 invariant-loop-number g l =
-    let f = pass l.own (g.S.Sight.seen l.sight) l.given in
+    let f = part l.rules l.own (g.S.Sight.seen l.sight) l.given in
     settle (64 - l.number) f l.settled ≡ settle 63 f l.fn.votes

@@ -9,7 +9,7 @@ use Rattle.network.proofs.network.Network.carry_out.Goals as goal
 pub perform-requires-clause-doable : goal.perform-requires-clause-doable
 perform-requires-clause-doable g c =
     let i = c.self.inside in
-    let m : Standing = record { config = i.config; archive = i.archive; slots = i.slots.items; events = i.events; bytes = i.bytes; opens = i.opens } in
+    let m : Standing = record { config = i.config; archive = i.archive; slots = i.slots; events = i.events; bytes = i.bytes; opens = i.opens } in
     let e = step_of c.args.event.now in
     let plan = subst (λ (s : Standing). IsPlan s e c.args.plan) (sym c.self.view_is) c.requires in
     let events = subst (λ (s : Standing). s.config.budgets.events ≤ 2 ^ 40) (sym c.self.view_is) c.limits.ensures.events in
@@ -20,7 +20,7 @@ perform-requires-clause-doable g c =
 pub count-requires : goal.count-requires
 count-requires g c =
     let i = c.self.inside in
-    let m : Standing = record { config = i.config; archive = i.archive; slots = i.slots.items; events = i.events; bytes = i.bytes; opens = i.opens } in
+    let m : Standing = record { config = i.config; archive = i.archive; slots = i.slots; events = i.events; bytes = i.bytes; opens = i.opens } in
     let e = step_of c.args.event.now in
     let plan = subst (λ (s : Standing). IsPlan s e c.args.plan) (sym c.self.view_is) c.requires in
     let events = subst (λ (s : Standing). s.config.budgets.events ≤ 2 ^ 40) (sym c.self.view_is) c.limits.ensures.events in
@@ -31,22 +31,22 @@ count-requires g c =
 pub invariant_of-self-2 : goal.invariant_of-self-2
 invariant_of-self-2 g c =
     let i = c.self.inside in
-    let m : Standing = record { config = i.config; archive = i.archive; slots = i.slots.items; events = i.events; bytes = i.bytes; opens = i.opens } in
+    let m : Standing = record { config = i.config; archive = i.archive; slots = i.slots; events = i.events; bytes = i.bytes; opens = i.opens } in
     let e = step_of c.args.event.now in
     let plan = subst (λ (s : Standing). IsPlan s e c.args.plan) (sym c.self.view_is) c.requires in
     let events = subst (λ (s : Standing). s.config.budgets.events ≤ 2 ^ 40) (sym c.self.view_is) c.limits.ensures.events in
     let bytes = subst (λ (s : Standing). s.config.budgets.bytes ≤ 2 ^ 40) (sym c.self.view_is) c.limits.ensures.bytes in
     let few = subst HaveFewShares (sym c.self.view_is) c.limits.ensures.shares in
-    standing-after m e c.args.plan c.self.invariant plan events bytes few c.perform.new.slots.items c.perform.new.archive c.in_ok-applied.ensures.done c.perform.ensures.lodged
+    standing-after m e c.args.plan c.self.invariant plan events bytes few c.perform.new.slots c.perform.new.archive c.in_ok-applied.ensures.done c.perform.ensures.lodged
     c.count.new.events c.count.new.bytes c.count.new.opens c.count.ensures.events c.count.ensures.bytes c.count.ensures.opens
 
 pub returns-clause-applied : goal.returns-clause-applied
 returns-clause-applied g c =
     let i = c.self.inside in
-    let m : Standing = record { config = i.config; archive = i.archive; slots = i.slots.items; events = i.events; bytes = i.bytes; opens = i.opens } in
+    let m : Standing = record { config = i.config; archive = i.archive; slots = i.slots; events = i.events; bytes = i.bytes; opens = i.opens } in
     let e = step_of c.args.event.now in
     let plan = subst (λ (s : Standing). IsPlan s e c.args.plan) (sym c.self.view_is) c.requires in
-    let after : Standing = record { config = i.config; archive = c.perform.new.archive; slots = c.perform.new.slots.items; events = c.count.new.events; bytes = c.count.new.bytes; opens = c.count.new.opens } in
+    let after : Standing = record { config = i.config; archive = c.perform.new.archive; slots = c.perform.new.slots; events = c.count.new.events; bytes = c.count.new.bytes; opens = c.count.new.opens } in
     subst (λ (s : Standing). IsApplied s e c.args.copies after c.in_ok-applied.applied) c.self.view_is
-    (applied m e c.args.plan c.perform.new.slots.items c.perform.new.archive c.count.new.events c.count.new.bytes c.count.new.opens c.args.copies c.in_ok-applied.applied c.self.invariant plan c.in_ok-applied.ensures.done
+    (applied m e c.args.plan c.perform.new.slots c.perform.new.archive c.count.new.events c.count.new.bytes c.count.new.opens c.args.copies c.in_ok-applied.applied c.self.invariant plan c.in_ok-applied.ensures.done
     c.count.ensures.events c.count.ensures.bytes c.count.ensures.opens c.in_ok-applied.ensures.answer)

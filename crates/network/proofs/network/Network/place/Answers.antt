@@ -9,4 +9,4 @@ pub returns-clause-lodged : goal.returns-clause-lodged
 returns-clause-lodged g c =
     let w = subst (λ (m : Standing). IsSeatThere (machine_of m) c.args.slot_at c.args.host_at) (sym c.self.view_is) c.requires in
     subst (λ (m : Standing). IsLodged m.archive c.index-places-host_at.result) c.self.view_is
-    (lodged-at c.self.inside.archive c.self.inside.slots.items c.args.slot_at c.args.host_at c.index.result.now c.places.result.now c.index-places-host_at.result w.1.0 w.0 c.self.invariant.lodged w.1.1 w.1.2 c.index.ensures c.places.ensures c.index-places-host_at.is)
+    (lodged-at c.self.inside.archive c.self.inside.slots c.args.slot_at c.args.host_at c.slot.result.now c.places.result.now c.index-places-host_at.result w.1.0 w.0 c.self.invariant.lodged w.1.1 w.1.2 c.slot.ensures c.places.ensures c.index-places-host_at.is)

@@ -6,7 +6,8 @@ use Rattle.network.specs.Charges.{FitsOrNone}
 use Rattle.network.specs.Lodgings.{bytes_from, events_from}
 use Rattle.network.specs.TallyBooks.{TallyBook, names_in}
 use Rattle.network.specs.declared.tallies.Tally.{Tally}
-use Rattle.network.proofs.TallyLaws.{bytes-has, bytes-insert, bytes-set, events-has, events-insert, events-set, names-insert, names-set}
+use Rattle.network.proofs.KeyPlaces.{keys-insert, keys-set}
+use Rattle.network.proofs.TallyLaws.{bytes-has, bytes-insert, bytes-set, events-has, events-insert, events-set}
 use Rattle.network.proofs.tallies.Tallies.count_from.Goals as goal
 
 -- the name has a tally
@@ -21,7 +22,7 @@ add-requires-clause-bytes c =
     subst (λ n. FitsOrNone n c.args.size) (bytes-has c.args.self.now.tallies c.args.from.now c.in-Ok.at c.index_mut.result.now c.in-Ok.ensures.0 read) c.requires.few_bytes
 
 pub invariant_of-self : goal.invariant_of-self
-invariant_of-self c = names-set c.self.inside.entries.items c.in-Ok.at c.index_mut.result.now c.add.new.tally c.index_mut.ensures.value c.add.ensures.from c.self.invariant
+invariant_of-self c = keys-set (λ (t : Tally). t.from) c.self.inside.entries.items c.in-Ok.at c.index_mut.result.now c.add.new.tally c.index_mut.ensures.value c.add.ensures.from c.self.invariant
 
 pub returns-in-Ok-clause-events : goal.returns-in-Ok-clause-events
 returns-in-Ok-clause-events c = λ u.
@@ -40,7 +41,7 @@ pub invariant_of-self-in-Ok-insert : goal.invariant_of-self-in-Ok-insert
 invariant_of-self-in-Ok-insert c =
     let tally : Tally = record { from = c.args.from.now; events = 1; bytes = c.args.size } in
     let up = subst (λ (b : TallyBook). IsAscending (insert (names_in b.tallies) c.in-Err.at c.args.from.now)) (sym c.self.view_is) c.in-Err.ensures.2 in
-    subst (λ (ts : List Tally). IsAscending (names_in ts)) (sym c.in-Ok-insert.ensures.items) (names-insert c.self.inside.entries.items c.in-Err.at tally up)
+    subst (λ (ts : List Tally). IsAscending (names_in ts)) (sym c.in-Ok-insert.ensures.items) (keys-insert (λ (t : Tally). t.from) c.self.inside.entries.items c.in-Err.at tally up)
 
 pub returns-in-Ok-insert-clause-events : goal.returns-in-Ok-insert-clause-events
 returns-in-Ok-insert-clause-events c = λ u.

@@ -13,15 +13,15 @@ use Rattle.slot.proofs.listener.Listener.offer.Goals.{in-NoMemory, in-Stale, in-
 pub returns-clause-offered : goal.returns-clause-offered
 returns-clause-offered g c =
     let old = c.args.self.now.table in
-    let new = c.put.new.self.table in
+    let new = c.put-put.new.self.table in
     let x = sent_of c.args.envelope in
     elim c.match-put.branch [
       | in-NoMemory w ↦ subst (λ r. OnOk r (sents_of new ≡ offered (sents_of old) x)) (sym w.result-is) tt
       | in-Stale w ↦
-          let p = w.in-Stale.ensures.put in
+          let p = subst (λ p. IsPut old x p new) w.in-Stale.is c.put-put.ensures.put in
           subst (λ r. OnOk r (sents_of new ≡ offered (sents_of old) x)) (sym w.result-is) (ap sents_of p.1 ∙ sym (offered-stale (sents_of old) x p.0))
       | in-Added w ↦
-          let p = put-takes old new x c.put.result c.put.ensures.put w.in-Added.is in
+          let p = put-takes old new x c.put-put.result.0 c.put-put.ensures.put w.in-Added.is in
           subst (λ r. OnOk r (sents_of new ≡ offered (sents_of old) x)) (sym w.result-is) (p.1 ∙ sym (offered-taken (sents_of old) x p.0))
     ]
 
@@ -29,7 +29,7 @@ pub returns-clause-idle : goal.returns-clause-idle
 returns-clause-idle g c = λ idle.
     elim c.match-put.branch [
       | in-NoMemory w ↦
-          let first = subst (λ p. IsPut c.args.self.now.table (sent_of c.args.envelope) p c.put.new.self.table) w.in-NoMemory.is c.put.ensures.put in
+          let first = subst (λ p. IsPut c.args.self.now.table (sent_of c.args.envelope) p c.put-put.new.self.table) w.in-NoMemory.is c.put-put.ensures.put in
           absurd (false≢true (sym idle ∙ first-taken (sents_of c.args.self.now.table) (sent_of c.args.envelope) first.0))
       | in-Stale w ↦ subst (λ r. IsTrue (is_ok r)) (sym w.result-is) refl
       | in-Added w ↦ subst (λ r. IsTrue (is_ok r)) (sym w.result-is) refl

@@ -1,4 +1,4 @@
-use Rattle.std.proofs.Common.{◌≡◌, ◌∙◌, sym, ap}
+use Rattle.std.proofs.Common.{◌∙◌, sym, ap}
 use Rattle.protocol.specs.Nodes.{Node, is_externalized}
 use Rattle.slot.proofs.Answered.{node_in}
 use Rattle.slot.proofs.AddedRows.{over-row, stranger-row, untrue}

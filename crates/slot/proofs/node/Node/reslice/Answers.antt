@@ -8,6 +8,7 @@ use Rattle.slot.specs.Filings.{outs_of}
 use Rattle.envstore.specs.Archives.{AreFiled, sents_of}
 use Rattle.envstore.proofs.Growing.{keeps_all}
 use Rattle.slot.proofs.Answered.{node_in, settles-after, sends-after, change-slices, slices-back, outs-by_new, step-some, reached-some}
+use Rattle.slot.proofs.StirredRows.{stirs-all}
 use Rattle.slot.proofs.node.Node.reslice.Goals as goal
 use Rattle.slot.proofs.node.Node.reslice.Goals.{in-Ok, in-Err}
 
@@ -18,6 +19,14 @@ answer_anew-requires-clause-settles g c =
     let k = c.exchange_slices-old_slices.new.self in
     let made = change-slices i.listener k i.given i.votes i.votes n c.args.slices (sym (ap node_in c.self.view_is)) c.exchange_slices-old_slices.ensures.now refl in
     settles-after n (node_of k i.given i.votes) (Reslice c.args.slices) (subst Reached (ap node_in c.self.view_is) c.self.invariant) made
+
+pub answer_anew-requires-clause-stirs : goal.answer_anew-requires-clause-stirs
+answer_anew-requires-clause-stirs g c =
+    let i = c.self.inside in
+    let n = c.args.self.now.node in
+    let k = c.exchange_slices-old_slices.new.self in
+    let made = change-slices i.listener k i.given i.votes i.votes n c.args.slices (sym (ap node_in c.self.view_is)) c.exchange_slices-old_slices.ensures.now refl in
+    stirs-all n (node_of k i.given i.votes) (Reslice c.args.slices) (subst Reached (ap node_in c.self.view_is) c.self.invariant) made
 
 pub answer_anew-requires-clause-sends : goal.answer_anew-requires-clause-sends
 answer_anew-requires-clause-sends g c =

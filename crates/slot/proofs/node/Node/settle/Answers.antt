@@ -5,7 +5,10 @@ use Rattle.protocol.specs.Limits.{Reached}
 use Rattle.envstore.specs.Archives.{AreFiled}
 use Rattle.envstore.proofs.Growing.{keeps_all}
 use Rattle.slot.specs.Listening.{Heard, Held, node_of}
+use Rattle.slot.specs.declared.stirring.Stirred.TheVariants.{All}
+use Rattle.slot.specs.Stirrings.{StirsIn}
 use Rattle.slot.specs.Wholes.{SendWellFormed}
+use Rattle.slot.proofs.StirredRows.{stirs-all}
 use Rattle.slot.proofs.Answered.{node_in}
 use Rattle.slot.proofs.Answered.{settles-after, sends-after, reached-some}
 use Rattle.slot.proofs.node.Node.settle.Goals as goal
@@ -16,6 +19,13 @@ answer-answered-requires-clause-settles g c =
     let m : Node = record n { given = c.args.given; votes = c.args.votes } in
     let h = settles-after n m c.requires.change.event (subst Reached (ap node_in c.self.view_is) c.self.invariant) c.requires.change.is in
     subst (λ (x : Node). IsTrue (is_some (settle 64 (passed (record x { given = c.args.given; votes = c.args.votes })) c.args.votes))) (sym (ap node_in c.self.view_is)) h
+
+pub answer-answered-requires-clause-stirs : goal.answer-answered-requires-clause-stirs
+answer-answered-requires-clause-stirs g c =
+    let n = c.args.self.now.node in
+    let m : Node = record n { given = c.args.given; votes = c.args.votes } in
+    let h = stirs-all n m c.requires.change.event (subst Reached (ap node_in c.self.view_is) c.self.invariant) c.requires.change.is in
+    subst (λ (x : Node). StirsIn All (record x { given = c.args.given; votes = c.args.votes })) (sym (ap node_in c.self.view_is)) h
 
 pub answer-answered-requires-clause-sends : goal.answer-answered-requires-clause-sends
 answer-answered-requires-clause-sends g c =

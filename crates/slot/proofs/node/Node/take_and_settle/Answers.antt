@@ -6,12 +6,15 @@ use Rattle.types.specs.declared.event.Out.{Out}
 use Rattle.protocol.specs.Nodes.{Node, outs, step}
 use Rattle.protocol.specs.Limits.{Reached}
 use Rattle.slot.specs.declared.configured.Configured.{Configured}
+use Rattle.latest.specs.declared.table.Put.{Put}
+use Rattle.latest.specs.Puts.{IsPut}
 use Rattle.slot.specs.Listening.{Heard, node_of}
 use Rattle.slot.specs.Wholes.{whole}
 use Rattle.slot.specs.Filings.{outs_of}
 use Rattle.envstore.specs.Archives.{sent_of, sents_of}
 use Rattle.slot.proofs.Answered.{held_of, node_in}
-use Rattle.slot.proofs.Answered.{settles-after, sends-after, step-is, change-put, change-stale, heard-same, put-undone, step-some, reached-some}
+use Rattle.slot.proofs.StirredRows.{stirs-row}
+use Rattle.slot.proofs.Answered.{put-takes, settles-after, sends-after, step-is, change-put, change-stale, heard-same, put-undone, step-some, reached-some}
 use Rattle.slot.proofs.Idle.{first-taken, idle-stale, never}
 use Rattle.slot.proofs.node.Node.take_and_settle.Goals as goal
 use Rattle.slot.proofs.node.Node.take_and_settle.Goals.{in-Ok, in-Err}
@@ -21,15 +24,24 @@ answer_anew-requires-clause-settles g c =
     let i = c.self.inside in
     let n = c.args.self.now.node in
     let k = c.put-put.new.self in
-    let made = change-put i.listener k i.given i.votes i.votes n (sent_of c.args.envelope) c.put-put.result (sym (ap node_in c.self.view_is)) c.put-put.ensures.put c.put-put.ensures.same c.in-Added.is refl in
+    let made = change-put i.listener k i.given i.votes i.votes n (sent_of c.args.envelope) c.put-put.result.0 (sym (ap node_in c.self.view_is)) c.put-put.ensures.put c.put-put.ensures.same c.in-Added.is refl in
     settles-after n (node_of k i.given i.votes) (Take (sent_of c.args.envelope)) (subst Reached (ap node_in c.self.view_is) c.self.invariant) made
+
+pub answer_anew-requires-clause-stirs : goal.answer_anew-requires-clause-stirs
+answer_anew-requires-clause-stirs g c =
+    let i = c.self.inside in
+    let k = c.put-put.new.self in
+    let x = sent_of c.args.envelope in
+    let taken = put-takes i.listener.table k.table x c.put-put.result.0 c.put-put.ensures.put c.in-Added.is in
+    let made = change-put i.listener k i.given i.votes i.votes (node_of i.listener i.given i.votes) x c.put-put.result.0 refl c.put-put.ensures.put c.put-put.ensures.same c.in-Added.is refl in
+    stirs-row i.listener k i.given i.votes x c.put-put.result.1 c.self.invariant c.put-put.ensures.same taken.1 made c.put-put.ensures.stirs
 
 pub answer_anew-requires-clause-sends : goal.answer_anew-requires-clause-sends
 answer_anew-requires-clause-sends g c =
     let i = c.self.inside in
     let n = c.args.self.now.node in
     let k = c.put-put.new.self in
-    let made = change-put i.listener k i.given i.votes i.votes n (sent_of c.args.envelope) c.put-put.result (sym (ap node_in c.self.view_is)) c.put-put.ensures.put c.put-put.ensures.same c.in-Added.is refl in
+    let made = change-put i.listener k i.given i.votes i.votes n (sent_of c.args.envelope) c.put-put.result.0 (sym (ap node_in c.self.view_is)) c.put-put.ensures.put c.put-put.ensures.same c.in-Added.is refl in
     sends-after n (node_of k i.given i.votes) (Take (sent_of c.args.envelope)) (subst Reached (ap node_in c.self.view_is) c.self.invariant) made
 
 pub invariant_of-self-in-Added : goal.invariant_of-self-in-Added
@@ -37,27 +49,27 @@ invariant_of-self-in-Added g c =
     let i = c.self.inside in
     let n = c.args.self.now.node in
     let k = c.put-put.new.self in
-    let made = change-put i.listener k i.given i.votes i.votes n (sent_of c.args.envelope) c.put-put.result (sym (ap node_in c.self.view_is)) c.put-put.ensures.put c.put-put.ensures.same c.in-Added.is refl in
+    let made = change-put i.listener k i.given i.votes i.votes n (sent_of c.args.envelope) c.put-put.result.0 (sym (ap node_in c.self.view_is)) c.put-put.ensures.put c.put-put.ensures.same c.in-Added.is refl in
     let reached : Reached n = subst Reached (ap node_in c.self.view_is) c.self.invariant in
     elim c.match-answer_anew.branch [
       | in-Ok w ↦
           let after = reached-some n (node_of k i.given i.votes) (Take (sent_of c.args.envelope)) w.in-Ok.field-0.votes reached made w.in-Ok.ensures.votes in
           subst (λ x. Reached (node_of x.listener x.given x.votes)) (sym w.self-inside-is) (subst (λ (h : Heard). Reached (node_of h i.given w.in-Ok.field-0.votes)) (sym c.answer_anew.ensures.same) after)
       | in-Err w ↦
-          let back = put-undone i.listener k c.answer_anew.new.listener w.undo.new.self c.put-put.result w.undo.ensures c.answer_anew.ensures.same c.put-put.ensures.back c.put-put.ensures.same in
+          let back = put-undone i.listener k c.answer_anew.new.listener w.undo.new.self c.put-put.result.0 w.undo.ensures c.answer_anew.ensures.same c.put-put.ensures.back c.put-put.ensures.same in
           subst (λ x. Reached (node_of x.listener x.given x.votes)) (sym w.self-inside-is) (subst (λ (h : Heard). Reached (node_of h i.given i.votes)) (sym back) c.self.invariant)
     ]
 
 pub returns-in_ok-given_out-in-Stale-clause-node : goal.returns-in_ok-given_out-in-Stale-clause-node
 returns-in_ok-given_out-in-Stale-clause-node g c =
     let i = c.self.inside in
-    let stale = step-is c.args.self.now.node (Take (sent_of c.args.envelope)) None (change-stale i.listener.configured i.given i.votes (sents_of i.listener.table) c.args.self.now.node (sent_of c.args.envelope) (sym (ap node_in c.self.view_is)) c.in-Stale.ensures.put.0) in
-    ap (λ (h : Heard). node_of h i.given i.votes) (heard-same i.listener c.put-put.new.self c.put-put.ensures.same c.in-Stale.ensures.put.1) ∙ (ap node_in c.self.view_is) ∙ sym (ap (λ (p : Node × List Out). p.0) stale)
+    let stale = step-is c.args.self.now.node (Take (sent_of c.args.envelope)) None (change-stale i.listener.configured i.given i.votes (sents_of i.listener.table) c.args.self.now.node (sent_of c.args.envelope) (sym (ap node_in c.self.view_is)) (subst (λ (p : Put). IsPut c.self.inside.listener.table (sent_of c.args.envelope) p c.put-put.new.self.table) c.in-Stale.is c.put-put.ensures.put).0) in
+    ap (λ (h : Heard). node_of h i.given i.votes) (heard-same i.listener c.put-put.new.self c.put-put.ensures.same (subst (λ (p : Put). IsPut c.self.inside.listener.table (sent_of c.args.envelope) p c.put-put.new.self.table) c.in-Stale.is c.put-put.ensures.put).1) ∙ (ap node_in c.self.view_is) ∙ sym (ap (λ (p : Node × List Out). p.0) stale)
 
 pub returns-in_ok-given_out-in-Stale-clause-outs : goal.returns-in_ok-given_out-in-Stale-clause-outs
 returns-in_ok-given_out-in-Stale-clause-outs g c =
     let i = c.self.inside in
-    let stale = step-is c.args.self.now.node (Take (sent_of c.args.envelope)) None (change-stale i.listener.configured i.given i.votes (sents_of i.listener.table) c.args.self.now.node (sent_of c.args.envelope) (sym (ap node_in c.self.view_is)) c.in-Stale.ensures.put.0) in
+    let stale = step-is c.args.self.now.node (Take (sent_of c.args.envelope)) None (change-stale i.listener.configured i.given i.votes (sents_of i.listener.table) c.args.self.now.node (sent_of c.args.envelope) (sym (ap node_in c.self.view_is)) (subst (λ (p : Put). IsPut c.self.inside.listener.table (sent_of c.args.envelope) p c.put-put.new.self.table) c.in-Stale.is c.put-put.ensures.put).0) in
     ap outs_of c.in_ok-given_out-in-Stale.ensures.outs ∙ sym (ap (λ (p : Node × List Out). p.1) stale)
 
 pub returns-after-answer_anew-clause-node : goal.returns-after-answer_anew-clause-node
@@ -66,7 +78,7 @@ returns-after-answer_anew-clause-node g c =
     let n = c.args.self.now.node in
     let k = c.put-put.new.self in
     let m = node_of k i.given i.votes in
-    let made = change-put i.listener k i.given i.votes i.votes n (sent_of c.args.envelope) c.put-put.result (sym (ap node_in c.self.view_is)) c.put-put.ensures.put c.put-put.ensures.same c.in-Added.is refl in
+    let made = change-put i.listener k i.given i.votes i.votes n (sent_of c.args.envelope) c.put-put.result.0 (sym (ap node_in c.self.view_is)) c.put-put.ensures.put c.put-put.ensures.same c.in-Added.is refl in
     let now = c.match-answer_anew.self-inside in
     let after = (step n (Take (sent_of c.args.envelope))).0 in
     elim c.match-answer_anew.branch [
@@ -86,7 +98,7 @@ returns-after-answer_anew-clause-err g c =
     elim c.match-answer_anew.branch [
       | in-Ok w ↦ subst (λ r. OnErr r (held_of now.listener now.given now.votes ≡ n)) (sym w.result-is) tt
       | in-Err w ↦
-          let back = put-undone i.listener k c.answer_anew.new.listener w.undo.new.self c.put-put.result w.undo.ensures c.answer_anew.ensures.same c.put-put.ensures.back c.put-put.ensures.same in
+          let back = put-undone i.listener k c.answer_anew.new.listener w.undo.new.self c.put-put.result.0 w.undo.ensures c.answer_anew.ensures.same c.put-put.ensures.back c.put-put.ensures.same in
           subst (λ r. OnErr r (held_of now.listener now.given now.votes ≡ n)) (sym w.result-is)
           (ap (λ x. held_of x.listener x.given x.votes) w.self-inside-is ∙ ap (λ (h : Heard). held_of h i.given i.votes) back ∙ c.self.view_is)
     ]
@@ -97,7 +109,7 @@ returns-after-answer_anew-clause-outs g c =
     let n = c.args.self.now.node in
     let k = c.put-put.new.self in
     let m = node_of k i.given i.votes in
-    let made = change-put i.listener k i.given i.votes i.votes n (sent_of c.args.envelope) c.put-put.result (sym (ap node_in c.self.view_is)) c.put-put.ensures.put c.put-put.ensures.same c.in-Added.is refl in
+    let made = change-put i.listener k i.given i.votes i.votes n (sent_of c.args.envelope) c.put-put.result.0 (sym (ap node_in c.self.view_is)) c.put-put.ensures.put c.put-put.ensures.same c.in-Added.is refl in
     let given_out = (step n (Take (sent_of c.args.envelope))).1 in
     elim c.match-answer_anew.branch [
       | in-Ok w ↦
@@ -113,12 +125,12 @@ pub returns-in-NoMemory-clause-idle : goal.returns-in-NoMemory-clause-idle
 returns-in-NoMemory-clause-idle g c = λ none idle.
     let i = c.self.inside in
     let stale = idle-stale i.listener.configured i.given i.votes (sents_of i.listener.table) c.args.self.now.node (sent_of c.args.envelope) (sym (ap node_in c.self.view_is)) idle in
-    absurd (false≢true (sym stale ∙ first-taken (sents_of i.listener.table) (sent_of c.args.envelope) c.in-NoMemory.ensures.put.0))
+    absurd (false≢true (sym stale ∙ first-taken (sents_of i.listener.table) (sent_of c.args.envelope) (subst (λ (p : Put). IsPut c.self.inside.listener.table (sent_of c.args.envelope) p c.put-put.new.self.table) c.in-NoMemory.is c.put-put.ensures.put).0))
 
 pub returns-after-answer_anew-clause-idle : goal.returns-after-answer_anew-clause-idle
 returns-after-answer_anew-clause-idle g c = λ none idle.
     let i = c.self.inside in
     let n = c.args.self.now.node in
     let k = c.put-put.new.self in
-    let made = change-put i.listener k i.given i.votes i.votes n (sent_of c.args.envelope) c.put-put.result (sym (ap node_in c.self.view_is)) c.put-put.ensures.put c.put-put.ensures.same c.in-Added.is refl in
+    let made = change-put i.listener k i.given i.votes i.votes n (sent_of c.args.envelope) c.put-put.result.0 (sym (ap node_in c.self.view_is)) c.put-put.ensures.put c.put-put.ensures.same c.in-Added.is refl in
     absurd (never (node_of k i.given i.votes) made idle)

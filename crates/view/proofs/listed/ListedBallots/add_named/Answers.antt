@@ -1,7 +1,6 @@
-use Rattle.std.proofs.Common.{◌∙◌, ◌++◌, ◌∷◌, [], List, Option, ap, ap₂, filter, option_to_list, subst, sym}
+use Rattle.std.proofs.Common.{◌∙◌, ◌++◌, ◌∷◌, [], List, OnOk, Option, ap, ap₂, filter, option_to_list, subst, sym}
 use Rattle.types.specs.declared.ballot.Ballot.{Ballot}
 use Rattle.protocol.specs.Candidates.{is_counted, named_by}
-use Rattle.protocol.specs.States.{ballot_at}
 use Rattle.view.specs.Listing.{AreListed}
 use Rattle.view.proofs.ListedLaws.{then_listed}
 use Rattle.view.proofs.listed.ListedBallots.add_named.Goals as goal
@@ -20,11 +19,10 @@ returns-in-Some c =
 
 pub returns-in_ok-add-in-Commit : goal.returns-in_ok-add-in-Commit
 returns-in_ok-add-in-Commit c =
-    let v = c.in-Commit.ballot.value in
-    then_listed c.add_ends.result c.args.self.now c.add-in-Commit.new.self c.add_ends.new.self (c.of-in-Commit.result ∷ []) (ballot_at c.in-Commit.prepared_counter v ∷ ballot_at c.in-Commit.high_counter v ∷ []) (named_by c.args.statement.now)
-    (ap (λ (b : Ballot). b ∷ ballot_at c.in-Commit.prepared_counter v ∷ ballot_at c.in-Commit.high_counter v ∷ []) c.of-in-Commit.ensures ∙ ap named_by (sym c.in-Commit.is)) c.in_ok-add-in-Commit.ensures c.add_ends.ensures
+    then_listed c.add_both.result c.args.self.now c.add-in-Commit.new.self c.add_both.new.self (c.of-in-Commit.result ∷ []) (c.at-low.result ∷ c.at-high.result ∷ []) (named_by c.args.statement.now)
+    ((λ i. c.of-in-Commit.ensures i ∷ c.at-low.ensures i ∷ c.at-high.ensures i ∷ []) ∙ ap named_by (sym c.in-Commit.is)) c.in_ok-add-in-Commit.ensures c.add_both.ensures
 
-pub returns-in_ok-add-in-Externalize : goal.returns-in_ok-add-in-Externalize
-returns-in_ok-add-in-Externalize c =
-    then_listed c.add-in-Externalize-2.result c.args.self.now c.add-in-Externalize.new.self c.add-in-Externalize-2.new.self (c.of-in-Externalize.result ∷ []) (c.at.result ∷ []) (named_by c.args.statement.now)
-    (ap₂ (λ (low high : Ballot). low ∷ high ∷ []) c.of-in-Externalize.ensures c.at.ensures ∙ ap named_by (sym c.in-Externalize.is)) c.in_ok-add-in-Externalize.ensures c.add-in-Externalize-2.ensures
+pub returns-in-Externalize : goal.returns-in-Externalize
+returns-in-Externalize c =
+    subst (λ (ts : List Ballot). OnOk c.add_both-in-Externalize.result (AreListed c.add_both-in-Externalize.new.self (c.args.self.now ++ filter is_counted ts)))
+    ((λ i. c.of-in-Externalize.ensures i ∷ c.at-high-in-Externalize.ensures i ∷ []) ∙ ap named_by (sym c.in-Externalize.is)) c.add_both-in-Externalize.ensures

@@ -1,7 +1,8 @@
-use Rattle.std.proofs.Common.{◌∙◌, Bor, List, ap, map, sym}
+use Rattle.std.proofs.Common.{◌∙◌, List, ap, sym}
 use Rattle.types.specs.declared.kind.Kind.{Kind}
 use Rattle.types.specs.declared.statement.Statement.{Statement}
 use Rattle.fedvote.specs.Searching.{next_counter}
+use Rattle.view.specs.Watching.{Kept, rows_of_others}
 use Rattle.view.proofs.FoundRows.{counter_found}
 use Rattle.view.proofs.Sightings.{seen_rows}
 use Rattle.view.proofs.seeing.ViewSight.next_counter.Goals as goal
@@ -9,8 +10,9 @@ use Rattle.view.proofs.seeing.ViewSight.next_counter.Goals as goal
 pub returns : goal.returns
 returns g c =
     let view = c.args.self.now in
+    let own = view.own.now in
     let search = λ (ss : List Statement). next_counter c.args.above ss in
     c.next_counter.ensures
-    ∙ ap search (ap (λ (xs : List (Bor Statement)). map (λ (s : Bor Statement). s.now) xs) c.deref.ensures.value ∙ view.ballots_found)
-    ∙ counter_found view.own.now view.slices.now view.table.now view.region.now.nodes.items view.known.reach.exactly view.single c.args.above
-    ∙ ap search (sym (seen_rows view.own.now view.slices.now view.leaders.now view.table.now Kind.Ballot))
+    ∙ ap (λ (k : Kept). search (rows_of_others own k.kind k.table k.nodes)) view.ballots_kept
+    ∙ counter_found own view.slices.now view.table.now view.region.now.nodes.items view.known.reach.exactly view.single c.args.above
+    ∙ ap search (sym (seen_rows own view.slices.now view.leaders.now view.table.now Kind.Ballot))

@@ -1,37 +1,29 @@
-use Rattle.std.proofs.Common.{◌≡◌, ◌<◌, ℕ, List, Err, length, ap, ◌∙◌, subst, arith}
-use Rattle.std.specs.Ordering.{nat_cmp}
-use Rattle.std.specs.List.Sorted.{IsBinarySearchResult}
+use Rattle.std.proofs.Common.{◌<◌, length, ap, refl, ◌∙◌, arith}
 use Rattle.protocol.specs.Hosts.{Config}
 use Rattle.workers.specs.Nets.{nets_with}
-use Rattle.workers.proofs.Numbers.{IsPlace, place_of}
+use Rattle.workers.proofs.Numbers.{found_place}
 use Rattle.workers.proofs.Nets.{joins, joins_fresh, place_fits}
 use Rattle.workers.proofs.host.Host.add.Goals as goal
 
 pub put_at-requires-clause-place : goal.put_at-requires-clause-place
 put_at-requires-clause-place g c =
     let f = c.self.inside.floor in
-    let number : c.number-number.result ≡ c.args.cell.config.number = c.number-number.ensures ∙ ap (λ (k : Config). k.number) c.config.ensures in
-    let found = subst (λ r. IsBinarySearchResult (λ y. nat_cmp y c.number-number.result) c.deref.result.now r) c.in-Err.is c.binary_search.ensures.position in
-    let known = subst (λ (ns : List ℕ). IsBinarySearchResult (λ y. nat_cmp y c.number-number.result) ns (Err c.in-Err.place)) c.deref.ensures.value found in
-    place_fits f c.reserve.new.self c.number-number.result c.in-Err.place c.self.invariant c.reserve.ensures.same (place_of f.shared.numbers.items _ c.in-Err.place c.self.invariant.numbered.1 known)
+    place_fits f c.reserve.new.self c.number-number.result c.in-Err.place c.self.invariant c.reserve.ensures.same
+    (found_place f.shared.numbers.items c.deref.result.now _ c.number-number.result c.in-Err.place _ c.self.invariant.numbered.1 c.deref.ensures.value refl c.in-Err.is c.binary_search.ensures.position)
 
 pub invariant_of-self-in-Err : goal.invariant_of-self-in-Err
 invariant_of-self-in-Err g c =
     let f = c.self.inside.floor in
-    let number : c.number-number.result ≡ c.args.cell.config.number = c.number-number.ensures ∙ ap (λ (k : Config). k.number) c.config.ensures in
-    let found = subst (λ r. IsBinarySearchResult (λ y. nat_cmp y c.number-number.result) c.deref.result.now r) c.in-Err.is c.binary_search.ensures.position in
-    let known = subst (λ (ns : List ℕ). IsBinarySearchResult (λ y. nat_cmp y c.number-number.result) ns (Err c.in-Err.place)) c.deref.ensures.value found in
-    let p = subst (λ (n : ℕ). IsPlace f.shared.numbers.items n c.in-Err.place) number (place_of f.shared.numbers.items _ c.in-Err.place c.self.invariant.numbered.1 known) in
+    let number = c.number-number.ensures ∙ ap (λ (k : Config). k.number) c.config.ensures in
+    let p = found_place f.shared.numbers.items c.deref.result.now c.args.cell.config.number c.number-number.result c.in-Err.place _ c.self.invariant.numbered.1 c.deref.ensures.value number c.in-Err.is c.binary_search.ensures.position in
     let few : length f.shared.numbers.items < 4096 = omega (arith, c.if-len-ge-MAX_NETWORKS.false, c.len.ensures, f.shared.numbers.ok) in
     (joins f c.reserve.new.self c.put_at.new.self c.in-Err.place c.args.cell c.args.seats.items c.self.invariant c.reserve.ensures.same p few c.requires c.put_at.ensures).0
 
 pub returns-else-not-reserve-clause-ok : goal.returns-else-not-reserve-clause-ok
 returns-else-not-reserve-clause-ok g c =
     let f = c.self.inside.floor in
-    let number : c.number-number.result ≡ c.args.cell.config.number = c.number-number.ensures ∙ ap (λ (k : Config). k.number) c.config.ensures in
-    let found = subst (λ r. IsBinarySearchResult (λ y. nat_cmp y c.number-number.result) c.deref.result.now r) c.in-Err.is c.binary_search.ensures.position in
-    let known = subst (λ (ns : List ℕ). IsBinarySearchResult (λ y. nat_cmp y c.number-number.result) ns (Err c.in-Err.place)) c.deref.ensures.value found in
-    let p = subst (λ (n : ℕ). IsPlace f.shared.numbers.items n c.in-Err.place) number (place_of f.shared.numbers.items _ c.in-Err.place c.self.invariant.numbered.1 known) in
+    let number = c.number-number.ensures ∙ ap (λ (k : Config). k.number) c.config.ensures in
+    let p = found_place f.shared.numbers.items c.deref.result.now c.args.cell.config.number c.number-number.result c.in-Err.place _ c.self.invariant.numbered.1 c.deref.ensures.value number c.in-Err.is c.binary_search.ensures.position in
     let few : length f.shared.numbers.items < 4096 = omega (arith, c.if-len-ge-MAX_NETWORKS.false, c.len.ensures, f.shared.numbers.ok) in
     (joins f c.reserve.new.self c.put_at.new.self c.in-Err.place c.args.cell c.args.seats.items c.self.invariant c.reserve.ensures.same p few c.requires c.put_at.ensures).1
     ∙ ap (nets_with (record { cell = c.args.cell; seats = c.args.seats.items })) c.self.view_is
@@ -39,9 +31,7 @@ returns-else-not-reserve-clause-ok g c =
 pub returns-else-not-reserve-clause-fresh : goal.returns-else-not-reserve-clause-fresh
 returns-else-not-reserve-clause-fresh g c =
     let f = c.self.inside.floor in
-    let number : c.number-number.result ≡ c.args.cell.config.number = c.number-number.ensures ∙ ap (λ (k : Config). k.number) c.config.ensures in
-    let found = subst (λ r. IsBinarySearchResult (λ y. nat_cmp y c.number-number.result) c.deref.result.now r) c.in-Err.is c.binary_search.ensures.position in
-    let known = subst (λ (ns : List ℕ). IsBinarySearchResult (λ y. nat_cmp y c.number-number.result) ns (Err c.in-Err.place)) c.deref.ensures.value found in
-    let p = subst (λ (n : ℕ). IsPlace f.shared.numbers.items n c.in-Err.place) number (place_of f.shared.numbers.items _ c.in-Err.place c.self.invariant.numbered.1 known) in
+    let number = c.number-number.ensures ∙ ap (λ (k : Config). k.number) c.config.ensures in
+    let p = found_place f.shared.numbers.items c.deref.result.now c.args.cell.config.number c.number-number.result c.in-Err.place _ c.self.invariant.numbered.1 c.deref.ensures.value number c.in-Err.is c.binary_search.ensures.position in
     let few : length f.shared.numbers.items < 4096 = omega (arith, c.if-len-ge-MAX_NETWORKS.false, c.len.ensures, f.shared.numbers.ok) in
     joins_fresh f c.args.self.now c.args.cell.config.number c.in-Err.place c.self.view_is c.self.invariant p few

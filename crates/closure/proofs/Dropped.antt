@@ -1,0 +1,99 @@
+-- A row with other slices that leaves the reach as it is: it names reached nodes alone, and drops none but such as the node reaches by itself.
+use Rattle.std.proofs.Common.{◌≡◌, ◌⊎◌, ℕ, Bool, true, false, cond, ◌||◌, ◌==◌, ◌↔◌, List, [], ◌∷◌, find, Option, Some, None, Bor, option_map, if◌then◌else◌, IsTrue, refl, sym, ◌∙◌, ap, subst, inl, inr}
+use Rattle.std.specs.List.{Contains}
+use Rattle.std.proofs.Math.Path.{fun_ext}
+use Rattle.std.proofs.lemmas.Bool.{or_cases, eqb-true}
+use Rattle.types.specs.Trees.{Slices}
+use Rattle.types.specs.Statements.{Sent, kind_of}
+use Rattle.protocol.specs.Sets.{Names, among, also, within, AreWithin}
+use Rattle.protocol.specs.Satisfaction.{names}
+use Rattle.protocol.specs.Quorums.{NamesWithin}
+use Rattle.protocol.specs.Rows.{is_row_of, row, with_row}
+use Rattle.protocol.specs.Backing.{slices_by}
+use Rattle.protocol.specs.Reach.{reached, IsReach}
+use Rattle.protocol.proofs.SetLaws.{all_from, same_test, within-at}
+use Rattle.protocol.proofs.ClosureLaws.{contains_head, contains_tail, contained_cases}
+use Rattle.protocol.proofs.ReachLaws.{reached-holds, reached-in, reach_names, row_contained}
+use Rattle.protocol.proofs.ReachStays.{came}
+use Rattle.closure.specs.Keeping.{DropsNone, kept_names}
+
+-- ---- rows of the new table
+-- the envelope is one
+there : (e : Sent) (table : List Sent) → Contains (with_row e table) e
+unfolding with_row
+there e [] = contains_head e []
+there e (y ∷ ys) = go (is_row_of e.sender (kind_of e.body) y) (there e ys)
+  where
+    go : (b : Bool) → Contains (with_row e ys) e → Contains (if b then e ∷ ys else y ∷ with_row e ys) e
+    go true ih = contains_head e ys
+    go false ih = contains_tail e y (with_row e ys) ih
+
+-- the others are rows of the old one, and only the sender's row of that kind went
+went : (e x : Sent) (table : List Sent) → Contains table x → (row table e.sender (kind_of e.body) ≡ Some x) ⊎ Contains (with_row e table) x
+unfolding row with_row
+went e x [] c = inr (contains_tail x e [] c)
+went e x (y ∷ ys) c = go (is_row_of e.sender (kind_of e.body) y) (contained_cases x y ys c) (went e x ys)
+  where
+    go : (b : Bool) → ((y ≡ x) ⊎ Contains ys x) → (Contains ys x → (find (is_row_of e.sender (kind_of e.body)) ys ≡ Some x) ⊎ Contains (with_row e ys) x)
+        → (cond b (Some y) (find (is_row_of e.sender (kind_of e.body)) ys) ≡ Some x) ⊎ Contains (if b then e ∷ ys else y ∷ with_row e ys) x
+    go true (inl same) ih = inl (ap Some same)
+    go true (inr j) ih = inr (contains_tail x e ys j)
+    go false (inl same) ih = inr (subst (λ z. Contains (y ∷ with_row e ys) z) same (contains_head y (with_row e ys)))
+    go false (inr j) ih = elim (ih j) [ inl s ↦ inl s | inr k ↦ inr (contains_tail x y (with_row e ys) k) ]
+
+-- ---- the reach
+-- A chain through a name that the envelope brings ends where the reach led before, and one through a name that it drops goes from the node's own slices instead.
+pub reach_stays : (own : ℕ) (configured : Slices) (table : List Sent) (us : List ℕ) (e : Sent) → DropsNone own configured table e → AreWithin (among (names e.slices)) (among us)
+    → IsReach own configured table us → IsReach own configured (with_row e table) us
+reach_stays own configured table us e drops brings is =
+    let old = reached own configured table in
+    let new = reached own configured (with_row e table) in
+    let held = reached-holds own configured table in
+    let kept = reached-holds own configured (with_row e table) in
+    let fewer : AreWithin new old = reached-in own configured (with_row e table) old (record {
+      itself = held.itself;
+      configuration = held.configuration;
+      rows = λ x c s. elim (came e x table c) [
+        | inl same ↦ λ u h. sym (is.exactly u) ∙ brings u (subst (λ (z : Sent). IsTrue (among (names z.slices) u)) (sym same) h)
+        | inr i ↦ held.rows x i s
+      ];
+    }) in
+    let more : AreWithin old new = reached-in own configured table new (record {
+      itself = kept.itself;
+      configuration = kept.configuration;
+      rows = λ x c s. elim (went e x table c) [
+        | inl replaced ↦ λ u h.
+            let sender = (row_contained table e.sender (kind_of e.body) x replaced).1 in
+            elim (or_cases (among (names e.slices) u) ((own == u) || among (names configured) u) (drops x replaced u h)) [
+              | inl again ↦ kept.rows e (there e table) (subst (λ w. IsTrue (new w)) sender s) u again
+              | inr by_itself ↦ elim (or_cases (own == u) (among (names configured) u) by_itself) [
+                | inl same ↦ subst (λ w. IsTrue (new w)) (eqb-true own u same) kept.itself
+                | inr named ↦ kept.configuration u named
+              ]
+            ]
+        | inr i ↦ kept.rows x i s
+      ];
+    }) in
+    let exactly : (u : ℕ) → among us u ≡ new u = λ u. is.exactly u ∙ same_test (old u) (new u) (more u) (fewer u) in
+    record {
+      ascending = is.ascending;
+      exactly = exactly;
+      closed = λ kind. subst (λ (set : Names). NamesWithin names (slices_by own configured (with_row e table) kind) set) (sym (fun_ext exactly)) (reach_names own configured (with_row e table) kind);
+    }
+
+-- ---- the test
+-- without a row no name is dropped
+pub none_dropped : (own : ℕ) (configured : Slices) (table : List Sent) (e : Sent) → None ≡ row table e.sender (kind_of e.body) → IsTrue true ↔ DropsNone own configured table e
+none_dropped own configured table e none = (λ yes old is. absurd (cc), λ drops. refl)
+
+-- and else it is as the names of the row say
+pub dropped_found : (own : ℕ) (configured : Slices) (table : List Sent) (e r : Sent) (b : Bool) → Some r ≡ row table e.sender (kind_of e.body) → b ≡ within (names r.slices) (kept_names own configured e) → IsTrue b ↔ DropsNone own configured table e
+dropped_found own configured table e r b is found = (
+  λ yes old same. let one : r ≡ old = cc in subst (λ (x : Sent). AreWithin (among (names x.slices)) (kept_names own configured e)) one (λ u inside. within-at (names r.slices) (kept_names own configured e) u (sym found ∙ yes) inside),
+  λ drops. found ∙ all_from (kept_names own configured e) (names r.slices) (drops r (sym is)),
+)
+
+-- the names of slices as they are read
+pub kept_read : (old new own olds news owns : List ℕ) (node : ℕ) → olds ≡ old → ((u : ℕ) → among news u ≡ among new u) → ((u : ℕ) → among owns u ≡ among own u)
+    → within olds (λ u. among news u || also node (among owns) u) ≡ within old (λ u. among new u || also node (among own) u)
+kept_read old new own olds news owns node same new_is own_is = λ i. within (same i) (λ u. new_is u i || ((node == u) || own_is u i))

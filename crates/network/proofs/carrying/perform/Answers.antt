@@ -1,0 +1,26 @@
+use Rattle.std.proofs.Common.{List, sym, subst}
+use Rattle.types.specs.declared.event.NodeEvent.{NodeEvent}
+use Rattle.slot.specs.Filings.{event_of}
+use Rattle.network.specs.Lodgings.{AreLodged, Lodgings}
+use Rattle.network.proofs.SlotPlaceLaws.{indexed-acted}
+use Rattle.network.proofs.carrying.perform.Goals as goal
+
+pub act-requires-clause-lodged : goal.act-requires-clause-lodged
+act-requires-clause-lodged g c = subst (λ (ss : List Lodgings). AreLodged c.args.archive.now ss) (sym c.slots.view_is) c.requires.lodged
+
+pub invariant_of-slots : goal.invariant_of-slots
+invariant_of-slots g c =
+    let e = event_of c.in-Act.event in
+    let old = c.slots.inside.slots.items in
+    indexed-acted c.act.result c.args.charge.now c.in-Act.host_at c.in-Act.slot_at e old c.act.new.slots.items
+    c.slots.inside.index c.act.ensures.done c.act.ensures.err c.slots.invariant
+
+pub hand-requires-clause-lodged : goal.hand-requires-clause-lodged
+hand-requires-clause-lodged g c = subst (λ (ss : List Lodgings). AreLodged c.args.archive.now ss) (sym c.slots-in-Hand.view_is) c.requires.lodged
+
+pub invariant_of-slots-in-Hand : goal.invariant_of-slots-in-Hand
+invariant_of-slots-in-Hand g c =
+    let e = NodeEvent.Take c.in-Hand.envelope in
+    let old = c.slots-in-Hand.inside.slots.items in
+    indexed-acted c.hand.result c.args.charge.now c.in-Hand.host_at c.in-Hand.slot_at e old c.hand.new.slots.items
+    c.slots-in-Hand.inside.index c.hand.ensures.done c.hand.ensures.err c.slots-in-Hand.invariant

@@ -1,0 +1,38 @@
+-- Where among the open slots of a network the slot of a number stands.
+use Rattle.std.specs.Prelude.{◌≡◌, ℕ, ◌-◌, ◌==◌, nat_lt, List, map, Option, None, Some, option_map, if◌then◌else◌}
+use Rattle.configuration.specs.Configs.{index_in}
+use Rattle.network.specs.Keyed.{at_key}
+use Rattle.network.specs.Lodgings.{Lodgings}
+use Rattle.network.specs.declared.slot_index.SlotPlace.{SlotPlace}
+
+-- ---- places that are kept by number
+abbrev pub number_kept : SlotPlace → ℕ
+number_kept e = e.number
+
+-- the place that is kept for a number
+abbrev pub kept_for : List SlotPlace → ℕ → Option ℕ
+kept_for es i = at_key number_kept (λ e. e.place) es i
+
+-- a place, once what stood at another one is gone: one less where it lay behind that
+abbrev pub closed_up : ℕ → ℕ → ℕ
+closed_up k n = if nat_lt k n then n - 1 else n
+
+-- the same of each place that is kept
+abbrev pub all_closed_up : ℕ → List SlotPlace → List SlotPlace
+all_closed_up k es = map (λ e. record { number = e.number; place = closed_up k e.place }) es
+
+-- what is kept for a number, once a place is kept for another one too
+abbrev pub kept_with : ℕ → ℕ → List SlotPlace → ℕ → Option ℕ
+kept_with number place es i = if number == i then Some place else kept_for es i
+
+-- what is kept for a number, once the slot of another one is gone from this place
+abbrev pub kept_without : ℕ → ℕ → List SlotPlace → ℕ → Option ℕ
+kept_without number place es i = if number == i then None else option_map (closed_up place) (kept_for es i)
+
+-- ---- the open slots
+abbrev pub numbers_of : List Lodgings → List ℕ
+numbers_of slots = map (λ s. s.number) slots
+
+-- for each number the place of its slot is kept, and none where no open slot has it
+pub record AreIndexed (slots : List Lodgings) (index : List SlotPlace) : Type 0 where
+  pub finds : (i : ℕ) → kept_for index i ≡ index_in (numbers_of slots) i

@@ -1,0 +1,45 @@
+-- The rules that an event of a node may stir.
+use Rattle.std.specs.Prelude.{◌≡◌, ℕ, List, Option, ⊤}
+use Rattle.types.specs.Statements.{Sent, kind_of}
+use Rattle.types.specs.declared.kind.Kind.{Kind}
+use Rattle.types.specs.declared.kind.Kind.TheVariants.{Nomination}
+use Rattle.types.specs.declared.state.Given.{Given}
+use Rattle.types.specs.declared.state.Votes.{Votes}
+use Rattle.protocol.specs.Nodes.{Node, settle}
+use Rattle.protocol.specs.Passes.{balloted_in, nominated_in, pass}
+use Rattle.protocol.specs.Stirring.{KeepsReach, seen_by, settle_all, settle_ballots, settle_nominations}
+use Rattle.protocol.specs.Views.{Seen}
+use Rattle.slot.specs.declared.configured.Configured.{Configured}
+use Rattle.slot.specs.declared.stirring.Stirred.{Stirred}
+use Rattle.slot.specs.declared.stirring.Stirred.TheVariants.{All, Ballots, Nominations}
+
+-- what a row of a kind stirs where the nodes that are reached stay
+abbrev pub stirred_by : Kind → Stirred
+stirred_by Kind.Ballot = Ballots
+stirred_by Nomination = Nominations
+
+-- the part of a pass that applies these rules
+abbrev pub part : Stirred → ℕ → Seen → Given → Votes → Votes
+part All own seen g = pass own seen g
+part Ballots own seen g = balloted_in seen g
+part Nominations own seen g = nominated_in own seen g
+
+-- the votes after passes that begin with these rules
+abbrev pub settled_by : Stirred → ℕ → Seen → Given → Votes → Option Votes
+settled_by All own seen g w = settle_all own seen g w
+settled_by Ballots own seen g w = settle_ballots seen g w
+settled_by Nominations own seen g w = settle_nominations own seen g w
+
+-- the other rules have nothing to do: these passes lead where whole ones lead
+abbrev pub Stirs : Stirred → ℕ → Seen → Given → Votes → Type 0
+Stirs stirred own seen g w = settled_by stirred own seen g w ≡ settle 64 (pass own seen g) w
+
+-- of a node that an event changed
+abbrev pub StirsIn : Stirred → Node → Type 0
+StirsIn stirred n = Stirs stirred n.name (seen_by n) n.given n.votes
+
+-- a table that took an envelope: the envelope is of one kind, and the nodes that are reached stay
+abbrev pub IsStirred : Stirred → Configured → List Sent → Sent → List Sent → Type 0
+IsStirred All c old e new = ⊤
+IsStirred Ballots c old e new = (kind_of e.body ≡ Kind.Ballot) × KeepsReach c.name c.slices old new
+IsStirred Nominations c old e new = (kind_of e.body ≡ Nomination) × KeepsReach c.name c.slices old new
