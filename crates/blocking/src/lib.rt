@@ -11,9 +11,6 @@ ghost use Rattle.protocol.specs.Sets.{IsAscending, among};
 use slices::SliceFamily;
 use types::NodeId;
 
-#[cfg(test)]
-mod tests;
-
 /// Whether the nodes block the slices: no set of nodes apart from them satisfies the slices
 /// (Mazières 2015, of v-blocking sets).
 ///

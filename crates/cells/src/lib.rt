@@ -21,6 +21,3 @@ pub use cell::acts::SeatsMissing;
 pub use receipt::Receipt;
 pub use refusal::CellRefusal;
 pub use seat::Seat;
-
-#[cfg(test)]
-mod tests;

@@ -13,8 +13,6 @@ mod of_journal;
 mod of_table;
 mod ready;
 mod sweep;
-#[cfg(test)]
-mod tests;
 mod turns;
 
 pub use announcing::{Announcement, Announcements};

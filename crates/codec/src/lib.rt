@@ -16,6 +16,3 @@ mod versions;
 pub use decoder::{MAX_BYTES, decode, one_answer, one_spelling, round_trip};
 pub use encoder::encode;
 pub use error::{CodecError, Fault};
-
-#[cfg(test)]
-mod tests;

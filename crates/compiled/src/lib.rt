@@ -7,8 +7,6 @@ mod mask;
 mod places;
 mod search;
 mod set;
-#[cfg(test)]
-mod tests;
 
 pub use compiling::{compile, has_places, place_of};
 pub use places::{add_place, has_place, no_places};

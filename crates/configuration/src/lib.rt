@@ -18,6 +18,3 @@ pub use error::ConfigError;
 pub use host::Host;
 pub use roster::{MAX_ROSTER, Roster};
 pub use shares::{MAX_SHARE, Shares};
-
-#[cfg(test)]
-mod tests;

@@ -13,6 +13,3 @@ pub use board::Board;
 pub use decision::Decision;
 pub use publisher::Publisher;
 pub use watch::Watch;
-
-#[cfg(test)]
-mod tests;

@@ -12,6 +12,3 @@ pub use filed::Filed;
 pub use shared::SharedHandle;
 pub use shelf::{Places, Shelf};
 pub use vec_shelf::{VecPlace, VecShelf};
-
-#[cfg(test)]
-mod tests;

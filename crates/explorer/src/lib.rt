@@ -15,8 +15,6 @@ mod no_network;
 mod order;
 mod report;
 mod svg;
-#[cfg(test)]
-mod tests;
 mod text;
 
 pub use dot::push_dot;

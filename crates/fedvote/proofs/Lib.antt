@@ -1,5 +1,4 @@
 pub mod VotingLaws
-pub mod TestLaws
 pub mod Bettering
 pub mod Honesty
 pub mod SeenVotes

@@ -12,8 +12,6 @@ mod counters;
 mod question;
 mod seeing;
 mod sight;
-#[cfg(test)]
-mod tests;
 mod voters;
 mod voting;
 

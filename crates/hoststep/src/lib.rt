@@ -23,6 +23,3 @@ pub use lent_event::LentEvent;
 pub use machine::NetMachine;
 pub use recorded::Recorded;
 pub use world::{MAX_NETWORKS, World, WorldError};
-
-#[cfg(test)]
-mod tests;

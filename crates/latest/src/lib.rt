@@ -14,6 +14,3 @@ pub use rows::Rows;
 pub use sender_names::SenderNames;
 pub use senders::senders_are_those_with_a_row;
 pub use table::{Offer, Put, Table};
-
-#[cfg(test)]
-mod tests;

@@ -6,8 +6,6 @@
 
 mod choosing;
 mod rules;
-#[cfg(test)]
-mod tests;
 mod voting;
 
 pub use rules::{leads, nominate};

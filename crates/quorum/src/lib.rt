@@ -8,8 +8,6 @@
 
 mod search;
 mod slices_of;
-#[cfg(test)]
-mod tests;
 
 pub use search::{in_quorum, in_quorum_within};
 pub use slices_of::SlicesOf;

@@ -17,8 +17,6 @@ mod slices;
 mod splitting;
 mod statement;
 mod stream;
-#[cfg(test)]
-mod tests;
 mod value;
 
 pub use hexadecimal::{bytes_of, digits_of};

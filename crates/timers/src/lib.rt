@@ -5,9 +5,6 @@
 ghost use Rattle.std.specs.Prelude.{◌≡◌};
 ghost use Rattle.protocol.specs.Timers.{is_nomination_timer_live, is_ballot_timer_live, cap};
 
-#[cfg(test)]
-mod tests;
-
 /// How far above the number of fired ballot timers a ballot counter may be raised.
 pub const FREE_RAISE: u32 = 1_000;
 

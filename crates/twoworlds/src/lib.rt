@@ -14,8 +14,6 @@ mod many;
 mod outs;
 mod same_steps;
 mod steps;
-#[cfg(test)]
-mod tests;
 mod verdict;
 
 pub use comparing::compare;

@@ -15,8 +15,6 @@ mod shared_values;
 mod sizes;
 mod state;
 mod statement;
-#[cfg(test)]
-mod tests;
 mod value;
 mod values;
 mod votes;

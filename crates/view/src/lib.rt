@@ -13,8 +13,6 @@ mod region;
 mod rows;
 mod searching;
 mod seeing;
-#[cfg(test)]
-mod tests;
 
 pub use region::{Entry, Region};
 pub use seeing::View;

@@ -15,6 +15,3 @@ mod rule;
 
 pub use line::Queue;
 pub use rule::{Job, Pass};
-
-#[cfg(test)]
-mod tests;

@@ -25,6 +25,3 @@ mod worker;
 pub use gate::Gate;
 pub use host::{Host, MAX_NETWORKS};
 pub use running::{Report, offer, run};
-
-#[cfg(test)]
-mod tests;

@@ -1,0 +1,14 @@
+//! Tests of stores, queues, watches, cells and workers, many of them with several threads, by what those crates
+//! show to anybody: they stand here so that those crates are proved once. It holds nothing else.
+#![tactic(auto)]
+
+#[cfg(test)]
+mod of_cells;
+#[cfg(test)]
+mod of_decisions;
+#[cfg(test)]
+mod of_envstore;
+#[cfg(test)]
+mod of_work;
+#[cfg(test)]
+mod of_workers;

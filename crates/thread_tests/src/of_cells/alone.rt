@@ -1,0 +1,189 @@
+//! Cells told by hand, used by one thread.
+
+ghost use Rattle.std.specs.Prelude.{◌≡◌};
+ghost use Rattle.std.specs.List.{All};
+ghost use Rattle.cells.specs.Cells.{IsSeatOf};
+
+use super::rooms::{
+    Room, decides, decides_alone, is_x, name, one_seat, open, proposal, two_seats, watched,
+};
+use cells::{Cell, CellRefusal, Seat, SeatsMissing};
+use decisions::Decision;
+use envstore::{SharedHandle, Shelf};
+use hoststep::Journal;
+use std::alloc::Global;
+use std::sync::Wait;
+use std::test::Fail;
+use types::{Event, Out, Refusal};
+
+#[test]
+fn a_node_alone_decides(rt: HostRuntime) -> Result<(), Fail> {
+    let alloc = rt.alloc();
+    let mut room = two_seats(&rt, alloc).ok_or("memory")?;
+    assert_eq!(rt; room.cell.config().number(), 7);
+    assert_eq!(rt; decides_alone(&rt, alloc, &mut room), Some(true));
+    assert_eq!(rt; room.receipts(1), 0);
+    let (journal, seats) = room.close(&rt).ok_or("not closed")?;
+    assert_eq!(rt; journal.len(), 2);
+    assert_eq!(rt; seats.len(), 2);
+    Ok(())
+}
+
+#[test]
+fn a_cell_stands_over_any_shelf(rt: HostRuntime) -> Result<(), Fail> {
+    let alloc = rt.alloc();
+    let mut room = one_seat(&rt, alloc).ok_or("memory")?;
+    assert_eq!(rt; decides_alone(&rt, alloc, &mut room), Some(true));
+    let (journal, _seats) = room.close(&rt).ok_or("not closed")?;
+    assert_eq!(rt; journal.len(), 2);
+    Ok(())
+}
+
+fn is_refused(answer: &Option<Result<Vec<Out>, CellRefusal>>, by: CellRefusal) -> bool {
+    match answer {
+        Some(Err(refusal)) => *refusal == by,
+        _ => false,
+    }
+}
+
+#[test]
+fn a_stopped_cell_is_closed_to_each_seat(rt: HostRuntime) -> Result<(), Fail> {
+    let alloc = rt.alloc();
+    let mut room = two_seats(&rt, alloc).ok_or("memory")?;
+    let opened = room.apply(&rt, 0, open(1));
+    assert!(rt; matches!(opened, Some(Ok(_))));
+    let again = room.apply(&rt, 1, open(1));
+    assert!(rt; is_refused(&again, CellRefusal::Network(Refusal::SlotOpenAlready)));
+    room.stop(&rt, 1);
+    let first = room.apply(&rt, 0, open(1));
+    assert!(rt; is_refused(&first, CellRefusal::Closed));
+    let second = room.apply(&rt, 1, open(2));
+    assert!(rt; is_refused(&second, CellRefusal::Closed));
+    let (journal, seats) = room.close(&rt).ok_or("not closed")?;
+    assert_eq!(rt; journal.len(), 1);
+    assert_eq!(rt; seats.len(), 2);
+    Ok(())
+}
+
+/// Whether it is the one decision of `x` for slot 1.
+fn is_decision_of_x(decisions: &[Decision]) -> bool {
+    match decisions {
+        [decision] => {
+            decision.slot == 1 && decision.node.is_same(&name()) && is_x(&decision.value)
+        }
+        _ => false,
+    }
+}
+
+#[test]
+fn a_watch_reads_what_is_decided(rt: HostRuntime) -> Result<(), Fail> {
+    let alloc = rt.alloc();
+    let (mut room, mut watch) = watched(&rt, alloc, 2).ok_or("memory")?;
+    assert_eq!(rt;
+        watch.read(|decisions: &[Decision]| decisions.len()),
+        Some(0)
+    );
+    assert_eq!(rt; room.tell(&rt, 1, &mut watch), Some(0));
+    assert_eq!(rt;
+        watch.read(|decisions: &[Decision]| decisions.len()),
+        Some(0)
+    );
+    assert_eq!(rt; decides_alone(&rt, alloc, &mut room), Some(true));
+    assert_eq!(rt; room.tell(&rt, 1, &mut watch), Some(0));
+    let is_there = watch.read(|decisions: &[Decision]| is_decision_of_x(decisions));
+    assert_eq!(rt; is_there, Some(true));
+    let (journal, _seats, board) = room.close_watched(&rt).ok_or("not closed")?;
+    assert_eq!(rt; journal.len(), 2);
+    assert!(rt; is_decision_of_x(board.as_slice()));
+    assert_eq!(rt; watch.read(|decisions: &[Decision]| decisions.len()), None);
+    Ok(())
+}
+
+/// The cell that lacked its seats, closed with them.
+fn close_with<S: Shelf + Drop, H: Wait + Drop, R: Wait>(
+    rt: &R,
+    cell: Cell<S, H>,
+    seats: Vec<Seat<S, H>>,
+) -> Option<Journal<S>>
+    requires { All (IsSeatOf cell) seats.items }
+{
+    let (journal, _seats) = cell.close(rt, seats).ok()?;
+    Some(journal)
+}
+
+/// The journal of a cell that is first closed without its seats, and then with them; nothing where the first
+/// succeeds.
+fn close_twice<S: Shelf + Drop, H: Wait + Drop, R: Wait>(
+    rt: &R,
+    alloc: Global,
+    room: Room<S, H>,
+) -> Option<Journal<S>> {
+    let Room { cell, seats } = room;
+    match cell.close(rt, Vec::new(alloc)) {
+        Ok(_) => None,
+        Err(missing) => {
+            let SeatsMissing { cell, seats: none } = missing;
+            if !none.is_empty() {
+                return None;
+            }
+            close_with(rt, cell, seats)
+        }
+    }
+}
+
+#[test]
+fn a_cell_closes_with_its_seat_alone(rt: HostRuntime) -> Result<(), Fail> {
+    let alloc = rt.alloc();
+    let mut room = one_seat(&rt, alloc).ok_or("memory")?;
+    let opened = room.apply(&rt, 0, open(1));
+    assert!(rt; matches!(opened, Some(Ok(_))));
+    let journal = close_twice(&rt, alloc, room).ok_or("not closed")?;
+    assert_eq!(rt; journal.len(), 1);
+    Ok(())
+}
+
+/// An event, asked for once more where memory was short; then the receipts have to be as they were.
+fn insist<R: Wait + Drop + Copy>(
+    rt: &R,
+    room: &mut Room<SharedHandle<R>, R>,
+    first: Event,
+    second: Event,
+) -> Option<Vec<Out>>
+    ensures { room.new ≡ room.old }
+{
+    let before = room.receipts(0);
+    match room.apply(rt, 0, first)? {
+        Ok(outs) => Some(outs),
+        Err(CellRefusal::Network(Refusal::NoMemory)) => {
+            if room.receipts(0) != before {
+                return None;
+            }
+            room.apply(rt, 0, second)?.ok()
+        }
+        Err(_) => None,
+    }
+}
+
+/// A proposal, made once more where memory was short.
+fn made(alloc: Global) -> Option<Event> {
+    proposal(alloc).or_else(|| proposal(alloc))
+}
+
+// Run by `rt try --test --fail-alloc N` too: whichever allocation is refused, each call is as if it had been
+// made once.
+#[test]
+fn a_call_that_wants_memory_leaves_all_as_it_was(rt: HostRuntime) -> Result<(), Fail> {
+    let alloc = rt.alloc();
+    let mut room = two_seats(&rt, alloc)
+        .or_else(|| two_seats(&rt, alloc))
+        .ok_or("memory")?;
+    let opened = insist(&rt, &mut room, open(1), open(1)).ok_or("not opened")?;
+    assert!(rt; opened.is_empty());
+    let (first, second) = (made(alloc).ok_or("memory")?, made(alloc).ok_or("memory")?);
+    let outs = insist(&rt, &mut room, first, second).ok_or("not proposed")?;
+    assert!(rt; decides(&outs));
+    assert_eq!(rt; room.receipts(0), 2);
+    let (journal, _seats) = room.close(&rt).ok_or("not closed")?;
+    assert_eq!(rt; journal.len(), 2);
+    Ok(())
+}

@@ -1,0 +1,115 @@
+//! What no clause says of a region: that with memory it is made and copied, and that a first row is an entry of it, and
+//! a newer one with other slices, and a stranger's row leaves it as it is, where to make it anew would be right too.
+
+ghost use Rattle.std.specs.Prelude.{IfOk};
+ghost use Rattle.protocol.specs.Sets.{IsAscending};
+
+use envstore::{Archive, VecShelf};
+use latest::{Offer, Rows, Table};
+use std::alloc::Global;
+use std::test::Fail;
+use types::{Ballot, Envelope, Member, Nested, NodeId, SliceSet, Statement, Value};
+use view::Region;
+
+fn name(number: u64) -> NodeId {
+    NodeId::from_words(0, 0, 0, number)
+}
+
+/// The slices of which the nodes 1 and 2 are needed.
+fn both(alloc: Global) -> Result<Nested, Fail> {
+    let mut members = Vec::new(alloc);
+    members.push(Member::Node(name(1)))?;
+    members.push(Member::Node(name(2)))?;
+    Ok(Nested::new(alloc, SliceSet::new(2, members))?.ok_or("slices")?)
+}
+
+/// The slices of which this node is needed.
+fn only(alloc: Global, number: u64) -> Result<Nested, Fail> {
+    let mut members = Vec::new(alloc);
+    members.push(Member::Node(name(number)))?;
+    Ok(Nested::new(alloc, SliceSet::new(1, members))?.ok_or("slices")?)
+}
+
+/// A statement of the sender, with these slices.
+fn statement_of(alloc: Global, sender: u64, slices: Nested) -> Result<Envelope, Fail> {
+    let value = Value::of(alloc, b"x")?;
+    let body = Statement::Externalize {
+        commit: Ballot { counter: 1, value },
+        high_counter: 1,
+    };
+    Ok(Envelope::new(name(sender), 1, slices, body).ok_or("statement")?)
+}
+
+/// A statement of the sender, with the slices of both.
+fn row_of(alloc: Global, sender: u64) -> Result<Envelope, Fail> {
+    let slices = both(alloc)?;
+    statement_of(alloc, sender, slices)
+}
+
+/// The region of node 1 by a table.
+fn region_of(alloc: Global, table: &Rows<'_, VecShelf>) -> Result<Region, Fail>
+    ensures { IfOk result (λ r. IsAscending r.nodes.items) }
+{
+    let slices = both(alloc)?;
+    let region = Region::of(alloc, &name(1), &slices, table)?;
+    Ok(region)
+}
+
+/// Sets the entry of a row.
+fn set_row(
+    alloc: Global,
+    table: &Rows<'_, VecShelf>,
+    region: &mut Region,
+    row: &Envelope,
+) -> Result<(), Fail>
+    requires { IsAscending region.old.nodes.items }
+{
+    let slices = both(alloc)?;
+    let found = region.entry_for(alloc, &name(1), &slices, table, row)?;
+    region.set_entry(found.ok_or("an entry")?);
+    Ok(())
+}
+
+#[test]
+fn a_first_row_is_an_entry(rt: HostRuntime) -> Result<(), Fail> {
+    let alloc = rt.alloc();
+    let archive = Archive::new(alloc, VecShelf::new(alloc));
+    let table = Table::new(alloc);
+    let rows = Rows::of(&table, &archive);
+    let mut region = region_of(alloc, &rows)?;
+    let row = row_of(alloc, 2)?;
+    set_row(alloc, &rows, &mut region, &row)?;
+    assert!(rt; region.ballot_rows.as_slice() == [None, Some(0)].as_slice());
+    Ok(())
+}
+
+// Node 2 names itself alone now, and node 1 names itself anyhow.
+#[test]
+fn a_row_with_other_slices_is_an_entry(rt: HostRuntime) -> Result<(), Fail> {
+    let alloc = rt.alloc();
+    let mut archive = Archive::new(alloc, VecShelf::new(alloc));
+    let row = archive.put(row_of(alloc, 2)?)?;
+    let mut table = Table::new(alloc);
+    assert_eq!(rt; table.offer(&archive, row), Offer::Replaced);
+    let rows = Rows::of(&table, &archive);
+    let mut region = region_of(alloc, &rows)?;
+    let slices = only(alloc, 2)?;
+    let newer = statement_of(alloc, 2, slices)?;
+    set_row(alloc, &rows, &mut region, &newer)?;
+    assert!(rt; region.ballot_rows.as_slice() == [None, Some(0)].as_slice());
+    Ok(())
+}
+
+#[test]
+fn a_row_of_a_stranger_leaves_a_region_that_is_then_copied(rt: HostRuntime) -> Result<(), Fail> {
+    let alloc = rt.alloc();
+    let archive = Archive::new(alloc, VecShelf::new(alloc));
+    let table = Table::new(alloc);
+    let rows = Rows::of(&table, &archive);
+    let region = region_of(alloc, &rows)?;
+    let row = row_of(alloc, 9)?;
+    assert!(rt; region.stays(&rows, &row));
+    let copy = region.try_copy(alloc)?;
+    assert!(rt; copy.nodes.as_slice() == region.nodes.as_slice());
+    Ok(())
+}
