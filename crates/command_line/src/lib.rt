@@ -9,8 +9,6 @@ mod operands;
 mod pool_option;
 mod pool_size;
 mod subject;
-#[cfg(test)]
-mod tests;
 mod word;
 
 pub use call::{Call, Usage, read_call};

@@ -1,8 +1,6 @@
 //! The forms of the command line, and what is answered to other words.
 
-use crate::call::{Call, Usage, read_call};
-use crate::subject::Format;
-use scripts::name_of;
+use command_line::{Call, Usage, read_call};
 use std::alloc::Global;
 use std::process::Abort;
 
@@ -16,7 +14,13 @@ fn calls_table<A: Abort>(rt: &A, alloc: Global, words: &[&str], wanted: &str) {
 }
 
 /// The words call `run` on the script, with so many workers, or with none where 0 is wanted.
-fn run_called<A: Abort>(rt: &A, alloc: Global, words: &[&str], wanted: &str, wanted_workers: u64) {
+fn calls_run_with<A: Abort>(
+    rt: &A,
+    alloc: Global,
+    words: &[&str],
+    wanted: &str,
+    wanted_workers: u64,
+) {
     match read_call(alloc, words) {
         Ok(Call::Run { script, workers }) => {
             assert!(rt; script.as_str() == wanted, "{wanted}");
@@ -33,49 +37,12 @@ fn run_called<A: Abort>(rt: &A, alloc: Global, words: &[&str], wanted: &str, wan
 
 /// The words call `run` on the script, without workers.
 fn calls_run<A: Abort>(rt: &A, alloc: Global, words: &[&str], wanted: &str) {
-    run_called(rt, alloc, words, wanted, 0);
+    calls_run_with(rt, alloc, words, wanted, 0);
 }
 
 /// The words call `run` on the script `nets.txt`, with so many workers.
 fn calls_pool<A: Abort>(rt: &A, alloc: Global, words: &[&str], wanted: u64) {
-    run_called(rt, alloc, words, "nets.txt", wanted);
-}
-
-/// The words call `closure` on the script `nets.txt`, for A at slot 2 of network 1, in this form.
-fn calls_closure<A: Abort>(rt: &A, alloc: Global, words: &[&str], wanted: Format) {
-    match read_call(alloc, words) {
-        Ok(
-            Call::Closure {
-                script,
-                subject,
-                format,
-            },
-        ) => {
-            assert!(rt; script.as_str() == "nets.txt" && subject.net == 1);
-            assert!(rt; subject.slot == 2 && format == wanted);
-            assert!(rt; name_of(b"A") == Some(subject.node));
-        }
-        _other => assert!(rt; false, "no such call: {wanted:?}"),
-    }
-}
-
-/// The words call `compare` on `a` and `b`, for A at slot 2 of network 1.
-fn calls_compare<A: Abort>(rt: &A, alloc: Global, words: &[&str], wanted: bool) {
-    match read_call(alloc, words) {
-        Ok(
-            Call::Compare {
-                first,
-                second,
-                subject,
-                explain,
-            },
-        ) => {
-            assert!(rt; first.as_str() == "a" && second.as_str() == "b");
-            assert!(rt; subject.net == 1 && subject.slot == 2);
-            assert!(rt; name_of(b"A") == Some(subject.node) && explain == wanted);
-        }
-        _other => assert!(rt; false, "no such call: {wanted}"),
-    }
+    calls_run_with(rt, alloc, words, "nets.txt", wanted);
 }
 
 /// The words are answered by a help text that has this part.
@@ -142,49 +109,6 @@ fn refuses_other_pools(rt: HostRuntime) {
     );
     let other = "unexpected argument '--workers'";
     refuses(&rt, alloc, &["table", "s", "--workers", "2"], other);
-}
-
-#[test]
-fn reads_each_form_of_closure(rt: HostRuntime) {
-    let alloc = rt.alloc();
-    let (text, svg) = (Format::Text, Format::Svg);
-    calls_closure(&rt, alloc, &["closure", "nets.txt", "1", "2", "A"], text);
-    calls_closure(
-        &rt,
-        alloc,
-        &["closure", "--", "nets.txt", "1", "2", "A"],
-        text,
-    );
-    calls_closure(
-        &rt,
-        alloc,
-        &["closure", "--format", "svg", "nets.txt", "1", "2", "A"],
-        svg,
-    );
-    calls_closure(
-        &rt,
-        alloc,
-        &["closure", "nets.txt", "1", "2", "A", "--format=svg"],
-        svg,
-    );
-}
-
-#[test]
-fn reads_each_form_of_compare(rt: HostRuntime) {
-    let alloc = rt.alloc();
-    calls_compare(&rt, alloc, &["compare", "a", "b", "1", "2", "A"], false);
-    calls_compare(
-        &rt,
-        alloc,
-        &["compare", "a", "b", "1", "2", "A", "--explain"],
-        true,
-    );
-    calls_compare(
-        &rt,
-        alloc,
-        &["compare", "--explain", "--", "a", "b", "1", "2", "A"],
-        true,
-    );
 }
 
 #[test]

@@ -1,3 +1,0 @@
-//! Words of command lines.
-
-mod calls;
