@@ -3,7 +3,7 @@
 ghost use Rattle.std.specs.Prelude.{OnOk, string_bytes};
 ghost use Rattle.std.specs.Io.KnownBytes.{Appends};
 
-use crate::perform::{DIFFERS, DONE, report};
+use crate::perform::{DIFFERS, DONE, print_stop};
 use scripts::Stop;
 use std::io;
 use std::io::Write;
@@ -25,7 +25,7 @@ impl Answer {
         ensures { IsPrinted self.now (W.contents out.old) (W.contents out.new) result }
     {
         if self.write(out).is_err() {
-            return report(Stop::CannotWrite, "", err);
+            return print_stop(Stop::CannotWrite, "", err);
         }
         if self.differs { DIFFERS } else { DONE }
     }

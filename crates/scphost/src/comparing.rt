@@ -7,7 +7,7 @@ ghost use Rattle.scphost.specs.Comparisons.{IsComparison, is_difference, line_of
 
 use crate::answer::Answer;
 use crate::explaining::{push_nodes, push_steps};
-use crate::quiet::Told;
+use crate::quiet::FinishedScript;
 use command_line::Subject;
 use runs::push_outs;
 use scripts::push_name;
@@ -21,12 +21,12 @@ pub struct Side<'a> {
     /// The name of the file.
     pub file: &'a str,
     /// What became of the networks.
-    pub script: &'a Told,
+    pub script: &'a FinishedScript,
 }
 
 /// Compares what concerns the subject in two scripts; where it is asked for, a difference is explained. An
 /// error says that memory is short.
-pub fn compared(
+pub fn answer_compare(
     alloc: Global,
     one: Side<'_>,
     other: Side<'_>,
@@ -43,7 +43,7 @@ pub fn compared(
         subject.slot,
         &subject.node,
     )?;
-    let text = text_of(alloc, one, other, subject, explain, &verdict)?;
+    let text = text_of_comparison(alloc, one, other, subject, explain, &verdict)?;
     let differs = is_difference(&verdict);
     Ok(Answer { differs, text })
 }
@@ -59,7 +59,7 @@ fn is_difference(verdict: &Verdict) -> bool
 }
 
 /// The lines of a verdict, and behind them what explains a difference, where it is asked for.
-fn text_of(
+fn text_of_comparison(
     alloc: Global,
     one: Side<'_>,
     other: Side<'_>,
@@ -69,7 +69,7 @@ fn text_of(
 ) -> Result<String, AllocError>
     ensures { IfOk result (λ text. explain ≡ false → string_bytes text ≡ text_of_verdict verdict.now) }
 {
-    let mut text = plain_text(alloc, verdict)?;
+    let mut text = text_of_verdict(alloc, verdict)?;
     if explain {
         push_explanation(alloc, &mut text, one, other, subject, verdict)?;
     }
@@ -93,18 +93,18 @@ fn push_explanation(
 }
 
 /// The lines of a verdict.
-fn plain_text(alloc: Global, verdict: &Verdict) -> Result<String, AllocError>
+fn text_of_verdict(alloc: Global, verdict: &Verdict) -> Result<String, AllocError>
     ensures { IfOk result (λ text. string_bytes text ≡ text_of_verdict verdict.now) }
 {
     match verdict {
-        Verdict::CastDiffers(node) => cast_differs(alloc, node),
+        Verdict::CastDiffers(node) => text_of_cast_difference(alloc, node),
         Verdict::InputsDiffer(place) => format!(in alloc; "inputs differ at {place}\n"),
-        Verdict::Same(members) => same(alloc, members.as_slice()),
+        Verdict::Same(members) => text_of_same_outs(alloc, members.as_slice()),
     }
 }
 
 /// Nothing differs: what each hosted member gave out.
-fn same(alloc: Global, members: &[MemberOuts]) -> Result<String, AllocError>
+fn text_of_same_outs(alloc: Global, members: &[MemberOuts]) -> Result<String, AllocError>
     ensures { IfOk result (λ text. string_bytes text ≡ codes "same" ++ 10 ∷ flat_map line_of_member members.now) }
 {
     let mut text = String::from_str(alloc, "same\n")?;
@@ -133,7 +133,7 @@ fn push_member(text: &mut String, member: &MemberOuts) -> Result<(), AllocError>
 }
 
 /// A node is hosted in one alone, or with other slices.
-fn cast_differs(alloc: Global, node: &NodeId) -> Result<String, AllocError>
+fn text_of_cast_difference(alloc: Global, node: &NodeId) -> Result<String, AllocError>
     ensures { IfOk result (λ text. string_bytes text ≡ codes "cast differs at " ++ (text_of_name node.now ++ 10 ∷ [])) }
 {
     let mut text = String::from_str(alloc, "cast differs at ")?;

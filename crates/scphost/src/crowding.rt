@@ -19,7 +19,7 @@ use types::NodeId;
 /// Reads a script whole and runs its lines in order for what they submit, without printing. After the last
 /// one the networks that are declared with nodes and that no event has named are declared too. A line that is
 /// bad ends it.
-pub fn submitted_by<R: Read>(alloc: Global, script: &mut R) -> Result<SubmissionRun, Stop>
+pub fn read_submission<R: Read>(alloc: Global, script: &mut R) -> Result<SubmissionRun, Stop>
     ensures { IfOk result (IsSubmittedBy (R.remaining script.old)) }
 {
     let mut run = SubmissionRun::new(alloc);
@@ -33,7 +33,7 @@ pub fn submitted_by<R: Read>(alloc: Global, script: &mut R) -> Result<Submission
 
 /// Compares what two submissions submit for the subject, and what is answered: the verdict on them, as it is
 /// printed. An error says that memory is short.
-pub fn crowded(
+pub fn answer_crowd(
     alloc: Global,
     one: &Submission,
     other: &Submission,
@@ -42,17 +42,17 @@ pub fn crowded(
     ensures { IfOk result (TellsCrowd one.now other.now subject.now) }
 {
     let verdict = crowd(alloc, one, other, subject.net, subject.slot, &subject.node)?;
-    let answer = told(alloc, &verdict)?;
+    let answer = answer_verdict(alloc, &verdict)?;
     Ok(answer)
 }
 
 /// The answer that tells a verdict.
-fn told(alloc: Global, verdict: &Crowd) -> Result<Answer, AllocError>
+fn answer_verdict(alloc: Global, verdict: &Crowd) -> Result<Answer, AllocError>
     ensures { IfOk result (Tells verdict.now) }
 {
     match verdict {
         Crowd::CastDiffers(node) => {
-            let text = at_node(alloc, "cast differs at ", node)?;
+            let text = line_at_node(alloc, "cast differs at ", node)?;
             Ok(Answer {
                 differs: true,
                 text,
@@ -66,7 +66,7 @@ fn told(alloc: Global, verdict: &Crowd) -> Result<Answer, AllocError>
             })
         }
         Crowd::OutsideRoster(node) => {
-            let text = at_node(alloc, "outside roster at ", node)?;
+            let text = line_at_node(alloc, "outside roster at ", node)?;
             Ok(Answer {
                 differs: true,
                 text,
@@ -80,7 +80,7 @@ fn told(alloc: Global, verdict: &Crowd) -> Result<Answer, AllocError>
             })
         }
         Crowd::Same(replies) => {
-            let text = same(alloc, replies)?;
+            let text = text_of_same_replies(alloc, replies)?;
             Ok(Answer {
                 differs: false,
                 text,
@@ -90,7 +90,7 @@ fn told(alloc: Global, verdict: &Crowd) -> Result<Answer, AllocError>
 }
 
 /// A line that ends in the name of a node.
-fn at_node(alloc: Global, words: &str, node: &NodeId) -> Result<String, AllocError>
+fn line_at_node(alloc: Global, words: &str, node: &NodeId) -> Result<String, AllocError>
     ensures { IfOk result (λ text. string_bytes text ≡ line (words.now ++ text_of_name node.now)) }
 {
     let mut text = String::from_str(alloc, words)?;
@@ -101,7 +101,7 @@ fn at_node(alloc: Global, words: &str, node: &NodeId) -> Result<String, AllocErr
 
 /// Nothing differs: the replies.
 #[tactic(auto, using(crate::proofs::CrowdLines::lines_of_model))]
-fn same(alloc: Global, replies: &Replies) -> Result<String, AllocError>
+fn text_of_same_replies(alloc: Global, replies: &Replies) -> Result<String, AllocError>
     ensures { IfOk result (λ text. string_bytes text ≡ line (codes "same") ++ flat_map line_of replies.now) }
 {
     let mut text = String::from_str(alloc, "same\n")?;

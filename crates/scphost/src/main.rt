@@ -13,7 +13,7 @@ mod reporting;
 mod tests;
 
 use command_line::{Call, Usage, read_call};
-use perform::{perform, perform_stream, refuse, report};
+use perform::{perform, perform_stream, print_stop, print_usage};
 use scripts::Stop;
 use std::io::{ErrorKind, Input, Read, Write};
 use std::process::ExitCode;
@@ -22,18 +22,19 @@ use std::sync::Wait;
 use std::thread::Threads;
 use std::{env, fs, io};
 
+/// Reads the command line, carries out its call, and ends with its status.
 fn main(rt: HostRuntime) -> ExitCode {
     let mut out = rt.stdout();
     let mut err = rt.stderr();
-    let status = match called(&rt) {
+    let status = match read_command_line(&rt) {
         Ok(call) => open_and_perform(&rt, &call, &mut out, &mut err),
-        Err(usage) => refuse(&usage, &mut out, &mut err),
+        Err(usage) => print_usage(&usage, &mut out, &mut err),
     };
     ExitCode::from(status)
 }
 
 /// Reads the words of the command line. A word that is no text is a bad usage.
-fn called<R: Env + AllocGlobal>(rt: &R) -> Result<Call, Usage> {
+fn read_command_line<R: Env + AllocGlobal>(rt: &R) -> Result<Call, Usage> {
     let alloc = rt.alloc();
     match env::args(rt) {
         Ok(words) => {
@@ -72,7 +73,7 @@ fn perform_one<
     }
     match fs::open(rt, file) {
         Ok(mut opened) => perform(rt, call, &mut opened, &mut io::empty(), out, err),
-        Err(_) => report(Stop::CannotRead, file, err),
+        Err(_) => print_stop(Stop::CannotRead, file, err),
     }
 }
 
@@ -87,7 +88,7 @@ fn perform_two<
     }
     let mut first = match fs::open(rt, one) {
         Ok(first) => first,
-        Err(_) => return report(Stop::CannotRead, one, err),
+        Err(_) => return print_stop(Stop::CannotRead, one, err),
     };
     if other == "-" {
         return perform(rt, call, &mut first, &mut rt.reader(), out, err);
@@ -105,6 +106,6 @@ fn perform_with_second<
 >(rt: &R, call: &Call, first: &mut F, other: &str, out: &mut W, err: &mut E) -> u8 {
     match fs::open(rt, other) {
         Ok(mut second) => perform(rt, call, first, &mut second, out, err),
-        Err(_) => report(Stop::CannotRead, other, err),
+        Err(_) => print_stop(Stop::CannotRead, other, err),
     }
 }

@@ -4,11 +4,11 @@ ghost use Rattle.std.specs.Prelude.{◌≡◌, ◌⊎◌, Err, IfSome};
 ghost use Rattle.scphost.specs.Printing.{HasAnswered, IsCompared, IsCrowd, IsPerformed, IsPooled, IsReported};
 ghost use Rattle.scphost.specs.Stops.{IsRefusal, IsStatus, IsStatusOf, status_of};
 
-use crate::comparing::{Side, compared};
-use crate::crowding::{crowded, submitted_by};
-use crate::pooling::pooled;
-use crate::quiet::Told;
-use crate::reporting::reported;
+use crate::comparing::{Side, answer_compare};
+use crate::crowding::{answer_crowd, read_submission};
+use crate::pooling::answer_pool;
+use crate::quiet::FinishedScript;
+use crate::reporting::answer_closure;
 use command_line::{Call, Format, PoolSize, Subject, Usage, Word};
 use runs::HostRun;
 use scripts::{LineRunner, Stop, run_script, run_stream};
@@ -57,7 +57,7 @@ pub fn perform<
     match call {
         Call::Table { file } => {
             let ran = run_whole(alloc, &mut TableRun::new(), first, out);
-            answer(ran, file.as_str(), err)
+            print_end(ran, file.as_str(), err)
         }
         Call::Run { script, workers } => perform_run(rt, *workers, script, first, out, err),
         Call::Closure {
@@ -102,7 +102,7 @@ fn perform_run<
         None => {
             let alloc = rt.alloc();
             let ran = run_whole(alloc, &mut HostRun::new(alloc), script, out);
-            answer(ran, file.as_str(), err)
+            print_end(ran, file.as_str(), err)
         }
         Some(workers) => perform_pool(rt, workers, file, script, out, err),
     }
@@ -118,9 +118,9 @@ fn perform_pool<
 >(rt: &A, workers: PoolSize, file: &Word, script: &mut R, out: &mut W, err: &mut E) -> u8
     ensures { HasAnswered (IsPooled workers (R.remaining script.old)) (W.contents out.old) (W.contents out.new) result }
 {
-    match pooled(rt, script, workers) {
+    match answer_pool(rt, script, workers) {
         Ok(answer) => answer.print(out, err),
-        Err(stop) => report(stop, file.as_str(), err),
+        Err(stop) => print_stop(stop, file.as_str(), err),
     }
 }
 
@@ -136,13 +136,13 @@ fn perform_closure<R: Read, W: Write, E: Write>(
 ) -> u8
     ensures { HasAnswered (IsReported format subject.now (R.remaining script.old)) (W.contents out.old) (W.contents out.new) result }
 {
-    let told = match Told::of(alloc, script, false) {
-        Ok(told) => told,
-        Err(stop) => return report(stop, file.as_str(), err),
+    let finished = match FinishedScript::read_and_run(alloc, script, false) {
+        Ok(finished) => finished,
+        Err(stop) => return print_stop(stop, file.as_str(), err),
     };
-    match reported(alloc, &told, subject, format) {
+    match answer_closure(alloc, &finished, subject, format) {
         Ok(answer) => answer.print(out, err),
-        Err(_) => report(Stop::NoMemory, "", err),
+        Err(_) => print_stop(Stop::NoMemory, "", err),
     }
 }
 
@@ -161,13 +161,13 @@ fn perform_compare<R: Read, T: Read, W: Write, E: Write>(
         (W.contents out.old) (W.contents out.new) result }
 {
     let [one, other] = files;
-    let first = match Told::of(alloc, first, explain) {
-        Ok(told) => told,
-        Err(stop) => return report(stop, one.as_str(), err),
+    let first = match FinishedScript::read_and_run(alloc, first, explain) {
+        Ok(finished) => finished,
+        Err(stop) => return print_stop(stop, one.as_str(), err),
     };
-    let second = match Told::of(alloc, second, explain) {
-        Ok(told) => told,
-        Err(stop) => return report(stop, other.as_str(), err),
+    let second = match FinishedScript::read_and_run(alloc, second, explain) {
+        Ok(finished) => finished,
+        Err(stop) => return print_stop(stop, other.as_str(), err),
     };
     let one = Side {
         file: one.as_str(),
@@ -177,9 +177,9 @@ fn perform_compare<R: Read, T: Read, W: Write, E: Write>(
         file: other.as_str(),
         script: &second,
     };
-    match compared(alloc, one, other, subject, explain) {
+    match answer_compare(alloc, one, other, subject, explain) {
         Ok(answer) => answer.print(out, err),
-        Err(_) => report(Stop::NoMemory, "", err),
+        Err(_) => print_stop(Stop::NoMemory, "", err),
     }
 }
 
@@ -197,17 +197,17 @@ fn perform_crowd<R: Read, T: Read, W: Write, E: Write>(
         (W.contents out.old) (W.contents out.new) result }
 {
     let [one, other] = files;
-    let first = match submitted_by(alloc, first) {
+    let first = match read_submission(alloc, first) {
         Ok(run) => run,
-        Err(stop) => return report(stop, one.as_str(), err),
+        Err(stop) => return print_stop(stop, one.as_str(), err),
     };
-    let second = match submitted_by(alloc, second) {
+    let second = match read_submission(alloc, second) {
         Ok(run) => run,
-        Err(stop) => return report(stop, other.as_str(), err),
+        Err(stop) => return print_stop(stop, other.as_str(), err),
     };
-    match crowded(alloc, first.submission(), second.submission(), subject) {
+    match answer_crowd(alloc, first.submission(), second.submission(), subject) {
         Ok(answer) => answer.print(out, err),
-        Err(_) => report(Stop::NoMemory, "", err),
+        Err(_) => print_stop(Stop::NoMemory, "", err),
     }
 }
 
@@ -226,15 +226,15 @@ pub fn perform_stream<
     let alloc = rt.alloc();
     match call {
         Call::Table { file } => {
-            let ran = answer_lines(alloc, &mut TableRun::new(), input, out);
-            answer(ran, file.as_str(), err)
+            let ran = run_line_by_line(alloc, &mut TableRun::new(), input, out);
+            print_end(ran, file.as_str(), err)
         }
         Call::Run {
             script,
             workers: None,
         } => {
-            let ran = answer_lines(alloc, &mut HostRun::new(alloc), input, out);
-            answer(ran, script.as_str(), err)
+            let ran = run_line_by_line(alloc, &mut HostRun::new(alloc), input, out);
+            print_end(ran, script.as_str(), err)
         }
         Call::Run {
             workers: Some(_),
@@ -256,14 +256,14 @@ pub fn run_whole<S: LineRunner, R: Read, W: Write>(
     match BufWriter::new(alloc, out) {
         Ok(mut buffered) => {
             let ran = run_script(alloc, runner, file, &mut buffered);
-            finish(buffered, ran)
+            write_rest(buffered, ran)
         }
         Err(_) => Err(Stop::NoMemory),
     }
 }
 
 /// Runs a script as it comes, and hands on what a line prints in one piece.
-pub fn answer_lines<S: LineRunner, R: BufRead, W: Write>(
+pub fn run_line_by_line<S: LineRunner, R: BufRead, W: Write>(
     alloc: Global,
     runner: &mut S,
     input: &mut R,
@@ -272,7 +272,7 @@ pub fn answer_lines<S: LineRunner, R: BufRead, W: Write>(
     match BufWriter::new(alloc, out) {
         Ok(mut buffered) => {
             let ran = run_stream(alloc, runner, input, &mut buffered);
-            finish(buffered, ran)
+            write_rest(buffered, ran)
         }
         Err(_) => Err(Stop::NoMemory),
     }
@@ -280,7 +280,7 @@ pub fn answer_lines<S: LineRunner, R: BufRead, W: Write>(
 
 /// Writes what is still buffered, where something may be. After a write that failed it is given up, so that
 /// nothing is written after the failure.
-fn finish<W: Write + Drop>(buffered: BufWriter<W>, ran: Result<(), Stop>) -> Result<(), Stop>
+fn write_rest<W: Write + Drop>(buffered: BufWriter<W>, ran: Result<(), Stop>) -> Result<(), Stop>
     ensures { (result ≡ ran) ⊎ (result ≡ Err Stop.CannotWrite) }
 {
     let mut buffered = buffered;
@@ -299,34 +299,34 @@ fn leaves_nothing(ran: &Result<(), Stop>) -> bool {
 }
 
 /// Answers words that are no call: prints the text where it belongs, and gives the exit status.
-pub fn refuse<W: Write, E: Write>(usage: &Usage, out: &mut W, err: &mut E) -> u8
+pub fn print_usage<W: Write, E: Write>(usage: &Usage, out: &mut W, err: &mut E) -> u8
     ensures { IsRefusal usage.now result }
 {
     match usage {
         Usage::Help(text) => match write!(out, "{text}").and_then(|()| out.flush()) {
             Ok(()) => DONE,
-            Err(_) => report(Stop::CannotWrite, "", err),
+            Err(_) => print_stop(Stop::CannotWrite, "", err),
         },
         Usage::Bad(text) => {
             let _ = write!(err, "{text}");
             FAULT
         }
-        Usage::NoMemory => report(Stop::NoMemory, "", err),
+        Usage::NoMemory => print_stop(Stop::NoMemory, "", err),
     }
 }
 
-/// The status of a run of the named file.
-fn answer<E: Write>(ran: Result<(), Stop>, file: &str, err: &mut E) -> u8
+/// Says on `err` why a run of the named file ended early, where it did, and gives the exit status.
+fn print_end<E: Write>(ran: Result<(), Stop>, file: &str, err: &mut E) -> u8
     ensures { IsStatusOf ran result }
 {
     match ran {
         Ok(()) => DONE,
-        Err(stop) => report(stop, file, err),
+        Err(stop) => print_stop(stop, file, err),
     }
 }
 
 /// Says on `err` why the run of the named file ended, and gives the exit status.
-pub fn report<E: Write>(stop: Stop, file: &str, err: &mut E) -> u8
+pub fn print_stop<E: Write>(stop: Stop, file: &str, err: &mut E) -> u8
     ensures { result ≡ status_of stop }
 {
     let _ = match stop {

@@ -17,7 +17,7 @@ use std::thread::Threads;
 
 /// Reads a script whole for its jobs, without running any, and has a pool run them: what became of the networks,
 /// as it is printed. A line that is bad ends it before anything is run.
-pub fn pooled<A: AllocGlobal + Threads + Wait + Sync + Send + Copy + Drop, R: Read>(
+pub fn answer_pool<A: AllocGlobal + Threads + Wait + Sync + Send + Copy + Drop, R: Read>(
     rt: &A,
     script: &mut R,
     workers: PoolSize,
@@ -25,7 +25,7 @@ pub fn pooled<A: AllocGlobal + Threads + Wait + Sync + Send + Copy + Drop, R: Re
     ensures { IfOk result (IsPooled workers (R.remaining script.old)) }
 {
     let alloc = rt.alloc();
-    let jobs = jobs_by(alloc, script)?;
+    let jobs = read_jobs(alloc, script)?;
     let (submission, opens) = jobs.into_parts();
     match run_pool(rt, alloc, submission, opens, workers.workers()) {
         Ok(text) => Ok(Answer {
@@ -39,7 +39,7 @@ pub fn pooled<A: AllocGlobal + Threads + Wait + Sync + Send + Copy + Drop, R: Re
 
 /// Reads a script whole for the jobs of its lines. After the last one the networks that are declared with nodes
 /// and that no event has named are declared too. A line that is bad ends it.
-fn jobs_by<R: Read>(alloc: Global, script: &mut R) -> Result<JobRun, Stop>
+fn read_jobs<R: Read>(alloc: Global, script: &mut R) -> Result<JobRun, Stop>
     ensures { IfOk result (IsPlannedBy (R.remaining script.old)) }
 {
     let mut run = JobRun::new(alloc);

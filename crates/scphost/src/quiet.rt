@@ -14,12 +14,12 @@ use std::marker::Model;
 
 /// A script of networks that has been run to its end.
 #[derive(Drop)]
-pub struct Told {
+pub struct FinishedScript {
     run: QuietRun,
     text: Vec<u8>,
 }
 
-impl Model for Told {
+impl Model for FinishedScript {
     ghost use Rattle.std.specs.Coded.{codes};
     ghost use Rattle.std.specs.Prelude.{◌≤◌, length};
     ghost use Rattle.types.specs.Trees.{members_code};
@@ -29,21 +29,25 @@ impl Model for Told {
 
     ghost coded = { Prim.hlevel (codes, members_code) };
 
-    ghost view = { λ told. record { run = told.run; text = told.text.items } };
+    ghost view = { λ script. record { run = script.run; text = script.text.items } };
 
-    ghost invariant = { λ told. length told.text.items ≤ longest_script };
+    ghost invariant = { λ script. length script.text.items ≤ longest_script };
 }
 
-impl Told {
+impl FinishedScript {
     /// Reads a script whole and runs its lines in order, without printing. After the last one the networks
     /// that are declared with nodes and that no event has named are there too. A line that is bad ends it.
     /// Where it is traced, it keeps from which line each entry comes.
-    pub fn of<R: Read>(alloc: Global, script: &mut R, traced: bool) -> Result<Told, Stop>
+    pub fn read_and_run<R: Read>(
+        alloc: Global,
+        script: &mut R,
+        traced: bool,
+    ) -> Result<FinishedScript, Stop>
         ensures { IfOk result (IsTold traced (R.remaining script.old)) }
     {
         let text = read_whole(alloc, script)?;
         let run = run_to_end(alloc, &text, traced)?;
-        Ok(Told { run, text })
+        Ok(FinishedScript { run, text })
     }
 
     /// The run.
@@ -59,7 +63,7 @@ impl Told {
         ensures { IsLineAt self.now.text (origin_in self.now.run.trace net entry) (option_map (λ line. (line.number, line.bytes.now)) result) }
     {
         match self.run.origin(net, entry) {
-            Some(number) => run_line(&self.text, number),
+            Some(number) => nth_record(&self.text, number),
             None => None,
         }
     }
@@ -91,7 +95,7 @@ fn new_run(alloc: Global, traced: bool) -> QuietRun
 }
 
 /// A line of a script, by its number among those that are run, counted from 0.
-fn run_line(text: &[u8], number: usize) -> Option<Line<'_>>
+fn nth_record(text: &[u8], number: usize) -> Option<Line<'_>>
     requires { length text.now ≤ LONGEST_SCRIPT }
     ensures { IsLineOf text.now number (option_map (λ line. (line.number, line.bytes.now)) result) }
 {

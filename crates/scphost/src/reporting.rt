@@ -6,23 +6,23 @@ ghost use Rattle.explorer.specs.Texts.{text_of_report};
 ghost use Rattle.scphost.specs.Reporting.{IsReport, IsReportOf};
 
 use crate::answer::Answer;
-use crate::quiet::Told;
+use crate::quiet::FinishedScript;
 use command_line::{Format, Subject};
 use explorer::{NoNetwork, Report, push_dot, push_svg, push_text, report_of};
 use std::alloc::{AllocError, Global};
 
 /// Whom the subject depends on after a script, in a form. In a network that no line declares that is the node
 /// alone. An error says that memory is short.
-pub fn reported(
+pub fn answer_closure(
     alloc: Global,
-    script: &Told,
+    script: &FinishedScript,
     subject: &Subject,
     format: Format,
 ) -> Result<Answer, AllocError>
     ensures { IfOk result (IsReport format subject.now script.now.run.hosting.logs) }
 {
     let report = report_after(alloc, script, subject)?;
-    let text = text_of(alloc, &report, format)?;
+    let text = format_report(alloc, &report, format)?;
     Ok(Answer {
         differs: false,
         text,
@@ -30,7 +30,11 @@ pub fn reported(
 }
 
 /// The report of the subject after a script.
-fn report_after(alloc: Global, script: &Told, subject: &Subject) -> Result<Report, AllocError>
+fn report_after(
+    alloc: Global,
+    script: &FinishedScript,
+    subject: &Subject,
+) -> Result<Report, AllocError>
     ensures { IfOk result (IsReportOf (log_at script.now.run.hosting.logs subject.now.net) subject.now.slot subject.now.node) }
 {
     match script.run().world().journal(subject.net) {
@@ -40,7 +44,7 @@ fn report_after(alloc: Global, script: &Told, subject: &Subject) -> Result<Repor
 }
 
 /// A report in a form.
-fn text_of(alloc: Global, report: &Report, format: Format) -> Result<String, AllocError>
+fn format_report(alloc: Global, report: &Report, format: Format) -> Result<String, AllocError>
     ensures { IfOk result (λ text. format ≡ Format.Text → string_bytes text ≡ text_of_report report.now) }
 {
     let mut text = String::new(alloc);

@@ -64,7 +64,8 @@ impl FakeWriter {
         }
     }
 
-    fn call(&mut self) -> io::Result<()> {
+    /// Counts a call, and fails where it is the one that is to fail.
+    fn count_call(&mut self) -> io::Result<()> {
         self.calls = self.calls.saturating_add(1);
         if self.fails_at != 0 && self.calls > self.fails_at {
             self.called_after_failure = true;
@@ -78,14 +79,14 @@ impl FakeWriter {
 
 impl Write for FakeWriter {
     fn write(&mut self, buf: &[u8]) -> io::Result<usize> {
-        self.call()?;
+        self.count_call()?;
         let count = buf.len().min(self.at_most);
         self.written.extend_from_slice(&buf[..count])?;
         Ok(count)
     }
 
     fn flush(&mut self) -> io::Result<()> {
-        self.call()
+        self.count_call()
     }
 }
 

@@ -1,7 +1,9 @@
 //! Runs of scripts over memory, with each read and each write failing in turn.
 
 use super::fakes::{FakeReader, FakeWriter, LastField};
-use crate::perform::{answer_lines, perform, perform_stream, refuse, report, run_whole};
+use crate::perform::{
+    perform, perform_stream, print_stop, print_usage, run_line_by_line, run_whole,
+};
 use command_line::{Call, Usage, Word};
 use scripts::Stop;
 use std::alloc::Global;
@@ -14,6 +16,7 @@ const SCRIPT: &[u8] = b"say one\n# a comment\n\nquiet\nsay two\nsay three";
 
 const PRINTED: &[u8] = b"one\ntwo\nthree\n";
 
+/// Runs a script that is read seven bytes at a time, with one of the reads failing.
 fn run(alloc: Global, script: &[u8], read_fails_at: u32, out: &mut FakeWriter) -> Result<(), Stop> {
     let mut reader = FakeReader::new(script, 7, read_fails_at);
     run_whole(alloc, &mut LastField {}, &mut reader, out)
@@ -94,6 +97,7 @@ fn writes_many_lines_at_once(rt: HostRuntime) -> Result<(), Fail> {
     Ok(())
 }
 
+/// Runs a script as it comes, seven bytes at a time through a small buffer, with one of the reads failing.
 fn stream(
     alloc: Global,
     script: &[u8],
@@ -102,7 +106,7 @@ fn stream(
 ) -> Result<(), Stop> {
     let mut reader = FakeReader::new(script, 7, read_fails_at);
     match BufReader::with_capacity(alloc, 3, &mut reader) {
-        Ok(mut buffered) => answer_lines(alloc, &mut LastField {}, &mut buffered, out),
+        Ok(mut buffered) => run_line_by_line(alloc, &mut LastField {}, &mut buffered, out),
         Err(_) => Err(Stop::NoMemory),
     }
 }
@@ -183,20 +187,21 @@ fn answers_the_standard_input(rt: HostRuntime) -> Result<(), Fail> {
     Ok(())
 }
 
-fn said<A: Abort>(rt: &A, alloc: Global, stop: Stop, wanted: &[u8], status: u8) {
+/// A run of `rows.txt` that stopped so is told of by these bytes, and ends with this status.
+fn tells<A: Abort>(rt: &A, alloc: Global, stop: Stop, wanted: &[u8], status: u8) {
     let mut err = FakeWriter::new(alloc, 3, 0);
-    assert_eq!(rt; report(stop, "rows.txt", &mut err), status);
+    assert_eq!(rt; print_stop(stop, "rows.txt", &mut err), status);
     assert!(rt; err.written.as_slice() == wanted);
 }
 
 #[test]
 fn says_why_it_stopped(rt: HostRuntime) {
     let alloc = rt.alloc();
-    said(&rt, alloc, Stop::CannotRead, b"cannot read rows.txt\n", 2);
-    said(&rt, alloc, Stop::TooLong, b"file too long\n", 2);
-    said(&rt, alloc, Stop::BadLine(12), b"bad script line 12\n", 2);
-    said(&rt, alloc, Stop::NoMemory, b"no memory\n", 3);
-    said(&rt, alloc, Stop::CannotWrite, b"cannot write\n", 4);
+    tells(&rt, alloc, Stop::CannotRead, b"cannot read rows.txt\n", 2);
+    tells(&rt, alloc, Stop::TooLong, b"file too long\n", 2);
+    tells(&rt, alloc, Stop::BadLine(12), b"bad script line 12\n", 2);
+    tells(&rt, alloc, Stop::NoMemory, b"no memory\n", 3);
+    tells(&rt, alloc, Stop::CannotWrite, b"cannot write\n", 4);
 }
 
 #[test]
@@ -231,7 +236,7 @@ fn answers_bad_usage(rt: HostRuntime) -> Result<(), Fail> {
     ] {
         let mut out = FakeWriter::new(rt.alloc(), 100, write_fails_at);
         let mut err = FakeWriter::new(rt.alloc(), 100, 0);
-        assert_eq!(rt; refuse(usage, &mut out, &mut err), status);
+        assert_eq!(rt; print_usage(usage, &mut out, &mut err), status);
         assert!(rt; out.written.as_slice() == printed && err.written.as_slice() == wanted);
     }
     Ok(())
