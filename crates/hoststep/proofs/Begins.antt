@@ -11,18 +11,18 @@ use Rattle.hoststep.specs.Logs.{IsJournal}
 use Rattle.network.specs.Standing.{Standing, machine_of}
 use Rattle.std.specs.List.{All}
 
-begins : (config : Config) → IsJournal (machine_of (record { config = config; archive = []; slots = []; events = 0; bytes = 0; opens = 0 })) [] × AreKept [] []
+begins : (config : Config) → IsJournal (machine_of (record { config = config; archive = []; slots = []; events = 0; bytes = 0; opens = 0 })) [] × AreKept config.hosts [] []
 unfolding net_after
 begins config = (
   record {
     run = record { applied = λ k x h. absurd (cc); outs = λ k x h. absurd (cc) };
     state = record { is = refl; tallied = All-nil (λ (s : Seats). All (IsTallied s.number []) s.seats) };
   },
-  All-nil (λ (x : Kept). IsKeptEvent [] x.event × AreFiledOuts [] x.outs.items),
+  All-nil (λ (x : Kept). IsKeptEvent config.hosts [] x.event × AreFiledOuts [] x.outs.items),
 )
 
 pub fresh-journal : (config : Config) (m : Standing) (xs : List Kept) → m ≡ record { config = config; archive = []; slots = []; events = 0; bytes = 0; opens = 0 } → xs ≡ []
-    → IsJournal (machine_of m) (map entry_of xs) × AreKept m.archive xs
+    → IsJournal (machine_of m) (map entry_of xs) × AreKept m.config.hosts m.archive xs
 fresh-journal config m xs is none =
-    subst (λ (s : Standing). IsJournal (machine_of s) (map entry_of xs) × AreKept s.archive xs) (sym is)
-    (subst (λ (ys : List Kept). IsJournal (machine_of (record { config = config; archive = []; slots = []; events = 0; bytes = 0; opens = 0 })) (map entry_of ys) × AreKept [] ys) (sym none) (begins config))
+    subst (λ (s : Standing). IsJournal (machine_of s) (map entry_of xs) × AreKept s.config.hosts s.archive xs) (sym is)
+    (subst (λ (ys : List Kept). IsJournal (machine_of (record { config = config; archive = []; slots = []; events = 0; bytes = 0; opens = 0 })) (map entry_of ys) × AreKept config.hosts [] ys) (sym none) (begins config))

@@ -1,5 +1,6 @@
 -- The configured slices of a node, by its place among the hosted ones.
 use Rattle.std.proofs.Common.{◌≡◌, ℕ, suc, ◌<◌, ◌==◌, Bool, true, false, length, get_or, List, [], ◌∷◌, slice_get, Option, Some, None, option_map, if◌then◌else◌, refl, ap, ◌∙◌, sym, arith}
+use Rattle.std.proofs.lemmas.Bool.Decides.{nat_tests}
 use Rattle.std.proofs.lemmas.Option.{slice_get_read}
 use Rattle.types.specs.Trees.{Slices}
 use Rattle.configuration.specs.Configs.{index_in, index_of_name, names_of}
@@ -42,3 +43,17 @@ missing (x ∷ xs) u h = go (x.name == u) (index_in (names_of xs) u) (λ e. miss
     go true o ih e q = absurd (cc)
     go false None ih e q = ih e
     go false (Some j) ih e q = absurd (cc)
+
+-- the name that stands at the place of a name
+pub named : (hosts : List Host) (u k : ℕ) → index_of_name hosts u ≡ Some k → option_map (λ (h : Host). h.name) (slice_get hosts k) ≡ Some u
+named [] u k h = absurd (cc)
+named (x ∷ xs) u k h = go (x.name == u) (index_in (names_of xs) u) (λ j e. named xs u j e) refl refl h
+  where
+    go : (b : Bool) (o : Option ℕ) → ((j : ℕ) → index_in (names_of xs) u ≡ Some j → option_map (λ (y : Host). y.name) (slice_get xs j) ≡ Some u) → (x.name == u) ≡ b → index_in (names_of xs) u ≡ o
+        → (if b then Some 0 else option_map suc o) ≡ Some k → option_map (λ (y : Host). y.name) (slice_get (x ∷ xs) k) ≡ Some u
+    go true o ih is e q =
+        let z : 0 ≡ k = cc in
+        let same : x.name ≡ u = grind (arith, nat_tests, is) in
+        sym (ap (λ n. option_map (λ (y : Host). y.name) (slice_get (x ∷ xs) n)) z) ∙ ap (λ (n : ℕ). Some n) same
+    go false None ih is e q = absurd (cc)
+    go false (Some j) ih is e q = let z : suc j ≡ k = cc in sym (ap (λ n. option_map (λ (y : Host). y.name) (slice_get (x ∷ xs) n)) z) ∙ ih j e

@@ -16,6 +16,7 @@ use Rattle.configuration.proofs.roster.Roster.TheSendSync as roster
 use Rattle.network.proofs.tallies.Tally.TheSendSync as tally
 use Rattle.network.proofs.slot_index.SlotPlace.TheSendSync as slot_place
 use Rattle.envstore.specs.declared.shelf.Places.{Ghosts}
+use Rattle.types.specs.contracts.event.Event as Event
 use Rattle.types.specs.contracts.nested.Nested as Nested
 use Rattle.view.specs.contracts.region.Region as Region
 use Rattle.latest.specs.contracts.index.Index as Index
@@ -149,17 +150,23 @@ out_sync = search (sendable, crosses, value.the_sync) depth 40
 out_send : IsSend (FiledOut.the_row)
 out_send = search (sendable, crosses, value.the_send) depth 40
 
-event_sync : IsSync (KeptEvent.the_field.row)
+event_sync : IsSync (Event.the_field.row)
 event_sync = search (sendable, crosses, name.the_sync, bytes.the_sync, nested_sync, kind.the_field_sync) depth 40
 
-event_send : IsSend (KeptEvent.the_field.row)
+event_send : IsSend (Event.the_field.row)
 event_send = search (sendable, crosses, name.the_send, bytes.the_send, nested_send, kind.the_field_send) depth 40
 
+kept_event_sync : IsSync (KeptEvent.the_field.row)
+kept_event_sync = search (sendable, crosses, event_sync, kind.the_field_sync) depth 40
+
+kept_event_send : IsSend (KeptEvent.the_field.row)
+kept_event_send = search (sendable, crosses, event_send, kind.the_field_send) depth 40
+
 kept_sync : IsSync (Kept.the_row)
-kept_sync = search (sendable, crosses, event_sync, out_sync) depth 40
+kept_sync = search (sendable, crosses, kept_event_sync, out_sync) depth 40
 
 kept_send : IsSend (Kept.the_row)
-kept_send = search (sendable, crosses, event_send, out_send) depth 40
+kept_send = search (sendable, crosses, kept_event_send, out_send) depth 40
 
 module _ (S P : RattleType) (g : Ghosts S.Denot P.Denot) where
   archive_sync : IsSync S → IsSync P → IsSync (Archive.the_row S P g)

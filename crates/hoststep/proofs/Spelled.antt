@@ -5,12 +5,14 @@ use Rattle.codec.specs.Spelling.{Spells}
 use Rattle.codec.specs.Steps.{IsBytes}
 use Rattle.envstore.specs.declared.filed.Filed.{Filed}
 use Rattle.envstore.specs.Archives.{IsFiled, sent_of}
-use Rattle.protocol.specs.Networks.{Reading}
+use Rattle.protocol.specs.Networks.{Host, Reading}
 use Rattle.protocol.specs.Networks.Reading.{Read, Fault}
 use Rattle.protocol.specs.Networks.Step.{Delivers}
 use Rattle.network.specs.Answers.{delivered_of}
 use Rattle.network.specs.Decoding.{reading}
 use Rattle.network.proofs.Readings.{readings_are_exact}
+use Rattle.hoststep.specs.declared.host_place.HostPlace.{HostPlace}
+use Rattle.hoststep.specs.Hosting.{IsHostAt, host_name}
 use Rattle.hoststep.specs.Keeping.{spelled_size}
 
 pub counted : (bytes : List ℕ) (e : Sent) → Spells bytes e → length bytes ≡ spelled_size e
@@ -25,7 +27,7 @@ spelled bytes u e fits h = go (reading bytes) refl h
     go (Fault n) q k = absurd (cc)
 
 -- a delivery as it is kept
-pub filed : (delivered : Option Filed) (f : Filed) (bytes : List ℕ) (u size : ℕ) → delivered ≡ Some f → option_map sent_of delivered ≡ delivered_of (Delivers u (length bytes) (reading bytes)) → IsBytes bytes → size ≡ length bytes
-    → (archive : List Sent) → IfSome delivered (IsFiled archive) → IsFiled archive f × (size ≡ spelled_size (sent_of f))
-filed delivered f bytes u size is from fits count archive h =
-    (subst (λ (o : Option Filed). IfSome o (IsFiled archive)) is h, count ∙ spelled bytes u (sent_of f) fits (sym (ap (option_map sent_of) is) ∙ from))
+pub filed : (delivered : Option Filed) (f : Filed) (bytes : List ℕ) (u : HostPlace) (size : ℕ) → delivered ≡ Some f → option_map sent_of delivered ≡ delivered_of (Delivers (host_name u) (length bytes) (reading bytes)) → IsBytes bytes → size ≡ length bytes
+    → (hosts : List Host) (archive : List Sent) → IsHostAt hosts u → IfSome delivered (IsFiled archive) → IsHostAt hosts u × IsFiled archive f × (size ≡ spelled_size (sent_of f))
+filed delivered f bytes u size is from fits count hosts archive there h =
+    (there, subst (λ (o : Option Filed). IfSome o (IsFiled archive)) is h, count ∙ spelled bytes (host_name u) (sent_of f) fits (sym (ap (option_map sent_of) is) ∙ from))

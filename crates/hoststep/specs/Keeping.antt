@@ -1,28 +1,30 @@
 -- Entries of a journal as they are kept, and what they stand for.
-use Rattle.std.specs.Prelude.{◌≡◌, ℕ, List, length, ⊤}
+use Rattle.std.specs.Prelude.{◌≡◌, ℕ, true, List, box_value, length, ⊤}
 use Rattle.std.specs.List.{All}
 use Rattle.types.specs.Statements.{Sent}
 use Rattle.codec.specs.Spelling.{spelling}
 use Rattle.protocol.specs.Hosts.{Entry}
-use Rattle.protocol.specs.Networks.{Step}
+use Rattle.protocol.specs.Networks.{Host, Step}
 use Rattle.protocol.specs.Networks.Reading.{Read, Fault}
-use Rattle.protocol.specs.Networks.Step.{Opens, Closes, Asks, Delivers, Hears, NominationTimes, BallotTimes, Reslices}
+use Rattle.protocol.specs.Networks.Step.{Opens, Closes, Delivers, Hears, NominationTimes, BallotTimes}
 use Rattle.envstore.specs.Archives.{IsFiled, sent_of}
 use Rattle.slot.specs.Filings.{AreFiledOuts, outs_of}
+use Rattle.network.specs.Decoding.{step_of}
+use Rattle.hoststep.specs.Hosting.{IsHostAt, host_name}
+use Rattle.hoststep.specs.Incomings.{is_large}
 use Rattle.hoststep.specs.declared.kept.Kept.{Kept}
 use Rattle.hoststep.specs.declared.kept.KeptEvent.{KeptEvent}
-use Rattle.hoststep.specs.declared.kept.KeptEvent.TheVariants.{OpenSlot, CloseSlot, Propose, Deliver, Hear, NominationTimer, BallotTimer, Reslice}
+use Rattle.hoststep.specs.declared.kept.KeptEvent.TheVariants.{OpenSlot, CloseSlot, Deliver, Hear, NominationTimer, BallotTimer, Large}
 
--- the event, with the whole envelope; bytes that are no envelope are never applied
+-- the event, with the whole envelope and with names; bytes that are no envelope are never applied
 abbrev pub step_in : KeptEvent → Step
 step_in (OpenSlot i) = Opens i
 step_in (CloseSlot i) = Closes i
-step_in (Propose i u x) = Asks i u x
-step_in (Deliver u size f) = Delivers u size (Read (sent_of f))
-step_in (Hear i u from kind k) = Hears i u from kind k
-step_in (NominationTimer i u r) = NominationTimes i u r
-step_in (BallotTimer i u n) = BallotTimes i u n
-step_in (Reslice i u q) = Reslices i u q
+step_in (Deliver u size f) = Delivers (host_name u) size (Read (sent_of f))
+step_in (Hear u from kind i k) = Hears i (host_name u) (host_name from) kind k
+step_in (NominationTimer u r i) = NominationTimes i (host_name u) r
+step_in (BallotTimer u n i) = BallotTimes i (host_name u) n
+step_in (Large b) = step_of (box_value b)
 
 abbrev pub entry_of : Kept → Entry
 entry_of x = record { event = step_in x.event; outs = outs_of x.outs.items }
@@ -36,11 +38,17 @@ IsReadable _ = ⊤
 unfoldable pub spelled_size : Sent → ℕ
 spelled_size e = length (spelling e)
 
--- the archive has the envelope that was delivered, and as many bytes came as its spelling has
-abbrev pub IsKeptEvent : List Sent → KeptEvent → Type 0
-IsKeptEvent archive (Deliver u size f) = IsFiled archive f × (size ≡ spelled_size (sent_of f))
-IsKeptEvent archive _ = ⊤
+-- the nodes stand at their places among the hosts; the archive has the envelope that was delivered, and as many bytes came as its
+-- spelling has; what lies in a box is large
+abbrev pub IsKeptEvent : List Host → List Sent → KeptEvent → Type 0
+IsKeptEvent hosts archive (OpenSlot i) = ⊤
+IsKeptEvent hosts archive (CloseSlot i) = ⊤
+IsKeptEvent hosts archive (Deliver u size f) = IsHostAt hosts u × IsFiled archive f × (size ≡ spelled_size (sent_of f))
+IsKeptEvent hosts archive (Hear u from kind i k) = IsHostAt hosts u × IsHostAt hosts from
+IsKeptEvent hosts archive (NominationTimer u r i) = IsHostAt hosts u
+IsKeptEvent hosts archive (BallotTimer u n i) = IsHostAt hosts u
+IsKeptEvent hosts archive (Large b) = is_large (box_value b) ≡ true
 
 -- and those that were given out
-abbrev pub AreKept : List Sent → List Kept → Type 0
-AreKept archive xs = All (λ x. IsKeptEvent archive x.event × AreFiledOuts archive x.outs.items) xs
+abbrev pub AreKept : List Host → List Sent → List Kept → Type 0
+AreKept hosts archive xs = All (λ x. IsKeptEvent hosts archive x.event × AreFiledOuts archive x.outs.items) xs

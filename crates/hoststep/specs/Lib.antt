@@ -1,4 +1,6 @@
 pub mod Logs
+pub mod Hosting
+pub mod Incomings
 pub mod Keeping
 pub mod Entering
 pub mod Worlds

@@ -7,10 +7,12 @@ ghost use Rattle.network.specs.Decoding.{step_of};
 ghost use Rattle.network.specs.Standing.{slices_at};
 ghost use Rattle.hoststep.specs.Logs.{IsEntered, IsEntryAt, IsRecorded, IsRefused, extended};
 ghost use Rattle.hoststep.specs.Entering.{IsEnteredWith, outs_after};
+ghost use Rattle.hoststep.specs.Incomings.{IsPacked, event_in};
 ghost use Rattle.hoststep.specs.Lending.{lent_step, outs_at};
 ghost use Rattle.hoststep.specs.Deciding.{decided_by, decisions_at};
 
 use crate::entered::{Entered, both_copies, only_copy};
+use crate::incoming::Incoming;
 use crate::kept::{Kept, kept_event, push_whole_outs, whole_event};
 use crate::lent_decision::{LentDecision, lent_decision};
 use crate::lent_event::{LentEvent, lent_event};
@@ -48,7 +50,7 @@ impl<S: Shelf> Model for Journal<S> {
 
     ghost view = { λ j. record { config = j.network.config; entries = map entry_of j.entries.items } };
 
-    ghost invariant = { λ j. IsJournal (machine_of j.network) (map entry_of j.entries.items) × AreKept j.network.archive j.entries.items };
+    ghost invariant = { λ j. IsJournal (machine_of j.network) (map entry_of j.entries.items) × AreKept j.network.config.hosts j.network.archive j.entries.items };
 }
 
 impl<S: Shelf> Journal<S> {
@@ -146,18 +148,33 @@ impl<S: Shelf> Journal<S> {
         ensures err { IfErr result (IsRefused self.old (step_of event)) }
         ensures same { OnErr result (self.new ≡ self.old) }
     {
+        match Incoming::of(self.alloc, event) {
+            Ok(incoming) => self.enter_packed(incoming, copies),
+            // Memory: a large event has no box.
+            Err(_) => Err(Refusal::NoMemory),
+        }
+    }
+
+    /// The same of an event that lies in a box where it is large.
+    fn enter_packed(&mut self, event: Incoming, copies: usize) -> Result<Entered, Refusal>
+        requires { IsPacked event }
+        ensures ok { IfOk result (IsEnteredWith self.old (step_of (event_in event)) copies) }
+        ensures entered { OnOk result (self.new ≡ extended self.old (step_of (event_in event)) (outs_after self.old (step_of (event_in event)))) }
+        ensures err { IfErr result (IsRefused self.old (step_of (event_in event))) }
+        ensures same { OnErr result (self.new ≡ self.old) }
+    {
         if self.entries.reserve(1).is_err() {
             // Memory: the entry has no room.
             return Err(Refusal::NoMemory);
         }
-        let applied = self.network.apply(&event, copies)?;
+        let applied = self.network.apply(event.event(), copies)?;
         let Applied {
             outs,
             marks,
             copies,
             delivered,
         } = applied;
-        let event = kept_event(event, delivered);
+        let event = kept_event(self.network.config(), event, delivered);
         self.entries.push_reserved(Kept { event, outs });
         Ok(Entered { marks, copies })
     }

@@ -1,24 +1,32 @@
 //! Entries of a journal as they are kept, in places of its archive.
 
-ghost use Rattle.std.specs.Prelude.{◌≡◌, ◌++◌, IfOk, IfSome, List, OnErr, OnOk, length, option_map, take};
+ghost use Rattle.std.specs.Prelude.{◌≡◌, ◌++◌, IfOk, IfSome, List, OnErr, OnOk, false, length, option_map, take};
 ghost use Rattle.codec.specs.Steps.{IsBytes};
 ghost use Rattle.envstore.specs.Archives.{IsFiled, sent_of};
+ghost use Rattle.protocol.specs.Networks.{Host};
 ghost use Rattle.protocol.specs.Networks.Reading.{Read};
 ghost use Rattle.protocol.specs.Networks.Step.{Delivers};
 ghost use Rattle.slot.specs.Filings.{AreFiledOuts, IsFiledOut, out_of, outs_of};
 ghost use Rattle.types.specs.Statements.{Sent};
 ghost use Rattle.network.specs.Answers.{delivered_of};
 ghost use Rattle.network.specs.Decoding.{reading, step_of};
+ghost use Rattle.hoststep.specs.Hosting.{AreHosted, IsHostAt, host_name};
+ghost use Rattle.hoststep.specs.Incomings.{IsPacked, event_in, is_large};
 ghost use Rattle.hoststep.specs.Keeping.{IsKeptEvent, IsReadable, spelled_size, step_in};
 
+use crate::host_place::HostPlace;
+use crate::incoming::Incoming;
 use codec::encode;
+use configuration::NetConfig;
 use envstore::{Filed, Shelf};
 use network::Network;
 use slot::FiledOut;
 use std::alloc::{AllocError, Global};
-use types::{Bytes, Event, Kind, Nested, NodeId, Out};
+use types::{Bytes, Event, Kind, Out};
 
-/// An applied event, as it is kept: what was delivered lies in the archive of the network.
+/// An applied event, as it is kept: what was delivered lies in the archive of the network, nodes are named by
+/// their places among the hosts, and a large event lies in a box. Small fields come first, since fields lie as
+/// they are written here.
 #[derive(Drop)]
 pub(crate) enum KeptEvent {
     OpenSlot {
@@ -27,39 +35,31 @@ pub(crate) enum KeptEvent {
     CloseSlot {
         slot: u64,
     },
-    Propose {
-        slot: u64,
-        node: NodeId,
-        value: Bytes,
-    },
     /// The envelope that the bytes were, and how many they were.
     Deliver {
-        node: NodeId,
+        node: HostPlace,
         size: u64,
         envelope: Filed,
     },
     Hear {
-        slot: u64,
-        node: NodeId,
-        from: NodeId,
+        node: HostPlace,
+        from: HostPlace,
         kind: Kind,
+        slot: u64,
         number: u64,
     },
     NominationTimer {
-        slot: u64,
-        node: NodeId,
+        node: HostPlace,
         round: u32,
+        slot: u64,
     },
     BallotTimer {
-        slot: u64,
-        node: NodeId,
+        node: HostPlace,
         counter: u32,
-    },
-    Reslice {
         slot: u64,
-        node: NodeId,
-        slices: Nested,
     },
+    /// A proposal or new slices, as they came.
+    Large(Box<Event>),
 }
 
 /// An applied event with what it gave out.
@@ -69,18 +69,37 @@ pub(crate) struct Kept {
     pub outs: Vec<FiledOut>,
 }
 
-/// An event as it is kept. For the bytes of a delivery stands the place where their envelope was filed.
-pub(crate) fn kept_event(event: Event, delivered: Option<Filed>) -> KeptEvent
-    requires delivered { option_map sent_of delivered ≡ delivered_of (step_of event) }
-    requires readable { IsReadable (step_of event) }
-    ensures step { step_in result ≡ step_of event }
-    ensures filed { (archive : List Sent) → IfSome delivered (IsFiled archive) → IsKeptEvent archive result }
+/// An event as it is kept. For the bytes of a delivery stands the place where their envelope was filed. It
+/// takes no memory.
+pub(crate) fn kept_event(config: &NetConfig, event: Incoming, delivered: Option<Filed>) -> KeptEvent
+    requires packed { IsPacked event }
+    requires hosted { AreHosted config.now.hosts (step_of (event_in event)) }
+    requires delivered { option_map sent_of delivered ≡ delivered_of (step_of (event_in event)) }
+    requires readable { IsReadable (step_of (event_in event)) }
+    ensures step { step_in result ≡ step_of (event_in event) }
+    ensures filed { (archive : List Sent) → IfSome delivered (IsFiled archive) → IsKeptEvent config.now.hosts archive result }
 {
     match event {
-        Event::OpenSlot { slot } => KeptEvent::OpenSlot { slot },
-        Event::CloseSlot { slot } => KeptEvent::CloseSlot { slot },
-        Event::Propose { slot, node, value } => KeptEvent::Propose { slot, node, value },
-        Event::Deliver { node, bytes } => kept_delivery(node, &bytes, delivered),
+        Incoming::Small(event) => kept_small(config, &event, delivered),
+        Incoming::Large(event) => KeptEvent::Large(event),
+    }
+}
+
+/// An event that is not large, as it is kept.
+fn kept_small(config: &NetConfig, event: &Event, delivered: Option<Filed>) -> KeptEvent
+    requires small { is_large event.now ≡ false }
+    requires hosted { AreHosted config.now.hosts (step_of event.now) }
+    requires delivered { option_map sent_of delivered ≡ delivered_of (step_of event.now) }
+    requires readable { IsReadable (step_of event.now) }
+    ensures step { step_in result ≡ step_of event.now }
+    ensures filed { (archive : List Sent) → IfSome delivered (IsFiled archive) → IsKeptEvent config.now.hosts archive result }
+{
+    match event {
+        Event::OpenSlot { slot } => KeptEvent::OpenSlot { slot: *slot },
+        Event::CloseSlot { slot } => KeptEvent::CloseSlot { slot: *slot },
+        Event::Deliver { node, bytes } => {
+            kept_delivery(HostPlace::of(config, node), bytes, delivered)
+        }
         Event::Hear {
             slot,
             node,
@@ -88,34 +107,36 @@ pub(crate) fn kept_event(event: Event, delivered: Option<Filed>) -> KeptEvent
             kind,
             number,
         } => KeptEvent::Hear {
-            slot,
-            node,
-            from,
-            kind,
-            number,
+            node: HostPlace::of(config, node),
+            from: HostPlace::of(config, from),
+            kind: *kind,
+            slot: *slot,
+            number: *number,
         },
-        Event::NominationTimer { slot, node, round } => {
-            KeptEvent::NominationTimer { slot, node, round }
-        }
+        Event::NominationTimer { slot, node, round } => KeptEvent::NominationTimer {
+            node: HostPlace::of(config, node),
+            round: *round,
+            slot: *slot,
+        },
         Event::BallotTimer {
             slot,
             node,
             counter,
         } => KeptEvent::BallotTimer {
-            slot,
-            node,
-            counter,
+            node: HostPlace::of(config, node),
+            counter: *counter,
+            slot: *slot,
         },
-        Event::Reslice { slot, node, slices } => KeptEvent::Reslice { slot, node, slices },
+        Event::Propose { .. } | Event::Reslice { .. } => unreachable!(),
     }
 }
 
 /// A delivery as it is kept, of bytes that are an envelope.
-fn kept_delivery(node: NodeId, bytes: &Bytes, delivered: Option<Filed>) -> KeptEvent
-    requires delivered { option_map sent_of delivered ≡ delivered_of (Delivers node (length bytes.now) (reading bytes.now)) }
-    requires readable { IsReadable (Delivers node (length bytes.now) (reading bytes.now)) }
-    ensures step { step_in result ≡ Delivers node (length bytes.now) (reading bytes.now) }
-    ensures filed { (archive : List Sent) → IfSome delivered (IsFiled archive) → IsKeptEvent archive result }
+fn kept_delivery(node: HostPlace, bytes: &Bytes, delivered: Option<Filed>) -> KeptEvent
+    requires delivered { option_map sent_of delivered ≡ delivered_of (Delivers (host_name node) (length bytes.now) (reading bytes.now)) }
+    requires readable { IsReadable (Delivers (host_name node) (length bytes.now) (reading bytes.now)) }
+    ensures step { step_in result ≡ Delivers (host_name node) (length bytes.now) (reading bytes.now) }
+    ensures filed { (hosts : List Host) (archive : List Sent) → IsHostAt hosts node → IfSome delivered (IsFiled archive) → IsKeptEvent hosts archive result }
 {
     let Some(envelope) = delivered else {
         unreachable!()
@@ -143,53 +164,44 @@ pub(crate) fn whole_event<S: Shelf>(
     network: &Network<S>,
     event: &KeptEvent,
 ) -> Result<Event, AllocError>
-    requires { IsKeptEvent network.now.archive event.now }
+    requires { IsKeptEvent network.now.config.hosts network.now.archive event.now }
     ensures { IfOk result (λ e. step_of e ≡ step_in event.now) }
 {
     match event {
         KeptEvent::OpenSlot { slot } => Ok(Event::OpenSlot { slot: *slot }),
         KeptEvent::CloseSlot { slot } => Ok(Event::CloseSlot { slot: *slot }),
-        KeptEvent::Propose { slot, node, value } => Ok(Event::Propose {
-            slot: *slot,
-            node: *node,
-            value: value.try_copy(alloc)?,
-        }),
         KeptEvent::Deliver { node, envelope, .. } => Ok(Event::Deliver {
-            node: *node,
+            node: node.name(network.config()),
             bytes: whole_bytes(alloc, network, envelope)?,
         }),
         KeptEvent::Hear {
-            slot,
             node,
             from,
             kind,
+            slot,
             number,
         } => Ok(Event::Hear {
             slot: *slot,
-            node: *node,
-            from: *from,
+            node: node.name(network.config()),
+            from: from.name(network.config()),
             kind: *kind,
             number: *number,
         }),
-        KeptEvent::NominationTimer { slot, node, round } => Ok(Event::NominationTimer {
+        KeptEvent::NominationTimer { node, round, slot } => Ok(Event::NominationTimer {
             slot: *slot,
-            node: *node,
+            node: node.name(network.config()),
             round: *round,
         }),
         KeptEvent::BallotTimer {
-            slot,
             node,
             counter,
+            slot,
         } => Ok(Event::BallotTimer {
             slot: *slot,
-            node: *node,
+            node: node.name(network.config()),
             counter: *counter,
         }),
-        KeptEvent::Reslice { slot, node, slices } => Ok(Event::Reslice {
-            slot: *slot,
-            node: *node,
-            slices: slices.try_copy(alloc)?,
-        }),
+        KeptEvent::Large(event) => event.try_copy(alloc),
     }
 }
 

@@ -1,16 +1,18 @@
 //! A decision of a journal, read in place.
 
-ghost use Rattle.std.specs.Prelude.{◌≡◌, ◌≤◌, length, option_map, option_to_list, slice_get};
+ghost use Rattle.std.specs.Prelude.{◌≡◌, ◌≤◌, length, option_map, option_to_list, slice_get, true};
+ghost use Rattle.network.specs.Decoding.{step_of};
 ghost use Rattle.network.specs.Marks.{place_named};
 ghost use Rattle.slot.specs.Filings.{outs_of};
 ghost use Rattle.hoststep.specs.Deciding.{decided_at, decided_by, decisions_in, values_in};
+ghost use Rattle.hoststep.specs.Incomings.{is_large};
 ghost use Rattle.hoststep.specs.Keeping.{IsKeptEvent, entry_of, step_in};
 
 use crate::kept::{Kept, KeptEvent};
 use envstore::Shelf;
 use network::Network;
 use slot::FiledOut;
-use types::{NodeId, Value};
+use types::{Event, NodeId, Value};
 
 /// A hosted node externalized a value for a slot. The value stands where the journal has it.
 #[derive(Clone, Copy)]
@@ -25,7 +27,7 @@ pub(crate) fn lent_decision<'a, S: Shelf>(
     network: &'a Network<S>,
     kept: &'a Kept,
 ) -> Option<LentDecision<'a>>
-    requires filed { IsKeptEvent network.now.archive kept.now.event }
+    requires filed { IsKeptEvent network.now.config.hosts network.now.archive kept.now.event }
     requires once { length (values_in (outs_of kept.now.outs.items)) ≤ 1 }
     ensures { option_to_list (option_map decided_by result) ≡ decisions_in (entry_of kept.now) }
 {
@@ -58,16 +60,31 @@ fn first_value(outs: &[FiledOut]) -> Option<&Value>
 
 /// The slot and the node of an event, where it is one of a node.
 fn place_named<S: Shelf>(network: &Network<S>, event: &KeptEvent) -> Option<(u64, NodeId)>
-    requires { IsKeptEvent network.now.archive event.now }
+    requires { IsKeptEvent network.now.config.hosts network.now.archive event.now }
     ensures { result ≡ place_named (step_in event.now) }
 {
+    let config = network.config();
     match event {
         KeptEvent::OpenSlot { .. } | KeptEvent::CloseSlot { .. } => None,
-        KeptEvent::Deliver { node, envelope, .. } => Some((network.read(envelope).slot(), *node)),
-        KeptEvent::Propose { slot, node, .. } => Some((*slot, *node)),
-        KeptEvent::Hear { slot, node, .. } => Some((*slot, *node)),
-        KeptEvent::NominationTimer { slot, node, .. } => Some((*slot, *node)),
-        KeptEvent::BallotTimer { slot, node, .. } => Some((*slot, *node)),
-        KeptEvent::Reslice { slot, node, .. } => Some((*slot, *node)),
+        KeptEvent::Deliver { node, envelope, .. } => {
+            Some((network.read(envelope).slot(), node.name(config)))
+        }
+        KeptEvent::Hear { node, slot, .. } => Some((*slot, node.name(config))),
+        KeptEvent::NominationTimer { node, slot, .. } => Some((*slot, node.name(config))),
+        KeptEvent::BallotTimer { node, slot, .. } => Some((*slot, node.name(config))),
+        KeptEvent::Large(event) => place_of_large(event),
+    }
+}
+
+/// The slot and the node of a large event.
+fn place_of_large(event: &Event) -> Option<(u64, NodeId)>
+    requires { is_large event.now ≡ true }
+    ensures { result ≡ place_named (step_of event.now) }
+{
+    match event {
+        Event::Propose { slot, node, .. } | Event::Reslice { slot, node, .. } => {
+            Some((*slot, *node))
+        }
+        _ => unreachable!(),
     }
 }

@@ -1,16 +1,18 @@
 //! An event of a journal, read in place.
 
-ghost use Rattle.std.specs.Prelude.{◌≡◌};
+ghost use Rattle.std.specs.Prelude.{◌≡◌, true};
 ghost use Rattle.envstore.specs.Archives.{IsFiled, sent_of};
 ghost use Rattle.protocol.specs.Networks.Reading.{Read};
 ghost use Rattle.protocol.specs.Networks.Step.{Delivers};
+ghost use Rattle.network.specs.Decoding.{step_of};
+ghost use Rattle.hoststep.specs.Incomings.{is_large};
 ghost use Rattle.hoststep.specs.Keeping.{IsKeptEvent, step_in};
 ghost use Rattle.hoststep.specs.Lending.{lent_step};
 
 use crate::kept::KeptEvent;
 use envstore::{Filed, Shelf};
 use network::Network;
-use types::{Bytes, Envelope, Kind, Nested, NodeId};
+use types::{Bytes, Envelope, Event, Kind, Nested, NodeId};
 
 /// An event that a network applied, without a copy of anything: values, envelopes and slices stand where the
 /// network and its journal have them.
@@ -70,54 +72,65 @@ pub(crate) fn lent_event<'a, S: Shelf>(
     network: &'a Network<S>,
     event: &'a KeptEvent,
 ) -> LentEvent<'a>
-    requires { IsKeptEvent network.now.archive event.now }
+    requires { IsKeptEvent network.now.config.hosts network.now.archive event.now }
     ensures { lent_step result ≡ step_in event.now }
 {
     match event {
         KeptEvent::OpenSlot { slot } => LentEvent::OpenSlot { slot: *slot },
         KeptEvent::CloseSlot { slot } => LentEvent::CloseSlot { slot: *slot },
-        KeptEvent::Propose { slot, node, value } => LentEvent::Propose {
-            slot: *slot,
-            node: *node,
-            value,
-        },
         KeptEvent::Deliver {
             node,
             size,
             envelope,
-        } => lent_delivery(network, *node, *size, envelope),
+        } => lent_delivery(network, node.name(network.config()), *size, envelope),
         KeptEvent::Hear {
-            slot,
             node,
             from,
             kind,
+            slot,
             number,
         } => LentEvent::Hear {
             slot: *slot,
-            node: *node,
-            from: *from,
+            node: node.name(network.config()),
+            from: from.name(network.config()),
             kind: *kind,
             number: *number,
         },
-        KeptEvent::NominationTimer { slot, node, round } => LentEvent::NominationTimer {
+        KeptEvent::NominationTimer { node, round, slot } => LentEvent::NominationTimer {
             slot: *slot,
-            node: *node,
+            node: node.name(network.config()),
             round: *round,
         },
         KeptEvent::BallotTimer {
-            slot,
             node,
             counter,
+            slot,
         } => LentEvent::BallotTimer {
             slot: *slot,
-            node: *node,
+            node: node.name(network.config()),
             counter: *counter,
         },
-        KeptEvent::Reslice { slot, node, slices } => LentEvent::Reslice {
+        KeptEvent::Large(event) => lent_large(event),
+    }
+}
+
+/// A large event, read in place.
+fn lent_large(event: &Event) -> LentEvent<'_>
+    requires { is_large event.now ≡ true }
+    ensures { lent_step result ≡ step_of event.now }
+{
+    match event {
+        Event::Propose { slot, node, value } => LentEvent::Propose {
+            slot: *slot,
+            node: *node,
+            value,
+        },
+        Event::Reslice { slot, node, slices } => LentEvent::Reslice {
             slot: *slot,
             node: *node,
             slices,
         },
+        _ => unreachable!(),
     }
 }
 

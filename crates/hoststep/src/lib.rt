@@ -8,12 +8,15 @@
 
 mod announcing;
 mod entered;
+mod host_place;
+mod incoming;
 mod journal;
 mod kept;
 mod lent_decision;
 mod lent_event;
 mod machine;
 mod recorded;
+mod sizes;
 mod world;
 
 pub use configuration::{Budgets, ConfigError, Host, NetConfig, Roster, Shares};
