@@ -1,10 +1,11 @@
--- Slots that a seat asks for, and networks that join, one after the other.
-use Rattle.std.proofs.Common.{◌≡◌, ◌∙◌, ◌<◌, ◌≤◌, ◌+◌, ℕ, zero, suc, List, [], ◌∷◌, drop, get_or, length, map, refl, sym, ap, subst, arith}
+-- Slots that a seat asks for, and networks that are opened and join, one after the other.
+use Rattle.std.proofs.Common.{◌≡◌, ◌∙◌, ◌<◌, ◌≤◌, ◌+◌, ℕ, zero, suc, List, [], ◌∷◌, ◌++◌, drop, get_or, length, map, refl, sym, ap, subst, arith}
+use Rattle.std.proofs.lemmas.List.{append-nil, append_assoc}
 use Rattle.protocol.specs.Hosts.{Config}
 use Rattle.cells.specs.Sights.{CellSight, Sight}
 use Rattle.workers.specs.NetSights.{Net}
 use Rattle.workers.specs.Nets.{NoNet, nets_with}
-use Rattle.pooled.specs.Opening.{HasAsked, HaveAsked, AreHosted, IsReady, slots_of}
+use Rattle.pooled.specs.Opening.{AreHosted, AreReady, HasAsked, HaveAsked, JoinInTurn, IsReady, slots_of}
 use Rattle.pooled.specs.Opening.HaveAsked.{none as asked_none, more as asked_more}
 use Rattle.pooled.specs.Opening.AreHosted.{none as hosted_none, more as hosted_more}
 
@@ -33,18 +34,63 @@ pub asked_all : (c : CellSight) (opens : List (ℕ × ℕ)) (i : ℕ) (old seat 
     → ((u : Sight) → HaveAsked c (map (λ o. o.1) (drop i opens)) seat u → HaveAsked c (map (λ o. o.1) opens) old u) → HaveAsked c (map (λ o. o.1) opens) old seat
 asked_all c opens i old seat l rest = rest seat (subst (λ os. HaveAsked c (map (λ o. o.1) os) seat seat) (sym (drop_past opens i l)) asked_none)
 
--- one network more
-pub joined_on : (many : ℕ) (opens sorted : List (ℕ × ℕ)) (host next : List Net) (c : Config) (cs all : List Config)
-    → ((g : ℕ) → slots_of g sorted ≡ slots_of g opens)
-    → ((n : Net) × IsReady c many (slots_of c.number sorted) n × NoNet host c.number × (next ≡ nets_with n host))
-    → ((ms : List Net) → AreHosted many opens host (c ∷ cs) ms → AreHosted many opens [] all ms)
-    → (ms : List Net) → AreHosted many opens next cs ms → AreHosted many opens [] all ms
-joined_on many opens sorted host next c cs all kept one rest ms later =
-    let ready = subst (λ ss. IsReady c many ss one.0) (kept c.number) one.1 in
-    rest ms (hosted_more one.0 ready one.2 (subst (λ ns. AreHosted many opens ns cs ms) one.3 later))
+-- ---- networks that are opened, one after the other
 
--- no network is left
-pub hosted_all : (many : ℕ) (opens : List (ℕ × ℕ)) (host : List Net) (rest all : List Config) → length rest ≡ 0
-    → ((ms : List Net) → AreHosted many opens host rest ms → AreHosted many opens [] all ms) → AreHosted many opens [] all host
-hosted_all many opens host [] all few step = step host hosted_none
-hosted_all many opens host (c ∷ cs) all few step = absurd (omega (arith, few))
+pub ready_both : (many : ℕ) (opens : List (ℕ × ℕ)) (cs ds : List Config) (ns ms : List Net) → AreReady many opens cs ns → AreReady many opens ds ms
+    → AreReady many opens (cs ++ ds) (ns ++ ms)
+ready_both many opens [] ds [] ms one other = other
+ready_both many opens [] ds (n ∷ ns) ms one other = absurd one
+ready_both many opens (c ∷ cs) ds [] ms one other = absurd one
+ready_both many opens (c ∷ cs) ds (n ∷ ns) ms one other = (one.0, ready_both many opens cs ds ns ms one.1 other)
+
+-- of one half of the configurations, and of the other
+pub ready_halves : (many : ℕ) (opens : List (ℕ × ℕ)) (all low high : List Config) (ns ms nets : List Net) → all ≡ low ++ high → nets ≡ ns ++ ms
+    → AreReady many opens low ns → AreReady many opens high ms → AreReady many opens all nets
+ready_halves many opens all low high ns ms nets all_is nets_is one other =
+    subst (λ (z : List Config × List Net). AreReady many opens z.0 z.1) (λ i. (sym all_is i, sym nets_is i)) (ready_both many opens low high ns ms one other)
+
+-- whatever networks those that are left will be, behind these they are the networks of all
+abbrev pub Opens : ℕ → List (ℕ × ℕ) → List Config → List Config → List Net → Type 0
+Opens many opens all left nets = (ns : List Net) → AreReady many opens left ns → AreReady many opens all (nets ++ ns)
+
+pub opens_none : (many : ℕ) (opens : List (ℕ × ℕ)) (all left : List Config) (nets : List Net) → left ≡ all → nets ≡ [] → Opens many opens all left nets
+opens_none many opens all left nets whole empty ns h =
+    subst (λ ms. AreReady many opens all (ms ++ ns)) (sym empty) (subst (λ cs. AreReady many opens cs ns) whole h)
+
+pub opens_more : (many : ℕ) (opens : List (ℕ × ℕ)) (all left rest : List Config) (c : Config) (nets now : List Net) (n : Net) → left ≡ c ∷ rest
+    → IsReady c many (slots_of c.number opens) n → now ≡ nets ++ n ∷ [] → Opens many opens all left nets → Opens many opens all rest now
+opens_more many opens all left rest c nets now n is one grown whole ns h =
+    let longer : AreReady many opens all (nets ++ n ∷ ns) = whole (n ∷ ns) (subst (λ cs. AreReady many opens cs (n ∷ ns)) (sym is) (one, h)) in
+    subst (AreReady many opens all) (sym (ap (λ ms. ms ++ ns) grown ∙ append_assoc nets (n ∷ []) ns)) longer
+
+pub all_opened : (many : ℕ) (opens : List (ℕ × ℕ)) (all left : List Config) (nets : List Net) → length left ≡ 0 → Opens many opens all left nets → AreReady many opens all nets
+all_opened many opens all [] nets few whole = subst (AreReady many opens all) (append-nil nets) (whole [] tt)
+all_opened many opens all (c ∷ cs) nets few whole = absurd (omega (arith, few))
+
+-- ---- networks that join, one after the other
+
+-- whatever the host will be when those that are left have joined this one, they all have joined then
+abbrev pub Joins : List Net → List Net → List Net → Type 0
+Joins all left host = (new : List Net) → JoinInTurn left host new → JoinInTurn all [] new
+
+pub joins_more : (all left rest host next : List Net) (n : Net) → left ≡ n ∷ rest → NoNet host n.cell.config.number → next ≡ nets_with n host → Joins all left host → Joins all rest next
+joins_more all left rest host next n is fresh next_is whole new h =
+    whole new (subst (λ ns. JoinInTurn ns host new) (sym is) (fresh, subst (λ ns. JoinInTurn rest ns new) next_is h))
+
+pub all_joined : (all left host : List Net) → length left ≡ 0 → Joins all left host → JoinInTurn all [] host
+all_joined all [] host few whole = whole host refl
+all_joined all (n ∷ ns) host few whole = absurd (omega (arith, few))
+
+-- networks that are ready have joined, with the slots in another order of all
+pub hosted : (many : ℕ) (opens sorted : List (ℕ × ℕ)) (cs : List Config) (ns old new : List Net) → ((g : ℕ) → slots_of g sorted ≡ slots_of g opens)
+    → AreReady many sorted cs ns → JoinInTurn ns old new → AreHosted many opens old cs new
+hosted many opens sorted [] [] old new kept ready joined = subst (AreHosted many opens old []) (sym joined) hosted_none
+hosted many opens sorted [] (n ∷ ns) old new kept ready joined = absurd ready
+hosted many opens sorted (c ∷ cs) [] old new kept ready joined = absurd ready
+hosted many opens sorted (c ∷ cs) (n ∷ ns) old new kept ready joined =
+    hosted_more n (subst (λ ss. IsReady c many ss n) (kept c.number) ready.0) (subst (NoNet old) (ap (λ (k : Config). k.number) ready.0.config) joined.0)
+    (hosted many opens sorted cs ns (nets_with n old) new kept ready.1 joined.1)
+
+-- with the same seats and slots they are ready likewise
+pub ready_likewise : (m n : ℕ) (o p : List (ℕ × ℕ)) (configs : List Config) (nets : List Net) → m ≡ n → o ≡ p → AreReady m o configs nets → AreReady n p configs nets
+ready_likewise m n o p configs nets seats opens h = subst (λ k. AreReady k p configs nets) seats (subst (λ l. AreReady m l configs nets) opens h)

@@ -41,3 +41,15 @@ pub data AreHosted (many : ℕ) (opens : List (ℕ × ℕ)) : List Net → List 
   none : {ns : List Net} → AreHosted many opens ns [] ns
   more : {c : Config} {cs : List Config} {ns ms : List Net} (n : Net) → IsReady c many (slots_of c.number opens) n → NoNet ns c.number
       → AreHosted many opens (nets_with n ns) cs ms → AreHosted many opens ns (c ∷ cs) ms
+
+-- networks of these configurations, in their order, each with its first slots
+abbrev pub AreReady : ℕ → List (ℕ × ℕ) → List Config → List Net → Type 0
+AreReady many opens [] [] = Unit {0}
+AreReady many opens [] (n ∷ ns) = ⊥
+AreReady many opens (c ∷ cs) [] = ⊥
+AreReady many opens (c ∷ cs) (n ∷ ns) = IsReady c many (slots_of c.number opens) n × AreReady many opens cs ns
+
+-- networks have joined those that are hosted, one after the other
+abbrev pub JoinInTurn : List Net → List Net → List Net → Type 0
+JoinInTurn [] old new = new ≡ old
+JoinInTurn (n ∷ ns) old new = NoNet old n.cell.config.number × JoinInTurn ns (nets_with n old) new

@@ -1,59 +1,78 @@
-//! Networks that join a host, each with its first slots open.
+//! A network that is opened, with its first slots, and joins a host.
 
-ghost use Rattle.std.specs.Prelude.{◌≡◌, ◌==◌, ◌<◌, ◌≤◌, OnOk, filter, map, nat_le, nat_lt};
+ghost use Rattle.std.specs.Prelude.{◌≡◌, ◌==◌, ◌<◌, ◌≤◌, IfOk, OnOk, filter, map, nat_le, nat_lt};
 ghost use Rattle.std.specs.List.Sorted.{IsNonDecreasingBy};
 ghost use Rattle.cells.specs.Cells.{IsSeatOf};
 ghost use Rattle.pooled.specs.Opening.{HaveAsked, HasAsked, IsReady, slots_of};
-ghost use Rattle.workers.specs.Benches.{IsHosted};
-ghost use Rattle.workers.specs.NetSights.{Net};
 ghost use Rattle.workers.specs.Nets.{NoNet, nets_with};
 
 use cells::{Cell, Seat};
 use configuration::NetConfig;
 use envstore::SharedHandle;
 use std::alloc::{AllocError, Global};
+use std::marker::Model;
 use std::sync::Wait;
 use types::Event;
 use workers::Host;
 
-/// A network joins the host, with so many seats, over a handle on the store of all, and its slots among those
-/// that are opened first, which stand ascending by network, are opened in order, refused or not. An error says
-/// that memory is short.
-pub fn host_network<R: Wait + Drop + Copy>(
+/// A network that is opened and has not joined a host: its cell, and all seats of it.
+///
+/// Contracts see it as the network.
+#[derive(Drop)]
+pub struct Opened<R: Wait + Drop> {
+    cell: Cell<SharedHandle<R>, R>,
+    seats: Vec<Seat<SharedHandle<R>, R>>,
+}
+
+impl<R: Wait + Drop> Model for Opened<R> {
+    ghost use Rattle.std.specs.Coded.{codes};
+    ghost use Rattle.types.specs.Trees.{members_code};
+    ghost use Rattle.workers.specs.Benches.{IsHosted};
+    ghost use Rattle.workers.specs.NetSights.{Net};
+
+    ghost Value = { Net };
+
+    ghost coded = { Prim.hlevel (codes, members_code) };
+
+    ghost view = { λ o. record { cell = o.cell; seats = o.seats.items } };
+
+    ghost invariant = { λ o. IsHosted o.cell o.seats.items };
+}
+
+impl<R: Wait + Drop> Opened<R> {
+    /// It joins a host. An error says that there is no room for it.
+    pub fn join(self, host: &mut Host<SharedHandle<R>, R>) -> Result<(), AllocError>
+        ensures ok { OnOk result (host.new ≡ nets_with self host.old) }
+        ensures fresh { OnOk result (NoNet host.old self.cell.config.number) }
+    {
+        let Opened { cell, seats } = self;
+        match host.add(cell, seats) {
+            Ok(()) => Ok(()),
+            // Memory: the host has no room; numbers and their count were tested line by line.
+            Err(_) => Err(AllocError),
+        }
+    }
+}
+
+/// Opens a network with so many seats, over a handle on the store of all; its slots among those that are opened
+/// first, which stand ascending by network, are opened in order, refused or not. An error says that memory is
+/// short.
+pub fn open_network<R: Wait + Drop + Copy>(
     rt: &R,
     alloc: Global,
-    host: &mut Host<SharedHandle<R>, R>,
     network: (NetConfig, SharedHandle<R>, u64),
     opens: &[(u32, u64)],
-) -> Result<(), AllocError>
+) -> Result<Opened<R>, AllocError>
     requires some { 0 < network.2 }
     requires few { network.2 ≤ 64 }
     requires rising { IsNonDecreasingBy (λ o. o.0) opens.now }
-    ensures { OnOk result ((n : Net) × IsReady network.0 network.2 (slots_of network.0.number opens.now) n × NoNet host.old network.0.number × (host.new ≡ nets_with n host.old)) }
+    ensures { IfOk result (IsReady network.0 network.2 (slots_of network.0.number opens.now)) }
 {
     let (config, handle, seats) = network;
     let own = own_opens(config.number(), opens);
     let (cell, mut seats) = Cell::open_on(rt, alloc, config, seats, handle)?;
     open_slots(rt, &cell, &mut seats[0], own);
-    host_cell(host, cell, seats)?;
-    Ok(())
-}
-
-/// A cell joins the host, with all its seats. An error says that there is no room.
-fn host_cell<R: Wait + Drop>(
-    host: &mut Host<SharedHandle<R>, R>,
-    cell: Cell<SharedHandle<R>, R>,
-    seats: Vec<Seat<SharedHandle<R>, R>>,
-) -> Result<(), AllocError>
-    requires { IsHosted cell seats.items }
-    ensures ok { OnOk result (host.new ≡ nets_with (record { cell = cell; seats = seats.items }) host.old) }
-    ensures fresh { OnOk result (NoNet host.old cell.config.number) }
-{
-    match host.add(cell, seats) {
-        Ok(()) => Ok(()),
-        // Memory: the host has no room; numbers and their count were tested line by line.
-        Err(_) => Err(AllocError),
-    }
+    Ok(Opened { cell, seats })
 }
 
 /// Those that are of the network of a number, of openings that stand ascending by network.

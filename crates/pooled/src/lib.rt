@@ -8,6 +8,7 @@
 mod decided;
 mod gate;
 mod hosting;
+mod joining;
 mod lines;
 mod pool;
 

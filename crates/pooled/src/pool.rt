@@ -8,7 +8,7 @@ ghost use Rattle.pooled.specs.PoolLines.{report_line};
 ghost use Rattle.pooled.specs.Pooling.{AreClosed, AreDone, AreTold, IsPoolText, IsToldMore, IsToldOf, jobs_of};
 
 use crate::gate::Open;
-use crate::hosting::host_network;
+use crate::joining::{Unopened, join_all, open_by};
 use crate::lines::{push_decided, push_length, push_report};
 use configuration::NetConfig;
 use crowds::Submission;
@@ -61,8 +61,9 @@ pub fn run_pool<R: Threads + Wait + Sync + Send + Copy + Drop>(
     tell_all(rt, alloc, host, threads, reports)
 }
 
-/// The networks, each with so many seats, with their first slots open.
-fn host_networks<R: Wait + Send + Copy + Drop>(
+/// The networks, each with so many seats, with their first slots open. As many threads as there are seats open
+/// them.
+fn host_networks<R: Threads + Wait + Sync + Send + Copy + Drop>(
     rt: &R,
     alloc: Global,
     configs: Vec<NetConfig>,
@@ -75,11 +76,14 @@ fn host_networks<R: Wait + Send + Copy + Drop>(
 {
     let opens = by_network(opens)?;
     let handle = SharedHandle::new(alloc, *rt)?;
-    let mut host = Host::new(alloc);
-    for config in configs {
-        let shelf = handle.try_copy()?;
-        host_network(rt, alloc, &mut host, (config, shelf, seats), &opens)?;
-    }
+    let unopened = Unopened {
+        configs,
+        handle,
+        seats,
+        opens,
+    };
+    let nets = open_by(rt, alloc, unopened, seats as usize)?;
+    let host = join_all(alloc, nets)?;
     Ok(host)
 }
 

@@ -1,0 +1,140 @@
+//! The networks of a pool are opened, by several threads, and join a host, by one.
+
+ghost use Rattle.std.specs.Prelude.{◌≡◌, ◌<◌, ◌≤◌, ◌++◌, IfOk, []};
+ghost use Rattle.std.specs.List.Sorted.{IsNonDecreasingBy};
+ghost use Rattle.std.specs.Thread.{IsSend, IsSync};
+ghost use Rattle.pooled.specs.Opening.{AreReady, JoinInTurn};
+
+use crate::hosting::{Opened, open_network};
+use configuration::NetConfig;
+use envstore::SharedHandle;
+use std::alloc::{AllocError, Global};
+use std::sync::Wait;
+use std::thread;
+use std::thread::Threads;
+use workers::Host;
+
+/// Networks that are to be opened: their configurations, in order, a handle on the store of all, how many seats
+/// each has, and the slots that are opened first, each with the number of its network, ascending by network.
+#[derive(Drop)]
+pub struct Unopened<R: Wait + Drop> {
+    pub configs: Vec<NetConfig>,
+    pub handle: SharedHandle<R>,
+    pub seats: u64,
+    pub opens: Vec<(u32, u64)>,
+}
+
+impl<R: Wait + Copy + Drop> Unopened<R> {
+    /// The first half of the networks, and the others. An error says that memory is short.
+    fn halves(self) -> Result<(Unopened<R>, Unopened<R>), AllocError>
+        ensures networks { IfOk result (λ r. self.configs.items ≡ r.0.configs.items ++ r.1.configs.items) }
+        ensures seats { IfOk result (λ r. (r.0.seats ≡ self.seats) × (r.1.seats ≡ self.seats)) }
+        ensures opens { IfOk result (λ r. (r.0.opens.items ≡ self.opens.items) × (r.1.opens.items ≡ self.opens.items)) }
+    {
+        let Unopened {
+            mut configs,
+            handle,
+            seats,
+            opens,
+        } = self;
+        let count = configs.len() / 2;
+        let others = Unopened {
+            configs: configs.split_off(count)?,
+            handle: handle.try_copy()?,
+            seats,
+            opens: opens.clone()?,
+        };
+        let first = Unopened {
+            configs,
+            handle,
+            seats,
+            opens,
+        };
+        Ok((first, others))
+    }
+}
+
+/// Opens networks, in their order, each with its seats and first slots. So many threads open them: each half of
+/// the networks is opened by half of the threads, as long as there are several, and by this one where no other can
+/// be started. An error says that memory is short.
+#[cycle(opening)]
+pub fn open_by<R: Threads + Wait + Sync + Send + Copy + Drop>(
+    rt: &R,
+    alloc: Global,
+    nets: Unopened<R>,
+    threads: usize,
+) -> Result<Vec<Opened<R>>, AllocError>
+    requires some { 0 < nets.seats }
+    requires few { nets.seats ≤ 64 }
+    requires rising { IsNonDecreasingBy (λ o. o.0) nets.opens.items }
+    ensures { IfOk result (λ opened. AreReady nets.seats nets.opens.items nets.configs.items opened.items) }
+{
+    if threads < 2 {
+        return open_alone(rt, alloc, nets);
+    }
+    let (low, high) = nets.halves()?;
+    let fewer = threads / 2;
+    let more = threads - fewer;
+    let open_low = move || -> Result<Vec<Opened<R>>, AllocError>
+        requires { IsSync R.row × IsSend R.row × (0 < low.seats) × (low.seats ≤ 64) × IsNonDecreasingBy (λ o. o.0) low.opens.items }
+        ensures { IfOk result (λ opened. AreReady low.seats low.opens.items low.configs.items opened.items) }
+    { open_by(rt, alloc, low, fewer) };
+    let open_high = move || -> Result<Vec<Opened<R>>, AllocError>
+        requires { IsSync R.row × IsSend R.row × (0 < high.seats) × (high.seats ≤ 64) × IsNonDecreasingBy (λ o. o.0) high.opens.items }
+        ensures { IfOk result (λ opened. AreReady high.seats high.opens.items high.configs.items opened.items) }
+    { open_by(rt, alloc, high, more) };
+    let (first, others) = thread::join(rt, open_low, open_high);
+    let all = both(first?, others?)?;
+    Ok(all)
+}
+
+/// Some networks, and then others. An error says that memory is short.
+fn both<R: Wait + Drop>(
+    mut first: Vec<Opened<R>>,
+    mut others: Vec<Opened<R>>,
+) -> Result<Vec<Opened<R>>, AllocError>
+    ensures { IfOk result (λ nets. nets.items ≡ first.items ++ others.items) }
+{
+    first.append(&mut others)?;
+    Ok(first)
+}
+
+/// Opens networks in this thread. An error says that memory is short.
+fn open_alone<R: Wait + Copy + Drop>(
+    rt: &R,
+    alloc: Global,
+    nets: Unopened<R>,
+) -> Result<Vec<Opened<R>>, AllocError>
+    requires some { 0 < nets.seats }
+    requires few { nets.seats ≤ 64 }
+    requires rising { IsNonDecreasingBy (λ o. o.0) nets.opens.items }
+    ensures { IfOk result (λ opened. AreReady nets.seats nets.opens.items nets.configs.items opened.items) }
+{
+    let Unopened {
+        configs,
+        handle,
+        seats,
+        opens,
+    } = nets;
+    let mut opened = Vec::with_capacity(alloc, configs.len())?;
+    for config in configs {
+        let shelf = handle.try_copy()?;
+        let net = open_network(rt, alloc, (config, shelf, seats), &opens)?;
+        opened.push(net)?;
+    }
+    Ok(opened)
+}
+
+/// A host that the networks have joined, one after the other. An error says that memory is short.
+pub fn join_all<R: Wait + Drop>(
+    alloc: Global,
+    nets: Vec<Opened<R>>,
+) -> Result<Host<SharedHandle<R>, R>, AllocError>
+    ensures { IfOk result (JoinInTurn nets.items []) }
+{
+    let mut host = Host::new(alloc);
+    for net in nets {
+        net.join(&mut host)?;
+    }
+    Ok(host)
+}
