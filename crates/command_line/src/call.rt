@@ -89,7 +89,6 @@ impl From<AllocError> for Usage {
 ///
 /// A call is answered only where clap and this reading agree; the texts of help and of faults are
 /// clap's, and `bad usage` where only this reading refuses.
-
 #[tactic(auto, using(crate::proofs::Forms::call_in_sound, crate::proofs::Forms::call_in_complete, crate::proofs::Forms::takes_call))]
 pub fn read_call<S: AsStr>(alloc: Global, words: &[S]) -> Result<Call, Usage>
     ensures sound { IfOk result (IsCall (map S.text words.now)) }

@@ -29,6 +29,7 @@ fn has_bytes(event: &Event)
     }
 }
 
+/// What bytes hold are numbers below 256.
 fn are_bytes(bytes: &[u8])
     ensures { IsBytes bytes.now }
 {
@@ -63,6 +64,7 @@ fn is_same_event(one: &Event, other: &Event) -> bool
     }
 }
 
+/// Whether an event opens this slot.
 fn is_opening(event: &Event, sought: u64) -> bool
     ensures { IsTrue result ↔ OpenSlot sought ≡ event.now }
 {
@@ -72,6 +74,7 @@ fn is_opening(event: &Event, sought: u64) -> bool
     }
 }
 
+/// Whether an event closes this slot.
 fn is_closing(event: &Event, sought: u64) -> bool
     ensures { IsTrue result ↔ CloseSlot sought ≡ event.now }
 {
@@ -81,6 +84,7 @@ fn is_closing(event: &Event, sought: u64) -> bool
     }
 }
 
+/// Whether an event proposes this value to this node at this slot.
 fn is_proposal(event: &Event, sought: u64, sought_node: &NodeId, sought_value: &Bytes) -> bool
     ensures { IsTrue result ↔ Propose sought sought_node.now sought_value.now ≡ event.now }
 {
@@ -94,6 +98,7 @@ fn is_proposal(event: &Event, sought: u64, sought_node: &NodeId, sought_value: &
     }
 }
 
+/// Whether an event delivers these bytes to this node.
 fn is_delivery(event: &Event, sought_node: &NodeId, sought_bytes: &Bytes) -> bool
     ensures { IsTrue result ↔ Deliver sought_node.now sought_bytes.now ≡ event.now }
 {
@@ -105,6 +110,7 @@ fn is_delivery(event: &Event, sought_node: &NodeId, sought_bytes: &Bytes) -> boo
     }
 }
 
+/// Whether by an event this node hears the emission of this sender, kind and number at this slot.
 fn is_hearing(
     event: &Event,
     sought: u64,
@@ -133,6 +139,7 @@ fn is_hearing(
     }
 }
 
+/// Whether in an event the nomination timer of this round fires for this node at this slot.
 fn is_nomination_timer(event: &Event, sought: u64, sought_node: &NodeId, sought_round: u32) -> bool
     ensures { IsTrue result ↔ NominationTimer sought sought_node.now sought_round ≡ event.now }
 {
@@ -144,6 +151,7 @@ fn is_nomination_timer(event: &Event, sought: u64, sought_node: &NodeId, sought_
     }
 }
 
+/// Whether in an event the ballot timer of this counter fires for this node at this slot.
 fn is_ballot_timer(event: &Event, sought: u64, sought_node: &NodeId, sought_counter: u32) -> bool
     ensures { IsTrue result ↔ BallotTimer sought sought_node.now sought_counter ≡ event.now }
 {
@@ -157,6 +165,7 @@ fn is_ballot_timer(event: &Event, sought: u64, sought_node: &NodeId, sought_coun
     }
 }
 
+/// Whether an event gives this node these slices at this slot.
 fn is_change_of_slices(
     event: &Event,
     sought: u64,

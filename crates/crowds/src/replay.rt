@@ -92,6 +92,7 @@ fn reply_of_refusal(refusal: Refusal) -> Result<Reply, AllocError>
     Ok(Reply::Refused(refusal))
 }
 
+/// Whether a refusal says that memory is short.
 fn is_want_of_memory(refusal: &Refusal) -> bool
     ensures { IsTrue result ↔ refusal.now ≡ NoMemory }
 {

@@ -53,6 +53,7 @@ fn is_within(names: &[NodeId], roster: &Roster) -> bool
     }
 }
 
+/// Whether shares are the same, in each of their four numbers.
 fn is_same_share(one: &Shares, other: &Shares) -> bool
     ensures { IsTrue result ↔ one.now ≡ other.now }
 {

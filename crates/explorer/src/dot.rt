@@ -20,6 +20,7 @@ pub fn push_dot(text: &mut String, report: &Report) -> Result<(), AllocError> {
     Ok(())
 }
 
+/// Adds each member, with the arrow to it from the one that named it first.
 fn push_members(text: &mut String, members: &ClosureList) -> Result<(), AllocError> {
     for place in 0..members.len() {
         if let Some((name, namer)) = members.member(place) {
@@ -49,6 +50,7 @@ fn push_naming(
     Ok(())
 }
 
+/// Adds that a member is hosted, and a dashed arrow from each that blocks it alone.
 fn push_blockers(text: &mut String, blockers: &Blockers) -> Result<(), AllocError> {
     text.push_str("  ")?;
     push_node(text, blockers.node())?;
@@ -60,6 +62,7 @@ fn push_blockers(text: &mut String, blockers: &Blockers) -> Result<(), AllocErro
     Ok(())
 }
 
+/// Adds an arrow, without the end of its line.
 fn push_arrow(text: &mut String, from: &NodeId, to: &NodeId) -> Result<(), AllocError> {
     text.push_str("  ")?;
     push_node(text, from)?;

@@ -114,6 +114,7 @@ fn own_leaves(spots: &mut [Spot], place: usize) -> usize {
     }
 }
 
+/// Adds to the leaves of the member at a place, where there is one.
 fn add_leaves(spots: &mut [Spot], place: usize, leaves: usize) {
     if let Some(spot) = spots.get_mut(place) {
         spot.leaves = spot.leaves.saturating_add(leaves);

@@ -64,6 +64,7 @@ pub fn marks_of(alloc: Global, report: &Report) -> Result<Vec<Mark>, AllocError>
     Ok(marks)
 }
 
+/// Marks a name as hosted, where it is a member.
 fn mark_hosted(members: &ClosureList, marks: &mut [Mark], name: &NodeId) {
     if let Some(place) = members.place(name) {
         if let Some(mark) = marks.get_mut(place) {
@@ -72,6 +73,7 @@ fn mark_hosted(members: &ClosureList, marks: &mut [Mark], name: &NodeId) {
     }
 }
 
+/// Marks a name as one that can block a hosted member alone, where it is a member.
 fn mark_blocking(members: &ClosureList, marks: &mut [Mark], name: &NodeId) {
     if let Some(place) = members.place(name) {
         if let Some(mark) = marks.get_mut(place) {

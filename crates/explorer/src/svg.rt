@@ -61,6 +61,7 @@ pub fn push_svg(alloc: Global, text: &mut String, report: &Report) -> Result<(),
     Ok(())
 }
 
+/// What is drawn of a report: how wide its members are, where they stand, and how each is marked.
 fn picture_of(alloc: Global, report: &Report) -> Result<Picture<'_>, AllocError> {
     let members = report.members();
     let width = width_of(alloc, members)?;
@@ -107,6 +108,7 @@ fn push_label(text: &mut String, name: &str) -> Result<(), AllocError> {
 }
 
 impl Picture<'_> {
+    /// Adds the beginning of the picture: its size, its styles, and the ground that it is drawn on.
     fn push_head(&self, text: &mut String) -> Result<(), AllocError> {
         let left = self.frame.left;
         let top = self.frame.top;
@@ -124,6 +126,7 @@ impl Picture<'_> {
         Ok(())
     }
 
+    /// Adds the arrow to each member but the first.
     fn push_arrows(&self, text: &mut String) -> Result<(), AllocError> {
         let members = self.report.members();
         for place in 1..members.len() {
@@ -161,6 +164,7 @@ impl Picture<'_> {
         Ok(())
     }
 
+    /// Adds each member.
     fn push_members(&self, alloc: Global, text: &mut String) -> Result<(), AllocError> {
         let members = self.report.members();
         let mut name = String::new(alloc);
@@ -174,6 +178,7 @@ impl Picture<'_> {
         Ok(())
     }
 
+    /// Adds a member: its whole name as a title, its shape, and its label.
     fn push_member(&self, text: &mut String, place: usize, name: &str) -> Result<(), AllocError> {
         let (x, y) = point(self.layout.radius(place), self.layout.angle(place));
         let turn = self.turn(place);

@@ -23,7 +23,7 @@ pub fn push_text(text: &mut String, report: &Report) -> Result<(), AllocError>
     Ok(())
 }
 
-// Adds a line for each member.
+/// Adds a line for each member.
 fn push_members(text: &mut String, members: &ClosureList) -> Result<(), AllocError>
     ensures { OnOk result (string_bytes text.new ≡ string_bytes text.old ++ lines_from 0 members.now) }
 {
@@ -33,7 +33,7 @@ fn push_members(text: &mut String, members: &ClosureList) -> Result<(), AllocErr
     Ok(())
 }
 
-// Adds the line of the member at a place, where there is one.
+/// Adds the line of the member at a place, where there is one.
 fn push_at(text: &mut String, members: &ClosureList, place: usize) -> Result<(), AllocError>
     ensures { OnOk result (string_bytes text.new ≡ string_bytes text.old ++ line_at place (slice_get members.now place)) }
 {
@@ -43,7 +43,7 @@ fn push_at(text: &mut String, members: &ClosureList, place: usize) -> Result<(),
     }
 }
 
-// Adds the line of a member.
+/// Adds the line of a member.
 fn push_member(
     text: &mut String,
     place: usize,
@@ -58,7 +58,7 @@ fn push_member(
     Ok(())
 }
 
-// Adds who named a member, and ends the line.
+/// Adds who named a member, and ends the line.
 fn push_namer(text: &mut String, place: usize, namer: usize) -> Result<(), AllocError>
     ensures { OnOk result (string_bytes text.new ≡ string_bytes text.old ++ text_of_namer place namer) }
 {
@@ -70,7 +70,7 @@ fn push_namer(text: &mut String, place: usize, namer: usize) -> Result<(), Alloc
     Ok(())
 }
 
-// Adds a line for each hosted member.
+/// Adds a line for each hosted member.
 fn push_hosted(text: &mut String, hosted: &[Blockers]) -> Result<(), AllocError>
     ensures { OnOk result (string_bytes text.new ≡ string_bytes text.old ++ flat_map line_of_blockers hosted.now) }
 {
@@ -80,7 +80,7 @@ fn push_hosted(text: &mut String, hosted: &[Blockers]) -> Result<(), AllocError>
     Ok(())
 }
 
-// Adds the line of a hosted member.
+/// Adds the line of a hosted member.
 fn push_blockers(text: &mut String, blockers: &Blockers) -> Result<(), AllocError>
     ensures { OnOk result (string_bytes text.new ≡ string_bytes text.old ++ line_of_blockers blockers.now) }
 {
@@ -91,7 +91,7 @@ fn push_blockers(text: &mut String, blockers: &Blockers) -> Result<(), AllocErro
     Ok(())
 }
 
-// Adds names, each behind a space.
+/// Adds names, each behind a space.
 fn push_names(text: &mut String, names: &[NodeId]) -> Result<(), AllocError>
     ensures { OnOk result (string_bytes text.new ≡ string_bytes text.old ++ flat_map name_behind_space names.now) }
 {

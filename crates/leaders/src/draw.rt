@@ -20,6 +20,7 @@ pub(crate) enum Purpose {
 }
 
 impl Purpose {
+    /// The byte by which the hash of a purpose differs from those of the other.
     fn tag(self) -> u8
         ensures { result ≡ tag_of self }
     {

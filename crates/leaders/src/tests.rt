@@ -117,6 +117,7 @@ fn set(
     Ok(SliceSet::new(threshold, members))
 }
 
+/// A set of nodes that are named by letters.
 fn flat(alloc: Global, threshold: u8, letters: &[u8]) -> Result<SliceSet, AllocError> {
     set(alloc, threshold, letters, Vec::new(alloc))
 }

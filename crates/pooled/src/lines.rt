@@ -27,7 +27,7 @@ pub fn push_decided<S: Shelf>(
     push_all(text, number, &decided)
 }
 
-// Adds a line for each of them.
+/// Adds a line for each of them.
 fn push_all(text: &mut String, number: u32, decided: &[Decided]) -> Result<(), AllocError>
     ensures { OnOk result (string_bytes text.new ≡ string_bytes text.old ++ flat_map (decided_line number) decided.now) }
 {
@@ -37,7 +37,7 @@ fn push_all(text: &mut String, number: u32, decided: &[Decided]) -> Result<(), A
     Ok(())
 }
 
-// Adds the line of what one node has externalized.
+/// Adds the line of what one node has externalized.
 fn push_one(text: &mut String, number: u32, decided: &Decided) -> Result<(), AllocError>
     ensures { OnOk result (string_bytes text.new ≡ string_bytes text.old ++ decided_line number decided.now) }
 {

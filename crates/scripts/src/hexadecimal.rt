@@ -54,6 +54,7 @@ pub(crate) fn push_hex(text: &mut String, bytes: &[u8]) -> Result<(), AllocError
     Ok(())
 }
 
+/// A lower-case hexadecimal digit.
 fn digit(value: u8) -> char
     requires { value < 16 }
     ensures digit { result ≡ slice_index lower_digits value }

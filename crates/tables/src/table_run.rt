@@ -231,6 +231,7 @@ fn show(alloc: Global, listener: &Listener) -> Result<Option<String>, LineError>
     Ok(Some(text))
 }
 
+/// Adds a sender's rows, that of nomination first.
 fn push_rows<S: Places>(
     text: &mut String,
     table: &Rows<'_, S>,

@@ -89,7 +89,7 @@ fn name(sender: u64) -> NodeId {
     NodeId::from_words(0, 0, 0, sender)
 }
 
-// What a sender votes for.
+/// What a sender votes for.
 fn letter(sender: u64) -> u8 {
     b'a'.wrapping_add((sender % 16) as u8)
 }

@@ -49,18 +49,21 @@ fn is_same(one: &LentEvent<'_>, other: &LentEvent<'_>) -> bool
     }
 }
 
+/// Whether of a step is kept that the slot is opened.
 fn is_opening(step: &LentEvent<'_>) -> bool
     ensures { IsTrue result ↔ Opened ≡ core (lent_step step.now) }
 {
     matches!(step, LentEvent::OpenSlot { .. })
 }
 
+/// Whether of a step is kept that the slot is closed.
 fn is_closing(step: &LentEvent<'_>) -> bool
     ensures { IsTrue result ↔ Closed ≡ core (lent_step step.now) }
 {
     matches!(step, LentEvent::CloseSlot { .. })
 }
 
+/// Whether of a step is kept that this value is proposed to this node.
 fn is_proposal(step: &LentEvent<'_>, sought: &NodeId, sought_value: &Bytes) -> bool
     ensures { IsTrue result ↔ Told sought.now (Propose sought_value.now) ≡ core (lent_step step.now) }
 {
@@ -72,6 +75,7 @@ fn is_proposal(step: &LentEvent<'_>, sought: &NodeId, sought_value: &Bytes) -> b
     }
 }
 
+/// Whether of a step is kept that this node takes this envelope.
 fn is_delivery(step: &LentEvent<'_>, sought: &NodeId, sought_envelope: &Envelope) -> bool
     ensures { IsTrue result ↔ Told sought.now (Take sought_envelope.now) ≡ core (lent_step step.now) }
 {
@@ -83,6 +87,7 @@ fn is_delivery(step: &LentEvent<'_>, sought: &NodeId, sought_envelope: &Envelope
     }
 }
 
+/// Whether two envelopes are the same.
 fn is_same_envelope(one: &Envelope, other: &Envelope) -> bool
     ensures { IsTrue result ↔ one.now ≡ other.now }
 {
@@ -92,6 +97,7 @@ fn is_same_envelope(one: &Envelope, other: &Envelope) -> bool
         && one.body().is_same(other.body())
 }
 
+/// Whether of a step is kept that this node hears the emission of this sender, kind and number.
 fn is_hearing(
     step: &LentEvent<'_>,
     sought: &NodeId,
@@ -118,6 +124,7 @@ fn is_hearing(
     }
 }
 
+/// Whether of a step is kept that the nomination timer of this round fires for this node.
 fn is_nomination_timer(step: &LentEvent<'_>, sought: &NodeId, sought_round: u32) -> bool
     ensures { IsTrue result ↔ Told sought.now (NominationTimer sought_round) ≡ core (lent_step step.now) }
 {
@@ -129,6 +136,7 @@ fn is_nomination_timer(step: &LentEvent<'_>, sought: &NodeId, sought_round: u32)
     }
 }
 
+/// Whether of a step is kept that the ballot timer of this counter fires for this node.
 fn is_ballot_timer(step: &LentEvent<'_>, sought: &NodeId, sought_counter: u32) -> bool
     ensures { IsTrue result ↔ Told sought.now (BallotTimer sought_counter) ≡ core (lent_step step.now) }
 {
@@ -140,6 +148,7 @@ fn is_ballot_timer(step: &LentEvent<'_>, sought: &NodeId, sought_counter: u32) -
     }
 }
 
+/// Whether of a step is kept that this node gets these slices.
 fn is_change_of_slices(step: &LentEvent<'_>, sought: &NodeId, sought_slices: &Nested) -> bool
     ensures { IsTrue result ↔ Told sought.now (Reslice sought_slices.now) ≡ core (lent_step step.now) }
 {

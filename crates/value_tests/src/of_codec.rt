@@ -20,7 +20,7 @@ const FIRST: &[u8] = &[
     0, 0, 0, 6, 0, 0, 0, 0, 0, 0, 0, 0, // counters
 ];
 
-// The first envelope, of its parts.
+/// The first envelope, of its parts.
 fn first_of_parts(alloc: Global) -> Result<Envelope, Fail> {
     let name = NodeId::from_words(0x42 << 56, 0, 0, 0);
     let mut members = Vec::new(alloc);
