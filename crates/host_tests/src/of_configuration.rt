@@ -8,10 +8,12 @@ use types::{Member, Nested, NodeId, SliceSet};
 /// The most that a share and a budget of events or bytes can be.
 const MOST: u64 = 1099511627776;
 
+/// The name of a number.
 fn name(number: u64) -> NodeId {
     NodeId::from_words(0, 0, 0, number)
 }
 
+/// A node whose slices name it alone.
 fn node(alloc: Global, number: u64) -> Result<Host, Fail> {
     let members = vec![in alloc; Member::Node(name(number))]?;
     let slices = Nested::new(alloc, SliceSet::new(1, members))?.ok_or("slices")?;
@@ -45,6 +47,7 @@ fn many_nodes(alloc: Global, count: u64) -> Result<Vec<Host>, Fail> {
     Ok(nodes)
 }
 
+/// Budgets that nothing here meets.
 fn budgets() -> Result<Budgets, Fail> {
     Ok(Budgets::new(100, 1000, 4).ok_or("budgets")?)
 }

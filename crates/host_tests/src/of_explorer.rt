@@ -65,10 +65,12 @@ impl Announcements for Hosts {
     }
 }
 
+/// The name of a word.
 fn name(word: u64) -> NodeId {
     NodeId::from_words(word, 0, 0, 0)
 }
 
+/// Slices by which so many of these nodes are wanted.
 fn slices(alloc: Global, threshold: u8, words: &[u64]) -> Result<Nested, Fail> {
     let mut members = Vec::new(alloc);
     for word in words {

@@ -10,6 +10,7 @@ use types::{
     Bytes, Envelope, Event, Member, Nested, NodeId, Refusal, SliceSet, Statement, Value, Values,
 };
 
+/// The name of a number.
 fn name(number: u64) -> NodeId {
     NodeId::from_words(0, 0, 0, number)
 }
@@ -43,6 +44,7 @@ fn vote_of(alloc: Global, sender: u64) -> Option<Bytes> {
     Some(Bytes::new(encode(alloc, &envelope).ok()?))
 }
 
+/// The delivery of these bytes to node 1.
 fn delivery(bytes: Bytes) -> Event {
     Event::Deliver {
         node: name(1),
@@ -77,6 +79,7 @@ fn resliced_journal(alloc: Global) -> Option<Journal<VecShelf>> {
     with_event(journal, reslice)
 }
 
+/// Whether a journal refuses an event by this refusal.
 fn is_refused(journal: &mut Journal<VecShelf>, event: Event, by: Refusal) -> bool {
     match journal.apply(event) {
         Ok(_) => false,

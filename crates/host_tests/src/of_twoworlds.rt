@@ -13,6 +13,7 @@ use types::{
 
 type Told = World<VecShelf>;
 
+/// The name of a number.
 fn name(number: u64) -> NodeId {
     NodeId::from_words(0, 0, 0, number)
 }
@@ -26,6 +27,7 @@ fn slices(alloc: Global, threshold: u8, numbers: &[u64]) -> Option<Nested> {
     Nested::new(alloc, SliceSet::new(threshold, members)).ok()?
 }
 
+/// The ballot of a counter and of a value of one letter.
 fn ballot(alloc: Global, counter: u32, letter: u8) -> Option<Ballot> {
     let value = Value::of(alloc, &[letter]).ok()?;
     Some(Ballot { counter, value })
@@ -119,6 +121,7 @@ fn flooded(alloc: Global) -> Option<Told> {
     ended(alloc, world, 2)
 }
 
+/// Whether a node gives out the same in both.
 fn is_same_out(one: &Out, other: &Out) -> bool {
     match (one, other) {
         (Out::ArmNomination(one), Out::ArmNomination(other)) => one == other,
@@ -134,6 +137,7 @@ fn is_same_out(one: &Out, other: &Out) -> bool {
     }
 }
 
+/// Whether the outs are the same, in order.
 fn are_same_outs(one: &[Out], other: &[Out]) -> bool {
     one.len() == other.len()
         && one
@@ -142,6 +146,7 @@ fn are_same_outs(one: &[Out], other: &[Out]) -> bool {
             .all(|(one, other)| is_same_out(one, other))
 }
 
+/// Whether the members are the same and give out the same, in order.
 fn are_same_members(one: &[MemberOuts], other: &[MemberOuts]) -> bool {
     one.len() == other.len()
         && one.iter().zip(other).all(|(one, other)| {
@@ -149,6 +154,7 @@ fn are_same_members(one: &[MemberOuts], other: &[MemberOuts]) -> bool {
         })
 }
 
+/// Whether two verdicts are the same.
 fn is_same_verdict(one: &Verdict, other: &Verdict) -> bool {
     match (one, other) {
         (Verdict::CastDiffers(one), Verdict::CastDiffers(other)) => one.is_same(other),
@@ -194,6 +200,7 @@ fn is_same_of_one(verdict: &Verdict, outs: usize) -> bool {
     }
 }
 
+/// Whether a verdict says that the worlds host this node otherwise.
 fn is_cast(verdict: &Verdict, number: u64) -> bool {
     match verdict {
         Verdict::CastDiffers(node) => node.is_same(&name(number)),
@@ -201,6 +208,7 @@ fn is_cast(verdict: &Verdict, number: u64) -> bool {
     }
 }
 
+/// Whether a verdict says that the steps part at this place.
 fn is_inputs(verdict: &Verdict, place: usize) -> bool {
     match verdict {
         Verdict::InputsDiffer(there) => *there == place,

@@ -39,6 +39,7 @@ impl<R> Model for Run<R> {
 }
 
 impl<R: Wait> Run<R> {
+    /// A run by this handle that has put nothing.
     fn of(alloc: Global, handle: SharedHandle<R>) -> Run<R>
         ensures { result ≡ handle }
     {
@@ -48,6 +49,7 @@ impl<R: Wait> Run<R> {
         }
     }
 
+    /// Puts an envelope, and keeps its place.
     fn put(&mut self, envelope: Envelope) -> Result<(), AllocError>
         ensures { self.new ≡ self.old }
     {
@@ -85,6 +87,7 @@ impl<R> Run<R> {
     }
 }
 
+/// The name of a sender.
 fn name(sender: u64) -> NodeId {
     NodeId::from_words(0, 0, 0, sender)
 }
@@ -94,6 +97,7 @@ fn letter(sender: u64) -> u8 {
     b'a'.wrapping_add((sender % 16) as u8)
 }
 
+/// A vote for the value of one letter.
 fn vote(alloc: Global, letter: u8) -> Option<Statement> {
     let mut voted = Values::empty(alloc);
     voted.push(Value::of(alloc, &[letter]).ok()?).ok()?;
@@ -103,6 +107,7 @@ fn vote(alloc: Global, letter: u8) -> Option<Statement> {
     })
 }
 
+/// Slices that name the sender alone.
 fn slices(alloc: Global, sender: u64) -> Option<Nested> {
     let members = vec![in alloc; Member::Node(name(sender))].ok()?;
     Nested::new(alloc, SliceSet::new(1, members)).ok()?
@@ -115,12 +120,14 @@ fn envelope(alloc: Global, sender: u64, slot: u64) -> Option<Envelope> {
     Envelope::new(name(sender), slot, slices, body)
 }
 
+/// Whether an envelope is the one that this sender put for this slot.
 fn is_as_put(envelope: &Envelope, sender: u64, slot: u64) -> bool {
     envelope.slot() == slot
         && envelope.sender().is_same(&name(sender))
         && votes_for(envelope.body(), letter(sender))
 }
 
+/// Whether a statement votes for the value of this letter, and for no other.
 fn votes_for(body: &Statement, letter: u8) -> bool {
     match body {
         Statement::Nominate { voted, .. } => match voted.as_slice() {
@@ -174,6 +181,7 @@ struct Two<R> {
     right: Putting<R>,
 }
 
+/// Begins the two threads, by handles of one store.
 fn begin_two<R: Threads + Wait + Copy + Send + 'static>(
     rt: &R,
     alloc: Global,

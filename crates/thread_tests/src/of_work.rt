@@ -35,6 +35,7 @@ impl Model for Crew {
 }
 
 impl Crew {
+    /// A queue of so many places, and so many passes of it.
     fn new(alloc: Global, capacity: usize, passes: usize) -> Result<Crew, AllocError>
         requires capacity { (0 < capacity) × (capacity ≤ 65536) }
         requires passes { (0 < passes) × (passes ≤ 64) }
@@ -69,6 +70,7 @@ impl Crew {
         Ok(Crew { queue, passes })
     }
 
+    /// What the queue still holds when it is closed.
     fn close<R: Wait>(self, rt: &R) -> Vec<Job> {
         let Crew { queue, passes } = self;
         queue.close(rt, passes)
@@ -83,6 +85,7 @@ struct Board {
 }
 
 impl Board {
+    /// No job has come back, and the next one is the first.
     fn new(alloc: Global) -> Result<Board, AllocError> {
         let mut came = Vec::new(alloc);
         for _ in 0..JOBS {
@@ -94,12 +97,14 @@ impl Board {
         })
     }
 
+    /// Counts that a job came back.
     fn note(&self, job: Job) {
         if let Some(count) = self.came.get(number_of(&job) as usize) {
             count.fetch_add(1, Ordering::SeqCst);
         }
     }
 
+    /// Counts that these jobs came back.
     fn note_all(&self, jobs: Vec<Job>) {
         for job in jobs {
             self.note(job);
@@ -152,6 +157,7 @@ fn put_and_take<R: Wait>(rt: &R, queue: &Queue, mut pass: Pass, board: &Board) -
     pass
 }
 
+/// Puts the job of a number; where there is no place for it, it has come back.
 fn put_one<R: Wait>(rt: &R, queue: &Queue, pass: &mut Pass, board: &Board, number: u64)
     requires { IsOf queue.now pass.old }
     ensures { IsOf queue.now pass.new × (parts pass.new ≡ parts pass.old) }
@@ -161,6 +167,7 @@ fn put_one<R: Wait>(rt: &R, queue: &Queue, pass: &mut Pass, board: &Board, numbe
     }
 }
 
+/// Takes a job, which has come back then.
 fn take_one<R: Wait>(rt: &R, queue: &Queue, pass: &mut Pass, board: &Board)
     requires { IsOf queue.now pass.old }
     ensures { IsOf queue.now pass.new × (parts pass.new ≡ parts pass.old) }
@@ -170,6 +177,7 @@ fn take_one<R: Wait>(rt: &R, queue: &Queue, pass: &mut Pass, board: &Board)
     }
 }
 
+/// The job of a number, which names it.
 fn job(number: u64) -> Job {
     Job {
         network: (number % 7) as u32,

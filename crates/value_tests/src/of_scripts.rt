@@ -4,6 +4,7 @@ use std::process::Abort;
 use std::test::Fail;
 use types::Bytes;
 
+/// A word, read as a name and printed.
 fn printed_name(alloc: Global, word: &[u8]) -> Result<Option<String>, AllocError> {
     let Some(name) = name_of(word) else {
         return Ok(None);
@@ -13,6 +14,7 @@ fn printed_name(alloc: Global, word: &[u8]) -> Result<Option<String>, AllocError
     Ok(Some(text))
 }
 
+/// A word, read as a value and printed.
 fn printed_value(alloc: Global, word: &[u8]) -> Result<Option<String>, AllocError> {
     let Some(value) = value_of(alloc, word)? else {
         return Ok(None);
@@ -22,6 +24,7 @@ fn printed_value(alloc: Global, word: &[u8]) -> Result<Option<String>, AllocErro
     Ok(Some(text))
 }
 
+/// A word, read as a ballot and printed.
 fn printed_ballot(alloc: Global, word: &[u8]) -> Result<Option<String>, AllocError> {
     let Some(ballot) = ballot_of(alloc, word)? else {
         return Ok(None);
@@ -31,6 +34,7 @@ fn printed_ballot(alloc: Global, word: &[u8]) -> Result<Option<String>, AllocErr
     Ok(Some(text))
 }
 
+/// A word, read as slices and printed.
 fn printed_slices(alloc: Global, word: &[u8]) -> Result<Option<String>, AllocError> {
     let Some(slices) = slices_of(alloc, word)? else {
         return Ok(None);
@@ -40,6 +44,7 @@ fn printed_slices(alloc: Global, word: &[u8]) -> Result<Option<String>, AllocErr
     Ok(Some(text))
 }
 
+/// A word, read as a statement and printed.
 fn printed_statement(alloc: Global, word: &[u8]) -> Result<Option<String>, AllocError> {
     let Some(statement) = statement_of(alloc, word)? else {
         return Ok(None);

@@ -5,6 +5,7 @@ use std::process::Abort;
 use std::test::Fail;
 use types::{Ballot, LentBallot, LentStatement, Statement, Value, copy_of, statement_of};
 
+/// The value of these bytes.
 fn value(alloc: Global, bytes: &[u8]) -> Result<Value, Fail> {
     Ok(Value::new(alloc, bytes)?.ok_or("value")?)
 }

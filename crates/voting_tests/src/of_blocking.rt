@@ -22,6 +22,7 @@ const F: u64 = 70;
 
 const Z: u64 = 90;
 
+/// So many of the nodes of these letters.
 fn set(alloc: Global, threshold: u8, letters: &[u64]) -> Result<SliceSet, AllocError> {
     let mut members = Vec::new(alloc);
     for letter in letters {
@@ -30,6 +31,7 @@ fn set(alloc: Global, threshold: u8, letters: &[u64]) -> Result<SliceSet, AllocE
     Ok(SliceSet::new(threshold, members))
 }
 
+/// The set as slices, whose rules it keeps.
 fn nested(rt: &impl Abort, alloc: Global, set: SliceSet) -> Result<Nested, AllocError> {
     Ok(Nested::new(alloc, set)?.expect(rt, "slices that keep the rules"))
 }

@@ -7,6 +7,7 @@ use std::alloc::Global;
 use std::test::Fail;
 use types::{Ballot, Envelope, Member, Nested, NodeId, SliceSet, Statement, Value};
 
+/// The name of a letter.
 fn name(letter: u64) -> NodeId {
     NodeId::from_words(letter, 0, 0, 0)
 }

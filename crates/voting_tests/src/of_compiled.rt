@@ -11,10 +11,12 @@ use std::process::Abort;
 use std::test::Fail;
 use types::{Member, Nested, NodeId, SliceSet};
 
+/// The name of a number.
 fn name(number: u64) -> NodeId {
     NodeId::from_words(0, 0, 0, number)
 }
 
+/// The nodes of these numbers as members.
 fn members_of(alloc: Global, numbers: &[u64]) -> Result<Vec<Member>, AllocError> {
     let mut members = Vec::new(alloc);
     for number in numbers {
@@ -23,6 +25,7 @@ fn members_of(alloc: Global, numbers: &[u64]) -> Result<Vec<Member>, AllocError>
     Ok(members)
 }
 
+/// So many of the nodes of these numbers.
 fn flat(alloc: Global, threshold: u8, numbers: &[u64]) -> Result<SliceSet, AllocError> {
     Ok(SliceSet::new(threshold, members_of(alloc, numbers)?))
 }

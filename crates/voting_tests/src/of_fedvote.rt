@@ -35,10 +35,12 @@ enum Trust {
     AAndBOrD,
 }
 
+/// The name of a node that is one bit of a set.
 fn name(bit: Set) -> NodeId {
     NodeId::from_words(bit as u64, 0, 0, 0)
 }
 
+/// Whether the part lies in the set.
 fn has(set: Set, part: Set) -> bool {
     set & part == part
 }
@@ -65,6 +67,7 @@ fn names_of(trust: Trust) -> Set {
     }
 }
 
+/// So many of these nodes.
 fn flat(alloc: Global, threshold: u8, bits: &[Set]) -> Result<SliceSet, AllocError> {
     let mut members = Vec::new(alloc);
     for bit in bits {
@@ -73,6 +76,7 @@ fn flat(alloc: Global, threshold: u8, bits: &[Set]) -> Result<SliceSet, AllocErr
     Ok(SliceSet::new(threshold, members))
 }
 
+/// The slices of a node that trusts so, if they are known.
 fn slices_for(rt: &impl Abort, alloc: Global, trust: Trust) -> Result<Option<Nested>, AllocError> {
     let set = match trust {
         Trust::Unknown => return Ok(None),
@@ -89,6 +93,7 @@ fn slices_for(rt: &impl Abort, alloc: Global, trust: Trust) -> Result<Option<Nes
     Ok(Some(Nested::new(alloc, set)?.expect(rt, "slices that keep the rules")))
 }
 
+/// A node and its slices, where they are known.
 #[derive(Drop)]
 struct Row {
     node: NodeId,
@@ -145,6 +150,7 @@ impl Voters for Position {
     }
 }
 
+/// The row of a node that trusts so.
 fn row_of(rt: &impl Abort, alloc: Global, bit: Set, trust: Trust) -> Result<Row, AllocError> {
     Ok(Row {
         node: name(bit),
@@ -152,6 +158,7 @@ fn row_of(rt: &impl Abort, alloc: Global, bit: Set, trust: Trust) -> Result<Row,
     })
 }
 
+/// The names of the nodes of a set.
 fn nodes_of(alloc: Global, set: Set) -> Result<Vec<NodeId>, AllocError> {
     let mut nodes = Vec::new(alloc);
     for bit in [A, B, C, D] {
@@ -229,6 +236,7 @@ struct Trusts {
 }
 
 impl Trusts {
+    /// The trust of this node.
     fn of(self, bit: Set) -> Trust {
         match bit {
             A => self.a,
@@ -249,6 +257,7 @@ fn is_quorum_with(trusts: Trusts, set: Set, supporters: Set, node: Set) -> bool 
         && (!has(set, D) || is_satisfied(trusts.d, set))
 }
 
+/// Some set is a quorum within the supporters, and holds the node.
 fn slow_quorum(trusts: Trusts, supporters: Set, node: Set) -> bool {
     let mut found = false;
     for set in 0..16 {

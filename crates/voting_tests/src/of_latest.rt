@@ -7,6 +7,7 @@ use std::alloc::Global;
 use std::test::Fail;
 use types::{Ballot, Envelope, Member, Nested, NodeId, SliceSet, Statement, Value};
 
+/// The name of a number.
 fn name(number: u64) -> NodeId {
     NodeId::from_words(0, 0, 0, number)
 }

@@ -22,10 +22,12 @@ const E: u64 = 69;
 
 const F: u64 = 70;
 
+/// The name of a letter.
 fn name(letter: u64) -> NodeId {
     NodeId::from_words(letter, 0, 0, 0)
 }
 
+/// So many of the nodes of these letters.
 fn flat(alloc: Global, threshold: u8, letters: &[u64]) -> Result<SliceSet, AllocError> {
     let mut members = Vec::new(alloc);
     for letter in letters {
@@ -34,6 +36,7 @@ fn flat(alloc: Global, threshold: u8, letters: &[u64]) -> Result<SliceSet, Alloc
     Ok(SliceSet::new(threshold, members))
 }
 
+/// The set as slices, whose rules it keeps.
 fn nested(rt: &impl Abort, alloc: Global, set: SliceSet) -> Result<Nested, AllocError> {
     Ok(Nested::new(alloc, set)?.expect(rt, "slices that keep the rules"))
 }
@@ -88,6 +91,7 @@ fn names_and_weights(rt: HostRuntime) -> Result<(), Fail> {
     Ok(())
 }
 
+/// A node and its slices.
 #[derive(Drop)]
 struct Row {
     node: NodeId,

@@ -39,6 +39,7 @@ fn a_cell_stands_over_any_shelf(rt: HostRuntime) -> Result<(), Fail> {
     Ok(())
 }
 
+/// Whether an answer is this refusal.
 fn is_refused(answer: &Option<Result<Vec<Out>, CellRefusal>>, by: CellRefusal) -> bool {
     match answer {
         Some(Err(refusal)) => *refusal == by,

@@ -37,6 +37,7 @@ impl<S: Shelf, H: Wait + Drop> Model for Room<S, H> {
     ghost invariant = { λ r. All (IsSeatOf r.cell) r.seats.items };
 }
 
+/// The name of the one node.
 pub(super) fn name() -> NodeId {
     NodeId::from_words(0, 0, 0, 1)
 }

@@ -23,6 +23,7 @@ pub(super) struct Tally {
     pub decisions: u64,
 }
 
+/// The name of a number.
 fn name(number: u64) -> NodeId {
     NodeId::from_words(0, 0, 0, number)
 }
@@ -37,6 +38,7 @@ fn slices(alloc: Global, nodes: u64) -> Option<Nested> {
     Nested::new(alloc, SliceSet::new(majority, members)).ok()?
 }
 
+/// A network of so many nodes, of which a majority is wanted.
 fn config(alloc: Global, number: u32, nodes: u64) -> Option<NetConfig> {
     let mut hosts = Vec::new(alloc);
     for node in 0..nodes {
@@ -99,6 +101,7 @@ pub(super) fn openings(alloc: Global, networks: u32) -> Option<Vec<Job>> {
     Some(jobs)
 }
 
+/// A job by which a node is to propose `x` at slot 1.
 fn proposal(alloc: Global, network: u32, node: u64) -> Option<Job> {
     let event = Event::Propose {
         slot: 1,
@@ -173,6 +176,7 @@ pub(super) fn run_jobs<R: Threads + Wait + Sync + Send + Drop, G: Gate + Sync>(
     })
 }
 
+/// Whether a node gives out the same in both; of what it emits, the sender and the statement.
 fn is_same(one: &Out, other: &Out) -> bool {
     match (one, other) {
         (Out::ArmNomination(round), Out::ArmNomination(again)) => round == again,
@@ -185,6 +189,7 @@ fn is_same(one: &Out, other: &Out) -> bool {
     }
 }
 
+/// Whether the outs are the same, in order.
 fn are_same(outs: &[Out], again: &[Out]) -> bool {
     outs.len() == again.len()
         && outs
@@ -219,6 +224,7 @@ fn count_journal<S: Shelf>(alloc: Global, journal: &Journal<S>, tally: &mut Tall
     Some(())
 }
 
+/// Adds the receipts of the seats.
 fn count_seats<S: Shelf, H: Wait + Drop>(seats: &[Seat<S, H>], tally: &mut Tally) {
     for seat in seats {
         tally.receipts = tally.receipts.saturating_add(seat.receipts().len() as u64);
