@@ -11,6 +11,9 @@ pub mod acts;
 /// One network under its lock. Threads use it by its seats.
 ///
 /// Contracts see which cell it is, the configuration of its network, and how many seats it has.
+///
+/// Its lock has one place, and it has one seat at least: where it has two, the thread of the one may
+/// have to wait while that of the other applies an event.
 #[derive(Drop)]
 pub struct Cell<S: Shelf, H: Wait + Drop> {
     lock: Lock<S, H>,

@@ -13,6 +13,9 @@ use std::sync::Wait;
 ///
 /// Contracts see the cell that it is of, and what it knows: the journal and the stop mark as it saw them last,
 /// its receipts, the refusals that it was answered, and how often it set the mark.
+///
+/// What it knows is sound: where this seat applied the first event and another one the second, it has the one
+/// receipt of the first, and the journal as it saw it last has one entry, or both.
 #[derive(Drop)]
 pub struct Seat<S: Shelf, H: Wait + Drop> {
     pub(crate) pass: SeatPass<S, H>,

@@ -20,6 +20,9 @@ use types::{Event, Refusal};
 ///
 /// Contracts see the journal. What is published, then what waits to be, then what the other entries decided is
 /// all that the journal decided, in order.
+///
+/// For example, where three entries decided x, nothing and y, and the kept number is 1, x was appended, and y
+/// is found in the journal.
 #[derive(Drop)]
 pub struct WatchedJournal<S: Shelf, H: Wait + Drop> {
     journal: Journal<S>,

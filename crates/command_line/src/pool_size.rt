@@ -6,6 +6,8 @@ use std::marker::Model;
 pub const MAX_WORKERS: u64 = 64;
 
 /// A number of workers, 1 to 64.
+///
+/// For example, 1 and 64 are such numbers, 0 and 65 are none.
 #[derive(Clone, Copy)]
 pub struct PoolSize {
     workers: u64,

@@ -13,6 +13,9 @@ pub const MAX_OPEN_SLOTS: u64 = 64;
 
 /// The most events in the journal of a network, the most bytes that may be delivered to it, and the most
 /// slots that it may have open (this host's profile).
+///
+/// Events and bytes are at most 2^40, slots 1 to 64: for example, no events, no bytes and one slot are
+/// budgets, and 65 slots are too many.
 #[derive(Clone, Copy, Debug)]
 pub struct Budgets {
     events: u64,

@@ -25,6 +25,8 @@ pub const MAX_HOSTS: usize = 256;
 ///
 /// The names stand in a list of their own, so that a node is found by a binary search in memory that lies
 /// together.
+///
+/// For example, where A and C are hosted, the nodes are A's, then C's, and the names A, C.
 #[derive(Drop)]
 pub struct NetConfig {
     number: u32,

@@ -20,6 +20,8 @@ use types::NodeId;
 pub const MAX_ROSTER: usize = 1024;
 
 /// The names of a network for which shares are reserved: at most 1,024, ascending (this host's profile).
+///
+/// For example, names that are given as C, A and B stand as A, B, C; C, A and C are no roster.
 #[derive(Drop)]
 pub struct Roster {
     names: Vec<NodeId>,

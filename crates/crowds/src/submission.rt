@@ -26,6 +26,9 @@ pub enum SubmissionError {
 /// A network is found by its number in a number of steps that is logarithmic in the number of networks.
 ///
 /// Contracts see it as the history of a host with these configurations, to which these events happen.
+///
+/// Places follow the configurations: where network 7 was declared and then 3, 7 is found at the first place,
+/// 3 at the second, and no other number at any.
 #[derive(Drop)]
 pub struct Submission {
     configs: Vec<NetConfig>,

@@ -14,6 +14,8 @@ use std::sync::Wait;
 /// the watches that read at this moment; what waits then is lost.
 ///
 /// Contracts see what is published, and what waits to be. The one followed by the other is what was appended.
+///
+/// It counts what waits: where x and y came and x alone was published, one waits.
 pub struct Publisher<R: Wait + Drop> {
     writer: BoardWriter,
     waiting: usize,

@@ -13,6 +13,9 @@ use std::marker::Model;
 ///
 /// Contracts see it as the list that it was lent last. That list only grows, and is a beginning of what is
 /// published.
+///
+/// It has the reader that it reads by: a call that lends what is published takes it out, and has put it back
+/// where it ends.
 #[derive(Drop)]
 pub struct Watch {
     reader: Option<BoardReader>,

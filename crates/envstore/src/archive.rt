@@ -14,6 +14,9 @@ use types::Envelope;
 /// filed.
 ///
 /// Contracts see it as the list of these envelopes. It only grows.
+///
+/// Each place is one of this shelf: for example, of three envelopes that were filed, number 1 is the place
+/// where the second lies there.
 #[derive(Drop)]
 pub struct Archive<S: Places> {
     shelf: S,

@@ -16,6 +16,8 @@ use types::{Envelope, Kind, NodeId};
 /// A table, and the archive in which its rows lie.
 ///
 /// Contracts see it as the envelopes of these rows, in the order of the table.
+///
+/// Each row lies in this archive: a table with the rows 0 and 2 stands with one of three envelopes or more.
 #[derive(Drop)]
 pub struct Rows<'a, S: envstore::Places> {
     table: &'a Table,

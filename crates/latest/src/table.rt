@@ -61,6 +61,9 @@ impl Put {
 /// Contracts see it as the list of its rows, in the order in which their senders first had one of
 /// that kind; a newer envelope stands in the place of the older one. A look-up, a row
 /// more and one less each take a number of steps that is logarithmic in the number of senders.
+///
+/// The index follows the rows: where they are a ballot row of B, then rows of both kinds of A, it has A with
+/// the places 1 and 2, and B with 0; and no sender has two rows of one kind.
 #[derive(Drop)]
 pub struct Table {
     rows: Vec<Filed>,

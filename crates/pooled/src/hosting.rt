@@ -18,6 +18,8 @@ use workers::Host;
 /// A network that is opened and has not joined a host: its cell, and all seats of it.
 ///
 /// Contracts see it as the network.
+///
+/// The seats are all that the cell has: of a cell of two seats, 0 and 1 are here.
 #[derive(Drop)]
 pub struct Opened<R: Wait + Drop> {
     cell: Cell<SharedHandle<R>, R>,

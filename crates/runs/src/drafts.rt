@@ -16,6 +16,8 @@ use types::{Nested, NodeId};
 
 /// What the lines of a network have declared so far: its budgets, its nodes in the order of their lines, and
 /// its roster.
+///
+/// Nodes may come in any order, none twice: C, then A are nodes of a draft, and C is not taken again.
 #[derive(Drop)]
 pub(crate) struct Draft {
     alloc: Global,

@@ -22,6 +22,8 @@ pub struct Line<'a> {
 }
 
 /// The lines of a script that are left, in order.
+///
+/// Numbers of lines do not overflow: with three bytes left from line 5 on, there is none past line 7.
 #[derive(Drop)]
 pub struct Lines<'a> {
     rest: &'a [u8],

@@ -36,6 +36,8 @@ pub enum Taken {
 ///
 /// The nodes that it reaches are kept from one question to the next, until a row comes that may
 /// change them.
+///
+/// For example, where A's slices name B alone, and B's row names C, what A keeps is A, B and C.
 #[derive(Drop)]
 pub struct Listener {
     own: NodeId,

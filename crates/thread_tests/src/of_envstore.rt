@@ -19,6 +19,8 @@ const EACH: u64 = 40;
 /// What one thread put, by a handle of its own.
 ///
 /// Contracts see the store alone.
+///
+/// Each place is one of that store: after two envelopes there are two.
 #[derive(Drop)]
 struct Run<R> {
     handle: SharedHandle<R>,

@@ -17,6 +17,8 @@ use work::{Job, Pass, Queue};
 const JOBS: usize = 3000;
 
 /// A queue with all its passes. Contracts see how many there are.
+///
+/// The parts of the passes make 64: for example, of two passes, 32 and 32.
 #[derive(Drop)]
 struct Crew {
     queue: Queue,

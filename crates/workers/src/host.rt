@@ -21,6 +21,8 @@ pub const MAX_NETWORKS: usize = 4096;
 /// The networks of a host, up to 4,096, ascending by number: of each its cell and all its seats.
 ///
 /// Contracts see the list of the networks, each as what is seen of its cell and of its seats.
+///
+/// For example, networks that joined as 7, 3 and 5 stand as 3, 5, 7.
 #[derive(Drop)]
 pub struct Host<S: Shelf, H: Wait + Drop> {
     pub(crate) alloc: Global,

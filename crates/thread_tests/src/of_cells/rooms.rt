@@ -15,6 +15,8 @@ use types::{Bytes, Event, Member, Nested, NodeId, Out, SliceSet, Statement, Valu
 /// A cell with its seats.
 ///
 /// Contracts see the cell.
+///
+/// For example, in a room of two seats both are of its cell.
 #[derive(Drop)]
 pub(super) struct Room<S: Shelf, H: Wait + Drop> {
     pub(super) cell: Cell<S, H>,
