@@ -1,4 +1,6 @@
 //! Whether prepare of a ballot is accepted or confirmed, by the node's own position and what it sees.
+//!
+//! Where a function here answers an error, memory is short.
 
 ghost use Rattle.std.specs.Prelude.{◌≡◌, ◌&&◌, IfOk};
 ghost use Rattle.protocol.specs.Balloting.{may_be_prepared, prepare_accepted, prepare_confirmed};
@@ -23,7 +25,7 @@ impl<'a, S: Sight> Check for PrepareAccepted<'a, S> {
     }
 }
 
-/// Whether a node in this position accepts prepare of the ballot. An error says that memory is short.
+/// Whether a node in this position accepts prepare of the ballot.
 fn is_prepare_accepted<S: Sight>(
     alloc: Global,
     sight: &S,
@@ -83,7 +85,7 @@ impl<'a, S: Sight> Check for PrepareConfirmed<'a, S> {
     }
 }
 
-/// Whether a node in this position confirms prepare of the ballot. An error says that memory is short.
+/// Whether a node in this position confirms prepare of the ballot.
 pub(crate) fn is_prepare_confirmed<S: Sight>(
     alloc: Global,
     sight: &S,

@@ -1,4 +1,6 @@
 //! What is accepted and confirmed as committed.
+//!
+//! Where a function here answers an error, memory is short.
 
 ghost use Rattle.std.specs.Prelude.{◌≡◌, ◌∷◌, [], IfOk, max};
 ghost use Rattle.protocol.specs.Candidates.{commits, greatest, lowest};
@@ -42,7 +44,7 @@ pub fn accept_commit<S: Sight>(
 }
 
 /// The greatest counter, over all values, that is accepted as committed, confirmed as prepared and not
-/// aborted. An error says that memory is short.
+/// aborted.
 #[tactic(auto, unfolding(protocol::specs::Balloting::first_committed, protocol::specs::Candidates::commits))]
 fn first_committed<S: Sight>(
     alloc: Global,
@@ -61,8 +63,7 @@ fn first_committed<S: Sight>(
     greatest_of(alloc, &candidates, &test, &None)
 }
 
-/// The greatest counter of the ballot's value above the interval that is accepted as committed. An error
-/// says that memory is short.
+/// The greatest counter of the ballot's value above the interval that is accepted as committed.
 #[tactic(auto, unfolding(protocol::specs::Balloting::next_committed, protocol::specs::Candidates::commits))]
 fn next_committed<S: Sight>(
     alloc: Global,
@@ -83,8 +84,7 @@ fn next_committed<S: Sight>(
     greatest_of(alloc, &candidates, &test, &None)
 }
 
-/// The least commit counter of the value from which on the interval up to this ballot's counter is
-/// accepted. An error says that memory is short.
+/// The least commit counter of the value from which on the interval up to this ballot's counter is accepted.
 #[tactic(auto, unfolding(protocol::specs::Balloting::accepted_from, protocol::specs::Candidates::commits))]
 fn accepted_from<S: Sight>(
     alloc: Global,
@@ -104,8 +104,8 @@ fn accepted_from<S: Sight>(
     lowest_of(alloc, &candidates, &test, end)
 }
 
-/// The phase becomes [`types::Phase::Committing`], with the interval up to the first counter, where there
-/// is one, and nothing stays below that. An error says that memory is short.
+/// The phase becomes [`types::Phase::Committing`], with the interval up to the first counter, where there is
+/// one, and nothing stays below that.
 #[tactic(auto, unfolding(protocol::specs::Balloting::enter_commit))]
 fn enter_commit<S: Sight>(
     alloc: Global,
@@ -135,8 +135,8 @@ fn enter_commit<S: Sight>(
     })
 }
 
-/// The interval goes up to the next counter, where there is one, with the ballot's counter and the
-/// highest accepted ballot. An error says that memory is short.
+/// The interval goes up to the next counter, where there is one, with the ballot's counter and the highest
+/// accepted ballot.
 #[tactic(auto, unfolding(protocol::specs::Balloting::widen_commit))]
 fn widen_commit<S: Sight>(
     alloc: Global,
@@ -206,8 +206,7 @@ pub fn confirm_commit<S: Sight>(
     }
 }
 
-/// The greatest commit counter of the ballot's value that is confirmed as committed. An error says that
-/// memory is short.
+/// The greatest commit counter of the ballot's value that is confirmed as committed.
 #[tactic(auto, unfolding(protocol::specs::Balloting::confirmed_commit, protocol::specs::Candidates::commits))]
 fn confirmed_commit<S: Sight>(
     alloc: Global,
@@ -228,7 +227,7 @@ fn confirmed_commit<S: Sight>(
 }
 
 /// The phase becomes [`types::Phase::Externalized`], with the confirmed interval up to the last counter,
-/// where there is one. An error says that memory is short.
+/// where there is one.
 #[tactic(auto, unfolding(protocol::specs::Balloting::externalize))]
 fn externalize<S: Sight>(
     alloc: Global,
@@ -251,8 +250,7 @@ fn externalize<S: Sight>(
     })
 }
 
-/// The least commit counter of the value from which on the interval up to this ballot's counter is
-/// confirmed. An error says that memory is short.
+/// The least commit counter of the value from which on the interval up to this ballot's counter is confirmed.
 #[tactic(auto, unfolding(protocol::specs::Candidates::commits))]
 fn confirmed_from<S: Sight>(
     alloc: Global,

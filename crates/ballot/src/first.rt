@@ -1,4 +1,6 @@
 //! The first ballot.
+//!
+//! Where a function here answers an error, memory is short.
 
 ghost use Rattle.std.specs.Prelude.{◌≡◌, IfOk, None, filter};
 ghost use Rattle.protocol.specs.Candidates.{combine, greatest, named};
@@ -27,7 +29,7 @@ pub fn start<S: Sight>(alloc: Global, sight: &S, votes: Votes) -> Result<Votes, 
     }
 }
 
-/// Sets the ballot. An error says that memory is short.
+/// Sets the ballot.
 #[tactic(auto, unfolding(protocol::specs::Balloting::started))]
 fn started<S: Sight>(alloc: Global, sight: &S, votes: Votes) -> Result<Votes, AllocError>
     ensures { IfOk result (λ w. w ≡ started (S.seen sight.now) votes (combine votes.confirms)) }
@@ -42,7 +44,7 @@ fn started<S: Sight>(alloc: Global, sight: &S, votes: Votes) -> Result<Votes, Al
     Ok(Votes { ballot, ..votes })
 }
 
-/// The greatest named ballot whose prepare is accepted. An error says that memory is short.
+/// The greatest named ballot whose prepare is accepted.
 fn greatest_accepted<S: Sight>(
     alloc: Global,
     sight: &S,

@@ -1,4 +1,6 @@
 //! Whether commit is accepted or confirmed, on intervals and at single counters.
+//!
+//! Where a function here answers an error, memory is short.
 
 ghost use Rattle.std.specs.Prelude.{◌≡◌, ◌&&◌, IfOk, nat_lt, not};
 ghost use Rattle.types.specs.Votes.{same_value};
@@ -12,7 +14,7 @@ use std::alloc::{AllocError, Global};
 use types::{Kind, LentBallot, Statement, Value, Votes};
 
 /// Whether a node in this position accepts commit of the ballot's value on the whole interval from its
-/// counter to the high end, both included. An error says that memory is short.
+/// counter to the high end, both included.
 fn is_interval_accepted<S: Sight>(
     alloc: Global,
     sight: &S,
@@ -36,7 +38,7 @@ fn is_interval_accepted<S: Sight>(
 }
 
 /// Whether a node in this position confirms commit of the ballot's value on the whole interval from its
-/// counter to the high end, both included. An error says that memory is short.
+/// counter to the high end, both included.
 fn is_interval_confirmed<S: Sight>(
     alloc: Global,
     sight: &S,

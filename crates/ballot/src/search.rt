@@ -1,4 +1,6 @@
 //! The greatest of some candidates that passes a test: they are tried from the greatest down.
+//!
+//! Where a function here answers an error, memory is short.
 
 ghost use Rattle.std.specs.Prelude.{◌≡◌, Bool, IfOk, List, filter};
 ghost use Rattle.types.specs.declared.ballot.Ballot.{Ballot};
@@ -22,14 +24,13 @@ pub(crate) trait Candidates {
 pub(crate) trait Check {
     ghost holds: { Self → Ballot → Bool };
 
-    /// Whether the candidate passes. An error says that memory is short.
+    /// Whether the candidate passes.
     fn check(&self, alloc: Global, candidate: &LentBallot) -> Result<bool, AllocError>
         ensures { IfOk result (λ b. b ≡ holds self.now candidate.now) };
 }
 
-/// The greatest of the candidates that pass and of the ballot that is there, if one is. None is tried
-/// that is not above that ballot, nor any below the first that passes. An error says that memory is
-/// short.
+/// The greatest of the candidates that pass and of the ballot that is there, if one is. None is tried that is
+/// not above that ballot, nor any below the first that passes.
 pub(crate) fn greatest_of<C: Candidates, T: Check>(
     alloc: Global,
     candidates: &C,

@@ -1,4 +1,6 @@
 //! Envelopes that leave a reach as it is.
+//!
+//! Where a function here answers an error, memory is short.
 
 ghost use Rattle.std.specs.Prelude.{◌≡◌, ◌↔◌, ◌||◌, ℕ, IfOk, IsTrue, List, Some, option_map};
 ghost use Rattle.types.specs.Trees.{Slices};
@@ -38,9 +40,9 @@ fn has_slices(row: Option<&Envelope>, slices: &Nested) -> bool
     }
 }
 
-/// Whether the envelope drops no name of the sender's row of that kind but such as the node reaches by itself:
-/// each name of that row is in the envelope's slices too, or is the node or a name of its configured slices.
-/// So it is where there is no such row. An error says that memory is short.
+/// Whether the envelope drops no name of the sender's row of that kind but such as the node reaches by
+/// itself: each name of that row is in the envelope's slices too, or is the node or a name of its configured
+/// slices. So it is where there is no such row.
 ///
 /// An envelope that drops none and names reached nodes alone leaves the reach as it is where the table takes
 /// it. It costs some searches by name, however many rows there are.
@@ -64,8 +66,7 @@ pub fn drops_none<S: Places>(
     }
 }
 
-/// Whether each name of the old slices is in the new ones too, or is the node or a name of its own slices. An
-/// error says that memory is short.
+/// Whether each name of the old slices is in the new ones too, or is the node or a name of its own slices.
 #[tactic(auto, using(crate::proofs::Dropped::kept_read))]
 fn keeps_names(
     alloc: Global,

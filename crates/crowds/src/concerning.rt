@@ -1,4 +1,6 @@
 //! Which submitted events concern the members of a closure.
+//!
+//! Where a function here answers an error, memory is short.
 
 ghost use Rattle.std.specs.Prelude.{◌≡◌, ℕ, IfOk};
 ghost use Rattle.protocol.specs.Networks.Step.{Delivers};
@@ -14,7 +16,7 @@ use std::alloc::{AllocError, Global};
 use types::{Bytes, Envelope, Event, NodeId};
 
 /// Whether an event concerns the members at the slot, applied or refused: it opens or closes a slot, it
-/// happens to a member, or a member gets it from a member. An error says that memory is short.
+/// happens to a member, or a member gets it from a member.
 pub(crate) fn concerns(
     alloc: Global,
     event: &Event,
@@ -59,7 +61,7 @@ fn is_between_members(
     }
 }
 
-/// The envelope that the bytes spell, where they spell one. An error says that memory is short.
+/// The envelope that the bytes spell, where they spell one.
 fn envelope_of(alloc: Global, bytes: &[u8]) -> Result<Option<Envelope>, AllocError>
     ensures { IfOk result (IsReadAs (reading bytes.now)) }
 {

@@ -1,4 +1,6 @@
 //! What a node sees of its table: all that the rules read of it.
+//!
+//! Where a function here answers an error, memory is short.
 
 ghost use Rattle.std.specs.Prelude.{◌≡◌, IfOk, flat_map};
 ghost use Rattle.types.specs.declared.kind.Kind.{Kind};
@@ -71,9 +73,9 @@ pub trait Sight {
     ghost honest: { (s : Self) → IsHonest (seen s) };
 }
 
-/// Whether a node in this position accepts something: some quorum that contains it all votes for or
-/// accepts it, or those who accept it block the node's slices (the Stellar Consensus Protocol draft, of
-/// federated voting). An error says that memory is short.
+/// Whether a node in this position accepts something: some quorum that contains it all votes for or accepts
+/// it, or those who accept it block the node's slices (the Stellar Consensus Protocol draft, of federated
+/// voting).
 pub fn is_accepted<S: Sight>(
     alloc: Global,
     sight: &S,
@@ -91,7 +93,7 @@ pub fn is_accepted<S: Sight>(
 }
 
 /// Whether a node in this position confirms something: some quorum that contains it all accepts it (the
-/// Stellar Consensus Protocol draft, of federated voting). An error says that memory is short.
+/// Stellar Consensus Protocol draft, of federated voting).
 pub fn is_confirmed<S: Sight>(
     alloc: Global,
     sight: &S,

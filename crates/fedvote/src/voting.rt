@@ -1,4 +1,6 @@
 //! The two steps of federated voting.
+//!
+//! Where a function here answers an error, memory is short.
 
 ghost use Rattle.std.specs.Prelude.{◌≡◌, Some, IfOk, IsTrue, ◌↔◌, filter};
 ghost use Rattle.protocol.specs.Sets.{among, IsAscending};
@@ -17,8 +19,8 @@ use types::NodeId;
 /// it, or the set of those who accept it blocks the node's own slices (the Stellar Consensus Protocol
 /// draft, of federated voting; Mazières 2015, of accepting).
 ///
-/// The reach is ascending, none twice, and holds the node and all names of its members' slices: nobody
-/// else is asked, and the answer is still that over all nodes. An error says that memory is short.
+/// The reach is ascending, none twice, and holds the node and all names of its members' slices: nobody else
+/// is asked, and the answer is still that over all nodes.
 pub fn accepts<S: SlicesOf, V: Voters>(
     alloc: Global,
     node: &NodeId,
@@ -42,8 +44,8 @@ pub fn accepts<S: SlicesOf, V: Voters>(
 /// Whether a node confirms a statement: some quorum that contains the node all accepts it (the Stellar
 /// Consensus Protocol draft, of federated voting; Mazières 2015, of confirming).
 ///
-/// The reach is ascending, none twice, and holds the node and all names of its members' slices: nobody
-/// else is asked, and the answer is still that over all nodes. An error says that memory is short.
+/// The reach is ascending, none twice, and holds the node and all names of its members' slices: nobody else
+/// is asked, and the answer is still that over all nodes.
 pub fn confirms<S: SlicesOf, V: Voters>(
     alloc: Global,
     node: &NodeId,
@@ -63,7 +65,7 @@ pub fn confirms<S: SlicesOf, V: Voters>(
 /// Whether the set of all who accept the statement blocks the slices (Mazières 2015, of v-blocking
 /// sets).
 ///
-/// Those whom the slices name decide it: nobody else is asked. An error says that memory is short.
+/// Those whom the slices name decide it: nobody else is asked.
 pub fn is_blocked<F: SliceFamily, V: Voters>(
     alloc: Global,
     slices: &F,

@@ -1,4 +1,6 @@
 //! Choosing values from a list, and adding them to a set.
+//!
+//! Where a function here answers an error, memory is short.
 
 ghost use Rattle.std.specs.Prelude.{◌≡◌, List, ℕ, Bool, not, IfOk, filter, take};
 ghost use Rattle.types.specs.Votes.{has_value};
@@ -12,7 +14,7 @@ pub trait ValueTest {
     /// Which values pass.
     ghost passes: { Self → List ℕ → Bool };
 
-    /// Whether the value passes. An error says that memory is short.
+    /// Whether the value passes.
     fn test(&self, alloc: Global, value: &Value) -> Result<bool, AllocError>
         ensures { IfOk result (λ b. b ≡ passes self.now value.now) };
 }
@@ -31,8 +33,8 @@ impl<'a> ValueTest for IsNew<'a> {
     }
 }
 
-/// The first of the values that pass, in their order, and at most so many; once there are as many, no
-/// other is tested. An error says that memory is short.
+/// The first of the values that pass, in their order, and at most so many; once there are as many, no other
+/// is tested.
 pub fn choose<T: ValueTest>(
     alloc: Global,
     values: &[Value],

@@ -1,4 +1,6 @@
 //! The rules of nomination, in their order.
+//!
+//! Where a function here answers an error, memory is short.
 
 ghost use Rattle.std.specs.Prelude.{◌≡◌, ◌-◌, ◌++◌, IfOk, flat_map, length, option_map, option_to_list};
 ghost use Rattle.types.specs.Nominations.{most_nominated};
@@ -81,8 +83,7 @@ pub(crate) fn accept_values<S: Sight>(
     Ok(Votes { accepts, ..votes })
 }
 
-/// The values of reached nominations and those that the node itself votes for, ascending. An error says
-/// that memory is short.
+/// The values of reached nominations and those that the node itself votes for, ascending.
 fn candidates<S: Sight>(alloc: Global, sight: &S, votes: &Votes) -> Result<Values, AllocError>
     ensures { IfOk result (λ v. v ≡ all_with votes.now.voted (as_set (flat_map values_by ((S.seen sight.now).rows Kind.Nomination)))) }
 {
@@ -110,8 +111,8 @@ pub(crate) fn confirm_values<S: Sight>(
     Ok(Votes { confirms, ..votes })
 }
 
-/// What the node's leaders propose, ascending: the values of their nominations, and the node's own
-/// input where it is a leader. An error says that memory is short.
+/// What the node's leaders propose, ascending: the values of their nominations, and the node's own input
+/// where it is a leader.
 fn proposed_values<S: Sight>(
     alloc: Global,
     own: &NodeId,

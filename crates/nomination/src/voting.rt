@@ -1,4 +1,6 @@
 //! Federated voting on nominating one value.
+//!
+//! Where a function here answers an error, memory is short.
 
 ghost use Rattle.std.specs.Prelude.{◌≡◌, IfOk, not, ◌&&◌};
 ghost use Rattle.types.specs.Votes.{has_value};
@@ -42,9 +44,8 @@ impl<'a, S: Sight> ValueTest for IsConfirmed<'a, S> {
     }
 }
 
-/// Whether nominating the value is accepted: some quorum that contains the node all votes for or
-/// accepts it, or those who accept it block (the Stellar Consensus Protocol draft, of federated voting).
-/// An error says that memory is short.
+/// Whether nominating the value is accepted: some quorum that contains the node all votes for or accepts it,
+/// or those who accept it block (the Stellar Consensus Protocol draft, of federated voting).
 #[tactic(auto, unfolding(protocol::specs::States::nominated))]
 pub fn is_value_accepted<S: Sight>(
     alloc: Global,
@@ -64,8 +65,8 @@ pub fn is_value_accepted<S: Sight>(
     sight.blocking(alloc, Kind::Nomination, accepts, &question)
 }
 
-/// Whether nominating the value is confirmed: some quorum that contains the node all accepts it (the
-/// Stellar Consensus Protocol draft, of federated voting). An error says that memory is short.
+/// Whether nominating the value is confirmed: some quorum that contains the node all accepts it (the Stellar
+/// Consensus Protocol draft, of federated voting).
 #[tactic(auto, unfolding(protocol::specs::States::nominated))]
 pub fn is_value_confirmed<S: Sight>(
     alloc: Global,

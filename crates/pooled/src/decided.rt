@@ -1,4 +1,6 @@
 //! What the hosted nodes of a network have externalized at its open slots.
+//!
+//! Where a function here answers an error, memory is short.
 
 ghost use Rattle.std.specs.Prelude.{◌≡◌, ◌++◌, IfOk, OnOk, filter, not, ◌==◌, option_map, slice_get};
 ghost use Rattle.hoststep.specs.Deciding.{decisions_at};
@@ -27,7 +29,7 @@ impl Model for Decided {
 }
 
 /// What the nodes of a journal have externalized at slots that no later entry closes, ascending by slot and
-/// then by name. An error says that memory is short.
+/// then by name.
 pub fn decided_in<S: Shelf>(alloc: Global, journal: &Journal<S>) -> Result<Vec<Decided>, AllocError>
     ensures { IfOk result (λ v. IsDecided journal.now.entries v.items) }
 {
@@ -55,7 +57,7 @@ fn decided_in_order<S: Shelf>(
 }
 
 /// Takes away what was externalized at the slot that the entry of this number closes, and adds what it
-/// decides. An error says that memory is short.
+/// decides.
 fn note<S: Shelf>(
     journal: &Journal<S>,
     number: usize,
@@ -91,7 +93,7 @@ fn forget(slot: u64, found: &mut Vec<Decided>)
     );
 }
 
-/// Adds what the entry of this number decides. An error says that memory is short.
+/// Adds what the entry of this number decides.
 fn push_decision<S: Shelf>(
     journal: &Journal<S>,
     number: usize,

@@ -1,4 +1,6 @@
 //! The networks of a pool are opened, by several threads, and join a host, by one.
+//!
+//! Where a function here answers an error, memory is short.
 
 ghost use Rattle.std.specs.Prelude.{◌≡◌, ◌<◌, ◌≤◌, ◌++◌, IfOk, []};
 ghost use Rattle.std.specs.List.Sorted.{IsNonDecreasingBy};
@@ -25,7 +27,7 @@ pub struct Unopened<R: Wait + Drop> {
 }
 
 impl<R: Wait + Copy + Drop> Unopened<R> {
-    /// The first half of the networks, and the others. An error says that memory is short.
+    /// The first half of the networks, and the others.
     fn halves(self) -> Result<(Unopened<R>, Unopened<R>), AllocError>
         ensures networks { IfOk result (λ r. self.configs.items ≡ r.0.configs.items ++ r.1.configs.items) }
         ensures seats { IfOk result (λ r. (r.0.seats ≡ self.seats) × (r.1.seats ≡ self.seats)) }
@@ -54,9 +56,9 @@ impl<R: Wait + Copy + Drop> Unopened<R> {
     }
 }
 
-/// Opens networks, in their order, each with its seats and first slots. So many threads open them: each half of
-/// the networks is opened by half of the threads, as long as there are several, and by this one where no other can
-/// be started. An error says that memory is short.
+/// Opens networks, in their order, each with its seats and first slots. So many threads open them: each half
+/// of the networks is opened by half of the threads, as long as there are several, and by this one where no
+/// other can be started.
 #[cycle(opening)]
 pub fn open_by<R: Threads + Wait + Sync + Send + Copy + Drop>(
     rt: &R,
@@ -88,7 +90,7 @@ pub fn open_by<R: Threads + Wait + Sync + Send + Copy + Drop>(
     Ok(all)
 }
 
-/// Some networks, and then others. An error says that memory is short.
+/// Some networks, and then others.
 fn both<R: Wait + Drop>(
     mut first: Vec<Opened<R>>,
     mut others: Vec<Opened<R>>,
@@ -99,7 +101,7 @@ fn both<R: Wait + Drop>(
     Ok(first)
 }
 
-/// Opens networks in this thread. An error says that memory is short.
+/// Opens networks in this thread.
 fn open_alone<R: Wait + Copy + Drop>(
     rt: &R,
     alloc: Global,
@@ -125,7 +127,7 @@ fn open_alone<R: Wait + Copy + Drop>(
     Ok(opened)
 }
 
-/// A host that the networks have joined, one after the other. An error says that memory is short.
+/// A host that the networks have joined, one after the other.
 pub fn join_all<R: Wait + Drop>(
     alloc: Global,
     nets: Vec<Opened<R>>,

@@ -1,4 +1,6 @@
 //! The search for a quorum: nodes are taken away until the slices of all that are left are satisfied.
+//!
+//! Where a function here answers an error, memory is short.
 
 ghost use Rattle.std.specs.Prelude.{◌≡◌, IfOk, IsTrue, ◌↔◌, filter};
 ghost use Rattle.protocol.specs.Sets.{among, IsAscending};
@@ -11,7 +13,7 @@ use types::NodeId;
 
 /// Whether some quorum within the supporters contains the node (Mazières 2015, of quorums).
 ///
-/// The supporters are ascending, none twice. An error says that memory is short.
+/// The supporters are ascending, none twice.
 pub fn in_quorum<S: SlicesOf>(
     alloc: Global,
     node: &NodeId,
@@ -34,7 +36,7 @@ pub fn in_quorum<S: SlicesOf>(
 /// The same, where a region holds the node and all names of its members' slices: no supporter
 /// outside the region is looked at, and the answer is still that over all of them.
 ///
-/// Supporters and region are ascending, none twice. An error says that memory is short.
+/// Supporters and region are ascending, none twice.
 pub fn in_quorum_within<S: SlicesOf>(
     alloc: Global,
     node: &NodeId,

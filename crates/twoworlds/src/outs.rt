@@ -1,4 +1,6 @@
 //! What each hosted member gave out.
+//!
+//! Where a function here answers an error, memory is short.
 
 ghost use Rattle.std.specs.Prelude.{◌≡◌, [], IfOk, OnOk, length, map};
 ghost use Rattle.protocol.specs.Sets.{IsAscending, among};
@@ -14,7 +16,7 @@ use hoststep::Journal;
 use std::alloc::{AllocError, Global};
 use types::NodeId;
 
-/// The hosted nodes that are members, in their order. An error says that memory is short.
+/// The hosted nodes that are members, in their order.
 pub fn hosted_members(
     alloc: Global,
     hosts: &[Host],
@@ -31,8 +33,7 @@ pub fn hosted_members(
     Ok(names)
 }
 
-/// What each of some nodes gave out at the slot. The journal is gone through once. An error says that
-/// memory is short.
+/// What each of some nodes gave out at the slot. The journal is gone through once.
 pub fn outs_of_each<S: Shelf>(
     alloc: Global,
     journal: &Journal<S>,
@@ -50,7 +51,6 @@ pub fn outs_of_each<S: Shelf>(
 }
 
 /// Adds what the entry of this number gave out to the node that it is of, where that is one of the names.
-/// An error says that memory is short.
 fn note<S: Shelf>(
     alloc: Global,
     list: &mut Vec<MemberOuts>,
