@@ -1,9 +1,11 @@
 //! The walk over all names of a tree.
 
-ghost use Rattle.std.specs.Prelude.{◌≡◌};
+ghost use Rattle.std.specs.Prelude.{◌≡◌, IsTrue};
 ghost use Rattle.types.specs.Trees.{member_count, depth_of, HasThreshold, HaveThresholds};
 ghost use Rattle.slices.specs.Weighing.{part_of};
 ghost use Rattle.protocol.specs.Leaders.{hash, beats, leader};
+ghost use Rattle.protocol.specs.Satisfaction.{names};
+ghost use Rattle.protocol.specs.Sets.{also, among};
 ghost use Rattle.leaders.specs.Leaders.{IsLeader};
 ghost use Rattle.leaders.specs.Walk.{best_among, is_drawn, HasRoom};
 
@@ -14,8 +16,8 @@ use types::{Member, Nested, NodeId, SliceSet};
 
 /// The node that leads a round of nomination, as this node with these slices sees it: of its
 /// neighbours in the round the one with the greatest priority, and of several the one with the
-/// greatest name. It takes no memory, and makes at most two hashes for each name of the slices and
-/// one more.
+/// greatest name: itself or a name of its slices. It takes no memory, and makes at most two hashes for
+/// each name of the slices and one more.
 ///
 /// A node is a neighbour where the first hash, 64 bits, lies below the share of all hashes that its
 /// weight is; the node itself weighs all and so is always a neighbour. The second hash is the
@@ -24,6 +26,7 @@ use types::{Member, Nested, NodeId, SliceSet};
 /// name, 45 bytes with all numbers big-endian).
 pub fn leader(slot: u64, round: u32, node: &NodeId, slices: &Nested) -> NodeId
     ensures best { IsLeader slot round node.now slices.now result }
+    ensures known { IsTrue (also node.now (among (names slices.now)) result) }
     ensures computed { result ≡ leader slot round node.now slices.now }
 {
     let draw = Draw { slot, round };

@@ -7,7 +7,7 @@ use Rattle.protocol.specs.Leaders.{beats}
 use Rattle.leaders.specs.Walk.{best_among, is_drawn, HasRoom}
 use Rattle.leaders.proofs.Room.{whole_has_room}
 use Rattle.leaders.proofs.Choice.{leads}
-use Rattle.leaders.proofs.LeaderLaws.{leader_is}
+use Rattle.leaders.proofs.LeaderLaws.{known, leader_is}
 use Rattle.leaders.proofs.walk.leader.Goals as goal
 
 pub best_in-requires-clause-room : goal.best_in-requires-clause-room
@@ -30,3 +30,6 @@ returns-clause-best c =
 
 pub returns-clause-computed : goal.returns-clause-computed
 returns-clause-computed c = leader_is c.args.slot c.args.round c.args.node.now c.args.slices.now c.best_in.result.node (returns-clause-best c)
+
+pub returns-clause-known : goal.returns-clause-known
+returns-clause-known c = known c.args.slot c.args.round c.args.node.now c.args.slices.now c.best_in.result.node (returns-clause-best c)
