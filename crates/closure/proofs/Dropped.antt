@@ -14,7 +14,7 @@ use Rattle.protocol.specs.Reach.{reached, IsReach}
 use Rattle.protocol.proofs.SetLaws.{all_from, same_test, within-at}
 use Rattle.protocol.proofs.ClosureLaws.{contains_head, contains_tail, contained_cases}
 use Rattle.protocol.proofs.ReachLaws.{reached-holds, reached-in, reach_names, row_contained}
-use Rattle.protocol.proofs.ReachStays.{came}
+use Rattle.protocol.proofs.ReachStays.{leads_to_none, same_reach, went}
 use Rattle.closure.specs.Keeping.{DropsNone, kept_names}
 
 -- ---- rows of the new table
@@ -28,19 +28,6 @@ there e (y ∷ ys) = go (is_row_of e.sender (kind_of e.body) y) (there e ys)
     go true ih = contains_head e ys
     go false ih = contains_tail e y (with_row e ys) ih
 
--- the others are rows of the old one, and only the sender's row of that kind went
-went : (e x : Sent) (table : List Sent) → Contains table x → (row table e.sender (kind_of e.body) ≡ Some x) ⊎ Contains (with_row e table) x
-unfolding row with_row
-went e x [] c = inr (contains_tail x e [] c)
-went e x (y ∷ ys) c = go (is_row_of e.sender (kind_of e.body) y) (contained_cases x y ys c) (went e x ys)
-  where
-    go : (b : Bool) → ((y ≡ x) ⊎ Contains ys x) → (Contains ys x → (find (is_row_of e.sender (kind_of e.body)) ys ≡ Some x) ⊎ Contains (with_row e ys) x)
-        → (cond b (Some y) (find (is_row_of e.sender (kind_of e.body)) ys) ≡ Some x) ⊎ Contains (if b then e ∷ ys else y ∷ with_row e ys) x
-    go true (inl same) ih = inl (ap Some same)
-    go true (inr j) ih = inr (contains_tail x e ys j)
-    go false (inl same) ih = inr (subst (λ z. Contains (y ∷ with_row e ys) z) same (contains_head y (with_row e ys)))
-    go false (inr j) ih = elim (ih j) [ inl s ↦ inl s | inr k ↦ inr (contains_tail x y (with_row e ys) k) ]
-
 -- ---- the reach
 -- A chain through a name that the envelope brings ends where the reach led before, and one through a name that it drops goes from the node's own slices instead.
 pub reach_stays : (own : ℕ) (configured : Slices) (table : List Sent) (us : List ℕ) (e : Sent) → DropsNone own configured table e → AreWithin (among (names e.slices)) (among us)
@@ -48,16 +35,8 @@ pub reach_stays : (own : ℕ) (configured : Slices) (table : List Sent) (us : Li
 reach_stays own configured table us e drops brings is =
     let old = reached own configured table in
     let new = reached own configured (with_row e table) in
-    let held = reached-holds own configured table in
     let kept = reached-holds own configured (with_row e table) in
-    let fewer : AreWithin new old = reached-in own configured (with_row e table) old (record {
-      itself = held.itself;
-      configuration = held.configuration;
-      rows = λ x c s. elim (came e x table c) [
-        | inl same ↦ λ u h. sym (is.exactly u) ∙ brings u (subst (λ (z : Sent). IsTrue (among (names z.slices) u)) (sym same) h)
-        | inr i ↦ held.rows x i s
-      ];
-    }) in
+    let fewer : AreWithin new old = leads_to_none own configured table us e brings is in
     let more : AreWithin old new = reached-in own configured table new (record {
       itself = kept.itself;
       configuration = kept.configuration;
@@ -74,12 +53,7 @@ reach_stays own configured table us e drops brings is =
         | inr i ↦ kept.rows x i s
       ];
     }) in
-    let exactly : (u : ℕ) → among us u ≡ new u = λ u. is.exactly u ∙ same_test (old u) (new u) (more u) (fewer u) in
-    record {
-      ascending = is.ascending;
-      exactly = exactly;
-      closed = λ kind. subst (λ (set : Names). NamesWithin names (slices_by own configured (with_row e table) kind) set) (sym (fun_ext exactly)) (reach_names own configured (with_row e table) kind);
-    }
+    same_reach own configured table (with_row e table) us (λ u. same_test (old u) (new u) (more u) (fewer u)) is
 
 -- ---- the test
 -- without a row no name is dropped

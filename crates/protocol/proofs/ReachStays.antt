@@ -18,7 +18,7 @@ use Rattle.protocol.proofs.Tables.{is_row_of-parts}
 use Rattle.protocol.proofs.ReachLaws.{reached-holds, reached-in, reach_names}
 
 -- what a list needs to be the reach in another table
-same_reach : (own : ℕ) (configured : Slices) (old new : List Sent) (us : List ℕ) → ((u : ℕ) → reached own configured old u ≡ reached own configured new u) → IsReach own configured old us → IsReach own configured new us
+pub same_reach : (own : ℕ) (configured : Slices) (old new : List Sent) (us : List ℕ) → ((u : ℕ) → reached own configured old u ≡ reached own configured new u) → IsReach own configured old us → IsReach own configured new us
 same_reach own configured old new us same r =
     let exactly : (u : ℕ) → among us u ≡ reached own configured new u = λ u. r.exactly u ∙ same u in
     record {
@@ -108,32 +108,46 @@ stays_with_strangers own configured table us e h r =
     (λ u. same_test (reached own configured table u) (reached own configured (with_row e table) u) (without_it-in own configured table e stranger u) (with_it-in own configured table e stranger u)) r
 
 -- ---- a sender's first row of a kind
+-- the others are rows of the old table, and only the sender's row of that kind went
+pub went : (e x : Sent) (table : List Sent) → Contains table x → (row table e.sender (kind_of e.body) ≡ Some x) ⊎ Contains (with_row e table) x
+unfolding row with_row
+went e x [] c = inr (contains_tail x e [] c)
+went e x (y ∷ ys) c = go (is_row_of e.sender (kind_of e.body) y) (contained_cases x y ys c) (went e x ys)
+  where
+    go : (b : Bool) → ((y ≡ x) ⊎ Contains ys x) → (Contains ys x → (find (is_row_of e.sender (kind_of e.body)) ys ≡ Some x) ⊎ Contains (with_row e ys) x)
+        → (cond b (Some y) (find (is_row_of e.sender (kind_of e.body)) ys) ≡ Some x) ⊎ Contains (if b then e ∷ ys else y ∷ with_row e ys) x
+    go true (inl same) ih = inl (ap Some same)
+    go true (inr j) ih = inr (contains_tail x e ys j)
+    go false (inl same) ih = inr (subst (λ z. Contains (y ∷ with_row e ys) z) same (contains_head y (with_row e ys)))
+    go false (inr j) ih = elim (ih j) [ inl s ↦ inl s | inr k ↦ inr (contains_tail x y (with_row e ys) k) ]
+
 -- where there was no row, none went
 none_went : (e x : Sent) (table : List Sent) → row table e.sender (kind_of e.body) ≡ None → Contains table x → Contains (with_row e table) x
-unfolding row with_row
-none_went e x [] none c = contains_tail x e [] c
-none_went e x (y ∷ ys) none c = go (is_row_of e.sender (kind_of e.body) y) none (contained_cases x y ys c) (none_went e x ys)
-  where
-    go : (b : Bool) → cond b (Some y) (find (is_row_of e.sender (kind_of e.body)) ys) ≡ None → ((y ≡ x) ⊎ Contains ys x)
-        → (row ys e.sender (kind_of e.body) ≡ None → Contains ys x → Contains (with_row e ys) x) → Contains (if b then e ∷ ys else y ∷ with_row e ys) x
-    go true none i ih = absurd (true≢false (ap (λ (o : Option Sent). is_some o) none))
-    go false none (inl same) ih = subst (λ z. Contains (y ∷ with_row e ys) z) same (contains_head y (with_row e ys))
-    go false none (inr j) ih = contains_tail x y (with_row e ys) (ih none j)
+none_went e x table none c = elim (went e x table c) [
+  | inl there ↦ absurd (true≢false (ap (λ (o : Option Sent). is_some o) (sym there ∙ none)))
+  | inr stays ↦ stays
+]
 
-pub stays_with_first_rows : StaysWithFirstRows
-stays_with_first_rows own configured table us e none within r =
-    let old = reached own configured table in
-    let new = reached own configured (with_row e table) in
+-- a row that names reached nodes alone leads to no others
+pub leads_to_none : (own : ℕ) (configured : Slices) (table : List Sent) (us : List ℕ) (e : Sent) → AreWithin (among (names e.slices)) (among us) → IsReach own configured table us
+    → AreWithin (reached own configured (with_row e table)) (reached own configured table)
+leads_to_none own configured table us e within r =
     let held = reached-holds own configured table in
-    let kept = reached-holds own configured (with_row e table) in
-    let fewer : AreWithin new old = reached-in own configured (with_row e table) old (record {
+    reached-in own configured (with_row e table) (reached own configured table) (record {
       itself = held.itself;
       configuration = held.configuration;
       rows = λ x c s. elim (came e x table c) [
         | inl same ↦ λ u h. sym (r.exactly u) ∙ within u (subst (λ (z : Sent). IsTrue (among (names z.slices) u)) (sym same) h)
         | inr i ↦ held.rows x i s
       ];
-    }) in
+    })
+
+pub stays_with_first_rows : StaysWithFirstRows
+stays_with_first_rows own configured table us e none within r =
+    let old = reached own configured table in
+    let new = reached own configured (with_row e table) in
+    let kept = reached-holds own configured (with_row e table) in
+    let fewer : AreWithin new old = leads_to_none own configured table us e within r in
     let more : AreWithin old new = reached-in own configured table new (record {
       itself = kept.itself;
       configuration = kept.configuration;
