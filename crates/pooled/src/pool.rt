@@ -15,6 +15,7 @@ use crowds::Submission;
 use envstore::{SharedHandle, Shelf};
 use hoststep::Journal;
 use std::alloc::{AllocError, Global};
+use std::mem::forget;
 use std::sync::Wait;
 use std::thread;
 use std::thread::Threads;
@@ -41,7 +42,8 @@ struct Told {
 /// applied, refused and not run. An error says that memory is short.
 ///
 /// All networks have one store of envelopes. The queue has a place for each job, from 1,024 places up to 65,536;
-/// what it has no place for is applied before the workers begin. Which order the jobs take is open.
+/// what it has no place for is applied before the workers begin. Which order the jobs take is open. The memory of
+/// the journals that were told of is not given back: this is for a process that ends with the answer.
 pub fn run_pool<R: Threads + Wait + Sync + Send + Copy + Drop>(
     rt: &R,
     alloc: Global,
@@ -204,7 +206,7 @@ fn tell_both(first: Told, others: Told) -> Result<Told, AllocError>
     Ok(Told { decided, lengths })
 }
 
-/// Closes each network, and tells of it, in this thread.
+/// Closes each network, and tells of it, in this thread. The memory of what was told of is not given back.
 fn tell_alone<R: Wait + Drop>(
     rt: &R,
     alloc: Global,
@@ -217,6 +219,8 @@ fn tell_alone<R: Wait + Drop>(
     let mut lengths = String::new(alloc);
     while let Some(journal) = journals.pop() {
         tell(alloc, &journal, &mut decided, &mut lengths)?;
+        // Piece by piece, into the heaps of the threads that took them, this cost a quarter of a run of four workers.
+        forget(journal);
     }
     Ok(Told { decided, lengths })
 }
