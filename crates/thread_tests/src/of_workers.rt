@@ -1,6 +1,6 @@
 //! Hosts run by several workers, with gates that hold jobs up.
 
-use fixtures::{Tally, close_all, joined, openings, proposals, run_jobs};
+use fixtures::{Tally, close_all, joined, numbers_closed, openings, proposals, run_jobs};
 use std::sync::Wait;
 use std::sync::atomic::{AtomicU64, Ordering};
 use std::test::Fail;
@@ -280,5 +280,18 @@ fn a_number_joins_once_and_networks_close_descending(rt: HostRuntime) -> Result<
         assert_eq!(rt; seats.len(), 1);
     }
     assert!(rt; host.close_last(&rt).is_none());
+    Ok(())
+}
+
+#[test]
+fn the_parts_of_a_host_have_all_its_networks(rt: HostRuntime) -> Result<(), Fail> {
+    let alloc = rt.alloc();
+    let host = joined(&rt, alloc, 5, 1, 1).ok_or("memory")?;
+    let count = host.len() / 2;
+    let (mut first, mut others) = host.split_at(count)?;
+    let closed = numbers_closed(&rt, alloc, &mut others).ok_or("memory")?;
+    assert_eq!(rt; closed.as_slice(), [5u32, 4, 3].as_slice());
+    let closed = numbers_closed(&rt, alloc, &mut first).ok_or("memory")?;
+    assert_eq!(rt; closed.as_slice(), [2u32, 1].as_slice());
     Ok(())
 }

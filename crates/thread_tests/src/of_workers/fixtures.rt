@@ -249,3 +249,16 @@ pub(super) fn close_all<R: Wait + Drop>(
     }
     Some(tally)
 }
+
+/// The numbers of the networks of a host, in the order in which they close. `None` where memory is short.
+pub(super) fn numbers_closed<R: Wait + Drop>(
+    rt: &R,
+    alloc: Global,
+    host: &mut Host<SharedHandle<R>, R>,
+) -> Option<Vec<u32>> {
+    let mut numbers = Vec::new(alloc);
+    while let Some((journal, _seats)) = host.close_last(rt) {
+        numbers.push(journal.config().number()).ok()?;
+    }
+    Some(numbers)
+}
