@@ -20,6 +20,7 @@ use Rattle.network.specs.Tellings.{nth_of}
 use Rattle.network.specs.declared.plan.Deed.TheVariants.{Act, Hand}
 use Rattle.network.specs.declared.plan.Drawn.{Drawn}
 use Rattle.network.proofs.Allowed.{host_then, host-in, hosted, hosted-not, no_host, not_open, open_then, passes, refuses, stops}
+use Rattle.network.proofs.Openings.{none-so}
 use Rattle.network.proofs.Planned.{act-plan, hand-plan, known-seat, roster-in}
 
 -- ---- bytes
@@ -72,38 +73,50 @@ envelope-closed m u h size e q r c =
     from-stranger m net u h size e q r s ∙ not_open m net e.slot (is_full net src ∷ is_full_of_bytes net src size ∷ []) s c)
 
 -- and the slot is open
-at-slot : (m : Standing) (net : Net) (u h k size : ℕ) (e : Sent) → index_of_name m.config.hosts u ≡ Some h → index_of_name m.config.hosts e.sender ≡ None → IsSlotThere m e.slot k → StandsFor (machine_of m) net
-    → first_that (tests net (Delivers u size (Read e))) ≡ first_that (is_full net (pair_source net.roster e.slot u e.sender) ∷ is_full_of_bytes net (pair_source net.roster e.slot u e.sender) size ∷ [])
-at-slot m net u h k size e q r c s =
-    let src = pair_source net.roster e.slot u e.sender in
-    from-stranger m net u h size e q r s ∙ open_then m net e.slot k (is_full net src ∷ is_full_of_bytes net src size ∷ []) s c
+pub record IsReaching (m : Standing) (u h k : ℕ) (e : Sent) : Type 0 where
+  pub host : index_of_name m.config.hosts u ≡ Some h
+  pub stranger : index_of_name m.config.hosts e.sender ≡ None
+  pub slot : IsSlotThere m e.slot k
 
-pub envelope-full : (m : Standing) (u h k size : ℕ) (e : Sent) (x : Refusal) → index_of_name m.config.hosts u ≡ Some h → index_of_name m.config.hosts e.sender ≡ None → IsSlotThere m e.slot k → IsRoom m (λ o. pair_source o e.slot u e.sender) (Err x) → IsRefusal (machine_of m) (Delivers u size (Read e)) x
-envelope-full m u h k size e x q r c full =
+pub reaching : (m : Standing) (u h k i : ℕ) (e : Sent) → index_of_name m.config.hosts u ≡ Some h → is_some (index_of_name m.config.hosts e.sender) ≡ false → i ≡ e.slot → IsSlotThere m i k → IsReaching m u h k e
+reaching m u h k i e q f same c = record { host = q; stranger = none-so (index_of_name m.config.hosts e.sender) f; slot = subst (λ j. IsSlotThere m j k) same c }
+
+-- room for what comes from its sender
+pub sender-room : (m : Standing) (i u w v : ℕ) (r : Result Drawn Refusal) → w ≡ v → IsRoom m (λ o. pair_source o i u w) r → IsRoom m (λ o. pair_source o i u v) r
+sender-room m i u w v r same room = subst (λ x. IsRoom m (λ o. pair_source o i u x) r) same room
+
+at-slot : (m : Standing) (net : Net) (u h k size : ℕ) (e : Sent) → IsReaching m u h k e → StandsFor (machine_of m) net
+    → first_that (tests net (Delivers u size (Read e))) ≡ first_that (is_full net (pair_source net.roster e.slot u e.sender) ∷ is_full_of_bytes net (pair_source net.roster e.slot u e.sender) size ∷ [])
+at-slot m net u h k size e r s =
+    let src = pair_source net.roster e.slot u e.sender in
+    from-stranger m net u h size e r.host r.stranger s ∙ open_then m net e.slot k (is_full net src ∷ is_full_of_bytes net src size ∷ []) s r.slot
+
+pub envelope-full : {m : Standing} {u h k : ℕ} {e : Sent} (size : ℕ) (x : Refusal) → IsReaching m u h k e → IsRoom m (λ o. pair_source o e.slot u e.sender) (Err x) → IsRefusal (machine_of m) (Delivers u size (Read e)) x
+envelope-full {m} {u} {h} {k} {e} size x r full =
     inr (λ net s.
     let src = pair_source net.roster e.slot u e.sender in
-    at-slot m net u h k size e q r c s ∙ stops (is_full net src) x (is_full_of_bytes net src size ∷ []) (full net s))
+    at-slot m net u h k size e r s ∙ stops (is_full net src) x (is_full_of_bytes net src size ∷ []) (full net s))
 
 -- and there is room for an event
 drawn-in : (m : Standing) (net : Net) (i u w : ℕ) (d : Drawn) → StandsFor (machine_of m) net → IsDrawn (machine_of m) d (pair_source m.config.roster i u w) → IsDrawn (machine_of m) d (pair_source net.roster i u w)
 drawn-in m net i u w d s h = subst (λ o. IsDrawn (machine_of m) d (pair_source o i u w)) (sym (roster-in m net s)) h
 
-pub envelope-large : (m : Standing) (u h k size : ℕ) (e : Sent) (d : Drawn) (x : Refusal) → index_of_name m.config.hosts u ≡ Some h → index_of_name m.config.hosts e.sender ≡ None → IsSlotThere m e.slot k → IsRoom m (λ o. pair_source o e.slot u e.sender) (Ok d) → HasNoBytes (machine_of m) d size x
+pub envelope-large : {m : Standing} {u h k : ℕ} {e : Sent} (size : ℕ) (d : Drawn) (x : Refusal) → IsReaching m u h k e → IsRoom m (λ o. pair_source o e.slot u e.sender) (Ok d) → HasNoBytes (machine_of m) d size x
     → IsRefusal (machine_of m) (Delivers u size (Read e)) x
-envelope-large m u h k size e d x q r c room full =
+envelope-large {m} {u} {h} {k} {e} size d x r room full =
     inr (λ net s.
     let src = pair_source net.roster e.slot u e.sender in
-    at-slot m net u h k size e q r c s ∙ passes (is_full net src) (is_full_of_bytes net src size ∷ []) (room.1 net s)
+    at-slot m net u h k size e r s ∙ passes (is_full net src) (is_full_of_bytes net src size ∷ []) (room.1 net s)
     ∙ stops (is_full_of_bytes net src size) x [] (full src net (drawn-in m net e.slot u e.sender d s room.0) s))
 
-pub envelope-plan : (m : Standing) (u h k size : ℕ) (e : Sent) (d : Drawn) → IsStanding m → index_of_name m.config.hosts u ≡ Some h → index_of_name m.config.hosts e.sender ≡ None → IsSlotThere m e.slot k → IsRoom m (λ o. pair_source o e.slot u e.sender) (Ok d) → HasBytes (machine_of m) d size
+pub envelope-plan : {m : Standing} {u h k : ℕ} {e : Sent} (size : ℕ) (d : Drawn) → IsStanding m → IsReaching m u h k e → IsRoom m (λ o. pair_source o e.slot u e.sender) (Ok d) → HasBytes (machine_of m) d size
     → IsPlan m (Delivers u size (Read e)) (record { deed = Hand k h e; drawn = d; size = size })
 unfolding effect
-envelope-plan m u h k size e d st q r c room fits =
-    hand-plan m (Delivers u size (Read e)) e.slot u k h size e d st c q (subst (IsDrawn (machine_of m) d) (sym (delivers-source m.config.roster u size e)) room.0) refl refl refl (λ net. refl)
+envelope-plan {m} {u} {h} {k} {e} size d st r room fits =
+    hand-plan m (Delivers u size (Read e)) e.slot u k h size e d st r.slot r.host (subst (IsDrawn (machine_of m) d) (sym (delivers-source m.config.roster u size e)) room.0) refl refl refl (λ net. refl)
     (λ net s.
     let src = pair_source net.roster e.slot u e.sender in
-    at-slot m net u h k size e q r c s ∙ passes (is_full net src) (is_full_of_bytes net src size ∷ []) (room.1 net s)
+    at-slot m net u h k size e r s ∙ passes (is_full net src) (is_full_of_bytes net src size ∷ []) (room.1 net s)
     ∙ passes (is_full_of_bytes net src size) [] (fits src net (drawn-in m net e.slot u e.sender d s room.0) s))
 
 -- ---- what another node has emitted
@@ -179,33 +192,44 @@ emission-is : (m : Standing) (net : Net) (i w k j : ℕ) (kind : Kind) (n : ℕ)
 emission-is m net i w k j kind n y o st s q r is e = ap (λ x. emission x kind n) (known-seat m net i w k j y st s q r is) ∙ told-nth y.place kind n ∙ sym e
 
 -- and the slot is open
-heard-at : (m : Standing) (net : Net) (i u h w j k : ℕ) (kind : Kind) (n : ℕ) (y : Seat) (o : Option (Bor Filed)) → IsStanding m → AreTwo m u h w j → IsSlotThere m i k → IsSeat (machine_of m) k j y → option_map (λ f. sent_of f.now) o ≡ nth_of kind n y.place.told → StandsFor (machine_of m) net
-    → first_that (tests net (Hears i u w kind n)) ≡ first_that ((is_none (option_map (λ f. sent_of f.now) o), NotEmitted) ∷ is_full net (pair_source net.roster i u w) ∷ [])
-heard-at m net i u h w j k kind n y o st two c is e s =
-    let ts : List (Bool × Refusal) = is_full net (pair_source net.roster i u w) ∷ [] in
-    two-there m net i u h w j kind n two s ∙ open_then m net i k ((is_none (emission (known (places_at net.slots i) w) kind n), NotEmitted) ∷ ts) s c
-    ∙ ap (λ x. first_that ((is_none x, NotEmitted) ∷ ts)) (emission-is m net i w k j kind n y o st s c two.from is e)
+pub record IsHearing (m : Standing) (i u h w j k : ℕ) (kind : Kind) (n : ℕ) (y : Seat) (o : Option (Bor Filed)) : Type 0 where
+  pub standing : IsStanding m
+  pub two : AreTwo m u h w j
+  pub slot : IsSlotThere m i k
+  pub seat : IsSeat (machine_of m) k j y
+  pub sent : option_map (λ f. sent_of f.now) o ≡ nth_of kind n y.place.told
 
-pub hears-nothing : (m : Standing) (i u h w j k : ℕ) (kind : Kind) (n : ℕ) (y : Seat) (o : Option (Bor Filed)) → IsStanding m → AreTwo m u h w j → IsSlotThere m i k → IsSeat (machine_of m) k j y → option_map (λ f. sent_of f.now) o ≡ nth_of kind n y.place.told → o ≡ None
+pub hearing : {s : Standing} (m : Standing) (i u h w j k : ℕ) (kind : Kind) (n : ℕ) (y : Seat) (o : Option (Bor Filed)) → s ≡ m → IsStanding s → index_of_name m.config.hosts u ≡ Some h → index_of_name m.config.hosts w ≡ Some j → (u == w) ≡ false → IsSlotThere m i k → IsSeat (machine_of m) k j y
+    → option_map (λ f. sent_of f.now) o ≡ nth_of kind n y.place.told → IsHearing m i u h w j k kind n y o
+hearing m i u h w j k kind n y o seen st q r differ c is e = record { standing = subst IsStanding seen st; two = record { node = q; from = r; differ = differ }; slot = c; seat = is; sent = e }
+
+heard-at : (m : Standing) (net : Net) (i u h w j k : ℕ) (kind : Kind) (n : ℕ) (y : Seat) (o : Option (Bor Filed)) → IsHearing m i u h w j k kind n y o → StandsFor (machine_of m) net
+    → first_that (tests net (Hears i u w kind n)) ≡ first_that ((is_none (option_map (λ f. sent_of f.now) o), NotEmitted) ∷ is_full net (pair_source net.roster i u w) ∷ [])
+heard-at m net i u h w j k kind n y o x s =
+    let ts : List (Bool × Refusal) = is_full net (pair_source net.roster i u w) ∷ [] in
+    two-there m net i u h w j kind n x.two s ∙ open_then m net i k ((is_none (emission (known (places_at net.slots i) w) kind n), NotEmitted) ∷ ts) s x.slot
+    ∙ ap (λ z. first_that ((is_none z, NotEmitted) ∷ ts)) (emission-is m net i w k j kind n y o x.standing s x.slot x.two.from x.seat x.sent)
+
+pub hears-nothing : {m : Standing} {i u h w j k : ℕ} {kind : Kind} {n : ℕ} {y : Seat} {o : Option (Bor Filed)} → IsHearing m i u h w j k kind n y o → o ≡ None
     → IsRefusal (machine_of m) (Hears i u w kind n) NotEmitted
-hears-nothing m i u h w j k kind n y o st two c is e none =
-    inr (λ net s. heard-at m net i u h w j k kind n y o st two c is e s ∙ ap (λ x. first_that ((is_none (option_map (λ f. sent_of f.now) x), NotEmitted) ∷ is_full net (pair_source net.roster i u w) ∷ [])) none)
+hears-nothing {m} {i} {u} {h} {w} {j} {k} {kind} {n} {y} {o} x none =
+    inr (λ net s. heard-at m net i u h w j k kind n y o x s ∙ ap (λ z. first_that ((is_none (option_map (λ f. sent_of f.now) z), NotEmitted) ∷ is_full net (pair_source net.roster i u w) ∷ [])) none)
 
 -- and there is such an emission
-heard-it : (m : Standing) (net : Net) (i u h w j k : ℕ) (kind : Kind) (n : ℕ) (y : Seat) (o : Option (Bor Filed)) (f : Bor Filed) → IsStanding m → AreTwo m u h w j → IsSlotThere m i k → IsSeat (machine_of m) k j y → option_map (λ f. sent_of f.now) o ≡ nth_of kind n y.place.told → o ≡ Some f → StandsFor (machine_of m) net
+heard-it : (m : Standing) (net : Net) (i u h w j k : ℕ) (kind : Kind) (n : ℕ) (y : Seat) (o : Option (Bor Filed)) (f : Bor Filed) → IsHearing m i u h w j k kind n y o → o ≡ Some f → StandsFor (machine_of m) net
     → first_that (tests net (Hears i u w kind n)) ≡ first_that (is_full net (pair_source net.roster i u w) ∷ [])
-heard-it m net i u h w j k kind n y o f st two c is e some s =
-    heard-at m net i u h w j k kind n y o st two c is e s ∙ ap (λ x. first_that ((is_none (option_map (λ f. sent_of f.now) x), NotEmitted) ∷ is_full net (pair_source net.roster i u w) ∷ [])) some
+heard-it m net i u h w j k kind n y o f x some s =
+    heard-at m net i u h w j k kind n y o x s ∙ ap (λ z. first_that ((is_none (option_map (λ f. sent_of f.now) z), NotEmitted) ∷ is_full net (pair_source net.roster i u w) ∷ [])) some
 
-pub hears-full : (m : Standing) (i u h w j k : ℕ) (kind : Kind) (n : ℕ) (y : Seat) (o : Option (Bor Filed)) (f : Bor Filed) (x : Refusal) → IsStanding m → AreTwo m u h w j → IsSlotThere m i k → IsSeat (machine_of m) k j y → option_map (λ f. sent_of f.now) o ≡ nth_of kind n y.place.told → o ≡ Some f
-    → IsRoom m (λ o. pair_source o i u w) (Err x) → IsRefusal (machine_of m) (Hears i u w kind n) x
-hears-full m i u h w j k kind n y o f x st two c is e some full =
-    inr (λ net s. heard-it m net i u h w j k kind n y o f st two c is e some s ∙ stops (is_full net (pair_source net.roster i u w)) x [] (full net s))
+pub hears-full : {m : Standing} {i u h w j k : ℕ} {kind : Kind} {n : ℕ} {y : Seat} {o : Option (Bor Filed)} (f : Bor Filed) (e : Refusal) → IsHearing m i u h w j k kind n y o → o ≡ Some f
+    → IsRoom m (λ o. pair_source o i u w) (Err e) → IsRefusal (machine_of m) (Hears i u w kind n) e
+hears-full {m} {i} {u} {h} {w} {j} {k} {kind} {n} {y} {o} f e x some full =
+    inr (λ net s. heard-it m net i u h w j k kind n y o f x some s ∙ stops (is_full net (pair_source net.roster i u w)) e [] (full net s))
 
-pub hears-plan : (m : Standing) (i u h w j k : ℕ) (kind : Kind) (n : ℕ) (y : Seat) (o : Option (Bor Filed)) (f : Bor Filed) (d : Drawn) → IsStanding m → AreTwo m u h w j → IsSlotThere m i k → IsSeat (machine_of m) k j y → option_map (λ f. sent_of f.now) o ≡ nth_of kind n y.place.told → o ≡ Some f
+pub hears-plan : {m : Standing} {i u h w j k : ℕ} {kind : Kind} {n : ℕ} {y : Seat} {o : Option (Bor Filed)} (f : Bor Filed) (d : Drawn) → IsHearing m i u h w j k kind n y o → o ≡ Some f
     → IsFiled m.archive f.now → IsRoom m (λ o. pair_source o i u w) (Ok d) → IsPlan m (Hears i u w kind n) (record { deed = Act k h (events.Take f.now); drawn = d; size = 0 })
 unfolding effect
-hears-plan m i u h w j k kind n y o f d st two c is e some filed room =
-    act-plan m (Hears i u w kind n) i u k h (events.Take f.now) d st c two.node filed (subst (IsDrawn (machine_of m) d) (sym (hears-source m.config.roster i u w kind n)) room.0) refl refl refl
-    (λ net s. ap (act_known net i u) (emission-is m net i w k j kind n y o st s c two.from is e ∙ ap (option_map (λ f. sent_of f.now)) some))
-    (λ net s. heard-it m net i u h w j k kind n y o f st two c is e some s ∙ passes (is_full net (pair_source net.roster i u w)) [] (room.1 net s))
+hears-plan {m} {i} {u} {h} {w} {j} {k} {kind} {n} {y} {o} f d x some filed room =
+    act-plan m (Hears i u w kind n) i u k h (events.Take f.now) d x.standing x.slot x.two.node filed (subst (IsDrawn (machine_of m) d) (sym (hears-source m.config.roster i u w kind n)) room.0) refl refl refl
+    (λ net s. ap (act_known net i u) (emission-is m net i w k j kind n y o x.standing s x.slot x.two.from x.seat x.sent ∙ ap (option_map (λ f. sent_of f.now)) some))
+    (λ net s. heard-it m net i u h w j k kind n y o f x some s ∙ passes (is_full net (pair_source net.roster i u w)) [] (room.1 net s))

@@ -1,7 +1,8 @@
 -- One emission more: its place and its mark.
-use Rattle.std.proofs.Common.{◌≡◌, ℕ, suc, ◌+◌, ◌++◌, length, map, Bool, true, false, List, [], ◌∷◌, filter, if◌then◌else◌, refl, sym, ◌∙◌, ap, ap₂, subst, arith, ◌<◌, get_or, drop, append_assoc}
+use Rattle.std.proofs.Common.{◌≡◌, ℕ, suc, ◌+◌, ◌++◌, length, map, Bool, true, false, List, [], ◌∷◌, filter, if◌then◌else◌, refl, sym, ◌∙◌, ap, ap₂, subst, arith, ◌<◌, ◌≤◌, get_or, drop, append_assoc}
 use Rattle.std.proofs.lemmas.List.{map-append}
-use Rattle.std.specs.Prelude.{zero, Option, Some, None, option_map, slice_get}
+use Rattle.std.specs.Prelude.{zero, Option, Some, None, Vec, option_map, slice_get}
+use Rattle.std.specs.Global.{Global}
 use Rattle.std.specs.Borrow.{Bor}
 use Rattle.types.specs.declared.kind.Kind.{Kind}
 use Rattle.types.specs.declared.kind.Kind.TheVariants.{Nomination, Ballot}
@@ -15,14 +16,16 @@ use Rattle.slot.specs.Filings.{outs_of}
 use Rattle.slot.specs.declared.filed.FiledOut.{FiledOut}
 use Rattle.slot.specs.declared.filed.FiledOut.TheVariants.{ArmNomination, ArmBallot, Emit, Externalized}
 use Rattle.std.proofs.Math.Seq.{drop-cons}
-use Rattle.network.specs.Tellings.{places_of_kind}
+use Rattle.network.specs.Lodgings.{HaveRoom}
+use Rattle.network.specs.Tellings.{AreByKind, places_of_kind}
+use Rattle.network.specs.declared.told.PlacesByKind.{PlacesByKind}
 use Rattle.network.proofs.Tellings.{count_of_kind, places_next}
 
 sents-length : (fs : List Filed) → length (sents_of fs) ≡ length fs
 sents-length [] = refl
 sents-length (f ∷ fs) = ap suc (sents-length fs)
 
-pub noted : (kind k : Kind) (es : List Filed) (f : Filed) (places next : List ℕ) (at : ℕ) (all : List Filed)
+noted : (kind k : Kind) (es : List Filed) (f : Filed) (places next : List ℕ) (at : ℕ) (all : List Filed)
     → k ≡ kind_of (sent_of f).body → at ≡ length es → places ≡ places_of_kind kind (sents_of es) → next ≡ places ++ (if is_kind kind k then at ∷ [] else []) → all ≡ es ++ f ∷ []
     → next ≡ places_of_kind kind (sents_of all)
 noted kind k es f places next at all same length_is before more is =
@@ -31,18 +34,26 @@ noted kind k es f places next at all same length_is before more is =
     ∙ sym (places_next kind (sents_of es) (sent_of f))
     ∙ sym (ap (places_of_kind kind) (ap sents_of is ∙ map-append sent_of es (f ∷ [])))
 
+-- one emission more, at its place among those of its kind
+pub by-kind : (old new : PlacesByKind) (k : Kind) (es all : List Filed) (f : Filed) (at : ℕ)
+    → k ≡ kind_of (sent_of f).body → at ≡ length es → all ≡ es ++ f ∷ [] → AreByKind old (sents_of es)
+    → new.nominations.items ≡ old.nominations.items ++ (if is_kind Nomination k then at ∷ [] else []) → new.ballots.items ≡ old.ballots.items ++ (if is_kind Ballot k then at ∷ [] else [])
+    → AreByKind new (sents_of all)
+by-kind old new k es all f at same length_is is before n b =
+    (noted Nomination k es f old.nominations.items new.nominations.items at all same length_is before.0 n is, noted Ballot k es f old.ballots.items new.ballots.items at all same length_is before.1 b is)
+
 abbrev of_kind : Kind → List Sent → List Sent
 of_kind k told = filter (λ x. is_kind k (kind_of x.body)) told
 
-pub counted : (k : Kind) (es : List Filed) (f : Filed) (noms balls : List ℕ) (mark : ℕ)
-    → k ≡ kind_of (sent_of f).body → noms ≡ places_of_kind Nomination (sents_of es) → balls ≡ places_of_kind Ballot (sents_of es) → mark ≡ (if is_kind Nomination k then length noms else length balls) + 1
+pub counted : (k : Kind) (es : List Filed) (f : Filed) (places : PlacesByKind) (mark : ℕ)
+    → k ≡ kind_of (sent_of f).body → AreByKind places (sents_of es) → mark ≡ (if is_kind Nomination k then length places.nominations.items else length places.ballots.items) + 1
     → mark ∷ [] ≡ numbered (sents_of es) (sent_of f ∷ [])
 unfolding numbered
-counted k es f noms balls mark same n b is = ap (λ m. m ∷ []) (go k is ∙ ap (λ j. suc (length (of_kind j (sents_of es)))) same)
+counted k es f places mark same by is = ap (λ m. m ∷ []) (go k is ∙ ap (λ j. suc (length (of_kind j (sents_of es)))) same)
   where
-    go : (j : Kind) → mark ≡ (if is_kind Nomination j then length noms else length balls) + 1 → mark ≡ suc (length (of_kind j (sents_of es)))
-    go Nomination h = let l = ap length n ∙ count_of_kind Nomination (sents_of es) in omega (arith, h, l)
-    go Ballot h = let l = ap length b ∙ count_of_kind Ballot (sents_of es) in omega (arith, h, l)
+    go : (j : Kind) → mark ≡ (if is_kind Nomination j then length places.nominations.items else length places.ballots.items) + 1 → mark ≡ suc (length (of_kind j (sents_of es)))
+    go Nomination h = let l = ap length by.0 ∙ count_of_kind Nomination (sents_of es) in omega (arith, h, l)
+    go Ballot h = let l = ap length by.1 ∙ count_of_kind Ballot (sents_of es) in omega (arith, h, l)
 
 -- marks one after another
 pub numbered-joined : (told xs ys : List Sent) → numbered told (xs ++ ys) ≡ numbered told xs ++ numbered (told ++ xs) ys
@@ -103,3 +114,12 @@ sents-joined (x ∷ xs) ys = let h = sents-joined xs ys in omega (arith, h)
 
 pub fewer : (outs : List FiledOut) (i : ℕ) (x : FiledOut) → i < length outs → x ≡ get_or outs i x → length (emissions (outs_of (drop i outs))) ≡ length (emissions (outs_of (x ∷ []))) + length (emissions (outs_of (drop (i + 1) outs)))
 fewer outs i x l is = ap length (next-out outs i x l is) ∙ sents-joined (emissions (outs_of (x ∷ []))) (emissions (outs_of (drop (i + 1) outs)))
+
+-- room for some of them
+pub room-for : (count some rest : ℕ) (emitted : Vec Filed Global) (places : PlacesByKind) (marks : Vec ℕ Global) → count ≡ some + rest → HaveRoom count emitted places marks → HaveRoom some emitted places marks
+room-for count some rest emitted places marks is room =
+    let a = room.emissions in
+    let b = room.nominations_room in
+    let c = room.ballots_room in
+    let d = room.marks_room in
+    record { emissions = omega (arith, is, a); nominations_room = omega (arith, is, b); ballots_room = omega (arith, is, c); marks_room = omega (arith, is, d) }

@@ -15,6 +15,7 @@ use Rattle.slot.specs.declared.filed.GivenOut.{GivenOut}
 use Rattle.slot.specs.declared.filed.FiledOut.{FiledOut}
 use Rattle.network.specs.declared.tallies.Tally.{Tally}
 use Rattle.network.specs.declared.told.Noted.{Noted}
+use Rattle.network.specs.declared.told.PlacesByKind.{PlacesByKind}
 
 -- ---- a node at a slot
 -- a node and what it has emitted, as they were filed; how many of its own events it drew, and what it drew from each other name
@@ -91,8 +92,8 @@ pub record IsGiven (outs : List Out) (marks : List ℕ) (count : ℕ) (a : Noted
   pub copies : map (λ v. v.items) a.copies.items ≡ replicate count outs
 
 -- ---- room that is made before an event
-pub record HaveRoom (count : ℕ) (emitted : Vec Filed Global) (nominations ballots marks : Vec ℕ Global) : Type 0 where
+pub record HaveRoom (count : ℕ) (emitted : Vec Filed Global) (places : PlacesByKind) (marks : Vec ℕ Global) : Type 0 where
   pub emissions : vec_len emitted + count ≤ vec_capacity emitted
-  pub nominations_room : vec_len nominations + count ≤ vec_capacity nominations
-  pub ballots_room : vec_len ballots + count ≤ vec_capacity ballots
+  pub nominations_room : vec_len places.nominations + count ≤ vec_capacity places.nominations
+  pub ballots_room : vec_len places.ballots + count ≤ vec_capacity places.ballots
   pub marks_room : vec_len marks + count ≤ vec_capacity marks

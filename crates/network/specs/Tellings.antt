@@ -1,8 +1,10 @@
 -- What a node has emitted, and where among it the emissions of a kind stand.
-use Rattle.std.specs.Prelude.{ℕ, zero, suc, List, [], ◌∷◌, length, filter, slice_get, Option, None, if◌then◌else◌}
+use Rattle.std.specs.Prelude.{◌≡◌, ℕ, zero, suc, List, [], ◌∷◌, length, filter, slice_get, Option, None, if◌then◌else◌}
 use Rattle.types.specs.declared.kind.Kind.{Kind}
+use Rattle.types.specs.declared.kind.Kind.TheVariants.{Nomination, Ballot}
 use Rattle.types.specs.Statements.{Sent, kind_of}
 use Rattle.protocol.specs.Rows.{is_kind}
+use Rattle.network.specs.declared.told.PlacesByKind.{PlacesByKind}
 
 -- the places, counted from this number, of the emissions of a kind
 abbrev pub places_from : Kind → ℕ → List Sent → List ℕ
@@ -11,6 +13,10 @@ places_from kind n (e ∷ es) = if is_kind kind (kind_of e.body) then n ∷ plac
 
 abbrev pub places_of_kind : Kind → List Sent → List ℕ
 places_of_kind kind told = places_from kind 0 told
+
+-- the places of nominations and of ballots are where these stand among what was emitted
+abbrev pub AreByKind : PlacesByKind → List Sent → Type 0
+AreByKind places told = (places.nominations.items ≡ places_of_kind Nomination told) × (places.ballots.items ≡ places_of_kind Ballot told)
 
 -- the emission of a kind with this number, from 1 on
 abbrev pub nth_of : Kind → ℕ → List Sent → Option Sent

@@ -23,7 +23,7 @@ use crate::applied::Applied;
 use crate::network::Network;
 use crate::open_slot::OpenSlot;
 use crate::open_slots::OpenSlots;
-use crate::plan::{Charge, Deed, Drawn, Plan};
+use crate::plan::{Charge, Deed, Drawn, Plan, Spot, Terms};
 use configuration::Roster;
 use envstore::{Archive, Filed, Shelf};
 use slot::FiledEvent;
@@ -62,15 +62,14 @@ impl<S: Shelf> Network<S> {
         self.limits();
         let Plan { deed, drawn, size } = plan;
         let charge = Charge { drawn, size };
-        let applied = perform(
-            self.alloc,
-            &mut self.archive,
-            &mut self.slots,
-            deed,
-            &charge,
-            copies,
-        )?;
-        count(&mut self.events, &mut self.bytes, &mut self.opens, &charge);
+        let terms = Terms { charge, copies };
+        let applied = perform(self.alloc, &mut self.archive, &mut self.slots, deed, &terms)?;
+        count(
+            &mut self.events,
+            &mut self.bytes,
+            &mut self.opens,
+            &terms.charge,
+        );
         Ok(applied)
     }
 
@@ -125,48 +124,35 @@ fn perform<S: Shelf>(
     archive: &mut Archive<S>,
     slots: &mut OpenSlots,
     deed: Deed,
-    charge: &Charge,
-    copies: usize,
+    terms: &Terms,
 ) -> Result<Applied, AllocError>
     requires lodged { AreLodged archive.old slots.old }
-    requires doable { IsDoable archive.old charge.now slots.old deed }
-    ensures done { OnOk result (IsDone charge.now deed slots.old slots.new) }
-    ensures answer { IfOk result (IsAnswer (outs_after (slots_of slots.old) deed) (marks_after (slots_of slots.old) deed) (handed deed) copies archive.new) }
+    requires doable { IsDoable archive.old terms.now.charge slots.old deed }
+    ensures done { OnOk result (IsDone terms.now.charge deed slots.old slots.new) }
+    ensures answer { IfOk result (IsAnswer (outs_after (slots_of slots.old) deed) (marks_after (slots_of slots.old) deed) (handed deed) terms.now.copies archive.new) }
     ensures err { OnErr result (slots.new ≡ slots.old) }
     ensures lodged { AreLodged archive.new slots.new }
     ensures kept { Keeps archive.old archive.new }
 {
     match deed {
-        Deed::Open(slot) => open(alloc, archive, slots, slot, copies),
-        Deed::Close { slot_at } => close(alloc, archive, slots, slot_at, copies),
+        Deed::Open(slot) => open(alloc, archive, slots, slot, terms.copies),
+        Deed::Close { slot_at } => close(alloc, archive, slots, slot_at, terms.copies),
         Deed::Act {
             slot_at,
             host_at,
             event,
-        } => act(
-            alloc,
-            archive,
-            &mut slots.slots,
-            slot_at,
-            host_at,
-            event,
-            charge,
-            copies,
-        ),
+        } => {
+            let spot = Spot { slot_at, host_at };
+            act(archive, &mut slots.slots, &spot, event, terms)
+        }
         Deed::Hand {
             slot_at,
             host_at,
             envelope,
-        } => hand(
-            alloc,
-            archive,
-            &mut slots.slots,
-            slot_at,
-            host_at,
-            envelope,
-            charge,
-            copies,
-        ),
+        } => {
+            let spot = Spot { slot_at, host_at };
+            hand(archive, &mut slots.slots, &spot, envelope, terms)
+        }
     }
 }
 
@@ -216,25 +202,22 @@ fn close<S: Shelf>(
 /// One event of the node at these places. An error says that memory is short; then nothing happened but that
 /// the archive may have more.
 fn act<S: Shelf>(
-    alloc: Global,
     archive: &mut Archive<S>,
     slots: &mut Vec<OpenSlot>,
-    slot_at: usize,
-    host_at: usize,
+    spot: &Spot,
     event: FiledEvent,
-    charge: &Charge,
-    copies: usize,
+    terms: &Terms,
 ) -> Result<Applied, AllocError>
     requires lodged { AreLodged archive.old slots.old.items }
-    requires ready { IsReady charge.now slots.old.items slot_at host_at }
+    requires ready { IsReady terms.now.charge slots.old.items spot.now.slot_at spot.now.host_at }
     requires event { IsFiledEvent archive.old event }
-    ensures done { OnOk result (IsChangedAt (IsSlotActed charge.now host_at (event_of event)) slot_at slots.old.items slots.new.items) }
-    ensures answer { IfOk result (IsAnswer (outs_after (slots_of slots.old.items) (Deed.Act slot_at host_at event)) (marks_after (slots_of slots.old.items) (Deed.Act slot_at host_at event)) None copies archive.new) }
+    ensures done { OnOk result (IsChangedAt (IsSlotActed terms.now.charge spot.now.host_at (event_of event)) spot.now.slot_at slots.old.items slots.new.items) }
+    ensures answer { IfOk result (IsAnswer (outs_after (slots_of slots.old.items) (Deed.Act spot.now.slot_at spot.now.host_at event)) (marks_after (slots_of slots.old.items) (Deed.Act spot.now.slot_at spot.now.host_at event)) None terms.now.copies archive.new) }
     ensures err { OnErr result (slots.new.items ≡ slots.old.items) }
     ensures lodged { AreLodged archive.new slots.new.items }
     ensures kept { Keeps archive.old archive.new }
 {
-    let noted = slots[slot_at].act(alloc, archive, host_at, event, charge, copies)?;
+    let noted = slots[spot.slot_at].act(archive, spot.host_at, event, terms)?;
     Ok(Applied {
         outs: noted.outs,
         marks: noted.marks,
@@ -246,28 +229,23 @@ fn act<S: Shelf>(
 /// The node at these places is handed an envelope, which is filed first. An error says that memory is short;
 /// then nothing happened but that the archive may have more.
 fn hand<S: Shelf>(
-    alloc: Global,
     archive: &mut Archive<S>,
     slots: &mut Vec<OpenSlot>,
-    slot_at: usize,
-    host_at: usize,
+    spot: &Spot,
     envelope: Envelope,
-    charge: &Charge,
-    copies: usize,
+    terms: &Terms,
 ) -> Result<Applied, AllocError>
     requires lodged { AreLodged archive.old slots.old.items }
-    requires ready { IsReady charge.now slots.old.items slot_at host_at }
-    ensures done { OnOk result (IsChangedAt (IsSlotActed charge.now host_at (NodeEvent.Take envelope)) slot_at slots.old.items slots.new.items) }
-    ensures answer { IfOk result (IsAnswer (outs_after (slots_of slots.old.items) (Deed.Hand slot_at host_at envelope)) (marks_after (slots_of slots.old.items) (Deed.Hand slot_at host_at envelope)) (Some envelope) copies archive.new) }
+    requires ready { IsReady terms.now.charge slots.old.items spot.now.slot_at spot.now.host_at }
+    ensures done { OnOk result (IsChangedAt (IsSlotActed terms.now.charge spot.now.host_at (NodeEvent.Take envelope)) spot.now.slot_at slots.old.items slots.new.items) }
+    ensures answer { IfOk result (IsAnswer (outs_after (slots_of slots.old.items) (Deed.Hand spot.now.slot_at spot.now.host_at envelope)) (marks_after (slots_of slots.old.items) (Deed.Hand spot.now.slot_at spot.now.host_at envelope)) (Some envelope) terms.now.copies archive.new) }
     ensures err { OnErr result (slots.new.items ≡ slots.old.items) }
     ensures lodged { AreLodged archive.new slots.new.items }
     ensures kept { Keeps archive.old archive.new }
 {
     let delivered = archive.put(envelope)?;
     let event = FiledEvent::Take(archive.again(&delivered));
-    let applied = act(
-        alloc, archive, slots, slot_at, host_at, event, charge, copies,
-    )?;
+    let applied = act(archive, slots, spot, event, terms)?;
     Ok(Applied {
         outs: applied.outs,
         marks: applied.marks,

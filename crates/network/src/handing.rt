@@ -8,11 +8,11 @@ ghost use Rattle.network.specs.Decoding.{reading};
 ghost use Rattle.network.specs.Deeds.{IsPairRoom, IsPaired, IsPlanned, IsSlotThere};
 
 use crate::network::Network;
-use crate::plan::{Deed, Drawn, Plan, Spot};
+use crate::plan::{Deed, Drawn, Emission, Plan, Spot};
 use crate::reading::{Reading, read};
 use envstore::Shelf;
 use slot::FiledEvent;
-use types::{Envelope, Kind, NodeId, Refusal};
+use types::{Envelope, NodeId, Refusal};
 
 impl<S: Shelf> Network<S> {
     /// What is to be done where bytes reach a node. A growth that is refused in reading them is answered at
@@ -65,29 +65,30 @@ impl<S: Shelf> Network<S> {
         &self,
         slot: u64,
         node: &NodeId,
-        from: &NodeId,
-        kind: Kind,
-        number: u64,
+        emission: &Emission,
     ) -> Result<Plan, Refusal>
-        ensures { IsPlanned self.now (Hears slot node.now from.now kind number) result }
+        ensures { IsPlanned self.now (Hears slot node.now emission.now.from emission.now.kind emission.now.number) result }
     {
         let _slots = &self.slots;
         let host_at = self.host(node)?;
-        let from_at = self.host(from)?;
-        if *node == *from {
+        let from_at = self.host(&emission.from)?;
+        if *node == emission.from {
             return Err(Refusal::NoSuchNode);
         }
         let slot_at = self.open_slot(slot)?;
-        let Some(emission) = self.place(slot_at, from_at).emission(kind, number) else {
+        let Some(emitted) = self
+            .place(slot_at, from_at)
+            .emission(emission.kind, emission.number)
+        else {
             return Err(Refusal::NotEmitted);
         };
         let spot = Spot { slot_at, host_at };
-        let drawn = self.pair_room(&spot, node, from)?;
+        let drawn = self.pair_room(&spot, node, &emission.from)?;
         Ok(Plan {
             deed: Deed::Act {
                 slot_at,
                 host_at,
-                event: FiledEvent::Take(self.archive.again(emission)),
+                event: FiledEvent::Take(self.archive.again(emitted)),
             },
             drawn,
             size: 0,

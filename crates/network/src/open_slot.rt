@@ -12,7 +12,7 @@ ghost use Rattle.network.specs.Lodgings.{IsGiven, IsLodged, IsUncounted, place_i
 ghost use Rattle.types.specs.Statements.{Sent};
 
 use crate::place::Place;
-use crate::plan::Charge;
+use crate::plan::Terms;
 use crate::told::Noted;
 use configuration::{Host, NetConfig};
 use envstore::{Archive, Shelf};
@@ -73,26 +73,24 @@ impl OpenSlot {
     /// One event of the node at this place, as by [`Place::act`].
     pub(crate) fn act<S: Shelf>(
         &mut self,
-        alloc: Global,
         archive: &mut Archive<S>,
         at: usize,
         event: FiledEvent,
-        charge: &Charge,
-        copies: usize,
+        terms: &Terms,
     ) -> Result<Noted, AllocError>
         requires at { at < length self.old.places }
         requires lodged { All (IsLodged archive.old) self.old.places }
         requires event { IsFiledEvent archive.old event }
-        requires room { IfSome (slice_get self.old.places at) (HasRoomFor charge.now) }
-        ensures acted { OnOk result (IsChangedAt (IsActed charge.now (event_of event)) at self.old.places self.new.places) }
-        ensures applied { IfOk result (IsGiven (outs_at (event_of event) (slice_get (map place_in self.old.places) at)) (numbered (told_at (slice_get (map place_in self.old.places) at)) (emissions (outs_at (event_of event) (slice_get (map place_in self.old.places) at)))) copies) }
+        requires room { IfSome (slice_get self.old.places at) (HasRoomFor terms.now.charge) }
+        ensures acted { OnOk result (IsChangedAt (IsActed terms.now.charge (event_of event)) at self.old.places self.new.places) }
+        ensures applied { IfOk result (IsGiven (outs_at (event_of event) (slice_get (map place_in self.old.places) at)) (numbered (told_at (slice_get (map place_in self.old.places) at)) (emissions (outs_at (event_of event) (slice_get (map place_in self.old.places) at)))) terms.now.copies) }
         ensures err { OnErr result (self.new ≡ self.old) }
         ensures number { self.new.number ≡ self.old.number }
         ensures lodged { All (IsLodged archive.new) self.new.places }
         ensures filed { IfOk result (λ a. AreFiledOuts archive.new a.outs.items) }
         ensures kept { Keeps archive.old archive.new }
     {
-        self.places[at].act(alloc, archive, event, charge, copies)
+        self.places[at].act(archive, event, terms)
     }
 }
 

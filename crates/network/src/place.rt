@@ -11,7 +11,7 @@ ghost use Rattle.network.specs.Charges.{HasRoomFor, IsActed};
 ghost use Rattle.network.specs.Lodgings.{IsGiven, IsLodged, bytes_from, events_from, place_in};
 ghost use Rattle.network.specs.Tellings.{nth_of};
 
-use crate::plan::Charge;
+use crate::plan::Terms;
 use crate::tallies::{Tallies, count};
 use crate::told::{Noted, Told};
 use envstore::{Archive, Filed, Shelf};
@@ -106,17 +106,15 @@ impl Place {
     #[tactic(auto, unfolding(protocol::specs::Networks::moved))]
     pub(crate) fn act<S: Shelf>(
         &mut self,
-        alloc: Global,
         archive: &mut Archive<S>,
         event: FiledEvent,
-        charge: &Charge,
-        copies: usize,
+        terms: &Terms,
     ) -> Result<Noted, AllocError>
         requires lodged { IsLodged archive.old self.old }
         requires event { IsFiledEvent archive.old event }
-        requires room { HasRoomFor charge.now self.old }
-        ensures acted { OnOk result (IsActed charge.now (event_of event) self.old self.new) }
-        ensures applied { IfOk result (IsGiven (step (place_in self.old).node (event_of event)).1 (numbered (place_in self.old).told (emissions (step (place_in self.old).node (event_of event)).1)) copies) }
+        requires room { HasRoomFor terms.now.charge self.old }
+        ensures acted { OnOk result (IsActed terms.now.charge (event_of event) self.old self.new) }
+        ensures applied { IfOk result (IsGiven (step (place_in self.old).node (event_of event)).1 (numbered (place_in self.old).told (emissions (step (place_in self.old).node (event_of event)).1)) terms.now.copies) }
         ensures err { OnErr result (self.new ≡ self.old) }
         ensures lodged { IsLodged archive.new self.new }
         ensures filed { IfOk result (λ a. AreFiledOuts archive.new a.outs.items) }
@@ -128,9 +126,9 @@ impl Place {
             own,
             heard,
         } = self;
-        heard.make_room(&charge.drawn)?;
-        let noted = told.advance(alloc, archive, node, event, copies)?;
-        count(own, heard, charge);
+        heard.make_room(&terms.charge.drawn)?;
+        let noted = told.advance(archive, node, event, terms.copies)?;
+        count(own, heard, &terms.charge);
         Ok(noted)
     }
 }

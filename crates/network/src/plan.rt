@@ -2,7 +2,7 @@
 
 use crate::open_slot::OpenSlot;
 use slot::FiledEvent;
-use types::{Envelope, NodeId};
+use types::{Envelope, Kind, NodeId};
 
 /// What is to be done, by places among the open slots and among the hosted nodes. What needs memory is made
 /// already, save that a delivered envelope is filed when it is handed over.
@@ -60,6 +60,22 @@ pub(crate) struct Spot {
 pub(crate) struct Charge {
     pub drawn: Drawn,
     pub size: u64,
+}
+
+/// The terms of a deed: what it is charged, and how many whole copies of what it gives out are asked for.
+#[derive(Drop)]
+pub(crate) struct Terms {
+    pub charge: Charge,
+    pub copies: usize,
+}
+
+/// An emission by the name under which another node hears it: by whom, of which kind, and its number among
+/// those of that kind since the slot was opened, from 1 on.
+#[derive(Clone, Copy)]
+pub(crate) struct Emission {
+    pub from: NodeId,
+    pub kind: Kind,
+    pub number: u64,
 }
 
 /// A deed, on what it draws, and the bytes that count as delivered by it.

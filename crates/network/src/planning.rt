@@ -11,7 +11,7 @@ ghost use Rattle.slot.specs.Filings.{IsFiledEvent};
 
 use crate::network::Network;
 use crate::open_slot::OpenSlot;
-use crate::plan::{Deed, Drawn, Plan, Spot};
+use crate::plan::{Deed, Drawn, Emission, Plan, Spot};
 use envstore::Shelf;
 use slot::FiledEvent;
 use types::{Event, MAX_VALUE_LENGTH, Nested, NodeId, Refusal, Value};
@@ -35,7 +35,14 @@ impl<S: Shelf> Network<S> {
                 from,
                 kind,
                 number,
-            } => self.plan_hear(*slot, node, from, *kind, *number),
+            } => {
+                let emission = Emission {
+                    from: *from,
+                    kind: *kind,
+                    number: *number,
+                };
+                self.plan_hear(*slot, node, &emission)
+            }
             Event::NominationTimer { slot, node, round } => {
                 self.plan_nomination_timer(*slot, node, *round)
             }

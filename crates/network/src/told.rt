@@ -11,7 +11,7 @@ ghost use Rattle.protocol.specs.Rows.{is_kind};
 ghost use Rattle.network.specs.Marks.{numbered};
 ghost use Rattle.slot.specs.Filings.{AreFiledOuts, IsFiledEvent, IsFiledOut, event_of, outs_of};
 ghost use Rattle.network.specs.Lodgings.{HaveRoom, IsGiven};
-ghost use Rattle.network.specs.Tellings.{nth_of, places_of_kind};
+ghost use Rattle.network.specs.Tellings.{AreByKind, nth_of, places_of_kind};
 
 use envstore::{Archive, Filed, Shelf};
 use slot::{FiledEvent, FiledOut, Node};
@@ -38,19 +38,24 @@ pub(crate) struct Noted {
 #[derive(Drop)]
 pub(crate) struct Told {
     emitted: Vec<Filed>,
-    nominations: Vec<usize>,
-    ballots: Vec<usize>,
+    places: PlacesByKind,
     room: Vec<u64>,
 }
 
+/// Where among what a node has emitted its nominations stand, and where its ballots.
+#[derive(Drop)]
+pub(crate) struct PlacesByKind {
+    pub nominations: Vec<usize>,
+    pub ballots: Vec<usize>,
+}
+
 impl Model for Told {
-    ghost use Rattle.std.specs.Prelude.{◌≡◌, List};
+    ghost use Rattle.std.specs.Prelude.{List};
     ghost use Rattle.std.specs.Coded.{codes};
     ghost use Rattle.types.specs.Trees.{members_code};
-    ghost use Rattle.types.specs.declared.kind.Kind.TheVariants.{Nomination, Ballot};
     ghost use Rattle.envstore.specs.Archives.{sents_of};
     ghost use Rattle.envstore.specs.declared.filed.Filed.{Filed};
-    ghost use Rattle.network.specs.Tellings.{places_of_kind};
+    ghost use Rattle.network.specs.Tellings.{AreByKind};
 
     ghost Value = { List Filed };
 
@@ -58,7 +63,7 @@ impl Model for Told {
 
     ghost view = { λ t. t.emitted.items };
 
-    ghost invariant = { λ t. (t.nominations.items ≡ places_of_kind Nomination (sents_of t.emitted.items)) × (t.ballots.items ≡ places_of_kind Ballot (sents_of t.emitted.items)) };
+    ghost invariant = { λ t. AreByKind t.places (sents_of t.emitted.items) };
 }
 
 impl Told {
@@ -68,8 +73,10 @@ impl Told {
     {
         Told {
             emitted: Vec::new(alloc),
-            nominations: Vec::new(alloc),
-            ballots: Vec::new(alloc),
+            places: PlacesByKind {
+                nominations: Vec::new(alloc),
+                ballots: Vec::new(alloc),
+            },
             room: Vec::new(alloc),
         }
     }
@@ -93,8 +100,8 @@ impl Told {
         ensures { result ≡ slice_get (places_of_kind kind (sents_of self.now)) number }
     {
         match kind {
-            Kind::Nomination => place_at(&self.nominations, number),
-            Kind::Ballot => place_at(&self.ballots, number),
+            Kind::Nomination => place_at(&self.places.nominations, number),
+            Kind::Ballot => place_at(&self.places.ballots, number),
         }
     }
 
@@ -103,7 +110,6 @@ impl Told {
     /// short; then nothing happened but that the archive may have more.
     pub(crate) fn advance<S: Shelf>(
         &mut self,
-        alloc: Global,
         archive: &mut Archive<S>,
         node: &mut Node,
         event: FiledEvent,
@@ -122,19 +128,19 @@ impl Told {
         ensures filed { IfOk result (λ a. AreFiledOuts archive.new a.outs.items) }
         ensures kept { Keeps archive.old archive.new }
     {
+        let alloc = *self.room.allocator();
         let mut marks = mem::replace(&mut self.room, Vec::new(alloc));
         marks.clear();
         marks.reserve(MOST_EMISSIONS)?;
         self.emitted.reserve(MOST_EMISSIONS)?;
-        self.nominations.reserve(MOST_EMISSIONS)?;
-        self.ballots.reserve(MOST_EMISSIONS)?;
+        self.places.nominations.reserve(MOST_EMISSIONS)?;
+        self.places.ballots.reserve(MOST_EMISSIONS)?;
         let given_out = node.advance(alloc, archive, event, copies)?;
         tell_all(
             archive,
             &given_out.outs,
             &mut self.emitted,
-            &mut self.nominations,
-            &mut self.ballots,
+            &mut self.places,
             &mut marks,
         );
         Ok(Noted {
@@ -163,23 +169,20 @@ fn tell_all<S: Shelf>(
     archive: &Archive<S>,
     outs: &[FiledOut],
     emitted: &mut Vec<Filed>,
-    nominations: &mut Vec<usize>,
-    ballots: &mut Vec<usize>,
+    places: &mut PlacesByKind,
     marks: &mut Vec<u64>,
 )
     requires outs { AreFiledOuts archive.now outs.now }
     requires told { AreFiled archive.now emitted.old.items }
-    requires nominations { nominations.old.items ≡ places_of_kind Nomination (sents_of emitted.old.items) }
-    requires ballots { ballots.old.items ≡ places_of_kind Ballot (sents_of emitted.old.items) }
-    requires room { HaveRoom (length (emissions (outs_of outs.now))) emitted.old nominations.old ballots.old marks.old }
+    requires places { AreByKind places.old (sents_of emitted.old.items) }
+    requires room { HaveRoom (length (emissions (outs_of outs.now))) emitted.old places.old marks.old }
     ensures told { sents_of emitted.new.items ≡ sents_of emitted.old.items ++ emissions (outs_of outs.now) }
-    ensures nominations { nominations.new.items ≡ places_of_kind Nomination (sents_of emitted.new.items) }
-    ensures ballots { ballots.new.items ≡ places_of_kind Ballot (sents_of emitted.new.items) }
+    ensures places { AreByKind places.new (sents_of emitted.new.items) }
     ensures marks { marks.new.items ≡ marks.old.items ++ numbered (sents_of emitted.old.items) (emissions (outs_of outs.now)) }
     ensures filed { AreFiled archive.now emitted.new.items }
 {
     for out in outs {
-        tell(archive, out, emitted, nominations, ballots, marks);
+        tell(archive, out, emitted, places, marks);
     }
 }
 
@@ -189,26 +192,21 @@ fn tell<S: Shelf>(
     archive: &Archive<S>,
     out: &FiledOut,
     emitted: &mut Vec<Filed>,
-    nominations: &mut Vec<usize>,
-    ballots: &mut Vec<usize>,
+    places: &mut PlacesByKind,
     marks: &mut Vec<u64>,
 )
     requires out { IsFiledOut archive.now out.now }
     requires told { AreFiled archive.now emitted.old.items }
-    requires nominations { nominations.old.items ≡ places_of_kind Nomination (sents_of emitted.old.items) }
-    requires ballots { ballots.old.items ≡ places_of_kind Ballot (sents_of emitted.old.items) }
-    requires room { HaveRoom (length (emissions (outs_of (out.now ∷ [])))) emitted.old nominations.old ballots.old marks.old }
+    requires places { AreByKind places.old (sents_of emitted.old.items) }
+    requires room { HaveRoom (length (emissions (outs_of (out.now ∷ [])))) emitted.old places.old marks.old }
     ensures told { sents_of emitted.new.items ≡ sents_of emitted.old.items ++ emissions (outs_of (out.now ∷ [])) }
-    ensures nominations { nominations.new.items ≡ places_of_kind Nomination (sents_of emitted.new.items) }
-    ensures ballots { ballots.new.items ≡ places_of_kind Ballot (sents_of emitted.new.items) }
+    ensures places { AreByKind places.new (sents_of emitted.new.items) }
     ensures marks { marks.new.items ≡ marks.old.items ++ numbered (sents_of emitted.old.items) (emissions (outs_of (out.now ∷ []))) }
-    ensures room { (count : ℕ) → HaveRoom (length (emissions (outs_of (out.now ∷ []))) + count) emitted.old nominations.old ballots.old marks.old → HaveRoom count emitted.new nominations.new ballots.new marks.new }
+    ensures room { (count : ℕ) → HaveRoom (length (emissions (outs_of (out.now ∷ []))) + count) emitted.old places.old marks.old → HaveRoom count emitted.new places.new marks.new }
     ensures filed { AreFiled archive.now emitted.new.items }
 {
     match out {
-        FiledOut::Emit(filed) => {
-            tell_emission(archive, filed, emitted, nominations, ballots, marks)
-        }
+        FiledOut::Emit(filed) => tell_emission(archive, filed, emitted, places, marks),
         FiledOut::ArmNomination(_) | FiledOut::ArmBallot(_) | FiledOut::Externalized(_) => {}
     }
 }
@@ -218,49 +216,46 @@ fn tell_emission<S: Shelf>(
     archive: &Archive<S>,
     filed: &Filed,
     emitted: &mut Vec<Filed>,
-    nominations: &mut Vec<usize>,
-    ballots: &mut Vec<usize>,
+    places: &mut PlacesByKind,
     marks: &mut Vec<u64>,
 )
     requires filed { IsFiled archive.now filed.now }
     requires told { AreFiled archive.now emitted.old.items }
-    requires nominations { nominations.old.items ≡ places_of_kind Nomination (sents_of emitted.old.items) }
-    requires ballots { ballots.old.items ≡ places_of_kind Ballot (sents_of emitted.old.items) }
-    requires room { HaveRoom 1 emitted.old nominations.old ballots.old marks.old }
+    requires places { AreByKind places.old (sents_of emitted.old.items) }
+    requires room { HaveRoom 1 emitted.old places.old marks.old }
     ensures emitted { emitted.new.items ≡ emitted.old.items ++ filed.now ∷ [] }
-    ensures nominations { nominations.new.items ≡ places_of_kind Nomination (sents_of emitted.new.items) }
-    ensures ballots { ballots.new.items ≡ places_of_kind Ballot (sents_of emitted.new.items) }
+    ensures places { AreByKind places.new (sents_of emitted.new.items) }
     ensures marks { marks.new.items ≡ marks.old.items ++ numbered (sents_of emitted.old.items) (sent_of filed.now ∷ []) }
-    ensures room { (count : ℕ) → HaveRoom (1 + count) emitted.old nominations.old ballots.old marks.old → HaveRoom count emitted.new nominations.new ballots.new marks.new }
+    ensures room { (count : ℕ) → HaveRoom (1 + count) emitted.old places.old marks.old → HaveRoom count emitted.new places.new marks.new }
     ensures filed { AreFiled archive.now emitted.new.items }
 {
     let kind = archive.read(filed).body().kind();
     let place = emitted.len();
-    let mark = note(nominations, ballots, kind, place);
+    let mark = note(places, kind, place);
     emitted.push_reserved(archive.again(filed));
     marks.push_reserved(mark);
 }
 
 /// Notes the place of an emission of this kind, and counts those of its kind.
-fn note(nominations: &mut Vec<usize>, ballots: &mut Vec<usize>, kind: Kind, place: usize) -> u64
-    requires nominations { vec_len nominations.old < vec_capacity nominations.old }
-    requires ballots { vec_len ballots.old < vec_capacity ballots.old }
-    ensures nominations { nominations.new.items ≡ nominations.old.items ++ (if is_kind Nomination kind then place ∷ [] else []) }
-    ensures ballots { ballots.new.items ≡ ballots.old.items ++ (if is_kind Ballot kind then place ∷ [] else []) }
-    ensures count { result ≡ (if is_kind Nomination kind then length nominations.old.items else length ballots.old.items) + 1 }
-    ensures nomination_len { vec_len nominations.new ≤ vec_len nominations.old + 1 }
-    ensures ballot_len { vec_len ballots.new ≤ vec_len ballots.old + 1 }
-    ensures nomination_room { vec_capacity nominations.old ≤ vec_capacity nominations.new }
-    ensures ballot_room { vec_capacity ballots.old ≤ vec_capacity ballots.new }
+fn note(places: &mut PlacesByKind, kind: Kind, place: usize) -> u64
+    requires nominations { vec_len places.old.nominations < vec_capacity places.old.nominations }
+    requires ballots { vec_len places.old.ballots < vec_capacity places.old.ballots }
+    ensures nominations { places.new.nominations.items ≡ places.old.nominations.items ++ (if is_kind Nomination kind then place ∷ [] else []) }
+    ensures ballots { places.new.ballots.items ≡ places.old.ballots.items ++ (if is_kind Ballot kind then place ∷ [] else []) }
+    ensures count { result ≡ (if is_kind Nomination kind then length places.old.nominations.items else length places.old.ballots.items) + 1 }
+    ensures nomination_len { vec_len places.new.nominations ≤ vec_len places.old.nominations + 1 }
+    ensures ballot_len { vec_len places.new.ballots ≤ vec_len places.old.ballots + 1 }
+    ensures nomination_room { vec_capacity places.old.nominations ≤ vec_capacity places.new.nominations }
+    ensures ballot_room { vec_capacity places.old.ballots ≤ vec_capacity places.new.ballots }
 {
     match kind {
         Kind::Nomination => {
-            nominations.push_reserved(place);
-            nominations.len() as u64
+            places.nominations.push_reserved(place);
+            places.nominations.len() as u64
         }
         Kind::Ballot => {
-            ballots.push_reserved(place);
-            ballots.len() as u64
+            places.ballots.push_reserved(place);
+            places.ballots.len() as u64
         }
     }
 }

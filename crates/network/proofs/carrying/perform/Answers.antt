@@ -12,7 +12,7 @@ pub invariant_of-slots : goal.invariant_of-slots
 invariant_of-slots g c =
     let e = event_of c.in-Act.event in
     let old = c.slots.inside.slots.items in
-    indexed-acted c.act.result c.args.charge.now c.in-Act.host_at c.in-Act.slot_at e old c.act.new.slots.items
+    indexed-acted c.act.result c.args.terms.now.charge c.in-Act.host_at c.in-Act.slot_at e old c.act.new.slots.items
     c.slots.inside.index c.act.ensures.done c.act.ensures.err c.slots.invariant
 
 pub hand-requires-clause-lodged : goal.hand-requires-clause-lodged
@@ -22,5 +22,5 @@ pub invariant_of-slots-in-Hand : goal.invariant_of-slots-in-Hand
 invariant_of-slots-in-Hand g c =
     let e = NodeEvent.Take c.in-Hand.envelope in
     let old = c.slots-in-Hand.inside.slots.items in
-    indexed-acted c.hand.result c.args.charge.now c.in-Hand.host_at c.in-Hand.slot_at e old c.hand.new.slots.items
+    indexed-acted c.hand.result c.args.terms.now.charge c.in-Hand.host_at c.in-Hand.slot_at e old c.hand.new.slots.items
     c.slots-in-Hand.inside.index c.hand.ensures.done c.hand.ensures.err c.slots-in-Hand.invariant

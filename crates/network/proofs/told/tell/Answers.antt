@@ -7,4 +7,4 @@ use Rattle.network.proofs.told.tell.Goals as goal
 
 pub returns-in-Emit-clause-room : goal.returns-in-Emit-clause-room
 returns-in-Emit-clause-room g c =
-    λ count h. c.tell_emission.ensures.room count (subst (λ (o : FiledOut). HaveRoom (length (emissions (outs_of (o ∷ []))) + count) c.args.emitted.now c.args.nominations.now c.args.ballots.now c.args.marks.now) c.in-Emit.is h)
+    λ count h. c.tell_emission.ensures.room count (subst (λ (o : FiledOut). HaveRoom (length (emissions (outs_of (o ∷ []))) + count) c.args.emitted.now c.args.places.now c.args.marks.now) c.in-Emit.is h)

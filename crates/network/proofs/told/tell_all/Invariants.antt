@@ -1,19 +1,17 @@
 use Rattle.std.proofs.Common.{◌≡◌, ◌++◌, drop, length}
-use Rattle.types.specs.declared.kind.Kind.TheVariants.{Nomination, Ballot}
 use Rattle.envstore.specs.Archives.{AreFiled, sents_of}
 use Rattle.protocol.specs.Networks.{emissions}
 use Rattle.network.specs.Marks.{numbered}
 use Rattle.slot.specs.Filings.{outs_of}
 use Rattle.network.specs.Lodgings.{HaveRoom}
-use Rattle.network.specs.Tellings.{places_of_kind}
+use Rattle.network.specs.Tellings.{AreByKind}
 use Rattle.network.proofs.told.tell_all.Given as goal
 
 abbrev pub invariant-loop-out : goal.invariant-loop-out
 invariant-loop-out g l = record {
   told : sents_of l.emitted.items ++ emissions (outs_of (drop l.out-index l.outs)) ≡ sents_of l.fn.emitted.items ++ emissions (outs_of l.outs);
-  nominations : l.nominations.items ≡ places_of_kind Nomination (sents_of l.emitted.items);
-  ballots : l.ballots.items ≡ places_of_kind Ballot (sents_of l.emitted.items);
+  places : AreByKind l.places (sents_of l.emitted.items);
   marks : l.marks.items ++ numbered (sents_of l.emitted.items) (emissions (outs_of (drop l.out-index l.outs))) ≡ l.fn.marks.items ++ numbered (sents_of l.fn.emitted.items) (emissions (outs_of l.outs));
-  room : HaveRoom (length (emissions (outs_of (drop l.out-index l.outs)))) l.emitted l.nominations l.ballots l.marks;
+  room : HaveRoom (length (emissions (outs_of (drop l.out-index l.outs)))) l.emitted l.places l.marks;
   filed : AreFiled l.archive l.emitted.items;
 }

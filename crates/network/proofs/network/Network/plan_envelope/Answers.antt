@@ -7,7 +7,7 @@ use Rattle.protocol.specs.Networks.Reading.{Read}
 use Rattle.protocol.specs.Networks.Step.{Delivers}
 use Rattle.network.specs.Deeds.{IsPlanned, IsRoom, IsSlotThere, index_of_slot, pair_source}
 use Rattle.network.specs.Standing.{IsStanding, Standing, machine_of}
-use Rattle.network.proofs.Handings.{envelope-closed, envelope-full, envelope-large, envelope-plan, sender-hosted-so}
+use Rattle.network.proofs.Handings.{envelope-closed, envelope-full, envelope-large, envelope-plan, reaching, sender-hosted-so, sender-room}
 use Rattle.network.proofs.Openings.{none-so}
 use Rattle.network.proofs.network.Network.plan_envelope.Goals as goal
 
@@ -36,13 +36,11 @@ returns-in_err-drawn g c =
     let u = c.args.node.now in
     let env = c.args.envelope in
     let f : is_some (index_of_name m.config.hosts env.sender) ≡ false = search rules in
-    let free = none-so (index_of_name m.config.hosts env.sender) f in
-    let k = c.in_ok-slot_at.slot_at in
-    let at : IsSlotThere m env.slot k = ap (λ i. index_of_slot (map slot_of (machine_of m).slots) i) (sym c.slot.ensures) ∙ c.in_ok-slot_at.ensures in
+    let reach = reaching m u c.args.host_at c.in_ok-slot_at.slot_at c.slot.result env c.requires f c.slot.ensures c.in_ok-slot_at.ensures in
     let r = c.in_err-drawn.field-0.0 in
     let e : c.from_residual-in_err-drawn.result ≡ Err r = search rules in
-    let full : IsRoom m (λ o. pair_source o env.slot u env.sender) (Err r) = subst (λ w. IsRoom m (λ o. pair_source o env.slot u w) (Err r)) c.sender-2.ensures.value (c.in_err-drawn.ensures.room env.slot at) in
-    subst (IsPlanned m (Delivers u c.args.size (Read env))) (sym e) (envelope-full m u c.args.host_at k c.args.size env r c.requires free at full)
+    let full = sender-room m env.slot u c.sender-2.result.now env.sender (Err r) c.sender-2.ensures.value (c.in_err-drawn.ensures.room env.slot reach.slot) in
+    subst (IsPlanned m (Delivers u c.args.size (Read env))) (sym e) (envelope-full c.args.size r reach full)
 
 pub returns-in_err-has_bytes : goal.returns-in_err-has_bytes
 returns-in_err-has_bytes g c =
@@ -50,14 +48,12 @@ returns-in_err-has_bytes g c =
     let u = c.args.node.now in
     let env = c.args.envelope in
     let f : is_some (index_of_name m.config.hosts env.sender) ≡ false = search rules in
-    let free = none-so (index_of_name m.config.hosts env.sender) f in
-    let k = c.in_ok-slot_at.slot_at in
-    let at : IsSlotThere m env.slot k = ap (λ i. index_of_slot (map slot_of (machine_of m).slots) i) (sym c.slot.ensures) ∙ c.in_ok-slot_at.ensures in
+    let reach = reaching m u c.args.host_at c.in_ok-slot_at.slot_at c.slot.result env c.requires f c.slot.ensures c.in_ok-slot_at.ensures in
     let d = c.in_ok-drawn.drawn in
-    let room : IsRoom m (λ o. pair_source o env.slot u env.sender) (Ok d) = subst (λ w. IsRoom m (λ o. pair_source o env.slot u w) (Ok d)) c.sender-2.ensures.value (c.in_ok-drawn.ensures.room env.slot at) in
+    let room = sender-room m env.slot u c.sender-2.result.now env.sender (Ok d) c.sender-2.ensures.value (c.in_ok-drawn.ensures.room env.slot reach.slot) in
     let r = c.in_err-has_bytes.field-0.0 in
     let e : c.from_residual-in_err-has_bytes.result ≡ Err r = search rules in
-    subst (IsPlanned m (Delivers u c.args.size (Read env))) (sym e) (envelope-large m u c.args.host_at k c.args.size env d r c.requires free at room c.in_err-has_bytes.ensures)
+    subst (IsPlanned m (Delivers u c.args.size (Read env))) (sym e) (envelope-large c.args.size d r reach room c.in_err-has_bytes.ensures)
 
 pub returns : goal.returns
 returns g c =
@@ -65,10 +61,8 @@ returns g c =
     let u = c.args.node.now in
     let env = c.args.envelope in
     let f : is_some (index_of_name m.config.hosts env.sender) ≡ false = search rules in
-    let free = none-so (index_of_name m.config.hosts env.sender) f in
-    let k = c.in_ok-slot_at.slot_at in
-    let at : IsSlotThere m env.slot k = ap (λ i. index_of_slot (map slot_of (machine_of m).slots) i) (sym c.slot.ensures) ∙ c.in_ok-slot_at.ensures in
+    let reach = reaching m u c.args.host_at c.in_ok-slot_at.slot_at c.slot.result env c.requires f c.slot.ensures c.in_ok-slot_at.ensures in
     let d = c.in_ok-drawn.drawn in
-    let room : IsRoom m (λ o. pair_source o env.slot u env.sender) (Ok d) = subst (λ w. IsRoom m (λ o. pair_source o env.slot u w) (Ok d)) c.sender-2.ensures.value (c.in_ok-drawn.ensures.room env.slot at) in
+    let room = sender-room m env.slot u c.sender-2.result.now env.sender (Ok d) c.sender-2.ensures.value (c.in_ok-drawn.ensures.room env.slot reach.slot) in
     let st : IsStanding m = subst IsStanding c.self.view_is c.self.invariant in
-    envelope-plan m u c.args.host_at k c.args.size env d st c.requires free at room c.in_ok-has_bytes.ensures
+    envelope-plan c.args.size d st reach room c.in_ok-has_bytes.ensures

@@ -22,16 +22,16 @@ pub act-requires-clause-room : goal.act-requires-clause-room
 act-requires-clause-room g c =
     let items = c.self.inside.places.items in
     let within : c.args.at < length items = subst (λ (s : Lodgings). c.args.at < length s.places) (sym c.self.view_is) c.requires.at in
-    let room : IfSome (slice_get items c.args.at) (HasRoomFor c.args.charge.now) = subst (λ (s : Lodgings). IfSome (slice_get s.places c.args.at) (HasRoomFor c.args.charge.now)) (sym c.self.view_is) c.requires.room in
-    subst (λ (o : Option Lodging). IfSome o (HasRoomFor c.args.charge.now)) (stands items c.args.at c.index_mut.result.now within c.index_mut.ensures.value) room
+    let room : IfSome (slice_get items c.args.at) (HasRoomFor c.args.terms.now.charge) = subst (λ (s : Lodgings). IfSome (slice_get s.places c.args.at) (HasRoomFor c.args.terms.now.charge)) (sym c.self.view_is) c.requires.room in
+    subst (λ (o : Option Lodging). IfSome o (HasRoomFor c.args.terms.now.charge)) (stands items c.args.at c.index_mut.result.now within c.index_mut.ensures.value) room
 
 pub returns-clause-acted : goal.returns-clause-acted
 returns-clause-acted g c =
     let items = c.self.inside.places.items in
     let e = event_of c.args.event in
     let within : c.args.at < length items = subst (λ (s : Lodgings). c.args.at < length s.places) (sym c.self.view_is) c.requires.at in
-    subst (λ (s : Lodgings). OnOk c.act.result (IsChangedAt (IsActed c.args.charge.now e) c.args.at s.places (set items c.args.at c.act.new.self))) c.self.view_is
-    (placed c.act.result c.args.charge.now e items c.args.at c.index_mut.result.now c.act.new.self within c.index_mut.ensures.value c.act.ensures.acted)
+    subst (λ (s : Lodgings). OnOk c.act.result (IsChangedAt (IsActed c.args.terms.now.charge e) c.args.at s.places (set items c.args.at c.act.new.self))) c.self.view_is
+    (placed c.act.result c.args.terms.now.charge e items c.args.at c.index_mut.result.now c.act.new.self within c.index_mut.ensures.value c.act.ensures.acted)
 
 pub returns-clause-applied : goal.returns-clause-applied
 returns-clause-applied g c =
@@ -40,7 +40,7 @@ returns-clause-applied g c =
     let within : c.args.at < length items = subst (λ (s : Lodgings). c.args.at < length s.places) (sym c.self.view_is) c.requires.at in
     let q : slice_get (map place_in c.args.self.now.places) c.args.at ≡ Some (place_in c.index_mut.result.now) =
     subst (λ (s : Lodgings). slice_get (map place_in s.places) c.args.at ≡ Some (place_in c.index_mut.result.now)) c.self.view_is (got items c.args.at c.index_mut.result.now within c.index_mut.ensures.value) in
-    subst (λ (o : Option Place). IfOk c.act.result (IsGiven (outs_at e o) (numbered (told_at o) (emissions (outs_at e o))) c.args.copies)) (sym q) c.act.ensures.applied
+    subst (λ (o : Option Place). IfOk c.act.result (IsGiven (outs_at e o) (numbered (told_at o) (emissions (outs_at e o))) c.args.terms.now.copies)) (sym q) c.act.ensures.applied
 
 pub returns-clause-lodged : goal.returns-clause-lodged
 returns-clause-lodged g c =
