@@ -584,6 +584,25 @@ module _ (m : Standing) (e : Step) (p : Plan) (t : IsStanding m) (plan : IsPlan 
         subst IsStanding (λ j. record { config = m.config; archive = archive; slots = new; events = sym a j; bytes = sym b j; opens = sym c j })
         (record { lodged = lodged; tidy = tidy-after; stood = ((net_step stood e).0.draws, (stands-after m e p t plan t.stood.0 t.stood.1 new done).tallied) })
 
+-- ---- what is known where a plan is carried out
+-- the network stands, the plan is one for it, and its budgets and shares keep their limits
+pub record IsCarriable (m : Standing) (e : Step) (p : Plan) : Type 0 where
+  pub standing : IsStanding m
+  pub plan : IsPlan m e p
+  pub events : m.config.budgets.events ≤ 2 ^ 40
+  pub bytes : m.config.budgets.bytes ≤ 2 ^ 40
+  pub shares : HaveFewShares m
+
+-- said of what the network is seen as, it holds of what it is
+pub carriable : (m s : Standing) (e : Step) (p : Plan) → m ≡ s → IsStanding m → IsPlan s e p → s.config.budgets.events ≤ 2 ^ 40 → s.config.budgets.bytes ≤ 2 ^ 40 → HaveFewShares s → IsCarriable m e p
+carriable m s e p seen t plan events bytes few = record {
+  standing = t;
+  plan = subst (λ (z : Standing). IsPlan z e p) (sym seen) plan;
+  events = subst (λ (z : Standing). z.config.budgets.events ≤ 2 ^ 40) (sym seen) events;
+  bytes = subst (λ (z : Standing). z.config.budgets.bytes ≤ 2 ^ 40) (sym seen) bytes;
+  shares = subst HaveFewShares (sym seen) few;
+}
+
 -- ---- what carrying out leaves
 pub applied : (m : Standing) (e : Step) (p : Plan) (new : List Lodgings) (archive : List Sent) (events bytes opens count : ℕ) (a : Applied) → IsStanding m → IsPlan m e p → IsDone (charge_of p) p.deed m.slots new
     → events ≡ m.events + on_budgets_of p.drawn 1 → bytes ≡ m.bytes + on_budgets_of p.drawn p.size → opens ≡ m.opens + on_opens_of p.drawn

@@ -90,30 +90,27 @@ own-full m i u sp x e r at full own =
     inr (λ net s. ap first_that (own.tests_are net) ∙ host_then m net u sp.host_at (is_open_not net i ∷ is_full net (own_source net.roster i u) ∷ []) s at.host
     ∙ open_then m net i sp.slot_at (is_full net (own_source net.roster i u) ∷ []) s at.slot ∙ stops (is_full net (own_source net.roster i u)) r [] (full net s))
 
+-- an event whose tests and effect are those of a node's own, by what it draws on where there is a roster
+own-by : (i u : ℕ) (x : FiledEvent) (e : Step) → ((net : Net) → tests net e ≡ own_tests_on net i u (source net.roster e)) → ((net : Net) → effect net e ≡ act net i u (event_of x)) → ((r : Roster) → source (Some r) e ≡ own_source (Some r) i u)
+    → size_of e ≡ 0 → place_named e ≡ Some (i, u) → delivered_of e ≡ None → IsOwnEvent i u x e
+own-by i u x e own does drawn sized named none = record { tests_are = λ net. own net ∙ ap (own_tests_on net i u) (at net.roster); effect_is = does; source_is = at; size_is = sized; named_is = named; none_is = none }
+  where
+    at : (o : Option Roster) → source o e ≡ own_source o i u
+    at None = refl
+    at (Some r) = drawn r
+
 -- timers and slices
 pub nomination-own : (i u r : ℕ) → IsOwnEvent i u (events.NominationTimer r) (NominationTimes i u r)
 unfolding effect
-nomination-own i u r = record { tests_are = λ net. ap (λ s. own_tests_on net i u s) (at net.roster); effect_is = λ net. refl; source_is = at; size_is = refl; named_is = refl; none_is = refl }
-  where
-    at : (o : Option Roster) → source o (NominationTimes i u r) ≡ own_source o i u
-    at None = refl
-    at (Some x) = refl
+nomination-own i u r = own-by i u (events.NominationTimer r) (NominationTimes i u r) (λ net. refl) (λ net. refl) (λ x. refl) refl refl refl
 
 pub ballot-own : (i u n : ℕ) → IsOwnEvent i u (events.BallotTimer n) (BallotTimes i u n)
 unfolding effect
-ballot-own i u n = record { tests_are = λ net. ap (λ s. own_tests_on net i u s) (at net.roster); effect_is = λ net. refl; source_is = at; size_is = refl; named_is = refl; none_is = refl }
-  where
-    at : (o : Option Roster) → source o (BallotTimes i u n) ≡ own_source o i u
-    at None = refl
-    at (Some x) = refl
+ballot-own i u n = own-by i u (events.BallotTimer n) (BallotTimes i u n) (λ net. refl) (λ net. refl) (λ x. refl) refl refl refl
 
 pub reslice-own : (i u : ℕ) (q : Slices) → IsOwnEvent i u (events.Reslice q) (Reslices i u q)
 unfolding effect
-reslice-own i u q = record { tests_are = λ net. ap (λ s. own_tests_on net i u s) (at net.roster); effect_is = λ net. refl; source_is = at; size_is = refl; named_is = refl; none_is = refl }
-  where
-    at : (o : Option Roster) → source o (Reslices i u q) ≡ own_source o i u
-    at None = refl
-    at (Some x) = refl
+reslice-own i u q = own-by i u (events.Reslice q) (Reslices i u q) (λ net. refl) (λ net. refl) (λ x. refl) refl refl refl
 
 -- ---- room
 pub roster-in : (m : Standing) (net : Net) → StandsFor (machine_of m) net → net.roster ≡ m.config.roster

@@ -1,9 +1,9 @@
-use Rattle.std.proofs.Common.{◌≤◌, ◌^◌, sym, subst}
+use Rattle.std.proofs.Common.{sym, subst}
 use Rattle.network.specs.Answers.{IsApplied}
 use Rattle.network.specs.Decoding.{step_of}
 use Rattle.network.specs.Deeds.{IsPlan}
 use Rattle.network.specs.Standing.{Standing}
-use Rattle.network.proofs.Carried.{HaveFewShares, applied, doable, room-on-network, standing-after}
+use Rattle.network.proofs.Carried.{applied, carriable, doable, room-on-network, standing-after}
 use Rattle.network.proofs.network.Network.carry_out.Goals as goal
 
 pub perform-requires-clause-doable : goal.perform-requires-clause-doable
@@ -11,33 +11,27 @@ perform-requires-clause-doable g c =
     let i = c.self.inside in
     let m : Standing = record { config = i.config; archive = i.archive; slots = i.slots; events = i.events; bytes = i.bytes; opens = i.opens } in
     let e = step_of c.args.event.now in
-    let plan = subst (λ (s : Standing). IsPlan s e c.args.plan) (sym c.self.view_is) c.requires in
-    let events = subst (λ (s : Standing). s.config.budgets.events ≤ 2 ^ 40) (sym c.self.view_is) c.limits.ensures.events in
-    let bytes = subst (λ (s : Standing). s.config.budgets.bytes ≤ 2 ^ 40) (sym c.self.view_is) c.limits.ensures.bytes in
-    let few = subst HaveFewShares (sym c.self.view_is) c.limits.ensures.shares in
-    doable m e c.args.plan c.self.invariant plan events bytes few
+    let l = c.limits.ensures in
+    let a = carriable m c.args.self.now e c.args.plan c.self.view_is c.self.invariant c.requires l.events l.bytes l.shares in
+    doable m e c.args.plan a.standing a.plan a.events a.bytes a.shares
 
 pub count-requires : goal.count-requires
 count-requires g c =
     let i = c.self.inside in
     let m : Standing = record { config = i.config; archive = i.archive; slots = i.slots; events = i.events; bytes = i.bytes; opens = i.opens } in
     let e = step_of c.args.event.now in
-    let plan = subst (λ (s : Standing). IsPlan s e c.args.plan) (sym c.self.view_is) c.requires in
-    let events = subst (λ (s : Standing). s.config.budgets.events ≤ 2 ^ 40) (sym c.self.view_is) c.limits.ensures.events in
-    let bytes = subst (λ (s : Standing). s.config.budgets.bytes ≤ 2 ^ 40) (sym c.self.view_is) c.limits.ensures.bytes in
-    let few = subst HaveFewShares (sym c.self.view_is) c.limits.ensures.shares in
-    room-on-network m e c.args.plan c.self.invariant plan events bytes few
+    let l = c.limits.ensures in
+    let a = carriable m c.args.self.now e c.args.plan c.self.view_is c.self.invariant c.requires l.events l.bytes l.shares in
+    room-on-network m e c.args.plan a.standing a.plan a.events a.bytes a.shares
 
 pub invariant_of-self-2 : goal.invariant_of-self-2
 invariant_of-self-2 g c =
     let i = c.self.inside in
     let m : Standing = record { config = i.config; archive = i.archive; slots = i.slots; events = i.events; bytes = i.bytes; opens = i.opens } in
     let e = step_of c.args.event.now in
-    let plan = subst (λ (s : Standing). IsPlan s e c.args.plan) (sym c.self.view_is) c.requires in
-    let events = subst (λ (s : Standing). s.config.budgets.events ≤ 2 ^ 40) (sym c.self.view_is) c.limits.ensures.events in
-    let bytes = subst (λ (s : Standing). s.config.budgets.bytes ≤ 2 ^ 40) (sym c.self.view_is) c.limits.ensures.bytes in
-    let few = subst HaveFewShares (sym c.self.view_is) c.limits.ensures.shares in
-    standing-after m e c.args.plan c.self.invariant plan events bytes few c.perform.new.slots c.perform.new.archive c.in_ok-applied.ensures.done c.perform.ensures.lodged
+    let l = c.limits.ensures in
+    let a = carriable m c.args.self.now e c.args.plan c.self.view_is c.self.invariant c.requires l.events l.bytes l.shares in
+    standing-after m e c.args.plan a.standing a.plan a.events a.bytes a.shares c.perform.new.slots c.perform.new.archive c.in_ok-applied.ensures.done c.perform.ensures.lodged
     c.count.new.events c.count.new.bytes c.count.new.opens c.count.ensures.events c.count.ensures.bytes c.count.ensures.opens
 
 pub returns-clause-applied : goal.returns-clause-applied
