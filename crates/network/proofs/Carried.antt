@@ -484,107 +484,6 @@ map-length : {X Y : Type 0} (f : X → Y) (xs : List X) → length (map f xs) �
 map-length f [] = refl
 map-length f (x ∷ xs) = ap suc (map-length f xs)
 
-module _ (m : Standing) (e : Step) (p : Plan) (t : IsStanding m) (plan : IsPlan m e p) (few_events : m.config.budgets.events ≤ 2 ^ 40) (few_bytes : m.config.budgets.bytes ≤ 2 ^ 40) (few : HaveFewShares m) where
-  abbrev stood : Net
-  stood = net_of (machine_of m) t.stood.0
-
-  abbrev its : Source
-  its = source m.config.roster e
-
-  room : HasRoom stood e
-  room = applied_where_room stood e (plan.allowed stood (record { is = refl; tallied = t.stood.1 }))
-
-  bytes-kept : (d : Drawn) → IsDrawn (machine_of m) d its → m.bytes + on_budgets_of d p.size ≤ m.config.budgets.bytes
-  bytes-kept ByBudgets q = elim (room-bytes stood e room) [
-    | inl f ↦ let l : m.bytes + size_of e ≤ m.config.budgets.bytes = subst (λ z. HasBytes stood z (size_of e)) q f in let z = plan.size in omega (arith, l, z)
-    | inr z ↦ let l = t.tidy.bytes in let s = plan.size in omega (arith, l, z, s)
-  ]
-  bytes-kept ByOpens q = let l = t.tidy.bytes in omega (arith, l)
-  bytes-kept (ByOwn k h) q = let l = t.tidy.bytes in omega (arith, l)
-  bytes-kept (ByPair k h u) q = let l = t.tidy.bytes in omega (arith, l)
-
-  network-room : (d : Drawn) → IsDrawn (machine_of m) d its → HasRoomOnNetwork d p.size m.events m.bytes m.opens
-  network-room ByBudgets q =
-      let l : m.events < m.config.budgets.events = subst (HasEvents stood) q (room-events stood e room) in
-      let b : m.bytes + p.size ≤ m.config.budgets.bytes = bytes-kept ByBudgets q in
-      (omega (arith, l, few_events), omega (arith, b, few_bytes))
-  network-room ByOpens q =
-      let l : m.opens < q.0.shares.opens = subst (HasEvents stood) q.2 (room-events stood e room) in
-      let s = (few q.0 q.1).few_opens in
-      omega (arith, l, s)
-  network-room (ByOwn k h) q = tt
-  network-room (ByPair k h u) q = tt
-
-  pub room-on-network : HasRoomOnNetwork p.drawn p.size m.events m.bytes m.opens
-  room-on-network = network-room p.drawn plan.drawn
-
-  node-room : (d : Drawn) (i u : ℕ) (x : Lodgings) (y : Lodging) → IsDrawn (machine_of m) d its → IsSourceOf i u its → x.number ≡ i → y.held.node.name ≡ u → IsTallied x.number t.stood.0 (seat_of y) → HasRoomInCounts d p.size y.own y.heard
-  node-room ByBudgets i u x y q s xn yn tl = tt
-  node-room ByOpens i u x y q s xn yn tl = tt
-  node-room (ByOwn k h) i u x y q s xn yn tl =
-      let f = subst (IsSourceOf i u) q.6 s in
-      let l : events_drawn q.1.number (Own q.2.place.node.name) t.stood.0 < q.0.shares.own = subst (HasEvents stood) q.6 (room-events stood e room) in
-      let same = ap₂ (λ a b. events_drawn a (Own b) t.stood.0) (f.0 ∙ sym xn) (f.1 ∙ sym yn) in
-      let o = tl.own in
-      let b = (few q.0 q.3).few_own in
-      omega (arith, l, same, o, b)
-  node-room (ByPair k h w) i u x y q s xn yn tl =
-      let f = subst (IsSourceOf i u) q.6 s in
-      let l : events_drawn q.1.number (Pair q.2.place.node.name w) t.stood.0 < q.0.shares.pair = subst (HasEvents stood) q.6 (room-events stood e room) in
-      let same = ap₂ (λ a b. events_drawn a (Pair b w) t.stood.0) (f.0 ∙ sym xn) (f.1 ∙ sym yn) in
-      let size-same = ap₂ (λ a b. bytes_drawn a (Pair b w) t.stood.0) (f.0 ∙ sym xn) (f.1 ∙ sym yn) in
-      let o = tl.events w in
-      let r = tl.bytes w in
-      let b = (few q.0 q.3).few_pair in
-      let c = (few q.0 q.3).few_bytes in
-      let z = plan.size in (
-        omega (arith, l, same, o, b),
-        elim (room-bytes stood e room) [
-          | inl g ↦ inl (let k : bytes_drawn q.1.number (Pair q.2.place.node.name w) t.stood.0 + size_of e ≤ q.0.shares.bytes = subst (λ a. HasBytes stood a (size_of e)) q.6 g in omega (arith, k, size-same, r, c, z))
-          | inr g ↦ inr (z ∙ g)
-        ],
-      )
-
-  ready : (k h : ℕ) → IsNodeOf (machine_of m) (place_named e) k h → IsReady (charge_of p) m.slots k h
-  ready k h nm =
-      let a = node-named (machine_of m) e k h nm in
-      let x = keyed number_at m.slots k a.0 (index-gives (map number_at m.slots) a.0 k (ap (λ ns. index_in ns a.0) (sym (numbers-are m.slots)) ∙ a.3)) in
-      let names = all-get (λ (s : Lodgings). map name_at s.places ≡ names_of m.config.hosts) m.slots k x.it (names-all (names_of m.config.hosts) m.slots t.tidy.names) x.is in
-      let y = keyed name_at x.it.places h a.1 (index-gives (map name_at x.it.places) a.1 h (ap (λ ns. index_in ns a.1) names ∙ a.4)) in
-      let tl = all-get (λ (l : Lodging). IsTallied x.it.number t.stood.0 (seat_of l)) x.it.places h y.it (all-get (AreCounted t.stood.0) m.slots k x.it (counted-from t.stood.0 m.slots t.stood.1) x.is) y.is in
-      record { slot = x.it; place = y.it; slot_is = x.is; place_is = y.is; room = node-room p.drawn a.0 a.1 x.it y.it plan.drawn (source-of m.config.roster e a.0 a.1 a.2) x.named y.named tl }
-
-  doable-by : (d : Deed) → IsNamed (machine_of m) e d → IsThere m.archive (slots_of m.slots) d → IsDoable m.archive (charge_of p) m.slots d
-  doable-by (Open s) nm th = (th.0, none-index (map number_at m.slots) s.number (out-of m e p t plan t.stood.0 t.stood.1 s.number nm))
-  doable-by (Close k) nm th =
-      let a = map-length slot_of (map seats_of m.slots) in
-      let b = map-length seats_of m.slots in
-      let l : k < length (slots_of m.slots) = th in
-      (omega (arith, a, b, l), ap all_differ (sym (seat-numbers m.slots)) ∙ t.tidy.apart)
-  doable-by (Act k h x) nm th = (ready k h nm, th.1)
-  doable-by (Hand k h x) nm th = ready k h nm
-
-  pub doable : IsDoable m.archive (charge_of p) m.slots p.deed
-  doable = doable-by p.deed plan.named plan.there
-
-  module _ (new : List Lodgings) (archive : List Sent) (done : IsDone (charge_of p) p.deed m.slots new) (lodged : All (λ (s : Lodgings). All (IsLodged archive) s.places) new) where
-    tidy-after : IsTidy (carried m p new)
-    tidy-after =
-        let n = neat-after m e p t plan t.stood.0 t.stood.1 new done in
-        record {
-          single = t.tidy.single;
-          names = from-names (names_of m.config.hosts) (map seats_of new) n.names;
-          apart = ap all_differ (sym (slots-numbers (map seats_of new))) ∙ n.apart;
-          bytes = bytes-kept p.drawn plan.drawn;
-        }
-
-    pub standing-after : (events bytes opens : ℕ) → events ≡ m.events + on_budgets_of p.drawn 1 → bytes ≡ m.bytes + on_budgets_of p.drawn p.size → opens ≡ m.opens + on_opens_of p.drawn
-        → IsStanding (record { config = m.config; archive = archive; slots = new; events = events; bytes = bytes; opens = opens })
-    standing-after events bytes opens a b c =
-        subst IsStanding (λ j. record { config = m.config; archive = archive; slots = new; events = sym a j; bytes = sym b j; opens = sym c j })
-        (record { lodged = lodged; tidy = tidy-after; stood = ((net_step stood e).0.draws, (stands-after m e p t plan t.stood.0 t.stood.1 new done).tallied) })
-
--- ---- what is known where a plan is carried out
 -- the network stands, the plan is one for it, and its budgets and shares keep their limits
 pub record IsCarriable (m : Standing) (e : Step) (p : Plan) : Type 0 where
   pub standing : IsStanding m
@@ -594,14 +493,116 @@ pub record IsCarriable (m : Standing) (e : Step) (p : Plan) : Type 0 where
   pub shares : HaveFewShares m
 
 -- said of what the network is seen as, it holds of what it is
-pub carriable : (m s : Standing) (e : Step) (p : Plan) → m ≡ s → IsStanding m → IsPlan s e p → s.config.budgets.events ≤ 2 ^ 40 → s.config.budgets.bytes ≤ 2 ^ 40 → HaveFewShares s → IsCarriable m e p
-carriable m s e p seen t plan events bytes few = record {
+pub carriable : {m s : Standing} (e : Step) (p : Plan) → m ≡ s → IsStanding m → IsPlan s e p → s.config.budgets.events ≤ 2 ^ 40 → s.config.budgets.bytes ≤ 2 ^ 40 → HaveFewShares s → IsCarriable m e p
+carriable e p seen t plan events bytes few = record {
   standing = t;
   plan = subst (λ (z : Standing). IsPlan z e p) (sym seen) plan;
   events = subst (λ (z : Standing). z.config.budgets.events ≤ 2 ^ 40) (sym seen) events;
   bytes = subst (λ (z : Standing). z.config.budgets.bytes ≤ 2 ^ 40) (sym seen) bytes;
   shares = subst HaveFewShares (sym seen) few;
 }
+
+module _ {m : Standing} {e : Step} {p : Plan} (known : IsCarriable m e p) where
+  abbrev stood : Net
+  stood = net_of (machine_of m) known.standing.stood.0
+
+  abbrev its : Source
+  its = source m.config.roster e
+
+  room : HasRoom stood e
+  room = applied_where_room stood e (known.plan.allowed stood (record { is = refl; tallied = known.standing.stood.1 }))
+
+  bytes-kept : (d : Drawn) → IsDrawn (machine_of m) d its → m.bytes + on_budgets_of d p.size ≤ m.config.budgets.bytes
+  bytes-kept ByBudgets q = elim (room-bytes stood e room) [
+    | inl f ↦ let l : m.bytes + size_of e ≤ m.config.budgets.bytes = subst (λ z. HasBytes stood z (size_of e)) q f in let z = known.plan.size in omega (arith, l, z)
+    | inr z ↦ let l = known.standing.tidy.bytes in let s = known.plan.size in omega (arith, l, z, s)
+  ]
+  bytes-kept ByOpens q = let l = known.standing.tidy.bytes in omega (arith, l)
+  bytes-kept (ByOwn k h) q = let l = known.standing.tidy.bytes in omega (arith, l)
+  bytes-kept (ByPair k h u) q = let l = known.standing.tidy.bytes in omega (arith, l)
+
+  network-room : (d : Drawn) → IsDrawn (machine_of m) d its → HasRoomOnNetwork d p.size m.events m.bytes m.opens
+  network-room ByBudgets q =
+      let l : m.events < m.config.budgets.events = subst (HasEvents stood) q (room-events stood e room) in
+      let b : m.bytes + p.size ≤ m.config.budgets.bytes = bytes-kept ByBudgets q in
+      let few_events = known.events in
+      let few_bytes = known.bytes in
+      (omega (arith, l, few_events), omega (arith, b, few_bytes))
+  network-room ByOpens q =
+      let l : m.opens < q.0.shares.opens = subst (HasEvents stood) q.2 (room-events stood e room) in
+      let s = (known.shares q.0 q.1).few_opens in
+      omega (arith, l, s)
+  network-room (ByOwn k h) q = tt
+  network-room (ByPair k h u) q = tt
+
+  pub room-on-network : HasRoomOnNetwork p.drawn p.size m.events m.bytes m.opens
+  room-on-network = network-room p.drawn known.plan.drawn
+
+  node-room : (d : Drawn) (i u : ℕ) (x : Lodgings) (y : Lodging) → IsDrawn (machine_of m) d its → IsSourceOf i u its → x.number ≡ i → y.held.node.name ≡ u → IsTallied x.number known.standing.stood.0 (seat_of y) → HasRoomInCounts d p.size y.own y.heard
+  node-room ByBudgets i u x y q s xn yn tl = tt
+  node-room ByOpens i u x y q s xn yn tl = tt
+  node-room (ByOwn k h) i u x y q s xn yn tl =
+      let f = subst (IsSourceOf i u) q.6 s in
+      let l : events_drawn q.1.number (Own q.2.place.node.name) known.standing.stood.0 < q.0.shares.own = subst (HasEvents stood) q.6 (room-events stood e room) in
+      let same = ap₂ (λ a b. events_drawn a (Own b) known.standing.stood.0) (f.0 ∙ sym xn) (f.1 ∙ sym yn) in
+      let o = tl.own in
+      let b = (known.shares q.0 q.3).few_own in
+      omega (arith, l, same, o, b)
+  node-room (ByPair k h w) i u x y q s xn yn tl =
+      let f = subst (IsSourceOf i u) q.6 s in
+      let l : events_drawn q.1.number (Pair q.2.place.node.name w) known.standing.stood.0 < q.0.shares.pair = subst (HasEvents stood) q.6 (room-events stood e room) in
+      let same = ap₂ (λ a b. events_drawn a (Pair b w) known.standing.stood.0) (f.0 ∙ sym xn) (f.1 ∙ sym yn) in
+      let size-same = ap₂ (λ a b. bytes_drawn a (Pair b w) known.standing.stood.0) (f.0 ∙ sym xn) (f.1 ∙ sym yn) in
+      let o = tl.events w in
+      let r = tl.bytes w in
+      let b = (known.shares q.0 q.3).few_pair in
+      let c = (known.shares q.0 q.3).few_bytes in
+      let z = known.plan.size in (
+        omega (arith, l, same, o, b),
+        elim (room-bytes stood e room) [
+          | inl g ↦ inl (let k : bytes_drawn q.1.number (Pair q.2.place.node.name w) known.standing.stood.0 + size_of e ≤ q.0.shares.bytes = subst (λ a. HasBytes stood a (size_of e)) q.6 g in omega (arith, k, size-same, r, c, z))
+          | inr g ↦ inr (z ∙ g)
+        ],
+      )
+
+  ready : (k h : ℕ) → IsNodeOf (machine_of m) (place_named e) k h → IsReady (charge_of p) m.slots k h
+  ready k h nm =
+      let a = node-named (machine_of m) e k h nm in
+      let x = keyed number_at m.slots k a.0 (index-gives (map number_at m.slots) a.0 k (ap (λ ns. index_in ns a.0) (sym (numbers-are m.slots)) ∙ a.3)) in
+      let names = all-get (λ (s : Lodgings). map name_at s.places ≡ names_of m.config.hosts) m.slots k x.it (names-all (names_of m.config.hosts) m.slots known.standing.tidy.names) x.is in
+      let y = keyed name_at x.it.places h a.1 (index-gives (map name_at x.it.places) a.1 h (ap (λ ns. index_in ns a.1) names ∙ a.4)) in
+      let tl = all-get (λ (l : Lodging). IsTallied x.it.number known.standing.stood.0 (seat_of l)) x.it.places h y.it (all-get (AreCounted known.standing.stood.0) m.slots k x.it (counted-from known.standing.stood.0 m.slots known.standing.stood.1) x.is) y.is in
+      record { slot = x.it; place = y.it; slot_is = x.is; place_is = y.is; room = node-room p.drawn a.0 a.1 x.it y.it known.plan.drawn (source-of m.config.roster e a.0 a.1 a.2) x.named y.named tl }
+
+  doable-by : (d : Deed) → IsNamed (machine_of m) e d → IsThere m.archive (slots_of m.slots) d → IsDoable m.archive (charge_of p) m.slots d
+  doable-by (Open s) nm th = (th.0, none-index (map number_at m.slots) s.number (out-of m e p known.standing known.plan known.standing.stood.0 known.standing.stood.1 s.number nm))
+  doable-by (Close k) nm th =
+      let a = map-length slot_of (map seats_of m.slots) in
+      let b = map-length seats_of m.slots in
+      let l : k < length (slots_of m.slots) = th in
+      (omega (arith, a, b, l), ap all_differ (sym (seat-numbers m.slots)) ∙ known.standing.tidy.apart)
+  doable-by (Act k h x) nm th = (ready k h nm, th.1)
+  doable-by (Hand k h x) nm th = ready k h nm
+
+  pub doable : IsDoable m.archive (charge_of p) m.slots p.deed
+  doable = doable-by p.deed known.plan.named known.plan.there
+
+  module _ (new : List Lodgings) (archive : List Sent) (done : IsDone (charge_of p) p.deed m.slots new) (lodged : All (λ (s : Lodgings). All (IsLodged archive) s.places) new) where
+    tidy-after : IsTidy (carried m p new)
+    tidy-after =
+        let n = neat-after m e p known.standing known.plan known.standing.stood.0 known.standing.stood.1 new done in
+        record {
+          single = known.standing.tidy.single;
+          names = from-names (names_of m.config.hosts) (map seats_of new) n.names;
+          apart = ap all_differ (sym (slots-numbers (map seats_of new))) ∙ n.apart;
+          bytes = bytes-kept p.drawn known.plan.drawn;
+        }
+
+    pub standing-after : (events bytes opens : ℕ) → events ≡ m.events + on_budgets_of p.drawn 1 → bytes ≡ m.bytes + on_budgets_of p.drawn p.size → opens ≡ m.opens + on_opens_of p.drawn
+        → IsStanding (record { config = m.config; archive = archive; slots = new; events = events; bytes = bytes; opens = opens })
+    standing-after events bytes opens a b c =
+        subst IsStanding (λ j. record { config = m.config; archive = archive; slots = new; events = sym a j; bytes = sym b j; opens = sym c j })
+        (record { lodged = lodged; tidy = tidy-after; stood = ((net_step stood e).0.draws, (stands-after m e p known.standing known.plan known.standing.stood.0 known.standing.stood.1 new done).tallied) })
 
 -- ---- what carrying out leaves
 pub applied : (m : Standing) (e : Step) (p : Plan) (new : List Lodgings) (archive : List Sent) (events bytes opens count : ℕ) (a : Applied) → IsStanding m → IsPlan m e p → IsDone (charge_of p) p.deed m.slots new

@@ -82,8 +82,8 @@ pub reaching : (m : Standing) (u h k i : ℕ) (e : Sent) → index_of_name m.con
 reaching m u h k i e q f same c = record { host = q; stranger = none-so (index_of_name m.config.hosts e.sender) f; slot = subst (λ j. IsSlotThere m j k) same c }
 
 -- room for what comes from its sender
-pub sender-room : (m : Standing) (i u w v : ℕ) (r : Result Drawn Refusal) → w ≡ v → IsRoom m (λ o. pair_source o i u w) r → IsRoom m (λ o. pair_source o i u v) r
-sender-room m i u w v r same room = subst (λ x. IsRoom m (λ o. pair_source o i u x) r) same room
+pub sender-room : {m : Standing} {u h k w : ℕ} {e : Sent} → IsReaching m u h k e → (r : Result Drawn Refusal) → w ≡ e.sender → ((i : ℕ) → IsSlotThere m i k → IsRoom m (λ o. pair_source o i u w) r) → IsRoom m (λ o. pair_source o e.slot u e.sender) r
+sender-room {m} {u} {h} {k} {w} {e} x r same room = subst (λ v. IsRoom m (λ o. pair_source o e.slot u v) r) same (room e.slot x.slot)
 
 at-slot : (m : Standing) (net : Net) (u h k size : ℕ) (e : Sent) → IsReaching m u h k e → StandsFor (machine_of m) net
     → first_that (tests net (Delivers u size (Read e))) ≡ first_that (is_full net (pair_source net.roster e.slot u e.sender) ∷ is_full_of_bytes net (pair_source net.roster e.slot u e.sender) size ∷ [])

@@ -1,5 +1,5 @@
 -- One emission more: its place and its mark.
-use Rattle.std.proofs.Common.{◌≡◌, ℕ, suc, ◌+◌, ◌++◌, length, map, Bool, true, false, List, [], ◌∷◌, filter, if◌then◌else◌, refl, sym, ◌∙◌, ap, ap₂, subst, arith, ◌<◌, ◌≤◌, get_or, drop, append_assoc}
+use Rattle.std.proofs.Common.{◌≡◌, ℕ, suc, ◌+◌, ◌++◌, length, map, Bool, true, false, List, [], ◌∷◌, filter, if◌then◌else◌, refl, sym, ◌∙◌, ap, ap₂, subst, arith, ◌<◌, get_or, drop, append_assoc}
 use Rattle.std.proofs.lemmas.List.{map-append}
 use Rattle.std.specs.Prelude.{zero, Option, Some, None, Vec, option_map, slice_get}
 use Rattle.std.specs.Global.{Global}

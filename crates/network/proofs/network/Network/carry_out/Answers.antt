@@ -8,30 +8,21 @@ use Rattle.network.proofs.network.Network.carry_out.Goals as goal
 
 pub perform-requires-clause-doable : goal.perform-requires-clause-doable
 perform-requires-clause-doable g c =
-    let i = c.self.inside in
-    let m : Standing = record { config = i.config; archive = i.archive; slots = i.slots; events = i.events; bytes = i.bytes; opens = i.opens } in
-    let e = step_of c.args.event.now in
     let l = c.limits.ensures in
-    let a = carriable m c.args.self.now e c.args.plan c.self.view_is c.self.invariant c.requires l.events l.bytes l.shares in
-    doable m e c.args.plan a.standing a.plan a.events a.bytes a.shares
+    let a = carriable (step_of c.args.event.now) c.args.plan c.self.view_is c.self.invariant c.requires l.events l.bytes l.shares in
+    doable a
 
 pub count-requires : goal.count-requires
 count-requires g c =
-    let i = c.self.inside in
-    let m : Standing = record { config = i.config; archive = i.archive; slots = i.slots; events = i.events; bytes = i.bytes; opens = i.opens } in
-    let e = step_of c.args.event.now in
     let l = c.limits.ensures in
-    let a = carriable m c.args.self.now e c.args.plan c.self.view_is c.self.invariant c.requires l.events l.bytes l.shares in
-    room-on-network m e c.args.plan a.standing a.plan a.events a.bytes a.shares
+    let a = carriable (step_of c.args.event.now) c.args.plan c.self.view_is c.self.invariant c.requires l.events l.bytes l.shares in
+    room-on-network a
 
 pub invariant_of-self-2 : goal.invariant_of-self-2
 invariant_of-self-2 g c =
-    let i = c.self.inside in
-    let m : Standing = record { config = i.config; archive = i.archive; slots = i.slots; events = i.events; bytes = i.bytes; opens = i.opens } in
-    let e = step_of c.args.event.now in
     let l = c.limits.ensures in
-    let a = carriable m c.args.self.now e c.args.plan c.self.view_is c.self.invariant c.requires l.events l.bytes l.shares in
-    standing-after m e c.args.plan a.standing a.plan a.events a.bytes a.shares c.perform.new.slots c.perform.new.archive c.in_ok-applied.ensures.done c.perform.ensures.lodged
+    let a = carriable (step_of c.args.event.now) c.args.plan c.self.view_is c.self.invariant c.requires l.events l.bytes l.shares in
+    standing-after a c.perform.new.slots c.perform.new.archive c.in_ok-applied.ensures.done c.perform.ensures.lodged
     c.count.new.events c.count.new.bytes c.count.new.opens c.count.ensures.events c.count.ensures.bytes c.count.ensures.opens
 
 pub returns-clause-applied : goal.returns-clause-applied

@@ -5,7 +5,7 @@ use Rattle.network.specs.Lodgings.{slot_of, seat_of}
 use Rattle.types.specs.declared.event.Refusal.TheVariants.{HostedSender, SlotNotOpen}
 use Rattle.protocol.specs.Networks.Reading.{Read}
 use Rattle.protocol.specs.Networks.Step.{Delivers}
-use Rattle.network.specs.Deeds.{IsPlanned, IsRoom, IsSlotThere, index_of_slot, pair_source}
+use Rattle.network.specs.Deeds.{IsPlanned, index_of_slot}
 use Rattle.network.specs.Standing.{IsStanding, Standing, machine_of}
 use Rattle.network.proofs.Handings.{envelope-closed, envelope-full, envelope-large, envelope-plan, reaching, sender-hosted-so, sender-room}
 use Rattle.network.proofs.Openings.{none-so}
@@ -32,37 +32,25 @@ returns-in_err-slot_at g c =
 
 pub returns-in_err-drawn : goal.returns-in_err-drawn
 returns-in_err-drawn g c =
-    let m = c.args.self.now in
-    let u = c.args.node.now in
-    let env = c.args.envelope in
-    let f : is_some (index_of_name m.config.hosts env.sender) ≡ false = search rules in
-    let reach = reaching m u c.args.host_at c.in_ok-slot_at.slot_at c.slot.result env c.requires f c.slot.ensures c.in_ok-slot_at.ensures in
+    let a = c.args in
+    let reach = reaching a.self.now a.node.now a.host_at c.in_ok-slot_at.slot_at c.slot.result a.envelope c.requires (search rules) c.slot.ensures c.in_ok-slot_at.ensures in
     let r = c.in_err-drawn.field-0.0 in
     let e : c.from_residual-in_err-drawn.result ≡ Err r = search rules in
-    let full = sender-room m env.slot u c.sender-2.result.now env.sender (Err r) c.sender-2.ensures.value (c.in_err-drawn.ensures.room env.slot reach.slot) in
-    subst (IsPlanned m (Delivers u c.args.size (Read env))) (sym e) (envelope-full c.args.size r reach full)
+    let full = sender-room reach (Err r) c.sender-2.ensures.value c.in_err-drawn.ensures.room in
+    subst (IsPlanned a.self.now (Delivers a.node.now a.size (Read a.envelope))) (sym e) (envelope-full a.size r reach full)
 
 pub returns-in_err-has_bytes : goal.returns-in_err-has_bytes
 returns-in_err-has_bytes g c =
-    let m = c.args.self.now in
-    let u = c.args.node.now in
-    let env = c.args.envelope in
-    let f : is_some (index_of_name m.config.hosts env.sender) ≡ false = search rules in
-    let reach = reaching m u c.args.host_at c.in_ok-slot_at.slot_at c.slot.result env c.requires f c.slot.ensures c.in_ok-slot_at.ensures in
-    let d = c.in_ok-drawn.drawn in
-    let room = sender-room m env.slot u c.sender-2.result.now env.sender (Ok d) c.sender-2.ensures.value (c.in_ok-drawn.ensures.room env.slot reach.slot) in
+    let a = c.args in
+    let reach = reaching a.self.now a.node.now a.host_at c.in_ok-slot_at.slot_at c.slot.result a.envelope c.requires (search rules) c.slot.ensures c.in_ok-slot_at.ensures in
+    let room = sender-room reach (Ok c.in_ok-drawn.drawn) c.sender-2.ensures.value c.in_ok-drawn.ensures.room in
     let r = c.in_err-has_bytes.field-0.0 in
     let e : c.from_residual-in_err-has_bytes.result ≡ Err r = search rules in
-    subst (IsPlanned m (Delivers u c.args.size (Read env))) (sym e) (envelope-large c.args.size d r reach room c.in_err-has_bytes.ensures)
+    subst (IsPlanned a.self.now (Delivers a.node.now a.size (Read a.envelope))) (sym e) (envelope-large a.size c.in_ok-drawn.drawn r reach room c.in_err-has_bytes.ensures)
 
 pub returns : goal.returns
 returns g c =
-    let m = c.args.self.now in
-    let u = c.args.node.now in
-    let env = c.args.envelope in
-    let f : is_some (index_of_name m.config.hosts env.sender) ≡ false = search rules in
-    let reach = reaching m u c.args.host_at c.in_ok-slot_at.slot_at c.slot.result env c.requires f c.slot.ensures c.in_ok-slot_at.ensures in
-    let d = c.in_ok-drawn.drawn in
-    let room = sender-room m env.slot u c.sender-2.result.now env.sender (Ok d) c.sender-2.ensures.value (c.in_ok-drawn.ensures.room env.slot reach.slot) in
-    let st : IsStanding m = subst IsStanding c.self.view_is c.self.invariant in
-    envelope-plan c.args.size d st reach room c.in_ok-has_bytes.ensures
+    let a = c.args in
+    let reach = reaching a.self.now a.node.now a.host_at c.in_ok-slot_at.slot_at c.slot.result a.envelope c.requires (search rules) c.slot.ensures c.in_ok-slot_at.ensures in
+    let room = sender-room reach (Ok c.in_ok-drawn.drawn) c.sender-2.ensures.value c.in_ok-drawn.ensures.room in
+    envelope-plan a.size c.in_ok-drawn.drawn (subst IsStanding c.self.view_is c.self.invariant) reach room c.in_ok-has_bytes.ensures

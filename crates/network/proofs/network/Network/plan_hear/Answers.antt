@@ -1,4 +1,4 @@
-use Rattle.std.proofs.Common.{rules, ◌≡◌, ◌∙◌, ◌==◌, Bool, true, false, Option, Some, None, is_some, Result, Ok, Err, sym, ap, subst, map, ℕ}
+use Rattle.std.proofs.Common.{rules, ◌≡◌, ◌∙◌, ◌==◌, Bool, true, false, Option, Some, None, is_some, Result, Ok, Err, sym, subst, map, ℕ}
 use Rattle.types.specs.declared.event.Refusal.{Refusal}
 use Rattle.configuration.specs.Configs.{index_of_name}
 use Rattle.network.specs.Lodgings.{slot_of, seat_of}
@@ -9,7 +9,7 @@ use Rattle.network.specs.declared.plan.Deed.TheVariants.{Act}
 use Rattle.network.specs.declared.plan.Plan.{Plan}
 use Rattle.envstore.specs.declared.filed.Filed.{Filed}
 use Rattle.slot.specs.declared.filed.FiledEvent.TheVariants as events
-use Rattle.network.specs.Standing.{IsStanding, Standing, machine_of}
+use Rattle.network.specs.Standing.{IsStanding, machine_of}
 use Rattle.network.proofs.Handings.{AreTwo, hearing, hears-closed, hears-full, hears-nobody, hears-nothing, hears-nowhere, hears-plan}
 use Rattle.network.proofs.Plans.{seat-there}
 use Rattle.network.proofs.network.Network.plan_hear.Goals as goal
