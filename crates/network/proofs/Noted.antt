@@ -6,6 +6,7 @@ use Rattle.std.specs.Global.{Global}
 use Rattle.std.specs.Borrow.{Bor}
 use Rattle.types.specs.declared.kind.Kind.{Kind}
 use Rattle.types.specs.declared.kind.Kind.TheVariants.{Nomination, Ballot}
+use Rattle.types.specs.declared.statement.Statement.{Statement}
 use Rattle.types.specs.Statements.{Sent, kind_of}
 use Rattle.envstore.specs.declared.filed.Filed.{Filed}
 use Rattle.envstore.specs.Archives.{sent_of, sents_of}
@@ -33,6 +34,10 @@ noted kind k es f places next at all same length_is before more is =
     ∙ (λ i. before i ++ (if is_kind kind (same i) then (length_is ∙ sym (sents-length es)) i ∷ [] else []))
     ∙ sym (places_next kind (sents_of es) (sent_of f))
     ∙ sym (ap (places_of_kind kind) (ap sents_of is ∙ map-append sent_of es (f ∷ [])))
+
+-- the kind of what was filed, as it is read
+pub kind-read : (k : Kind) (body : Statement) (e : Sent) (f : Filed) → k ≡ kind_of body → body ≡ e.body → e ≡ sent_of f → k ≡ kind_of (sent_of f).body
+kind-read k body e f kind_is body_is read_is = kind_is ∙ ap kind_of (body_is ∙ ap (λ (x : Sent). x.body) read_is)
 
 -- one emission more, at its place among those of its kind
 pub by-kind : (old new : PlacesByKind) (k : Kind) (es all : List Filed) (f : Filed) (at : ℕ)
