@@ -1,20 +1,37 @@
 //! What passes make of a node that an event changed.
 
-ghost use Rattle.std.specs.Prelude.{◌≡◌, List, IfOk, IfSome, IsTrue, Some, is_some};
-ghost use Rattle.protocol.specs.Nodes.{outs, settle};
+ghost use Rattle.std.specs.Prelude.{◌≡◌, IfOk, IsTrue, Some, is_some};
+ghost use Rattle.protocol.specs.Nodes.{settle};
 ghost use Rattle.protocol.specs.Passes.{pass};
 ghost use Rattle.slot.specs.Stirrings.{Stirs};
-ghost use Rattle.slot.specs.Wholes.{whole, SendWellFormed};
-ghost use Rattle.types.specs.Statements.{Sent};
 
 use crate::configured::Configured;
 use crate::filed::GivenOut;
-use crate::outs::outs;
-use crate::settling::settle_from;
+use crate::settling::{Inputs, settle_from};
 use crate::stirring::Stirred;
 use fedvote::Sight;
 use std::alloc::{AllocError, Global};
 use types::{Given, Out, Votes};
+
+/// What a node has at one moment beside its rows.
+#[derive(Clone, Copy)]
+pub(crate) struct State<'a> {
+    /// What events gave it.
+    pub given: &'a Given,
+    /// What its rules made of that.
+    pub votes: &'a Votes,
+}
+
+/// Where passes start after an event's own change.
+#[derive(Clone, Copy)]
+pub(crate) struct Start<'a> {
+    /// What is given now.
+    pub given: &'a Given,
+    /// The votes, before any pass.
+    pub votes: &'a Votes,
+    /// The rules that the event stirs.
+    pub stirred: Stirred,
+}
 
 /// The votes after an event, and what the node gives out.
 #[derive(Drop)]
@@ -30,26 +47,23 @@ pub(crate) struct FiledAnswer {
     pub given_out: GivenOut,
 }
 
-/// Passes, from what was given and these votes on, after an event that stirs these rules, and what is given
-/// out since the old state. An error says that memory is short.
-pub(crate) fn answer_to<S: Sight>(
+/// The votes after passes from this start on, by what the node sees. An error says that memory is short.
+pub(crate) fn settled_votes<'a, S: Sight>(
     alloc: Global,
-    configured: &Configured,
-    sight: &S,
-    old_given: &Given,
-    old_votes: &Votes,
-    given: &Given,
-    votes: &Votes,
-    stirred: Stirred,
-) -> Result<Answer, AllocError>
-    requires stirs { Stirs stirred configured.now.name (S.seen sight.now) given.now votes.now }
-    requires settles { IsTrue (is_some (settle 64 (pass configured.now.name (S.seen sight.now) given.now) votes.now)) }
-    requires sends { IfSome (settle 64 (pass configured.now.name (S.seen sight.now) given.now) votes.now) SendWellFormed }
-    ensures votes { IfOk result (λ a. settle 64 (pass configured.now.name (S.seen sight.now) given.now) votes.now ≡ Some a.votes) }
-    ensures outs { IfOk result (λ a. (before after : List Sent) → a.outs.items ≡ outs (whole configured.now old_given.now old_votes.now before) (whole configured.now given.now a.votes after)) }
+    configured: &'a Configured,
+    sight: &'a S,
+    start: &'a Start<'a>,
+) -> Result<Votes, AllocError>
+    requires stirs { Stirs start.now.stirred configured.now.name (S.seen sight.now) start.now.given.now start.now.votes.now }
+    requires settles { IsTrue (is_some (settle 64 (pass configured.now.name (S.seen sight.now) start.now.given.now) start.now.votes.now)) }
+    ensures { IfOk result (λ w. settle 64 (pass configured.now.name (S.seen sight.now) start.now.given.now) start.now.votes.now ≡ Some w) }
 {
-    let settled = settle_from(alloc, &configured.name, sight, given, votes, stirred)?;
+    let inputs = Inputs {
+        own: &configured.name,
+        sight,
+        given: start.given,
+    };
+    let settled = settle_from(alloc, &inputs, start.votes, start.stirred)?;
     let Some(votes) = settled else { unreachable!() };
-    let outs = outs(alloc, configured, old_given, old_votes, given, &votes)?;
-    Ok(Answer { votes, outs })
+    Ok(votes)
 }

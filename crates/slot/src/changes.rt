@@ -14,6 +14,13 @@ use std::alloc::{AllocError, Global};
 use timers::{ballot_is_live, nomination_is_live};
 use types::{Given, Value, Votes};
 
+/// What an event's own change makes of what is given and of the votes.
+#[derive(Drop)]
+pub(crate) struct Changed {
+    pub given: Given,
+    pub votes: Votes,
+}
+
 /// Whether the nomination timer of this round acts.
 pub(crate) fn is_round_live(given: &Given, votes: &Votes, round: u32) -> bool
     ensures { result ≡ is_nomination_timer_live round given.now.round (is_some votes.now.high) }

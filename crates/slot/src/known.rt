@@ -30,6 +30,13 @@ pub(crate) enum Effect {
     Forgets,
 }
 
+/// An envelope that is to be a row, and the archive in which it lies.
+#[derive(Drop)]
+pub(crate) struct FiledRow<'a, S: Places> {
+    pub archive: &'a Archive<S>,
+    pub envelope: Filed,
+}
+
 /// The region that is known, or else found now; it is not known afterwards. An error says that memory is
 /// short.
 pub(crate) fn take_region<S: Places>(
@@ -82,7 +89,7 @@ pub(crate) fn copy_of_known(
     }
 }
 
-/// Puts the envelope into the table. What is known is afterwards as the row wants it; where memory is
+/// Puts the row into the table. What is known is afterwards as the row wants it; where memory is
 /// short for that, nothing is known, and the put goes on. Where something is known still, the node reaches
 /// whom it reached before.
 pub(crate) fn put_row<S: Places>(
@@ -90,28 +97,21 @@ pub(crate) fn put_row<S: Places>(
     configured: &Configured,
     table: &mut Table,
     known: &mut Option<Box<Region>>,
-    archive: &Archive<S>,
-    envelope: Filed,
+    row: FiledRow<'_, S>,
 ) -> Put
-    requires rows { AreFiled archive.now table.old }
-    requires envelope { IsFiled archive.now envelope }
+    requires rows { AreFiled row.archive.now table.old }
+    requires envelope { IsFiled row.archive.now row.envelope }
     requires known { KnownAscends (region_in known.old) }
-    ensures put { IsPut table.old (sent_of envelope) result table.new }
+    ensures put { IsPut table.old (sent_of row.entry.envelope) result table.new }
     ensures back { undone result table.new ≡ table.old }
     ensures known { KnowsRegion configured.now (sents_of table.old) (region_in known.old) → KnowsRegion configured.now (sents_of table.new) (region_in known.new) }
     ensures reach { IsTrue (is_some known.new) → KnowsRegion configured.now (sents_of table.old) (region_in known.old) → KeepsReach configured.now.name configured.now.slices (sents_of table.old) (sents_of table.new) }
-    ensures filed { AreFiled archive.now table.new }
-    ensures replaced { IsFiledPut archive.now result }
+    ensures filed { AreFiled row.entry.archive.now table.new }
+    ensures replaced { IsFiledPut row.entry.archive.now result }
 {
     // What memory this wants, it wants before the table changes.
-    let effect = effect_of(
-        alloc,
-        configured,
-        known,
-        table,
-        archive,
-        archive.read(&envelope),
-    );
+    let effect = effect_of(alloc, configured, known, table, &row);
+    let FiledRow { archive, envelope } = row;
     let put = table.put(archive, envelope);
     if is_put(&put) {
         apply(known, effect);
@@ -119,23 +119,24 @@ pub(crate) fn put_row<S: Places>(
     put
 }
 
-/// What the envelope does to what is known where the table takes it.
+/// What the row does to what is known where the table takes it.
 fn effect_of<S: Places>(
     alloc: Global,
     configured: &Configured,
     known: &Option<Box<Region>>,
     table: &Table,
-    archive: &Archive<S>,
-    envelope: &Envelope,
+    row: &FiledRow<'_, S>,
 ) -> Effect
-    requires rows { AreFiled archive.now table.now }
+    requires rows { AreFiled row.now.archive.now table.now }
+    requires envelope { IsFiled row.now.archive.now row.now.envelope }
     requires known { KnownAscends (region_in known.now) }
-    ensures { IsEffect configured.now (sents_of table.now) envelope.now (region_in known.now) result }
+    ensures { IsEffect configured.now (sents_of table.now) (sent_of row.now.envelope) (region_in known.now) result }
 {
     match known {
         None => Effect::Nothing,
         Some(region) => {
-            let rows = Rows::of(table, archive);
+            let rows = Rows::of(table, row.archive);
+            let envelope = row.archive.read(&row.envelope);
             effect_on(alloc, configured, region, &rows, envelope)
         }
     }

@@ -1,29 +1,28 @@
 //! Who a node is, the rows that it has, and the nodes that it reaches by them.
 
 ghost use Rattle.std.specs.Prelude.{◌≡◌, IfOk, IfSome, IsTrue, List, OnErr, OnOk, Some, [], false, is_ok, is_some};
-ghost use Rattle.envstore.specs.Archives.{AreFiled, IsFiled, Keeps, sent_of, sents_of};
+ghost use Rattle.envstore.specs.Archives.{AreFiled, IsFiled, sent_of, sents_of};
 ghost use Rattle.latest.specs.Puts.{IsFiledPut, IsPut, undone};
 ghost use Rattle.protocol.specs.Nodes.{outs, passed, settle};
 ghost use Rattle.view.specs.Regions.{IsRegion};
 ghost use Rattle.protocol.specs.Rows.{is_taken, offered};
-ghost use Rattle.slot.specs.Filings.{AreFiledOuts, HasCopies, outs_of};
 ghost use Rattle.slot.specs.Listening.{IsStranger, node_of};
 ghost use Rattle.slot.specs.Stirrings.{IsStirred, StirsIn};
 ghost use Rattle.slot.specs.Wholes.{SendWellFormed, whole};
 ghost use Rattle.types.specs.Statements.{Sent};
 
-use crate::answering::{Answer, FiledAnswer, answer_to};
+use crate::answering::{Answer, Start, State, settled_votes};
 use crate::configured::Configured;
-use crate::filing::file_copied;
-use crate::known::{copy_of_known, put_row, take_region};
+use crate::known::{FiledRow, copy_of_known, put_row, take_region};
+use crate::outs::outs;
 use crate::stirring::{Stirred, stirred_by};
-use envstore::{Archive, Filed, Places, Shelf};
+use envstore::{Archive, Filed, Places};
 use latest::{Put, Rows, Table};
 use slices::is_among;
 use std::alloc::{AllocError, Global};
 use std::marker::Model;
 use std::mem;
-use types::{Given, Nested, NodeId, Votes};
+use types::{Nested, NodeId, Votes};
 use view::{Region, View};
 
 /// Who a node is, and the rows that it has.
@@ -151,8 +150,7 @@ impl Listener {
             &self.configured,
             &mut self.table,
             &mut self.known,
-            archive,
-            envelope,
+            FiledRow { archive, envelope },
         );
         // Slices that are known still are those of the nodes that were reached before.
         if self.known.is_some() {
@@ -182,56 +180,43 @@ impl Listener {
         mem::replace(&mut self.configured.slices, slices)
     }
 
-    /// What passes make of what was given and these votes, by the rows, after an event that stirs these rules,
-    /// and what is given out since the old state, filed, with so many whole copies that are made before. What contracts see of the listener
-    /// stays as it was, and an error says that memory is short.
-    pub(crate) fn answer<S: Shelf>(
-        &mut self,
-        alloc: Global,
-        archive: &mut Archive<S>,
-        old_given: &Given,
-        old_votes: &Votes,
-        given: &Given,
-        votes: &Votes,
-        stirred: Stirred,
-        copies: usize,
-    ) -> Result<FiledAnswer, AllocError>
-        requires rows { AreFiled archive.old self.old.table }
-        requires stirs { StirsIn stirred (node_of self.old given.now votes.now) }
-        requires settles { IsTrue (is_some (settle 64 (passed (node_of self.old given.now votes.now)) votes.now)) }
-        requires sends { IfSome (settle 64 (passed (node_of self.old given.now votes.now)) votes.now) SendWellFormed }
-        ensures votes { IfOk result (λ a. settle 64 (passed (node_of self.old given.now votes.now)) votes.now ≡ Some a.votes) }
-        ensures outs { IfOk result (λ a. (before after : List Sent) → outs_of a.given_out.outs.items ≡ outs (whole self.old.configured old_given.now old_votes.now before) (whole self.old.configured given.now a.votes after)) }
-        ensures same { self.new ≡ self.old }
-        ensures filed { IfOk result (λ a. AreFiledOuts archive.new a.given_out.outs.items) }
-        ensures copies { IfOk result (λ a. HasCopies copies a.given_out) }
-        ensures kept { Keeps archive.old archive.new }
-    {
-        let answer = self.answer_by_rows(
-            alloc, archive, old_given, old_votes, given, votes, stirred,
-        )?;
-        let Answer { votes, outs } = answer;
-        let given_out = file_copied(alloc, archive, outs, copies)?;
-        Ok(FiledAnswer { votes, given_out })
-    }
-
-    /// The answer, with whole envelopes.
-    fn answer_by_rows<S: Places>(
+    /// What passes make of a node with these rows from this start on, and what it gives out since the old
+    /// state. What contracts see of the listener stays as it was, and an error says that memory is short.
+    pub(crate) fn answer<S: Places>(
         &mut self,
         alloc: Global,
         archive: &Archive<S>,
-        old_given: &Given,
-        old_votes: &Votes,
-        given: &Given,
-        votes: &Votes,
-        stirred: Stirred,
+        old: &State<'_>,
+        start: &Start<'_>,
     ) -> Result<Answer, AllocError>
         requires rows { AreFiled archive.now self.old.table }
-        requires stirs { StirsIn stirred (node_of self.old given.now votes.now) }
-        requires settles { IsTrue (is_some (settle 64 (passed (node_of self.old given.now votes.now)) votes.now)) }
-        requires sends { IfSome (settle 64 (passed (node_of self.old given.now votes.now)) votes.now) SendWellFormed }
-        ensures votes { IfOk result (λ a. settle 64 (passed (node_of self.old given.now votes.now)) votes.now ≡ Some a.votes) }
-        ensures outs { IfOk result (λ a. (before after : List Sent) → a.outs.items ≡ outs (whole self.old.configured old_given.now old_votes.now before) (whole self.old.configured given.now a.votes after)) }
+        requires stirs { StirsIn start.now.stirred (node_of self.old start.now.given.now start.now.votes.now) }
+        requires settles { IsTrue (is_some (settle 64 (passed (node_of self.old start.now.given.now start.now.votes.now)) start.now.votes.now)) }
+        requires sends { IfSome (settle 64 (passed (node_of self.old start.now.given.now start.now.votes.now)) start.now.votes.now) SendWellFormed }
+        ensures votes { IfOk result (λ a. settle 64 (passed (node_of self.old start.now.given.now start.now.votes.now)) start.now.votes.now ≡ Some a.votes) }
+        ensures outs { IfOk result (λ a. (before after : List Sent) → a.outs.items ≡ outs (whole self.old.configured old.now.given.now old.now.votes.now before) (whole self.old.configured start.now.given.now a.votes after)) }
+        ensures same { self.new ≡ self.old }
+    {
+        let votes = self.settled(alloc, archive, start)?;
+        let new = State {
+            given: start.given,
+            votes: &votes,
+        };
+        let outs = outs(alloc, &self.configured, old, &new)?;
+        Ok(Answer { votes, outs })
+    }
+
+    /// The votes after passes from this start on, by the rows.
+    fn settled<S: Places>(
+        &mut self,
+        alloc: Global,
+        archive: &Archive<S>,
+        start: &Start<'_>,
+    ) -> Result<Votes, AllocError>
+        requires rows { AreFiled archive.now self.old.table }
+        requires stirs { StirsIn start.now.stirred (node_of self.old start.now.given.now start.now.votes.now) }
+        requires settles { IsTrue (is_some (settle 64 (passed (node_of self.old start.now.given.now start.now.votes.now)) start.now.votes.now)) }
+        ensures votes { IfOk result (λ w. settle 64 (passed (node_of self.old start.now.given.now start.now.votes.now)) start.now.votes.now ≡ Some w) }
         ensures same { self.new ≡ self.old }
     {
         let region = take_region(
@@ -241,32 +226,24 @@ impl Listener {
             &self.table,
             archive,
         )?;
-        let answer = self.answer_within(
-            alloc, archive, &region, old_given, old_votes, given, votes, stirred,
-        );
+        let settled = self.settled_within(alloc, archive, &region, start);
         self.known = Some(region);
-        answer
+        settled
     }
 
-    /// The answer, by the nodes that are reached.
-    fn answer_within<S: Places>(
+    /// The votes after passes from this start on, by the rows of the nodes that are reached.
+    fn settled_within<S: Places>(
         &self,
         alloc: Global,
         archive: &Archive<S>,
         region: &Region,
-        old_given: &Given,
-        old_votes: &Votes,
-        given: &Given,
-        votes: &Votes,
-        stirred: Stirred,
-    ) -> Result<Answer, AllocError>
+        start: &Start<'_>,
+    ) -> Result<Votes, AllocError>
         requires rows { AreFiled archive.now self.now.table }
-        requires stirs { StirsIn stirred (node_of self.now given.now votes.now) }
         requires region { IsRegion self.now.configured.name self.now.configured.slices (sents_of self.now.table) region.now }
-        requires settles { IsTrue (is_some (settle 64 (passed (node_of self.now given.now votes.now)) votes.now)) }
-        requires sends { IfSome (settle 64 (passed (node_of self.now given.now votes.now)) votes.now) SendWellFormed }
-        ensures votes { IfOk result (λ a. settle 64 (passed (node_of self.now given.now votes.now)) votes.now ≡ Some a.votes) }
-        ensures outs { IfOk result (λ a. (before after : List Sent) → a.outs.items ≡ outs (whole self.now.configured old_given.now old_votes.now before) (whole self.now.configured given.now a.votes after)) }
+        requires stirs { StirsIn start.now.stirred (node_of self.now start.now.given.now start.now.votes.now) }
+        requires settles { IsTrue (is_some (settle 64 (passed (node_of self.now start.now.given.now start.now.votes.now)) start.now.votes.now)) }
+        ensures { IfOk result (λ w. settle 64 (passed (node_of self.now start.now.given.now start.now.votes.now)) start.now.votes.now ≡ Some w) }
     {
         let configured = &self.configured;
         let rows = Rows::of(&self.table, archive);
@@ -274,12 +251,10 @@ impl Listener {
             alloc,
             &configured.name,
             &configured.slices,
-            &given.leaders,
+            &start.given.leaders,
             &rows,
             region,
         )?;
-        answer_to(
-            alloc, configured, &view, old_given, old_votes, given, votes, stirred,
-        )
+        settled_votes(alloc, configured, &view, start)
     }
 }

@@ -16,11 +16,13 @@ ghost use Rattle.types.specs.Statements.{Sent};
 ghost use Rattle.types.specs.declared.event.NodeEvent.{NodeEvent};
 ghost use Rattle.types.specs.declared.event.Out.TheVariants.{Emit};
 
-use crate::answering::FiledAnswer;
-use crate::changes::{bumped, fired, in_next_round, is_counter_live, is_round_live, proposed};
+use crate::answering::{Answer, FiledAnswer, Start, State};
+use crate::changes::{
+    Changed, bumped, fired, in_next_round, is_counter_live, is_round_live, proposed,
+};
 use crate::configured::Configured;
 use crate::filed::{FiledEvent, FiledOut, GivenOut};
-use crate::filing::nothing;
+use crate::filing::{file_copied, nothing};
 use crate::listener::Listener;
 use crate::outs::is_externalized;
 use crate::stirring::Stirred;
@@ -239,7 +241,7 @@ impl Node {
     {
         let given = proposed(alloc, self.listener.configured(), &self.given, value)?;
         let votes = self.votes.try_copy()?;
-        self.settle(alloc, archive, given, votes, copies)
+        self.settle(alloc, archive, Changed { given, votes }, copies)
     }
 
     /// A nomination timer fires: the next round begins where it is live.
@@ -266,7 +268,7 @@ impl Node {
         }
         let given = in_next_round(alloc, self.listener.configured(), &self.given, round)?;
         let votes = self.votes.try_copy()?;
-        self.settle(alloc, archive, given, votes, copies)
+        self.settle(alloc, archive, Changed { given, votes }, copies)
     }
 
     /// A ballot timer fires: the ballot goes one counter up where it is live.
@@ -293,7 +295,7 @@ impl Node {
         }
         let given = fired(alloc, &self.given)?;
         let votes = bumped(&self.votes)?;
-        self.settle(alloc, archive, given, votes, copies)
+        self.settle(alloc, archive, Changed { given, votes }, copies)
     }
 
     /// The configured slices are these from now on, and passes follow. Those that were are put back where
@@ -314,27 +316,19 @@ impl Node {
         ensures copies { IfOk result (HasCopies copies) }
         ensures kept { Keeps archive.old archive.new }
     {
-        let Node {
-            listener,
-            given,
-            votes: settled,
-        } = self;
-        let old_slices = listener.exchange_slices(slices);
-        match answer_anew(
-            alloc,
-            archive,
-            listener,
-            given,
-            settled,
-            Stirred::All,
-            copies,
-        ) {
+        let old_slices = self.listener.exchange_slices(slices);
+        let start = Start {
+            given: &self.given,
+            votes: &self.votes,
+            stirred: Stirred::All,
+        };
+        match answer_anew(alloc, archive, &mut self.listener, &start, copies) {
             Ok(FiledAnswer { votes, given_out }) => {
-                *settled = votes;
+                self.votes = votes;
                 Ok(given_out)
             }
             Err(error) => {
-                listener.exchange_slices(old_slices);
+                self.listener.exchange_slices(old_slices);
                 Err(error)
             }
         }
@@ -407,20 +401,20 @@ impl Node {
             }
             Put::NoMemory => Err(AllocError),
             Put::Added | Put::Replaced(_) => {
-                let Node {
-                    listener,
-                    given,
-                    votes: settled,
-                } = self;
-                match answer_anew(alloc, archive, listener, given, settled, stirred, copies) {
+                let start = Start {
+                    given: &self.given,
+                    votes: &self.votes,
+                    stirred,
+                };
+                match answer_anew(alloc, archive, &mut self.listener, &start, copies) {
                     Ok(FiledAnswer { votes, given_out }) => {
                         // The row stays, and the way back is let go.
                         drop(put);
-                        *settled = votes;
+                        self.votes = votes;
                         Ok(given_out)
                     }
                     Err(error) => {
-                        listener.undo(archive, put);
+                        self.listener.undo(archive, put);
                         Err(error)
                     }
                 }
@@ -428,68 +422,72 @@ impl Node {
         }
     }
 
-    /// Passes, from what an event gave and these votes on, and what is given out. An error says that
-    /// memory is short, and the node is as it was.
+    /// Passes, from what an event's own change made on, and what is given out. An error says that memory is
+    /// short, and the node is as it was.
     fn settle<S: Shelf>(
         &mut self,
         alloc: Global,
         archive: &mut Archive<S>,
-        given: Given,
-        votes: Votes,
+        changed: Changed,
         copies: usize,
     ) -> Result<GivenOut, AllocError>
         requires rows { AreFiled archive.old self.old.rows }
-        requires change { IsChange self.old.node (record self.old.node { given = given; votes = votes }) }
-        ensures node { OnOk result (self.new.node ≡ (answered self.old.node (after_change (Some (record self.old.node { given = given; votes = votes })))).0) }
-        ensures outs { IfOk result (λ v. outs_of v.outs.items ≡ (answered self.old.node (after_change (Some (record self.old.node { given = given; votes = votes })))).1) }
+        requires change { IsChange self.old.node (record self.old.node { given = changed.given; votes = changed.votes }) }
+        ensures node { OnOk result (self.new.node ≡ (answered self.old.node (after_change (Some (record self.old.node { given = changed.given; votes = changed.votes })))).0) }
+        ensures outs { IfOk result (λ v. outs_of v.outs.items ≡ (answered self.old.node (after_change (Some (record self.old.node { given = changed.given; votes = changed.votes })))).1) }
         ensures err { OnErr result (self.new ≡ self.old) }
         ensures rows { AreFiled archive.new self.new.rows }
         ensures filed { IfOk result (λ v. AreFiledOuts archive.new v.outs.items) }
         ensures copies { IfOk result (HasCopies copies) }
         ensures kept { Keeps archive.old archive.new }
     {
-        let answered = self.listener.answer(
-            alloc,
-            archive,
-            &self.given,
-            &self.votes,
-            &given,
-            &votes,
-            Stirred::All,
-            copies,
-        );
+        let Changed { given, votes } = changed;
+        let old = State {
+            given: &self.given,
+            votes: &self.votes,
+        };
+        let start = Start {
+            given: &given,
+            votes: &votes,
+            stirred: Stirred::All,
+        };
+        let answered = self.listener.answer(alloc, archive, &old, &start);
         drop(votes);
         let answer = answered?;
+        let given_out = file_copied(alloc, archive, answer.outs, copies)?;
         self.given = given;
         self.votes = answer.votes;
-        Ok(answer.given_out)
+        Ok(given_out)
     }
 }
 
-/// What passes make of the votes of a node whose rows or slices are other ones now, by an event that stirs
-/// these rules, and what is given out since they settled, with so many whole copies. What contracts see of
-/// the listener stays as it was, and an error says that memory is short.
+/// What passes make of a node whose rows or slices are other ones now, and what is given out since its votes
+/// settled, with so many whole copies. What contracts see of the listener stays as it was, and an error says
+/// that memory is short.
 fn answer_anew<S: Shelf>(
     alloc: Global,
     archive: &mut Archive<S>,
     listener: &mut Listener,
-    given: &Given,
-    settled: &Votes,
-    stirred: Stirred,
+    start: &Start<'_>,
     copies: usize,
 ) -> Result<FiledAnswer, AllocError>
     requires rows { AreFiled archive.old listener.old.table }
-    requires stirs { StirsIn stirred (node_of listener.old given.now settled.now) }
-    requires settles { IsTrue (is_some (settle 64 (passed (node_of listener.old given.now settled.now)) settled.now)) }
-    requires sends { IfSome (settle 64 (passed (node_of listener.old given.now settled.now)) settled.now) SendWellFormed }
-    ensures votes { IfOk result (λ a. settle 64 (passed (node_of listener.old given.now settled.now)) settled.now ≡ Some a.votes) }
-    ensures outs { IfOk result (λ a. (before after : List Sent) → outs_of a.given_out.outs.items ≡ outs (whole listener.old.configured given.now settled.now before) (whole listener.old.configured given.now a.votes after)) }
+    requires stirs { StirsIn start.now.stirred (node_of listener.old start.now.given.now start.now.votes.now) }
+    requires settles { IsTrue (is_some (settle 64 (passed (node_of listener.old start.now.given.now start.now.votes.now)) start.now.votes.now)) }
+    requires sends { IfSome (settle 64 (passed (node_of listener.old start.now.given.now start.now.votes.now)) start.now.votes.now) SendWellFormed }
+    ensures votes { IfOk result (λ a. settle 64 (passed (node_of listener.old start.now.given.now start.now.votes.now)) start.now.votes.now ≡ Some a.votes) }
+    ensures outs { IfOk result (λ a. (before after : List Sent) → outs_of a.given_out.outs.items ≡ outs (whole listener.old.configured start.now.given.now start.now.votes.now before) (whole listener.old.configured start.now.given.now a.votes after)) }
     ensures same { listener.new ≡ listener.old }
     ensures filed { IfOk result (λ a. AreFiledOuts archive.new a.given_out.outs.items) }
     ensures copies { IfOk result (λ a. HasCopies copies a.given_out) }
     ensures kept { Keeps archive.old archive.new }
 {
-    listener.answer(
-        alloc, archive, given, settled, given, settled, stirred, copies,
-    )
+    let old = State {
+        given: start.given,
+        votes: start.votes,
+    };
+    let answer = listener.answer(alloc, archive, &old, start)?;
+    let Answer { votes, outs } = answer;
+    let given_out = file_copied(alloc, archive, outs, copies)?;
+    Ok(FiledAnswer { votes, given_out })
 }

@@ -7,11 +7,12 @@ ghost use Rattle.slot.specs.Wholes.{emitted_by, whole, SendWellFormed};
 ghost use Rattle.types.specs.Statements.{IsWellFormed, Sent};
 ghost use Rattle.types.specs.declared.statement.Statement.{Statement};
 
+use crate::answering::State;
 use crate::configured::Configured;
 use crate::sent::{envelope_of, is_same_sent, nominates_same, sent_nomination};
 use ballot::{counter_of, sent_vote};
 use std::alloc::{AllocError, Global};
-use types::{Given, Out, Phase, Statement, Votes, statement_of};
+use types::{Out, Phase, Statement, Votes, statement_of};
 
 /// What is given out where an event led from one state to another, in this order: the timer of a new
 /// round, the ballot timer that was armed, the nomination and the ballot statement where another one
@@ -21,24 +22,24 @@ use types::{Given, Out, Phase, Statement, Votes, statement_of};
 pub(crate) fn outs(
     alloc: Global,
     configured: &Configured,
-    old_given: &Given,
-    old_votes: &Votes,
-    given: &Given,
-    votes: &Votes,
+    old: &State<'_>,
+    new: &State<'_>,
 ) -> Result<Vec<Out>, AllocError>
-    requires { SendWellFormed votes.now }
-    ensures { IfOk result (λ v. (before after : List Sent) → v.items ≡ outs (whole configured.now old_given.now old_votes.now before) (whole configured.now given.now votes.now after)) }
+    requires { SendWellFormed new.now.votes.now }
+    ensures { IfOk result (λ v. (before after : List Sent) → v.items ≡ outs (whole configured.now old.now.given.now old.now.votes.now before) (whole configured.now new.now.given.now new.now.votes.now after)) }
 {
     let mut given_out = Vec::new(alloc);
-    let is_round = given.round != old_given.round && votes.high.is_none();
-    push_when(&mut given_out, is_round, Out::ArmNomination(given.round))?;
-    let is_armed = votes.armed != old_votes.armed
-        && votes.armed == counter_of(&votes.ballot)
-        && !is_externalized(votes.phase);
-    push_when(&mut given_out, is_armed, Out::ArmBallot(votes.armed))?;
-    push_nomination(alloc, &mut given_out, configured, old_votes, votes)?;
-    push_vote(alloc, &mut given_out, configured, old_votes, votes)?;
-    push_decided(&mut given_out, old_votes, votes)?;
+    let round = new.given.round;
+    let is_round = round != old.given.round && new.votes.high.is_none();
+    push_when(&mut given_out, is_round, Out::ArmNomination(round))?;
+    let armed = new.votes.armed;
+    let is_armed = armed != old.votes.armed
+        && armed == counter_of(&new.votes.ballot)
+        && !is_externalized(new.votes.phase);
+    push_when(&mut given_out, is_armed, Out::ArmBallot(armed))?;
+    push_nomination(alloc, &mut given_out, configured, old.votes, new.votes)?;
+    push_vote(alloc, &mut given_out, configured, old.votes, new.votes)?;
+    push_decided(&mut given_out, old.votes, new.votes)?;
     Ok(given_out)
 }
 

@@ -8,7 +8,7 @@ use Rattle.slot.proofs.settling.settle_on.Goals as goal
 
 pub returns-then-is_same : goal.returns-then-is_same
 returns-then-is_same g c =
-    let f = part c.args.rules c.args.own.now (g.S.Sight.seen c.args.sight.now) c.args.given.now in
+    let f = part c.args.rules c.args.inputs.now.own.now (g.S.Sight.seen c.args.inputs.now.sight.now) c.args.inputs.now.given.now in
     let w = c.loop-number.settled in
     let next : c.in_ok-next.next ≡ f w = c.in_ok-next.ensures in
     let same : c.in_ok-next.next ≡ w = c.is_same.ensures.0 c.if-is_same.true in
@@ -16,7 +16,7 @@ returns-then-is_same g c =
 
 pub loop-number-preserved : goal.loop-number-preserved
 loop-number-preserved g c =
-    let f = part c.args.rules c.args.own.now (g.S.Sight.seen c.args.sight.now) c.args.given.now in
+    let f = part c.args.rules c.args.inputs.now.own.now (g.S.Sight.seen c.args.inputs.now.sight.now) c.args.inputs.now.given.now in
     let w = c.loop-number.settled in
     let next : c.in_ok-next.next ≡ f w = c.in_ok-next.ensures in
     let other : f w ≡ w → ⊥ = λ e. false≢true (sym c.if-is_same.false ∙ c.is_same.ensures.1 (next ∙ e)) in
@@ -24,7 +24,7 @@ loop-number-preserved g c =
 
 pub returns : goal.returns
 returns g c =
-    let f = part c.args.rules c.args.own.now (g.S.Sight.seen c.args.sight.now) c.args.given.now in
+    let f = part c.args.rules c.args.inputs.now.own.now (g.S.Sight.seen c.args.inputs.now.sight.now) c.args.inputs.now.given.now in
     let w = c.loop-number.settled in
     let at : c.loop-number.number ≡ 64 = omega arith in
     sym (settle-end f w) ∙ ap (λ (n : ℕ). settle (64 - n) f w) (sym at) ∙ c.loop-number.invariant

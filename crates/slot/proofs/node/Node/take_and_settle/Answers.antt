@@ -1,9 +1,8 @@
-use Rattle.std.proofs.Common.{refl, ◌≡◌, ◌∙◌, List, None, IfOk, OnOk, sym, ap, subst}
-use Rattle.std.specs.Prelude.{OnErr}
+use Rattle.std.proofs.Common.{refl, ◌∙◌, List, None, sym, ap, subst}
 use Rattle.std.proofs.lemmas.Bool.{false≢true}
 use Rattle.types.specs.declared.event.NodeEvent.TheVariants.{Take}
 use Rattle.types.specs.declared.event.Out.{Out}
-use Rattle.protocol.specs.Nodes.{Node, outs, step}
+use Rattle.protocol.specs.Nodes.{Node, outs}
 use Rattle.protocol.specs.Limits.{Reached}
 use Rattle.slot.specs.declared.configured.Configured.{Configured}
 use Rattle.latest.specs.declared.table.Put.{Put}
@@ -12,12 +11,11 @@ use Rattle.slot.specs.Listening.{Heard, node_of}
 use Rattle.slot.specs.Wholes.{whole}
 use Rattle.slot.specs.Filings.{outs_of}
 use Rattle.envstore.specs.Archives.{sent_of, sents_of}
-use Rattle.slot.proofs.Answered.{held_of, node_in}
+use Rattle.slot.proofs.Answered.{node_in}
 use Rattle.slot.proofs.StirredRows.{stirs-row}
-use Rattle.slot.proofs.Answered.{put-takes, settles-after, sends-after, step-is, change-put, change-stale, heard-same, put-undone, step-some, reached-some}
+use Rattle.slot.proofs.Answered.{put-takes, settles-after, sends-after, step-is, change-put, change-stale, heard-same, step-some, reached-some}
 use Rattle.slot.proofs.Idle.{first-taken, idle-stale, never}
 use Rattle.slot.proofs.node.Node.take_and_settle.Goals as goal
-use Rattle.slot.proofs.node.Node.take_and_settle.Goals.{in-Ok, in-Err}
 
 pub answer_anew-requires-clause-settles : goal.answer_anew-requires-clause-settles
 answer_anew-requires-clause-settles g c =
@@ -44,21 +42,14 @@ answer_anew-requires-clause-sends g c =
     let made = change-put i.listener k i.given i.votes i.votes n (sent_of c.args.envelope) c.put-put.result.0 (sym (ap node_in c.self.view_is)) c.put-put.ensures.put c.put-put.ensures.same c.in-Added.is refl in
     sends-after n (node_of k i.given i.votes) (Take (sent_of c.args.envelope)) (subst Reached (ap node_in c.self.view_is) c.self.invariant) made
 
-pub invariant_of-self-in-Added : goal.invariant_of-self-in-Added
-invariant_of-self-in-Added g c =
+pub invariant_of-self-in-Ok : goal.invariant_of-self-in-Ok
+invariant_of-self-in-Ok g c =
     let i = c.self.inside in
     let n = c.args.self.now.node in
     let k = c.put-put.new.self in
     let made = change-put i.listener k i.given i.votes i.votes n (sent_of c.args.envelope) c.put-put.result.0 (sym (ap node_in c.self.view_is)) c.put-put.ensures.put c.put-put.ensures.same c.in-Added.is refl in
-    let reached : Reached n = subst Reached (ap node_in c.self.view_is) c.self.invariant in
-    elim c.match-answer_anew.branch [
-      | in-Ok w ↦
-          let after = reached-some n (node_of k i.given i.votes) (Take (sent_of c.args.envelope)) w.in-Ok.field-0.votes reached made w.in-Ok.ensures.votes in
-          subst (λ x. Reached (node_of x.listener x.given x.votes)) (sym w.self-inside-is) (subst (λ (h : Heard). Reached (node_of h i.given w.in-Ok.field-0.votes)) (sym c.answer_anew.ensures.same) after)
-      | in-Err w ↦
-          let back = put-undone i.listener k c.answer_anew.new.listener w.undo.new.self c.put-put.result.0 w.undo.ensures c.answer_anew.ensures.same c.put-put.ensures.back c.put-put.ensures.same in
-          subst (λ x. Reached (node_of x.listener x.given x.votes)) (sym w.self-inside-is) (subst (λ (h : Heard). Reached (node_of h i.given i.votes)) (sym back) c.self.invariant)
-    ]
+    let after = reached-some n (node_of k i.given i.votes) (Take (sent_of c.args.envelope)) c.in-Ok.field-0.votes (subst Reached (ap node_in c.self.view_is) c.self.invariant) made c.in-Ok.ensures.votes in
+    subst (λ (h : Heard). Reached (node_of h i.given c.in-Ok.field-0.votes)) (sym c.answer_anew.ensures.same) after
 
 pub returns-in_ok-given_out-in-Stale-clause-node : goal.returns-in_ok-given_out-in-Stale-clause-node
 returns-in_ok-given_out-in-Stale-clause-node g c =
@@ -72,54 +63,28 @@ returns-in_ok-given_out-in-Stale-clause-outs g c =
     let stale = step-is c.args.self.now.node (Take (sent_of c.args.envelope)) None (change-stale i.listener.configured i.given i.votes (sents_of i.listener.table) c.args.self.now.node (sent_of c.args.envelope) (sym (ap node_in c.self.view_is)) (subst (λ (p : Put). IsPut c.self.inside.listener.table (sent_of c.args.envelope) p c.put-put.new.self.table) c.in-Stale.is c.put-put.ensures.put).0) in
     ap outs_of c.in_ok-given_out-in-Stale.ensures.outs ∙ sym (ap (λ (p : Node × List Out). p.1) stale)
 
-pub returns-after-answer_anew-clause-node : goal.returns-after-answer_anew-clause-node
-returns-after-answer_anew-clause-node g c =
+pub returns-in-Ok-clause-node : goal.returns-in-Ok-clause-node
+returns-in-Ok-clause-node g c =
     let i = c.self.inside in
     let n = c.args.self.now.node in
     let k = c.put-put.new.self in
-    let m = node_of k i.given i.votes in
     let made = change-put i.listener k i.given i.votes i.votes n (sent_of c.args.envelope) c.put-put.result.0 (sym (ap node_in c.self.view_is)) c.put-put.ensures.put c.put-put.ensures.same c.in-Added.is refl in
-    let now = c.match-answer_anew.self-inside in
-    let after = (step n (Take (sent_of c.args.envelope))).0 in
-    elim c.match-answer_anew.branch [
-      | in-Ok w ↦
-          let stepped = step-some n m (Take (sent_of c.args.envelope)) w.in-Ok.field-0.votes made w.in-Ok.ensures.votes in
-          subst (λ r. OnOk r (node_of now.listener now.given now.votes ≡ after)) (sym w.result-is)
-          (ap (λ x. node_of x.listener x.given x.votes) w.self-inside-is ∙ ap (λ (h : Heard). node_of h i.given w.in-Ok.field-0.votes) c.answer_anew.ensures.same ∙ sym (ap (λ (p : Node × List Out). p.0) stepped))
-      | in-Err w ↦ subst (λ r. OnOk r (node_of now.listener now.given now.votes ≡ after)) (sym w.result-is) tt
-    ]
+    let w = c.in-Ok.field-0.votes in
+    let stepped = step-some n (node_of k i.given i.votes) (Take (sent_of c.args.envelope)) w made c.in-Ok.ensures.votes in
+    ap (λ (h : Heard). node_of h i.given w) c.answer_anew.ensures.same ∙ sym (ap (λ (p : Node × List Out). p.0) stepped)
 
-pub returns-after-answer_anew-clause-err : goal.returns-after-answer_anew-clause-err
-returns-after-answer_anew-clause-err g c =
-    let i = c.self.inside in
-    let n = c.args.self.now in
-    let k = c.put-put.new.self in
-    let now = c.match-answer_anew.self-inside in
-    elim c.match-answer_anew.branch [
-      | in-Ok w ↦ subst (λ r. OnErr r (held_of now.listener now.given now.votes ≡ n)) (sym w.result-is) tt
-      | in-Err w ↦
-          let back = put-undone i.listener k c.answer_anew.new.listener w.undo.new.self c.put-put.result.0 w.undo.ensures c.answer_anew.ensures.same c.put-put.ensures.back c.put-put.ensures.same in
-          subst (λ r. OnErr r (held_of now.listener now.given now.votes ≡ n)) (sym w.result-is)
-          (ap (λ x. held_of x.listener x.given x.votes) w.self-inside-is ∙ ap (λ (h : Heard). held_of h i.given i.votes) back ∙ c.self.view_is)
-    ]
-
-pub returns-after-answer_anew-clause-outs : goal.returns-after-answer_anew-clause-outs
-returns-after-answer_anew-clause-outs g c =
+pub returns-in-Ok-clause-outs : goal.returns-in-Ok-clause-outs
+returns-in-Ok-clause-outs g c =
     let i = c.self.inside in
     let n = c.args.self.now.node in
     let k = c.put-put.new.self in
-    let m = node_of k i.given i.votes in
     let made = change-put i.listener k i.given i.votes i.votes n (sent_of c.args.envelope) c.put-put.result.0 (sym (ap node_in c.self.view_is)) c.put-put.ensures.put c.put-put.ensures.same c.in-Added.is refl in
-    let given_out = (step n (Take (sent_of c.args.envelope))).1 in
-    elim c.match-answer_anew.branch [
-      | in-Ok w ↦
-          let stepped = step-some n m (Take (sent_of c.args.envelope)) w.in-Ok.field-0.votes made w.in-Ok.ensures.votes in
-          let old = ap (λ (c : Configured). whole c i.given i.votes (sents_of i.listener.table)) c.put-put.ensures.same ∙ (ap node_in c.self.view_is) in
-          let from = ap (λ (x : Node). outs x (record m { votes = w.in-Ok.field-0.votes })) old in
-          subst (λ r. IfOk r (λ v. outs_of v.outs.items ≡ given_out)) (sym w.result-is)
-          (w.in-Ok.ensures.outs (sents_of i.listener.table) (sents_of k.table) ∙ from ∙ sym (ap (λ (p : Node × List Out). p.1) stepped))
-      | in-Err w ↦ subst (λ r. IfOk r (λ v. outs_of v.outs.items ≡ given_out)) (sym w.result-is) tt
-    ]
+    let m = node_of k i.given i.votes in
+    let w = c.in-Ok.field-0.votes in
+    let stepped = step-some n m (Take (sent_of c.args.envelope)) w made c.in-Ok.ensures.votes in
+    let old = ap (λ (c : Configured). whole c i.given i.votes (sents_of i.listener.table)) c.put-put.ensures.same ∙ ap node_in c.self.view_is in
+    let from = ap (λ (x : Node). outs x (record m { votes = w })) old in
+    c.in-Ok.ensures.outs (sents_of i.listener.table) (sents_of k.table) ∙ from ∙ sym (ap (λ (p : Node × List Out). p.1) stepped)
 
 pub returns-in-NoMemory-clause-idle : goal.returns-in-NoMemory-clause-idle
 returns-in-NoMemory-clause-idle g c = λ none idle.
@@ -127,8 +92,8 @@ returns-in-NoMemory-clause-idle g c = λ none idle.
     let stale = idle-stale i.listener.configured i.given i.votes (sents_of i.listener.table) c.args.self.now.node (sent_of c.args.envelope) (sym (ap node_in c.self.view_is)) idle in
     absurd (false≢true (sym stale ∙ first-taken (sents_of i.listener.table) (sent_of c.args.envelope) (subst (λ (p : Put). IsPut c.self.inside.listener.table (sent_of c.args.envelope) p c.put-put.new.self.table) c.in-NoMemory.is c.put-put.ensures.put).0))
 
-pub returns-after-answer_anew-clause-idle : goal.returns-after-answer_anew-clause-idle
-returns-after-answer_anew-clause-idle g c = λ none idle.
+pub returns-in-Err-clause-idle : goal.returns-in-Err-clause-idle
+returns-in-Err-clause-idle g c = λ none idle.
     let i = c.self.inside in
     let n = c.args.self.now.node in
     let k = c.put-put.new.self in
