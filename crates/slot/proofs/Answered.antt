@@ -27,7 +27,7 @@ use Rattle.envstore.specs.declared.filed.Filed.{Filed}
 use Rattle.envstore.specs.Archives.{sents_of}
 use Rattle.latest.specs.declared.table.Put.{Put}
 use Rattle.latest.specs.declared.table.Put.TheVariants.{Stale, NoMemory, Added, Replaced}
-use Rattle.latest.specs.Puts.{IsPut, undone}
+use Rattle.latest.specs.Puts.{IsPut}
 use Rattle.slot.specs.declared.configured.Configured.{Configured}
 use Rattle.slot.specs.Listening.{Heard, Held, is_put, node_of}
 use Rattle.slot.specs.declared.filed.GivenOut.{GivenOut}
@@ -37,9 +37,6 @@ use Rattle.slot.specs.Wholes.{whole, led, SendWellFormed}
 -- the node that is held
 abbrev pub node_in : Held → Node
 node_in h = h.node
-
-abbrev pub held_of : Heard → Given → Votes → Held
-held_of h given votes = record { node = node_of h given votes; rows = h.table }
 
 -- the votes that an event changes settle within the limit
 pub settles-after : (n m : Node) (e : NodeEvent) → Reached n → change n e ≡ Some m → IsTrue (is_some (settle 64 (passed m) m.votes))
@@ -158,18 +155,10 @@ pub change-slices : (h k : Heard) (given : Given) (votes w : Votes) (n : Node) (
 unfolding change
 change-slices h k given votes w n q e ek ew = ap (λ m. change m (Reslice q)) e ∙ (λ i. Some (node_of (sym ek i) given (sym ew i)))
 
--- slices that are put back after an answer
-pub slices-back : (h k a u : Heard) (q old : Slices) → u ≡ with_slices a old → a ≡ k → k ≡ with_slices h q → old ≡ h.configured.slices → u ≡ h
-slices-back h k a u q old e same ek eo = e ∙ ap (λ (l : Heard). with_slices l old) (same ∙ ek) ∙ ap (λ (s : Slices). with_slices h s) eo
-
 -- what is given out does not depend on the slices before the event
 pub outs-by_new : (c d : Configured) (given : Given) (votes : Votes) (before table : List Sent) (new : Node) → outs (whole c given votes before) new ≡ outs (whole d given votes table) new
 unfolding outs
 outs-by_new c d given votes before table new = refl
-
--- a put that is undone after an answer
-pub put-undone : (h k a u : Heard) (p : Put) → u ≡ record a { table = undone p a.table } → a ≡ k → undone p k.table ≡ h.table → k.configured ≡ h.configured → u ≡ h
-put-undone h k a u p e same back c = e ∙ ap (λ (l : Heard). record l { table = undone p l.table }) same ∙ heard-same h (record k { table = undone p k.table }) c back
 
 -- ---- whole steps
 -- the votes settle
