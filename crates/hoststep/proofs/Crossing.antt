@@ -37,6 +37,7 @@ use Rattle.network.specs.contracts.open_slot.OpenSlot as OpenSlot
 use Rattle.network.specs.contracts.slot_index.SlotIndex as SlotIndex
 use Rattle.network.specs.contracts.open_slots.OpenSlots as OpenSlots
 use Rattle.network.specs.contracts.network.Network as Network
+use Rattle.hoststep.specs.contracts.event_room.EventRoom as EventRoom
 use Rattle.hoststep.specs.contracts.kept.KeptEvent as KeptEvent
 use Rattle.hoststep.specs.contracts.kept.Kept as Kept
 use Rattle.hoststep.specs.contracts.journal.Journal as Journal
@@ -163,10 +164,16 @@ kept_event_send : IsSend (KeptEvent.the_field.row)
 kept_event_send = search (sendable, crosses, event_send, kind.the_field_send) depth 40
 
 kept_sync : IsSync (Kept.the_row)
-kept_sync = search (sendable, crosses, kept_event_sync, out_sync) depth 40
+kept_sync = search (sendable, crosses, kept_event_sync) depth 40
 
 kept_send : IsSend (Kept.the_row)
-kept_send = search (sendable, crosses, kept_event_send, out_send) depth 40
+kept_send = search (sendable, crosses, kept_event_send) depth 40
+
+room_sync : IsSync (EventRoom.the_field.row)
+room_sync = search (sendable, crosses, event_sync) depth 40
+
+room_send : IsSend (EventRoom.the_field.row)
+room_send = search (sendable, crosses, event_send) depth 40
 
 module _ (S P : RattleType) (g : Ghosts S.Denot P.Denot) where
   archive_sync : IsSync S → IsSync P → IsSync (Archive.the_row S P g)
@@ -182,10 +189,10 @@ module _ (S P : RattleType) (g : Ghosts S.Denot P.Denot) where
   network_send s p = let a = archive_send s p in search (sendable, crosses, config_send, slots_send) depth 40
 
   pub journal_sync : IsSync S → IsSync P → IsSync (Journal.the_row S P g)
-  journal_sync s p = let a = network_sync s p in search (sendable, crosses, kept_sync) depth 40
+  journal_sync s p = let a = network_sync s p in search (sendable, crosses, kept_sync, out_sync, room_sync) depth 40
 
   pub journal_send : IsSend S → IsSend P → IsSend (Journal.the_row S P g)
-  journal_send s p = let a = network_send s p in search (sendable, crosses, kept_send) depth 40
+  journal_send s p = let a = network_send s p in search (sendable, crosses, kept_send, out_send, room_send) depth 40
 
   pub world_sync : IsSync S → IsSync P → IsSync (World.the_row S P g)
   world_sync s p = let a = journal_sync s p in search (sendable, crosses) depth 40

@@ -1,9 +1,10 @@
 -- A journal that grows by one entry.
-use Rattle.std.proofs.Common.{◌≡◌, ◌⊎◌, ℕ, zero, suc, ◌<◌, ◌≤◌, Bool, true, false, not, ◌||◌, ◌==◌, if◌then◌else◌, replicate, List, [], ◌∷◌, ◌++◌, length, map, take, Option, Some, None, refl, sym, ap, ◌∙◌, subst, inl, inr, ⊎_elim, arith, slice_get, get_or}
+use Rattle.std.proofs.Common.{Vec, ◌≡◌, ◌⊎◌, ℕ, zero, suc, ◌<◌, ◌≤◌, Bool, true, false, not, ◌||◌, ◌==◌, if◌then◌else◌, replicate, List, [], ◌∷◌, ◌++◌, length, map, take, Option, Some, None, refl, sym, ap, ◌∙◌, subst, inl, inr, ⊎_elim, arith, slice_get, get_or}
 use Rattle.std.proofs.lemmas.List.{map-append, take-append-le}
 use Rattle.std.proofs.lemmas.List.Elements.{All-append, All-cons, All-nil}
 use Rattle.std.proofs.Math.Seq.{take-append_seam}
 use Rattle.std.proofs.lemmas.Option.{slice_get_within}
+use Rattle.std.specs.Global.{Global}
 use Rattle.types.specs.Statements.{Sent}
 use Rattle.types.specs.declared.event.Out.{Out}
 use Rattle.types.specs.declared.event.Refusal.{Refusal}
@@ -21,9 +22,11 @@ use Rattle.network.specs.Answers.{IsApplied}
 use Rattle.network.specs.declared.applied.Applied.{Applied}
 use Rattle.network.specs.Standing.{IsStep, Standing, StandsFor, machine_of}
 use Rattle.hoststep.specs.declared.kept.Kept.{Kept}
+use Rattle.hoststep.specs.declared.outs_place.OutsPlace.{OutsPlace}
+use Rattle.hoststep.specs.Giving.{IsListedIn, kept_outs}
 use Rattle.hoststep.specs.declared.kept.KeptEvent.{KeptEvent}
 use Rattle.hoststep.specs.declared.kept.KeptEvent.TheVariants as events
-use Rattle.hoststep.specs.Hosting.{AreHosted}
+use Rattle.hoststep.specs.Hosting.{NamesHosts}
 use Rattle.hoststep.specs.Keeping.{AreKept, IsKeptEvent, IsReadable, entry_of, step_in}
 use Rattle.hoststep.specs.Entering.{IsEnteredWith, outs_after}
 use Rattle.hoststep.specs.Logs.{IsJournal, Log, extended}
@@ -91,7 +94,7 @@ passed-both true true c o h = (refl, refl)
 passed-both true false c o h = absurd (cc)
 passed-both false b c o h = absurd (cc)
 
-all-hosted : (net : Net) (e : Step) → first_that (tests net e) ≡ None → AreHosted net.hosts e
+all-hosted : (net : Net) (e : Step) → first_that (tests net e) ≡ None → NamesHosts net.hosts e
 all-hosted net (Opens i) h = tt
 all-hosted net (Closes i) h = tt
 all-hosted net (Asks i u x) h = passed (is_hosted net u) _ h
@@ -121,6 +124,13 @@ journal-grows old new es e os h step same = record {
     grown = es ++ x ∷ []
 
 -- ---- what is kept
+abbrev pub OutsLists : Type 0
+OutsLists = List (Vec FiledOut Global)
+
+-- what stands in its place stands there still
+abbrev pub OutsStay : OutsLists → OutsLists → Type 0
+OutsStay before after = (p : OutsPlace) → IsListedIn before p → IsListedIn after p
+
 event-stays : (hosts : List Host) (old new : List Sent) (x : KeptEvent) → Keeps old new → IsKeptEvent hosts old x → IsKeptEvent hosts new x
 event-stays hosts old new (events.OpenSlot i) kept h = tt
 event-stays hosts old new (events.CloseSlot i) kept h = tt
@@ -136,58 +146,66 @@ out-stays old new (FiledOut.ArmBallot n) kept h = tt
 out-stays old new (FiledOut.Emit f) kept h = (kept f h.0, h.1)
 out-stays old new (FiledOut.Externalized x) kept h = tt
 
-pub kept-still : (hosts : List Host) (old new : List Sent) (xs : List Kept) → Keeps old new → AreKept hosts old xs → AreKept hosts new xs
-kept-still hosts old new xs kept all =
-    λ k d l. (event-stays hosts old new (get_or xs k d).event kept (all k d l).0, λ j c m. out-stays old new (get_or (get_or xs k d).outs.items j c) kept ((all k d l).1 j c m))
+pub kept-still : (hosts : List Host) (old new : List Sent) (before after : OutsLists) (xs : List Kept) → Keeps old new → OutsStay before after → AreKept hosts old before xs → AreKept hosts new after xs
+kept-still hosts old new before after xs kept stay all =
+    λ k d l. (event-stays hosts old new (get_or xs k d).event kept (all k d l).0, stay (get_or xs k d).outs (all k d l).1, λ j c m. out-stays old new (get_or (kept_outs (get_or xs k d).outs) j c) kept ((all k d l).2 j c m))
 
-pub kept-more : (hosts : List Host) (old new : List Sent) (xs : List Kept) (x : Kept) → Keeps old new → AreKept hosts old xs → IsKeptEvent hosts new x.event → AreFiledOuts new x.outs.items → AreKept hosts new (xs ++ x ∷ [])
-kept-more hosts old new xs x kept all event outs =
-    let P : Kept → Type 0 = λ y. IsKeptEvent hosts new y.event × AreFiledOuts new y.outs.items in
-    All-append P xs (x ∷ []) (kept-still hosts old new xs kept all) (All-cons P x [] (event, outs) (All-nil P))
+pub kept-more : (hosts : List Host) (old new : List Sent) (before after : OutsLists) (xs : List Kept) (x : Kept) → Keeps old new → OutsStay before after → AreKept hosts old before xs
+    → IsKeptEvent hosts new x.event → IsListedIn after x.outs → AreFiledOuts new (kept_outs x.outs) → AreKept hosts new after (xs ++ x ∷ [])
+kept-more hosts old new before after xs x kept stay all event listed outs =
+    let P : Kept → Type 0 = λ y. IsKeptEvent hosts new y.event × IsListedIn after y.outs × AreFiledOuts new (kept_outs y.outs) in
+    All-append P xs (x ∷ []) (kept-still hosts old new before after xs kept stay all) (All-cons P x [] (event, listed, outs) (All-nil P))
 
 -- ---- an event that is entered
--- the entries are a run that leads to the machine, and the hosts and the archive have what they keep
-abbrev pub Stands : Standing → List Kept → Type 0
-Stands m xs = IsJournal (machine_of m) (map entry_of xs) × AreKept m.config.hosts m.archive xs
+-- the entries are a run that leads to the machine, and the hosts, the archive and the lists have what they keep
+abbrev pub Stands : Standing → OutsLists → List Kept → Type 0
+Stands m lists xs = IsJournal (machine_of m) (map entry_of xs) × AreKept m.config.hosts m.archive lists xs
 
 abbrev pub log_of : Standing → List Kept → Log
 log_of m xs = record { config = m.config; entries = map entry_of xs }
 
-next-of : (old new : Standing) (xs : List Kept) (e : Step) (count : ℕ) (a : Applied) → Stands old xs → IsApplied old e count new a → IsNext old.config (map entry_of xs) (record { event = e; outs = outs_of a.outs.items })
-next-of old new xs e count a h d = applied-next old new (map entry_of xs) e (outs_of a.outs.items) h.0 d.step
+next-of : (old new : Standing) (lists : OutsLists) (xs : List Kept) (e : Step) (count : ℕ) (a : Applied) → Stands old lists xs → IsApplied old e count new a → IsNext old.config (map entry_of xs) (record { event = e; outs = outs_of a.outs.items })
+next-of old new lists xs e count a h d = applied-next old new (map entry_of xs) e (outs_of a.outs.items) h.0 d.step
 
-pub is-readable : (old new : Standing) (xs : List Kept) (e : Step) (count : ℕ) (a : Applied) → Stands old xs → IsApplied old e count new a → IsReadable e
-is-readable old new xs e count a h d = readable (state_of old.config (map entry_of xs)) e (next-of old new xs e count a h d).0
+pub is-readable : (old new : Standing) (lists : OutsLists) (xs : List Kept) (e : Step) (count : ℕ) (a : Applied) → Stands old lists xs → IsApplied old e count new a → IsReadable e
+is-readable old new lists xs e count a h d = readable (state_of old.config (map entry_of xs)) e (next-of old new lists xs e count a h d).0
 
-pub is-hosted : (old new : Standing) (config : Config) (xs : List Kept) (e : Step) (count : ℕ) (a : Applied) → Stands old xs → IsApplied old e count new a → config ≡ new.config → new.config ≡ old.config → AreHosted config.hosts e
-is-hosted old new config xs e count a h d is same =
+pub names-hosts : (old new : Standing) (config : Config) (lists : OutsLists) (xs : List Kept) (e : Step) (count : ℕ) (a : Applied) → Stands old lists xs → IsApplied old e count new a → config ≡ new.config → new.config ≡ old.config → NamesHosts config.hosts e
+names-hosts old new config lists xs e count a h d is same =
     let net = state_of old.config (map entry_of xs) in
-    subst (λ (k : Config). AreHosted k.hosts e) (sym (is ∙ same)) (subst (λ (n : Net). AreHosted n.hosts e) h.0.state.is (all-hosted net e (next-of old new xs e count a h d).0))
+    subst (λ (k : Config). NamesHosts k.hosts e) (sym (is ∙ same)) (subst (λ (n : Net). NamesHosts n.hosts e) h.0.state.is (all-hosted net e (next-of old new lists xs e count a h d).0))
 
-pub entered-with : (l : Log) (old new : Standing) (xs : List Kept) (e : Step) (count : ℕ) (a : Applied) → log_of old xs ≡ l → Stands old xs → IsApplied old e count new a → IsEnteredWith l e count (record { marks = a.marks; copies = a.copies })
-entered-with l old new xs e count a is h d =
-    let next = next-of old new xs e count a h d in
+pub entered-with : (l : Log) (old new : Standing) (lists : OutsLists) (xs : List Kept) (e : Step) (count : ℕ) (a : Applied) → log_of old xs ≡ l → Stands old lists xs → IsApplied old e count new a → IsEnteredWith l e count (record { marks = a.marks; copies = a.copies })
+entered-with l old new lists xs e count a is h d =
+    let next = next-of old new lists xs e count a h d in
     subst (λ (k : Log). IsEnteredWith k e count (record { marks = a.marks; copies = a.copies })) is
     (record { free = next.0; marks = d.marks (state_of old.config (map entry_of xs)) h.0.state; copies = d.copies ∙ ap (λ (os : List Out). replicate count os) next.1 })
 
-more : (xs ys zs : List Kept) (x : Kept) (e : Step) → ys ≡ xs → zs ≡ ys ++ x ∷ [] → step_in x.event ≡ e → map entry_of zs ≡ map entry_of xs ++ record { event = e; outs = outs_of x.outs.items } ∷ []
-more xs ys zs x e same is step =
-    ap (map entry_of) (is ∙ ap (λ (l : List Kept). l ++ x ∷ []) same) ∙ map-append entry_of xs (x ∷ []) ∙ ap (λ (s : Step). map entry_of xs ++ record { event = s; outs = outs_of x.outs.items } ∷ []) step
+-- what an entry more is made of: the event, and what was given out in its place of the lists
+pub record IsEntryFor (lists : OutsLists) (e : Step) (outs : List FiledOut) (x : Kept) : Type 0 where
+  pub step : step_in x.event ≡ e
+  pub gave : kept_outs x.outs ≡ outs
+  pub listed : IsListedIn lists x.outs
 
-pub stands-more : (old new : Standing) (hosting : Config) (xs ys zs : List Kept) (event : KeptEvent) (e : Step) (count : ℕ) (a : Applied) → Stands old xs → IsApplied old e count new a → hosting ≡ new.config → new.config ≡ old.config
-    → Keeps old.archive new.archive → ys ≡ xs → zs ≡ ys ++ record { event = event; outs = a.outs } ∷ [] → step_in event ≡ e → IsKeptEvent hosting.hosts new.archive event → Stands new zs
-stands-more old new hosting xs ys zs event e count a h d there config kept same is step filed =
-    let x : Kept = record { event = event; outs = a.outs } in
-    let before : AreKept new.config.hosts old.archive xs = subst (λ (k : Config). AreKept k.hosts old.archive xs) (sym config) h.1 in
-    let mine : IsKeptEvent new.config.hosts new.archive event = subst (λ (k : Config). IsKeptEvent k.hosts new.archive event) there filed in (
-      subst (λ (es : List Entry). IsJournal (machine_of new) es) (sym (more xs ys zs x e same is step)) (journal-grows old new (map entry_of xs) e (outs_of a.outs.items) h.0 d.step config),
-      subst (λ (l : List Kept). AreKept new.config.hosts new.archive l) (sym (is ∙ ap (λ (l : List Kept). l ++ x ∷ []) same)) (kept-more new.config.hosts old.archive new.archive xs x kept before mine d.outs),
+more : (xs ys zs : List Kept) (lists : OutsLists) (x : Kept) (e : Step) (os : List FiledOut) → ys ≡ xs → zs ≡ ys ++ x ∷ [] → IsEntryFor lists e os x → map entry_of zs ≡ map entry_of xs ++ record { event = e; outs = outs_of os } ∷ []
+more xs ys zs lists x e os same is entry =
+    ap (map entry_of) (is ∙ ap (λ (l : List Kept). l ++ x ∷ []) same) ∙ map-append entry_of xs (x ∷ [])
+    ∙ ap (λ (s : Step). map entry_of xs ++ record { event = s; outs = outs_of (kept_outs x.outs) } ∷ []) entry.step
+    ∙ ap (λ (l : List FiledOut). map entry_of xs ++ record { event = e; outs = outs_of l } ∷ []) entry.gave
+
+pub stands-more : (old new : Standing) (hosting : Config) (before after : OutsLists) (xs ys zs : List Kept) (x : Kept) (e : Step) (count : ℕ) (a : Applied) → Stands old before xs → IsApplied old e count new a → hosting ≡ new.config → new.config ≡ old.config
+    → Keeps old.archive new.archive → OutsStay before after → ys ≡ xs → zs ≡ ys ++ x ∷ [] → IsEntryFor after e a.outs.items x → IsKeptEvent hosting.hosts new.archive x.event → Stands new after zs
+stands-more old new hosting before after xs ys zs x e count a h d there config kept stay same is entry filed =
+    let earlier : AreKept new.config.hosts old.archive before xs = subst (λ (k : Config). AreKept k.hosts old.archive before xs) (sym config) h.1 in
+    let mine : IsKeptEvent new.config.hosts new.archive x.event = subst (λ (k : Config). IsKeptEvent k.hosts new.archive x.event) there filed in
+    let outs : AreFiledOuts new.archive (kept_outs x.outs) = subst (λ (os : List FiledOut). AreFiledOuts new.archive os) (sym entry.gave) d.outs in (
+      subst (λ (es : List Entry). IsJournal (machine_of new) es) (sym (more xs ys zs after x e a.outs.items same is entry)) (journal-grows old new (map entry_of xs) e (outs_of a.outs.items) h.0 d.step config),
+      subst (λ (l : List Kept). AreKept new.config.hosts new.archive after l) (sym (is ∙ ap (λ (l : List Kept). l ++ x ∷ []) same)) (kept-more new.config.hosts old.archive new.archive before after xs x kept stay earlier mine entry.listed outs),
     )
 
-pub log-grows : (l : Log) (old new : Standing) (xs ys zs : List Kept) (event : KeptEvent) (e : Step) (count : ℕ) (a : Applied) → log_of old xs ≡ l → Stands old xs → IsApplied old e count new a → new.config ≡ old.config
-    → ys ≡ xs → zs ≡ ys ++ record { event = event; outs = a.outs } ∷ [] → step_in event ≡ e → log_of new zs ≡ extended l e (outs_after l e)
-log-grows l old new xs ys zs event e count a of h d config same is step =
-    let next = next-of old new xs e count a h d in
-    let x : Kept = record { event = event; outs = a.outs } in
+pub log-grows : (l : Log) (old new : Standing) (before after : OutsLists) (xs ys zs : List Kept) (x : Kept) (e : Step) (count : ℕ) (a : Applied) → log_of old xs ≡ l → Stands old before xs → IsApplied old e count new a → new.config ≡ old.config
+    → ys ≡ xs → zs ≡ ys ++ x ∷ [] → IsEntryFor after e a.outs.items x → log_of new zs ≡ extended l e (outs_after l e)
+log-grows l old new before after xs ys zs x e count a of h d config same is entry =
+    let next = next-of old new before xs e count a h d in
     subst (λ (k : Log). log_of new zs ≡ extended k e (outs_after k e)) of
-    (λ i. record { config = config i; entries = (more xs ys zs x e same is step ∙ ap (λ (os : List Out). map entry_of xs ++ record { event = e; outs = os } ∷ []) next.1) i })
+    (λ i. record { config = config i; entries = (more xs ys zs after x e a.outs.items same is entry ∙ ap (λ (os : List Out). map entry_of xs ++ record { event = e; outs = os } ∷ []) next.1) i })

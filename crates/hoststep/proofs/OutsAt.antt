@@ -7,6 +7,7 @@ use Rattle.types.specs.declared.event.Out.{Out}
 use Rattle.protocol.specs.Hosts.{Entry}
 use Rattle.slot.specs.Filings.{outs_of}
 use Rattle.hoststep.specs.declared.kept.Kept.{Kept}
+use Rattle.hoststep.specs.Giving.{kept_outs}
 use Rattle.hoststep.specs.Keeping.{entry_of}
 use Rattle.hoststep.specs.Lending.{outs_at, outs_in}
 
@@ -22,7 +23,7 @@ none_there kept xs entries n outs is same past =
     not-below a b h = grind (arith, nat_tests, h)
 
 -- at its number
-pub given_there : (kept xs : List Kept) (entries : List Entry) (n : ℕ) (x : Kept) → map entry_of kept ≡ entries → xs ≡ kept → true ≡ nat_lt n (length xs) → x ≡ get_or xs n x → outs_of x.outs.items ≡ outs_at entries n
+pub given_there : (kept xs : List Kept) (entries : List Entry) (n : ℕ) (x : Kept) → map entry_of kept ≡ entries → xs ≡ kept → true ≡ nat_lt n (length xs) → x ≡ get_or xs n x → outs_of (kept_outs x.outs) ≡ outs_at entries n
 given_there kept xs entries n x is same within at =
     ap outs_in (sym (looked-up kept entries n (Some x) is (ap (λ (ys : List Kept). slice_get ys n) (sym same) ∙ slice_get_read xs (length xs) n x refl (below n (length xs) within) at)))
   where

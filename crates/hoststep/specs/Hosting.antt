@@ -13,16 +13,16 @@ abbrev pub IsHostAt : List Host → HostPlace → Type 0
 IsHostAt hosts p = option_map (λ h. h.name) (slice_get hosts p.place) ≡ Some (host_name p)
 
 -- a node of that name is hosted
-abbrev pub IsHosted : List Host → ℕ → Type 0
-IsHosted hosts u = is_some (slices_of hosts u) ≡ true
+abbrev pub IsHostName : List Host → ℕ → Type 0
+IsHostName hosts u = is_some (slices_of hosts u) ≡ true
 
 -- the node whose event it is, and the one that is heard, are hosted
-abbrev pub AreHosted : List Host → Step → Type 0
-AreHosted hosts (Opens i) = ⊤
-AreHosted hosts (Closes i) = ⊤
-AreHosted hosts (Asks i u x) = IsHosted hosts u
-AreHosted hosts (Delivers u size d) = IsHosted hosts u
-AreHosted hosts (Hears i u from kind k) = IsHosted hosts u × IsHosted hosts from
-AreHosted hosts (NominationTimes i u r) = IsHosted hosts u
-AreHosted hosts (BallotTimes i u n) = IsHosted hosts u
-AreHosted hosts (Reslices i u q) = IsHosted hosts u
+abbrev pub NamesHosts : List Host → Step → Type 0
+NamesHosts hosts (Opens i) = ⊤
+NamesHosts hosts (Closes i) = ⊤
+NamesHosts hosts (Asks i u x) = IsHostName hosts u
+NamesHosts hosts (Delivers u size d) = IsHostName hosts u
+NamesHosts hosts (Hears i u from kind k) = IsHostName hosts u × IsHostName hosts from
+NamesHosts hosts (NominationTimes i u r) = IsHostName hosts u
+NamesHosts hosts (BallotTimes i u n) = IsHostName hosts u
+NamesHosts hosts (Reslices i u q) = IsHostName hosts u

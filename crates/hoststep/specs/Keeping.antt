@@ -1,5 +1,6 @@
 -- Entries of a journal as they are kept, and what they stand for.
-use Rattle.std.specs.Prelude.{◌≡◌, ℕ, true, List, box_value, length, ⊤}
+use Rattle.std.specs.Prelude.{◌≡◌, ℕ, true, Vec, List, box_value, length, ⊤}
+use Rattle.std.specs.Global.{Global}
 use Rattle.std.specs.List.{All}
 use Rattle.types.specs.Statements.{Sent}
 use Rattle.codec.specs.Spelling.{spelling}
@@ -9,9 +10,11 @@ use Rattle.protocol.specs.Networks.Reading.{Read, Fault}
 use Rattle.protocol.specs.Networks.Step.{Opens, Closes, Delivers, Hears, NominationTimes, BallotTimes}
 use Rattle.envstore.specs.Archives.{IsFiled, sent_of}
 use Rattle.slot.specs.Filings.{AreFiledOuts, outs_of}
+use Rattle.slot.specs.declared.filed.FiledOut.{FiledOut}
 use Rattle.network.specs.Decoding.{step_of}
 use Rattle.hoststep.specs.Hosting.{IsHostAt, host_name}
-use Rattle.hoststep.specs.Incomings.{is_large}
+use Rattle.hoststep.specs.Boxing.{is_large}
+use Rattle.hoststep.specs.Giving.{IsListedIn, kept_outs}
 use Rattle.hoststep.specs.declared.kept.Kept.{Kept}
 use Rattle.hoststep.specs.declared.kept.KeptEvent.{KeptEvent}
 use Rattle.hoststep.specs.declared.kept.KeptEvent.TheVariants.{OpenSlot, CloseSlot, Deliver, Hear, NominationTimer, BallotTimer, Large}
@@ -27,7 +30,7 @@ step_in (BallotTimer u n i) = BallotTimes i (host_name u) n
 step_in (Large b) = step_of (box_value b)
 
 abbrev pub entry_of : Kept → Entry
-entry_of x = record { event = step_in x.event; outs = outs_of x.outs.items }
+entry_of x = record { event = step_in x.event; outs = outs_of (kept_outs x.outs) }
 
 -- a delivery's bytes are an envelope
 abbrev pub IsReadable : Step → Type 0
@@ -49,6 +52,6 @@ IsKeptEvent hosts archive (NominationTimer u r i) = IsHostAt hosts u
 IsKeptEvent hosts archive (BallotTimer u n i) = IsHostAt hosts u
 IsKeptEvent hosts archive (Large b) = is_large (box_value b) ≡ true
 
--- and those that were given out
-abbrev pub AreKept : List Host → List Sent → List Kept → Type 0
-AreKept hosts archive xs = All (λ x. IsKeptEvent hosts archive x.event × AreFiledOuts archive x.outs.items) xs
+-- that of each entry; what it gave out stands in its place of the lists, and the archive has what was emitted
+abbrev pub AreKept : List Host → List Sent → List (Vec FiledOut Global) → List Kept → Type 0
+AreKept hosts archive lists xs = All (λ x. IsKeptEvent hosts archive x.event × IsListedIn lists x.outs × AreFiledOuts archive (kept_outs x.outs)) xs

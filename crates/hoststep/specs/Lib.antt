@@ -1,6 +1,7 @@
 pub mod Logs
 pub mod Hosting
-pub mod Incomings
+pub mod Boxing
+pub mod Giving
 pub mod Keeping
 pub mod Entering
 pub mod Worlds

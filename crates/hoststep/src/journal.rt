@@ -7,19 +7,20 @@ ghost use Rattle.network.specs.Decoding.{step_of};
 ghost use Rattle.network.specs.Standing.{slices_at};
 ghost use Rattle.hoststep.specs.Logs.{IsEntered, IsEntryAt, IsRecorded, IsRefused, extended};
 ghost use Rattle.hoststep.specs.Entering.{IsEnteredWith, outs_after};
-ghost use Rattle.hoststep.specs.Incomings.{IsPacked, event_in};
 ghost use Rattle.hoststep.specs.Lending.{lent_step, outs_at};
 ghost use Rattle.hoststep.specs.Deciding.{decided_by, decisions_at};
 
 use crate::entered::{Entered, both_copies, only_copy};
-use crate::incoming::Incoming;
+use crate::event_room::EventRoom;
 use crate::kept::{Kept, kept_event, push_whole_outs, whole_event};
 use crate::lent_decision::{LentDecision, lent_decision};
 use crate::lent_event::{LentEvent, lent_event};
+use crate::outs_place::OutsPlace;
 use crate::recorded::Recorded;
 use configuration::NetConfig;
 use envstore::Shelf;
 use network::{Applied, Network};
+use slot::FiledOut;
 use std::alloc::{AllocError, Global};
 use std::marker::Model;
 use types::{Event, Nested, NodeId, Out, Refusal};
@@ -34,6 +35,9 @@ pub struct Journal<S: Shelf> {
     alloc: Global,
     network: Network<S>,
     entries: Vec<Kept>,
+    /// What was given out, a list for each entry that gave anything out.
+    given: Vec<Vec<FiledOut>>,
+    room: EventRoom,
 }
 
 impl<S: Shelf> Model for Journal<S> {
@@ -50,7 +54,7 @@ impl<S: Shelf> Model for Journal<S> {
 
     ghost view = { λ j. record { config = j.network.config; entries = map entry_of j.entries.items } };
 
-    ghost invariant = { λ j. IsJournal (machine_of j.network) (map entry_of j.entries.items) × AreKept j.network.config.hosts j.network.archive j.entries.items };
+    ghost invariant = { λ j. IsJournal (machine_of j.network) (map entry_of j.entries.items) × AreKept j.network.config.hosts j.network.archive j.given.items j.entries.items };
 }
 
 impl<S: Shelf> Journal<S> {
@@ -62,6 +66,8 @@ impl<S: Shelf> Journal<S> {
             alloc,
             network: Network::new(alloc, config, shelf),
             entries: Vec::new(alloc),
+            given: Vec::new(alloc),
+            room: EventRoom::nothing(),
         }
     }
 
@@ -148,33 +154,22 @@ impl<S: Shelf> Journal<S> {
         ensures err { IfErr result (IsRefused self.old (step_of event)) }
         ensures same { OnErr result (self.new ≡ self.old) }
     {
-        match Incoming::of(self.alloc, event) {
-            Ok(incoming) => self.enter_packed(incoming, copies),
-            // Memory: a large event has no box.
-            Err(_) => Err(Refusal::NoMemory),
-        }
-    }
-
-    /// The same of an event that lies in a box where it is large.
-    fn enter_packed(&mut self, event: Incoming, copies: usize) -> Result<Entered, Refusal>
-        requires { IsPacked event }
-        ensures ok { IfOk result (IsEnteredWith self.old (step_of (event_in event)) copies) }
-        ensures entered { OnOk result (self.new ≡ extended self.old (step_of (event_in event)) (outs_after self.old (step_of (event_in event)))) }
-        ensures err { IfErr result (IsRefused self.old (step_of (event_in event))) }
-        ensures same { OnErr result (self.new ≡ self.old) }
-    {
-        if self.entries.reserve(1).is_err() {
+        if self.entries.reserve(1).is_err()
+            || self.given.reserve(1).is_err()
+            || self.room.make(self.alloc, &event).is_err()
+        {
             // Memory: the entry has no room.
             return Err(Refusal::NoMemory);
         }
-        let applied = self.network.apply(event.event(), copies)?;
+        let applied = self.network.apply(&event, copies)?;
         let Applied {
             outs,
             marks,
             copies,
             delivered,
         } = applied;
-        let event = kept_event(self.network.config(), event, delivered);
+        let event = kept_event(self.network.config(), &mut self.room, event, delivered);
+        let outs = OutsPlace::put(&mut self.given, outs);
         self.entries.push_reserved(Kept { event, outs });
         Ok(Entered { marks, copies })
     }
@@ -192,8 +187,9 @@ impl<S: Shelf> Journal<S> {
             None => Ok(None),
             Some(kept) => {
                 let event = whole_event(alloc, &self.network, &kept.event)?;
-                let mut outs = Vec::with_capacity(alloc, kept.outs.len())?;
-                push_whole_outs(alloc, &self.network, &kept.outs, &mut outs)?;
+                let given = kept.outs.outs(&self.given);
+                let mut outs = Vec::with_capacity(alloc, given.len())?;
+                push_whole_outs(alloc, &self.network, given, &mut outs)?;
                 Ok(Some((event, outs)))
             }
         }
@@ -216,7 +212,7 @@ impl<S: Shelf> Journal<S> {
     {
         match self.entries.get(number) {
             None => None,
-            Some(kept) => lent_decision(&self.network, kept),
+            Some(kept) => lent_decision(&self.network, &kept.event, kept.outs.outs(&self.given)),
         }
     }
 
@@ -234,7 +230,7 @@ impl<S: Shelf> Journal<S> {
     {
         match self.entries.get(number) {
             None => Ok(()),
-            Some(kept) => push_whole_outs(alloc, &self.network, &kept.outs, outs),
+            Some(kept) => push_whole_outs(alloc, &self.network, kept.outs.outs(&self.given), outs),
         }
     }
 }

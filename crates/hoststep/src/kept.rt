@@ -10,12 +10,13 @@ ghost use Rattle.slot.specs.Filings.{AreFiledOuts, IsFiledOut, out_of, outs_of};
 ghost use Rattle.types.specs.Statements.{Sent};
 ghost use Rattle.network.specs.Answers.{delivered_of};
 ghost use Rattle.network.specs.Decoding.{reading, step_of};
-ghost use Rattle.hoststep.specs.Hosting.{AreHosted, IsHostAt, host_name};
-ghost use Rattle.hoststep.specs.Incomings.{IsPacked, event_in, is_large};
+ghost use Rattle.hoststep.specs.Hosting.{IsHostAt, NamesHosts, host_name};
+ghost use Rattle.hoststep.specs.Boxing.{HasBoxFor, is_large};
 ghost use Rattle.hoststep.specs.Keeping.{IsKeptEvent, IsReadable, spelled_size, step_in};
 
+use crate::event_room::{EventRoom, is_large};
 use crate::host_place::HostPlace;
-use crate::incoming::Incoming;
+use crate::outs_place::OutsPlace;
 use codec::encode;
 use configuration::NetConfig;
 use envstore::{Filed, Shelf};
@@ -66,29 +67,34 @@ pub(crate) enum KeptEvent {
 #[derive(Drop)]
 pub(crate) struct Kept {
     pub event: KeptEvent,
-    pub outs: Vec<FiledOut>,
+    pub outs: OutsPlace,
 }
 
-/// An event as it is kept. For the bytes of a delivery stands the place where their envelope was filed. It
-/// takes no memory.
-pub(crate) fn kept_event(config: &NetConfig, event: Incoming, delivered: Option<Filed>) -> KeptEvent
-    requires packed { IsPacked event }
-    requires hosted { AreHosted config.now.hosts (step_of (event_in event)) }
-    requires delivered { option_map sent_of delivered ≡ delivered_of (step_of (event_in event)) }
-    requires readable { IsReadable (step_of (event_in event)) }
-    ensures step { step_in result ≡ step_of (event_in event) }
+/// An event as it is kept, a large one in the box that is there for it. For the bytes of a delivery stands the
+/// place where their envelope was filed. It takes no memory.
+pub(crate) fn kept_event(
+    config: &NetConfig,
+    room: &mut EventRoom,
+    event: Event,
+    delivered: Option<Filed>,
+) -> KeptEvent
+    requires room { HasBoxFor event room.old }
+    requires hosted { NamesHosts config.now.hosts (step_of event) }
+    requires delivered { option_map sent_of delivered ≡ delivered_of (step_of event) }
+    requires readable { IsReadable (step_of event) }
+    ensures step { step_in result ≡ step_of event }
     ensures filed { (archive : List Sent) → IfSome delivered (IsFiled archive) → IsKeptEvent config.now.hosts archive result }
 {
-    match event {
-        Incoming::Small(event) => kept_small(config, &event, delivered),
-        Incoming::Large(event) => KeptEvent::Large(event),
+    if is_large(&event) {
+        return KeptEvent::Large(room.fill(event));
     }
+    kept_small(config, &event, delivered)
 }
 
 /// An event that is not large, as it is kept.
 fn kept_small(config: &NetConfig, event: &Event, delivered: Option<Filed>) -> KeptEvent
     requires small { is_large event.now ≡ false }
-    requires hosted { AreHosted config.now.hosts (step_of event.now) }
+    requires hosted { NamesHosts config.now.hosts (step_of event.now) }
     requires delivered { option_map sent_of delivered ≡ delivered_of (step_of event.now) }
     requires readable { IsReadable (step_of event.now) }
     ensures step { step_in result ≡ step_of event.now }

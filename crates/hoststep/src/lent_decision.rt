@@ -4,11 +4,11 @@ ghost use Rattle.std.specs.Prelude.{◌≡◌, ◌≤◌, length, option_map, op
 ghost use Rattle.network.specs.Decoding.{step_of};
 ghost use Rattle.network.specs.Marks.{place_named};
 ghost use Rattle.slot.specs.Filings.{outs_of};
-ghost use Rattle.hoststep.specs.Deciding.{decided_at, decided_by, decisions_in, values_in};
-ghost use Rattle.hoststep.specs.Incomings.{is_large};
-ghost use Rattle.hoststep.specs.Keeping.{IsKeptEvent, entry_of, step_in};
+ghost use Rattle.hoststep.specs.Deciding.{decided_at, decided_by, values_in};
+ghost use Rattle.hoststep.specs.Boxing.{is_large};
+ghost use Rattle.hoststep.specs.Keeping.{IsKeptEvent, step_in};
 
-use crate::kept::{Kept, KeptEvent};
+use crate::kept::KeptEvent;
 use envstore::Shelf;
 use network::Network;
 use slot::FiledOut;
@@ -22,16 +22,17 @@ pub struct LentDecision<'a> {
     pub value: &'a Value,
 }
 
-/// What an entry decided, read in place. It takes no memory.
+/// What an entry decided with this event that gave these out, read in place. It takes no memory.
 pub(crate) fn lent_decision<'a, S: Shelf>(
     network: &'a Network<S>,
-    kept: &'a Kept,
+    event: &'a KeptEvent,
+    outs: &'a [FiledOut],
 ) -> Option<LentDecision<'a>>
-    requires filed { IsKeptEvent network.now.config.hosts network.now.archive kept.now.event }
-    requires once { length (values_in (outs_of kept.now.outs.items)) ≤ 1 }
-    ensures { option_to_list (option_map decided_by result) ≡ decisions_in (entry_of kept.now) }
+    requires filed { IsKeptEvent network.now.config.hosts network.now.archive event.now }
+    requires once { length (values_in (outs_of outs.now)) ≤ 1 }
+    ensures { option_to_list (option_map decided_by result) ≡ decided_at (place_named (step_in event.now)) (values_in (outs_of outs.now)) }
 {
-    decision_at(place_named(network, &kept.event), first_value(&kept.outs))
+    decision_at(place_named(network, event), first_value(outs))
 }
 
 /// The value, decided at this slot by this node.

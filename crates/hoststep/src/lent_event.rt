@@ -5,7 +5,7 @@ ghost use Rattle.envstore.specs.Archives.{IsFiled, sent_of};
 ghost use Rattle.protocol.specs.Networks.Reading.{Read};
 ghost use Rattle.protocol.specs.Networks.Step.{Delivers};
 ghost use Rattle.network.specs.Decoding.{step_of};
-ghost use Rattle.hoststep.specs.Incomings.{is_large};
+ghost use Rattle.hoststep.specs.Boxing.{is_large};
 ghost use Rattle.hoststep.specs.Keeping.{IsKeptEvent, step_in};
 ghost use Rattle.hoststep.specs.Lending.{lent_step};
 

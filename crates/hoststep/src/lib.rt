@@ -8,13 +8,14 @@
 
 mod announcing;
 mod entered;
+mod event_room;
 mod host_place;
-mod incoming;
 mod journal;
 mod kept;
 mod lent_decision;
 mod lent_event;
 mod machine;
+mod outs_place;
 mod recorded;
 mod sizes;
 mod world;

@@ -1,4 +1,4 @@
-//! How many bytes an entry of a journal takes in place, beside what it gave out: a field that grows by a
+//! How many bytes an entry of a journal takes in place, beside a list of what it gave out: a field that grows by a
 //! buffer is seen here, and not only as memory of long journals. This is a bound of this host's profile and
 //! nothing that contracts speak of.
 
@@ -7,4 +7,4 @@ use std::mem::size_of;
 
 const _: () = prove!(size_of::<KeptEvent>() <= 24);
 
-const _: () = prove!(size_of::<Kept>() <= 48);
+const _: () = prove!(size_of::<Kept>() <= 32);

@@ -12,4 +12,4 @@ returns-in-None-clause-ok g c =
 pub returns-in-Some-clause-ok : goal.returns-in-Some-clause-ok
 returns-in-Some-clause-ok g c =
     let is = given_there c.self.inside.entries.items c.deref.result.now c.args.self.now.entries c.args.number c.in-Some.kept.now (ap (λ (l : Log). l.entries) c.self.view_is) c.deref.ensures.value c.in-Some.ensures.lookup.0 c.in-Some.ensures.lookup.1 in
-    subst (λ (os : List Out). OnOk c.push_whole_outs.result (c.push_whole_outs.new.whole.items ≡ c.args.outs.now.items ++ os)) (ap outs_of c.deref-in-Some.ensures.value ∙ is) c.push_whole_outs.ensures.ok
+    subst (λ (os : List Out). OnOk c.push_whole_outs.result (c.push_whole_outs.new.whole.items ≡ c.args.outs.now.items ++ os)) (ap outs_of c.outs.ensures ∙ is) c.push_whole_outs.ensures.ok

@@ -1,4 +1,4 @@
-use Rattle.std.proofs.Common.{◌≡◌, sym, subst, ◌∙◌, List}
+use Rattle.std.proofs.Common.{sym, subst, List}
 use Rattle.hoststep.specs.Logs.{Log}
 use Rattle.hoststep.specs.Worlds.{IsToldBy, adopted}
 use Rattle.hoststep.proofs.Histories.{told-adopted}

@@ -1,7 +1,7 @@
-use Rattle.std.proofs.Common.{◌≡◌, ◌<◌, ℕ, List, Some, length, get_or, set, refl, sym, ap, subst}
+use Rattle.std.proofs.Common.{◌≡◌, ◌<◌, List, Some, length, set, refl, sym, subst}
 use Rattle.configuration.specs.Configs.{index_in}
 use Rattle.hoststep.specs.Logs.{Log}
-use Rattle.hoststep.specs.Worlds.{IsAnswered, IsAnsweredAt, IsPlaceOf, numbers_of}
+use Rattle.hoststep.specs.Worlds.{IsAnswered, IsPlaceOf, numbers_of}
 use Rattle.hoststep.proofs.ByNumber.{Changed, changed, missing}
 use Rattle.hoststep.proofs.Histories.{told-answered}
 use Rattle.hoststep.proofs.world.World.apply.Given.{Over}

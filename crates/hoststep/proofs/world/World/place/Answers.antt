@@ -1,8 +1,7 @@
-use Rattle.std.proofs.Common.{◌≡◌, ◌∙◌, sym, ap, subst}
+use Rattle.std.proofs.Common.{◌∙◌, subst}
 use Rattle.std.specs.Ordering.{nat_cmp}
 use Rattle.std.specs.List.Sorted.{IsBinarySearchResult}
-use Rattle.protocol.specs.Sets.{IsAscending}
-use Rattle.hoststep.specs.Worlds.{IsPlaceOf, numbers_of}
+use Rattle.hoststep.specs.Worlds.{IsPlaceOf}
 use Rattle.hoststep.proofs.ByNumber.{place-is}
 use Rattle.hoststep.proofs.world.World.place.Goals as goal
 

@@ -1,8 +1,8 @@
-use Rattle.std.proofs.Common.{◌≡◌, ◌<◌, ◌≤◌, Err, List, length, refl, sym, ◌∙◌, ap, subst}
+use Rattle.std.proofs.Common.{◌≡◌, ◌<◌, Err, List, length, refl, sym, ◌∙◌, ap, subst}
 use Rattle.std.specs.List.{insert}
 use Rattle.protocol.specs.Hosts.{Config}
 use Rattle.hoststep.specs.Logs.{Log}
-use Rattle.hoststep.specs.Worlds.{AreByNumber, IsPlaceOf, numbers_of}
+use Rattle.hoststep.specs.Worlds.{IsPlaceOf}
 use Rattle.hoststep.proofs.ByNumber.{joins}
 use Rattle.hoststep.proofs.world.World.put_at.Goals as goal
 

@@ -1,0 +1,54 @@
+//! Room for a large event, made before it is applied.
+
+ghost use Rattle.std.specs.Prelude.{◌≡◌, OnOk, box_value, is_some, true};
+ghost use Rattle.hoststep.specs.Boxing.{HasBoxFor, is_large};
+
+use std::alloc::{AllocError, Global};
+use types::Event;
+
+/// A box for an event that brings a value or slices of its own, so that the entries of all others are small.
+/// Where such an event is refused, the box stays for the next one; what lies in it until then means nothing.
+#[derive(Drop)]
+pub(crate) struct EventRoom {
+    boxed: Option<Box<Event>>,
+}
+
+impl EventRoom {
+    /// No room. It takes no memory.
+    pub(crate) fn nothing() -> EventRoom {
+        EventRoom { boxed: None }
+    }
+
+    /// Room for this event, made where it is large and there is none yet. An error says that memory is short.
+    pub(crate) fn make(&mut self, alloc: Global, event: &Event) -> Result<(), AllocError>
+        ensures { OnOk result (HasBoxFor event.now self.new) }
+    {
+        if is_large(event) && self.boxed.is_none() {
+            match Box::new(alloc, Event::CloseSlot { slot: 0 }) {
+                Ok(boxed) => self.boxed = Some(boxed),
+                // Memory: the event has no room.
+                Err(_) => return Err(AllocError),
+            }
+        }
+        Ok(())
+    }
+
+    /// The event in the box that is there for it. It takes no memory.
+    pub(crate) fn fill(&mut self, event: Event) -> Box<Event>
+        requires { is_some self.old.boxed ≡ true }
+        ensures { box_value result ≡ event }
+    {
+        let Some(mut boxed) = self.boxed.take() else {
+            unreachable!()
+        };
+        *boxed = event;
+        boxed
+    }
+}
+
+/// Whether an event brings a value or slices of its own.
+pub(crate) fn is_large(event: &Event) -> bool
+    ensures { result ≡ is_large event.now }
+{
+    matches!(event, Event::Propose { .. } | Event::Reslice { .. })
+}
