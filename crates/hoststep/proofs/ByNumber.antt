@@ -1,11 +1,10 @@
 -- Journals that ascend by the numbers of their networks.
-use Rattle.std.proofs.Common.{◌≡◌, ℕ, zero, suc, ◌<◌, ◌≤◌, ◌==◌, Bool, true, false, nat_lt, length, get_or, List, [], ◌∷◌, ◌++◌, take, drop, map, set, slice_get, Option, Some, None, option_map, Result, Ok, Err, if◌then◌else◌, refl, sym, ◌∙◌, ap, ap₂, subst, arith, IsTrue, is_some, Vec, IfOk, IfErr, OnErr}
+use Rattle.std.proofs.Common.{◌≡◌, ℕ, zero, suc, ◌<◌, ◌≤◌, ◌==◌, Bool, true, false, nat_lt, length, get_or, List, [], ◌∷◌, ◌++◌, take, drop, set, slice_get, Option, Some, None, option_map, Result, Ok, Err, if◌then◌else◌, refl, sym, ◌∙◌, ap, ap₂, subst, arith, IsTrue, is_some, Vec, IfOk, IfErr, OnErr}
 use Rattle.std.specs.List.{insert}
 use Rattle.std.proofs.lemmas.List.Edits.{length-insert}
 use Rattle.std.specs.List.Sorted.{IsBinarySearchResult}
 use Rattle.std.specs.Ordering.{nat_cmp}
 use Rattle.std.proofs.lemmas.Bool.Decides.{nat_tests}
-use Rattle.std.proofs.lemmas.Bool.{eqb-true}
 use Rattle.protocol.specs.Sets.{IsAscending}
 use Rattle.closure.proofs.Noted.{IsPlace, ascending_insert, is_place}
 use Rattle.configuration.specs.Configs.{index_in}

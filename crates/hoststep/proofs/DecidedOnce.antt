@@ -1,5 +1,5 @@
 -- An event decides one value at most.
-use Rattle.std.proofs.Common.{◌+◌, length-append, suc, ◌≡◌, ℕ, ◌≤◌, ◌==◌, ◌&&◌, not, is_none, Bool, true, false, List, [], ◌∷◌, ◌++◌, length, take, slice_get, option_to_list, if◌then◌else◌, Option, Some, None, refl, sym, ap, ◌∙◌, subst, arith}
+use Rattle.std.proofs.Common.{length-append, suc, ◌≡◌, ℕ, ◌≤◌, ◌==◌, ◌&&◌, not, is_none, Bool, true, false, List, [], ◌∷◌, ◌++◌, length, take, slice_get, option_to_list, if◌then◌else◌, Option, Some, None, refl, sym, ap, ◌∙◌, subst, arith}
 use Rattle.types.specs.declared.ballot.Ballot.{Ballot}
 use Rattle.types.specs.declared.statement.Statement.{Statement}
 use Rattle.types.specs.declared.event.NodeEvent.{NodeEvent}

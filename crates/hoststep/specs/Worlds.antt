@@ -1,5 +1,5 @@
 -- The journals of many networks, by number, and the histories that they are those of.
-use Rattle.std.specs.Prelude.{◌≡◌, ℕ, ◌<◌, ◌≤◌, ◌==◌, nat_lt, Bool, not, IsTrue, length, insert, filter, map, List, [], ◌∷◌, ◌++◌, Vec, Result, Ok, Err, Option, Some, None, is_some, if◌then◌else◌}
+use Rattle.std.specs.Prelude.{◌≡◌, ℕ, ◌<◌, ◌≤◌, ◌==◌, nat_lt, not, IsTrue, length, insert, filter, map, List, [], ◌∷◌, ◌++◌, Vec, Result, Ok, Err, Option, Some, None, is_some, if◌then◌else◌}
 use Rattle.std.specs.Global.{Global}
 use Rattle.types.specs.declared.event.Event.{Event}
 use Rattle.types.specs.declared.event.Out.{Out}
