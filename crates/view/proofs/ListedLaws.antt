@@ -320,6 +320,18 @@ module _ (bound : Option Ballot) (ts : List Ballot) (p : ℕ) (down : IsDescendi
           let m = r.0.1 in
           absurd (omega (arith, l, m, end))
 
+-- the ballots by a statement are listed, where there is one
+abbrev pub HasListed : (Statement → List Ballot) → List Ballot → Option Statement → Type 0
+HasListed by listed None = AreListed listed listed
+HasListed by listed (Some s) = AreListed listed (listed ++ filter is_counted (by s))
+
+-- they are once they were added
+pub has_added : (by : Statement → List Ballot) (s : Statement) (old now : List Ballot) → AreListed now (old ++ filter is_counted (by s)) → HasListed by now (Some s)
+has_added by s old now added x = (
+  λ c. Contains-append_left now (filter is_counted (by s)) x c,
+  λ c. elim (Contains-append_cases now (filter is_counted (by s)) x c) [ inl i ↦ i | inr i ↦ (added x).1 (Contains-append_right old (filter is_counted (by s)) x i) ],
+)
+
 -- listed ballots stand for the ballots that they are
 pub listed_stand : (listed ts us : List Ballot) → ts ≡ us → AreListed listed ts → StandsFor listed us
 listed_stand listed ts us is same bound = same_next bound listed ts same ∙ ap (next_under bound) is

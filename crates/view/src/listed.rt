@@ -1,6 +1,6 @@
 //! The ballots that a search goes through, listed once.
 
-ghost use Rattle.std.specs.Prelude.{◌≡◌, ◌∷◌, ◌++◌, [], IfOk, OnOk, Some, filter};
+ghost use Rattle.std.specs.Prelude.{◌≡◌, ◌∷◌, ◌++◌, [], IfOk, IsTrue, OnOk, Some, filter, option_map};
 ghost use Rattle.protocol.specs.Candidates.{committed_by, committed_in, is_counted, named_by, named_in};
 ghost use Rattle.fedvote.specs.Searching.{next_under};
 ghost use Rattle.types.specs.Orders.{ballot_cmp};
@@ -45,12 +45,17 @@ impl<'a> ListedBallots<'a> {
     {
         let mut named = ListedBallots::nothing(alloc);
         let mut committed = ListedBallots::nothing(alloc);
+        let mut last = None;
         for place in 0..rows.nodes().len() {
             let Some(statement) = rows.said_by_another(own, place) else {
                 continue;
             };
+            if says(last, statement) {
+                continue;
+            }
             named.add_named(statement)?;
             committed.add_committed(statement)?;
+            last = Some(statement);
         }
         Ok((named, committed))
     }
@@ -183,6 +188,16 @@ impl<'a> ListedBallots<'a> {
     }
 }
 
+/// Whether the last statement, if there was one, says the same as this one.
+fn says(last: Option<&Statement>, statement: &Statement) -> bool
+    ensures { IsTrue result → option_map (λ s. s.now) last.entry ≡ Some statement.now }
+{
+    match last {
+        None => false,
+        Some(last) => last.is_same(statement),
+    }
+}
+
 /// The ballots at the counters at which a statement speaks of commit.
 fn committed_by<'a>(statement: &'a Statement) -> Option<(LentBallot<'a>, LentBallot<'a>)>
     ensures { both_of result ≡ committed_by statement.now }
@@ -194,11 +209,8 @@ fn committed_by<'a>(statement: &'a Statement) -> Option<(LentBallot<'a>, LentBal
             high_counter,
             commit_counter,
             ..
-        } => {
-            let low = LentBallot::at(*commit_counter, &ballot.value);
-            Some((low, LentBallot::at(*high_counter, &ballot.value)))
         }
-        Statement::Commit {
+        | Statement::Commit {
             ballot,
             high_counter,
             commit_counter,

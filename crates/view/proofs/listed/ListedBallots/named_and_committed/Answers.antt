@@ -1,9 +1,9 @@
-use Rattle.std.proofs.Common.{◌∙◌, Bor, List, ℕ, Option, ap, arith, length, option_map, sym}
+use Rattle.std.proofs.Common.{◌∙◌, ◌<◌, Bor, List, ℕ, Option, ap, arith, length, option_map, subst, sym}
 use Rattle.types.specs.declared.statement.Statement.{Statement}
 use Rattle.protocol.specs.Candidates.{committed_by, named_by}
 use Rattle.protocol.specs.Rows.{row}
 use Rattle.view.specs.Watching.{said_by_another}
-use Rattle.view.proofs.ListedLaws.{all_listed, none_listed, one_listed}
+use Rattle.view.proofs.ListedLaws.{HasListed, all_listed, has_added, none_listed, one_listed}
 use Rattle.view.proofs.listed.ListedBallots.named_and_committed.Goals as goal
 
 pub loop-place-preserved-in_default : goal.loop-place-preserved-in_default
@@ -14,6 +14,24 @@ loop-place-preserved-in_default g c =
     record {
       named = none_listed said named_by rows.nodes before.place before.named (omega (arith, c.loop-place-test.true, ap (λ (us : List ℕ). length us) c.nodes-place-end.ensures)) (ap (option_map (λ (s : Bor Statement). s.now)) (sym c.in_default.is) ∙ c.said_by_another.ensures) before.invariant.named;
       committed = none_listed said committed_by rows.nodes before.place before.committed (omega (arith, c.loop-place-test.true, ap (λ (us : List ℕ). length us) c.nodes-place-end.ensures)) (ap (option_map (λ (s : Bor Statement). s.now)) (sym c.in_default.is) ∙ c.said_by_another.ensures) before.invariant.committed;
+      last_named = before.invariant.last_named;
+      last_committed = before.invariant.last_committed;
+    }
+
+pub loop-place-preserved-then-says : goal.loop-place-preserved-then-says
+loop-place-preserved-then-says g c =
+    let rows = c.args.rows.now in
+    let before = c.loop-place in
+    let said : ℕ → Option Statement = λ u. said_by_another c.args.own.now (row rows.table u rows.kind) in
+    let s = c.in-Some.statement.now in
+    let last = c.says.ensures c.if-says.true in
+    let within : before.place < length rows.nodes = omega (arith, c.loop-place-test.true, ap (λ (us : List ℕ). length us) c.nodes-place-end.ensures) in
+    let is = ap (option_map (λ (s : Bor Statement). s.now)) (sym c.in-Some.is) ∙ c.said_by_another.ensures in
+    record {
+      named = one_listed said named_by rows.nodes before.place s before.named before.named within is before.invariant.named (subst (HasListed named_by before.named) last before.invariant.last_named);
+      committed = one_listed said committed_by rows.nodes before.place s before.committed before.committed within is before.invariant.committed (subst (HasListed committed_by before.committed) last before.invariant.last_committed);
+      last_named = before.invariant.last_named;
+      last_committed = before.invariant.last_committed;
     }
 
 pub loop-place-preserved : goal.loop-place-preserved
@@ -25,6 +43,8 @@ loop-place-preserved g c =
     record {
       named = one_listed said named_by rows.nodes before.place s before.named c.add_named.new.self (omega (arith, c.loop-place-test.true, ap (λ (us : List ℕ). length us) c.nodes-place-end.ensures)) (ap (option_map (λ (s : Bor Statement). s.now)) (sym c.in-Some.is) ∙ c.said_by_another.ensures) before.invariant.named c.in_ok-add_named.ensures;
       committed = one_listed said committed_by rows.nodes before.place s before.committed c.add_committed.new.self (omega (arith, c.loop-place-test.true, ap (λ (us : List ℕ). length us) c.nodes-place-end.ensures)) (ap (option_map (λ (s : Bor Statement). s.now)) (sym c.in-Some.is) ∙ c.said_by_another.ensures) before.invariant.committed c.in_ok-add_committed.ensures;
+      last_named = has_added named_by s before.named c.add_named.new.self c.in_ok-add_named.ensures;
+      last_committed = has_added committed_by s before.committed c.add_committed.new.self c.in_ok-add_committed.ensures;
     }
 
 pub returns : goal.returns
