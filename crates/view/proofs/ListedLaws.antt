@@ -1,7 +1,7 @@
 -- A list that descends: a ballot that is put in its place keeps it so, and the first one below a bound is the next.
 use Rattle.std.proofs.Common.{◌≡◌, ℕ, zero, suc, ◌+◌, ◌-◌, ◌<◌, ◌≤◌, true, false, nat_lt, List, [], ◌∷◌, ◌++◌, Option, Some, None, filter, filter_map, flat_map, option_to_list, get_or, length, take, OnOk, Result, Ok, Err, refl, sym, ◌∙◌, ap, ap₂, subst, inl, inr, ◌⊎◌, ◌↔◌, arith}
 use Rattle.std.specs.List.{Contains, cons_option, insert}
-use Rattle.std.specs.List.Sorted.{IsNonDecreasingBy, IsPartitionPoint, IsPermutation}
+use Rattle.std.specs.List.Sorted.{IsBinarySearchResult, IsNonDecreasingBy, IsPartitionPoint, IsPermutation, IsSearchInRange}
 use Rattle.std.specs.Ordering.{is_lt, ordering_index, ordering_reverse}
 use Rattle.std.specs.declared.cmp.Ordering.{Ordering}
 use Rattle.std.specs.declared.cmp.Ordering.TheVariants.{Less, Equal, Greater}
@@ -74,6 +74,11 @@ same_ballots a b counters values =
     let one : a ≡ b = (λ i. record { counter = counters i; value = values i }) in
     sym (tied_itself ballots_ordered a) ∙ ap (ballot_cmp a) one
 
+-- the place behind a ballot that is found, or the one at which it is to be put
+abbrev pub behind_found : Result ℕ ℕ → Result ℕ ℕ
+behind_found (Ok p) = Ok (p + 1)
+behind_found (Err p) = Err p
+
 module _ (ts : List Ballot) (t : Ballot) (down : IsDescending ts) where
   rising : IsNonDecreasingBy (λ u. ordering_index (ballot_cmp t u)) ts
   rising i j d l m = elim (less_or_same i j l) [
@@ -96,14 +101,14 @@ module _ (ts : List Ballot) (t : Ballot) (down : IsDescending ts) where
       here d = get_or_default ts i d t inside ∙ is
 
   -- what a binary search finds: the ballot
-  pub found_there : (i : ℕ) → i < length ts → ((d : Ballot) → ballot_cmp t (get_or ts i d) ≡ Equal) → IsBallotPlace t ts (Ok (i + 1))
+  found_there : (i : ℕ) → i < length ts → ((d : Ballot) → ballot_cmp t (get_or ts i d) ≡ Equal) → IsBallotPlace t ts (Ok (i + 1))
   found_there i within at =
       let u = get_or ts i t in
       let is : u ≡ t = one_ballot u t (ap is_lt (turned t u Equal (at t))) (ap is_lt (at t)) in
       (behind i within is, (i, within, is))
 
   -- or the place between those above it and those below it
-  pub found_nowhere : (p : ℕ) → p ≤ length ts
+  found_nowhere : (p : ℕ) → p ≤ length ts
       → (IsNonDecreasingBy (λ u. ordering_index (ballot_cmp t u)) ts → IsPartitionPoint (λ u. ballot_cmp t u ≡ Less) (λ u. ballot_cmp t u ≡ Greater) ts p) → IsBallotPlace t ts (Err p)
   found_nowhere p within parts = (
     record {
@@ -116,6 +121,15 @@ module _ (ts : List Ballot) (t : Ballot) (down : IsDescending ts) where
       | inr l ↦ absurd (true≢false (sym (ap is_lt (turned t t Greater (subst (λ u. ballot_cmp t u ≡ Greater) c.2 ((parts rising).1 c.0 t l c.1)))) ∙ below-self t))
     ],
   )
+
+  -- what it finds by what it answers, in the list as it is seen
+  pub found : (now : List Ballot) (r answer : Result ℕ ℕ) → ts ≡ now → r ≡ answer → IsSearchInRange r (length ts) → IsBinarySearchResult (λ u. ballot_cmp t u) ts r → IsBallotPlace t now (behind_found answer)
+  found now r answer seen is within result =
+      subst (λ (us : List Ballot). IsBallotPlace t us (behind_found answer)) seen (go answer (subst (λ q. IsSearchInRange q (length ts)) is within) (subst (λ q. IsBinarySearchResult (λ u. ballot_cmp t u) ts q) is result))
+    where
+      go : (q : Result ℕ ℕ) → IsSearchInRange q (length ts) → IsBinarySearchResult (λ u. ballot_cmp t u) ts q → IsBallotPlace t ts (behind_found q)
+      go (Ok p) inside at = found_there p inside at
+      go (Err p) inside parts = found_nowhere p inside parts
 
 -- ---- a ballot that is put in its place
 module _ (ts : List Ballot) (t : Ballot) (p : ℕ) (place : IsPlaceUnder (Some t) ts p) (down : IsDescending ts) where
