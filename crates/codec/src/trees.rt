@@ -33,7 +33,7 @@ fn read_nested(alloc: Global, reader: &mut Reader, levels: usize) -> Result<Nest
 {
     let mut seen = Vec::new(alloc);
     let set = read_set(alloc, reader, levels, &mut seen)?;
-    Ok(Nested::of(set))
+    Ok(Nested::of(alloc, set)?)
 }
 
 /// A threshold, a count and so many members, with so many levels of inner sets left.

@@ -245,7 +245,7 @@ fn copies(alloc: Global, hosts: &[Host]) -> Result<Vec<Host>, AllocError>
 {
     let mut copies = Vec::with_capacity(alloc, hosts.len())?;
     for host in hosts {
-        let slices = host.slices().try_copy(alloc)?;
+        let slices = host.slices().try_copy()?;
         copies.push(Host::new(*host.name(), slices))?;
     }
     Ok(copies)

@@ -43,11 +43,12 @@ use Rattle.hoststep.specs.contracts.kept.Kept as Kept
 use Rattle.hoststep.specs.contracts.journal.Journal as Journal
 use Rattle.hoststep.specs.contracts.world.World as World
 
+-- slices that copies share
 pub nested_sync : IsSync (Nested.the_row)
-nested_sync = search (sendable, crosses, slices.sync-SliceSet) depth 40
+nested_sync = search (sendable, crosses, slices.send-SliceSet, slices.sync-SliceSet) depth 40
 
 pub nested_send : IsSend (Nested.the_row)
-nested_send = search (sendable, crosses, slices.send-SliceSet) depth 40
+nested_send = search (sendable, crosses, slices.send-SliceSet, slices.sync-SliceSet) depth 40
 
 region_sync : IsSync (Region.the_row)
 region_sync = search (sendable, crosses, name.the_sync, compiled.sync-CompiledSet) depth 40

@@ -103,7 +103,7 @@ fn fresh_places(alloc: Global, number: u64, hosts: &[Host]) -> Result<Vec<Place>
 {
     let mut places = Vec::with_capacity(alloc, hosts.len())?;
     for host in hosts {
-        let slices = host.slices().try_copy(alloc)?;
+        let slices = host.slices().try_copy()?;
         places.push(Place::new(alloc, *host.name(), number, slices))?;
     }
     Ok(places)

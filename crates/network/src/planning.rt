@@ -150,7 +150,7 @@ impl<S: Shelf> Network<S> {
         let _slots = &self.slots;
         let spot = self.spot(slot, node)?;
         let drawn = self.own_room(&spot, node)?;
-        match slices.try_copy(self.alloc) {
+        match slices.try_copy() {
             Err(_) => Err(Refusal::NoMemory),
             Ok(slices) => Ok(acting(&spot, drawn, FiledEvent::Reslice(slices))),
         }

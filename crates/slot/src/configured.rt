@@ -2,7 +2,7 @@
 
 ghost use Rattle.std.specs.Prelude.{◌≡◌, IfOk};
 
-use std::alloc::{AllocError, Global};
+use std::alloc::AllocError;
 use types::{Nested, NodeId};
 
 /// Who a node is, at which slot, and the slices that are configured at this moment.
@@ -14,14 +14,14 @@ pub(crate) struct Configured {
 }
 
 impl Configured {
-    /// A copy. An error says that memory is short.
-    pub(crate) fn try_copy(&self, alloc: Global) -> Result<Configured, AllocError>
+    /// A copy, which shares the slices. An error says that they have too many owners.
+    pub(crate) fn try_copy(&self) -> Result<Configured, AllocError>
         ensures { IfOk result (λ c. c ≡ self.now) }
     {
         Ok(Configured {
             name: self.name,
             slot: self.slot,
-            slices: self.slices.try_copy(alloc)?,
+            slices: self.slices.try_copy()?,
         })
     }
 }

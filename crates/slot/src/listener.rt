@@ -74,7 +74,7 @@ impl Listener {
         ensures { IfOk result (λ l. l ≡ self.now) }
     {
         Ok(Listener {
-            configured: self.configured.try_copy(alloc)?,
+            configured: self.configured.try_copy()?,
             table: self.table.try_copy(alloc, archive)?,
             known: copy_of_known(alloc, &self.known)?,
         })

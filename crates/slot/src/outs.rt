@@ -38,7 +38,7 @@ pub(crate) fn outs(
         && !is_externalized(new.votes.phase);
     push_when(&mut given_out, is_armed, Out::ArmBallot(armed))?;
     push_nomination(alloc, &mut given_out, configured, old.votes, new.votes)?;
-    push_vote(alloc, &mut given_out, configured, old.votes, new.votes)?;
+    push_vote(&mut given_out, configured, old.votes, new.votes)?;
     push_decided(&mut given_out, old.votes, new.votes)?;
     Ok(given_out)
 }
@@ -68,12 +68,11 @@ fn push_nomination(
         return Ok(());
     }
     let after = sent_nomination(alloc, new)?;
-    push_new(alloc, given_out, configured, after)
+    push_new(given_out, configured, after)
 }
 
 /// Adds the ballot statement where another one would have been sent before.
 fn push_vote(
-    alloc: Global,
     given_out: &mut Vec<Out>,
     configured: &Configured,
     old: &Votes,
@@ -87,12 +86,11 @@ fn push_vote(
     }
     let before = statement_of(&sent_vote(old))?;
     let after = statement_of(&sent_vote(new))?;
-    push_changed(alloc, given_out, configured, &before, after)
+    push_changed(given_out, configured, &before, after)
 }
 
 /// Adds what is sent now where it is not what would have been sent before.
 fn push_changed(
-    alloc: Global,
     given_out: &mut Vec<Out>,
     configured: &Configured,
     before: &Option<Statement>,
@@ -104,12 +102,11 @@ fn push_changed(
     if is_same_sent(before, &after) {
         return Ok(());
     }
-    push_new(alloc, given_out, configured, after)
+    push_new(given_out, configured, after)
 }
 
 /// Adds what is sent now, which is not what would have been sent before.
 fn push_new(
-    alloc: Global,
     given_out: &mut Vec<Out>,
     configured: &Configured,
     after: Option<Statement>,
@@ -120,7 +117,7 @@ fn push_new(
     match after {
         None => Ok(()),
         Some(statement) => {
-            let envelope = envelope_of(alloc, configured, statement)?;
+            let envelope = envelope_of(configured, statement)?;
             given_out.push(Out::Emit(envelope))?;
             Ok(())
         }

@@ -45,15 +45,14 @@ pub(crate) fn is_same_sent(one: &Option<Statement>, other: &Option<Statement>) -
     }
 }
 
-/// The statement as the node sends it. An error says that memory is short.
+/// The statement as the node sends it. An error says that its slices have too many owners.
 pub(crate) fn envelope_of(
-    alloc: Global,
     configured: &Configured,
     statement: Statement,
 ) -> Result<Envelope, AllocError>
     requires { IsWellFormed statement }
     ensures { IfOk result (λ e. e ≡ sent_by configured.now statement) }
 {
-    let slices = configured.slices.try_copy(alloc)?;
+    let slices = configured.slices.try_copy()?;
     Ok(Envelope::of(configured.name, configured.slot, slices, statement))
 }

@@ -4,5 +4,6 @@ pub mod Weights
 pub mod NestedRules
 pub mod VoteLaws
 pub mod NameOrder
+pub mod RisingNames
 pub mod Insertions
 pub mod Fronts

@@ -51,7 +51,7 @@ shaped_test (suc levels) (inner k own rest) h d =
 none_like : (u : ℕ) (us : List ℕ) → list_any (λ w. w == u) us ≡ false → All (λ w. u ≢ w) us
 none_like u us h k d lt e = false≢true (sym h ∙ list_any_at (λ w. w == u) us k d lt (eq-eqb (get_or us k d) u (sym e)))
 
-differing : (us : List ℕ) → all_differ us ≡ true → AllPairs (λ u w. u ≢ w) us
+pub differing : (us : List ℕ) → all_differ us ≡ true → AllPairs (λ u w. u ≢ w) us
 differing [] h = λ i j d lt bound e. omega arith
 differing (u ∷ us) h =
     let p = both (not (list_any (λ w. w == u) us)) (all_differ us) h in
@@ -60,7 +60,7 @@ differing (u ∷ us) h =
 other : (u w : ℕ) → u ≢ w → (w == u) ≡ false
 other u w h = grind (arith, nat_tests)
 
-differing_test : (us : List ℕ) → AllPairs (λ u w. u ≢ w) us → all_differ us ≡ true
+pub differing_test : (us : List ℕ) → AllPairs (λ u w. u ≢ w) us → all_differ us ≡ true
 differing_test [] h = refl
 differing_test (u ∷ us) h =
     let none : list_any (λ w. w == u) us ≡ false = list_any_none (λ w. w == u) us (λ k d lt. other u (get_or us k d) (h 0 (suc k) d (omega arith) (omega arith))) in

@@ -147,3 +147,9 @@ has_levels (suc levels) (inner k own rest) = has_levels levels own && has_levels
 abbrev pub all_differ : List ℕ → Bool
 all_differ [] = true
 all_differ (u ∷ us) = not (list_any (λ w. w == u) us) && all_differ us
+
+-- each name is below the next
+abbrev pub rises : List ℕ → Bool
+rises [] = true
+rises (u ∷ []) = true
+rises (u ∷ w ∷ ws) = nat_lt u w && rises (w ∷ ws)

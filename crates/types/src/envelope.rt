@@ -65,7 +65,7 @@ impl Envelope {
         Ok(Envelope {
             sender: self.sender,
             slot: self.slot,
-            slices: self.slices.try_copy(alloc)?,
+            slices: self.slices.try_copy()?,
             body: self.body.try_copy(alloc)?,
         })
     }

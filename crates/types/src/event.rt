@@ -150,7 +150,7 @@ impl Event {
             Event::Reslice { slot, node, slices } => Ok(Event::Reslice {
                 slot: *slot,
                 node: *node,
-                slices: slices.try_copy(alloc)?,
+                slices: slices.try_copy()?,
             }),
         }
     }

@@ -1,13 +1,14 @@
 //! Slices: a threshold over names and inner sets.
 
 ghost use Rattle.std.specs.Prelude.{◌≡◌, ◌++◌, ◌&&◌, ◌==◌, IfOk, OnErr, OnOk, IfSome, IsSome, IsTrue, ◌↔◌, length, nat_le, take};
-ghost use Rattle.std.specs.List.{AllByRecursion, list_any};
-ghost use Rattle.types.specs.Trees.{Slices, depth_of, names_in, IsName, IsNested, has_levels, has_threshold, is_shaped, all_differ};
+ghost use Rattle.std.specs.List.{AllByRecursion};
+ghost use Rattle.types.specs.Trees.{Slices, depth_of, names_in, IsName, IsNested, has_levels, has_threshold, is_shaped, all_differ, rises};
 ghost use Rattle.types.specs.Shape.{members_of};
 
 use crate::node_id::NodeId;
 use std::alloc::{AllocError, Global};
 use std::marker::Model;
+use std::sync::Arc;
 
 /// The most members of one set (this host's profile).
 pub const MAX_MEMBERS: usize = 64;
@@ -140,38 +141,35 @@ pub fn push_names(set: &SliceSet, names: &mut Vec<NodeId>) -> Result<(), AllocEr
     Ok(())
 }
 
-/// Whether no name stands twice in the list.
-fn all_differ(names: &[NodeId]) -> bool
-    ensures { result ≡ all_differ names.now }
+/// Whether no name stands twice among them.
+fn all_differ(names: Vec<NodeId>) -> bool
+    ensures { result ≡ all_differ names.items }
 {
-    match names {
-        [] => true,
-        [first, rest @ ..] => !has(rest, *first) && all_differ(rest),
+    // Names mostly come in order, which one pass sees.
+    if rises(&names) {
+        return true;
     }
+    let mut names = names;
+    // In place, so that no memory can be wanting.
+    names.sort_unstable();
+    rises(&names)
 }
 
-fn has(names: &[NodeId], name: NodeId) -> bool
-    ensures { result ≡ list_any (λ w. w == name) names.now }
+/// Whether each name is below the next one.
+fn rises(names: &[NodeId]) -> bool
+    ensures { result ≡ rises names.now }
 {
-    names.iter().any(|other| *other == name)
-}
-
-/// A copy of a set, with all that stands in it.
-fn copy_of_set(alloc: Global, set: &SliceSet) -> Result<SliceSet, AllocError>
-    ensures { IfOk result (λ s. s ≡ set.now) }
-{
-    let members = set.members();
-    let mut copies = Vec::with_capacity(alloc, members.len())?;
-    for member in members {
-        match member {
-            Member::Node(node) => copies.push(Member::Node(*node))?,
-            Member::Set(inner) => copies.push(Member::Set(copy_of_set(alloc, inner)?))?,
+    let Some((first, rest)) = names.split_first() else {
+        return true;
+    };
+    let mut last = *first;
+    for name in rest {
+        if !(last < *name) {
+            return false;
         }
+        last = *name;
     }
-    Ok(SliceSet {
-        threshold: set.threshold(),
-        members: copies,
-    })
+    true
 }
 
 /// Whether both are the same members, in the same order.
@@ -197,27 +195,28 @@ fn are_same(members: &[Member], others: &[Member]) -> bool
 
 /// Slices that keep the rules: at each level at most 64 members and a threshold of one to all of
 /// them, at most eight levels of inner sets, at most 256 names, and no name twice in the tree (this
-/// host's profile of the nested slices of the Stellar Consensus Protocol draft).
+/// host's profile of the nested slices of the Stellar Consensus Protocol draft). Copies share them.
 #[derive(Drop)]
 pub struct Nested {
-    set: SliceSet,
+    set: Arc<SliceSet, Global>,
 }
 
 impl Model for Nested {
+    ghost use Rattle.std.specs.Arc.{arc_value};
     ghost use Rattle.types.specs.Trees.{Slices, slices_code, IsNested};
 
     ghost Value = { Slices };
 
     ghost coded = { slices_code };
 
-    ghost view = { λ a. a.set };
+    ghost view = { λ a. arc_value a.set };
 
-    ghost invariant = { λ a. IsNested a.set };
+    ghost invariant = { λ a. IsNested (arc_value a.set) };
 }
 
 impl Nested {
     /// Slices of this set, or `None` where it breaks one of the rules. It takes memory for the list of
-    /// the names.
+    /// the names, and for the set that copies share.
     #[tactic(auto, using(crate::proofs::NestedRules::nested, crate::proofs::NestedRules::nested_shape, crate::proofs::NestedRules::nested_names))]
     pub fn new(alloc: Global, set: SliceSet) -> Result<Option<Nested>, AllocError>
         ensures exactly { IfOk result (λ o. IsSome o ↔ IsNested set) }
@@ -228,26 +227,28 @@ impl Nested {
         }
         let mut names = Vec::new(alloc);
         push_names(&set, &mut names)?;
-        if names.len() > MAX_NAMES || !all_differ(&names) {
+        if names.len() > MAX_NAMES || !all_differ(names) {
             return Ok(None);
         }
-        Ok(Some(Nested { set }))
+        Ok(Some(Nested::of(alloc, set)?))
     }
 
-    /// Slices that are known to keep the rules.
-    pub fn of(set: SliceSet) -> Nested
+    /// Slices that are known to keep the rules. An error says that memory is short.
+    pub fn of(alloc: Global, set: SliceSet) -> Result<Nested, AllocError>
         requires { IsNested set }
-        ensures { result ≡ set }
+        ensures { IfOk result (λ n. n ≡ set) }
     {
-        Nested { set }
+        Ok(Nested {
+            set: Arc::new(alloc, set)?,
+        })
     }
 
-    /// A copy. An error says that memory is short.
-    pub fn try_copy(&self, alloc: Global) -> Result<Nested, AllocError>
+    /// The same slices. It takes no memory; an error says that they have too many owners.
+    pub fn try_copy(&self) -> Result<Nested, AllocError>
         ensures { IfOk result (λ n. n ≡ self.now) }
     {
         Ok(Nested {
-            set: copy_of_set(alloc, &self.set)?,
+            set: Arc::try_clone(&self.set)?,
         })
     }
 
