@@ -7,3 +7,4 @@ pub mod ValueLoop
 pub mod BodyLaws
 pub mod Lengths
 pub mod EnvelopeLaws
+pub mod SeenLaws

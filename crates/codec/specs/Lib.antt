@@ -6,4 +6,5 @@ pub mod Grammar
 pub mod Answers
 pub mod Steps
 pub mod Reading
+pub mod FoundNames
 pub mod Kinds

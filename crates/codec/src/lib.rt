@@ -9,6 +9,7 @@ mod decoder;
 mod encoder;
 mod error;
 mod reader;
+mod seen;
 mod statements;
 mod trees;
 mod versions;

@@ -2,13 +2,13 @@
 
 ghost use Rattle.std.specs.Prelude.{◌≡◌, ◌≤◌, [], ◌∷◌, ◌++◌, IfOk};
 ghost use Rattle.codec.specs.Reading.{Gives, Says, IsBytes, header_at, new_name_at, member_at, members_at, set_with, inner_at, nested_at, slices_at};
-ghost use Rattle.codec.specs.Faults.{is_among};
 ghost use Rattle.codec.specs.Parts.{part_of, part_names};
 ghost use Rattle.types.specs.Shape.{members_of};
 ghost use Rattle.types.specs.Trees.{most_levels, names_in};
 
 use crate::error::{CodecError, Fault};
 use crate::reader::Reader;
+use crate::seen::SeenNames;
 use crate::versions::{levels_in, version_of};
 use std::alloc::Global;
 use types::{MAX_MEMBERS, MAX_NAMES, Member, Nested, NodeId, SliceSet};
@@ -31,7 +31,7 @@ fn read_nested(alloc: Global, reader: &mut Reader, levels: usize) -> Result<Nest
     requires { levels ≤ most_levels }
     ensures { Gives (λ x. (x, reader.new)) result (nested_at levels reader.old) }
 {
-    let mut seen = Vec::new(alloc);
+    let mut seen = SeenNames::new(alloc);
     let set = read_set(alloc, reader, levels, &mut seen)?;
     Ok(Nested::of(alloc, set)?)
 }
@@ -43,10 +43,10 @@ fn read_set(
     alloc: Global,
     reader: &mut Reader,
     levels: usize,
-    seen: &mut Vec<NodeId>,
+    seen: &mut SeenNames,
 ) -> Result<SliceSet, CodecError>
-    ensures read { Gives (λ x. (x, reader.new)) result (set_with (inner_at levels) seen.old.items reader.old) }
-    ensures names { IfOk result (λ x. seen.new.items ≡ seen.old.items ++ names_in x.members) }
+    ensures read { Gives (λ x. (x, reader.new)) result (set_with (inner_at levels) seen.old reader.old) }
+    ensures names { IfOk result (λ x. seen.new ≡ seen.old ++ names_in x.members) }
     // What a reader holds are bytes, which `read_slices` has to know to show the rules of slices.
     ensures bytes { IsBytes reader.old }
 {
@@ -79,10 +79,10 @@ fn read_members(
     reader: &mut Reader,
     levels: usize,
     count: u8,
-    seen: &mut Vec<NodeId>,
+    seen: &mut SeenNames,
 ) -> Result<Vec<Member>, CodecError>
-    ensures read { Gives (λ x. (members_of x.items, reader.new)) result (members_at (inner_at levels) count seen.old.items reader.old) }
-    ensures names { IfOk result (λ x. seen.new.items ≡ seen.old.items ++ names_in (members_of x.items)) }
+    ensures read { Gives (λ x. (members_of x.items, reader.new)) result (members_at (inner_at levels) count seen.old reader.old) }
+    ensures names { IfOk result (λ x. seen.new ≡ seen.old ++ names_in (members_of x.items)) }
 {
     let mut members = Vec::new(alloc);
     for _ in 0..count {
@@ -99,10 +99,10 @@ fn read_member(
     alloc: Global,
     reader: &mut Reader,
     levels: usize,
-    seen: &mut Vec<NodeId>,
+    seen: &mut SeenNames,
 ) -> Result<Member, CodecError>
-    ensures read { Gives (λ x. (part_of x, reader.new)) result (member_at (inner_at levels) seen.old.items reader.old) }
-    ensures names { IfOk result (λ x. seen.new.items ≡ seen.old.items ++ part_names (part_of x)) }
+    ensures read { Gives (λ x. (part_of x, reader.new)) result (member_at (inner_at levels) seen.old reader.old) }
+    ensures names { IfOk result (λ x. seen.new ≡ seen.old ++ part_names (part_of x)) }
 {
     match reader.byte()? {
         0 => Ok(Member::Node(read_new_name(reader, seen)?)),
@@ -118,23 +118,16 @@ fn read_member(
 
 /// A name that may join those seen, and joins them.
 #[tactic(auto, unfolding(crate::specs::Reading::new_name_at))]
-fn read_new_name(reader: &mut Reader, seen: &mut Vec<NodeId>) -> Result<NodeId, CodecError>
-    ensures read { Gives (λ x. (x, reader.new)) result (new_name_at seen.old.items reader.old) }
-    ensures names { IfOk result (λ x. seen.new.items ≡ seen.old.items ++ x ∷ []) }
+fn read_new_name(reader: &mut Reader, seen: &mut SeenNames) -> Result<NodeId, CodecError>
+    ensures read { Gives (λ x. (x, reader.new)) result (new_name_at seen.old reader.old) }
+    ensures names { IfOk result (λ x. seen.new ≡ seen.old ++ x ∷ []) }
 {
     let name = reader.name()?;
     if seen.len() == MAX_NAMES {
         return Err(CodecError::Fault(Fault::Limit));
     }
-    if is_among(seen, name) {
+    if !seen.add(name)? {
         return Err(CodecError::Fault(Fault::BadSlices));
     }
-    seen.push(name)?;
     Ok(name)
-}
-
-fn is_among(names: &[NodeId], name: NodeId) -> bool
-    ensures { result ≡ is_among names.now name }
-{
-    names.iter().any(|other| *other == name)
 }

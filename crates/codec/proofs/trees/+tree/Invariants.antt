@@ -16,6 +16,6 @@ decreases-read_set l = 3 * l.levels + 2
 
 abbrev pub invariant-read_members-loop : goal.invariant-read_members-loop
 invariant-read_members-loop l = record {
-  read : with_front (members_of l.members.items) (members_at (inner_at l.levels) (l.count - l.counter) l.seen.items l.reader) ≡ members_at (inner_at l.levels) l.count l.fn.seen.items l.fn.reader;
-  names : l.seen.items ≡ l.fn.seen.items ++ names_in (members_of l.members.items);
+  read : with_front (members_of l.members.items) (members_at (inner_at l.levels) (l.count - l.counter) l.seen l.reader) ≡ members_at (inner_at l.levels) l.count l.fn.seen l.fn.reader;
+  names : l.seen ≡ l.fn.seen ++ names_in (members_of l.members.items);
 }
