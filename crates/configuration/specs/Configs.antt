@@ -1,5 +1,6 @@
 -- The nodes of a network, by name and by place.
-use Rattle.std.specs.Prelude.{◌≡◌, ℕ, suc, ◌≤◌, Bool, true, ◌&&◌, ◌==◌, nat_lt, List, [], ◌∷◌, length, map, Option, Some, None, option_map, if◌then◌else◌}
+use Rattle.std.specs.Prelude.{◌≡◌, ℕ, suc, ◌≤◌, ◌==◌, List, [], ◌∷◌, length, map, Option, Some, None, option_map, if◌then◌else◌}
+pub use Rattle.types.specs.Trees.{rises}
 use Rattle.protocol.specs.Networks.{Host}
 use Rattle.protocol.specs.Sets.{IsAscending}
 
@@ -15,12 +16,6 @@ index_in (x ∷ xs) u = if x == u then Some 0 else option_map suc (index_in xs u
 -- the place of a hosted node
 abbrev pub index_of_name : List Host → ℕ → Option ℕ
 index_of_name hosts u = index_in (names_of hosts) u
-
--- each name is below the next
-abbrev pub rises : List ℕ → Bool
-rises [] = true
-rises (x ∷ []) = true
-rises (x ∷ y ∷ ys) = nat_lt x y && rises (y ∷ ys)
 
 -- nodes that a network can host: 1 to 256, ascending by name
 pub record AreHosts (hosts : List Host) : Type 0 where

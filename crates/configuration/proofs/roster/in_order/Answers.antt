@@ -1,6 +1,7 @@
 use Rattle.std.proofs.Common.{◌≡◌, ◌∙◌, sym, ap, true, false}
 use Rattle.configuration.specs.Configs.{rises}
-use Rattle.configuration.proofs.Sorted.{ascending, rises-once-sorted}
+use Rattle.types.proofs.RisingNames.{rises-once-sorted}
+use Rattle.configuration.proofs.Sorted.{ascending}
 use Rattle.configuration.proofs.roster.in_order.Goals as goal
 
 pub returns-then-is_ascending-clause-ascending : goal.returns-then-is_ascending-clause-ascending
