@@ -1,5 +1,5 @@
 -- Places are taken away one at a time, and no quorum loses a node.
-use Rattle.std.proofs.Common.{◌≡◌, ℕ, zero, suc, ◌+◌, ◌<◌, ◌≤◌, Bool, true, false, cond, ◌==◌, List, [], ◌∷◌, get_or, length, Option, None, refl, sym, subst, ◌∙◌, ap, arith, inl, inr, ◌⊎◌, IsTrue}
+use Rattle.std.proofs.Common.{◌≡◌, ℕ, zero, suc, ◌+◌, ◌<◌, ◌≤◌, Bool, true, false, cond, ◌==◌, List, [], ◌∷◌, get_or, length, Option, Some, None, refl, sym, subst, ◌∙◌, ap, arith, inl, inr, ◌⊎◌, IsTrue, ◌≢◌}
 use Rattle.std.proofs.lemmas.Bool.{cases_lt, true≢false, false≢true, eq-eqb, eqb-true, ne_eqb, or_cases, and_cases}
 use Rattle.types.specs.Trees.{Slices}
 use Rattle.protocol.specs.Sets.{Names, among, AreWithin, IsAscending}
@@ -7,9 +7,11 @@ use Rattle.protocol.specs.Satisfaction.{sat}
 use Rattle.protocol.specs.Quorums.{Quorum, HasQuorum, is_satisfied}
 use Rattle.protocol.proofs.QuorumLaws.{is_satisfied-more}
 use Rattle.protocol.proofs.SatisfactionLaws.{sat_monotone}
-use Rattle.compiled.specs.Places.{bit_of, Compiled}
-use Rattle.compiled.specs.Met.{picked_from, picked, one_where, IsCleared}
-use Rattle.compiled.specs.Searching.{met_at, stays_at, AreCompiled, IsLeft, AllMet, live}
+use Rattle.compiled.specs.Places.{bit_of, Numbered}
+use Rattle.compiled.specs.Met.{met, picked_from, picked, one_where, IsCleared}
+use Rattle.compiled.specs.Searching.{met_at, stays_at, AreAgreed, AreCompiled, IsLeft, AllMet, live}
+use Rattle.compiled.specs.Answering.{IsAnswerAt, IsNothing}
+use Rattle.compiled.specs.declared.answers.Answers.{Answers}
 use Rattle.compiled.proofs.Picking.{bit_is}
 
 -- a picked node has a place
@@ -46,7 +48,7 @@ kept_bit place i old now cleared h = by (place == i) (bit_of old i) (sym (cleare
     by false d e = e
 
 -- ---- one place less
-module _ (us : List ℕ) (slices_at : ℕ → Option Slices) (cs : List (Option Compiled)) (supporters : Names) (up : IsAscending us) (compiled : AreCompiled us slices_at cs) where
+module _ (us : List ℕ) (slices_at : ℕ → Option Slices) (cs : List (Option Numbered)) (supporters : Names) (up : IsAscending us) (compiled : AreCompiled us slices_at cs) where
   fewer : (place : ℕ) (old now : List ℕ) → IsCleared place old now → AreWithin (among (picked us now)) (among (picked us old))
   fewer place old now cleared u h =
       let p = place_of_picked us now u h in
@@ -67,12 +69,12 @@ module _ (us : List ℕ) (slices_at : ℕ → Option Slices) (cs : List (Option 
       let bit : bit_of now p.0 ≡ 1 = cleared.1 p.0 ∙ (ap (λ b. cond b 0 (bit_of old p.0)) (ne_eqb place p.0 apart) ∙ p.3) in
       subst (λ x. among (picked us now) x ≡ true) p.2 (picked_there us now p.0 up p.1 bit)
 
-  pub one_away : (place : ℕ) (old now : List ℕ) → place < length cs → met_at (get_or cs place None) old ≡ false → IsCleared place old now
+  pub one_away : (place : ℕ) (old now : List ℕ) → ((q : Names) → Quorum sat slices_at q → AreWithin q supporters → q (get_or us place 0) ≡ true → ⊥) → IsCleared place old now
       → IsLeft slices_at supporters (among (picked us old)) → IsLeft slices_at supporters (among (picked us now))
-  one_away place old now within fails cleared left = record {
+  one_away place old now in_none cleared left = record {
     within = λ u h. left.within u (fewer place old now cleared u h);
     all_quorums = λ q quorum inside u h. stays_there place old now cleared u
-        (λ e. not_met place old left within fails q quorum inside (ap q (sym e) ∙ h))
+        (λ e. in_none q quorum inside (ap q (sym e) ∙ h))
         (left.all_quorums q quorum inside u h);
   }
 
@@ -129,45 +131,125 @@ less_live (suc n) place old now cleared h set = elim (cases_lt place n) [
 ]
 
 -- ---- a sweep
--- what holds of a sweep that began with these places, looked at the first n, and has these left
-pub record Swept (cs : List (Option Compiled)) (n : ℕ) (old now : List ℕ) (changed : Bool) : Type 0 where
+-- where these places are left of the supporters, the node at a place is in no quorum among them
+abbrev InNone : List (Option Numbered) → List ℕ → ℕ → Type 0
+InNone cs ws i = (us : List ℕ) (slices_at : ℕ → Option Slices) (supporters : Names) → IsAscending us → AreCompiled us slices_at cs
+    → IsLeft slices_at supporters (among (picked us ws)) → (q : Names) → Quorum sat slices_at q → AreWithin q supporters → q (get_or us i 0) ≡ true → ⊥
+
+-- what holds of a sweep that began with these places, looked at the first n, and has these left: forms that were met are so while nothing changed, and no node with a form that was not met is in a quorum
+pub record Swept (cs : List (Option Numbered)) (n : ℕ) (old now : List ℕ) (changed : Bool) (answers : Answers) : Type 0 where
   pub kept : (us : List ℕ) (slices_at : ℕ → Option Slices) (supporters : Names) → IsAscending us → AreCompiled us slices_at cs
       → IsLeft slices_at supporters (among (picked us old)) → IsLeft slices_at supporters (among (picked us now))
-  pub settled : changed ≡ false → (i : ℕ) → i < n → bit_of now i ≡ 1 → IsTrue (met_at (get_or cs i None) now)
+  pub settled : changed ≡ false → AreAgreed cs → (i : ℕ) → i < n → bit_of now i ≡ 1 → IsTrue (met_at (get_or cs i None) now)
   pub same : changed ≡ false → now ≡ old
   pub no_more : live (length cs) now ≤ live (length cs) old
   pub less : changed ≡ true → live (length cs) now < live (length cs) old
+  pub met : changed ≡ false → AreAgreed cs → (i : ℕ) (f : Numbered) → get_or cs i None ≡ Some f → bit_of answers.met f.number ≡ 1 → met f.set now ≡ true
+  pub unmet : (i : ℕ) (f : Numbered) → i < length cs → get_or cs i None ≡ Some f → bit_of answers.unmet f.number ≡ 1 → InNone cs old i
 
-pub begun : (cs : List (Option Compiled)) (old : List ℕ) → Swept cs 0 old old false
-begun cs old = record {
+pub begun : (cs : List (Option Numbered)) (old : List ℕ) (answers : Answers) → IsNothing answers → Swept cs 0 old old false answers
+begun cs old answers nothing = record {
   kept = λ us slices_at supporters up compiled left. left;
-  settled = λ e i h. absurd (omega arith);
+  settled = λ e agreed i h. absurd (omega arith);
   same = λ e. refl;
   no_more = omega arith;
   less = λ e. absurd (false≢true e);
+  met = λ e agreed i f is one. absurd (omega (arith, one, (nothing f.number).0));
+  unmet = λ i f within is one. absurd (omega (arith, one, (nothing f.number).1));
 }
 
-pub one_fails : (cs : List (Option Compiled)) (n : ℕ) (old now next : List ℕ) (changed : Bool) → Swept cs n old now changed → n < length cs
-    → bit_of now n ≡ 1 → met_at (get_or cs n None) now ≡ false → IsCleared n now next → Swept cs (n + 1) old next true
-one_fails cs n old now next changed so_far within set fails cleared = record {
-  kept = λ us slices_at supporters up compiled left. one_away us slices_at cs supporters up compiled n now next within fails cleared (so_far.kept us slices_at supporters up compiled left);
+-- a form of the number of one that is not met now is not met either
+none_of_number : (cs : List (Option Numbered)) (n : ℕ) (old now : List ℕ) (changed : Bool) (answers : Answers) → Swept cs n old now changed answers
+    → (j : ℕ) (g : Numbered) → get_or cs j None ≡ Some g → met g.set now ≡ false
+    → (i : ℕ) (f : Numbered) → i < length cs → get_or cs i None ≡ Some f → g.number ≡ f.number → InNone cs old i
+none_of_number cs n old now changed answers so_far j g g_is fails i f within f_is number us slices_at supporters up compiled left =
+    let same : f.set ≡ g.set = sym (compiled.agreed j i g f g_is f_is number) in
+    not_met us slices_at cs supporters up compiled i now (so_far.kept us slices_at supporters up compiled left) within
+    (ap (λ (o : Option Numbered). met_at o now) f_is ∙ (ap (λ c. met c now) same ∙ fails))
+
+-- the node at the next place is in no quorum, where its form is not met
+next_in_none : (cs : List (Option Numbered)) (n : ℕ) (old now : List ℕ) (changed : Bool) (answers next : Answers) → Swept cs n old now changed answers → n < length cs
+    → (o : Option Numbered) → get_or cs n None ≡ o → IsAnswerAt o now answers next false → InNone cs old n
+next_in_none cs n old now changed answers next so_far within None is answer us slices_at supporters up compiled left =
+    not_met us slices_at cs supporters up compiled n now (so_far.kept us slices_at supporters up compiled left) within (ap (λ (o : Option Numbered). met_at o now) is)
+next_in_none cs n old now changed answers next so_far within (Some f) is answer us slices_at supporters up compiled left = elim (answer.fails refl) [
+  | inl e ↦ so_far.unmet n f within is e us slices_at supporters up compiled left
+  | inr e ↦ none_of_number cs n old now changed answers so_far n f is e n f within is refl us slices_at supporters up compiled left
+]
+
+-- forms that are noted as not met
+next_unmet : (cs : List (Option Numbered)) (n : ℕ) (old now : List ℕ) (changed v : Bool) (answers next : Answers) → Swept cs n old now changed answers
+    → (o : Option Numbered) → get_or cs n None ≡ o → IsAnswerAt o now answers next v
+    → (i : ℕ) (f : Numbered) → i < length cs → get_or cs i None ≡ Some f → bit_of next.unmet f.number ≡ 1 → InNone cs old i
+next_unmet cs n old now changed v answers next so_far None is answer i f within f_is one = so_far.unmet i f within f_is (ap (λ (a : Answers). bit_of a.unmet f.number) (sym answer.0) ∙ one)
+next_unmet cs n old now changed v answers next so_far (Some g) is answer i f within f_is one = elim (answer.kept_unmet f.number one) [
+  | inl e ↦ so_far.unmet i f within f_is e
+  | inr e ↦ none_of_number cs n old now changed answers so_far n g is e.1 i f within f_is e.0
+]
+
+-- forms that are noted as met
+next_met : (cs : List (Option Numbered)) (n : ℕ) (old now : List ℕ) (changed v : Bool) (answers next : Answers) → Swept cs n old now changed answers
+    → (o : Option Numbered) → get_or cs n None ≡ o → IsAnswerAt o now answers next v → changed ≡ false → AreAgreed cs
+    → (i : ℕ) (f : Numbered) → get_or cs i None ≡ Some f → bit_of next.met f.number ≡ 1 → met f.set now ≡ true
+next_met cs n old now changed v answers next so_far None is answer e agreed i f f_is one = so_far.met e agreed i f f_is (ap (λ (a : Answers). bit_of a.met f.number) (sym answer.0) ∙ one)
+next_met cs n old now changed v answers next so_far (Some g) is answer e agreed i f f_is one = elim (answer.kept_met f.number one) [
+  | inl earlier ↦ so_far.met e agreed i f f_is earlier
+  | inr now_met ↦ ap (λ c. met c now) (sym (agreed n i g f is f_is now_met.0)) ∙ now_met.1
+]
+
+-- the form at the next place is met, where nothing changed
+next_holds : (cs : List (Option Numbered)) (n : ℕ) (old now : List ℕ) (changed : Bool) (answers next : Answers) → Swept cs n old now changed answers
+    → (o : Option Numbered) → get_or cs n None ≡ o → IsAnswerAt o now answers next true → changed ≡ false → AreAgreed cs → met_at o now ≡ true
+next_holds cs n old now changed answers next so_far None is answer e agreed = absurd (true≢false answer.1)
+next_holds cs n old now changed answers next so_far (Some f) is answer e agreed = elim (answer.holds refl) [
+  | inl earlier ↦ so_far.met e agreed n f is earlier
+  | inr now_met ↦ now_met
+]
+
+pub one_fails : (cs : List (Option Numbered)) (n : ℕ) (old now left : List ℕ) (changed : Bool) (answers next : Answers) → Swept cs n old now changed answers → n < length cs
+    → bit_of now n ≡ 1 → IsAnswerAt (get_or cs n None) now answers next false → IsCleared n now left → Swept cs (n + 1) old left true next
+one_fails cs n old now left changed answers next so_far within set answer cleared = record {
+  kept = λ us slices_at supporters up compiled begins. one_away us slices_at cs supporters up compiled n now left
+      (next_in_none cs n old now changed answers next so_far within (get_or cs n None) refl answer us slices_at supporters up compiled begins) cleared
+      (so_far.kept us slices_at supporters up compiled begins);
   settled = λ e. absurd (true≢false e);
   same = λ e. absurd (true≢false e);
-  no_more = omega (arith, so_far.no_more, less_live (length cs) n now next cleared within set);
-  less = λ e. omega (arith, so_far.no_more, less_live (length cs) n now next cleared within set);
+  no_more = omega (arith, so_far.no_more, less_live (length cs) n now left cleared within set);
+  less = λ e. omega (arith, so_far.no_more, less_live (length cs) n now left cleared within set);
+  met = λ e. absurd (true≢false e);
+  unmet = next_unmet cs n old now changed false answers next so_far (get_or cs n None) refl answer;
 }
 
-pub one_holds : (cs : List (Option Compiled)) (n : ℕ) (old now : List ℕ) (changed : Bool) → Swept cs n old now changed
-    → (bit_of now n ≡ 1 → IsTrue (met_at (get_or cs n None) now)) → Swept cs (n + 1) old now changed
-one_holds cs n old now changed so_far holds = record {
+holds_to : (cs : List (Option Numbered)) (n : ℕ) (now : List ℕ) → ((i : ℕ) → i < n → bit_of now i ≡ 1 → IsTrue (met_at (get_or cs i None) now))
+    → (bit_of now n ≡ 1 → IsTrue (met_at (get_or cs n None) now)) → (i : ℕ) → i < n + 1 → bit_of now i ≡ 1 → IsTrue (met_at (get_or cs i None) now)
+holds_to cs n now before here i h set = elim (cases_lt i n) [
+  | inl l ↦ before i l set
+  | inr m ↦
+      let is : n ≡ i = omega arith in
+      subst (λ j. IsTrue (met_at (get_or cs j None) now)) is (here (ap (bit_of now) is ∙ set))
+]
+
+pub one_holds : (cs : List (Option Numbered)) (n : ℕ) (old now : List ℕ) (changed : Bool) (answers next : Answers) → Swept cs n old now changed answers
+    → IsAnswerAt (get_or cs n None) now answers next true → Swept cs (n + 1) old now changed next
+one_holds cs n old now changed answers next so_far answer = record {
   kept = so_far.kept;
-  settled = λ e i h set. elim (cases_lt i n) [
-    | inl l ↦ so_far.settled e i l set
-    | inr m ↦
-        let is : n ≡ i = omega arith in
-        subst (λ j. IsTrue (met_at (get_or cs j None) now)) is (holds (ap (bit_of now) is ∙ set))
-  ];
+  settled = λ e agreed. holds_to cs n now (so_far.settled e agreed) (λ _. next_holds cs n old now changed answers next so_far (get_or cs n None) refl answer e agreed);
   same = so_far.same;
   no_more = so_far.no_more;
   less = so_far.less;
+  met = next_met cs n old now changed true answers next so_far (get_or cs n None) refl answer;
+  unmet = next_unmet cs n old now changed true answers next so_far (get_or cs n None) refl answer;
 }
+
+-- a place that is not in the set
+pub one_out : (cs : List (Option Numbered)) (n : ℕ) (old now : List ℕ) (changed : Bool) (answers next : Answers) → Swept cs n old now changed answers
+    → (bit_of now n ≢ 1) × (next ≡ answers) → Swept cs (n + 1) old now changed next
+one_out cs n old now changed answers next so_far out = subst (λ a. Swept cs (n + 1) old now changed a) (sym out.1) (record {
+  kept = so_far.kept;
+  settled = λ e agreed. holds_to cs n now (so_far.settled e agreed) (λ one. absurd (out.0 one));
+  same = so_far.same;
+  no_more = so_far.no_more;
+  less = so_far.less;
+  met = so_far.met;
+  unmet = so_far.unmet;
+})

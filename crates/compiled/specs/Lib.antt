@@ -1,3 +1,4 @@
 pub mod Places
 pub mod Met
 pub mod Searching
+pub mod Answering

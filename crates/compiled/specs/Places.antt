@@ -34,6 +34,11 @@ pub record Compiled : Type 0 where
   pub masks : List Mask
   pub inner : Sets
 
+-- a compiled set and the number by which its owner tells it from others
+pub record Numbered : Type 0 where
+  pub number : ℕ
+  pub set : Compiled
+
 abbrev pub sets_of : List Compiled → Sets
 sets_of [] = none
 sets_of (c ∷ cs) = set c.needed c.masks c.inner (sets_of cs)
@@ -94,3 +99,6 @@ abbrev pub compiled_code : Coded Compiled
 compiled_code =
     code_by (ℕ × (List Mask × Sets)) (coded× coded_ℕ (coded× (coded_list mask_code) sets_code)) (λ c. (c.needed, (c.masks, c.inner)))
     (λ p. record { needed = p.0; masks = p.1.0; inner = p.1.1 }) (λ _. refl)
+
+abbrev pub numbered_code : Coded Numbered
+numbered_code = code_by (ℕ × Compiled) (coded× coded_ℕ compiled_code) (λ f. (f.number, f.set)) (λ p. record { number = p.0; set = p.1 }) (λ _. refl)

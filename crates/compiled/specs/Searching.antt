@@ -4,22 +4,27 @@ use Rattle.types.specs.Trees.{Slices}
 use Rattle.protocol.specs.Sets.{Names, among, AreWithin}
 use Rattle.protocol.specs.Satisfaction.{sat}
 use Rattle.protocol.specs.Quorums.{Quorum, is_satisfied}
-use Rattle.compiled.specs.Places.{bit_of, Compiled}
+use Rattle.compiled.specs.Places.{bit_of, Numbered}
 use Rattle.compiled.specs.Met.{met, picked}
 
 -- there are compiled slices, and the places meet them
-abbrev pub met_at : Option Compiled → List ℕ → Bool
+abbrev pub met_at : Option Numbered → List ℕ → Bool
 met_at None ws = false
-met_at (Some c) ws = met c ws
+met_at (Some f) ws = met f.set ws
 
 -- the place is in the set, and the set meets its slices
-abbrev pub stays_at : List (Option Compiled) → List ℕ → ℕ → Bool
+abbrev pub stays_at : List (Option Numbered) → List ℕ → ℕ → Bool
 stays_at cs ws i = (bit_of ws i == 1) && met_at (get_or cs i None) ws
 
--- each node's compiled slices stand at its place: places meet them exactly where the nodes at those places satisfy its slices
-pub record AreCompiled (us : List ℕ) (slices_at : ℕ → Option Slices) (cs : List (Option Compiled)) : Type 0 where
+-- forms of one number are of one set
+abbrev pub AreAgreed : List (Option Numbered) → Type 0
+AreAgreed fs = (i j : ℕ) (f g : Numbered) → get_or fs i None ≡ Some f → get_or fs j None ≡ Some g → f.number ≡ g.number → f.set ≡ g.set
+
+-- each node's compiled slices stand at its place, those of one number the same: places meet them exactly where the nodes at those places satisfy its slices
+pub record AreCompiled (us : List ℕ) (slices_at : ℕ → Option Slices) (cs : List (Option Numbered)) : Type 0 where
   pub as_many : length cs ≡ length us
   pub each : (i : ℕ) → i < length us → (ws : List ℕ) → met_at (get_or cs i None) ws ≡ is_satisfied sat (slices_at (get_or us i 0)) (among (picked us ws))
+  pub agreed : AreAgreed cs
 
 -- no quorum among the supporters has lost a node
 pub record IsLeft (slices_at : ℕ → Option Slices) (supporters set : Names) : Type 0 where
@@ -27,7 +32,7 @@ pub record IsLeft (slices_at : ℕ → Option Slices) (supporters set : Names) :
   pub all_quorums : (q : Names) → Quorum sat slices_at q → AreWithin q supporters → AreWithin q set
 
 -- the set meets the slices of all its places
-abbrev pub AllMet : List (Option Compiled) → List ℕ → Type 0
+abbrev pub AllMet : List (Option Numbered) → List ℕ → Type 0
 AllMet cs ws = (i : ℕ) → i < length cs → bit_of ws i ≡ 1 → IsTrue (met_at (get_or cs i None) ws)
 
 -- how many of the first places are in the set

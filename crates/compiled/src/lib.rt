@@ -2,13 +2,16 @@
 //! words with a bit for each place, and a test of slices is a few words for each of their sets.
 #![tactic(auto)]
 
+mod answers;
 mod compiling;
+mod form;
 mod mask;
 mod places;
 mod search;
 mod set;
 
 pub use compiling::{compile, has_places, place_of};
+pub use form::Form;
 pub use places::{add_place, has_place, no_places};
 pub use search::in_quorum;
 pub use set::{CompiledSet, is_met};

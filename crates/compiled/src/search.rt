@@ -1,22 +1,25 @@
 //! The search for a quorum over places: places are taken away until the slices of all that are left are met.
 
-ghost use Rattle.std.specs.Prelude.{◌≡◌, ◌<◌, ◌/◌, false, ℕ, List, Option, None, IsTrue, IsFalse, ◌↔◌, get_or, length};
+ghost use Rattle.std.specs.Prelude.{◌≡◌, ◌<◌, ◌/◌, false, ℕ, List, Option, None, IsTrue, IsFalse, ◌↔◌, ◌≢◌, ◌⊎◌, true, get_or, length};
 ghost use Rattle.types.specs.Trees.{Slices};
 ghost use Rattle.protocol.specs.Sets.{IsAscending, Names, among};
 ghost use Rattle.protocol.specs.Satisfaction.{sat};
 ghost use Rattle.protocol.specs.Quorums.{HasQuorum};
 ghost use Rattle.compiled.specs.Places.{bit_of};
+ghost use Rattle.compiled.specs.Answering.{IsAnswerAt};
 ghost use Rattle.compiled.specs.Met.{picked};
-ghost use Rattle.compiled.specs.Searching.{AllMet, AreCompiled, IsLeft, live, met_at, stays_at};
+ghost use Rattle.compiled.specs.Searching.{AllMet, AreAgreed, AreCompiled, IsLeft, live, met_at, stays_at};
 
+use crate::answers::Answers;
+use crate::form::Form;
 use crate::places::{clear_place, has_place};
-use crate::set::{CompiledSet, is_met};
+use crate::set::is_met;
 
 /// Whether some quorum within the supporters contains the node at a place (Mazières 2015, of quorums).
 ///
 /// The supporters come as the places in `left`, of which those that are in no quorum may be taken away. The
 /// compiled slices are those of the nodes, place by place. It takes no memory.
-pub fn in_quorum(left: &mut [u64], place: usize, compiled: &[Option<CompiledSet>]) -> bool
+pub fn in_quorum(left: &mut [u64], place: usize, compiled: &[Option<Form>]) -> bool
     requires { place < length compiled.now }
     ensures { (us : List ℕ) (slices_at : ℕ → Option Slices) → IsAscending us → AreCompiled us slices_at compiled.now → IsTrue result ↔ HasQuorum sat slices_at (among (picked us left.old)) (get_or us place 0) }
 {
@@ -31,15 +34,16 @@ pub fn in_quorum(left: &mut [u64], place: usize, compiled: &[Option<CompiledSet>
 }
 
 /// Takes away each place whose slices those that are left do not meet; whether there was one.
-fn sweep(left: &mut [u64], compiled: &[Option<CompiledSet>]) -> bool
+fn sweep(left: &mut [u64], compiled: &[Option<Form>]) -> bool
     ensures kept { (us : List ℕ) (slices_at : ℕ → Option Slices) (supporters : Names) → IsAscending us → AreCompiled us slices_at compiled.now → IsLeft slices_at supporters (among (picked us left.old)) → IsLeft slices_at supporters (among (picked us left.new)) }
-    ensures settled { IsFalse result → AllMet compiled.now left.new }
+    ensures settled { IsFalse result → AreAgreed compiled.now → AllMet compiled.now left.new }
     ensures same { IsFalse result → left.new ≡ left.old }
     ensures less { IsTrue result → live (length compiled.now) left.new < live (length compiled.now) left.old }
 {
+    let mut answers = Answers::none();
     let mut changed = false;
     for place in 0..compiled.len() {
-        if fails(left, place, compiled) {
+        if fails(left, place, compiled, &mut answers) {
             clear_place(left, place);
             changed = true;
         }
@@ -47,17 +51,21 @@ fn sweep(left: &mut [u64], compiled: &[Option<CompiledSet>]) -> bool
     changed
 }
 
-/// Whether the place is in the set, and the set does not meet its slices.
-fn fails(left: &[u64], place: usize, compiled: &[Option<CompiledSet>]) -> bool
+/// Whether the place is in the set, and the set does not meet its slices: by an earlier answer, or else asked now.
+fn fails(left: &[u64], place: usize, compiled: &[Option<Form>], answers: &mut Answers) -> bool
     requires { place < length compiled.now }
-    ensures fails { IsTrue result → (place / 64 < length left.now) × (bit_of left.now place ≡ 1) × (met_at (get_or compiled.now place None) left.now ≡ false) }
-    ensures holds { IsFalse result → bit_of left.now place ≡ 1 → IsTrue (met_at (get_or compiled.now place None) left.now) }
+    ensures fails { IsTrue result → (place / 64 < length left.now) × (bit_of left.now place ≡ 1) × IsAnswerAt (get_or compiled.now place None) left.now answers.old answers.new false }
+    ensures holds { IsFalse result → ((bit_of left.now place ≢ 1) × (answers.new ≡ answers.old)) ⊎ IsAnswerAt (get_or compiled.now place None) left.now answers.old answers.new true }
 {
-    has_place(left, place) && !is_met_at(left, place, compiled)
+    if !has_place(left, place) {
+        return false;
+    }
+    let met = answers.is_met_at(&compiled[place], left);
+    !met
 }
 
 /// Whether the place is in the set, and the set meets its slices.
-fn stays(left: &[u64], place: usize, compiled: &[Option<CompiledSet>]) -> bool
+fn stays(left: &[u64], place: usize, compiled: &[Option<Form>]) -> bool
     requires { place < length compiled.now }
     ensures { result ≡ stays_at compiled.now left.now place }
 {
@@ -65,12 +73,12 @@ fn stays(left: &[u64], place: usize, compiled: &[Option<CompiledSet>]) -> bool
 }
 
 /// Whether the set meets the slices at a place.
-fn is_met_at(left: &[u64], place: usize, compiled: &[Option<CompiledSet>]) -> bool
+fn is_met_at(left: &[u64], place: usize, compiled: &[Option<Form>]) -> bool
     requires { place < length compiled.now }
     ensures { result ≡ met_at (get_or compiled.now place None) left.now }
 {
     match &compiled[place] {
         None => false,
-        Some(set) => is_met(set, left),
+        Some(form) => is_met(form.set(), left),
     }
 }

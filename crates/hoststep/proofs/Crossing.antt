@@ -18,6 +18,7 @@ use Rattle.network.proofs.slot_index.SlotPlace.TheSendSync as slot_place
 use Rattle.envstore.specs.declared.shelf.Places.{Ghosts}
 use Rattle.types.specs.contracts.event.Event as Event
 use Rattle.types.specs.contracts.nested.Nested as Nested
+use Rattle.compiled.specs.contracts.form.Form as Form
 use Rattle.view.specs.contracts.region.Region as Region
 use Rattle.latest.specs.contracts.index.Index as Index
 use Rattle.latest.specs.contracts.places.RowPlaces as RowPlaces
@@ -50,11 +51,18 @@ nested_sync = search (sendable, crosses, slices.send-SliceSet, slices.sync-Slice
 pub nested_send : IsSend (Nested.the_row)
 nested_send = search (sendable, crosses, slices.send-SliceSet, slices.sync-SliceSet) depth 40
 
+-- forms that copies share
+form_sync : IsSync (Form.the_row)
+form_sync = search (sendable, crosses, compiled.send-CompiledSet, compiled.sync-CompiledSet) depth 40
+
+form_send : IsSend (Form.the_row)
+form_send = search (sendable, crosses, compiled.send-CompiledSet, compiled.sync-CompiledSet) depth 40
+
 region_sync : IsSync (Region.the_row)
-region_sync = search (sendable, crosses, name.the_sync, compiled.sync-CompiledSet) depth 40
+region_sync = search (sendable, crosses, name.the_sync, compiled.sync-CompiledSet, form_sync) depth 40
 
 region_send : IsSend (Region.the_row)
-region_send = search (sendable, crosses, name.the_send, compiled.send-CompiledSet) depth 40
+region_send = search (sendable, crosses, name.the_send, compiled.send-CompiledSet, form_send) depth 40
 
 places_sync : IsSync (RowPlaces.the_row)
 places_sync = search (sendable, crosses) depth 40

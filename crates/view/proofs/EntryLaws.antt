@@ -1,27 +1,29 @@
 -- A reached node's first row changes one entry of a region, or none, and a copy of a region is one.
-use Rattle.std.proofs.Common.{◌≡◌, ◌≢◌, ◌⊎◌, ℕ, ◌<◌, Bool, true, false, ◌&&◌, ◌==◌, List, [], ◌∷◌, get_or, set, length, length-set, Option, Some, None, option_map, is_some, if◌then◌else◌, IfSome, Vec, Bor, refl, sym, subst, ◌∙◌, ap, arith, inl, inr}
+use Rattle.std.proofs.Common.{◌≡◌, ◌≢◌, ◌⊎◌, ℕ, ◌<◌, Bool, true, false, ◌&&◌, ◌==◌, List, get_or, set, length, length-set, Option, Some, None, option_map, if◌then◌else◌, Vec, refl, sym, subst, ◌∙◌, ap, arith, inl, inr}
 use Rattle.std.specs.Global.{Global}
-use Rattle.std.proofs.lemmas.Bool.{cases_Bool, cases_lt, and_parts, and_from, or_cases, eqb-true, eq-eqb, ne_eqb, false≢true, true≢false}
+use Rattle.std.proofs.lemmas.Bool.{cases_Bool, cases_lt, and_from, eqb-true, eq-eqb, ne_eqb, true≢false}
 use Rattle.std.proofs.lemmas.List.{get_or-set_same, get_or-set_other, length-map}
 use Rattle.types.specs.Trees.{Slices}
 use Rattle.types.specs.declared.kind.Kind.{Kind}
 use Rattle.types.specs.declared.kind.Kind.TheVariants.{Nomination}
 use Rattle.types.specs.Statements.{Sent, kind_of}
-use Rattle.protocol.specs.Sets.{Names, among, within, AreWithin, IsAscending}
+use Rattle.protocol.specs.Sets.{among, IsAscending}
 use Rattle.protocol.specs.Satisfaction.{sat, names}
 use Rattle.protocol.specs.Quorums.{is_satisfied}
 use Rattle.protocol.specs.Backing.{slices_by}
 use Rattle.protocol.specs.Reach.{IsReach}
 use Rattle.protocol.specs.Rows.{row, with_row, is_row_of, is_kind}
-use Rattle.protocol.proofs.Tables.{is_kind-itself, row-with}
-use Rattle.compiled.specs.Places.{Compiled}
+use Rattle.protocol.proofs.Tables.{row-with}
+use Rattle.compiled.specs.Places.{Compiled, Numbered}
 use Rattle.compiled.specs.Met.{IsCompiled, picked}
 use Rattle.compiled.specs.Searching.{AreCompiled, met_at}
 use Rattle.view.specs.declared.region.Entry.{Entry}
 use Rattle.view.specs.declared.region.Region.{Region}
 use Rattle.latest.specs.Places.{place_of}
 use Rattle.view.specs.Asking.{AreAsked}
-use Rattle.view.specs.Regions.{IsCopy, IsEntry, IsRegion, row_places}
+use Rattle.view.specs.Forms.{AreBelow, Fits, MayJoin}
+use Rattle.view.specs.Regions.{IsCopy, IsEntry, IsRegion, forms_of, row_places}
+use Rattle.view.proofs.FormLaws.{agreed_set, below_more, below_set}
 use Rattle.view.proofs.PlaceLaws.{place_set, places_kept}
 
 -- nodes at two places are two
@@ -55,12 +57,13 @@ slices_same own configured table e k u (inr h) =
     ap (λ (o : Option Sent). if own == u then Some configured else option_map (λ (x : Sent). x.slices) o)
     (sym (row-with e table u k ∙ ap (λ b. if b then Some e else row table u k) h))
 
-same_compiled : (own : ℕ) (configured : Slices) (table : List Sent) (e : Sent) (k : Kind) (us : List ℕ) (cs : List (Option Compiled))
+same_compiled : (own : ℕ) (configured : Slices) (table : List Sent) (e : Sent) (k : Kind) (us : List ℕ) (cs : List (Option Numbered))
     → ((i : ℕ) → i < length us → ((own == get_or us i 0) ≡ true) ⊎ (is_row_of (get_or us i 0) k e ≡ false))
     → AreCompiled us (slices_by own configured table k) cs → AreCompiled us (slices_by own configured (with_row e table) k) cs
 same_compiled own configured table e k us cs others are = record {
   as_many = are.as_many;
   each = λ i h ws. are.each i h ws ∙ ap (λ (o : Option Slices). is_satisfied sat o (among (picked us ws))) (slices_same own configured table e k (get_or us i 0) (others i h));
+  agreed = are.agreed;
 }
 
 -- ---- the one that it changes
@@ -71,28 +74,29 @@ slices_now own configured table e k another kind =
     ∙ ap (option_map (λ (x : Sent). x.slices))
     (row-with e table e.sender k ∙ ap (λ b. if b then Some e else row table e.sender k) (and_from (e.sender == e.sender) (is_kind k (kind_of e.body)) (eq-eqb e.sender e.sender refl) kind))
 
-set_compiled : (own : ℕ) (configured : Slices) (table : List Sent) (e : Sent) (k : Kind) (us : List ℕ) (cs : List (Option Compiled)) (p : ℕ) (c : Compiled)
-    → IsAscending us → p < length us → get_or us p 0 ≡ e.sender → (own == e.sender) ≡ false → is_kind k (kind_of e.body) ≡ true → IsCompiled false us e.slices c
-    → AreCompiled us (slices_by own configured table k) cs → AreCompiled us (slices_by own configured (with_row e table) k) (set cs p (Some c))
-set_compiled own configured table e k us cs p c up inside sender_is another kind compiled are = record {
-  as_many = length-set cs p (Some c) ∙ are.as_many;
+set_compiled : (own : ℕ) (configured : Slices) (table : List Sent) (e : Sent) (k : Kind) (us : List ℕ) (cs : List (Option Numbered)) (p : ℕ) (f : Numbered)
+    → IsAscending us → p < length us → get_or us p 0 ≡ e.sender → (own == e.sender) ≡ false → is_kind k (kind_of e.body) ≡ true → IsCompiled false us e.slices f.set → Fits f cs
+    → AreCompiled us (slices_by own configured table k) cs → AreCompiled us (slices_by own configured (with_row e table) k) (set cs p (Some f))
+set_compiled own configured table e k us cs p f up inside sender_is another kind compiled fits are = record {
+  as_many = length-set cs p (Some f) ∙ are.as_many;
   each = λ i h ws. elim (cases_Bool (i == p)) [
     | inl here ↦
         let is : i ≡ p = eqb-true i p here in
         let room : p < length cs = omega (arith, inside, are.as_many) in
         let now = ap (λ j. slices_by own configured (with_row e table) k (get_or us j 0)) is
         ∙ (ap (slices_by own configured (with_row e table) k) sender_is ∙ slices_now own configured table e k another kind) in
-        ap (λ j. met_at (get_or (set cs p (Some c)) j None) ws) is
-        ∙ (ap (λ (o : Option Compiled). met_at o ws) (get_or-set_same cs p (Some c) None room)
+        ap (λ j. met_at (get_or (set cs p (Some f)) j None) ws) is
+        ∙ (ap (λ (o : Option Numbered). met_at o ws) (get_or-set_same cs p (Some f) None room)
         ∙ (compiled ws ∙ sym (ap (λ (o : Option Slices). is_satisfied sat o (among (picked us ws))) now)))
     | inr there ↦
         let other : i ≢ p = λ is. true≢false (sym (eq-eqb i p is) ∙ there) in
         let sender : (e.sender == get_or us i 0) ≡ false =
         ap (λ w. w == get_or us i 0) (sym sender_is) ∙ apart us p i up inside h (λ is. other (sym is)) in
-        ap (λ (o : Option Compiled). met_at o ws) (get_or-set_other cs p i (Some c) None other)
+        ap (λ (o : Option Numbered). met_at o ws) (get_or-set_other cs p i (Some f) None other)
         ∙ (are.each i h ws
         ∙ ap (λ (o : Option Slices). is_satisfied sat o (among (picked us ws))) (slices_same own configured table e k (get_or us i 0) (inr (other_node k e (get_or us i 0) sender))))
   ];
+  agreed = agreed_set cs p f (omega (arith, inside, are.as_many)) fits are.agreed;
 }
 
 module _ (table : List Sent) (e : Sent) (r : Region) (own : ℕ) (configured : Slices) (is : IsRegion own configured table r) where
@@ -121,33 +125,46 @@ module _ (table : List Sent) (e : Sent) (r : Region) (own : ℕ) (configured : S
     rows_of_other_kind : (k : Kind) → is_kind k (kind_of e.body) ≡ false → row_places table k r.nodes.items ≡ row_places (with_row e table) k r.nodes.items
     rows_of_other_kind k another_kind = places_kept table e k r.nodes.items (λ i h. inl (other_kind k e (get_or r.nodes.items i 0) another_kind))
 
-    pub ballot_set : x.kind ≡ Kind.Ballot → (v : Vec (Option Compiled) Global) → (x.place < length r.ballots.items → v.items ≡ set r.ballots.items x.place (Some x.slices))
+    -- its form may join those of its kind
+    joining : (k : Kind) → k ≡ kind_of e.body → AreCompiled r.nodes.items (slices_by own configured table k) (forms_of k r) → AreBelow r.numbers (forms_of k r)
+        → MayJoin r.nodes.items (forms_of k r) x.numbers e.slices x.slices
+    joining k same =
+        subst (λ (j : Kind). AreCompiled r.nodes.items (slices_by own configured table j) (forms_of j r) → AreBelow r.numbers (forms_of j r) → MayJoin r.nodes.items (forms_of j r) x.numbers e.slices x.slices)
+        (sym same) entry.form
+
+    pub ballot_set : x.kind ≡ Kind.Ballot → (v : Vec (Option Numbered) Global) → (x.place < length r.ballots.items → v.items ≡ set r.ballots.items x.place (Some x.slices))
         → (w : Vec (Option ℕ) Global) → (x.place < length r.ballot_rows.items → w.items ≡ set r.ballot_rows.items x.place (Some x.row))
-        → IsRegion own configured (with_row e table) (record r { ballots = v; ballot_rows = w })
+        → IsRegion own configured (with_row e table) (record r { ballots = v; ballot_rows = w; numbers = x.numbers; latest = x.place })
     ballot_set kind v now w row_now =
         let is_now = now (omega (arith, entry.within, is.ballots.as_many)) in
         let row_is_now = row_now (omega (arith, entry.within, ap (λ (os : List (Option ℕ)). length os) is.ballot_rows, length-map r.nodes.items (λ u. place_of table u Kind.Ballot))) in
         let k : Kind.Ballot ≡ kind_of e.body = sym kind ∙ entry.kind in
+        let room : x.place < length r.ballots.items = omega (arith, entry.within, is.ballots.as_many) in
+        let joins : MayJoin r.nodes.items r.ballots.items x.numbers e.slices x.slices = joining Kind.Ballot k is.ballots is.ballot_numbers in
         record {
           reach = reach;
           within = is.within;
           itself = is.itself;
           blocking = is.blocking;
           asked = is.asked;
-          ballots = subst (λ (cs : List (Option Compiled)). AreCompiled r.nodes.items (slices_by own configured (with_row e table) Kind.Ballot) cs) (sym is_now)
-              (set_compiled own configured table e Kind.Ballot r.nodes.items r.ballots.items x.place x.slices is.reach.ascending entry.within entry.sender another (ap (is_kind Kind.Ballot) (sym k)) entry.compiled is.ballots);
+          ballots = subst (λ (cs : List (Option Numbered)). AreCompiled r.nodes.items (slices_by own configured (with_row e table) Kind.Ballot) cs) (sym is_now)
+              (set_compiled own configured table e Kind.Ballot r.nodes.items r.ballots.items x.place x.slices is.reach.ascending entry.within entry.sender another (ap (is_kind Kind.Ballot) (sym k)) joins.compiled joins.fits is.ballots);
           nominations = same_compiled own configured table e Nomination r.nodes.items r.nominations.items (λ i h. inr (other_kind Nomination e (get_or r.nodes.items i 0) (ap (is_kind Nomination) (sym k)))) is.nominations;
           ballot_rows = row_is_now ∙ ap (λ (os : List (Option ℕ)). set os x.place (Some x.row)) is.ballot_rows ∙ row_set Kind.Ballot k;
           nomination_rows = is.nomination_rows ∙ rows_of_other_kind Nomination (ap (is_kind Nomination) (sym k));
+          ballot_numbers = subst (λ (cs : List (Option Numbered)). AreBelow x.numbers cs) (sym is_now) (below_set r.ballots.items x.place x.slices r.numbers x.numbers room entry.numbers joins.below is.ballot_numbers);
+          nomination_numbers = below_more r.nominations.items r.numbers x.numbers entry.numbers is.nomination_numbers;
         }
 
-    pub nomination_set : x.kind ≡ Nomination → (v : Vec (Option Compiled) Global) → (x.place < length r.nominations.items → v.items ≡ set r.nominations.items x.place (Some x.slices))
+    pub nomination_set : x.kind ≡ Nomination → (v : Vec (Option Numbered) Global) → (x.place < length r.nominations.items → v.items ≡ set r.nominations.items x.place (Some x.slices))
         → (w : Vec (Option ℕ) Global) → (x.place < length r.nomination_rows.items → w.items ≡ set r.nomination_rows.items x.place (Some x.row))
-        → IsRegion own configured (with_row e table) (record r { nominations = v; nomination_rows = w })
+        → IsRegion own configured (with_row e table) (record r { nominations = v; nomination_rows = w; numbers = x.numbers; latest = x.place })
     nomination_set kind v now w row_now =
         let is_now = now (omega (arith, entry.within, is.nominations.as_many)) in
         let row_is_now = row_now (omega (arith, entry.within, ap (λ (os : List (Option ℕ)). length os) is.nomination_rows, length-map r.nodes.items (λ u. place_of table u Nomination))) in
         let k : Nomination ≡ kind_of e.body = sym kind ∙ entry.kind in
+        let room : x.place < length r.nominations.items = omega (arith, entry.within, is.nominations.as_many) in
+        let joins : MayJoin r.nodes.items r.nominations.items x.numbers e.slices x.slices = joining Nomination k is.nominations is.nomination_numbers in
         record {
           reach = reach;
           within = is.within;
@@ -155,10 +172,12 @@ module _ (table : List Sent) (e : Sent) (r : Region) (own : ℕ) (configured : S
           blocking = is.blocking;
           asked = is.asked;
           ballots = same_compiled own configured table e Kind.Ballot r.nodes.items r.ballots.items (λ i h. inr (other_kind Kind.Ballot e (get_or r.nodes.items i 0) (ap (is_kind Kind.Ballot) (sym k)))) is.ballots;
-          nominations = subst (λ (cs : List (Option Compiled)). AreCompiled r.nodes.items (slices_by own configured (with_row e table) Nomination) cs) (sym is_now)
-              (set_compiled own configured table e Nomination r.nodes.items r.nominations.items x.place x.slices is.reach.ascending entry.within entry.sender another (ap (is_kind Nomination) (sym k)) entry.compiled is.nominations);
+          nominations = subst (λ (cs : List (Option Numbered)). AreCompiled r.nodes.items (slices_by own configured (with_row e table) Nomination) cs) (sym is_now)
+              (set_compiled own configured table e Nomination r.nodes.items r.nominations.items x.place x.slices is.reach.ascending entry.within entry.sender another (ap (is_kind Nomination) (sym k)) joins.compiled joins.fits is.nominations);
           ballot_rows = is.ballot_rows ∙ rows_of_other_kind Kind.Ballot (ap (is_kind Kind.Ballot) (sym k));
           nomination_rows = row_is_now ∙ ap (λ (os : List (Option ℕ)). set os x.place (Some x.row)) is.nomination_rows ∙ row_set Nomination k;
+          ballot_numbers = below_more r.ballots.items r.numbers x.numbers entry.numbers is.ballot_numbers;
+          nomination_numbers = subst (λ (cs : List (Option Numbered)). AreBelow x.numbers cs) (sym is_now) (below_set r.nominations.items x.place x.slices r.numbers x.numbers room entry.numbers joins.below is.nomination_numbers);
         }
 
 -- ---- a copy
@@ -169,8 +188,10 @@ copied old new same own configured table is = record {
   itself = (λ i. get_or (same.nodes i) (same.place i) 0) ∙ is.itself;
   blocking = subst (λ (p : List ℕ × Compiled). IsCompiled true p.0 configured p.1) (λ i. (sym same.nodes i, sym same.blocking i)) is.blocking;
   asked = subst (λ (p : List ℕ × List ℕ). AreAsked p.0 (names configured) p.1) (λ i. (sym same.nodes i, sym same.asked i)) is.asked;
-  ballots = subst (λ (p : List ℕ × List (Option Compiled)). AreCompiled p.0 (slices_by own configured table Kind.Ballot) p.1) (λ i. (sym same.nodes i, sym same.ballots i)) is.ballots;
-  nominations = subst (λ (p : List ℕ × List (Option Compiled)). AreCompiled p.0 (slices_by own configured table Nomination) p.1) (λ i. (sym same.nodes i, sym same.nominations i)) is.nominations;
+  ballots = subst (λ (p : List ℕ × List (Option Numbered)). AreCompiled p.0 (slices_by own configured table Kind.Ballot) p.1) (λ i. (sym same.nodes i, sym same.ballots i)) is.ballots;
+  nominations = subst (λ (p : List ℕ × List (Option Numbered)). AreCompiled p.0 (slices_by own configured table Nomination) p.1) (λ i. (sym same.nodes i, sym same.nominations i)) is.nominations;
   ballot_rows = same.ballot_rows ∙ is.ballot_rows ∙ ap (row_places table Kind.Ballot) (sym same.nodes);
   nomination_rows = same.nomination_rows ∙ is.nomination_rows ∙ ap (row_places table Nomination) (sym same.nodes);
+  ballot_numbers = subst (λ (p : ℕ × List (Option Numbered)). AreBelow p.0 p.1) (λ i. (sym same.numbers i, sym same.ballots i)) is.ballot_numbers;
+  nomination_numbers = subst (λ (p : ℕ × List (Option Numbered)). AreBelow p.0 p.1) (λ i. (sym same.numbers i, sym same.nominations i)) is.nomination_numbers;
 }

@@ -5,6 +5,7 @@ pub mod SameRows
 pub mod FoundRows
 pub mod Keeping
 pub mod RegionLaws
+pub mod FormLaws
 pub mod EntryLaws
 pub mod AskingLaws
 pub mod PlaceLaws

@@ -19,7 +19,7 @@ use Rattle.protocol.proofs.Tables.{row-with, is_row_of-parts}
 use Rattle.closure.specs.Keeping.{KeepsReach}
 use Rattle.closure.specs.Keeping.KeepsReach.{stranger, same_slices}
 use Rattle.fedvote.proofs.VotingLaws.{quorum_of_all}
-use Rattle.compiled.specs.Places.{bit_of, Compiled}
+use Rattle.compiled.specs.Places.{bit_of, Numbered}
 use Rattle.compiled.specs.Met.{picked, picked_from, one_where}
 use Rattle.compiled.specs.Searching.{AreCompiled}
 use Rattle.view.specs.declared.region.Region.{Region}
@@ -49,7 +49,7 @@ picked_is us ws p h = filter_from us 0 ws p (λ i l. ap (bit_of ws) (omega arith
 
 module _ (own : ℕ) (configured : Slices) (table : List Sent) (r : Region) (is : IsRegion own configured table r) where
   -- a quorum over places is one among all who pass
-  pub quorum_found : (kind : Kind) (cs : List (Option Compiled)) → AreCompiled r.nodes.items (slices_by own configured table kind) cs
+  pub quorum_found : (kind : Kind) (cs : List (Option Numbered)) → AreCompiled r.nodes.items (slices_by own configured table kind) cs
       → (ws : List ℕ) (p : Names) → AreBits r.nodes.items ws p → (b : Bool)
       → ((us : List ℕ) (slices_at : ℕ → Option Slices) → IsAscending us → AreCompiled us slices_at cs → IsTrue b ↔ HasQuorum sat slices_at (among (picked us ws)) (get_or us r.place 0))
       → IsTrue b ↔ HasQuorum sat (slices_by own configured table kind) p own
@@ -83,7 +83,7 @@ slices_stay us table e keeps own configured k u inside = ap (λ (o : Option Slic
   | inr h ↦ sym (ap (option_map (λ (x : Sent). x.slices)) (row-with e table u k ∙ ap (λ b. if b then Some e else row table u k) h))
 ])
 
-compiled_stay : (us : List ℕ) (table : List Sent) (e : Sent) → KeepsReach us table e → (own : ℕ) (configured : Slices) (k : Kind) (cs : List (Option Compiled))
+compiled_stay : (us : List ℕ) (table : List Sent) (e : Sent) → KeepsReach us table e → (own : ℕ) (configured : Slices) (k : Kind) (cs : List (Option Numbered))
     → AreCompiled us (slices_by own configured table k) cs → AreCompiled us (slices_by own configured (with_row e table) k) cs
 compiled_stay us table e keeps own configured k cs are = record {
   as_many = are.as_many;
@@ -91,6 +91,7 @@ compiled_stay us table e keeps own configured k cs are = record {
       let u = get_or us i 0 in
       let inside : among us u ≡ true = list_any_at (λ y. y == u) us i 0 h (eq-eqb u u refl) in
       are.each i h ws ∙ ap (λ (o : Option Slices). is_satisfied sat o (among (picked us ws))) (slices_stay us table e keeps own configured k u inside);
+  agreed = are.agreed;
 }
 
 -- ---- and the places of their rows
@@ -118,4 +119,6 @@ region_kept r table e keeps own configured is reach = record {
   nominations = compiled_stay r.nodes.items table e keeps own configured Nomination r.nominations.items is.nominations;
   ballot_rows = is.ballot_rows ∙ places_stay r.nodes.items table e keeps Kind.Ballot;
   nomination_rows = is.nomination_rows ∙ places_stay r.nodes.items table e keeps Nomination;
+  ballot_numbers = is.ballot_numbers;
+  nomination_numbers = is.nomination_numbers;
 }

@@ -2,3 +2,4 @@ pub mod Watching
 pub mod Regions
 pub mod Asking
 pub mod Listing
+pub mod Forms

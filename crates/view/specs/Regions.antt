@@ -1,5 +1,5 @@
 -- The nodes that a node reaches, and slices compiled against them.
-use Rattle.std.specs.Prelude.{◌≡◌, ◌≢◌, ℕ, ◌<◌, List, Option, Some, get_or, length, map, false, true}
+use Rattle.std.specs.Prelude.{◌≡◌, ◌≢◌, ℕ, ◌<◌, List, Option, Some, get_or, length, map, true}
 use Rattle.types.specs.Trees.{Slices}
 use Rattle.types.specs.Statements.{Sent, kind_of}
 use Rattle.types.specs.declared.kind.Kind.{Kind}
@@ -9,7 +9,9 @@ use Rattle.protocol.specs.Reach.{IsReach}
 use Rattle.protocol.specs.Rows.{with_row}
 use Rattle.protocol.specs.Satisfaction.{names}
 use Rattle.compiled.specs.Met.{IsCompiled}
+use Rattle.compiled.specs.Places.{Numbered}
 use Rattle.compiled.specs.Searching.{AreCompiled}
+use Rattle.view.specs.Forms.{AreBelow, MayJoin}
 use Rattle.latest.specs.Places.{place_of}
 use Rattle.view.specs.Asking.{AreAsked}
 use Rattle.view.specs.declared.region.Entry.{Entry}
@@ -19,7 +21,12 @@ use Rattle.view.specs.declared.region.Region.{Region}
 abbrev pub row_places : List Sent → Kind → List ℕ → List (Option ℕ)
 row_places table kind nodes = map (λ u. place_of table u kind) nodes
 
--- what the configuration and the table give: the reach, the node's own place, what blocks it, whom to ask for that, and of all that are reached the slices and where their rows stand
+-- the forms of a kind
+abbrev pub forms_of : Kind → Region → List (Option Numbered)
+forms_of Nomination r = r.nominations.items
+forms_of Kind.Ballot r = r.ballots.items
+
+-- what the configuration and the table give: the reach, the node's own place, what blocks it, whom to ask for that, and of all that are reached the slices, in forms whose numbers are below those to come, and where their rows stand
 pub record IsRegion (own : ℕ) (configured : Slices) (table : List Sent) (r : Region) : Type 0 where
   pub reach : IsReach own configured table r.nodes.items
   pub within : r.place < length r.nodes.items
@@ -30,6 +37,8 @@ pub record IsRegion (own : ℕ) (configured : Slices) (table : List Sent) (r : R
   pub nominations : AreCompiled r.nodes.items (slices_by own configured table Nomination) r.nominations.items
   pub ballot_rows : r.ballot_rows.items ≡ row_places table Kind.Ballot r.nodes.items
   pub nomination_rows : r.nomination_rows.items ≡ row_places table Nomination r.nodes.items
+  pub ballot_numbers : AreBelow r.numbers r.ballots.items
+  pub nomination_numbers : AreBelow r.numbers r.nominations.items
 
 -- the same region, in other memory
 pub record IsCopy (old new : Region) : Type 0 where
@@ -41,6 +50,7 @@ pub record IsCopy (old new : Region) : Type 0 where
   pub nominations : new.nominations.items ≡ old.nominations.items
   pub ballot_rows : new.ballot_rows.items ≡ old.ballot_rows.items
   pub nomination_rows : new.nomination_rows.items ≡ old.nomination_rows.items
+  pub numbers : new.numbers ≡ old.numbers
 
 -- what a region has to have once a row of another node came that leaves the reach as it is: the row's slices, compiled, for its kind and at its sender's place, and where the row then stands
 pub record IsEntry (own : ℕ) (configured : Slices) (table : List Sent) (e : Sent) (r : Region) (x : Entry) : Type 0 where
@@ -49,5 +59,7 @@ pub record IsEntry (own : ℕ) (configured : Slices) (table : List Sent) (e : Se
   pub sender : get_or r.nodes.items x.place 0 ≡ e.sender
   pub kind : x.kind ≡ kind_of e.body
   pub another : x.place ≢ r.place
-  pub compiled : IsCompiled false r.nodes.items e.slices x.slices
+  pub numbers : r.numbers < x.numbers
+  pub form : AreCompiled r.nodes.items (slices_by own configured table (kind_of e.body)) (forms_of (kind_of e.body) r) → AreBelow r.numbers (forms_of (kind_of e.body) r)
+      → MayJoin r.nodes.items (forms_of (kind_of e.body) r) x.numbers e.slices x.slices
   pub row : place_of (with_row e table) e.sender (kind_of e.body) ≡ Some x.row

@@ -6,6 +6,7 @@
 #![tactic(auto)]
 
 mod asking;
+mod forms;
 mod listed;
 mod passing;
 mod reached;

@@ -1,22 +1,21 @@
 //! The nodes that a node reaches, and slices compiled against them.
 
-ghost use Rattle.std.specs.Prelude.{◌≡◌, ◌<◌, ℕ, List, IfOk, IfSome, IsTrue, Some, get_or, length, set};
+ghost use Rattle.std.specs.Prelude.{◌≡◌, ◌<◌, ◌≤◌, ℕ, List, IfOk, IfSome, IsTrue, Some, get_or, length, set};
 ghost use Rattle.types.specs.Statements.{Sent, kind_of};
 ghost use Rattle.types.specs.Trees.{Slices};
 ghost use Rattle.protocol.specs.Backing.{slices_by};
-ghost use Rattle.protocol.specs.Quorums.{is_satisfied};
 ghost use Rattle.protocol.specs.Reach.{IsReach};
 ghost use Rattle.protocol.specs.Rows.{with_row};
-ghost use Rattle.protocol.specs.Satisfaction.{sat};
 ghost use Rattle.protocol.specs.Sets.{IsAscending, among};
-ghost use Rattle.compiled.specs.Met.{picked};
-ghost use Rattle.compiled.specs.Searching.{AreCompiled, met_at};
+ghost use Rattle.compiled.specs.Searching.{AreCompiled};
 ghost use Rattle.latest.specs.Places.{place_of};
-ghost use Rattle.view.specs.Regions.{IsCopy, IsEntry, IsRegion, row_places};
+ghost use Rattle.view.specs.Forms.{AreBelow, IsFound};
+ghost use Rattle.view.specs.Regions.{IsCopy, IsEntry, IsRegion, forms_of, row_places};
 
 use crate::asking::places_to_ask;
+use crate::forms::Reached;
 use closure::{drops_none, keeps_reach, reach};
-use compiled::{CompiledSet, compile, has_places, place_of};
+use compiled::{CompiledSet, Form, compile, has_places, place_of};
 use envstore::Places;
 use latest::Rows;
 use std::alloc::{AllocError, Global};
@@ -26,6 +25,9 @@ use types::{Envelope, Kind, Nested, NodeId};
 /// blocked, and of each kind whose slices are met by whom and where in the table the rows of the nodes stand.
 /// Its owner keeps it from event to event.
 ///
+/// Slices that are the same are mostly compiled once: their forms in one list have one number, below `numbers`, and
+/// a new row's slices are held against the node's own and those of the row that was set last.
+///
 /// A newer row stands in the place of the one before, so the places change with a first row alone.
 #[derive(Drop)]
 pub struct Region {
@@ -33,20 +35,23 @@ pub struct Region {
     pub place: usize,
     pub blocking: CompiledSet,
     pub asked: Vec<usize>,
-    pub ballots: Vec<Option<CompiledSet>>,
-    pub nominations: Vec<Option<CompiledSet>>,
+    pub ballots: Vec<Option<Form>>,
+    pub nominations: Vec<Option<Form>>,
     pub ballot_rows: Vec<Option<usize>>,
     pub nomination_rows: Vec<Option<usize>>,
+    pub numbers: usize,
+    pub latest: usize,
 }
 
 /// The slices in a reached node's row of a kind, compiled, and where that row is to stand in the table: all that
-/// a row changes in a region whose reach stays.
+/// a row changes in a region whose reach stays. The numbers of all forms are below `numbers` then.
 #[derive(Drop)]
 pub struct Entry {
     kind: Kind,
     place: usize,
-    slices: CompiledSet,
+    slices: Form,
     row: usize,
+    numbers: usize,
 }
 
 impl Region {
@@ -63,8 +68,9 @@ impl Region {
         let place = place_in(&nodes, own);
         let blocking = compile(alloc, slices.set(), &nodes, true)?;
         let asked = places_to_ask(alloc, slices, &nodes)?;
-        let ballots = compile_rows(alloc, own, slices, table, Kind::Ballot, &nodes)?;
-        let nominations = compile_rows(alloc, own, slices, table, Kind::Nomination, &nodes)?;
+        let ballots = forms_by(alloc, (own, slices), table, Kind::Ballot, &nodes)?;
+        let nominations = forms_by(alloc, (own, slices), table, Kind::Nomination, &nodes)?;
+        let numbers = nodes.len();
         let ballot_rows = row_places(alloc, table, Kind::Ballot, &nodes)?;
         let nomination_rows = row_places(alloc, table, Kind::Nomination, &nodes)?;
         Ok(Region {
@@ -76,6 +82,8 @@ impl Region {
             nominations,
             ballot_rows,
             nomination_rows,
+            numbers,
+            latest: place,
         })
     }
 
@@ -92,6 +100,8 @@ impl Region {
             nominations: copy_of_all(alloc, &self.nominations)?,
             ballot_rows: Vec::from_slice(alloc, &self.ballot_rows)?,
             nomination_rows: Vec::from_slice(alloc, &self.nomination_rows)?,
+            numbers: self.numbers,
+            latest: self.latest,
         })
     }
 
@@ -110,7 +120,9 @@ impl Region {
     /// reached nodes alone, and what it does not name any more of that row is this node or a name of its own
     /// slices, and so is reached anyhow. An error says that memory is short.
     ///
-    /// It costs some searches by name and the compiling of one set of slices, however many rows there are.
+    /// It costs some searches by name and, where its slices are neither the node's own nor those of the row that was
+    /// set last, the compiling of one set of slices, however many rows there are. After the last number of a form
+    /// there is no such entry, and the region is to be found anew.
     pub fn entry_for<S: Places>(
         &self,
         alloc: Global,
@@ -132,13 +144,51 @@ impl Region {
         if !stays {
             return Ok(None);
         }
-        let compiled = compile(alloc, envelope.slices().set(), &self.nodes, false)?;
+        let Some(numbers) = self.numbers.checked_add(1) else {
+            return Ok(None);
+        };
+        let form = self.form_for(alloc, (own, slices), table, envelope)?;
         Ok(Some(Entry {
             kind: envelope.body().kind(),
             place,
-            slices: compiled,
+            slices: form,
             row: row_place(table, envelope),
+            numbers,
         }))
+    }
+
+    /// The compiled form of the envelope's slices, for the list of its kind: that of the node itself or of the row
+    /// that was set last, where their slices are the same, or else a new one. An error says that memory is short.
+    fn form_for<S: Places>(
+        &self,
+        alloc: Global,
+        own: (&NodeId, &Nested),
+        table: &Rows<'_, S>,
+        envelope: &Envelope,
+    ) -> Result<Form, AllocError>
+        requires { IsAscending self.now.nodes.items }
+        ensures { IfOk result (IsFound self.now.nodes.items (slices_by own.entry.0.now own.entry.1.now table.now (kind_of envelope.now.body)) (forms_of (kind_of envelope.now.body) self.now) self.now.numbers envelope.now.slices) }
+    {
+        let kind = envelope.body().kind();
+        let reached = Reached::new(own, &self.nodes, table, kind);
+        let candidates = (self.place, self.latest);
+        reached.form_of(
+            alloc,
+            envelope.slices(),
+            self.forms(kind),
+            candidates,
+            self.numbers,
+        )
+    }
+
+    /// The compiled forms of a kind.
+    pub(crate) fn forms(&self, kind: Kind) -> &[Option<Form>]
+        ensures { result.now ≡ forms_of kind self.now }
+    {
+        match kind {
+            Kind::Nomination => &self.nominations,
+            Kind::Ballot => &self.ballots,
+        }
     }
 
     /// Sets what [`Region::entry_for`] found. The region is then that of the table with the row. It takes
@@ -146,6 +196,8 @@ impl Region {
     pub fn set_entry(&mut self, entry: Entry)
         ensures { (own : ℕ) (configured : Slices) (table : List Sent) (e : Sent) → IsEntry own configured table e self.old entry → IsRegion own configured table self.old → IsRegion own configured (with_row e table) self.new }
     {
+        self.numbers = entry.numbers;
+        self.latest = entry.place;
         match entry.kind {
             Kind::Ballot => {
                 set_at(&mut self.ballots, entry.place, entry.slices);
@@ -192,7 +244,7 @@ fn row_place<S: Places>(table: &Rows<'_, S>, envelope: &Envelope) -> usize
 }
 
 /// Sets the slices at a place, where there is one.
-fn set_at(entries: &mut [Option<CompiledSet>], place: usize, slices: CompiledSet)
+fn set_at(entries: &mut [Option<Form>], place: usize, slices: Form)
     ensures { place < length entries.old → entries.new ≡ set entries.old place (Some slices) }
 {
     if place < entries.len() {
@@ -209,27 +261,24 @@ fn set_row(rows: &mut [Option<usize>], place: usize, row: usize)
     }
 }
 
-/// A copy of compiled slices, each in its place.
-fn copy_of_all(
-    alloc: Global,
-    sets: &[Option<CompiledSet>],
-) -> Result<Vec<Option<CompiledSet>>, AllocError>
-    ensures { IfOk result (λ v. v.items ≡ sets.now) }
+/// A copy of compiled slices, each in its place. An error says that memory is short.
+fn copy_of_all(alloc: Global, forms: &[Option<Form>]) -> Result<Vec<Option<Form>>, AllocError>
+    ensures { IfOk result (λ v. v.items ≡ forms.now) }
 {
-    let mut copies = Vec::with_capacity(alloc, sets.len())?;
-    for set in sets {
-        copies.push(copy_of(alloc, set)?)?;
+    let mut copies = Vec::with_capacity(alloc, forms.len())?;
+    for form in forms {
+        copies.push(copy_of(form)?)?;
     }
     Ok(copies)
 }
 
-/// A copy of compiled slices, if there are any.
-fn copy_of(alloc: Global, set: &Option<CompiledSet>) -> Result<Option<CompiledSet>, AllocError>
-    ensures { IfOk result (λ o. o ≡ set.now) }
+/// A copy of compiled slices, if there are any. An error says that they have too many owners.
+fn copy_of(form: &Option<Form>) -> Result<Option<Form>, AllocError>
+    ensures { IfOk result (λ o. o ≡ form.now) }
 {
-    match set {
+    match form {
         None => Ok(None),
-        Some(set) => Ok(Some(set.try_copy(alloc)?)),
+        Some(form) => Ok(Some(form.try_copy()?)),
     }
 }
 
@@ -246,45 +295,21 @@ fn place_in(nodes: &[NodeId], node: &NodeId) -> usize
     place
 }
 
-/// The slices that the nodes have by the rows of a kind, compiled, in the order of the nodes.
-fn compile_rows<S: Places>(
+/// The slices that the nodes have by the rows of a kind, compiled, in the order of the nodes; the node's own are
+/// configured. An error says that memory is short.
+fn forms_by<S: Places>(
     alloc: Global,
-    own: &NodeId,
-    slices: &Nested,
+    own: (&NodeId, &Nested),
     table: &Rows<'_, S>,
     kind: Kind,
     nodes: &[NodeId],
-) -> Result<Vec<Option<CompiledSet>>, AllocError>
+) -> Result<Vec<Option<Form>>, AllocError>
     requires { IsAscending nodes.now }
-    ensures { IfOk result (λ v. AreCompiled nodes.now (slices_by own.now slices.now table.now kind) v.items) }
+    ensures compiled { IfOk result (λ v. AreCompiled nodes.now (slices_by own.entry.0.now own.entry.1.now table.now kind) v.items) }
+    ensures below { IfOk result (λ v. AreBelow (length nodes.now) v.items) }
 {
-    let mut compiled = Vec::with_capacity(alloc, nodes.len())?;
-    for node in nodes {
-        compiled.push(compile_row(alloc, own, slices, table, kind, node, nodes)?)?;
-    }
-    Ok(compiled)
-}
-
-/// The slices that a node has by its row of a kind, compiled: its own are configured.
-fn compile_row<S: Places>(
-    alloc: Global,
-    own: &NodeId,
-    slices: &Nested,
-    table: &Rows<'_, S>,
-    kind: Kind,
-    node: &NodeId,
-    nodes: &[NodeId],
-) -> Result<Option<CompiledSet>, AllocError>
-    requires { IsAscending nodes.now }
-    ensures { IfOk result (λ o. (ws : List ℕ) → met_at o ws ≡ is_satisfied sat (slices_by own.now slices.now table.now kind node.now) (among (picked nodes.now ws))) }
-{
-    if *own == *node {
-        return Ok(Some(compile(alloc, slices.set(), nodes, false)?));
-    }
-    match table.row(node, kind) {
-        None => Ok(None),
-        Some(row) => Ok(Some(compile(alloc, row.slices().set(), nodes, false)?)),
-    }
+    let reached = Reached::new(own, nodes, table, kind);
+    reached.forms(alloc)
 }
 
 /// Where the rows of a kind that the nodes have stand in the table, in the order of the nodes.

@@ -1,6 +1,9 @@
 //! A node's view of its table.
 
+ghost use Rattle.std.proofs.Props.{props};
+ghost use Rattle.std.specs.Coded.{codes};
 ghost use Rattle.std.specs.Prelude.{◌≡◌, IfOk, length, true};
+ghost use Rattle.compiled.specs.Places.{compiled_code};
 ghost use Rattle.types.specs.declared.kind.Kind.{Kind};
 ghost use Rattle.protocol.specs.Rows.{has_single_rows};
 ghost use Rattle.protocol.specs.Views.{seen};
@@ -20,7 +23,7 @@ use crate::reached::ReachedRows;
 use crate::region::Region;
 use crate::rows::{values_of, values_of_others};
 use crate::searching::next_counter;
-use compiled::{CompiledSet, in_quorum, is_met, no_places};
+use compiled::{Form, in_quorum, is_met, no_places};
 use envstore::Places;
 use fedvote::{Question, Sight};
 use latest::Rows;
@@ -52,7 +55,7 @@ pub struct View<'a, S: Places> {
     nominations: ReachedRows<'a, S>,
     named: ListedBallots<'a>,
     committed: ListedBallots<'a>,
-    ghost known: { IsRegion own.now slices.now table.now region.now },
+    ghost known: { IsRegion own.now slices.now table.now region.now } by { Prim.hlevel (props, codes, compiled_code) },
     ghost single: { has_single_rows table.now ≡ true },
     ghost ballots_kept: { ballots ≡ record { nodes = region.now.nodes.items; table = table.now; kind = Kind.Ballot } },
     ghost nominations_kept: { nominations ≡ record { nodes = region.now.nodes.items; table = table.now; kind = Kind.Nomination } },
@@ -115,7 +118,7 @@ impl<'a, S: Places> View<'a, S> {
     }
 
     /// The compiled slices of a kind.
-    fn compiled(&self, kind: Kind) -> &[Option<CompiledSet>]
+    fn compiled(&self, kind: Kind) -> &[Option<Form>]
         ensures { AreCompiled self.now.region.now.nodes.items (slices_by self.now.own.now self.now.slices.now self.now.table.now kind) result.now }
     {
         match kind {

@@ -4,7 +4,7 @@
 ghost use Rattle.std.specs.Prelude.{IfOk};
 ghost use Rattle.protocol.specs.Sets.{IsAscending};
 
-use compiled::{CompiledSet, add_place, compile, in_quorum, is_met, no_places};
+use compiled::{CompiledSet, Form, add_place, compile, in_quorum, is_met, no_places};
 use slices::SliceFamily;
 use std::alloc::{AllocError, Global};
 use std::process::Abort;
@@ -148,8 +148,9 @@ fn is_first_in_quorum(
     numbers: &[usize],
 ) -> Result<bool, AllocError> {
     let mut compiled = Vec::new(alloc);
-    compiled.push(Some(set.try_copy(alloc)?))?;
-    compiled.push(Some(set.try_copy(alloc)?))?;
+    let form = Form::new(alloc, 0, set.try_copy(alloc)?)?;
+    compiled.push(Some(form.try_copy()?))?;
+    compiled.push(Some(form))?;
     compiled.push(None)?;
     let mut left = places_of(alloc, numbers)?;
     Ok(in_quorum(&mut left, 0, &compiled))

@@ -25,6 +25,6 @@ returns-then-not-sweep c = λ us slices_at up compiled.
     let left = c.sweep.ensures.kept us slices_at (among (picked us c.args.left.now)) up compiled (c.loop-place.invariant us slices_at up compiled) in
     let there = and_parts (bit_of c.loop-place.left c.args.place == 1) (met_at (get_or c.args.compiled.now c.args.place None) c.loop-place.left) (sym c.stays.ensures ∙ c.if-not-stays.false) in
     let bit = ap (λ ws. bit_of ws c.args.place) (c.sweep.ensures.same c.if-not-sweep.true) ∙ eqb-true (bit_of c.loop-place.left c.args.place) 1 there.0 in (
-      λ h. is_quorum us slices_at c.args.compiled.now (among (picked us c.args.left.now)) up compiled c.args.place c.sweep.new.left c.requires left (c.sweep.ensures.settled c.if-not-sweep.true) bit,
+      λ h. is_quorum us slices_at c.args.compiled.now (among (picked us c.args.left.now)) up compiled c.args.place c.sweep.new.left c.requires left (c.sweep.ensures.settled c.if-not-sweep.true compiled.agreed) bit,
       λ h. refl,
     )

@@ -1,5 +1,5 @@
 use Rattle.std.proofs.Common.{◌≡◌, take}
 use Rattle.view.proofs.region.copy_of_all.Given as goal
 
-abbrev pub invariant-loop-set : goal.invariant-loop-set
-invariant-loop-set l = l.copies.items ≡ take l.set-index l.sets
+abbrev pub invariant-loop-form : goal.invariant-loop-form
+invariant-loop-form l = l.copies.items ≡ take l.form-index l.forms

@@ -1,0 +1,164 @@
+//! Slices that are the same are compiled once.
+
+ghost use Rattle.std.specs.Prelude.{◌≡◌, ◌<◌, ◌++◌, ◌∷◌, [], ℕ, IfOk, IfSome, Some, get_or, length, option_map, None};
+ghost use Rattle.protocol.specs.Backing.{slices_by};
+ghost use Rattle.protocol.specs.Sets.{IsAscending};
+ghost use Rattle.compiled.specs.Searching.{AreCompiled};
+ghost use Rattle.view.specs.Forms.{ArePart, AreBelow, IsFound, IsTwin};
+
+use compiled::{Form, compile};
+use envstore::Places;
+use latest::Rows;
+use std::alloc::{AllocError, Global};
+use types::{Kind, Nested, NodeId};
+
+/// A node's name and slices, the nodes that it reaches, and their slices by the rows of a kind.
+#[derive(Drop)]
+pub(crate) struct Reached<'a, S: Places> {
+    own: &'a NodeId,
+    slices: &'a Nested,
+    nodes: &'a [NodeId],
+    table: &'a Rows<'a, S>,
+    kind: Kind,
+}
+
+impl<'a, S: Places> Reached<'a, S> {
+    /// The nodes that the node with this name and these slices reaches, by the rows of a kind.
+    pub(crate) fn new(
+        own: (&'a NodeId, &'a Nested),
+        nodes: &'a [NodeId],
+        table: &'a Rows<'a, S>,
+        kind: Kind,
+    ) -> Reached<'a, S>
+        ensures { (result.own.now ≡ own.entry.0.now) × (result.slices.now ≡ own.entry.1.now) × (result.nodes.now ≡ nodes.now) × (result.table.now ≡ table.now) × (result.kind ≡ kind) }
+    {
+        let (own, slices) = own;
+        Reached {
+            own,
+            slices,
+            nodes,
+            table,
+            kind,
+        }
+    }
+
+    /// The slices of all, compiled, in the order of the nodes. An error says that memory is short.
+    #[tactic(auto, using(crate::proofs::FormLaws::part_empty, crate::proofs::FormLaws::part_whole))]
+    pub(crate) fn forms(&self, alloc: Global) -> Result<Vec<Option<Form>>, AllocError>
+        requires { IsAscending self.now.nodes.now }
+        ensures compiled { IfOk result (λ v. AreCompiled self.now.nodes.now (slices_by self.now.own.now self.now.slices.now self.now.table.now self.now.kind) v.items) }
+        ensures below { IfOk result (λ v. AreBelow (length self.now.nodes.now) v.items) }
+    {
+        let mut forms = Vec::with_capacity(alloc, self.nodes.len())?;
+        let mut latest = 0;
+        let mut before = 0;
+        for place in 0..self.nodes.len() {
+            let form = self.form_at(alloc, &forms, place, (latest, before))?;
+            if is_new(&form, place) {
+                before = latest;
+                latest = place;
+            }
+            forms.push(form)?;
+        }
+        Ok(forms)
+    }
+
+    /// The form of the node at a place, where those of the nodes before it are there: that of one of two candidates
+    /// with the same slices, or else a new one, whose number is the place. An error says that memory is short.
+    fn form_at(
+        &self,
+        alloc: Global,
+        forms: &[Option<Form>],
+        place: usize,
+        candidates: (usize, usize),
+    ) -> Result<Option<Form>, AllocError>
+        requires ascending { IsAscending self.now.nodes.now }
+        requires inside { place < length self.now.nodes.now }
+        requires before { length forms.now ≡ place }
+        requires part { ArePart self.now.nodes.now (slices_by self.now.own.now self.now.slices.now self.now.table.now self.now.kind) forms.now }
+        ensures { IfOk result (λ o. ArePart self.now.nodes.now (slices_by self.now.own.now self.now.slices.now self.now.table.now self.now.kind) (forms.now ++ o ∷ [])) }
+    {
+        match self.slices_at(place) {
+            None => Ok(None),
+            Some(slices) => {
+                let form = self.form_of(alloc, slices, forms, candidates, place)?;
+                Ok(Some(form))
+            }
+        }
+    }
+
+    /// The form of slices, for a list of forms of the first nodes: that at one of two places whose nodes have the same
+    /// slices, or else a new one of this number. An error says that memory is short.
+    pub(crate) fn form_of(
+        &self,
+        alloc: Global,
+        slices: &Nested,
+        forms: &[Option<Form>],
+        candidates: (usize, usize),
+        number: usize,
+    ) -> Result<Form, AllocError>
+        requires { IsAscending self.now.nodes.now }
+        ensures { IfOk result (IsFound self.now.nodes.now (slices_by self.now.own.now self.now.slices.now self.now.table.now self.now.kind) forms.now number slices.now) }
+    {
+        if let Some(form) = self.twin(slices, forms, candidates.0) {
+            return form.try_copy();
+        }
+        if let Some(form) = self.twin(slices, forms, candidates.1) {
+            return form.try_copy();
+        }
+        let set = compile(alloc, slices.set(), self.nodes, false)?;
+        Form::new(alloc, number, set)
+    }
+
+    /// The form at a place, if the node there has these slices. It takes no memory.
+    fn twin<'b>(&self, slices: &Nested, forms: &'b [Option<Form>], place: usize) -> Option<&'b Form>
+        ensures { IfSome result (λ f. IsTwin self.now.nodes.now (slices_by self.now.own.now self.now.slices.now self.now.table.now self.now.kind) forms.now slices.now f.now) }
+    {
+        if place >= self.nodes.len() {
+            return None;
+        }
+        match self.slices_at(place) {
+            None => None,
+            Some(there) => {
+                if there.is_same(slices) {
+                    form_in(forms, place)
+                } else {
+                    None
+                }
+            }
+        }
+    }
+
+    /// The slices of the node at a place, if it has any: its own, or those of the row. It takes no memory.
+    fn slices_at(&self, place: usize) -> Option<&'a Nested>
+        requires { place < length self.now.nodes.now }
+        ensures { option_map (λ q. q.now) result ≡ slices_by self.now.own.now self.now.slices.now self.now.table.now self.now.kind (get_or self.now.nodes.now place 0) }
+    {
+        let node = &self.nodes[place];
+        if *self.own == *node {
+            return Some(self.slices);
+        }
+        match self.table.row(node, self.kind) {
+            None => None,
+            Some(row) => Some(row.slices()),
+        }
+    }
+}
+
+/// The form at a place, if there is one.
+fn form_in(forms: &[Option<Form>], place: usize) -> Option<&Form>
+    ensures { IfSome result (λ f. (place < length forms.now) × (get_or forms.now place None ≡ Some f.now)) }
+{
+    match forms.get(place) {
+        None => None,
+        Some(form) => form.as_ref(),
+    }
+}
+
+/// Whether it is a form of this number.
+fn is_new(form: &Option<Form>, number: usize) -> bool {
+    match form {
+        None => false,
+        Some(form) => form.number() == number,
+    }
+}
