@@ -100,13 +100,14 @@ struct Row {
     slices: Option<Nested>,
 }
 
-/// The slices of four nodes.
+/// The slices of four nodes, and the trust that they say.
 #[derive(Drop)]
 struct World {
     a: Row,
     b: Row,
     c: Row,
     d: Row,
+    trusts: Trusts,
 }
 
 impl SlicesOf for World {
@@ -127,6 +128,13 @@ impl SlicesOf for World {
             None
         }
     }
+}
+
+/// Those who vote or accept, and those who accept, as sets.
+#[derive(Clone, Copy)]
+struct Stand {
+    backing: Set,
+    accepting: Set,
 }
 
 /// Those who vote or accept, and those who accept.
@@ -288,16 +296,16 @@ fn slow_reach(trusts: Trusts, set: Set) -> bool {
 /// goes over all nodes.
 fn agrees_at(
     alloc: Global,
-    trusts: Trusts,
     world: &World,
     reach: &[NodeId],
     asked: Set,
-    backing: Set,
-    accepting: Set,
+    stand: Stand,
 ) -> Result<bool, AllocError>
     requires ascending { IsAscending reach.now }
     requires closed { NamesWithin names (⟦<World as SlicesOf>⟧.slices_at world.now) (among reach.now) }
 {
+    let Stand { backing, accepting } = stand;
+    let trusts = world.trusts;
     let node = name(asked);
     if !is_among(reach, &node) {
         return Ok(false);
@@ -321,7 +329,6 @@ fn agrees_at(
 /// Whether a node's answers are those of the slow program, wherever the voters stand.
 fn agrees_for(
     alloc: Global,
-    trusts: Trusts,
     world: &World,
     reach: &[NodeId],
     asked: Set,
@@ -331,9 +338,8 @@ fn agrees_for(
 {
     for backing in 0..16 {
         for accepting in 0..16 {
-            if has(backing, accepting)
-                && !agrees_at(alloc, trusts, world, reach, asked, backing, accepting)?
-            {
+            let stand = Stand { backing, accepting };
+            if has(backing, accepting) && !agrees_at(alloc, world, reach, asked, stand)? {
                 return Ok(false);
             }
         }
@@ -346,31 +352,25 @@ fn agrees_for(
 fn agrees_within(
     rt: &impl Abort,
     alloc: Global,
-    trusts: Trusts,
     world: &World,
     region: Set,
 ) -> Result<bool, AllocError> {
     let reach = ascending_of(rt, alloc, region)?;
     if !is_reach(alloc, world, &reach)? {
-        return Ok(!slow_reach(trusts, region));
+        return Ok(!slow_reach(world.trusts, region));
     }
     for asked in [A, B, C, D] {
-        if has(region, asked) && !agrees_for(alloc, trusts, world, &reach, asked)? {
+        if has(region, asked) && !agrees_for(alloc, world, &reach, asked)? {
             return Ok(false);
         }
     }
-    Ok(slow_reach(trusts, region))
+    Ok(slow_reach(world.trusts, region))
 }
 
 /// Whether all answers are those of the slow program, whatever the reach.
-fn agrees_throughout(
-    rt: &impl Abort,
-    alloc: Global,
-    trusts: Trusts,
-    world: &World,
-) -> Result<bool, AllocError> {
+fn agrees_throughout(rt: &impl Abort, alloc: Global, world: &World) -> Result<bool, AllocError> {
     for region in 1..16 {
-        if !agrees_within(rt, alloc, trusts, world, region)? {
+        if !agrees_within(rt, alloc, world, region)? {
             return Ok(false);
         }
     }
@@ -397,9 +397,9 @@ fn both_answers_are_those_of_the_definitions(rt: HostRuntime) -> Result<(), Fail
                         b: row_of(&rt, alloc, B, b)?,
                         c: row_of(&rt, alloc, C, c)?,
                         d: row_of(&rt, alloc, D, d)?,
+                        trusts: Trusts { a, b, c, d },
                     };
-                    let trusts = Trusts { a, b, c, d };
-                    assert!(rt; agrees_throughout(&rt, alloc, trusts, &world)?);
+                    assert!(rt; agrees_throughout(&rt, alloc, &world)?);
                 }
             }
         }
