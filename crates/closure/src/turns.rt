@@ -63,7 +63,7 @@ impl<'a, J: Announcements> Turns<'a, J> {
         ensures counted { OnOk result ((w : ℕ) → slice_get (names_of members.old) place ≡ Some w → length ready.new ≡ length (turned ready.old place)) }
     {
         if let Some(node) = members.name(place) {
-            let given = self.given(alloc, members, ready, place, &node)?;
+            let given = self.names_of_turn(alloc, members, ready, place, &node)?;
             for name in &given {
                 self.join(members, ready, name, place)?;
             }
@@ -73,7 +73,7 @@ impl<'a, J: Announcements> Turns<'a, J> {
 
     /// The names that the member at a place gives, ascending, save such as are members: in its first turn
     /// all of them, then those that announcements add which became ready since the last one.
-    fn given(
+    fn names_of_turn(
         &self,
         alloc: Global,
         members: &ClosureList,
@@ -107,7 +107,7 @@ impl<'a, J: Announcements> Turns<'a, J> {
         ensures { IfOk result (λ v. IsGiven (J.hosts self.now.journal.now) self.now.slot (J.entries self.now.journal.now) (names_of members.now) node.now v.items) }
     {
         let deliveries = self.deliveries;
-        let mut names = self.configured(alloc, node)?;
+        let mut names = self.configured_names(alloc, node)?;
         let mut next = deliveries.sent.latest(node);
         while let Some(number) = next {
             self.count(number, members, node, &mut names)?;
@@ -117,7 +117,7 @@ impl<'a, J: Announcements> Turns<'a, J> {
     }
 
     /// The names of a node's configured slices, where it is hosted.
-    fn configured(&self, alloc: Global, node: &NodeId) -> Result<Vec<NodeId>, AllocError>
+    fn configured_names(&self, alloc: Global, node: &NodeId) -> Result<Vec<NodeId>, AllocError>
         ensures { IfOk result (λ v. v.items ≡ known_names (slices_of (J.hosts self.now.journal.now) node.now)) }
     {
         let mut names = Vec::new(alloc);

@@ -111,12 +111,12 @@ fn read_envelope(alloc: Global, reader: &mut Reader) -> Result<Envelope, CodecEr
     let slot = reader.u64()?;
     let slices = read_slices(alloc, reader, version)?;
     let body = read_statement(alloc, reader, kind)?;
-    Ok(well_formed(sender, slot, slices, body)?)
+    Ok(envelope_of(sender, slot, slices, body)?)
 }
 
 /// The envelope of these parts, where its statement keeps the rules of its kind.
 #[tactic(auto, using(crate::proofs::BodyLaws::well_formed_stands, crate::proofs::BodyLaws::ill_formed_falls))]
-fn well_formed(
+fn envelope_of(
     sender: NodeId,
     slot: u64,
     slices: Nested,

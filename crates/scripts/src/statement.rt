@@ -3,7 +3,7 @@
 ghost use Rattle.std.specs.Prelude.{◌≡◌, ◌++◌, IfOk, OnOk, option_map, string_bytes};
 ghost use Rattle.std.specs.List.{flat_map};
 ghost use Rattle.scripts.specs.Printed.{behind_comma, behind_plus, fields_of_statement, kind_text, text_of_optional, text_of_statement, text_of_values};
-ghost use Rattle.scripts.specs.Statements.{StatementsReadBack, commit_in, enclosed as enclosed_in, externalize_in, nomination_in, prepare_in, three_counters as counters_in, word_optional, word_statement, word_values};
+ghost use Rattle.scripts.specs.Statements.{StatementsReadBack, commit_in, enclosed, externalize_in, nomination_in, prepare_in, three_counters as counters_in, word_optional, word_statement, word_values};
 
 use crate::number::counter_of;
 use crate::splitting::{split_once, split_twice};
@@ -19,24 +19,24 @@ use types::{Ballot, Statement, Value, Values};
 pub fn statement_of(alloc: Global, word: &[u8]) -> Result<Option<Statement>, AllocError>
     ensures { IfOk result (λ o. o ≡ word_statement word.now) }
 {
-    if let Some(fields) = enclosed(word, b"nom(") {
+    if let Some(fields) = fields_behind(word, b"nom(") {
         return nomination_of(alloc, fields);
     }
-    if let Some(fields) = enclosed(word, b"prep(") {
+    if let Some(fields) = fields_behind(word, b"prep(") {
         return prepare_of(alloc, fields);
     }
-    if let Some(fields) = enclosed(word, b"comm(") {
+    if let Some(fields) = fields_behind(word, b"comm(") {
         return commit_of(alloc, fields);
     }
-    if let Some(fields) = enclosed(word, b"ext(") {
+    if let Some(fields) = fields_behind(word, b"ext(") {
         return externalize_of(alloc, fields);
     }
     Ok(None)
 }
 
 /// What stands between a front and a closing bracket at the end.
-fn enclosed<'a>(word: &'a [u8], head: &[u8]) -> Option<&'a [u8]>
-    ensures { option_map (λ r. r.now) result ≡ enclosed_in head.now word.now }
+fn fields_behind<'a>(word: &'a [u8], head: &[u8]) -> Option<&'a [u8]>
+    ensures { option_map (λ r. r.now) result ≡ enclosed head.now word.now }
 {
     let Some(rest) = word.strip_prefix(head) else {
         return None;

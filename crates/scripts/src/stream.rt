@@ -31,11 +31,11 @@ pub fn run_stream<S: LineRunner, R: BufRead, W: Write>(
 {
     // One byte more than a script may have, so that one that is too long shows.
     let mut limited = script.take(LONGEST_SCRIPT as u64 + 1);
-    run_read(alloc, runner, &mut limited, out)
+    run_limited(alloc, runner, &mut limited, out)
 }
 
 /// Runs the lines that a reader gives.
-fn run_read<S: LineRunner, R: BufRead, W: Write>(
+fn run_limited<S: LineRunner, R: BufRead, W: Write>(
     alloc: Global,
     runner: &mut S,
     script: &mut R,

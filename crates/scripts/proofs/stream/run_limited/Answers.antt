@@ -2,7 +2,7 @@ use Rattle.std.proofs.Common.{◌≡◌, ◌∙◌, ◌<◌, ◌≤◌, ◌-◌,
 use Rattle.std.specs.Io.BufRead.{ends_with_byte, strip_last}
 use Rattle.std.proofs.lemmas.Result.{err_from_is_err_and}
 use Rattle.scripts.proofs.StreamLaws.{starts, next_line, not_read, stopped_at, ended, ended_at, is_zero, not_zero}
-use Rattle.scripts.proofs.stream.run_read.Goals as goal
+use Rattle.scripts.proofs.stream.run_limited.Goals as goal
 
 pub loop-bytes-init : goal.loop-bytes-init
 loop-bytes-init g c = starts _ _ _ _ _ _

@@ -5,8 +5,8 @@ use Rattle.closure.specs.Announcing.{names_of}
 use Rattle.closure.specs.Turns.{IsGiven, all_added}
 use Rattle.closure.proofs.Gathering.{given_by_ready, given_sorted}
 use Rattle.closure.proofs.Readiness.{read_at}
-use Rattle.closure.proofs.turns.Turns.given.Goals as goal
-use Rattle.closure.proofs.turns.Turns.given.Goals.{in-None+in_ok-names-in-None, in-Some+in_ok-names-in-Some}
+use Rattle.closure.proofs.turns.Turns.names_of_turn.Goals as goal
+use Rattle.closure.proofs.turns.Turns.names_of_turn.Goals.{in-None+in_ok-names-in-None, in-Some+in_ok-names-in-Some}
 
 pub returns-clause-given : goal.returns-clause-given
 returns-clause-given g c =
