@@ -5,7 +5,6 @@ ghost use Rattle.std.specs.List.Sorted.{IsPermutation};
 ghost use Rattle.types.specs.Trees.{all_differ};
 ghost use Rattle.protocol.specs.Sets.{among, IsAscending};
 ghost use Rattle.configuration.specs.Budgets.{AreShares};
-ghost use Rattle.configuration.specs.Configs.{rises};
 ghost use Rattle.configuration.specs.Faults.{first_fault, roster_tests};
 ghost use Rattle.configuration.specs.Rosters.{IsRosterOf};
 
@@ -14,7 +13,7 @@ use crate::shares::Shares;
 use slices::is_among;
 use std::alloc::{AllocError, Global};
 use std::marker::Model;
-use types::NodeId;
+use types::{NodeId, is_ascending};
 
 /// The most names of a roster (this host's profile).
 pub const MAX_ROSTER: usize = 1024;
@@ -107,21 +106,4 @@ fn in_order(names: Vec<NodeId>) -> Option<Vec<NodeId>>
     } else {
         None
     }
-}
-
-/// Whether each name is below the next one.
-fn is_ascending(names: &[NodeId]) -> bool
-    ensures { result ≡ rises names.now }
-{
-    let Some((first, rest)) = names.split_first() else {
-        return true;
-    };
-    let mut last = *first;
-    for name in rest {
-        if !(last < *name) {
-            return false;
-        }
-        last = *name;
-    }
-    true
 }

@@ -26,7 +26,9 @@ pub use event::{Event, NodeEvent, Out, Refusal};
 pub use kind::Kind;
 pub use lent::LentBallot;
 pub use lent_statement::{LentStatement, statement_of};
-pub use nested::{MAX_INNER_LEVELS, MAX_MEMBERS, MAX_NAMES, Member, Nested, SliceSet, push_names};
+pub use nested::{
+    MAX_INNER_LEVELS, MAX_MEMBERS, MAX_NAMES, Member, Nested, SliceSet, is_ascending, push_names,
+};
 pub use node_id::NodeId;
 pub use shared_values::SharedValues;
 pub use state::{Given, Leaders, Phase, Votes};

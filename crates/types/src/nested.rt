@@ -146,17 +146,17 @@ fn all_differ(names: Vec<NodeId>) -> bool
     ensures { result ≡ all_differ names.items }
 {
     // Names mostly come in order, which one pass sees.
-    if rises(&names) {
+    if is_ascending(&names) {
         return true;
     }
     let mut names = names;
     // In place, so that no memory can be wanting.
     names.sort_unstable();
-    rises(&names)
+    is_ascending(&names)
 }
 
-/// Whether each name is below the next one.
-fn rises(names: &[NodeId]) -> bool
+/// Whether each name is below the next one. It takes no memory.
+pub fn is_ascending(names: &[NodeId]) -> bool
     ensures { result ≡ rises names.now }
 {
     let Some((first, rest)) = names.split_first() else {
