@@ -6,9 +6,9 @@ ghost use Rattle.std.specs.Prelude.{◌≡◌, ◌&&◌, IfOk};
 ghost use Rattle.protocol.specs.Balloting.{may_be_prepared, prepare_accepted, prepare_confirmed};
 
 use crate::search::Check;
-use fedvote::{Question, Sight, is_accepted, is_confirmed};
+use fedvote::{Claim, Sight, is_accepted, is_confirmed};
 use std::alloc::{AllocError, Global};
-use types::{Kind, LentBallot, Phase, Statement, Value};
+use types::{LentBallot, Phase, Statement, Value};
 
 /// Whether prepare of a ballot is accepted.
 #[derive(Drop)]
@@ -34,9 +34,8 @@ fn is_prepare_accepted<S: Sight>(
 ) -> Result<bool, AllocError>
     ensures { IfOk result (λ b. b ≡ prepare_accepted (S.seen sight.now) own.now ballot.now) }
 {
-    let backs = Question::VotesOrAcceptsPrepare(ballot.try_copy()?);
-    let accepts = Question::AcceptsPrepare(ballot.try_copy()?);
-    is_accepted(alloc, sight, Kind::Ballot, own, &backs, &accepts)
+    let claim = Claim::Prepare(ballot.try_copy()?);
+    is_accepted(alloc, sight, own, &claim)
 }
 
 /// Whether prepare of a ballot is accepted that may be the highest accepted one: in
@@ -94,6 +93,6 @@ pub(crate) fn is_prepare_confirmed<S: Sight>(
 ) -> Result<bool, AllocError>
     ensures { IfOk result (λ b. b ≡ prepare_confirmed (S.seen sight.now) own.now ballot.now) }
 {
-    let question = Question::AcceptsPrepare(ballot.try_copy()?);
-    is_confirmed(alloc, sight, Kind::Ballot, own, &question)
+    let claim = Claim::Prepare(ballot.try_copy()?);
+    is_confirmed(alloc, sight, own, &claim)
 }

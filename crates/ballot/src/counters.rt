@@ -8,10 +8,10 @@ ghost use Rattle.protocol.specs.Candidates.{combine, greatest_value, least_from}
 ghost use Rattle.fedvote.specs.Searching.{next_counter};
 
 use crate::positions::own_position;
-use fedvote::{Question, Sight, counter_by, lesser};
+use fedvote::{Position, Question, Sight, counter_by, lesser};
 use std::alloc::{AllocError, Global};
 use timers::cap;
-use types::{Ballot, Given, Kind, LentBallot, Phase, SharedValues, Statement, Value, Votes};
+use types::{Ballot, Given, LentBallot, Phase, SharedValues, Statement, Value, Votes};
 
 /// Raises the ballot to the lowest counter, from its own on, at which those with greater counters do
 /// not block; the cap is the greatest to which it is raised, and a counter above the cap stays. The
@@ -73,7 +73,7 @@ fn is_blocked_from<S: Sight>(
     ensures { IfOk result (λ b. b ≡ (S.seen sight.now).blocking Kind.Ballot (passes (counts counter) position.now) (counts counter)) }
 {
     let question = Question::HasCounter(counter);
-    sight.blocking(alloc, Kind::Ballot, question.passes(position), &question)
+    sight.blocking(alloc, position.passes(&question), &question)
 }
 
 /// The least counter above this one that the position or a ballot row of a reached sender has.
@@ -110,8 +110,8 @@ pub fn arm<S: Sight>(
     ensures { IfOk result (λ w. w ≡ arm (S.seen sight.now) ballot.now votes) }
 {
     let question = Question::HasCounter(ballot.counter);
-    let own_passes = question.passes(&own_position(&votes)?);
-    if sight.quorum(alloc, Kind::Ballot, own_passes, &question)? {
+    let own_passes = own_position(&votes)?.passes(&question);
+    if sight.quorum(alloc, own_passes, &question)? {
         Ok(Votes {
             armed: ballot.counter,
             ..votes

@@ -4,14 +4,15 @@
 
 ghost use Rattle.std.specs.Prelude.{◌≡◌, ◌&&◌, IfOk, nat_lt, not};
 ghost use Rattle.types.specs.Votes.{same_value};
+ghost use Rattle.fedvote.specs.declared.claim.Claim.TheVariants.{Commit};
 ghost use Rattle.protocol.specs.Balloting.{interval_accepted, interval_confirmed, is_aborted, prepare_confirmed};
 
 use crate::checks::is_prepare_confirmed;
 use crate::prepared::is_aborted;
 use crate::search::Check;
-use fedvote::{Question, Sight, is_accepted, is_confirmed};
+use fedvote::{Claim, Sight, is_accepted, is_confirmed};
 use std::alloc::{AllocError, Global};
-use types::{Kind, LentBallot, Statement, Value, Votes};
+use types::{LentBallot, Statement, Value, Votes};
 
 /// Whether a node in this position accepts commit of the ballot's value on the whole interval from its
 /// counter to the high end, both included.
@@ -24,17 +25,8 @@ fn is_interval_accepted<S: Sight>(
 ) -> Result<bool, AllocError>
     ensures { IfOk result (λ b. b ≡ interval_accepted (S.seen sight.now) own.now low.now.value low.now.counter high) }
 {
-    let backs = Question::VotesOrAcceptsCommit {
-        value: low.value().try_copy()?,
-        low: low.counter(),
-        high,
-    };
-    let accepts = Question::AcceptsCommit {
-        value: low.value().try_copy()?,
-        low: low.counter(),
-        high,
-    };
-    is_accepted(alloc, sight, Kind::Ballot, own, &backs, &accepts)
+    let claim = commit_up_to(low, high)?;
+    is_accepted(alloc, sight, own, &claim)
 }
 
 /// Whether a node in this position confirms commit of the ballot's value on the whole interval from its
@@ -48,12 +40,19 @@ fn is_interval_confirmed<S: Sight>(
 ) -> Result<bool, AllocError>
     ensures { IfOk result (λ b. b ≡ interval_confirmed (S.seen sight.now) own.now low.now.value low.now.counter high) }
 {
-    let accepts = Question::AcceptsCommit {
+    let claim = commit_up_to(low, high)?;
+    is_confirmed(alloc, sight, own, &claim)
+}
+
+/// The claim of commit of the ballot's value on the whole interval from its counter to the high end, both included.
+fn commit_up_to(low: &LentBallot, high: u32) -> Result<Claim, AllocError>
+    ensures { IfOk result (λ c. c ≡ Commit low.now.value low.now.counter high) }
+{
+    Ok(Claim::Commit {
         value: low.value().try_copy()?,
         low: low.counter(),
         high,
-    };
-    is_confirmed(alloc, sight, Kind::Ballot, own, &accepts)
+    })
 }
 
 /// Whether commit of the candidate's value is accepted from its counter up to the high end.

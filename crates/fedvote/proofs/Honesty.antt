@@ -1,5 +1,5 @@
 -- The blocking test looks at the rows that are seen alone.
-use Rattle.std.proofs.Common.{◌≡◌, ℕ, Bool, true, false, not, cond, ◌&&◌, ◌==◌, List, [], ◌∷◌, Some, filter, find, map, if◌then◌else◌, refl, sym, ◌∙◌, ap}
+use Rattle.std.proofs.Common.{◌≡◌, ℕ, Bool, true, false, not, cond, ◌&&◌, ◌==◌, List, [], ◌∷◌, Some, filter, find, map, if◌then◌else◌, refl, sym, ◌∙◌, ap, subst}
 use Rattle.std.specs.List.{AllByRecursion}
 use Rattle.std.proofs.lemmas.Bool.{and_parts, and_from, eqb-true, true≢false}
 use Rattle.types.specs.Trees.{Slices}
@@ -11,10 +11,11 @@ use Rattle.protocol.specs.Sets.{Names, among}
 use Rattle.protocol.specs.Rows.{row, is_row_of, is_kind}
 use Rattle.protocol.specs.Backing.{is_passed, passing}
 use Rattle.protocol.specs.Reach.{reached}
-use Rattle.protocol.specs.Views.{others_reached, rows_seen, passing_with, blocking_passes, seen}
+use Rattle.protocol.specs.Views.{Seen, others_reached, rows_seen, passing_with, blocking_passes, seen}
 use Rattle.protocol.proofs.ReachLaws.{reach_least}
 use Rattle.protocol.proofs.ViewLaws.{is_blocked-local}
 use Rattle.fedvote.specs.Searching.{IsHonest}
+use Rattle.fedvote.specs.Seeing.{Standpoint, seen_from}
 
 -- the statements in the rows of a kind whose senders are in a set
 abbrev statements_of : Names → Kind → List Sent → List Statement
@@ -63,3 +64,7 @@ seen_honest own configured leaders table = record {
   blocking = λ k own_passes test other all.
       is_blocked-local configured (passing_with own table k own_passes test) (passing_with own table k own_passes other) (passing_agrees own configured table k own_passes test other all);
 }
+
+-- so does that of whatever is seen from somewhere
+pub honest_from : (there : Seen) (at : Standpoint) → there ≡ seen_from at → IsHonest there
+honest_from there at tied = subst IsHonest (sym tied) (seen_honest at.own at.configured at.leaders at.table)

@@ -1,4 +1,3 @@
-pub mod VotingLaws
 pub mod Bettering
 pub mod Honesty
 pub mod SeenVotes

@@ -1,5 +1,5 @@
 -- The two tests of what a node sees are federated voting by the rows of its table.
-use Rattle.std.proofs.Common.{◌≡◌, ℕ, Bool, true, ◌||◌, List, ◌∷◌, Option, Some, map, option_map, if◌then◌else◌, IsTrue, ◌↔◌, ap, subst, sym, inl, inr, ◌⊎◌}
+use Rattle.std.proofs.Common.{◌≡◌, ℕ, Bool, true, ◌||◌, List, ◌∷◌, Option, Some, map, option_map, if◌then◌else◌, IsTrue, ◌↔◌, ap, subst, sym, ◌∙◌, inl, inr, ◌⊎◌}
 use Rattle.std.specs.Prelude.{IsSomeAnd}
 use Rattle.std.proofs.lemmas.Bool.{or_cases, or_left, or_right}
 use Rattle.types.specs.Trees.{Slices}
@@ -10,12 +10,14 @@ use Rattle.protocol.specs.Rows.{row}
 use Rattle.protocol.specs.Satisfaction.{sat, Blocks}
 use Rattle.protocol.specs.Quorums.{HasQuorum}
 use Rattle.protocol.specs.Backing.{slices_by}
-use Rattle.protocol.specs.Views.{passes, passing_with, quorum_passes, blocking_passes, seen}
+use Rattle.protocol.specs.Views.{Seen, accepted, confirmed, passes, passing_with, quorum_passes, blocking_passes, seen}
 use Rattle.protocol.proofs.QuorumLaws.{has_quorum-from, has_quorum-found}
 use Rattle.protocol.proofs.SamenessLaws.{eqb-refl}
 use Rattle.protocol.proofs.SatisfactionLaws.{sat_monotone, sat_dual}
 use Rattle.protocol.proofs.ViewLaws.{lists}
-use Rattle.fedvote.specs.Seeing.{standing, AcceptedByRows, ConfirmedByRows}
+use Rattle.fedvote.specs.declared.claim.Claim.{Claim}
+use Rattle.fedvote.specs.Questions.{accepts, backs, kind_of_claim}
+use Rattle.fedvote.specs.Seeing.{standing, AcceptedByRows, ConfirmedByRows, AcceptsClaim, ConfirmsClaim, Standpoint, seen_from}
 
 module _ (own : ℕ) (configured : Slices) (leaders : List ℕ) (table : List Sent) (kind : Kind) (own_passes : Bool) (test : Statement → Bool) where
   -- the quorum test, by existence
@@ -61,3 +63,18 @@ accepted_by_rows own configured leaders table kind position backs accepts = (λ 
 
 pub confirmed_by_rows : ConfirmedByRows
 confirmed_by_rows own configured leaders table kind position accepts = quorum_is own configured leaders table kind (passes accepts position) accepts
+
+module _ (there : Seen) (at : Standpoint) (tied : there ≡ seen_from at) (position : Option Statement) (claim : Claim) (b : Bool) where
+  -- an answer to whether the claim is accepted, by what is seen from there
+  pub accepts_claim : b ≡ accepted there (kind_of_claim claim) position (backs claim) (accepts claim) → IsTrue b ↔ AcceptsClaim at position claim
+  accepts_claim is =
+      let law = accepted_by_rows at.own at.configured at.leaders at.table (kind_of_claim claim) position (backs claim) (accepts claim) in
+      let same = is ∙ ap (λ s. accepted s (kind_of_claim claim) position (backs claim) (accepts claim)) tied in
+      (λ h. law.0 (sym same ∙ h), λ h. same ∙ law.1 h)
+
+  -- an answer to whether it is confirmed
+  pub confirms_claim : b ≡ confirmed there (kind_of_claim claim) position (accepts claim) → IsTrue b ↔ ConfirmsClaim at position claim
+  confirms_claim is =
+      let law = confirmed_by_rows at.own at.configured at.leaders at.table (kind_of_claim claim) position (accepts claim) in
+      let same = is ∙ ap (λ s. confirmed s (kind_of_claim claim) position (accepts claim)) tied in
+      (λ h. law.0 (sym same ∙ h), λ h. same ∙ law.1 h)

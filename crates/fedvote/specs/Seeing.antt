@@ -7,7 +7,9 @@ use Rattle.types.specs.declared.statement.Statement.{Statement}
 use Rattle.protocol.specs.Sets.{Names}
 use Rattle.protocol.specs.Satisfaction.{sat}
 use Rattle.protocol.specs.Backing.{slices_by}
-use Rattle.protocol.specs.Views.{accepted, confirmed, passes, passing_with, seen}
+use Rattle.protocol.specs.Views.{Seen, accepted, confirmed, passes, passing_with, seen}
+use Rattle.fedvote.specs.declared.claim.Claim.{Claim}
+use Rattle.fedvote.specs.Questions.{accepts, backs, kind_of_claim}
 use Rattle.fedvote.specs.Voting.{Accepted, Confirmed}
 
 -- who passes a test: the node itself where its position does, every other node where its row does
@@ -24,3 +26,26 @@ AcceptedByRows = (own : ℕ) (configured : Slices) (leaders : List ℕ) (table :
 abbrev pub ConfirmedByRows : Type 0
 ConfirmedByRows = (own : ℕ) (configured : Slices) (leaders : List ℕ) (table : List Sent) (kind : Kind) (position : Option Statement) (accepts : Statement → Bool)
     → IsTrue (confirmed (seen own configured leaders table) kind position accepts) ↔ Confirmed sat (slices_by own configured table kind) (standing own table kind position accepts) own
+
+-- whose table is looked at: the node's name, its slices and its leaders, and the table
+pub record Standpoint : Type 0 where
+  pub own : ℕ
+  pub configured : Slices
+  pub leaders : List ℕ
+  pub table : List Sent
+
+-- all that a node sees from there
+abbrev pub seen_from : Standpoint → Seen
+seen_from at = seen at.own at.configured at.leaders at.table
+
+-- the node, in this position, accepts the claim by the rows of its table: some quorum that contains it all votes for or accepts the claim, or those who accept it block the node's slices
+abbrev pub AcceptsClaim : Standpoint → Option Statement → Claim → Type 0
+AcceptsClaim at position claim =
+    let kind = kind_of_claim claim in
+    Accepted sat (slices_by at.own at.configured at.table kind) (standing at.own at.table kind position (backs claim)) (standing at.own at.table kind position (accepts claim)) at.own
+
+-- the node, in this position, confirms the claim by the rows of its table: some quorum that contains it all accepts the claim
+abbrev pub ConfirmsClaim : Standpoint → Option Statement → Claim → Type 0
+ConfirmsClaim at position claim =
+    let kind = kind_of_claim claim in
+    Confirmed sat (slices_by at.own at.configured at.table kind) (standing at.own at.table kind position (accepts claim)) at.own

@@ -1,24 +1,23 @@
-//! Federated voting: when a node accepts a statement, and when it confirms it (the Stellar Consensus
-//! Protocol draft, of federated voting; Mazières 2015).
+//! Federated voting: when a node accepts a claim, and when it confirms it (the Stellar Consensus Protocol draft,
+//! of federated voting; Mazières 2015).
 //!
-//! [`accepts`] and [`confirms`] are told who votes for and who accepts a statement by [`Voters`], and who
-//! has which slices by [`quorum::SlicesOf`]: they know neither what the statement is nor where the
-//! slices come from. [`Sight`] is all that the rules read of a table, and [`Question`] what they ask of a
-//! statement there.
+//! [`is_accepted`] and [`is_confirmed`] are told the claim, which node stands where by [`Position`], and what that
+//! node sees of its table by [`Sight`], which is all that the rules read of a table. A [`Question`] is what a sight is
+//! asked about statements.
 #![tactic(auto)]
 
 mod candidates;
+mod claim;
 mod counters;
+mod position;
 mod question;
 mod seeing;
 mod sight;
-mod voters;
-mod voting;
 
 pub use candidates::{better_committed, better_named};
+pub use claim::Claim;
 pub use counters::{counter_by, lesser};
+pub use position::Position;
 pub use question::Question;
 pub use seeing::seen_voting_is_by_rows;
 pub use sight::{Sight, is_accepted, is_confirmed};
-pub use voters::Voters;
-pub use voting::{accepts, confirms, is_blocked};

@@ -2,47 +2,50 @@
 //!
 //! Where a function here answers an error, memory is short.
 
-ghost use Rattle.std.specs.Prelude.{◌≡◌, IfOk, flat_map};
+ghost use Rattle.std.specs.Prelude.{◌≡◌, ◌↔◌, IfOk, IsTrue, flat_map};
 ghost use Rattle.types.specs.declared.kind.Kind.{Kind};
 ghost use Rattle.protocol.specs.Candidates.{as_set, committed_in, named_in, values_by};
 ghost use Rattle.protocol.specs.Views.{Seen, accepted, confirmed};
-ghost use Rattle.fedvote.specs.Questions.{asks};
-ghost use Rattle.fedvote.specs.Searching.{IsHonest, next_counter, next_under};
+ghost use Rattle.fedvote.specs.Questions.{accepts, asks, backs, kind_asked, kind_of_claim};
+ghost use Rattle.fedvote.specs.Searching.{next_counter, next_under};
+ghost use Rattle.fedvote.specs.Seeing.{AcceptsClaim, ConfirmsClaim, Standpoint, seen_from};
 
+use crate::claim::Claim;
+use crate::position::Position;
 use crate::question::Question;
 use std::alloc::{AllocError, Global};
-use types::{Kind, LentBallot, Statement, Values};
+use types::{LentBallot, Values};
 
 /// What a node sees of its table at one moment: the rows of the others that it reaches, the rows of its
 /// leaders, and the two tests of federated voting (the Stellar Consensus Protocol draft, of federated
 /// voting).
 ///
-/// The rules of nomination and balloting know the table by this alone. `seen` is what contracts speak
-/// of; an error says that memory is short.
+/// The rules of nomination and balloting know the table by this alone. `seen` is what their contracts speak
+/// of, and `standpoint` whose table it is; an error says that memory is short.
 pub trait Sight {
     ghost seen: { Self → Seen };
 
-    /// Whether some quorum that contains the node all passes, by the rows of this kind; `own_passes`
+    ghost standpoint: { Self → Standpoint };
+
+    /// Whether some quorum that contains the node all passes, by the rows of the kind that is asked; `own_passes`
     /// says whether the node's own position does (Mazières 2015, of quorums).
     fn quorum(
         &self,
         alloc: Global,
-        kind: Kind,
         own_passes: bool,
-        question: &Question,
+        question: &Question<'_>,
     ) -> Result<bool, AllocError>
-        ensures { IfOk result (λ b. b ≡ (seen self.now).quorum kind own_passes (asks question.now)) };
+        ensures { IfOk result (λ b. b ≡ (seen self.now).quorum (kind_asked question.now) own_passes (asks question.now)) };
 
-    /// Whether those who pass block the node's slices, by the rows of this kind (Mazières 2015, of
+    /// Whether those who pass block the node's slices, by the rows of the kind that is asked (Mazières 2015, of
     /// v-blocking sets).
     fn blocking(
         &self,
         alloc: Global,
-        kind: Kind,
         own_passes: bool,
-        question: &Question,
+        question: &Question<'_>,
     ) -> Result<bool, AllocError>
-        ensures { IfOk result (λ b. b ≡ (seen self.now).blocking kind own_passes (asks question.now)) };
+        ensures { IfOk result (λ b. b ≡ (seen self.now).blocking (kind_asked question.now) own_passes (asks question.now)) };
 
     /// The values that the nomination rows of the others that are reached vote for or accept, ascending,
     /// gathered anew at each call.
@@ -68,40 +71,42 @@ pub trait Sight {
     fn next_counter(&self, above: u32) -> Option<u32>
         ensures { result ≡ next_counter above ((seen self.now).rows Kind.Ballot) };
 
-    /// The blocking test gets one answer for questions that agree on the rows of the others that are
-    /// reached.
-    ghost honest: { (s : Self) → IsHonest (seen s) };
+    /// What is seen is what a node with that name, those slices and those leaders sees of that table.
+    ghost tied: { (s : Self) → seen s ≡ seen_from (standpoint s) };
 }
 
-/// Whether a node in this position accepts something: some quorum that contains it all votes for or accepts
-/// it, or those who accept it block the node's slices (the Stellar Consensus Protocol draft, of federated
-/// voting).
-pub fn is_accepted<S: Sight>(
+/// Whether a node in this position accepts the claim: some quorum that contains it all votes for or accepts it, or
+/// those who accept it block the node's slices (the Stellar Consensus Protocol draft, of federated voting; Mazières
+/// 2015, of accepting). The quorum is one of whatever nodes, by the rows of the node's table; the node itself counts
+/// by its position, every other node by its row.
+pub fn is_accepted<S: Sight, P: Position>(
     alloc: Global,
     sight: &S,
-    kind: Kind,
-    position: &Option<Statement>,
-    backs: &Question,
-    accepts: &Question,
+    position: &P,
+    claim: &Claim,
 ) -> Result<bool, AllocError>
-    ensures { IfOk result (λ b. b ≡ accepted (S.seen sight.now) kind position.now (asks backs.now) (asks accepts.now)) }
+    ensures computed { IfOk result (λ b. b ≡ accepted (S.seen sight.now) (kind_of_claim claim.now) (P.position position.now) (backs claim.now) (accepts claim.now)) }
+    ensures exists { IfOk result (λ b. IsTrue b ↔ AcceptsClaim (S.standpoint sight.now) (P.position position.now) claim.now) }
 {
-    if sight.quorum(alloc, kind, backs.passes(position), backs)? {
+    let backs = Question::Backs(claim);
+    if sight.quorum(alloc, position.passes(&backs), &backs)? {
         return Ok(true);
     }
-    sight.blocking(alloc, kind, accepts.passes(position), accepts)
+    let accepts = Question::Accepts(claim);
+    sight.blocking(alloc, position.passes(&accepts), &accepts)
 }
 
-/// Whether a node in this position confirms something: some quorum that contains it all accepts it (the
-/// Stellar Consensus Protocol draft, of federated voting).
-pub fn is_confirmed<S: Sight>(
+/// Whether a node in this position confirms the claim: some quorum that contains it all accepts it, by the rows of
+/// the node's table (the Stellar Consensus Protocol draft, of federated voting; Mazières 2015, of confirming).
+pub fn is_confirmed<S: Sight, P: Position>(
     alloc: Global,
     sight: &S,
-    kind: Kind,
-    position: &Option<Statement>,
-    accepts: &Question,
+    position: &P,
+    claim: &Claim,
 ) -> Result<bool, AllocError>
-    ensures { IfOk result (λ b. b ≡ confirmed (S.seen sight.now) kind position.now (asks accepts.now)) }
+    ensures computed { IfOk result (λ b. b ≡ confirmed (S.seen sight.now) (kind_of_claim claim.now) (P.position position.now) (accepts claim.now)) }
+    ensures exists { IfOk result (λ b. IsTrue b ↔ ConfirmsClaim (S.standpoint sight.now) (P.position position.now) claim.now) }
 {
-    sight.quorum(alloc, kind, accepts.passes(position), accepts)
+    let accepts = Question::Accepts(claim);
+    sight.quorum(alloc, position.passes(&accepts), &accepts)
 }

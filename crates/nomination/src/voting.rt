@@ -3,13 +3,55 @@
 //! Where a function here answers an error, memory is short.
 
 ghost use Rattle.std.specs.Prelude.{◌≡◌, IfOk, not, ◌&&◌};
+ghost use Rattle.types.specs.declared.statement.Statement.TheVariants.{Nominate};
 ghost use Rattle.types.specs.Votes.{has_value};
 ghost use Rattle.protocol.specs.Nominating.{is_value_accepted, is_value_confirmed};
+ghost use Rattle.protocol.specs.States.{nominated};
+ghost use Rattle.fedvote.specs.Questions.{accepts, backs};
 
 use crate::choosing::ValueTest;
-use fedvote::{Question, Sight};
+use fedvote::{Claim, Position, Question, Sight, is_accepted, is_confirmed};
 use std::alloc::{AllocError, Global};
-use types::{Kind, Value, Votes};
+use types::{Value, Votes};
+
+/// The node's own position in nomination: what it votes for and what it accepts.
+#[derive(Drop)]
+pub struct NominationPosition<'a> {
+    pub votes: &'a Votes,
+}
+
+impl<'a> Position for NominationPosition<'a> {
+    ghost position = { λ p. nominated p.votes.now };
+
+    #[tactic(auto, unfolding(protocol::specs::States::nominated))]
+    fn passes(&self, question: &Question<'_>) -> bool {
+        match question {
+            Question::Backs(claim) => is_backed_by(self.votes, claim),
+            Question::Accepts(claim) => is_accepted_by(self.votes, claim),
+            Question::HasCounter(_) => false,
+        }
+    }
+}
+
+/// Whether the position in nomination votes for or accepts the claim.
+fn is_backed_by(votes: &Votes, claim: &Claim) -> bool
+    ensures { result ≡ backs claim.now (Nominate votes.now.voted votes.now.accepts) }
+{
+    match claim {
+        Claim::Prepare(_) | Claim::Commit { .. } => false,
+        Claim::Nominate(value) => votes.voted.has(value) || votes.accepts.has(value),
+    }
+}
+
+/// Whether the position in nomination accepts the claim.
+fn is_accepted_by(votes: &Votes, claim: &Claim) -> bool
+    ensures { result ≡ accepts claim.now (Nominate votes.now.voted votes.now.accepts) }
+{
+    match claim {
+        Claim::Prepare(_) | Claim::Commit { .. } => false,
+        Claim::Nominate(value) => votes.accepts.has(value),
+    }
+}
 
 /// Whether nominating a value is accepted, and was not before.
 #[derive(Drop)]
@@ -46,7 +88,6 @@ impl<'a, S: Sight> ValueTest for IsConfirmed<'a, S> {
 
 /// Whether nominating the value is accepted: some quorum that contains the node all votes for or accepts it,
 /// or those who accept it block (the Stellar Consensus Protocol draft, of federated voting).
-#[tactic(auto, unfolding(protocol::specs::States::nominated))]
 pub fn is_value_accepted<S: Sight>(
     alloc: Global,
     sight: &S,
@@ -55,19 +96,12 @@ pub fn is_value_accepted<S: Sight>(
 ) -> Result<bool, AllocError>
     ensures { IfOk result (λ b. b ≡ is_value_accepted (S.seen sight.now) votes.now value.now) }
 {
-    let accepts = votes.accepts.has(value);
-    let backs = votes.voted.has(value) || accepts;
-    let question = Question::VotesOrAcceptsNominate(value.try_copy()?);
-    if sight.quorum(alloc, Kind::Nomination, backs, &question)? {
-        return Ok(true);
-    }
-    let question = Question::AcceptsNominate(value.try_copy()?);
-    sight.blocking(alloc, Kind::Nomination, accepts, &question)
+    let claim = Claim::Nominate(value.try_copy()?);
+    is_accepted(alloc, sight, &NominationPosition { votes }, &claim)
 }
 
 /// Whether nominating the value is confirmed: some quorum that contains the node all accepts it (the Stellar
 /// Consensus Protocol draft, of federated voting).
-#[tactic(auto, unfolding(protocol::specs::States::nominated))]
 pub fn is_value_confirmed<S: Sight>(
     alloc: Global,
     sight: &S,
@@ -76,7 +110,6 @@ pub fn is_value_confirmed<S: Sight>(
 ) -> Result<bool, AllocError>
     ensures { IfOk result (λ b. b ≡ is_value_confirmed (S.seen sight.now) votes.now value.now) }
 {
-    let accepts = votes.accepts.has(value);
-    let question = Question::AcceptsNominate(value.try_copy()?);
-    sight.quorum(alloc, Kind::Nomination, accepts, &question)
+    let claim = Claim::Nominate(value.try_copy()?);
+    is_confirmed(alloc, sight, &NominationPosition { votes }, &claim)
 }

@@ -10,3 +10,4 @@ pub mod EntryLaws
 pub mod AskingLaws
 pub mod PlaceLaws
 pub mod ListedLaws
+pub mod QuorumLaws

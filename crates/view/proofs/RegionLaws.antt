@@ -18,7 +18,7 @@ use Rattle.protocol.proofs.SatisfactionLaws.{sat_local}
 use Rattle.protocol.proofs.Tables.{row-with, is_row_of-parts}
 use Rattle.closure.specs.Keeping.{KeepsReach}
 use Rattle.closure.specs.Keeping.KeepsReach.{stranger, same_slices}
-use Rattle.fedvote.proofs.VotingLaws.{quorum_of_all}
+use Rattle.view.proofs.QuorumLaws.{quorum_of_all}
 use Rattle.compiled.specs.Places.{bit_of, Numbered}
 use Rattle.compiled.specs.Met.{picked, picked_from, one_where}
 use Rattle.compiled.specs.Searching.{AreCompiled}

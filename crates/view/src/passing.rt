@@ -14,22 +14,28 @@ use compiled::add_place;
 use envstore::Places;
 use fedvote::Question;
 
+/// The answer of the node itself: where it stands among the reached nodes, and whether its position passes.
+#[derive(Clone, Copy)]
+pub(crate) struct OwnAnswer {
+    pub place: usize,
+    pub passes: bool,
+}
+
 /// Adds to the empty set the places of those reached nodes who pass a question: of the node itself where its
 /// position does, of another where its row does.
 pub(crate) fn add_supporters<S: Places>(
     places: &mut [u64],
     rows: &ReachedRows<'_, S>,
-    own_place: usize,
-    own_passes: bool,
-    question: &Question,
+    own: OwnAnswer,
+    question: &Question<'_>,
 )
     requires ascending { IsAscending rows.now.nodes }
-    requires own { own_place < length rows.now.nodes }
+    requires own { own.place < length rows.now.nodes }
     requires empty { IsEmptySet (length rows.now.nodes) places.old }
-    ensures { (i : ℕ) → i < length rows.now.nodes → bit_of places.new i ≡ one_where (passes_at rows.now own_place own_passes (asks question.now) i) }
+    ensures { (i : ℕ) → i < length rows.now.nodes → bit_of places.new i ≡ one_where (passes_at rows.now own.place own.passes (asks question.now) i) }
 {
     for place in 0..rows.nodes().len() {
-        if passes_at(rows, own_place, own_passes, question, place) {
+        if passes_at(rows, own, question, place) {
             add_place(places, place);
         }
     }
@@ -39,19 +45,18 @@ pub(crate) fn add_supporters<S: Places>(
 pub(crate) fn add_supporters_at<S: Places>(
     places: &mut [u64],
     rows: &ReachedRows<'_, S>,
-    own_place: usize,
-    own_passes: bool,
-    question: &Question,
+    own: OwnAnswer,
+    question: &Question<'_>,
     asked: &[usize],
 )
     requires ascending { IsAscending rows.now.nodes }
-    requires own { own_place < length rows.now.nodes }
+    requires own { own.place < length rows.now.nodes }
     requires empty { IsEmptySet (length rows.now.nodes) places.old }
     requires within { All (λ i. i < length rows.now.nodes) asked.now }
-    ensures { (i : ℕ) → bit_of places.new i ≡ one_where (among asked.now i && passes_at rows.now own_place own_passes (asks question.now) i) }
+    ensures { (i : ℕ) → bit_of places.new i ≡ one_where (among asked.now i && passes_at rows.now own.place own.passes (asks question.now) i) }
 {
     for place in asked {
-        if passes_at(rows, own_place, own_passes, question, *place) {
+        if passes_at(rows, own, question, *place) {
             add_place(places, *place);
         }
     }
@@ -60,18 +65,17 @@ pub(crate) fn add_supporters_at<S: Places>(
 /// Whether the node at a place passes.
 fn passes_at<S: Places>(
     rows: &ReachedRows<'_, S>,
-    own_place: usize,
-    own_passes: bool,
-    question: &Question,
+    own: OwnAnswer,
+    question: &Question<'_>,
     place: usize,
 ) -> bool
     requires ascending { IsAscending rows.now.nodes }
-    requires own { own_place < length rows.now.nodes }
+    requires own { own.place < length rows.now.nodes }
     requires within { place < length rows.now.nodes }
-    ensures { result ≡ passes_at rows.now own_place own_passes (asks question.now) place }
+    ensures { result ≡ passes_at rows.now own.place own.passes (asks question.now) place }
 {
-    if place == own_place {
-        return own_passes;
+    if place == own.place {
+        return own.passes;
     }
     match rows.row_at(place) {
         Some(row) => question.asks(row.body()),

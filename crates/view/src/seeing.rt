@@ -2,7 +2,7 @@
 
 ghost use Rattle.std.proofs.Props.{props};
 ghost use Rattle.std.specs.Coded.{codes};
-ghost use Rattle.std.specs.Prelude.{◌≡◌, IfOk, length, true};
+ghost use Rattle.std.specs.Prelude.{◌≡◌, IfOk, length, refl, true};
 ghost use Rattle.compiled.specs.Places.{compiled_code};
 ghost use Rattle.types.specs.declared.kind.Kind.{Kind};
 ghost use Rattle.protocol.specs.Rows.{has_single_rows};
@@ -10,15 +10,14 @@ ghost use Rattle.protocol.specs.Views.{seen};
 ghost use Rattle.protocol.specs.Backing.{slices_by};
 ghost use Rattle.compiled.specs.Searching.{AreCompiled};
 ghost use Rattle.protocol.specs.Candidates.{committed_in, named_in};
-ghost use Rattle.fedvote.specs.Questions.{asks};
+ghost use Rattle.fedvote.specs.Questions.{asks, kind_asked};
 ghost use Rattle.view.specs.Asking.{IsEmptySet};
 ghost use Rattle.view.specs.Listing.{StandsFor};
 ghost use Rattle.view.specs.Regions.{IsRegion};
 ghost use Rattle.view.specs.Watching.{rows_of_others};
-ghost use Rattle.fedvote.proofs.Honesty.{seen_honest};
 
 use crate::listed::ListedBallots;
-use crate::passing::{add_supporters, add_supporters_at};
+use crate::passing::{OwnAnswer, add_supporters, add_supporters_at};
 use crate::reached::ReachedRows;
 use crate::region::Region;
 use crate::rows::{values_of, values_of_others};
@@ -107,56 +106,50 @@ impl<'a, S: Places> View<'a, S> {
         })
     }
 
-    /// The rows of a kind.
-    fn rows(&self, kind: Kind) -> &ReachedRows<'a, S>
-        ensures { result.now ≡ record { nodes = self.now.region.now.nodes.items; table = self.now.table.now; kind = kind } }
+    /// The rows that a question asks.
+    fn rows_for(&self, question: &Question<'_>) -> &ReachedRows<'a, S>
+        ensures { result.now ≡ record { nodes = self.now.region.now.nodes.items; table = self.now.table.now; kind = kind_asked question.now } }
     {
-        match kind {
+        match question.kind() {
             Kind::Nomination => &self.nominations,
             Kind::Ballot => &self.ballots,
         }
     }
 
-    /// The compiled slices of a kind.
-    fn compiled(&self, kind: Kind) -> &[Option<Form>]
-        ensures { AreCompiled self.now.region.now.nodes.items (slices_by self.now.own.now self.now.slices.now self.now.table.now kind) result.now }
+    /// The compiled slices by the rows that a question asks.
+    fn forms_for(&self, question: &Question<'_>) -> &[Option<Form>]
+        ensures { AreCompiled self.now.region.now.nodes.items (slices_by self.now.own.now self.now.slices.now self.now.table.now (kind_asked question.now)) result.now }
     {
-        match kind {
+        match question.kind() {
             Kind::Nomination => &self.region.nominations,
             Kind::Ballot => &self.region.ballots,
         }
     }
 
     /// Whether some quorum that contains the node all passes. The words are the empty set of the reached nodes.
-    fn has_quorum(
-        &self,
-        places: &mut [u64],
-        kind: Kind,
-        own_passes: bool,
-        question: &Question,
-    ) -> bool
+    fn has_quorum(&self, places: &mut [u64], own_passes: bool, question: &Question<'_>) -> bool
         requires { IsEmptySet (length self.now.region.now.nodes.items) places.old }
-        ensures { result ≡ (seen self.now.own.now self.now.slices.now self.now.leaders.now self.now.table.now).quorum kind own_passes (asks question.now) }
+        ensures { result ≡ (seen self.now.own.now self.now.slices.now self.now.leaders.now self.now.table.now).quorum (kind_asked question.now) own_passes (asks question.now) }
     {
-        let place = self.region.place;
-        add_supporters(places, self.rows(kind), place, own_passes, question);
-        in_quorum(places, place, self.compiled(kind))
+        let own = OwnAnswer {
+            place: self.region.place,
+            passes: own_passes,
+        };
+        add_supporters(places, self.rows_for(question), own, question);
+        in_quorum(places, own.place, self.forms_for(question))
     }
 
     /// Whether those who pass block the node's slices. The words are the empty set of the reached nodes.
-    fn is_blocked(
-        &self,
-        places: &mut [u64],
-        kind: Kind,
-        own_passes: bool,
-        question: &Question,
-    ) -> bool
+    fn is_blocked(&self, places: &mut [u64], own_passes: bool, question: &Question<'_>) -> bool
         requires { IsEmptySet (length self.now.region.now.nodes.items) places.old }
-        ensures { result ≡ (seen self.now.own.now self.now.slices.now self.now.leaders.now self.now.table.now).blocking kind own_passes (asks question.now) }
+        ensures { result ≡ (seen self.now.own.now self.now.slices.now self.now.leaders.now self.now.table.now).blocking (kind_asked question.now) own_passes (asks question.now) }
     {
-        let rows = self.rows(kind);
-        let asked = &self.region.asked;
-        add_supporters_at(places, rows, self.region.place, own_passes, question, asked);
+        let rows = self.rows_for(question);
+        let own = OwnAnswer {
+            place: self.region.place,
+            passes: own_passes,
+        };
+        add_supporters_at(places, rows, own, question, &self.region.asked);
         is_met(&self.region.blocking, places)
     }
 }
@@ -164,12 +157,13 @@ impl<'a, S: Places> View<'a, S> {
 impl<'a, S: Places> Sight for View<'a, S> {
     ghost seen = { λ v. seen v.own.now v.slices.now v.leaders.now v.table.now };
 
+    ghost standpoint = { λ v. record { own = v.own.now; configured = v.slices.now; leaders = v.leaders.now; table = v.table.now } };
+
     fn quorum(
         &self,
         alloc: Global,
-        kind: Kind,
         own_passes: bool,
-        question: &Question,
+        question: &Question<'_>,
     ) -> Result<bool, AllocError> {
         if !own_passes {
             return Ok(false);
@@ -177,26 +171,25 @@ impl<'a, S: Places> Sight for View<'a, S> {
         let count = self.region.nodes.len();
         if count <= 64 * FEW_WORDS {
             let mut places = [0u64; FEW_WORDS];
-            return Ok(self.has_quorum(&mut places, kind, own_passes, question));
+            return Ok(self.has_quorum(&mut places, own_passes, question));
         }
         let mut places = no_places(alloc, count)?;
-        Ok(self.has_quorum(&mut places, kind, own_passes, question))
+        Ok(self.has_quorum(&mut places, own_passes, question))
     }
 
     fn blocking(
         &self,
         alloc: Global,
-        kind: Kind,
         own_passes: bool,
-        question: &Question,
+        question: &Question<'_>,
     ) -> Result<bool, AllocError> {
         let count = self.region.nodes.len();
         if count <= 64 * FEW_WORDS {
             let mut places = [0u64; FEW_WORDS];
-            return Ok(self.is_blocked(&mut places, kind, own_passes, question));
+            return Ok(self.is_blocked(&mut places, own_passes, question));
         }
         let mut places = no_places(alloc, count)?;
-        Ok(self.is_blocked(&mut places, kind, own_passes, question))
+        Ok(self.is_blocked(&mut places, own_passes, question))
     }
 
     fn nominated_values(&self, alloc: Global) -> Result<Values, AllocError> {
@@ -221,5 +214,5 @@ impl<'a, S: Places> Sight for View<'a, S> {
         next_counter(self.own, &self.ballots, above)
     }
 
-    ghost honest = { λ s. seen_honest s.own.now s.slices.now s.leaders.now s.table.now };
+    ghost tied = { λ s. refl };
 }

@@ -1,65 +1,20 @@
 //! That with memory a node nominates. No clause says so; what it votes for, accepts and confirms is the
 //! definition's.
 
-ghost use Rattle.std.specs.Prelude.{[], false, refl};
-
-use fedvote::{Question, Sight};
+use envstore::{Archive, VecShelf};
+use fedvote::Sight;
+use latest::{Rows, Table};
 use nomination::nominate;
-use std::alloc::{AllocError, Global};
+use std::alloc::Global;
 use std::test::Fail;
-use types::{Given, Kind, LentBallot, NodeId, Value, Values, Votes};
+use types::{Given, Member, Nested, NodeId, SliceSet, Value, Votes};
+use view::{Region, View};
 
-/// What a node sees that trusts itself alone: no rows, and a quorum wherever it passes itself.
-#[derive(Drop)]
-struct Nobody;
-
-impl Sight for Nobody {
-    ghost seen = { λ s. record { rows = λ kind. []; led = []; quorum = λ kind own test. own; blocking = λ kind own test. false } };
-
-    fn quorum(
-        &self,
-        _alloc: Global,
-        _kind: Kind,
-        own_passes: bool,
-        _question: &Question,
-    ) -> Result<bool, AllocError> {
-        Ok(own_passes)
-    }
-
-    fn blocking(
-        &self,
-        _alloc: Global,
-        _kind: Kind,
-        _own_passes: bool,
-        _question: &Question,
-    ) -> Result<bool, AllocError> {
-        Ok(false)
-    }
-
-    fn nominated_values(&self, alloc: Global) -> Result<Values, AllocError> {
-        Ok(Values::empty(alloc))
-    }
-
-    fn led_values(&self, alloc: Global) -> Result<Values, AllocError> {
-        Ok(Values::empty(alloc))
-    }
-
-    #[tactic(auto, unfolding(protocol::specs::Candidates::greatest))]
-    fn next_named<'a>(&'a self, _bound: &Option<LentBallot>) -> Option<LentBallot<'a>> {
-        None
-    }
-
-    #[tactic(auto, unfolding(protocol::specs::Candidates::greatest))]
-    fn next_committed<'a>(&'a self, _bound: &Option<LentBallot>) -> Option<LentBallot<'a>> {
-        None
-    }
-
-    #[tactic(auto, unfolding(fedvote::specs::Searching::least_above))]
-    fn next_counter(&self, _above: u32) -> Option<u32> {
-        None
-    }
-
-    ghost honest = { λ s. record { blocking = λ kind own test other alike. refl } };
+/// The slices of a node that trusts itself alone.
+fn itself(alloc: Global, own: NodeId) -> Result<Nested, Fail> {
+    let mut members = Vec::new(alloc);
+    members.push(Member::Node(own))?;
+    Ok(Nested::new(alloc, SliceSet::new(1, members))?.ok_or("slices")?)
 }
 
 /// The node's input is i, and it leads round 1.
@@ -71,12 +26,33 @@ fn given(alloc: Global, own: NodeId) -> Result<Given, Fail> {
     Ok(given)
 }
 
+/// The votes of a node that had none.
+fn first_votes<S: Sight>(
+    alloc: Global,
+    own: &NodeId,
+    sight: &S,
+    given: &Given,
+) -> Result<Votes, Fail> {
+    Ok(nominate(alloc, own, sight, given, Votes::none())?)
+}
+
+/// The votes of a node that trusts itself alone and has heard nothing.
+fn lone_votes(alloc: Global, own: &NodeId) -> Result<Votes, Fail> {
+    let slices = itself(alloc, *own)?;
+    let archive = Archive::new(alloc, VecShelf::new(alloc));
+    let table = Table::new(alloc);
+    let rows = Rows::of(&table, &archive);
+    let region = Region::of(alloc, own, &slices, &rows)?;
+    let given = given(alloc, *own)?;
+    let view = View::of(alloc, own, &slices, &given.leaders, &rows, &region)?;
+    first_votes(alloc, own, &view, &given)
+}
+
 #[test]
 fn nominates_where_there_is_memory(rt: HostRuntime) -> Result<(), Fail> {
     let alloc = rt.alloc();
     let own = NodeId::from_words(1, 0, 0, 0);
-    let given = given(alloc, own)?;
-    let votes = nominate(alloc, &own, &Nobody, &given, Votes::none())?;
+    let votes = lone_votes(alloc, &own)?;
     let input = Value::of(alloc, b"i")?;
     assert!(rt; votes.voted.has(&input));
     assert!(rt; votes.accepts.has(&input));

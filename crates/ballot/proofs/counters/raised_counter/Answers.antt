@@ -1,4 +1,5 @@
 use Rattle.std.proofs.Common.{◌∙◌, ℕ, None, Some, sym, subst, arith}
+use Rattle.fedvote.proofs.Honesty.{honest_from}
 use Rattle.ballot.proofs.RaiseLaws.{Raised, raised_far, raised_on, not_raised, goes_up, heard}
 use Rattle.ballot.proofs.counters.raised_counter.Goals as goal
 
@@ -13,12 +14,12 @@ returns g c = raised_far (g.S.Sight.seen c.args.sight.now) c.args.position.now c
 
 pub loop-number-preserved-in-None : goal.loop-number-preserved-in-None
 loop-number-preserved-in-None g c =
-    raised_on (g.S.Sight.seen c.args.sight.now) (g.met.S.Sight.honest c.args.sight.now) c.args.position.now c.args.from c.args.most c.loop-number.number None c.loop-number.invariant (sym c.in-None.is ∙ c.next_counter.ensures) (omega arith) (sym c.in_ok-is_blocked_from.ensures ∙ c.if-not-branch.false)
+    raised_on (g.S.Sight.seen c.args.sight.now) (honest_from (g.S.Sight.seen c.args.sight.now) (g.S.Sight.standpoint c.args.sight.now) (g.met.S.Sight.tied c.args.sight.now)) c.args.position.now c.args.from c.args.most c.loop-number.number None c.loop-number.invariant (sym c.in-None.is ∙ c.next_counter.ensures) (omega arith) (sym c.in_ok-is_blocked_from.ensures ∙ c.if-not-branch.false)
 
 pub loop-number-preserved : goal.loop-number-preserved
 loop-number-preserved g c =
     subst (λ (n : ℕ). Raised (g.S.Sight.seen c.args.sight.now) c.args.position.now c.args.from c.args.most n) (omega arith)
-    (raised_on (g.S.Sight.seen c.args.sight.now) (g.met.S.Sight.honest c.args.sight.now) c.args.position.now c.args.from c.args.most c.loop-number.number (Some c.in-Some.next) c.loop-number.invariant (sym c.in-Some.is ∙ c.next_counter.ensures) (omega arith) (sym c.in_ok-is_blocked_from.ensures ∙ c.if-not-branch.false))
+    (raised_on (g.S.Sight.seen c.args.sight.now) (honest_from (g.S.Sight.seen c.args.sight.now) (g.S.Sight.standpoint c.args.sight.now) (g.met.S.Sight.tied c.args.sight.now)) c.args.position.now c.args.from c.args.most c.loop-number.number (Some c.in-Some.next) c.loop-number.invariant (sym c.in-Some.is ∙ c.next_counter.ensures) (omega arith) (sym c.in_ok-is_blocked_from.ensures ∙ c.if-not-branch.false))
 
 pub loop-number-smaller : goal.loop-number-smaller
 loop-number-smaller g c =

@@ -7,7 +7,7 @@ use Rattle.view.proofs.passing.add_supporters.Given as goal
 
 abbrev pub invariant-loop-place : goal.invariant-loop-place
 invariant-loop-place g l = record {
-  before : (i : ℕ) → i < l.place → bit_of l.places i ≡ one_where (passes_at l.rows l.own_place l.own_passes (asks l.question) i);
+  before : (i : ℕ) → i < l.place → bit_of l.places i ≡ one_where (passes_at l.rows l.own.place l.own.passes (asks l.question) i);
   after : (i : ℕ) → l.place ≤ i → bit_of l.places i ≡ 0;
   room : (i : ℕ) → i < length l.rows.nodes → i / 64 < length l.places;
 }

@@ -12,7 +12,7 @@ loop-place-preserved g c =
     let k = c.loop-place.place-index in
     let place = get_or asked k 0 in
     let before = c.loop-place.places in
-    let passing : ℕ → Bool = passes_at c.args.rows.now c.args.own_place c.args.own_passes (asks c.args.question.now) in
+    let passing : ℕ → Bool = passes_at c.args.rows.now c.args.own.place c.args.own.passes (asks c.args.question.now) in
     elim c.if-passes_at.branch [
       | then-passes_at w ↦ record {
         so_far = λ i. ap (λ (ws : List ℕ). bit_of ws i) w.places-is ∙ asked_passes asked k place passing before w.add_place.new.places c.loop-place-test.true refl c.loop-place.invariant.so_far (sym c.passes_at.ensures ∙ w.if-passes_at.true) w.add_place.ensures i;
