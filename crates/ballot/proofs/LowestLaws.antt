@@ -6,10 +6,10 @@ use Rattle.types.specs.Votes.{same_value}
 use Rattle.protocol.specs.States.{below, ballot_at}
 use Rattle.protocol.specs.Candidates.{lowest}
 use Rattle.protocol.specs.Extremes.{IsIn, IsLowest}
-use Rattle.protocol.proofs.BallotOrder.{below-counter, not_below-counter, one_ballot}
-use Rattle.protocol.proofs.SamenessLaws.{same_value-true}
-use Rattle.protocol.proofs.LeastLaws.{lowest_is_exact}
-use Rattle.protocol.proofs.Above.{above, greatest-above, in-filter, from-filter}
+use Rattle.protocol.proofs.Ballots.Order.{below-counter, not_below-counter, one_ballot}
+use Rattle.protocol.proofs.Equality.Sameness.{same_value-true}
+use Rattle.protocol.proofs.Ballots.LeastCounters.{lowest_is_exact}
+use Rattle.protocol.proofs.Ballots.Above.{above, greatest-above, in-filter, from-filter}
 use Rattle.fedvote.specs.Searching.{is_under, next_under}
 use Rattle.ballot.proofs.SearchLaws.{next_in, next_above}
 

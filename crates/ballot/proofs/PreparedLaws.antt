@@ -5,7 +5,7 @@ use Rattle.std.proofs.lemmas.Bool.Decides.{nat_tests}
 use Rattle.types.specs.declared.ballot.Ballot.{Ballot}
 use Rattle.types.specs.Votes.{same_value}
 use Rattle.protocol.specs.States.{below}
-use Rattle.protocol.proofs.BallotOrder.{less, less-total, below-parts}
+use Rattle.protocol.proofs.Ballots.Order.{less, less-total, below-parts}
 
 -- of two ballots the one with the lesser value that is not below the other has the greater counter
 pub counter_above : (old new : Ballot) → below new old ≡ false → same_value old.value new.value ≡ false → less old.value new.value ≡ false → old.counter < new.counter

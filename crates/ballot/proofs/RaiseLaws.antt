@@ -10,7 +10,7 @@ use Rattle.protocol.specs.Views.{Seen, passes}
 use Rattle.protocol.specs.Passes.{counts}
 use Rattle.protocol.specs.Candidates.{least_from}
 use Rattle.protocol.specs.Extremes.{IsLeastFrom}
-use Rattle.protocol.proofs.LeastLaws.{least_from_is_exact}
+use Rattle.protocol.proofs.Ballots.LeastCounters.{least_from_is_exact}
 use Rattle.fedvote.specs.Searching.{counter_by, lesser, least_above, next_counter, IsHonest}
 
 -- ---- the least number

@@ -5,8 +5,8 @@ use Rattle.types.specs.declared.ballot.Ballot.{Ballot}
 use Rattle.protocol.specs.States.{below}
 use Rattle.protocol.specs.Candidates.{greatest}
 use Rattle.protocol.specs.Extremes.{IsIn}
-use Rattle.protocol.proofs.BallotOrder.{below-self, below-trans, below-along, one_ballot}
-use Rattle.protocol.proofs.Above.{above, greatest-above, greatest-still, greatest-from, in-filter, from-filter}
+use Rattle.protocol.proofs.Ballots.Order.{below-self, below-trans, below-along, one_ballot}
+use Rattle.protocol.proofs.Ballots.Above.{above, greatest-above, greatest-still, greatest-from, in-filter, from-filter}
 use Rattle.fedvote.specs.Searching.{is_under, next_under}
 
 -- no more pass a test that is harder

@@ -11,10 +11,10 @@ use Rattle.protocol.specs.Quorums.{NamesWithin}
 use Rattle.protocol.specs.Rows.{is_row_of, row, with_row}
 use Rattle.protocol.specs.Backing.{slices_by}
 use Rattle.protocol.specs.Reach.{reached, IsReach}
-use Rattle.protocol.proofs.SetLaws.{all_from, same_test, within-at}
-use Rattle.protocol.proofs.ClosureLaws.{contains_head, contains_tail, contained_cases}
-use Rattle.protocol.proofs.ReachLaws.{reached-holds, reached-in, reach_names, row_contained}
-use Rattle.protocol.proofs.ReachStays.{leads_to_none, same_reach, went}
+use Rattle.protocol.proofs.Sets.Finite.{all_from, same_test, within-at}
+use Rattle.protocol.proofs.Sets.Least.{contains_head, contains_tail, contained_cases}
+use Rattle.protocol.proofs.Reach.Chains.{reached-holds, reached-in, reach_names, row_contained}
+use Rattle.protocol.proofs.Reach.Stays.{leads_to_none, same_reach, went}
 use Rattle.closure.specs.Keeping.{DropsNone, kept_names}
 
 -- ---- rows of the new table

@@ -4,7 +4,7 @@ use Rattle.std.proofs.lemmas.List.{length-map}
 use Rattle.std.proofs.lemmas.Option.{slice_get_past}
 use Rattle.std.proofs.lemmas.Bool.{or_left, or_right}
 use Rattle.protocol.specs.Sets.{among}
-use Rattle.protocol.proofs.SetLaws.{among_head}
+use Rattle.protocol.proofs.Sets.Finite.{among_head}
 use Rattle.closure.specs.Turns.{AreMore, ready_at, turned, with_ready}
 use Rattle.closure.proofs.Noted.{among_append}
 

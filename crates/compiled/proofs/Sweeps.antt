@@ -5,8 +5,8 @@ use Rattle.types.specs.Trees.{Slices}
 use Rattle.protocol.specs.Sets.{Names, among, AreWithin, IsAscending}
 use Rattle.protocol.specs.Satisfaction.{sat}
 use Rattle.protocol.specs.Quorums.{Quorum, HasQuorum, is_satisfied}
-use Rattle.protocol.proofs.QuorumLaws.{is_satisfied-more}
-use Rattle.protocol.proofs.SatisfactionLaws.{sat_monotone}
+use Rattle.protocol.proofs.Slices.Quorums.{is_satisfied-more}
+use Rattle.protocol.proofs.Slices.Satisfaction.{sat_monotone}
 use Rattle.compiled.specs.Places.{bit_of, Numbered}
 use Rattle.compiled.specs.Met.{met, picked_from, picked, one_where, IsCleared}
 use Rattle.compiled.specs.Searching.{met_at, stays_at, AreAgreed, AreCompiled, IsLeft, AllMet, live}

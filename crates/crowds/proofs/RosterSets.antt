@@ -1,7 +1,7 @@
 -- Two rosters have the same names where each has those of the other.
 use Rattle.std.proofs.Common.{◌≡◌, ℕ, List, IsTrue, sym, ◌∙◌}
 use Rattle.protocol.specs.Sets.{among, within}
-use Rattle.protocol.proofs.SetLaws.{all_at, all_from, same_test}
+use Rattle.protocol.proofs.Sets.Finite.{all_at, all_from, same_test}
 
 pub same_names : (xs ys : List ℕ) → IsTrue (within xs (among ys)) → IsTrue (within ys (among xs)) → (u : ℕ) → among xs u ≡ among ys u
 same_names xs ys h k u = same_test (among xs u) (among ys u) (all_at (among ys) xs u h) (all_at (among xs) ys u k)

@@ -12,7 +12,7 @@ use Rattle.protocol.specs.Networks.Reply.{Done, Refused}
 use Rattle.protocol.specs.Hosts.{Config, Entry, History, applied, hosts_of, entered, entries, journal, net_at, nets, new_net, steps_of}
 use Rattle.protocol.specs.Runs.{net_after, refusal_of, state_of}
 use Rattle.protocol.specs.Submissions.{Answer, answers, answers_of, concerned, concerning, concerns, config_of, net_run, replied_to}
-use Rattle.protocol.proofs.HostLaws.{answers-run, applied-journal, steps_to}
+use Rattle.protocol.proofs.Runs.Hosts.{answers-run, applied-journal, steps_to}
 use Rattle.differences.proofs.Places.{front_at}
 use Rattle.network.specs.Decoding.{reading, step_of}
 use Rattle.hoststep.specs.Logs.{IsEntered, IsRefused, Log, extended}

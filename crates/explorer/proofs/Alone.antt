@@ -6,7 +6,7 @@ use Rattle.std.proofs.lemmas.Bool.Decides.{nat_tests}
 use Rattle.types.specs.Trees.{Members, none, node, inner, Slices, names_in, member_count, HaveThresholds, IsNested}
 use Rattle.protocol.specs.Sets.{Names, among}
 use Rattle.protocol.specs.Satisfaction.{blocked_count, is_blocked, names}
-use Rattle.protocol.proofs.SetLaws.{among_head, among_tail, among_left, among_right}
+use Rattle.protocol.proofs.Sets.Finite.{among_head, among_tail, among_left, among_right}
 
 -- slices with enough members left are not blocked
 enough : (k b n : ℕ) → k ≤ n → b ≡ 0 → ltb n (k + b) ≡ false

@@ -8,7 +8,7 @@ use Rattle.std.proofs.lemmas.List.Kept.{AllPairs-filter}
 use Rattle.types.specs.Trees.{Slices, IsNested}
 use Rattle.protocol.specs.Sets.{Names, among, IsAscending}
 use Rattle.protocol.specs.Satisfaction.{is_blocked, names}
-use Rattle.protocol.proofs.SatisfactionLaws.{blocking_counted}
+use Rattle.protocol.proofs.Slices.Satisfaction.{blocking_counted}
 use Rattle.explorer.specs.Reports.{AreBlockers, IsBlockedBy, AreHosted}
 use Rattle.explorer.proofs.Names.{among-filter}
 use Rattle.explorer.proofs.Alone.{alone_is_named}

@@ -12,7 +12,7 @@ use Rattle.protocol.specs.Networks.{Net, Reply, Step, effect, first_that, net_st
 use Rattle.protocol.specs.Networks.Reply.{Done, Refused}
 use Rattle.protocol.specs.Hosts.{Config, Entry, History, entered, entries, journal, net_at, nets, new_net, steps_of}
 use Rattle.protocol.specs.Runs.{net_after, refusal_of, state_of}
-use Rattle.protocol.proofs.HostLaws.{applied-journal, steps_to}
+use Rattle.protocol.proofs.Runs.Hosts.{applied-journal, steps_to}
 use Rattle.network.specs.Decoding.{reading, step_of}
 use Rattle.hoststep.specs.Logs.{IsEntered, IsRefused, Log, extended}
 use Rattle.hoststep.specs.Worlds.{IsAnswered, IsAnsweredAt, IsToldBy, items_of, adopted, and_then, configs_with, joined, log_at, logs_set, logs_with}

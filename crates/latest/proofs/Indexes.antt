@@ -9,7 +9,7 @@ use Rattle.types.specs.declared.kind.Kind.{Kind}
 use Rattle.types.specs.declared.kind.Kind.TheVariants.{Nomination}
 use Rattle.types.specs.Statements.{Sent, kind_of}
 use Rattle.protocol.specs.Rows.{is_kind, is_row_of, row, with_row}
-use Rattle.protocol.proofs.Tables.{is_row_of-parts, is_row_of-alike}
+use Rattle.protocol.proofs.Statements.Offers.{is_row_of-parts, is_row_of-alike}
 use Rattle.latest.specs.Senders.{with_name, senders}
 use Rattle.latest.specs.Places.{Places, place_by, place_of, places_of, index_of, ascends, found, noted, place_in, only_place, with_place}
 

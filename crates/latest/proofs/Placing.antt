@@ -5,7 +5,7 @@ use Rattle.std.proofs.lemmas.Bool.{cases_Bool, true≢false, false≢true}
 use Rattle.types.specs.declared.kind.Kind.{Kind}
 use Rattle.types.specs.Statements.{Sent, kind_of}
 use Rattle.protocol.specs.Rows.{is_row_of, row, with_row}
-use Rattle.protocol.proofs.Tables.{is_row_of-alike, is_row_of-both}
+use Rattle.protocol.proofs.Statements.Offers.{is_row_of-alike, is_row_of-both}
 use Rattle.latest.specs.Places.{place_of}
 
 -- whose row the envelope is not

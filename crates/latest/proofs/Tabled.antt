@@ -9,7 +9,7 @@ use Rattle.envstore.specs.declared.filed.Filed.{Filed}
 use Rattle.envstore.specs.Archives.{sents_of}
 use Rattle.protocol.specs.Newer.{is_newer}
 use Rattle.protocol.specs.Rows.{has_single_rows, is_row_of, row, with_row, replaces, is_taken, offered, table_after}
-use Rattle.protocol.proofs.Tables.{single-with, table_after-push}
+use Rattle.protocol.proofs.Statements.Offers.{single-with, table_after-push}
 use Rattle.latest.specs.declared.table.Offer.{Offer}
 use Rattle.latest.specs.declared.table.Offer.TheVariants.{Replaced, Stale, NoMemory}
 use Rattle.latest.specs.declared.table.Put.{Put}

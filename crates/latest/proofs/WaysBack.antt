@@ -9,7 +9,7 @@ use Rattle.envstore.specs.declared.filed.Filed.{Filed}
 use Rattle.envstore.specs.Archives.{sent_of, sents_of}
 use Rattle.protocol.specs.Newer.{is_newer}
 use Rattle.protocol.specs.Rows.{has_single_rows, is_row_of, is_taken, row, with_row}
-use Rattle.protocol.proofs.Tables.{is_row_of-parts, is_row_of-own, is_row_of-both}
+use Rattle.protocol.proofs.Statements.Offers.{is_row_of-parts, is_row_of-own, is_row_of-both}
 use Rattle.latest.specs.Senders.{senders}
 use Rattle.latest.specs.Places.{Places, IsIndexed, forgotten, found, index_of, is_vacant, noted, only_place, place_in, place_of, places_of, with_place, without_place}
 use Rattle.latest.specs.Puts.{with_known_row, with_row_at, without_last}

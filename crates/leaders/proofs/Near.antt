@@ -8,7 +8,7 @@ use Rattle.protocol.specs.Sets.{Names, also, among}
 use Rattle.protocol.specs.Satisfaction.{names}
 use Rattle.protocol.specs.Weights.{Fraction, share, sets_around, weight}
 use Rattle.protocol.specs.Leaders.{hash, is_near, neighbours}
-use Rattle.protocol.proofs.SetLaws.{among_head}
+use Rattle.protocol.proofs.Sets.Finite.{among_head}
 use Rattle.slices.specs.Weighing.{whole}
 use Rattle.leaders.specs.Leaders.{NeighboursAreNear}
 use Rattle.leaders.proofs.HashLaws.{hash_below}

@@ -5,7 +5,7 @@ ghost use Rattle.protocol.specs.Extremes.{GreatestIsExact, GreatestIsUnique, Lea
 /// The greatest ballot is one of the candidates, or what was there, with none above it; and there is
 /// only one. The lowest counter is that of a candidate that passes, or what was there, with no lower
 /// one that passes. The least number from one on passes, and none before it does.
-#[tactic(auto, using(crate::proofs::GreatestLaws::greatest_is_exact, crate::proofs::GreatestLaws::greatest_is_alone, crate::proofs::LeastLaws::lowest_is_exact, crate::proofs::LeastLaws::least_from_is_exact))]
+#[tactic(auto, using(crate::proofs::Ballots::Greatest::greatest_is_exact, crate::proofs::Ballots::Greatest::greatest_is_alone, crate::proofs::Ballots::LeastCounters::lowest_is_exact, crate::proofs::Ballots::LeastCounters::least_from_is_exact))]
 pub fn extremes_are_exact()
     ensures greatest { GreatestIsExact }
     ensures alone { GreatestIsUnique }

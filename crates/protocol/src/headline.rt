@@ -11,7 +11,7 @@ ghost use Rattle.protocol.specs.Verdicts.{IsolatedRuns, VerdictsAreUnique, Verdi
 /// through its own and announced slices are the same in order, then that node and each hosted
 /// validator that it reaches emit the same statements, arm the same timers and externalize the same
 /// value in both. It holds for every decoder of envelopes, and so for this host's.
-#[tactic(auto, using(crate::proofs::HostLaws::isolation))]
+#[tactic(auto, using(crate::proofs::Runs::Hosts::isolation))]
 pub fn isolation()
     ensures { Isolation }
 {}
@@ -24,7 +24,7 @@ pub fn quiet()
 
 /// The closure of each beginning of a run lies in that of the whole run, and whom a node reaches lies
 /// in each set that is closed for it.
-#[tactic(auto, using(crate::proofs::ClaimLaws::prefix_of_run, crate::proofs::ClaimLaws::prefix_of_reach))]
+#[tactic(auto, using(crate::proofs::Runs::Claims::prefix_of_run, crate::proofs::Runs::Claims::prefix_of_reach))]
 pub fn prefix()
     ensures run { PrefixOfRun }
     ensures reach { PrefixOfReach }
@@ -38,7 +38,7 @@ pub fn agree()
 
 /// The journal of any events is a run: each of its entries is an event that is not refused after the
 /// entries before it, with what that event gives out. And a run is the journal of its own events.
-#[tactic(auto, using(crate::proofs::JournalLaws::journals_are_runs, crate::proofs::JournalLaws::runs_are_journals))]
+#[tactic(auto, using(crate::proofs::Networks::Journals::journals_are_runs, crate::proofs::Networks::Journals::runs_are_journals))]
 pub fn journals_are_runs()
     ensures journals { JournalsAreRuns }
     ensures runs { RunsAreJournals }
@@ -46,7 +46,7 @@ pub fn journals_are_runs()
 
 /// Isolation of two runs of one network, each of its own configuration; and a verdict on two runs is
 /// determined: every two runs have one, and no two verdicts are right.
-#[tactic(auto, using(crate::proofs::VerdictLaws::isolated_runs, crate::proofs::VerdictLaws::verdicts_are_unique, crate::proofs::VerdictsFound::verdicts_exist))]
+#[tactic(auto, using(crate::proofs::Verdicts::Determined::isolated_runs, crate::proofs::Verdicts::Determined::verdicts_are_unique, crate::proofs::Verdicts::Found::verdicts_exist))]
 pub fn verdicts_are_determined()
     ensures isolated { IsolatedRuns }
     ensures unique { VerdictsAreUnique }
@@ -56,7 +56,7 @@ pub fn verdicts_are_determined()
 /// Where two worlds host the members of the first one's closure alike, no name twice, and the applied
 /// steps that concern them are the same in order, the closure is the same set of names in both. It
 /// holds for any entries, so for two runs and for a network in two histories.
-#[tactic(auto, using(crate::proofs::SameClosures::same_closures))]
+#[tactic(auto, using(crate::proofs::Runs::SameClosures::same_closures))]
 pub fn closures_are_the_same()
     ensures { SameClosures }
 {}

@@ -9,7 +9,7 @@ ghost use Rattle.protocol.specs.Strangers.{HeldIsClosed, LeadersAreNear, Outside
 /// it and whatever rows it has. Nor have more of its ballot timers fired than the counter of its
 /// ballot says, so that their number fits where a counter does; and one more pass would change
 /// nothing, so that a node's votes are at rest between events.
-#[tactic(auto, using(crate::proofs::ReachedLaws::reached_are_calm, crate::proofs::ReachedLaws::timers_are_counted, crate::proofs::ReachedLaws::sends_well_formed))]
+#[tactic(auto, using(crate::proofs::Nodes::Reached::reached_are_calm, crate::proofs::Nodes::Reached::timers_are_counted, crate::proofs::Nodes::Reached::sends_well_formed))]
 pub fn reached_nodes_send_well_formed()
     ensures calm { ReachedAreCalm }
     ensures timers { TimersAreCounted }
@@ -30,7 +30,7 @@ pub fn strangers_add_rows()
 /// A node has the slices that were given to it last, and in a run those that the run gave it last since
 /// the slot was opened. Beside them, new ones change its votes alone, and those that it has already
 /// change nothing.
-#[tactic(auto, using(crate::proofs::RunSlices::slices_follow_runs, crate::proofs::ResliceLaws::slices_follow_events, crate::proofs::ResliceLaws::reslices_change_votes, crate::proofs::ResliceLaws::same_slices_are_quiet))]
+#[tactic(auto, using(crate::proofs::Networks::SlicesOfRuns::slices_follow_runs, crate::proofs::Nodes::Reslices::slices_follow_events, crate::proofs::Nodes::Reslices::reslices_change_votes, crate::proofs::Nodes::Reslices::same_slices_are_quiet))]
 pub fn slices_follow_events()
     ensures slices { SlicesFollowEvents }
     ensures runs { SlicesFollowRuns }
@@ -41,7 +41,7 @@ pub fn slices_follow_events()
 /// In a run, what a hosted node emitted last of each kind since its slot was opened is what it would
 /// send now, and it emitted none of a kind where it would send none. So a statement differs from the
 /// last one emitted exactly where it differs from the one that would have been sent before.
-#[tactic(auto, using(crate::proofs::LastSentLaws::last_is_sent))]
+#[tactic(auto, using(crate::proofs::Sending::LastSent::last_is_sent))]
 pub fn last_emitted_is_sent()
     ensures { LastIsSent }
 {}

@@ -19,14 +19,14 @@ pub fn members_are_never_crowded_out()
 
 /// Submitted steps are compared with the lengths of deliveries. Where all spellings of an envelope
 /// have one length, as for this host's decoder, steps that are the same but for these are the same.
-#[tactic(auto, using(crate::proofs::LengthLaws::lengths_follow))]
+#[tactic(auto, using(crate::proofs::Crowds::Lengths::lengths_follow))]
 pub fn lengths_follow_from_envelopes()
     ensures { LengthsFollow }
 {}
 
 /// What a comparison of two submissions answers is determined: every two submissions have an answer,
 /// and no two answers are right.
-#[tactic(auto, using(crate::proofs::CrowdVerdicts::crowds_are_unique, crate::proofs::CrowdVerdicts::crowds_exist))]
+#[tactic(auto, using(crate::proofs::Verdicts::OfCrowds::crowds_are_unique, crate::proofs::Verdicts::OfCrowds::crowds_exist))]
 pub fn crowds_are_determined()
     ensures unique { CrowdsAreUnique }
     ensures there { CrowdsExist }
@@ -34,7 +34,7 @@ pub fn crowds_are_determined()
 
 /// A network without a roster steps by rules that know of none, in which each applied event draws on
 /// the budgets; it never has a roster, nor anything drawn on shares.
-#[tactic(auto, using(crate::proofs::WithoutRoster::steps_without, crate::proofs::WithoutRoster::stays_without))]
+#[tactic(auto, using(crate::proofs::Crowds::WithoutRoster::steps_without, crate::proofs::Crowds::WithoutRoster::stays_without))]
 pub fn without_roster_nothing_changes()
     ensures steps { StepsWithout }
     ensures stays { StaysWithout }
@@ -44,7 +44,7 @@ pub fn without_roster_nothing_changes()
 /// drew on them over its life; on a share, what drew on it since its slot was opened. A refusal for
 /// want of room says that what the step draws on is used up, and what is applied found room; so no
 /// more is ever drawn than there is.
-#[tactic(auto, using(crate::proofs::CountLaws::runs_are_counted, crate::proofs::RoomLaws::steps_are_counted, crate::proofs::CountLaws::refused_where_met, crate::proofs::CountLaws::applied_where_room))]
+#[tactic(auto, using(crate::proofs::Networks::Counts::runs_are_counted, crate::proofs::Networks::Room::steps_are_counted, crate::proofs::Networks::Counts::refused_where_met, crate::proofs::Networks::Counts::applied_where_room))]
 pub fn room_is_counted()
     ensures runs { RunsAreCounted }
     ensures steps { StepsAreCounted }

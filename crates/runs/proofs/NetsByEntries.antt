@@ -14,7 +14,7 @@ use Rattle.protocol.specs.Networks.Step.{Opens, Closes, Asks, Delivers, Hears, N
 use Rattle.protocol.specs.Counts.{is_opening, since_opened}
 use Rattle.protocol.specs.Hosts.{Config, Entry, new_net}
 use Rattle.protocol.specs.Runs.{net_after, outs_given, refusal_of, state_of}
-use Rattle.protocol.proofs.EffectLaws.{effect-keeps, numbers, opened_after}
+use Rattle.protocol.proofs.Networks.Effects.{effect-keeps, numbers, opened_after}
 use Rattle.configuration.specs.Configs.{names_of}
 use Rattle.network.specs.Marks.{place_named}
 use Rattle.hoststep.specs.Deciding.{decided_at, values_in}

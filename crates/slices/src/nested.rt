@@ -15,7 +15,7 @@ use types::{Member, Nested, NodeId, SliceSet, push_names};
 impl SliceFamily for Nested {
     ghost use Rattle.protocol.specs.Satisfaction.{sat, is_blocked, names};
     ghost use Rattle.protocol.specs.Weights.{weight};
-    ghost use Rattle.protocol.proofs.SatisfactionLaws.{sat_monotone, sat_local, sat_dual};
+    ghost use Rattle.protocol.proofs.Slices.Satisfaction.{sat_monotone, sat_local, sat_dual};
 
     ghost sat = { sat };
 

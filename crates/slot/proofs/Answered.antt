@@ -17,11 +17,11 @@ use Rattle.protocol.specs.Timers.{is_nomination_timer_live, is_ballot_timer_live
 use Rattle.protocol.specs.Nodes.{Node, passed, settle, change, settled, after_change, answered, outs, step, in_round, timed_out, bumped, is_externalized}
 use Rattle.protocol.specs.Limits.{Reached}
 use Rattle.protocol.specs.Limits.Reached.{next}
-use Rattle.protocol.proofs.ReachedLaws.{reached-sends}
-use Rattle.protocol.proofs.SettleLaws.{never_limited}
+use Rattle.protocol.proofs.Nodes.Reached.{reached-sends}
+use Rattle.protocol.proofs.Passes.Settling.{never_limited}
 use Rattle.protocol.specs.Claims.{IsQuiet}
 use Rattle.protocol.specs.Reach.{HoldsReach}
-use Rattle.protocol.proofs.StrangerLaws.{outsiders_are_quiet}
+use Rattle.protocol.proofs.Nodes.Strangers.{outsiders_are_quiet}
 use Rattle.protocol.specs.Sets.{Names, among}
 use Rattle.envstore.specs.declared.filed.Filed.{Filed}
 use Rattle.envstore.specs.Archives.{sents_of}

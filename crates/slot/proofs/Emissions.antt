@@ -11,7 +11,7 @@ use Rattle.types.specs.declared.statement.Statement.TheVariants.{Nominate}
 use Rattle.protocol.specs.Sameness.{same_sent}
 use Rattle.protocol.specs.Nodes.{emitted}
 use Rattle.protocol.specs.States.{sent_nomination}
-use Rattle.protocol.proofs.SamenessLaws.{same_sent-refl, same_sent-true}
+use Rattle.protocol.proofs.Equality.Sameness.{same_sent-refl, same_sent-true}
 use Rattle.slot.specs.declared.configured.Configured.{Configured}
 use Rattle.slot.specs.Wholes.{whole, sent_by, emitted_by}
 

@@ -5,7 +5,7 @@ use Rattle.std.proofs.lemmas.Bool.{cases_Bool}
 use Rattle.types.specs.declared.state.Votes.{Votes}
 use Rattle.protocol.specs.Nodes.{settle}
 use Rattle.protocol.specs.Sameness.{same_votes}
-use Rattle.protocol.proofs.SamenessLaws.{same_votes-refl, same_votes-true}
+use Rattle.protocol.proofs.Equality.Sameness.{same_votes-refl, same_votes-true}
 
 one : (n : ℕ) (f : Votes → Votes) (w : Votes) → settle (suc n) f w ≡ (if same_votes (f w) w then Some w else settle n f (f w))
 unfolding settle

@@ -8,7 +8,7 @@ use Rattle.protocol.specs.Passes.{balloted_in, nominated_in, pass}
 use Rattle.protocol.specs.Sameness.{same_values, same_votes}
 use Rattle.protocol.specs.Stirring.{settle_after, settle_all, settle_ballots, settle_nominations}
 use Rattle.protocol.specs.Views.{Seen}
-use Rattle.protocol.proofs.SamenessLaws.{same_values-refl, same_values-true, same_votes-refl, same_votes-true}
+use Rattle.protocol.proofs.Equality.Sameness.{same_values-refl, same_values-true, same_votes-refl, same_votes-true}
 use Rattle.slot.specs.declared.stirring.Stirred.{Stirred}
 use Rattle.slot.specs.declared.stirring.Stirred.TheVariants.{All, Ballots, Nominations}
 use Rattle.slot.specs.Stirrings.{Stirs, part}

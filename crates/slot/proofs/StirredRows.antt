@@ -11,7 +11,7 @@ use Rattle.protocol.specs.Limits.{Reached}
 use Rattle.protocol.specs.Nodes.{Node, change}
 use Rattle.protocol.specs.Rows.{with_row}
 use Rattle.protocol.specs.Stirring.{KeepsReach}
-use Rattle.protocol.proofs.StirringLaws.{ballot_rows_stir_ballots, nomination_rests_after_a_pass, nomination_rows_stir_nomination}
+use Rattle.protocol.proofs.Passes.Stirring.{ballot_rows_stir_ballots, nomination_rests_after_a_pass, nomination_rows_stir_nomination}
 use Rattle.envstore.specs.Archives.{sents_of}
 use Rattle.view.specs.declared.region.Entry.{Entry}
 use Rattle.view.specs.declared.region.Region.{Region}

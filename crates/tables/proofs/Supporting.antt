@@ -16,8 +16,8 @@ use Rattle.protocol.specs.Sets.{Names, among, IsAscending}
 use Rattle.protocol.specs.Reach.{reached}
 use Rattle.protocol.specs.Rows.{row}
 use Rattle.protocol.specs.Backing.{is_passed, backing_prepare}
-use Rattle.protocol.proofs.ReachLaws.{reach_least}
-use Rattle.protocol.proofs.SetLaws.{same_test}
+use Rattle.protocol.proofs.Reach.Chains.{reach_least}
+use Rattle.protocol.proofs.Sets.Finite.{same_test}
 use Rattle.quorum.proofs.Kept.{among-filter, among-from_filter}
 use Rattle.latest.specs.Senders.{senders}
 use Rattle.latest.proofs.Indexes.{senders-ascend, senders-exactly}

@@ -7,7 +7,7 @@ use Rattle.types.specs.Trees.{Slices}
 use Rattle.types.specs.Statements.{Sent}
 use Rattle.protocol.specs.Sets.{Names, among}
 use Rattle.protocol.specs.Satisfaction.{is_blocked, names}
-use Rattle.protocol.proofs.ViewLaws.{is_blocked-local}
+use Rattle.protocol.proofs.Nodes.Views.{is_blocked-local}
 use Rattle.quorum.proofs.Kept.{among-filter}
 use Rattle.fedvote.proofs.Honesty.{names_reached}
 use Rattle.compiled.specs.Places.{bit_of}

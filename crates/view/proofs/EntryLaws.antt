@@ -13,7 +13,7 @@ use Rattle.protocol.specs.Quorums.{is_satisfied}
 use Rattle.protocol.specs.Backing.{slices_by}
 use Rattle.protocol.specs.Reach.{IsReach}
 use Rattle.protocol.specs.Rows.{row, with_row, is_row_of, is_kind}
-use Rattle.protocol.proofs.Tables.{row-with}
+use Rattle.protocol.proofs.Statements.Offers.{row-with}
 use Rattle.compiled.specs.Places.{Compiled, Numbered}
 use Rattle.compiled.specs.Met.{IsCompiled, picked}
 use Rattle.compiled.specs.Searching.{AreCompiled, met_at}

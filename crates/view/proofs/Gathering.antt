@@ -4,8 +4,8 @@ use Rattle.std.specs.List.{cons_option}
 use Rattle.std.proofs.lemmas.List.{take_more}
 use Rattle.types.specs.declared.statement.Statement.{Statement}
 use Rattle.protocol.specs.Candidates.{all_with, values_by}
-use Rattle.protocol.proofs.ValueSets as ValueSets
-use Rattle.protocol.proofs.ValueSets.{split_last}
+use Rattle.protocol.proofs.Nominating.ValueSets as ValueSets
+use Rattle.protocol.proofs.Nominating.ValueSets.{split_last}
 
 -- the later values first
 pub all_with_append : (ys zs xs : List (List ℕ)) → all_with (ys ++ zs) xs ≡ all_with ys (all_with zs xs)

@@ -20,8 +20,8 @@ use Rattle.protocol.specs.Extremes.{IsGreatest, IsGreatestIn}
 use Rattle.protocol.specs.Extremes.IsGreatestIn.{nothing, this}
 use Rattle.protocol.specs.States.{below}
 use Rattle.types.specs.Orders.{ballot_cmp}
-use Rattle.protocol.proofs.BallotOrder.{ballots_ordered, below-asym, below-self, below-trans, one_ballot}
-use Rattle.protocol.proofs.GreatestLaws.{greatest_is_alone, greatest_is_exact}
+use Rattle.protocol.proofs.Ballots.Order.{ballots_ordered, below-asym, below-self, below-trans, one_ballot}
+use Rattle.protocol.proofs.Ballots.Greatest.{greatest_is_alone, greatest_is_exact}
 use Rattle.fedvote.specs.Searching.{is_under, next_under}
 use Rattle.view.specs.Listing.{AreListed, IsBallotPlace, IsDescending, IsPlaceUnder, StandsFor}
 use Rattle.view.proofs.SameRows.{is_contained, is_in, kept_from, kept_to, none_contained, same_next}

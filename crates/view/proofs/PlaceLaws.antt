@@ -6,7 +6,7 @@ use Rattle.types.specs.declared.kind.Kind.{Kind}
 use Rattle.types.specs.Statements.{Sent, kind_of}
 use Rattle.protocol.specs.Rows.{is_row_of, row, with_row}
 use Rattle.latest.specs.Places.{place_of}
-use Rattle.protocol.proofs.Tables.{is_row_of-own}
+use Rattle.protocol.proofs.Statements.Offers.{is_row_of-own}
 use Rattle.latest.proofs.Placing.{place-of_others, place-of_replaced, row-at_place, row-without_place}
 use Rattle.view.specs.Regions.{row_places}
 use Rattle.view.specs.Watching.{row_where, rows_at}

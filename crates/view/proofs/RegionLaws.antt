@@ -14,8 +14,8 @@ use Rattle.protocol.specs.Backing.{slices_by}
 use Rattle.protocol.specs.Reach.{IsReach}
 use Rattle.protocol.specs.Rows.{row, with_row, is_row_of}
 use Rattle.protocol.specs.Views.{passing_with, blocking_passes, seen}
-use Rattle.protocol.proofs.SatisfactionLaws.{sat_local}
-use Rattle.protocol.proofs.Tables.{row-with, is_row_of-parts}
+use Rattle.protocol.proofs.Slices.Satisfaction.{sat_local}
+use Rattle.protocol.proofs.Statements.Offers.{row-with, is_row_of-parts}
 use Rattle.closure.specs.Keeping.{KeepsReach}
 use Rattle.closure.specs.Keeping.KeepsReach.{stranger, same_slices}
 use Rattle.view.proofs.QuorumLaws.{quorum_of_all}

@@ -9,11 +9,11 @@ use Rattle.types.specs.Votes.{has_value, same_value}
 use Rattle.protocol.specs.Candidates.{as_set, committed_by, committed_in, greatest, is_counted, named_by, named_in, values_by}
 use Rattle.protocol.specs.Extremes.{IsIn, IsGreatestIn}
 use Rattle.protocol.specs.Extremes.IsGreatestIn.{nothing, this}
-use Rattle.protocol.proofs.ClosureLaws.{contained_cases, contains_head, contains_tail}
-use Rattle.protocol.proofs.GreatestLaws.{greatest_is_alone, greatest_is_exact}
-use Rattle.protocol.proofs.SamenessLaws.{same_value-refl, same_value-true}
-use Rattle.protocol.proofs.SetLaws.{same_test}
-use Rattle.protocol.proofs.ValueSets.{has_all, one_set, set_ascending}
+use Rattle.protocol.proofs.Sets.Least.{contained_cases, contains_head, contains_tail}
+use Rattle.protocol.proofs.Ballots.Greatest.{greatest_is_alone, greatest_is_exact}
+use Rattle.protocol.proofs.Equality.Sameness.{same_value-refl, same_value-true}
+use Rattle.protocol.proofs.Sets.Finite.{same_test}
+use Rattle.protocol.proofs.Nominating.ValueSets.{has_all, one_set, set_ascending}
 use Rattle.fedvote.specs.Searching.{counter_by, is_under, least_above, lesser, next_counter, next_under}
 use Rattle.view.specs.Watching.{values_in}
 

@@ -12,12 +12,12 @@ use Rattle.protocol.specs.Quorums.{HasQuorum}
 use Rattle.protocol.specs.Backing.{slices_by}
 use Rattle.protocol.specs.Reach.{reached}
 use Rattle.protocol.specs.Views.{rows_seen, led_by, passing_with, quorum_passes, blocking_passes, seen}
-use Rattle.protocol.proofs.FairSight.{seen-fair}
-use Rattle.protocol.proofs.QuorumLaws.{has_quorum-from, has_quorum-found}
-use Rattle.protocol.proofs.ReachLaws.{reach_least}
-use Rattle.protocol.proofs.SatisfactionLaws.{sat_monotone, sat_dual}
-use Rattle.protocol.proofs.SetLaws.{same_test}
-use Rattle.protocol.proofs.ViewLaws.{lists}
+use Rattle.protocol.proofs.Balloting.FairSight.{seen-fair}
+use Rattle.protocol.proofs.Slices.Quorums.{has_quorum-from, has_quorum-found}
+use Rattle.protocol.proofs.Reach.Chains.{reach_least}
+use Rattle.protocol.proofs.Slices.Satisfaction.{sat_monotone, sat_dual}
+use Rattle.protocol.proofs.Sets.Finite.{same_test}
+use Rattle.protocol.proofs.Nodes.Views.{lists}
 use Rattle.view.specs.Watching.{rows_by}
 
 -- the parts of what is seen

@@ -3,7 +3,7 @@ use Rattle.types.specs.declared.ballot.Ballot.{Ballot}
 use Rattle.protocol.specs.Candidates.{named}
 use Rattle.protocol.specs.Balloting.{accept_prepared, aborted_by}
 use Rattle.protocol.specs.States.{Under}
-use Rattle.protocol.proofs.Above.{greatest-keeps}
+use Rattle.protocol.proofs.Ballots.Above.{greatest-keeps}
 use Rattle.ballot.proofs.prepared.accept_prepared.Goals as goal
 
 pub returns : goal.returns

@@ -4,7 +4,7 @@ use Rattle.types.specs.Nominations.{most_nominated}
 use Rattle.types.specs.Votes.{has_value}
 use Rattle.protocol.specs.Candidates.{all_with, filled, values_by}
 use Rattle.protocol.specs.Nominating.{accept_values, is_value_accepted}
-use Rattle.protocol.proofs.ValueSets.{new_ones}
+use Rattle.protocol.proofs.Nominating.ValueSets.{new_ones}
 use Rattle.nomination.proofs.rules.accept_values.Goals as goal
 
 pub returns : goal.returns

@@ -2,7 +2,7 @@ use Rattle.std.proofs.Common.{◌++◌, Bor, List, ℕ, Option, flat_map, option
 use Rattle.std.proofs.lemmas.List.{append-nil}
 use Rattle.types.specs.Nominations.{with_value}
 use Rattle.protocol.specs.Candidates.{as_set, values_by}
-use Rattle.protocol.proofs.ValueSets.{set_and_one}
+use Rattle.protocol.proofs.Nominating.ValueSets.{set_and_one}
 use Rattle.nomination.proofs.rules.proposed_values.Goals as goal
 use Rattle.nomination.proofs.rules.proposed_values.Goals.{in-Some+in_ok-try_copy+in_ok-insert, in_default}
 

@@ -1,4 +1,4 @@
-use Rattle.protocol.proofs.ClosureLaws.{closures_least}
+use Rattle.protocol.proofs.Sets.Least.{closures_least}
 use Rattle.protocol.proofs.closures.closures_are_least.Goals as goal
 
 pub returns : goal.returns

@@ -1,4 +1,4 @@
-use Rattle.protocol.proofs.ReachLaws.{reach_names}
+use Rattle.protocol.proofs.Reach.Chains.{reach_names}
 use Rattle.protocol.proofs.closures.reach_holds_names.Goals as goal
 
 pub returns : goal.returns

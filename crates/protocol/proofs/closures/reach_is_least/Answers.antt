@@ -1,4 +1,4 @@
-use Rattle.protocol.proofs.ReachLaws.{reach_least}
+use Rattle.protocol.proofs.Reach.Chains.{reach_least}
 use Rattle.protocol.proofs.closures.reach_is_least.Goals as goal
 
 pub returns : goal.returns

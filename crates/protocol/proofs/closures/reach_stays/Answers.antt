@@ -1,4 +1,4 @@
-use Rattle.protocol.proofs.ReachStays.{stays_with_first_rows, stays_with_same_slices, stays_with_strangers}
+use Rattle.protocol.proofs.Reach.Stays.{stays_with_first_rows, stays_with_same_slices, stays_with_strangers}
 use Rattle.protocol.proofs.closures.reach_stays.Goals as goal
 
 pub returns-clause-slices : goal.returns-clause-slices

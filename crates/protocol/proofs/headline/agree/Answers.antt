@@ -1,4 +1,4 @@
-use Rattle.protocol.proofs.ClaimLaws.{agree_claim}
+use Rattle.protocol.proofs.Runs.Claims.{agree_claim}
 use Rattle.protocol.proofs.headline.agree.Goals as goal
 
 pub returns : goal.returns

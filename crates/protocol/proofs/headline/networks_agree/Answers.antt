@@ -1,4 +1,4 @@
-use Rattle.protocol.proofs.Agreements.{new_networks_agree, other_steps_leave, runs_stay_closed_in, stays_closed_in, steps_agree}
+use Rattle.protocol.proofs.Runs.Agreements.{new_networks_agree, other_steps_leave, runs_stay_closed_in, stays_closed_in, steps_agree}
 use Rattle.protocol.proofs.headline.networks_agree.Goals as goal
 
 pub returns-clause-new : goal.returns-clause-new

@@ -1,4 +1,4 @@
-use Rattle.protocol.proofs.ClaimLaws.{quiet_claim}
+use Rattle.protocol.proofs.Runs.Claims.{quiet_claim}
 use Rattle.protocol.proofs.headline.quiet.Goals as goal
 
 pub returns : goal.returns

@@ -1,4 +1,4 @@
-use Rattle.protocol.proofs.StirringLaws.{ballot_rows_stir_ballots, nomination_rests_after_a_pass, nomination_rows_stir_nomination}
+use Rattle.protocol.proofs.Passes.Stirring.{ballot_rows_stir_ballots, nomination_rests_after_a_pass, nomination_rows_stir_nomination}
 use Rattle.protocol.proofs.limits.rows_stir_their_kind.Goals as goal
 
 pub returns-clause-later : goal.returns-clause-later

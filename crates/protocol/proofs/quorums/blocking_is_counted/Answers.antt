@@ -1,4 +1,4 @@
-use Rattle.protocol.proofs.SatisfactionLaws.{blocking_counted}
+use Rattle.protocol.proofs.Slices.Satisfaction.{blocking_counted}
 use Rattle.protocol.proofs.quorums.blocking_is_counted.Goals as goal
 
 pub returns : goal.returns

@@ -1,4 +1,4 @@
-use Rattle.protocol.proofs.QuorumLaws.{cut_claim}
+use Rattle.protocol.proofs.Slices.Quorums.{cut_claim}
 use Rattle.protocol.proofs.quorums.quorum_cut.Goals as goal
 
 pub returns : goal.returns

@@ -1,4 +1,4 @@
-use Rattle.protocol.proofs.QuorumLaws.{quorums_found}
+use Rattle.protocol.proofs.Slices.Quorums.{quorums_found}
 use Rattle.protocol.proofs.quorums.quorums_are_found.Goals as goal
 
 pub returns : goal.returns

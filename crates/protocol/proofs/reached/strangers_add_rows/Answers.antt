@@ -1,4 +1,4 @@
-use Rattle.protocol.proofs.StrangerLaws.{held_is_closed, leaders_are_near, outsiders_add_rows, outsiders_are_quiet, strangers_add_rows}
+use Rattle.protocol.proofs.Nodes.Strangers.{held_is_closed, leaders_are_near, outsiders_add_rows, outsiders_are_quiet, strangers_add_rows}
 use Rattle.protocol.proofs.reached.strangers_add_rows.Goals as goal
 
 pub returns-clause-leaders : goal.returns-clause-leaders

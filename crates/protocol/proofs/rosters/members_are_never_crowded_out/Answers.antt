@@ -1,4 +1,4 @@
-use Rattle.protocol.proofs.CrowdLaws.{never_crowded_out, never_crowded_out_of_runs}
+use Rattle.protocol.proofs.Crowds.Members.{never_crowded_out, never_crowded_out_of_runs}
 use Rattle.protocol.proofs.rosters.members_are_never_crowded_out.Goals as goal
 
 pub returns-clause-histories : goal.returns-clause-histories

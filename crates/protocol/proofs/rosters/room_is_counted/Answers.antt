@@ -1,4 +1,4 @@
-use Rattle.protocol.proofs.RoomLaws.{stays_in_room}
+use Rattle.protocol.proofs.Networks.Room.{stays_in_room}
 use Rattle.protocol.proofs.rosters.room_is_counted.Goals as goal
 
 pub returns-clause-stays : goal.returns-clause-stays

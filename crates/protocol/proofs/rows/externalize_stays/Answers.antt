@@ -1,4 +1,4 @@
-use Rattle.protocol.proofs.Tables.{externalize_row-stays}
+use Rattle.protocol.proofs.Statements.Offers.{externalize_row-stays}
 use Rattle.protocol.proofs.rows.externalize_stays.Goals as goal
 
 pub returns : goal.returns

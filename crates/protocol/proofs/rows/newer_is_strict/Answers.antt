@@ -1,4 +1,4 @@
-use Rattle.protocol.proofs.Order.{newer-itself, newer-along}
+use Rattle.protocol.proofs.Statements.Newer.{newer-itself, newer-along}
 use Rattle.protocol.proofs.rows.newer_is_strict.Goals as goal
 
 pub returns : goal.returns

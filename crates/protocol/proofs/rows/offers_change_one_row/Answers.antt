@@ -1,4 +1,4 @@
-use Rattle.protocol.proofs.Tables.{own_row-offered, other_row-offered}
+use Rattle.protocol.proofs.Statements.Offers.{own_row-offered, other_row-offered}
 use Rattle.protocol.proofs.rows.offers_change_one_row.Goals as goal
 
 pub returns : goal.returns

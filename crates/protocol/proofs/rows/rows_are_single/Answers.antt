@@ -1,4 +1,4 @@
-use Rattle.protocol.proofs.Tables.{single-after}
+use Rattle.protocol.proofs.Statements.Offers.{single-after}
 use Rattle.protocol.proofs.rows.rows_are_single.Goals as goal
 
 pub returns : goal.returns

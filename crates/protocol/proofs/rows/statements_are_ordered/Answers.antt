@@ -1,4 +1,4 @@
-use Rattle.protocol.proofs.Order.{statements_ordered, ties_are_one}
+use Rattle.protocol.proofs.Statements.Newer.{statements_ordered, ties_are_one}
 use Rattle.protocol.proofs.rows.statements_are_ordered.Goals as goal
 
 pub returns : goal.returns

@@ -2,7 +2,7 @@ use Rattle.std.proofs.Common.{◌≡◌, ◌∙◌, true, sym, ap}
 use Rattle.types.specs.Trees.{Slices}
 use Rattle.protocol.specs.Satisfaction.{names}
 use Rattle.protocol.specs.Sets.{among, within}
-use Rattle.protocol.proofs.SetLaws.{within-at}
+use Rattle.protocol.proofs.Sets.Finite.{within-at}
 use Rattle.view.proofs.region.leaves_reach.Goals as goal
 
 pub returns : goal.returns

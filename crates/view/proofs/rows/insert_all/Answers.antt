@@ -1,4 +1,4 @@
-use Rattle.protocol.proofs.ValueSets.{value_before}
+use Rattle.protocol.proofs.Nominating.ValueSets.{value_before}
 use Rattle.view.proofs.rows.insert_all.Goals as goal
 
 pub loop-left-preserved : goal.loop-left-preserved

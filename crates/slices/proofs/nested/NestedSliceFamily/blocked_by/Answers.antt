@@ -1,7 +1,7 @@
 use Rattle.std.proofs.Common.{◌≡◌, ◌↔◌, IsTrue, subst, sym, rules}
 use Rattle.protocol.specs.Sets.{among}
 use Rattle.protocol.specs.Satisfaction.{sat, is_blocked, Blocks}
-use Rattle.protocol.proofs.SatisfactionLaws.{sat_dual}
+use Rattle.protocol.proofs.Slices.Satisfaction.{sat_dual}
 use Rattle.slices.proofs.nested.NestedSliceFamily.blocked_by.Goals as goal
 
 pub returns-clause-exactly : goal.returns-clause-exactly

@@ -3,7 +3,7 @@ use Rattle.std.proofs.lemmas.Bool.{false≢true}
 use Rattle.types.specs.declared.event.Out.{Out}
 use Rattle.types.specs.declared.event.NodeEvent.TheVariants.{BallotTimer}
 use Rattle.protocol.specs.Nodes.{Node, is_counter_live}
-use Rattle.protocol.proofs.ReachedLaws.{reached-fired}
+use Rattle.protocol.proofs.Nodes.Reached.{reached-fired}
 use Rattle.slot.specs.Filings.{outs_of}
 use Rattle.envstore.specs.Archives.{sents_of}
 use Rattle.slot.specs.Listening.{Held}

@@ -1,6 +1,6 @@
 use Rattle.std.proofs.Common.{ap, subst}
 use Rattle.protocol.specs.Limits.{Reached}
-use Rattle.protocol.proofs.ReachedLaws.{reached-calm}
+use Rattle.protocol.proofs.Nodes.Reached.{reached-calm}
 use Rattle.slot.proofs.Answered.{node_in}
 use Rattle.slot.proofs.node.Node.calm.Goals as goal
 

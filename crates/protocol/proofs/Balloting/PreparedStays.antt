@@ -1,0 +1,171 @@
+-- In PREPARE: once p, h, b and c were set with one position, they stay as they are.
+use Rattle.std.proofs.Common.{◌≡◌, ℕ, ◌≤◌, Bool, true, false, not, ◌&&◌, ◌||◌, ◌==◌, nat_le, Option, Some, None, is_none, refl, sym, ◌∙◌, ap, subst, inl, inr, ◌⊎◌, arith}
+use Rattle.std.proofs.lemmas.Bool.{cases_Bool, or_left, and_parts, true≢false}
+use Rattle.std.proofs.lemmas.Bool.Decides.{nat_tests}
+use Rattle.types.specs.declared.ballot.Ballot.{Ballot}
+use Rattle.protocol.proofs.Balloting.Tests.{implies, backs_prepare, takes_prepare, Fair, quorum_own, quorum_more}
+use Rattle.types.specs.declared.statement.Statement.TheVariants.{Prepare}
+use Rattle.types.specs.declared.kind.Kind.{Kind}
+use Rattle.protocol.specs.Views.{Seen, passes}
+use Rattle.types.specs.declared.state.Phase.{Phase}
+use Rattle.types.specs.declared.state.Votes.{Votes}
+use Rattle.protocol.specs.States.{below, counter_of, high_counter, commit_counter, position}
+use Rattle.protocol.specs.Balloting.{aborted_by, is_accepted, is_confirmed, may_be_prepared, accept_prepared, raise_high, follow_high, is_aborted, set_commit}
+use Rattle.types.specs.declared.state.Phase.TheVariants.{Preparing, Committing}
+use Rattle.protocol.specs.Extremes.{IsIn}
+use Rattle.protocol.proofs.Ballots.Order.{below-self, not_above-value}
+use Rattle.protocol.proofs.Ballots.Above.{above, Under, above-trans, under-trans, aborted-by}
+use Rattle.protocol.proofs.Balloting.Moves.{own_named, named-parts, named-row, named-own, position-preparing, own-preparing, accepted-from, accept_prepared-still, accept_prepared-moves, raise_high-still, raise_high-moves, follow_high-moves, Fixed, set_commit-moves, not_own, own_under}
+use Rattle.protocol.proofs.Equality.Sameness.{same_value-true}
+use Rattle.types.specs.Votes.{same_value}
+
+-- in COMMIT
+pub record Held (w : Votes) : Type 0 where
+  pub b : Ballot
+  pub p : Ballot
+  pub ballot : w.ballot ≡ Some b
+  pub prepared : w.prepared ≡ Some p
+  pub value : p.value ≡ b.value
+  pub hi : w.hi ≤ p.counter
+  pub lo : w.lo ≤ w.hi
+
+-- what a fresh node's votes have, and each rule keeps
+pub record Sound (w : Votes) : Type 0 where
+  pub aborted : w.aborted ≤ counter_of w.prepared
+  pub high : Under w.high w.prepared
+  pub committing : w.phase ≡ Committing → Held w
+
+implies-under : (b t : Ballot) → implies b t ≡ true → below b t ≡ false
+implies-under b t h =
+    let p = and_parts (same_value b.value t.value) (nat_le t.counter b.counter) h in
+    not_above-value b t (upto t.counter b.counter p.1) (same_value-true b.value t.value p.0)
+  where
+    upto : (m n : ℕ) → nat_le m n ≡ true → m ≤ n
+    upto m n h = grind (arith, nat_tests)
+
+own-ballot : (w : Votes) (b : Ballot) → w.phase ≡ Preparing → w.ballot ≡ Some b → IsIn b (own_named w)
+own-ballot w b p e = rw (position-preparing w b p e) (inl refl)
+
+own-prepared : (w : Votes) (b t : Ballot) → w.phase ≡ Preparing → w.ballot ≡ Some b → w.prepared ≡ Some t → IsIn t (own_named w)
+own-prepared w b t p e k = rw (position-preparing w b p e) (rw k (inr (inl refl)))
+
+preparing≢committing : {A : Type 0} (p : Phase) → p ≡ Preparing → p ≡ Committing → A
+preparing≢committing p a b = cc
+
+-- what is aborted, and h's counter, do not look at c
+fixed-commit : (w : Votes) (c d : Option Ballot) → Fixed w c → Fixed (record w { commit = d }) c
+unfolding is_aborted high_counter
+fixed-commit w None d h = go w.high w.prepared refl refl
+  where
+    go : (a p : Option Ballot) → w.high ≡ a → w.prepared ≡ p → Fixed (record w { commit = d }) None
+    go a p i j = λ x e. same x a p i j (h x e)
+      where
+        same : (x : Ballot) (a p : Option Ballot) → w.high ≡ a → w.prepared ≡ p → ((high_counter w x == x.counter) && not (is_aborted w x)) ≡ false → ((high_counter (record w { commit = d }) x == x.counter) && not (is_aborted (record w { commit = d }) x)) ≡ false
+        same x a p i j k = k
+fixed-commit w (Some c) d h = h
+
+pub record Ready (s : Seen) (b : Ballot) (w : Votes) : Type 0 where
+  pub u : Votes
+  pub is : set_commit (follow_high b (raise_high s (accept_prepared s b w))) ≡ u
+  pub n : Ballot
+  pub ballot : u.ballot ≡ Some n
+  pub phase : u.phase ≡ Preparing
+  pub grows : b.counter ≤ n.counter
+  pub sound : Sound u
+  pub voted : u.voted ≡ w.voted
+  pub accepts : u.accepts ≡ w.accepts
+  pub confirms : u.confirms ≡ w.confirms
+  pub stays : is_none w.high ≡ false → is_none u.high ≡ false
+  pub still_p : accept_prepared s n u ≡ u
+  pub still_h : raise_high s u ≡ u
+  pub above_h : (h : Ballot) → u.high ≡ Some h → below n h ≡ false
+  pub fixed : Fixed u u.commit
+
+module _ (s : Seen) (f : Fair s) (b : Ballot) (w : Votes) (phase : w.phase ≡ Preparing) (ballot : w.ballot ≡ Some b) (sound : Sound w) where
+  pub ready : Ready s b w
+  ready =
+      let N = accept_prepared-moves s b w in
+      let A = aborted_by w.prepared N.p w.aborted in
+      let w2 : Votes = record w { prepared = N.p; aborted = A } in
+      let M = raise_high-moves s w2 in
+      let w3 : Votes = record w2 { high = M.h } in
+      let F = follow_high-moves b w3 in
+      let w4 : Votes = record w3 { ballot = Some F.n } in
+      let C = set_commit-moves w4 in
+      let u : Votes = record w4 { commit = C.c } in
+      let low : A ≤ counter_of N.p = aborted-by w.prepared N.p w.aborted sound.aborted N.grows in
+      let at2 = position-preparing w2 b phase ballot in
+      let at4 = position-preparing u F.n phase refl in
+      let at1 = position-preparing w b phase ballot in
+      let high_at : (t : Ballot) → M.h ≡ Some t → above N.p t ≡ false = λ t e. elim (M.from t e) [
+        | inl k ↦ let z : Under (Some t) w.prepared = rw k at sound.high in under-trans (Some t) w.prepared N.p z N.grows
+        | inr k ↦ own_under b N.p A (high_counter w2 b) (commit_counter w2 b) t low (subst (λ o. passes (takes_prepare t) o ≡ true) at2 (quorum_own s f Kind.Ballot (position w2) (takes_prepare t) k))
+      ] in
+      let high_under : Under M.h N.p = under_each M.h N.p (λ t e. high_at t e) in
+      let new_under : (F.n ≡ b) ⊎ (above N.p F.n ≡ false) = elim F.from [
+        | inl e ↦ inl e
+        | inr e ↦ inr (high_at F.n e)
+      ] in
+      record {
+        u = u;
+        is = ap (λ x. set_commit (follow_high b (raise_high s x))) N.is ∙ (ap (λ x. set_commit (follow_high b x)) M.is ∙ (ap set_commit F.is ∙ C.is));
+        n = F.n;
+        ballot = refl;
+        phase = phase;
+        grows = F.grows;
+        sound = record { aborted = low; high = high_under; committing = λ e. preparing≢committing w.phase phase e };
+        voted = refl;
+        accepts = refl;
+        confirms = refl;
+        stays = M.stays;
+        still_p = accept_prepared-still s F.n u (λ t i v acc. elim (cases_Bool (above N.p t)) [
+          | inr k ↦ k
+          | inl k ↦
+              let own : passes (takes_prepare t) (position u) ≡ false = rw at4 (not_own F.n N.p A (high_counter u F.n) (commit_counter u F.n) t low k) in
+              let backs : passes (backs_prepare t) (position u) ≡ true → passes (backs_prepare t) (position w) ≡ true = λ h.
+              let j : (implies F.n t || takes_prepare t (Prepare F.n N.p A (high_counter u F.n) (commit_counter u F.n))) ≡ true = rw at4 at h in
+              let imp : implies F.n t ≡ true = first_part _ _ j (not_own F.n N.p A (high_counter u F.n) (commit_counter u F.n) t low k) in
+              elim new_under [
+                | inl e ↦ rw at1 (or_left (implies b t) _ (subst (λ x. implies x t ≡ true) e imp))
+                | inr e ↦ absurd (true≢false (sym k ∙ above-trans N.p F.n t e (implies-under F.n t imp)))
+              ] in
+              let acc1 : is_accepted s w t ≡ true = accepted-from s f (position u) (position w) (backs_prepare t) (takes_prepare t) backs own acc in
+              let parts = named-parts s u t i in
+              let all : may_be_prepared w.phase b.value t ≡ true = rw phase refl in
+              elim parts.1 [
+                | inl r ↦ N.above t (named-row s w t parts.0 r) all acc1
+                | inr o ↦ elim (own-preparing u F.n t phase refl o) [
+                  | inl e ↦ elim new_under [
+                    | inl e1 ↦ N.above t (named-own s w t parts.0 (subst (λ x. IsIn x (own_named w)) (sym (e ∙ e1)) (own-ballot w b phase ballot))) all acc1
+                    | inr e1 ↦ subst (λ x. above N.p x ≡ false) (sym e) e1
+                  ]
+                  | inr e ↦ subst (λ o. above o t ≡ false) (sym e) (below-self t)
+                ]
+              ]
+        ]);
+        still_h = raise_high-still s u (λ t i con.
+            let own : passes (takes_prepare t) (position u) ≡ true = quorum_own s f Kind.Ballot (position u) (takes_prepare t) con in
+            let own2 : passes (takes_prepare t) (position w2) ≡ true = rw at2 (rw at4 at own) in
+            let con2 : is_confirmed s w2 t ≡ true = quorum_more s f Kind.Ballot (position u) (position w2) (takes_prepare t) own2 con in
+            let parts = named-parts s u t i in
+            elim parts.1 [
+              | inl r ↦ M.above t (named-row s w2 t parts.0 r) con2
+              | inr o ↦ elim (own-preparing u F.n t phase refl o) [
+                | inl e ↦ elim F.from [
+                  | inl e1 ↦ M.above t (named-own s w2 t parts.0 (subst (λ x. IsIn x (own_named w2)) (sym (e ∙ e1)) (own-ballot w2 b phase ballot))) con2
+                  | inr e1 ↦ let z : M.h ≡ Some F.n = e1 in subst (λ x. above M.h x ≡ false) (sym e) (subst (λ o. above o F.n ≡ false) (sym z) (below-self F.n))
+                ]
+                | inr e ↦ M.above t (named-own s w2 t parts.0 (own-prepared w2 b t phase ballot e)) con2
+              ]
+            ]);
+        above_h = F.above;
+        fixed = fixed-commit w4 C.c C.c C.fixed;
+      }
+    where
+      under_each : (h p : Option Ballot) → ((t : Ballot) → h ≡ Some t → above p t ≡ false) → Under h p
+      under_each None p g = tt
+      under_each (Some h) p g = g h refl
+
+      first_part : (x y : Bool) → (x || y) ≡ true → y ≡ false → x ≡ true
+      first_part true y h k = refl
+      first_part false y h k = absurd (true≢false (sym h ∙ k))

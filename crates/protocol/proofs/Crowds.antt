@@ -1,0 +1,6 @@
+-- Networks with rosters: what strangers cannot take from members.
+pub mod Views
+pub mod Runs
+pub mod Members
+pub mod WithoutRoster
+pub mod Lengths

@@ -1,0 +1,69 @@
+-- Without a roster nothing changes.
+use Rattle.types.specs.declared.event.Refusal.{Refusal}
+use Rattle.std.proofs.Common.{◌≡◌, Bool, Option, Some, None, List, [], ◌∷◌, ◌++◌, ◌+◌, refl, ◌∙◌, ap, ap₂}
+use Rattle.protocol.specs.Rosters.{Draw}
+use Rattle.protocol.specs.Rosters.Source.{OfBudgets}
+use Rattle.protocol.specs.Networks.{Net, Step, Reply, source, size_of, on_shares, on_opens, effect, tests, tests_on, first_that, counted, replied, net_step}
+use Rattle.protocol.specs.Networks.Reading.{Read, Fault}
+use Rattle.protocol.specs.Networks.Step.{Opens, Closes, Asks, Delivers, Hears, NominationTimes, BallotTimes, Reslices}
+use Rattle.protocol.specs.Networks.Reply.{Done}
+use Rattle.protocol.specs.Hosts.{Entry, new_net}
+use Rattle.protocol.specs.Runs.{net_after}
+use Rattle.protocol.specs.WithoutRoster.{tests_without, counted_without, replied_without, HasNoShares, StepsWithout, StaysWithout}
+use Rattle.protocol.proofs.Networks.Effects.{effect-keeps, left}
+use Rattle.protocol.proofs.Crowds.Runs.{plus_nothing}
+
+tested : (net : Net) (e : Step) → tests_on net OfBudgets e ≡ tests_without net e
+tested net (Opens i) = refl
+tested net (Closes i) = refl
+tested net (Asks i u x) = refl
+tested net (Delivers u size (Read e)) = refl
+tested net (Delivers u size (Fault n)) = refl
+tested net (Hears i u from kind k) = refl
+tested net (NominationTimes i u r) = refl
+tested net (BallotTimes i u n) = refl
+tested net (Reslices i u q) = refl
+
+counts : (net : Net) (e : Step) → counted OfBudgets (size_of e) net ≡ counted_without e net
+counts net e = λ j. record (counted_without e net) { opens = plus_nothing net.opens j }
+
+pub steps_without : StepsWithout
+unfolding net_step
+steps_without net e h = ap (λ (ts : List (Bool × Refusal)). replied net e (first_that ts)) (ap (λ o. tests_on net (source o e) e) h ∙ tested net e) ∙ go (first_that (tests_without net e))
+  where
+    go : (o : Option Refusal) → replied net e o ≡ replied_without net e o
+    go (Some n) = refl
+    go None = ap {B = Net × Reply} (λ (n : Net). (n, Done (effect net e).1)) (ap (λ o. counted (source o e) (size_of e) (effect net e).0) h ∙ counts (effect net e).0 e)
+
+none_left : (e : Step) (ds : List Draw) → ds ≡ [] → left e ds ≡ []
+none_left (Opens i) ds h = ap (left (Opens i)) h
+none_left (Closes i) ds h = h
+none_left (Asks i u x) ds h = h
+none_left (Delivers u size d) ds h = h
+none_left (Hears i u from kind k) ds h = h
+none_left (NominationTimes i u r) ds h = h
+none_left (BallotTimes i u n) ds h = h
+none_left (Reslices i u q) ds h = h
+
+stays-step : (net : Net) (e : Step) → HasNoShares net → HasNoShares (net_step net e).0
+unfolding net_step
+stays-step net e h = go (first_that (tests net e))
+  where
+    go : (o : Option Refusal) → HasNoShares (replied net e o).0
+    go (Some n) = h
+    go None =
+        let k = effect-keeps net e in
+        let s : source net.roster e ≡ OfBudgets = ap (λ o. source o e) h.roster in
+        record {
+          roster = k.roster ∙ h.roster;
+          opens = ap₂ (λ m n. m + n) (k.opens ∙ h.opens) (ap on_opens s);
+          draws = ap₂ (λ (xs ys : List Draw). xs ++ ys) (ap (λ z. on_shares z (size_of e)) s) (k.draws ∙ none_left e net.draws h.draws);
+        }
+
+stays-after : (net : Net) (xs : List Entry) → HasNoShares net → HasNoShares (net_after net xs)
+unfolding net_after
+stays-after net [] k = k
+stays-after net (x ∷ xs) k = stays-after (net_step net x.event).0 xs (stays-step net x.event k)
+
+pub stays_without : StaysWithout
+stays_without config before h = stays-after (new_net config) before (record { roster = h; opens = refl; draws = refl })

@@ -1,0 +1,3 @@
+-- Equality, tested and decided.
+pub mod Sameness
+pub mod Decisions

@@ -1,0 +1,181 @@
+-- Agreement of two networks, from what a set sees of each.
+use Rattle.types.specs.declared.event.NodeEvent.TheVariants.{Propose, Take, NominationTimer, BallotTimer, Reslice}
+use Rattle.types.specs.declared.event.Out.{Out}
+use Rattle.types.specs.declared.event.Refusal.{Refusal}
+use Rattle.std.proofs.Common.{◌≡◌, ℕ, Bool, true, false, ◌==◌, Option, Some, None, List, [], ◌∷◌, option_map, take, if◌then◌else◌, refl, sym, ◌∙◌, ap, ap₂, subst}
+use Rattle.std.specs.Prelude.{IfSome}
+use Rattle.std.proofs.Math.Path.{fun_ext}
+use Rattle.std.proofs.lemmas.Bool.{eqb-true}
+use Rattle.types.specs.Statements.{Sent}
+use Rattle.protocol.specs.Sets.{Names}
+use Rattle.protocol.specs.Nodes.{Node}
+use Rattle.protocol.specs.Networks.{Place, Net, Step, slices_of, places_at, place_of, known, effect, source, size_of, counted, tests, first_that, replied, net_step}
+use Rattle.protocol.specs.Networks.Reply.{Done}
+use Rattle.protocol.specs.Runs.{state_of}
+use Rattle.protocol.specs.Isolation.{Kept, kept, is_of, closure}
+use Rattle.protocol.specs.Isolation.Kept.{Opened, Closed, Told, Heard}
+use Rattle.protocol.specs.Agreeing.{place_in, IsClosedIn, ArePlacesAlike, AgreeIn, IsKeptOfMembers, given_by, NewNetworksAgree, RunsStayClosedIn, StepsAgree, OtherStepsLeave, StaysClosedIn}
+use Rattle.protocol.proofs.Runs.Claims.{good}
+use Rattle.protocol.proofs.Runs.Prefixes.{closed_for, holds-after}
+use Rattle.protocol.proofs.Runs.Sights.{cut_place, Sight, sight, play, reply, AllPlaces}
+use Rattle.protocol.proofs.Runs.Follows.{Follows}
+use Rattle.protocol.proofs.Runs.Events.{IsNew, HostsIn, cast_of, follows}
+use Rattle.protocol.proofs.Runs.KeptSteps.{effect-hosts, is_new, if_kept, IsKeptIn, kept-to}
+
+-- ---- what a set sees, and agreement
+place-name : (ps : List Place) (u : ℕ) (p : Place) → place_of ps u ≡ Some p → p.node.name ≡ u
+place-name [] u p h = cc
+place-name (x ∷ xs) u p h = go (x.node.name == u) refl h (place-name xs u p)
+  where
+    go : (b : Bool) → (x.node.name == u) ≡ b → (if b then Some x else place_of xs u) ≡ Some p → (place_of xs u ≡ Some p → p.node.name ≡ u) → p.node.name ≡ u
+    go true e k ih = let same : x ≡ p = cc in ap (λ (y : Place). y.node.name) (sym same) ∙ eqb-true x.node.name u e
+    go false e k ih = ih k
+
+known-name : (o : Option (List Place)) (u : ℕ) (p : Place) → known o u ≡ Some p → p.node.name ≡ u
+known-name None u p h = cc
+known-name (Some ps) u p h = place-name ps u p h
+
+module _ (R : Names) (i : ℕ) where
+  all_places : (net : Net) → IsClosedIn R i net → AllPlaces R i net
+  all_places net c u p k = record {
+    name = known-name (places_at net.slots i) u p k;
+    good = λ r. good R p.node (c.nodes u p k r);
+    calm = λ r. c.calm u p k r;
+    told = c.told u p k;
+  }
+
+  closed_in : (net : Net) → HostsIn R net.hosts → AllPlaces R i net → IsClosedIn R i net
+  closed_in net hosts h = record {
+    hosts = hosts;
+    nodes = λ u p k r. closed_for R p.node ((h u p k).good r);
+    calm = λ u p k r. (h u p k).calm r;
+    told = λ u p k. (h u p k).told;
+  }
+
+  alike-cut : (a b : Option Place) → ArePlacesAlike R a b → option_map (cut_place R) a ≡ option_map (cut_place R) b
+  alike-cut None None h = refl
+  alike-cut None (Some q) h = absurd h
+  alike-cut (Some p) None h = absurd h
+  alike-cut (Some p) (Some q) h = ap₂ {C = Option Place} (λ (n : Node) (es : List Sent). Some (record { node = n; told = es })) h.0 h.1
+
+  cut-alike : (a b : Option Place) → option_map (cut_place R) a ≡ option_map (cut_place R) b → ArePlacesAlike R a b
+  cut-alike None None h = tt
+  cut-alike None (Some q) h = cc
+  cut-alike (Some p) None h = cc
+  cut-alike (Some p) (Some q) h = let same : cut_place R p ≡ cut_place R q = cc in (ap (λ (x : Place). x.node) same, ap (λ (x : Place). x.told) same)
+
+  agree-sights : (one other : Net) → AgreeIn R i one other → sight R i one ≡ sight R i other
+  agree-sights one other a = fun_ext (λ u. go u (R u) refl)
+    where
+      go : (u : ℕ) (b : Bool) → R u ≡ b
+          → (if b then option_map (cut_place R) (place_in one i u) else None) ≡ (if b then option_map (cut_place R) (place_in other i u) else None)
+      go u true r = alike-cut (place_in one i u) (place_in other i u) (a.places u r)
+      go u false r = refl
+
+  sights-alike : (one other : Net) → sight R i one ≡ sight R i other → (u : ℕ) → R u ≡ true → ArePlacesAlike R (place_in one i u) (place_in other i u)
+  sights-alike one other s u r = cut-alike (place_in one i u) (place_in other i u) (seen one ∙ (ap (λ (x : Sight). x u) s ∙ sym (seen other)))
+    where
+      seen : (net : Net) → option_map (cut_place R) (place_in net i u) ≡ sight R i net u
+      seen net = sym (ap (λ b. if b then option_map (cut_place R) (place_in net i u) else None) r)
+
+  agree-casts : (one other : Net) → AgreeIn R i one other → cast_of R one.hosts ≡ cast_of R other.hosts
+  agree-casts one other a = fun_ext (λ u. go u (R u) refl)
+    where
+      go : (u : ℕ) (b : Bool) → R u ≡ b → (if b then slices_of one.hosts u else None) ≡ (if b then slices_of other.hosts u else None)
+      go u true r = a.cast u r
+      go u false r = refl
+
+  -- what is kept lies in the set
+  kept_in : (k : Kept) → IsKeptOfMembers R k → IsKeptIn R k
+  kept_in Opened h = tt
+  kept_in Closed h = tt
+  kept_in (Told u (Propose x)) h = tt
+  kept_in (Told u (Take e)) h = λ r s. h.1
+  kept_in (Told u (NominationTimer r)) h = tt
+  kept_in (Told u (BallotTimer c)) h = tt
+  kept_in (Told u (Reslice q)) h = λ r. h
+  kept_in (Heard u from kind k) h = tt
+
+  some_kept-in : (o : Option Kept) → IfSome o (IsKeptOfMembers R) → if_kept R o
+  some_kept-in None h = tt
+  some_kept-in (Some k) h = kept_in k h
+
+  -- ---- an applied step
+  record Applied (net : Net) (e : Step) (os : List Out) : Type 0 where
+    after : Net
+    is : (net_step net e).0 ≡ after
+    hosts : after.hosts ≡ net.hosts
+    slots : after.slots ≡ (effect net e).0.slots
+    outs : os ≡ (effect net e).1
+    fresh : IsNew net e
+
+  applied : (net : Net) (e : Step) (os : List Out) → (net_step net e).1 ≡ Done os → Applied net e os
+  unfolding net_step
+  applied net e os h = go (first_that (tests net e)) refl h
+    where
+      go : (o : Option Refusal) → first_that (tests net e) ≡ o → (replied net e o).1 ≡ Done os → Applied net e os
+      go (Some n) q d = cc
+      go None q d = record {
+        after = counted (source net.roster e) (size_of e) (effect net e).0;
+        is = ap (λ o. (replied net e o).0) q;
+        hosts = effect-hosts net e;
+        slots = refl;
+        outs = cc;
+        fresh = is_new net e q;
+      }
+
+  -- what the set sees after it, what its members give out, and what holds of the places
+  record Seen (net : Net) (e : Step) (os : List Out) : Type 0 where
+    sights : sight R i (net_step net e).0 ≡ play (cast_of R net.hosts) i (sight R i net) (kept R i e)
+    replies : (u : ℕ) → R u ≡ true → given_by i u e os ≡ reply (sight R i net) (kept R i e) u
+    hosts : (net_step net e).0.hosts ≡ net.hosts
+    closed : IsClosedIn R i (net_step net e).0
+
+  seen_step : (net : Net) (e : Step) (os : List Out) → IsClosedIn R i net → (net_step net e).1 ≡ Done os → if_kept R (kept R i e) → Seen net e os
+  seen_step net e os c d k =
+      let a = applied net e os d in
+      let hosts : HostsIn R net.hosts = c.hosts in
+      let f : Follows R (cast_of R net.hosts) i net (effect net e) (λ w. is_of i w e) (kept R i e) = follows R i net e (all_places net c) hosts a.fresh (kept-to R R i e (λ u r. r) k) in
+      let slots = ap (λ (n : Net). n.slots) a.is ∙ a.slots in
+      let same_hosts = ap (λ (n : Net). n.hosts) a.is ∙ a.hosts in
+      record {
+        sights = fun_ext (λ u. ap (λ ss. if R u then option_map (cut_place R) (known (places_at ss i) u) else None) slots) ∙ f.sights;
+        replies = λ u r. ap (λ xs. given_by i u e xs) a.outs ∙ f.replies u r;
+        hosts = same_hosts;
+        closed = closed_in (net_step net e).0 (subst (λ hs. HostsIn R hs) (sym same_hosts) hosts) (λ u p h. f.places u p (ap (λ ss. known (places_at ss i) u) (sym slots) ∙ h));
+      }
+
+-- ---- the laws
+pub steps_agree : StepsAgree
+steps_agree R i one other e d os ps c c_there a done done_there same k =
+    let kept_one = some_kept-in R i (kept R i e) k in
+    let s = seen_step R i one e os c done kept_one in
+    let t = seen_step R i other d ps c_there done_there (subst (if_kept R) same kept_one) in
+    let now = agree-sights R i one other a in
+    let casts = agree-casts R i one other a in
+    let both : sight R i (net_step one e).0 ≡ sight R i (net_step other d).0 =
+    s.sights ∙ ((λ j. play (casts j) i (now j) (same j)) ∙ sym t.sights) in (
+      record {
+        cast = λ u r. ap (λ hs. slices_of hs u) s.hosts ∙ (a.cast u r ∙ ap (λ hs. slices_of hs u) (sym t.hosts));
+        places = sights-alike R i (net_step one e).0 (net_step other d).0 both;
+      },
+      λ u r. s.replies u r ∙ ((λ j. reply (now j) (same j) u) ∙ sym (t.replies u r)),
+    )
+
+pub other_steps_leave : OtherStepsLeave
+other_steps_leave R i one other e os c a done none =
+    let s = seen_step R i one e os c done (subst (if_kept R) (sym none) tt) in
+    let still : sight R i (net_step one e).0 ≡ sight R i other =
+    s.sights ∙ (ap (λ o. play (cast_of R one.hosts) i (sight R i one) o) none ∙ agree-sights R i one other a) in (
+      record { cast = λ u r. ap (λ hs. slices_of hs u) s.hosts ∙ a.cast u r; places = sights-alike R i (net_step one e).0 other still },
+      λ u r. s.replies u r ∙ ap (λ o. reply (sight R i one) o u) none,
+    )
+
+pub stays_closed_in : StaysClosedIn
+stays_closed_in R i net e os c done k = (seen_step R i net e os c done (some_kept-in R i (kept R i e) k)).closed
+
+pub new_networks_agree : NewNetworksAgree
+new_networks_agree R i one other same = record { cast = same; places = λ u r. tt }
+
+pub runs_stay_closed_in : RunsStayClosedIn
+runs_stay_closed_in config run i v n is = let h = holds-after config run i v n is in closed_in (closure config.hosts i v run) i (state_of config (take n run)) h.1 h.0

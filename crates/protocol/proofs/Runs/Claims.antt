@@ -1,0 +1,70 @@
+-- The claims, proved.
+use Rattle.types.specs.declared.event.NodeEvent.{NodeEvent}
+use Rattle.types.specs.declared.event.Out.{Out}
+use Rattle.std.proofs.Common.{◌≡◌, Bool, true, not, List, [], ◌∷◌, ◌++◌, map, flat_map, append_assoc, refl, sym, ◌∙◌, ap, subst}
+use Rattle.std.specs.List.{list_all}
+use Rattle.std.proofs.lemmas.Bool.{and_parts, and_from, or_right}
+use Rattle.std.proofs.lemmas.List.Concat.{flat_map-append}
+use Rattle.protocol.specs.Sets.{Names, within}
+use Rattle.protocol.specs.Satisfaction.{names}
+use Rattle.protocol.specs.Closures.{Rule, keeps, in_least}
+use Rattle.protocol.specs.Rows.{row}
+use Rattle.protocol.specs.Nodes.{Node, step}
+use Rattle.types.specs.declared.event.NodeEvent.TheVariants.{Propose, Take, NominationTimer, BallotTimer, Reslice}
+use Rattle.protocol.specs.Hosts.{Entry}
+use Rattle.protocol.specs.Isolation.{closure, host_rule, announced}
+use Rattle.protocol.specs.Claims.{IsClosedFor, IsOfMembers, Agree, Quiet, PrefixOfRun, PrefixOfReach}
+use Rattle.protocol.proofs.Sets.RuleLists.{least-in, least-start, least-keeps}
+use Rattle.protocol.proofs.Nodes.Views.{row-cut, reached-in}
+use Rattle.protocol.proofs.Nodes.Steps.{Good, IsFit, IsKept, cut_node, step-kept, step-quiet}
+
+pub good : (R : Names) (n : Node) → IsClosedFor R n → Good R n
+good R n c = record { closed = record { has = c.has; own = c.own; rows = c.rows }; leaders = c.leaders }
+
+pub quiet_claim : Quiet
+quiet_claim R n e c calm o =
+    let q = step-quiet R n e (good R n c) calm o in
+    record {
+      outs = q.1;
+      given = ap (λ (m : Node). m.given) q.0;
+      votes = ap (λ (m : Node). m.votes) q.0;
+      rows = λ u k r. sym (row-cut R (step n (Take e)).0.table u k r) ∙ (ap (λ (m : Node). row m.table u k) q.0 ∙ row-cut R n.table u k r);
+    }
+
+fits : (R : Names) (e : NodeEvent) → IsOfMembers R e → IsFit R e
+fits R (Propose x) h = tt
+fits R (Take e) h = or_right (not (R e.sender)) (within (names e.slices) R) h.1
+fits R (NominationTimer r) h = tt
+fits R (BallotTimer c) h = tt
+fits R (Reslice q) h = h
+
+keeps_to : (R : Names) (e : NodeEvent) → IsOfMembers R e → IsKept R e
+keeps_to R (Propose x) h = tt
+keeps_to R (Take e) h = h
+keeps_to R (NominationTimer r) h = tt
+keeps_to R (BallotTimer c) h = tt
+keeps_to R (Reslice q) h = tt
+
+pub agree_claim : Agree
+agree_claim R n m e c d k h =
+    let same : (cut_node R (step n e).0, (step n e).1) ≡ (cut_node R (step m e).0, (step m e).1) =
+    sym (step-kept R n e (good R n c) (fits R e k) (keeps_to R e k)) ∙ (ap (λ (x : Node). step x e) h ∙ step-kept R m e (good R m d) (fits R e k) (keeps_to R e k)) in
+    (ap (λ (r : Node × List Out). r.0) same, ap (λ (r : Node × List Out). r.1) same)
+
+pub prefix_of_reach : PrefixOfReach
+prefix_of_reach R n c u h = reached-in R n.name n.slices n.table (good R n c).closed u h
+
+all-left : {X : Type 0} (P : X → Bool) (xs ys : List X) → list_all P (xs ++ ys) ≡ true → list_all P xs ≡ true
+all-left P [] ys h = refl
+all-left P (x ∷ xs) ys h = let p = and_parts (P x) (list_all P (xs ++ ys)) h in and_from (P x) (list_all P xs) p.0 (all-left P xs ys p.1)
+
+pub prefix_of_run : PrefixOfRun
+unfolding closure
+prefix_of_run hosts i v front rest u h =
+    let whole = in_least (map host_rule hosts ++ flat_map (λ x. announced i x.event) (front ++ rest)) v in
+    least-in (map host_rule hosts ++ flat_map (λ x. announced i x.event) front) v whole (least-start (map host_rule hosts ++ flat_map (λ x. announced i x.event) (front ++ rest)) v)
+    (front_of (map host_rule hosts) front rest whole (least-keeps (map host_rule hosts ++ flat_map (λ x. announced i x.event) (front ++ rest)) v)) u h
+  where
+    front_of : (rules : List Rule) (xs ys : List Entry) (S : Names) → list_all (keeps S) (rules ++ flat_map (λ x. announced i x.event) (xs ++ ys)) ≡ true → list_all (keeps S) (rules ++ flat_map (λ x. announced i x.event) xs) ≡ true
+    front_of rules xs ys S k = all-left (keeps S) (rules ++ flat_map (λ x. announced i x.event) xs) (flat_map (λ x. announced i x.event) ys)
+        (subst (λ (zs : List Rule). list_all (keeps S) zs ≡ true) (ap (λ zs. rules ++ zs) (flat_map-append (λ (x : Entry). announced i x.event) xs ys) ∙ sym (append_assoc rules (flat_map (λ x. announced i x.event) xs) (flat_map (λ x. announced i x.event) ys))) k)

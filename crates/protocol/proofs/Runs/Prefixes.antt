@@ -1,0 +1,55 @@
+-- After each beginning of a run the closure of the whole run is closed for its hosted members.
+use Rattle.types.specs.declared.event.Refusal.{Refusal}
+use Rattle.std.proofs.Common.{◌≡◌, ℕ, zero, suc, Option, Some, None, List, [], ◌∷◌, map, take, refl, sym, subst}
+use Rattle.protocol.specs.Sets.{Names}
+use Rattle.protocol.specs.Nodes.{Node}
+use Rattle.protocol.specs.Networks.{Net, Step, effect, source, size_of, tests, first_that, counted, replied, net_step}
+use Rattle.protocol.specs.Hosts.{Entry, Config, entered, journal, new_net}
+use Rattle.protocol.specs.Isolation.{closure}
+use Rattle.protocol.specs.Runs.{net_after, state_of, IsRun}
+use Rattle.protocol.specs.Claims.{IsClosedFor, PrefixOfWholeRun}
+use Rattle.protocol.proofs.Nodes.Views.{reached-in}
+use Rattle.protocol.proofs.Nodes.Steps.{Good}
+use Rattle.protocol.proofs.Runs.Sights.{AllPlaces}
+use Rattle.protocol.proofs.Runs.Events.{HostsIn, follows}
+use Rattle.protocol.proofs.Runs.KeptSteps.{AllIn, effect-hosts, is_new, no-places, hosts-closed, events-closed}
+use Rattle.protocol.proofs.Networks.Journals.{runs_are_journals}
+
+pub closed_for : (R : Names) (n : Node) → Good R n → IsClosedFor R n
+closed_for R n g = record { has = g.closed.has; own = g.closed.own; leaders = g.leaders; rows = g.closed.rows }
+
+-- what holds of hosts and places holds after each beginning of a journal
+abbrev pub Holds : Names → ℕ → Net → Type 0
+Holds R i net = AllPlaces R i net × HostsIn R net.hosts
+
+places-after : (R : Names) (i : ℕ) (es : List Step) (net : Net) → Holds R i net → AllIn R i (journal net es) → (n : ℕ) → Holds R i (net_after net (take n (journal net es)))
+unfolding journal net_step net_after
+places-after R i [] net h f zero = h
+places-after R i [] net h f (suc n) = h
+places-after R i (e ∷ es) net h f n = go (first_that (tests net e)) refl f (λ x. places-after R i es x) n
+  where
+    Claim : Net → List Entry → Type 0
+    Claim x run = (n : ℕ) → Holds R i (net_after x (take n run))
+
+    go : (o : Option Refusal) → first_that (tests net e) ≡ o → AllIn R i (entered e (replied net e o).1 (journal (replied net e o).0 es))
+        → ((x : Net) → Holds R i x → AllIn R i (journal x es) → Claim x (journal x es)) → Claim net (entered e (replied net e o).1 (journal (replied net e o).0 es))
+    go (Some r) q f ih n = ih net h f n
+    go None q f ih zero = h
+    go None q f ih (suc n) =
+        let after : Net = counted (source net.roster e) (size_of e) (effect net e).0 in
+        subst (λ o. Holds R i (net_after (replied net e o).0 (take n (journal after es)))) (sym q)
+        (ih after ((follows R i net e h.0 h.1 (is_new net e q) f.0).places, subst (HostsIn R) (sym (effect-hosts net e)) h.1) f.1 n)
+
+pub holds-after : (config : Config) (run : List Entry) (i v n : ℕ) → IsRun config run → Holds (closure config.hosts i v run) i (state_of config (take n run))
+holds-after config run i v n is =
+    let R : Names = closure config.hosts i v run in
+    let net : Net = new_net config in
+    let all = subst (λ (es : List Entry). AllIn R i es → Holds R i (net_after net (take n es))) (sym (runs_are_journals config run is))
+    (λ f. places-after R i (map (λ (x : Entry). x.event) run) net (no-places R i config, hosts-closed config.hosts i v run) f n) in
+    all (events-closed config.hosts i v run)
+
+pub prefix_of_whole_run : PrefixOfWholeRun
+prefix_of_whole_run config run i v is n u p r k =
+    let R : Names = closure config.hosts i v run in
+    let g : Good R p.node = ((holds-after config run i v n is).0 u p k).good r in
+    (closed_for R p.node g, λ w h. reached-in R p.node.name p.node.slices p.node.table g.closed w h)

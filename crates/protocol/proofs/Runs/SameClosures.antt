@@ -1,0 +1,80 @@
+-- Where casts and kept steps are the same, the closure is the same set in both worlds.
+use Rattle.std.proofs.Common.{◌≡◌, ℕ, Bool, true, false, ◌==◌, List, [], ◌∷◌, ◌++◌, map, flat_map, if◌then◌else◌, refl, sym, ◌∙◌, subst}
+use Rattle.std.specs.List.{list_all, Contains, AllByRecursion}
+use Rattle.std.proofs.lemmas.Bool.{and_parts, and_from}
+use Rattle.protocol.specs.Sets.{Names, AreWithin, within}
+use Rattle.protocol.specs.Satisfaction.{names}
+use Rattle.protocol.specs.Closures.{Rule, keeps}
+use Rattle.protocol.specs.Networks.{Host, Step}
+use Rattle.protocol.specs.Networks.Reading.{Read, Fault}
+use Rattle.protocol.specs.Networks.Step.{Opens, Closes, Asks, Delivers, Hears, NominationTimes, BallotTimes, Reslices}
+use Rattle.protocol.specs.Hosts.{Entry}
+use Rattle.protocol.specs.Isolation.{closure, host_rule, announced, SameClosures}
+use Rattle.protocol.proofs.Sets.Finite.{same_test}
+use Rattle.protocol.proofs.Sets.Least.{contains_head, contains_tail, keeps-from}
+use Rattle.protocol.proofs.Sets.RuleLists.{least-in, least-start}
+use Rattle.protocol.proofs.Runs.Sights.{all-append}
+use Rattle.protocol.proofs.Runs.Events.{IsWithin}
+use Rattle.protocol.proofs.Runs.KeptSteps.{AllIn, IsKeptIn, all_kept-from, all_kept-to, all_in-other, hosts-closed, events-closed}
+
+module _ (R : Names) where
+  -- the rules of hosted nodes are kept where the slices of hosted members lie in the set
+  keeps-hosts : (hosts : List Host) → ((h : Host) → Contains hosts h → R h.name ≡ true → within (names h.slices) R ≡ true) → list_all (keeps R) (map host_rule hosts) ≡ true
+  keeps-hosts [] f = refl
+  keeps-hosts (h ∷ hs) f =
+      and_from (keeps R (host_rule h)) (list_all (keeps R) (map host_rule hs))
+      (keeps-from R (host_rule h) (λ w. f h (contains_head h hs) (and_parts (R h.name) true w).0)) (keeps-hosts hs (λ x c. f x (contains_tail x h hs c)))
+
+  one_rule : (b : Bool) (r : Rule) → (b ≡ true → keeps R r ≡ true) → list_all (keeps R) (if b then r ∷ [] else []) ≡ true
+  one_rule true r f = and_from (keeps R r) true (f refl) refl
+  one_rule false r f = refl
+
+  keeps-event : (i : ℕ) (e : Step) → IsWithin R i e → list_all (keeps R) (announced i e) ≡ true
+  keeps-event i (Delivers u size (Read e)) h =
+      one_rule (e.slot == i) (record { sources = u ∷ e.sender ∷ []; gives = names e.slices })
+      (λ y. keeps-from R (record { sources = u ∷ e.sender ∷ []; gives = names e.slices }) (λ w. let p = and_parts (R u) (within (e.sender ∷ []) R) w in h y p.0 (and_parts (R e.sender) true p.1).0))
+  keeps-event i (Delivers u size (Fault n)) h = refl
+  keeps-event i (Opens j) h = refl
+  keeps-event i (Closes j) h = refl
+  keeps-event i (Asks j u x) h = refl
+  keeps-event i (Hears j u from kind n) h = refl
+  keeps-event i (NominationTimes j u r) h = refl
+  keeps-event i (BallotTimes j u n) h = refl
+  keeps-event i (Reslices j u q) h =
+      one_rule (j == i) (record { sources = u ∷ []; gives = names q }) (λ y. keeps-from R (record { sources = u ∷ []; gives = names q }) (λ w. h y (and_parts (R u) true w).0))
+
+  keeps-events : (i : ℕ) (entries : List Entry) → AllIn R i entries → list_all (keeps R) (flat_map (λ x. announced i x.event) entries) ≡ true
+  keeps-events i [] h = refl
+  keeps-events i (x ∷ xs) h = all-append (keeps R) (announced i x.event) (flat_map (λ x. announced i x.event) xs) (keeps-event i x.event h.0) (keeps-events i xs h.1)
+
+-- the closure lies in each set that has v, what its hosted members announce, and what is announced among its members
+pub closure-in : (hosts : List Host) (i v : ℕ) (entries : List Entry) (R : Names) → R v ≡ true
+    → ((h : Host) → Contains hosts h → R h.name ≡ true → within (names h.slices) R ≡ true) → AllIn R i entries → AreWithin (closure hosts i v entries) R
+unfolding closure
+closure-in hosts i v entries R start f h =
+    let rules = map host_rule hosts ++ flat_map (λ x. announced i x.event) entries in
+    least-in rules v R start (all-append (keeps R) (map host_rule hosts) (flat_map (λ x. announced i x.event) entries) (keeps-hosts R hosts f) (keeps-events R i entries h))
+
+closure-start : (hosts : List Host) (i v : ℕ) (entries : List Entry) → closure hosts i v entries v ≡ true
+unfolding closure
+closure-start hosts i v entries = least-start (map host_rule hosts ++ flat_map (λ x. announced i x.event) entries) v
+
+pub same_closures : SameClosures
+same_closures one other runs others i v once once_there cast same u =
+    same_test (S u) (R u) (fewer u) (more u)
+  where
+    R : Names
+    R = closure one i v runs
+
+    S : Names
+    S = closure other i v others
+
+    fewer : AreWithin S R
+    fewer = closure-in other i v others R (closure-start one i v runs)
+        (λ h c r. hosts-closed one i v runs h.name h.slices (cast.same h.name r ∙ once_there h c) r)
+        (all_in-other R i runs others same (events-closed one i v runs))
+
+    more : AreWithin R S
+    more = closure-in one i v runs S (closure-start other i v others)
+        (λ h c s. hosts-closed other i v others h.name h.slices (sym (cast.same h.name (fewer h.name s)) ∙ once h c) s)
+        (all_kept-to R S i runs fewer (subst (AllByRecursion (IsKeptIn S)) (sym same) (all_kept-from R S i others (events-closed other i v others))))

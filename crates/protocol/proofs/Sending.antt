@@ -1,0 +1,5 @@
+-- What votes send: that it is well formed, that it never goes back, and that it is what was told last.
+pub mod Sendable
+pub mod WellFormed
+pub mod Growth
+pub mod LastSent

@@ -1,0 +1,161 @@
+-- What votes send never goes: sets of nominations do not shrink, and a ballot stays.
+use Rattle.std.proofs.Common.{◌≡◌, ℕ, ◌+◌, ◌-◌, ◌≤◌, Bool, true, false, not, take, length, filter, List, Option, Some, None, if◌then◌else◌, is_none, is_some, refl, sym, ◌∙◌, ap, subst, inl, inr, arith}
+use Rattle.std.proofs.lemmas.Bool.{cases_Bool, false≢true}
+use Rattle.types.specs.declared.ballot.Ballot.{Ballot}
+use Rattle.types.specs.declared.event.NodeEvent.{NodeEvent}
+use Rattle.types.specs.declared.event.NodeEvent.TheVariants.{Propose, Take, NominationTimer, BallotTimer, Reslice}
+use Rattle.types.specs.declared.state.Phase.{Phase}
+use Rattle.types.specs.declared.state.Phase.TheVariants.{Preparing, Committing, Externalized}
+use Rattle.types.specs.declared.state.Given.{Given}
+use Rattle.types.specs.declared.state.Votes.{Votes}
+use Rattle.types.specs.Votes.{has_value}
+use Rattle.protocol.specs.Rows.{with_row, is_taken}
+use Rattle.protocol.specs.Views.{Seen, seen}
+use Rattle.protocol.specs.Candidates.{combine, as_set, filled}
+use Rattle.protocol.specs.Nominating.{nominate}
+use Rattle.protocol.specs.Balloting.{started, start_from, start, accept_prepared, raise_high, follow_high, set_commit, confirm_prepared, enter_commit, widen_commit, first_committed, next_committed, accept_commit, externalize, confirmed_commit, confirm_commit}
+use Rattle.protocol.specs.Passes.{raise, arm, on_ballot, in_prepare, voting, counting, pass_rules, pass}
+use Rattle.protocol.specs.Nodes.{Node, passed, settle, change, settled, after_change, bumped, in_round, timed_out}
+use Rattle.protocol.proofs.Nodes.Steps.{if_node, if_node-if}
+use Rattle.protocol.proofs.Balloting.Moves.{arm-moves}
+use Rattle.protocol.proofs.Nominating.Sets.{all-longer, nominate-is, nominate-not, echoes, sources}
+use Rattle.protocol.proofs.Sending.Sendable.{on-keeps, prepare-keeps, unless-keeps}
+use Rattle.protocol.proofs.Nodes.Reached.{settle-keeps}
+
+-- no set of nominations is shorter than it was, and there is a ballot where there was one
+pub record Grows (old w : Votes) : Type 0 where
+  pub voted : length old.voted ≤ length w.voted
+  pub accepts : length old.accepts ≤ length w.accepts
+  pub ballot : is_some old.ballot ≡ true → is_some w.ballot ≡ true
+
+pub grows-self : (w : Votes) → Grows w w
+grows-self w = record { voted = omega arith; accepts = omega arith; ballot = λ h. h }
+
+through : (a b c : ℕ) → a ≤ b → b ≤ c → a ≤ c
+through a b c h k = omega (arith, h, k)
+
+filled-longer : (old new : List (List ℕ)) → length old ≤ length (filled old new)
+unfolding filled
+filled-longer old new = (all-longer (take (16 - length old) (filter (λ x. not (has_value old x)) (as_set new))) old).0
+
+-- each rule keeps that
+module _ (old : Votes) where
+  nominate-grows : (v : ℕ) (s : Seen) (g : Given) (w : Votes) → Grows old w → Grows old (nominate v s g w)
+  nominate-grows v s g w h = elim (cases_Bool (is_none w.high)) [
+    | inr e ↦ subst (Grows old) (sym (nominate-not v s g w e)) h
+    | inl e ↦ subst (Grows old) (sym (nominate-is v s g w e)) (record {
+      voted = through (length old.voted) (length w.voted) _ h.voted (longer (echoes g w.confirms));
+      accepts = through (length old.accepts) (length w.accepts) _ h.accepts (filled-longer w.accepts _);
+      ballot = h.ballot;
+    })
+  ]
+    where
+      longer : (b : Bool) → length w.voted ≤ length (if b then filled w.voted (sources v s g) else w.voted)
+      longer true = filled-longer w.voted (sources v s g)
+      longer false = omega arith
+
+  start-grows : (s : Seen) (w : Votes) → Grows old w → Grows old (start s w)
+  unfolding start started
+  start-grows s w h = go w.ballot refl
+    where
+      begun : (o : Option (List ℕ)) → w.ballot ≡ None → Grows old (started s w o)
+      begun None e = record { voted = h.voted; accepts = h.accepts; ballot = λ k. absurd (false≢true (sym (ap (λ (b : Option Ballot). is_some b) e) ∙ h.ballot k)) }
+      begun (Some x) e = record { voted = h.voted; accepts = h.accepts; ballot = λ k. refl }
+
+      go : (o : Option Ballot) → w.ballot ≡ o → Grows old (start_from s w o)
+      go None e = begun (combine w.confirms) e
+      go (Some b) e = h
+
+  prepared-grows : (s : Seen) (b : Ballot) (w : Votes) → Grows old w → Grows old (accept_prepared s b w)
+  unfolding accept_prepared
+  prepared-grows s b w h = record { voted = h.voted; accepts = h.accepts; ballot = h.ballot }
+
+  confirmed-grows : (s : Seen) (b : Ballot) (w : Votes) → Grows old w → Grows old (confirm_prepared s b w)
+  unfolding confirm_prepared set_commit follow_high raise_high
+  confirmed-grows s b w h = record { voted = h.voted; accepts = h.accepts; ballot = λ k. refl }
+
+  accept-grows : (p : Phase) (s : Seen) (b : Ballot) (w : Votes) → Grows old w → Grows old (accept_commit p s b w)
+  unfolding accept_commit enter_commit widen_commit
+  accept-grows Preparing s b w h = go (first_committed s w)
+    where
+      go : (o : Option Ballot) → Grows old (enter_commit s b w o)
+      go None = h
+      go (Some t) = record { voted = h.voted; accepts = h.accepts; ballot = λ k. refl }
+  accept-grows Committing s b w h = go (next_committed s b w)
+    where
+      go : (o : Option Ballot) → Grows old (widen_commit s b w o)
+      go None = h
+      go (Some t) = record { voted = h.voted; accepts = h.accepts; ballot = λ k. refl }
+  accept-grows Externalized s b w h = h
+
+  confirm-grows : (p : Phase) (s : Seen) (b : Ballot) (w : Votes) → Grows old w → Grows old (confirm_commit p s b w)
+  unfolding confirm_commit externalize
+  confirm-grows Preparing s b w h = h
+  confirm-grows Committing s b w h = go (confirmed_commit s b w)
+    where
+      go : (o : Option Ballot) → Grows old (externalize s w o)
+      go None = h
+      go (Some t) = record { voted = h.voted; accepts = h.accepts; ballot = h.ballot }
+  confirm-grows Externalized s b w h = h
+
+  raise-grows : (s : Seen) (g : Given) (b : Ballot) (w : Votes) → Grows old w → Grows old (raise s g b w)
+  unfolding raise
+  raise-grows s g b w h = record { voted = h.voted; accepts = h.accepts; ballot = λ k. refl }
+
+  arm-grows : (s : Seen) (b : Ballot) (w : Votes) → Grows old w → Grows old (arm s b w)
+  arm-grows s b w h = subst (Grows old) (sym (arm-moves s b w).1) (record { voted = h.voted; accepts = h.accepts; ballot = h.ballot })
+
+  voting-grows : (s : Seen) (w : Votes) → Grows old w → Grows old (voting s w)
+  unfolding voting
+  voting-grows s w h =
+      let P : Votes → Type 0 = Grows old in
+      let w2 = on_ballot (accept_prepared s) w in
+      let w3 = in_prepare (on_ballot (confirm_prepared s)) w2 in
+      let w4 = on_ballot (λ b x. accept_commit x.phase s b x) w3 in
+      let h2 : P w2 = on-keeps P (accept_prepared s) w h (λ b e. prepared-grows s b w h) in
+      let h3 : P w3 = prepare-keeps P (on_ballot (confirm_prepared s)) w2 h2 (λ p. on-keeps P (confirm_prepared s) w2 h2 (λ b e. confirmed-grows s b w2 h2)) in
+      let h4 : P w4 = on-keeps P (λ b x. accept_commit x.phase s b x) w3 h3 (λ b e. accept-grows w3.phase s b w3 h3) in
+      on-keeps P (λ b x. confirm_commit x.phase s b x) w4 h4 (λ b e. confirm-grows w4.phase s b w4 h4)
+
+  counting-grows : (s : Seen) (g : Given) (w : Votes) → Grows old w → Grows old (counting s g w)
+  unfolding counting
+  counting-grows s g w h =
+      let P : Votes → Type 0 = Grows old in
+      let w2 = on_ballot (raise s g) w in
+      let h2 : P w2 = on-keeps P (raise s g) w h (λ b e. raise-grows s g b w h) in
+      on-keeps P (arm s) w2 h2 (λ b e. arm-grows s b w2 h2)
+
+  pass-grows : (v : ℕ) (s : Seen) (g : Given) (w : Votes) → Grows old w → Grows old (pass v s g w)
+  unfolding pass pass_rules
+  pass-grows v s g w h =
+      let P : Votes → Type 0 = Grows old in
+      let x = voting s (start s (nominate v s g w)) in
+      let hx : P x = voting-grows s (start s (nominate v s g w)) (start-grows s (nominate v s g w) (nominate-grows v s g w h)) in
+      unless-keeps P (pass_rules v s g) w h (unless-keeps P (counting s g) x hx (counting-grows s g x hx))
+
+  -- so does an event's own change, and settling
+  abbrev NodeGrows : Node → Type 0
+  NodeGrows m = Grows old m.votes
+
+  bumped-grows : (w : Votes) (o : Option Ballot) → Grows old w → Grows old (bumped w o)
+  bumped-grows w None h = h
+  bumped-grows w (Some b) h = record { voted = h.voted; accepts = h.accepts; ballot = λ k. refl }
+
+  change-grows : (n : Node) (e : NodeEvent) → NodeGrows n → if_node NodeGrows (change n e)
+  unfolding change
+  change-grows n (Propose x) h = h
+  change-grows n (Take e) h = if_node-if NodeGrows (is_taken n.table e) (record n { table = with_row e n.table }) h
+  change-grows n (NominationTimer r) h = if_node-if NodeGrows _ (in_round n (r + 1)) h
+  change-grows n (BallotTimer c) h = if_node-if NodeGrows _ (timed_out n) (bumped-grows n.votes n.votes.ballot h)
+  change-grows n (Reslice q) h = h
+
+  settled-grows : (o : Option Node) → if_node NodeGrows o → if_node NodeGrows (after_change o)
+  settled-grows None h = tt
+  settled-grows (Some n) h = go (settle 64 (passed n) n.votes) refl
+    where
+      go : (o : Option Votes) → settle 64 (passed n) n.votes ≡ o → if_node NodeGrows (settled n o)
+      go None e = tt
+      go (Some w) e = settle-keeps (Grows old) 64 (passed n) (pass-grows n.name (seen n.name n.slices n.given.leaders n.table) n.given) n.votes w h e
+
+pub event-grows : (n : Node) (e : NodeEvent) → if_node (λ m. Grows n.votes m.votes) (after_change (change n e))
+event-grows n e = settled-grows n.votes (change n e) (change-grows n.votes n e (grows-self n.votes))

@@ -1,0 +1,4 @@
+-- Verdicts over two runs, or over two submissions: that there is one, and only one.
+pub mod Determined
+pub mod Found
+pub mod OfCrowds

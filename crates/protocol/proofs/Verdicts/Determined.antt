@@ -1,0 +1,128 @@
+-- Isolation of two runs; and that a verdict is determined.
+use Rattle.types.specs.declared.event.Out.{Out}
+use Rattle.std.proofs.Common.{◌≡◌, ℕ, zero, suc, ◌<◌, true, List, [], ◌∷◌, map, take, slice_get, is_some, refl, sym, ◌∙◌, ap, ap₂, subst, inl, inr, arith, IsTrue}
+use Rattle.std.specs.List.{AllByRecursion, Contains}
+use Rattle.std.proofs.lemmas.Bool.{cases_order, true≢false}
+use Rattle.protocol.specs.Sets.{Names, IsAscending}
+use Rattle.protocol.specs.Networks.{Host, slices_of}
+use Rattle.protocol.specs.Hosts.{Entry}
+use Rattle.protocol.specs.Isolation.{closure, kept_of, outs_of, SameCast}
+use Rattle.protocol.specs.Verdicts.{Verdict, IsFirstUnlike, IsFirstDifference, IsListOf, VerdictsAreUnique, IsolatedRuns}
+use Rattle.protocol.specs.Verdicts.Verdict.{CastDiffers, InputsDiffer, Same}
+use Rattle.protocol.proofs.Sets.Least.{contains_head, contains_tail, contained_cases}
+use Rattle.protocol.proofs.Runs.KeptSteps.{journals-agree}
+use Rattle.protocol.proofs.Networks.Journals.{runs_are_journals}
+
+pub isolated_runs : IsolatedRuns
+isolated_runs one other runs others i v a b =
+    agree (runs_are_journals one runs a) (runs_are_journals other others b) (journals-agree one other i v _ _)
+  where
+    Claim : List Entry → List Entry → Type 0
+    Claim x y = SameCast (closure one.hosts i v x) v one.hosts other.hosts → kept_of (closure one.hosts i v x) i x ≡ kept_of (closure one.hosts i v x) i y → (u : ℕ) → closure one.hosts i v x u ≡ true → outs_of i u x ≡ outs_of i u y
+
+    agree : {x x' y y' : List Entry} → x ≡ x' → y ≡ y' → Claim x' y' → Claim x y
+    agree p q f = subst (λ (z : List Entry × List Entry). Claim z.0 z.1) (sym (λ j. (p j, q j))) f
+
+-- ---- ascending lists
+above_head : (x : ℕ) (xs : List ℕ) → IsAscending (x ∷ xs) → (u : ℕ) → Contains xs u → x < u
+above_head x xs h u c = subst (λ z. x < z) c.2 (let l = c.1 in h zero (suc c.0) u (omega arith) (omega arith))
+
+ascending_tail : (x : ℕ) (xs : List ℕ) → IsAscending (x ∷ xs) → IsAscending xs
+ascending_tail x xs h = λ i j d l k. h (suc i) (suc j) d (omega arith) (omega arith)
+
+nothing_in : (u : ℕ) → Contains [] u → ⊥
+nothing_in u c = let l = c.1 in omega arith
+
+within_tails : (x y : ℕ) (xs ys : List ℕ) → IsAscending (x ∷ xs) → x ≡ y → ((u : ℕ) → Contains (x ∷ xs) u → Contains (y ∷ ys) u) → (u : ℕ) → Contains xs u → Contains ys u
+within_tails x y xs ys h e f u c = elim (contained_cases u y ys (f u (contains_tail u x xs c))) [
+  | inl k ↦ absurd (let l = above_head x xs h u c in let q = e ∙ k in omega (arith, l, q))
+  | inr k ↦ k
+]
+
+-- ascending lists with the same members are one
+one_list : (xs ys : List ℕ) → IsAscending xs → IsAscending ys → ((u : ℕ) → Contains xs u → Contains ys u) → ((u : ℕ) → Contains ys u → Contains xs u) → xs ≡ ys
+one_list [] [] a b f g = refl
+one_list [] (y ∷ ys) a b f g = absurd (nothing_in y (g y (contains_head y ys)))
+one_list (x ∷ xs) [] a b f g = absurd (nothing_in x (f x (contains_head x xs)))
+one_list (x ∷ xs) (y ∷ ys) a b f g = elim (cases_order x y) [
+  | inl e ↦ ap₂ (λ (z : ℕ) (zs : List ℕ). z ∷ zs) e
+      (one_list xs ys (ascending_tail x xs a) (ascending_tail y ys b) (within_tails x y xs ys a e f) (within_tails y x ys xs b (sym e) g))
+  | inr (inl l) ↦ elim (contained_cases x y ys (f x (contains_head x xs))) [
+    | inl e ↦ absurd (omega (arith, l, e))
+    | inr c ↦ absurd (let k = above_head y ys b x c in omega (arith, l, k))
+  ]
+  | inr (inr l) ↦ elim (contained_cases y x xs (g y (contains_head y ys))) [
+    | inl e ↦ absurd (omega (arith, l, e))
+    | inr c ↦ absurd (let k = above_head x xs a y c in omega (arith, l, k))
+  ]
+]
+
+-- ---- lists of members with their outs
+module _ (R : Names) (hosts : List Host) (i : ℕ) (run : List Entry) where
+  abbrev IsMember : ℕ × List Out → Type 0
+  IsMember p = (p.1 ≡ outs_of i p.0 run) × (IsTrue (R p.0) × IsTrue (is_some (slices_of hosts p.0)))
+
+  member_at : (list : List (ℕ × List Out)) → AllByRecursion IsMember list → (u : ℕ) → Contains (map (λ p. p.0) list) u → IsTrue (R u) × IsTrue (is_some (slices_of hosts u))
+  member_at [] h u c = absurd (nothing_in u c)
+  member_at (p ∷ ps) h u c = elim (contained_cases u p.0 (map (λ p. p.0) ps) c) [
+    | inl e ↦ subst (λ w. IsTrue (R w) × IsTrue (is_some (slices_of hosts w))) e h.0.1
+    | inr k ↦ member_at ps h.1 u k
+  ]
+
+  named_alike : (xs ys : List (ℕ × List Out)) → AllByRecursion IsMember xs → AllByRecursion IsMember ys → map (λ p. p.0) xs ≡ map (λ p. p.0) ys → xs ≡ ys
+  named_alike [] [] h k e = refl
+  named_alike [] (y ∷ ys) h k e = cc
+  named_alike (x ∷ xs) [] h k e = cc
+  named_alike (x ∷ xs) (y ∷ ys) h k e =
+      let first : x.0 ≡ y.0 = cc in
+      let rest : map (λ p. p.0) xs ≡ map (λ p. p.0) ys = cc in
+      let same : x.1 ≡ y.1 = h.0.0 ∙ (ap (λ u. outs_of i u run) first ∙ sym k.0.0) in
+      ap₂ {C = List (ℕ × List Out)} (λ (z : ℕ × List Out) (zs : List (ℕ × List Out)). z ∷ zs) (λ j. (first j, same j)) (named_alike xs ys h.1 k.1 rest)
+
+  one_list_of : (xs ys : List (ℕ × List Out)) → IsListOf R hosts i run xs → IsListOf R hosts i run ys → xs ≡ ys
+  one_list_of xs ys a b = named_alike xs ys a.outs b.outs (one_list (map (λ p. p.0) xs) (map (λ p. p.0) ys) a.ascending b.ascending
+      (λ u c. let m = member_at xs a.outs u c in b.all u m.0 m.1) (λ u c. let m = member_at ys b.outs u c in a.all u m.0 m.1))
+
+-- ---- places
+get_taken : {A : Type 0} (xs : List A) (k n : ℕ) → k < n → slice_get (take n xs) k ≡ slice_get xs k
+get_taken xs k zero l = absurd (omega arith)
+get_taken [] k (suc n) l = refl
+get_taken (x ∷ xs) zero (suc n) l = refl
+get_taken (x ∷ xs) (suc k) (suc n) l = get_taken xs k n (omega arith)
+
+not_before : {A : Type 0} (one other : List A) (p q : ℕ) → IsFirstDifference one other p → IsFirstDifference one other q → p < q → ⊥
+not_before one other p q a b l = a.there (sym (get_taken one p q l) ∙ (ap (λ xs. slice_get xs p) b.before ∙ get_taken other p q l))
+
+pub one_place : {A : Type 0} (one other : List A) (p q : ℕ) → IsFirstDifference one other p → IsFirstDifference one other q → p ≡ q
+one_place one other p q a b = elim (cases_order p q) [
+  | inl e ↦ e
+  | inr (inl l) ↦ absurd (not_before one other p q a b l)
+  | inr (inr l) ↦ absurd (not_before one other q p b a l)
+]
+
+-- ---- casts
+module _ (R : Names) (v : ℕ) (one other : List Host) where
+  pub one_unlike : (u w : ℕ) → IsFirstUnlike R v one other u → IsFirstUnlike R v one other w → u ≡ w
+  one_unlike u w (inl a) (inl b) = a.1 ∙ sym b.1
+  one_unlike u w (inl a) (inr b) = absurd (true≢false (sym b.0 ∙ a.0))
+  one_unlike u w (inr a) (inl b) = absurd (true≢false (sym a.0 ∙ b.0))
+  one_unlike u w (inr a) (inr b) = elim (cases_order u w) [
+    | inl e ↦ e
+    | inr (inl l) ↦ absurd (a.1.1.0 (b.1.1.1 u a.1.0 l))
+    | inr (inr l) ↦ absurd (b.1.1.0 (a.1.1.1 w b.1.0 l))
+  ]
+
+  pub not_unlike : (u : ℕ) → IsFirstUnlike R v one other u → SameCast R v one other → ⊥
+  not_unlike u (inl a) c = true≢false (sym c.hosted ∙ a.0)
+  not_unlike u (inr a) c = a.1.1.0 (c.same u a.1.0)
+
+pub verdicts_are_unique : VerdictsAreUnique
+verdicts_are_unique one other runs others i v (CastDiffers u) (CastDiffers w) h k = ap {B = Verdict} CastDiffers (one_unlike (closure one i v runs) v one other u w h k)
+verdicts_are_unique one other runs others i v (CastDiffers u) (InputsDiffer p) h k = absurd (not_unlike (closure one i v runs) v one other u h k.0)
+verdicts_are_unique one other runs others i v (CastDiffers u) (Same xs) h k = absurd (not_unlike (closure one i v runs) v one other u h k.0)
+verdicts_are_unique one other runs others i v (InputsDiffer p) (CastDiffers u) h k = absurd (not_unlike (closure one i v runs) v one other u k h.0)
+verdicts_are_unique one other runs others i v (InputsDiffer p) (InputsDiffer q) h k = ap {B = Verdict} InputsDiffer (one_place (kept_of (closure one i v runs) i runs) (kept_of (closure one i v runs) i others) p q h.1 k.1)
+verdicts_are_unique one other runs others i v (InputsDiffer p) (Same xs) h k = absurd (h.1.there (ap (λ ks. slice_get ks p) k.1.0))
+verdicts_are_unique one other runs others i v (Same xs) (CastDiffers u) h k = absurd (not_unlike (closure one i v runs) v one other u k h.0)
+verdicts_are_unique one other runs others i v (Same xs) (InputsDiffer p) h k = absurd (k.1.there (ap (λ ks. slice_get ks p) h.1.0))
+verdicts_are_unique one other runs others i v (Same xs) (Same ys) h k = ap {B = Verdict} Same (one_list_of (closure one i v runs) one i runs xs ys h.1.1.0 k.1.1.0)
