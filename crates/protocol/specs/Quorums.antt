@@ -48,8 +48,25 @@ HoldsNamesOf {Q} names slices_at nodes region = (u : ℕ) (q : Q) → IsTrue (no
 abbrev pub NamesWithin : {Q : Type 0} → (Q → List ℕ) → (ℕ → Option Q) → Names → Type 0
 NamesWithin names slices_at region = HoldsNamesOf names slices_at region region
 
+-- more nodes satisfy what fewer do
+abbrev pub IsMonotone : {Q : Type 0} → (Q → Names → Bool) → Type 0
+IsMonotone {Q} satisfies = (q : Q) (a b : Names) → AreWithin a b → IsTrue (satisfies q a) → IsTrue (satisfies q b)
+
+-- sets that agree on the names get one answer
+abbrev pub IsLocal : {Q : Type 0} → (Q → Names → Bool) → (Q → List ℕ) → Type 0
+IsLocal {Q} satisfies names = (q : Q) (a b : Names) → ((u : ℕ) → IsTrue (among (names q) u) → a u ≡ b u)
+    → satisfies q a ≡ satisfies q b
+
 -- a quorum, cut to a set that contains the names of its members' slices, is a quorum as soon as one name is left
-abbrev pub Cut : Type 0
-Cut = (slices_at : ℕ → Option Slices) (set region : Names) → Quorum sat slices_at set
+abbrev pub IsCut : {Q : Type 0} → (Q → Names → Bool) → (Q → List ℕ) → Type 0
+IsCut {Q} satisfies names = (slices_at : ℕ → Option Q) (set region : Names) → Quorum satisfies slices_at set
     → HoldsNamesOf names slices_at (cut region set) region
-    → (u : ℕ) → IsTrue (cut region set u) → Quorum sat slices_at (cut region set)
+    → (u : ℕ) → IsTrue (cut region set u) → Quorum satisfies slices_at (cut region set)
+
+-- so it is for slices of any kind whose answers lie in the names that they have
+abbrev pub Cut : Type 0 → Type 0
+Cut Q = (satisfies : Q → Names → Bool) (names : Q → List ℕ) → IsLocal satisfies names → IsCut satisfies names
+
+-- and for nested slices
+abbrev pub NestedCut : Type 0
+NestedCut = IsCut sat names

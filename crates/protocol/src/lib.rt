@@ -25,7 +25,7 @@ pub use headline::{
     networks_agree, prefix, quiet, verdicts_are_determined,
 };
 pub use limits::{four_passes_are_enough, rows_stir_their_kind};
-pub use quorums::{blocking_is_counted, quorum_cut, quorums_are_found};
+pub use quorums::{blocking_is_counted, nested_quorum_cut, quorum_cut, quorums_are_found};
 pub use reached::{
     last_emitted_is_sent, reached_nodes_send_well_formed, slices_follow_events, strangers_add_rows,
 };

@@ -3,7 +3,8 @@ use Rattle.std.proofs.Common.{◌≡◌, ℕ, ◌<◌, Bool, true, List, length,
 use Rattle.std.proofs.lemmas.List.Kept.{AllPairs-filter}
 use Rattle.protocol.specs.Sets.{Names, among, AreWithin, IsAscending}
 use Rattle.protocol.specs.Quorums.{Quorum, HasQuorum, is_satisfied}
-use Rattle.protocol.proofs.Slices.Quorums.{IsMonotone, is_satisfied-more}
+use Rattle.protocol.specs.Quorums.{IsMonotone}
+use Rattle.protocol.proofs.Slices.Quorums.{is_satisfied-more}
 use Rattle.quorum.proofs.Kept.{among-filter, among-from_filter, filter-all}
 
 module _ {Q : Type 0} (sat : Q → Names → Bool) (slices_at : ℕ → Option Q) where

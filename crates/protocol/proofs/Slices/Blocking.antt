@@ -3,7 +3,7 @@ use Rattle.std.proofs.Common.{◌≡◌, ℕ, Bool, true, false, ◌&&◌, List,
 use Rattle.std.proofs.lemmas.Bool.{and_parts, and_right, false≢true}
 use Rattle.protocol.specs.Sets.{Names, among, both, AreApart}
 use Rattle.protocol.specs.Satisfaction.{Blocks}
-use Rattle.protocol.proofs.Slices.Quorums.{IsLocal}
+use Rattle.protocol.specs.Quorums.{IsLocal}
 
 module _ {Q : Type 0} (sat : Q → Names → Bool) (names : Q → List ℕ) where
   in_names : (a b : Bool) → a ≡ true → (a && b) ≡ b

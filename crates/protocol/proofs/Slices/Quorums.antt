@@ -2,18 +2,12 @@
 use Rattle.std.proofs.Common.{◌≡◌, ℕ, Bool, true, false, not, ◌&&◌, ◌||◌, Option, Some, None, List, refl, sym, ◌∙◌, subst, inl, inr, IsTrue}
 use Rattle.std.specs.List.{list_all}
 use Rattle.std.proofs.lemmas.Bool.{cases_Bool, or_cases, and_parts, and_from, or_left, or_right, true≢false, false≢true, not-true, not_from_false}
+use Rattle.types.specs.Trees.{Slices}
 use Rattle.protocol.specs.Sets.{Names, among, both, AreWithin}
 use Rattle.protocol.specs.Satisfaction.{sat, names}
-use Rattle.protocol.specs.Quorums.{is_satisfied, Quorum, HasQuorum, has_quorum, Lists, QuorumsAreFound, cut, HoldsNamesOf, NamesWithin, Cut}
+use Rattle.protocol.specs.Quorums.{is_satisfied, Quorum, HasQuorum, has_quorum, Lists, QuorumsAreFound, cut, HoldsNamesOf, NamesWithin, IsMonotone, IsLocal, Cut, NestedCut}
 use Rattle.protocol.proofs.Sets.Finite.{all_at, all_from, some_set-found, some_set-from}
 use Rattle.protocol.proofs.Slices.Satisfaction.{sat_monotone, sat_local}
-
--- laws of slices of any kind
-abbrev pub IsMonotone : {Q : Type 0} → (Q → Names → Bool) → Type 0
-IsMonotone {Q} sat = (q : Q) (a b : Names) → AreWithin a b → IsTrue (sat q a) → IsTrue (sat q b)
-
-abbrev pub IsLocal : {Q : Type 0} → (Q → Names → Bool) → (Q → List ℕ) → Type 0
-IsLocal {Q} sat names = (q : Q) (a b : Names) → ((u : ℕ) → IsTrue (among (names q) u) → a u ≡ b u) → sat q a ≡ sat q b
 
 module _ {Q : Type 0} (sat : Q → Names → Bool) (slices_at : ℕ → Option Q) where
   -- the test of one set: each of its nodes supports, and has slices that it satisfies
@@ -109,5 +103,8 @@ module _ {Q : Type 0} (sat : Q → Names → Bool) (names : Q → List ℕ) (sli
 pub quorums_found : QuorumsAreFound
 quorums_found slices_at all supporters node lists = (has_quorum-found sat slices_at all supporters node, has_quorum-from sat slices_at sat_monotone all supporters node lists)
 
-pub cut_claim : Cut
-cut_claim slices_at set region quorum named u h = cut_quorum sat names slices_at sat_local set region quorum named u h
+pub cuts : (Q : Type 0) → Cut Q
+cuts Q satisfies names local slices_at set region quorum named u h = cut_quorum satisfies names slices_at local set region quorum named u h
+
+pub nested_cut : NestedCut
+nested_cut = cuts Slices sat names sat_local
