@@ -14,7 +14,8 @@ use Rattle.protocol.specs.Networks.Step.{Opens, Closes, Asks, Delivers, Hears, N
 use Rattle.protocol.specs.Hosts.{Entry}
 use Rattle.protocol.specs.Isolation.{host_rule, announced, closure}
 use Rattle.protocol.proofs.Sets.Finite.{among_head, among_tail}
-use Rattle.protocol.proofs.Sets.Least.{contains_head, contains_tail, contained_cases, least_is}
+use Rattle.protocol.proofs.Sets.Contained.{contains_head, contains_tail, contained_cases}
+use Rattle.protocol.proofs.Sets.Derived.{least_is}
 use Rattle.closure.specs.Announcing.{Announced, announced_by, announced_in, announced_at, IsNamedBy, Listed, names_of, IsChained, IsClosureList}
 use Rattle.closure.specs.Announcing.IsNamedBy.{configured, learnt}
 use Rattle.closure.specs.Turns.{AreSettled}

@@ -12,8 +12,9 @@ use Rattle.protocol.specs.Rows.{is_row_of, row, with_row}
 use Rattle.protocol.specs.Backing.{slices_by}
 use Rattle.protocol.specs.Reach.{reached, IsReach}
 use Rattle.protocol.proofs.Sets.Finite.{all_from, same_test, within-at}
-use Rattle.protocol.proofs.Sets.Least.{contains_head, contains_tail, contained_cases}
-use Rattle.protocol.proofs.Reach.Chains.{reached-holds, reached-in, reach_names, row_contained}
+use Rattle.protocol.proofs.Sets.Contained.{contains_head, contains_tail, contained_cases}
+use Rattle.protocol.proofs.Reach.Chains.{reached-holds, reached-in, reach_names}
+use Rattle.protocol.proofs.Statements.Found.{row_contained}
 use Rattle.protocol.proofs.Reach.Stays.{leads_to_none, same_reach, went}
 use Rattle.closure.specs.Keeping.{DropsNone, kept_names}
 

@@ -13,7 +13,8 @@ use Rattle.protocol.specs.Closures.{IsClosed}
 use Rattle.protocol.specs.Networks.{Host}
 use Rattle.protocol.specs.Hosts.{Entry}
 use Rattle.protocol.proofs.Sets.Finite.{among_head, among_tail}
-use Rattle.protocol.proofs.Sets.Least.{given_by_rule, derived-in}
+use Rattle.protocol.proofs.Sets.Least.{given_by_rule}
+use Rattle.protocol.proofs.Sets.Derived.{derived-in}
 use Rattle.closure.specs.Announcing.{IsNamedBy, Listed, names_of, IsNamedBefore, IsChained}
 use Rattle.closure.specs.Announcing.IsNamedBy.{configured, learnt}
 use Rattle.closure.specs.Turns.{IsSettled, AreSettled, IsGrown, IsGiven, with_member}

@@ -4,7 +4,7 @@ use Rattle.types.specs.Trees.{Slices}
 use Rattle.types.specs.Statements.{Sent, kind_of}
 use Rattle.protocol.specs.Rows.{row, with_row}
 use Rattle.protocol.specs.Reach.{IsReach}
-use Rattle.protocol.proofs.Reach.Chains.{slices_of_row}
+use Rattle.protocol.proofs.Statements.Found.{slices_of_row}
 use Rattle.protocol.proofs.Reach.Stays.{stays_with_same_slices, stays_with_strangers}
 use Rattle.closure.specs.Keeping.{KeepsReach}
 use Rattle.closure.specs.Keeping.KeepsReach.{stranger, same_slices}

@@ -19,8 +19,10 @@ use Rattle.protocol.specs.Reach.{rules_of, IsReach, Chain, HoldsReach}
 use Rattle.protocol.specs.Reach.IsNamed.{in_configuration, in_row}
 use Rattle.protocol.specs.Reach.Chain.{here, next}
 use Rattle.protocol.proofs.Sets.Finite.{among_head, among_tail}
-use Rattle.protocol.proofs.Sets.Least.{given_by_rule, derived-in}
-use Rattle.protocol.proofs.Reach.Chains.{derived_chain, reach_is, names_held, row_contained, row_found}
+use Rattle.protocol.proofs.Sets.Least.{given_by_rule}
+use Rattle.protocol.proofs.Sets.Derived.{derived-in}
+use Rattle.protocol.proofs.Reach.Chains.{derived_chain, reach_is, names_held}
+use Rattle.protocol.proofs.Statements.Found.{row_contained, row_found}
 use Rattle.closure.specs.Sweeps.{Swept, is_done, just, AreNoted, IsTaken, named_in, named_by}
 
 -- between two steps: what was looked at names nothing that is not found, and a chain leads to all that is found

@@ -11,7 +11,7 @@ use Rattle.protocol.specs.Hosts.{Config, Entry, entered, journal, new_net}
 use Rattle.protocol.specs.Runs.{IsRun, net_after, state_of}
 use Rattle.protocol.specs.Reslices.{slices_at_end, slices_next, slices_since}
 use Rattle.protocol.proofs.Networks.Effects.{effect-keeps, numbers, opened_after}
-use Rattle.protocol.proofs.Runs.Events.{places_at-drop_other, places_at-push_other}
+use Rattle.protocol.proofs.Networks.OpenSlots.{places_at-drop_other, places_at-push_other}
 use Rattle.protocol.proofs.Networks.Journals.{runs_are_journals}
 use Rattle.protocol.proofs.Networks.SlicesOfRuns.{slices_follow_runs}
 use Rattle.closure.specs.Announcing.{slices_then}

@@ -15,9 +15,11 @@ use Rattle.protocol.specs.Networks.Step.{Opens, Closes, Asks, Delivers, Hears, N
 use Rattle.protocol.specs.Rosters.{Draw, Roster, Share, Source, bytes_drawn, events_drawn}
 use Rattle.protocol.specs.Rosters.Share.{Own, Pair}
 use Rattle.protocol.specs.Counts.{HasBytes, HasEvents, HasRoom, IsCountedAfter, is_of_share, is_opening}
-use Rattle.protocol.proofs.Networks.Counts.{applied_where_room, next}
+use Rattle.protocol.proofs.Networks.Refusals.{applied_where_room}
+use Rattle.protocol.proofs.Networks.Counts.{next}
 use Rattle.protocol.proofs.Networks.Effects.{effect-keeps}
-use Rattle.protocol.proofs.Networks.Room.{room-bytes, room-events, steps_are_counted}
+use Rattle.protocol.proofs.Networks.Room.{room-bytes, room-events}
+use Rattle.protocol.proofs.Networks.Drawn.{steps_are_counted}
 use Rattle.slot.specs.Filings.{event_of, outs_of}
 use Rattle.configuration.specs.Configs.{index_in, names_of}
 use Rattle.configuration.specs.Budgets.{AreShares}

@@ -12,7 +12,7 @@ use Rattle.protocol.specs.Networks.{Host, Net, Place, Slot, Step, act, act_in, a
 use Rattle.types.specs.declared.event.Refusal.TheVariants.{SlotOpenAlready, TooManySlots}
 use Rattle.protocol.specs.Networks.Reading.{Read, Fault}
 use Rattle.protocol.specs.Networks.Step.{Opens, Closes, Asks, Delivers, Hears, NominationTimes, BallotTimes, Reslices}
-use Rattle.protocol.proofs.Nodes.Steps.{step-self}
+use Rattle.protocol.proofs.Nodes.Emitted.{step-self}
 use Rattle.configuration.specs.Configs.{names_of}
 
 abbrev pub names_at : List Place → List ℕ

@@ -4,3 +4,5 @@ pub mod Runs
 pub mod Members
 pub mod WithoutRoster
 pub mod Lengths
+pub mod Concerned
+pub mod Others

@@ -5,3 +5,6 @@ pub mod Places
 pub mod SlicesOfRuns
 pub mod Counts
 pub mod Room
+pub mod OpenSlots
+pub mod Refusals
+pub mod Drawn

@@ -3,3 +3,5 @@ pub mod ValueSets
 pub mod Combined
 pub mod Sets
 pub mod Rests
+pub mod Ascending
+pub mod Lengths

@@ -5,3 +5,5 @@ pub mod Settling
 pub mod RowsOfKinds
 pub mod RulesOfKinds
 pub mod Stirring
+pub mod OnePass
+pub mod FourPasses

@@ -8,3 +8,8 @@ pub mod SameClosures
 pub mod Prefixes
 pub mod Agreements
 pub mod Claims
+pub mod Unkept
+pub mod Hearings
+pub mod Openings
+pub mod KeptWithin
+pub mod SameSteps

@@ -3,3 +3,7 @@ pub mod Sendable
 pub mod WellFormed
 pub mod Growth
 pub mod LastSent
+pub mod SendableSets
+pub mod SendableBallots
+pub mod SendablePasses
+pub mod SendableCounters

@@ -3,3 +3,6 @@ pub mod Finite
 pub mod Lists
 pub mod Least
 pub mod RuleLists
+pub mod Contained
+pub mod Derived
+pub mod Mapped

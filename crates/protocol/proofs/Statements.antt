@@ -2,3 +2,4 @@
 pub mod Newer
 pub mod Offers
 pub mod Histories
+pub mod Found

@@ -2,3 +2,5 @@
 pub mod Determined
 pub mod Found
 pub mod OfCrowds
+pub mod IsolatedRuns
+pub mod OneList

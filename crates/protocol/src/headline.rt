@@ -46,7 +46,7 @@ pub fn journals_are_runs()
 
 /// Isolation of two runs of one network, each of its own configuration; and a verdict on two runs is
 /// determined: every two runs have one, and no two verdicts are right.
-#[tactic(auto, using(crate::proofs::Verdicts::Determined::isolated_runs, crate::proofs::Verdicts::Determined::verdicts_are_unique, crate::proofs::Verdicts::Found::verdicts_exist))]
+#[tactic(auto, using(crate::proofs::Verdicts::IsolatedRuns::isolated_runs, crate::proofs::Verdicts::Determined::verdicts_are_unique, crate::proofs::Verdicts::Found::verdicts_exist))]
 pub fn verdicts_are_determined()
     ensures isolated { IsolatedRuns }
     ensures unique { VerdictsAreUnique }

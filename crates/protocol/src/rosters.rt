@@ -44,7 +44,7 @@ pub fn without_roster_nothing_changes()
 /// drew on them over its life; on a share, what drew on it since its slot was opened. A refusal for
 /// want of room says that what the step draws on is used up, and what is applied found room; so no
 /// more is ever drawn than there is.
-#[tactic(auto, using(crate::proofs::Networks::Counts::runs_are_counted, crate::proofs::Networks::Room::steps_are_counted, crate::proofs::Networks::Counts::refused_where_met, crate::proofs::Networks::Counts::applied_where_room))]
+#[tactic(auto, using(crate::proofs::Networks::Counts::runs_are_counted, crate::proofs::Networks::Drawn::steps_are_counted, crate::proofs::Networks::Refusals::refused_where_met, crate::proofs::Networks::Refusals::applied_where_room))]
 pub fn room_is_counted()
     ensures runs { RunsAreCounted }
     ensures steps { StepsAreCounted }

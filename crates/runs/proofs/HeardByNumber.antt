@@ -20,7 +20,7 @@ use Rattle.protocol.specs.Counts.{is_opening, since_opened}
 use Rattle.protocol.specs.Hosts.{Entry, new_net, Config}
 use Rattle.protocol.specs.Runs.{net_after, IsRun}
 use Rattle.protocol.proofs.Networks.Effects.{effect-keeps, numbers, opened_after}
-use Rattle.protocol.proofs.Runs.Events.{places_at-drop, places_at-drop_other, places_at-push, places_at-push_other}
+use Rattle.protocol.proofs.Networks.OpenSlots.{places_at-drop, places_at-drop_other, places_at-push, places_at-push_other}
 use Rattle.protocol.proofs.Runs.Sights.{known-elsewhere, known-other, known-same}
 use Rattle.network.specs.Marks.{told_at}
 use Rattle.hoststep.specs.Logs.{Log}

@@ -17,7 +17,7 @@ use Rattle.protocol.specs.Limits.Reached.{next}
 use Rattle.std.specs.Prelude.{IsFalse, IsTrue}
 use Rattle.protocol.specs.Sets.{among}
 use Rattle.protocol.specs.Rows.{is_taken, offered, with_row}
-use Rattle.protocol.proofs.Nodes.Steps.{outs-none, step-stale}
+use Rattle.protocol.proofs.Nodes.Quiet.{outs-none, step-stale}
 use Rattle.protocol.proofs.Equality.Sameness.{same_votes-refl}
 use Rattle.protocol.proofs.Nodes.Strangers.{strangers_add_rows}
 use Rattle.view.specs.declared.region.Region.{Region}

@@ -13,7 +13,7 @@ use Rattle.types.specs.declared.statement.Statement.{Statement}
 use Rattle.protocol.specs.Sameness.{same_sent}
 use Rattle.protocol.specs.States.{counter_of, sent_nomination, sent_vote}
 use Rattle.protocol.specs.Nodes.{Node, change, after_change, answered, step, outs, emitted, decided, when, is_externalized}
-use Rattle.protocol.proofs.Sets.Least.{contained_cases}
+use Rattle.protocol.proofs.Sets.Contained.{contained_cases}
 use Rattle.slot.specs.declared.filed.FiledOut.{FiledOut}
 use Rattle.slot.specs.declared.filed.GivenOut.{GivenOut}
 use Rattle.slot.specs.declared.filed.FiledOut.TheVariants.{ArmNomination as FiledRound, ArmBallot as FiledCounter, Emit as FiledEmit, Externalized as FiledValue}

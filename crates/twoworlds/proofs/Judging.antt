@@ -11,14 +11,14 @@ use Rattle.protocol.specs.Networks.{Host, slices_of}
 use Rattle.protocol.specs.Hosts.{Entry}
 use Rattle.protocol.specs.Isolation.{closure, kept_of, outs_of, SameCast}
 use Rattle.protocol.specs.Verdicts.{IsFirstDifference, IsListOf, IsVerdict}
-use Rattle.protocol.proofs.Sets.Least.{contains_head, contains_tail, contained_cases}
+use Rattle.protocol.proofs.Sets.Contained.{contains_head, contains_tail, contained_cases}
 use Rattle.closure.specs.Announcing.{Listed, names_of, IsClosureList}
 use Rattle.twoworlds.specs.declared.verdict.Verdict.TheVariants.{CastDiffers, InputsDiffer, Same}
 use Rattle.differences.specs.Hosting.{AreAlike, IsLeastUnlike}
 use Rattle.hoststep.specs.Logs.{Log}
 use Rattle.protocol.specs.Runs.{IsRun}
 use Rattle.protocol.proofs.Sets.RuleLists.{least-start}
-use Rattle.protocol.proofs.Verdicts.Determined.{isolated_runs}
+use Rattle.protocol.proofs.Verdicts.IsolatedRuns.{isolated_runs}
 use Rattle.twoworlds.specs.declared.verdict.Verdict.{Verdict}
 use Rattle.twoworlds.specs.Meanings.{AreIsolated, IsVerdictOn, hosts_in, meant}
 use Rattle.twoworlds.specs.OutLists.{hosted_in, outs_of_each}

@@ -12,8 +12,9 @@ use Rattle.protocol.specs.Sets.{among}
 use Rattle.protocol.specs.Reach.{reached}
 use Rattle.protocol.specs.Rows.{row, is_kind, is_row_of, has_single_rows}
 use Rattle.protocol.specs.Views.{others_reached, rows_seen}
-use Rattle.protocol.proofs.Sets.Least.{contained_cases, contains_head, contains_tail}
-use Rattle.protocol.proofs.Reach.Chains.{mapped_from, mapped_to, row_contained, row_found}
+use Rattle.protocol.proofs.Sets.Contained.{contained_cases, contains_head, contains_tail}
+use Rattle.protocol.proofs.Sets.Mapped.{mapped_from, mapped_to}
+use Rattle.protocol.proofs.Statements.Found.{row_contained, row_found}
 use Rattle.protocol.proofs.Statements.Offers.{is_kind-itself, is_row_of-parts, same_kind}
 use Rattle.fedvote.specs.Searching.{next_counter, next_under}
 use Rattle.view.specs.Watching.{rows_of_others, said_by_another, values_in}

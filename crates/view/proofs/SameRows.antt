@@ -9,7 +9,7 @@ use Rattle.types.specs.Votes.{has_value, same_value}
 use Rattle.protocol.specs.Candidates.{as_set, committed_by, committed_in, greatest, is_counted, named_by, named_in, values_by}
 use Rattle.protocol.specs.Extremes.{IsIn, IsGreatestIn}
 use Rattle.protocol.specs.Extremes.IsGreatestIn.{nothing, this}
-use Rattle.protocol.proofs.Sets.Least.{contained_cases, contains_head, contains_tail}
+use Rattle.protocol.proofs.Sets.Contained.{contained_cases, contains_head, contains_tail}
 use Rattle.protocol.proofs.Ballots.Greatest.{greatest_is_alone, greatest_is_exact}
 use Rattle.protocol.proofs.Equality.Sameness.{same_value-refl, same_value-true}
 use Rattle.protocol.proofs.Sets.Finite.{same_test}

@@ -16,9 +16,12 @@ use Rattle.protocol.specs.Balloting.{aborted_by, is_accepted, commit_accepted, m
 use Rattle.types.specs.declared.state.Phase.TheVariants.{Committing}
 use Rattle.protocol.specs.Extremes.{IsIn}
 use Rattle.protocol.proofs.Ballots.Above.{above, Under, under-trans, aborted-by, greatest-from, from-filter}
-use Rattle.protocol.proofs.Balloting.Moves.{own_named, own_commits, named-parts, named-row, named-own, commits-parts, commits-row, position-committing, accepted-from, accept_prepared-still, accept_prepared-moves}
+use Rattle.protocol.proofs.Balloting.Named.{own_named, own_commits, named-parts, named-row, named-own, commits-parts, commits-row}
+use Rattle.protocol.proofs.Balloting.OwnPosition.{position-committing, accepted-from}
+use Rattle.protocol.proofs.Balloting.Moves.{accept_prepared-still, accept_prepared-moves}
 use Rattle.protocol.proofs.Balloting.PreparedStays.{Sound}
-use Rattle.protocol.proofs.Balloting.CommitMoves.{widens, counters}
+use Rattle.protocol.proofs.Balloting.WidensCommit.{widens}
+use Rattle.protocol.proofs.Balloting.GreatestOfOne.{counters}
 use Rattle.protocol.proofs.Ballots.Order.{not_above-value}
 use Rattle.protocol.proofs.Equality.Sameness.{same_value-true, same_value-refl}
 use Rattle.types.specs.Votes.{same_value}

@@ -15,7 +15,9 @@ use Rattle.types.specs.declared.state.Phase.TheVariants.{Preparing, Committing}
 use Rattle.protocol.specs.Extremes.{IsIn}
 use Rattle.protocol.proofs.Ballots.Order.{below-self, not_above-value}
 use Rattle.protocol.proofs.Ballots.Above.{above, Under, above-trans, under-trans, aborted-by}
-use Rattle.protocol.proofs.Balloting.Moves.{own_named, named-parts, named-row, named-own, position-preparing, own-preparing, accepted-from, accept_prepared-still, accept_prepared-moves, raise_high-still, raise_high-moves, follow_high-moves, Fixed, set_commit-moves, not_own, own_under}
+use Rattle.protocol.proofs.Balloting.Named.{own_named, named-parts, named-row, named-own}
+use Rattle.protocol.proofs.Balloting.OwnPosition.{position-preparing, own-preparing, accepted-from, not_own, own_under}
+use Rattle.protocol.proofs.Balloting.Moves.{accept_prepared-still, accept_prepared-moves, raise_high-still, raise_high-moves, follow_high-moves, Fixed, set_commit-moves}
 use Rattle.protocol.proofs.Equality.Sameness.{same_value-true}
 use Rattle.types.specs.Votes.{same_value}
 

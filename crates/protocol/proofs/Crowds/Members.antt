@@ -11,10 +11,12 @@ use Rattle.protocol.specs.Hosts.{Config, Entry, entered, journal, new_net, nets,
 use Rattle.protocol.specs.Isolation.{Kept, kept, kept_of, host_rule, announced, closure, outs_of, SameCast}
 use Rattle.protocol.specs.Submissions.{Answer, net_run, answers, concerns, concerning, concerned, replied_to, config_of, SameRoster, SameReserves, names_on, roster_names, MembersAreNeverCrowdedOut, MembersOfRunsAreNeverCrowdedOut}
 use Rattle.protocol.proofs.Sets.RuleLists.{least-start}
-use Rattle.protocol.proofs.Runs.Events.{HostsIn}
-use Rattle.protocol.proofs.Runs.KeptSteps.{hosts-closed, events-closed, casts-same, hosts-other, no-places, journals-agree}
+use Rattle.protocol.proofs.Runs.Openings.{HostsIn}
+use Rattle.protocol.proofs.Runs.KeptWithin.{hosts-closed, events-closed}
+use Rattle.protocol.proofs.Runs.SameSteps.{casts-same, hosts-other, no-places, journals-agree}
 use Rattle.protocol.proofs.Runs.Hosts.{steps_to, applied-journal, answers-run, HasNet, find_net}
-use Rattle.protocol.proofs.Crowds.Views.{view, Frame, frame, replies_in, others-kept}
+use Rattle.protocol.proofs.Crowds.Views.{view, Frame, frame, replies_in}
+use Rattle.protocol.proofs.Crowds.Others.{others-kept}
 use Rattle.protocol.proofs.Crowds.Runs.{AllGood, Shows, shows}
 
 -- ---- what is kept of a run follows from the answers to what concerns R

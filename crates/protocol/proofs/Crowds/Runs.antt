@@ -16,10 +16,14 @@ use Rattle.protocol.specs.Submissions.{Answer, net_run, concerns, concerning}
 use Rattle.protocol.proofs.Equality.Sameness.{eqb-refl}
 use Rattle.protocol.proofs.Runs.Sights.{Sight, sight, AllPlaces, play, reply}
 use Rattle.protocol.proofs.Runs.Follows.{Follows}
-use Rattle.protocol.proofs.Runs.Events.{IsWithin, HostsIn, cast_of, follows}
+use Rattle.protocol.proofs.Runs.Events.{IsWithin, follows}
+use Rattle.protocol.proofs.Runs.Openings.{HostsIn, cast_of}
 use Rattle.protocol.proofs.Networks.Effects.{effect-keeps, left}
-use Rattle.protocol.proofs.Runs.KeptSteps.{AllIn, is_new, kept-to, if_kept}
-use Rattle.protocol.proofs.Crowds.Views.{View, view, Frame, frame, share_of, node_of, tests_in, next_in, replied_in, step_in, replies_in, as_concerned, ours-left, others-left, others-opens, others-numbers, others-kept, kept-true, is_ours}
+use Rattle.protocol.proofs.Runs.KeptSteps.{AllIn, is_new}
+use Rattle.protocol.proofs.Runs.KeptWithin.{kept-to, if_kept}
+use Rattle.protocol.proofs.Crowds.Views.{View, view, Frame, frame, share_of, node_of, tests_in, next_in, replied_in, step_in, replies_in, is_ours}
+use Rattle.protocol.proofs.Crowds.Concerned.{as_concerned, ours-left, kept-true}
+use Rattle.protocol.proofs.Crowds.Others.{others-left, others-opens, others-numbers, others-kept}
 
 -- applied deliveries to members from members announce members alone
 abbrev pub AllGood : Names → ℕ → Frame → View → List Step → Type 0

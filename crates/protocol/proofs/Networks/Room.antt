@@ -1,57 +1,24 @@
--- How counts move with each step, and that no more is drawn than there is.
+-- No more is ever drawn than there is.
 use Rattle.types.specs.declared.event.Refusal.{Refusal}
-use Rattle.std.proofs.Common.{◌≡◌, ◌⊎◌, ℕ, ◌<◌, ◌≤◌, Bool, true, false, ◌&&◌, ◌==◌, ◌+◌, length, sum_by, Option, Some, None, List, [], ◌∷◌, filter, not, cond, if◌then◌else◌, refl, sym, ◌∙◌, ap, ap₂, subst, inl, inr, arith}
+use Rattle.std.proofs.Common.{◌≡◌, ◌⊎◌, ℕ, ◌<◌, ◌≤◌, Bool, true, false, ◌&&◌, ◌==◌, ◌+◌, length, Option, Some, None, List, [], ◌∷◌, filter, not, cond, if◌then◌else◌, refl, sym, ◌∙◌, ap, ap₂, subst, inl, inr, arith}
 use Rattle.std.proofs.lemmas.Bool.{cases_Bool, and_parts, eqb-true}
 use Rattle.std.proofs.lemmas.List.{length-append}
-use Rattle.protocol.specs.Rosters.{Shares, Share, Source, Draw, Roster, same_share, drawn_on, events_drawn, bytes_drawn, events_of, reserved, is_on}
+use Rattle.protocol.specs.Rosters.{Shares, Share, Source, Roster, same_share, events_drawn, bytes_drawn, events_of, reserved, is_on}
 use Rattle.protocol.specs.Rosters.Share.{Own, Pair}
 use Rattle.protocol.specs.Rosters.Source.{OfBudgets, OfOpens, OfShare}
-use Rattle.protocol.specs.Networks.{Net, Step, source, source_by, size_of, on_budgets, on_opens, on_shares, effect, tests, first_that, replied, net_step}
+use Rattle.protocol.specs.Networks.{Net, Step, source, source_by, size_of, on_budgets, on_opens, effect, tests, first_that, replied, net_step}
 use Rattle.protocol.specs.Networks.Reading.{Read, Fault}
 use Rattle.protocol.specs.Networks.Step.{Opens, Closes, Asks, Delivers, Hears, NominationTimes, BallotTimes, Reslices}
 use Rattle.protocol.specs.Hosts.{Config, Entry, new_net}
 use Rattle.protocol.specs.Runs.{net_after}
-use Rattle.protocol.specs.Counts.{is_of_share, is_opening, IsCountedAfter, StepsAreCounted, HasEvents, HasBytes, HasRoom, IsInRoom, StaysInRoom}
+use Rattle.protocol.specs.Counts.{is_of_share, is_opening, HasEvents, HasBytes, HasRoom, IsInRoom, StaysInRoom}
 use Rattle.protocol.proofs.Networks.Effects.{numbers, opened_after, effect-keeps}
-use Rattle.protocol.proofs.Crowds.Views.{same_share-true, length-numbers}
-use Rattle.protocol.proofs.Networks.Counts.{next, drawn-anew, events-more, bytes-more, applied_where_room}
+use Rattle.protocol.proofs.Crowds.Views.{same_share-true}
+use Rattle.protocol.proofs.Crowds.Concerned.{length-numbers}
+use Rattle.protocol.proofs.Networks.Counts.{next}
+use Rattle.protocol.proofs.Networks.Refusals.{applied_where_room}
+use Rattle.protocol.proofs.Networks.Drawn.{counted-next}
 
--- ---- how counts move
-drawn-events : (i : ℕ) (t : Share) (s : Source) (size : ℕ) → length (drawn_on i t (on_shares s size)) ≡ (if is_of_share i t s then 1 else 0)
-drawn-events i t OfBudgets size = refl
-drawn-events i t (OfOpens shares) size = refl
-drawn-events i t (OfShare shares j u) size = go ((j == i) && same_share u t)
-  where
-    go : (b : Bool) → length {A = Draw} (cond b (record { slot = j; share = u; size = size } ∷ []) []) ≡ (if b then 1 else 0)
-    go true = refl
-    go false = refl
-
-drawn-bytes : (i : ℕ) (t : Share) (s : Source) (size : ℕ) → bytes_drawn i t (on_shares s size) ≡ (if is_of_share i t s then size else 0)
-drawn-bytes i t OfBudgets size = refl
-drawn-bytes i t (OfOpens shares) size = refl
-drawn-bytes i t (OfShare shares j u) size = go ((j == i) && same_share u t)
-  where
-    go : (b : Bool) → sum_by {X = Draw} (λ d. d.size) (cond b (record { slot = j; share = u; size = size } ∷ []) []) ≡ (if b then size else 0)
-    go true = omega arith
-    go false = refl
-
-counted-next : (net : Net) (e : Step) → IsCountedAfter net e (next net e)
-counted-next net e =
-    let k = effect-keeps net e in
-    record {
-      events = ap (λ n. n + on_budgets (source net.roster e) 1) k.events;
-      bytes = ap (λ n. n + on_budgets (source net.roster e) (size_of e)) k.bytes;
-      opens = ap (λ n. n + on_opens (source net.roster e)) k.opens;
-      renewed = λ i t o. (ap length (drawn-anew net e i t o), ap (sum_by (λ d. d.size)) (drawn-anew net e i t o));
-      share_events = λ i t o. events-more net e i t o ∙ ap (λ n. events_drawn i t net.draws + n) (drawn-events i t (source net.roster e) (size_of e));
-      share_bytes = λ i t o. bytes-more net e i t o ∙ ap (λ n. bytes_drawn i t net.draws + n) (drawn-bytes i t (source net.roster e) (size_of e));
-    }
-
-pub steps_are_counted : StepsAreCounted
-unfolding net_step
-steps_are_counted net e h = subst (λ o. IsCountedAfter net e (replied net e o).0) (sym h) (counted-next net e)
-
--- ---- no more is drawn than there is
 pub room-events : (net : Net) (e : Step) → HasRoom net e → HasEvents net (source net.roster e)
 room-events net (Opens i) h = h.1
 room-events net (Closes i) h = h

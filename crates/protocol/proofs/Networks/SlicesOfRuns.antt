@@ -16,7 +16,9 @@ use Rattle.protocol.specs.Hosts.{Entry, entered, journal, new_net}
 use Rattle.protocol.specs.Runs.{net_after}
 use Rattle.protocol.specs.Reslices.{slices_after, slices_next, slices_since, SlicesFollowRuns}
 use Rattle.protocol.proofs.Runs.Sights.{known-same, known-other, known-elsewhere}
-use Rattle.protocol.proofs.Runs.Events.{IsNew, places_at-push, places_at-push_other, places_at-drop, places_at-drop_other, place_of-opened}
+use Rattle.protocol.proofs.Runs.Events.{IsNew}
+use Rattle.protocol.proofs.Networks.OpenSlots.{places_at-push, places_at-push_other, places_at-drop, places_at-drop_other}
+use Rattle.protocol.proofs.Runs.Openings.{place_of-opened}
 use Rattle.protocol.proofs.Runs.KeptSteps.{is_new, effect-hosts}
 use Rattle.protocol.proofs.Networks.Journals.{runs_are_journals}
 use Rattle.protocol.proofs.Nodes.Reslices.{slices_follow_events}

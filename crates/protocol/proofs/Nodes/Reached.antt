@@ -16,10 +16,13 @@ use Rattle.protocol.specs.Timers.{is_counter, most_counter}
 use Rattle.protocol.specs.Nodes.{Node, fresh, passed, settle, change, settled, after_change, step, bumped, in_round, timed_out, is_externalized, is_counter_live, Calm}
 use Rattle.protocol.specs.Limits.{Reached, ReachedAreCalm, TimersAreCounted, SendsWellFormed}
 use Rattle.protocol.specs.Limits.Reached.{begin, next}
-use Rattle.protocol.proofs.Nodes.Fresh.{fresh-calm}
-use Rattle.protocol.proofs.Nodes.Steps.{if_node, if_node-if, answered-node, calm-step}
+use Rattle.protocol.proofs.Nodes.Calm.{fresh-calm}
+use Rattle.protocol.proofs.Nodes.Made.{if_node, if_node-if, answered-node}
+use Rattle.protocol.proofs.Nodes.Calm.{calm-step}
 use Rattle.types.specs.Nominations.{IsNominationSet}
-use Rattle.protocol.proofs.Sending.Sendable.{IsSendable, raised-keeps, pass-keeps}
+use Rattle.protocol.proofs.Sending.Sendable.{IsSendable}
+use Rattle.protocol.proofs.Sending.SendableCounters.{raised-keeps}
+use Rattle.protocol.proofs.Sending.SendablePasses.{pass-keeps}
 use Rattle.protocol.proofs.Sending.WellFormed.{nomination-sends, vote-sends}
 
 -- ---- calm

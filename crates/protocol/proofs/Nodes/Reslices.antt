@@ -10,7 +10,7 @@ use Rattle.protocol.specs.Sameness.{same_votes}
 use Rattle.protocol.specs.Nodes.{Node, passed, settle, change, settled, after_change, answered, step, in_round, timed_out, resliced, Calm}
 use Rattle.protocol.specs.Reslices.{SlicesFollowEvents, IsElseSame, ReslicesChangeVotes, SameSlicesAreQuiet}
 use Rattle.protocol.proofs.Equality.Sameness.{same_votes-refl}
-use Rattle.protocol.proofs.Nodes.Steps.{outs-none}
+use Rattle.protocol.proofs.Nodes.Quiet.{outs-none}
 use Rattle.protocol.proofs.Nodes.Reached.{reached-calm}
 use Rattle.protocol.proofs.Passes.Settling.{never_limited}
 

@@ -18,10 +18,12 @@ use Rattle.protocol.specs.Claims.{IsQuiet}
 use Rattle.protocol.specs.Strangers.{GivesWithin, HasNamed, LeadersAreNear, HeldIsClosed, OutsidersAddRows, OutsidersAreQuiet, StrangersAddRows}
 use Rattle.protocol.specs.Strangers.HasNamed.{begin, next}
 use Rattle.protocol.proofs.Sets.Finite.{all_from}
-use Rattle.protocol.proofs.Sets.Least.{all_from_contained}
+use Rattle.protocol.proofs.Sets.Contained.{all_from_contained}
 use Rattle.protocol.proofs.Reach.Chains.{reached-holds}
 use Rattle.protocol.proofs.Nodes.Views.{Closed, announces_in, row-cut}
-use Rattle.protocol.proofs.Nodes.Steps.{cut-push_other, if_node, if_node-if, answered-node, all-push, leader-in, step-outside, step-stale}
+use Rattle.protocol.proofs.Nodes.Quiet.{cut-push_other, step-outside, step-stale}
+use Rattle.protocol.proofs.Nodes.Made.{if_node, if_node-if, answered-node}
+use Rattle.protocol.proofs.Nodes.Closed.{all-push, leader-in}
 use Rattle.protocol.proofs.Nodes.Reached.{reached-calm}
 
 -- ---- leaders

@@ -6,7 +6,7 @@ use Rattle.types.specs.Votes.{same_value, has_value}
 use Rattle.protocol.specs.Candidates.{greatest_value, combine}
 use Rattle.protocol.specs.ValueSets.{SetsAreAlone, SetsAreExact, MoreAreAdded, IsGreatestValue, CombinedToGreatest}
 use Rattle.protocol.proofs.Ballots.Order.{less, less-self, less-asym, lt-up}
-use Rattle.protocol.proofs.Nominating.Sets.{all-ascending}
+use Rattle.protocol.proofs.Nominating.Ascending.{all-ascending}
 use Rattle.protocol.proofs.Equality.Sameness.{same_value-true, same_value-refl}
 use Rattle.protocol.proofs.Nominating.ValueSets.{set_ascending, has_all, one_set}
 

@@ -10,7 +10,9 @@ use Rattle.protocol.specs.Views.{Seen, accepted, confirmed, passes}
 use Rattle.types.specs.declared.state.Given.{Given}
 use Rattle.types.specs.Nominations.{Ascending, with_value}
 use Rattle.protocol.specs.Candidates.{as_set, all_with, filled, values_by}
-use Rattle.protocol.proofs.Nominating.Sets.{ascends_on, ascends_from, first_least, with-has, with-kept, with-from, with-new, all-ascending, all-has, all-same, all-longer, sources, echoes, new_voted, new_accepts, new_confirms, QuietAt, quiet-from}
+use Rattle.protocol.proofs.Nominating.Ascending.{ascends_on, ascends_from, first_least, with-has, with-kept, with-from, all-ascending, all-has, all-same}
+use Rattle.protocol.proofs.Nominating.Lengths.{with-new, all-longer}
+use Rattle.protocol.proofs.Nominating.Sets.{sources, echoes, new_voted, new_accepts, new_confirms, QuietAt, quiet-from}
 use Rattle.protocol.proofs.Nominating.ValueSets.{filter_ascending, set_ascending}
 use Rattle.protocol.proofs.Ballots.Order.{less, less-self}
 use Rattle.protocol.proofs.Equality.Sameness.{same_value-true, same_value-refl}

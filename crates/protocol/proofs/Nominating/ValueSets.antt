@@ -9,7 +9,7 @@ use Rattle.types.specs.Votes.{has_value}
 use Rattle.protocol.specs.Candidates.{all_with, as_set}
 use Rattle.protocol.proofs.Ballots.Order.{less, less-total, less-asym, less-self}
 use Rattle.protocol.proofs.Equality.Sameness.{same_value-true, same_value-refl}
-use Rattle.protocol.proofs.Nominating.Sets.{ascends_on, ascends_from, first_least, all-ascending, with-ascending}
+use Rattle.protocol.proofs.Nominating.Ascending.{ascends_on, ascends_from, first_least, all-ascending, with-ascending}
 
 -- ---- which values a set has
 has_with : (x z : List ℕ) (ys : List (List ℕ)) → has_value (with_value x ys) z ≡ (same_value x z || has_value ys z)

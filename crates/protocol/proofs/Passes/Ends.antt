@@ -11,9 +11,11 @@ use Rattle.protocol.specs.Balloting.{start, accept_prepared, raise_high, follow_
 use Rattle.protocol.specs.Passes.{arm, pass, while_open}
 use Rattle.types.specs.declared.state.Phase.TheVariants.{Preparing, Committing, Externalized}
 use Rattle.protocol.proofs.Balloting.Tests.{Fair}
-use Rattle.protocol.proofs.Balloting.Moves.{position-armed, follow_high-still, set_commit-still, Risen, risen-up, arm-moves, arm-still}
+use Rattle.protocol.proofs.Balloting.Counters.{position-armed, Risen, risen-up, arm-moves, arm-still}
+use Rattle.protocol.proofs.Balloting.Moves.{follow_high-still, set_commit-still}
 use Rattle.protocol.proofs.Balloting.PreparedStays.{Sound, Ready, ready}
-use Rattle.protocol.proofs.Balloting.CommitMoves.{entering, enter_not, deciding, decide_not, enters, decides}
+use Rattle.protocol.proofs.Balloting.EntersCommit.{entering, enter_not, enters}
+use Rattle.protocol.proofs.Balloting.Decides.{deciding, decide_not, decides}
 use Rattle.protocol.proofs.Balloting.CommittedStays.{widening, widen_not, Steady, steady}
 use Rattle.protocol.proofs.Passes.RuleByRule.{r2, r3, r4, r5, ruled, tail, begun, finish, pass-preparing, pass-committing, r4-at, r5-at, r23-preparing, r234-committing, counts-on, counts-still, own-counts, accept_prepared-armed, raise_high-armed, fixed-armed, entering-armed}
 

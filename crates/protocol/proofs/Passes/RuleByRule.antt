@@ -16,9 +16,11 @@ use Rattle.protocol.specs.Candidates.{greatest, named_by, named}
 use Rattle.protocol.specs.Balloting.{aborted_by, may_be_prepared, start, accept_prepared, raise_high, follow_high, is_aborted, set_commit, accept_commit, confirm_commit, confirm_prepared}
 use Rattle.protocol.specs.Nominating.{nominate}
 use Rattle.types.specs.declared.state.Phase.TheVariants.{Preparing, Committing, Externalized}
-use Rattle.protocol.proofs.Balloting.Moves.{position-armed, position-preparing, position-committing, Fixed, Risen, raise-moves, raise-still, arm-moves}
+use Rattle.protocol.proofs.Balloting.Counters.{position-armed, Risen, raise-moves, raise-still, arm-moves}
+use Rattle.protocol.proofs.Balloting.OwnPosition.{position-preparing, position-committing}
+use Rattle.protocol.proofs.Balloting.Moves.{Fixed}
 use Rattle.protocol.proofs.Balloting.PreparedStays.{Sound}
-use Rattle.protocol.proofs.Balloting.CommitMoves.{entering}
+use Rattle.protocol.proofs.Balloting.EntersCommit.{entering}
 
 abbrev pub r2 : Seen → Votes → Votes
 r2 s w = on_ballot (accept_prepared s) w

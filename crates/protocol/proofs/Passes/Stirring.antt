@@ -20,7 +20,9 @@ use Rattle.protocol.proofs.Nodes.Reached.{reached-calm}
 use Rattle.protocol.proofs.Passes.RowsOfKinds.{nominations-still, ballots-still}
 use Rattle.protocol.proofs.Passes.RulesOfKinds.{nominate-reads, balloted-reads}
 use Rattle.protocol.proofs.Equality.Sameness.{same_values-true, same_votes-refl, same_votes-true}
-use Rattle.protocol.proofs.Passes.Settling.{Fit, Quiet, changed-fit, nominate-frame, once, pass-fit, phases, quiet-same, reached-fit, stepped}
+use Rattle.protocol.proofs.Passes.FourPasses.{Fit, Quiet, once, pass-fit, phases, quiet-same}
+use Rattle.protocol.proofs.Passes.Settling.{changed-fit, reached-fit}
+use Rattle.protocol.proofs.Passes.OnePass.{nominate-frame, stepped}
 use Rattle.protocol.proofs.Balloting.Tests.{Fair}
 
 abbrev IsOpen : Votes → Type 0

@@ -13,7 +13,7 @@ use Rattle.protocol.specs.Backing.{slices_by}
 use Rattle.protocol.specs.Closures.{Rule, in_least}
 use Rattle.protocol.specs.Reach.{rule_of, reached, IsReach, StaysWithFirstRows, StaysWithSameSlices, StaysWithStrangers}
 use Rattle.protocol.proofs.Sets.Finite.{same_test}
-use Rattle.protocol.proofs.Sets.Least.{contains_head, contains_tail, contained_cases}
+use Rattle.protocol.proofs.Sets.Contained.{contains_head, contains_tail, contained_cases}
 use Rattle.protocol.proofs.Statements.Offers.{is_row_of-parts}
 use Rattle.protocol.proofs.Reach.Chains.{reached-holds, reached-in, reach_names}
 

@@ -19,8 +19,10 @@ use Rattle.protocol.proofs.Runs.Claims.{good}
 use Rattle.protocol.proofs.Runs.Prefixes.{closed_for, holds-after}
 use Rattle.protocol.proofs.Runs.Sights.{cut_place, Sight, sight, play, reply, AllPlaces}
 use Rattle.protocol.proofs.Runs.Follows.{Follows}
-use Rattle.protocol.proofs.Runs.Events.{IsNew, HostsIn, cast_of, follows}
-use Rattle.protocol.proofs.Runs.KeptSteps.{effect-hosts, is_new, if_kept, IsKeptIn, kept-to}
+use Rattle.protocol.proofs.Runs.Events.{IsNew, follows}
+use Rattle.protocol.proofs.Runs.Openings.{HostsIn, cast_of}
+use Rattle.protocol.proofs.Runs.KeptSteps.{effect-hosts, is_new}
+use Rattle.protocol.proofs.Runs.KeptWithin.{if_kept, IsKeptIn, kept-to}
 
 -- ---- what a set sees, and agreement
 place-name : (ps : List Place) (u : ℕ) (p : Place) → place_of ps u ≡ Some p → p.node.name ≡ u

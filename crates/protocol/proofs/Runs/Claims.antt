@@ -16,7 +16,9 @@ use Rattle.protocol.specs.Isolation.{closure, host_rule, announced}
 use Rattle.protocol.specs.Claims.{IsClosedFor, IsOfMembers, Agree, Quiet, PrefixOfRun, PrefixOfReach}
 use Rattle.protocol.proofs.Sets.RuleLists.{least-in, least-start, least-keeps}
 use Rattle.protocol.proofs.Nodes.Views.{row-cut, reached-in}
-use Rattle.protocol.proofs.Nodes.Steps.{Good, IsFit, IsKept, cut_node, step-kept, step-quiet}
+use Rattle.protocol.proofs.Nodes.Closed.{Good, IsFit}
+use Rattle.protocol.proofs.Nodes.Agreement.{IsKept, cut_node, step-kept}
+use Rattle.protocol.proofs.Nodes.Quiet.{step-quiet}
 
 pub good : (R : Names) (n : Node) → IsClosedFor R n → Good R n
 good R n c = record { closed = record { has = c.has; own = c.own; rows = c.rows }; leaders = c.leaders }

@@ -14,7 +14,9 @@ use Rattle.protocol.specs.Networks.{Place, Net, places_at, emissions, known, mov
 use Rattle.protocol.specs.Isolation.{Kept}
 use Rattle.protocol.specs.Isolation.Kept.{Told}
 use Rattle.protocol.proofs.Equality.Sameness.{eqb-refl}
-use Rattle.protocol.proofs.Nodes.Steps.{cut_node, IsKept, IsFit, step-kept, step-quiet}
+use Rattle.protocol.proofs.Nodes.Agreement.{cut_node, IsKept, step-kept}
+use Rattle.protocol.proofs.Nodes.Closed.{IsFit}
+use Rattle.protocol.proofs.Nodes.Quiet.{step-quiet}
 use Rattle.protocol.proofs.Runs.Sights.{cut_place, sight, play, reply, IsPlace, AllPlaces, place-moved, known-same, known-other, known-elsewhere}
 
 -- what an event does, as R sees it

@@ -10,7 +10,7 @@ use Rattle.protocol.specs.Networks.Step.{Opens, Closes, Asks, Delivers, Hears, N
 use Rattle.protocol.specs.Hosts.{Entry, Config, entered, journal, net_at, reply_at, host_run, applied, nets, new_net, hosts_of, steps_of, entries}
 use Rattle.protocol.specs.Submissions.{Answer, net_run, answers_of, config_of}
 use Rattle.protocol.specs.Isolation.{closure, kept_of, outs_of, SameCast, Isolation}
-use Rattle.protocol.proofs.Runs.KeptSteps.{journals-agree}
+use Rattle.protocol.proofs.Runs.SameSteps.{journals-agree}
 
 act-number : (net : Net) (i u : ℕ) (e : NodeEvent) → (act net i u e).0.number ≡ net.number
 unfolding act

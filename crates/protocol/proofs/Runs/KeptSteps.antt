@@ -1,29 +1,23 @@
--- A whole run, as R sees it, is a run of the machine of the kept steps; so two runs with the same kept steps give a member the same outs.
+-- A whole run, as R sees it, is a run of the machine of the kept steps.
 use Rattle.types.specs.declared.event.Refusal.{Refusal}
 use Rattle.types.specs.declared.event.NodeEvent.{NodeEvent}
 use Rattle.types.specs.declared.event.Out.{Out}
-use Rattle.std.proofs.Common.{◌≡◌, ℕ, Bool, true, false, not, ◌&&◌, ◌==◌, Option, Some, None, List, [], ◌∷◌, ◌++◌, map, flat_map, length, nat_lt, if◌then◌else◌, is_some, refl, sym, ◌∙◌, ap, ap₂, subst}
-use Rattle.std.specs.List.{list_all, AllByRecursion, cons_option}
-use Rattle.std.proofs.Math.Path.{fun_ext}
-use Rattle.std.proofs.lemmas.Bool.{and_parts, and_from, false≢true, eqb-true}
+use Rattle.std.proofs.Common.{◌≡◌, ℕ, Bool, true, not, Option, Some, None, List, [], ◌∷◌, ◌++◌, length, nat_lt, is_some, refl, sym, ◌∙◌, ap₂, subst}
+use Rattle.std.specs.List.{AllByRecursion, cons_option}
 use Rattle.types.specs.Trees.{Slices}
 use Rattle.types.specs.Statements.{Sent}
-use Rattle.protocol.specs.Sets.{Names, AreWithin, within}
-use Rattle.protocol.specs.Satisfaction.{names}
-use Rattle.protocol.specs.Closures.{keeps}
+use Rattle.protocol.specs.Sets.{Names}
 use Rattle.types.specs.declared.event.NodeEvent.TheVariants.{Propose, Take, NominationTimer, BallotTimer, Reslice}
-use Rattle.protocol.specs.Networks.{Host, Place, Net, Step, slices_of, places_at, known, act, act_known, effect, emission, tests, first_that, source, is_full, size_of, counted, replied, net_step}
+use Rattle.protocol.specs.Networks.{Host, Place, Net, Step, places_at, known, act, act_known, effect, emission, tests, first_that, source, is_full, size_of, counted, replied, net_step}
 use Rattle.protocol.specs.Networks.Reading.{Read, Fault}
 use Rattle.types.specs.declared.event.Refusal.TheVariants.{SlotOpenAlready, TooManySlots}
 use Rattle.protocol.specs.Networks.Step.{Opens, Closes, Asks, Delivers, Hears, NominationTimes, BallotTimes, Reslices}
-use Rattle.protocol.specs.Hosts.{Entry, Config, entered, journal, new_net}
-use Rattle.protocol.specs.Isolation.{Kept, when_kept, kept, is_of, kept_of, outs_of, host_rule, announced, closure, SameCast}
-use Rattle.protocol.specs.Isolation.Kept.{Opened, Closed, Told, Heard}
-use Rattle.protocol.proofs.Sets.Least.{keeps-at}
-use Rattle.protocol.proofs.Sets.RuleLists.{least-keeps}
+use Rattle.protocol.specs.Hosts.{Entry, entered, journal}
+use Rattle.protocol.specs.Isolation.{Kept, kept, is_of, kept_of, outs_of}
 use Rattle.protocol.proofs.Runs.Sights.{Sight, sight, play, reply, AllPlaces}
 use Rattle.protocol.proofs.Runs.Follows.{Follows}
-use Rattle.protocol.proofs.Runs.Events.{IsWithin, HostsIn, IsNew, cast_of, follows}
+use Rattle.protocol.proofs.Runs.Events.{IsWithin, IsNew, follows}
+use Rattle.protocol.proofs.Runs.Openings.{HostsIn, cast_of}
 
 -- the outs that the kept steps give a node
 abbrev pub answers : (ℕ → Option Slices) → ℕ → Sight → ℕ → List Kept → List Out
@@ -72,7 +66,7 @@ abbrev pub AllIn : Names → ℕ → List Entry → Type 0
 AllIn R i entries = AllByRecursion (λ x. IsWithin R i x.event) entries
 
 -- one history, by its applied events
-run-sight : (R : Names) (i u : ℕ) → R u ≡ true → (es : List Step) (net : Net) → AllPlaces R i net → HostsIn R net.hosts → AllIn R i (journal net es)
+pub run-sight : (R : Names) (i u : ℕ) → R u ≡ true → (es : List Step) (net : Net) → AllPlaces R i net → HostsIn R net.hosts → AllIn R i (journal net es)
     → outs_of i u (journal net es) ≡ answers (cast_of R net.hosts) i (sight R i net) u (kept_of R i (journal net es))
 unfolding journal net_step outs_of kept_of
 run-sight R i u r [] net h hosts f = refl
@@ -92,184 +86,3 @@ run-sight R i u r (e ∷ es) net h hosts f = go (first_that (tests net e)) refl 
         ap₂ (λ (xs ys : List Out). xs ++ ys) (step.replies u r)
         (rest ∙ ap₂ (λ (hs : List Host) (s : Sight). answers (cast_of R hs) i s u (kept_of R i (journal next es))) same step.sights)
         ∙ sym (answers-option (cast_of R net.hosts) i (sight R i net) u (kept R i e) (kept_of R i (journal next es)))
-
--- What the closure says of a run
-
-all-left : {X : Type 0} (P : X → Bool) (xs ys : List X) → list_all P (xs ++ ys) ≡ true → list_all P xs ≡ true
-all-left P [] ys h = refl
-all-left P (x ∷ xs) ys h = let p = and_parts (P x) (list_all P (xs ++ ys)) h in and_from (P x) (list_all P xs) p.0 (all-left P xs ys p.1)
-
-all-right : {X : Type 0} (P : X → Bool) (xs ys : List X) → list_all P (xs ++ ys) ≡ true → list_all P ys ≡ true
-all-right P [] ys h = h
-all-right P (x ∷ xs) ys h = all-right P xs ys (and_parts (P x) (list_all P (xs ++ ys)) h).1
-
-hosts-in : (R : Names) (hosts : List Host) → list_all (keeps R) (map host_rule hosts) ≡ true → HostsIn R hosts
-hosts-in R [] h u q e r = cc
-hosts-in R (x ∷ xs) h u q e r =
-    let p = and_parts (keeps R (host_rule x)) (list_all (keeps R) (map host_rule xs)) h in
-    go (x.name == u) refl p.0 e (hosts-in R xs p.1 u q)
-  where
-    go : (b : Bool) → (x.name == u) ≡ b → keeps R (host_rule x) ≡ true → (if b then Some x.slices else slices_of xs u) ≡ Some q → (slices_of xs u ≡ Some q → R u ≡ true → within (names q) R ≡ true) → within (names q) R ≡ true
-    go true n k s ih = let m : x.slices ≡ q = cc in subst (λ (t : Slices). within (names t) R ≡ true) m (keeps-at R (host_rule x) k (and_from (R x.name) true (ap R (eqb-true x.name u n) ∙ r) refl))
-    go false n k s ih = ih s r
-
-events-in : (R : Names) (i : ℕ) (entries : List Entry) → list_all (keeps R) (flat_map (λ x. announced i x.event) entries) ≡ true → AllIn R i entries
-events-in R i [] h = tt
-events-in R i (x ∷ xs) h = (
-  one x.event (all-left (keeps R) (announced i x.event) (flat_map (λ x. announced i x.event) xs) h),
-  events-in R i xs (all-right (keeps R) (announced i x.event) (flat_map (λ x. announced i x.event) xs) h),
-)
-  where
-    one : (e : Step) → list_all (keeps R) (announced i e) ≡ true → IsWithin R i e
-    one (Delivers u size (Read e)) k = λ y r s. go (e.slot == i) y k r s
-      where
-        go : (b : Bool) → b ≡ true → list_all (keeps R) (if b then record { sources = u ∷ e.sender ∷ []; gives = names e.slices } ∷ [] else []) ≡ true → R u ≡ true → R e.sender ≡ true → within (names e.slices) R ≡ true
-        go true y k r s = keeps-at R (record { sources = u ∷ e.sender ∷ []; gives = names e.slices }) (and_parts (keeps R (record { sources = u ∷ e.sender ∷ []; gives = names e.slices })) true k).0
-            (and_from (R u) (R e.sender && true) r (and_from (R e.sender) true s refl))
-        go false y k r s = absurd (false≢true y)
-    one (Delivers u size (Fault n)) k = tt
-    one (Opens j) k = tt
-    one (Closes j) k = tt
-    one (Asks j u x) k = tt
-    one (Hears j u from kind n) k = tt
-    one (NominationTimes j u r) k = tt
-    one (BallotTimes j u n) k = tt
-    one (Reslices j u q) k = λ y r. go (j == i) y k r
-      where
-        go : (b : Bool) → b ≡ true → list_all (keeps R) (if b then record { sources = u ∷ []; gives = names q } ∷ [] else []) ≡ true → R u ≡ true → within (names q) R ≡ true
-        go true y k r = keeps-at R (record { sources = u ∷ []; gives = names q }) (and_parts (keeps R (record { sources = u ∷ []; gives = names q })) true k).0 (and_from (R u) true r refl)
-        go false y k r = absurd (false≢true y)
-
--- what was delivered to members of a set by members, and which slices were given to them, as the kept steps have it
-abbrev pub IsKeptIn : Names → Kept → Type 0
-IsKeptIn S Opened = Unit {0}
-IsKeptIn S Closed = Unit {0}
-IsKeptIn S (Told u (Propose x)) = Unit {0}
-IsKeptIn S (Told u (Take e)) = S u ≡ true → S e.sender ≡ true → within (names e.slices) S ≡ true
-IsKeptIn S (Told u (NominationTimer r)) = Unit {0}
-IsKeptIn S (Told u (BallotTimer n)) = Unit {0}
-IsKeptIn S (Told u (Reslice q)) = S u ≡ true → within (names q) S ≡ true
-IsKeptIn S (Heard u from kind k) = Unit {0}
-
-abbrev pub if_kept : Names → Option Kept → Type 0
-if_kept S None = Unit {0}
-if_kept S (Some k) = IsKeptIn S k
-
-all-option : (S : Names) (o : Option Kept) (ks : List Kept) → if_kept S o → AllByRecursion (IsKeptIn S) ks → AllByRecursion (IsKeptIn S) (cons_option o ks)
-all-option S None ks h k = k
-all-option S (Some x) ks h k = (h, k)
-
-option-all : (S : Names) (o : Option Kept) (ks : List Kept) → AllByRecursion (IsKeptIn S) (cons_option o ks) → if_kept S o × AllByRecursion (IsKeptIn S) ks
-option-all S None ks h = (tt, h)
-option-all S (Some x) ks h = (h.0, h.1)
-
--- a kept step, of which nothing is asked
-free : (S : Names) (b : Bool) (k : Kept) → IsKeptIn S k → if_kept S (when_kept b k)
-free S true k h = h
-free S false k h = tt
-
--- what is kept for one set, of what lies in another
-kept-from : (R S : Names) (i : ℕ) (e : Step) → IsWithin S i e → if_kept S (kept R i e)
-kept-from R S i (Opens j) h = free S (j == i) Opened tt
-kept-from R S i (Closes j) h = free S (j == i) Closed tt
-kept-from R S i (Asks j u x) h = free S ((j == i) && R u) (Told u (Propose x)) tt
-kept-from R S i (Delivers u size (Read e)) h = go ((e.slot == i) && R u && R e.sender) refl
-  where
-    go : (b : Bool) → ((e.slot == i) && R u && R e.sender) ≡ b → if_kept S (when_kept b (Told u (Take e)))
-    go true y = h (and_parts (e.slot == i) (R u) (and_parts ((e.slot == i) && R u) (R e.sender) y).0).0
-    go false y = tt
-kept-from R S i (Delivers u size (Fault n)) h = tt
-kept-from R S i (Hears j u from kind k) h = free S ((j == i) && R u && R from) (Heard u from kind k) tt
-kept-from R S i (NominationTimes j u r) h = free S ((j == i) && R u) (Told u (NominationTimer r)) tt
-kept-from R S i (BallotTimes j u n) h = free S ((j == i) && R u) (Told u (BallotTimer n)) tt
-kept-from R S i (Reslices j u q) h = go ((j == i) && R u) refl
-  where
-    go : (b : Bool) → ((j == i) && R u) ≡ b → if_kept S (when_kept b (Told u (Reslice q)))
-    go true y = h (and_parts (j == i) (R u) y).0
-    go false y = tt
-
--- and back, where the other lies in the one
-pub kept-to : (R S : Names) (i : ℕ) (e : Step) → AreWithin S R → if_kept S (kept R i e) → IsWithin S i e
-kept-to R S i (Opens j) w h = tt
-kept-to R S i (Closes j) w h = tt
-kept-to R S i (Asks j u x) w h = tt
-kept-to R S i (Delivers u size (Read e)) w h = λ y r s.
-    (subst (λ b. if_kept S (when_kept b (Told u (Take e)))) (and_from ((e.slot == i) && R u) (R e.sender) (and_from (e.slot == i) (R u) y (w u r)) (w e.sender s)) h) r s
-kept-to R S i (Delivers u size (Fault n)) w h = tt
-kept-to R S i (Hears j u from kind k) w h = tt
-kept-to R S i (NominationTimes j u r) w h = tt
-kept-to R S i (BallotTimes j u n) w h = tt
-kept-to R S i (Reslices j u q) w h = λ y r. (subst (λ b. if_kept S (when_kept b (Told u (Reslice q)))) (and_from (j == i) (R u) y (w u r)) h) r
-
-pub all_kept-from : (R S : Names) (i : ℕ) (entries : List Entry) → AllIn S i entries → AllByRecursion (IsKeptIn S) (kept_of R i entries)
-unfolding kept_of
-all_kept-from R S i [] h = tt
-all_kept-from R S i (x ∷ xs) h = all-option S (kept R i x.event) (kept_of R i xs) (kept-from R S i x.event h.0) (all_kept-from R S i xs h.1)
-
-pub all_kept-to : (R S : Names) (i : ℕ) (entries : List Entry) → AreWithin S R → AllByRecursion (IsKeptIn S) (kept_of R i entries) → AllIn S i entries
-unfolding kept_of
-all_kept-to R S i [] w h = tt
-all_kept-to R S i (x ∷ xs) w h = let p = option-all S (kept R i x.event) (kept_of R i xs) h in (kept-to R S i x.event w p.0, all_kept-to R S i xs w p.1)
-
--- what lies in R in one world does in the other, where the kept steps are the same
-pub all_in-other : (R : Names) (i : ℕ) (one other : List Entry) → kept_of R i one ≡ kept_of R i other → AllIn R i one → AllIn R i other
-all_in-other R i one other same h = all_kept-to R R i other (λ u r. r) (subst (AllByRecursion (IsKeptIn R)) same (all_kept-from R R i one h))
-
-pub closure-keeps : (hosts : List Host) (i v : ℕ) (entries : List Entry) → list_all (keeps (closure hosts i v entries)) (map host_rule hosts ++ flat_map (λ x. announced i x.event) entries) ≡ true
-unfolding closure
-closure-keeps hosts i v entries = least-keeps (map host_rule hosts ++ flat_map (λ x. announced i x.event) entries) v
-
--- what the closure of a run says of its hosted members, and of what is delivered among them
-pub hosts-closed : (hosts : List Host) (i v : ℕ) (entries : List Entry) → HostsIn (closure hosts i v entries) hosts
-hosts-closed hosts i v entries =
-    let R = closure hosts i v entries in hosts-in R hosts (all-left (keeps R) (map host_rule hosts) (flat_map (λ x. announced i x.event) entries) (closure-keeps hosts i v entries))
-
-pub events-closed : (hosts : List Host) (i v : ℕ) (entries : List Entry) → AllIn (closure hosts i v entries) i entries
-events-closed hosts i v entries =
-    let R = closure hosts i v entries in events-in R i entries (all-right (keeps R) (map host_rule hosts) (flat_map (λ x. announced i x.event) entries) (closure-keeps hosts i v entries))
-
--- the same members in both worlds
-pub casts-same : (R : Names) (v : ℕ) (hosts hosts' : List Host) → SameCast R v hosts hosts' → cast_of R hosts ≡ cast_of R hosts'
-casts-same R v hosts hosts' cast = fun_ext (λ w. go w (R w) refl)
-  where
-    go : (w : ℕ) (b : Bool) → R w ≡ b → (if b then slices_of hosts w else None) ≡ (if b then slices_of hosts' w else None)
-    go w true s = cast.same w s
-    go w false s = refl
-
-pub hosts-other : (R : Names) (v : ℕ) (hosts hosts' : List Host) → SameCast R v hosts hosts' → HostsIn R hosts → HostsIn R hosts'
-hosts-other R v hosts hosts' cast h w q e s = h w q (cast.same w s ∙ e) s
-
-pub no-places : (R : Names) (i : ℕ) (config : Config) → AllPlaces R i (new_net config)
-no-places R i config w p k = absurd (nothing p k)
-  where
-    nothing : {A : Type 0} (p : A) → ◌≡◌ {A = Option A} None (Some p) → ⊥
-    nothing p e = cc
-
--- The headline, over the journals of one network in each history
-pub journals-agree : (config config' : Config) (i v : ℕ) (es es' : List Step) →
-    let one = journal (new_net config) es in
-    let other = journal (new_net config') es' in
-    let R = closure config.hosts i v one in
-    SameCast R v config.hosts config'.hosts → kept_of R i one ≡ kept_of R i other → (u : ℕ) → R u ≡ true → outs_of i u one ≡ outs_of i u other
-journals-agree config config' i v es es' cast same u r =
-    run-sight R i u r es (new_net config) (no-places R i config) in_one all_one
-    ∙ (ap₂ (λ (c : ℕ → Option Slices) (ks : List Kept). answers c i (sight R i (new_net config)) u ks) (casts-same R v config.hosts config'.hosts cast) same
-    ∙ sym (run-sight R i u r es' (new_net config') (no-places R i config') (hosts-other R v config.hosts config'.hosts cast in_one) all_other))
-  where
-    one : List Entry
-    one = journal (new_net config) es
-
-    other : List Entry
-    other = journal (new_net config') es'
-
-    R : Names
-    R = closure config.hosts i v one
-
-    in_one : HostsIn R config.hosts
-    in_one = hosts-closed config.hosts i v one
-
-    all_one : AllIn R i one
-    all_one = events-closed config.hosts i v one
-
-    all_other : AllIn R i other
-    all_other = all_in-other R i one other same all_one

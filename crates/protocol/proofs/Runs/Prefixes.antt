@@ -9,10 +9,13 @@ use Rattle.protocol.specs.Isolation.{closure}
 use Rattle.protocol.specs.Runs.{net_after, state_of, IsRun}
 use Rattle.protocol.specs.Claims.{IsClosedFor, PrefixOfWholeRun}
 use Rattle.protocol.proofs.Nodes.Views.{reached-in}
-use Rattle.protocol.proofs.Nodes.Steps.{Good}
+use Rattle.protocol.proofs.Nodes.Closed.{Good}
 use Rattle.protocol.proofs.Runs.Sights.{AllPlaces}
-use Rattle.protocol.proofs.Runs.Events.{HostsIn, follows}
-use Rattle.protocol.proofs.Runs.KeptSteps.{AllIn, effect-hosts, is_new, no-places, hosts-closed, events-closed}
+use Rattle.protocol.proofs.Runs.Openings.{HostsIn}
+use Rattle.protocol.proofs.Runs.Events.{follows}
+use Rattle.protocol.proofs.Runs.KeptSteps.{AllIn, effect-hosts, is_new}
+use Rattle.protocol.proofs.Runs.SameSteps.{no-places}
+use Rattle.protocol.proofs.Runs.KeptWithin.{hosts-closed, events-closed}
 use Rattle.protocol.proofs.Networks.Journals.{runs_are_journals}
 
 pub closed_for : (R : Names) (n : Node) → Good R n → IsClosedFor R n

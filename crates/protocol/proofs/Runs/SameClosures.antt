@@ -11,11 +11,13 @@ use Rattle.protocol.specs.Networks.Step.{Opens, Closes, Asks, Delivers, Hears, N
 use Rattle.protocol.specs.Hosts.{Entry}
 use Rattle.protocol.specs.Isolation.{closure, host_rule, announced, SameClosures}
 use Rattle.protocol.proofs.Sets.Finite.{same_test}
-use Rattle.protocol.proofs.Sets.Least.{contains_head, contains_tail, keeps-from}
+use Rattle.protocol.proofs.Sets.Contained.{contains_head, contains_tail}
+use Rattle.protocol.proofs.Sets.Least.{keeps-from}
 use Rattle.protocol.proofs.Sets.RuleLists.{least-in, least-start}
 use Rattle.protocol.proofs.Runs.Sights.{all-append}
 use Rattle.protocol.proofs.Runs.Events.{IsWithin}
-use Rattle.protocol.proofs.Runs.KeptSteps.{AllIn, IsKeptIn, all_kept-from, all_kept-to, all_in-other, hosts-closed, events-closed}
+use Rattle.protocol.proofs.Runs.KeptSteps.{AllIn}
+use Rattle.protocol.proofs.Runs.KeptWithin.{IsKeptIn, all_kept-from, all_kept-to, all_in-other, hosts-closed, events-closed}
 
 module _ (R : Names) where
   -- the rules of hosted nodes are kept where the slices of hosted members lie in the set

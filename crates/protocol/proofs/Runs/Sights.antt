@@ -14,7 +14,10 @@ use Rattle.protocol.specs.Networks.{Place, Slot, Net, places_at, place_of, emiss
 use Rattle.protocol.specs.Isolation.{Kept}
 use Rattle.protocol.specs.Isolation.Kept.{Opened, Closed, Told, Heard}
 use Rattle.protocol.proofs.Nodes.Views.{announces_in}
-use Rattle.protocol.proofs.Nodes.Steps.{cut_node, Good, IsFit, good-step, calm-step, step-self, step-emit}
+use Rattle.protocol.proofs.Nodes.Agreement.{cut_node}
+use Rattle.protocol.proofs.Nodes.Closed.{Good, IsFit, good-step}
+use Rattle.protocol.proofs.Nodes.Calm.{calm-step}
+use Rattle.protocol.proofs.Nodes.Emitted.{step-self, step-emit}
 
 abbrev pub cut_place : Names → Place → Place
 cut_place R p = record { node = cut_node R p.node; told = p.told }

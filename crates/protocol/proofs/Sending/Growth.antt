@@ -16,10 +16,11 @@ use Rattle.protocol.specs.Nominating.{nominate}
 use Rattle.protocol.specs.Balloting.{started, start_from, start, accept_prepared, raise_high, follow_high, set_commit, confirm_prepared, enter_commit, widen_commit, first_committed, next_committed, accept_commit, externalize, confirmed_commit, confirm_commit}
 use Rattle.protocol.specs.Passes.{raise, arm, on_ballot, in_prepare, voting, counting, pass_rules, pass}
 use Rattle.protocol.specs.Nodes.{Node, passed, settle, change, settled, after_change, bumped, in_round, timed_out}
-use Rattle.protocol.proofs.Nodes.Steps.{if_node, if_node-if}
-use Rattle.protocol.proofs.Balloting.Moves.{arm-moves}
-use Rattle.protocol.proofs.Nominating.Sets.{all-longer, nominate-is, nominate-not, echoes, sources}
-use Rattle.protocol.proofs.Sending.Sendable.{on-keeps, prepare-keeps, unless-keeps}
+use Rattle.protocol.proofs.Nodes.Made.{if_node, if_node-if}
+use Rattle.protocol.proofs.Balloting.Counters.{arm-moves}
+use Rattle.protocol.proofs.Nominating.Lengths.{all-longer}
+use Rattle.protocol.proofs.Nominating.Sets.{nominate-is, nominate-not, echoes, sources}
+use Rattle.protocol.proofs.Sending.SendablePasses.{on-keeps, prepare-keeps, unless-keeps}
 use Rattle.protocol.proofs.Nodes.Reached.{settle-keeps}
 
 -- no set of nominations is shorter than it was, and there is a ballot where there was one

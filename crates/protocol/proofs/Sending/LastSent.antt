@@ -24,7 +24,7 @@ use Rattle.protocol.specs.Networks.{Host, Place, emission_of, emissions, moved}
 use Rattle.protocol.specs.Hosts.{new_net}
 use Rattle.protocol.specs.LastSent.{last_of, sent_as, SendsItsLast, LastIsSent}
 use Rattle.protocol.proofs.Equality.Sameness.{same_sent-true}
-use Rattle.protocol.proofs.Nodes.Steps.{if_node}
+use Rattle.protocol.proofs.Nodes.Made.{if_node}
 use Rattle.protocol.proofs.Sending.Growth.{Grows, event-grows}
 use Rattle.protocol.proofs.Networks.Places.{run-all}
 

@@ -1,61 +1,16 @@
--- Isolation of two runs; and that a verdict is determined.
+-- A verdict on two runs is determined: no two are right.
 use Rattle.types.specs.declared.event.Out.{Out}
-use Rattle.std.proofs.Common.{◌≡◌, ℕ, zero, suc, ◌<◌, true, List, [], ◌∷◌, map, take, slice_get, is_some, refl, sym, ◌∙◌, ap, ap₂, subst, inl, inr, arith, IsTrue}
+use Rattle.std.proofs.Common.{◌≡◌, ℕ, zero, suc, ◌<◌, List, [], ◌∷◌, map, take, slice_get, is_some, refl, sym, ◌∙◌, ap, ap₂, subst, inl, inr, arith, IsTrue}
 use Rattle.std.specs.List.{AllByRecursion, Contains}
 use Rattle.std.proofs.lemmas.Bool.{cases_order, true≢false}
-use Rattle.protocol.specs.Sets.{Names, IsAscending}
+use Rattle.protocol.specs.Sets.{Names}
 use Rattle.protocol.specs.Networks.{Host, slices_of}
 use Rattle.protocol.specs.Hosts.{Entry}
 use Rattle.protocol.specs.Isolation.{closure, kept_of, outs_of, SameCast}
-use Rattle.protocol.specs.Verdicts.{Verdict, IsFirstUnlike, IsFirstDifference, IsListOf, VerdictsAreUnique, IsolatedRuns}
+use Rattle.protocol.specs.Verdicts.{Verdict, IsFirstUnlike, IsFirstDifference, IsListOf, VerdictsAreUnique}
 use Rattle.protocol.specs.Verdicts.Verdict.{CastDiffers, InputsDiffer, Same}
-use Rattle.protocol.proofs.Sets.Least.{contains_head, contains_tail, contained_cases}
-use Rattle.protocol.proofs.Runs.KeptSteps.{journals-agree}
-use Rattle.protocol.proofs.Networks.Journals.{runs_are_journals}
-
-pub isolated_runs : IsolatedRuns
-isolated_runs one other runs others i v a b =
-    agree (runs_are_journals one runs a) (runs_are_journals other others b) (journals-agree one other i v _ _)
-  where
-    Claim : List Entry → List Entry → Type 0
-    Claim x y = SameCast (closure one.hosts i v x) v one.hosts other.hosts → kept_of (closure one.hosts i v x) i x ≡ kept_of (closure one.hosts i v x) i y → (u : ℕ) → closure one.hosts i v x u ≡ true → outs_of i u x ≡ outs_of i u y
-
-    agree : {x x' y y' : List Entry} → x ≡ x' → y ≡ y' → Claim x' y' → Claim x y
-    agree p q f = subst (λ (z : List Entry × List Entry). Claim z.0 z.1) (sym (λ j. (p j, q j))) f
-
--- ---- ascending lists
-above_head : (x : ℕ) (xs : List ℕ) → IsAscending (x ∷ xs) → (u : ℕ) → Contains xs u → x < u
-above_head x xs h u c = subst (λ z. x < z) c.2 (let l = c.1 in h zero (suc c.0) u (omega arith) (omega arith))
-
-ascending_tail : (x : ℕ) (xs : List ℕ) → IsAscending (x ∷ xs) → IsAscending xs
-ascending_tail x xs h = λ i j d l k. h (suc i) (suc j) d (omega arith) (omega arith)
-
-nothing_in : (u : ℕ) → Contains [] u → ⊥
-nothing_in u c = let l = c.1 in omega arith
-
-within_tails : (x y : ℕ) (xs ys : List ℕ) → IsAscending (x ∷ xs) → x ≡ y → ((u : ℕ) → Contains (x ∷ xs) u → Contains (y ∷ ys) u) → (u : ℕ) → Contains xs u → Contains ys u
-within_tails x y xs ys h e f u c = elim (contained_cases u y ys (f u (contains_tail u x xs c))) [
-  | inl k ↦ absurd (let l = above_head x xs h u c in let q = e ∙ k in omega (arith, l, q))
-  | inr k ↦ k
-]
-
--- ascending lists with the same members are one
-one_list : (xs ys : List ℕ) → IsAscending xs → IsAscending ys → ((u : ℕ) → Contains xs u → Contains ys u) → ((u : ℕ) → Contains ys u → Contains xs u) → xs ≡ ys
-one_list [] [] a b f g = refl
-one_list [] (y ∷ ys) a b f g = absurd (nothing_in y (g y (contains_head y ys)))
-one_list (x ∷ xs) [] a b f g = absurd (nothing_in x (f x (contains_head x xs)))
-one_list (x ∷ xs) (y ∷ ys) a b f g = elim (cases_order x y) [
-  | inl e ↦ ap₂ (λ (z : ℕ) (zs : List ℕ). z ∷ zs) e
-      (one_list xs ys (ascending_tail x xs a) (ascending_tail y ys b) (within_tails x y xs ys a e f) (within_tails y x ys xs b (sym e) g))
-  | inr (inl l) ↦ elim (contained_cases x y ys (f x (contains_head x xs))) [
-    | inl e ↦ absurd (omega (arith, l, e))
-    | inr c ↦ absurd (let k = above_head y ys b x c in omega (arith, l, k))
-  ]
-  | inr (inr l) ↦ elim (contained_cases y x xs (g y (contains_head y ys))) [
-    | inl e ↦ absurd (omega (arith, l, e))
-    | inr c ↦ absurd (let k = above_head x xs a y c in omega (arith, l, k))
-  ]
-]
+use Rattle.protocol.proofs.Sets.Contained.{contained_cases}
+use Rattle.protocol.proofs.Verdicts.OneList.{nothing_in, one_list}
 
 -- ---- lists of members with their outs
 module _ (R : Names) (hosts : List Host) (i : ℕ) (run : List Entry) where

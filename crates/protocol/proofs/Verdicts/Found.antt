@@ -13,10 +13,14 @@ use Rattle.protocol.specs.Isolation.{host_rule, announced, closure, kept_of, out
 use Rattle.protocol.specs.Verdicts.{Verdict, IsVerdict, IsFirstUnlike, IsFirstDifference, IsListOf, VerdictsExist}
 use Rattle.protocol.specs.Verdicts.Verdict.{CastDiffers, InputsDiffer, Same}
 use Rattle.protocol.proofs.Sets.Finite.{all_from, among_head, among_tail}
-use Rattle.protocol.proofs.Sets.Least.{all_from_contained, contains_head, keeps-from, given_by_rule}
+use Rattle.protocol.proofs.Sets.Contained.{all_from_contained, contains_head}
+use Rattle.protocol.proofs.Sets.Least.{keeps-from, given_by_rule}
 use Rattle.protocol.proofs.Sets.RuleLists.{least-in}
-use Rattle.protocol.proofs.Verdicts.Determined.{isolated_runs}
-use Rattle.protocol.proofs.Equality.Decisions.{decided_slices, decided_option, decided_kept, first_difference, bound_of, among-below, least_among}
+use Rattle.protocol.proofs.Verdicts.IsolatedRuns.{isolated_runs}
+use Rattle.protocol.proofs.Equality.Decisions.{decided_slices, decided_option}
+use Rattle.protocol.proofs.Equality.Steps.{decided_kept}
+use Rattle.protocol.proofs.Equality.FirstDifference.{first_difference}
+use Rattle.protocol.proofs.Equality.LeastNumber.{bound_of, among-below, least_among}
 
 -- ---- a closure has finitely many members
 abbrev rules_in : List Host → ℕ → List Entry → List Rule

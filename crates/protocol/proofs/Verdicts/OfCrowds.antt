@@ -11,7 +11,10 @@ use Rattle.protocol.specs.Submissions.{answers, concerned, replied_to, config_of
 use Rattle.protocol.specs.Crowds.{Crowd, IsFirstOutside, IsCrowd, CrowdsExist, CrowdsAreUnique}
 use Rattle.protocol.specs.Crowds.Crowd.{CastDiffers, RosterDiffers, OutsideRoster, InputsDiffer, Same}
 use Rattle.protocol.proofs.Verdicts.Determined.{one_place, one_unlike, not_unlike}
-use Rattle.protocol.proofs.Equality.Decisions.{decided_ℕ, decided_bool, decided_shares, decided_step, first_difference, bound_of, among-below, least_among}
+use Rattle.protocol.proofs.Equality.Decisions.{decided_ℕ, decided_shares}
+use Rattle.protocol.proofs.Equality.Steps.{decided_bool, decided_step}
+use Rattle.protocol.proofs.Equality.FirstDifference.{first_difference}
+use Rattle.protocol.proofs.Equality.LeastNumber.{bound_of, among-below, least_among}
 use Rattle.protocol.proofs.Verdicts.Found.{is_no, is_no-true, is_no-false, closure-bound, closure-below, cast_found}
 use Rattle.protocol.proofs.Crowds.Members.{never_crowded_out}
 

@@ -1,4 +1,4 @@
-use Rattle.protocol.proofs.Sets.Least.{closures_derived}
+use Rattle.protocol.proofs.Sets.Derived.{closures_derived}
 use Rattle.protocol.proofs.closures.closures_are_derived.Goals as goal
 
 pub returns : goal.returns

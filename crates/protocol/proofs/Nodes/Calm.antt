@@ -1,0 +1,43 @@
+-- A node is calm where one more pass changes nothing: a fresh one is, and each step keeps it so.
+use Rattle.types.specs.declared.event.NodeEvent.{NodeEvent}
+use Rattle.std.proofs.Common.{◌≡◌, ℕ, zero, suc, Bool, true, false, Option, Some, None, if◌then◌else◌, refl, subst}
+use Rattle.types.specs.declared.state.Votes.{Votes}
+use Rattle.protocol.specs.Passes.{pass, pass_rules, voting, counting}
+use Rattle.protocol.specs.Sameness.{same_votes}
+use Rattle.protocol.specs.Nodes.{Node, passed, settle, change, settled, after_change, step, Calm, fresh}
+use Rattle.protocol.proofs.Equality.Sameness.{same_votes-true}
+use Rattle.protocol.proofs.Nodes.Made.{answered-node, if_node}
+use Rattle.types.specs.Trees.{Slices}
+use Rattle.protocol.specs.Views.{seen, rows_seen, led_by}
+use Rattle.protocol.specs.States.{position}
+use Rattle.protocol.specs.Candidates.{filled, combine, greatest, named}
+use Rattle.protocol.specs.Nominating.{nominate, confirm_values, accept_values, echo}
+use Rattle.protocol.specs.Balloting.{started, start}
+
+-- a fresh node is
+pub fresh-calm : (slot v : ℕ) (q : Slices) → Calm (fresh slot v q)
+unfolding fresh pass pass_rules voting counting nominate confirm_values accept_values echo filled started start combine greatest named position seen rows_seen led_by
+fresh-calm slot v q = refl
+
+-- settling ends where one more pass changes nothing
+settle-calm : (k : ℕ) (f : Votes → Votes) (w : Votes) (u : Votes) → settle k f w ≡ Some u → f u ≡ u
+unfolding settle
+settle-calm zero f w u h = cc
+settle-calm (suc k) f w u h = go (same_votes (f w) w) refl h (settle-calm k f (f w) u)
+  where
+    go : (b : Bool) → same_votes (f w) w ≡ b → (if b then Some w else settle k f (f w)) ≡ Some u → (settle k f (f w) ≡ Some u → f u ≡ u) → f u ≡ u
+    go true e s ih = let p : w ≡ u = cc in subst (λ x. f x ≡ x) p (same_votes-true (f w) w e)
+    go false e s ih = ih s
+
+calm-settled : (o : Option Node) → if_node Calm (after_change o)
+calm-settled None = tt
+calm-settled (Some n) = go (settle 64 (passed n) n.votes) refl
+  where
+    go : (o : Option Votes) → settle 64 (passed n) n.votes ≡ o → if_node Calm (settled n o)
+    go None e = tt
+    go (Some w) e = settle-calm 64 (passed n) n.votes w e
+
+-- calm is kept by each step
+pub calm-step : (n : Node) (e : NodeEvent) → Calm n → Calm (step n e).0
+unfolding step
+calm-step n e c = answered-node Calm n (after_change (change n e)) c (calm-settled (change n e))

@@ -1,0 +1,95 @@
+-- A step keeps the node's name, and what it emits carries that name and the slices that the node has after it.
+use Rattle.types.specs.declared.event.NodeEvent.{NodeEvent}
+use Rattle.types.specs.declared.event.Out.{Out}
+use Rattle.std.proofs.Common.{◌≡◌, ℕ, ◌+◌, Bool, true, false, not, ◌&&◌, ◌==◌, Option, Some, None, List, [], ◌∷◌, ◌++◌, if◌then◌else◌, is_none, refl}
+use Rattle.std.specs.List.{list_all}
+use Rattle.std.proofs.lemmas.Bool.{and_from, and_parts}
+use Rattle.types.specs.Statements.{Sent}
+use Rattle.types.specs.declared.ballot.Ballot.{Ballot}
+use Rattle.types.specs.declared.statement.Statement.{Statement}
+use Rattle.protocol.specs.Rows.{with_row, is_taken}
+use Rattle.types.specs.declared.state.Votes.{Votes}
+use Rattle.protocol.specs.States.{counter_of, sent_vote, sent_nomination}
+use Rattle.protocol.specs.Sameness.{same_sent}
+use Rattle.protocol.specs.Nodes.{Node, passed, settle, change, when, emitted, decided, outs, settled, after_change, answered, step, is_externalized, in_round, timed_out}
+use Rattle.types.specs.declared.event.NodeEvent.TheVariants.{Propose, Take, NominationTimer, BallotTimer, Reslice}
+use Rattle.types.specs.declared.event.Out.TheVariants.{ArmNomination, ArmBallot, Emit, Externalized as Decided}
+use Rattle.protocol.specs.Networks.{emissions}
+use Rattle.protocol.proofs.Nodes.Made.{answered-node, if_node, if_node-if}
+
+-- a step keeps the name
+abbrev pub IsSelf : Node → Node → Type 0
+IsSelf n m = m.name ≡ n.name
+
+self-change : (n : Node) (e : NodeEvent) → if_node (IsSelf n) (change n e)
+unfolding change
+self-change n (Propose x) = refl
+self-change n (Take e) = go (is_taken n.table e)
+  where
+    go : (b : Bool) → if_node (IsSelf n) (if b then Some (record n { table = with_row e n.table }) else None)
+    go false = tt
+    go true = refl
+self-change n (NominationTimer r) = if_node-if (IsSelf n) _ (in_round n (r + 1)) refl
+self-change n (BallotTimer c) = if_node-if (IsSelf n) _ (timed_out n) refl
+self-change n (Reslice q) = refl
+
+self-settled : (n : Node) (o : Option Node) → if_node (IsSelf n) o → if_node (IsSelf n) (after_change o)
+self-settled n None h = tt
+self-settled n (Some m) h = go (settle 64 (passed m) m.votes)
+  where
+    go : (o : Option Votes) → if_node (IsSelf n) (settled m o)
+    go None = tt
+    go (Some w) = h
+
+pub step-self : (n : Node) (e : NodeEvent) → IsSelf n (step n e).0
+unfolding step
+step-self n e = answered-node (IsSelf n) n (after_change (change n e)) refl (self-settled n (change n e) (self-change n e))
+
+-- what is emitted carries the node's name, and the slices that it has after the event
+emits-append : (P : Sent → Bool) (xs ys : List Out) → list_all P (emissions xs) ≡ true → list_all P (emissions ys) ≡ true → list_all P (emissions (xs ++ ys)) ≡ true
+emits-append P [] ys h k = k
+emits-append P (ArmNomination r ∷ xs) ys h k = emits-append P xs ys h k
+emits-append P (ArmBallot n ∷ xs) ys h k = emits-append P xs ys h k
+emits-append P (Emit e ∷ xs) ys h k = let p = and_parts (P e) (list_all P (emissions xs)) h in and_from (P e) (list_all P (emissions (xs ++ ys))) p.0 (emits-append P xs ys p.1 k)
+emits-append P (Decided x ∷ xs) ys h k = emits-append P xs ys h k
+
+record Emits (P : Sent → Bool) (os : List Out) : Type 0 where
+  all : list_all P (emissions os) ≡ true
+
+both_emit : (P : Sent → Bool) {xs ys : List Out} → Emits P xs → Emits P ys → Emits P (xs ++ ys)
+both_emit P {xs} {ys} h k = record { all = emits-append P xs ys h.all k.all }
+
+outs-emit : (P : Sent → Bool) (old new : Node) → ((s : Statement) → P (record { sender = new.name; slot = new.slot; slices = new.slices; body = s }) ≡ true) → Emits P (outs old new)
+unfolding outs
+outs-emit P old new f =
+    both_emit P (both_emit P (both_emit P (both_emit P
+    (armed (not (new.given.round == old.given.round) && is_none new.votes.high) (ArmNomination new.given.round) refl)
+    (armed (not (new.votes.armed == old.votes.armed) && (new.votes.armed == counter_of new.votes.ballot) && not (is_externalized new.votes.phase)) (ArmBallot new.votes.armed) refl))
+    (sent (sent_nomination old.votes) (sent_nomination new.votes)))
+    (sent (sent_vote old.votes) (sent_vote new.votes)))
+    (last (is_externalized new.votes.phase && not (is_externalized old.votes.phase)) new.votes.ballot)
+  where
+    armed : (b : Bool) (o : Out) → list_all P (emissions (o ∷ [])) ≡ true → Emits P (when b o)
+    armed true o h = record { all = h }
+    armed false o h = record { all = refl }
+
+    sent : (old_one new_one : Option Statement) → Emits P (emitted new old_one new_one)
+    sent a None = record { all = refl }
+    sent a (Some s) = go (same_sent a (Some s))
+      where
+        go : (b : Bool) → Emits P (if b then [] else Emit (record { sender = new.name; slot = new.slot; slices = new.slices; body = s }) ∷ [])
+        go true = record { all = refl }
+        go false = record { all = and_from (P (record { sender = new.name; slot = new.slot; slices = new.slices; body = s })) true (f s) refl }
+
+    last : (b : Bool) (o : Option Ballot) → Emits P (if b then decided o else [])
+    last true None = record { all = refl }
+    last true (Some b) = record { all = refl }
+    last false o = record { all = refl }
+
+pub step-emit : (P : Sent → Bool) (n : Node) (e : NodeEvent) → ((slot : ℕ) (s : Statement) → P (record { sender = n.name; slot = slot; slices = (step n e).0.slices; body = s }) ≡ true) → list_all P (emissions (step n e).1) ≡ true
+unfolding step
+step-emit P n e f = go (after_change (change n e)) (self-settled n (change n e) (self-change n e)) f
+  where
+    go : (o : Option Node) → if_node (IsSelf n) o → ((slot : ℕ) (s : Statement) → P (record { sender = n.name; slot = slot; slices = (answered n o).0.slices; body = s }) ≡ true) → list_all P (emissions (answered n o).1) ≡ true
+    go None h f = refl
+    go (Some m) h f = (outs-emit P n m (λ s. rw h (f m.slot s))).all

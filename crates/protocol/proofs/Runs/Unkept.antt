@@ -1,0 +1,22 @@
+-- Where nothing happens, nothing is kept, and R sees the same.
+use Rattle.types.specs.declared.event.Out.{Out}
+use Rattle.std.proofs.Common.{◌≡◌, ℕ, Bool, true, false, Option, None, [], ◌++◌, if◌then◌else◌, refl}
+use Rattle.types.specs.Trees.{Slices}
+use Rattle.protocol.specs.Sets.{Names}
+use Rattle.protocol.specs.Networks.{Net}
+use Rattle.protocol.proofs.Runs.Sights.{AllPlaces}
+use Rattle.protocol.proofs.Runs.Follows.{Follows}
+
+-- nothing happens, and nothing is kept
+pub stays : (R : Names) (cast : ℕ → Option Slices) (i : ℕ) (net : Net) (of : ℕ → Bool) → AllPlaces R i net → Follows R cast i net (net, []) of None
+stays R cast i net of h = record { sights = refl; replies = λ w r. nothing (of w); places = h }
+  where
+    nothing : (b : Bool) → (if b then [] else []) ≡ ◌++◌ {A = Out} [] []
+    nothing true = refl
+    nothing false = refl
+
+pub empty : (a b : Bool) → (if a then [] else []) ≡ (if b then [] else ◌++◌ {A = Out} [] [])
+empty true true = refl
+empty true false = refl
+empty false true = refl
+empty false false = refl

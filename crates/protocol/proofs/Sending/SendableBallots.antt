@@ -1,0 +1,187 @@
+-- Each rule of balloting keeps a ballot, with its interval, that a statement may have.
+use Rattle.std.proofs.Common.{◌≡◌, ℕ, ◌≤◌, max, Bool, true, false, not, ◌&&◌, nat_lt, List, Option, Some, None, if◌then◌else◌, filter, is_none, refl, sym, subst, inl, inr, arith}
+use Rattle.std.specs.Prelude.{IfSome}
+use Rattle.std.proofs.lemmas.Bool.{cases_Bool, true≢false}
+use Rattle.std.proofs.lemmas.Bool.Decides.{nat_tests}
+use Rattle.types.specs.declared.ballot.Ballot.{Ballot}
+use Rattle.types.specs.declared.state.Phase.{Phase}
+use Rattle.types.specs.declared.state.Phase.TheVariants.{Preparing, Committing, Externalized}
+use Rattle.types.specs.declared.state.Given.{Given}
+use Rattle.types.specs.declared.state.Votes.{Votes}
+use Rattle.types.specs.Votes.{same_value}
+use Rattle.protocol.specs.Views.{Seen}
+use Rattle.protocol.specs.States.{below, ballot_at, counter_of}
+use Rattle.protocol.specs.Candidates.{combine, commits, greatest, lowest, named}
+use Rattle.protocol.specs.Nominating.{nominate}
+use Rattle.protocol.specs.Balloting.{started, start, accept_prepared, at_least, raise_high, follow_high, set_commit, confirm_prepared, is_accepted, is_confirmed, is_aborted, commit_accepted, commit_confirmed, accepted_from, first_committed, next_committed, enter_commit, widen_commit, accept_commit, confirmed_commit, externalize, confirm_commit}
+use Rattle.protocol.specs.Extremes.{IsIn}
+use Rattle.protocol.proofs.Ballots.Above.{Under, greatest-from, from-filter, lowest-low}
+use Rattle.protocol.proofs.Ballots.Order.{below-self, below-counter}
+use Rattle.protocol.proofs.Ballots.LeastCounters.{lowest_is_exact}
+use Rattle.protocol.proofs.Nominating.Sets.{nominate-is, nominate-not}
+use Rattle.protocol.proofs.Passes.Ends.{start-some}
+use Rattle.protocol.proofs.Balloting.Named.{named-parts, commits-parts}
+use Rattle.protocol.proofs.Sending.Sendable.{IsPlaced, IsSendable}
+use Rattle.protocol.proofs.Sending.SendableSets.{filled-set, voted-set}
+
+-- ---- numbers
+pub through : (a b c : ℕ) → a ≤ b → b ≤ c → a ≤ c
+through a b c h k = omega (arith, h, k)
+
+most : (a b c : ℕ) → a ≤ b → a ≤ max b c
+most a b c h = omega (arith, h)
+
+other : (a b c : ℕ) → a ≤ c → a ≤ max b c
+other a b c h = omega (arith, h)
+
+from_one : (n : ℕ) → nat_lt 0 n ≡ true → 1 ≤ n
+from_one n k = grind (arith, nat_tests)
+
+module _ (fired : ℕ) where
+  pub nominate-keeps : (v : ℕ) (s : Seen) (g : Given) (w : Votes) → IsSendable fired w → IsSendable fired (nominate v s g w)
+  nominate-keeps v s g w h = elim (cases_Bool (is_none w.high)) [
+    | inl e ↦ subst (IsSendable fired) (sym (nominate-is v s g w e)) (record {
+      voted = voted-set v s g w.voted w.confirms h.voted;
+      accepts = filled-set w.accepts _ h.accepts;
+      timers = h.timers;
+      counted = h.counted;
+      placed = h.placed;
+    })
+    | inr e ↦ subst (IsSendable fired) (sym (nominate-not v s g w e)) h
+  ]
+
+  -- ---- the first ballot
+  first-placed : (p : Phase) (high first : Option Ballot) (lo hi : ℕ) → IsPlaced p None high lo hi → IsPlaced p first high lo hi
+  first-placed Preparing None first lo hi h = tt
+  first-placed Preparing (Some x) first lo hi h = absurd (true≢false h)
+  first-placed Committing high first lo hi h = over lo hi (counter_of first) h.0 h.1.0 h.1.1
+    where
+      over : (lo hi n : ℕ) → 1 ≤ lo → lo ≤ hi → hi ≤ 0 → (1 ≤ lo) × ((lo ≤ hi) × (hi ≤ n))
+      over lo hi n a b c = absurd (omega (arith, a, b, c))
+  first-placed Externalized high first lo hi h = h
+
+  first-keeps : (w : Votes) (first : Option Ballot) → w.ballot ≡ None → IfSome first (λ b. 1 ≤ b.counter) → IsSendable fired w → IsSendable fired (record w { ballot = first })
+  first-keeps w first e c h = record {
+    voted = h.voted;
+    accepts = h.accepts;
+    timers = none (counter_of first) (subst (λ o. fired ≤ counter_of o) e h.timers);
+    counted = c;
+    placed = first-placed w.phase w.high first w.lo w.hi (subst (λ o. IsPlaced w.phase o w.high w.lo w.hi) e h.placed);
+  }
+    where
+      none : (n : ℕ) → fired ≤ 0 → fired ≤ n
+      none n k = omega (arith, k)
+
+  counted-named : (s : Seen) (w : Votes) (test : Ballot → Bool) (o : Option Ballot) → greatest None (filter test (named s w)) ≡ o → IfSome o (λ b. 1 ≤ b.counter)
+  counted-named s w test None e = tt
+  counted-named s w test (Some t) e = elim (greatest-from None (filter test (named s w)) t e) [
+    | inl k ↦ cc
+    | inr i ↦ from_one t.counter (named-parts s w t (from-filter test t (named s w) i).0).0
+  ]
+
+  pub start-keeps : (s : Seen) (w : Votes) → IsSendable fired w → IsSendable fired (start s w)
+  unfolding start started
+  start-keeps s w h = go w.ballot (combine w.confirms) refl refl
+    where
+      go : (o : Option Ballot) (z : Option (List ℕ)) → w.ballot ≡ o → combine w.confirms ≡ z → IsSendable fired (start s w)
+      go (Some b) z e k = subst (IsSendable fired) (sym (start-some s w b e)) h
+      go None (Some x) e k =
+          let is : start s w ≡ record w { ballot = Some (ballot_at 1 x) } = rw (e, k) refl in
+          subst (IsSendable fired) (sym is) (first-keeps w (Some (ballot_at 1 x)) e (omega arith) h)
+      go None None e k =
+          let first = greatest None (filter (is_accepted s w) (named s w)) in
+          let is : start s w ≡ record w { ballot = first } = rw (e, k) refl in
+          subst (IsSendable fired) (sym is) (first-keeps w first e (counted-named s w (is_accepted s w) first refl) h)
+
+  -- ---- prepared
+  pub prepared-keeps : (s : Seen) (b : Ballot) (w : Votes) → IsSendable fired w → IsSendable fired (accept_prepared s b w)
+  unfolding accept_prepared
+  prepared-keeps s b w h = record { voted = h.voted; accepts = h.accepts; timers = h.timers; counted = h.counted; placed = h.placed }
+
+  followed : (high : Option Ballot) (b : Ballot) → (b.counter ≤ (at_least high b).counter) × Under high (Some (at_least high b))
+  followed None b = (omega arith, tt)
+  followed (Some h) b = go (below b h) refl
+    where
+      go : (c : Bool) → below b h ≡ c → (b.counter ≤ (if c then h else b).counter) × (below (if c then h else b) h ≡ false)
+      go true e = (below-counter b h e, below-self h)
+      go false e = (omega arith, e)
+
+  pub confirmed-keeps : (s : Seen) (b : Ballot) (w : Votes) → w.phase ≡ Preparing → w.ballot ≡ Some b → IsSendable fired w → IsSendable fired (confirm_prepared s b w)
+  unfolding confirm_prepared set_commit follow_high raise_high
+  confirmed-keeps s b w p e h =
+      let high = greatest w.high (filter (is_confirmed s w) (named s w)) in
+      let f = followed high b in
+      let n = at_least high b in
+      record {
+        voted = h.voted;
+        accepts = h.accepts;
+        timers = through fired b.counter n.counter (subst (λ o. fired ≤ counter_of o) e h.timers) f.0;
+        counted = through 1 b.counter n.counter (subst (λ o. IfSome o (λ b. 1 ≤ b.counter)) e h.counted) f.0;
+        placed = subst (λ p. IsPlaced p (Some n) high w.lo w.hi) (sym p) f.1;
+      }
+
+  -- ---- committed
+  interval : (test : ℕ → Bool) (s : Seen) (w : Votes) (t : Ballot) → IsIn t (commits s w) → (1 ≤ t.counter) × ((1 ≤ lowest test t.value t.counter (commits s w)) × (lowest test t.value t.counter (commits s w) ≤ t.counter))
+  interval test s w t i =
+      let lo = lowest test t.value t.counter (commits s w) in
+      let c = from_one t.counter (commits-parts s w t i).0 in (
+        c,
+        (
+          elim (lowest_is_exact test t.value t.counter (commits s w)).from [
+            | inl e ↦ subst (λ n. 1 ≤ n) (sym e) c
+            | inr r ↦ subst (λ n. 1 ≤ n) r.1.1.1.1 (from_one r.0.counter (commits-parts s w r.0 r.1.0).0)
+          ],
+          lowest-low test t.value t.counter (commits s w),
+        ),
+      )
+
+  chosen-in : (test : Ballot → Bool) (ts : List Ballot) (t : Ballot) → greatest None (filter test ts) ≡ Some t → IsIn t ts
+  chosen-in test ts t e = elim (greatest-from None (filter test ts) t e) [
+    | inl k ↦ cc
+    | inr i ↦ (from-filter test t ts i).0
+  ]
+
+  pub accept-keeps : (p : Phase) (s : Seen) (b : Ballot) (w : Votes) → w.phase ≡ p → w.ballot ≡ Some b → IsSendable fired w → IsSendable fired (accept_commit p s b w)
+  unfolding accept_commit enter_commit widen_commit accepted_from first_committed next_committed
+  accept-keeps Preparing s b w p e h = go (first_committed s w) refl
+    where
+      go : (o : Option Ballot) → first_committed s w ≡ o → IsSendable fired (enter_commit s b w o)
+      go None k = h
+      go (Some t) k =
+          let r = interval (λ lo. commit_accepted s w t.value lo t.counter) s w t (chosen-in (λ t. commit_accepted s w t.value t.counter t.counter && is_confirmed s w t && not (is_aborted w t)) (commits s w) t k) in
+          record {
+            voted = h.voted;
+            accepts = h.accepts;
+            timers = most fired b.counter t.counter (subst (λ o. fired ≤ counter_of o) e h.timers);
+            counted = other 1 b.counter t.counter r.0;
+            placed = (r.1.0, (r.1.1, other t.counter b.counter t.counter (omega arith)));
+          }
+  accept-keeps Committing s b w p e h = go (next_committed s b w) refl
+    where
+      go : (o : Option Ballot) → next_committed s b w ≡ o → IsSendable fired (widen_commit s b w o)
+      go None k = h
+      go (Some t) k =
+          let r = interval (λ lo. commit_accepted s w t.value lo t.counter) s w t (chosen-in (λ t. same_value t.value b.value && nat_lt w.hi t.counter && commit_accepted s w t.value t.counter t.counter) (commits s w) t k) in
+          let n = ballot_at (max b.counter t.counter) t.value in
+          let lo = lowest (λ lo. commit_accepted s w t.value lo t.counter) t.value t.counter (commits s w) in
+          let placed : IsPlaced Committing (Some n) w.high lo t.counter = (r.1.0, (r.1.1, other t.counter b.counter t.counter (omega arith))) in
+          record {
+            voted = h.voted;
+            accepts = h.accepts;
+            timers = most fired b.counter t.counter (subst (λ o. fired ≤ counter_of o) e h.timers);
+            counted = other 1 b.counter t.counter r.0;
+            placed = subst (λ q. IsPlaced q (Some n) w.high lo t.counter) (sym p) placed;
+          }
+  accept-keeps Externalized s b w p e h = h
+
+  pub confirm-keeps : (p : Phase) (s : Seen) (b : Ballot) (w : Votes) → IsSendable fired w → IsSendable fired (confirm_commit p s b w)
+  unfolding confirm_commit confirmed_commit externalize
+  confirm-keeps Preparing s b w h = h
+  confirm-keeps Committing s b w h = go (confirmed_commit s b w) refl
+    where
+      go : (o : Option Ballot) → confirmed_commit s b w ≡ o → IsSendable fired (externalize s w o)
+      go None k = h
+      go (Some t) k =
+          let r = interval (λ lo. commit_confirmed s w t.value lo t.counter) s w t (chosen-in (λ t. same_value t.value b.value && commit_confirmed s w t.value t.counter t.counter) (commits s w) t k) in
+          record { voted = h.voted; accepts = h.accepts; timers = h.timers; counted = h.counted; placed = (r.1.0, r.1.1) }
+  confirm-keeps Externalized s b w h = h
