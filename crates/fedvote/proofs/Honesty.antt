@@ -12,8 +12,8 @@ use Rattle.protocol.specs.Rows.{row, is_row_of, is_kind}
 use Rattle.protocol.specs.Backing.{is_passed, passing}
 use Rattle.protocol.specs.Reach.{reached}
 use Rattle.protocol.specs.Views.{Seen, others_reached, rows_seen, passing_with, blocking_passes, seen}
-use Rattle.protocol.proofs.ReachLaws.{reach_least}
-use Rattle.protocol.proofs.ViewLaws.{is_blocked-local}
+use Rattle.protocol.proofs.Reach.Chains.{reach_least}
+use Rattle.protocol.proofs.Nodes.Views.{is_blocked-local}
 use Rattle.fedvote.specs.Searching.{IsHonest}
 use Rattle.fedvote.specs.Seeing.{Standpoint, seen_from}
 

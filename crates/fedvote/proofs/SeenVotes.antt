@@ -11,10 +11,10 @@ use Rattle.protocol.specs.Satisfaction.{sat, Blocks}
 use Rattle.protocol.specs.Quorums.{HasQuorum}
 use Rattle.protocol.specs.Backing.{slices_by}
 use Rattle.protocol.specs.Views.{Seen, accepted, confirmed, passes, passing_with, quorum_passes, blocking_passes, seen}
-use Rattle.protocol.proofs.QuorumLaws.{has_quorum-from, has_quorum-found}
-use Rattle.protocol.proofs.SamenessLaws.{eqb-refl}
-use Rattle.protocol.proofs.SatisfactionLaws.{sat_monotone, sat_dual}
-use Rattle.protocol.proofs.ViewLaws.{lists}
+use Rattle.protocol.proofs.Slices.Quorums.{has_quorum-from, has_quorum-found}
+use Rattle.protocol.proofs.Equality.Sameness.{eqb-refl}
+use Rattle.protocol.proofs.Slices.Satisfaction.{sat_monotone, sat_dual}
+use Rattle.protocol.proofs.Nodes.Views.{lists}
 use Rattle.fedvote.specs.declared.claim.Claim.{Claim}
 use Rattle.fedvote.specs.Questions.{accepts, backs, kind_of_claim}
 use Rattle.fedvote.specs.Seeing.{standing, AcceptedByRows, ConfirmedByRows, AcceptsClaim, ConfirmsClaim, Standpoint, seen_from}

@@ -3,7 +3,8 @@ use Rattle.std.proofs.Common.{ℕ, Bool, List, filter, Option, IsTrue, ◌↔◌
 use Rattle.std.proofs.lemmas.Bool.{and_parts}
 use Rattle.protocol.specs.Sets.{Names, among}
 use Rattle.protocol.specs.Quorums.{HasQuorum, NamesWithin}
-use Rattle.protocol.proofs.QuorumLaws.{IsLocal, cut_answer}
+use Rattle.protocol.specs.Quorums.{IsLocal}
+use Rattle.protocol.proofs.Slices.Quorums.{cut_answer}
 use Rattle.quorum.proofs.Kept.{among-filter, among-from_filter}
 
 module _ {Q : Type 0} (sat : Q → Names → Bool) (names : Q → List ℕ) (slices_at : ℕ → Option Q) where
