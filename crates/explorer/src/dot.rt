@@ -13,7 +13,7 @@ use types::NodeId;
 pub fn push_dot(text: &mut String, report: &Report) -> Result<(), AllocError> {
     text.push_str("digraph closure {\n")?;
     push_members(text, report.members())?;
-    for blockers in report.hosted() {
+    for blockers in report.blockers() {
         push_blockers(text, blockers)?;
     }
     text.push_str("}\n")?;

@@ -55,7 +55,7 @@ pub fn marks_of(alloc: Global, report: &Report) -> Result<Vec<Mark>, AllocError>
     for _ in 0..members.len() {
         marks.push(Mark::NONE)?;
     }
-    for blockers in report.hosted() {
+    for blockers in report.blockers() {
         mark_hosted(members, &mut marks, blockers.node());
         for name in blockers.names() {
             mark_blocking(members, &mut marks, name);

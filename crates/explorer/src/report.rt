@@ -69,7 +69,7 @@ impl Report {
     }
 
     /// The hosted members, ascending, each with those who block it.
-    pub fn hosted(&self) -> &[Blockers]
+    pub fn blockers(&self) -> &[Blockers]
         ensures { result.now ≡ self.now.hosted }
     {
         &self.hosted

@@ -238,7 +238,7 @@ impl Picture<'_> {
             push_label(text, name.as_str())?;
         }
         let count = members.len();
-        let hosted = self.report.hosted().len();
+        let hosted = self.report.blockers().len();
         write!(text, ": {count} members, {hosted} hosted")?;
         Ok(())
     }

@@ -19,7 +19,7 @@ pub fn push_text(text: &mut String, report: &Report) -> Result<(), AllocError>
     ensures { OnOk result (string_bytes text.new ≡ string_bytes text.old ++ text_of_report report.now) }
 {
     push_members(text, report.members())?;
-    push_hosted(text, report.hosted())?;
+    push_hosted(text, report.blockers())?;
     Ok(())
 }
 

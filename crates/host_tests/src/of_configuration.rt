@@ -73,7 +73,7 @@ fn plain(alloc: Global, nodes: Vec<Host>) -> Result<u8, Fail> {
 }
 
 /// The error of a network of one node with a roster.
-fn reserved(alloc: Global, roster: Vec<NodeId>, shares: Shares) -> Result<u8, Fail> {
+fn error_with_roster(alloc: Global, roster: Vec<NodeId>, shares: Shares) -> Result<u8, Fail> {
     let nodes = nodes(alloc, &[7])?;
     let budgets = budgets()?;
     Ok(error(NetConfig::with_roster(alloc, 1, nodes, budgets, roster, shares)))
@@ -115,12 +115,12 @@ fn a_network_has_256_nodes_at_most(rt: HostRuntime) -> Result<(), Fail> {
 #[test]
 fn a_roster_has_1024_names_at_most(rt: HostRuntime) -> Result<(), Fail> {
     let alloc = rt.alloc();
-    assert_eq!(rt; reserved(alloc, names(alloc, 0)?, SHARES)?, 0);
-    assert_eq!(rt; reserved(alloc, names(alloc, 1024)?, SHARES)?, 0);
-    assert_eq!(rt; reserved(alloc, names(alloc, 1025)?, SHARES)?, 6);
+    assert_eq!(rt; error_with_roster(alloc, names(alloc, 0)?, SHARES)?, 0);
+    assert_eq!(rt; error_with_roster(alloc, names(alloc, 1024)?, SHARES)?, 0);
+    assert_eq!(rt; error_with_roster(alloc, names(alloc, 1025)?, SHARES)?, 6);
     let mut twice = names(alloc, 1025)?;
     twice.push(name(3))?;
-    assert_eq!(rt; reserved(alloc, twice, SHARES)?, 5);
+    assert_eq!(rt; error_with_roster(alloc, twice, SHARES)?, 5);
     Ok(())
 }
 
@@ -132,7 +132,7 @@ fn over(alloc: Global, own: u64, pair: u64, bytes: u64, opens: u64) -> Result<u8
         bytes: MOST.saturating_add(bytes),
         opens: MOST.saturating_add(opens),
     };
-    reserved(alloc, names(alloc, 2)?, shares)
+    error_with_roster(alloc, names(alloc, 2)?, shares)
 }
 
 #[test]
@@ -153,7 +153,7 @@ fn too_long_comes_before_too_large(rt: HostRuntime) -> Result<(), Fail> {
         opens: MOST + 1,
         ..SHARES
     };
-    assert_eq!(rt; reserved(alloc, names(alloc, 1025)?, shares)?, 6);
+    assert_eq!(rt; error_with_roster(alloc, names(alloc, 1025)?, shares)?, 6);
     Ok(())
 }
 

@@ -84,18 +84,18 @@ fn with_network(alloc: Global, mut world: Told, net: u32, threshold: u8) -> Opti
 }
 
 /// The world where node 2 accepts a ballot in this network.
-fn begun(alloc: Global, world: Told, net: u32) -> Option<Told> {
+fn begin(alloc: Global, world: Told, net: u32) -> Option<Told> {
     after(world, net, said(alloc, 2, acceptance(alloc, 9, b'm')))
 }
 
 /// The world where then node 3 accepts another ballot in this network, and node 4 votes for that value.
-fn ended(alloc: Global, world: Told, net: u32) -> Option<Told> {
+fn end(alloc: Global, world: Told, net: u32) -> Option<Told> {
     let world = after(world, net, said(alloc, 3, acceptance(alloc, 8, b'k')))?;
     after(world, net, said(alloc, 4, vote(alloc, 1, b'k')))
 }
 
 /// The world where a stranger votes in this network.
-fn disturbed(alloc: Global, world: Told, net: u32, counter: u32) -> Option<Told> {
+fn disturb(alloc: Global, world: Told, net: u32, counter: u32) -> Option<Told> {
     after(world, net, said(alloc, 9, vote(alloc, counter, b'q')))
 }
 
@@ -105,20 +105,20 @@ fn quiet(alloc: Global) -> Option<Told> {
     let world = with_network(alloc, world, 2, 2)?;
     let world = with_network(alloc, world, 3, 2)?;
     let world = with_network(alloc, world, 4, 2)?;
-    let world = ended(alloc, begun(alloc, world, 1)?, 1)?;
-    begun(alloc, begun(alloc, world, 2)?, 3)
+    let world = end(alloc, begin(alloc, world, 1)?, 1)?;
+    begin(alloc, begin(alloc, world, 2)?, 3)
 }
 
 /// The same with a stranger in networks 1 and 2; in network 2 more is said, network 3 is not there, and
 /// node 1 has other slices in network 4.
-fn flooded(alloc: Global) -> Option<Told> {
+fn flood(alloc: Global) -> Option<Told> {
     let world = with_network(alloc, World::new(alloc), 1, 2)?;
     let world = with_network(alloc, world, 2, 2)?;
     let world = with_network(alloc, world, 4, 1)?;
-    let world = disturbed(alloc, begun(alloc, world, 1)?, 1, 5)?;
-    let world = disturbed(alloc, ended(alloc, world, 1)?, 1, 6)?;
-    let world = begun(alloc, disturbed(alloc, world, 2, 5)?, 2)?;
-    ended(alloc, world, 2)
+    let world = disturb(alloc, begin(alloc, world, 1)?, 1, 5)?;
+    let world = disturb(alloc, end(alloc, world, 1)?, 1, 6)?;
+    let world = begin(alloc, disturb(alloc, world, 2, 5)?, 2)?;
+    end(alloc, world, 2)
 }
 
 /// Whether a node gives out the same in both.
@@ -237,7 +237,7 @@ fn are_expected(verdicts: &[Verdict]) -> bool {
 fn many_questions_are_answered_as_each_alone(rt: HostRuntime) -> Result<(), Fail> {
     let alloc = rt.alloc();
     let one = quiet(alloc).ok_or("memory")?;
-    let other = flooded(alloc).ok_or("memory")?;
+    let other = flood(alloc).ok_or("memory")?;
     let questions = [
         (1, 1, name(1)),
         (1, 1, name(2)),

@@ -158,7 +158,7 @@ fn publish_many<R: Wait + Drop>(
 }
 
 /// How many there are, where each stands at the place of its slot.
-fn counted(decisions: &[Decision]) -> Option<usize> {
+fn count_in_order(decisions: &[Decision]) -> Option<usize> {
     for (place, decision) in decisions.iter().enumerate() {
         if decision.slot != place as u64 {
             return None;
@@ -174,7 +174,7 @@ fn read_often(watch: Watch) -> (Watch, u32) {
     let mut most = 0;
     let mut wrong = 0u32;
     for _ in 0..READS {
-        match watch.read(|decisions: &[Decision]| counted(decisions)) {
+        match watch.read(|decisions: &[Decision]| count_in_order(decisions)) {
             Some(Some(number)) if number >= most => most = number,
             _ => wrong = wrong.wrapping_add(1),
         }
@@ -211,7 +211,7 @@ fn threads_read_while_one_publishes(rt: HostRuntime) -> Result<(), Fail> {
     for (watch, wrong) in readers {
         let mut watch = watch;
         assert_eq!(rt; wrong, 0);
-        let number = watch.read(|decisions: &[Decision]| counted(decisions));
+        let number = watch.read(|decisions: &[Decision]| count_in_order(decisions));
         assert_eq!(rt; number, Some(Some(50)));
     }
     Ok(())
@@ -274,7 +274,7 @@ fn what_found_no_memory_goes_with_the_next(rt: HostRuntime) -> Result<(), Fail> 
     };
     let mut watch = publisher.watch()?;
     let publisher = publish_pairs(alloc, publisher)?;
-    let number = watch.read(|decisions: &[Decision]| counted(decisions));
+    let number = watch.read(|decisions: &[Decision]| count_in_order(decisions));
     assert_eq!(rt; number, Some(Some(50)));
     drop(publisher);
     Ok(())

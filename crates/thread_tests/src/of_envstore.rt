@@ -215,7 +215,7 @@ fn end_two<R: Threads + Drop>(
 }
 
 /// Whether each of two threads reads what the other one put.
-fn crossed<R: Threads + Sync>(rt: &R, left: &Run<R>, right: &Run<R>, sender: u64) -> bool
+fn read_each_other<R: Threads + Sync>(rt: &R, left: &Run<R>, right: &Run<R>, sender: u64) -> bool
     requires { left.now ≡ right.now }
 {
     let (one, other) = thread::join(
@@ -239,7 +239,7 @@ fn is_there<R: Threads + Sync + Drop>(
 {
     let (left, right) = end_two(rt, two, store)?;
     let here = left.reads_back(store, sender) && right.reads_back(store, sender.wrapping_add(1));
-    Some(here && crossed(rt, &left, &right, sender))
+    Some(here && read_each_other(rt, &left, &right, sender))
 }
 
 #[test]

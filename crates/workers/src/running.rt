@@ -33,7 +33,7 @@ pub struct Report {
 }
 
 /// What the workers counted.
-fn counted<S: Shelf, H: Wait + Drop, R: Wait>(rt: &R, workers: &[Worker<S, H>]) -> Report
+fn report_of<S: Shelf, H: Wait + Drop, R: Wait>(rt: &R, workers: &[Worker<S, H>]) -> Report
     ensures { IsCounted workers.now result }
 {
     let mut applied = 0;
@@ -70,7 +70,7 @@ where
 {
     let mut workers = deal(&mut floor.benches, &mut passes, crew);
     work_through(rt, &mut floor.shared, workers.as_mut_slice(), passes, gate);
-    let report = counted(rt, workers.as_slice());
+    let report = report_of(rt, workers.as_slice());
     while let Some(worker) = workers.pop() {
         give_back(&mut floor.benches, worker);
     }

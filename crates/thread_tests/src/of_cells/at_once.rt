@@ -96,7 +96,7 @@ where
 }
 
 /// How many there are, where each is of `x`.
-fn counted(decisions: &[Decision]) -> Option<usize> {
+fn count_of_x(decisions: &[Decision]) -> Option<usize> {
     for decision in decisions {
         if !is_x(&decision.value) {
             return None;
@@ -131,7 +131,7 @@ fn four_threads_make_one_history(rt: HostRuntime) -> Result<(), Fail> {
     let mut watch = watch;
     let room = used_by_all(&rt, alloc, room);
     assert_eq!(rt;
-        watch.read(|decisions: &[Decision]| counted(decisions)),
+        watch.read(|decisions: &[Decision]| count_of_x(decisions)),
         Some(Some(68))
     );
     let (journal, seats, board) = room.close_watched(&rt).ok_or("not closed")?;

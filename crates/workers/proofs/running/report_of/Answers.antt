@@ -3,7 +3,7 @@ use Rattle.work.specs.Hands.{weigh}
 use Rattle.workers.specs.Sums.{applied_by, refused_by}
 use Rattle.workers.proofs.Pools.{take_all}
 use Rattle.workers.proofs.Worked.{weigh_more}
-use Rattle.workers.proofs.running.counted.Goals as goal
+use Rattle.workers.proofs.running.report_of.Goals as goal
 
 pub loop-worker-preserved : goal.loop-worker-preserved
 loop-worker-preserved g c =

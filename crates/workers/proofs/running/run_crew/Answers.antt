@@ -87,7 +87,7 @@ returns-clause-worked g c =
     (let s = c.loop-worker.invariant.1 f in
     let a : at_work f c.loop-worker.workers.items ≡ 0 = ap (at_work f) none in
     let b = ap (at_work f) back in omega arith) in
-    worked cs q c.args.floor.now.benches.items mid cur xs ys c.args.passes.items c.deal-workers.new.passes.items c.counted-report.result
+    worked cs q c.args.floor.now.benches.items mid cur xs ys c.args.passes.items c.deal-workers.new.passes.items c.report_of-report.result
     c.deal-workers.ensures.dealt given c.deal-workers.ensures.fresh.0 c.deal-workers.ensures.passes
     (dealt_ready cs q c.args.floor.now.benches.items xs mid c.requires.hosted hold c.deal-workers.ensures.dealt) c.work_through.ensures.ready closed
-    (subst (λ (l : List (Worker _ _ _)). IsCounted l c.counted-report.result) (c.as_slice.ensures.value ∙ back) c.counted-report.ensures)
+    (subst (λ (l : List (Worker _ _ _)). IsCounted l c.report_of-report.result) (c.as_slice.ensures.value ∙ back) c.report_of-report.ensures)
