@@ -14,7 +14,7 @@ use types::{Kind, Nested, NodeId};
 
 /// A node's name and slices, the nodes that it reaches, and their slices by the rows of a kind.
 #[derive(Drop)]
-pub(crate) struct Reached<'a, S: Places> {
+pub(crate) struct SlicesInReach<'a, S: Places> {
     own: &'a NodeId,
     slices: &'a Nested,
     nodes: &'a [NodeId],
@@ -22,18 +22,18 @@ pub(crate) struct Reached<'a, S: Places> {
     kind: Kind,
 }
 
-impl<'a, S: Places> Reached<'a, S> {
+impl<'a, S: Places> SlicesInReach<'a, S> {
     /// The nodes that the node with this name and these slices reaches, by the rows of a kind.
     pub(crate) fn new(
         own: (&'a NodeId, &'a Nested),
         nodes: &'a [NodeId],
         table: &'a Rows<'a, S>,
         kind: Kind,
-    ) -> Reached<'a, S>
+    ) -> SlicesInReach<'a, S>
         ensures { (result.own.now ≡ own.entry.0.now) × (result.slices.now ≡ own.entry.1.now) × (result.nodes.now ≡ nodes.now) × (result.table.now ≡ table.now) × (result.kind ≡ kind) }
     {
         let (own, slices) = own;
-        Reached {
+        SlicesInReach {
             own,
             slices,
             nodes,

@@ -36,7 +36,7 @@ impl<'a> Model for ListedBallots<'a> {
 impl<'a> ListedBallots<'a> {
     /// The ballots that the statements name, and those at whose counters they speak of commit, both with
     /// counters from 1 on. An error says that memory is short.
-    pub(crate) fn named_and_committed<S: Places>(
+    pub(crate) fn of_rows<S: Places>(
         alloc: Global,
         own: &NodeId,
         rows: &ReachedRows<'a, S>,

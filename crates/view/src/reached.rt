@@ -70,7 +70,7 @@ impl<'a, S: Places> ReachedRows<'a, S> {
 
     /// The same for rows that are asked for often: they are gathered, where the nodes are many. An error says that
     /// memory is short.
-    pub(crate) fn gathered(
+    pub(crate) fn gather(
         alloc: Global,
         nodes: &'a [NodeId],
         places: &'a [Option<usize>],

@@ -13,7 +13,7 @@ ghost use Rattle.view.specs.Forms.{AreBelow, IsFound};
 ghost use Rattle.view.specs.Regions.{IsCopy, IsEntry, IsRegion, forms_of, row_places};
 
 use crate::asking::places_to_ask;
-use crate::forms::Reached;
+use crate::forms::SlicesInReach;
 use closure::{drops_none, keeps_reach, reach};
 use compiled::{CompiledSet, Form, compile, has_places, place_of};
 use envstore::Places;
@@ -170,7 +170,7 @@ impl Region {
         ensures { IfOk result (IsFound self.now.nodes.items (slices_by own.entry.0.now own.entry.1.now table.now (kind_of envelope.now.body)) (forms_of (kind_of envelope.now.body) self.now) self.now.numbers envelope.now.slices) }
     {
         let kind = envelope.body().kind();
-        let reached = Reached::new(own, &self.nodes, table, kind);
+        let reached = SlicesInReach::new(own, &self.nodes, table, kind);
         let candidates = (self.place, self.latest);
         reached.form_of(
             alloc,
@@ -308,7 +308,7 @@ fn forms_by<S: Places>(
     ensures compiled { IfOk result (λ v. AreCompiled nodes.now (slices_by own.entry.0.now own.entry.1.now table.now kind) v.items) }
     ensures below { IfOk result (λ v. AreBelow (length nodes.now) v.items) }
 {
-    let reached = Reached::new(own, nodes, table, kind);
+    let reached = SlicesInReach::new(own, nodes, table, kind);
     reached.forms(alloc)
 }
 

@@ -78,13 +78,7 @@ impl<'a, S: Places> View<'a, S> {
     {
         table.are_single();
         let nodes = &region.nodes;
-        let ballots = ReachedRows::gathered(
-            alloc,
-            nodes,
-            &region.ballot_rows,
-            table,
-            Kind::Ballot,
-        )?;
+        let ballots = ReachedRows::gather(alloc, nodes, &region.ballot_rows, table, Kind::Ballot)?;
         let nominations = ReachedRows::in_place(
             alloc,
             nodes,
@@ -92,7 +86,7 @@ impl<'a, S: Places> View<'a, S> {
             table,
             Kind::Nomination,
         );
-        let (named, committed) = ListedBallots::named_and_committed(alloc, own, &ballots)?;
+        let (named, committed) = ListedBallots::of_rows(alloc, own, &ballots)?;
         Ok(View {
             own,
             slices,

@@ -1,7 +1,7 @@
 use Rattle.std.proofs.Common.{Bor, None, Option, option_map}
 use Rattle.types.specs.Statements.{Sent}
 use Rattle.view.proofs.Keeping.{row_gathered}
-use Rattle.view.proofs.reached.ReachedRows.gathered.Goals as goal
+use Rattle.view.proofs.reached.ReachedRows.gather.Goals as goal
 
 pub invariant_of-result : goal.invariant_of-result
 invariant_of-result g c =

@@ -4,7 +4,7 @@ use Rattle.protocol.specs.Candidates.{committed_by, named_by}
 use Rattle.protocol.specs.Rows.{row}
 use Rattle.view.specs.Watching.{said_by_another}
 use Rattle.view.proofs.ListedLaws.{HasListed, all_listed, has_added, none_listed, one_listed}
-use Rattle.view.proofs.listed.ListedBallots.named_and_committed.Goals as goal
+use Rattle.view.proofs.listed.ListedBallots.of_rows.Goals as goal
 
 pub loop-place-preserved-in_default : goal.loop-place-preserved-in_default
 loop-place-preserved-in_default g c =

@@ -1,7 +1,7 @@
 use Rattle.std.proofs.Common.{◌≡◌, length}
 use Rattle.protocol.specs.Backing.{slices_by}
 use Rattle.view.specs.Forms.{ArePart}
-use Rattle.view.proofs.forms.Reached.forms.Given as goal
+use Rattle.view.proofs.forms.SlicesInReach.forms.Given as goal
 
 abbrev pub invariant-loop-place : goal.invariant-loop-place
 invariant-loop-place g l = record {

@@ -1,7 +1,7 @@
 use Rattle.std.proofs.Common.{◌≡◌, Some, get_or, option_map, sym, ◌∙◌, ap}
 use Rattle.protocol.specs.Backing.{slices_by}
 use Rattle.view.proofs.FormLaws.{part_some}
-use Rattle.view.proofs.forms.Reached.form_at.Goals as goal
+use Rattle.view.proofs.forms.SlicesInReach.form_at.Goals as goal
 
 pub returns-in_ok-form-in-Some : goal.returns-in_ok-form-in-Some
 returns-in_ok-form-in-Some g c =
