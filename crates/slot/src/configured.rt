@@ -4,6 +4,7 @@ ghost use Rattle.std.specs.Prelude.{◌≡◌, IfOk};
 
 use std::alloc::AllocError;
 use types::{Nested, NodeId};
+use view::Own;
 
 /// Who a node is, at which slot, and the slices that are configured at this moment.
 #[derive(Drop)]
@@ -14,6 +15,16 @@ pub(crate) struct Configured {
 }
 
 impl Configured {
+    /// Its name and its slices.
+    pub(crate) fn own(&self) -> Own<'_>
+        ensures { (result.name.now ≡ self.now.name) × (result.slices.now ≡ self.now.slices) }
+    {
+        Own {
+            name: &self.name,
+            slices: &self.slices,
+        }
+    }
+
     /// A copy, which shares the slices. An error says that they have too many owners.
     pub(crate) fn try_copy(&self) -> Result<Configured, AllocError>
         ensures { IfOk result (λ c. c ≡ self.now) }

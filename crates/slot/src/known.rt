@@ -156,8 +156,7 @@ fn effect_on<S: Places>(
     if region.stays(rows, envelope) {
         return Effect::Nothing;
     }
-    let own = &configured.name;
-    match region.entry_for(alloc, own, &configured.slices, rows, envelope) {
+    match region.entry_for(alloc, configured.own(), rows, envelope) {
         Ok(Some(entry)) => Effect::Sets(entry),
         Ok(None) => Effect::Forgets,
         Err(_) => Effect::Forgets,

@@ -247,14 +247,7 @@ impl Listener {
     {
         let configured = &self.configured;
         let rows = Rows::of(&self.table, archive);
-        let view = View::of(
-            alloc,
-            &configured.name,
-            &configured.slices,
-            &start.given.leaders,
-            &rows,
-            region,
-        )?;
+        let view = View::of(alloc, configured.own(), &start.given.leaders, &rows, region)?;
         settled_votes(alloc, configured, &view, start)
     }
 }

@@ -6,11 +6,19 @@ ghost use Rattle.protocol.specs.Sets.{IsAscending};
 ghost use Rattle.compiled.specs.Searching.{AreCompiled};
 ghost use Rattle.view.specs.Forms.{ArePart, AreBelow, IsFound, IsTwin};
 
+use crate::own::Own;
 use compiled::{Form, compile};
 use envstore::Places;
 use latest::Rows;
 use std::alloc::{AllocError, Global};
 use types::{Kind, Nested, NodeId};
+
+/// The forms that are there, and two places at which slices that are the same are looked for.
+#[derive(Clone, Copy)]
+pub(crate) struct Candidates<'a> {
+    pub forms: &'a [Option<Form>],
+    pub places: (usize, usize),
+}
 
 /// A node's name and slices, the nodes that it reaches, and their slices by the rows of a kind.
 #[derive(Drop)]
@@ -25,17 +33,16 @@ pub(crate) struct SlicesInReach<'a, S: Places> {
 impl<'a, S: Places> SlicesInReach<'a, S> {
     /// The nodes that the node with this name and these slices reaches, by the rows of a kind.
     pub(crate) fn new(
-        own: (&'a NodeId, &'a Nested),
+        own: Own<'a>,
         nodes: &'a [NodeId],
         table: &'a Rows<'a, S>,
         kind: Kind,
     ) -> SlicesInReach<'a, S>
-        ensures { (result.own.now ≡ own.entry.0.now) × (result.slices.now ≡ own.entry.1.now) × (result.nodes.now ≡ nodes.now) × (result.table.now ≡ table.now) × (result.kind ≡ kind) }
+        ensures { (result.own.now ≡ own.entry.name.now) × (result.slices.now ≡ own.entry.slices.now) × (result.nodes.now ≡ nodes.now) × (result.table.now ≡ table.now) × (result.kind ≡ kind) }
     {
-        let (own, slices) = own;
         SlicesInReach {
-            own,
-            slices,
+            own: own.name,
+            slices: own.slices,
             nodes,
             table,
             kind,
@@ -81,7 +88,11 @@ impl<'a, S: Places> SlicesInReach<'a, S> {
         match self.slices_at(place) {
             None => Ok(None),
             Some(slices) => {
-                let form = self.form_of(alloc, slices, forms, candidates, place)?;
+                let there = Candidates {
+                    forms,
+                    places: candidates,
+                };
+                let form = self.form_of(alloc, slices, there, place)?;
                 Ok(Some(form))
             }
         }
@@ -93,17 +104,16 @@ impl<'a, S: Places> SlicesInReach<'a, S> {
         &self,
         alloc: Global,
         slices: &Nested,
-        forms: &[Option<Form>],
-        candidates: (usize, usize),
+        there: Candidates<'_>,
         number: usize,
     ) -> Result<Form, AllocError>
         requires { IsAscending self.now.nodes.now }
-        ensures { IfOk result (IsFound self.now.nodes.now (slices_by self.now.own.now self.now.slices.now self.now.table.now self.now.kind) forms.now number slices.now) }
+        ensures { IfOk result (IsFound self.now.nodes.now (slices_by self.now.own.now self.now.slices.now self.now.table.now self.now.kind) there.entry.forms.now number slices.now) }
     {
-        if let Some(form) = self.twin(slices, forms, candidates.0) {
+        if let Some(form) = self.twin(slices, there.forms, there.places.0) {
             return form.try_copy();
         }
-        if let Some(form) = self.twin(slices, forms, candidates.1) {
+        if let Some(form) = self.twin(slices, there.forms, there.places.1) {
             return form.try_copy();
         }
         let set = compile(alloc, slices.set(), self.nodes, false)?;

@@ -8,6 +8,7 @@
 mod asking;
 mod forms;
 mod listed;
+mod own;
 mod passing;
 mod reached;
 mod region;
@@ -15,5 +16,6 @@ mod rows;
 mod searching;
 mod seeing;
 
+pub use own::Own;
 pub use region::{Entry, Region};
 pub use seeing::View;

@@ -13,7 +13,8 @@ ghost use Rattle.view.specs.Forms.{AreBelow, IsFound};
 ghost use Rattle.view.specs.Regions.{IsCopy, IsEntry, IsRegion, forms_of, row_places};
 
 use crate::asking::places_to_ask;
-use crate::forms::SlicesInReach;
+use crate::forms::{Candidates, SlicesInReach};
+use crate::own::Own;
 use closure::{drops_none, keeps_reach, reach};
 use compiled::{CompiledSet, Form, compile, has_places, place_of};
 use envstore::Places;
@@ -68,8 +69,9 @@ impl Region {
         let place = place_in(&nodes, own);
         let blocking = compile(alloc, slices.set(), &nodes, true)?;
         let asked = places_to_ask(alloc, slices, &nodes)?;
-        let ballots = forms_by(alloc, (own, slices), table, Kind::Ballot, &nodes)?;
-        let nominations = forms_by(alloc, (own, slices), table, Kind::Nomination, &nodes)?;
+        let itself = Own { name: own, slices };
+        let ballots = forms_by(alloc, itself, table, Kind::Ballot, &nodes)?;
+        let nominations = forms_by(alloc, itself, table, Kind::Nomination, &nodes)?;
         let numbers = nodes.len();
         let ballot_rows = row_places(alloc, table, Kind::Ballot, &nodes)?;
         let nomination_rows = row_places(alloc, table, Kind::Nomination, &nodes)?;
@@ -126,13 +128,12 @@ impl Region {
     pub fn entry_for<S: Places>(
         &self,
         alloc: Global,
-        own: &NodeId,
-        slices: &Nested,
+        own: Own<'_>,
         table: &Rows<'_, S>,
         envelope: &Envelope,
     ) -> Result<Option<Entry>, AllocError>
         requires { IsAscending self.now.nodes.items }
-        ensures { IfOk result (λ o. IfSome o (λ x. IsEntry own.now slices.now table.now envelope.now self.now x)) }
+        ensures { IfOk result (λ o. IfSome o (λ x. IsEntry own.entry.name.now own.entry.slices.now table.now envelope.now self.now x)) }
     {
         let Some(place) = place_of(&self.nodes, envelope.sender()) else {
             return Ok(None);
@@ -140,14 +141,14 @@ impl Region {
         if place == self.place {
             return Ok(None);
         }
-        let stays = leaves_reach(alloc, own, slices, table, envelope, &self.nodes)?;
+        let stays = leaves_reach(alloc, own, table, envelope, &self.nodes)?;
         if !stays {
             return Ok(None);
         }
         let Some(numbers) = self.numbers.checked_add(1) else {
             return Ok(None);
         };
-        let form = self.form_for(alloc, (own, slices), table, envelope)?;
+        let form = self.form_for(alloc, own, table, envelope)?;
         Ok(Some(Entry {
             kind: envelope.body().kind(),
             place,
@@ -162,23 +163,20 @@ impl Region {
     fn form_for<S: Places>(
         &self,
         alloc: Global,
-        own: (&NodeId, &Nested),
+        own: Own<'_>,
         table: &Rows<'_, S>,
         envelope: &Envelope,
     ) -> Result<Form, AllocError>
         requires { IsAscending self.now.nodes.items }
-        ensures { IfOk result (IsFound self.now.nodes.items (slices_by own.entry.0.now own.entry.1.now table.now (kind_of envelope.now.body)) (forms_of (kind_of envelope.now.body) self.now) self.now.numbers envelope.now.slices) }
+        ensures { IfOk result (IsFound self.now.nodes.items (slices_by own.entry.name.now own.entry.slices.now table.now (kind_of envelope.now.body)) (forms_of (kind_of envelope.now.body) self.now) self.now.numbers envelope.now.slices) }
     {
         let kind = envelope.body().kind();
         let reached = SlicesInReach::new(own, &self.nodes, table, kind);
-        let candidates = (self.place, self.latest);
-        reached.form_of(
-            alloc,
-            envelope.slices(),
-            self.forms(kind),
-            candidates,
-            self.numbers,
-        )
+        let there = Candidates {
+            forms: self.forms(kind),
+            places: (self.place, self.latest),
+        };
+        reached.form_of(alloc, envelope.slices(), there, self.numbers)
     }
 
     /// The compiled forms of a kind.
@@ -215,19 +213,18 @@ impl Region {
 /// and drops no name but such as the node reaches by itself. An error says that memory is short.
 fn leaves_reach<S: Places>(
     alloc: Global,
-    own: &NodeId,
-    slices: &Nested,
+    own: Own<'_>,
     table: &Rows<'_, S>,
     envelope: &Envelope,
     nodes: &[NodeId],
 ) -> Result<bool, AllocError>
     requires { IsAscending nodes.now }
-    ensures { IfOk result (λ b. IsTrue b → IsReach own.now slices.now table.now nodes.now → IsReach own.now slices.now (with_row envelope.now table.now) nodes.now) }
+    ensures { IfOk result (λ b. IsTrue b → IsReach own.entry.name.now own.entry.slices.now table.now nodes.now → IsReach own.entry.name.now own.entry.slices.now (with_row envelope.now table.now) nodes.now) }
 {
     if !has_places(envelope.slices().set(), nodes) {
         return Ok(false);
     }
-    let stays = drops_none(alloc, own, slices, table, envelope)?;
+    let stays = drops_none(alloc, own.name, own.slices, table, envelope)?;
     Ok(stays)
 }
 
@@ -299,13 +296,13 @@ fn place_in(nodes: &[NodeId], node: &NodeId) -> usize
 /// configured. An error says that memory is short.
 fn forms_by<S: Places>(
     alloc: Global,
-    own: (&NodeId, &Nested),
+    own: Own<'_>,
     table: &Rows<'_, S>,
     kind: Kind,
     nodes: &[NodeId],
 ) -> Result<Vec<Option<Form>>, AllocError>
     requires { IsAscending nodes.now }
-    ensures compiled { IfOk result (λ v. AreCompiled nodes.now (slices_by own.entry.0.now own.entry.1.now table.now kind) v.items) }
+    ensures compiled { IfOk result (λ v. AreCompiled nodes.now (slices_by own.entry.name.now own.entry.slices.now table.now kind) v.items) }
     ensures below { IfOk result (λ v. AreBelow (length nodes.now) v.items) }
 {
     let reached = SlicesInReach::new(own, nodes, table, kind);

@@ -17,6 +17,7 @@ ghost use Rattle.view.specs.Regions.{IsRegion};
 ghost use Rattle.view.specs.Watching.{rows_of_others};
 
 use crate::listed::ListedBallots;
+use crate::own::Own;
 use crate::passing::{OwnAnswer, add_supporters, add_supporters_at};
 use crate::reached::ReachedRows;
 use crate::region::Region;
@@ -67,14 +68,13 @@ impl<'a, S: Places> View<'a, S> {
     /// short.
     pub fn of(
         alloc: Global,
-        own: &'a NodeId,
-        slices: &'a Nested,
+        own: Own<'a>,
         leaders: &'a Leaders,
         table: &'a Rows<'a, S>,
         region: &'a Region,
     ) -> Result<View<'a, S>, AllocError>
-        requires { IsRegion own.now slices.now table.now region.now }
-        ensures { IfOk result (λ v. ⟦<View<'a, S> as Sight>⟧.seen v ≡ seen own.now slices.now leaders.now table.now) }
+        requires { IsRegion own.name.now own.slices.now table.now region.now }
+        ensures { IfOk result (λ v. ⟦<View<'a, S> as Sight>⟧.seen v ≡ seen own.entry.name.now own.entry.slices.now leaders.now table.now) }
     {
         table.are_single();
         let nodes = &region.nodes;
@@ -86,10 +86,10 @@ impl<'a, S: Places> View<'a, S> {
             table,
             Kind::Nomination,
         );
-        let (named, committed) = ListedBallots::of_rows(alloc, own, &ballots)?;
+        let (named, committed) = ListedBallots::of_rows(alloc, own.name, &ballots)?;
         Ok(View {
-            own,
-            slices,
+            own: own.name,
+            slices: own.slices,
             leaders,
             table,
             region,

@@ -7,7 +7,7 @@ use latest::{Offer, Rows, Table};
 use std::alloc::Global;
 use std::test::Fail;
 use types::{Ballot, Envelope, Leaders, Member, Nested, NodeId, SliceSet, Statement, Value};
-use view::{Region, View};
+use view::{Own, Region, View};
 
 /// The name of a number.
 fn name(number: u64) -> NodeId {
@@ -80,7 +80,16 @@ fn answers_by(alloc: Global, rows: &Rows<'_, VecShelf>) -> Result<[(bool, bool);
     let slices = two_of_three(alloc)?;
     let leaders = Leaders::none(alloc);
     let region = Region::of(alloc, &own, &slices, rows)?;
-    let view = View::of(alloc, &own, &slices, &leaders, rows, &region)?;
+    let view = View::of(
+        alloc,
+        Own {
+            name: &own,
+            slices: &slices,
+        },
+        &leaders,
+        rows,
+        &region,
+    )?;
     answers(alloc, &view)
 }
 

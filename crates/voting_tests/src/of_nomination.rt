@@ -8,7 +8,7 @@ use nomination::nominate;
 use std::alloc::Global;
 use std::test::Fail;
 use types::{Given, Member, Nested, NodeId, SliceSet, Value, Votes};
-use view::{Region, View};
+use view::{Own, Region, View};
 
 /// The slices of a node that trusts itself alone.
 fn itself(alloc: Global, own: NodeId) -> Result<Nested, Fail> {
@@ -44,7 +44,16 @@ fn lone_votes(alloc: Global, own: &NodeId) -> Result<Votes, Fail> {
     let rows = Rows::of(&table, &archive);
     let region = Region::of(alloc, own, &slices, &rows)?;
     let given = given(alloc, *own)?;
-    let view = View::of(alloc, own, &slices, &given.leaders, &rows, &region)?;
+    let view = View::of(
+        alloc,
+        Own {
+            name: own,
+            slices: &slices,
+        },
+        &given.leaders,
+        &rows,
+        &region,
+    )?;
     first_votes(alloc, own, &view, &given)
 }
 

@@ -9,7 +9,7 @@ use latest::{Offer, Rows, Table};
 use std::alloc::Global;
 use std::test::Fail;
 use types::{Ballot, Envelope, Member, Nested, NodeId, SliceSet, Statement, Value};
-use view::Region;
+use view::{Own, Region};
 
 /// The name of a number.
 fn name(number: u64) -> NodeId {
@@ -66,7 +66,12 @@ fn set_row(
     requires { IsAscending region.old.nodes.items }
 {
     let slices = both(alloc)?;
-    let found = region.entry_for(alloc, &name(1), &slices, table, row)?;
+    let own = name(1);
+    let own = Own {
+        name: &own,
+        slices: &slices,
+    };
+    let found = region.entry_for(alloc, own, table, row)?;
     region.set_entry(found.ok_or("an entry")?);
     Ok(())
 }

@@ -18,6 +18,6 @@ returns g c =
       kind = search rules;
       another = search rules;
       numbers = more;
-      form = found_joins r.nodes.items (slices_by c.args.own.now c.args.slices.now c.args.table.now k) (forms_of k r) e.slices c.in_ok-form.form r.numbers c.in-Some-checked_add.numbers more c.in_ok-form.ensures;
+      form = found_joins r.nodes.items (slices_by c.args.own.name.now c.args.own.slices.now c.args.table.now k) (forms_of k r) e.slices c.in_ok-form.form r.numbers c.in-Some-checked_add.numbers more c.in_ok-form.ensures;
       row = search rules;
     }

@@ -8,7 +8,7 @@ use Rattle.view.proofs.seeing.View.of.Goals as goal
 
 pub invariant_of-result : goal.invariant_of-result
 invariant_of-result g c =
-    let own = c.args.own.now in
+    let own = c.args.own.name.now in
     let at : List ℕ → Kind → Kept = λ us kind. record { nodes = us; table = c.args.table.now; kind = kind } in
     let found = λ (k : Kept). rows_of_others own k.kind k.table k.nodes in
     let ballots = c.in_ok-ballots.ensures ∙ ap (λ (us : List ℕ). at us Kind.Ballot) c.deref.ensures.value in
