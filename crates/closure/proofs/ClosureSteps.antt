@@ -19,6 +19,7 @@ use Rattle.protocol.proofs.Sets.Derived.{least_is}
 use Rattle.closure.specs.Announcing.{Announced, announced_by, announced_in, announced_at, IsNamedBy, Listed, names_of, IsChained, IsClosureList}
 use Rattle.closure.specs.Announcing.IsNamedBy.{configured, learnt}
 use Rattle.closure.specs.Turns.{AreSettled}
+use Rattle.protocol.proofs.Sets.Mapped.{mapped_to, mapped_from}
 
 -- ---- lists
 pub contained_left : {X : Type 0} (x : X) (xs ys : List X) → Contains xs x → Contains (xs ++ ys) x
@@ -39,12 +40,6 @@ contained_either x (z ∷ zs) ys c = elim (contained_cases x z (zs ++ ys) c) [
   | inr k ↦ elim (contained_either x zs ys k) [ inl h ↦ inl (contains_tail x z zs h) | inr h ↦ inr h ]
 ]
 
-contained_at : {X : Type 0} (xs : List X) (n : ℕ) (x : X) → slice_get xs n ≡ Some x → Contains xs x
-contained_at xs n x e = (n, slice_get_within xs n x e, get_or_from_slice_get xs n x x e)
-
-at_contained : {X : Type 0} (xs : List X) (x : X) → Contains xs x → (n : ℕ) × (slice_get xs n ≡ Some x)
-at_contained xs x c = (c.0, slice_get-get_or xs c.0 x c.1 ∙ ap Some c.2)
-
 -- what a function gives for an element, it gives for the list
 contained_flat : {X Y : Type 0} (f : X → List Y) (xs : List X) (n : ℕ) (x : X) (y : Y) → slice_get xs n ≡ Some x → Contains (f x) y → Contains (flat_map f xs) y
 contained_flat f [] n x y e c = cc
@@ -56,20 +51,6 @@ from_flat f [] y c = absurd (let l = c.1 in omega arith)
 from_flat f (z ∷ zs) y c = elim (contained_either y (f z) (flat_map f zs) c) [
   | inl h ↦ (0, z, refl, h)
   | inr h ↦ let r = from_flat f zs y h in (suc r.0, r.1, r.2, r.3)
-]
-
-contained_map : {X Y : Type 0} (f : X → Y) (xs : List X) (x : X) → Contains xs x → Contains (map f xs) (f x)
-contained_map f [] x c = absurd (let l = c.1 in omega arith)
-contained_map f (z ∷ zs) x c = elim (contained_cases x z zs c) [
-  | inl e ↦ subst (λ w. Contains (map f (w ∷ zs)) (f x)) (sym e) (contains_head (f x) (map f zs))
-  | inr k ↦ contains_tail (f x) (f z) (map f zs) (contained_map f zs x k)
-]
-
-from_map : {X Y : Type 0} (f : X → Y) (xs : List X) (y : Y) → Contains (map f xs) y → (x : X) × Contains xs x × (f x ≡ y)
-from_map f [] y c = absurd (let l = c.1 in omega arith)
-from_map f (z ∷ zs) y c = elim (contained_cases y (f z) (map f zs) c) [
-  | inl e ↦ (z, contains_head z zs, e)
-  | inr k ↦ let r = from_map f zs y k in (r.0, contains_tail r.0 z zs r.1, r.2)
 ]
 
 -- a name is in a list exactly where it stands at a place
@@ -121,7 +102,7 @@ found_host (h ∷ hs) g up c = elim (contained_cases g h hs c) [
     there : (b : Bool) → (h.name == g.name) ≡ b → Contains hs g → slices_of hs g.name ≡ Some g.slices → (if b then Some h.slices else slices_of hs g.name) ≡ Some g.slices
     there false e k f = f
     there true e k f =
-        let place = contained_map (λ (x : Host). x.name) hs g k in
+        let place = mapped_to (λ (x : Host). x.name) hs g k in
         let less = up 0 (suc place.0) g.name (omega arith) (let l = place.1 in omega arith) in
         let same = eqb-true h.name g.name e in
         let at = place.2 in
@@ -249,7 +230,7 @@ module _ (hosts : List Host) (i : ℕ) (run : List Entry) where
       let h = host_found hosts w q e in
       record {
         rule = host_rule h.0;
-        known = contained_left (host_rule h.0) (map host_rule hosts) (flat_map (λ x. announced i x.event) run) (contained_map host_rule hosts h.0 h.1);
+        known = contained_left (host_rule h.0) (map host_rule hosts) (flat_map (λ x. announced i x.event) run) (mapped_to host_rule hosts h.0 h.1);
         sources = λ x m. elim (or_cases (h.0.name == x) false m) [ inl k ↦ inl (sym (eqb-true h.0.name x k) ∙ h.2) | inr k ↦ absurd (false≢true k) ];
         gives = subst (λ (s : Slices). IsTrue (among (names s) u)) (sym h.3) g;
       }
@@ -317,7 +298,7 @@ module _ (hosts : List Host) (i : ℕ) (run : List Entry) where
 
       by_host : (r : Rule) → Contains (map host_rule hosts) r → AreWithin (among r.sources) (among (names_of list)) → (u : ℕ) → IsTrue (among r.gives u) → among (names_of list) u ≡ true
       by_host r k within u g =
-          let h = from_map host_rule hosts r k in
+          let h = mapped_from host_rule hosts r k in
           let member : among (names_of list) h.0.name ≡ true = subst (λ (x : Rule). AreWithin (among x.sources) (among (names_of list))) (sym h.2) within h.0.name (among_head h.0.name []) in
           let place = place_among (names_of list) h.0.name member in
           settled place.0 h.0.name place.1 u (configured h.0.slices (found_host hosts h.0 up h.1) (subst (λ (x : Rule). IsTrue (among x.gives u)) (sym h.2) g))

@@ -11,11 +11,11 @@ use Rattle.protocol.specs.Quorums.{NamesWithin}
 use Rattle.protocol.specs.Rows.{is_row_of, row, with_row}
 use Rattle.protocol.specs.Backing.{slices_by}
 use Rattle.protocol.specs.Reach.{reached, IsReach}
-use Rattle.protocol.proofs.Sets.Finite.{all_from, same_test, within-at}
+use Rattle.protocol.proofs.Sets.Finite.{all_from, within-at}
 use Rattle.protocol.proofs.Sets.Contained.{contains_head, contains_tail, contained_cases}
-use Rattle.protocol.proofs.Reach.Chains.{reached-holds, reached-in, reach_names}
+use Rattle.protocol.proofs.Reach.Chains.{reached-holds}
 use Rattle.protocol.proofs.Statements.Found.{row_contained}
-use Rattle.protocol.proofs.Reach.Stays.{leads_to_none, same_reach, went}
+use Rattle.protocol.proofs.Reach.Stays.{stays_where, went}
 use Rattle.closure.specs.Keeping.{DropsNone, kept_names}
 
 -- ---- rows of the new table
@@ -34,27 +34,21 @@ there e (y ∷ ys) = go (is_row_of e.sender (kind_of e.body) y) (there e ys)
 pub reach_stays : (own : ℕ) (configured : Slices) (table : List Sent) (us : List ℕ) (e : Sent) → DropsNone own configured table e → AreWithin (among (names e.slices)) (among us)
     → IsReach own configured table us → IsReach own configured (with_row e table) us
 reach_stays own configured table us e drops brings is =
-    let old = reached own configured table in
     let new = reached own configured (with_row e table) in
     let kept = reached-holds own configured (with_row e table) in
-    let fewer : AreWithin new old = leads_to_none own configured table us e brings is in
-    let more : AreWithin old new = reached-in own configured table new (record {
-      itself = kept.itself;
-      configuration = kept.configuration;
-      rows = λ x c s. elim (went e x table c) [
-        | inl replaced ↦ λ u h.
-            let sender = (row_contained table e.sender (kind_of e.body) x replaced).1 in
-            elim (or_cases (among (names e.slices) u) ((own == u) || among (names configured) u) (drops x replaced u h)) [
-              | inl again ↦ kept.rows e (there e table) (subst (λ w. IsTrue (new w)) sender s) u again
-              | inr by_itself ↦ elim (or_cases (own == u) (among (names configured) u) by_itself) [
-                | inl same ↦ subst (λ w. IsTrue (new w)) (eqb-true own u same) kept.itself
-                | inr named ↦ kept.configuration u named
-              ]
+    stays_where own configured table us e brings is
+    (λ x c s. elim (went e x table c) [
+      | inl replaced ↦ λ u h.
+          let sender = (row_contained table e.sender (kind_of e.body) x replaced).1 in
+          elim (or_cases (among (names e.slices) u) ((own == u) || among (names configured) u) (drops x replaced u h)) [
+            | inl again ↦ kept.rows e (there e table) (subst (λ w. IsTrue (new w)) sender s) u again
+            | inr by_itself ↦ elim (or_cases (own == u) (among (names configured) u) by_itself) [
+              | inl same ↦ subst (λ w. IsTrue (new w)) (eqb-true own u same) kept.itself
+              | inr named ↦ kept.configuration u named
             ]
-        | inr i ↦ kept.rows x i s
-      ];
-    }) in
-    same_reach own configured table (with_row e table) us (λ u. same_test (old u) (new u) (more u) (fewer u)) is
+          ]
+      | inr i ↦ kept.rows x i s
+    ])
 
 -- ---- the test
 -- without a row no name is dropped

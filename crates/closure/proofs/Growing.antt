@@ -20,6 +20,7 @@ use Rattle.closure.specs.Announcing.IsNamedBy.{configured, learnt}
 use Rattle.closure.specs.Turns.{IsSettled, AreSettled, IsGrown, IsGiven, with_member}
 use Rattle.closure.proofs.Noted.{among_append}
 use Rattle.closure.proofs.ClosureSteps.{rules, all_given, all_derived, among_at}
+use Rattle.protocol.proofs.Sets.Lists.{get_taken}
 
 -- ---- lists
 -- what stands in the front stands in the list
@@ -30,12 +31,6 @@ taken_among (suc n) (x ∷ xs) u h = elim (or_cases (x == u) (among (take n xs) 
   | inl e ↦ or_left (x == u) (among xs u) e
   | inr k ↦ or_right (x == u) (among xs u) (taken_among n xs u k)
 ]
-
-get_taken : {X : Type 0} (xs : List X) (k n : ℕ) → k < n → slice_get (take n xs) k ≡ slice_get xs k
-get_taken xs k zero l = absurd (omega arith)
-get_taken [] k (suc n) l = refl
-get_taken (x ∷ xs) zero (suc n) l = refl
-get_taken (x ∷ xs) (suc k) (suc n) l = get_taken xs k n (omega arith)
 
 pub get_appended : {X : Type 0} (xs ys : List X) (k : ℕ) → k < length xs → slice_get (xs ++ ys) k ≡ slice_get xs k
 get_appended [] ys k l = absurd (omega arith)

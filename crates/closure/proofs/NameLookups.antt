@@ -21,9 +21,6 @@ flips x y = grind (arith, nat_tests)
 pub test_is : (k : ℕ) → equal.eq k ≡ (λ y. y == k)
 test_is k = fun_ext (λ y. name_eq_is k y ∙ flips k y)
 
-pub equality_is : equal.eq ≡ (λ (x y : ℕ). x == y)
-equality_is = fun_ext (λ x. fun_ext (λ y. name_eq_is x y))
-
 found_plain : (k : ℕ) (es : List (ℕ × ℕ)) → lookup (λ y. y == k) es ≡ found_by es k
 found_plain k [] = refl
 found_plain k (e ∷ es) = ap (λ (r : Option ℕ). cond (e.0 == k) (Some e.1) r) (found_plain k es)
@@ -42,13 +39,6 @@ has_plain k (e ∷ es) = go (e.0 == k) (has_plain k es)
 -- a name is found exactly where it is among the names
 pub has_is : (k : ℕ) (es : List (ℕ × ℕ)) → is_some (lookup (equal.eq k) es) ≡ among (names_of es) k
 has_is k es = ap is_some (found_is k es) ∙ has_plain k es
-
-pub absent_is : (k : ℕ) (es : List (ℕ × ℕ)) → among (names_of es) k ≡ false → lookup (equal.eq k) es ≡ None
-absent_is k es h = none (lookup (equal.eq k) es) (has_is k es ∙ h)
-  where
-    none : (o : Option ℕ) → is_some o ≡ false → o ≡ None
-    none None h = refl
-    none (Some x) h = cc
 
 -- ---- places
 key_is : (k : ℕ) (es : List (ℕ × ℕ)) (x : ℕ) → lookup_key (λ y. y == k) es ≡ Some x → x ≡ k

@@ -122,37 +122,3 @@ noted_first s t x up is one pending =
     swap true p h = refl
     swap false true h = refl
     swap false false h = h
-
--- ---- many names
-pub noted_none : (s : Swept) → IsAscending s.found → AreNoted s s (among [])
-noted_none s up = record { ascending = up; found = λ u. refl; pending = λ u h. h; done = λ u h. h; counted = omega arith }
-
--- one after another
-pub noted_then : (r s t : Swept) (one other all : Names) → AreNoted r s one → AreNoted s t other → ((u : ℕ) → all u ≡ (other u || one u)) → AreNoted r t all
-noted_then r s t one other all a b is = record {
-  ascending = b.ascending;
-  found = λ u. b.found u ∙ (ap (λ x. other u || x) (a.found u) ∙ (joined (other u) (one u) (among r.found u) ∙ ap (λ x. x || among r.found u) (sym (is u))));
-  pending = λ u h. elim (or_cases (other u) (among s.pending u) (b.pending u h)) [
-    | inl o ↦ or_left (all u) (among r.pending u) (is u ∙ or_left (other u) (one u) o)
-    | inr p ↦ elim (or_cases (one u) (among r.pending u) (a.pending u p)) [
-      | inl o ↦ or_left (all u) (among r.pending u) (is u ∙ or_right (other u) (one u) o)
-      | inr q ↦ or_right (all u) (among r.pending u) q
-    ]
-  ];
-  done = λ u h. a.done u (b.done u h);
-  counted = let x = a.counted in let y = b.counted in omega arith;
-}
-  where
-    joined : (a b c : Bool) → (a || (b || c)) ≡ ((a || b) || c)
-    joined true b c = refl
-    joined false b c = refl
-
--- the same names, said otherwise
-pub noted_same : (s t : Swept) (one other : Names) → AreNoted s t one → ((u : ℕ) → other u ≡ one u) → AreNoted s t other
-noted_same s t one other a is = record {
-  ascending = a.ascending;
-  found = λ u. a.found u ∙ ap (λ b. b || among s.found u) (sym (is u));
-  pending = λ u h. subst (λ b. IsTrue (b || among s.pending u)) (sym (is u)) (a.pending u h);
-  done = a.done;
-  counted = a.counted;
-}

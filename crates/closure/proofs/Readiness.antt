@@ -52,12 +52,6 @@ turned_bound (x ∷ xs) zero n l k m = l
 turned_bound (x ∷ xs) (suc place) zero l k m = absurd (omega arith)
 turned_bound (x ∷ xs) (suc place) (suc n) l k m = let r = turned_bound xs place n (omega arith) (omega arith) (omega arith) in omega arith
 
-pub turned_here : (ready : List (List ℕ)) (place : ℕ) → ready_at (turned ready place) place ≡ []
-turned_here [] zero = refl
-turned_here [] (suc place) = refl
-turned_here (x ∷ xs) zero = refl
-turned_here (x ∷ xs) (suc place) = turned_here xs place
-
 -- another list that is there was there before
 pub turned_others : (ready : List (List ℕ)) (place j : ℕ) → place ≤ length ready → j < length (turned ready place) → (j ≡ place) ⊎ ((j < length ready) × (ready_at (turned ready place) j ≡ ready_at ready j))
 turned_others [] place j k l = inl (omega arith)
@@ -73,11 +67,6 @@ pub read_at : (ready : List (List ℕ)) (place : ℕ) (numbers : List ℕ) → S
 read_at [] place numbers e = cc
 read_at (x ∷ xs) zero numbers e = let same : x ≡ numbers = cc in (omega arith, same)
 read_at (x ∷ xs) (suc place) numbers e = let r = read_at xs place numbers e in (let l = r.0 in omega arith, r.1)
-
-pub read_none : (ready : List (List ℕ)) (place : ℕ) → None ≡ slice_get ready place → length ready ≤ place
-read_none [] place e = omega arith
-read_none (x ∷ xs) zero e = cc
-read_none (x ∷ xs) (suc place) e = let r = read_none xs place e in omega arith
 
 -- ---- the same lists as they lie in memory
 module _ {X : Type 0} (f : X → List ℕ) where

@@ -37,9 +37,6 @@ one_place xs j k u once e h = elim (cases_lt j k) [
 pub for_more : (members : List ℕ) (old new : List (List ℕ)) (n : ℕ) (o : Option Announced) → AreMore old new → IsFor members old n o → IsFor members new n o
 for_more members old new n o more is a j e at l = more.kept j n (is a j e at (omega (arith, l, more.counted)))
 
-pub for_none : (members : List ℕ) (ready : List (List ℕ)) (n : ℕ) (o : Option Announced) → None ≡ o → IsFor members ready n o
-for_none members ready n o e a j h at l = cc
-
 pub for_stranger : (members : List ℕ) (ready : List (List ℕ)) (n : ℕ) (told : Announced) (o : Option Announced) → Some told ≡ o → IsFalse (among members told.sender) → IsFor members ready n o
 for_stranger members ready n told o e none a j h at l =
     let same : a ≡ told = cc in

@@ -1,4 +1,4 @@
--- Lists, and sets of finitely many names: what is among them, and the least set that keeps a list of rules.
+-- Lists, tests, numbers, and sets of finitely many names: what is among them, and the least set that keeps a list of rules.
 pub mod Finite
 pub mod Lists
 pub mod Least
@@ -6,3 +6,5 @@ pub mod RuleLists
 pub mod Contained
 pub mod Derived
 pub mod Mapped
+pub mod Numbers
+pub mod Tests

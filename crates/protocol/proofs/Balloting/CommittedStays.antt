@@ -21,10 +21,11 @@ use Rattle.protocol.proofs.Balloting.OwnPosition.{position-committing, accepted-
 use Rattle.protocol.proofs.Balloting.Moves.{accept_prepared-still, accept_prepared-moves}
 use Rattle.protocol.proofs.Balloting.PreparedStays.{Sound}
 use Rattle.protocol.proofs.Balloting.WidensCommit.{widens}
-use Rattle.protocol.proofs.Balloting.GreatestOfOne.{counters}
-use Rattle.protocol.proofs.Ballots.Order.{not_above-value}
+use Rattle.protocol.proofs.Ballots.Order.{not_above-value, not_below-counter}
 use Rattle.protocol.proofs.Equality.Sameness.{same_value-true, same_value-refl}
 use Rattle.types.specs.Votes.{same_value}
+use Rattle.std.proofs.lemmas.Option.{same_Some}
+use Rattle.protocol.proofs.Sets.Numbers.{through, up_to, not_both}
 
 -- the ballots that widen the interval, for a position
 abbrev pub widening : Seen → Option Statement → Ballot → ℕ → List Ballot
@@ -102,10 +103,10 @@ module _ (s : Seen) (f : Fair s) (w : Votes) (b p : Ballot) (phase : w.phase ≡
       let A = aborted_by w.prepared N.p w.aborted in
       let w2 : Votes = record w { prepared = N.p; aborted = A } in
       let p2 = new_p b p N.p value (subst (λ o. Under o N.p) prepared N.grows) (λ t e. elim (N.from t e) [
-        | inl k ↦ inl (some_same t p (sym k ∙ prepared))
+        | inl k ↦ inl (same_Some t p (sym k ∙ prepared))
         | inr k ↦ inr (same_value-true t.value b.value (valued w.phase b.value t phase k))
       ]) in
-      let I = widens s b p2.0 w2 ballot p2.1 p2.2 (through w.hi p.counter p2.0.counter hi (counters p2.0 p p2.3)) lo in
+      let I = widens s b p2.0 w2 ballot p2.1 p2.2 (through w.hi p.counter p2.0.counter hi (not_below-counter p2.0 p p2.3)) lo in
       let u = I.u in
       let phase' : u.phase ≡ Committing = I.phase ∙ phase in
       let low2 : A ≤ counter_of N.p = aborted-by w.prepared N.p w.aborted sound.aborted N.grows in
@@ -122,7 +123,7 @@ module _ (s : Seen) (f : Fair s) (w : Votes) (b p : Ballot) (phase : w.phase ≡
         phase = phase';
         grows = I.grows;
         sound = record {
-          aborted = subst (λ a. a ≤ counter_of u.prepared) (sym I.aborted) (subst (λ o. A ≤ counter_of o) (sym I.prepared) (through A (counter_of N.p) I.q.counter low2 (subst (λ o. counter_of o ≤ I.q.counter) (sym p2.1) (counters I.q p2.0 I.over))));
+          aborted = subst (λ a. a ≤ counter_of u.prepared) (sym I.aborted) (subst (λ o. A ≤ counter_of o) (sym I.prepared) (through A (counter_of N.p) I.q.counter low2 (subst (λ o. counter_of o ≤ I.q.counter) (sym p2.1) (not_below-counter I.q p2.0 I.over))));
           high = subst (λ o. Under o u.prepared) (sym I.high) (subst (λ o. Under w.high o) (sym I.prepared) (under-trans w.high N.p (Some I.q) (under-trans w.high w.prepared N.p sound.high N.grows) over));
           committing = λ c. record { b = I.n; p = I.q; ballot = I.ballot; prepared = I.prepared; value = I.value; hi = I.hi; lo = I.lo };
         };
@@ -165,17 +166,8 @@ module _ (s : Seen) (f : Fair s) (w : Votes) (b p : Ballot) (phase : w.phase ≡
             ]);
       }
     where
-      some_same : (x y : Ballot) → Some x ≡ Some y → x ≡ y
-      some_same x y q = cc
-
       valued : (ph : Phase) (x : List ℕ) (t : Ballot) → ph ≡ Committing → may_be_prepared ph x t ≡ true → (same_value t.value x) ≡ true
       valued ph x t e h = rw e at h
-
-      through : (a c d : ℕ) → a ≤ c → c ≤ d → a ≤ d
-      through a c d h k = omega (arith, h, k)
-
-      not_both : (a c : ℕ) → c ≤ a → nat_lt a c ≡ true → ⊥
-      not_both a c h k = grind (arith, nat_tests)
 
       between : (a c d e : ℕ) → a ≤ c → c ≤ d → nat_lt d e ≡ true → nat_le a e ≡ true
       between a c d e h k l = grind (arith, nat_tests)
@@ -195,11 +187,8 @@ module _ (s : Seen) (f : Fair s) (w : Votes) (b p : Ballot) (phase : w.phase ≡
       beyond n q t h e = elim (cases_Bool (same_value n.value t.value && nat_le t.counter q.counter)) [
         | inr k ↦ k
         | inl k ↦ let p = and_parts (same_value n.value t.value) (nat_le t.counter q.counter) k in
-            absurd (true≢false (sym h ∙ not_above-value q t (upto t.counter q.counter p.1) (e ∙ same_value-true n.value t.value p.0)))
+            absurd (true≢false (sym h ∙ not_above-value q t (up_to t.counter q.counter p.1) (e ∙ same_value-true n.value t.value p.0)))
       ]
-        where
-          upto : (m n : ℕ) → nat_le m n ≡ true → m ≤ n
-          upto m n h = grind (arith, nat_tests)
 
       -- a test of two values, the other way round
       swapped : (x y : List ℕ) → same_value x y ≡ true → same_value y x ≡ true

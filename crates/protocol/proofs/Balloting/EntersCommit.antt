@@ -1,6 +1,6 @@
 -- From PREPARE to COMMIT: what entering changes, and where nothing is entered.
-use Rattle.std.proofs.Common.{◌≡◌, ℕ, ◌≤◌, max, Bool, true, false, not, ◌&&◌, ◌||◌, nat_lt, List, [], ◌∷◌, ◌++◌, Option, Some, None, if◌then◌else◌, filter, flat_map, option_to_list, is_none, refl, sym, ◌∙◌, ap, subst, inl, inr, ◌⊎◌, arith}
-use Rattle.std.proofs.lemmas.Bool.{and_parts, true≢false, not-true}
+use Rattle.std.proofs.Common.{◌≡◌, ◌≤◌, max, Bool, true, false, not, ◌&&◌, ◌||◌, nat_lt, List, [], ◌∷◌, ◌++◌, Option, Some, None, if◌then◌else◌, filter, flat_map, option_to_list, is_none, refl, sym, ◌∙◌, ap, subst, inl, inr, ◌⊎◌}
+use Rattle.std.proofs.lemmas.Bool.{and_parts, not-true, not-false}
 use Rattle.types.specs.declared.ballot.Ballot.{Ballot}
 use Rattle.types.specs.declared.statement.Statement.{Statement}
 use Rattle.protocol.proofs.Balloting.Tests.{takes_prepare, backs_commit, takes_commit}
@@ -11,12 +11,15 @@ use Rattle.protocol.specs.States.{below, counter_of, ballot_at, position}
 use Rattle.protocol.specs.Candidates.{greatest, committed_by, commits, lowest}
 use Rattle.protocol.specs.Balloting.{is_confirmed, commit_accepted, is_aborted, accept_commit, enter_commit, first_committed, accepted_from}
 use Rattle.types.specs.declared.state.Phase.TheVariants.{Preparing, Committing}
-use Rattle.protocol.proofs.Ballots.Order.{one_value}
+use Rattle.protocol.proofs.Ballots.Order.{one_value, not_below-counter}
 use Rattle.protocol.proofs.Ballots.Above.{Under, under-trans, greatest-from, from-filter, lowest-low}
 use Rattle.protocol.proofs.Balloting.PreparedStays.{Sound}
 use Rattle.protocol.proofs.Equality.Sameness.{same_value-true}
 use Rattle.types.specs.Votes.{same_value}
-use Rattle.protocol.proofs.Balloting.GreatestOfOne.{counters, greatest-one, one-from, under-counters}
+use Rattle.protocol.proofs.Balloting.GreatestOfOne.{greatest-one, one-from, under-counters}
+use Rattle.std.proofs.lemmas.Option.{same_Some}
+use Rattle.protocol.proofs.Sets.Numbers.{through}
+use Rattle.std.proofs.Math.Nat.{le-max_left}
 
 -- not aborted: not below a p of another value
 same-value : (w : Votes) (t r : Ballot) → is_aborted w t ≡ false → greatest w.prepared (t ∷ []) ≡ Some r → r.value ≡ t.value
@@ -29,19 +32,12 @@ same-value w t r a e = go w.prepared refl
 
     at : (p : Ballot) (c d : Bool) → below p t ≡ c → below t p ≡ d → (below t p && not (same_value p.value t.value)) ≡ false → (if below p t then t else p) ≡ r → r.value ≡ t.value
     at p true d h k n q = let z : t ≡ r = rw h at q in ap (λ (x : Ballot). x.value) (sym z)
-    at p false true h k n q = let z : p ≡ r = rw h at q in let m : not (same_value p.value t.value) ≡ false = rw k at n in ap (λ (x : Ballot). x.value) (sym z) ∙ same_value-true p.value t.value (turned (same_value p.value t.value) m)
-      where
-        turned : (b : Bool) → not b ≡ false → b ≡ true
-        turned true m = refl
-        turned false m = absurd (true≢false m)
+    at p false true h k n q = let z : p ≡ r = rw h at q in let m : not (same_value p.value t.value) ≡ false = rw k at n in ap (λ (x : Ballot). x.value) (sym z) ∙ same_value-true p.value t.value (not-false (same_value p.value t.value) m)
     at p false false h k n q = let z : p ≡ r = rw h at q in ap (λ (x : Ballot). x.value) (sym z) ∙ one_value p t h k
 
     go : (o : Option Ballot) → w.prepared ≡ o → r.value ≡ t.value
     go None k = let z : Some t ≡ Some r = rw k at e in let y : t ≡ r = cc in ap (λ (x : Ballot). x.value) (sym y)
-    go (Some p) k = at p (below p t) (below t p) refl refl (first_false _ _ (rw k at a)) (some_same _ r (rw k at e))
-      where
-        some_same : (x y : Ballot) → Some x ≡ Some y → x ≡ y
-        some_same x y q = cc
+    go (Some p) k = at p (below p t) (below t p) refl refl (first_false _ _ (rw k at a)) (same_Some _ r (rw k at e))
 
 -- from PREPARE to COMMIT
 pub record Entered (s : Seen) (b : Ballot) (w : Votes) : Type 0 where
@@ -60,14 +56,11 @@ pub record Entered (s : Seen) (b : Ballot) (w : Votes) : Type 0 where
 under-both : (h p : Option Ballot) (t a c : Ballot) → Under h p → greatest h (t ∷ []) ≡ Some a → greatest p (t ∷ []) ≡ Some c → Under (Some a) (Some c)
 under-both h p t a c u i j =
     let r = greatest-one p t in
-    let z : r.0 ≡ c = some_same r.0 c (sym r.1 ∙ j) in
+    let z : r.0 ≡ c = same_Some r.0 c (sym r.1 ∙ j) in
     elim (one-from h t a i) [
       | inl k ↦ let q : Under (Some a) p = rw k at u in subst (λ x. below x a ≡ false) z (under-trans (Some a) p (Some r.0) q r.3)
       | inr k ↦ subst (λ x. below x a ≡ false) z (subst (λ x. below r.0 x ≡ false) (sym k) r.2)
     ]
-  where
-    some_same : (x y : Ballot) → Some x ≡ Some y → x ≡ y
-    some_same x y q = cc
 
 -- the ballots whose commit is accepted in PREPARE, for a position
 abbrev pub entering : Seen → Option Statement → Votes → List Ballot
@@ -102,7 +95,7 @@ enters s b w sound = go (greatest None (filter test (commits s w))) refl
           phase = refl;
           n = n;
           ballot = refl;
-          grows = less_max b.counter t.counter;
+          grows = le-max_left b.counter t.counter;
           sound = record {
             aborted = subst (λ o. w.aborted ≤ counter_of o) (sym p.1) (through w.aborted (counter_of w.prepared) p.0.counter sound.aborted (under-counters w.prepared p.0 p.3));
             high = subst (λ o. Under o (greatest w.prepared (t ∷ []))) (sym h.1) (subst (λ o. Under (Some h.0) o) (sym p.1) (under-both w.high w.prepared t h.0 p.0 sound.high h.1 p.1));
@@ -112,7 +105,7 @@ enters s b w sound = go (greatest None (filter test (commits s w))) refl
               ballot = refl;
               prepared = p.1;
               value = same-value w t p.0 free p.1;
-              hi = counters p.0 t p.2;
+              hi = not_below-counter p.0 t p.2;
               lo = lowest-low (λ lo. commit_accepted s w t.value lo t.counter) t.value t.counter (commits s w);
             };
           };
@@ -121,9 +114,3 @@ enters s b w sound = go (greatest None (filter test (commits s w))) refl
           confirms = refl;
           stays = rw h.1 refl;
         })
-      where
-        less_max : (a c : ℕ) → a ≤ max a c
-        less_max a c = omega arith
-
-        through : (a c d : ℕ) → a ≤ c → c ≤ d → a ≤ d
-        through a c d h k = omega (arith, h, k)

@@ -1,6 +1,6 @@
 -- What a node sees is fair: of its own position only whether it passes matters.
-use Rattle.std.proofs.Common.{◌≡◌, ℕ, Bool, true, false, ◌==◌, Option, Some, None, List, ◌∷◌, map, if◌then◌else◌, not, refl, sym, ◌∙◌, subst}
-use Rattle.std.proofs.lemmas.Bool.{true≢false, false≢true, false_from_ne_true, not-true, not_from_false, eq-eqb}
+use Rattle.std.proofs.Common.{◌≡◌, ℕ, Bool, true, false, ◌==◌, Option, Some, None, List, ◌∷◌, map, if◌then◌else◌, refl, sym, ◌∙◌, subst}
+use Rattle.std.proofs.lemmas.Bool.{true≢false, false≢true, false_from_ne_true, not-true, not_from_false, eq-eqb, not-false}
 use Rattle.types.specs.Trees.{Slices}
 use Rattle.types.specs.declared.kind.Kind.{Kind}
 use Rattle.types.specs.declared.statement.Statement.{Statement}
@@ -29,13 +29,9 @@ passing-own : (v : ℕ) (own : Bool) (table : List Sent) (k : Kind) (test : Stat
 passing-own v own table k test h = subst (λ b. (if b then own else is_passed test (row table v k)) ≡ true) (eq-eqb v v refl) h
 
 blocked-more : (q : Slices) (a b : ℕ → Bool) → ((u : ℕ) → a u ≡ true → b u ≡ true) → is_blocked q a ≡ true → is_blocked q b ≡ true
-blocked-more q a b f h = turned (is_blocked q b) (false_from_ne_true _ (λ s. let t : sat q (outside b) ≡ true = sat_outside q b ∙ s in
+blocked-more q a b f h = not-false (is_blocked q b) (false_from_ne_true _ (λ s. let t : sat q (outside b) ≡ true = sat_outside q b ∙ s in
     let r = sat_monotone q (outside b) (outside a) (λ u i. not_from_false (a u) (false_from_ne_true _ (λ j. true≢false (sym (f u j) ∙ not-true (b u) i)))) t in
     true≢false (sym h ∙ not-true (is_blocked q a) (sym (sat_outside q a) ∙ r))))
-  where
-    turned : (c : Bool) → not c ≡ false → c ≡ true
-    turned true e = refl
-    turned false e = absurd (true≢false e)
 
 pub seen-fair : (v : ℕ) (q : Slices) (leaders : List ℕ) (table : List Sent) → Fair (seen v q leaders table)
 unfolding seen quorum_passes blocking_passes

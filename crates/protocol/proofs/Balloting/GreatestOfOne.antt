@@ -21,9 +21,6 @@ one-from o t r e = elim (greatest-from o (t ∷ []) r e) [
   | inr (inr k) ↦ absurd k
 ]
 
-pub counters : (r t : Ballot) → below r t ≡ false → t.counter ≤ r.counter
-counters r t h = not_below-counter r t h
-
 pub under-counters : (o : Option Ballot) (r : Ballot) → Under o (Some r) → counter_of o ≤ r.counter
 under-counters None r u = omega arith
-under-counters (Some p) r u = counters r p u
+under-counters (Some p) r u = not_below-counter r p u

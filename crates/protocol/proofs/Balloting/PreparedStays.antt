@@ -1,7 +1,6 @@
 -- In PREPARE: once p, h, b and c were set with one position, they stay as they are.
-use Rattle.std.proofs.Common.{◌≡◌, ℕ, ◌≤◌, Bool, true, false, not, ◌&&◌, ◌||◌, ◌==◌, nat_le, Option, Some, None, is_none, refl, sym, ◌∙◌, ap, subst, inl, inr, ◌⊎◌, arith}
+use Rattle.std.proofs.Common.{◌≡◌, ◌≤◌, true, false, not, ◌&&◌, ◌||◌, ◌==◌, nat_le, Option, Some, None, is_none, refl, sym, ◌∙◌, ap, subst, inl, inr, ◌⊎◌}
 use Rattle.std.proofs.lemmas.Bool.{cases_Bool, or_left, and_parts, true≢false}
-use Rattle.std.proofs.lemmas.Bool.Decides.{nat_tests}
 use Rattle.types.specs.declared.ballot.Ballot.{Ballot}
 use Rattle.protocol.proofs.Balloting.Tests.{implies, backs_prepare, takes_prepare, Fair, quorum_own, quorum_more}
 use Rattle.types.specs.declared.statement.Statement.TheVariants.{Prepare}
@@ -20,6 +19,8 @@ use Rattle.protocol.proofs.Balloting.OwnPosition.{position-preparing, own-prepar
 use Rattle.protocol.proofs.Balloting.Moves.{accept_prepared-still, accept_prepared-moves, raise_high-still, raise_high-moves, follow_high-moves, Fixed, set_commit-moves}
 use Rattle.protocol.proofs.Equality.Sameness.{same_value-true}
 use Rattle.types.specs.Votes.{same_value}
+use Rattle.protocol.proofs.Sets.Numbers.{up_to}
+use Rattle.protocol.proofs.Sets.Tests.{first_holds}
 
 -- in COMMIT
 pub record Held (w : Votes) : Type 0 where
@@ -40,10 +41,7 @@ pub record Sound (w : Votes) : Type 0 where
 implies-under : (b t : Ballot) → implies b t ≡ true → below b t ≡ false
 implies-under b t h =
     let p = and_parts (same_value b.value t.value) (nat_le t.counter b.counter) h in
-    not_above-value b t (upto t.counter b.counter p.1) (same_value-true b.value t.value p.0)
-  where
-    upto : (m n : ℕ) → nat_le m n ≡ true → m ≤ n
-    upto m n h = grind (arith, nat_tests)
+    not_above-value b t (up_to t.counter b.counter p.1) (same_value-true b.value t.value p.0)
 
 own-ballot : (w : Votes) (b : Ballot) → w.phase ≡ Preparing → w.ballot ≡ Some b → IsIn b (own_named w)
 own-ballot w b p e = rw (position-preparing w b p e) (inl refl)
@@ -126,7 +124,7 @@ module _ (s : Seen) (f : Fair s) (b : Ballot) (w : Votes) (phase : w.phase ≡ P
               let own : passes (takes_prepare t) (position u) ≡ false = rw at4 (not_own F.n N.p A (high_counter u F.n) (commit_counter u F.n) t low k) in
               let backs : passes (backs_prepare t) (position u) ≡ true → passes (backs_prepare t) (position w) ≡ true = λ h.
               let j : (implies F.n t || takes_prepare t (Prepare F.n N.p A (high_counter u F.n) (commit_counter u F.n))) ≡ true = rw at4 at h in
-              let imp : implies F.n t ≡ true = first_part _ _ j (not_own F.n N.p A (high_counter u F.n) (commit_counter u F.n) t low k) in
+              let imp : implies F.n t ≡ true = first_holds _ _ j (not_own F.n N.p A (high_counter u F.n) (commit_counter u F.n) t low k) in
               elim new_under [
                 | inl e ↦ rw at1 (or_left (implies b t) _ (subst (λ x. implies x t ≡ true) e imp))
                 | inr e ↦ absurd (true≢false (sym k ∙ above-trans N.p F.n t e (implies-under F.n t imp)))
@@ -167,7 +165,3 @@ module _ (s : Seen) (f : Fair s) (b : Ballot) (w : Votes) (phase : w.phase ≡ P
       under_each : (h p : Option Ballot) → ((t : Ballot) → h ≡ Some t → above p t ≡ false) → Under h p
       under_each None p g = tt
       under_each (Some h) p g = g h refl
-
-      first_part : (x y : Bool) → (x || y) ≡ true → y ≡ false → x ≡ true
-      first_part true y h k = refl
-      first_part false y h k = absurd (true≢false (sym h ∙ k))

@@ -14,7 +14,10 @@ use Rattle.protocol.proofs.Ballots.Order.{below-self, not_below-counter}
 use Rattle.protocol.proofs.Ballots.Above.{above, Under, greatest-above, greatest-from, in-filter, from-filter, lowest-low}
 use Rattle.protocol.proofs.Equality.Sameness.{same_value-true}
 use Rattle.types.specs.Votes.{same_value}
-use Rattle.protocol.proofs.Balloting.GreatestOfOne.{counters, greatest-one, one-from}
+use Rattle.protocol.proofs.Balloting.GreatestOfOne.{greatest-one, one-from}
+use Rattle.std.proofs.lemmas.Option.{same_Some}
+use Rattle.protocol.proofs.Sets.Numbers.{not_both}
+use Rattle.std.proofs.Math.Nat.{le-max_left}
 
 -- a greater interval
 pub record NewInterval (s : Seen) (b p : Ballot) (w : Votes) : Type 0 where
@@ -48,10 +51,7 @@ widens s b p w ballot prepared value hi lo = go (greatest None (filter test (com
     test = λ t. (same_value t.value b.value) && nat_lt w.hi t.counter && commit_accepted s w t.value t.counter t.counter
 
     under_top : (g t : Ballot) → below g t ≡ false → nat_lt g.counter t.counter ≡ true → ⊥
-    under_top g t h k = over g.counter t.counter (not_below-counter g t h) k
-      where
-        over : (m n : ℕ) → n ≤ m → nat_lt m n ≡ true → ⊥
-        over m n h k = grind (arith, nat_tests)
+    under_top g t h k = not_both g.counter t.counter (not_below-counter g t h) k
 
     go : (o : Option Ballot) → greatest None (filter test (commits s w)) ≡ o → NewInterval s b p w
     go None e = record {
@@ -96,14 +96,14 @@ widens s b p w ballot prepared value hi lo = go (greatest None (filter test (com
           ballot = refl;
           prepared = r.1;
           value = elim (one-from w.prepared t r.0 r.1) [
-            | inl k ↦ let z : r.0 ≡ p = some_same r.0 p (sym k ∙ prepared) in ap (λ (x : Ballot). x.value) z ∙ (value ∙ sym v)
+            | inl k ↦ let z : r.0 ≡ p = same_Some r.0 p (sym k ∙ prepared) in ap (λ (x : Ballot). x.value) z ∙ (value ∙ sym v)
             | inr k ↦ ap (λ (x : Ballot). x.value) k
           ];
           kept = v;
-          hi = counters r.0 t r.2;
+          hi = not_below-counter r.0 t r.2;
           lo = lowest-low (λ lo. commit_accepted s w t.value lo t.counter) t.value t.counter (commits s w);
           hi_grows = up;
-          grows = less_max b.counter t.counter;
+          grows = le-max_left b.counter t.counter;
           new_under = newer b t r.0 v r.2;
           over = let z : Under (Some p) (Some r.0) = subst (λ o. Under o (Some r.0)) prepared r.3 in z;
           aborted = refl;
@@ -115,17 +115,11 @@ widens s b p w ballot prepared value hi lo = go (greatest None (filter test (com
               under_top t x k c;
         }
       where
-        some_same : (x y : Ballot) → Some x ≡ Some y → x ≡ y
-        some_same x y q = cc
-
         less : (a c : ℕ) → nat_lt a c ≡ true → a ≤ c
         less a c h = grind (arith, nat_tests)
 
         less_less : (a c d : ℕ) → a ≤ c → nat_lt c d ≡ true → nat_lt a d ≡ true
         less_less a c d h k = grind (arith, nat_tests)
-
-        less_max : (a c : ℕ) → a ≤ max a c
-        less_max a c = omega arith
 
         newer : (b t q : Ballot) → t.value ≡ b.value → below q t ≡ false → (ballot_at (max b.counter t.counter) t.value ≡ b) ⊎ (below q (ballot_at (max b.counter t.counter) t.value) ≡ false)
         newer b t q v h = elim (cases_Bool (nat_le t.counter b.counter)) [

@@ -12,6 +12,7 @@ use Rattle.protocol.specs.Extremes.{IsIn}
 use Rattle.protocol.proofs.Ballots.Order.{less, less-total, below-parts, below-self, below-trans, below-asym, not_below-counter}
 use Rattle.types.specs.Votes.{same_value}
 use Rattle.protocol.proofs.Equality.Sameness.{same_value-refl}
+use Rattle.protocol.proofs.Sets.Numbers.{through}
 
 pub above-trans : (p : Option Ballot) (b c : Ballot) → above p b ≡ false → below b c ≡ false → above p c ≡ false
 above-trans None b c h k = h
@@ -139,9 +140,6 @@ aborted-by (Some o) (Some p) a h u = elim (cases_Bool (same_value o.value p.valu
   ])
 ]
   where
-    through : (a m n : ℕ) → a ≤ m → m ≤ n → a ≤ n
-    through a m n h k = omega (arith, h, k)
-
     most : (a m n : ℕ) → a ≤ m → m ≤ n → max a m ≤ n
     most a m n h k = omega (arith, h, k)
 

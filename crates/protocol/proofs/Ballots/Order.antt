@@ -17,14 +17,14 @@ use Rattle.protocol.specs.States.{below}
 abbrev pub less : List ℕ → List ℕ → Bool
 less x y = is_lt (bytes_cmp x y)
 
+pub is_less : (o : Ordering) → is_lt o ≡ true → o ≡ Less
+is_less Less h = refl
+is_less Equal h = absurd (false≢true h)
+is_less Greater h = absurd (false≢true h)
+
 module _ {K : Type 0} {R : K → K → Ordering} (order : IsTotalOrder R) where
   pub lt-self : (x : K) → is_lt (R x x) ≡ false
   lt-self x = ap is_lt (tied_itself order x)
-
-  is_less : (o : Ordering) → is_lt o ≡ true → o ≡ Less
-  is_less Less h = refl
-  is_less Equal h = absurd (false≢true h)
-  is_less Greater h = absurd (false≢true h)
 
   pub lt-trans : (x y z : K) → is_lt (R x y) ≡ true → is_lt (R y z) ≡ true → is_lt (R x z) ≡ true
   lt-trans x y z h k = ap is_lt (order.trans x y z (is_less (R x y) h) (is_less (R y z) k))

@@ -1,20 +1,18 @@
 -- Members of a closure that the roster holds are never crowded out.
 use Rattle.types.specs.declared.event.Refusal.{Refusal}
-use Rattle.std.proofs.Common.{◌≡◌, ℕ, Bool, true, false, Option, Some, None, List, [], ◌∷◌, ◌++◌, map, flat_map, filter_map, cond, is_some, refl, sym, ◌∙◌, ap, ap₂, subst, inl, inr, ◌⊎◌, IsTrue}
+use Rattle.std.proofs.Common.{◌≡◌, ℕ, Bool, true, false, Option, Some, None, List, [], ◌∷◌, map, filter_map, cond, is_some, refl, sym, ◌∙◌, ap, ap₂, subst, inl, inr, ◌⊎◌, IsTrue}
 use Rattle.std.specs.List.{cons_option}
-use Rattle.std.proofs.lemmas.Bool.{false≢true}
 use Rattle.protocol.specs.Sets.{Names, among, AreWithin}
 use Rattle.protocol.specs.Rosters.{Roster}
 use Rattle.protocol.specs.Networks.{Host, Net, Step, Reply, slices_of, tests, first_that, replied, net_step}
 use Rattle.protocol.specs.Networks.Reply.{Done, Refused}
 use Rattle.protocol.specs.Hosts.{Config, Entry, entered, journal, new_net, nets, hosts_of, steps_of, entries}
-use Rattle.protocol.specs.Isolation.{Kept, kept, kept_of, host_rule, announced, closure, outs_of, SameCast}
+use Rattle.protocol.specs.Isolation.{Kept, kept, kept_of, closure, outs_of, SameCast}
 use Rattle.protocol.specs.Submissions.{Answer, net_run, answers, concerns, concerning, concerned, replied_to, config_of, SameRoster, SameReserves, names_on, roster_names, MembersAreNeverCrowdedOut, MembersOfRunsAreNeverCrowdedOut}
-use Rattle.protocol.proofs.Sets.RuleLists.{least-start}
 use Rattle.protocol.proofs.Runs.Openings.{HostsIn}
-use Rattle.protocol.proofs.Runs.KeptWithin.{hosts-closed, events-closed}
+use Rattle.protocol.proofs.Runs.KeptWithin.{hosts-closed, events-closed, closure-start}
 use Rattle.protocol.proofs.Runs.SameSteps.{casts-same, hosts-other, no-places, journals-agree}
-use Rattle.protocol.proofs.Runs.Hosts.{steps_to, applied-journal, answers-run, HasNet, find_net}
+use Rattle.protocol.proofs.Runs.Hosts.{steps_to, applied-journal, answers-run, HasNet, find_net, nobody}
 use Rattle.protocol.proofs.Crowds.Views.{view, Frame, frame, replies_in}
 use Rattle.protocol.proofs.Crowds.Others.{others-kept}
 use Rattle.protocol.proofs.Crowds.Runs.{AllGood, Shows, shows}
@@ -117,10 +115,6 @@ never_crowded_out_of_runs one other es fs i v cast reserves on same =
     let replies = agree.replies reserves on same in
     (replies, λ u r. agree.outs same replies u r)
 
-closure-start : (hosts : List Host) (i v : ℕ) (run : List Entry) → closure hosts i v run v ≡ true
-unfolding closure
-closure-start hosts i v run = least-start (map host_rule hosts ++ flat_map (λ x. announced i x.event) run) v
-
 -- all that the theorem speaks of
 record Worlds : Type 0 where
   hosts : List Host
@@ -161,9 +155,6 @@ never_crowded_out decode one other g i v cast reserves on same = go (find_net on
       xs = answers decode one g;
       ys = answers decode other g;
     }
-
-    nobody : (hosts : List Host) (w : ℕ) → hosts ≡ [] → is_some (slices_of hosts w) ≡ true → ⊥
-    nobody hosts w e h = false≢true (sym (ap (λ x. is_some (slices_of x w)) e) ∙ h)
 
     go : (hosts_of one.configs g ≡ []) ⊎ HasNet one.configs g → (hosts_of other.configs g ≡ []) ⊎ HasNet other.configs g
         → (replied_to R i (answers decode one g) ≡ replied_to R i (answers decode other g))

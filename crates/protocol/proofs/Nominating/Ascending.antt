@@ -4,22 +4,14 @@ use Rattle.std.proofs.lemmas.Bool.{cases_Bool, or_cases, or_left, or_right, fals
 use Rattle.types.specs.Nominations.{Ascending, with_value}
 use Rattle.types.specs.Orders.{bytes_cmp}
 use Rattle.std.specs.Ordering.{is_lt}
-use Rattle.std.specs.declared.cmp.Ordering.{Ordering}
-use Rattle.std.specs.declared.cmp.Ordering.TheVariants.{Less, Equal, Greater}
 use Rattle.protocol.specs.Candidates.{all_with}
-use Rattle.protocol.proofs.Ballots.Order.{less, less-total, less-trans, less-asym, less-self}
+use Rattle.protocol.proofs.Ballots.Order.{less, less-total, less-trans, less-asym, less-self, is_less}
 use Rattle.protocol.proofs.Equality.Sameness.{same_value-true, same_value-refl}
 use Rattle.types.specs.Votes.{same_value, has_value}
 
 -- a test that holds makes two values one
-value-true : (z y : List ℕ) → same_value y z ≡ true → z ≡ y
+pub value-true : (z y : List ℕ) → same_value y z ≡ true → z ≡ y
 value-true z y h = sym (same_value-true y z h)
-
--- ---- ascending lists
-is_less : (o : Ordering) → is_lt o ≡ true → o ≡ Less
-is_less Less h = refl
-is_less Equal h = absurd (false≢true h)
-is_less Greater h = absurd (false≢true h)
 
 pub ascends_on : (x : List ℕ) (xs : List (List ℕ)) → Ascending (x ∷ xs) → Ascending xs
 ascends_on x [] h = tt

@@ -5,6 +5,7 @@ use Rattle.types.specs.Nominations.{with_value}
 use Rattle.protocol.specs.Candidates.{all_with}
 use Rattle.protocol.proofs.Ballots.Order.{less}
 use Rattle.types.specs.Votes.{same_value, has_value}
+use Rattle.protocol.proofs.Sets.Numbers.{through}
 
 -- Lengths
 pub with-longer : (x : List ℕ) (xs : List (List ℕ)) → (length xs ≤ length (with_value x xs)) × (length (with_value x xs) ≤ length xs + 1)
@@ -36,8 +37,5 @@ pub all-longer : (ys xs : List (List ℕ)) → (length xs ≤ length (all_with y
 all-longer [] xs = (omega arith, omega arith)
 all-longer (y ∷ ys) xs = let ih = all-longer ys xs in let w = with-longer y (all_with ys xs) in (through _ _ _ ih.0 w.0, up _ _ _ _ ih.1 w.1)
   where
-    through : (a b c : ℕ) → a ≤ b → b ≤ c → a ≤ c
-    through a b c h k = omega (arith, h, k)
-
     up : (a b c d : ℕ) → b ≤ c + d → a ≤ b + 1 → a ≤ c + suc d
     up a b c d h k = omega (arith, h, k)

@@ -1,5 +1,5 @@
 -- Nomination is at rest after one pass.
-use Rattle.std.proofs.Common.{◌≡◌, ℕ, zero, suc, ◌+◌, ◌-◌, ◌≤◌, ◌<◌, min, Bool, true, false, not, cond, ◌||◌, nat_lt, nat_le, length, take, List, [], ◌∷◌, ◌++◌, Some, if◌then◌else◌, filter, flat_map, refl, sym, ◌∙◌, ap, subst, inl, inr, ◌⊎◌, arith, length-take}
+use Rattle.std.proofs.Common.{◌≡◌, ℕ, zero, suc, ◌+◌, ◌-◌, ◌≤◌, ◌<◌, min, Bool, true, false, not, cond, nat_lt, nat_le, length, take, List, [], ◌∷◌, ◌++◌, Some, if◌then◌else◌, filter, flat_map, refl, sym, ◌∙◌, ap, subst, inl, inr, ◌⊎◌, arith, length-take}
 use Rattle.std.proofs.lemmas.List.{take_all}
 use Rattle.std.proofs.lemmas.Bool.{cases_Bool, or_cases, or_left, or_right, and_parts, and_from, false≢true, true≢false, not-true, not_from_false}
 use Rattle.std.proofs.lemmas.Bool.Decides.{nat_tests}
@@ -10,17 +10,15 @@ use Rattle.protocol.specs.Views.{Seen, accepted, confirmed, passes}
 use Rattle.types.specs.declared.state.Given.{Given}
 use Rattle.types.specs.Nominations.{Ascending, with_value}
 use Rattle.protocol.specs.Candidates.{as_set, all_with, filled, values_by}
-use Rattle.protocol.proofs.Nominating.Ascending.{ascends_on, ascends_from, first_least, with-has, with-kept, with-from, all-ascending, all-has, all-same}
+use Rattle.protocol.proofs.Nominating.Ascending.{ascends_on, ascends_from, first_least, with-has, with-kept, with-from, all-ascending, all-has, all-same, value-true}
 use Rattle.protocol.proofs.Nominating.Lengths.{with-new, all-longer}
 use Rattle.protocol.proofs.Nominating.Sets.{sources, echoes, new_voted, new_accepts, new_confirms, QuietAt, quiet-from}
 use Rattle.protocol.proofs.Nominating.ValueSets.{filter_ascending, set_ascending}
 use Rattle.protocol.proofs.Ballots.Order.{less, less-self}
-use Rattle.protocol.proofs.Equality.Sameness.{same_value-true, same_value-refl}
+use Rattle.protocol.proofs.Equality.Sameness.{same_value-refl}
 use Rattle.types.specs.Votes.{same_value, has_value}
-
--- a test that holds makes two values one
-value-true : (z y : List ℕ) → same_value y z ≡ true → z ≡ y
-value-true z y h = sym (same_value-true y z h)
+use Rattle.protocol.proofs.Sets.Numbers.{up_to}
+use Rattle.protocol.proofs.Sets.Tests.{first_holds}
 
 value-left : (xs ys : List (List ℕ)) (u : List ℕ) → has_value xs u ≡ true → has_value (xs ++ ys) u ≡ true
 value-left [] ys u h = absurd (false≢true h)
@@ -118,7 +116,7 @@ all-count (y ∷ ys) xs h f =
 filled-full : (old new : List (List ℕ)) → (16 ≤ length (filled old new)) ⊎ ((z : List ℕ) → has_value new z ≡ true → has_value (filled old new) z ≡ true)
 unfolding filled
 filled-full old new = elim (cases_Bool (nat_le (length S) (16 - length old))) [
-  | inl e ↦ inr (λ z i. subst (λ D. has_value (all_with D old) z ≡ true) (sym (take_all (16 - length old) S (fits (length S) (16 - length old) e))) (elim (cases_Bool (has_value old z)) [
+  | inl e ↦ inr (λ z i. subst (λ D. has_value (all_with D old) z ≡ true) (sym (take_all (16 - length old) S (up_to (length S) (16 - length old) e))) (elim (cases_Bool (has_value old z)) [
     | inl j ↦ all-kept S old z j
     | inr j ↦ all-has S old z (among-filter (λ x. not (has_value old x)) (as_set new) z (set-has new z i) (not_from_false (has_value old z) j))
   ]))
@@ -129,9 +127,6 @@ filled-full old new = elim (cases_Bool (nat_le (length S) (16 - length old))) [
   where
     S : List (List ℕ)
     S = filter (λ x. not (has_value old x)) (as_set new)
-
-    fits : (a b : ℕ) → nat_le a b ≡ true → a ≤ b
-    fits a b h = grind (arith, nat_tests)
 
     full : (o s d f : ℕ) → nat_le s (16 - o) ≡ false → d ≡ min (16 - o) s → o + d ≤ f → 16 ≤ f
     full o s d f h k l = let j : 16 - o ≤ s = past s (16 - o) h in omega (arith, j, k, l)
@@ -166,13 +161,9 @@ append-has_value (x ∷ xs) ys z h = elim (or_cases (same_value x z) (has_value 
 -- what is not accepted by v itself is accepted where v votes for it
 value-from : (s : Seen) → Fair s → (V A B : List (List ℕ)) (x : List ℕ) → has_value A x ≡ false → accepted s Nomination (Some (Nominate V A)) (backs_value x) (takes_value x) ≡ true → accepted s Nomination (Some (Nominate V B)) (backs_value x) (takes_value x) ≡ true
 value-from s f V A B x n h = elim (or_cases (s.quorum Nomination (passes (backs_value x) (Some (Nominate V A))) (backs_value x)) (s.blocking Nomination (passes (takes_value x) (Some (Nominate V A))) (takes_value x)) h) [
-  | inl q ↦ or_left _ (s.blocking Nomination (passes (takes_value x) (Some (Nominate V B))) (takes_value x)) (quorum_more s f Nomination (Some (Nominate V A)) (Some (Nominate V B)) (backs_value x) (or_left (has_value V x) (has_value B x) (voted (has_value V x) (has_value A x) (quorum_own s f Nomination (Some (Nominate V A)) (backs_value x) q) n)) q)
+  | inl q ↦ or_left _ (s.blocking Nomination (passes (takes_value x) (Some (Nominate V B))) (takes_value x)) (quorum_more s f Nomination (Some (Nominate V A)) (Some (Nominate V B)) (backs_value x) (or_left (has_value V x) (has_value B x) (first_holds (has_value V x) (has_value A x) (quorum_own s f Nomination (Some (Nominate V A)) (backs_value x) q) n)) q)
   | inr q ↦ or_right (s.quorum Nomination (passes (backs_value x) (Some (Nominate V B))) (backs_value x)) _ (blocking_more s f Nomination (Some (Nominate V A)) (Some (Nominate V B)) (takes_value x) (takes_value x) (λ y i. i) (λ i. absurd (true≢false (sym i ∙ n))) q)
 ]
-  where
-    voted : (a b : Bool) → (a || b) ≡ true → b ≡ false → a ≡ true
-    voted true b h k = refl
-    voted false b h k = absurd (true≢false (sym h ∙ k))
 
 accepts-still : (s : Seen) → Fair s → (V ac : List (List ℕ)) → new_accepts s V (new_accepts s V ac) ≡ new_accepts s V ac
 accepts-still s f V ac = filled-still A (cands A) (elim (filled-full ac (cands ac)) [

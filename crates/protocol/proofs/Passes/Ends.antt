@@ -18,6 +18,7 @@ use Rattle.protocol.proofs.Balloting.EntersCommit.{entering, enter_not, enters}
 use Rattle.protocol.proofs.Balloting.Decides.{deciding, decide_not, decides}
 use Rattle.protocol.proofs.Balloting.CommittedStays.{widening, widen_not, Steady, steady}
 use Rattle.protocol.proofs.Passes.RuleByRule.{r2, r3, r4, r5, ruled, tail, begun, finish, pass-preparing, pass-committing, r4-at, r5-at, r23-preparing, r234-committing, counts-on, counts-still, own-counts, accept_prepared-armed, raise_high-armed, fixed-armed, entering-armed}
+use Rattle.std.proofs.lemmas.Option.{same_Some}
 
 -- one more pass changes nothing, if nomination does not
 abbrev pub Rests : ℕ → Seen → Given → Votes → Type 0
@@ -115,7 +116,7 @@ pub from-committing : (v : ℕ) (s : Seen) → Fair s → (g : Given) (w : Votes
     → (y : Votes) × (finish s g (ruled s w) ≡ y) × Went s g w y × (Risen s g b.counter → Rests v s g y ⊎ (y.phase ≡ Externalized))
 from-committing v s f g w b ph ball sound =
     let h = sound.committing ph in
-    let hb : h.b ≡ b = some_same h.b b (sym h.ballot ∙ ball) in
+    let hb : h.b ≡ b = same_Some h.b b (sym h.ballot ∙ ball) in
     let R = steady s f w b h.p ph ball h.prepared (h.value ∙ ap (λ (x : Ballot). x.value) hb) h.hi h.lo sound in
     let e : ruled s w ≡ r5 s R.u = ap (r5 s) (r234-committing s w b ph ball ∙ R.is) in
     let c = closes s f g R.u R.n R.phase R.ballot R.sound in (
@@ -127,9 +128,6 @@ from-committing v s f g w b ph ball sound =
         | inr k ↦ inl (subst (λ (x : Votes). Rests v s g x) (sym (k.2 ∙ counts-still s f g R.u R.n R.ballot (own-counts R.u R.n (inr R.phase) R.ballot) up)) (rests-committing v s f g b w R k.1 up))
       ],
     )
-  where
-    some_same : (x y : Ballot) → Some x ≡ Some y → x ≡ y
-    some_same x y q = cc
 
 -- the same in PREPARE, where it may go on to COMMIT
 pub from-preparing : (v : ℕ) (s : Seen) → Fair s → (g : Given) (w : Votes) (b : Ballot) → w.phase ≡ Preparing → w.ballot ≡ Some b → Sound w

@@ -21,6 +21,7 @@ use Rattle.protocol.proofs.Balloting.OwnPosition.{position-preparing, position-c
 use Rattle.protocol.proofs.Balloting.Moves.{Fixed}
 use Rattle.protocol.proofs.Balloting.PreparedStays.{Sound}
 use Rattle.protocol.proofs.Balloting.EntersCommit.{entering}
+use Rattle.std.proofs.lemmas.Option.{same_Some}
 
 abbrev pub r2 : Seen → Votes → Votes
 r2 s w = on_ballot (accept_prepared s) w
@@ -162,7 +163,7 @@ counts-on s f g w b e sound =
       sound = record {
         aborted = sound.aborted;
         high = sound.high;
-        committing = λ c. let h = sound.committing c in let z : h.b ≡ b = some_same h.b b (sym h.ballot ∙ e) in
+        committing = λ c. let h = sound.committing c in let z : h.b ≡ b = same_Some h.b b (sym h.ballot ∙ e) in
             record { b = raised w b r.0; p = h.p; ballot = refl; prepared = h.prepared; value = h.value ∙ (ap (λ (x : Ballot). x.value) z ∙ sym (raised-stays w b r.0 c)); hi = h.hi; lo = h.lo };
       };
       voted = refl;
@@ -170,9 +171,6 @@ counts-on s f g w b e sound =
       confirms = refl;
       high = refl;
     }
-  where
-    some_same : (x y : Ballot) → Some x ≡ Some y → x ≡ y
-    some_same x y q = cc
 
 -- where nothing is to be raised
 pub counts-still : (s : Seen) → Fair s → (g : Given) (w : Votes) (b : Ballot) → w.ballot ≡ Some b → passes (counts (b.counter + 1)) (position w) ≡ false → Risen s g b.counter → tail s g w ≡ arm s b w

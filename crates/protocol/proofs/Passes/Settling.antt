@@ -16,6 +16,7 @@ use Rattle.protocol.specs.Limits.Reached.{begin, next}
 use Rattle.protocol.proofs.Balloting.FairSight.{seen-fair}
 use Rattle.protocol.proofs.Passes.RuleByRule.{raised-stays}
 use Rattle.protocol.proofs.Passes.FourPasses.{Fit, IsSome, four, pass-fit}
+use Rattle.std.proofs.lemmas.Option.{same_Some}
 
 -- Nodes
 settle-fit : (k : ℕ) (f : Votes → Votes) → ((w : Votes) → Fit w → Fit (f w)) → (w u : Votes) → Fit w → settle k f w ≡ Some u → Fit u
@@ -37,14 +38,11 @@ bumped-fit w (Some b) e h = record {
   sound = record {
     aborted = h.sound.aborted;
     high = h.sound.high;
-    committing = λ c. let k = h.sound.committing c in let z : k.b ≡ b = some_same k.b b (sym k.ballot ∙ e) in
+    committing = λ c. let k = h.sound.committing c in let z : k.b ≡ b = same_Some k.b b (sym k.ballot ∙ e) in
         record { b = raised w b (b.counter + 1); p = k.p; ballot = refl; prepared = k.prepared; value = k.value ∙ (ap (λ (x : Ballot). x.value) z ∙ sym (raised-stays w b (b.counter + 1) c)); hi = k.hi; lo = k.lo };
   };
   ascending = h.ascending;
 }
-  where
-    some_same : (x y : Ballot) → Some x ≡ Some y → x ≡ y
-    some_same x y q = cc
 
 abbrev if_fit : Option Node → Type 0
 if_fit None = Unit {0}

@@ -142,15 +142,22 @@ leads_to_none own configured table us e within r =
       ];
     })
 
-pub stays_with_first_rows : StaysWithFirstRows
-stays_with_first_rows own configured table us e none within r =
+-- so where all that the replaced rows named is named still, no other nodes are reached
+pub stays_where : (own : ℕ) (configured : Slices) (table : List Sent) (us : List ℕ) (e : Sent)
+    → AreWithin (among (names e.slices)) (among us) → IsReach own configured table us
+    → ((x : Sent) → Contains table x → IsTrue (reached own configured (with_row e table) x.sender)
+        → AreWithin (among (names x.slices)) (reached own configured (with_row e table)))
+    → IsReach own configured (with_row e table) us
+stays_where own configured table us e within r rows =
     let old = reached own configured table in
     let new = reached own configured (with_row e table) in
     let kept = reached-holds own configured (with_row e table) in
     let fewer : AreWithin new old = leads_to_none own configured table us e within r in
-    let more : AreWithin old new = reached-in own configured table new (record {
-      itself = kept.itself;
-      configuration = kept.configuration;
-      rows = λ x c s. kept.rows x (none_went e x table none c) s;
-    }) in
+    let more : AreWithin old new = reached-in own configured table new
+    (record { itself = kept.itself; configuration = kept.configuration; rows = rows; }) in
     same_reach own configured table (with_row e table) us (λ u. same_test (old u) (new u) (more u) (fewer u)) r
+
+pub stays_with_first_rows : StaysWithFirstRows
+stays_with_first_rows own configured table us e none within r =
+    stays_where own configured table us e within r
+    (λ x c s. (reached-holds own configured (with_row e table)).rows x (none_went e x table none c) s)

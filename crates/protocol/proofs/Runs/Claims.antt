@@ -1,9 +1,9 @@
 -- The claims, proved.
 use Rattle.types.specs.declared.event.NodeEvent.{NodeEvent}
 use Rattle.types.specs.declared.event.Out.{Out}
-use Rattle.std.proofs.Common.{◌≡◌, Bool, true, not, List, [], ◌∷◌, ◌++◌, map, flat_map, append_assoc, refl, sym, ◌∙◌, ap, subst}
+use Rattle.std.proofs.Common.{◌≡◌, true, not, List, ◌++◌, map, flat_map, append_assoc, sym, ◌∙◌, ap, subst}
 use Rattle.std.specs.List.{list_all}
-use Rattle.std.proofs.lemmas.Bool.{and_parts, and_from, or_right}
+use Rattle.std.proofs.lemmas.Bool.{or_right}
 use Rattle.std.proofs.lemmas.List.Concat.{flat_map-append}
 use Rattle.protocol.specs.Sets.{Names, within}
 use Rattle.protocol.specs.Satisfaction.{names}
@@ -19,6 +19,7 @@ use Rattle.protocol.proofs.Nodes.Views.{row-cut, reached-in}
 use Rattle.protocol.proofs.Nodes.Closed.{Good, IsFit}
 use Rattle.protocol.proofs.Nodes.Agreement.{IsKept, cut_node, step-kept}
 use Rattle.protocol.proofs.Nodes.Quiet.{step-quiet}
+use Rattle.protocol.proofs.Sets.Lists.{all-left}
 
 pub good : (R : Names) (n : Node) → IsClosedFor R n → Good R n
 good R n c = record { closed = record { has = c.has; own = c.own; rows = c.rows }; leaders = c.leaders }
@@ -55,10 +56,6 @@ agree_claim R n m e c d k h =
 
 pub prefix_of_reach : PrefixOfReach
 prefix_of_reach R n c u h = reached-in R n.name n.slices n.table (good R n c).closed u h
-
-all-left : {X : Type 0} (P : X → Bool) (xs ys : List X) → list_all P (xs ++ ys) ≡ true → list_all P xs ≡ true
-all-left P [] ys h = refl
-all-left P (x ∷ xs) ys h = let p = and_parts (P x) (list_all P (xs ++ ys)) h in and_from (P x) (list_all P xs) p.0 (all-left P xs ys p.1)
 
 pub prefix_of_run : PrefixOfRun
 unfolding closure

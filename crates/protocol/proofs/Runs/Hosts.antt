@@ -112,12 +112,13 @@ find_net (c ∷ cs) g = go (c.number == g) refl (find_net cs g)
     go false y (inl e) = inl (rw y e)
     go false y (inr n) = inr (record { config = n.config; is = rw y n.is; of = rw y n.of; at = rw y n.at })
 
+-- nobody is hosted where there are no hosts
+pub nobody : (hosts : List Host) (w : ℕ) → hosts ≡ [] → is_some (slices_of hosts w) ≡ true → ⊥
+nobody hosts w e h = false≢true (sym (ap (λ x. is_some (slices_of x w)) e) ∙ h)
+
 pub isolation : Isolation
 isolation decode one other g i v cast same u r hosted = go (find_net one.configs g) (find_net other.configs g)
   where
-    nobody : (hosts : List Host) (w : ℕ) → hosts ≡ [] → is_some (slices_of hosts w) ≡ true → ⊥
-    nobody hosts w e h = false≢true (sym (ap (λ x. is_some (slices_of x w)) e) ∙ h)
-
     go : (hosts_of one.configs g ≡ []) ⊎ HasNet one.configs g → (hosts_of other.configs g ≡ []) ⊎ HasNet other.configs g → outs_of i u (entries decode one g) ≡ outs_of i u (entries decode other g)
     go (inl e) n = absurd (nobody (hosts_of one.configs g) v e cast.hosted)
     go (inr a) (inl e) = absurd (nobody (hosts_of other.configs g) u e (sym (ap is_some (cast.same u r)) ∙ hosted))

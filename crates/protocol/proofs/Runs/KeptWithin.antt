@@ -14,20 +14,13 @@ use Rattle.protocol.specs.Hosts.{Entry}
 use Rattle.protocol.specs.Isolation.{Kept, when_kept, kept, kept_of, host_rule, announced, closure}
 use Rattle.protocol.specs.Isolation.Kept.{Opened, Closed, Told, Heard}
 use Rattle.protocol.proofs.Sets.Least.{keeps-at}
-use Rattle.protocol.proofs.Sets.RuleLists.{least-keeps}
+use Rattle.protocol.proofs.Sets.RuleLists.{least-keeps, least-start}
 use Rattle.protocol.proofs.Runs.Events.{IsWithin}
 use Rattle.protocol.proofs.Runs.Openings.{HostsIn}
 use Rattle.protocol.proofs.Runs.KeptSteps.{AllIn}
+use Rattle.protocol.proofs.Sets.Lists.{all-left, all-right}
 
 -- What the closure says of a run
-
-all-left : {X : Type 0} (P : X → Bool) (xs ys : List X) → list_all P (xs ++ ys) ≡ true → list_all P xs ≡ true
-all-left P [] ys h = refl
-all-left P (x ∷ xs) ys h = let p = and_parts (P x) (list_all P (xs ++ ys)) h in and_from (P x) (list_all P xs) p.0 (all-left P xs ys p.1)
-
-all-right : {X : Type 0} (P : X → Bool) (xs ys : List X) → list_all P (xs ++ ys) ≡ true → list_all P ys ≡ true
-all-right P [] ys h = h
-all-right P (x ∷ xs) ys h = all-right P xs ys (and_parts (P x) (list_all P (xs ++ ys)) h).1
 
 hosts-in : (R : Names) (hosts : List Host) → list_all (keeps R) (map host_rule hosts) ≡ true → HostsIn R hosts
 hosts-in R [] h u q e r = cc
@@ -140,6 +133,10 @@ all_kept-to R S i (x ∷ xs) w h = let p = option-all S (kept R i x.event) (kept
 -- what lies in R in one world does in the other, where the kept steps are the same
 pub all_in-other : (R : Names) (i : ℕ) (one other : List Entry) → kept_of R i one ≡ kept_of R i other → AllIn R i one → AllIn R i other
 all_in-other R i one other same h = all_kept-to R R i other (λ u r. r) (subst (AllByRecursion (IsKeptIn R)) same (all_kept-from R R i one h))
+
+pub closure-start : (hosts : List Host) (i v : ℕ) (entries : List Entry) → closure hosts i v entries v ≡ true
+unfolding closure
+closure-start hosts i v entries = least-start (map host_rule hosts ++ flat_map (λ x. announced i x.event) entries) v
 
 pub closure-keeps : (hosts : List Host) (i v : ℕ) (entries : List Entry) → list_all (keeps (closure hosts i v entries)) (map host_rule hosts ++ flat_map (λ x. announced i x.event) entries) ≡ true
 unfolding closure

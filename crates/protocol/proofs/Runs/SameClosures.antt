@@ -13,11 +13,11 @@ use Rattle.protocol.specs.Isolation.{closure, host_rule, announced, SameClosures
 use Rattle.protocol.proofs.Sets.Finite.{same_test}
 use Rattle.protocol.proofs.Sets.Contained.{contains_head, contains_tail}
 use Rattle.protocol.proofs.Sets.Least.{keeps-from}
-use Rattle.protocol.proofs.Sets.RuleLists.{least-in, least-start}
+use Rattle.protocol.proofs.Sets.RuleLists.{least-in}
 use Rattle.protocol.proofs.Runs.Sights.{all-append}
 use Rattle.protocol.proofs.Runs.Events.{IsWithin}
 use Rattle.protocol.proofs.Runs.KeptSteps.{AllIn}
-use Rattle.protocol.proofs.Runs.KeptWithin.{IsKeptIn, all_kept-from, all_kept-to, all_in-other, hosts-closed, events-closed}
+use Rattle.protocol.proofs.Runs.KeptWithin.{IsKeptIn, all_kept-from, all_kept-to, all_in-other, hosts-closed, events-closed, closure-start}
 
 module _ (R : Names) where
   -- the rules of hosted nodes are kept where the slices of hosted members lie in the set
@@ -56,10 +56,6 @@ unfolding closure
 closure-in hosts i v entries R start f h =
     let rules = map host_rule hosts ++ flat_map (λ x. announced i x.event) entries in
     least-in rules v R start (all-append (keeps R) (map host_rule hosts) (flat_map (λ x. announced i x.event) entries) (keeps-hosts R hosts f) (keeps-events R i entries h))
-
-closure-start : (hosts : List Host) (i v : ℕ) (entries : List Entry) → closure hosts i v entries v ≡ true
-unfolding closure
-closure-start hosts i v entries = least-start (map host_rule hosts ++ flat_map (λ x. announced i x.event) entries) v
 
 pub same_closures : SameClosures
 same_closures one other runs others i v once once_there cast same u =

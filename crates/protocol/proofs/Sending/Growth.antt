@@ -22,6 +22,7 @@ use Rattle.protocol.proofs.Nominating.Lengths.{all-longer}
 use Rattle.protocol.proofs.Nominating.Sets.{nominate-is, nominate-not, echoes, sources}
 use Rattle.protocol.proofs.Sending.SendablePasses.{on-keeps, prepare-keeps, unless-keeps}
 use Rattle.protocol.proofs.Nodes.Reached.{settle-keeps}
+use Rattle.protocol.proofs.Sets.Numbers.{through}
 
 -- no set of nominations is shorter than it was, and there is a ballot where there was one
 pub record Grows (old w : Votes) : Type 0 where
@@ -31,9 +32,6 @@ pub record Grows (old w : Votes) : Type 0 where
 
 pub grows-self : (w : Votes) → Grows w w
 grows-self w = record { voted = omega arith; accepts = omega arith; ballot = λ h. h }
-
-through : (a b c : ℕ) → a ≤ b → b ≤ c → a ≤ c
-through a b c h k = omega (arith, h, k)
 
 filled-longer : (old new : List (List ℕ)) → length old ≤ length (filled old new)
 unfolding filled

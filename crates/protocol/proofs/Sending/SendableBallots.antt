@@ -23,10 +23,7 @@ use Rattle.protocol.proofs.Passes.Ends.{start-some}
 use Rattle.protocol.proofs.Balloting.Named.{named-parts, commits-parts}
 use Rattle.protocol.proofs.Sending.Sendable.{IsPlaced, IsSendable}
 use Rattle.protocol.proofs.Sending.SendableSets.{filled-set, voted-set}
-
--- ---- numbers
-pub through : (a b c : ℕ) → a ≤ b → b ≤ c → a ≤ c
-through a b c h k = omega (arith, h, k)
+use Rattle.protocol.proofs.Sets.Numbers.{through}
 
 most : (a b c : ℕ) → a ≤ b → a ≤ max b c
 most a b c h = omega (arith, h)

@@ -16,7 +16,7 @@ use Rattle.protocol.proofs.Ballots.Order.{below-parts, not_below-counter, less}
 use Rattle.protocol.proofs.Passes.RuleByRule.{raised-counter}
 use Rattle.protocol.proofs.Balloting.Counters.{arm-moves}
 use Rattle.protocol.proofs.Sending.Sendable.{IsPlaced, IsSendable}
-use Rattle.protocol.proofs.Sending.SendableBallots.{through}
+use Rattle.protocol.proofs.Sets.Numbers.{through}
 
 -- a ballot is not above one of a greater counter
 past-counter : (a b : Ballot) → b.counter < a.counter → below a b ≡ false

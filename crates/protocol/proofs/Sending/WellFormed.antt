@@ -18,6 +18,7 @@ use Rattle.protocol.specs.States.{below, ballot_at, counter_for, counter_up_to, 
 use Rattle.protocol.proofs.Ballots.Above.{Under}
 use Rattle.protocol.proofs.Ballots.Order.{ballots_ordered, not_below-counter}
 use Rattle.protocol.proofs.Sending.Sendable.{IsPlaced, IsSendable}
+use Rattle.protocol.proofs.Sets.Numbers.{up_to}
 
 -- ---- nominations
 pub nomination-sends : (fired : ℕ) (w : Votes) → IsSendable fired w → IfSome (sent_nomination w) IsWellFormed
@@ -72,10 +73,7 @@ commit-up-to most b None = omega arith
 commit-up-to most b (Some c) = go (same_value c.value b.value) (nat_le c.counter most) refl
   where
     go : (v k : Bool) → nat_le c.counter most ≡ k → (if v && k then c.counter else 0) ≤ most
-    go true true e = upto c.counter most e
-      where
-        upto : (m n : ℕ) → nat_le m n ≡ true → m ≤ n
-        upto m n e = grind (arith, nat_tests)
+    go true true e = up_to c.counter most e
     go true false e = omega arith
     go false k e = omega arith
 

@@ -1,5 +1,5 @@
 -- The test of a quorum is its existence, and a quorum cut to a region that holds its members' names is one.
-use Rattle.std.proofs.Common.{◌≡◌, ℕ, Bool, true, false, not, ◌&&◌, ◌||◌, Option, Some, None, List, refl, sym, ◌∙◌, subst, inl, inr, IsTrue}
+use Rattle.std.proofs.Common.{◌≡◌, ℕ, Bool, true, not, ◌&&◌, ◌||◌, Option, Some, None, List, refl, sym, ◌∙◌, subst, inl, inr, IsTrue}
 use Rattle.std.specs.List.{list_all}
 use Rattle.std.proofs.lemmas.Bool.{cases_Bool, or_cases, and_parts, and_from, or_left, or_right, true≢false, false≢true, not-true, not_from_false}
 use Rattle.types.specs.Trees.{Slices}
@@ -8,6 +8,7 @@ use Rattle.protocol.specs.Satisfaction.{sat, names}
 use Rattle.protocol.specs.Quorums.{is_satisfied, Quorum, HasQuorum, has_quorum, Lists, QuorumsAreFound, cut, HoldsNamesOf, NamesWithin, IsMonotone, IsLocal, Cut, NestedCut}
 use Rattle.protocol.proofs.Sets.Finite.{all_at, all_from, some_set-found, some_set-from}
 use Rattle.protocol.proofs.Slices.Satisfaction.{sat_monotone, sat_local}
+use Rattle.protocol.proofs.Sets.Tests.{and_is}
 
 module _ {Q : Type 0} (sat : Q → Names → Bool) (slices_at : ℕ → Option Q) where
   -- the test of one set: each of its nodes supports, and has slices that it satisfies
@@ -57,14 +58,10 @@ module _ {Q : Type 0} (sat : Q → Names → Bool) (slices_at : ℕ → Option Q
       }
 
 module _ {Q : Type 0} (sat : Q → Names → Bool) (names : Q → List ℕ) (slices_at : ℕ → Option Q) where
-  in_region : (a b : Bool) → a ≡ true → (a && b) ≡ b
-  in_region true b h = refl
-  in_region false b h = absurd (false≢true h)
-
   still_satisfied : IsLocal sat names → (set region : Names) (o : Option Q) → ((q : Q) → o ≡ Some q → AreWithin (among (names q)) region) → IsTrue (is_satisfied sat o set) → IsTrue (is_satisfied sat o (cut region set))
   still_satisfied local set region None named s = s
   still_satisfied local set region (Some q) named s =
-      local q (cut region set) set (λ u c. in_region (region u) (set u) (named q refl u c)) ∙ s
+      local q (cut region set) set (λ u c. and_is (region u) (set u) (named q refl u c)) ∙ s
 
   -- a quorum, cut to a set that contains the names of its members' slices, is a quorum as soon as one name is left
   pub cut_quorum : IsLocal sat names → (set region : Names) → Quorum sat slices_at set → HoldsNamesOf names slices_at (cut region set) region → (u : ℕ) → IsTrue (cut region set u) → Quorum sat slices_at (cut region set)

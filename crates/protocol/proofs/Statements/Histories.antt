@@ -16,11 +16,7 @@ use Rattle.protocol.specs.Rows.{is_kind, is_row_of, row, replaces, offered, offe
 use Rattle.protocol.specs.History.{is_externalize, is_greatest_of, first_greatest, last_newer, row_among, row_of}
 use Rattle.protocol.proofs.Statements.Newer.{above-itself, above-back, above-over}
 use Rattle.protocol.proofs.Statements.Offers.{row-offered, newer-externalize}
-
--- ---- lists
-list_all-weaker : {X : Type 0} (P Q : X → Bool) → ((x : X) → P x ≡ true → Q x ≡ true) → (xs : List X) → list_all P xs ≡ true → list_all Q xs ≡ true
-list_all-weaker P Q f [] h = refl
-list_all-weaker P Q f (x ∷ xs) h = let p = and_parts (P x) (list_all P xs) h in and_from (Q x) (list_all Q xs) (f x p.0) (list_all-weaker P Q f xs p.1)
+use Rattle.protocol.proofs.Sets.Lists.{all_weaker}
 
 -- where no element passes
 find-nothing : {X : Type 0} (p : X → Bool) (xs : List X) → list_all (λ x. not (p x)) xs ≡ true → find p xs ≡ None
@@ -67,7 +63,7 @@ alone-greatest e = ap (λ b. cond (not b && true) (Some e) None) (above-itself e
 
 -- what is not above the greatest is below what is above the greatest
 all_below : (xs : List Sent) (b e : Sent) → is_greatest_of xs b ≡ true → is_above e.body b.body ≡ true → list_all (λ x. is_above e.body x.body) xs ≡ true
-all_below xs b e g a = list_all-weaker (λ x. not (is_above x.body b.body)) (λ x. is_above e.body x.body) (λ x n. above-over e.body b.body x.body a (not-true (is_above x.body b.body) n)) xs g
+all_below xs b e g a = all_weaker (λ x. not (is_above x.body b.body)) (λ x. is_above e.body x.body) (λ x n. above-over e.body b.body x.body a (not-true (is_above x.body b.body) n)) xs g
 
 greatest-more : (xs : List Sent) (e x : Sent) → is_greatest_of (xs ++ e ∷ []) x ≡ (is_greatest_of xs x && (not (is_above e.body x.body) && true))
 greatest-more xs e x = list_all-append (λ y. not (is_above y.body x.body)) xs (e ∷ [])
@@ -86,9 +82,9 @@ greatest-push xs b e h = find-append (is_greatest_of (xs ++ e ∷ [])) xs (e ∷
     go true a =
         let low = all_below xs b e top a in
         let none : find (is_greatest_of (xs ++ e ∷ [])) xs ≡ None =
-        find-nothing (is_greatest_of (xs ++ e ∷ [])) xs (list_all-weaker (λ x. is_above e.body x.body) (λ x. not (is_greatest_of (xs ++ e ∷ []) x)) (λ x y. not_from_false (is_greatest_of (xs ++ e ∷ []) x) (greatest-more xs e x ∙ beaten (is_greatest_of xs x) (is_above e.body x.body) y)) xs low) in
+        find-nothing (is_greatest_of (xs ++ e ∷ [])) xs (all_weaker (λ x. is_above e.body x.body) (λ x. not (is_greatest_of (xs ++ e ∷ []) x)) (λ x y. not_from_false (is_greatest_of (xs ++ e ∷ []) x) (greatest-more xs e x ∙ beaten (is_greatest_of xs x) (is_above e.body x.body) y)) xs low) in
         let passes : is_greatest_of (xs ++ e ∷ []) e ≡ true =
-        greatest-more xs e e ∙ and_from (is_greatest_of xs e) (not (is_above e.body e.body) && true) (list_all-weaker (λ x. is_above e.body x.body) (λ x. not (is_above x.body e.body)) (λ x y. not_from_false (is_above x.body e.body) (above-back e.body x.body y)) xs low) (ap (λ c. not c && true) (above-itself e.body)) in
+        greatest-more xs e e ∙ and_from (is_greatest_of xs e) (not (is_above e.body e.body) && true) (all_weaker (λ x. is_above e.body x.body) (λ x. not (is_above x.body e.body)) (λ x y. not_from_false (is_above x.body e.body) (above-back e.body x.body y)) xs low) (ap (λ c. not c && true) (above-itself e.body)) in
         ap₂ option_or none (ap (λ c. cond c (Some e) None) passes)
       where
         beaten : (p c : Bool) → c ≡ true → (p && (not c && true)) ≡ false

@@ -17,6 +17,7 @@ use Rattle.types.specs.Statements.{kind_of}
 use Rattle.types.specs.Orders.{bytes_cmp, ballot_cmp}
 use Rattle.types.specs.Votes.{same_value, has_value}
 use Rattle.protocol.specs.Newer.{Rank, rank_of, rank_cmp, statement_cmp, is_above, has_all, widens, is_newer}
+use Rattle.protocol.proofs.Equality.Sameness.{same_value-refl}
 
 ballots_ordered : IsTotalOrder ballot_cmp
 ballots_ordered = then_total (on_total (λ (b : Ballot). b.counter) nat_cmp_total) (on_total (λ (b : Ballot). b.value) nat_list_cmp_total)
@@ -108,10 +109,6 @@ above-over s t r g h = elim (cases_Bool (is_above s r)) [
 pub above-along : (s t r : Statement) → is_above s t ≡ true → is_above t r ≡ true → is_above s r ≡ true
 above-along s t r g h = above-over s t r g (above-back t r h)
 
--- ---- sets of values
-same_value-itself : (x : List ℕ) → same_value x x ≡ true
-same_value-itself x = nat_list_eq_equiv.refl x
-
 -- what holds the same value as x holds x
 has_value-along : (values : List (List ℕ)) (x y : List ℕ) → same_value x y ≡ true → has_value values x ≡ true → has_value values y ≡ true
 has_value-along (v ∷ vs) x y e h = elim (or_cases (same_value v x) (has_value vs x) h) [
@@ -132,7 +129,7 @@ has_all-at those (y ∷ ys) x a h =
 has_all-from : (those these : List (List ℕ)) → ((x : List ℕ) → has_value these x ≡ true → has_value those x ≡ true) → has_all those these ≡ true
 has_all-from those [] f = refl
 has_all-from those (y ∷ ys) f =
-    and_from (has_value those y) (has_all those ys) (f y (or_left (same_value y y) (has_value ys y) (same_value-itself y)))
+    and_from (has_value those y) (has_all those ys) (f y (or_left (same_value y y) (has_value ys y) (same_value-refl y)))
     (has_all-from those ys (λ x h. f x (or_right (same_value y x) (has_value ys x) h)))
 
 has_all-itself : (values : List (List ℕ)) → has_all values values ≡ true

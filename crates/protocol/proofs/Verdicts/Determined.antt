@@ -1,6 +1,6 @@
 -- A verdict on two runs is determined: no two are right.
 use Rattle.types.specs.declared.event.Out.{Out}
-use Rattle.std.proofs.Common.{◌≡◌, ℕ, zero, suc, ◌<◌, List, [], ◌∷◌, map, take, slice_get, is_some, refl, sym, ◌∙◌, ap, ap₂, subst, inl, inr, arith, IsTrue}
+use Rattle.std.proofs.Common.{◌≡◌, ℕ, ◌<◌, List, [], ◌∷◌, map, slice_get, is_some, refl, sym, ◌∙◌, ap, ap₂, subst, inl, inr, IsTrue}
 use Rattle.std.specs.List.{AllByRecursion, Contains}
 use Rattle.std.proofs.lemmas.Bool.{cases_order, true≢false}
 use Rattle.protocol.specs.Sets.{Names}
@@ -11,6 +11,7 @@ use Rattle.protocol.specs.Verdicts.{Verdict, IsFirstUnlike, IsFirstDifference, I
 use Rattle.protocol.specs.Verdicts.Verdict.{CastDiffers, InputsDiffer, Same}
 use Rattle.protocol.proofs.Sets.Contained.{contained_cases}
 use Rattle.protocol.proofs.Verdicts.OneList.{nothing_in, one_list}
+use Rattle.protocol.proofs.Sets.Lists.{get_taken}
 
 -- ---- lists of members with their outs
 module _ (R : Names) (hosts : List Host) (i : ℕ) (run : List Entry) where
@@ -37,13 +38,6 @@ module _ (R : Names) (hosts : List Host) (i : ℕ) (run : List Entry) where
   one_list_of : (xs ys : List (ℕ × List Out)) → IsListOf R hosts i run xs → IsListOf R hosts i run ys → xs ≡ ys
   one_list_of xs ys a b = named_alike xs ys a.outs b.outs (one_list (map (λ p. p.0) xs) (map (λ p. p.0) ys) a.ascending b.ascending
       (λ u c. let m = member_at xs a.outs u c in b.all u m.0 m.1) (λ u c. let m = member_at ys b.outs u c in a.all u m.0 m.1))
-
--- ---- places
-get_taken : {A : Type 0} (xs : List A) (k n : ℕ) → k < n → slice_get (take n xs) k ≡ slice_get xs k
-get_taken xs k zero l = absurd (omega arith)
-get_taken [] k (suc n) l = refl
-get_taken (x ∷ xs) zero (suc n) l = refl
-get_taken (x ∷ xs) (suc k) (suc n) l = get_taken xs k n (omega arith)
 
 not_before : {A : Type 0} (one other : List A) (p q : ℕ) → IsFirstDifference one other p → IsFirstDifference one other q → p < q → ⊥
 not_before one other p q a b l = a.there (sym (get_taken one p q l) ∙ (ap (λ xs. slice_get xs p) b.before ∙ get_taken other p q l))
