@@ -10,7 +10,7 @@ use Rattle.protocol.specs.Rows.{row, is_kind, is_row_of, with_row, is_taken, rep
 use Rattle.protocol.specs.Views.{Seen}
 use Rattle.types.specs.declared.state.Votes.{Votes}
 use Rattle.protocol.specs.Passes.{pass}
-use Rattle.protocol.specs.Nodes.{Node, passed, settle, change, outs, settled, after_change, answered, step}
+use Rattle.protocol.specs.Nodes.{Node, passed, settle, change, outs, settled, after_change, answered, step, most_passes}
 use Rattle.types.specs.declared.event.NodeEvent.TheVariants.{Propose, Take, NominationTimer, BallotTimer, Reslice}
 use Rattle.protocol.proofs.Nodes.Views.{cut, row-cut, seen-cut}
 use Rattle.protocol.proofs.Nodes.Closed.{Good, IsFit, good-change}
@@ -77,7 +77,7 @@ step-kept R n e g f k =
   where
     settled-cut : (o : Option Node) → if_node (Good R) o → after_change (option_map (cut_node R) o) ≡ option_map (cut_node R) (after_change o)
     settled-cut None h = refl
-    settled-cut (Some m) h = ap (λ (p : Votes → Votes). settled (cut_node R m) (settle 64 p m.votes)) (sym (passed-cut R m h)) ∙ same (settle 64 (passed m) m.votes)
+    settled-cut (Some m) h = ap (λ (p : Votes → Votes). settled (cut_node R m) (settle most_passes p m.votes)) (sym (passed-cut R m h)) ∙ same (settle most_passes (passed m) m.votes)
       where
         same : (o : Option Votes) → settled (cut_node R m) o ≡ option_map (cut_node R) (settled m o)
         same None = refl

@@ -4,7 +4,7 @@ use Rattle.std.proofs.Common.{◌≡◌, ℕ, zero, suc, Bool, true, false, Opti
 use Rattle.types.specs.declared.state.Votes.{Votes}
 use Rattle.protocol.specs.Passes.{pass, pass_rules, voting, counting}
 use Rattle.protocol.specs.Sameness.{same_votes}
-use Rattle.protocol.specs.Nodes.{Node, passed, settle, change, settled, after_change, step, Calm, fresh}
+use Rattle.protocol.specs.Nodes.{Node, passed, settle, change, settled, after_change, step, Calm, fresh, most_passes}
 use Rattle.protocol.proofs.Equality.Sameness.{same_votes-true}
 use Rattle.protocol.proofs.Nodes.Made.{answered-node, if_node}
 use Rattle.types.specs.Trees.{Slices}
@@ -31,11 +31,11 @@ settle-calm (suc k) f w u h = go (same_votes (f w) w) refl h (settle-calm k f (f
 
 calm-settled : (o : Option Node) → if_node Calm (after_change o)
 calm-settled None = tt
-calm-settled (Some n) = go (settle 64 (passed n) n.votes) refl
+calm-settled (Some n) = go (settle most_passes (passed n) n.votes) refl
   where
-    go : (o : Option Votes) → settle 64 (passed n) n.votes ≡ o → if_node Calm (settled n o)
+    go : (o : Option Votes) → settle most_passes (passed n) n.votes ≡ o → if_node Calm (settled n o)
     go None e = tt
-    go (Some w) e = settle-calm 64 (passed n) n.votes w e
+    go (Some w) e = settle-calm most_passes (passed n) n.votes w e
 
 -- calm is kept by each step
 pub calm-step : (n : Node) (e : NodeEvent) → Calm n → Calm (step n e).0

@@ -11,7 +11,7 @@ use Rattle.protocol.specs.Weights.{weight}
 use Rattle.protocol.specs.Rows.{is_row_of, with_row, is_taken}
 use Rattle.types.specs.declared.state.Votes.{Votes}
 use Rattle.protocol.specs.Leaders.{leader, best, neighbours, is_near, hash, beats}
-use Rattle.protocol.specs.Nodes.{Node, passed, settle, change, settled, after_change, step, in_round, timed_out}
+use Rattle.protocol.specs.Nodes.{Node, passed, settle, change, settled, after_change, step, in_round, timed_out, most_passes}
 use Rattle.types.specs.declared.event.NodeEvent.TheVariants.{Propose, Take, NominationTimer, BallotTimer, Reslice}
 use Rattle.protocol.proofs.Nodes.Views.{announces_in, Closed}
 use Rattle.protocol.proofs.Nodes.Made.{answered-node, if_node, if_node-if}
@@ -79,7 +79,7 @@ good-change R n (Reslice q) g k = record { closed = record { has = g.closed.has;
 
 good-settled : (R : Names) (o : Option Node) → if_node (Good R) o → if_node (Good R) (after_change o)
 good-settled R None g = tt
-good-settled R (Some n) g = go (settle 64 (passed n) n.votes)
+good-settled R (Some n) g = go (settle most_passes (passed n) n.votes)
   where
     go : (o : Option Votes) → if_node (Good R) (settled n o)
     go None = tt

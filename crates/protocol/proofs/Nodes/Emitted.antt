@@ -11,7 +11,7 @@ use Rattle.protocol.specs.Rows.{with_row, is_taken}
 use Rattle.types.specs.declared.state.Votes.{Votes}
 use Rattle.protocol.specs.States.{counter_of, sent_vote, sent_nomination}
 use Rattle.protocol.specs.Sameness.{same_sent}
-use Rattle.protocol.specs.Nodes.{Node, passed, settle, change, when, emitted, decided, outs, settled, after_change, answered, step, is_externalized, in_round, timed_out}
+use Rattle.protocol.specs.Nodes.{Node, passed, settle, change, when, emitted, decided, outs, settled, after_change, answered, step, is_externalized, in_round, timed_out, most_passes}
 use Rattle.types.specs.declared.event.NodeEvent.TheVariants.{Propose, Take, NominationTimer, BallotTimer, Reslice}
 use Rattle.types.specs.declared.event.Out.TheVariants.{ArmNomination, ArmBallot, Emit, Externalized as Decided}
 use Rattle.protocol.specs.Networks.{emissions}
@@ -35,7 +35,7 @@ self-change n (Reslice q) = refl
 
 self-settled : (n : Node) (o : Option Node) → if_node (IsSelf n) o → if_node (IsSelf n) (after_change o)
 self-settled n None h = tt
-self-settled n (Some m) h = go (settle 64 (passed m) m.votes)
+self-settled n (Some m) h = go (settle most_passes (passed m) m.votes)
   where
     go : (o : Option Votes) → if_node (IsSelf n) (settled m o)
     go None = tt

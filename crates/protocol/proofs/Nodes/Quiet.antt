@@ -15,7 +15,7 @@ use Rattle.types.specs.declared.state.Votes.{Votes}
 use Rattle.protocol.specs.States.{sent_vote, sent_nomination}
 use Rattle.protocol.specs.Passes.{pass}
 use Rattle.protocol.specs.Sameness.{same_votes}
-use Rattle.protocol.specs.Nodes.{Node, passed, settle, change, emitted, decided, outs, settled, after_change, answered, step, Calm, is_externalized}
+use Rattle.protocol.specs.Nodes.{Node, passed, settle, change, emitted, decided, outs, settled, after_change, answered, step, Calm, is_externalized, most_passes}
 use Rattle.types.specs.declared.event.NodeEvent.TheVariants.{Take}
 use Rattle.types.specs.declared.event.Out.TheVariants.{Emit}
 use Rattle.protocol.proofs.Equality.Sameness.{eqb-refl, same_sent-refl, same_votes-refl}
@@ -94,7 +94,7 @@ step-outside R n e h c o l t =
     still : passed m n.votes ≡ n.votes
     still = ap {B = Votes} (λ (s : Seen). pass n.name s n.given n.votes) (seen-outside R n.name n.slices n.given.leaders n.table e h o l) ∙ c
 
-    at_once : settle 64 (passed m) n.votes ≡ Some n.votes
+    at_once : settle most_passes (passed m) n.votes ≡ Some n.votes
     at_once = ap (λ b. if b then Some n.votes else settle 63 (passed m) (passed m n.votes)) (ap (λ w. same_votes w n.votes) still ∙ same_votes-refl n.votes)
 
 -- leaders in R are not outside of it

@@ -13,7 +13,7 @@ use Rattle.protocol.specs.Views.{seen}
 use Rattle.protocol.specs.States.{counter_of, sent_vote, sent_nomination}
 use Rattle.protocol.specs.Sameness.{same_votes}
 use Rattle.protocol.specs.Timers.{is_counter, most_counter}
-use Rattle.protocol.specs.Nodes.{Node, fresh, passed, settle, change, settled, after_change, step, bumped, in_round, timed_out, is_externalized, is_counter_live, Calm}
+use Rattle.protocol.specs.Nodes.{Node, fresh, passed, settle, change, settled, after_change, step, bumped, in_round, timed_out, is_externalized, is_counter_live, Calm, most_passes}
 use Rattle.protocol.specs.Limits.{Reached, ReachedAreCalm, TimersAreCounted, SendsWellFormed}
 use Rattle.protocol.specs.Limits.Reached.{begin, next}
 use Rattle.protocol.proofs.Nodes.Calm.{fresh-calm}
@@ -81,11 +81,11 @@ settle-keeps P (suc k) f p w u h e = go (same_votes (f w) w) e (λ j. settle-kee
 
 settled-lawful : (o : Option Node) → if_node IsLawful o → if_node IsLawful (after_change o)
 settled-lawful None h = tt
-settled-lawful (Some n) h = go (settle 64 (passed n) n.votes) refl
+settled-lawful (Some n) h = go (settle most_passes (passed n) n.votes) refl
   where
-    go : (o : Option Votes) → settle 64 (passed n) n.votes ≡ o → if_node IsLawful (settled n o)
+    go : (o : Option Votes) → settle most_passes (passed n) n.votes ≡ o → if_node IsLawful (settled n o)
     go None e = tt
-    go (Some w) e = settle-keeps (IsSendable n.given.fired) 64 (passed n) (pass-keeps n.given.fired n.name (seen n.name n.slices n.given.leaders n.table) n.given) n.votes w h e
+    go (Some w) e = settle-keeps (IsSendable n.given.fired) most_passes (passed n) (pass-keeps n.given.fired n.name (seen n.name n.slices n.given.leaders n.table) n.given) n.votes w h e
 
 step-lawful : (n : Node) (e : NodeEvent) → IsLawful n → IsLawful (step n e).0
 unfolding step

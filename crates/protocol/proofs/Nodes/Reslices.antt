@@ -7,7 +7,7 @@ use Rattle.types.specs.Trees.{Slices}
 use Rattle.types.specs.declared.state.Votes.{Votes}
 use Rattle.protocol.specs.Rows.{is_taken, with_row}
 use Rattle.protocol.specs.Sameness.{same_votes}
-use Rattle.protocol.specs.Nodes.{Node, passed, settle, change, settled, after_change, answered, step, in_round, timed_out, resliced, Calm}
+use Rattle.protocol.specs.Nodes.{Node, passed, settle, change, settled, after_change, answered, step, in_round, timed_out, resliced, Calm, most_passes}
 use Rattle.protocol.specs.Reslices.{SlicesFollowEvents, IsElseSame, ReslicesChangeVotes, SameSlicesAreQuiet}
 use Rattle.protocol.proofs.Equality.Sameness.{same_votes-refl}
 use Rattle.protocol.proofs.Nodes.Quiet.{outs-none}
@@ -22,7 +22,7 @@ settled-slices q n m (Some w) s e = e
 -- the votes that settle are those of a node with these slices
 stays : (n : Node) (b : Bool) (m : Node) → m.slices ≡ n.slices → (answered n (after_change (if b then Some m else None))).0.slices ≡ n.slices
 stays n false m e = refl
-stays n true m e = go (settle 64 (passed m) m.votes)
+stays n true m e = go (settle most_passes (passed m) m.votes)
   where
     go : (o : Option Votes) → (answered n (settled m o)).0.slices ≡ n.slices
     go None = refl
@@ -34,12 +34,12 @@ slices_follow_events n r (Propose x) = stays n true (in_round (record n { given 
 slices_follow_events n r (Take e) = stays n (is_taken n.table e) (record n { table = with_row e n.table }) refl
 slices_follow_events n r (NominationTimer k) = stays n _ (in_round n (k + 1)) refl
 slices_follow_events n r (BallotTimer c) = stays n _ (timed_out n) refl
-slices_follow_events n r (Reslice q) = settled-slices q n (resliced n q) (settle 64 (passed (resliced n q)) n.votes) (never_limited n r (Reslice q) (resliced n q) refl) refl
+slices_follow_events n r (Reslice q) = settled-slices q n (resliced n q) (settle most_passes (passed (resliced n q)) n.votes) (never_limited n r (Reslice q) (resliced n q) refl) refl
 
 -- ---- what stays
 pub reslices_change_votes : ReslicesChangeVotes
 unfolding step change
-reslices_change_votes n q = go (settle 64 (passed (resliced n q)) n.votes)
+reslices_change_votes n q = go (settle most_passes (passed (resliced n q)) n.votes)
   where
     go : (o : Option Votes) → IsElseSame n (answered n (settled (resliced n q) o)).0
     go None = record { name = refl; slot = refl; given = refl; table = refl }
@@ -50,5 +50,5 @@ unfolding step change settle
 same_slices_are_quiet n r =
     ap (λ (w : Option Votes). answered n (settled n w)) (at_once (reached-calm r)) ∙ ap {B = Node × List Out} (λ (os : List Out). (n, os)) (outs-none n n.table)
   where
-    at_once : Calm n → settle 64 (passed n) n.votes ≡ Some n.votes
+    at_once : Calm n → settle most_passes (passed n) n.votes ≡ Some n.votes
     at_once c = ap (λ b. if b then Some n.votes else settle 63 (passed n) (passed n n.votes)) (ap (λ w. same_votes w n.votes) c ∙ same_votes-refl n.votes)

@@ -13,7 +13,7 @@ use Rattle.protocol.specs.Satisfaction.{names}
 use Rattle.protocol.specs.Rows.{row, is_taken, with_row}
 use Rattle.protocol.specs.Reach.{HoldsReach, IsReach}
 use Rattle.protocol.specs.Leaders.{leader}
-use Rattle.protocol.specs.Nodes.{Node, fresh, passed, settle, change, settled, after_change, step, in_round, timed_out}
+use Rattle.protocol.specs.Nodes.{Node, fresh, passed, settle, change, settled, after_change, step, in_round, timed_out, most_passes}
 use Rattle.protocol.specs.Claims.{IsQuiet}
 use Rattle.protocol.specs.Strangers.{GivesWithin, HasNamed, LeadersAreNear, HeldIsClosed, OutsidersAddRows, OutsidersAreQuiet, StrangersAddRows}
 use Rattle.protocol.specs.Strangers.HasNamed.{begin, next}
@@ -47,7 +47,7 @@ module _ (R : Names) where
 
   near-settled : (o : Option Node) → if_node (IsNear R) o → if_node (IsNear R) (after_change o)
   near-settled None h = tt
-  near-settled (Some n) h = go (settle 64 (passed n) n.votes)
+  near-settled (Some n) h = go (settle most_passes (passed n) n.votes)
     where
       go : (o : Option Votes) → if_node (IsNear R) (settled n o)
       go None = tt

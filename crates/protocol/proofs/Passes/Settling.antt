@@ -9,7 +9,7 @@ use Rattle.types.specs.declared.state.Votes.{Votes}
 use Rattle.protocol.specs.Passes.{raised}
 use Rattle.types.specs.declared.state.Phase.TheVariants.{Preparing, Committing}
 use Rattle.protocol.specs.Sameness.{same_votes}
-use Rattle.protocol.specs.Nodes.{Node, fresh, passed, settle, change, settled, after_change, answered, step, bumped, timed_out}
+use Rattle.protocol.specs.Nodes.{Node, fresh, passed, settle, change, settled, after_change, answered, step, bumped, timed_out, most_passes}
 use Rattle.types.specs.declared.event.NodeEvent.TheVariants.{Propose, Take, NominationTimer, BallotTimer, Reslice}
 use Rattle.protocol.specs.Limits.{Reached, NeverLimited, WithinFour}
 use Rattle.protocol.specs.Limits.Reached.{begin, next}
@@ -66,11 +66,11 @@ change-fit n (Reslice q) h = h
 
 settled-fit : (o : Option Node) → if_fit o → if_fit (after_change o)
 settled-fit None h = tt
-settled-fit (Some n) h = go (settle 64 (passed n) n.votes) refl
+settled-fit (Some n) h = go (settle most_passes (passed n) n.votes) refl
   where
-    go : (o : Option Votes) → settle 64 (passed n) n.votes ≡ o → if_fit (settled n o)
+    go : (o : Option Votes) → settle most_passes (passed n) n.votes ≡ o → if_fit (settled n o)
     go None e = tt
-    go (Some w) e = settle-fit 64 (passed n) (pass-fit n.name (seen n.name n.slices n.given.leaders n.table) (seen-fair n.name n.slices n.given.leaders n.table) n.given) n.votes w h e
+    go (Some w) e = settle-fit most_passes (passed n) (pass-fit n.name (seen n.name n.slices n.given.leaders n.table) (seen-fair n.name n.slices n.given.leaders n.table) n.given) n.votes w h e
 
 pub step-fit : (n : Node) (e : NodeEvent) → Fit n.votes → Fit (step n e).0.votes
 unfolding step

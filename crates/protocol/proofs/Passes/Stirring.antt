@@ -8,7 +8,7 @@ use Rattle.protocol.specs.Views.{Seen}
 use Rattle.protocol.specs.Rows.{with_row}
 use Rattle.protocol.specs.Nominating.{nominate}
 use Rattle.protocol.specs.Passes.{balloted_in, balloting, nominated_in, pass, pass_rules, while_open}
-use Rattle.protocol.specs.Nodes.{Node, settle}
+use Rattle.protocol.specs.Nodes.{Node, settle, most_passes}
 use Rattle.protocol.specs.Sameness.{same_values, same_votes}
 use Rattle.protocol.specs.Stirring.{settle_after, settle_all, settle_ballots, settle_nominations, seen_by, NominationRestsAfterAPass, BallotRowsStirBallots, NominationRowsStirNomination}
 use Rattle.protocol.proofs.Balloting.ConfirmedAlone.{with_sets, balloted-sets}
@@ -136,11 +136,11 @@ module _ (v : ℕ) (s : Seen) (f : Fair s) (g : Given) where
     | inr e ↦ rw e refl
   ]
 
-  ballots-settle : (w : Votes) → Fit w → Quiet v s g w → settle_ballots s g w ≡ settle 64 (pass v s g) w
+  ballots-settle : (w : Votes) → Fit w → Quiet v s g w → settle_ballots s g w ≡ settle most_passes (pass v s g) w
   unfolding settle_ballots settle_after settle
   ballots-settle w fit q = same-or w (balloted_in s g w) (settle 63 (balloted_in s g) (balloted_in s g w)) ∙ sym (rested-settles 64 w fit q)
 
-  over-settles : (w : Votes) → w.phase ≡ Externalized → settle 64 (pass v s g) w ≡ Some w
+  over-settles : (w : Votes) → w.phase ≡ Externalized → settle most_passes (pass v s g) w ≡ Some w
   unfolding settle
   over-settles w e = ap (λ (y : Votes). if same_votes y w then Some w else settle 63 (pass v s g) y) (pass-externalized v s g w e) ∙ ap (λ b. if b then Some w else settle 63 (pass v s g) w) (same_votes-refl w)
 
@@ -148,7 +148,7 @@ module _ (v : ℕ) (s : Seen) (f : Fair s) (g : Given) where
   unfolding settle_after
   still-settles w y e = ap (λ (y : Votes). if same_votes y w then Some y else settle 63 (balloted_in s g) y) e ∙ ap (λ b. if b then Some w else settle 63 (balloted_in s g) w) (same_votes-refl w)
 
-  all-settle : (w : Votes) → Fit w → settle_all v s g w ≡ settle 64 (pass v s g) w
+  all-settle : (w : Votes) → Fit w → settle_all v s g w ≡ settle most_passes (pass v s g) w
   unfolding settle_all settle_after settle
   all-settle w fit = elim (phases w.phase) [
     | inl e ↦ still-settles w (pass v s g w) (pass-externalized v s g w e) ∙ sym (over-settles w e)
@@ -157,11 +157,11 @@ module _ (v : ℕ) (s : Seen) (f : Fair s) (g : Given) where
         ∙ ap (λ (o : Option Votes). if same_votes (pass v s g w) w then Some w else o) (sym (rested-settles 63 (pass v s g w) (pass-fit v s f g w fit) (once v s f g w fit o).quiet))
   ]
 
-  all-after : (w : Votes) → Fit w → settle_after s g w (pass v s g w) ≡ settle 64 (pass v s g) w
+  all-after : (w : Votes) → Fit w → settle_after s g w (pass v s g w) ≡ settle most_passes (pass v s g) w
   unfolding settle_all
   all-after w fit = all-settle w fit
 
-  over-ballots : (w : Votes) → w.phase ≡ Externalized → settle_ballots s g w ≡ settle 64 (pass v s g) w
+  over-ballots : (w : Votes) → w.phase ≡ Externalized → settle_ballots s g w ≡ settle most_passes (pass v s g) w
   unfolding settle_ballots
   over-ballots w over = still-settles w (balloted_in s g w) (balloted-over s g w over) ∙ sym (over-settles w over)
 
@@ -169,7 +169,7 @@ module _ (v : ℕ) (s : Seen) (f : Fair s) (g : Given) where
   unfolding settle
   ends-at n x calm = ap (λ (y : Votes). if same_votes y x then Some x else settle n (pass v s g) y) calm ∙ ap (λ b. if b then Some x else settle n (pass v s g) x) (same_votes-refl x)
 
-  goes-to : (w x : Votes) → pass v s g w ≡ x → settle 63 (pass v s g) x ≡ Some x → settle 64 (pass v s g) w ≡ Some x
+  goes-to : (w x : Votes) → pass v s g w ≡ x → settle 63 (pass v s g) x ≡ Some x → settle most_passes (pass v s g) w ≡ Some x
   unfolding settle
   goes-to w x made ends = ap (λ (y : Votes). if same_votes y w then Some w else settle 63 (pass v s g) y) made ∙ elim (cases_Bool (same_votes x w)) [
     | inl e ↦ ap (λ b. if b then Some w else settle 63 (pass v s g) x) e ∙ ap {B = Option Votes} Some (sym (same_votes-true x w e))
@@ -183,7 +183,7 @@ module _ (v : ℕ) (s : Seen) (f : Fair s) (g : Given) where
       let is : x ≡ with_sets x.voted x.accepts w = nominated-frame v s g w ∙ (λ i. record w { voted = x.voted; accepts = x.accepts; confirms = same i }) in
       ap (balloted_in s g) is ∙ (balloted-sets x.voted x.accepts s g w ∙ (ap (with_sets x.voted x.accepts) rests ∙ sym is))
 
-  unconfirmed-settles : (w : Votes) → Fit w → balloted_in s g w ≡ w → (nominated_in v s g w).confirms ≡ w.confirms → settle 64 (pass v s g) w ≡ Some (nominated_in v s g w)
+  unconfirmed-settles : (w : Votes) → Fit w → balloted_in s g w ≡ w → (nominated_in v s g w).confirms ≡ w.confirms → settle most_passes (pass v s g) w ≡ Some (nominated_in v s g w)
   unconfirmed-settles w fit rests same =
       let x = nominated_in v s g w in
       let still = unconfirmed w rests same in
@@ -193,7 +193,7 @@ module _ (v : ℕ) (s : Seen) (f : Fair s) (g : Given) where
         | inr o ↦ goes-to w x made (ends-at 62 x (pass-rested v s g x (quiet-nominated v s g x (subst (λ (y : Votes). Quiet v s g y) made (once v s f g w fit o).quiet)) ∙ still))
       ]
 
-  nominations-settle : (w : Votes) → Fit w → balloted_in s g w ≡ w → settle_nominations v s g w ≡ settle 64 (pass v s g) w
+  nominations-settle : (w : Votes) → Fit w → balloted_in s g w ≡ w → settle_nominations v s g w ≡ settle most_passes (pass v s g) w
   unfolding settle_nominations
   nominations-settle w fit rests =
       let x = nominated_in v s g w in

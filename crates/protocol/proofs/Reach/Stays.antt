@@ -146,7 +146,7 @@ leads_to_none own configured table us e within r =
 pub stays_where : (own : ℕ) (configured : Slices) (table : List Sent) (us : List ℕ) (e : Sent)
     → AreWithin (among (names e.slices)) (among us) → IsReach own configured table us
     → ((x : Sent) → Contains table x → IsTrue (reached own configured (with_row e table) x.sender)
-        → AreWithin (among (names x.slices)) (reached own configured (with_row e table)))
+    → AreWithin (among (names x.slices)) (reached own configured (with_row e table)))
     → IsReach own configured (with_row e table) us
 stays_where own configured table us e within r rows =
     let old = reached own configured table in
@@ -154,7 +154,7 @@ stays_where own configured table us e within r rows =
     let kept = reached-holds own configured (with_row e table) in
     let fewer : AreWithin new old = leads_to_none own configured table us e within r in
     let more : AreWithin old new = reached-in own configured table new
-    (record { itself = kept.itself; configuration = kept.configuration; rows = rows; }) in
+    (record { itself = kept.itself; configuration = kept.configuration; rows = rows }) in
     same_reach own configured table (with_row e table) us (λ u. same_test (old u) (new u) (more u) (fewer u)) r
 
 pub stays_with_first_rows : StaysWithFirstRows

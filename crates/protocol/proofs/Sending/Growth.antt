@@ -15,7 +15,7 @@ use Rattle.protocol.specs.Candidates.{combine, as_set, filled}
 use Rattle.protocol.specs.Nominating.{nominate}
 use Rattle.protocol.specs.Balloting.{started, start_from, start, accept_prepared, raise_high, follow_high, set_commit, confirm_prepared, enter_commit, widen_commit, first_committed, next_committed, accept_commit, externalize, confirmed_commit, confirm_commit}
 use Rattle.protocol.specs.Passes.{raise, arm, on_ballot, in_prepare, voting, counting, pass_rules, pass}
-use Rattle.protocol.specs.Nodes.{Node, passed, settle, change, settled, after_change, bumped, in_round, timed_out}
+use Rattle.protocol.specs.Nodes.{Node, passed, settle, change, settled, after_change, bumped, in_round, timed_out, most_passes}
 use Rattle.protocol.proofs.Nodes.Made.{if_node, if_node-if}
 use Rattle.protocol.proofs.Balloting.Counters.{arm-moves}
 use Rattle.protocol.proofs.Nominating.Lengths.{all-longer}
@@ -150,11 +150,11 @@ module _ (old : Votes) where
 
   settled-grows : (o : Option Node) → if_node NodeGrows o → if_node NodeGrows (after_change o)
   settled-grows None h = tt
-  settled-grows (Some n) h = go (settle 64 (passed n) n.votes) refl
+  settled-grows (Some n) h = go (settle most_passes (passed n) n.votes) refl
     where
-      go : (o : Option Votes) → settle 64 (passed n) n.votes ≡ o → if_node NodeGrows (settled n o)
+      go : (o : Option Votes) → settle most_passes (passed n) n.votes ≡ o → if_node NodeGrows (settled n o)
       go None e = tt
-      go (Some w) e = settle-keeps (Grows old) 64 (passed n) (pass-grows n.name (seen n.name n.slices n.given.leaders n.table) n.given) n.votes w h e
+      go (Some w) e = settle-keeps (Grows old) most_passes (passed n) (pass-grows n.name (seen n.name n.slices n.given.leaders n.table) n.given) n.votes w h e
 
 pub event-grows : (n : Node) (e : NodeEvent) → if_node (λ m. Grows n.votes m.votes) (after_change (change n e))
 event-grows n e = settled-grows n.votes (change n e) (change-grows n.votes n e (grows-self n.votes))
