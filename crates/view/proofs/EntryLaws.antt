@@ -2,12 +2,14 @@
 use Rattle.std.proofs.Common.{◌≡◌, ◌≢◌, ◌⊎◌, ℕ, ◌<◌, Bool, true, false, ◌&&◌, ◌==◌, List, get_or, set, length, length-set, Option, Some, None, option_map, if◌then◌else◌, Vec, refl, sym, subst, ◌∙◌, ap, arith, inl, inr}
 use Rattle.std.specs.Global.{Global}
 use Rattle.std.proofs.lemmas.Bool.{cases_Bool, cases_lt, and_from, eqb-true, eq-eqb, ne_eqb, true≢false}
+use Rattle.std.proofs.lemmas.List.Folds.{list_any_at}
 use Rattle.std.proofs.lemmas.List.{get_or-set_same, get_or-set_other, length-map}
 use Rattle.types.specs.Trees.{Slices}
 use Rattle.types.specs.declared.kind.Kind.{Kind}
 use Rattle.types.specs.declared.kind.Kind.TheVariants.{Nomination}
 use Rattle.types.specs.Statements.{Sent, kind_of}
-use Rattle.protocol.specs.Sets.{among, IsAscending}
+use Rattle.protocol.specs.Sets.{among, AreWithin, IsAscending}
+use Rattle.protocol.proofs.SetLaws.{within-at}
 use Rattle.protocol.specs.Satisfaction.{sat, names}
 use Rattle.protocol.specs.Quorums.{is_satisfied}
 use Rattle.protocol.specs.Backing.{slices_by}
@@ -21,7 +23,7 @@ use Rattle.view.specs.declared.region.Entry.{Entry}
 use Rattle.view.specs.declared.region.Region.{Region}
 use Rattle.latest.specs.Places.{place_of}
 use Rattle.view.specs.Asking.{AreAsked}
-use Rattle.view.specs.Forms.{AreBelow, Fits, MayJoin}
+use Rattle.view.specs.Forms.{AreBelow, Fits, IsFoundWithin, MayJoin}
 use Rattle.view.specs.Regions.{IsCopy, IsEntry, IsRegion, forms_of, row_places}
 use Rattle.view.proofs.FormLaws.{agreed_set, below_more, below_set}
 use Rattle.view.proofs.PlaceLaws.{place_set, places_kept}
@@ -179,6 +181,14 @@ module _ (table : List Sent) (e : Sent) (r : Region) (own : ℕ) (configured : S
           ballot_numbers = below_more r.ballots.items r.numbers x.numbers entry.numbers is.ballot_numbers;
           nomination_numbers = subst (λ (cs : List (Option Numbered)). AreBelow x.numbers cs) (sym is_now) (below_set r.nominations.items x.place x.slices r.numbers x.numbers room entry.numbers joins.below is.nomination_numbers);
         }
+
+-- ---- whom its slices name
+-- the names of slices that a reached node has are reached, and those that were searched for are
+pub names_in_reach : (own : ℕ) (configured : Slices) (table : List Sent) (k : Kind) (us : List ℕ) (fs : List (Option Numbered)) (n : ℕ) (q : Slices) (f : Numbered)
+    → IsFoundWithin us (slices_by own configured table k) fs n q f → IsReach own configured table us → AreWithin (among (names q)) (among us)
+names_in_reach own configured table k us fs n q f (inl twin) is =
+    let w = get_or us twin.place 0 in is.closed k w q (list_any_at (λ y. y == w) us twin.place 0 twin.listed (eq-eqb w w refl)) twin.same
+names_in_reach own configured table k us fs n q f (inr new) is = λ u inside. within-at (names q) (among us) u new.2 inside
 
 -- ---- a copy
 pub copied : (old new : Region) → IsCopy old new → (own : ℕ) (configured : Slices) (table : List Sent) → IsRegion own configured table old → IsRegion own configured table new

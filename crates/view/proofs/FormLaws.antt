@@ -10,7 +10,7 @@ use Rattle.protocol.specs.Quorums.{is_satisfied}
 use Rattle.compiled.specs.Places.{Numbered}
 use Rattle.compiled.specs.Met.{IsCompiled, picked}
 use Rattle.compiled.specs.Searching.{AreAgreed, AreCompiled, met_at}
-use Rattle.view.specs.Forms.{AreBelow, ArePart, Fits, IsFound, IsTwin, MayJoin}
+use Rattle.view.specs.Forms.{AreBelow, ArePart, Fits, IsFound, IsFoundWithin, IsTwin, MayJoin}
 
 same_form : (f g : Numbered) → Some f ≡ Some g → f ≡ g
 same_form f g h = ap (λ (o : Option Numbered). unwrap_or o f) h
@@ -35,6 +35,11 @@ module _ (us : List ℕ) (slices_at : ℕ → Option Slices) (fs : List (Option 
     fits = λ i g at same. absurd (omega (arith, below i g at, same, new.0));
     below = omega (arith, room, new.0);
   }
+
+  -- one that is found among slices that name the nodes alone is found
+  pub found_of : (n : ℕ) → IsFoundWithin us slices_at fs n q f → IsFound us slices_at fs n q f
+  found_of n (inl t) = inl t
+  found_of n (inr new) = inr (new.0, new.1)
 
 -- ---- one form more
 -- a form of the longer list is one of the shorter, or the last

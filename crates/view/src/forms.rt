@@ -1,13 +1,15 @@
 //! Slices that are the same are compiled once.
 
-ghost use Rattle.std.specs.Prelude.{◌≡◌, ◌<◌, ◌++◌, ◌∷◌, [], ℕ, IfOk, IfSome, Some, get_or, length, option_map, None};
+ghost use Rattle.std.specs.Prelude.{◌≡◌, ◌<◌, ◌++◌, ◌∷◌, [], ℕ, IfOk, IfSome, IsTrue, Some, false, get_or, length, option_map, None};
 ghost use Rattle.protocol.specs.Backing.{slices_by};
-ghost use Rattle.protocol.specs.Sets.{IsAscending};
+ghost use Rattle.protocol.specs.Satisfaction.{names};
+ghost use Rattle.protocol.specs.Sets.{IsAscending, among, within};
+ghost use Rattle.compiled.specs.Met.{IsCompiled};
 ghost use Rattle.compiled.specs.Searching.{AreCompiled};
-ghost use Rattle.view.specs.Forms.{ArePart, AreBelow, IsFound, IsTwin};
+ghost use Rattle.view.specs.Forms.{ArePart, AreBelow, IsFound, IsFoundWithin, IsTwin};
 
 use crate::own::Own;
-use compiled::{Form, compile};
+use compiled::{Form, compile, has_places};
 use envstore::Places;
 use latest::Rows;
 use std::alloc::{AllocError, Global};
@@ -100,7 +102,7 @@ impl<'a, S: Places> SlicesInReach<'a, S> {
 
     /// The form of slices, for a list of forms of the first nodes: that at one of two places whose nodes have the same
     /// slices, or else a new one of this number. An error says that memory is short.
-    pub(crate) fn form_of(
+    fn form_of(
         &self,
         alloc: Global,
         slices: &Nested,
@@ -110,14 +112,41 @@ impl<'a, S: Places> SlicesInReach<'a, S> {
         requires { IsAscending self.now.nodes.now }
         ensures { IfOk result (IsFound self.now.nodes.now (slices_by self.now.own.now self.now.slices.now self.now.table.now self.now.kind) there.entry.forms.now number slices.now) }
     {
-        if let Some(form) = self.twin(slices, there.forms, there.places.0) {
-            return form.try_copy();
+        match self.twin_among(slices, there) {
+            Some(form) => form.try_copy(),
+            None => new_form(alloc, slices, self.nodes, number),
         }
-        if let Some(form) = self.twin(slices, there.forms, there.places.1) {
-            return form.try_copy();
+    }
+
+    /// The same where the slices name these nodes alone: those that one of them has do, where the nodes are a reach, and
+    /// of others each name is searched for. An error says that memory is short.
+    pub(crate) fn form_within(
+        &self,
+        alloc: Global,
+        slices: &Nested,
+        there: Candidates<'_>,
+        number: usize,
+    ) -> Result<Option<Form>, AllocError>
+        requires { IsAscending self.now.nodes.now }
+        ensures { IfOk result (λ o. IfSome o (IsFoundWithin self.now.nodes.now (slices_by self.now.own.now self.now.slices.now self.now.table.now self.now.kind) there.entry.forms.now number slices.now)) }
+    {
+        match self.twin_among(slices, there) {
+            Some(form) => {
+                let form = form.try_copy()?;
+                Ok(Some(form))
+            }
+            None => new_form_within(alloc, slices, self.nodes, number),
         }
-        let set = compile(alloc, slices.set(), self.nodes, false)?;
-        Form::new(alloc, number, set)
+    }
+
+    /// The form at one of two places whose nodes have these slices, if there is one. It takes no memory.
+    fn twin_among<'b>(&self, slices: &Nested, there: Candidates<'b>) -> Option<&'b Form>
+        ensures { IfSome result (λ f. IsTwin self.now.nodes.now (slices_by self.now.own.now self.now.slices.now self.now.table.now self.now.kind) there.entry.forms.now slices.now f.now) }
+    {
+        match self.twin(slices, there.forms, there.places.0) {
+            Some(form) => Some(form),
+            None => self.twin(slices, there.forms, there.places.1),
+        }
     }
 
     /// The form at a place, if the node there has these slices. It takes no memory.
@@ -153,6 +182,37 @@ impl<'a, S: Places> SlicesInReach<'a, S> {
             Some(row) => Some(row.slices()),
         }
     }
+}
+
+/// A new form of slices, of this number, where they name these nodes alone. An error says that memory is short.
+fn new_form_within(
+    alloc: Global,
+    slices: &Nested,
+    nodes: &[NodeId],
+    number: usize,
+) -> Result<Option<Form>, AllocError>
+    requires { IsAscending nodes.now }
+    ensures { IfOk result (λ o. IfSome o (λ f. (f.number ≡ number) × IsCompiled false nodes.now slices.now f.set × IsTrue (within (names slices.now) (among nodes.now)))) }
+{
+    if !has_places(slices.set(), nodes) {
+        return Ok(None);
+    }
+    let form = new_form(alloc, slices, nodes, number)?;
+    Ok(Some(form))
+}
+
+/// A new form of slices, of this number. An error says that memory is short.
+fn new_form(
+    alloc: Global,
+    slices: &Nested,
+    nodes: &[NodeId],
+    number: usize,
+) -> Result<Form, AllocError>
+    requires { IsAscending nodes.now }
+    ensures { IfOk result (λ f. (f.number ≡ number) × IsCompiled false nodes.now slices.now f.set) }
+{
+    let set = compile(alloc, slices.set(), nodes, false)?;
+    Form::new(alloc, number, set)
 }
 
 /// The form at a place, if there is one.

@@ -4,19 +4,18 @@ ghost use Rattle.std.specs.Prelude.{◌≡◌, ◌<◌, ◌≤◌, ℕ, List, If
 ghost use Rattle.types.specs.Statements.{Sent, kind_of};
 ghost use Rattle.types.specs.Trees.{Slices};
 ghost use Rattle.protocol.specs.Backing.{slices_by};
-ghost use Rattle.protocol.specs.Reach.{IsReach};
 ghost use Rattle.protocol.specs.Rows.{with_row};
 ghost use Rattle.protocol.specs.Sets.{IsAscending, among};
 ghost use Rattle.compiled.specs.Searching.{AreCompiled};
 ghost use Rattle.latest.specs.Places.{place_of};
-ghost use Rattle.view.specs.Forms.{AreBelow, IsFound};
+ghost use Rattle.view.specs.Forms.{AreBelow, IsFoundWithin};
 ghost use Rattle.view.specs.Regions.{IsCopy, IsEntry, IsRegion, forms_of, row_places};
 
 use crate::asking::places_to_ask;
 use crate::forms::{Candidates, SlicesInReach};
 use crate::own::Own;
 use closure::{drops_none, keeps_reach, reach};
-use compiled::{CompiledSet, Form, compile, has_places, place_of};
+use compiled::{CompiledSet, Form, compile, place_of};
 use envstore::Places;
 use latest::Rows;
 use std::alloc::{AllocError, Global};
@@ -123,8 +122,8 @@ impl Region {
     /// slices, and so is reached anyhow. An error says that memory is short.
     ///
     /// It costs some searches by name and, where its slices are neither the node's own nor those of the row that was
-    /// set last, the compiling of one set of slices, however many rows there are. After the last number of a form
-    /// there is no such entry, and the region is to be found anew.
+    /// set last, a search for each name and the compiling of one set of slices, however many rows there are. After the
+    /// last number of a form there is no such entry, and the region is to be found anew.
     pub fn entry_for<S: Places>(
         &self,
         alloc: Global,
@@ -141,14 +140,17 @@ impl Region {
         if place == self.place {
             return Ok(None);
         }
-        let stays = leaves_reach(alloc, own, table, envelope, &self.nodes)?;
+        let stays = drops_none(alloc, own.name, own.slices, table, envelope)?;
         if !stays {
             return Ok(None);
         }
         let Some(numbers) = self.numbers.checked_add(1) else {
             return Ok(None);
         };
-        let form = self.form_for(alloc, own, table, envelope)?;
+        let found = self.form_for(alloc, own, table, envelope)?;
+        let Some(form) = found else {
+            return Ok(None);
+        };
         Ok(Some(Entry {
             kind: envelope.body().kind(),
             place,
@@ -158,17 +160,19 @@ impl Region {
         }))
     }
 
-    /// The compiled form of the envelope's slices, for the list of its kind: that of the node itself or of the row
-    /// that was set last, where their slices are the same, or else a new one. An error says that memory is short.
+    /// The compiled form of the envelope's slices, for the list of its kind, where they name reached nodes alone: that
+    /// of the node itself or of the row that was set last, where their slices are the same, or else a new one. Whom
+    /// slices name that a reached node has is reached, so no name of these is searched for. An error says that memory
+    /// is short.
     fn form_for<S: Places>(
         &self,
         alloc: Global,
         own: Own<'_>,
         table: &Rows<'_, S>,
         envelope: &Envelope,
-    ) -> Result<Form, AllocError>
+    ) -> Result<Option<Form>, AllocError>
         requires { IsAscending self.now.nodes.items }
-        ensures { IfOk result (IsFound self.now.nodes.items (slices_by own.entry.name.now own.entry.slices.now table.now (kind_of envelope.now.body)) (forms_of (kind_of envelope.now.body) self.now) self.now.numbers envelope.now.slices) }
+        ensures { IfOk result (λ o. IfSome o (IsFoundWithin self.now.nodes.items (slices_by own.entry.name.now own.entry.slices.now table.now (kind_of envelope.now.body)) (forms_of (kind_of envelope.now.body) self.now) self.now.numbers envelope.now.slices)) }
     {
         let kind = envelope.body().kind();
         let reached = SlicesInReach::new(own, &self.nodes, table, kind);
@@ -176,7 +180,7 @@ impl Region {
             forms: self.forms(kind),
             places: (self.place, self.latest),
         };
-        reached.form_of(alloc, envelope.slices(), there, self.numbers)
+        reached.form_within(alloc, envelope.slices(), there, self.numbers)
     }
 
     /// The compiled forms of a kind.
@@ -207,25 +211,6 @@ impl Region {
             }
         }
     }
-}
-
-/// Whether the reach surely stays as it is where the table takes the envelope: it names reached nodes alone,
-/// and drops no name but such as the node reaches by itself. An error says that memory is short.
-fn leaves_reach<S: Places>(
-    alloc: Global,
-    own: Own<'_>,
-    table: &Rows<'_, S>,
-    envelope: &Envelope,
-    nodes: &[NodeId],
-) -> Result<bool, AllocError>
-    requires { IsAscending nodes.now }
-    ensures { IfOk result (λ b. IsTrue b → IsReach own.entry.name.now own.entry.slices.now table.now nodes.now → IsReach own.entry.name.now own.entry.slices.now (with_row envelope.now table.now) nodes.now) }
-{
-    if !has_places(envelope.slices().set(), nodes) {
-        return Ok(false);
-    }
-    let stays = drops_none(alloc, own.name, own.slices, table, envelope)?;
-    Ok(stays)
 }
 
 /// Where the envelope stands where the table takes it: in the place of its sender's row of that kind, or behind
