@@ -9,7 +9,7 @@ use Rattle.types.specs.declared.kind.Kind.{Kind}
 use Rattle.types.specs.declared.kind.Kind.TheVariants.{Nomination}
 use Rattle.types.specs.Statements.{Sent, kind_of}
 use Rattle.protocol.specs.Sets.{among, AreWithin, IsAscending}
-use Rattle.protocol.proofs.SetLaws.{within-at}
+use Rattle.protocol.proofs.Sets.Finite.{within-at}
 use Rattle.protocol.specs.Satisfaction.{sat, names}
 use Rattle.protocol.specs.Quorums.{is_satisfied}
 use Rattle.protocol.specs.Backing.{slices_by}
