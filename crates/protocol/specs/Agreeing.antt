@@ -18,14 +18,17 @@ use Rattle.protocol.specs.Claims.{IsClosedFor, IsOfMembers, AgreeOn}
 abbrev pub place_in : Net → ℕ → ℕ → Option Place
 place_in net i u = known (places_at net.slots i) u
 
--- A set is closed for a network at a slot: its members' configured slices name members alone, it is closed for their nodes, which are at rest, and each node has told of itself alone, the members naming members.
+-- A set is closed for a network at a slot: its members' configured slices name members alone, it is closed for their
+-- nodes, which are at rest, and each node has told of itself alone, the members naming members.
 pub record IsClosedIn (R : Names) (i : ℕ) (net : Net) : Type 0 where
   pub hosts : (u : ℕ) (q : Slices) → slices_of net.hosts u ≡ Some q → IsTrue (R u) → IsTrue (within (names q) R)
   pub nodes : (u : ℕ) (p : Place) → place_in net i u ≡ Some p → IsTrue (R u) → IsClosedFor R p.node
   pub calm : (u : ℕ) (p : Place) → place_in net i u ≡ Some p → IsTrue (R u) → Calm p.node
-  pub told : (u : ℕ) (p : Place) → place_in net i u ≡ Some p → IsTrue (list_all (λ e. (e.sender == u) && (not (R e.sender) || within (names e.slices) R)) p.told)
+  pub told : (u : ℕ) (p : Place) → place_in net i u ≡ Some p
+      → IsTrue (list_all (λ e. (e.sender == u) && (not (R e.sender) || within (names e.slices) R)) p.told)
 
--- a member in two networks: it is in neither, or its nodes are one in state and agree on the rows of members, and have told the same
+-- a member in two networks: it is in neither, or its nodes are one in state and agree on the rows of members, and have
+-- told the same
 abbrev pub ArePlacesAlike : Names → Option Place → Option Place → Type 0
 ArePlacesAlike R None None = Unit {0}
 ArePlacesAlike R None (Some q) = ⊥
@@ -50,26 +53,36 @@ given_by i u e os = if is_of i u e then os else []
 
 -- two networks where nothing has happened agree, if they host the members with the same slices
 abbrev pub NewNetworksAgree : Type 0
-NewNetworksAgree = (R : Names) (i : ℕ) (one other : Config) → ((u : ℕ) → IsTrue (R u) → slices_of one.hosts u ≡ slices_of other.hosts u) → AgreeIn R i (new_net one) (new_net other)
+NewNetworksAgree = (R : Names) (i : ℕ) (one other : Config)
+    → ((u : ℕ) → IsTrue (R u) → slices_of one.hosts u ≡ slices_of other.hosts u)
+    → AgreeIn R i (new_net one) (new_net other)
 
 -- and the closure of a run is closed for the network after each beginning of it
 abbrev pub RunsStayClosedIn : Type 0
-RunsStayClosedIn = (config : Config) (run : List Entry) (i v n : ℕ) → IsRun config run → IsClosedIn (closure config.hosts i v run) i (state_of config (take n run))
+RunsStayClosedIn = (config : Config) (run : List Entry) (i v n : ℕ) → IsRun config run
+    → IsClosedIn (closure config.hosts i v run) i (state_of config (take n run))
 
--- Agree, of networks: after an applied step of each, of which the same is kept or of neither anything, they agree, and each member gives out the same in both.
--- So a member that hears a member hears the same: each network hands over the emission of that number that its own node told.
+-- Agree, of networks: after an applied step of each, of which the same is kept or of neither anything, they agree, and
+-- each member gives out the same in both.
+-- So a member that hears a member hears the same: each network hands over the emission of that number that its own node
+-- told.
 abbrev pub StepsAgree : Type 0
-StepsAgree = (R : Names) (i : ℕ) (one other : Net) (e d : Step) (os ps : List Out) → IsClosedIn R i one → IsClosedIn R i other → AgreeIn R i one other
-    → (net_step one e).1 ≡ Done os → (net_step other d).1 ≡ Done ps → kept R i e ≡ kept R i d → IfSome (kept R i e) (IsKeptOfMembers R)
-    → AgreeIn R i (net_step one e).0 (net_step other d).0 × ((u : ℕ) → IsTrue (R u) → given_by i u e os ≡ given_by i u d ps)
+StepsAgree = (R : Names) (i : ℕ) (one other : Net) (e d : Step) (os ps : List Out) → IsClosedIn R i one
+    → IsClosedIn R i other → AgreeIn R i one other
+    → (net_step one e).1 ≡ Done os → (net_step other d).1 ≡ Done ps → kept R i e ≡ kept R i d
+    → IfSome (kept R i e) (IsKeptOfMembers R)
+    → AgreeIn R i (net_step one e).0 (net_step other d).0
+    × ((u : ℕ) → IsTrue (R u) → given_by i u e os ≡ given_by i u d ps)
 
 -- after an applied step of one of them of which nothing is kept they still agree, and no member gives anything out
 abbrev pub OtherStepsLeave : Type 0
-OtherStepsLeave = (R : Names) (i : ℕ) (one other : Net) (e : Step) (os : List Out) → IsClosedIn R i one → AgreeIn R i one other
+OtherStepsLeave =
+    (R : Names) (i : ℕ) (one other : Net) (e : Step) (os : List Out) → IsClosedIn R i one → AgreeIn R i one other
     → (net_step one e).1 ≡ Done os → kept R i e ≡ None
     → AgreeIn R i (net_step one e).0 other × ((u : ℕ) → IsTrue (R u) → given_by i u e os ≡ [])
 
 -- and the set stays closed for the network
 abbrev pub StaysClosedIn : Type 0
-StaysClosedIn = (R : Names) (i : ℕ) (net : Net) (e : Step) (os : List Out) → IsClosedIn R i net → (net_step net e).1 ≡ Done os → IfSome (kept R i e) (IsKeptOfMembers R)
+StaysClosedIn = (R : Names) (i : ℕ) (net : Net) (e : Step) (os : List Out) → IsClosedIn R i net
+    → (net_step net e).1 ≡ Done os → IfSome (kept R i e) (IsKeptOfMembers R)
     → IsClosedIn R i (net_step net e).0

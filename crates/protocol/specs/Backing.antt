@@ -11,7 +11,8 @@ use Rattle.protocol.specs.Rows.{row}
 
 -- a node's own slices are the configured ones, another's those of its row of the kind; a node without a row has none
 abbrev pub slices_by : ℕ → Slices → List Sent → Kind → ℕ → Option Slices
-slices_by own configured table kind u = if own == u then Some configured else option_map (λ e. e.slices) (row table u kind)
+slices_by own configured table kind u =
+    if own == u then Some configured else option_map (λ e. e.slices) (row table u kind)
 
 abbrev pub is_passed : (Statement → Bool) → Option Sent → Bool
 is_passed test None = false

@@ -16,7 +16,8 @@ use Rattle.protocol.specs.Candidates.{named, commits, greatest, lowest, combine}
 -- ---- the federated tests of ballots, by a node in this position
 -- prepare of the ballot is accepted
 abbrev pub prepare_accepted : Seen → Option Statement → Ballot → Bool
-prepare_accepted seen own t = accepted seen Kind.Ballot own (λ s. votes_or_accepts_prepare s t) (λ s. accepts_prepare s t)
+prepare_accepted seen own t =
+    accepted seen Kind.Ballot own (λ s. votes_or_accepts_prepare s t) (λ s. accepts_prepare s t)
 
 -- prepare of the ballot is confirmed
 abbrev pub prepare_confirmed : Seen → Option Statement → Ballot → Bool
@@ -24,7 +25,8 @@ prepare_confirmed seen own t = confirmed seen Kind.Ballot own (λ s. accepts_pre
 
 -- commit of the value on the whole interval is accepted
 abbrev pub interval_accepted : Seen → Option Statement → List ℕ → ℕ → ℕ → Bool
-interval_accepted seen own x lo hi = accepted seen Kind.Ballot own (λ s. votes_or_accepts_ends s x lo hi) (λ s. accepts_ends s x lo hi)
+interval_accepted seen own x lo hi =
+    accepted seen Kind.Ballot own (λ s. votes_or_accepts_ends s x lo hi) (λ s. accepts_ends s x lo hi)
 
 -- commit of the value on the whole interval is confirmed
 abbrev pub interval_confirmed : Seen → Option Statement → List ℕ → ℕ → ℕ → Bool
@@ -48,7 +50,8 @@ abbrev pub commit_confirmed : Seen → Votes → List ℕ → ℕ → ℕ → Bo
 commit_confirmed seen w x lo hi = interval_confirmed seen (position w) x lo hi
 
 -- ---- the first ballot
--- Start, without a ballot: counter 1 with the combined confirmed value; where nothing is confirmed, the greatest named ballot whose prepare is accepted.
+-- Start, without a ballot: counter 1 with the combined confirmed value; where nothing is confirmed, the greatest named
+-- ballot whose prepare is accepted.
 unfoldable pub started : Seen → Votes → Option (List ℕ) → Votes
 started seen w (Some x) = record w { ballot = Some (ballot_at 1 x) }
 started seen w None = record w { ballot = greatest None (filter (is_accepted seen w) (named seen w)) }
@@ -63,11 +66,14 @@ unfoldable pub start : Seen → Votes → Votes
 start seen w = start_from seen w w.ballot
 
 -- ---- accepted as prepared
--- where the highest accepted ballot goes from one value to another, all ballots below the old one are aborted, and the old one too where its value is the greater
+-- where the highest accepted ballot goes from one value to another, all ballots below the old one are aborted, and the
+-- old one too where its value is the greater
 unfoldable pub aborted_by : Option Ballot → Option Ballot → ℕ → ℕ
 aborted_by None new a = a
 aborted_by (Some o) None a = a
-aborted_by (Some o) (Some p) a = if same_value o.value p.value then a else max a (if is_lt (bytes_cmp o.value p.value) then o.counter else o.counter + 1)
+aborted_by (Some o) (Some p) a =
+    if same_value o.value p.value then a else max a
+    (if is_lt (bytes_cmp o.value p.value) then o.counter else o.counter + 1)
 
 -- in COMMIT only ballots of the ballot's value count
 abbrev pub may_be_prepared : Phase → List ℕ → Ballot → Bool
@@ -78,7 +84,8 @@ may_be_prepared Externalized x t = true
 -- Accept prepared: the greatest of the highest accepted ballot and the named ballots whose prepare is accepted.
 unfoldable pub accept_prepared : Seen → Ballot → Votes → Votes
 accept_prepared seen b w =
-    let p = greatest w.prepared (filter (λ t. may_be_prepared w.phase b.value t && is_accepted seen w t) (named seen w)) in
+    let p = greatest w.prepared
+    (filter (λ t. may_be_prepared w.phase b.value t && is_accepted seen w t) (named seen w)) in
     record w { prepared = p; aborted = aborted_by w.prepared p w.aborted }
 
 -- ---- confirmed as prepared, in PREPARE
@@ -128,13 +135,20 @@ confirm_prepared seen b w = set_commit (follow_high b (raise_high seen w))
 unfoldable pub accepted_from : Seen → Votes → Ballot → ℕ
 accepted_from seen w t = lowest (λ lo. commit_accepted seen w t.value lo t.counter) t.value t.counter (commits seen w)
 
--- in PREPARE: the greatest counter, over all values, that is accepted as committed, confirmed as prepared and not aborted
+-- in PREPARE: the greatest counter, over all values, that is accepted as committed, confirmed as prepared and not
+-- aborted
 unfoldable pub first_committed : Seen → Votes → Option Ballot
-first_committed seen w = greatest None (filter (λ t. commit_accepted seen w t.value t.counter t.counter && is_confirmed seen w t && not (is_aborted w t)) (commits seen w))
+first_committed seen w =
+    greatest None
+    (filter (λ t. commit_accepted seen w t.value t.counter t.counter && is_confirmed seen w t && not (is_aborted w t))
+    (commits seen w))
 
 -- in COMMIT: the greatest counter of the ballot's value above hi that is accepted as committed
 unfoldable pub next_committed : Seen → Ballot → Votes → Option Ballot
-next_committed seen b w = greatest None (filter (λ t. same_value t.value b.value && nat_lt w.hi t.counter && commit_accepted seen w t.value t.counter t.counter) (commits seen w))
+next_committed seen b w =
+    greatest None
+    (filter (λ t. same_value t.value b.value && nat_lt w.hi t.counter
+    && commit_accepted seen w t.value t.counter t.counter) (commits seen w))
 
 -- the phase becomes COMMIT, with the interval, and nothing stays below its end
 unfoldable pub enter_commit : Seen → Ballot → Votes → Option Ballot → Votes
@@ -167,7 +181,9 @@ accept_commit Externalized seen b w = w
 -- ---- confirmed as committed
 -- the greatest commit counter of the ballot's value that is confirmed as committed
 unfoldable pub confirmed_commit : Seen → Ballot → Votes → Option Ballot
-confirmed_commit seen b w = greatest None (filter (λ t. same_value t.value b.value && commit_confirmed seen w t.value t.counter t.counter) (commits seen w))
+confirmed_commit seen b w =
+    greatest None
+    (filter (λ t. same_value t.value b.value && commit_confirmed seen w t.value t.counter t.counter) (commits seen w))
 
 -- the phase becomes EXTERNALIZE, with the confirmed interval
 unfoldable pub externalize : Seen → Votes → Option Ballot → Votes

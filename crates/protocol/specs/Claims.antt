@@ -16,7 +16,8 @@ use Rattle.protocol.specs.Hosts.{Entry, Config}
 use Rattle.protocol.specs.Runs.{IsRun, state_of}
 use Rattle.protocol.specs.Isolation.{closure}
 
--- a set is closed for a node: it has its name, the names of its slices, its leaders, and what senders in the set announced to it
+-- a set is closed for a node: it has its name, the names of its slices, its leaders, and what senders in the set
+-- announced to it
 pub record IsClosedFor (R : Names) (n : Node) : Type 0 where
   pub has : IsTrue (R n.name)
   pub own : IsTrue (within (names n.slices) R)
@@ -32,17 +33,21 @@ pub record IsQuiet (R : Names) (old new : Node) (os : List Out) : Type 0 where
 
 -- Quiet: a calm node that takes an envelope whose sender is outside a set that is closed for it is quiet
 abbrev pub Quiet : Type 0
-Quiet = (R : Names) (n : Node) (e : Sent) → IsClosedFor R n → Calm n → IsFalse (R e.sender) → IsQuiet R n (step n (Take e)).0 (step n (Take e)).1
+Quiet = (R : Names) (n : Node) (e : Sent) → IsClosedFor R n → Calm n → IsFalse (R e.sender)
+    → IsQuiet R n (step n (Take e)).0 (step n (Take e)).1
 
 -- Prefix, of a run: the closure of each beginning lies in that of the whole run
 abbrev pub PrefixOfRun : Type 0
-PrefixOfRun = (hosts : List Host) (i v : ℕ) (front rest : List Entry) (u : ℕ) → IsTrue (closure hosts i v front u) → IsTrue (closure hosts i v (front ++ rest) u)
+PrefixOfRun = (hosts : List Host) (i v : ℕ) (front rest : List Entry) (u : ℕ) → IsTrue (closure hosts i v front u)
+    → IsTrue (closure hosts i v (front ++ rest) u)
 
 -- Prefix, of reach: whom a node reaches lies in each set that is closed for it
 abbrev pub PrefixOfReach : Type 0
-PrefixOfReach = (R : Names) (n : Node) → IsClosedFor R n → (u : ℕ) → IsTrue (reached n.name n.slices n.table u) → IsTrue (R u)
+PrefixOfReach =
+    (R : Names) (n : Node) → IsClosedFor R n → (u : ℕ) → IsTrue (reached n.name n.slices n.table u) → IsTrue (R u)
 
--- Prefix, over a whole run: after each beginning of it the closure of the whole run is closed for each hosted member at the slot, and has whom that member reaches by its table
+-- Prefix, over a whole run: after each beginning of it the closure of the whole run is closed for each hosted member at
+-- the slot, and has whom that member reaches by its table
 abbrev pub PrefixOfWholeRun : Type 0
 PrefixOfWholeRun = (config : Config) (run : List Entry) (i v : ℕ) → IsRun config run →
     let R = closure config.hosts i v run in
@@ -54,7 +59,8 @@ PrefixOfWholeRun = (config : Config) (run : List Entry) (i v : ℕ) → IsRun co
 abbrev pub node_within : Names → Node → Node
 node_within R n = record n { table = filter (λ e. R e.sender) n.table }
 
--- an event of a member that is kept: an envelope is of a member, whose announced names are members too, and so are the names of new slices
+-- an event of a member that is kept: an envelope is of a member, whose announced names are members too, and so are the
+-- names of new slices
 abbrev pub IsOfMembers : Names → NodeEvent → Type 0
 IsOfMembers R (Propose x) = Unit {0}
 IsOfMembers R (Take e) = IsTrue (R e.sender) × IsTrue (within (names e.slices) R)

@@ -23,7 +23,8 @@ in_least rules v u = every_set (v ∷ flat_map (λ r. r.gives) rules) (λ set. n
 -- a name is derived from v: it is v, or a rule gives it whose sources are all derived
 pub data Derived (rules : List Rule) (v : ℕ) : ℕ → Type 0 where
   start : Derived rules v v
-  given : (r : Rule) {u : ℕ} → Contains rules r → ((w : ℕ) → IsTrue (among r.sources w) → Derived rules v w) → IsTrue (among r.gives u) → Derived rules v u
+  given : (r : Rule) {u : ℕ} → Contains rules r → ((w : ℕ) → IsTrue (among r.sources w) → Derived rules v w)
+      → IsTrue (among r.gives u) → Derived rules v u
 
 -- is_closed in words: v is in, and so is all that a rule gives whose sources are in
 pub record IsClosed (rules : List Rule) (v : ℕ) (set : Names) : Type 0 where

@@ -1,4 +1,5 @@
--- What a network counts, by its journal; and that it refuses for want of room exactly where what a step draws on is used up.
+-- What a network counts, by its journal; and that it refuses for want of room exactly where what a step draws on is
+-- used up.
 use Rattle.types.specs.declared.event.Refusal.{Refusal}
 use Rattle.types.specs.declared.event.Refusal.TheVariants.{TooManySlots, JournalFull, BytesFull, ShareFull, ShareBytesFull}
 use Rattle.std.specs.Prelude.{◌≡◌, ℕ, ◌<◌, ◌≤◌, ◌+◌, Bool, true, false, ◌&&◌, ◌==◌, length, List, [], ◌∷◌, ◌++◌, Some, None, filter, fold, sum_by, if◌then◌else◌}
@@ -43,13 +44,16 @@ is_opening i _ = false
 abbrev pub since_opened : ℕ → List Entry → List Entry
 since_opened i xs = fold (λ since x. if is_opening i x.event then [] else since ++ x ∷ []) [] xs
 
--- a network counts what its journal drew: on the budgets and on openings and closings over its life, on a share since its slot was opened
+-- a network counts what its journal drew: on the budgets and on openings and closings over its life, on a share since
+-- its slot was opened
 pub record IsCountOf (config : Config) (xs : List Entry) (net : Net) : Type 0 where
   pub events : net.events ≡ length (drawing config is_of_budgets xs)
   pub bytes : net.bytes ≡ bytes_in (drawing config is_of_budgets xs)
   pub opens : net.opens ≡ length (drawing config is_of_opens xs)
-  pub share_events : (i : ℕ) (s : Share) → events_drawn i s net.draws ≡ length (drawing config (is_of_share i s) (since_opened i xs))
-  pub share_bytes : (i : ℕ) (s : Share) → bytes_drawn i s net.draws ≡ bytes_in (drawing config (is_of_share i s) (since_opened i xs))
+  pub share_events : (i : ℕ) (s : Share)
+      → events_drawn i s net.draws ≡ length (drawing config (is_of_share i s) (since_opened i xs))
+  pub share_bytes : (i : ℕ) (s : Share)
+      → bytes_drawn i s net.draws ≡ bytes_in (drawing config (is_of_share i s) (since_opened i xs))
 
 abbrev pub RunsAreCounted : Type 0
 RunsAreCounted = (config : Config) (xs : List Entry) → IsRun config xs → IsCountOf config xs (state_of config xs)
@@ -77,7 +81,8 @@ IsMet net s size ShareBytesFull = ExceedsShare net s size
 IsMet net s size _ = Unit {0}
 
 abbrev pub RefusedWhereMet : Type 0
-RefusedWhereMet = (net : Net) (e : Step) (n : Refusal) → first_that (tests net e) ≡ Some n → IsMet net (source net.roster e) (size_of e) n
+RefusedWhereMet = (net : Net) (e : Step) (n : Refusal) → first_that (tests net e) ≡ Some n
+    → IsMet net (source net.roster e) (size_of e) n
 
 -- the step finds room: for one more event, for its bytes and for the slot that it opens
 abbrev pub HasEvents : Net → Source → Type 0
@@ -94,7 +99,8 @@ abbrev pub HasRoom : Net → Step → Type 0
 HasRoom net (Opens i) = (length net.slots < net.budgets.slots) × HasEvents net (source net.roster (Opens i))
 HasRoom net (Closes i) = HasEvents net (source net.roster (Closes i))
 HasRoom net (Asks i u x) = HasEvents net (source net.roster (Asks i u x))
-HasRoom net (Delivers u size d) = HasEvents net (source net.roster (Delivers u size d)) × HasBytes net (source net.roster (Delivers u size d)) size
+HasRoom net (Delivers u size d) =
+    HasEvents net (source net.roster (Delivers u size d)) × HasBytes net (source net.roster (Delivers u size d)) size
 HasRoom net (Hears i u from kind k) = HasEvents net (source net.roster (Hears i u from kind k))
 HasRoom net (NominationTimes i u r) = HasEvents net (source net.roster (NominationTimes i u r))
 HasRoom net (BallotTimes i u n) = HasEvents net (source net.roster (BallotTimes i u n))
@@ -109,9 +115,14 @@ pub record IsCountedAfter (net : Net) (e : Step) (next : Net) : Type 0 where
   pub events : next.events ≡ net.events + on_budgets (source net.roster e) 1
   pub bytes : next.bytes ≡ net.bytes + on_budgets (source net.roster e) (size_of e)
   pub opens : next.opens ≡ net.opens + on_opens (source net.roster e)
-  pub renewed : (i : ℕ) (s : Share) → is_opening i e ≡ true → (events_drawn i s next.draws ≡ 0) × (bytes_drawn i s next.draws ≡ 0)
-  pub share_events : (i : ℕ) (s : Share) → is_opening i e ≡ false → events_drawn i s next.draws ≡ events_drawn i s net.draws + (if is_of_share i s (source net.roster e) then 1 else 0)
-  pub share_bytes : (i : ℕ) (s : Share) → is_opening i e ≡ false → bytes_drawn i s next.draws ≡ bytes_drawn i s net.draws + (if is_of_share i s (source net.roster e) then size_of e else 0)
+  pub renewed : (i : ℕ) (s : Share) → is_opening i e ≡ true
+      → (events_drawn i s next.draws ≡ 0) × (bytes_drawn i s next.draws ≡ 0)
+  pub share_events : (i : ℕ) (s : Share) → is_opening i e ≡ false
+      → events_drawn i s next.draws
+      ≡ events_drawn i s net.draws + (if is_of_share i s (source net.roster e) then 1 else 0)
+  pub share_bytes : (i : ℕ) (s : Share) → is_opening i e ≡ false
+      → bytes_drawn i s next.draws
+      ≡ bytes_drawn i s net.draws + (if is_of_share i s (source net.roster e) then size_of e else 0)
 
 abbrev pub StepsAreCounted : Type 0
 StepsAreCounted = (net : Net) (e : Step) → first_that (tests net e) ≡ None → IsCountedAfter net e (net_step net e).0
@@ -122,8 +133,10 @@ pub record IsInRoom (config : Config) (net : Net) : Type 0 where
   pub events : net.events ≤ config.budgets.events
   pub bytes : net.bytes ≤ config.budgets.bytes
   pub opens : (r : Roster) → config.roster ≡ Some r → net.opens ≤ r.shares.opens
-  pub share_events : (r : Roster) → config.roster ≡ Some r → (i : ℕ) (s : Share) → events_drawn i s net.draws ≤ events_of r.shares s
-  pub share_bytes : (r : Roster) → config.roster ≡ Some r → (i : ℕ) (s : Share) → bytes_drawn i s net.draws ≤ r.shares.bytes
+  pub share_events : (r : Roster) → config.roster ≡ Some r → (i : ℕ) (s : Share)
+      → events_drawn i s net.draws ≤ events_of r.shares s
+  pub share_bytes : (r : Roster) → config.roster ≡ Some r → (i : ℕ) (s : Share)
+      → bytes_drawn i s net.draws ≤ r.shares.bytes
 
 -- after any steps, refused ones too
 abbrev pub StaysInRoom : Type 0

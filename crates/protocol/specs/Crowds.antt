@@ -7,7 +7,8 @@ use Rattle.protocol.specs.Isolation.{closure, SameCast}
 use Rattle.protocol.specs.Verdicts.{IsFirstUnlike, IsFirstDifference}
 use Rattle.protocol.specs.Submissions.{Answer, answers, concerned, replied_to, config_of, SameReserves, roster_names}
 
--- the casts differ at a node, the rosters or what they reserve differ, the closure leaves the roster at a node, the submitted steps that
+-- the casts differ at a node, the rosters or what they reserve differ, the closure leaves the roster at a node, the
+-- submitted steps that
 -- concern the closure differ at a place, or all is the same, with the replies
 pub data Crowd : Type 0 where
   CastDiffers : ℕ → Crowd
@@ -22,15 +23,21 @@ pub record IsFirstOutside (R : Names) (names : List ℕ) (u : ℕ) : Type 0 wher
   pub outside : IsFalse (among names u)
   pub least : (w : ℕ) → IsTrue (R w) → w < u → IsTrue (among names w)
 
--- Of two networks, by their configurations, by the journal of the first and by what was submitted to each of them: the first that applies, in this order.
-abbrev pub IsCrowdOf : List Host → List Host → Option Config → Option Config → List Entry → List Answer → List Answer → ℕ → ℕ → Crowd → Type 0
+-- Of two networks, by their configurations, by the journal of the first and by what was submitted to each of them: the
+-- first that applies, in this order.
+abbrev pub IsCrowdOf : List Host → List Host → Option Config → Option Config → List Entry → List Answer → List Answer
+    → ℕ → ℕ → Crowd → Type 0
 IsCrowdOf one other config configs run xs ys i v (CastDiffers u) = IsFirstUnlike (closure one i v run) v one other u
-IsCrowdOf one other config configs run xs ys i v RosterDiffers = SameCast (closure one i v run) v one other × (SameReserves config configs → ⊥)
+IsCrowdOf one other config configs run xs ys i v RosterDiffers =
+    SameCast (closure one i v run) v one other × (SameReserves config configs → ⊥)
 IsCrowdOf one other config configs run xs ys i v (OutsideRoster u) =
-    SameCast (closure one i v run) v one other × (SameReserves config configs × IsFirstOutside (closure one i v run) (roster_names config) u)
+    SameCast (closure one i v run) v one other
+    × (SameReserves config configs × IsFirstOutside (closure one i v run) (roster_names config) u)
 IsCrowdOf one other config configs run xs ys i v (InputsDiffer place) =
     let R = closure one i v run in
-    SameCast R v one other × (SameReserves config configs × (AreWithin R (among (roster_names config)) × IsFirstDifference (concerned R i xs) (concerned R i ys) place))
+    SameCast R v one other
+    × (SameReserves config configs ×
+    (AreWithin R (among (roster_names config)) × IsFirstDifference (concerned R i xs) (concerned R i ys) place))
 IsCrowdOf one other config configs run xs ys i v (Same replies) =
     let R = closure one i v run in
     SameCast R v one other
@@ -42,12 +49,15 @@ IsCrowdOf one other config configs run xs ys i v (Same replies) =
 -- the same of one network in two histories
 abbrev pub IsCrowd : (List ℕ → Reading) → History → History → ℕ → ℕ → ℕ → Crowd → Type 0
 IsCrowd decode one other g i v crowd =
-    IsCrowdOf (hosts_of one.configs g) (hosts_of other.configs g) (config_of one.configs g) (config_of other.configs g) (entries decode one g) (answers decode one g) (answers decode other g) i v crowd
+    IsCrowdOf (hosts_of one.configs g) (hosts_of other.configs g) (config_of one.configs g) (config_of other.configs g)
+    (entries decode one g) (answers decode one g) (answers decode other g) i v crowd
 
 -- every two submissions have an answer
 abbrev pub CrowdsExist : Type 0
-CrowdsExist = (decode : List ℕ → Reading) (one other : History) (g i v : ℕ) → (c : Crowd) × IsCrowd decode one other g i v c
+CrowdsExist =
+    (decode : List ℕ → Reading) (one other : History) (g i v : ℕ) → (c : Crowd) × IsCrowd decode one other g i v c
 
 -- and only one
 abbrev pub CrowdsAreUnique : Type 0
-CrowdsAreUnique = (decode : List ℕ → Reading) (one other : History) (g i v : ℕ) (a b : Crowd) → IsCrowd decode one other g i v a → IsCrowd decode one other g i v b → a ≡ b
+CrowdsAreUnique = (decode : List ℕ → Reading) (one other : History) (g i v : ℕ) (a b : Crowd)
+    → IsCrowd decode one other g i v a → IsCrowd decode one other g i v b → a ≡ b

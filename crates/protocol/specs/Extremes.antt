@@ -22,7 +22,8 @@ pub data IsGreatestIn (ts : List Ballot) : Option Ballot → Type 0 where
 
 -- what the rules call the greatest is the greatest of the candidates and of what is there
 abbrev pub GreatestIsExact : Type 0
-GreatestIsExact = (best : Option Ballot) (ts : List Ballot) → IsGreatestIn (option_to_list best ++ ts) (greatest best ts)
+GreatestIsExact =
+    (best : Option Ballot) (ts : List Ballot) → IsGreatestIn (option_to_list best ++ ts) (greatest best ts)
 
 -- and there is only one
 abbrev pub GreatestIsUnique : Type 0
@@ -32,7 +33,8 @@ GreatestIsUnique = (ts : List Ballot) (g h : Ballot) → IsGreatest ts g → IsG
 pub record IsLowest (test : ℕ → Bool) (x : List ℕ) (lo : ℕ) (ts : List Ballot) (n : ℕ) : Type 0 where
   pub upto : n ≤ lo
   pub below : (t : Ballot) → IsIn t ts → same_value t.value x ≡ true → test t.counter ≡ true → n ≤ t.counter
-  pub from : (n ≡ lo) ⊎ ((t : Ballot) × (IsIn t ts × ((same_value t.value x ≡ true) × ((test t.counter ≡ true) × (t.counter ≡ n)))))
+  pub from : (n ≡ lo)
+      ⊎ ((t : Ballot) × (IsIn t ts × ((same_value t.value x ≡ true) × ((test t.counter ≡ true) × (t.counter ≡ n)))))
 
 -- what the rules call the lowest counter is that
 abbrev pub LowestIsExact : Type 0

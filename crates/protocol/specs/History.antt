@@ -33,7 +33,8 @@ last_newer standing [] = standing
 last_newer None (e ∷ es) = last_newer (Some e) es
 last_newer (Some r) (e ∷ es) = last_newer (Some (if is_newer e.body r.body then e else r)) es
 
--- of all that one sender sent of one kind: the first EXTERNALIZE, else the first of the greatest; the last newer nomination
+-- of all that one sender sent of one kind: the first EXTERNALIZE, else the first of the greatest; the last newer
+-- nomination
 abbrev pub row_among : Kind → List Sent → Option Sent
 row_among Nomination sent = last_newer None sent
 row_among Kind.Ballot sent = option_or (first_externalize sent) (first_greatest sent)

@@ -35,7 +35,8 @@ reply_at (Some n) e = (net_step n e).1
 -- the replies to a whole history, in order
 unfoldable pub host_run : List Net → List (ℕ × Step) → List Reply
 host_run nets [] = []
-host_run nets (c ∷ cs) = reply_at (net_at nets c.0) c.1 ∷ host_run (map (λ n. if n.number == c.0 then (net_step n c.1).0 else n) nets) cs
+host_run nets (c ∷ cs) =
+    reply_at (net_at nets c.0) c.1 ∷ host_run (map (λ n. if n.number == c.0 then (net_step n c.1).0 else n) nets) cs
 
 -- the applied events of one network, with what they gave out
 unfoldable pub applied : ℕ → List (ℕ × Step) → List Reply → List Entry
@@ -53,7 +54,18 @@ pub record Config : Type 0 where
 
 -- a network where nothing has happened
 abbrev pub new_net : Config → Net
-new_net config = record { number = config.number; hosts = config.hosts; budgets = config.budgets; roster = config.roster; slots = []; events = 0; bytes = 0; opens = 0; draws = [] }
+new_net config =
+    record {
+      number = config.number;
+      hosts = config.hosts;
+      budgets = config.budgets;
+      roster = config.roster;
+      slots = [];
+      events = 0;
+      bytes = 0;
+      opens = 0;
+      draws = [];
+    }
 
 -- the networks of a host, before any event
 abbrev pub nets : List Config → List Net

@@ -18,13 +18,16 @@ use Rattle.protocol.specs.Hosts.{Entry, History, hosts_of, entries}
 abbrev pub host_rule : Host → Rule
 host_rule h = record { sources = h.name ∷ []; gives = names h.slices }
 
--- where receiver and sender of a delivery at the slot are in, so are the names that it announces; where a hosted node is in, so are the names of all slices that it was given at the slot; a Hear announces nothing new
+-- where receiver and sender of a delivery at the slot are in, so are the names that it announces; where a hosted node
+-- is in, so are the names of all slices that it was given at the slot; a Hear announces nothing new
 abbrev pub announced : ℕ → Step → List Rule
-announced i (Delivers u size (Read e)) = if e.slot == i then record { sources = u ∷ e.sender ∷ []; gives = names e.slices } ∷ [] else []
+announced i (Delivers u size (Read e)) =
+    if e.slot == i then record { sources = u ∷ e.sender ∷ []; gives = names e.slices } ∷ [] else []
 announced i (Reslices j u q) = if j == i then record { sources = u ∷ []; gives = names q } ∷ [] else []
 announced i _ = []
 
--- the least set that contains v and keeps the rules of the hosted nodes, and of all deliveries and changes of slices of the whole run
+-- the least set that contains v and keeps the rules of the hosted nodes, and of all deliveries and changes of slices of
+-- the whole run
 unfoldable pub closure : List Host → ℕ → ℕ → List Entry → Names
 closure hosts i v run = in_least (map host_rule hosts ++ flat_map (λ x. announced i x.event) run) v
 
@@ -41,7 +44,8 @@ abbrev pub when_kept : Bool → Kept → Option Kept
 when_kept true k = Some k
 when_kept false k = None
 
--- at the slot: its opening and closing, what happens to members, new slices of members with them, and what members send to members
+-- at the slot: its opening and closing, what happens to members, new slices of members with them, and what members send
+-- to members
 abbrev pub kept : Names → ℕ → Step → Option Kept
 kept R i (Opens j) = when_kept (j == i) Opened
 kept R i (Closes j) = when_kept (j == i) Closed
@@ -80,8 +84,10 @@ pub record SameCast (R : Names) (v : ℕ) (one other : List Host) : Type 0 where
   pub hosted : IsTrue (is_some (slices_of one v))
   pub same : (u : ℕ) → IsTrue (R u) → slices_of one u ≡ slices_of other u
 
--- For any two host histories, whatever networks, strangers and interleavings they hold: if the closure of v in the first has
--- the same hosted members in both and its kept steps are the same in both, then each hosted member gives out the same in both.
+-- For any two host histories, whatever networks, strangers and interleavings they hold: if the closure of v in the
+-- first has
+-- the same hosted members in both and its kept steps are the same in both, then each hosted member gives out the same
+-- in both.
 -- It holds for every decoder of envelopes, and so for the codec's.
 abbrev pub Isolation : Type 0
 Isolation = (decode : List ℕ → Reading) (one other : History) (g i v : ℕ) →
@@ -96,7 +102,8 @@ Isolation = (decode : List ℕ → Reading) (one other : History) (g i v : ℕ) 
 abbrev pub AreNamedOnce : List Host → Type 0
 AreNamedOnce hosts = (h : Host) → Contains hosts h → slices_of hosts h.name ≡ Some h.slices
 
--- Where the casts are the same and so are the kept steps, the closure of v is the same set of names in both worlds, whatever entries they have: those of two runs, or of a network in two histories.
+-- Where the casts are the same and so are the kept steps, the closure of v is the same set of names in both worlds,
+-- whatever entries they have: those of two runs, or of a network in two histories.
 abbrev pub SameClosures : Type 0
 SameClosures = (one other : List Host) (runs others : List Entry) (i v : ℕ) → AreNamedOnce one → AreNamedOnce other →
     let R = closure one i v runs in

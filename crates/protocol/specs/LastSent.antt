@@ -25,7 +25,9 @@ sent_as Kind.Ballot w = sent_vote w
 abbrev pub SendsItsLast : Place → Type 0
 SendsItsLast p = (kind : Kind) → last_of kind p.told ≡ sent_as kind p.node.votes
 
--- so it is with each hosted node at each open slot, after any entries: what differs from the last one emitted is what differs from the one that would have been sent before.
+-- so it is with each hosted node at each open slot, after any entries: what differs from the last one emitted is what
+-- differs from the one that would have been sent before.
 -- Statements are compared, not envelopes, since slices may change after the last one.
 abbrev pub LastIsSent : Type 0
-LastIsSent = (config : Config) (before : List Entry) → AllByRecursion (λ s. AllByRecursion SendsItsLast s.places) (state_of config before).slots
+LastIsSent = (config : Config) (before : List Entry)
+    → AllByRecursion (λ s. AllByRecursion SendsItsLast s.places) (state_of config before).slots

@@ -26,11 +26,13 @@ is_near (Some f) h = nat_lt (h * f.denominator) (f.numerator * 2 ^ 64)
 
 -- the neighbours of a node in a round: itself, and the named nodes that are near
 unfoldable pub neighbours : ℕ → ℕ → ℕ → Slices → List ℕ
-neighbours slot round own configured = own ∷ filter (λ u. is_near (weight configured u) (hash slot 1 round u)) (names configured)
+neighbours slot round own configured =
+    own ∷ filter (λ u. is_near (weight configured u) (hash slot 1 round u)) (names configured)
 
 -- the first beats the second: it has the greater second hash, or at a tie the greater name
 abbrev pub beats : ℕ → ℕ → ℕ → ℕ → Bool
-beats slot round u w = nat_lt (hash slot 2 round w) (hash slot 2 round u) || ((hash slot 2 round u == hash slot 2 round w) && nat_lt w u)
+beats slot round u w =
+    nat_lt (hash slot 2 round w) (hash slot 2 round u) || ((hash slot 2 round u == hash slot 2 round w) && nat_lt w u)
 
 -- the best of these and of the one that is there
 unfoldable pub best : (ℕ → ℕ → Bool) → ℕ → List ℕ → ℕ

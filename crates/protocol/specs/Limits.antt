@@ -17,7 +17,9 @@ pub data Reached : Node → Type 0 where
 
 -- an event that changes a reached node settles within so many passes, the last of which changes nothing
 abbrev pub SettlesWithin : ℕ → Type 0
-SettlesWithin passes = (n : Node) → Reached n → (e : NodeEvent) (m : Node) → change n e ≡ Some m → IsTrue (is_some (settle passes (passed m) m.votes))
+SettlesWithin passes =
+    (n : Node) → Reached n → (e : NodeEvent) (m : Node) → change n e ≡ Some m
+    → IsTrue (is_some (settle passes (passed m) m.votes))
 
 -- no event of a reached node is undone by the limit
 abbrev pub NeverLimited : Type 0
@@ -45,4 +47,5 @@ TimersAreCounted = (n : Node) → Reached n → n.given.fired ≤ counter_of n.v
 
 -- the nomination and the ballot statement that a reached node sends are well formed
 abbrev pub SendsWellFormed : Type 0
-SendsWellFormed = (n : Node) → Reached n → IfSome (sent_nomination n.votes) IsWellFormed × IfSome (sent_vote n.votes) IsWellFormed
+SendsWellFormed =
+    (n : Node) → Reached n → IfSome (sent_nomination n.votes) IsWellFormed × IfSome (sent_vote n.votes) IsWellFormed

@@ -67,7 +67,8 @@ pub record Slot : Type 0 where
   pub number : ℕ
   pub places : List Place
 
--- a network, with the events and the delivered bytes that drew on its budgets so far, the openings and closings that drew on theirs,
+-- a network, with the events and the delivered bytes that drew on its budgets so far, the openings and closings that
+-- drew on theirs,
 -- and what was drawn on the shares of each slot since it was opened
 pub record Net : Type 0 where
   pub number : ℕ
@@ -134,7 +135,12 @@ act_in u e ps = map (λ p. if p.node.name == u then moved e p else p) ps
 -- a step of one node at one slot
 unfoldable pub act : Net → ℕ → ℕ → NodeEvent → Net × List Out
 act net i u e = (
-  record net { slots = map {B = Slot} (λ (s : Slot). if s.number == i then record s { places = act_in u e s.places } else s) net.slots },
+  record net {
+    slots = map {B = Slot} (λ (s : Slot). if s.number == i then record s {
+      places =
+          act_in u e s.places;
+    } else s) net.slots;
+  },
   outs_at e (known (places_at net.slots i) u),
 )
 
@@ -153,7 +159,13 @@ renewed i draws = filter (λ d. not (d.slot == i)) draws
 
 -- what an event does that is not refused; a closed slot is forgotten, and a Hear hands over what was emitted
 unfoldable pub effect : Net → Step → Net × List Out
-effect net (Opens i) = (record net { slots = net.slots ++ record { number = i; places = opened net.hosts i } ∷ []; draws = renewed i net.draws }, [])
+effect net (Opens i) = (
+  record net {
+    slots = net.slots ++ record { number = i; places = opened net.hosts i } ∷ [];
+    draws = renewed i net.draws;
+  },
+  [],
+)
 effect net (Closes i) = (record net { slots = filter (λ s. not (s.number == i)) net.slots }, [])
 effect net (Asks i u x) = act net i u (Propose x)
 effect net (Delivers u size (Read e)) = act net e.slot u (Take e)
@@ -164,8 +176,10 @@ effect net (BallotTimes i u n) = act net i u (BallotTimer n)
 effect net (Reslices i u q) = act net i u (Reslice q)
 
 -- ---- what a step draws on
--- with a roster: openings and closings on theirs, a hosted node's own steps on its own share, and what it gets from another name on the
--- share of both, where all are on the roster. What is not hosted is refused before that, and bytes that are no envelope are too.
+-- with a roster: openings and closings on theirs, a hosted node's own steps on its own share, and what it gets from
+-- another name on the
+-- share of both, where all are on the roster. What is not hosted is refused before that, and bytes that are no envelope
+-- are too.
 abbrev pub source_by : Roster → Step → Source
 source_by r (Opens i) = OfOpens r.shares
 source_by r (Closes i) = OfOpens r.shares
@@ -218,17 +232,31 @@ is_full net (OfShare shares i s) = (not (nat_lt (events_drawn i s net.draws) (ev
 abbrev pub is_full_of_bytes : Net → Source → ℕ → Bool × Refusal
 is_full_of_bytes net OfBudgets size = (nat_lt net.budgets.bytes (net.bytes + size), BytesFull)
 is_full_of_bytes net (OfOpens shares) size = (false, ShareBytesFull)
-is_full_of_bytes net (OfShare shares i s) size = (nat_lt shares.bytes (bytes_drawn i s net.draws + size), ShareBytesFull)
+is_full_of_bytes net (OfShare shares i s) size =
+    (nat_lt shares.bytes (bytes_drawn i s net.draws + size), ShareBytesFull)
 
 -- what is tested of an event that draws on a source, in this order, each with the refusal where it holds
 abbrev pub tests_on : Net → Source → Step → List (Bool × Refusal)
-tests_on net s (Opens i) = (is_open net i, SlotOpenAlready) ∷ (not (nat_lt (length net.slots) net.budgets.slots), TooManySlots) ∷ is_full net s ∷ []
+tests_on net s (Opens i) =
+    (is_open net i, SlotOpenAlready) ∷ (
+      not (nat_lt (length net.slots) net.budgets.slots),
+      TooManySlots,
+    ) ∷ is_full net s ∷ []
 tests_on net s (Closes i) = is_open_not net i ∷ is_full net s ∷ []
-tests_on net s (Asks i u x) = is_hosted_not net u ∷ is_open_not net i ∷ (is_bad_value x, BadValue) ∷ (has_input (known (places_at net.slots i) u), ProposedAlready) ∷ is_full net s ∷ []
+tests_on net s (Asks i u x) =
+    is_hosted_not net u ∷ is_open_not net i ∷ (is_bad_value x, BadValue) ∷ (
+      has_input (known (places_at net.slots i) u),
+      ProposedAlready,
+    ) ∷ is_full net s ∷ []
 tests_on net s (Delivers u size (Fault n)) = is_hosted_not net u ∷ (true, BadEnvelope n) ∷ []
-tests_on net s (Delivers u size (Read e)) = is_hosted_not net u ∷ (is_hosted net e.sender, HostedSender) ∷ is_open_not net e.slot ∷ is_full net s ∷ is_full_of_bytes net s size ∷ []
+tests_on net s (Delivers u size (Read e)) =
+    is_hosted_not net u ∷ (
+      is_hosted net e.sender,
+      HostedSender,
+    ) ∷ is_open_not net e.slot ∷ is_full net s ∷ is_full_of_bytes net s size ∷ []
 tests_on net s (Hears i u from kind k) =
-    (not (is_hosted net u) || not (is_hosted net from) || (u == from), NoSuchNode) ∷ is_open_not net i ∷ (is_none (emission (known (places_at net.slots i) from) kind k), NotEmitted) ∷ is_full net s ∷ []
+    (not (is_hosted net u) || not (is_hosted net from) || (u == from), NoSuchNode) ∷ is_open_not net i ∷
+    (is_none (emission (known (places_at net.slots i) from) kind k), NotEmitted) ∷ is_full net s ∷ []
 tests_on net s (NominationTimes i u r) = is_hosted_not net u ∷ is_open_not net i ∷ is_full net s ∷ []
 tests_on net s (BallotTimes i u n) = is_hosted_not net u ∷ is_open_not net i ∷ is_full net s ∷ []
 tests_on net s (Reslices i u q) = is_hosted_not net u ∷ is_open_not net i ∷ is_full net s ∷ []

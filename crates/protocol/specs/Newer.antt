@@ -22,14 +22,18 @@ pub record Rank : Type 0 where
 -- phases are PREPARE, COMMIT, EXTERNALIZE; a nomination has no rank
 abbrev pub rank_of : Statement → Option Rank
 rank_of (Nominate voted accepted) = None
-rank_of (Prepare ballot prepared aborted high commit) = Some (record { phase = 1; ballot = ballot; prepared = prepared; counters = aborted ∷ high ∷ commit ∷ [] })
-rank_of (Commit ballot prepared high commit) = Some (record { phase = 2; ballot = ballot; prepared = None; counters = prepared ∷ high ∷ commit ∷ [] })
+rank_of (Prepare ballot prepared aborted high commit) =
+    Some (record { phase = 1; ballot = ballot; prepared = prepared; counters = aborted ∷ high ∷ commit ∷ [] })
+rank_of (Commit ballot prepared high commit) =
+    Some (record { phase = 2; ballot = ballot; prepared = None; counters = prepared ∷ high ∷ commit ∷ [] })
 rank_of (Externalize commit high) = Some (record { phase = 3; ballot = commit; prepared = None; counters = high ∷ [] })
 
 -- by phase, then field by field; no prepared ballot is below any
 abbrev pub rank_cmp : Rank → Rank → Ordering
 rank_cmp =
-    then_cmp (on (λ r. r.phase) nat_cmp) (then_cmp (on (λ r. r.ballot) ballot_cmp) (then_cmp (on (λ r. r.prepared) (option_cmp ballot_cmp)) (on (λ r. r.counters) (slice_cmp nat_cmp))))
+    then_cmp (on (λ r. r.phase) nat_cmp)
+    (then_cmp (on (λ r. r.ballot) ballot_cmp)
+    (then_cmp (on (λ r. r.prepared) (option_cmp ballot_cmp)) (on (λ r. r.counters) (slice_cmp nat_cmp))))
 
 abbrev pub statement_cmp : Statement → Statement → Ordering
 statement_cmp = on rank_of (option_cmp rank_cmp)
@@ -45,7 +49,9 @@ has_all those these = list_all (λ x. has_value those x) these
 
 -- a nomination that has all of these voted and accepted values, and one more
 abbrev pub widens : Statement → List (List ℕ) → List (List ℕ) → Bool
-widens (Nominate voted accepted) old_voted old_accepted = has_all voted old_voted && (has_all accepted old_accepted && not (has_all old_voted voted && has_all old_accepted accepted))
+widens (Nominate voted accepted) old_voted old_accepted =
+    has_all voted old_voted
+    && (has_all accepted old_accepted && not (has_all old_voted voted && has_all old_accepted accepted))
 widens (Prepare ballot prepared aborted high commit) old_voted old_accepted = false
 widens (Commit ballot prepared high commit) old_voted old_accepted = false
 widens (Externalize commit high) old_voted old_accepted = false

@@ -64,7 +64,8 @@ is_externalized Externalized = true
 
 -- the next round begins with its leader; earlier leaders stay
 abbrev pub in_round : Node → ℕ → Node
-in_round n r = record n { given = record n.given { round = r; leaders = n.given.leaders ++ leader n.slot r n.name n.slices ∷ [] } }
+in_round n r =
+    record n { given = record n.given { round = r; leaders = n.given.leaders ++ leader n.slot r n.name n.slices ∷ [] } }
 
 -- the input is set, and round 1 begins
 abbrev pub proposed : Node → List ℕ → Node
@@ -76,7 +77,8 @@ is_round_live n r = is_nomination_timer_live r n.given.round (is_some n.votes.hi
 
 -- the ballot timer of this number is live
 abbrev pub is_counter_live : Node → ℕ → Bool
-is_counter_live n c = is_ballot_timer_live c n.votes.armed (option_map (λ b. b.counter) n.votes.ballot) (is_externalized n.votes.phase)
+is_counter_live n c =
+    is_ballot_timer_live c n.votes.armed (option_map (λ b. b.counter) n.votes.ballot) (is_externalized n.votes.phase)
 
 -- the ballot goes up by one counter, its value chosen as after a raise
 abbrev pub bumped : Votes → Option Ballot → Votes
@@ -107,7 +109,9 @@ when false o = []
 -- a statement is sent where it is not the one that would have been sent before
 abbrev pub emitted : Node → Option Statement → Option Statement → List Out
 emitted n old None = []
-emitted n old (Some s) = if same_sent old (Some s) then [] else Emit (record { sender = n.name; slot = n.slot; slices = n.slices; body = s }) ∷ []
+emitted n old (Some s) =
+    if same_sent old (Some s) then [] else Emit
+    (record { sender = n.name; slot = n.slot; slices = n.slices; body = s }) ∷ []
 
 -- the value of the ballot is externalized
 abbrev pub decided : Option Ballot → List Out
@@ -118,10 +122,12 @@ decided (Some b) = Decided b.value ∷ []
 unfoldable pub outs : Node → Node → List Out
 outs old new =
     when (not (new.given.round == old.given.round) && is_none new.votes.high) (ArmNomination new.given.round)
-    ++ when (not (new.votes.armed == old.votes.armed) && (new.votes.armed == counter_of new.votes.ballot) && not (is_externalized new.votes.phase)) (ArmBallot new.votes.armed)
+    ++ when (not (new.votes.armed == old.votes.armed) && (new.votes.armed == counter_of new.votes.ballot)
+    && not (is_externalized new.votes.phase)) (ArmBallot new.votes.armed)
     ++ emitted new (sent_nomination old.votes) (sent_nomination new.votes)
     ++ emitted new (sent_vote old.votes) (sent_vote new.votes)
-    ++ (if is_externalized new.votes.phase && not (is_externalized old.votes.phase) then decided new.votes.ballot else [])
+    ++ (if is_externalized new.votes.phase
+    && not (is_externalized old.votes.phase) then decided new.votes.ballot else [])
 
 -- ---- a step
 abbrev pub settled : Node → Option Votes → Option Node

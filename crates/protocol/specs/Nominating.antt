@@ -13,7 +13,8 @@ use Rattle.protocol.specs.Candidates.{values_by, all_with, filled}
 abbrev pub own_input : ℕ → Given → List (List ℕ)
 own_input own g = if among g.leaders own then option_to_list g.input else []
 
--- Echo: from round 1 on, while nothing is confirmed, the node votes for each value of its leaders' nominations, and for its own input where it is a leader.
+-- Echo: from round 1 on, while nothing is confirmed, the node votes for each value of its leaders' nominations, and for
+-- its own input where it is a leader.
 unfoldable pub echo : ℕ → Seen → Given → Votes → Votes
 echo own seen g w =
     if nat_lt 0 g.round && not (nat_lt 0 (length w.confirms))
@@ -22,16 +23,20 @@ echo own seen g w =
 
 -- nominating the value is accepted
 abbrev pub is_value_accepted : Seen → Votes → List ℕ → Bool
-is_value_accepted seen w x = accepted seen Nomination (nominated w) (λ s. votes_or_accepts_nominate s x) (λ s. accepts_nominate s x)
+is_value_accepted seen w x =
+    accepted seen Nomination (nominated w) (λ s. votes_or_accepts_nominate s x) (λ s. accepts_nominate s x)
 
 -- nominating the value is confirmed
 abbrev pub is_value_confirmed : Seen → Votes → List ℕ → Bool
 is_value_confirmed seen w x = confirmed seen Nomination (nominated w) (λ s. accepts_nominate s x)
 
--- Accept: values of reached nominations and of the node itself that are accepted are added. It needs neither a proposal nor a vote of one's own.
+-- Accept: values of reached nominations and of the node itself that are accepted are added. It needs neither a proposal
+-- nor a vote of one's own.
 unfoldable pub accept_values : Seen → Votes → Votes
 accept_values seen w = record w {
-  accepts = filled w.accepts (filter (is_value_accepted seen w) (flat_map values_by (seen.rows Nomination) ++ w.voted ++ w.accepts));
+  accepts =
+      filled w.accepts
+      (filter (is_value_accepted seen w) (flat_map values_by (seen.rows Nomination) ++ w.voted ++ w.accepts));
 }
 
 -- Confirm: of the accepted values those that are confirmed are added.

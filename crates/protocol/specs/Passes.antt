@@ -33,7 +33,8 @@ abbrev pub known_or : Option (List ℕ) → List ℕ → List ℕ
 known_or None x = x
 known_or (Some y) x = y
 
--- the value of a raised ballot in PREPARE: that of the highest confirmed ballot, else the combined confirmed value, else that of the highest accepted ballot, else its own; in the other phases it stays
+-- the value of a raised ballot in PREPARE: that of the highest confirmed ballot, else the combined confirmed value,
+-- else that of the highest accepted ballot, else its own; in the other phases it stays
 abbrev pub raised_value : Phase → Votes → List ℕ → List ℕ
 raised_value Preparing w x = value_or w.high (known_or (combine w.confirms) (value_or w.prepared x))
 raised_value Committing w x = x
@@ -43,9 +44,12 @@ raised_value Externalized w x = x
 abbrev pub raised : Votes → Ballot → ℕ → Ballot
 raised w b n = if n == b.counter then b else ballot_at n (raised_value w.phase w b.value)
 
--- the lowest counter, from the ballot's on, at which those with greater counters do not block, at most the cap, or the ballot's own where that is above the cap
+-- the lowest counter, from the ballot's on, at which those with greater counters do not block, at most the cap, or the
+-- ballot's own where that is above the cap
 unfoldable pub raised_counter : Seen → Given → Ballot → Votes → ℕ
-raised_counter seen g b w = least_from (cap g.fired - b.counter) b.counter (λ n. not (seen.blocking Kind.Ballot (passes (counts (n + 1)) (position w)) (counts (n + 1))))
+raised_counter seen g b w =
+    least_from (cap g.fired - b.counter) b.counter
+    (λ n. not (seen.blocking Kind.Ballot (passes (counts (n + 1)) (position w)) (counts (n + 1))))
 
 -- Raise: the ballot goes to that counter.
 unfoldable pub raise : Seen → Given → Ballot → Votes → Votes
@@ -53,7 +57,9 @@ raise seen g b w = record w { ballot = Some (raised w b (raised_counter seen g b
 
 -- Arm: where all members of some quorum that contains the node have counters of at least the ballot's.
 unfoldable pub arm : Seen → Ballot → Votes → Votes
-arm seen b w = if seen.quorum Kind.Ballot (passes (counts b.counter) (position w)) (counts b.counter) then record w { armed = b.counter } else w
+arm seen b w =
+    if seen.quorum Kind.Ballot (passes (counts b.counter) (position w))
+    (counts b.counter) then record w { armed = b.counter } else w
 
 -- ---- the rules in order
 -- a rule that needs the ballot

@@ -16,7 +16,8 @@ pub record Quorum {Q : Type 0} (sat : Q → Names → Bool) (slices_at : ℕ →
   pub each : (u : ℕ) → IsTrue (set u) → IsTrue (is_satisfied sat (slices_at u) set)
 
 -- some quorum within the supporters contains the node
-pub record HasQuorum {Q : Type 0} (sat : Q → Names → Bool) (slices_at : ℕ → Option Q) (supporters : Names) (node : ℕ) : Type 0 where
+pub record HasQuorum {Q : Type 0} (sat : Q → Names → Bool) (slices_at : ℕ → Option Q) (supporters : Names)
+    (node : ℕ) : Type 0 where
   pub set : Names
   pub quorum : Quorum sat slices_at set
   pub within : AreWithin set supporters
@@ -25,7 +26,8 @@ pub record HasQuorum {Q : Type 0} (sat : Q → Names → Bool) (slices_at : ℕ 
 -- the same as a test, over the sets of the listed names
 unfoldable pub has_quorum : {Q : Type 0} → (Q → Names → Bool) → (ℕ → Option Q) → List ℕ → Names → ℕ → Bool
 has_quorum sat slices_at all supporters node =
-    some_set all (λ set. set node && list_all (λ u. not (set u) || (supporters u && is_satisfied sat (slices_at u) set)) all)
+    some_set all
+    (λ set. set node && list_all (λ u. not (set u) || (supporters u && is_satisfied sat (slices_at u) set)) all)
 
 -- every node that has slices is listed
 abbrev pub Lists : {Q : Type 0} → List ℕ → (ℕ → Option Q) → Type 0
@@ -42,7 +44,8 @@ cut region set = both region set
 
 -- a region holds all names of these nodes' slices
 abbrev pub HoldsNamesOf : {Q : Type 0} → (Q → List ℕ) → (ℕ → Option Q) → (nodes region : Names) → Type 0
-HoldsNamesOf {Q} names slices_at nodes region = (u : ℕ) (q : Q) → IsTrue (nodes u) → slices_at u ≡ Some q → AreWithin (among (names q)) region
+HoldsNamesOf {Q} names slices_at nodes region =
+    (u : ℕ) (q : Q) → IsTrue (nodes u) → slices_at u ≡ Some q → AreWithin (among (names q)) region
 
 -- a region holds all names of its members' slices
 abbrev pub NamesWithin : {Q : Type 0} → (Q → List ℕ) → (ℕ → Option Q) → Names → Type 0

@@ -19,7 +19,8 @@ rule_of e = record { sources = e.sender ∷ []; gives = names e.slices }
 abbrev pub rules_of : ℕ → Slices → List Sent → List Rule
 rules_of own configured table = record { sources = own ∷ []; gives = names configured } ∷ map rule_of table
 
--- the nodes that a node reaches: itself, the names of its configured slices, and the names in any row whose sender is reached
+-- the nodes that a node reaches: itself, the names of its configured slices, and the names in any row whose sender is
+-- reached
 unfoldable pub reached : ℕ → Slices → List Sent → Names
 reached own configured table = in_least (rules_of own configured table) own
 
@@ -32,7 +33,8 @@ pub record IsReach (own : ℕ) (configured : Slices) (table : List Sent) (reach 
 -- a node is named in the slices of another: in the configured ones of the node itself, or in those of a row
 pub data IsNamed (own : ℕ) (configured : Slices) (table : List Sent) (by u : ℕ) : Type 0 where
   in_configuration : own ≡ by → IsTrue (among (names configured) u) → IsNamed own configured table by u
-  in_row : (e : Sent) → Contains table e → e.sender ≡ by → IsTrue (among (names e.slices) u) → IsNamed own configured table by u
+  in_row : (e : Sent) → Contains table e → e.sender ≡ by → IsTrue (among (names e.slices) u)
+      → IsNamed own configured table by u
 
 -- a chain from a node to another: each next one is named in the slices of the one before
 pub data Chain (own : ℕ) (configured : Slices) (table : List Sent) : ℕ → Type 0 where
@@ -52,27 +54,33 @@ pub record IsLeastReach (own : ℕ) (configured : Slices) (table : List Sent) (s
 
 -- the reach is the least such set
 abbrev pub ReachIsLeast : Type 0
-ReachIsLeast = (own : ℕ) (configured : Slices) (table : List Sent) → IsLeastReach own configured table (reached own configured table)
+ReachIsLeast = (own : ℕ) (configured : Slices) (table : List Sent)
+    → IsLeastReach own configured table (reached own configured table)
 
 -- a node is reached exactly where a chain leads to it
 abbrev pub ReachFollowsChains : Type 0
-ReachFollowsChains = (own : ℕ) (configured : Slices) (table : List Sent) (u : ℕ) → IsTrue (reached own configured table u) ↔ Chain own configured table u
+ReachFollowsChains = (own : ℕ) (configured : Slices) (table : List Sent) (u : ℕ)
+    → IsTrue (reached own configured table u) ↔ Chain own configured table u
 
 -- the reach holds all names of its members' slices, by the configuration and by the rows of either kind
 abbrev pub ReachHoldsNames : Type 0
-ReachHoldsNames = (own : ℕ) (configured : Slices) (table : List Sent) (kind : Kind) → NamesWithin names (slices_by own configured table kind) (reached own configured table)
+ReachHoldsNames = (own : ℕ) (configured : Slices) (table : List Sent) (kind : Kind)
+    → NamesWithin names (slices_by own configured table kind) (reached own configured table)
 
 -- the reach stays where a row comes in the place of one with the same slices
 abbrev pub StaysWithSameSlices : Type 0
 StaysWithSameSlices = (own : ℕ) (configured : Slices) (table : List Sent) (reach : List ℕ) (e old : Sent)
-    → row table e.sender (kind_of e.body) ≡ Some old → old.slices ≡ e.slices → IsReach own configured table reach → IsReach own configured (with_row e table) reach
+    → row table e.sender (kind_of e.body) ≡ Some old → old.slices ≡ e.slices → IsReach own configured table reach
+    → IsReach own configured (with_row e table) reach
 
 -- the reach stays where a row comes whose sender is not reached
 abbrev pub StaysWithStrangers : Type 0
 StaysWithStrangers = (own : ℕ) (configured : Slices) (table : List Sent) (reach : List ℕ) (e : Sent)
-    → IsFalse (among reach e.sender) → IsReach own configured table reach → IsReach own configured (with_row e table) reach
+    → IsFalse (among reach e.sender) → IsReach own configured table reach
+    → IsReach own configured (with_row e table) reach
 
 -- the reach stays where a sender's first row of a kind comes and names reached nodes alone
 abbrev pub StaysWithFirstRows : Type 0
 StaysWithFirstRows = (own : ℕ) (configured : Slices) (table : List Sent) (reach : List ℕ) (e : Sent)
-    → row table e.sender (kind_of e.body) ≡ None → AreWithin (among (names e.slices)) (among reach) → IsReach own configured table reach → IsReach own configured (with_row e table) reach
+    → row table e.sender (kind_of e.body) ≡ None → AreWithin (among (names e.slices)) (among reach)
+    → IsReach own configured table reach → IsReach own configured (with_row e table) reach

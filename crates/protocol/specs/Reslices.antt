@@ -18,7 +18,8 @@ slices_after (NominationTimer r) q = q
 slices_after (BallotTimer c) q = q
 slices_after (Reslice new) q = new
 
--- a node that events lead to has the slices that were given last: no event meets the limit of passes, so new ones are always in force
+-- a node that events lead to has the slices that were given last: no event meets the limit of passes, so new ones are
+-- always in force
 abbrev pub SlicesFollowEvents : Type 0
 SlicesFollowEvents = (n : Node) → Reached n → (e : NodeEvent) → (step n e).0.slices ≡ slices_after e n.slices
 
@@ -38,7 +39,8 @@ abbrev pub SameSlicesAreQuiet : Type 0
 SameSlicesAreQuiet = (n : Node) → Reached n → step n (Reslice n.slices) ≡ (n, [])
 
 -- ---- over a run
--- the slices of a node at a slot after one more applied event: the new ones where that gives them to the node there; the configured ones where it opens or closes the slot
+-- the slices of a node at a slot after one more applied event: the new ones where that gives them to the node there;
+-- the configured ones where it opens or closes the slot
 abbrev pub slices_next : ℕ → ℕ → Slices → Slices → Step → Slices
 slices_next i u configured now (Opens j) = if j == i then configured else now
 slices_next i u configured now (Closes j) = if j == i then configured else now
@@ -60,5 +62,6 @@ slices_at_end i u configured run = slices_since i u configured configured run
 
 -- they are the slices of the node in the state that the run leads to, wherever the slot is open there
 abbrev pub SlicesFollowRuns : Type 0
-SlicesFollowRuns = (config : Config) (run : List Entry) (i u : ℕ) (configured : Slices) (p : Place) → IsRun config run → slices_of config.hosts u ≡ Some configured
+SlicesFollowRuns = (config : Config) (run : List Entry) (i u : ℕ) (configured : Slices) (p : Place) → IsRun config run
+    → slices_of config.hosts u ≡ Some configured
     → known (places_at (state_of config run).slots i) u ≡ Some p → p.node.slices ≡ slices_at_end i u configured run

@@ -2,8 +2,10 @@
 use Rattle.std.specs.Prelude.{ℕ, Bool, false, ◌&&◌, ◌==◌, List, length, filter, sum_by, if◌then◌else◌}
 use Rattle.protocol.specs.Sets.{among}
 
--- What is reserved: by each opening of a slot, to each hosted node on the roster its own events, and to each such node and each other
--- name on it the events and the delivered bytes from the one to the other; and to the network, once, the events of all openings and closings.
+-- What is reserved: by each opening of a slot, to each hosted node on the roster its own events, and to each such node
+-- and each other
+-- name on it the events and the delivered bytes from the one to the other; and to the network, once, the events of all
+-- openings and closings.
 pub record Shares : Type 0 where
   pub own : ℕ
   pub pair : ℕ

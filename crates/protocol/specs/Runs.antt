@@ -1,4 +1,5 @@
--- What a journal determines: refusals, outs, marks and decisions as functions of the configuration, the entries before, and the event.
+-- What a journal determines: refusals, outs, marks and decisions as functions of the configuration, the entries before,
+-- and the event.
 use Rattle.types.specs.declared.event.Refusal.{Refusal}
 use Rattle.types.specs.declared.event.Out.{Out}
 use Rattle.std.specs.Prelude.{◌≡◌, ℕ, List, [], ◌∷◌, take, slice_get, map, Option, Some, None}
@@ -22,7 +23,8 @@ refusal_of config before e = first_that (tests (state_of config before) e)
 abbrev pub outs_given : Config → List Entry → Step → List Out
 outs_given config before e = (effect (state_of config before) e).1
 
--- Entries are a run of a configuration: each event is one that is not refused after the entries before it, and has its outs.
+-- Entries are a run of a configuration: each event is one that is not refused after the entries before it, and has its
+-- outs.
 -- So each beginning of a run is a run.
 pub record IsRun (config : Config) (entries : List Entry) : Type 0 where
   pub applied : (k : ℕ) (x : Entry) → slice_get entries k ≡ Some x → refusal_of config (take k entries) x.event ≡ None
@@ -34,4 +36,5 @@ JournalsAreRuns = (config : Config) (events : List Step) → IsRun config (journ
 
 -- and a run is the journal of its own events
 abbrev pub RunsAreJournals : Type 0
-RunsAreJournals = (config : Config) (entries : List Entry) → IsRun config entries → entries ≡ journal (new_net config) (map (λ x. x.event) entries)
+RunsAreJournals = (config : Config) (entries : List Entry) → IsRun config entries
+    → entries ≡ journal (new_net config) (map (λ x. x.event) entries)

@@ -36,7 +36,8 @@ same_phase _ _ = false
 -- one kind of statement, with the same fields
 abbrev pub same_statement : Statement → Statement → Bool
 same_statement (Nominate v a) (Nominate w b) = same_values v w && same_values a b
-same_statement (Prepare b p a h c) (Prepare b' p' a' h' c') = same_ballot b b' && same_option same_ballot p p' && (a == a') && (h == h') && (c == c')
+same_statement (Prepare b p a h c) (Prepare b' p' a' h' c') =
+    same_ballot b b' && same_option same_ballot p p' && (a == a') && (h == h') && (c == c')
 same_statement (Commit b p h c) (Commit b' p' h' c') = same_ballot b b' && (p == p') && (h == h') && (c == c')
 same_statement (Externalize b h) (Externalize b' h') = same_ballot b b' && (h == h')
 same_statement _ _ = false
@@ -48,7 +49,9 @@ same_sent = same_option same_statement
 -- all that passes change is the same
 unfoldable pub same_votes : Votes → Votes → Bool
 same_votes u w =
-    same_values u.voted w.voted && same_values u.accepts w.accepts && same_values u.confirms w.confirms && same_phase u.phase w.phase
-    && same_option same_ballot u.ballot w.ballot && same_option same_ballot u.prepared w.prepared && (u.aborted == w.aborted)
+    same_values u.voted w.voted && same_values u.accepts w.accepts && same_values u.confirms w.confirms
+    && same_phase u.phase w.phase
+    && same_option same_ballot u.ballot w.ballot && same_option same_ballot u.prepared w.prepared
+    && (u.aborted == w.aborted)
     && same_option same_ballot u.high w.high && same_option same_ballot u.commit w.commit
     && (u.lo == w.lo) && (u.hi == w.hi) && (u.armed == w.armed)

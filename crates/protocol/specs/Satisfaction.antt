@@ -7,7 +7,8 @@ use Rattle.protocol.specs.Sets.{Names, AreApart}
 abbrev pub satisfied_count : Members → Names → ℕ
 satisfied_count none set = 0
 satisfied_count (node u rest) set = (if set u then 1 else 0) + satisfied_count rest set
-satisfied_count (inner k own rest) set = (if nat_le k (satisfied_count own set) then 1 else 0) + satisfied_count rest set
+satisfied_count (inner k own rest) set =
+    (if nat_le k (satisfied_count own set) then 1 else 0) + satisfied_count rest set
 
 -- the set satisfies the slices: at least k members are nodes in it, or inner sets that it satisfies
 abbrev pub sat : Slices → Names → Bool
@@ -25,7 +26,8 @@ Blocks sat q set = (apart : Names) → AreApart apart set → IsFalse (sat q apa
 abbrev pub blocked_count : Members → Names → ℕ
 blocked_count none set = 0
 blocked_count (node u rest) set = (if set u then 1 else 0) + blocked_count rest set
-blocked_count (inner k own rest) set = (if nat_lt (member_count own) (k + blocked_count own set) then 1 else 0) + blocked_count rest set
+blocked_count (inner k own rest) set =
+    (if nat_lt (member_count own) (k + blocked_count own set) then 1 else 0) + blocked_count rest set
 
 -- blocking as a test that counts down the tree: fewer than k members are left
 abbrev pub is_blocked : Slices → Names → Bool

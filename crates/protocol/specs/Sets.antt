@@ -1,4 +1,5 @@
--- Sets of names: a set is the test of what is in it. "Some set" and "every set" range over the sets of finitely many names.
+-- Sets of names: a set is the test of what is in it. "Some set" and "every set" range over the sets of finitely many
+-- names.
 use Rattle.std.specs.Prelude.{◌<◌, ℕ, Bool, false, not, ◌&&◌, ◌||◌, ◌==◌, List, [], ◌∷◌, AllPairs, IsTrue, IsFalse}
 use Rattle.std.specs.List.{list_all, list_any}
 

@@ -60,7 +60,8 @@ counter_for b (Some h) = if same_value h.value b.value then h.counter else 0
 unfoldable pub high_counter : Votes → Ballot → ℕ
 high_counter w b = counter_for b w.high
 
--- the counter from which on commit is voted for, where that has the ballot's value and is not above the high counter; else 0
+-- the counter from which on commit is voted for, where that has the ballot's value and is not above the high counter;
+-- else 0
 abbrev pub counter_up_to : ℕ → Ballot → Option Ballot → ℕ
 counter_up_to most b None = 0
 counter_up_to most b (Some c) = if same_value c.value b.value && nat_le c.counter most then c.counter else 0
@@ -88,12 +89,14 @@ nominated w = Some (Nominate w.voted w.accepts)
 unfoldable pub lowered : Ballot → Ballot → Ballot
 lowered b p =
     if below b p
-    then (if not (is_gt (bytes_cmp p.value b.value)) then ballot_at b.counter p.value else ballot_at (b.counter - 1) p.value)
+    then (if not (is_gt (bytes_cmp p.value b.value)) then ballot_at b.counter p.value else ballot_at
+    (b.counter - 1) p.value)
     else p
 
 -- the ballot statement that is sent: in PREPARE nothing in it is above the ballot
 unfoldable pub sent_in : Phase → Votes → Ballot → Statement
-sent_in Preparing w b = Prepare b (option_map (lowered b) w.prepared) (min w.aborted b.counter) (high_counter w b) (commit_counter w b)
+sent_in Preparing w b =
+    Prepare b (option_map (lowered b) w.prepared) (min w.aborted b.counter) (high_counter w b) (commit_counter w b)
 sent_in Committing w b = Commit b (counter_of w.prepared) w.hi w.lo
 sent_in Externalized w b = Externalize (ballot_at w.lo b.value) w.hi
 
@@ -103,4 +106,5 @@ sent_vote w = option_map (sent_in w.phase w) w.ballot
 
 -- a nomination is sent as soon as one of its sets is not empty
 unfoldable pub sent_nomination : Votes → Option Statement
-sent_nomination w = if nat_lt 0 (length w.voted) || nat_lt 0 (length w.accepts) then Some (Nominate w.voted w.accepts) else None
+sent_nomination w =
+    if nat_lt 0 (length w.voted) || nat_lt 0 (length w.accepts) then Some (Nominate w.voted w.accepts) else None

@@ -1,4 +1,5 @@
--- Which rules an event of a node may stir: after a row of one kind, where the reach stays, those of the other kind have nothing to do.
+-- Which rules an event of a node may stir: after a row of one kind, where the reach stays, those of the other kind have
+-- nothing to do.
 use Rattle.std.specs.Prelude.{◌≡◌, ℕ, List, Option, Some, if◌then◌else◌}
 use Rattle.types.specs.Trees.{Slices}
 use Rattle.types.specs.Statements.{Sent, kind_of}
@@ -19,7 +20,8 @@ use Rattle.protocol.specs.Views.{Seen, seen}
 abbrev pub KeepsReach : ℕ → Slices → List Sent → List Sent → Type 0
 KeepsReach own configured old new = (u : ℕ) → reached own configured new u ≡ reached own configured old u
 
--- the votes after a first pass that made these of those: where it changed something, balloting alone goes on until it changes nothing
+-- the votes after a first pass that made these of those: where it changed something, balloting alone goes on until it
+-- changes nothing
 unfoldable pub settle_after : Seen → Given → Votes → Votes → Option Votes
 settle_after seen g before after = if same_votes after before then Some after else settle 63 (balloted_in seen g) after
 
@@ -35,7 +37,8 @@ settle_ballots seen g w = settle_after seen g w (balloted_in seen g w)
 unfoldable pub settle_nominations : ℕ → Seen → Given → Votes → Option Votes
 settle_nominations own seen g w =
     let nominated = nominated_in own seen g w in
-    if same_values nominated.confirms w.confirms then Some nominated else settle_after seen g w (balloted_in seen g nominated)
+    if same_values nominated.confirms w.confirms then Some nominated else settle_after seen g w
+    (balloted_in seen g nominated)
 
 -- what a node sees
 abbrev pub seen_by : Node → Seen
@@ -48,10 +51,17 @@ NominationRestsAfterAPass = (n : Node) → Reached n → (e : NodeEvent) (m : No
 
 -- a ballot row by which the node reaches no other nodes stirs balloting alone
 abbrev pub BallotRowsStirBallots : Type 0
-BallotRowsStirBallots = (n : Node) → Reached n → (e : Sent) → kind_of e.body ≡ Kind.Ballot → KeepsReach n.name n.slices n.table (with_row e n.table)
-    → let m = record n { table = with_row e n.table } in settle_ballots (seen_by m) m.given m.votes ≡ settle most_passes (passed m) m.votes
+BallotRowsStirBallots =
+    (n : Node) → Reached n → (e : Sent) → kind_of e.body ≡ Kind.Ballot
+    → KeepsReach n.name n.slices n.table (with_row e n.table)
+    → let m = record n { table = with_row e n.table } in
+    settle_ballots (seen_by m) m.given m.votes ≡ settle most_passes (passed m) m.votes
 
--- a nomination row by which the node reaches no other nodes stirs nomination once, and balloting only where that confirms a value
+-- a nomination row by which the node reaches no other nodes stirs nomination once, and balloting only where that
+-- confirms a value
 abbrev pub NominationRowsStirNomination : Type 0
-NominationRowsStirNomination = (n : Node) → Reached n → (e : Sent) → kind_of e.body ≡ Nomination → KeepsReach n.name n.slices n.table (with_row e n.table)
-    → let m = record n { table = with_row e n.table } in settle_nominations m.name (seen_by m) m.given m.votes ≡ settle most_passes (passed m) m.votes
+NominationRowsStirNomination =
+    (n : Node) → Reached n → (e : Sent) → kind_of e.body ≡ Nomination
+    → KeepsReach n.name n.slices n.table (with_row e n.table)
+    → let m = record n { table = with_row e n.table } in
+    settle_nominations m.name (seen_by m) m.given m.votes ≡ settle most_passes (passed m) m.votes

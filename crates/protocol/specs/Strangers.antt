@@ -22,10 +22,12 @@ GivesWithin R (Reslice q) = IsTrue (within (names q) R)
 
 -- a node that events lead to, whose name is in the set, and so are the names of all slices that it has had
 pub data HasNamed (R : Names) : Node → Type 0 where
-  begin : (slot name : ℕ) (configured : Slices) → IsTrue (R name) → IsTrue (within (names configured) R) → HasNamed R (fresh slot name configured)
+  begin : (slot name : ℕ) (configured : Slices) → IsTrue (R name) → IsTrue (within (names configured) R)
+      → HasNamed R (fresh slot name configured)
   next : {n : Node} → HasNamed R n → (e : NodeEvent) → GivesWithin R e → HasNamed R (step n e).0
 
--- the leaders that events gave to a node are in each set that has its name and the names of all slices that it has had; the names of its slices of the moment would not do, since leaders stay
+-- the leaders that events gave to a node are in each set that has its name and the names of all slices that it has had;
+-- the names of its slices of the moment would not do, since leaders stay
 abbrev pub LeadersAreNear : Type 0
 LeadersAreNear = (R : Names) (n : Node) → HasNamed R n → IsTrue (within n.given.leaders R)
 
@@ -33,18 +35,23 @@ LeadersAreNear = (R : Names) (n : Node) → HasNamed R n → IsTrue (within n.gi
 abbrev pub HeldIsClosed : Type 0
 HeldIsClosed = (R : Names) (n : Node) → HasNamed R n → HoldsReach n.name n.slices n.table R → IsClosedFor R n
 
--- A set has a node that events lead to, and the names that its slices of the moment and the rows of senders in the set give. Where the node
+-- A set has a node that events lead to, and the names that its slices of the moment and the rows of senders in the set
+-- give. Where the node
 -- takes an envelope from outside the set, and not from a leader, its table has the row, and nothing else happens.
 abbrev pub OutsidersAddRows : Type 0
-OutsidersAddRows = (R : Names) (n : Node) (e : Sent) → Reached n → HoldsReach n.name n.slices n.table R → IsFalse (R e.sender) → IsFalse (among n.given.leaders e.sender) → IsTrue (is_taken n.table e)
+OutsidersAddRows = (R : Names) (n : Node) (e : Sent) → Reached n → HoldsReach n.name n.slices n.table R
+    → IsFalse (R e.sender) → IsFalse (among n.given.leaders e.sender) → IsTrue (is_taken n.table e)
     → step n (Take e) ≡ (record n { table = with_row e n.table }, [])
 
--- taken or stale, such an envelope makes the node give nothing out, and changes nothing of it but rows of senders outside the set
+-- taken or stale, such an envelope makes the node give nothing out, and changes nothing of it but rows of senders
+-- outside the set
 abbrev pub OutsidersAreQuiet : Type 0
-OutsidersAreQuiet = (R : Names) (n : Node) (e : Sent) → Reached n → HoldsReach n.name n.slices n.table R → IsFalse (R e.sender) → IsFalse (among n.given.leaders e.sender)
+OutsidersAreQuiet = (R : Names) (n : Node) (e : Sent) → Reached n → HoldsReach n.name n.slices n.table R
+    → IsFalse (R e.sender) → IsFalse (among n.given.leaders e.sender)
     → IsQuiet R n (step n (Take e)).0 (step n (Take e)).1
 
 -- and so it is where the node does not reach the sender, and the sender is no leader of its
 abbrev pub StrangersAddRows : Type 0
-StrangersAddRows = (n : Node) (reach : List ℕ) (e : Sent) → Reached n → IsReach n.name n.slices n.table reach → IsFalse (among reach e.sender) → IsFalse (among n.given.leaders e.sender) → IsTrue (is_taken n.table e)
+StrangersAddRows = (n : Node) (reach : List ℕ) (e : Sent) → Reached n → IsReach n.name n.slices n.table reach
+    → IsFalse (among reach e.sender) → IsFalse (among n.given.leaders e.sender) → IsTrue (is_taken n.table e)
     → step n (Take e) ≡ (record n { table = with_row e n.table }, [])

@@ -1,4 +1,5 @@
--- Submissions: what was submitted to a network, refused steps too, and that nobody crowds out the members of a closure that its roster holds.
+-- Submissions: what was submitted to a network, refused steps too, and that nobody crowds out the members of a closure
+-- that its roster holds.
 use Rattle.std.specs.Prelude.{◌≡◌, ℕ, Bool, true, ◌==◌, List, [], ◌∷◌, Option, Some, None, filter, map, length, if◌then◌else◌, is_some, IsTrue}
 use Rattle.types.specs.Statements.{Sent}
 use Rattle.protocol.specs.Sets.{Names, among, AreWithin}
@@ -24,13 +25,15 @@ net_run net (e ∷ es) = record { step = e; reply = (net_step net e).1 } ∷ net
 unfoldable pub answers_of : ℕ → List (ℕ × Step) → List Reply → List Answer
 answers_of g [] rs = []
 answers_of g (c ∷ cs) [] = []
-answers_of g (c ∷ cs) (r ∷ rs) = if c.0 == g then record { step = c.1; reply = r } ∷ answers_of g cs rs else answers_of g cs rs
+answers_of g (c ∷ cs) (r ∷ rs) =
+    if c.0 == g then record { step = c.1; reply = r } ∷ answers_of g cs rs else answers_of g cs rs
 
 -- all that a history submits to one network, with its replies
 abbrev pub answers : (List ℕ → Reading) → History → ℕ → List Answer
 answers decode h g = answers_of g (steps_of decode h.calls) (host_run (nets h.configs) (steps_of decode h.calls))
 
--- a step concerns a set at a slot where it would be kept, were it applied; and so does each opening and closing of the network
+-- a step concerns a set at a slot where it would be kept, were it applied; and so does each opening and closing of the
+-- network
 abbrev pub concerns : Names → ℕ → Step → Bool
 concerns R i (Opens j) = true
 concerns R i (Closes j) = true
@@ -82,9 +85,12 @@ roster_names None = []
 roster_names (Some c) = names_on c.roster
 
 -- ---- the theorem
--- Of two host histories: if the closure of v in the first has the same hosted members in both, both networks have one roster with equal
--- shares and equal budgets of open slots, the closure lies in the roster, and the submitted steps that concern it are the same in order,
--- then so are their replies, refusals included, and each hosted member gives out the same in both. It holds for every decoder of envelopes.
+-- Of two host histories: if the closure of v in the first has the same hosted members in both, both networks have one
+-- roster with equal
+-- shares and equal budgets of open slots, the closure lies in the roster, and the submitted steps that concern it are
+-- the same in order,
+-- then so are their replies, refusals included, and each hosted member gives out the same in both. It holds for every
+-- decoder of envelopes.
 abbrev pub MembersAreNeverCrowdedOut : Type 0
 MembersAreNeverCrowdedOut = (decode : List ℕ → Reading) (one other : History) (g i v : ℕ) →
     let R = closure (hosts_of one.configs g) i v (entries decode one g) in
@@ -93,7 +99,8 @@ MembersAreNeverCrowdedOut = (decode : List ℕ → Reading) (one other : History
     → AreWithin R (among (roster_names (config_of one.configs g)))
     → concerned R i (answers decode one g) ≡ concerned R i (answers decode other g)
     → (replied_to R i (answers decode one g) ≡ replied_to R i (answers decode other g))
-    × ((u : ℕ) → IsTrue (R u) → IsTrue (is_some (slices_of (hosts_of one.configs g) u)) → outs_of i u (entries decode one g) ≡ outs_of i u (entries decode other g))
+    × ((u : ℕ) → IsTrue (R u) → IsTrue (is_some (slices_of (hosts_of one.configs g) u))
+    → outs_of i u (entries decode one g) ≡ outs_of i u (entries decode other g))
 
 -- The same of two networks, each of its own configuration, to which these steps are submitted.
 abbrev pub MembersOfRunsAreNeverCrowdedOut : Type 0
@@ -125,4 +132,5 @@ unsized (Reslices j u q) = Reslices j u q
 -- then submitted steps that are the same but for lengths are the same
 abbrev pub LengthsFollow : Type 0
 LengthsFollow = (decode : List ℕ → Reading) → HasOneLength decode → (one other : History) (g i : ℕ) (R : Names)
-    → map unsized (concerned R i (answers decode one g)) ≡ map unsized (concerned R i (answers decode other g)) → concerned R i (answers decode one g) ≡ concerned R i (answers decode other g)
+    → map unsized (concerned R i (answers decode one g)) ≡ map unsized (concerned R i (answers decode other g))
+    → concerned R i (answers decode one g) ≡ concerned R i (answers decode other g)

@@ -5,19 +5,24 @@ use Rattle.std.specs.Prelude.{ℕ, ◌+◌, min, Bool, false, not, ◌&&◌, ◌
 abbrev pub most_counter : ℕ
 most_counter = 4294967295
 
--- a nomination timer is live in its own round, from round 1 on, until a ballot is confirmed as prepared, where there is a next round
+-- a nomination timer is live in its own round, from round 1 on, until a ballot is confirmed as prepared, where there is
+-- a next round
 abbrev pub is_nomination_timer_live : (timer round : ℕ) (confirmed_prepared : Bool) → Bool
-is_nomination_timer_live timer round confirmed_prepared = (timer == round) && nat_lt 0 timer && not confirmed_prepared && nat_lt timer most_counter
+is_nomination_timer_live timer round confirmed_prepared =
+    (timer == round) && nat_lt 0 timer && not confirmed_prepared && nat_lt timer most_counter
 
 -- there is a ballot, and it has this counter
 abbrev pub is_counter : Option ℕ → ℕ → Bool
 is_counter None n = false
 is_counter (Some counter) n = counter == n
 
--- a ballot timer is live at the counter of the ballot for which it was armed, until a value is externalized, where there is a next counter
+-- a ballot timer is live at the counter of the ballot for which it was armed, until a value is externalized, where
+-- there is a next counter
 abbrev pub is_ballot_timer_live : (timer armed : ℕ) (counter : Option ℕ) (externalized : Bool) → Bool
-is_ballot_timer_live timer armed counter externalized = not externalized && (timer == armed) && is_counter counter timer && nat_lt timer most_counter
+is_ballot_timer_live timer armed counter externalized =
+    not externalized && (timer == armed) && is_counter counter timer && nat_lt timer most_counter
 
--- the counters of others raise a ballot's to at most a thousand more than the ballot timers that have fired, and at most 4,294,967,295; a ballot timer's own step and the other rules may pass that
+-- the counters of others raise a ballot's to at most a thousand more than the ballot timers that have fired, and at
+-- most 4,294,967,295; a ballot timer's own step and the other rules may pass that
 abbrev pub cap : (fired : ℕ) → ℕ
 cap fired = min (1000 + fired) most_counter

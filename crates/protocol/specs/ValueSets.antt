@@ -1,4 +1,5 @@
--- What a set of values is, and what it is combined to: by the values that it has, whatever the order in which they came.
+-- What a set of values is, and what it is combined to: by the values that it has, whatever the order in which they
+-- came.
 use Rattle.std.specs.Prelude.{◌≡◌, ℕ, true, false, List, [], MatchOption, ◌||◌}
 use Rattle.std.specs.Ordering.{is_lt}
 use Rattle.types.specs.Orders.{bytes_cmp}
@@ -12,11 +13,13 @@ SetsAreExact = (xs : List (List ℕ)) → Ascending (as_set xs) × ((z : List �
 
 -- ascending lists with the same values are one list
 abbrev pub SetsAreAlone : Type 0
-SetsAreAlone = (xs ys : List (List ℕ)) → Ascending xs → Ascending ys → ((z : List ℕ) → has_value xs z ≡ has_value ys z) → xs ≡ ys
+SetsAreAlone =
+    (xs ys : List (List ℕ)) → Ascending xs → Ascending ys → ((z : List ℕ) → has_value xs z ≡ has_value ys z) → xs ≡ ys
 
 -- a set with more values is ascending, and it has its own and those
 abbrev pub MoreAreAdded : Type 0
-MoreAreAdded = (ys xs : List (List ℕ)) → Ascending xs → Ascending (all_with ys xs) × ((z : List ℕ) → has_value (all_with ys xs) z ≡ (has_value ys z || has_value xs z))
+MoreAreAdded = (ys xs : List (List ℕ)) → Ascending xs
+    → Ascending (all_with ys xs) × ((z : List ℕ) → has_value (all_with ys xs) z ≡ (has_value ys z || has_value xs z))
 
 -- it is one of the values, and not below any
 pub record IsGreatestValue (xs : List (List ℕ)) (g : List ℕ) : Type 0 where

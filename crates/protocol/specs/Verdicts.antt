@@ -8,7 +8,8 @@ use Rattle.protocol.specs.Hosts.{Config, Entry}
 use Rattle.protocol.specs.Runs.{IsRun}
 use Rattle.protocol.specs.Isolation.{closure, kept_of, outs_of, SameCast}
 
--- the casts differ at a node, the kept steps differ at a place, or all is the same, with what each hosted member gave out
+-- the casts differ at a node, the kept steps differ at a place, or all is the same, with what each hosted member gave
+-- out
 pub data Verdict : Type 0 where
   CastDiffers : ℕ → Verdict
   InputsDiffer : ℕ → Verdict
@@ -18,7 +19,9 @@ pub data Verdict : Type 0 where
 abbrev pub IsFirstUnlike : Names → ℕ → List Host → List Host → ℕ → Type 0
 IsFirstUnlike R v one other u =
     (IsFalse (is_some (slices_of one v)) × (u ≡ v))
-    ⊎ (IsTrue (is_some (slices_of one v)) × (IsTrue (R u) × ((slices_of one u ≢ slices_of other u) × ((w : ℕ) → IsTrue (R w) → w < u → slices_of one w ≡ slices_of other w))))
+    ⊎ (IsTrue (is_some (slices_of one v))
+    × (IsTrue (R u) × ((slices_of one u ≢ slices_of other u)
+    × ((w : ℕ) → IsTrue (R w) → w < u → slices_of one w ≡ slices_of other w))))
 
 -- the place of the first difference: the number of steps that agree
 pub record IsFirstDifference {A : Type 0} (one other : List A) (place : ℕ) : Type 0 where
@@ -26,8 +29,10 @@ pub record IsFirstDifference {A : Type 0} (one other : List A) (place : ℕ) : T
   pub there : slice_get one place ≢ slice_get other place
 
 -- the hosted members, ascending, each with its outs in that world
-pub record IsListOf (R : Names) (hosts : List Host) (i : ℕ) (run : List Entry) (list : List (ℕ × List Out)) : Type 0 where
-  pub outs : AllByRecursion (λ p. (p.1 ≡ outs_of i p.0 run) × (IsTrue (R p.0) × IsTrue (is_some (slices_of hosts p.0)))) list
+pub record IsListOf (R : Names) (hosts : List Host) (i : ℕ) (run : List Entry)
+    (list : List (ℕ × List Out)) : Type 0 where
+  pub outs : AllByRecursion
+      (λ p. (p.1 ≡ outs_of i p.0 run) × (IsTrue (R p.0) × IsTrue (is_some (slices_of hosts p.0)))) list
   pub all : (u : ℕ) → IsTrue (R u) → IsTrue (is_some (slices_of hosts u)) → Contains (map (λ p. p.0) list) u
   pub ascending : IsAscending (map (λ p. p.0) list)
 
@@ -39,15 +44,18 @@ IsVerdict one other runs others i v (InputsDiffer place) =
     SameCast R v one other × IsFirstDifference (kept_of R i runs) (kept_of R i others) place
 IsVerdict one other runs others i v (Same list) =
     let R = closure one i v runs in
-    SameCast R v one other × ((kept_of R i runs ≡ kept_of R i others) × (IsListOf R one i runs list × IsListOf R one i others list))
+    SameCast R v one other
+    × ((kept_of R i runs ≡ kept_of R i others) × (IsListOf R one i runs list × IsListOf R one i others list))
 
 -- the verdict is determined
 abbrev pub VerdictsAreUnique : Type 0
-VerdictsAreUnique = (one other : List Host) (runs others : List Entry) (i v : ℕ) (a b : Verdict) → IsVerdict one other runs others i v a → IsVerdict one other runs others i v b → a ≡ b
+VerdictsAreUnique = (one other : List Host) (runs others : List Entry) (i v : ℕ) (a b : Verdict)
+    → IsVerdict one other runs others i v a → IsVerdict one other runs others i v b → a ≡ b
 
 -- and every two runs have one
 abbrev pub VerdictsExist : Type 0
-VerdictsExist = (one other : Config) (runs others : List Entry) (i v : ℕ) → IsRun one runs → IsRun other others → (verdict : Verdict) × IsVerdict one.hosts other.hosts runs others i v verdict
+VerdictsExist = (one other : Config) (runs others : List Entry) (i v : ℕ) → IsRun one runs → IsRun other others
+    → (verdict : Verdict) × IsVerdict one.hosts other.hosts runs others i v verdict
 
 -- Isolation of two runs, each of its own configuration, whatever is answered
 abbrev pub IsolatedRuns : Type 0

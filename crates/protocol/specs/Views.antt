@@ -29,7 +29,9 @@ others_reached own configured table u = not (own == u) && reached own configured
 
 -- the statements in the rows of the others that are reached
 unfoldable pub rows_seen : ℕ → Slices → List Sent → Kind → List Statement
-rows_seen own configured table kind = map (λ e. e.body) (filter (λ e. is_kind kind (kind_of e.body) && others_reached own configured table e.sender) table)
+rows_seen own configured table kind =
+    map (λ e. e.body)
+    (filter (λ e. is_kind kind (kind_of e.body) && others_reached own configured table e.sender) table)
 
 -- the statements in the nomination rows of the leaders, in the order in which they became leaders
 unfoldable pub led_by : List ℕ → List Sent → List Statement
@@ -42,11 +44,13 @@ passing_with own table kind own_passes test u = if own == u then own_passes else
 -- all members of some quorum that contains the node pass; a node without a row has no slices, and so is in no quorum
 unfoldable pub quorum_passes : ℕ → Slices → List Sent → Kind → Bool → (Statement → Bool) → Bool
 quorum_passes own configured table kind own_passes test =
-    has_quorum sat (slices_by own configured table kind) (own ∷ map (λ e. e.sender) table) (passing_with own table kind own_passes test) own
+    has_quorum sat (slices_by own configured table kind) (own ∷ map (λ e. e.sender) table)
+    (passing_with own table kind own_passes test) own
 
 -- those who pass block the node's slices
 unfoldable pub blocking_passes : ℕ → Slices → List Sent → Kind → Bool → (Statement → Bool) → Bool
-blocking_passes own configured table kind own_passes test = is_blocked configured (passing_with own table kind own_passes test)
+blocking_passes own configured table kind own_passes test =
+    is_blocked configured (passing_with own table kind own_passes test)
 
 -- what a node with these leaders sees
 unfoldable pub seen : ℕ → Slices → List ℕ → List Sent → Seen
@@ -64,7 +68,8 @@ passes test (Some s) = test s
 
 -- accepted: a quorum votes for it or accepts it, or those who accept it block
 abbrev pub accepted : Seen → Kind → Option Statement → (Statement → Bool) → (Statement → Bool) → Bool
-accepted seen kind position backs accepts = seen.quorum kind (passes backs position) backs || seen.blocking kind (passes accepts position) accepts
+accepted seen kind position backs accepts =
+    seen.quorum kind (passes backs position) backs || seen.blocking kind (passes accepts position) accepts
 
 -- confirmed: a quorum accepts it
 abbrev pub confirmed : Seen → Kind → Option Statement → (Statement → Bool) → Bool

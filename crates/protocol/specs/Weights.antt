@@ -26,7 +26,11 @@ pub record Fraction : Type 0 where
 
 -- the product of k/n over the sets that contain the name
 abbrev pub share : List Slices → Fraction
-share sets = record { numerator = product (map (λ s. s.threshold) sets); denominator = product (map (λ s. member_count s.members) sets) }
+share sets =
+    record {
+      numerator = product (map (λ s. s.threshold) sets);
+      denominator = product (map (λ s. member_count s.members) sets);
+    }
 
 -- the weight of a name: its share, where the tree has it
 abbrev pub weight : Slices → ℕ → Option Fraction

@@ -1,4 +1,5 @@
--- Networks without a roster: the rules in full for those, in which all draws on the budgets; and that rosters change nothing there.
+-- Networks without a roster: the rules in full for those, in which all draws on the budgets; and that rosters change
+-- nothing there.
 use Rattle.types.specs.declared.event.Refusal.{Refusal}
 use Rattle.types.specs.declared.event.Refusal.TheVariants.{NoSuchNode, SlotOpenAlready, TooManySlots, BadEnvelope, HostedSender, NotEmitted, JournalFull, BytesFull, BadValue, ProposedAlready}
 use Rattle.std.specs.Prelude.{◌≡◌, Bool, true, not, ◌||◌, ◌+◌, ◌==◌, nat_lt, length, List, [], ◌∷◌, Option, Some, None, is_none}
@@ -15,13 +16,24 @@ is_journal_full net = (not (nat_lt net.events net.budgets.events), JournalFull)
 
 -- what is tested of an event, in this order, each with the refusal where it holds
 abbrev pub tests_without : Net → Step → List (Bool × Refusal)
-tests_without net (Opens i) = (is_open net i, SlotOpenAlready) ∷ (not (nat_lt (length net.slots) net.budgets.slots), TooManySlots) ∷ is_journal_full net ∷ []
+tests_without net (Opens i) =
+    (is_open net i, SlotOpenAlready) ∷ (
+      not (nat_lt (length net.slots) net.budgets.slots),
+      TooManySlots,
+    ) ∷ is_journal_full net ∷ []
 tests_without net (Closes i) = is_open_not net i ∷ is_journal_full net ∷ []
-tests_without net (Asks i u x) = is_hosted_not net u ∷ is_open_not net i ∷ (is_bad_value x, BadValue) ∷ (has_input (known (places_at net.slots i) u), ProposedAlready) ∷ is_journal_full net ∷ []
+tests_without net (Asks i u x) =
+    is_hosted_not net u ∷ is_open_not net i ∷ (is_bad_value x, BadValue) ∷ (
+      has_input (known (places_at net.slots i) u),
+      ProposedAlready,
+    ) ∷ is_journal_full net ∷ []
 tests_without net (Delivers u size (Fault n)) = is_hosted_not net u ∷ (true, BadEnvelope n) ∷ []
-tests_without net (Delivers u size (Read e)) = is_hosted_not net u ∷ (is_hosted net e.sender, HostedSender) ∷ is_open_not net e.slot ∷ is_journal_full net ∷ (nat_lt net.budgets.bytes (net.bytes + size), BytesFull) ∷ []
+tests_without net (Delivers u size (Read e)) =
+    is_hosted_not net u ∷ (is_hosted net e.sender, HostedSender) ∷ is_open_not net e.slot ∷ is_journal_full net ∷
+    (nat_lt net.budgets.bytes (net.bytes + size), BytesFull) ∷ []
 tests_without net (Hears i u from kind k) =
-    (not (is_hosted net u) || not (is_hosted net from) || (u == from), NoSuchNode) ∷ is_open_not net i ∷ (is_none (emission (known (places_at net.slots i) from) kind k), NotEmitted) ∷ is_journal_full net ∷ []
+    (not (is_hosted net u) || not (is_hosted net from) || (u == from), NoSuchNode) ∷ is_open_not net i ∷
+    (is_none (emission (known (places_at net.slots i) from) kind k), NotEmitted) ∷ is_journal_full net ∷ []
 tests_without net (NominationTimes i u r) = is_hosted_not net u ∷ is_open_not net i ∷ is_journal_full net ∷ []
 tests_without net (BallotTimes i u n) = is_hosted_not net u ∷ is_open_not net i ∷ is_journal_full net ∷ []
 tests_without net (Reslices i u q) = is_hosted_not net u ∷ is_open_not net i ∷ is_journal_full net ∷ []

@@ -29,34 +29,45 @@ use Rattle.protocol.proofs.Sets.Numbers.{through, up_to, not_both}
 
 -- the ballots that widen the interval, for a position
 abbrev pub widening : Seen → Option Statement → Ballot → ℕ → List Ballot
-widening s o b hi = filter (λ t. (same_value t.value b.value) && nat_lt hi t.counter && accepted s Kind.Ballot o (backs_commit t.value t.counter t.counter) (takes_commit t.value t.counter t.counter)) (filter (λ b. nat_lt 0 b.counter) (flat_map committed_by (s.rows Kind.Ballot ++ option_to_list o)))
+widening s o b hi =
+    filter (λ t. (same_value t.value b.value) && nat_lt hi t.counter
+    && accepted s Kind.Ballot o (backs_commit t.value t.counter t.counter) (takes_commit t.value t.counter t.counter))
+    (filter (λ b. nat_lt 0 b.counter) (flat_map committed_by (s.rows Kind.Ballot ++ option_to_list o)))
 
-pub widen_not : (s : Seen) (b : Ballot) (w : Votes) → greatest None (widening s (position w) b w.hi) ≡ None → accept_commit Committing s b w ≡ w
+pub widen_not : (s : Seen) (b : Ballot) (w : Votes) → greatest None (widening s (position w) b w.hi) ≡ None
+    → accept_commit Committing s b w ≡ w
 unfolding accept_commit widen_commit next_committed accepted_from commits
 widen_not s b w e = rw e refl
 
-none-widens : (s : Seen) (b : Ballot) (w : Votes) → ((t : Ballot) → IsIn t (commits s w) → (same_value t.value b.value) ≡ true → nat_lt w.hi t.counter ≡ true → commit_accepted s w t.value t.counter t.counter ≡ true → ⊥) → greatest None (widening s (position w) b w.hi) ≡ None
+none-widens : (s : Seen) (b : Ballot) (w : Votes)
+    → ((t : Ballot) → IsIn t (commits s w) → (same_value t.value b.value) ≡ true → nat_lt w.hi t.counter ≡ true
+    → commit_accepted s w t.value t.counter t.counter ≡ true → ⊥)
+    → greatest None (widening s (position w) b w.hi) ≡ None
 unfolding commits
 none-widens s b w f = go (greatest None (filter test (commits s w))) refl
   where
     test : Ballot → Bool
     test = λ t. (same_value t.value b.value) && nat_lt w.hi t.counter && commit_accepted s w t.value t.counter t.counter
 
-    go : (o : Option Ballot) → greatest None (filter test (commits s w)) ≡ o → greatest None (widening s (position w) b w.hi) ≡ None
+    go : (o : Option Ballot) → greatest None (filter test (commits s w)) ≡ o
+        → greatest None (widening s (position w) b w.hi) ≡ None
     go None e = e
     go (Some t) e = elim (greatest-from None (filter test (commits s w)) t e) [
       | inl k ↦ cc
       | inr i ↦
           let r = from-filter test t (commits s w) i in
-          let ok = and_parts ((same_value t.value b.value) && nat_lt w.hi t.counter) (commit_accepted s w t.value t.counter t.counter) r.1 in
+          let ok = and_parts ((same_value t.value b.value) && nat_lt w.hi t.counter)
+          (commit_accepted s w t.value t.counter t.counter) r.1 in
           let parts = and_parts (same_value t.value b.value) (nat_lt w.hi t.counter) ok.0 in
           absurd (f t r.0 parts.0 parts.1 ok.1)
     ]
 
-own-in : (w : Votes) (b t : Ballot) → w.phase ≡ Committing → w.ballot ≡ Some b → IsIn t (own_named w) → (t ≡ b) ⊎ ((t ≡ ballot_at (counter_of w.prepared) b.value) ⊎ (t ≡ ballot_at w.hi b.value))
+own-in : (w : Votes) (b t : Ballot) → w.phase ≡ Committing → w.ballot ≡ Some b → IsIn t (own_named w)
+    → (t ≡ b) ⊎ ((t ≡ ballot_at (counter_of w.prepared) b.value) ⊎ (t ≡ ballot_at w.hi b.value))
 own-in w b t p e i = go (rw (position-committing w b p e) at i)
   where
-    go : IsIn t ((b ∷ ballot_at (counter_of w.prepared) b.value ∷ ballot_at w.hi b.value ∷ []) ++ []) → (t ≡ b) ⊎ ((t ≡ ballot_at (counter_of w.prepared) b.value) ⊎ (t ≡ ballot_at w.hi b.value))
+    go : IsIn t ((b ∷ ballot_at (counter_of w.prepared) b.value ∷ ballot_at w.hi b.value ∷ []) ++ [])
+        → (t ≡ b) ⊎ ((t ≡ ballot_at (counter_of w.prepared) b.value) ⊎ (t ≡ ballot_at w.hi b.value))
     go (inl q) = inl q
     go (inr (inl q)) = inr (inl q)
     go (inr (inr (inl q))) = inr (inr q)
@@ -65,7 +76,8 @@ own-in w b t p e i = go (rw (position-committing w b p e) at i)
 own-has : (w : Votes) (b : Ballot) → w.phase ≡ Committing → w.ballot ≡ Some b → IsIn b (own_named w)
 own-has w b p e = rw (position-committing w b p e) (inl refl)
 
-own-counters : (w : Votes) (b t : Ballot) → w.phase ≡ Committing → w.ballot ≡ Some b → w.lo ≤ w.hi → IsIn t (own_commits w) → t.counter ≤ w.hi
+own-counters : (w : Votes) (b t : Ballot) → w.phase ≡ Committing → w.ballot ≡ Some b → w.lo ≤ w.hi
+    → IsIn t (own_commits w) → t.counter ≤ w.hi
 own-counters w b t p e l i = go (rw (position-committing w b p e) at i)
   where
     go : IsIn t ((ballot_at w.lo b.value ∷ ballot_at w.hi b.value ∷ []) ++ []) → t.counter ≤ w.hi
@@ -89,14 +101,18 @@ pub record Steady (s : Seen) (b : Ballot) (w : Votes) : Type 0 where
   pub still_c : greatest None (widening s (position u) n u.hi) ≡ None
 
 -- p2, the new p in COMMIT
-new_p : (b p : Ballot) (o : Option Ballot) → p.value ≡ b.value → Under (Some p) o → ((t : Ballot) → o ≡ Some t → (t ≡ p) ⊎ (t.value ≡ b.value)) → (q : Ballot) × (o ≡ Some q) × (q.value ≡ b.value) × (below q p ≡ false)
+new_p : (b p : Ballot) (o : Option Ballot) → p.value ≡ b.value → Under (Some p) o
+    → ((t : Ballot) → o ≡ Some t → (t ≡ p) ⊎ (t.value ≡ b.value))
+    → (q : Ballot) × (o ≡ Some q) × (q.value ≡ b.value) × (below q p ≡ false)
 new_p b p None v u f = absurd (true≢false u)
 new_p b p (Some q) v u f = elim (f q refl) [
   | inl e ↦ (q, refl, ap (λ (x : Ballot). x.value) e ∙ v, u)
   | inr e ↦ (q, refl, e, u)
 ]
 
-module _ (s : Seen) (f : Fair s) (w : Votes) (b p : Ballot) (phase : w.phase ≡ Committing) (ballot : w.ballot ≡ Some b) (prepared : w.prepared ≡ Some p) (value : p.value ≡ b.value) (hi : w.hi ≤ p.counter) (lo : w.lo ≤ w.hi) (sound : Sound w) where
+module _ (s : Seen) (f : Fair s) (w : Votes) (b p : Ballot) (phase : w.phase ≡ Committing) (ballot : w.ballot ≡ Some b)
+    (prepared : w.prepared ≡ Some p) (value : p.value ≡ b.value) (hi : w.hi ≤ p.counter) (lo : w.lo ≤ w.hi)
+    (sound : Sound w) where
   pub steady : Steady s b w
   steady =
       let N = accept_prepared-moves s b w in
@@ -106,14 +122,18 @@ module _ (s : Seen) (f : Fair s) (w : Votes) (b p : Ballot) (phase : w.phase ≡
         | inl k ↦ inl (same_Some t p (sym k ∙ prepared))
         | inr k ↦ inr (same_value-true t.value b.value (valued w.phase b.value t phase k))
       ]) in
-      let I = widens s b p2.0 w2 ballot p2.1 p2.2 (through w.hi p.counter p2.0.counter hi (not_below-counter p2.0 p p2.3)) lo in
+      let I = widens s b p2.0 w2 ballot p2.1 p2.2
+      (through w.hi p.counter p2.0.counter hi (not_below-counter p2.0 p p2.3)) lo in
       let u = I.u in
       let phase' : u.phase ≡ Committing = I.phase ∙ phase in
       let low2 : A ≤ counter_of N.p = aborted-by w.prepared N.p w.aborted sound.aborted N.grows in
       let over : Under N.p (Some I.q) = subst (λ o. Under o (Some I.q)) (sym p2.1) I.over in
-      let at_u : position u ≡ Some (Commit I.n (counter_of u.prepared) u.hi u.lo) = position-committing u I.n phase' I.ballot in
-      let at_q : position u ≡ Some (Commit I.n I.q.counter u.hi u.lo) = subst (λ o. position u ≡ Some (Commit I.n (counter_of o) u.hi u.lo)) I.prepared at_u in
-      let at_w : position w ≡ Some (Commit b (counter_of w.prepared) w.hi w.lo) = position-committing w b phase ballot in
+      let at_u : position u ≡ Some (Commit I.n (counter_of u.prepared) u.hi u.lo) =
+      position-committing u I.n phase' I.ballot in
+      let at_q : position u ≡ Some (Commit I.n I.q.counter u.hi u.lo) =
+      subst (λ o. position u ≡ Some (Commit I.n (counter_of o) u.hi u.lo)) I.prepared at_u in
+      let at_w : position w ≡ Some (Commit b (counter_of w.prepared) w.hi w.lo) =
+      position-committing w b phase ballot in
       let at_2 : position w2 ≡ Some (Commit b (counter_of N.p) w.hi w.lo) = position-committing w2 b phase ballot in
       record {
         u = u;
@@ -123,42 +143,74 @@ module _ (s : Seen) (f : Fair s) (w : Votes) (b p : Ballot) (phase : w.phase ≡
         phase = phase';
         grows = I.grows;
         sound = record {
-          aborted = subst (λ a. a ≤ counter_of u.prepared) (sym I.aborted) (subst (λ o. A ≤ counter_of o) (sym I.prepared) (through A (counter_of N.p) I.q.counter low2 (subst (λ o. counter_of o ≤ I.q.counter) (sym p2.1) (not_below-counter I.q p2.0 I.over))));
-          high = subst (λ o. Under o u.prepared) (sym I.high) (subst (λ o. Under w.high o) (sym I.prepared) (under-trans w.high N.p (Some I.q) (under-trans w.high w.prepared N.p sound.high N.grows) over));
-          committing = λ c. record { b = I.n; p = I.q; ballot = I.ballot; prepared = I.prepared; value = I.value; hi = I.hi; lo = I.lo };
+          aborted =
+              subst (λ a. a ≤ counter_of u.prepared) (sym I.aborted)
+              (subst (λ o. A ≤ counter_of o) (sym I.prepared)
+              (through A (counter_of N.p) I.q.counter low2
+              (subst (λ o. counter_of o ≤ I.q.counter) (sym p2.1) (not_below-counter I.q p2.0 I.over))));
+          high = subst (λ o. Under o u.prepared) (sym I.high)
+              (subst (λ o. Under w.high o) (sym I.prepared)
+              (under-trans w.high N.p (Some I.q) (under-trans w.high w.prepared N.p sound.high N.grows) over));
+          committing =
+              λ c. record {
+                b = I.n;
+                p = I.q;
+                ballot = I.ballot;
+                prepared = I.prepared;
+                value = I.value;
+                hi = I.hi;
+                lo = I.lo;
+              };
         };
         voted = I.voted;
         accepts = I.accepts;
         confirms = I.confirms;
         high = I.high;
-        still_p = accept_prepared-still s I.n u (λ t i v acc. subst (λ o. above o t ≡ false) (sym I.prepared) (elim (cases_Bool (below I.q t)) [
-          | inr k ↦ k
-          | inl k ↦
-              let tv : (same_value t.value I.n.value) ≡ true = valued u.phase I.n.value t phase' v in
-              let own : passes (takes_prepare t) (position u) ≡ false = rw at_q (beyond I.n I.q t k I.value) in
-              let tb : (same_value t.value b.value) ≡ true = subst (λ x. same_value t.value x ≡ true) I.kept tv in
-              let backs : passes (backs_prepare t) (position w) ≡ true = rw at_w (or_left (same_value b.value t.value) (same_value b.value t.value && nat_le t.counter (counter_of w.prepared)) (swapped t.value b.value tb)) in
-              let acc1 : is_accepted s w t ≡ true = accepted-from s f (position u) (position w) (backs_prepare t) (takes_prepare t) (λ h. backs) own acc in
-              let parts = named-parts s u t i in
-              let all : may_be_prepared w.phase b.value t ≡ true = rw phase tb in
-              let up : above N.p t ≡ false → below I.q t ≡ false = λ a. under-trans (Some t) N.p (Some I.q) a over in
-              elim parts.1 [
-                | inl r ↦ up (N.above t (named-row s w t parts.0 r) all acc1)
-                | inr o ↦ elim (own-in u I.n t phase' I.ballot o) [
-                  | inl e ↦ elim I.new_under [
-                    | inl e1 ↦ up (N.above t (named-own s w t parts.0 (subst (λ x. IsIn x (own_named w)) (sym (e ∙ e1)) (own-has w b phase ballot))) all acc1)
-                    | inr e1 ↦ subst (λ x. below I.q x ≡ false) (sym e) e1
+        still_p =
+            accept_prepared-still s I.n u
+            (λ t i v acc. subst (λ o. above o t ≡ false) (sym I.prepared) (elim (cases_Bool (below I.q t)) [
+              | inr k ↦ k
+              | inl k ↦
+                  let tv : (same_value t.value I.n.value) ≡ true = valued u.phase I.n.value t phase' v in
+                  let own : passes (takes_prepare t) (position u) ≡ false = rw at_q (beyond I.n I.q t k I.value) in
+                  let tb : (same_value t.value b.value) ≡ true = subst (λ x. same_value t.value x ≡ true) I.kept tv in
+                  let backs : passes (backs_prepare t) (position w) ≡ true =
+                  rw at_w (or_left (same_value b.value t.value)
+                  (same_value b.value t.value && nat_le t.counter (counter_of w.prepared))
+                  (swapped t.value b.value tb)) in
+                  let acc1 : is_accepted s w t ≡ true =
+                  accepted-from s f (position u) (position w) (backs_prepare t) (takes_prepare t)
+                  (λ h. backs) own acc in
+                  let parts = named-parts s u t i in
+                  let all : may_be_prepared w.phase b.value t ≡ true = rw phase tb in
+                  let up : above N.p t ≡ false → below I.q t ≡ false = λ a. under-trans (Some t) N.p (Some I.q) a over in
+                  elim parts.1 [
+                    | inl r ↦ up (N.above t (named-row s w t parts.0 r) all acc1)
+                    | inr o ↦ elim (own-in u I.n t phase' I.ballot o) [
+                      | inl e ↦ elim I.new_under [
+                        | inl e1 ↦ up
+                            (N.above t (named-own s w t parts.0
+                            (subst (λ x. IsIn x (own_named w)) (sym (e ∙ e1)) (own-has w b phase ballot))) all acc1)
+                        | inr e1 ↦ subst (λ x. below I.q x ≡ false) (sym e) e1
+                      ]
+                      | inr (inl e) ↦ subst (λ x. below I.q x ≡ false) (sym e)
+                          (subst (λ o. below I.q (ballot_at (counter_of o) I.n.value) ≡ false) (sym I.prepared)
+                          (not_above-value I.q (ballot_at I.q.counter I.n.value) (omega arith) I.value))
+                      | inr (inr e) ↦ subst (λ x. below I.q x ≡ false) (sym e)
+                          (not_above-value I.q (ballot_at u.hi I.n.value) I.hi I.value)
+                    ]
                   ]
-                  | inr (inl e) ↦ subst (λ x. below I.q x ≡ false) (sym e) (subst (λ o. below I.q (ballot_at (counter_of o) I.n.value) ≡ false) (sym I.prepared) (not_above-value I.q (ballot_at I.q.counter I.n.value) (omega arith) I.value))
-                  | inr (inr e) ↦ subst (λ x. below I.q x ≡ false) (sym e) (not_above-value I.q (ballot_at u.hi I.n.value) I.hi I.value)
-                ]
-              ]
-        ]));
+            ]));
         still_c = none-widens s I.n u (λ t i v c acc.
             let tb : (same_value t.value b.value) ≡ true = subst (λ x. same_value t.value x ≡ true) I.kept v in
-            let own : passes (takes_commit t.value t.counter t.counter) (position u) ≡ false = rw at_q (past (same_value I.n.value t.value) u.lo u.hi t.counter c) in
-            let backs : passes (backs_commit t.value t.counter t.counter) (position w2) ≡ true = rw at_2 (and_from (same_value b.value t.value) (nat_le w.lo t.counter) (swapped t.value b.value tb) (between w.lo w.hi u.hi t.counter lo I.hi_grows c)) in
-            let acc2 : commit_accepted s w2 t.value t.counter t.counter ≡ true = accepted-from s f (position u) (position w2) (backs_commit t.value t.counter t.counter) (takes_commit t.value t.counter t.counter) (λ h. backs) own acc in
+            let own : passes (takes_commit t.value t.counter t.counter) (position u) ≡ false =
+            rw at_q (past (same_value I.n.value t.value) u.lo u.hi t.counter c) in
+            let backs : passes (backs_commit t.value t.counter t.counter) (position w2) ≡ true =
+            rw at_2 (and_from (same_value b.value t.value) (nat_le w.lo t.counter) (swapped t.value b.value tb)
+            (between w.lo w.hi u.hi t.counter lo I.hi_grows c)) in
+            let acc2 : commit_accepted s w2 t.value t.counter t.counter ≡ true =
+            accepted-from s f (position u) (position w2) (backs_commit t.value t.counter t.counter)
+            (takes_commit t.value t.counter t.counter) (λ h. backs) own acc in
             let parts = commits-parts s u t i in
             elim parts.1 [
               | inl r ↦ I.greatest_hi t (commits-row s w2 t parts.0 r) tb c acc2
@@ -166,7 +218,8 @@ module _ (s : Seen) (f : Fair s) (w : Votes) (b p : Ballot) (phase : w.phase ≡
             ]);
       }
     where
-      valued : (ph : Phase) (x : List ℕ) (t : Ballot) → ph ≡ Committing → may_be_prepared ph x t ≡ true → (same_value t.value x) ≡ true
+      valued : (ph : Phase) (x : List ℕ) (t : Ballot) → ph ≡ Committing → may_be_prepared ph x t ≡ true
+          → (same_value t.value x) ≡ true
       valued ph x t e h = rw e at h
 
       between : (a c d e : ℕ) → a ≤ c → c ≤ d → nat_lt d e ≡ true → nat_le a e ≡ true
@@ -183,11 +236,13 @@ module _ (s : Seen) (f : Fair s) (w : Votes) (b p : Ballot) (phase : w.phase ≡
           ands true false = refl
           ands false b = refl
 
-      beyond : (n q t : Ballot) → below q t ≡ true → q.value ≡ n.value → (same_value n.value t.value && nat_le t.counter q.counter) ≡ false
+      beyond : (n q t : Ballot) → below q t ≡ true → q.value ≡ n.value
+          → (same_value n.value t.value && nat_le t.counter q.counter) ≡ false
       beyond n q t h e = elim (cases_Bool (same_value n.value t.value && nat_le t.counter q.counter)) [
         | inr k ↦ k
         | inl k ↦ let p = and_parts (same_value n.value t.value) (nat_le t.counter q.counter) k in
-            absurd (true≢false (sym h ∙ not_above-value q t (up_to t.counter q.counter p.1) (e ∙ same_value-true n.value t.value p.0)))
+            absurd (true≢false (sym h ∙ not_above-value q t (up_to t.counter q.counter p.1)
+            (e ∙ same_value-true n.value t.value p.0)))
       ]
 
       -- a test of two values, the other way round

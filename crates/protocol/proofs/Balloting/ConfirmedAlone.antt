@@ -1,4 +1,5 @@
--- Balloting reads of nomination the confirmed values alone: votes with other voted and accepted values are balloted on alike.
+-- Balloting reads of nomination the confirmed values alone: votes with other voted and accepted values are balloted on
+-- alike.
 use Rattle.std.proofs.Common.{◌≡◌, ℕ, ◌+◌, ◌-◌, max, Bool, true, false, not, ◌&&◌, ◌==◌, nat_lt, List, [], ◌∷◌, ◌++◌, Option, Some, None, if◌then◌else◌, filter, option_map, option_to_list, refl, ◌∙◌, ap}
 use Rattle.types.specs.declared.ballot.Ballot.{Ballot}
 use Rattle.types.specs.declared.kind.Kind.{Kind}
@@ -37,26 +38,41 @@ module _ (vo ac : List (List ℕ)) where
     where
       without : (z : Option (List ℕ)) → started s (with_sets w) z ≡ with_sets (started s w z)
       without (Some x) = refl
-      without None = ap {B = Votes} (λ (o : Option Statement). record w { voted = vo; accepts = ac; ballot = greatest None (filter (prepare_accepted s o) (named_in (s.rows Kind.Ballot ++ option_to_list o))) }) (position-sets w)
+      without None =
+          ap {B = Votes} (λ (o : Option Statement). record w {
+            voted = vo;
+            accepts = ac;
+            ballot = greatest None (filter (prepare_accepted s o) (named_in (s.rows Kind.Ballot ++ option_to_list o)));
+          }) (position-sets w)
 
       go : (o : Option Ballot) → start_from s (with_sets w) o ≡ with_sets (start_from s w o)
       go (Some b) = refl
       go None = without (combine w.confirms)
 
-  prepared-sets : (s : Seen) (b : Ballot) (w : Votes) → accept_prepared s b (with_sets w) ≡ with_sets (accept_prepared s b w)
+  prepared-sets : (s : Seen) (b : Ballot) (w : Votes)
+      → accept_prepared s b (with_sets w) ≡ with_sets (accept_prepared s b w)
   unfolding accept_prepared named
   prepared-sets s b w = ap {B = Votes} (λ (o : Option Statement).
-      let p = greatest w.prepared (filter (λ t. may_be_prepared w.phase b.value t && prepare_accepted s o t) (named_in (s.rows Kind.Ballot ++ option_to_list o))) in
-      record w { voted = vo; accepts = ac; prepared = p; aborted = aborted_by w.prepared p w.aborted }) (position-sets w)
+      let p = greatest w.prepared
+      (filter (λ t. may_be_prepared w.phase b.value t && prepare_accepted s o t)
+      (named_in (s.rows Kind.Ballot ++ option_to_list o))) in
+      record w { voted = vo; accepts = ac; prepared = p; aborted = aborted_by w.prepared p w.aborted })
+      (position-sets w)
 
   high-sets : (s : Seen) (w : Votes) → raise_high s (with_sets w) ≡ with_sets (raise_high s w)
   unfolding raise_high named
   high-sets s w = ap {B = Votes} (λ (o : Option Statement).
-      record w { voted = vo; accepts = ac; high = greatest w.high (filter (prepare_confirmed s o) (named_in (s.rows Kind.Ballot ++ option_to_list o))) }) (position-sets w)
+      record w {
+        voted = vo;
+        accepts = ac;
+        high = greatest w.high (filter (prepare_confirmed s o) (named_in (s.rows Kind.Ballot ++ option_to_list o)));
+      }) (position-sets w)
 
   commit-sets : (w : Votes) → set_commit (with_sets w) ≡ with_sets (set_commit w)
   unfolding set_commit is_aborted high_counter
-  commit-sets w = ap {B = Votes} (λ (c : Option Ballot). record w { voted = vo; accepts = ac; commit = c }) (chosen-sets w.ballot (cleared (with_sets w) w.commit) ∙ ap (chosen w w.ballot) (cleared-sets w.commit))
+  commit-sets w =
+      ap {B = Votes} (λ (c : Option Ballot). record w { voted = vo; accepts = ac; commit = c })
+      (chosen-sets w.ballot (cleared (with_sets w) w.commit) ∙ ap (chosen w w.ballot) (cleared-sets w.commit))
     where
       cleared-sets : (c : Option Ballot) → cleared (with_sets w) c ≡ cleared w c
       cleared-sets None = refl
@@ -67,15 +83,20 @@ module _ (vo ac : List (List ℕ)) where
       chosen-sets (Some b) None = refl
       chosen-sets (Some b) (Some c) = refl
 
-  confirmed-sets : (s : Seen) (b : Ballot) (w : Votes) → confirm_prepared s b (with_sets w) ≡ with_sets (confirm_prepared s b w)
+  confirmed-sets : (s : Seen) (b : Ballot) (w : Votes)
+      → confirm_prepared s b (with_sets w) ≡ with_sets (confirm_prepared s b w)
   unfolding confirm_prepared follow_high
-  confirmed-sets s b w = ap (λ (x : Votes). set_commit (follow_high b x)) (high-sets s w) ∙ commit-sets (follow_high b (raise_high s w))
+  confirmed-sets s b w =
+      ap (λ (x : Votes). set_commit (follow_high b x)) (high-sets s w) ∙ commit-sets (follow_high b (raise_high s w))
 
   from-sets : (s : Seen) (w : Votes) (t : Ballot) → accepted_from s (with_sets w) t ≡ accepted_from s w t
   unfolding accepted_from commits
-  from-sets s w t = ap (λ (o : Option Statement). lowest (λ lo. interval_accepted s o t.value lo t.counter) t.value t.counter (committed_in (s.rows Kind.Ballot ++ option_to_list o))) (position-sets w)
+  from-sets s w t =
+      ap (λ (o : Option Statement). lowest (λ lo. interval_accepted s o t.value lo t.counter) t.value t.counter
+      (committed_in (s.rows Kind.Ballot ++ option_to_list o))) (position-sets w)
 
-  enter-sets : (s : Seen) (b : Ballot) (w : Votes) (o : Option Ballot) → enter_commit s b (with_sets w) o ≡ with_sets (enter_commit s b w o)
+  enter-sets : (s : Seen) (b : Ballot) (w : Votes) (o : Option Ballot)
+      → enter_commit s b (with_sets w) o ≡ with_sets (enter_commit s b w o)
   unfolding enter_commit
   enter-sets s b w None = refl
   enter-sets s b w (Some t) = ap {B = Votes} (λ (lo : ℕ). record w {
@@ -89,7 +110,8 @@ module _ (vo ac : List (List ℕ)) where
     hi = t.counter;
   }) (from-sets s w t)
 
-  widen-sets : (s : Seen) (b : Ballot) (w : Votes) (o : Option Ballot) → widen_commit s b (with_sets w) o ≡ with_sets (widen_commit s b w o)
+  widen-sets : (s : Seen) (b : Ballot) (w : Votes) (o : Option Ballot)
+      → widen_commit s b (with_sets w) o ≡ with_sets (widen_commit s b w o)
   unfolding widen_commit
   widen-sets s b w None = refl
   widen-sets s b w (Some t) = ap {B = Votes} (λ (lo : ℕ). record w {
@@ -103,37 +125,54 @@ module _ (vo ac : List (List ℕ)) where
 
   first-sets : (s : Seen) (w : Votes) → first_committed s (with_sets w) ≡ first_committed s w
   unfolding first_committed commits is_aborted
-  first-sets s w = ap (λ (o : Option Statement). greatest None (filter (λ t. interval_accepted s o t.value t.counter t.counter && prepare_confirmed s o t && not (is_aborted w t)) (committed_in (s.rows Kind.Ballot ++ option_to_list o)))) (position-sets w)
+  first-sets s w =
+      ap (λ (o : Option Statement). greatest None
+      (filter (λ t. interval_accepted s o t.value t.counter t.counter && prepare_confirmed s o t
+      && not (is_aborted w t)) (committed_in (s.rows Kind.Ballot ++ option_to_list o)))) (position-sets w)
 
   next-sets : (s : Seen) (b : Ballot) (w : Votes) → next_committed s b (with_sets w) ≡ next_committed s b w
   unfolding next_committed commits
-  next-sets s b w = ap (λ (o : Option Statement). greatest None (filter (λ t. same_value t.value b.value && nat_lt w.hi t.counter && interval_accepted s o t.value t.counter t.counter) (committed_in (s.rows Kind.Ballot ++ option_to_list o)))) (position-sets w)
+  next-sets s b w =
+      ap (λ (o : Option Statement). greatest None
+      (filter (λ t. same_value t.value b.value && nat_lt w.hi t.counter
+      && interval_accepted s o t.value t.counter t.counter) (committed_in (s.rows Kind.Ballot ++ option_to_list o))))
+      (position-sets w)
 
-  accepted-sets : (p : Phase) (s : Seen) (b : Ballot) (w : Votes) → accept_commit p s b (with_sets w) ≡ with_sets (accept_commit p s b w)
+  accepted-sets : (p : Phase) (s : Seen) (b : Ballot) (w : Votes)
+      → accept_commit p s b (with_sets w) ≡ with_sets (accept_commit p s b w)
   unfolding accept_commit
-  accepted-sets Preparing s b w = ap (enter_commit s b (with_sets w)) (first-sets s w) ∙ enter-sets s b w (first_committed s w)
-  accepted-sets Committing s b w = ap (widen_commit s b (with_sets w)) (next-sets s b w) ∙ widen-sets s b w (next_committed s b w)
+  accepted-sets Preparing s b w =
+      ap (enter_commit s b (with_sets w)) (first-sets s w) ∙ enter-sets s b w (first_committed s w)
+  accepted-sets Committing s b w =
+      ap (widen_commit s b (with_sets w)) (next-sets s b w) ∙ widen-sets s b w (next_committed s b w)
   accepted-sets Externalized s b w = refl
 
   decided-sets : (s : Seen) (b : Ballot) (w : Votes) → confirmed_commit s b (with_sets w) ≡ confirmed_commit s b w
   unfolding confirmed_commit commits
-  decided-sets s b w = ap (λ (o : Option Statement). greatest None (filter (λ t. same_value t.value b.value && interval_confirmed s o t.value t.counter t.counter) (committed_in (s.rows Kind.Ballot ++ option_to_list o)))) (position-sets w)
+  decided-sets s b w =
+      ap (λ (o : Option Statement). greatest None
+      (filter (λ t. same_value t.value b.value && interval_confirmed s o t.value t.counter t.counter)
+      (committed_in (s.rows Kind.Ballot ++ option_to_list o)))) (position-sets w)
 
-  externalize-sets : (s : Seen) (w : Votes) (o : Option Ballot) → externalize s (with_sets w) o ≡ with_sets (externalize s w o)
+  externalize-sets : (s : Seen) (w : Votes) (o : Option Ballot)
+      → externalize s (with_sets w) o ≡ with_sets (externalize s w o)
   unfolding externalize commits
   externalize-sets s w None = refl
   externalize-sets s w (Some t) = ap {B = Votes} (λ (o : Option Statement). record w {
     voted = vo;
     accepts = ac;
     phase = Externalized;
-    lo = lowest (λ lo. interval_confirmed s o t.value lo t.counter) t.value t.counter (committed_in (s.rows Kind.Ballot ++ option_to_list o));
+    lo = lowest (λ lo. interval_confirmed s o t.value lo t.counter) t.value t.counter
+        (committed_in (s.rows Kind.Ballot ++ option_to_list o));
     hi = t.counter;
   }) (position-sets w)
 
-  confirm-sets : (p : Phase) (s : Seen) (b : Ballot) (w : Votes) → confirm_commit p s b (with_sets w) ≡ with_sets (confirm_commit p s b w)
+  confirm-sets : (p : Phase) (s : Seen) (b : Ballot) (w : Votes)
+      → confirm_commit p s b (with_sets w) ≡ with_sets (confirm_commit p s b w)
   unfolding confirm_commit
   confirm-sets Preparing s b w = refl
-  confirm-sets Committing s b w = ap (externalize s (with_sets w)) (decided-sets s b w) ∙ externalize-sets s w (confirmed_commit s b w)
+  confirm-sets Committing s b w =
+      ap (externalize s (with_sets w)) (decided-sets s b w) ∙ externalize-sets s w (confirmed_commit s b w)
   confirm-sets Externalized s b w = refl
 
   raised-sets : (w : Votes) (b : Ballot) (n : ℕ) → raised (with_sets w) b n ≡ raised w b n
@@ -147,27 +186,41 @@ module _ (vo ac : List (List ℕ)) where
   raise-sets : (s : Seen) (g : Given) (b : Ballot) (w : Votes) → raise s g b (with_sets w) ≡ with_sets (raise s g b w)
   unfolding raise raised_counter
   raise-sets s g b w =
-      ap {B = Votes} (λ (o : Option Statement). record w { voted = vo; accepts = ac; ballot = Some (raised (with_sets w) b (least_from (cap g.fired - b.counter) b.counter (λ n. not (s.blocking Kind.Ballot (passes (counts (n + 1)) o) (counts (n + 1)))))) }) (position-sets w)
-      ∙ ap {B = Votes} (λ (x : Ballot). record w { voted = vo; accepts = ac; ballot = Some x }) (raised-sets w b (raised_counter s g b w))
+      ap {B = Votes} (λ (o : Option Statement). record w {
+        voted = vo;
+        accepts = ac;
+        ballot = Some (raised (with_sets w) b
+            (least_from (cap g.fired - b.counter) b.counter
+            (λ n. not (s.blocking Kind.Ballot (passes (counts (n + 1)) o) (counts (n + 1))))));
+      }) (position-sets w)
+      ∙ ap {B = Votes} (λ (x : Ballot). record w { voted = vo; accepts = ac; ballot = Some x })
+      (raised-sets w b (raised_counter s g b w))
 
   arm-sets : (s : Seen) (b : Ballot) (w : Votes) → arm s b (with_sets w) ≡ with_sets (arm s b w)
   unfolding arm
-  arm-sets s b w = ap {B = Votes} (λ (o : Option Statement). if s.quorum Kind.Ballot (passes (counts b.counter) o) (counts b.counter) then record w { voted = vo; accepts = ac; armed = b.counter } else with_sets w) (position-sets w)
+  arm-sets s b w =
+      ap {B = Votes} (λ (o : Option Statement). if s.quorum Kind.Ballot (passes (counts b.counter) o)
+      (counts b.counter) then record w { voted = vo; accepts = ac; armed = b.counter } else with_sets w)
+      (position-sets w)
       ∙ go (s.quorum Kind.Ballot (passes (counts b.counter) (position w)) (counts b.counter))
     where
-      go : (t : Bool) → (if t then record w { voted = vo; accepts = ac; armed = b.counter } else with_sets w) ≡ with_sets (if t then record w { armed = b.counter } else w)
+      go : (t : Bool)
+          → (if t then record w { voted = vo; accepts = ac; armed = b.counter } else with_sets w)
+          ≡ with_sets (if t then record w { armed = b.counter } else w)
       go true = refl
       go false = refl
 
   -- ---- all of them
-  on-sets : (f : Ballot → Votes → Votes) → ((b : Ballot) (w : Votes) → f b (with_sets w) ≡ with_sets (f b w)) → (w : Votes) → on_ballot f (with_sets w) ≡ with_sets (on_ballot f w)
+  on-sets : (f : Ballot → Votes → Votes) → ((b : Ballot) (w : Votes) → f b (with_sets w) ≡ with_sets (f b w))
+      → (w : Votes) → on_ballot f (with_sets w) ≡ with_sets (on_ballot f w)
   on-sets f same w = go w.ballot
     where
       go : (o : Option Ballot) → with_ballot f (with_sets w) o ≡ with_sets (with_ballot f w o)
       go None = refl
       go (Some b) = same b w
 
-  preparing-sets : (f : Votes → Votes) → ((w : Votes) → f (with_sets w) ≡ with_sets (f w)) → (w : Votes) → in_prepare f (with_sets w) ≡ with_sets (in_prepare f w)
+  preparing-sets : (f : Votes → Votes) → ((w : Votes) → f (with_sets w) ≡ with_sets (f w)) → (w : Votes)
+      → in_prepare f (with_sets w) ≡ with_sets (in_prepare f w)
   preparing-sets f same w = go w.phase
     where
       go : (p : Phase) → while_preparing p f (with_sets w) ≡ with_sets (while_preparing p f w)
@@ -175,7 +228,8 @@ module _ (vo ac : List (List ℕ)) where
       go Committing = refl
       go Externalized = refl
 
-  open-sets : (f : Votes → Votes) → ((w : Votes) → f (with_sets w) ≡ with_sets (f w)) → (p : Phase) (w : Votes) → while_open p f (with_sets w) ≡ with_sets (while_open p f w)
+  open-sets : (f : Votes → Votes) → ((w : Votes) → f (with_sets w) ≡ with_sets (f w)) → (p : Phase) (w : Votes)
+      → while_open p f (with_sets w) ≡ with_sets (while_open p f w)
   open-sets f same Preparing w = same w
   open-sets f same Committing w = same w
   open-sets f same Externalized w = refl
@@ -188,18 +242,24 @@ module _ (vo ac : List (List ℕ)) where
       let f4 : Votes → Votes = on_ballot (λ b w. accept_commit w.phase s b w) in
       let f5 : Votes → Votes = on_ballot (λ b w. confirm_commit w.phase s b w) in
       let e2 : f2 (with_sets w) ≡ with_sets (f2 w) = on-sets (accept_prepared s) (prepared-sets s) w in
-      let e3 : f3 (f2 (with_sets w)) ≡ with_sets (f3 (f2 w)) = ap f3 e2 ∙ preparing-sets (on_ballot (confirm_prepared s)) (on-sets (confirm_prepared s) (confirmed-sets s)) (f2 w) in
-      let e4 : f4 (f3 (f2 (with_sets w))) ≡ with_sets (f4 (f3 (f2 w))) = ap f4 e3 ∙ on-sets (λ b w. accept_commit w.phase s b w) (λ b w. accepted-sets w.phase s b w) (f3 (f2 w)) in
+      let e3 : f3 (f2 (with_sets w)) ≡ with_sets (f3 (f2 w)) = ap f3 e2
+      ∙ preparing-sets (on_ballot (confirm_prepared s)) (on-sets (confirm_prepared s) (confirmed-sets s)) (f2 w) in
+      let e4 : f4 (f3 (f2 (with_sets w))) ≡ with_sets (f4 (f3 (f2 w))) = ap f4 e3
+      ∙ on-sets (λ b w. accept_commit w.phase s b w) (λ b w. accepted-sets w.phase s b w) (f3 (f2 w)) in
       ap f5 e4 ∙ on-sets (λ b w. confirm_commit w.phase s b w) (λ b w. confirm-sets w.phase s b w) (f4 (f3 (f2 w)))
 
   counting-sets : (s : Seen) (g : Given) (w : Votes) → counting s g (with_sets w) ≡ with_sets (counting s g w)
   unfolding counting
-  counting-sets s g w = ap (on_ballot (arm s)) (on-sets (raise s g) (raise-sets s g) w) ∙ on-sets (arm s) (arm-sets s) (on_ballot (raise s g) w)
+  counting-sets s g w =
+      ap (on_ballot (arm s)) (on-sets (raise s g) (raise-sets s g) w)
+      ∙ on-sets (arm s) (arm-sets s) (on_ballot (raise s g) w)
 
   balloting-sets : (s : Seen) (g : Given) (w : Votes) → balloting s g (with_sets w) ≡ with_sets (balloting s g w)
   balloting-sets s g w =
-      let same : voting s (start s (with_sets w)) ≡ with_sets (voting s (start s w)) = ap (voting s) (start-sets s w) ∙ voting-sets s (start s w) in
-      ap (λ (x : Votes). while_open x.phase (counting s g) x) same ∙ open-sets (counting s g) (counting-sets s g) (voting s (start s w)).phase (voting s (start s w))
+      let same : voting s (start s (with_sets w)) ≡ with_sets (voting s (start s w)) = ap (voting s) (start-sets s w)
+      ∙ voting-sets s (start s w) in
+      ap (λ (x : Votes). while_open x.phase (counting s g) x) same
+      ∙ open-sets (counting s g) (counting-sets s g) (voting s (start s w)).phase (voting s (start s w))
 
   pub balloted-sets : (s : Seen) (g : Given) (w : Votes) → balloted_in s g (with_sets w) ≡ with_sets (balloted_in s g w)
   unfolding balloted_in

@@ -30,10 +30,14 @@ counts-less m n (Externalize b d) h k = refl
 
 pub risen-up : (s : Seen) → Fair s → (g : Given) (m n : ℕ) → m ≤ n → Risen s g m → Risen s g n
 risen-up s f g m n h (inl r) = inl (omega (arith, h, r))
-risen-up s f g m n h (inr r) = inr (false_from_ne_true _ (λ b. true≢false (sym (blocking_more s f Kind.Ballot None None (counts (n + 1)) (counts (m + 1)) (λ x i. counts-less (m + 1) (n + 1) x (omega (arith, h)) i) (λ i. i) b) ∙ r)))
+risen-up s f g m n h (inr r) =
+    inr (false_from_ne_true _ (λ b. true≢false
+    (sym (blocking_more s f Kind.Ballot None None (counts (n + 1)) (counts (m + 1))
+    (λ x i. counts-less (m + 1) (n + 1) x (omega (arith, h)) i) (λ i. i) b) ∙ r)))
 
 -- a raise ends where no more is needed
-pub raise-moves : (s : Seen) → Fair s → (g : Given) (b : Ballot) (w : Votes) → (n : ℕ) × (raise s g b w ≡ record w { ballot = Some (raised w b n) }) × (b.counter ≤ n) × Risen s g n
+pub raise-moves : (s : Seen) → Fair s → (g : Given) (b : Ballot) (w : Votes)
+    → (n : ℕ) × (raise s g b w ≡ record w { ballot = Some (raised w b n) }) × (b.counter ≤ n) × Risen s g n
 unfolding raise raised_counter
 raise-moves s f g b w =
     let test : ℕ → Bool = λ n. not (s.blocking Kind.Ballot (passes (counts (n + 1)) (position w)) (counts (n + 1))) in
@@ -43,7 +47,10 @@ raise-moves s f g b w =
       refl,
       low,
       elim (least_from-ends (cap g.fired - b.counter) b.counter test) [
-        | inl e ↦ inr (false_from_ne_true _ (λ k. true≢false (sym (blocking_more s f Kind.Ballot None (position w) (counts (n + 1)) (counts (n + 1)) (λ x i. i) (λ i. absurd (false≢true i)) k) ∙ not-true _ e)))
+        | inl e ↦ inr
+            (false_from_ne_true _ (λ k. true≢false
+            (sym (blocking_more s f Kind.Ballot None (position w) (counts (n + 1)) (counts (n + 1)) (λ x i. i)
+            (λ i. absurd (false≢true i)) k) ∙ not-true _ e)))
         | inr e ↦ inl (cap_over (cap g.fired) b.counter n e)
       ],
     )
@@ -51,16 +58,23 @@ raise-moves s f g b w =
     cap_over : (c b n : ℕ) → b + (c - b) ≤ n → c ≤ n
     cap_over c b n h = omega (arith, h)
 
-pub raise-still : (s : Seen) → Fair s → (g : Given) (b : Ballot) (w : Votes) → w.ballot ≡ Some b → passes (counts (b.counter + 1)) (position w) ≡ false → Risen s g b.counter → raise s g b w ≡ w
+pub raise-still : (s : Seen) → Fair s → (g : Given) (b : Ballot) (w : Votes) → w.ballot ≡ Some b
+    → passes (counts (b.counter + 1)) (position w) ≡ false → Risen s g b.counter → raise s g b w ≡ w
 unfolding raise raised_counter
 raise-still s f g b w e c r =
     let test : ℕ → Bool = λ n. not (s.blocking Kind.Ballot (passes (counts (n + 1)) (position w)) (counts (n + 1))) in
-    let q : least_from (cap g.fired - b.counter) b.counter test ≡ b.counter = least_from-still (cap g.fired - b.counter) b.counter test (ends r) in
+    let q : least_from (cap g.fired - b.counter) b.counter test ≡ b.counter =
+    least_from-still (cap g.fired - b.counter) b.counter test (ends r) in
     rw (q, eq-eqb b.counter b.counter refl) (λ i. record w { ballot = sym e i })
   where
-    ends : Risen s g b.counter → (cap g.fired - b.counter ≡ 0) ⊎ (not (s.blocking Kind.Ballot (passes (counts (b.counter + 1)) (position w)) (counts (b.counter + 1))) ≡ true)
+    ends : Risen s g b.counter
+        → (cap g.fired - b.counter ≡ 0)
+        ⊎ (not (s.blocking Kind.Ballot (passes (counts (b.counter + 1)) (position w)) (counts (b.counter + 1))) ≡ true)
     ends (inl h) = inl (omega (arith, h))
-    ends (inr h) = inr (not_from_false _ (false_from_ne_true _ (λ k. true≢false (sym (blocking_more s f Kind.Ballot (position w) None (counts (b.counter + 1)) (counts (b.counter + 1)) (λ x i. i) (λ i. absurd (true≢false (sym i ∙ c))) k) ∙ h))))
+    ends (inr h) =
+        inr (not_from_false _ (false_from_ne_true _
+        (λ k. true≢false (sym (blocking_more s f Kind.Ballot (position w) None (counts (b.counter + 1))
+        (counts (b.counter + 1)) (λ x i. i) (λ i. absurd (true≢false (sym i ∙ c))) k) ∙ h))))
 
 pub arm-moves : (s : Seen) (b : Ballot) (w : Votes) → (n : ℕ) × (arm s b w ≡ record w { armed = n })
 unfolding arm
@@ -74,7 +88,8 @@ pub position-armed : (w : Votes) (n : ℕ) → position (record w { armed = n })
 unfolding position position_in high_counter commit_counter
 position-armed w n = go w.phase w.ballot w.high w.commit refl refl refl refl
   where
-    go : (p : Phase) (b h c : Option Ballot) → w.phase ≡ p → w.ballot ≡ b → w.high ≡ h → w.commit ≡ c → position (record w { armed = n }) ≡ position w
+    go : (p : Phase) (b h c : Option Ballot) → w.phase ≡ p → w.ballot ≡ b → w.high ≡ h → w.commit ≡ c
+        → position (record w { armed = n }) ≡ position w
     go p None h c i j k l = rw j refl
     go Preparing (Some b) None None i j k l = rw (i, j, k, l) refl
     go Preparing (Some b) (Some h) None i j k l = rw (i, j, k, l) refl
@@ -83,14 +98,19 @@ position-armed w n = go w.phase w.ballot w.high w.commit refl refl refl refl
     go Committing (Some b) h c i j k l = rw (i, j) refl
     go Externalized (Some b) h c i j k l = rw (i, j) refl
 
-arm-at : (s : Seen) (b : Ballot) (w : Votes) (c : Bool) → s.quorum Kind.Ballot (passes (counts b.counter) (position w)) (counts b.counter) ≡ c → arm s b w ≡ (if c then record w { armed = b.counter } else w)
+arm-at : (s : Seen) (b : Ballot) (w : Votes) (c : Bool)
+    → s.quorum Kind.Ballot (passes (counts b.counter) (position w)) (counts b.counter) ≡ c
+    → arm s b w ≡ (if c then record w { armed = b.counter } else w)
 unfolding arm
 arm-at s b w c e = ap (λ c. if c then record w { armed = b.counter } else w) e
 
 pub arm-still : (s : Seen) (b : Ballot) (w : Votes) → arm s b (arm s b w) ≡ arm s b w
 arm-still s b w = elim (cases_Bool (s.quorum Kind.Ballot (passes (counts b.counter) (position w)) (counts b.counter))) [
   | inl e ↦ let q : arm s b w ≡ record w { armed = b.counter } = arm-at s b w true e in
-      let k : s.quorum Kind.Ballot (passes (counts b.counter) (position (record w { armed = b.counter }))) (counts b.counter) ≡ true = ap (λ o. s.quorum Kind.Ballot (passes (counts b.counter) o) (counts b.counter)) (position-armed w b.counter) ∙ e in
+      let k : s.quorum Kind.Ballot (passes (counts b.counter) (position (record w { armed = b.counter })))
+      (counts b.counter) ≡ true =
+      ap (λ o. s.quorum Kind.Ballot (passes (counts b.counter) o) (counts b.counter))
+      (position-armed w b.counter) ∙ e in
       subst (λ (x : Votes). arm s b x ≡ x) (sym q) (arm-at s b (record w { armed = b.counter }) true k)
   | inr e ↦ let q : arm s b w ≡ w = arm-at s b w false e in subst (λ (x : Votes). arm s b x ≡ x) (sym q) q
 ]

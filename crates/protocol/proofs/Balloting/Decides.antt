@@ -15,9 +15,12 @@ use Rattle.types.specs.Votes.{same_value}
 
 -- the ballots whose commit is confirmed, for a position
 abbrev pub deciding : Seen → Option Statement → Ballot → List Ballot
-deciding s o b = filter (λ t. (same_value t.value b.value) && confirmed s Kind.Ballot o (takes_commit t.value t.counter t.counter)) (filter (λ b. nat_lt 0 b.counter) (flat_map committed_by (s.rows Kind.Ballot ++ option_to_list o)))
+deciding s o b =
+    filter (λ t. (same_value t.value b.value) && confirmed s Kind.Ballot o (takes_commit t.value t.counter t.counter))
+    (filter (λ b. nat_lt 0 b.counter) (flat_map committed_by (s.rows Kind.Ballot ++ option_to_list o)))
 
-pub decide_not : (s : Seen) (b : Ballot) (w : Votes) → greatest None (deciding s (position w) b) ≡ None → confirm_commit Committing s b w ≡ w
+pub decide_not : (s : Seen) (b : Ballot) (w : Votes) → greatest None (deciding s (position w) b) ≡ None
+    → confirm_commit Committing s b w ≡ w
 unfolding confirm_commit confirmed_commit externalize commits
 decide_not s b w e = rw e refl
 
@@ -32,17 +35,23 @@ pub record Decided (s : Seen) (b : Ballot) (w : Votes) : Type 0 where
   pub confirms : u.confirms ≡ w.confirms
   pub high : u.high ≡ w.high
 
-pub decides : (s : Seen) (b : Ballot) (w : Votes) → Sound w → (greatest None (deciding s (position w) b) ≡ None) ⊎ Decided s b w
+pub decides : (s : Seen) (b : Ballot) (w : Votes) → Sound w
+    → (greatest None (deciding s (position w) b) ≡ None) ⊎ Decided s b w
 unfolding confirm_commit confirmed_commit externalize commits
 decides s b w sound = go (greatest None (filter test (commits s w))) refl
   where
     test : Ballot → Bool
     test = λ t. (same_value t.value b.value) && commit_confirmed s w t.value t.counter t.counter
 
-    go : (o : Option Ballot) → greatest None (filter test (commits s w)) ≡ o → (greatest None (deciding s (position w) b) ≡ None) ⊎ Decided s b w
+    go : (o : Option Ballot) → greatest None (filter test (commits s w)) ≡ o
+        → (greatest None (deciding s (position w) b) ≡ None) ⊎ Decided s b w
     go None e = inl e
     go (Some t) e = inr (record {
-      u = record w { phase = Externalized; hi = t.counter; lo = lowest (λ lo. commit_confirmed s w t.value lo t.counter) t.value t.counter (commits s w) };
+      u = record w {
+        phase = Externalized;
+        hi = t.counter;
+        lo = lowest (λ lo. commit_confirmed s w t.value lo t.counter) t.value t.counter (commits s w);
+      };
       is = rw e refl;
       phase = refl;
       sound = record { aborted = sound.aborted; high = sound.high; committing = λ (c : Externalized ≡ Committing). cc };

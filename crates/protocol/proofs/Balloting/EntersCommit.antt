@@ -22,7 +22,8 @@ use Rattle.protocol.proofs.Sets.Numbers.{through}
 use Rattle.std.proofs.Math.Nat.{le-max_left}
 
 -- not aborted: not below a p of another value
-same-value : (w : Votes) (t r : Ballot) → is_aborted w t ≡ false → greatest w.prepared (t ∷ []) ≡ Some r → r.value ≡ t.value
+same-value : (w : Votes) (t r : Ballot) → is_aborted w t ≡ false → greatest w.prepared (t ∷ []) ≡ Some r
+    → r.value ≡ t.value
 unfolding is_aborted greatest
 same-value w t r a e = go w.prepared refl
   where
@@ -30,9 +31,13 @@ same-value w t r a e = go w.prepared refl
     first_false true y h = h
     first_false false y h = refl
 
-    at : (p : Ballot) (c d : Bool) → below p t ≡ c → below t p ≡ d → (below t p && not (same_value p.value t.value)) ≡ false → (if below p t then t else p) ≡ r → r.value ≡ t.value
+    at : (p : Ballot) (c d : Bool) → below p t ≡ c → below t p ≡ d
+        → (below t p && not (same_value p.value t.value)) ≡ false → (if below p t then t else p) ≡ r → r.value ≡ t.value
     at p true d h k n q = let z : t ≡ r = rw h at q in ap (λ (x : Ballot). x.value) (sym z)
-    at p false true h k n q = let z : p ≡ r = rw h at q in let m : not (same_value p.value t.value) ≡ false = rw k at n in ap (λ (x : Ballot). x.value) (sym z) ∙ same_value-true p.value t.value (not-false (same_value p.value t.value) m)
+    at p false true h k n q =
+        let z : p ≡ r = rw h at q in let m : not (same_value p.value t.value) ≡ false = rw k at n in
+        ap (λ (x : Ballot). x.value) (sym z)
+        ∙ same_value-true p.value t.value (not-false (same_value p.value t.value) m)
     at p false false h k n q = let z : p ≡ r = rw h at q in ap (λ (x : Ballot). x.value) (sym z) ∙ one_value p t h k
 
     go : (o : Option Ballot) → w.prepared ≡ o → r.value ≡ t.value
@@ -53,52 +58,74 @@ pub record Entered (s : Seen) (b : Ballot) (w : Votes) : Type 0 where
   pub confirms : u.confirms ≡ w.confirms
   pub stays : is_none u.high ≡ false
 
-under-both : (h p : Option Ballot) (t a c : Ballot) → Under h p → greatest h (t ∷ []) ≡ Some a → greatest p (t ∷ []) ≡ Some c → Under (Some a) (Some c)
+under-both : (h p : Option Ballot) (t a c : Ballot) → Under h p → greatest h (t ∷ []) ≡ Some a
+    → greatest p (t ∷ []) ≡ Some c → Under (Some a) (Some c)
 under-both h p t a c u i j =
     let r = greatest-one p t in
     let z : r.0 ≡ c = same_Some r.0 c (sym r.1 ∙ j) in
     elim (one-from h t a i) [
-      | inl k ↦ let q : Under (Some a) p = rw k at u in subst (λ x. below x a ≡ false) z (under-trans (Some a) p (Some r.0) q r.3)
+      | inl k ↦ let q : Under (Some a) p = rw k at u in
+          subst (λ x. below x a ≡ false) z (under-trans (Some a) p (Some r.0) q r.3)
       | inr k ↦ subst (λ x. below x a ≡ false) z (subst (λ x. below r.0 x ≡ false) (sym k) r.2)
     ]
 
 -- the ballots whose commit is accepted in PREPARE, for a position
 abbrev pub entering : Seen → Option Statement → Votes → List Ballot
-entering s o w = filter (λ t. accepted s Kind.Ballot o (backs_commit t.value t.counter t.counter) (takes_commit t.value t.counter t.counter) && confirmed s Kind.Ballot o (takes_prepare t) && not (is_aborted w t)) (filter (λ b. nat_lt 0 b.counter) (flat_map committed_by (s.rows Kind.Ballot ++ option_to_list o)))
+entering s o w =
+    filter (λ t. accepted s Kind.Ballot o (backs_commit t.value t.counter t.counter)
+    (takes_commit t.value t.counter t.counter) && confirmed s Kind.Ballot o (takes_prepare t) && not (is_aborted w t))
+    (filter (λ b. nat_lt 0 b.counter) (flat_map committed_by (s.rows Kind.Ballot ++ option_to_list o)))
 
-pub enter_not : (s : Seen) (b : Ballot) (w : Votes) → greatest None (entering s (position w) w) ≡ None → accept_commit Preparing s b w ≡ w
+pub enter_not : (s : Seen) (b : Ballot) (w : Votes) → greatest None (entering s (position w) w) ≡ None
+    → accept_commit Preparing s b w ≡ w
 unfolding accept_commit enter_commit first_committed accepted_from commits
 enter_not s b w e = rw e refl
 
-pub enters : (s : Seen) (b : Ballot) (w : Votes) → Sound w → (greatest None (entering s (position w) w) ≡ None) ⊎ Entered s b w
+pub enters : (s : Seen) (b : Ballot) (w : Votes) → Sound w
+    → (greatest None (entering s (position w) w) ≡ None) ⊎ Entered s b w
 unfolding accept_commit enter_commit first_committed accepted_from commits
 enters s b w sound = go (greatest None (filter test (commits s w))) refl
   where
     test : Ballot → Bool
     test = λ t. commit_accepted s w t.value t.counter t.counter && is_confirmed s w t && not (is_aborted w t)
 
-    go : (o : Option Ballot) → greatest None (filter test (commits s w)) ≡ o → (greatest None (entering s (position w) w) ≡ None) ⊎ Entered s b w
+    go : (o : Option Ballot) → greatest None (filter test (commits s w)) ≡ o
+        → (greatest None (entering s (position w) w) ≡ None) ⊎ Entered s b w
     go None e = inl e
     go (Some t) e =
         let ok : test t ≡ true = elim (greatest-from None (filter test (commits s w)) t e) [
           | inl k ↦ cc
           | inr i ↦ (from-filter test t (commits s w) i).1
         ] in
-        let free : is_aborted w t ≡ false = not-true _ (and_parts (commit_accepted s w t.value t.counter t.counter && is_confirmed s w t) (not (is_aborted w t)) ok).1 in
+        let free : is_aborted w t ≡ false =
+        not-true _
+        (and_parts (commit_accepted s w t.value t.counter t.counter && is_confirmed s w t)
+        (not (is_aborted w t)) ok).1 in
         let p = greatest-one w.prepared t in
         let h = greatest-one w.high t in
         let lo = lowest (λ lo. commit_accepted s w t.value lo t.counter) t.value t.counter (commits s w) in
         let n = ballot_at (max b.counter t.counter) t.value in
         inr (record {
-          u = record w { phase = Committing; ballot = Some n; prepared = greatest w.prepared (t ∷ []); high = greatest w.high (t ∷ []); hi = t.counter; lo = lo };
+          u = record w {
+            phase = Committing;
+            ballot = Some n;
+            prepared = greatest w.prepared (t ∷ []);
+            high = greatest w.high (t ∷ []);
+            hi = t.counter;
+            lo = lo;
+          };
           is = rw e refl;
           phase = refl;
           n = n;
           ballot = refl;
           grows = le-max_left b.counter t.counter;
           sound = record {
-            aborted = subst (λ o. w.aborted ≤ counter_of o) (sym p.1) (through w.aborted (counter_of w.prepared) p.0.counter sound.aborted (under-counters w.prepared p.0 p.3));
-            high = subst (λ o. Under o (greatest w.prepared (t ∷ []))) (sym h.1) (subst (λ o. Under (Some h.0) o) (sym p.1) (under-both w.high w.prepared t h.0 p.0 sound.high h.1 p.1));
+            aborted =
+                subst (λ o. w.aborted ≤ counter_of o) (sym p.1)
+                (through w.aborted (counter_of w.prepared) p.0.counter sound.aborted
+                (under-counters w.prepared p.0 p.3));
+            high = subst (λ o. Under o (greatest w.prepared (t ∷ []))) (sym h.1)
+                (subst (λ o. Under (Some h.0) o) (sym p.1) (under-both w.high w.prepared t h.0 p.0 sound.high h.1 p.1));
             committing = λ c. record {
               b = n;
               p = p.0;

@@ -7,10 +7,12 @@ use Rattle.protocol.specs.Candidates.{greatest}
 use Rattle.protocol.proofs.Ballots.Order.{not_below-counter}
 use Rattle.protocol.proofs.Ballots.Above.{above, Under, greatest-keeps, greatest-above, greatest-from}
 
-pub greatest-one : (o : Option Ballot) (t : Ballot) → (r : Ballot) × (greatest o (t ∷ []) ≡ Some r) × (below r t ≡ false) × Under o (Some r)
+pub greatest-one : (o : Option Ballot) (t : Ballot)
+    → (r : Ballot) × (greatest o (t ∷ []) ≡ Some r) × (below r t ≡ false) × Under o (Some r)
 greatest-one o t = go (greatest o (t ∷ [])) (greatest-above o (t ∷ []) t (inl refl)) (greatest-keeps o (t ∷ [])) refl
   where
-    go : (g : Option Ballot) → above g t ≡ false → Under o g → greatest o (t ∷ []) ≡ g → (r : Ballot) × (greatest o (t ∷ []) ≡ Some r) × (below r t ≡ false) × Under o (Some r)
+    go : (g : Option Ballot) → above g t ≡ false → Under o g → greatest o (t ∷ []) ≡ g
+        → (r : Ballot) × (greatest o (t ∷ []) ≡ Some r) × (below r t ≡ false) × Under o (Some r)
     go None a u e = absurd (true≢false a)
     go (Some r) a u e = (r, e, a, u)
 

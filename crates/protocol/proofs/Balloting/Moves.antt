@@ -12,19 +12,27 @@ use Rattle.protocol.proofs.Ballots.Order.{below-self, below-counter}
 use Rattle.protocol.proofs.Ballots.Above.{above, Under, greatest-keeps, greatest-above, greatest-still, greatest-from, in-filter, from-filter, aborted-same}
 
 -- p
-pub accept_prepared-still : (s : Seen) (b : Ballot) (w : Votes) → ((t : Ballot) → IsIn t (named s w) → may_be_prepared w.phase b.value t ≡ true → is_accepted s w t ≡ true → above w.prepared t ≡ false) → accept_prepared s b w ≡ w
+pub accept_prepared-still : (s : Seen) (b : Ballot) (w : Votes)
+    → ((t : Ballot) → IsIn t (named s w) → may_be_prepared w.phase b.value t ≡ true → is_accepted s w t ≡ true
+    → above w.prepared t ≡ false) → accept_prepared s b w ≡ w
 unfolding accept_prepared
 accept_prepared-still s b w f =
     let test : Ballot → Bool = λ t. may_be_prepared w.phase b.value t && is_accepted s w t in
-    let e : greatest w.prepared (filter test (named s w)) ≡ w.prepared = greatest-still w.prepared (filter test (named s w)) (λ t i. let r = from-filter test t (named s w) i in
+    let e : greatest w.prepared (filter test (named s w)) ≡ w.prepared =
+    greatest-still w.prepared (filter test (named s w)) (λ t i. let r = from-filter test t (named s w) i in
     let q = and_parts (may_be_prepared w.phase b.value t) (is_accepted s w t) r.1 in f t r.0 q.0 q.1) in
-    λ i. record w { prepared = e i; aborted = (ap (λ p. aborted_by w.prepared p w.aborted) e ∙ aborted-same w.prepared w.aborted) i }
+    λ i. record w {
+      prepared = e i;
+      aborted =
+          (ap (λ p. aborted_by w.prepared p w.aborted) e ∙ aborted-same w.prepared w.aborted) i;
+    }
 
 pub record NewPrepared (s : Seen) (b : Ballot) (w : Votes) : Type 0 where
   pub p : Option Ballot
   pub is : accept_prepared s b w ≡ record w { prepared = p; aborted = aborted_by w.prepared p w.aborted }
   pub grows : Under w.prepared p
-  pub above : (t : Ballot) → IsIn t (named s w) → may_be_prepared w.phase b.value t ≡ true → is_accepted s w t ≡ true → above p t ≡ false
+  pub above : (t : Ballot) → IsIn t (named s w) → may_be_prepared w.phase b.value t ≡ true → is_accepted s w t ≡ true
+      → above p t ≡ false
   pub from : (t : Ballot) → p ≡ Some t → (w.prepared ≡ Some t) ⊎ (may_be_prepared w.phase b.value t ≡ true)
 
 pub accept_prepared-moves : (s : Seen) (b : Ballot) (w : Votes) → NewPrepared s b w
@@ -35,18 +43,23 @@ accept_prepared-moves s b w =
       p = greatest w.prepared (filter test (named s w));
       is = refl;
       grows = greatest-keeps w.prepared (filter test (named s w));
-      above = λ t i v a. greatest-above w.prepared (filter test (named s w)) t (in-filter test t (named s w) i (and_from (may_be_prepared w.phase b.value t) (is_accepted s w t) v a));
+      above = λ t i v a. greatest-above w.prepared (filter test (named s w)) t
+          (in-filter test t (named s w) i (and_from (may_be_prepared w.phase b.value t) (is_accepted s w t) v a));
       from = λ t e. elim (greatest-from w.prepared (filter test (named s w)) t e) [
         | inl k ↦ inl k
-        | inr k ↦ inr (and_parts (may_be_prepared w.phase b.value t) (is_accepted s w t) (from-filter test t (named s w) k).1).0
+        | inr k ↦ inr
+            (and_parts (may_be_prepared w.phase b.value t) (is_accepted s w t) (from-filter test t (named s w) k).1).0
       ];
     }
 
 -- h
-pub raise_high-still : (s : Seen) (w : Votes) → ((t : Ballot) → IsIn t (named s w) → is_confirmed s w t ≡ true → above w.high t ≡ false) → raise_high s w ≡ w
+pub raise_high-still : (s : Seen) (w : Votes)
+    → ((t : Ballot) → IsIn t (named s w) → is_confirmed s w t ≡ true → above w.high t ≡ false) → raise_high s w ≡ w
 unfolding raise_high
 raise_high-still s w f =
-    let e : greatest w.high (filter (is_confirmed s w) (named s w)) ≡ w.high = greatest-still w.high (filter (is_confirmed s w) (named s w)) (λ t i. let r = from-filter (is_confirmed s w) t (named s w) i in f t r.0 r.1) in
+    let e : greatest w.high (filter (is_confirmed s w) (named s w)) ≡ w.high =
+    greatest-still w.high (filter (is_confirmed s w) (named s w))
+    (λ t i. let r = from-filter (is_confirmed s w) t (named s w) i in f t r.0 r.1) in
     λ i. record w { high = e i }
 
 pub record NewHigh (s : Seen) (w : Votes) : Type 0 where
@@ -66,16 +79,19 @@ unfolding raise_high
 raise_high-moves s w = record {
   h = greatest w.high (filter (is_confirmed s w) (named s w));
   is = refl;
-  above = λ t i c. greatest-above w.high (filter (is_confirmed s w) (named s w)) t (in-filter (is_confirmed s w) t (named s w) i c);
+  above = λ t i c. greatest-above w.high (filter (is_confirmed s w) (named s w)) t
+      (in-filter (is_confirmed s w) t (named s w) i c);
   from = λ t e. elim (greatest-from w.high (filter (is_confirmed s w) (named s w)) t e) [
     | inl k ↦ inl k
     | inr k ↦ inr (from-filter (is_confirmed s w) t (named s w) k).1
   ];
-  stays = high-stays w.high (greatest w.high (filter (is_confirmed s w) (named s w))) (greatest-keeps w.high (filter (is_confirmed s w) (named s w)));
+  stays = high-stays w.high (greatest w.high (filter (is_confirmed s w) (named s w)))
+      (greatest-keeps w.high (filter (is_confirmed s w) (named s w)));
 }
 
 -- b becomes h
-pub follow_high-still : (b : Ballot) (w : Votes) → w.ballot ≡ Some b → ((h : Ballot) → w.high ≡ Some h → below b h ≡ false) → follow_high b w ≡ w
+pub follow_high-still : (b : Ballot) (w : Votes) → w.ballot ≡ Some b
+    → ((h : Ballot) → w.high ≡ Some h → below b h ≡ false) → follow_high b w ≡ w
 unfolding follow_high
 follow_high-still b w e f = go w.high refl
   where
@@ -95,8 +111,22 @@ unfolding follow_high
 follow_high-moves b w = go w.high refl
   where
     at : (h : Ballot) (c : Bool) → w.high ≡ Some h → below b h ≡ c → NewBallot b w
-    at h true k q = record { n = h; is = rw (k, q) refl; from = inr k; above = λ x e. let z : x ≡ h = cc in subst (λ y. below h y ≡ false) (sym z) (below-self h); grows = below-counter b h q }
-    at h false k q = record { n = b; is = rw (k, q) refl; from = inl refl; above = λ x e. let z : x ≡ h = cc in subst (λ y. below b y ≡ false) (sym z) q; grows = omega arith }
+    at h true k q =
+        record {
+          n = h;
+          is = rw (k, q) refl;
+          from = inr k;
+          above = λ x e. let z : x ≡ h = cc in subst (λ y. below h y ≡ false) (sym z) (below-self h);
+          grows = below-counter b h q;
+        }
+    at h false k q =
+        record {
+          n = b;
+          is = rw (k, q) refl;
+          from = inl refl;
+          above = λ x e. let z : x ≡ h = cc in subst (λ y. below b y ≡ false) (sym z) q;
+          grows = omega arith;
+        }
 
     go : (o : Option Ballot) → w.high ≡ o → NewBallot b w
     go None k = record { n = b; is = rw k refl; from = inl refl; above = λ h e. cc; grows = omega arith }
@@ -118,7 +148,8 @@ set_commit-still w None e f = go w.ballot refl
   where
     go : (o : Option Ballot) → w.ballot ≡ o → set_commit w ≡ w
     go None k = rw (k, e) refl
-    go (Some b) k = let q : ((high_counter w b == b.counter) && not (is_aborted w b)) ≡ false = f b k in rw (k, e, q) refl
+    go (Some b) k =
+        let q : ((high_counter w b == b.counter) && not (is_aborted w b)) ≡ false = f b k in rw (k, e, q) refl
 
 pub record NewCommit (w : Votes) : Type 0 where
   pub c : Option Ballot
@@ -129,9 +160,22 @@ pub set_commit-moves : (w : Votes) → NewCommit w
 unfolding set_commit is_aborted high_counter
 set_commit-moves w = go w.ballot w.commit refl refl
   where
-    fresh : (b : Ballot) (c : Bool) → w.ballot ≡ Some b → ((high_counter w b == b.counter) && not (is_aborted w b)) ≡ c → set_commit w ≡ record w { commit = if c then Some b else None } → NewCommit w
-    fresh b true e q is = record { c = Some b; is = is; fixed = not-true _ (and_parts (high_counter w b == b.counter) (not (is_aborted w b)) q).1 }
-    fresh b false e q is = record { c = None; is = is; fixed = λ x k. let z : x ≡ b = cc in subst (λ y. ((high_counter w y == y.counter) && not (is_aborted w y)) ≡ false) (sym z) q }
+    fresh : (b : Ballot) (c : Bool) → w.ballot ≡ Some b → ((high_counter w b == b.counter) && not (is_aborted w b)) ≡ c
+        → set_commit w ≡ record w { commit = if c then Some b else None } → NewCommit w
+    fresh b true e q is =
+        record {
+          c = Some b;
+          is = is;
+          fixed = not-true _
+              (and_parts (high_counter w b == b.counter) (not (is_aborted w b)) q).1;
+        }
+    fresh b false e q is =
+        record {
+          c = None;
+          is = is;
+          fixed = λ x k. let z : x ≡ b = cc in
+              subst (λ y. ((high_counter w y == y.counter) && not (is_aborted w y)) ≡ false) (sym z) q;
+        }
 
     go : (o c : Option Ballot) → w.ballot ≡ o → w.commit ≡ c → NewCommit w
     go None None e k = record { c = None; is = rw (e, k) refl; fixed = λ b q. cc }

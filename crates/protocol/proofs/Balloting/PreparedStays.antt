@@ -46,7 +46,8 @@ implies-under b t h =
 own-ballot : (w : Votes) (b : Ballot) → w.phase ≡ Preparing → w.ballot ≡ Some b → IsIn b (own_named w)
 own-ballot w b p e = rw (position-preparing w b p e) (inl refl)
 
-own-prepared : (w : Votes) (b t : Ballot) → w.phase ≡ Preparing → w.ballot ≡ Some b → w.prepared ≡ Some t → IsIn t (own_named w)
+own-prepared : (w : Votes) (b t : Ballot) → w.phase ≡ Preparing → w.ballot ≡ Some b → w.prepared ≡ Some t
+    → IsIn t (own_named w)
 own-prepared w b t p e k = rw (position-preparing w b p e) (rw k (inr (inl refl)))
 
 preparing≢committing : {A : Type 0} (p : Phase) → p ≡ Preparing → p ≡ Committing → A
@@ -60,7 +61,10 @@ fixed-commit w None d h = go w.high w.prepared refl refl
     go : (a p : Option Ballot) → w.high ≡ a → w.prepared ≡ p → Fixed (record w { commit = d }) None
     go a p i j = λ x e. same x a p i j (h x e)
       where
-        same : (x : Ballot) (a p : Option Ballot) → w.high ≡ a → w.prepared ≡ p → ((high_counter w x == x.counter) && not (is_aborted w x)) ≡ false → ((high_counter (record w { commit = d }) x == x.counter) && not (is_aborted (record w { commit = d }) x)) ≡ false
+        same : (x : Ballot) (a p : Option Ballot) → w.high ≡ a → w.prepared ≡ p
+            → ((high_counter w x == x.counter) && not (is_aborted w x)) ≡ false
+            → ((high_counter (record w { commit = d }) x == x.counter)
+            && not (is_aborted (record w { commit = d }) x)) ≡ false
         same x a p i j k = k
 fixed-commit w (Some c) d h = h
 
@@ -81,7 +85,8 @@ pub record Ready (s : Seen) (b : Ballot) (w : Votes) : Type 0 where
   pub above_h : (h : Ballot) → u.high ≡ Some h → below n h ≡ false
   pub fixed : Fixed u u.commit
 
-module _ (s : Seen) (f : Fair s) (b : Ballot) (w : Votes) (phase : w.phase ≡ Preparing) (ballot : w.ballot ≡ Some b) (sound : Sound w) where
+module _ (s : Seen) (f : Fair s) (b : Ballot) (w : Votes) (phase : w.phase ≡ Preparing) (ballot : w.ballot ≡ Some b)
+    (sound : Sound w) where
   pub ready : Ready s b w
   ready =
       let N = accept_prepared-moves s b w in
@@ -98,8 +103,11 @@ module _ (s : Seen) (f : Fair s) (b : Ballot) (w : Votes) (phase : w.phase ≡ P
       let at4 = position-preparing u F.n phase refl in
       let at1 = position-preparing w b phase ballot in
       let high_at : (t : Ballot) → M.h ≡ Some t → above N.p t ≡ false = λ t e. elim (M.from t e) [
-        | inl k ↦ let z : Under (Some t) w.prepared = rw k at sound.high in under-trans (Some t) w.prepared N.p z N.grows
-        | inr k ↦ own_under b N.p A (high_counter w2 b) (commit_counter w2 b) t low (subst (λ o. passes (takes_prepare t) o ≡ true) at2 (quorum_own s f Kind.Ballot (position w2) (takes_prepare t) k))
+        | inl k ↦ let z : Under (Some t) w.prepared = rw k at sound.high in
+            under-trans (Some t) w.prepared N.p z N.grows
+        | inr k ↦ own_under b N.p A (high_counter w2 b) (commit_counter w2 b) t low
+            (subst (λ o. passes (takes_prepare t) o ≡ true) at2
+            (quorum_own s f Kind.Ballot (position w2) (takes_prepare t) k))
       ] in
       let high_under : Under M.h N.p = under_each M.h N.p (λ t e. high_at t e) in
       let new_under : (F.n ≡ b) ⊎ (above N.p F.n ≡ false) = elim F.from [
@@ -108,7 +116,8 @@ module _ (s : Seen) (f : Fair s) (b : Ballot) (w : Votes) (phase : w.phase ≡ P
       ] in
       record {
         u = u;
-        is = ap (λ x. set_commit (follow_high b (raise_high s x))) N.is ∙ (ap (λ x. set_commit (follow_high b x)) M.is ∙ (ap set_commit F.is ∙ C.is));
+        is = ap (λ x. set_commit (follow_high b (raise_high s x))) N.is
+            ∙ (ap (λ x. set_commit (follow_high b x)) M.is ∙ (ap set_commit F.is ∙ C.is));
         n = F.n;
         ballot = refl;
         phase = phase;
@@ -121,22 +130,29 @@ module _ (s : Seen) (f : Fair s) (b : Ballot) (w : Votes) (phase : w.phase ≡ P
         still_p = accept_prepared-still s F.n u (λ t i v acc. elim (cases_Bool (above N.p t)) [
           | inr k ↦ k
           | inl k ↦
-              let own : passes (takes_prepare t) (position u) ≡ false = rw at4 (not_own F.n N.p A (high_counter u F.n) (commit_counter u F.n) t low k) in
-              let backs : passes (backs_prepare t) (position u) ≡ true → passes (backs_prepare t) (position w) ≡ true = λ h.
-              let j : (implies F.n t || takes_prepare t (Prepare F.n N.p A (high_counter u F.n) (commit_counter u F.n))) ≡ true = rw at4 at h in
-              let imp : implies F.n t ≡ true = first_holds _ _ j (not_own F.n N.p A (high_counter u F.n) (commit_counter u F.n) t low k) in
+              let own : passes (takes_prepare t) (position u) ≡ false =
+              rw at4 (not_own F.n N.p A (high_counter u F.n) (commit_counter u F.n) t low k) in
+              let backs : passes (backs_prepare t) (position u) ≡ true
+              → passes (backs_prepare t) (position w) ≡ true = λ h.
+              let j : (implies F.n t || takes_prepare t (Prepare F.n N.p A (high_counter u F.n) (commit_counter u F.n)))
+              ≡ true = rw at4 at h in
+              let imp : implies F.n t ≡ true =
+              first_holds _ _ j (not_own F.n N.p A (high_counter u F.n) (commit_counter u F.n) t low k) in
               elim new_under [
                 | inl e ↦ rw at1 (or_left (implies b t) _ (subst (λ x. implies x t ≡ true) e imp))
                 | inr e ↦ absurd (true≢false (sym k ∙ above-trans N.p F.n t e (implies-under F.n t imp)))
               ] in
-              let acc1 : is_accepted s w t ≡ true = accepted-from s f (position u) (position w) (backs_prepare t) (takes_prepare t) backs own acc in
+              let acc1 : is_accepted s w t ≡ true =
+              accepted-from s f (position u) (position w) (backs_prepare t) (takes_prepare t) backs own acc in
               let parts = named-parts s u t i in
               let all : may_be_prepared w.phase b.value t ≡ true = rw phase refl in
               elim parts.1 [
                 | inl r ↦ N.above t (named-row s w t parts.0 r) all acc1
                 | inr o ↦ elim (own-preparing u F.n t phase refl o) [
                   | inl e ↦ elim new_under [
-                    | inl e1 ↦ N.above t (named-own s w t parts.0 (subst (λ x. IsIn x (own_named w)) (sym (e ∙ e1)) (own-ballot w b phase ballot))) all acc1
+                    | inl e1 ↦ N.above t
+                        (named-own s w t parts.0
+                        (subst (λ x. IsIn x (own_named w)) (sym (e ∙ e1)) (own-ballot w b phase ballot))) all acc1
                     | inr e1 ↦ subst (λ x. above N.p x ≡ false) (sym e) e1
                   ]
                   | inr e ↦ subst (λ o. above o t ≡ false) (sym e) (below-self t)
@@ -144,16 +160,22 @@ module _ (s : Seen) (f : Fair s) (b : Ballot) (w : Votes) (phase : w.phase ≡ P
               ]
         ]);
         still_h = raise_high-still s u (λ t i con.
-            let own : passes (takes_prepare t) (position u) ≡ true = quorum_own s f Kind.Ballot (position u) (takes_prepare t) con in
+            let own : passes (takes_prepare t) (position u) ≡ true =
+            quorum_own s f Kind.Ballot (position u) (takes_prepare t) con in
             let own2 : passes (takes_prepare t) (position w2) ≡ true = rw at2 (rw at4 at own) in
-            let con2 : is_confirmed s w2 t ≡ true = quorum_more s f Kind.Ballot (position u) (position w2) (takes_prepare t) own2 con in
+            let con2 : is_confirmed s w2 t ≡ true =
+            quorum_more s f Kind.Ballot (position u) (position w2) (takes_prepare t) own2 con in
             let parts = named-parts s u t i in
             elim parts.1 [
               | inl r ↦ M.above t (named-row s w2 t parts.0 r) con2
               | inr o ↦ elim (own-preparing u F.n t phase refl o) [
                 | inl e ↦ elim F.from [
-                  | inl e1 ↦ M.above t (named-own s w2 t parts.0 (subst (λ x. IsIn x (own_named w2)) (sym (e ∙ e1)) (own-ballot w2 b phase ballot))) con2
-                  | inr e1 ↦ let z : M.h ≡ Some F.n = e1 in subst (λ x. above M.h x ≡ false) (sym e) (subst (λ o. above o F.n ≡ false) (sym z) (below-self F.n))
+                  | inl e1 ↦ M.above t
+                      (named-own s w2 t parts.0
+                      (subst (λ x. IsIn x (own_named w2)) (sym (e ∙ e1)) (own-ballot w2 b phase ballot))) con2
+                  | inr e1 ↦ let z : M.h ≡ Some F.n = e1 in
+                      subst (λ x. above M.h x ≡ false) (sym e)
+                      (subst (λ o. above o F.n ≡ false) (sym z) (below-self F.n))
                 ]
                 | inr e ↦ M.above t (named-own s w2 t parts.0 (own-prepared w2 b t phase ballot e)) con2
               ]

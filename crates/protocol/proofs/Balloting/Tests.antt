@@ -27,17 +27,25 @@ backs_value x = λ s. votes_or_accepts_nominate s x
 abbrev pub takes_value : List ℕ → Statement → Bool
 takes_value x = λ s. accepts_nominate s x
 
--- a quorum has the node's own position pass, and stays one under another position that passes; blocking grows with the test
+-- a quorum has the node's own position pass, and stays one under another position that passes; blocking grows with the
+-- test
 pub record Fair (s : Seen) : Type 0 where
   pub own : (k : Kind) (own : Bool) (test : Statement → Bool) → s.quorum k own test ≡ true → own ≡ true
-  pub blocks : (k : Kind) (own other : Bool) (test weaker : Statement → Bool) → ((x : Statement) → test x ≡ true → weaker x ≡ true) → (own ≡ true → other ≡ true) → s.blocking k own test ≡ true → s.blocking k other weaker ≡ true
+  pub blocks : (k : Kind) (own other : Bool) (test weaker : Statement → Bool)
+      → ((x : Statement) → test x ≡ true → weaker x ≡ true) → (own ≡ true → other ≡ true) → s.blocking k own test ≡ true
+      → s.blocking k other weaker ≡ true
 
-pub quorum_own : (s : Seen) → Fair s → (k : Kind) (own : Option Statement) (test : Statement → Bool) → s.quorum k (passes test own) test ≡ true → passes test own ≡ true
+pub quorum_own : (s : Seen) → Fair s → (k : Kind) (own : Option Statement) (test : Statement → Bool)
+    → s.quorum k (passes test own) test ≡ true → passes test own ≡ true
 quorum_own s f k own test h = f.own k (passes test own) test h
 
-pub quorum_more : (s : Seen) → Fair s → (k : Kind) (own other : Option Statement) (test : Statement → Bool) → passes test other ≡ true → s.quorum k (passes test own) test ≡ true → s.quorum k (passes test other) test ≡ true
-quorum_more s f k own other test i h = let o : passes test own ≡ true = f.own k (passes test own) test h in subst (λ b. s.quorum k b test ≡ true) (o ∙ sym i) h
+pub quorum_more : (s : Seen) → Fair s → (k : Kind) (own other : Option Statement) (test : Statement → Bool)
+    → passes test other ≡ true → s.quorum k (passes test own) test ≡ true → s.quorum k (passes test other) test ≡ true
+quorum_more s f k own other test i h =
+    let o : passes test own ≡ true = f.own k (passes test own) test h in
+    subst (λ b. s.quorum k b test ≡ true) (o ∙ sym i) h
 
-pub blocking_more : (s : Seen) → Fair s → (k : Kind) (own other : Option Statement) (test weaker : Statement → Bool) → ((x : Statement) → test x ≡ true → weaker x ≡ true) → (passes test own ≡ true → passes weaker other ≡ true)
+pub blocking_more : (s : Seen) → Fair s → (k : Kind) (own other : Option Statement) (test weaker : Statement → Bool)
+    → ((x : Statement) → test x ≡ true → weaker x ≡ true) → (passes test own ≡ true → passes weaker other ≡ true)
     → s.blocking k (passes test own) test ≡ true → s.blocking k (passes weaker other) weaker ≡ true
 blocking_more s f k own other test weaker m g h = f.blocks k (passes test own) (passes weaker other) test weaker m g h

@@ -41,9 +41,11 @@ pub record NewInterval (s : Seen) (b p : Ballot) (w : Votes) : Type 0 where
   pub voted : u.voted ≡ w.voted
   pub accepts : u.accepts ≡ w.accepts
   pub confirms : u.confirms ≡ w.confirms
-  pub greatest_hi : (t : Ballot) → IsIn t (commits s w) → (same_value t.value b.value) ≡ true → nat_lt u.hi t.counter ≡ true → commit_accepted s w t.value t.counter t.counter ≡ true → ⊥
+  pub greatest_hi : (t : Ballot) → IsIn t (commits s w) → (same_value t.value b.value) ≡ true
+      → nat_lt u.hi t.counter ≡ true → commit_accepted s w t.value t.counter t.counter ≡ true → ⊥
 
-pub widens : (s : Seen) (b p : Ballot) (w : Votes) → w.ballot ≡ Some b → w.prepared ≡ Some p → p.value ≡ b.value → w.hi ≤ p.counter → w.lo ≤ w.hi → NewInterval s b p w
+pub widens : (s : Seen) (b p : Ballot) (w : Votes) → w.ballot ≡ Some b → w.prepared ≡ Some p → p.value ≡ b.value
+    → w.hi ≤ p.counter → w.lo ≤ w.hi → NewInterval s b p w
 unfolding accept_commit widen_commit next_committed accepted_from
 widens s b p w ballot prepared value hi lo = go (greatest None (filter test (commits s w))) refl
   where
@@ -75,20 +77,34 @@ widens s b p w ballot prepared value hi lo = go (greatest None (filter test (com
       voted = refl;
       accepts = refl;
       confirms = refl;
-      greatest_hi = λ t i v c a. let k : above None t ≡ false = subst (λ o. above o t ≡ false) e (greatest-above None (filter test (commits s w)) t (in-filter test t (commits s w) i (and_from ((same_value t.value b.value) && nat_lt w.hi t.counter) (commit_accepted s w t.value t.counter t.counter) (and_from (same_value t.value b.value) (nat_lt w.hi t.counter) v c) a))) in true≢false k;
+      greatest_hi = λ t i v c a. let k : above None t ≡ false =
+          subst (λ o. above o t ≡ false) e
+          (greatest-above None (filter test (commits s w)) t
+          (in-filter test t (commits s w) i
+          (and_from ((same_value t.value b.value) && nat_lt w.hi t.counter)
+          (commit_accepted s w t.value t.counter t.counter)
+          (and_from (same_value t.value b.value) (nat_lt w.hi t.counter) v c) a))) in true≢false k;
     }
     go (Some t) e =
         let ok : test t ≡ true = elim (greatest-from None (filter test (commits s w)) t e) [
           | inl k ↦ cc
           | inr i ↦ (from-filter test t (commits s w) i).1
         ] in
-        let parts = and_parts (same_value t.value b.value) (nat_lt w.hi t.counter) (and_parts ((same_value t.value b.value) && nat_lt w.hi t.counter) (commit_accepted s w t.value t.counter t.counter) ok).0 in
+        let parts =
+        and_parts (same_value t.value b.value) (nat_lt w.hi t.counter)
+        (and_parts ((same_value t.value b.value) && nat_lt w.hi t.counter)
+        (commit_accepted s w t.value t.counter t.counter) ok).0 in
         let v : t.value ≡ b.value = same_value-true t.value b.value parts.0 in
         let r = greatest-one w.prepared t in
         let n = ballot_at (max b.counter t.counter) t.value in
         let up : w.hi ≤ t.counter = less w.hi t.counter parts.1 in
         record {
-          u = record w { ballot = Some n; prepared = greatest w.prepared (t ∷ []); hi = t.counter; lo = lowest (λ lo. commit_accepted s w t.value lo t.counter) t.value t.counter (commits s w) };
+          u = record w {
+            ballot = Some n;
+            prepared = greatest w.prepared (t ∷ []);
+            hi = t.counter;
+            lo = lowest (λ lo. commit_accepted s w t.value lo t.counter) t.value t.counter (commits s w);
+          };
           is = rw e refl;
           phase = refl;
           n = n;
@@ -96,7 +112,8 @@ widens s b p w ballot prepared value hi lo = go (greatest None (filter test (com
           ballot = refl;
           prepared = r.1;
           value = elim (one-from w.prepared t r.0 r.1) [
-            | inl k ↦ let z : r.0 ≡ p = same_Some r.0 p (sym k ∙ prepared) in ap (λ (x : Ballot). x.value) z ∙ (value ∙ sym v)
+            | inl k ↦ let z : r.0 ≡ p = same_Some r.0 p (sym k ∙ prepared) in ap (λ (x : Ballot). x.value) z
+                ∙ (value ∙ sym v)
             | inr k ↦ ap (λ (x : Ballot). x.value) k
           ];
           kept = v;
@@ -111,7 +128,15 @@ widens s b p w ballot prepared value hi lo = go (greatest None (filter test (com
           voted = refl;
           accepts = refl;
           confirms = refl;
-          greatest_hi = λ x i y c a. let k : above (Some t) x ≡ false = subst (λ o. above o x ≡ false) e (greatest-above None (filter test (commits s w)) x (in-filter test x (commits s w) i (and_from ((same_value x.value b.value) && nat_lt w.hi x.counter) (commit_accepted s w x.value x.counter x.counter) (and_from (same_value x.value b.value) (nat_lt w.hi x.counter) y (less_less w.hi t.counter x.counter up c)) a))) in
+          greatest_hi =
+              λ x i y c a. let k : above (Some t) x ≡ false =
+              subst (λ o. above o x ≡ false) e
+              (greatest-above None (filter test (commits s w)) x
+              (in-filter test x (commits s w) i
+              (and_from ((same_value x.value b.value) && nat_lt w.hi x.counter)
+              (commit_accepted s w x.value x.counter x.counter)
+              (and_from (same_value x.value b.value) (nat_lt w.hi x.counter) y
+              (less_less w.hi t.counter x.counter up c)) a))) in
               under_top t x k c;
         }
       where
@@ -121,10 +146,14 @@ widens s b p w ballot prepared value hi lo = go (greatest None (filter test (com
         less_less : (a c d : ℕ) → a ≤ c → nat_lt c d ≡ true → nat_lt a d ≡ true
         less_less a c d h k = grind (arith, nat_tests)
 
-        newer : (b t q : Ballot) → t.value ≡ b.value → below q t ≡ false → (ballot_at (max b.counter t.counter) t.value ≡ b) ⊎ (below q (ballot_at (max b.counter t.counter) t.value) ≡ false)
+        newer : (b t q : Ballot) → t.value ≡ b.value → below q t ≡ false
+            → (ballot_at (max b.counter t.counter) t.value ≡ b)
+            ⊎ (below q (ballot_at (max b.counter t.counter) t.value) ≡ false)
         newer b t q v h = elim (cases_Bool (nat_le t.counter b.counter)) [
-          | inl k ↦ let m : max b.counter t.counter ≡ b.counter = left b.counter t.counter k in inl (λ i. record { counter = m i; value = v i })
-          | inr k ↦ let m : max b.counter t.counter ≡ t.counter = right b.counter t.counter k in inr (subst (λ c. below q (ballot_at c t.value) ≡ false) (sym m) h)
+          | inl k ↦ let m : max b.counter t.counter ≡ b.counter = left b.counter t.counter k in
+              inl (λ i. record { counter = m i; value = v i })
+          | inr k ↦ let m : max b.counter t.counter ≡ t.counter = right b.counter t.counter k in
+              inr (subst (λ c. below q (ballot_at c t.value) ≡ false) (sym m) h)
         ]
           where
             left : (a c : ℕ) → nat_le c a ≡ true → max a c ≡ a

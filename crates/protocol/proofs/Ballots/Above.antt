@@ -27,7 +27,8 @@ pub under-self : (p : Option Ballot) → Under p p
 under-self None = tt
 under-self (Some p) = below-self p
 
-pick : (a b : Ballot) (c : Bool) → below a b ≡ c → (below (if c then b else a) b ≡ false) × (below (if c then b else a) a ≡ false)
+pick : (a b : Ballot) (c : Bool) → below a b ≡ c
+    → (below (if c then b else a) b ≡ false) × (below (if c then b else a) a ≡ false)
 pick a b true e = (below-self b, below-asym a b e)
 pick a b false e = (e, below-self a)
 
@@ -35,24 +36,33 @@ pub greatest-keeps : (best : Option Ballot) (ts : List Ballot) → Under best (g
 unfolding greatest
 greatest-keeps best [] = under-self best
 greatest-keeps None (b ∷ bs) = tt
-greatest-keeps (Some a) (b ∷ bs) = above-trans (greatest (Some (if below a b then b else a)) bs) (if below a b then b else a) a (greatest-keeps (Some (if below a b then b else a)) bs) (pick a b (below a b) refl).1
+greatest-keeps (Some a) (b ∷ bs) =
+    above-trans (greatest (Some (if below a b then b else a)) bs) (if below a b then b else a) a
+    (greatest-keeps (Some (if below a b then b else a)) bs) (pick a b (below a b) refl).1
 
-pub greatest-above : (best : Option Ballot) (ts : List Ballot) (t : Ballot) → IsIn t ts → above (greatest best ts) t ≡ false
+pub greatest-above : (best : Option Ballot) (ts : List Ballot) (t : Ballot) → IsIn t ts
+    → above (greatest best ts) t ≡ false
 unfolding greatest
 greatest-above best [] t i = absurd i
-greatest-above None (b ∷ bs) t (inl e) = subst (λ x. above (greatest (Some b) bs) x ≡ false) (sym e) (greatest-keeps (Some b) bs)
+greatest-above None (b ∷ bs) t (inl e) =
+    subst (λ x. above (greatest (Some b) bs) x ≡ false) (sym e) (greatest-keeps (Some b) bs)
 greatest-above None (b ∷ bs) t (inr i) = greatest-above (Some b) bs t i
-greatest-above (Some a) (b ∷ bs) t (inl e) = subst (λ x. above (greatest (Some (if below a b then b else a)) bs) x ≡ false) (sym e)
-    (above-trans (greatest (Some (if below a b then b else a)) bs) (if below a b then b else a) b (greatest-keeps (Some (if below a b then b else a)) bs) (pick a b (below a b) refl).0)
+greatest-above (Some a) (b ∷ bs) t (inl e) =
+    subst (λ x. above (greatest (Some (if below a b then b else a)) bs) x ≡ false) (sym e)
+    (above-trans (greatest (Some (if below a b then b else a)) bs) (if below a b then b else a) b
+    (greatest-keeps (Some (if below a b then b else a)) bs) (pick a b (below a b) refl).0)
 greatest-above (Some a) (b ∷ bs) t (inr i) = greatest-above (Some (if below a b then b else a)) bs t i
 
-pub greatest-still : (best : Option Ballot) (ts : List Ballot) → ((t : Ballot) → IsIn t ts → above best t ≡ false) → greatest best ts ≡ best
+pub greatest-still : (best : Option Ballot) (ts : List Ballot) → ((t : Ballot) → IsIn t ts → above best t ≡ false)
+    → greatest best ts ≡ best
 unfolding greatest
 greatest-still best [] f = refl
 greatest-still None (b ∷ bs) f = absurd (true≢false (f b (inl refl)))
-greatest-still (Some a) (b ∷ bs) f = let e : below a b ≡ false = f b (inl refl) in rw e (greatest-still (Some a) bs (λ t i. f t (inr i)))
+greatest-still (Some a) (b ∷ bs) f =
+    let e : below a b ≡ false = f b (inl refl) in rw e (greatest-still (Some a) bs (λ t i. f t (inr i)))
 
-pub greatest-from : (best : Option Ballot) (ts : List Ballot) (g : Ballot) → greatest best ts ≡ Some g → (best ≡ Some g) ⊎ IsIn g ts
+pub greatest-from : (best : Option Ballot) (ts : List Ballot) (g : Ballot) → greatest best ts ≡ Some g
+    → (best ≡ Some g) ⊎ IsIn g ts
 unfolding greatest
 greatest-from best [] g h = inl h
 greatest-from None (b ∷ bs) g h = elim (greatest-from (Some b) bs g h) [
@@ -100,12 +110,14 @@ pub from-filter : (p : Ballot → Bool) (t : Ballot) (xs : List Ballot) → IsIn
 from-filter p t [] i = absurd i
 from-filter p t (x ∷ xs) i = go (p x) refl i (λ j. from-filter p t xs j)
   where
-    go : (c : Bool) → p x ≡ c → IsIn t (cond c (x ∷ filter p xs) (filter p xs)) → (IsIn t (filter p xs) → IsIn t xs × (p t ≡ true)) → IsIn t (x ∷ xs) × (p t ≡ true)
+    go : (c : Bool) → p x ≡ c → IsIn t (cond c (x ∷ filter p xs) (filter p xs))
+        → (IsIn t (filter p xs) → IsIn t xs × (p t ≡ true)) → IsIn t (x ∷ xs) × (p t ≡ true)
     go true k (inl e) ih = (inl e, subst (λ y. p y ≡ true) (sym e) k)
     go true k (inr j) ih = let r = ih j in (inr r.0, r.1)
     go false k j ih = let r = ih j in (inr r.0, r.1)
 
-pub flat_map-append : (f : Statement → List Ballot) (xs ys : List Statement) (t : Ballot) → IsIn t (flat_map f (xs ++ ys)) → IsIn t (flat_map f xs) ⊎ IsIn t (flat_map f ys)
+pub flat_map-append : (f : Statement → List Ballot) (xs ys : List Statement) (t : Ballot)
+    → IsIn t (flat_map f (xs ++ ys)) → IsIn t (flat_map f xs) ⊎ IsIn t (flat_map f ys)
 flat_map-append f [] ys t i = inr i
 flat_map-append f (x ∷ xs) ys t i = elim (in-either t (f x) (flat_map f (xs ++ ys)) i) [
   | inl j ↦ inl (in-left t (f x) (flat_map f xs) j)
@@ -115,14 +127,16 @@ flat_map-append f (x ∷ xs) ys t i = elim (in-either t (f x) (flat_map f (xs ++
   ]
 ]
 
-pub flat_map-left : (f : Statement → List Ballot) (xs ys : List Statement) (t : Ballot) → IsIn t (flat_map f xs) → IsIn t (flat_map f (xs ++ ys))
+pub flat_map-left : (f : Statement → List Ballot) (xs ys : List Statement) (t : Ballot) → IsIn t (flat_map f xs)
+    → IsIn t (flat_map f (xs ++ ys))
 flat_map-left f [] ys t i = absurd i
 flat_map-left f (x ∷ xs) ys t i = elim (in-either t (f x) (flat_map f xs) i) [
   | inl j ↦ in-left t (f x) (flat_map f (xs ++ ys)) j
   | inr j ↦ in-right t (f x) (flat_map f (xs ++ ys)) (flat_map-left f xs ys t j)
 ]
 
-pub flat_map-right : (f : Statement → List Ballot) (xs ys : List Statement) (t : Ballot) → IsIn t (flat_map f ys) → IsIn t (flat_map f (xs ++ ys))
+pub flat_map-right : (f : Statement → List Ballot) (xs ys : List Statement) (t : Ballot) → IsIn t (flat_map f ys)
+    → IsIn t (flat_map f (xs ++ ys))
 flat_map-right f [] ys t i = i
 flat_map-right f (x ∷ xs) ys t i = in-right t (f x) (flat_map f (xs ++ ys)) (flat_map-right f xs ys t i)
 
@@ -136,7 +150,9 @@ aborted-by (Some o) (Some p) a h u = elim (cases_Bool (same_value o.value p.valu
   | inl e ↦ rw e (through a o.counter p.counter h (not_below-counter p o u))
   | inr e ↦ rw e (elim (cases_Bool (less o.value p.value)) [
     | inl l ↦ rw l (most a o.counter p.counter h (not_below-counter p o u))
-    | inr l ↦ rw l (past a o.counter p.counter (less p.value o.value) h (sym (below-parts p o) ∙ u) (less-total o.value p.value l e))
+    | inr l ↦ rw l
+        (past a o.counter p.counter (less p.value o.value) h (sym (below-parts p o) ∙ u)
+        (less-total o.value p.value l e))
   ])
 ]
   where
@@ -156,12 +172,14 @@ aborted-same (Some o) a = let e : same_value o.value o.value ≡ true = same_val
 pub least_from-low : (fuel n : ℕ) (test : ℕ → Bool) → n ≤ least_from fuel n test
 unfolding least_from
 least_from-low zero n test = omega arith
-least_from-low (suc fuel) n test = let k : n + 1 ≤ least_from fuel (n + 1) test = least_from-low fuel (n + 1) test in elim (cases_Bool (test n)) [
-  | inl e ↦ rw e (omega arith)
-  | inr e ↦ rw e (omega (arith, k))
-]
+least_from-low (suc fuel) n test = let k : n + 1 ≤ least_from fuel (n + 1) test = least_from-low fuel (n + 1) test in
+    elim (cases_Bool (test n)) [
+      | inl e ↦ rw e (omega arith)
+      | inr e ↦ rw e (omega (arith, k))
+    ]
 
-pub least_from-ends : (fuel n : ℕ) (test : ℕ → Bool) → (test (least_from fuel n test) ≡ true) ⊎ (n + fuel ≤ least_from fuel n test)
+pub least_from-ends : (fuel n : ℕ) (test : ℕ → Bool)
+    → (test (least_from fuel n test) ≡ true) ⊎ (n + fuel ≤ least_from fuel n test)
 unfolding least_from
 least_from-ends zero n test = inr (omega arith)
 least_from-ends (suc fuel) n test = let k = least_from-ends fuel (n + 1) test in elim (cases_Bool (test n)) [
@@ -182,7 +200,10 @@ pub lowest-low : (test : ℕ → Bool) (x : List ℕ) (lo : ℕ) (ts : List Ball
 unfolding lowest
 lowest-low test x lo [] = omega arith
 lowest-low test x lo (t ∷ ts) = elim (cases_Bool ((same_value t.value x) && nat_lt t.counter lo && test t.counter)) [
-  | inl e ↦ rw e (let k = lowest-low test x t.counter ts in let q = and_parts ((same_value t.value x) && nat_lt t.counter lo) (test t.counter) e in let r = and_parts (same_value t.value x) (nat_lt t.counter lo) q.0 in
+  | inl e ↦ rw e
+      (let k = lowest-low test x t.counter ts in
+      let q = and_parts ((same_value t.value x) && nat_lt t.counter lo) (test t.counter) e in let r =
+      and_parts (same_value t.value x) (nat_lt t.counter lo) q.0 in
       below_le _ t.counter lo k r.1)
   | inr e ↦ rw e (lowest-low test x lo ts)
 ]

@@ -16,12 +16,15 @@ from_some m [] = (m, refl, record { has = inl refl; above = λ t i. only t i })
     only t (inr i) = absurd i
 from_some m (t ∷ ts) = go (below m t) refl (from_some t ts) (from_some m ts)
   where
-    go : (b : Bool) → below m t ≡ b → (g : Ballot) × (greatest (Some t) ts ≡ Some g) × IsGreatest (t ∷ ts) g → (g : Ballot) × (greatest (Some m) ts ≡ Some g) × IsGreatest (m ∷ ts) g
+    go : (b : Bool) → below m t ≡ b → (g : Ballot) × (greatest (Some t) ts ≡ Some g) × IsGreatest (t ∷ ts) g
+        → (g : Ballot) × (greatest (Some m) ts ≡ Some g) × IsGreatest (m ∷ ts) g
         → (g : Ballot) × (greatest (Some (if b then t else m)) ts ≡ Some g) × IsGreatest (m ∷ t ∷ ts) g
     go true e up on = (up.0, up.1, record { has = inr up.2.has; above = λ x i. rest x i })
       where
         rest : (x : Ballot) → IsIn x (m ∷ t ∷ ts) → below up.0 x ≡ false
-        rest x (inl q) = subst (λ y. below up.0 y ≡ false) (sym q) (below-trans up.0 t m (up.2.above t (inl refl)) (below-asym m t e))
+        rest x (inl q) =
+            subst (λ y. below up.0 y ≡ false) (sym q)
+            (below-trans up.0 t m (up.2.above t (inl refl)) (below-asym m t e))
         rest x (inr i) = up.2.above x i
     go false e up on = (on.0, on.1, record { has = has on.2.has; above = λ x i. rest x i })
       where
@@ -31,7 +34,8 @@ from_some m (t ∷ ts) = go (below m t) refl (from_some t ts) (from_some m ts)
 
         rest : (x : Ballot) → IsIn x (m ∷ t ∷ ts) → below on.0 x ≡ false
         rest x (inl q) = on.2.above x (inl q)
-        rest x (inr (inl q)) = subst (λ y. below on.0 y ≡ false) (sym q) (below-trans on.0 m t (on.2.above m (inl refl)) e)
+        rest x (inr (inl q)) =
+            subst (λ y. below on.0 y ≡ false) (sym q) (below-trans on.0 m t (on.2.above m (inl refl)) e)
         rest x (inr (inr i)) = on.2.above x (inr i)
 
 -- the function gives a greatest

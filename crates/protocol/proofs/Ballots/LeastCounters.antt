@@ -10,15 +10,21 @@ use Rattle.protocol.proofs.Ballots.Above.{least_from-low, lowest-low}
 
 -- ---- the lowest commit counter
 module _ (test : ℕ → Bool) (x : List ℕ) where
-  lowest-below : (lo : ℕ) (ts : List Ballot) (t : Ballot) → IsIn t ts → same_value t.value x ≡ true → test t.counter ≡ true → lowest test x lo ts ≤ t.counter
+  lowest-below : (lo : ℕ) (ts : List Ballot) (t : Ballot) → IsIn t ts → same_value t.value x ≡ true
+      → test t.counter ≡ true → lowest test x lo ts ≤ t.counter
   unfolding lowest
   lowest-below lo [] t i v h = absurd i
-  lowest-below lo (s ∷ ts) t (inr i) v h = lowest-below (if same_value s.value x && nat_lt s.counter lo && test s.counter then s.counter else lo) ts t i v h
+  lowest-below lo (s ∷ ts) t (inr i) v h =
+      lowest-below (if same_value s.value x && nat_lt s.counter lo && test s.counter then s.counter else lo) ts t i v h
   lowest-below lo (s ∷ ts) t (inl e) v h =
       let sv : same_value s.value x ≡ true = subst (λ (b : Ballot). same_value b.value x ≡ true) e v in
       let sh : test s.counter ≡ true = subst (λ (b : Ballot). test b.counter ≡ true) e h in
-      subst (λ (b : Ballot). lowest test x (if same_value s.value x && nat_lt s.counter lo && test s.counter then s.counter else lo) ts ≤ b.counter) (sym e) (elim (cases_Bool (nat_lt s.counter lo)) [
-        | inl l ↦ let a = and_from (same_value s.value x && nat_lt s.counter lo) (test s.counter) (and_from (same_value s.value x) (nat_lt s.counter lo) sv l) sh in rw a (lowest-low test x s.counter ts)
+      subst (λ (b : Ballot). lowest test x
+      (if same_value s.value x && nat_lt s.counter lo && test s.counter then s.counter else lo) ts ≤ b.counter)
+      (sym e) (elim (cases_Bool (nat_lt s.counter lo)) [
+        | inl l ↦ let a =
+            and_from (same_value s.value x && nat_lt s.counter lo) (test s.counter)
+            (and_from (same_value s.value x) (nat_lt s.counter lo) sv l) sh in rw a (lowest-low test x s.counter ts)
         | inr l ↦ elim (cases_Bool (same_value s.value x && nat_lt s.counter lo && test s.counter)) [
           | inl a ↦ rw a (lowest-low test x s.counter ts)
           | inr a ↦ rw a (through _ lo s.counter (lowest-low test x lo ts) l)
@@ -28,7 +34,10 @@ module _ (test : ℕ → Bool) (x : List ℕ) where
       through : (a b c : ℕ) → a ≤ b → nat_lt c b ≡ false → a ≤ c
       through a b c h k = grind (arith, nat_tests)
 
-  lowest-from : (lo : ℕ) (ts : List Ballot) → (lowest test x lo ts ≡ lo) ⊎ ((t : Ballot) × (IsIn t ts × ((same_value t.value x ≡ true) × ((test t.counter ≡ true) × (t.counter ≡ lowest test x lo ts)))))
+  lowest-from : (lo : ℕ) (ts : List Ballot)
+      → (lowest test x lo ts ≡ lo)
+      ⊎ ((t : Ballot) × (IsIn t ts × ((same_value t.value x ≡ true)
+      × ((test t.counter ≡ true) × (t.counter ≡ lowest test x lo ts)))))
   unfolding lowest
   lowest-from lo [] = inl refl
   lowest-from lo (s ∷ ts) = elim (cases_Bool (same_value s.value x && nat_lt s.counter lo && test s.counter)) [
@@ -46,20 +55,24 @@ module _ (test : ℕ → Bool) (x : List ℕ) where
   ]
 
 pub lowest_is_exact : LowestIsExact
-lowest_is_exact test x lo ts = record { upto = lowest-low test x lo ts; below = lowest-below test x lo ts; from = lowest-from test x lo ts }
+lowest_is_exact test x lo ts =
+    record { upto = lowest-low test x lo ts; below = lowest-below test x lo ts; from = lowest-from test x lo ts }
 
 -- ---- the least number that passes
 least-high : (test : ℕ → Bool) (fuel n : ℕ) → least_from fuel n test ≤ n + fuel
 unfolding least_from
 least-high test zero n = omega arith
-least-high test (suc fuel) n = let k = least-high test fuel (n + 1) in elim (cases_Bool (test n)) [ inl e ↦ rw e (omega arith) | inr e ↦ rw e (omega (arith, k)) ]
+least-high test (suc fuel) n =
+    let k = least-high test fuel (n + 1) in
+    elim (cases_Bool (test n)) [ inl e ↦ rw e (omega arith) | inr e ↦ rw e (omega (arith, k)) ]
 
 least-passes : (test : ℕ → Bool) (fuel n : ℕ) → least_from fuel n test < n + fuel → test (least_from fuel n test) ≡ true
 unfolding least_from
 least-passes test zero n h = absurd (omega (arith, h))
 least-passes test (suc fuel) n h = elim (cases_Bool (test n)) [
   | inl e ↦ rw e e
-  | inr e ↦ let k : least_from fuel (n + 1) test < n + suc fuel = rw e at h in rw e (least-passes test fuel (n + 1) (omega (arith, k)))
+  | inr e ↦ let k : least_from fuel (n + 1) test < n + suc fuel = rw e at h in
+      rw e (least-passes test fuel (n + 1) (omega (arith, k)))
 ]
 
 least-first : (test : ℕ → Bool) (fuel n k : ℕ) → n ≤ k → k < least_from fuel n test → test k ≡ false
@@ -83,4 +96,10 @@ least-first test (suc fuel) n k l h = elim (cases_Bool (test n)) [
         same n k l e = grind (arith, nat_tests)
 
 pub least_from_is_exact : LeastFromIsExact
-least_from_is_exact test fuel n = record { low = least_from-low fuel n test; high = least-high test fuel n; passes = least-passes test fuel n; first = least-first test fuel n }
+least_from_is_exact test fuel n =
+    record {
+      low = least_from-low fuel n test;
+      high = least-high test fuel n;
+      passes = least-passes test fuel n;
+      first = least-first test fuel n;
+    }

@@ -40,12 +40,16 @@ module _ {K : Type 0} {R : K → K → Ordering} (order : IsTotalOrder R) where
       go Less f = absurd (true≢false (sym (ap is_lt f) ∙ k))
       go Equal f = ap is_lt (sym (alike_right order y z x f)) ∙ h
       go Greater f = elim (cases_Bool (is_lt (R x z))) [
-        | inl t ↦ absurd (true≢false (sym (ap is_lt (order.trans x z y (is_less (R x z) t) (order.antisymm z y ∙ ap ordering_reverse f))) ∙ h))
+        | inl t ↦ absurd
+            (true≢false (sym (ap is_lt (order.trans x z y (is_less (R x z) t)
+            (order.antisymm z y ∙ ap ordering_reverse f))) ∙ h))
         | inr t ↦ t
       ]
 
 pub ballots_ordered : IsTotalOrder ballot_cmp
-ballots_ordered = then_total (on_total (λ (b : Ballot). b.counter) nat_cmp_total) (on_total (λ (b : Ballot). b.value) nat_list_cmp_total)
+ballots_ordered =
+    then_total (on_total (λ (b : Ballot). b.counter) nat_cmp_total)
+    (on_total (λ (b : Ballot). b.value) nat_list_cmp_total)
 
 -- ---- values
 pub less-self : (x : List ℕ) → less x x ≡ false
@@ -68,10 +72,13 @@ less-total x y h k = go (bytes_cmp x y) refl
 
 -- ---- ballots
 -- below, by counters and then by values
-pub below-parts : (a b : Ballot) → below a b ≡ (nat_lt a.counter b.counter || ((a.counter == b.counter) && less a.value b.value))
+pub below-parts : (a b : Ballot)
+    → below a b ≡ (nat_lt a.counter b.counter || ((a.counter == b.counter) && less a.value b.value))
 below-parts a b = go (nat_lt a.counter b.counter) (a.counter == b.counter)
   where
-    go : (c d : Bool) → is_lt (ordering_then (cond c Less (cond d Equal Greater)) (bytes_cmp a.value b.value)) ≡ (c || (d && less a.value b.value))
+    go : (c d : Bool)
+        → is_lt (ordering_then (cond c Less (cond d Equal Greater)) (bytes_cmp a.value b.value))
+        ≡ (c || (d && less a.value b.value))
     go true d = refl
     go false true = refl
     go false false = refl
@@ -107,7 +114,8 @@ not_below-counter a b h = over a.counter b.counter (less a.value b.value) (sym (
 
 -- at a smaller counter, or at none greater with one value, a ballot is not above
 pub not_above-value : (a b : Ballot) → b.counter ≤ a.counter → a.value ≡ b.value → below a b ≡ false
-not_above-value a b h e = below-parts a b ∙ over a.counter b.counter (less a.value b.value) h (ap (λ x. less x b.value) e ∙ less-self b.value)
+not_above-value a b h e =
+    below-parts a b ∙ over a.counter b.counter (less a.value b.value) h (ap (λ x. less x b.value) e ∙ less-self b.value)
   where
     over : (m n : ℕ) (l : Bool) → n ≤ m → l ≡ false → (nat_lt m n || ((m == n) && l)) ≡ false
     over m n true h k = absurd (true≢false k)
@@ -118,12 +126,17 @@ pub one_value : (a b : Ballot) → below a b ≡ false → below b a ≡ false �
 one_value a b h k = elim (cases_Bool (same_value a.value b.value)) [
   | inl e ↦ same_text a.value b.value (sym e)
   | inr e ↦ elim (cases_Bool (less a.value b.value)) [
-    | inl l ↦ absurd (over a.counter b.counter (less a.value b.value) (less b.value a.value) (sym (below-parts a b) ∙ h) (sym (below-parts b a) ∙ k) (inl l))
-    | inr l ↦ absurd (over a.counter b.counter (less a.value b.value) (less b.value a.value) (sym (below-parts a b) ∙ h) (sym (below-parts b a) ∙ k) (inr (less-total a.value b.value l e)))
+    | inl l ↦ absurd
+        (over a.counter b.counter (less a.value b.value) (less b.value a.value) (sym (below-parts a b) ∙ h)
+        (sym (below-parts b a) ∙ k) (inl l))
+    | inr l ↦ absurd
+        (over a.counter b.counter (less a.value b.value) (less b.value a.value) (sym (below-parts a b) ∙ h)
+        (sym (below-parts b a) ∙ k) (inr (less-total a.value b.value l e)))
   ]
 ]
   where
-    over : (m n : ℕ) (l r : Bool) → (nat_lt m n || ((m == n) && l)) ≡ false → (nat_lt n m || ((n == m) && r)) ≡ false → (l ≡ true) ⊎ (r ≡ true) → ⊥
+    over : (m n : ℕ) (l r : Bool) → (nat_lt m n || ((m == n) && l)) ≡ false → (nat_lt n m || ((n == m) && r)) ≡ false
+        → (l ≡ true) ⊎ (r ≡ true) → ⊥
     over m n true r h k (inl e) = grind (arith, nat_tests)
     over m n false r h k (inl e) = absurd (false≢true e)
     over m n l true h k (inr e) = grind (arith, nat_tests)

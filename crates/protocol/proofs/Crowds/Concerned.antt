@@ -23,7 +23,8 @@ open-same : (ss : List Slot) (j : ℕ) → is_some (places_at ss j) ≡ among (n
 open-same [] j = refl
 open-same (s ∷ ss) j = go (s.number == j) (open-same ss j)
   where
-    go : (b : Bool) → is_some (places_at ss j) ≡ among (numbers ss) j → is_some (if b then Some s.places else places_at ss j) ≡ (b || among (numbers ss) j)
+    go : (b : Bool) → is_some (places_at ss j) ≡ among (numbers ss) j
+        → is_some (if b then Some s.places else places_at ss j) ≡ (b || among (numbers ss) j)
     go true e = refl
     go false e = e
 
@@ -35,7 +36,8 @@ input-cut : (R : Names) (o : Option Place) → has_input o ≡ has_input (option
 input-cut R None = refl
 input-cut R (Some p) = refl
 
-emission-cut : (R : Names) (o : Option Place) (kind : Kind) (k : ℕ) → emission o kind k ≡ emission (option_map (cut_place R) o) kind k
+emission-cut : (R : Names) (o : Option Place) (kind : Kind) (k : ℕ)
+    → emission o kind k ≡ emission (option_map (cut_place R) o) kind k
 emission-cut R None kind k = refl
 emission-cut R (Some p) kind zero = refl
 emission-cut R (Some p) kind (suc k) = refl
@@ -44,20 +46,31 @@ module _ (R : Names) (i : ℕ) (net : Net) where
   hosted : (u : ℕ) → R u ≡ true → is_hosted net u ≡ is_some (cast_of R net.hosts u)
   hosted u r = ap (λ b. is_some (if b then slices_of net.hosts u else None)) (sym r)
 
-  seen_at : (j u : ℕ) → (j == i) ≡ true → R u ≡ true → sight R i net u ≡ option_map (cut_place R) (known (places_at net.slots j) u)
-  seen_at j u e r = ap (λ b. if b then option_map (cut_place R) (known (places_at net.slots i) u) else None) r ∙ ap (λ x. option_map (cut_place R) (known (places_at net.slots x) u)) (sym (eqb-true j i e))
+  seen_at : (j u : ℕ) → (j == i) ≡ true → R u ≡ true
+      → sight R i net u ≡ option_map (cut_place R) (known (places_at net.slots j) u)
+  seen_at j u e r = ap (λ b. if b then option_map (cut_place R) (known (places_at net.slots i) u) else None) r
+      ∙ ap (λ x. option_map (cut_place R) (known (places_at net.slots x) u)) (sym (eqb-true j i e))
 
-  input : (j u : ℕ) → (j == i) ≡ true → R u ≡ true → has_input (known (places_at net.slots j) u) ≡ has_input (sight R i net u)
+  input : (j u : ℕ) → (j == i) ≡ true → R u ≡ true
+      → has_input (known (places_at net.slots j) u) ≡ has_input (sight R i net u)
   input j u e r = input-cut R (known (places_at net.slots j) u) ∙ ap has_input (sym (seen_at j u e r))
 
-  emitted : (j u : ℕ) (kind : Kind) (k : ℕ) → (j == i) ≡ true → R u ≡ true → emission (known (places_at net.slots j) u) kind k ≡ emission (sight R i net u) kind k
-  emitted j u kind k e r = emission-cut R (known (places_at net.slots j) u) kind k ∙ ap (λ o. emission o kind k) (sym (seen_at j u e r))
+  emitted : (j u : ℕ) (kind : Kind) (k : ℕ) → (j == i) ≡ true → R u ≡ true
+      → emission (known (places_at net.slots j) u) kind k ≡ emission (sight R i net u) kind k
+  emitted j u kind k e r =
+      emission-cut R (known (places_at net.slots j) u) kind k ∙ ap (λ o. emission o kind k) (sym (seen_at j u e r))
 
-  full : (shares : Shares) (j : ℕ) (s : Share) → (j == i) ≡ true → of_members R s ≡ true → is_full net (OfShare shares j s) ≡ full_in (view R i net) (OfShare shares j s)
-  full shares j s e m = ap {B = Bool × Refusal} (λ ds. (not (nat_lt (length ds) (events_of shares s)), ShareFull)) (sym (drawn-ours R i j s net.draws e m))
+  full : (shares : Shares) (j : ℕ) (s : Share) → (j == i) ≡ true → of_members R s ≡ true
+      → is_full net (OfShare shares j s) ≡ full_in (view R i net) (OfShare shares j s)
+  full shares j s e m =
+      ap {B = Bool × Refusal} (λ ds. (not (nat_lt (length ds) (events_of shares s)), ShareFull))
+      (sym (drawn-ours R i j s net.draws e m))
 
-  bytes_full : (shares : Shares) (j : ℕ) (s : Share) (size : ℕ) → (j == i) ≡ true → of_members R s ≡ true → is_full_of_bytes net (OfShare shares j s) size ≡ bytes_full_in (view R i net) (OfShare shares j s) size
-  bytes_full shares j s size e m = ap {B = Bool × Refusal} (λ ds. (nat_lt shares.bytes (sum_by (λ d. d.size) ds + size), ShareBytesFull)) (sym (drawn-ours R i j s net.draws e m))
+  bytes_full : (shares : Shares) (j : ℕ) (s : Share) (size : ℕ) → (j == i) ≡ true → of_members R s ≡ true
+      → is_full_of_bytes net (OfShare shares j s) size ≡ bytes_full_in (view R i net) (OfShare shares j s) size
+  bytes_full shares j s size e m =
+      ap {B = Bool × Refusal} (λ ds. (nat_lt shares.bytes (sum_by (λ d. d.size) ds + size), ShareBytesFull))
+      (sym (drawn-ours R i j s net.draws e m))
 
 -- what a step draws on that concerns R, where R lies in the roster
 module _ (R : Names) (i : ℕ) (r : Roster) (on : (u : ℕ) → R u ≡ true → among r.names u ≡ true) where
@@ -66,7 +79,8 @@ module _ (R : Names) (i : ℕ) (r : Roster) (on : (u : ℕ) → R u ≡ true →
     where
       is_there : (s : Share) → of_members R s ≡ true → is_on r.names s ≡ true
       is_there (Own u) m = on u m
-      is_there (Pair u from) m = let p = and_parts (R u) (R from) m in and_from (among r.names u) (among r.names from) (on u p.0) (on from p.1)
+      is_there (Pair u from) m =
+          let p = and_parts (R u) (R from) m in and_from (among r.names u) (among r.names from) (on u p.0) (on from p.1)
 
   -- a step that concerns R, tested by what R sees
   pub record Concerned (net : Net) (e : Step) : Type 0 where
@@ -96,72 +110,109 @@ module _ (R : Names) (i : ℕ) (r : Roster) (on : (u : ℕ) → R u ≡ true →
       record {
         draws = d;
         tested = ap (λ s. tests_on net s (Opens j)) d
-            ∙ (λ k. (open-same net.slots j k, SlotOpenAlready) ∷ (not (nat_lt (length-numbers net.slots k) net.budgets.slots), TooManySlots) ∷ (not (nat_lt net.opens r.shares.opens), ShareFull) ∷ []);
+            ∙ (λ k. (open-same net.slots j k, SlotOpenAlready) ∷
+            (not (nat_lt (length-numbers net.slots k) net.budgets.slots), TooManySlots) ∷
+            (not (nat_lt net.opens r.shares.opens), ShareFull) ∷ []);
       }
   as_concerned net h (Closes j) c =
       let d : source net.roster (Closes j) ≡ OfOpens r.shares = ap (λ o. source o (Closes j)) h in
-      record { draws = d; tested = ap (λ s. tests_on net s (Closes j)) d ∙ (λ k. (not (open-same net.slots j k), SlotNotOpen) ∷ (not (nat_lt net.opens r.shares.opens), ShareFull) ∷ []) }
+      record {
+        draws = d;
+        tested = ap (λ s. tests_on net s (Closes j)) d
+            ∙ (λ k. (not (open-same net.slots j k), SlotNotOpen) ∷ (
+              not (nat_lt net.opens r.shares.opens),
+              ShareFull,
+            ) ∷ []);
+      }
   as_concerned net h (Asks j u x) c =
       let m = and_parts (j == i) (R u) (kept-true ((j == i) && R u) _ c) in
-      let d : source net.roster (Asks j u x) ≡ OfShare r.shares j (Own u) = ap (λ o. source o (Asks j u x)) h ∙ reserved-ours R i r on j (Own u) m.1 in
+      let d : source net.roster (Asks j u x) ≡ OfShare r.shares j (Own u) = ap (λ o. source o (Asks j u x)) h
+      ∙ reserved-ours R i r on j (Own u) m.1 in
       record {
         draws = d;
         tested = ap (λ s. tests_on net s (Asks j u x)) d
-            ∙ (λ k. (not (hosted R i net u m.1 k), NoSuchNode) ∷ (not (open-same net.slots j k), SlotNotOpen) ∷ (is_bad_value x, BadValue) ∷ (input R i net j u m.0 m.1 k, ProposedAlready) ∷ full R i net r.shares j (Own u) m.0 m.1 k ∷ []);
+            ∙ (λ k. (not (hosted R i net u m.1 k), NoSuchNode) ∷ (not (open-same net.slots j k), SlotNotOpen) ∷
+            (is_bad_value x, BadValue) ∷ (input R i net j u m.0 m.1 k, ProposedAlready) ∷ full R i net r.shares j
+            (Own u) m.0 m.1 k ∷ []);
       }
   as_concerned net h (Delivers u size (Fault n)) c = absurd (false≢true c)
   as_concerned net h (Delivers u size (Read e)) c =
       let p = and_parts ((e.slot == i) && R u) (R e.sender) (kept-true ((e.slot == i) && R u && R e.sender) _ c) in
       let m = and_parts (e.slot == i) (R u) p.0 in
       let both : (R u && R e.sender) ≡ true = and_from (R u) (R e.sender) m.1 p.1 in
-      let d : source net.roster (Delivers u size (Read e)) ≡ OfShare r.shares e.slot (Pair u e.sender) = ap (λ o. source o (Delivers u size (Read e))) h ∙ reserved-ours R i r on e.slot (Pair u e.sender) both in
+      let d : source net.roster (Delivers u size (Read e)) ≡ OfShare r.shares e.slot (Pair u e.sender) =
+      ap (λ o. source o (Delivers u size (Read e))) h ∙ reserved-ours R i r on e.slot (Pair u e.sender) both in
       record {
         draws = d;
         tested = ap (λ s. tests_on net s (Delivers u size (Read e))) d
-            ∙ (λ k. (not (hosted R i net u m.1 k), NoSuchNode) ∷ (hosted R i net e.sender p.1 k, HostedSender) ∷ (not (open-same net.slots e.slot k), SlotNotOpen)
-            ∷ full R i net r.shares e.slot (Pair u e.sender) m.0 both k ∷ bytes_full R i net r.shares e.slot (Pair u e.sender) size m.0 both k ∷ []);
+            ∙ (λ k. (not (hosted R i net u m.1 k), NoSuchNode) ∷ (hosted R i net e.sender p.1 k, HostedSender) ∷
+            (not (open-same net.slots e.slot k), SlotNotOpen)
+            ∷ full R i net r.shares e.slot (Pair u e.sender) m.0 both k ∷ bytes_full R i net r.shares e.slot
+            (Pair u e.sender) size m.0 both k ∷ []);
       }
   as_concerned net h (Hears j u from kind n) c =
       let p = and_parts ((j == i) && R u) (R from) (kept-true ((j == i) && R u && R from) _ c) in
       let m = and_parts (j == i) (R u) p.0 in
       let both : (R u && R from) ≡ true = and_from (R u) (R from) m.1 p.1 in
-      let d : source net.roster (Hears j u from kind n) ≡ OfShare r.shares j (Pair u from) = ap (λ o. source o (Hears j u from kind n)) h ∙ reserved-ours R i r on j (Pair u from) both in
+      let d : source net.roster (Hears j u from kind n) ≡ OfShare r.shares j (Pair u from) =
+      ap (λ o. source o (Hears j u from kind n)) h ∙ reserved-ours R i r on j (Pair u from) both in
       record {
         draws = d;
         tested = ap (λ s. tests_on net s (Hears j u from kind n)) d
-            ∙ (λ k. (not (hosted R i net u m.1 k) || not (hosted R i net from p.1 k) || (u == from), NoSuchNode) ∷ (not (open-same net.slots j k), SlotNotOpen) ∷ (is_none (emitted R i net j from kind n m.0 p.1 k), NotEmitted)
+            ∙ (λ k. (not (hosted R i net u m.1 k) || not (hosted R i net from p.1 k) || (u == from), NoSuchNode) ∷
+            (not (open-same net.slots j k), SlotNotOpen) ∷
+            (is_none (emitted R i net j from kind n m.0 p.1 k), NotEmitted)
             ∷ full R i net r.shares j (Pair u from) m.0 both k ∷ []);
       }
   as_concerned net h (NominationTimes j u n) c =
       let m = and_parts (j == i) (R u) (kept-true ((j == i) && R u) _ c) in
-      let d : source net.roster (NominationTimes j u n) ≡ OfShare r.shares j (Own u) = ap (λ o. source o (NominationTimes j u n)) h ∙ reserved-ours R i r on j (Own u) m.1 in
+      let d : source net.roster (NominationTimes j u n) ≡ OfShare r.shares j (Own u) =
+      ap (λ o. source o (NominationTimes j u n)) h ∙ reserved-ours R i r on j (Own u) m.1 in
       record {
         draws = d;
-        tested = ap (λ s. tests_on net s (NominationTimes j u n)) d ∙ (λ k. (not (hosted R i net u m.1 k), NoSuchNode) ∷ (not (open-same net.slots j k), SlotNotOpen) ∷ full R i net r.shares j (Own u) m.0 m.1 k ∷ []);
+        tested = ap (λ s. tests_on net s (NominationTimes j u n)) d
+            ∙ (λ k. (not (hosted R i net u m.1 k), NoSuchNode) ∷ (
+              not (open-same net.slots j k),
+              SlotNotOpen,
+            ) ∷ full R i net r.shares j (Own u) m.0 m.1 k ∷ []);
       }
   as_concerned net h (BallotTimes j u n) c =
       let m = and_parts (j == i) (R u) (kept-true ((j == i) && R u) _ c) in
-      let d : source net.roster (BallotTimes j u n) ≡ OfShare r.shares j (Own u) = ap (λ o. source o (BallotTimes j u n)) h ∙ reserved-ours R i r on j (Own u) m.1 in
+      let d : source net.roster (BallotTimes j u n) ≡ OfShare r.shares j (Own u) =
+      ap (λ o. source o (BallotTimes j u n)) h ∙ reserved-ours R i r on j (Own u) m.1 in
       record {
         draws = d;
-        tested = ap (λ s. tests_on net s (BallotTimes j u n)) d ∙ (λ k. (not (hosted R i net u m.1 k), NoSuchNode) ∷ (not (open-same net.slots j k), SlotNotOpen) ∷ full R i net r.shares j (Own u) m.0 m.1 k ∷ []);
+        tested = ap (λ s. tests_on net s (BallotTimes j u n)) d
+            ∙ (λ k. (not (hosted R i net u m.1 k), NoSuchNode) ∷ (
+              not (open-same net.slots j k),
+              SlotNotOpen,
+            ) ∷ full R i net r.shares j (Own u) m.0 m.1 k ∷ []);
       }
   as_concerned net h (Reslices j u q) c =
       let m = and_parts (j == i) (R u) (kept-true ((j == i) && R u) _ c) in
-      let d : source net.roster (Reslices j u q) ≡ OfShare r.shares j (Own u) = ap (λ o. source o (Reslices j u q)) h ∙ reserved-ours R i r on j (Own u) m.1 in
+      let d : source net.roster (Reslices j u q) ≡ OfShare r.shares j (Own u) = ap (λ o. source o (Reslices j u q)) h
+      ∙ reserved-ours R i r on j (Own u) m.1 in
       record {
         draws = d;
-        tested = ap (λ s. tests_on net s (Reslices j u q)) d ∙ (λ k. (not (hosted R i net u m.1 k), NoSuchNode) ∷ (not (open-same net.slots j k), SlotNotOpen) ∷ full R i net r.shares j (Own u) m.0 m.1 k ∷ []);
+        tested = ap (λ s. tests_on net s (Reslices j u q)) d
+            ∙ (λ k. (not (hosted R i net u m.1 k), NoSuchNode) ∷ (
+              not (open-same net.slots j k),
+              SlotNotOpen,
+            ) ∷ full R i net r.shares j (Own u) m.0 m.1 k ∷ []);
       }
 
   -- ---- what an applied step that concerns R draws
-  pub ours-left : (e : Step) → concerns R i e ≡ true → (ds : List Draw) → filter (is_ours R i) (on_shares (share_of r.shares e) (size_of e) ++ left e ds) ≡ on_shares (share_of r.shares e) (size_of e) ++ left e (filter (is_ours R i) ds)
+  pub ours-left : (e : Step) → concerns R i e ≡ true → (ds : List Draw)
+      → filter (is_ours R i) (on_shares (share_of r.shares e) (size_of e) ++ left e ds)
+      ≡ on_shares (share_of r.shares e) (size_of e) ++ left e (filter (is_ours R i) ds)
   ours-left (Opens j) c ds = filter_swap (is_ours R i) (λ d. not (d.slot == j)) ds
   ours-left (Closes j) c ds = refl
   ours-left (Asks j u x) c ds = rw (kept-true ((j == i) && R u) _ c) refl
   ours-left (Delivers u size (Fault n)) c ds = absurd (false≢true c)
-  ours-left (Delivers u size (Read e)) c ds = rw (joined (e.slot == i) (R u) (R e.sender) (kept-true ((e.slot == i) && R u && R e.sender) _ c)) refl
-  ours-left (Hears j u from kind n) c ds = rw (joined (j == i) (R u) (R from) (kept-true ((j == i) && R u && R from) _ c)) refl
+  ours-left (Delivers u size (Read e)) c ds =
+      rw (joined (e.slot == i) (R u) (R e.sender) (kept-true ((e.slot == i) && R u && R e.sender) _ c)) refl
+  ours-left (Hears j u from kind n) c ds =
+      rw (joined (j == i) (R u) (R from) (kept-true ((j == i) && R u && R from) _ c)) refl
   ours-left (NominationTimes j u n) c ds = rw (kept-true ((j == i) && R u) _ c) refl
   ours-left (BallotTimes j u n) c ds = rw (kept-true ((j == i) && R u) _ c) refl
   ours-left (Reslices j u q) c ds = rw (kept-true ((j == i) && R u) _ c) refl

@@ -35,9 +35,11 @@ is_read decode (ChangeSlices j u q) = tt
 
 -- so it is for all that concerns it
 abbrev AreRead : (List ℕ → Reading) → Names → ℕ → List Answer → Type 0
-AreRead decode R i xs = AllByRecursion (λ (x : Answer). IsRead decode x.step × (concerns R i x.step ≡ true)) (concerning R i xs)
+AreRead decode R i xs =
+    AllByRecursion (λ (x : Answer). IsRead decode x.step × (concerns R i x.step ≡ true)) (concerning R i xs)
 
-are_read : (decode : List ℕ → Reading) (R : Names) (i g : ℕ) (calls : List (ℕ × Event)) (rs : List Reply) → AreRead decode R i (answers_of g (steps_of decode calls) rs)
+are_read : (decode : List ℕ → Reading) (R : Names) (i g : ℕ) (calls : List (ℕ × Event)) (rs : List Reply)
+    → AreRead decode R i (answers_of g (steps_of decode calls) rs)
 unfolding answers_of
 are_read decode R i g [] rs = tt
 are_read decode R i g (c ∷ cs) [] = tt
@@ -46,11 +48,14 @@ are_read decode R i g (c ∷ cs) (r ∷ rs) = go (c.0 == g) (are_read decode R i
     rest : List Answer
     rest = answers_of g (steps_of decode cs) rs
 
-    more : (b : Bool) → concerns R i (read decode c.1) ≡ b → AreRead decode R i rest → AllByRecursion (λ (x : Answer). IsRead decode x.step × (concerns R i x.step ≡ true)) (cond b (record { step = read decode c.1; reply = r } ∷ concerning R i rest) (concerning R i rest))
+    more : (b : Bool) → concerns R i (read decode c.1) ≡ b → AreRead decode R i rest
+        → AllByRecursion (λ (x : Answer). IsRead decode x.step × (concerns R i x.step ≡ true))
+        (cond b (record { step = read decode c.1; reply = r } ∷ concerning R i rest) (concerning R i rest))
     more true e h = ((is_read decode c.1, e), h)
     more false e h = h
 
-    go : (b : Bool) → AreRead decode R i rest → AreRead decode R i (if b then record { step = read decode c.1; reply = r } ∷ rest else rest)
+    go : (b : Bool) → AreRead decode R i rest
+        → AreRead decode R i (if b then record { step = read decode c.1; reply = r } ∷ rest else rest)
     go true h = more (concerns R i (read decode c.1)) refl h
     go false h = h
 
@@ -105,12 +110,14 @@ module _ (decode : List ℕ → Reading) (R : Names) (i : ℕ) where
   Known e = IsRead decode e × (concerns R i e ≡ true)
 
   -- it has the length of some bytes that are read as its envelope, or none
-  length_known : (e : Step) → Known e → (x : Sent) → envelope_of e ≡ Some x → (bytes : List ℕ) × ((size_of e ≡ length bytes) × (decode bytes ≡ Read x))
+  length_known : (e : Step) → Known e → (x : Sent) → envelope_of e ≡ Some x
+      → (bytes : List ℕ) × ((size_of e ≡ length bytes) × (decode bytes ≡ Read x))
   unfolding envelope_of
   length_known (Opens j) h x q = cc
   length_known (Closes j) h x q = cc
   length_known (Asks j u y) h x q = cc
-  length_known (Delivers u size (Read e)) h x q = let m : e ≡ x = cc in (h.0.0, (h.0.1.0, h.0.1.1 ∙ ap {B = Reading} Read m))
+  length_known (Delivers u size (Read e)) h x q =
+      let m : e ≡ x = cc in (h.0.0, (h.0.1.0, h.0.1.1 ∙ ap {B = Reading} Read m))
   length_known (Delivers u size (Fault n)) h x q = cc
   length_known (Hears j u from kind k) h x q = cc
   length_known (NominationTimes j u r) h x q = cc
@@ -143,7 +150,10 @@ module _ (decode : List ℕ → Reading) (R : Names) (i : ℕ) where
             let n = length_known f b x (sym same ∙ q) in
             m.1.0 ∙ (lengths m.0 n.0 x m.1.1 n.1.1 ∙ sym n.1.0)
 
-    one_list : (xs ys : List Answer) → AllByRecursion (λ (x : Answer). Known x.step) xs → AllByRecursion (λ (x : Answer). Known x.step) ys → map unsized (map (λ x. x.step) xs) ≡ map unsized (map (λ x. x.step) ys) → map (λ x. x.step) xs ≡ map (λ x. x.step) ys
+    one_list : (xs ys : List Answer) → AllByRecursion (λ (x : Answer). Known x.step) xs
+        → AllByRecursion (λ (x : Answer). Known x.step) ys
+        → map unsized (map (λ x. x.step) xs) ≡ map unsized (map (λ x. x.step) ys)
+        → map (λ x. x.step) xs ≡ map (λ x. x.step) ys
     one_list [] [] a b h = refl
     one_list [] (y ∷ ys) a b h = cc
     one_list (x ∷ xs) [] a b h = cc
@@ -155,4 +165,5 @@ module _ (decode : List ℕ → Reading) (R : Names) (i : ℕ) where
 pub lengths_follow : LengthsFollow
 lengths_follow decode lengths one other g i R h =
     one_list decode R i lengths (concerning R i (answers decode one g)) (concerning R i (answers decode other g))
-    (are_read decode R i g one.calls (host_run (nets one.configs) (steps_of decode one.calls))) (are_read decode R i g other.calls (host_run (nets other.configs) (steps_of decode other.calls))) h
+    (are_read decode R i g one.calls (host_run (nets one.configs) (steps_of decode one.calls)))
+    (are_read decode R i g other.calls (host_run (nets other.configs) (steps_of decode other.calls))) h

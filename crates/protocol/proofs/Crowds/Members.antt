@@ -25,7 +25,8 @@ if_done (Refused n) k = None
 abbrev kept_answer : Names → ℕ → Answer → Option Kept
 kept_answer R i x = if_done x.reply (kept R i x.step)
 
-kept-answers : (R : Names) (i : ℕ) (es : List Step) (net : Net) → kept_of R i (journal net es) ≡ filter_map (kept_answer R i) (concerning R i (net_run net es))
+kept-answers : (R : Names) (i : ℕ) (es : List Step) (net : Net)
+    → kept_of R i (journal net es) ≡ filter_map (kept_answer R i) (concerning R i (net_run net es))
 unfolding kept_of journal net_run net_step
 kept-answers R i [] net = refl
 kept-answers R i (e ∷ es) net = go (concerns R i e) refl (first_that (tests net e)) (λ n. kept-answers R i es n)
@@ -33,15 +34,20 @@ kept-answers R i (e ∷ es) net = go (concerns R i e) refl (first_that (tests ne
     rest : Option Refusal → List Answer
     rest o = concerning R i (net_run (replied net e o).0 es)
 
-    go : (b : Bool) → concerns R i e ≡ b → (o : Option Refusal) → ((n : Net) → kept_of R i (journal n es) ≡ filter_map (kept_answer R i) (concerning R i (net_run n es)))
-        → kept_of R i (entered e (replied net e o).1 (journal (replied net e o).0 es)) ≡ filter_map (kept_answer R i) (cond b (record { step = e; reply = (replied net e o).1 } ∷ rest o) (rest o))
+    go : (b : Bool) → concerns R i e ≡ b → (o : Option Refusal)
+        → ((n : Net) → kept_of R i (journal n es) ≡ filter_map (kept_answer R i) (concerning R i (net_run n es)))
+        → kept_of R i (entered e (replied net e o).1 (journal (replied net e o).0 es))
+        ≡ filter_map (kept_answer R i) (cond b (record { step = e; reply = (replied net e o).1 } ∷ rest o) (rest o))
     go true c (Some n) ih = ih net
     go true c None ih = ap (λ ks. cons_option (kept R i e) ks) (ih (replied net e None).0)
     go false c (Some n) ih = ih net
-    go false c None ih = ap (λ (k : Option Kept). cons_option k (kept_of R i (journal (replied net e None).0 es))) (others-kept R i e c) ∙ ih (replied net e None).0
+    go false c None ih =
+        ap (λ (k : Option Kept). cons_option k (kept_of R i (journal (replied net e None).0 es))) (others-kept R i e c)
+        ∙ ih (replied net e None).0
 
 -- answers are their steps with their replies
-one-list : (xs ys : List Answer) → map (λ x. x.step) xs ≡ map (λ x. x.step) ys → map (λ x. x.reply) xs ≡ map (λ x. x.reply) ys → xs ≡ ys
+one-list : (xs ys : List Answer) → map (λ x. x.step) xs ≡ map (λ x. x.step) ys
+    → map (λ x. x.reply) xs ≡ map (λ x. x.reply) ys → xs ≡ ys
 one-list [] [] a b = refl
 one-list [] (y ∷ ys) a b = cc
 one-list (x ∷ xs) [] a b = cc
@@ -50,13 +56,17 @@ one-list (x ∷ xs) (y ∷ ys) a b =
     let t : x.reply ≡ y.reply = cc in
     let ss : map (λ x. x.step) xs ≡ map (λ x. x.step) ys = cc in
     let ts : map (λ x. x.reply) xs ≡ map (λ x. x.reply) ys = cc in
-    ap₂ {C = List Answer} (λ (z : Answer) (zs : List Answer). z ∷ zs) (λ j. record { step = s j; reply = t j }) (one-list xs ys ss ts)
+    ap₂ {C = List Answer} (λ (z : Answer) (zs : List Answer). z ∷ zs) (λ j. record { step = s j; reply = t j })
+    (one-list xs ys ss ts)
 
 -- ---- one network in each history
-pub replies-agree : (config config' : Config) (r r' : Roster) (i v : ℕ) (es es' : List Step) → config.roster ≡ Some r → config'.roster ≡ Some r' →
+pub replies-agree : (config config' : Config) (r r' : Roster) (i v : ℕ) (es es' : List Step) → config.roster ≡ Some r
+    → config'.roster ≡ Some r' →
     let R = closure config.hosts i v (journal (new_net config) es) in
-    SameCast R v config.hosts config'.hosts → ((u : ℕ) → among r.names u ≡ among r'.names u) → r.shares ≡ r'.shares → config.budgets.slots ≡ config'.budgets.slots
-    → AreWithin R (among r.names) → concerned R i (net_run (new_net config) es) ≡ concerned R i (net_run (new_net config') es')
+    SameCast R v config.hosts config'.hosts → ((u : ℕ) → among r.names u ≡ among r'.names u) → r.shares ≡ r'.shares
+    → config.budgets.slots ≡ config'.budgets.slots
+    → AreWithin R (among r.names)
+    → concerned R i (net_run (new_net config) es) ≡ concerned R i (net_run (new_net config') es')
     → replied_to R i (net_run (new_net config) es) ≡ replied_to R i (net_run (new_net config') es')
 replies-agree config config' r r' i v es es' h h' cast names shares slots on same =
     let run = journal (new_net config) es in
@@ -64,36 +74,56 @@ replies-agree config config' r r' i v es es' h h' cast names shares slots on sam
     let closed : HostsIn R config.hosts = hosts-closed config.hosts i v run in
     let on' : (u : ℕ) → R u ≡ true → among r'.names u ≡ true = λ u m. sym (names u) ∙ on u m in
     let one : Shows R i r on (new_net config) (concerning R i (net_run (new_net config) es)) run =
-    shows R i r on es (new_net config) (record { places = no-places R i config; hosts = closed; roster = h }) (inl (events-closed config.hosts i v run)) in
-    let frames : frame R r (new_net config) ≡ frame R r' (new_net config') = λ j. record { cast = casts-same R v config.hosts config'.hosts cast j; shares = shares j; slots = slots j } in
-    let good : AllGood R i (frame R r' (new_net config')) (view R i (new_net config')) (concerned R i (net_run (new_net config') es')) =
-    subst (λ (z : Frame × List Step). AllGood R i z.0 (view R i (new_net config)) z.1) (λ j. (frames j, same j)) one.good in
-    let other : Shows R i r' on' (new_net config') (concerning R i (net_run (new_net config') es')) (journal (new_net config') es') =
-    shows R i r' on' es' (new_net config') (record { places = no-places R i config'; hosts = hosts-other R v config.hosts config'.hosts cast closed; roster = h' }) (inr good) in
-    one.replies ∙ (ap₂ (λ (f : Frame) (steps : List Step). replies_in R i f (view R i (new_net config)) steps) frames same ∙ sym other.replies)
+    shows R i r on es (new_net config) (record { places = no-places R i config; hosts = closed; roster = h })
+    (inl (events-closed config.hosts i v run)) in
+    let frames : frame R r (new_net config) ≡ frame R r' (new_net config') =
+    λ j. record { cast = casts-same R v config.hosts config'.hosts cast j; shares = shares j; slots = slots j } in
+    let good : AllGood R i (frame R r' (new_net config')) (view R i (new_net config'))
+    (concerned R i (net_run (new_net config') es')) =
+    subst (λ (z : Frame × List Step). AllGood R i z.0 (view R i (new_net config)) z.1)
+    (λ j. (frames j, same j)) one.good in
+    let other : Shows R i r' on' (new_net config') (concerning R i (net_run (new_net config') es'))
+    (journal (new_net config') es') =
+    shows R i r' on' es' (new_net config')
+    (record {
+      places = no-places R i config';
+      hosts = hosts-other R v config.hosts config'.hosts cast closed;
+      roster = h';
+    }) (inr good) in
+    one.replies
+    ∙ (ap₂ (λ (f : Frame) (steps : List Step). replies_in R i f (view R i (new_net config)) steps) frames same
+    ∙ sym other.replies)
 
 -- and each hosted member gives out the same
 pub outs-agree : (config config' : Config) (i v : ℕ) (es es' : List Step) →
     let R = closure config.hosts i v (journal (new_net config) es) in
-    SameCast R v config.hosts config'.hosts → concerned R i (net_run (new_net config) es) ≡ concerned R i (net_run (new_net config') es')
+    SameCast R v config.hosts config'.hosts
+    → concerned R i (net_run (new_net config) es) ≡ concerned R i (net_run (new_net config') es')
     → replied_to R i (net_run (new_net config) es) ≡ replied_to R i (net_run (new_net config') es')
     → (u : ℕ) → R u ≡ true → outs_of i u (journal (new_net config) es) ≡ outs_of i u (journal (new_net config') es')
 outs-agree config config' i v es es' cast steps replies =
     let R : Names = closure config.hosts i v (journal (new_net config) es) in
     journals-agree config config' i v es es' cast
     (kept-answers R i es (new_net config)
-    ∙ (ap (filter_map (kept_answer R i)) (one-list (concerning R i (net_run (new_net config) es)) (concerning R i (net_run (new_net config') es')) steps replies) ∙ sym (kept-answers R i es' (new_net config'))))
+    ∙ (ap (filter_map (kept_answer R i))
+    (one-list (concerning R i (net_run (new_net config) es))
+    (concerning R i (net_run (new_net config') es')) steps replies) ∙ sym (kept-answers R i es' (new_net config'))))
 
 -- ---- two host histories
 -- one network, in each of them
 record Agree (one other : Config) (i v : ℕ) (runs runs' : List Entry) (xs ys : List Answer) : Type 0 where
-  replies : SameReserves (Some one) (Some other) → AreWithin (closure one.hosts i v runs) (among (roster_names (Some one))) → concerned (closure one.hosts i v runs) i xs ≡ concerned (closure one.hosts i v runs) i ys
+  replies : SameReserves (Some one) (Some other)
+      → AreWithin (closure one.hosts i v runs) (among (roster_names (Some one)))
+      → concerned (closure one.hosts i v runs) i xs ≡ concerned (closure one.hosts i v runs) i ys
       → replied_to (closure one.hosts i v runs) i xs ≡ replied_to (closure one.hosts i v runs) i ys
-  outs : concerned (closure one.hosts i v runs) i xs ≡ concerned (closure one.hosts i v runs) i ys → replied_to (closure one.hosts i v runs) i xs ≡ replied_to (closure one.hosts i v runs) i ys
+  outs : concerned (closure one.hosts i v runs) i xs ≡ concerned (closure one.hosts i v runs) i ys
+      → replied_to (closure one.hosts i v runs) i xs ≡ replied_to (closure one.hosts i v runs) i ys
       → (u : ℕ) → IsTrue (closure one.hosts i v runs u) → outs_of i u runs ≡ outs_of i u runs'
 
-agrees : (one other : Config) (i v : ℕ) (es es' : List Step) → SameCast (closure one.hosts i v (journal (new_net one) es)) v one.hosts other.hosts
-    → Agree one other i v (journal (new_net one) es) (journal (new_net other) es') (net_run (new_net one) es) (net_run (new_net other) es')
+agrees : (one other : Config) (i v : ℕ) (es es' : List Step)
+    → SameCast (closure one.hosts i v (journal (new_net one) es)) v one.hosts other.hosts
+    → Agree one other i v (journal (new_net one) es) (journal (new_net other) es') (net_run (new_net one) es)
+    (net_run (new_net other) es')
 agrees one other i v es es' cast = record {
   replies = λ reserves on same. go one.roster other.roster refl refl reserves.0 on reserves.1 same;
   outs = λ steps replies u r. outs-agree one other i v es es' cast steps replies u r;
@@ -102,11 +132,14 @@ agrees one other i v es es' cast = record {
     R : Names
     R = closure one.hosts i v (journal (new_net one) es)
 
-    go : (o p : Option Roster) → one.roster ≡ o → other.roster ≡ p → SameRoster o p → AreWithin R (among (names_on o)) → one.budgets.slots ≡ other.budgets.slots
-        → concerned R i (net_run (new_net one) es) ≡ concerned R i (net_run (new_net other) es') → replied_to R i (net_run (new_net one) es) ≡ replied_to R i (net_run (new_net other) es')
+    go : (o p : Option Roster) → one.roster ≡ o → other.roster ≡ p → SameRoster o p → AreWithin R (among (names_on o))
+        → one.budgets.slots ≡ other.budgets.slots
+        → concerned R i (net_run (new_net one) es) ≡ concerned R i (net_run (new_net other) es')
+        → replied_to R i (net_run (new_net one) es) ≡ replied_to R i (net_run (new_net other) es')
     go None p h k reserves on slots same = absurd reserves
     go (Some r) None h k reserves on slots same = absurd reserves
-    go (Some r) (Some s) h k reserves on slots same = replies-agree one other r s i v es es' h k cast reserves.0 reserves.1 slots on same
+    go (Some r) (Some s) h k reserves on slots same =
+        replies-agree one other r s i v es es' h k cast reserves.0 reserves.1 slots on same
 
 -- two networks, each with its own submitted steps
 pub never_crowded_out_of_runs : MembersOfRunsAreNeverCrowdedOut
@@ -129,8 +162,10 @@ record Worlds : Type 0 where
 abbrev Claim : ℕ → ℕ → Worlds → Type 0
 Claim i v w =
     let R = closure w.hosts i v w.runs in
-    SameCast R v w.hosts w.hosts' → SameReserves w.config w.config' → AreWithin R (among (roster_names w.config)) → concerned R i w.xs ≡ concerned R i w.ys
-    → (replied_to R i w.xs ≡ replied_to R i w.ys) × ((u : ℕ) → IsTrue (R u) → IsTrue (is_some (slices_of w.hosts u)) → outs_of i u w.runs ≡ outs_of i u w.runs')
+    SameCast R v w.hosts w.hosts' → SameReserves w.config w.config' → AreWithin R (among (roster_names w.config))
+    → concerned R i w.xs ≡ concerned R i w.ys
+    → (replied_to R i w.xs ≡ replied_to R i w.ys)
+    × ((u : ℕ) → IsTrue (R u) → IsTrue (is_some (slices_of w.hosts u)) → outs_of i u w.runs ≡ outs_of i u w.runs')
 
 pub never_crowded_out : MembersAreNeverCrowdedOut
 never_crowded_out decode one other g i v cast reserves on same = go (find_net one.configs g) (find_net other.configs g)
@@ -158,9 +193,13 @@ never_crowded_out decode one other g i v cast reserves on same = go (find_net on
 
     go : (hosts_of one.configs g ≡ []) ⊎ HasNet one.configs g → (hosts_of other.configs g ≡ []) ⊎ HasNet other.configs g
         → (replied_to R i (answers decode one g) ≡ replied_to R i (answers decode other g))
-        × ((u : ℕ) → IsTrue (R u) → IsTrue (is_some (slices_of (hosts_of one.configs g) u)) → outs_of i u (entries decode one g) ≡ outs_of i u (entries decode other g))
+        × ((u : ℕ) → IsTrue (R u) → IsTrue (is_some (slices_of (hosts_of one.configs g) u))
+        → outs_of i u (entries decode one g) ≡ outs_of i u (entries decode other g))
     go (inl e) n = absurd (nobody (hosts_of one.configs g) v e cast.hosted)
-    go (inr a) (inl e) = absurd (nobody (hosts_of other.configs g) v e (sym (ap is_some (cast.same v (closure-start (hosts_of one.configs g) i v (entries decode one g)))) ∙ cast.hosted))
+    go (inr a) (inl e) =
+        absurd (nobody (hosts_of other.configs g) v e
+        (sym (ap is_some (cast.same v (closure-start (hosts_of one.configs g) i v (entries decode one g))))
+        ∙ cast.hosted))
     go (inr a) (inr b) = subst (Claim i v) (sym (alike a b)) (λ c reserves on same.
         let agree = agrees a.config b.config i v es es' c in
         let replies = agree.replies reserves on same in
@@ -177,8 +216,21 @@ never_crowded_out decode one other g i v cast reserves on same = go (find_net on
           ys = net_run (new_net b.config) es';
         }
         alike a b =
-            let p : entries decode one g ≡ journal (new_net a.config) es = applied-journal g (steps_of decode one.calls) (nets one.configs) (new_net a.config) a.is in
-            let q : entries decode other g ≡ journal (new_net b.config) es' = applied-journal g (steps_of decode other.calls) (nets other.configs) (new_net b.config) b.is in
-            let s : answers decode one g ≡ net_run (new_net a.config) es = answers-run g (steps_of decode one.calls) (nets one.configs) (new_net a.config) a.is in
-            let t : answers decode other g ≡ net_run (new_net b.config) es' = answers-run g (steps_of decode other.calls) (nets other.configs) (new_net b.config) b.is in
-            λ j. record { hosts = a.of j; hosts' = b.of j; config = a.at j; config' = b.at j; runs = p j; runs' = q j; xs = s j; ys = t j }
+            let p : entries decode one g ≡ journal (new_net a.config) es =
+            applied-journal g (steps_of decode one.calls) (nets one.configs) (new_net a.config) a.is in
+            let q : entries decode other g ≡ journal (new_net b.config) es' =
+            applied-journal g (steps_of decode other.calls) (nets other.configs) (new_net b.config) b.is in
+            let s : answers decode one g ≡ net_run (new_net a.config) es =
+            answers-run g (steps_of decode one.calls) (nets one.configs) (new_net a.config) a.is in
+            let t : answers decode other g ≡ net_run (new_net b.config) es' =
+            answers-run g (steps_of decode other.calls) (nets other.configs) (new_net b.config) b.is in
+            λ j. record {
+              hosts = a.of j;
+              hosts' = b.of j;
+              config = a.at j;
+              config' = b.at j;
+              runs = p j;
+              runs' = q j;
+              xs = s j;
+              ys = t j;
+            }

@@ -15,14 +15,18 @@ use Rattle.protocol.proofs.Crowds.Concerned.{kept-false, parted}
 use Rattle.protocol.proofs.Crowds.Views.{is_ours, of_members}
 
 module _ (R : Names) (i : ℕ) where
-  others-draw : (r : Roster) (j : ℕ) (s : Share) (size : ℕ) (ds : List Draw) → ((j == i) && of_members R s) ≡ false → filter (is_ours R i) (on_shares (reserved r j s) size ++ ds) ≡ filter (is_ours R i) ds
+  others-draw : (r : Roster) (j : ℕ) (s : Share) (size : ℕ) (ds : List Draw) → ((j == i) && of_members R s) ≡ false
+      → filter (is_ours R i) (on_shares (reserved r j s) size ++ ds) ≡ filter (is_ours R i) ds
   others-draw r j s size ds o = go (is_on r.names s)
     where
-      go : (b : Bool) → filter (is_ours R i) (on_shares (if b then OfShare r.shares j s else OfBudgets) size ++ ds) ≡ filter (is_ours R i) ds
+      go : (b : Bool)
+          → filter (is_ours R i) (on_shares (if b then OfShare r.shares j s else OfBudgets) size ++ ds)
+          ≡ filter (is_ours R i) ds
       go true = rw o refl
       go false = refl
 
-  pub others-left : (roster : Option Roster) (e : Step) → concerns R i e ≡ false → (ds : List Draw) → filter (is_ours R i) (on_shares (source roster e) (size_of e) ++ left e ds) ≡ filter (is_ours R i) ds
+  pub others-left : (roster : Option Roster) (e : Step) → concerns R i e ≡ false → (ds : List Draw)
+      → filter (is_ours R i) (on_shares (source roster e) (size_of e) ++ left e ds) ≡ filter (is_ours R i) ds
   others-left roster (Opens j) c ds = absurd (true≢false c)
   others-left roster (Closes j) c ds = absurd (true≢false c)
   others-left None (Asks j u x) c ds = refl
@@ -33,8 +37,11 @@ module _ (R : Names) (i : ℕ) where
   others-left None (Reslices j u q) c ds = refl
   others-left (Some r) (Asks j u x) c ds = others-draw r j (Own u) _ ds (kept-false ((j == i) && R u) _ c)
   others-left (Some r) (Delivers u size (Fault n)) c ds = refl
-  others-left (Some r) (Delivers u size (Read e)) c ds = others-draw r e.slot (Pair u e.sender) _ ds (parted (e.slot == i) (R u) (R e.sender) (kept-false ((e.slot == i) && R u && R e.sender) _ c))
-  others-left (Some r) (Hears j u from kind n) c ds = others-draw r j (Pair u from) _ ds (parted (j == i) (R u) (R from) (kept-false ((j == i) && R u && R from) _ c))
+  others-left (Some r) (Delivers u size (Read e)) c ds =
+      others-draw r e.slot (Pair u e.sender) _ ds
+      (parted (e.slot == i) (R u) (R e.sender) (kept-false ((e.slot == i) && R u && R e.sender) _ c))
+  others-left (Some r) (Hears j u from kind n) c ds =
+      others-draw r j (Pair u from) _ ds (parted (j == i) (R u) (R from) (kept-false ((j == i) && R u && R from) _ c))
   others-left (Some r) (NominationTimes j u n) c ds = others-draw r j (Own u) _ ds (kept-false ((j == i) && R u) _ c)
   others-left (Some r) (BallotTimes j u n) c ds = others-draw r j (Own u) _ ds (kept-false ((j == i) && R u) _ c)
   others-left (Some r) (Reslices j u q) c ds = others-draw r j (Own u) _ ds (kept-false ((j == i) && R u) _ c)

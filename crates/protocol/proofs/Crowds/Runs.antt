@@ -28,7 +28,8 @@ use Rattle.protocol.proofs.Crowds.Others.{others-left, others-opens, others-numb
 -- applied deliveries to members from members announce members alone
 abbrev pub AllGood : Names → ℕ → Frame → View → List Step → Type 0
 AllGood R i f w [] = Unit {0}
-AllGood R i f w (e ∷ es) = (first_that (tests_in f w e) ≡ None → IsWithin R i e) × AllGood R i f (step_in R i f w e).0 es
+AllGood R i f w (e ∷ es) =
+    (first_that (tests_in f w e) ≡ None → IsWithin R i e) × AllGood R i f (step_in R i f w e).0 es
 
 pub plus_nothing : (n : ℕ) → n + 0 ≡ n
 plus_nothing n = omega arith
@@ -39,31 +40,39 @@ module _ (R : Names) (i : ℕ) where
   outs-opened s true k f = sym (f 0)
   outs-opened s false k f = refl
 
-  outs-of : (net : Net) (e : Step) → concerns R i e ≡ true → Follows R (cast_of R net.hosts) i net (effect net e) (λ w. is_of i w e) (kept R i e) → (effect net e).1 ≡ reply (sight R i net) (kept R i e) (node_of e)
+  outs-of : (net : Net) (e : Step) → concerns R i e ≡ true
+      → Follows R (cast_of R net.hosts) i net (effect net e) (λ w. is_of i w e) (kept R i e)
+      → (effect net e).1 ≡ reply (sight R i net) (kept R i e) (node_of e)
   unfolding effect
   outs-of net (Opens j) c f = outs-opened (sight R i net) (j == i) Opened (λ w. refl)
   outs-of net (Closes j) c f = outs-opened (sight R i net) (j == i) Closed (λ w. refl)
   outs-of net (Asks j u x) c f =
       let m = and_parts (j == i) (R u) (kept-true ((j == i) && R u) _ c) in
-      sym (ap (λ b. if b then (effect net (Asks j u x)).1 else []) (and_from (j == i) (u == u) m.0 (eqb-refl u))) ∙ f.replies u m.1
+      sym (ap (λ b. if b then (effect net (Asks j u x)).1 else []) (and_from (j == i) (u == u) m.0 (eqb-refl u)))
+      ∙ f.replies u m.1
   outs-of net (Delivers u size (Fault n)) c f = absurd (false≢true c)
   outs-of net (Delivers u size (Read e)) c f =
       let p = and_parts ((e.slot == i) && R u) (R e.sender) (kept-true ((e.slot == i) && R u && R e.sender) _ c) in
       let m = and_parts (e.slot == i) (R u) p.0 in
-      sym (ap (λ b. if b then (effect net (Delivers u size (Read e))).1 else []) (and_from (e.slot == i) (u == u) m.0 (eqb-refl u))) ∙ f.replies u m.1
+      sym (ap (λ b. if b then (effect net (Delivers u size (Read e))).1 else [])
+      (and_from (e.slot == i) (u == u) m.0 (eqb-refl u))) ∙ f.replies u m.1
   outs-of net (Hears j u from kind n) c f =
       let p = and_parts ((j == i) && R u) (R from) (kept-true ((j == i) && R u && R from) _ c) in
       let m = and_parts (j == i) (R u) p.0 in
-      sym (ap (λ b. if b then (effect net (Hears j u from kind n)).1 else []) (and_from (j == i) (u == u) m.0 (eqb-refl u))) ∙ f.replies u m.1
+      sym (ap (λ b. if b then (effect net (Hears j u from kind n)).1 else [])
+      (and_from (j == i) (u == u) m.0 (eqb-refl u))) ∙ f.replies u m.1
   outs-of net (NominationTimes j u n) c f =
       let m = and_parts (j == i) (R u) (kept-true ((j == i) && R u) _ c) in
-      sym (ap (λ b. if b then (effect net (NominationTimes j u n)).1 else []) (and_from (j == i) (u == u) m.0 (eqb-refl u))) ∙ f.replies u m.1
+      sym (ap (λ b. if b then (effect net (NominationTimes j u n)).1 else [])
+      (and_from (j == i) (u == u) m.0 (eqb-refl u))) ∙ f.replies u m.1
   outs-of net (BallotTimes j u n) c f =
       let m = and_parts (j == i) (R u) (kept-true ((j == i) && R u) _ c) in
-      sym (ap (λ b. if b then (effect net (BallotTimes j u n)).1 else []) (and_from (j == i) (u == u) m.0 (eqb-refl u))) ∙ f.replies u m.1
+      sym (ap (λ b. if b then (effect net (BallotTimes j u n)).1 else []) (and_from (j == i) (u == u) m.0 (eqb-refl u)))
+      ∙ f.replies u m.1
   outs-of net (Reslices j u q) c f =
       let m = and_parts (j == i) (R u) (kept-true ((j == i) && R u) _ c) in
-      sym (ap (λ b. if b then (effect net (Reslices j u q)).1 else []) (and_from (j == i) (u == u) m.0 (eqb-refl u))) ∙ f.replies u m.1
+      sym (ap (λ b. if b then (effect net (Reslices j u q)).1 else []) (and_from (j == i) (u == u) m.0 (eqb-refl u)))
+      ∙ f.replies u m.1
 
 module _ (R : Names) (i : ℕ) (r : Roster) (on : (u : ℕ) → R u ≡ true → among r.names u ≡ true) where
   -- a network of which R is known to see enough
@@ -75,35 +84,55 @@ module _ (R : Names) (i : ℕ) (r : Roster) (on : (u : ℕ) → R u ≡ true →
   abbrev next : Net → Step → Net
   next net e = counted (source net.roster e) (size_of e) (effect net e).0
 
-  follows-here : (net : Net) (e : Step) → Stands net → first_that (tests net e) ≡ None → IsWithin R i e → Follows R (cast_of R net.hosts) i net (effect net e) (λ w. is_of i w e) (kept R i e)
+  follows-here : (net : Net) (e : Step) → Stands net → first_that (tests net e) ≡ None → IsWithin R i e
+      → Follows R (cast_of R net.hosts) i net (effect net e) (λ w. is_of i w e) (kept R i e)
   follows-here net e s q f = follows R i net e s.places s.hosts (is_new net e q) f
 
-  stands-next : (net : Net) (e : Step) → Stands net → first_that (tests net e) ≡ None → IsWithin R i e → Stands (next net e)
+  stands-next : (net : Net) (e : Step) → Stands net → first_that (tests net e) ≡ None → IsWithin R i e
+      → Stands (next net e)
   stands-next net e s q f =
       let k = effect-keeps net e in
-      record { places = (follows-here net e s q f).places; hosts = subst (HostsIn R) (sym k.hosts) s.hosts; roster = k.roster ∙ s.roster }
+      record {
+        places = (follows-here net e s q f).places;
+        hosts = subst (HostsIn R) (sym k.hosts) s.hosts;
+        roster = k.roster ∙ s.roster;
+      }
 
   frame-next : (net : Net) (e : Step) → frame R r (next net e) ≡ frame R r net
-  frame-next net e = let k = effect-keeps net e in λ j. record { cast = cast_of R (k.hosts j); shares = r.shares; slots = (k.budgets j).slots }
+  frame-next net e = let k = effect-keeps net e in
+      λ j. record { cast = cast_of R (k.hosts j); shares = r.shares; slots = (k.budgets j).slots }
 
   -- a step that concerns R
-  view-concerned : (net : Net) (e : Step) → Stands net → concerns R i e ≡ true → first_that (tests net e) ≡ None → IsWithin R i e → view R i (next net e) ≡ next_in R i (frame R r net) (view R i net) e
+  view-concerned : (net : Net) (e : Step) → Stands net → concerns R i e ≡ true → first_that (tests net e) ≡ None
+      → IsWithin R i e → view R i (next net e) ≡ next_in R i (frame R r net) (view R i net) e
   view-concerned net e s c q f =
       let k = effect-keeps net e in
       let d = (as_concerned R i r on net s.roster e c).draws in
-      let draws : filter (is_ours R i) (on_shares (source net.roster e) (size_of e) ++ (effect net e).0.draws) ≡ on_shares (share_of r.shares e) (size_of e) ++ left e (filter (is_ours R i) net.draws) =
-      ap₂ (λ z (ds : List Draw). filter (is_ours R i) (on_shares z (size_of e) ++ ds)) d k.draws ∙ ours-left R i r on e c net.draws in
-      λ j. record { sight = (follows-here net e s q f).sights j; numbers = k.slots j; draws = draws j; opens = k.opens j + on_opens (d j) }
+      let draws : filter (is_ours R i) (on_shares (source net.roster e) (size_of e) ++ (effect net e).0.draws)
+      ≡ on_shares (share_of r.shares e) (size_of e) ++ left e (filter (is_ours R i) net.draws) =
+      ap₂ (λ z (ds : List Draw). filter (is_ours R i) (on_shares z (size_of e) ++ ds)) d k.draws
+      ∙ ours-left R i r on e c net.draws in
+      λ j. record {
+        sight = (follows-here net e s q f).sights j;
+        numbers = k.slots j;
+        draws = draws j;
+        opens = k.opens j + on_opens (d j);
+      }
 
   -- a step that doesn't
-  view-others : (net : Net) (e : Step) → Stands net → concerns R i e ≡ false → first_that (tests net e) ≡ None → IsWithin R i e → view R i (next net e) ≡ view R i net
+  view-others : (net : Net) (e : Step) → Stands net → concerns R i e ≡ false → first_that (tests net e) ≡ None
+      → IsWithin R i e → view R i (next net e) ≡ view R i net
   view-others net e s c q f =
       let k = effect-keeps net e in
-      let sights : sight R i (effect net e).0 ≡ sight R i net = (follows-here net e s q f).sights ∙ ap (play (cast_of R net.hosts) i (sight R i net)) (others-kept R i e c) in
-      let draws : filter (is_ours R i) (on_shares (source net.roster e) (size_of e) ++ (effect net e).0.draws) ≡ filter (is_ours R i) net.draws =
-      ap (λ (ds : List Draw). filter (is_ours R i) (on_shares (source net.roster e) (size_of e) ++ ds)) k.draws ∙ others-left R i net.roster e c net.draws in
+      let sights : sight R i (effect net e).0 ≡ sight R i net = (follows-here net e s q f).sights
+      ∙ ap (play (cast_of R net.hosts) i (sight R i net)) (others-kept R i e c) in
+      let draws : filter (is_ours R i) (on_shares (source net.roster e) (size_of e) ++ (effect net e).0.draws)
+      ≡ filter (is_ours R i) net.draws =
+      ap (λ (ds : List Draw). filter (is_ours R i) (on_shares (source net.roster e) (size_of e) ++ ds)) k.draws
+      ∙ others-left R i net.roster e c net.draws in
       let slots = k.slots ∙ others-numbers R i e c _ in
-      let opens : (effect net e).0.opens + on_opens (source net.roster e) ≡ net.opens = ap₂ (λ m n. m + n) k.opens (others-opens R i net.roster e c) ∙ plus_nothing net.opens in
+      let opens : (effect net e).0.opens + on_opens (source net.roster e) ≡ net.opens =
+      ap₂ (λ m n. m + n) k.opens (others-opens R i net.roster e c) ∙ plus_nothing net.opens in
       λ j. record { sight = sights j; numbers = slots j; draws = draws j; opens = opens j }
 
   -- what answers and entries show that a network gave, of which R sees this
@@ -120,20 +149,30 @@ module _ (R : Names) (i : ℕ) (r : Roster) (on : (u : ℕ) → R u ≡ true →
   abbrev with_one : Bool → Answer → List Answer → List Answer
   with_one b x xs = cond b (x ∷ xs) xs
 
-  at_view : (net : Net) (w w' : View) (xs : List Answer) → w ≡ w' → AllGood R i (frame R r net) w (map (λ x. x.step) xs) → AllGood R i (frame R r net) w' (map (λ x. x.step) xs)
+  at_view : (net : Net) (w w' : View) (xs : List Answer) → w ≡ w' → AllGood R i (frame R r net) w (map (λ x. x.step) xs)
+      → AllGood R i (frame R r net) w' (map (λ x. x.step) xs)
   at_view net w w' xs e h = subst (λ v. AllGood R i (frame R r net) v (map (λ x. x.step) xs)) e h
 
   -- from one network to another of which R sees the same
-  good-as : (net net' : Net) (w : View) (xs : List Answer) → frame R r net ≡ frame R r net' → view R i net ≡ w → AllGood R i (frame R r net) (view R i net) (map (λ x. x.step) xs) → AllGood R i (frame R r net') w (map (λ x. x.step) xs)
-  good-as net net' w xs f v h = subst (λ (z : Frame × View). AllGood R i z.0 z.1 (map (λ x. x.step) xs)) (λ j. (f j, v j)) h
+  good-as : (net net' : Net) (w : View) (xs : List Answer) → frame R r net ≡ frame R r net' → view R i net ≡ w
+      → AllGood R i (frame R r net) (view R i net) (map (λ x. x.step) xs)
+      → AllGood R i (frame R r net') w (map (λ x. x.step) xs)
+  good-as net net' w xs f v h =
+      subst (λ (z : Frame × View). AllGood R i z.0 z.1 (map (λ x. x.step) xs)) (λ j. (f j, v j)) h
 
-  good-back : (net net' : Net) (w : View) (xs : List Answer) → frame R r net ≡ frame R r net' → view R i net ≡ w → AllGood R i (frame R r net') w (map (λ x. x.step) xs) → AllGood R i (frame R r net) (view R i net) (map (λ x. x.step) xs)
-  good-back net net' w xs f v h = subst (λ (z : Frame × View). AllGood R i z.0 z.1 (map (λ x. x.step) xs)) (sym (λ j. (f j, v j))) h
+  good-back : (net net' : Net) (w : View) (xs : List Answer) → frame R r net ≡ frame R r net' → view R i net ≡ w
+      → AllGood R i (frame R r net') w (map (λ x. x.step) xs)
+      → AllGood R i (frame R r net) (view R i net) (map (λ x. x.step) xs)
+  good-back net net' w xs f v h =
+      subst (λ (z : Frame × View). AllGood R i z.0 z.1 (map (λ x. x.step) xs)) (sym (λ j. (f j, v j))) h
 
-  replies-as : (net net' : Net) (w : View) (xs : List Answer) → frame R r net ≡ frame R r net' → view R i net ≡ w → replies_in R i (frame R r net) (view R i net) (map (λ x. x.step) xs) ≡ replies_in R i (frame R r net') w (map (λ x. x.step) xs)
+  replies-as : (net net' : Net) (w : View) (xs : List Answer) → frame R r net ≡ frame R r net' → view R i net ≡ w
+      → replies_in R i (frame R r net) (view R i net) (map (λ x. x.step) xs)
+      ≡ replies_in R i (frame R r net') w (map (λ x. x.step) xs)
   replies-as net net' w xs f v = ap₂ (λ (a : Frame) (b : View). replies_in R i a b (map (λ x. x.step) xs)) f v
 
-  pub shows : (es : List Step) (net : Net) → Stands net → IsGood net (concerning R i (net_run net es)) (journal net es) → Shows net (concerning R i (net_run net es)) (journal net es)
+  pub shows : (es : List Step) (net : Net) → Stands net → IsGood net (concerning R i (net_run net es)) (journal net es)
+      → Shows net (concerning R i (net_run net es)) (journal net es)
   unfolding net_run journal net_step
   shows [] net s g = record { replies = refl; good = tt; within = tt }
   shows (e ∷ es) net s g = go (concerns R i e) refl (first_that (tests net e)) refl g (λ n. shows es n)
@@ -148,43 +187,74 @@ module _ (R : Names) (i : ℕ) (r : Roster) (on : (u : ℕ) → R u ≡ true →
       entries o = entered e (replied net e o).1 (journal (replied net e o).0 es)
 
       Hypothesis : Type 0
-      Hypothesis = (n : Net) → Stands n → IsGood n (concerning R i (net_run n es)) (journal n es) → Shows n (concerning R i (net_run n es)) (journal n es)
+      Hypothesis = (n : Net) → Stands n → IsGood n (concerning R i (net_run n es)) (journal n es)
+          → Shows n (concerning R i (net_run n es)) (journal n es)
 
-      go : (b : Bool) → concerns R i e ≡ b → (o : Option Refusal) → first_that (tests net e) ≡ o → IsGood net (with_one b (answer o) (rest o)) (entries o) → Hypothesis → Shows net (with_one b (answer o) (rest o)) (entries o)
+      go : (b : Bool) → concerns R i e ≡ b → (o : Option Refusal) → first_that (tests net e) ≡ o
+          → IsGood net (with_one b (answer o) (rest o)) (entries o) → Hypothesis
+          → Shows net (with_one b (answer o) (rest o)) (entries o)
       go false c (Some n) q g ih = ih net s g
       go false c None q g ih =
           let w : IsWithin R i e = kept-to R R i e (λ u r. r) (subst (if_kept R) (sym (others-kept R i e c)) tt) in
           let f = frame-next net e in
           let v = view-others net e s c q w in
-          let before : IsGood (next net e) (rest None) (journal (next net e) es) = elim g [ inl a ↦ inl a.1 | inr h ↦ inr (good-back (next net e) net (view R i net) (rest None) f v h) ] in
+          let before : IsGood (next net e) (rest None) (journal (next net e) es) =
+          elim g [ inl a ↦ inl a.1 | inr h ↦ inr (good-back (next net e) net (view R i net) (rest None) f v h) ] in
           let done = ih (next net e) (stands-next net e s q w) before in
-          record { replies = done.replies ∙ replies-as (next net e) net (view R i net) (rest None) f v; good = good-as (next net e) net (view R i net) (rest None) f v done.good; within = (w, done.within) }
+          record {
+            replies = done.replies ∙ replies-as (next net e) net (view R i net) (rest None) f v;
+            good = good-as (next net e) net (view R i net) (rest None) f v done.good;
+            within = (w, done.within);
+          }
       go true c (Some n) q g ih =
-          let there : first_that (tests_in (frame R r net) (view R i net) e) ≡ Some n = sym (ap first_that (as_concerned R i r on net s.roster e c).tested) ∙ q in
-          let stays : (step_in R i (frame R r net) (view R i net) e).0 ≡ view R i net = ap (λ o. (replied_in R i (frame R r net) (view R i net) e o).0) there in
-          let before : IsGood net (rest (Some n)) (journal net es) = elim g [ inl a ↦ inl a | inr h ↦ inr (at_view net _ (view R i net) (rest (Some n)) stays h.1) ] in
+          let there : first_that (tests_in (frame R r net) (view R i net) e) ≡ Some n =
+          sym (ap first_that (as_concerned R i r on net s.roster e c).tested) ∙ q in
+          let stays : (step_in R i (frame R r net) (view R i net) e).0 ≡ view R i net =
+          ap (λ o. (replied_in R i (frame R r net) (view R i net) e o).0) there in
+          let before : IsGood net (rest (Some n)) (journal net es) =
+          elim g [ inl a ↦ inl a | inr h ↦ inr (at_view net _ (view R i net) (rest (Some n)) stays h.1) ] in
           let done = ih net s before in
           record {
-            replies = ap (λ rs. Refused n ∷ rs) done.replies ∙ ap (λ o. (replied_in R i (frame R r net) (view R i net) e o).1 ∷ replies_in R i (frame R r net) (replied_in R i (frame R r net) (view R i net) e o).0 (map (λ x. x.step) (rest (Some n)))) (sym there);
-            good = (λ h. absurd (refused n (sym there ∙ h)), at_view net (view R i net) _ (rest (Some n)) (sym stays) done.good);
+            replies = ap (λ rs. Refused n ∷ rs) done.replies
+                ∙ ap (λ o. (replied_in R i (frame R r net) (view R i net) e o).1 ∷ replies_in R i (frame R r net)
+                (replied_in R i (frame R r net) (view R i net) e o).0 (map (λ x. x.step) (rest (Some n)))) (sym there);
+            good = (
+              λ h. absurd (refused n (sym there ∙ h)),
+              at_view net (view R i net) _ (rest (Some n)) (sym stays) done.good,
+            );
             within = done.within;
           }
         where
           refused : (n : Refusal) → Some n ≡ None → ⊥
           refused n h = cc
       go true c None q g ih =
-          let there : first_that (tests_in (frame R r net) (view R i net) e) ≡ None = sym (ap first_that (as_concerned R i r on net s.roster e c).tested) ∙ q in
+          let there : first_that (tests_in (frame R r net) (view R i net) e) ≡ None =
+          sym (ap first_that (as_concerned R i r on net s.roster e c).tested) ∙ q in
           let w : IsWithin R i e = elim g [ inl a ↦ a.0 | inr h ↦ h.0 there ] in
-          let moves : (step_in R i (frame R r net) (view R i net) e).0 ≡ next_in R i (frame R r net) (view R i net) e = ap (λ o. (replied_in R i (frame R r net) (view R i net) e o).0) there in
+          let moves : (step_in R i (frame R r net) (view R i net) e).0 ≡ next_in R i (frame R r net) (view R i net) e =
+          ap (λ o. (replied_in R i (frame R r net) (view R i net) e o).0) there in
           let f = frame-next net e in
           let v = view-concerned net e s c q w in
           let outs = outs-of R i net e c (follows-here net e s q w) in
           let before : IsGood (next net e) (rest None) (journal (next net e) es) =
-          elim g [ inl a ↦ inl a.1 | inr h ↦ inr (good-back (next net e) net (next_in R i (frame R r net) (view R i net) e) (rest None) f v (at_view net _ (next_in R i (frame R r net) (view R i net) e) (rest None) moves h.1)) ] in
+          elim g [
+            | inl a ↦ inl a.1
+            | inr h ↦ inr
+                (good-back (next net e) net (next_in R i (frame R r net) (view R i net) e) (rest None) f v
+                (at_view net _ (next_in R i (frame R r net) (view R i net) e) (rest None) moves h.1))
+          ] in
           let done = ih (next net e) (stands-next net e s q w) before in
           record {
-            replies = ap₂ {C = List Reply} (λ (os : List Out) (rs : List Reply). Done os ∷ rs) outs (done.replies ∙ replies-as (next net e) net (next_in R i (frame R r net) (view R i net) e) (rest None) f v)
-                ∙ ap (λ o. (replied_in R i (frame R r net) (view R i net) e o).1 ∷ replies_in R i (frame R r net) (replied_in R i (frame R r net) (view R i net) e o).0 (map (λ x. x.step) (rest None))) (sym there);
-            good = (λ h. w, at_view net (next_in R i (frame R r net) (view R i net) e) _ (rest None) (sym moves) (good-as (next net e) net (next_in R i (frame R r net) (view R i net) e) (rest None) f v done.good));
+            replies =
+                ap₂ {C = List Reply} (λ (os : List Out) (rs : List Reply). Done os ∷ rs) outs
+                (done.replies ∙ replies-as (next net e) net (next_in R i (frame R r net) (view R i net) e)
+                (rest None) f v)
+                ∙ ap (λ o. (replied_in R i (frame R r net) (view R i net) e o).1 ∷ replies_in R i (frame R r net)
+                (replied_in R i (frame R r net) (view R i net) e o).0 (map (λ x. x.step) (rest None))) (sym there);
+            good = (
+              λ h. w,
+              at_view net (next_in R i (frame R r net) (view R i net) e) _ (rest None) (sym moves)
+                  (good-as (next net e) net (next_in R i (frame R r net) (view R i net) e) (rest None) f v done.good),
+            );
             within = (w, done.within);
           }

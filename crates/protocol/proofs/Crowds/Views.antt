@@ -1,4 +1,5 @@
--- What R sees of a network with a roster, and how that answers the steps that concern R: what one is tested by, what it draws, what it changes. Members stands on it.
+-- What R sees of a network with a roster, and how that answers the steps that concern R: what one is tested by, what it
+-- draws, what it changes. Members stands on it.
 use Rattle.types.specs.declared.event.Refusal.{Refusal}
 use Rattle.std.proofs.Common.{◌≡◌, ℕ, Bool, true, false, not, ◌&&◌, ◌||◌, ◌==◌, ◌+◌, nat_lt, length, Option, Some, None, List, [], ◌∷◌, ◌++◌, filter, is_some, is_none, ◌∙◌, ap, ap₂}
 use Rattle.std.proofs.lemmas.Bool.{and_parts, and_from, eqb-true, false≢true}
@@ -31,13 +32,16 @@ pub same_share-true : (s t : Share) → same_share s t ≡ true → s ≡ t
 same_share-true (Own u) (Own w) h = ap {B = Share} Own (eqb-true u w h)
 same_share-true (Own u) (Pair w other) h = absurd (false≢true h)
 same_share-true (Pair u from) (Own w) h = absurd (false≢true h)
-same_share-true (Pair u from) (Pair w other) h = let p = and_parts (u == w) (from == other) h in ap₂ {C = Share} Pair (eqb-true u w p.0) (eqb-true from other p.1)
+same_share-true (Pair u from) (Pair w other) h =
+    let p = and_parts (u == w) (from == other) h in ap₂ {C = Share} Pair (eqb-true u w p.0) (eqb-true from other p.1)
 
 -- what was drawn on a member's share is among the draws of members
-pub drawn-ours : (R : Names) (i j : ℕ) (s : Share) (ds : List Draw) → (j == i) ≡ true → of_members R s ≡ true → drawn_on j s (filter (is_ours R i) ds) ≡ drawn_on j s ds
+pub drawn-ours : (R : Names) (i j : ℕ) (s : Share) (ds : List Draw) → (j == i) ≡ true → of_members R s ≡ true
+    → drawn_on j s (filter (is_ours R i) ds) ≡ drawn_on j s ds
 drawn-ours R i j s ds e m = filter_filter (is_ours R i) (λ d. (d.slot == j) && same_share d.share s) (λ d h.
     let p = and_parts (d.slot == j) (same_share d.share s) h in
-    and_from (d.slot == i) (of_members R d.share) (ap (λ x. x == i) (eqb-true d.slot j p.0) ∙ e) (ap (of_members R) (same_share-true d.share s p.1) ∙ m)) ds
+    and_from (d.slot == i) (of_members R d.share) (ap (λ x. x == i) (eqb-true d.slot j p.0) ∙ e)
+    (ap (of_members R) (same_share-true d.share s p.1) ∙ m)) ds
 
 -- ---- what R sees
 pub record View : Type 0 where
@@ -47,7 +51,13 @@ pub record View : Type 0 where
   pub opens : ℕ
 
 abbrev pub view : Names → ℕ → Net → View
-view R i net = record { sight = sight R i net; numbers = numbers net.slots; draws = filter (is_ours R i) net.draws; opens = net.opens }
+view R i net =
+    record {
+      sight = sight R i net;
+      numbers = numbers net.slots;
+      draws = filter (is_ours R i) net.draws;
+      opens = net.opens;
+    }
 
 -- what does not change in a run
 pub record Frame : Type 0 where
@@ -82,17 +92,35 @@ bytes_full_in w (OfShare shares j s) size = (nat_lt shares.bytes (bytes_drawn j 
 
 -- the tests of a step that concerns R
 abbrev pub tests_in : Frame → View → Step → List (Bool × Refusal)
-tests_in f w (Opens j) = (among w.numbers j, SlotOpenAlready) ∷ (not (nat_lt (length w.numbers) f.slots), TooManySlots) ∷ full_in w (share_of f.shares (Opens j)) ∷ []
+tests_in f w (Opens j) =
+    (among w.numbers j, SlotOpenAlready) ∷ (not (nat_lt (length w.numbers) f.slots), TooManySlots) ∷ full_in w
+    (share_of f.shares (Opens j)) ∷ []
 tests_in f w (Closes j) = (not (among w.numbers j), SlotNotOpen) ∷ full_in w (share_of f.shares (Closes j)) ∷ []
-tests_in f w (Asks j u x) = (not (is_some (f.cast u)), NoSuchNode) ∷ (not (among w.numbers j), SlotNotOpen) ∷ (is_bad_value x, BadValue) ∷ (has_input (w.sight u), ProposedAlready) ∷ full_in w (share_of f.shares (Asks j u x)) ∷ []
+tests_in f w (Asks j u x) =
+    (not (is_some (f.cast u)), NoSuchNode) ∷ (not (among w.numbers j), SlotNotOpen) ∷ (is_bad_value x, BadValue) ∷
+    (has_input (w.sight u), ProposedAlready) ∷ full_in w (share_of f.shares (Asks j u x)) ∷ []
 tests_in f w (Delivers u size (Fault n)) = []
 tests_in f w (Delivers u size (Read e)) =
-    (not (is_some (f.cast u)), NoSuchNode) ∷ (is_some (f.cast e.sender), HostedSender) ∷ (not (among w.numbers e.slot), SlotNotOpen) ∷ full_in w (share_of f.shares (Delivers u size (Read e))) ∷ bytes_full_in w (share_of f.shares (Delivers u size (Read e))) size ∷ []
+    (not (is_some (f.cast u)), NoSuchNode) ∷ (is_some (f.cast e.sender), HostedSender) ∷ (
+      not (among w.numbers e.slot),
+      SlotNotOpen,
+    ) ∷ full_in w (share_of f.shares (Delivers u size (Read e))) ∷ bytes_full_in w
+    (share_of f.shares (Delivers u size (Read e))) size ∷ []
 tests_in f w (Hears j u from kind k) =
-    (not (is_some (f.cast u)) || not (is_some (f.cast from)) || (u == from), NoSuchNode) ∷ (not (among w.numbers j), SlotNotOpen) ∷ (is_none (emission (w.sight from) kind k), NotEmitted) ∷ full_in w (share_of f.shares (Hears j u from kind k)) ∷ []
-tests_in f w (NominationTimes j u r) = (not (is_some (f.cast u)), NoSuchNode) ∷ (not (among w.numbers j), SlotNotOpen) ∷ full_in w (share_of f.shares (NominationTimes j u r)) ∷ []
-tests_in f w (BallotTimes j u n) = (not (is_some (f.cast u)), NoSuchNode) ∷ (not (among w.numbers j), SlotNotOpen) ∷ full_in w (share_of f.shares (BallotTimes j u n)) ∷ []
-tests_in f w (Reslices j u q) = (not (is_some (f.cast u)), NoSuchNode) ∷ (not (among w.numbers j), SlotNotOpen) ∷ full_in w (share_of f.shares (Reslices j u q)) ∷ []
+    (not (is_some (f.cast u)) || not (is_some (f.cast from)) || (u == from), NoSuchNode) ∷ (
+      not (among w.numbers j),
+      SlotNotOpen,
+    ) ∷ (is_none (emission (w.sight from) kind k), NotEmitted) ∷ full_in w
+    (share_of f.shares (Hears j u from kind k)) ∷ []
+tests_in f w (NominationTimes j u r) =
+    (not (is_some (f.cast u)), NoSuchNode) ∷ (not (among w.numbers j), SlotNotOpen) ∷ full_in w
+    (share_of f.shares (NominationTimes j u r)) ∷ []
+tests_in f w (BallotTimes j u n) =
+    (not (is_some (f.cast u)), NoSuchNode) ∷ (not (among w.numbers j), SlotNotOpen) ∷ full_in w
+    (share_of f.shares (BallotTimes j u n)) ∷ []
+tests_in f w (Reslices j u q) =
+    (not (is_some (f.cast u)), NoSuchNode) ∷ (not (among w.numbers j), SlotNotOpen) ∷ full_in w
+    (share_of f.shares (Reslices j u q)) ∷ []
 
 -- the node of a step
 abbrev pub node_of : Step → ℕ

@@ -29,11 +29,15 @@ counts net e = λ j. record (counted_without e net) { opens = plus_nothing net.o
 
 pub steps_without : StepsWithout
 unfolding net_step
-steps_without net e h = ap (λ (ts : List (Bool × Refusal)). replied net e (first_that ts)) (ap (λ o. tests_on net (source o e) e) h ∙ tested net e) ∙ go (first_that (tests_without net e))
+steps_without net e h =
+    ap (λ (ts : List (Bool × Refusal)). replied net e (first_that ts))
+    (ap (λ o. tests_on net (source o e) e) h ∙ tested net e) ∙ go (first_that (tests_without net e))
   where
     go : (o : Option Refusal) → replied net e o ≡ replied_without net e o
     go (Some n) = refl
-    go None = ap {B = Net × Reply} (λ (n : Net). (n, Done (effect net e).1)) (ap (λ o. counted (source o e) (size_of e) (effect net e).0) h ∙ counts (effect net e).0 e)
+    go None =
+        ap {B = Net × Reply} (λ (n : Net). (n, Done (effect net e).1))
+        (ap (λ o. counted (source o e) (size_of e) (effect net e).0) h ∙ counts (effect net e).0 e)
 
 none_left : (e : Step) (ds : List Draw) → ds ≡ [] → left e ds ≡ []
 none_left (Opens i) ds h = ap (left (Opens i)) h
@@ -57,7 +61,8 @@ stays-step net e h = go (first_that (tests net e))
         record {
           roster = k.roster ∙ h.roster;
           opens = ap₂ (λ m n. m + n) (k.opens ∙ h.opens) (ap on_opens s);
-          draws = ap₂ (λ (xs ys : List Draw). xs ++ ys) (ap (λ z. on_shares z (size_of e)) s) (k.draws ∙ none_left e net.draws h.draws);
+          draws = ap₂ (λ (xs ys : List Draw). xs ++ ys) (ap (λ z. on_shares z (size_of e)) s)
+              (k.draws ∙ none_left e net.draws h.draws);
         }
 
 stays-after : (net : Net) (xs : List Entry) → HasNoShares net → HasNoShares (net_after net xs)

@@ -13,7 +13,8 @@ use Rattle.protocol.proofs.Equality.Sameness.{same_statement-refl, same_statemen
 abbrev pub IsDecided : Type 0 → Type 0
 IsDecided A = (x y : A) → (x ≡ y) ⊎ (x ≢ y)
 
-by_test : {A : Type 0} (test : A → A → Bool) → ((x y : A) → test x y ≡ true → x ≡ y) → ((x : A) → test x x ≡ true) → IsDecided A
+by_test : {A : Type 0} (test : A → A → Bool) → ((x y : A) → test x y ≡ true → x ≡ y)
+    → ((x : A) → test x x ≡ true) → IsDecided A
 by_test test t r x y = elim (cases_Bool (test x y)) [
   | inl e ↦ inl (t x y e)
   | inr e ↦ inr (λ q. true≢false (sym (r x) ∙ (ap (test x) q ∙ e)))
@@ -58,25 +59,30 @@ pub decided_option : {A : Type 0} → IsDecided A → IsDecided (Option A)
 decided_option a None None = inl refl
 decided_option a None (Some y) = inr (λ q. cc)
 decided_option a (Some x) None = inr (λ q. cc)
-decided_option {A} a (Some x) (Some y) = elim (a x y) [ inl e ↦ inl (ap {B = Option A} Some e) | inr n ↦ inr (λ q. n (cc)) ]
+decided_option {A} a (Some x) (Some y) =
+    elim (a x y) [ inl e ↦ inl (ap {B = Option A} Some e) | inr n ↦ inr (λ q. n (cc)) ]
 
 decided_members : IsDecided Members
 decided_members = by_image tokens_of members_from members_from-tokens_of (decided_list (decided× decided_ℕ decided_ℕ))
 
 pub decided_slices : IsDecided Slices
-decided_slices = by_image (λ s. (s.threshold, s.members)) (λ p. record { threshold = p.0; members = p.1 }) (λ s. refl) (decided× decided_ℕ decided_members)
+decided_slices =
+    by_image (λ s. (s.threshold, s.members)) (λ p. record { threshold = p.0; members = p.1 }) (λ s. refl)
+    (decided× decided_ℕ decided_members)
 
 decided_statement : IsDecided Statement
 decided_statement = by_test same_statement same_statement-true same_statement-refl
 
 pub decided_sent : IsDecided Sent
 decided_sent =
-    by_image (λ e. ((e.sender, e.slot), (e.slices, e.body))) (λ p. record { sender = p.0.0; slot = p.0.1; slices = p.1.0; body = p.1.1 }) (λ e. refl)
+    by_image (λ e. ((e.sender, e.slot), (e.slices, e.body)))
+    (λ p. record { sender = p.0.0; slot = p.0.1; slices = p.1.0; body = p.1.1 }) (λ e. refl)
     (decided× (decided× decided_ℕ decided_ℕ) (decided× decided_slices decided_statement))
 
 pub decided_shares : IsDecided Shares
 decided_shares =
-    by_image (λ s. ((s.own, s.pair), (s.bytes, s.opens))) (λ p. record { own = p.0.0; pair = p.0.1; bytes = p.1.0; opens = p.1.1 }) (λ s. refl)
+    by_image (λ s. ((s.own, s.pair), (s.bytes, s.opens)))
+    (λ p. record { own = p.0.0; pair = p.0.1; bytes = p.1.0; opens = p.1.1 }) (λ s. refl)
     (decided× (decided× decided_ℕ decided_ℕ) (decided× decided_ℕ decided_ℕ))
 
 pub decided_kind : IsDecided Kind

@@ -18,7 +18,8 @@ least_below test (suc n) = go (least_below test n)
       | inr (inr k) ↦ absurd (omega (arith, l, k))
     ]
 
-    go : ((u : ℕ) → u < n → test u ≡ false) ⊎ ((u : ℕ) × IsLeastThat test u) → ((u : ℕ) → u < suc n → test u ≡ false) ⊎ ((u : ℕ) × IsLeastThat test u)
+    go : ((u : ℕ) → u < n → test u ≡ false) ⊎ ((u : ℕ) × IsLeastThat test u)
+        → ((u : ℕ) → u < suc n → test u ≡ false) ⊎ ((u : ℕ) × IsLeastThat test u)
     go (inr p) = inr p
     go (inl f) = elim (cases_Bool (test n)) [
       | inl e ↦ inr (n, record { passes = e; none_before = f })
@@ -39,7 +40,8 @@ among-below (x ∷ xs) u h = elim (or_cases (x == u) (among xs u) h) [
 ]
 
 -- the least name of a list that passes a test, where all that pass are names of the list
-pub least_among : (test : Names) (bound : ℕ) → ((u : ℕ) → test u ≡ true → u < bound) → ((u : ℕ) → test u ≡ false) ⊎ ((u : ℕ) × IsLeastThat test u)
+pub least_among : (test : Names) (bound : ℕ) → ((u : ℕ) → test u ≡ true → u < bound)
+    → ((u : ℕ) → test u ≡ false) ⊎ ((u : ℕ) × IsLeastThat test u)
 least_among test bound f = elim (least_below test bound) [
   | inl g ↦ inl (λ u. elim (cases_Bool (test u)) [ inl e ↦ g u (f u e) | inr e ↦ e ])
   | inr p ↦ inr p

@@ -29,19 +29,26 @@ pub same_values-true : (xs ys : List (List ℕ)) → same_values xs ys ≡ true 
 same_values-true [] [] h = refl
 same_values-true [] (y ∷ ys) h = absurd (false≢true h)
 same_values-true (x ∷ xs) [] h = absurd (false≢true h)
-same_values-true (x ∷ xs) (y ∷ ys) h = let p = and_parts (same_value x y) (same_values xs ys) h in ap₂ (λ (a : List ℕ) (b : List (List ℕ)). a ∷ b) (same_value-true x y p.0) (same_values-true xs ys p.1)
+same_values-true (x ∷ xs) (y ∷ ys) h =
+    let p = and_parts (same_value x y) (same_values xs ys) h in
+    ap₂ (λ (a : List ℕ) (b : List (List ℕ)). a ∷ b) (same_value-true x y p.0) (same_values-true xs ys p.1)
 
 same_ballot-refl : (b : Ballot) → same_ballot b b ≡ true
-same_ballot-refl b = and_from (b.counter == b.counter) (same_value b.value b.value) (eqb-refl b.counter) (same_value-refl b.value)
+same_ballot-refl b =
+    and_from (b.counter == b.counter) (same_value b.value b.value) (eqb-refl b.counter) (same_value-refl b.value)
 
 same_ballot-true : (a b : Ballot) → same_ballot a b ≡ true → a ≡ b
-same_ballot-true a b h = let p = and_parts (a.counter == b.counter) (same_value a.value b.value) h in λ i. record { counter = (eqb-true a.counter b.counter p.0) i; value = (same_value-true a.value b.value p.1) i }
+same_ballot-true a b h =
+    let p = and_parts (a.counter == b.counter) (same_value a.value b.value) h in
+    λ i. record { counter = (eqb-true a.counter b.counter p.0) i; value = (same_value-true a.value b.value p.1) i }
 
-same_option-refl : {A : Type 0} (f : A → A → Bool) → ((a : A) → f a a ≡ true) → (o : Option A) → same_option f o o ≡ true
+same_option-refl : {A : Type 0} (f : A → A → Bool) → ((a : A) → f a a ≡ true) → (o : Option A)
+    → same_option f o o ≡ true
 same_option-refl f r None = refl
 same_option-refl f r (Some a) = r a
 
-same_option-true : {A : Type 0} (f : A → A → Bool) → ((a b : A) → f a b ≡ true → a ≡ b) → (o p : Option A) → same_option f o p ≡ true → o ≡ p
+same_option-true : {A : Type 0} (f : A → A → Bool) → ((a b : A) → f a b ≡ true → a ≡ b) → (o p : Option A)
+    → same_option f o p ≡ true → o ≡ p
 same_option-true f t None None h = refl
 same_option-true f t None (Some b) h = absurd (false≢true h)
 same_option-true f t (Some a) None h = absurd (false≢true h)
@@ -64,16 +71,23 @@ same_phase-true Externalized Committing h = absurd (false≢true h)
 same_phase-true Externalized Externalized h = refl
 
 pub same_statement-refl : (s : Statement) → same_statement s s ≡ true
-same_statement-refl (Nominate v a) = and_from (same_values v v) (same_values a a) (same_values-refl v) (same_values-refl a)
-same_statement-refl (Prepare b p a h c) = and_from _ _ (and_from _ _ (and_from _ _ (and_from _ _ (same_ballot-refl b) (same_option-refl same_ballot same_ballot-refl p)) (eqb-refl a)) (eqb-refl h)) (eqb-refl c)
-same_statement-refl (Commit b p h c) = and_from _ _ (and_from _ _ (and_from _ _ (same_ballot-refl b) (eqb-refl p)) (eqb-refl h)) (eqb-refl c)
+same_statement-refl (Nominate v a) =
+    and_from (same_values v v) (same_values a a) (same_values-refl v) (same_values-refl a)
+same_statement-refl (Prepare b p a h c) =
+    and_from _ _
+    (and_from _ _ (and_from _ _ (and_from _ _ (same_ballot-refl b) (same_option-refl same_ballot same_ballot-refl p))
+    (eqb-refl a)) (eqb-refl h)) (eqb-refl c)
+same_statement-refl (Commit b p h c) =
+    and_from _ _ (and_from _ _ (and_from _ _ (same_ballot-refl b) (eqb-refl p)) (eqb-refl h)) (eqb-refl c)
 same_statement-refl (Externalize b h) = and_from _ _ (same_ballot-refl b) (eqb-refl h)
 
 pub same_sent-refl : (o : Option Statement) → same_sent o o ≡ true
 same_sent-refl o = same_option-refl same_statement same_statement-refl o
 
 pub same_statement-true : (s t : Statement) → same_statement s t ≡ true → s ≡ t
-same_statement-true (Nominate xs ys) (Nominate xs' ys') e = let p = and_parts (same_values xs xs') (same_values ys ys') e in λ i. Nominate ((same_values-true xs xs' p.0) i) ((same_values-true ys ys' p.1) i)
+same_statement-true (Nominate xs ys) (Nominate xs' ys') e =
+    let p = and_parts (same_values xs xs') (same_values ys ys') e in
+    λ i. Nominate ((same_values-true xs xs' p.0) i) ((same_values-true ys ys' p.1) i)
 same_statement-true (Nominate xs ys) (Prepare b' p' a' h' c') e = absurd (false≢true e)
 same_statement-true (Nominate xs ys) (Commit b' p' h' c') e = absurd (false≢true e)
 same_statement-true (Nominate xs ys) (Externalize b' h') e = absurd (false≢true e)
@@ -83,7 +97,8 @@ same_statement-true (Prepare b p a h c) (Prepare b' p' a' h' c') e =
     let p3 = and_parts _ (h == h') p4.0 in
     let p2 = and_parts _ (a == a') p3.0 in
     let p1 = and_parts (same_ballot b b') (same_option same_ballot p p') p2.0 in
-    λ i. Prepare ((same_ballot-true b b' p1.0) i) ((same_option-true same_ballot same_ballot-true p p' p1.1) i) ((eqb-true a a' p2.1) i) ((eqb-true h h' p3.1) i) ((eqb-true c c' p4.1) i)
+    λ i. Prepare ((same_ballot-true b b' p1.0) i) ((same_option-true same_ballot same_ballot-true p p' p1.1) i)
+    ((eqb-true a a' p2.1) i) ((eqb-true h h' p3.1) i) ((eqb-true c c' p4.1) i)
 same_statement-true (Prepare b p a h c) (Commit b' p' h' c') e = absurd (false≢true e)
 same_statement-true (Prepare b p a h c) (Externalize b' h') e = absurd (false≢true e)
 same_statement-true (Commit b p h c) (Nominate xs' ys') e = absurd (false≢true e)
@@ -92,12 +107,15 @@ same_statement-true (Commit b p h c) (Commit b' p' h' c') e =
     let p3 = and_parts _ (c == c') e in
     let p2 = and_parts _ (h == h') p3.0 in
     let p1 = and_parts (same_ballot b b') (p == p') p2.0 in
-    λ i. Commit ((same_ballot-true b b' p1.0) i) ((eqb-true p p' p1.1) i) ((eqb-true h h' p2.1) i) ((eqb-true c c' p3.1) i)
+    λ i. Commit ((same_ballot-true b b' p1.0) i) ((eqb-true p p' p1.1) i) ((eqb-true h h' p2.1) i)
+    ((eqb-true c c' p3.1) i)
 same_statement-true (Commit b p h c) (Externalize b' h') e = absurd (false≢true e)
 same_statement-true (Externalize b h) (Nominate xs' ys') e = absurd (false≢true e)
 same_statement-true (Externalize b h) (Prepare b' p' a' h' c') e = absurd (false≢true e)
 same_statement-true (Externalize b h) (Commit b' p' h' c') e = absurd (false≢true e)
-same_statement-true (Externalize b h) (Externalize b' h') e = let p = and_parts (same_ballot b b') (h == h') e in λ i. Externalize ((same_ballot-true b b' p.0) i) ((eqb-true h h' p.1) i)
+same_statement-true (Externalize b h) (Externalize b' h') e =
+    let p = and_parts (same_ballot b b') (h == h') e in
+    λ i. Externalize ((same_ballot-true b b' p.0) i) ((eqb-true h h' p.1) i)
 
 pub same_sent-true : (o p : Option Statement) → same_sent o p ≡ true → o ≡ p
 same_sent-true o p h = same_option-true same_statement same_statement-true o p h
@@ -105,9 +123,12 @@ same_sent-true o p h = same_option-true same_statement same_statement-true o p h
 pub same_votes-refl : (w : Votes) → same_votes w w ≡ true
 unfolding same_votes
 same_votes-refl w =
-    and_from _ _ (and_from _ _ (and_from _ _ (and_from _ _ (and_from _ _ (and_from _ _ (and_from _ _ (and_from _ _ (and_from _ _ (and_from _ _ (and_from _ _
+    and_from _ _
+    (and_from _ _ (and_from _ _ (and_from _ _
+    (and_from _ _ (and_from _ _ (and_from _ _ (and_from _ _ (and_from _ _ (and_from _ _ (and_from _ _
     (same_values-refl w.voted) (same_values-refl w.accepts)) (same_values-refl w.confirms)) (same_phase-refl w.phase))
-    (same_option-refl same_ballot same_ballot-refl w.ballot)) (same_option-refl same_ballot same_ballot-refl w.prepared)) (eqb-refl w.aborted))
+    (same_option-refl same_ballot same_ballot-refl w.ballot))
+    (same_option-refl same_ballot same_ballot-refl w.prepared)) (eqb-refl w.aborted))
     (same_option-refl same_ballot same_ballot-refl w.high)) (same_option-refl same_ballot same_ballot-refl w.commit))
     (eqb-refl w.lo)) (eqb-refl w.hi)) (eqb-refl w.armed)
 

@@ -39,7 +39,9 @@ node_back (BallotTimer n) = refl
 node_back (Reslice q) = refl
 
 decided_event : IsDecided NodeEvent
-decided_event = by_image node_parts node_event node_back (decided⊎ (decided⊎ (decided_list decided_ℕ) decided_sent) (decided⊎ decided_ℕ (decided⊎ decided_ℕ decided_slices)))
+decided_event =
+    by_image node_parts node_event node_back
+    (decided⊎ (decided⊎ (decided_list decided_ℕ) decided_sent) (decided⊎ decided_ℕ (decided⊎ decided_ℕ decided_slices)))
 
 abbrev KeptParts : Type 0
 KeptParts = Bool ⊎ ((ℕ × NodeEvent) ⊎ ((ℕ × ℕ) × (Kind × ℕ)))
@@ -70,10 +72,15 @@ decided_bool false true = inr (λ q. false≢true q)
 decided_bool false false = inl refl
 
 pub decided_kept : IsDecided Kept
-decided_kept = by_image kept_parts kept_from kept_back (decided⊎ decided_bool (decided⊎ (decided× decided_ℕ decided_event) (decided× (decided× decided_ℕ decided_ℕ) (decided× decided_kind decided_ℕ))))
+decided_kept =
+    by_image kept_parts kept_from kept_back
+    (decided⊎ decided_bool (decided⊎ (decided× decided_ℕ decided_event)
+    (decided× (decided× decided_ℕ decided_ℕ) (decided× decided_kind decided_ℕ))))
 
 abbrev StepParts : Type 0
-StepParts = ((ℕ ⊎ ℕ) ⊎ (((ℕ × ℕ) × List ℕ) ⊎ ((ℕ × ℕ) × (Sent ⊎ ℕ)))) ⊎ (((ℕ × ℕ) × (ℕ × (Kind × ℕ))) ⊎ (((ℕ × ℕ) × ℕ) ⊎ (((ℕ × ℕ) × ℕ) ⊎ ((ℕ × ℕ) × Slices))))
+StepParts =
+    ((ℕ ⊎ ℕ) ⊎ (((ℕ × ℕ) × List ℕ) ⊎ ((ℕ × ℕ) × (Sent ⊎ ℕ))))
+    ⊎ (((ℕ × ℕ) × (ℕ × (Kind × ℕ))) ⊎ (((ℕ × ℕ) × ℕ) ⊎ (((ℕ × ℕ) × ℕ) ⊎ ((ℕ × ℕ) × Slices))))
 
 reading_parts : Reading → Sent ⊎ ℕ
 reading_parts (Read e) = inl e
@@ -118,5 +125,10 @@ step_back (Reslices j u q) = refl
 pub decided_step : IsDecided Step
 decided_step =
     by_image step_parts step_from step_back
-    (decided⊎ (decided⊎ (decided⊎ decided_ℕ decided_ℕ) (decided⊎ (decided× (decided× decided_ℕ decided_ℕ) (decided_list decided_ℕ)) (decided× (decided× decided_ℕ decided_ℕ) (decided⊎ decided_sent decided_ℕ))))
-    (decided⊎ (decided× (decided× decided_ℕ decided_ℕ) (decided× decided_ℕ (decided× decided_kind decided_ℕ))) (decided⊎ (decided× (decided× decided_ℕ decided_ℕ) decided_ℕ) (decided⊎ (decided× (decided× decided_ℕ decided_ℕ) decided_ℕ) (decided× (decided× decided_ℕ decided_ℕ) decided_slices)))))
+    (decided⊎ (decided⊎ (decided⊎ decided_ℕ decided_ℕ)
+    (decided⊎ (decided× (decided× decided_ℕ decided_ℕ) (decided_list decided_ℕ))
+    (decided× (decided× decided_ℕ decided_ℕ) (decided⊎ decided_sent decided_ℕ))))
+    (decided⊎ (decided× (decided× decided_ℕ decided_ℕ) (decided× decided_ℕ (decided× decided_kind decided_ℕ)))
+    (decided⊎ (decided× (decided× decided_ℕ decided_ℕ) decided_ℕ)
+    (decided⊎ (decided× (decided× decided_ℕ decided_ℕ) decided_ℕ)
+    (decided× (decided× decided_ℕ decided_ℕ) decided_slices)))))

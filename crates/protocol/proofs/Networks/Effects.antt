@@ -44,14 +44,17 @@ pub record Keeps (net : Net) (open_slots : List ℕ) (kept_draws : List Draw) (n
   pub draws : next.draws ≡ kept_draws
   pub slots : numbers next.slots ≡ open_slots
 
-numbers-act : (f : List Place → List Place) (i : ℕ) (ss : List Slot) → numbers (map {B = Slot} (λ (s : Slot). if s.number == i then record s { places = f s.places } else s) ss) ≡ numbers ss
+numbers-act : (f : List Place → List Place) (i : ℕ) (ss : List Slot)
+    → numbers
+    (map {B = Slot} (λ (s : Slot). if s.number == i then record s { places = f s.places } else s) ss) ≡ numbers ss
 numbers-act f i [] = refl
 numbers-act f i (s ∷ ss) = go (s.number == i) (numbers-act f i ss)
   where
     rest : List Slot
     rest = map {B = Slot} (λ (s : Slot). if s.number == i then record s { places = f s.places } else s) ss
 
-    go : (b : Bool) → numbers rest ≡ numbers ss → (if b then record s { places = f s.places } else s).number ∷ numbers rest ≡ s.number ∷ numbers ss
+    go : (b : Bool) → numbers rest ≡ numbers ss
+        → (if b then record s { places = f s.places } else s).number ∷ numbers rest ≡ s.number ∷ numbers ss
     go true e = ap (λ ns. s.number ∷ ns) e
     go false e = ap (λ ns. s.number ∷ ns) e
 
@@ -59,26 +62,73 @@ numbers-push : (ss : List Slot) (s : Slot) → numbers (ss ++ s ∷ []) ≡ numb
 numbers-push [] s = refl
 numbers-push (t ∷ ts) s = ap (λ ns. t.number ∷ ns) (numbers-push ts s)
 
-numbers-drop : (i : ℕ) (ss : List Slot) → numbers (filter (λ s. not (s.number == i)) ss) ≡ filter (λ n. not (n == i)) (numbers ss)
+numbers-drop : (i : ℕ) (ss : List Slot)
+    → numbers (filter (λ s. not (s.number == i)) ss) ≡ filter (λ n. not (n == i)) (numbers ss)
 numbers-drop i [] = refl
 numbers-drop i (s ∷ ss) = go (not (s.number == i)) (numbers-drop i ss)
   where
     go : (b : Bool) → numbers (filter (λ s. not (s.number == i)) ss) ≡ filter (λ n. not (n == i)) (numbers ss)
-        → numbers (cond b (s ∷ filter (λ s. not (s.number == i)) ss) (filter (λ s. not (s.number == i)) ss)) ≡ cond b (s.number ∷ filter (λ n. not (n == i)) (numbers ss)) (filter (λ n. not (n == i)) (numbers ss))
+        → numbers (cond b (s ∷ filter (λ s. not (s.number == i)) ss) (filter (λ s. not (s.number == i)) ss))
+        ≡ cond b (s.number ∷ filter (λ n. not (n == i)) (numbers ss)) (filter (λ n. not (n == i)) (numbers ss))
     go true e = ap (λ ns. s.number ∷ ns) e
     go false e = e
 
 keeps-act : (net : Net) (i u : ℕ) (e : NodeEvent) → Keeps net (numbers net.slots) net.draws (act net i u e).0
 unfolding act
-keeps-act net i u e = record { number = refl; hosts = refl; budgets = refl; roster = refl; events = refl; bytes = refl; opens = refl; draws = refl; slots = numbers-act (act_in u e) i net.slots }
+keeps-act net i u e =
+    record {
+      number = refl;
+      hosts = refl;
+      budgets = refl;
+      roster = refl;
+      events = refl;
+      bytes = refl;
+      opens = refl;
+      draws = refl;
+      slots = numbers-act (act_in u e) i net.slots;
+    }
 
 keeps-self : (net : Net) → Keeps net (numbers net.slots) net.draws net
-keeps-self net = record { number = refl; hosts = refl; budgets = refl; roster = refl; events = refl; bytes = refl; opens = refl; draws = refl; slots = refl }
+keeps-self net =
+    record {
+      number = refl;
+      hosts = refl;
+      budgets = refl;
+      roster = refl;
+      events = refl;
+      bytes = refl;
+      opens = refl;
+      draws = refl;
+      slots = refl;
+    }
 
-pub effect-keeps : (net : Net) (e : Step) → Keeps net (opened_after e (numbers net.slots)) (left e net.draws) (effect net e).0
+pub effect-keeps : (net : Net) (e : Step)
+    → Keeps net (opened_after e (numbers net.slots)) (left e net.draws) (effect net e).0
 unfolding effect
-effect-keeps net (Opens j) = record { number = refl; hosts = refl; budgets = refl; roster = refl; events = refl; bytes = refl; opens = refl; draws = refl; slots = numbers-push net.slots _ }
-effect-keeps net (Closes j) = record { number = refl; hosts = refl; budgets = refl; roster = refl; events = refl; bytes = refl; opens = refl; draws = refl; slots = numbers-drop j net.slots }
+effect-keeps net (Opens j) =
+    record {
+      number = refl;
+      hosts = refl;
+      budgets = refl;
+      roster = refl;
+      events = refl;
+      bytes = refl;
+      opens = refl;
+      draws = refl;
+      slots = numbers-push net.slots _;
+    }
+effect-keeps net (Closes j) =
+    record {
+      number = refl;
+      hosts = refl;
+      budgets = refl;
+      roster = refl;
+      events = refl;
+      bytes = refl;
+      opens = refl;
+      draws = refl;
+      slots = numbers-drop j net.slots;
+    }
 effect-keeps net (Asks j u x) = keeps-act net j u _
 effect-keeps net (Delivers u size (Read e)) = keeps-act net e.slot u _
 effect-keeps net (Delivers u size (Fault n)) = keeps-self net

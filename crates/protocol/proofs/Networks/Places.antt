@@ -14,7 +14,8 @@ use Rattle.std.specs.List.{AllByRecursion}
 use Rattle.protocol.specs.Runs.{net_after}
 use Rattle.protocol.specs.Hosts.{Entry, new_net}
 
-module _ (P : Place → Type 0) (new : (i : ℕ) (h : Host) → P (record { node = fresh i h.name h.slices; told = [] })) (more : (e : NodeEvent) (p : Place) → P p → P (moved e p)) where
+module _ (P : Place → Type 0) (new : (i : ℕ) (h : Host) → P (record { node = fresh i h.name h.slices; told = [] }))
+    (more : (e : NodeEvent) (p : Place) → P p → P (moved e p)) where
   abbrev AllAt : List Place → Type 0
   AllAt ps = AllByRecursion P ps
 
@@ -38,7 +39,9 @@ module _ (P : Place → Type 0) (new : (i : ℕ) (h : Host) → P (record { node
   unfolding act
   act-all net i u e h = each net.slots h
     where
-      each : (ss : List Slot) → AllSlots ss → AllSlots (map {B = Slot} (λ (s : Slot). if s.number == i then record s { places = act_in u e s.places } else s) ss)
+      each : (ss : List Slot) → AllSlots ss
+          → AllSlots
+          (map {B = Slot} (λ (s : Slot). if s.number == i then record s { places = act_in u e s.places } else s) ss)
       each [] h = tt
       each (s ∷ ss) h = (one (s.number == i), each ss h.1)
         where
@@ -60,7 +63,8 @@ module _ (P : Place → Type 0) (new : (i : ℕ) (h : Host) → P (record { node
 
   effect-all : (net : Net) (e : Step) → AllSlots net.slots → AllSlots (effect net e).0.slots
   unfolding effect
-  effect-all net (Opens i) h = push-all net.slots (record { number = i; places = opened net.hosts i }) h (opened-all net.hosts i)
+  effect-all net (Opens i) h =
+      push-all net.slots (record { number = i; places = opened net.hosts i }) h (opened-all net.hosts i)
   effect-all net (Closes i) h = filter-all (λ s. not (s.number == i)) net.slots h
   effect-all net (Asks i u x) h = act-all net i u (Propose x) h
   effect-all net (Delivers u size (Read e)) h = act-all net e.slot u (Take e) h
@@ -92,4 +96,5 @@ unfolding moved
 moved-reached e p r = next r e
 
 pub runs_reach : RunsReach
-runs_reach config before = run-all (λ p. Reached p.node) (λ i h. begin i h.name h.slices) moved-reached (new_net config) before tt
+runs_reach config before =
+    run-all (λ p. Reached p.node) (λ i h. begin i h.name h.slices) moved-reached (new_net config) before tt

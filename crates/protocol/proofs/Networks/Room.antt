@@ -71,14 +71,20 @@ filter-shorter : {A : Type 0} (p : A → Bool) (xs : List A) → length (filter 
 filter-shorter p [] = omega arith
 filter-shorter p (x ∷ xs) = go (p x) (filter-shorter p xs)
   where
-    go : (b : Bool) → length (filter p xs) ≤ length xs → length (cond b (x ∷ filter p xs) (filter p xs)) ≤ length (x ∷ xs)
+    go : (b : Bool) → length (filter p xs) ≤ length xs
+        → length (cond b (x ∷ filter p xs) (filter p xs)) ≤ length (x ∷ xs)
     go true l = omega (arith, l)
     go false l = omega (arith, l)
 
 -- the open slots after a step that found room
-slots-fit : (net : Net) (e : Step) (most : ℕ) → length net.slots ≤ most → net.budgets.slots ≡ most → HasRoom net e → length (opened_after e (numbers net.slots)) ≤ most
-slots-fit net (Opens i) most l b h = let a = length-append (numbers net.slots) (i ∷ []) in let n = length-numbers net.slots in let r : length net.slots < net.budgets.slots = h.0 in omega (arith, a, n, r, b)
-slots-fit net (Closes i) most l b h = let n = length-numbers net.slots in let f = filter-shorter (λ n. not (n == i)) (numbers net.slots) in omega (arith, l, n, f)
+slots-fit : (net : Net) (e : Step) (most : ℕ) → length net.slots ≤ most → net.budgets.slots ≡ most → HasRoom net e
+    → length (opened_after e (numbers net.slots)) ≤ most
+slots-fit net (Opens i) most l b h =
+    let a = length-append (numbers net.slots) (i ∷ []) in let n = length-numbers net.slots in
+    let r : length net.slots < net.budgets.slots = h.0 in omega (arith, a, n, r, b)
+slots-fit net (Closes i) most l b h =
+    let n = length-numbers net.slots in let f = filter-shorter (λ n. not (n == i)) (numbers net.slots) in
+    omega (arith, l, n, f)
 slots-fit net (Asks i u x) most l b h = let n = length-numbers net.slots in omega (arith, l, n)
 slots-fit net (Delivers u size d) most l b h = let n = length-numbers net.slots in omega (arith, l, n)
 slots-fit net (Hears i u from kind k) most l b h = let n = length-numbers net.slots in omega (arith, l, n)
@@ -86,15 +92,19 @@ slots-fit net (NominationTimes i u r) most l b h = let n = length-numbers net.sl
 slots-fit net (BallotTimes i u r) most l b h = let n = length-numbers net.slots in omega (arith, l, n)
 slots-fit net (Reslices i u q) most l b h = let n = length-numbers net.slots in omega (arith, l, n)
 
-module _ (config : Config) (net : Net) (e : Step) (h : net.roster ≡ config.roster) (g : net.budgets ≡ config.budgets) (in_room : IsInRoom config net) (room : HasRoom net e) where
+module _ (config : Config) (net : Net) (e : Step) (h : net.roster ≡ config.roster) (g : net.budgets ≡ config.budgets)
+    (in_room : IsInRoom config net) (room : HasRoom net e) where
   events-fit : (s : Source) → source net.roster e ≡ s → net.events + on_budgets s 1 ≤ config.budgets.events
-  events-fit OfBudgets q = let l : net.events < net.budgets.events = subst (HasEvents net) q (room-events net e room) in let k : net.budgets.events ≡ config.budgets.events = ap (λ b. b.events) g in omega (arith, l, k)
+  events-fit OfBudgets q =
+      let l : net.events < net.budgets.events = subst (HasEvents net) q (room-events net e room) in
+      let k : net.budgets.events ≡ config.budgets.events = ap (λ b. b.events) g in omega (arith, l, k)
   events-fit (OfOpens shares) q = let l = in_room.events in omega (arith, l)
   events-fit (OfShare shares i t) q = let l = in_room.events in omega (arith, l)
 
   bytes-fit : (s : Source) → source net.roster e ≡ s → net.bytes + on_budgets s (size_of e) ≤ config.budgets.bytes
   bytes-fit OfBudgets q = elim (room-bytes net e room) [
-    | inl f ↦ let l : net.bytes + size_of e ≤ net.budgets.bytes = subst (λ z. HasBytes net z (size_of e)) q f in let k : net.budgets.bytes ≡ config.budgets.bytes = ap (λ b. b.bytes) g in omega (arith, l, k)
+    | inl f ↦ let l : net.bytes + size_of e ≤ net.budgets.bytes = subst (λ z. HasBytes net z (size_of e)) q f in
+        let k : net.budgets.bytes ≡ config.budgets.bytes = ap (λ b. b.bytes) g in omega (arith, l, k)
     | inr z ↦ let l = in_room.bytes in omega (arith, l, z)
   ]
   bytes-fit (OfOpens shares) q = let l = in_room.bytes in omega (arith, l)
@@ -107,37 +117,49 @@ module _ (config : Config) (net : Net) (e : Step) (h : net.roster ≡ config.ros
     opens-fit : (s : Source) → source net.roster e ≡ s → net.opens + on_opens s ≤ r.shares.opens
     opens-fit OfBudgets q = let l = in_room.opens r c in omega (arith, l)
     opens-fit (OfOpens shares) q =
-        let l : net.opens < shares.opens = subst (HasEvents net) q (room-events net e room) in let k : shares.opens ≡ r.shares.opens = ap (λ z. z.opens) (its-shares (OfOpens shares) q) in omega (arith, l, k)
+        let l : net.opens < shares.opens = subst (HasEvents net) q (room-events net e room) in
+        let k : shares.opens ≡ r.shares.opens = ap (λ z. z.opens) (its-shares (OfOpens shares) q) in omega (arith, l, k)
     opens-fit (OfShare shares i t) q = let l = in_room.opens r c in omega (arith, l)
 
     module _ (i : ℕ) (t : Share) where
-      share-fits : (s : Source) → source net.roster e ≡ s → events_drawn i t net.draws + (if is_of_share i t s then 1 else 0) ≤ events_of r.shares t
+      share-fits : (s : Source) → source net.roster e ≡ s
+          → events_drawn i t net.draws + (if is_of_share i t s then 1 else 0) ≤ events_of r.shares t
       share-fits OfBudgets q = let l = in_room.share_events r c i t in omega (arith, l)
       share-fits (OfOpens shares) q = let l = in_room.share_events r c i t in omega (arith, l)
       share-fits (OfShare shares j u) q = go ((j == i) && same_share u t) refl
         where
-          go : (b : Bool) → ((j == i) && same_share u t) ≡ b → events_drawn i t net.draws + (if b then 1 else 0) ≤ events_of r.shares t
+          go : (b : Bool) → ((j == i) && same_share u t) ≡ b
+              → events_drawn i t net.draws + (if b then 1 else 0) ≤ events_of r.shares t
           go false o = let l = in_room.share_events r c i t in omega (arith, l)
           go true o =
               let p = and_parts (j == i) (same_share u t) o in
-              let l : events_drawn j u net.draws < events_of shares u = subst (HasEvents net) q (room-events net e room) in
-              let d : events_drawn j u net.draws ≡ events_drawn i t net.draws = ap₂ (λ (k : ℕ) (w : Share). events_drawn k w net.draws) (eqb-true j i p.0) (same_share-true u t p.1) in
-              let f : events_of shares u ≡ events_of r.shares t = ap₂ (λ (z : Shares) (w : Share). events_of z w) (its-shares (OfShare shares j u) q) (same_share-true u t p.1) in
+              let l : events_drawn j u net.draws < events_of shares u =
+              subst (HasEvents net) q (room-events net e room) in
+              let d : events_drawn j u net.draws ≡ events_drawn i t net.draws =
+              ap₂ (λ (k : ℕ) (w : Share). events_drawn k w net.draws) (eqb-true j i p.0)
+              (same_share-true u t p.1) in
+              let f : events_of shares u ≡ events_of r.shares t =
+              ap₂ (λ (z : Shares) (w : Share). events_of z w) (its-shares (OfShare shares j u) q)
+              (same_share-true u t p.1) in
               omega (arith, l, d, f)
 
-      share-bytes-fit : (s : Source) → source net.roster e ≡ s → bytes_drawn i t net.draws + (if is_of_share i t s then size_of e else 0) ≤ r.shares.bytes
+      share-bytes-fit : (s : Source) → source net.roster e ≡ s
+          → bytes_drawn i t net.draws + (if is_of_share i t s then size_of e else 0) ≤ r.shares.bytes
       share-bytes-fit OfBudgets q = let l = in_room.share_bytes r c i t in omega (arith, l)
       share-bytes-fit (OfOpens shares) q = let l = in_room.share_bytes r c i t in omega (arith, l)
       share-bytes-fit (OfShare shares j u) q = go ((j == i) && same_share u t) refl
         where
-          go : (b : Bool) → ((j == i) && same_share u t) ≡ b → bytes_drawn i t net.draws + (if b then size_of e else 0) ≤ r.shares.bytes
+          go : (b : Bool) → ((j == i) && same_share u t) ≡ b
+              → bytes_drawn i t net.draws + (if b then size_of e else 0) ≤ r.shares.bytes
           go false o = let l = in_room.share_bytes r c i t in omega (arith, l)
           go true o =
               let p = and_parts (j == i) (same_share u t) o in
-              let d : bytes_drawn j u net.draws ≡ bytes_drawn i t net.draws = ap₂ (λ (k : ℕ) (w : Share). bytes_drawn k w net.draws) (eqb-true j i p.0) (same_share-true u t p.1) in
+              let d : bytes_drawn j u net.draws ≡ bytes_drawn i t net.draws =
+              ap₂ (λ (k : ℕ) (w : Share). bytes_drawn k w net.draws) (eqb-true j i p.0) (same_share-true u t p.1) in
               let f : shares.bytes ≡ r.shares.bytes = ap (λ z. z.bytes) (its-shares (OfShare shares j u) q) in
               elim (room-bytes net e room) [
-                | inl b ↦ let l : bytes_drawn j u net.draws + size_of e ≤ shares.bytes = subst (λ z. HasBytes net z (size_of e)) q b in omega (arith, l, d, f)
+                | inl b ↦ let l : bytes_drawn j u net.draws + size_of e ≤ shares.bytes =
+                    subst (λ z. HasBytes net z (size_of e)) q b in omega (arith, l, d, f)
                 | inr z ↦ let l = in_room.share_bytes r c i t in omega (arith, l, z)
               ]
 
@@ -155,11 +177,13 @@ module _ (config : Config) (net : Net) (e : Step) (h : net.roster ≡ config.ros
         opens = λ r c. subst (λ n. n ≤ r.shares.opens) (sym k.opens) (opens-fit r c (source net.roster e) refl);
         share_events = λ r c i t. elim (cases_Bool (is_opening i e)) [
           | inl o ↦ let z = (k.renewed i t o).0 in omega (arith, z)
-          | inr o ↦ subst (λ n. n ≤ events_of r.shares t) (sym (k.share_events i t o)) (share-fits r c i t (source net.roster e) refl)
+          | inr o ↦ subst (λ n. n ≤ events_of r.shares t) (sym (k.share_events i t o))
+              (share-fits r c i t (source net.roster e) refl)
         ];
         share_bytes = λ r c i t. elim (cases_Bool (is_opening i e)) [
           | inl o ↦ let z = (k.renewed i t o).1 in omega (arith, z)
-          | inr o ↦ subst (λ n. n ≤ r.shares.bytes) (sym (k.share_bytes i t o)) (share-bytes-fit r c i t (source net.roster e) refl)
+          | inr o ↦ subst (λ n. n ≤ r.shares.bytes) (sym (k.share_bytes i t o))
+              (share-bytes-fit r c i t (source net.roster e) refl)
         ];
       }
 
@@ -176,7 +200,11 @@ stays-step config net e s = go (first_that (tests net e)) refl
     go (Some n) q = s
     go None q =
         let k = effect-keeps net e in
-        record { roster = k.roster ∙ s.roster; budgets = k.budgets ∙ s.budgets; in_room = in_room-next config net e s.roster s.budgets s.in_room (applied_where_room net e q) }
+        record {
+          roster = k.roster ∙ s.roster;
+          budgets = k.budgets ∙ s.budgets;
+          in_room = in_room-next config net e s.roster s.budgets s.in_room (applied_where_room net e q);
+        }
 
 stays-after : (config : Config) (net : Net) (xs : List Entry) → StaysOf config net → StaysOf config (net_after net xs)
 unfolding net_after
@@ -187,5 +215,13 @@ pub stays_in_room : StaysInRoom
 stays_in_room config xs = (stays-after config (new_net config) xs (record {
   roster = refl;
   budgets = refl;
-  in_room = record { slots = omega arith; events = omega arith; bytes = omega arith; opens = λ r c. omega arith; share_events = λ r c i t. omega arith; share_bytes = λ r c i t. omega arith };
+  in_room =
+      record {
+        slots = omega arith;
+        events = omega arith;
+        bytes = omega arith;
+        opens = λ r c. omega arith;
+        share_events = λ r c i t. omega arith;
+        share_bytes = λ r c i t. omega arith;
+      };
 })).in_room

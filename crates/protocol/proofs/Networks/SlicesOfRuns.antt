@@ -29,7 +29,8 @@ module _ (i u : ℕ) (q : Slices) where
   Has now net = (p : Place) → known (places_at net.slots i) u ≡ Some p → (p.node.slices ≡ now) × Reached p.node
 
   -- a step of another node, or at another slot
-  has-other : (now : Slices) (net : Net) (j w : ℕ) (e : NodeEvent) → ((j == i) && (w == u)) ≡ false → Has now net → Has now (act net j w e).0
+  has-other : (now : Slices) (net : Net) (j w : ℕ) (e : NodeEvent) → ((j == i) && (w == u)) ≡ false → Has now net
+      → Has now (act net j w e).0
   has-other now net j w e o h p k = elim (cases_Bool (j == i)) [
     | inr n ↦ h p (sym (known-elsewhere net j i w u e n) ∙ k)
     | inl y ↦ h p (sym (known-other net i w u e (elim (cases_Bool (u == w)) [
@@ -43,15 +44,18 @@ module _ (i u : ℕ) (q : Slices) where
   unfolding moved
   has-own now net e h p k = go (known (places_at net.slots i) u) refl (sym (known-same net i u e) ∙ k)
     where
-      go : (o : Option Place) → known (places_at net.slots i) u ≡ o → option_map (moved e) o ≡ Some p → (p.node.slices ≡ slices_after e now) × Reached p.node
+      go : (o : Option Place) → known (places_at net.slots i) u ≡ o → option_map (moved e) o ≡ Some p
+          → (p.node.slices ≡ slices_after e now) × Reached p.node
       go None x y = cc
       go (Some m) x y =
           let same : moved e m ≡ p = cc in
           let a = h m x in
-          subst (λ (z : Place). (z.node.slices ≡ slices_after e now) × Reached z.node) same (slices_follow_events m.node a.1 e ∙ ap (slices_after e) a.0, next a.1 e)
+          subst (λ (z : Place). (z.node.slices ≡ slices_after e now) × Reached z.node) same
+          (slices_follow_events m.node a.1 e ∙ ap (slices_after e) a.0, next a.1 e)
 
   -- any step
-  has-act : (now : Slices) (net : Net) (j w : ℕ) (e : NodeEvent) → Has now net → Has (if (j == i) && (w == u) then slices_after e now else now) (act net j w e).0
+  has-act : (now : Slices) (net : Net) (j w : ℕ) (e : NodeEvent) → Has now net
+      → Has (if (j == i) && (w == u) then slices_after e now else now) (act net j w e).0
   has-act now net j w e h = go ((j == i) && (w == u)) refl
     where
       go : (b : Bool) → ((j == i) && (w == u)) ≡ b → Has (if b then slices_after e now else now) (act net j w e).0
@@ -62,44 +66,62 @@ module _ (i u : ℕ) (q : Slices) where
           (subst (λ x. Has (slices_after e now) (act net i x e).0) (sym (eqb-true w u p.1)) (has-own now net e h))
 
   -- one that gives no slices
-  has-still : (now : Slices) (net : Net) (j w : ℕ) (e : NodeEvent) → slices_after e now ≡ now → Has now net → Has now (act net j w e).0
-  has-still now net j w e s h = subst (λ (x : Slices). Has x (act net j w e).0) (same ((j == i) && (w == u))) (has-act now net j w e h)
+  has-still : (now : Slices) (net : Net) (j w : ℕ) (e : NodeEvent) → slices_after e now ≡ now → Has now net
+      → Has now (act net j w e).0
+  has-still now net j w e s h =
+      subst (λ (x : Slices). Has x (act net j w e).0) (same ((j == i) && (w == u))) (has-act now net j w e h)
     where
       same : (b : Bool) → (if b then slices_after e now else now) ≡ now
       same true = s
       same false = refl
 
   -- opening the slot, or another one
-  has-opened : (now : Slices) (net : Net) (j : ℕ) → slices_of net.hosts u ≡ Some q → places_at net.slots j ≡ None → Has now net
-      → Has (if j == i then q else now) (record net { slots = net.slots ++ record { number = j; places = opened net.hosts j } ∷ []; draws = renewed j net.draws })
+  has-opened : (now : Slices) (net : Net) (j : ℕ) → slices_of net.hosts u ≡ Some q
+      → places_at net.slots j ≡ None → Has now net
+      → Has (if j == i then q else now)
+      (record net {
+        slots = net.slots ++ record { number = j; places = opened net.hosts j } ∷ [];
+        draws = renewed j net.draws;
+      })
   unfolding fresh
   has-opened now net j hosted n h = go (j == i) refl
     where
       slot : Slot
       slot = record { number = j; places = opened net.hosts j }
 
-      go : (b : Bool) → (j == i) ≡ b → Has (if b then q else now) (record net { slots = net.slots ++ slot ∷ []; draws = renewed j net.draws })
+      go : (b : Bool) → (j == i) ≡ b
+          → Has (if b then q else now) (record net { slots = net.slots ++ slot ∷ []; draws = renewed j net.draws })
       go false o p k = h p (ap (λ x. known x u) (sym (places_at-push_other net.slots slot i o)) ∙ k)
       go true y p k =
-          let there : known (places_at (net.slots ++ slot ∷ []) i) u ≡ option_map (λ x. record { node = fresh j u x; told = [] }) (slices_of net.hosts u) =
-          ap (λ x. known x u) (places_at-push net.slots slot i y (ap (places_at net.slots) (sym (eqb-true j i y)) ∙ n)) ∙ place_of-opened net.hosts j u in
-          let same : ◌≡◌ {A = Option Place} (Some (record { node = fresh j u q; told = [] })) (Some p) = ap (option_map (λ (x : Slices). record { node = fresh j u x; told = [] })) (sym hosted) ∙ (sym there ∙ k) in
+          let there : known (places_at (net.slots ++ slot ∷ []) i) u
+          ≡ option_map (λ x. record { node = fresh j u x; told = [] }) (slices_of net.hosts u) =
+          ap (λ x. known x u) (places_at-push net.slots slot i y (ap (places_at net.slots) (sym (eqb-true j i y)) ∙ n))
+          ∙ place_of-opened net.hosts j u in
+          let same : ◌≡◌ {A = Option Place} (Some (record { node = fresh j u q; told = [] })) (Some p) =
+          ap (option_map (λ (x : Slices). record { node = fresh j u x; told = [] })) (sym hosted)
+          ∙ (sym there ∙ k) in
           let is : record { node = fresh j u q; told = [] } ≡ p = cc in
           subst (λ (z : Place). (z.node.slices ≡ q) × Reached z.node) is (refl, begin j u q)
 
   -- closing the slot, or another one
-  has-closed : (now : Slices) (net : Net) (j : ℕ) → Has now net → Has (if j == i then q else now) (record net { slots = filter (λ s. not (s.number == j)) net.slots })
+  has-closed : (now : Slices) (net : Net) (j : ℕ) → Has now net
+      → Has (if j == i then q else now) (record net { slots = filter (λ s. not (s.number == j)) net.slots })
   has-closed now net j h = go (j == i) refl
     where
-      go : (b : Bool) → (j == i) ≡ b → Has (if b then q else now) (record net { slots = filter (λ s. not (s.number == j)) net.slots })
+      go : (b : Bool) → (j == i) ≡ b
+          → Has (if b then q else now) (record net { slots = filter (λ s. not (s.number == j)) net.slots })
       go false o p k = h p (ap (λ x. known x u) (sym (places_at-drop_other net.slots j i o)) ∙ k)
-      go true y p k = absurd (none (sym (ap (λ x. known x u) (ap (λ x. places_at (filter (λ s. not (s.number == x)) net.slots) i) (eqb-true j i y) ∙ places_at-drop net.slots i)) ∙ k))
+      go true y p k =
+          absurd (none (sym (ap (λ x. known x u)
+          (ap (λ x. places_at (filter (λ s. not (s.number == x)) net.slots) i) (eqb-true j i y)
+          ∙ places_at-drop net.slots i)) ∙ k))
         where
           none : None ≡ Some p → ⊥
           none e = cc
 
   -- each applied event
-  has-effect : (now : Slices) (net : Net) (e : Step) → slices_of net.hosts u ≡ Some q → IsNew net e → Has now net → Has (slices_next i u q now e) (effect net e).0
+  has-effect : (now : Slices) (net : Net) (e : Step) → slices_of net.hosts u ≡ Some q → IsNew net e → Has now net
+      → Has (slices_next i u q now e) (effect net e).0
   unfolding effect
   has-effect now net (Opens j) hosted n h = has-opened now net j hosted n h
   has-effect now net (Closes j) hosted n h = has-closed now net j h
@@ -116,7 +138,8 @@ module _ (i u : ℕ) (q : Slices) where
   has-effect now net (Reslices j w new) hosted n h = has-act now net j w (Reslice new) h
 
   -- a whole journal
-  has-run : (es : List Step) (net : Net) (now : Slices) → slices_of net.hosts u ≡ Some q → Has now net → Has (slices_since i u q now (journal net es)) (net_after net (journal net es))
+  has-run : (es : List Step) (net : Net) (now : Slices) → slices_of net.hosts u ≡ Some q → Has now net
+      → Has (slices_since i u q now (journal net es)) (net_after net (journal net es))
   unfolding journal net_step net_after slices_since
   has-run [] net now hosted h = h
   has-run (e ∷ es) net now hosted h = go (first_that (tests net e)) refl (λ n x. has-run es n x)
@@ -124,22 +147,26 @@ module _ (i u : ℕ) (q : Slices) where
       Claim : Net → Slices → List Entry → Type 0
       Claim n x run = Has (slices_since i u q x run) (net_after n run)
 
-      go : (o : Option Refusal) → first_that (tests net e) ≡ o → ((n : Net) (x : Slices) → slices_of n.hosts u ≡ Some q → Has x n → Claim n x (journal n es))
+      go : (o : Option Refusal) → first_that (tests net e) ≡ o
+          → ((n : Net) (x : Slices) → slices_of n.hosts u ≡ Some q → Has x n → Claim n x (journal n es))
           → Claim net now (entered e (replied net e o).1 (journal (replied net e o).0 es))
       go (Some r) z ih = ih net now hosted h
       go None z ih =
           let after : Net = counted (source net.roster e) (size_of e) (effect net e).0 in
           let run = journal after es in
           let now_then = slices_next i u q now e in
-          subst (λ (n : Net). Has (slices_since i u q now_then run) n) (ap (λ o. net_after (replied net e o).0 run) (sym z))
-          (ih after now_then (ap (λ hs. slices_of hs u) (effect-hosts net e) ∙ hosted) (has-effect now net e hosted (is_new net e z) h))
+          subst (λ (n : Net). Has (slices_since i u q now_then run) n)
+          (ap (λ o. net_after (replied net e o).0 run) (sym z))
+          (ih after now_then (ap (λ hs. slices_of hs u) (effect-hosts net e) ∙ hosted)
+          (has-effect now net e hosted (is_new net e z) h))
 
 pub slices_follow_runs : SlicesFollowRuns
 slices_follow_runs config run i u q p is hosted k =
     let net : Net = new_net config in
     let events = map (λ (x : Entry). x.event) run in
     let same : run ≡ journal net events = runs_are_journals config run is in
-    (subst (λ (es : List Entry). Has i u q (slices_since i u q q es) (net_after net es)) (sym same) (has-run i u q events net q hosted (λ p k. absurd (none p k))) p k).0
+    (subst (λ (es : List Entry). Has i u q (slices_since i u q q es) (net_after net es)) (sym same)
+    (has-run i u q events net q hosted (λ p k. absurd (none p k))) p k).0
   where
     none : (p : Place) → None ≡ Some p → ⊥
     none p e = cc

@@ -30,27 +30,38 @@ IsKept R (Reslice q) = Unit {0}
 
 -- a pass sees the rows of R alone
 passed-cut : (R : Names) (n : Node) → Good R n → passed n ≡ passed (cut_node R n)
-passed-cut R n g = ap {B = Votes → Votes} (λ (s : Seen) (w : Votes). pass n.name s n.given w) (seen-cut R n.name n.slices n.given.leaders n.table g.closed g.leaders)
+passed-cut R n g =
+    ap {B = Votes → Votes} (λ (s : Seen) (w : Votes). pass n.name s n.given w)
+    (seen-cut R n.name n.slices n.given.leaders n.table g.closed g.leaders)
 
-option_map-if : {A B : Type 0} (f : A → B) (b : Bool) (a : A) → (if b then Some (f a) else None) ≡ option_map f (if b then Some a else None)
+option_map-if : {A B : Type 0} (f : A → B) (b : Bool) (a : A)
+    → (if b then Some (f a) else None) ≡ option_map f (if b then Some a else None)
 option_map-if f true a = refl
 option_map-if f false a = refl
 
-cut-push : (R : Names) (e : Sent) (table : List Sent) → R e.sender ≡ true → cut R (with_row e table) ≡ with_row e (cut R table)
+cut-push : (R : Names) (e : Sent) (table : List Sent) → R e.sender ≡ true
+    → cut R (with_row e table) ≡ with_row e (cut R table)
 unfolding with_row
 cut-push R e [] i = ap (λ b. cond b (e ∷ []) []) i
 cut-push R e (x ∷ xs) i = go (is_row_of e.sender (kind_of e.body) x) refl (cut-push R e xs i)
   where
     go : (b : Bool) → is_row_of e.sender (kind_of e.body) x ≡ b → cut R (with_row e xs) ≡ with_row e (cut R xs)
         → cut R (if b then e ∷ xs else x ∷ with_row e xs) ≡ with_row e (cond (R x.sender) (x ∷ cut R xs) (cut R xs))
-    go true h ih = rw (i, ap R (eqb-true x.sender e.sender (and_parts (x.sender == e.sender) (is_kind (kind_of e.body) (kind_of x.body)) h).0) ∙ i, h) refl
+    go true h ih =
+        rw (
+          i,
+          ap R (eqb-true x.sender e.sender
+              (and_parts (x.sender == e.sender) (is_kind (kind_of e.body) (kind_of x.body)) h).0) ∙ i,
+          h,
+        ) refl
     go false h ih = elim (cases_Bool (R x.sender)) [
       | inl r ↦ rw (r, h) (ap (λ ys. x ∷ ys) ih)
       | inr r ↦ rw r ih
     ]
 
 -- the event's own change
-change-cut : (R : Names) (n : Node) (e : NodeEvent) → IsKept R e → change (cut_node R n) e ≡ option_map (cut_node R) (change n e)
+change-cut : (R : Names) (n : Node) (e : NodeEvent) → IsKept R e
+    → change (cut_node R n) e ≡ option_map (cut_node R) (change n e)
 unfolding change is_taken
 change-cut R n (Propose x) k = refl
 change-cut R n (Take e) k =
@@ -58,7 +69,9 @@ change-cut R n (Take e) k =
     (ap (λ o. replaces e o) (row-cut R n.table e.sender (kind_of e.body) k.0)) (sym (cut-push R e n.table k.0))
     ∙ swap_if (replaces e (row n.table e.sender (kind_of e.body)))
   where
-    swap_if : (b : Bool) → (if b then Some (record n { table = cut R (with_row e n.table) }) else None) ≡ option_map (cut_node R) (if b then Some (record n { table = with_row e n.table }) else None)
+    swap_if : (b : Bool)
+        → (if b then Some (record n { table = cut R (with_row e n.table) }) else None)
+        ≡ option_map (cut_node R) (if b then Some (record n { table = with_row e n.table }) else None)
     swap_if true = refl
     swap_if false = refl
 change-cut R n (NominationTimer r) k = option_map-if (cut_node R) _ _
@@ -70,19 +83,26 @@ unfolding outs
 outs-cut R n m = refl
 
 -- Agree, for one event: what is kept does the same on the rows of R alone
-pub step-kept : (R : Names) (n : Node) (e : NodeEvent) → Good R n → IsFit R e → IsKept R e → step (cut_node R n) e ≡ (cut_node R (step n e).0, (step n e).1)
+pub step-kept : (R : Names) (n : Node) (e : NodeEvent) → Good R n → IsFit R e → IsKept R e
+    → step (cut_node R n) e ≡ (cut_node R (step n e).0, (step n e).1)
 unfolding step
 step-kept R n e g f k =
-    ap (λ o. answered (cut_node R n) o) (ap after_change (change-cut R n e k) ∙ settled-cut (change n e) (good-change R n e g f)) ∙ out (after_change (change n e))
+    ap (λ o. answered (cut_node R n) o)
+    (ap after_change (change-cut R n e k) ∙ settled-cut (change n e) (good-change R n e g f))
+    ∙ out (after_change (change n e))
   where
-    settled-cut : (o : Option Node) → if_node (Good R) o → after_change (option_map (cut_node R) o) ≡ option_map (cut_node R) (after_change o)
+    settled-cut : (o : Option Node) → if_node (Good R) o
+        → after_change (option_map (cut_node R) o) ≡ option_map (cut_node R) (after_change o)
     settled-cut None h = refl
-    settled-cut (Some m) h = ap (λ (p : Votes → Votes). settled (cut_node R m) (settle most_passes p m.votes)) (sym (passed-cut R m h)) ∙ same (settle most_passes (passed m) m.votes)
+    settled-cut (Some m) h =
+        ap (λ (p : Votes → Votes). settled (cut_node R m) (settle most_passes p m.votes)) (sym (passed-cut R m h))
+        ∙ same (settle most_passes (passed m) m.votes)
       where
         same : (o : Option Votes) → settled (cut_node R m) o ≡ option_map (cut_node R) (settled m o)
         same None = refl
         same (Some w) = refl
 
-    out : (o : Option Node) → answered (cut_node R n) (option_map (cut_node R) o) ≡ (cut_node R (answered n o).0, (answered n o).1)
+    out : (o : Option Node)
+        → answered (cut_node R n) (option_map (cut_node R) o) ≡ (cut_node R (answered n o).0, (answered n o).1)
     out None = refl
     out (Some m) = ap {B = Node × List Out} (λ (os : List Out). (cut_node R m, os)) (outs-cut R n m)

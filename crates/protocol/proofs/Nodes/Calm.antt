@@ -25,7 +25,8 @@ unfolding settle
 settle-calm zero f w u h = cc
 settle-calm (suc k) f w u h = go (same_votes (f w) w) refl h (settle-calm k f (f w) u)
   where
-    go : (b : Bool) → same_votes (f w) w ≡ b → (if b then Some w else settle k f (f w)) ≡ Some u → (settle k f (f w) ≡ Some u → f u ≡ u) → f u ≡ u
+    go : (b : Bool) → same_votes (f w) w ≡ b → (if b then Some w else settle k f (f w)) ≡ Some u
+        → (settle k f (f w) ≡ Some u → f u ≡ u) → f u ≡ u
     go true e s ih = let p : w ≡ u = cc in subst (λ x. f x ≡ x) p (same_votes-true (f w) w e)
     go false e s ih = ih s
 

@@ -43,14 +43,18 @@ self-settled n (Some m) h = go (settle most_passes (passed m) m.votes)
 
 pub step-self : (n : Node) (e : NodeEvent) → IsSelf n (step n e).0
 unfolding step
-step-self n e = answered-node (IsSelf n) n (after_change (change n e)) refl (self-settled n (change n e) (self-change n e))
+step-self n e =
+    answered-node (IsSelf n) n (after_change (change n e)) refl (self-settled n (change n e) (self-change n e))
 
 -- what is emitted carries the node's name, and the slices that it has after the event
-emits-append : (P : Sent → Bool) (xs ys : List Out) → list_all P (emissions xs) ≡ true → list_all P (emissions ys) ≡ true → list_all P (emissions (xs ++ ys)) ≡ true
+emits-append : (P : Sent → Bool) (xs ys : List Out) → list_all P (emissions xs) ≡ true
+    → list_all P (emissions ys) ≡ true → list_all P (emissions (xs ++ ys)) ≡ true
 emits-append P [] ys h k = k
 emits-append P (ArmNomination r ∷ xs) ys h k = emits-append P xs ys h k
 emits-append P (ArmBallot n ∷ xs) ys h k = emits-append P xs ys h k
-emits-append P (Emit e ∷ xs) ys h k = let p = and_parts (P e) (list_all P (emissions xs)) h in and_from (P e) (list_all P (emissions (xs ++ ys))) p.0 (emits-append P xs ys p.1 k)
+emits-append P (Emit e ∷ xs) ys h k =
+    let p = and_parts (P e) (list_all P (emissions xs)) h in
+    and_from (P e) (list_all P (emissions (xs ++ ys))) p.0 (emits-append P xs ys p.1 k)
 emits-append P (Decided x ∷ xs) ys h k = emits-append P xs ys h k
 
 record Emits (P : Sent → Bool) (os : List Out) : Type 0 where
@@ -59,12 +63,15 @@ record Emits (P : Sent → Bool) (os : List Out) : Type 0 where
 both_emit : (P : Sent → Bool) {xs ys : List Out} → Emits P xs → Emits P ys → Emits P (xs ++ ys)
 both_emit P {xs} {ys} h k = record { all = emits-append P xs ys h.all k.all }
 
-outs-emit : (P : Sent → Bool) (old new : Node) → ((s : Statement) → P (record { sender = new.name; slot = new.slot; slices = new.slices; body = s }) ≡ true) → Emits P (outs old new)
+outs-emit : (P : Sent → Bool) (old new : Node)
+    → ((s : Statement) → P (record { sender = new.name; slot = new.slot; slices = new.slices; body = s }) ≡ true)
+    → Emits P (outs old new)
 unfolding outs
 outs-emit P old new f =
     both_emit P (both_emit P (both_emit P (both_emit P
     (armed (not (new.given.round == old.given.round) && is_none new.votes.high) (ArmNomination new.given.round) refl)
-    (armed (not (new.votes.armed == old.votes.armed) && (new.votes.armed == counter_of new.votes.ballot) && not (is_externalized new.votes.phase)) (ArmBallot new.votes.armed) refl))
+    (armed (not (new.votes.armed == old.votes.armed) && (new.votes.armed == counter_of new.votes.ballot)
+    && not (is_externalized new.votes.phase)) (ArmBallot new.votes.armed) refl))
     (sent (sent_nomination old.votes) (sent_nomination new.votes)))
     (sent (sent_vote old.votes) (sent_vote new.votes)))
     (last (is_externalized new.votes.phase && not (is_externalized old.votes.phase)) new.votes.ballot)
@@ -77,19 +84,34 @@ outs-emit P old new f =
     sent a None = record { all = refl }
     sent a (Some s) = go (same_sent a (Some s))
       where
-        go : (b : Bool) → Emits P (if b then [] else Emit (record { sender = new.name; slot = new.slot; slices = new.slices; body = s }) ∷ [])
+        go : (b : Bool)
+            → Emits P
+            (if b then [] else Emit (record { sender = new.name; slot = new.slot; slices = new.slices; body = s }) ∷ [])
         go true = record { all = refl }
-        go false = record { all = and_from (P (record { sender = new.name; slot = new.slot; slices = new.slices; body = s })) true (f s) refl }
+        go false =
+            record {
+              all = and_from (P (record {
+                sender = new.name;
+                slot = new.slot;
+                slices = new.slices;
+                body = s;
+              })) true (f s) refl;
+            }
 
     last : (b : Bool) (o : Option Ballot) → Emits P (if b then decided o else [])
     last true None = record { all = refl }
     last true (Some b) = record { all = refl }
     last false o = record { all = refl }
 
-pub step-emit : (P : Sent → Bool) (n : Node) (e : NodeEvent) → ((slot : ℕ) (s : Statement) → P (record { sender = n.name; slot = slot; slices = (step n e).0.slices; body = s }) ≡ true) → list_all P (emissions (step n e).1) ≡ true
+pub step-emit : (P : Sent → Bool) (n : Node) (e : NodeEvent)
+    → ((slot : ℕ) (s : Statement) → P (record { sender = n.name; slot = slot; slices = (step n e).0.slices; body = s })
+    ≡ true) → list_all P (emissions (step n e).1) ≡ true
 unfolding step
 step-emit P n e f = go (after_change (change n e)) (self-settled n (change n e) (self-change n e)) f
   where
-    go : (o : Option Node) → if_node (IsSelf n) o → ((slot : ℕ) (s : Statement) → P (record { sender = n.name; slot = slot; slices = (answered n o).0.slices; body = s }) ≡ true) → list_all P (emissions (answered n o).1) ≡ true
+    go : (o : Option Node) → if_node (IsSelf n) o
+        → ((slot : ℕ) (s : Statement) → P
+        (record { sender = n.name; slot = slot; slices = (answered n o).0.slices; body = s }) ≡ true)
+        → list_all P (emissions (answered n o).1) ≡ true
     go None h f = refl
     go (Some m) h f = (outs-emit P n m (λ s. rw h (f m.slot s))).all

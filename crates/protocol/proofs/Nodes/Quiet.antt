@@ -25,19 +25,27 @@ use Rattle.protocol.proofs.Nodes.Views.{cut, announces_in, Closed, seen-cut}
 use Rattle.protocol.proofs.Nodes.Agreement.{cut_node}
 use Rattle.protocol.proofs.Nodes.Closed.{Good, all-with}
 
-pub cut-push_other : (R : Names) (e : Sent) (table : List Sent) → R e.sender ≡ false → cut R (with_row e table) ≡ cut R table
+pub cut-push_other : (R : Names) (e : Sent) (table : List Sent) → R e.sender ≡ false
+    → cut R (with_row e table) ≡ cut R table
 unfolding with_row
 cut-push_other R e [] o = ap (λ b. cond b (e ∷ []) []) o
 cut-push_other R e (x ∷ xs) o = go (is_row_of e.sender (kind_of e.body) x) refl (cut-push_other R e xs o)
   where
     go : (b : Bool) → is_row_of e.sender (kind_of e.body) x ≡ b → cut R (with_row e xs) ≡ cut R xs
         → cut R (if b then e ∷ xs else x ∷ with_row e xs) ≡ cond (R x.sender) (x ∷ cut R xs) (cut R xs)
-    go true h ih = rw (o, ap R (eqb-true x.sender e.sender (and_parts (x.sender == e.sender) (is_kind (kind_of e.body) (kind_of x.body)) h).0) ∙ o) refl
+    go true h ih =
+        rw (
+          o,
+          ap R (eqb-true x.sender e.sender
+              (and_parts (x.sender == e.sender) (is_kind (kind_of e.body) (kind_of x.body)) h).0) ∙ o,
+        ) refl
     go false h ih = ap (λ ys. cond (R x.sender) (x ∷ ys) ys) ih
 
 emitted-same : (n : Node) (o : Option Statement) → emitted n o o ≡ []
 emitted-same n None = refl
-emitted-same n (Some s) = ap (λ b. if b then [] else Emit (record { sender = n.name; slot = n.slot; slices = n.slices; body = s }) ∷ []) (same_sent-refl (Some s))
+emitted-same n (Some s) =
+    ap (λ b. if b then [] else Emit (record { sender = n.name; slot = n.slot; slices = n.slices; body = s }) ∷ [])
+    (same_sent-refl (Some s))
 
 never : (b : Bool) (os : List Out) → (if b && not b then os else []) ≡ []
 never true os = refl
@@ -50,37 +58,61 @@ outs-none n taken =
     let m : Node = record n { table = taken } in
     let r : (n.given.round == n.given.round) ≡ true = eqb-refl n.given.round in
     let a : (n.votes.armed == n.votes.armed) ≡ true = eqb-refl n.votes.armed in
-    rw (r, a, emitted-same m (sent_nomination n.votes), emitted-same m (sent_vote n.votes), never (is_externalized n.votes.phase) (decided n.votes.ballot))
+    rw (
+      r,
+      a,
+      emitted-same m (sent_nomination n.votes),
+      emitted-same m (sent_vote n.votes),
+      never (is_externalized n.votes.phase) (decided n.votes.ballot),
+    )
 
 -- ---- envelopes from outside
 -- the rows of leaders are as they were where the sender of a new one is none
-led_by-other : (leaders : List ℕ) (table : List Sent) (e : Sent) → among leaders e.sender ≡ false → led_by leaders (with_row e table) ≡ led_by leaders table
+led_by-other : (leaders : List ℕ) (table : List Sent) (e : Sent) → among leaders e.sender ≡ false
+    → led_by leaders (with_row e table) ≡ led_by leaders table
 unfolding led_by
 led_by-other [] table e l = refl
 led_by-other (u ∷ us) table e l = elim (cases_Bool (u == e.sender)) [
   | inl y ↦ absurd (true≢false (sym (or_left (u == e.sender) (among us e.sender) y) ∙ l))
   | inr o ↦ ap₂ (λ (r : Option Sent) (ys : List Statement). cons_option (option_map (λ (x : Sent). x.body) r) ys)
-      (row-with e table u Nomination ∙ ap (λ b. if b then Some e else row table u Nomination) (and_left (e.sender == u) (is_kind Nomination (kind_of e.body)) (other o)))
-      (led_by-other us table e (false_from_ne_true _ (λ i. true≢false (sym (or_right (u == e.sender) (among us e.sender) i) ∙ l))))
+      (row-with e table u Nomination ∙ ap (λ b. if b then Some e else row table u Nomination)
+      (and_left (e.sender == u) (is_kind Nomination (kind_of e.body)) (other o)))
+      (led_by-other us table e (false_from_ne_true _
+      (λ i. true≢false (sym (or_right (u == e.sender) (among us e.sender) i) ∙ l))))
 ]
   where
     other : (u == e.sender) ≡ false → (e.sender == u) ≡ false
     other o = false_from_ne_true _ (λ i. true≢false (sym (eq-eqb u e.sender (sym (eqb-true e.sender u i))) ∙ o))
 
 -- a row of a sender that is neither in R nor a leader is not seen
-seen-outside : (R : Names) (v : ℕ) (q : Slices) (leaders : List ℕ) (table : List Sent) (e : Sent) → Closed R v q table → R e.sender ≡ false → among leaders e.sender ≡ false
+seen-outside : (R : Names) (v : ℕ) (q : Slices) (leaders : List ℕ) (table : List Sent) (e : Sent) → Closed R v q table
+    → R e.sender ≡ false → among leaders e.sender ≡ false
     → seen v q leaders (with_row e table) ≡ seen v q leaders table
 unfolding seen
-seen-outside R v q leaders table e c o l = λ i. record { rows = (bare i).rows; led = (led_by-other leaders table e l) i; quorum = (bare i).quorum; blocking = (bare i).blocking }
+seen-outside R v q leaders table e c o l =
+    λ i. record {
+      rows = (bare i).rows;
+      led = (led_by-other leaders table e l) i;
+      quorum = (bare i).quorum;
+      blocking = (bare i).blocking;
+    }
   where
     more : Closed R v q (with_row e table)
-    more = record { has = c.has; own = c.own; rows = all-with (announces_in R) e table c.rows (or_left (not (R e.sender)) (within (names e.slices) R) (not_from_false (R e.sender) o)) }
+    more = record {
+      has = c.has;
+      own = c.own;
+      rows = all-with (announces_in R) e table c.rows
+          (or_left (not (R e.sender)) (within (names e.slices) R) (not_from_false (R e.sender) o));
+    }
 
     bare : seen v q [] (with_row e table) ≡ seen v q [] table
-    bare = seen-cut R v q [] (with_row e table) more refl ∙ (ap {B = Seen} (λ t. seen v q [] t) (cut-push_other R e table o) ∙ sym (seen-cut R v q [] table c refl))
+    bare = seen-cut R v q [] (with_row e table) more refl
+        ∙ (ap {B = Seen} (λ t. seen v q [] t) (cut-push_other R e table o) ∙ sym (seen-cut R v q [] table c refl))
 
--- an envelope that the table takes is a row more where its sender is neither in R nor a leader: nothing else changes, and nothing is given out
-pub step-outside : (R : Names) (n : Node) (e : Sent) → Closed R n.name n.slices n.table → Calm n → R e.sender ≡ false → among n.given.leaders e.sender ≡ false → is_taken n.table e ≡ true
+-- an envelope that the table takes is a row more where its sender is neither in R nor a leader: nothing else changes,
+-- and nothing is given out
+pub step-outside : (R : Names) (n : Node) (e : Sent) → Closed R n.name n.slices n.table → Calm n → R e.sender ≡ false
+    → among n.given.leaders e.sender ≡ false → is_taken n.table e ≡ true
     → step n (Take e) ≡ (record n { table = with_row e n.table }, [])
 unfolding step change settle
 step-outside R n e h c o l t =
@@ -92,10 +124,13 @@ step-outside R n e h c o l t =
     m = record n { table = with_row e n.table }
 
     still : passed m n.votes ≡ n.votes
-    still = ap {B = Votes} (λ (s : Seen). pass n.name s n.given n.votes) (seen-outside R n.name n.slices n.given.leaders n.table e h o l) ∙ c
+    still = ap {B = Votes} (λ (s : Seen). pass n.name s n.given n.votes)
+        (seen-outside R n.name n.slices n.given.leaders n.table e h o l) ∙ c
 
     at_once : settle most_passes (passed m) n.votes ≡ Some n.votes
-    at_once = ap (λ b. if b then Some n.votes else settle 63 (passed m) (passed m n.votes)) (ap (λ w. same_votes w n.votes) still ∙ same_votes-refl n.votes)
+    at_once =
+        ap (λ b. if b then Some n.votes else settle 63 (passed m) (passed m n.votes))
+        (ap (λ w. same_votes w n.votes) still ∙ same_votes-refl n.votes)
 
 -- leaders in R are not outside of it
 no_leader : (R : Names) (leaders : List ℕ) (u : ℕ) → within leaders R ≡ true → R u ≡ false → among leaders u ≡ false
@@ -104,11 +139,16 @@ no_leader R leaders u w o = false_from_ne_true _ (λ i. true≢false (sym (withi
 -- what is stale changes nothing
 pub step-stale : (n : Node) (e : Sent) → is_taken n.table e ≡ false → step n (Take e) ≡ (n, [])
 unfolding step change
-step-stale n e f = ap (λ b. answered n (after_change (if b then Some (record n { table = with_row e n.table }) else None))) f
+step-stale n e f =
+    ap (λ b. answered n (after_change (if b then Some (record n { table = with_row e n.table }) else None))) f
 
 -- Quiet, for one event: an envelope from outside R changes at most rows outside R, and gives no outs
-pub step-quiet : (R : Names) (n : Node) (e : Sent) → Good R n → Calm n → R e.sender ≡ false → (cut_node R (step n (Take e)).0 ≡ cut_node R n) × ((step n (Take e)).1 ≡ [])
+pub step-quiet : (R : Names) (n : Node) (e : Sent) → Good R n → Calm n → R e.sender ≡ false
+    → (cut_node R (step n (Take e)).0 ≡ cut_node R n) × ((step n (Take e)).1 ≡ [])
 step-quiet R n e g c o = elim (cases_Bool (is_taken n.table e)) [
-  | inl t ↦ subst (λ (p : Node × List Out). (cut_node R p.0 ≡ cut_node R n) × (p.1 ≡ [])) (sym (step-outside R n e g.closed c o (no_leader R n.given.leaders e.sender g.leaders o) t)) (ap {B = Node} (λ t. record n { table = t }) (cut-push_other R e n.table o), refl)
-  | inr f ↦ subst (λ (p : Node × List Out). (cut_node R p.0 ≡ cut_node R n) × (p.1 ≡ [])) (sym (step-stale n e f)) (refl, refl)
+  | inl t ↦ subst (λ (p : Node × List Out). (cut_node R p.0 ≡ cut_node R n) × (p.1 ≡ []))
+      (sym (step-outside R n e g.closed c o (no_leader R n.given.leaders e.sender g.leaders o) t))
+      (ap {B = Node} (λ t. record n { table = t }) (cut-push_other R e n.table o), refl)
+  | inr f ↦ subst (λ (p : Node × List Out). (cut_node R p.0 ≡ cut_node R n) × (p.1 ≡ []))
+      (sym (step-stale n e f)) (refl, refl)
 ]

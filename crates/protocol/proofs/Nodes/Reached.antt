@@ -41,9 +41,12 @@ fresh-lawful slot v q = record { voted = none; accepts = none; timers = omega ar
     none : IsNominationSet []
     none = record { few = omega arith; ascending = tt }
 
-timed_out-lawful : (n : Node) (o : Option Ballot) → n.votes.ballot ≡ o → is_some o ≡ true → IsLawful n → IsSendable (n.given.fired + 1) (bumped n.votes o)
+timed_out-lawful : (n : Node) (o : Option Ballot) → n.votes.ballot ≡ o → is_some o ≡ true → IsLawful n
+    → IsSendable (n.given.fired + 1) (bumped n.votes o)
 timed_out-lawful n None e s h = absurd (false≢true s)
-timed_out-lawful n (Some b) e s h = raised-keeps n.given.fired (n.given.fired + 1) n.votes b (b.counter + 1) e (omega arith) (up n.given.fired b.counter (subst (λ o. n.given.fired ≤ counter_of o) e h.timers)) h
+timed_out-lawful n (Some b) e s h =
+    raised-keeps n.given.fired (n.given.fired + 1) n.votes b (b.counter + 1) e (omega arith)
+    (up n.given.fired b.counter (subst (λ o. n.given.fired ≤ counter_of o) e h.timers)) h
   where
     up : (m n : ℕ) → m ≤ n → m + 1 ≤ n + 1
     up m n k = omega (arith, k)
@@ -63,14 +66,16 @@ change-lawful n (BallotTimer c) h = go (is_counter_live n c) refl
     has_ballot : is_counter_live n c ≡ true → is_some n.votes.ballot ≡ true
     has_ballot live =
         let of_ballot = is_counter (option_map (λ (b : Ballot). b.counter) n.votes.ballot) c in
-        let p = and_parts (not (is_externalized n.votes.phase) && (c == n.votes.armed) && of_ballot) (nat_lt c most_counter) live in
+        let p = and_parts (not (is_externalized n.votes.phase) && (c == n.votes.armed) && of_ballot)
+        (nat_lt c most_counter) live in
         counted n.votes.ballot (and_parts (not (is_externalized n.votes.phase) && (c == n.votes.armed)) of_ballot p.0).1
 
     go : (b : Bool) → is_counter_live n c ≡ b → if_node IsLawful (if b then Some (timed_out n) else None)
     go true live = timed_out-lawful n n.votes.ballot refl (has_ballot live) h
     go false live = tt
 
-pub settle-keeps : (P : Votes → Type 0) (k : ℕ) (f : Votes → Votes) → ((w : Votes) → P w → P (f w)) → (w u : Votes) → P w → settle k f w ≡ Some u → P u
+pub settle-keeps : (P : Votes → Type 0) (k : ℕ) (f : Votes → Votes) → ((w : Votes) → P w → P (f w)) → (w u : Votes)
+    → P w → settle k f w ≡ Some u → P u
 unfolding settle
 settle-keeps P zero f p w u h e = cc
 settle-keeps P (suc k) f p w u h e = go (same_votes (f w) w) e (λ j. settle-keeps P k f p (f w) u (p w h) j)
@@ -85,11 +90,14 @@ settled-lawful (Some n) h = go (settle most_passes (passed n) n.votes) refl
   where
     go : (o : Option Votes) → settle most_passes (passed n) n.votes ≡ o → if_node IsLawful (settled n o)
     go None e = tt
-    go (Some w) e = settle-keeps (IsSendable n.given.fired) most_passes (passed n) (pass-keeps n.given.fired n.name (seen n.name n.slices n.given.leaders n.table) n.given) n.votes w h e
+    go (Some w) e =
+        settle-keeps (IsSendable n.given.fired) most_passes (passed n)
+        (pass-keeps n.given.fired n.name (seen n.name n.slices n.given.leaders n.table) n.given) n.votes w h e
 
 step-lawful : (n : Node) (e : NodeEvent) → IsLawful n → IsLawful (step n e).0
 unfolding step
-step-lawful n e h = answered-node IsLawful n (after_change (change n e)) h (settled-lawful (change n e) (change-lawful n e h))
+step-lawful n e h =
+    answered-node IsLawful n (after_change (change n e)) h (settled-lawful (change n e) (change-lawful n e h))
 
 pub reached-lawful : {n : Node} → Reached n → IsLawful n
 reached-lawful (begin slot v q) = fresh-lawful slot v q
@@ -98,8 +106,10 @@ reached-lawful (next {n} r e) = step-lawful n e (reached-lawful r)
 pub reached-fired : {n : Node} → Reached n → n.given.fired ≤ counter_of n.votes.ballot
 reached-fired r = (reached-lawful r).timers
 
-pub reached-sends : {n : Node} → Reached n → IfSome (sent_nomination n.votes) IsWellFormed × IfSome (sent_vote n.votes) IsWellFormed
-reached-sends {n} r = let h = reached-lawful r in (nomination-sends n.given.fired n.votes h, vote-sends n.given.fired n.votes h)
+pub reached-sends : {n : Node} → Reached n
+    → IfSome (sent_nomination n.votes) IsWellFormed × IfSome (sent_vote n.votes) IsWellFormed
+reached-sends {n} r =
+    let h = reached-lawful r in (nomination-sends n.given.fired n.votes h, vote-sends n.given.fired n.votes h)
 
 -- ---- the laws
 pub reached_are_calm : ReachedAreCalm

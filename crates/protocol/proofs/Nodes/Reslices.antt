@@ -15,12 +15,14 @@ use Rattle.protocol.proofs.Nodes.Reached.{reached-calm}
 use Rattle.protocol.proofs.Passes.Settling.{never_limited}
 
 -- ---- the slices
-settled-slices : (q : Slices) (n m : Node) (o : Option Votes) → is_some o ≡ true → m.slices ≡ q → (answered n (settled m o)).0.slices ≡ q
+settled-slices : (q : Slices) (n m : Node) (o : Option Votes) → is_some o ≡ true → m.slices ≡ q
+    → (answered n (settled m o)).0.slices ≡ q
 settled-slices q n m None s e = absurd (false≢true s)
 settled-slices q n m (Some w) s e = e
 
 -- the votes that settle are those of a node with these slices
-stays : (n : Node) (b : Bool) (m : Node) → m.slices ≡ n.slices → (answered n (after_change (if b then Some m else None))).0.slices ≡ n.slices
+stays : (n : Node) (b : Bool) (m : Node) → m.slices ≡ n.slices
+    → (answered n (after_change (if b then Some m else None))).0.slices ≡ n.slices
 stays n false m e = refl
 stays n true m e = go (settle most_passes (passed m) m.votes)
   where
@@ -30,11 +32,14 @@ stays n true m e = go (settle most_passes (passed m) m.votes)
 
 pub slices_follow_events : SlicesFollowEvents
 unfolding step change
-slices_follow_events n r (Propose x) = stays n true (in_round (record n { given = record n.given { input = Some x } }) 1) refl
+slices_follow_events n r (Propose x) =
+    stays n true (in_round (record n { given = record n.given { input = Some x } }) 1) refl
 slices_follow_events n r (Take e) = stays n (is_taken n.table e) (record n { table = with_row e n.table }) refl
 slices_follow_events n r (NominationTimer k) = stays n _ (in_round n (k + 1)) refl
 slices_follow_events n r (BallotTimer c) = stays n _ (timed_out n) refl
-slices_follow_events n r (Reslice q) = settled-slices q n (resliced n q) (settle most_passes (passed (resliced n q)) n.votes) (never_limited n r (Reslice q) (resliced n q) refl) refl
+slices_follow_events n r (Reslice q) =
+    settled-slices q n (resliced n q) (settle most_passes (passed (resliced n q)) n.votes)
+    (never_limited n r (Reslice q) (resliced n q) refl) refl
 
 -- ---- what stays
 pub reslices_change_votes : ReslicesChangeVotes
@@ -48,7 +53,10 @@ reslices_change_votes n q = go (settle most_passes (passed (resliced n q)) n.vot
 pub same_slices_are_quiet : SameSlicesAreQuiet
 unfolding step change settle
 same_slices_are_quiet n r =
-    ap (λ (w : Option Votes). answered n (settled n w)) (at_once (reached-calm r)) ∙ ap {B = Node × List Out} (λ (os : List Out). (n, os)) (outs-none n n.table)
+    ap (λ (w : Option Votes). answered n (settled n w)) (at_once (reached-calm r))
+    ∙ ap {B = Node × List Out} (λ (os : List Out). (n, os)) (outs-none n n.table)
   where
     at_once : Calm n → settle most_passes (passed n) n.votes ≡ Some n.votes
-    at_once c = ap (λ b. if b then Some n.votes else settle 63 (passed n) (passed n n.votes)) (ap (λ w. same_votes w n.votes) c ∙ same_votes-refl n.votes)
+    at_once c =
+        ap (λ b. if b then Some n.votes else settle 63 (passed n) (passed n n.votes))
+        (ap (λ w. same_votes w n.votes) c ∙ same_votes-refl n.votes)

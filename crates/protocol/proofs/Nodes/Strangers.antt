@@ -35,14 +35,20 @@ record IsNear (R : Names) (n : Node) : Type 0 where
 
 module _ (R : Names) where
   in_next : (n : Node) (round : ℕ) → IsNear R n → within (in_round n round).given.leaders R ≡ true
-  in_next n round h = all-push R n.given.leaders (leader n.slot round n.name n.slices) h.leaders (leader-in R n.slot round n.name n.slices h.has h.own)
+  in_next n round h =
+      all-push R n.given.leaders (leader n.slot round n.name n.slices) h.leaders
+      (leader-in R n.slot round n.name n.slices h.has h.own)
 
   near-change : (n : Node) (e : NodeEvent) → GivesWithin R e → IsNear R n → if_node (IsNear R) (change n e)
   unfolding change
   near-change n (Propose x) g h = record { has = h.has; own = h.own; leaders = in_next n 1 h }
-  near-change n (Take e) g h = if_node-if (IsNear R) (is_taken n.table e) (record n { table = with_row e n.table }) (record { has = h.has; own = h.own; leaders = h.leaders })
-  near-change n (NominationTimer r) g h = if_node-if (IsNear R) _ (in_round n (r + 1)) (record { has = h.has; own = h.own; leaders = in_next n (r + 1) h })
-  near-change n (BallotTimer c) g h = if_node-if (IsNear R) _ (timed_out n) (record { has = h.has; own = h.own; leaders = h.leaders })
+  near-change n (Take e) g h =
+      if_node-if (IsNear R) (is_taken n.table e) (record n { table = with_row e n.table })
+      (record { has = h.has; own = h.own; leaders = h.leaders })
+  near-change n (NominationTimer r) g h =
+      if_node-if (IsNear R) _ (in_round n (r + 1)) (record { has = h.has; own = h.own; leaders = in_next n (r + 1) h })
+  near-change n (BallotTimer c) g h =
+      if_node-if (IsNear R) _ (timed_out n) (record { has = h.has; own = h.own; leaders = h.leaders })
   near-change n (Reslice q) g h = record { has = h.has; own = g; leaders = h.leaders }
 
   near-settled : (o : Option Node) → if_node (IsNear R) o → if_node (IsNear R) (after_change o)
@@ -55,7 +61,8 @@ module _ (R : Names) where
 
   near-step : (n : Node) (e : NodeEvent) → GivesWithin R e → IsNear R n → IsNear R (step n e).0
   unfolding step
-  near-step n e g h = answered-node (IsNear R) n (after_change (change n e)) h (near-settled (change n e) (near-change n e g h))
+  near-step n e g h =
+      answered-node (IsNear R) n (after_change (change n e)) h (near-settled (change n e) (near-change n e g h))
 
   near-fresh : (slot v : ℕ) (q : Slices) → R v ≡ true → within (names q) R ≡ true → IsNear R (fresh slot v q)
   unfolding fresh
@@ -80,11 +87,15 @@ held-closed R n held = record {
 }
 
 pub held_is_closed : HeldIsClosed
-held_is_closed R n r held = let c = held-closed R n held in record { has = c.has; own = c.own; leaders = leaders_are_near R n r; rows = c.rows }
+held_is_closed R n r held =
+    let c = held-closed R n held in record { has = c.has; own = c.own; leaders = leaders_are_near R n r; rows = c.rows }
 
 -- a list of the reach holds what the reach holds
-pub reach_held : (n : Node) (us : List ℕ) → IsReach n.name n.slices n.table us → HoldsReach n.name n.slices n.table (among us)
-reach_held n us r = subst (λ (set : Names). HoldsReach n.name n.slices n.table set) (sym (fun_ext r.exactly)) (reached-holds n.name n.slices n.table)
+pub reach_held : (n : Node) (us : List ℕ) → IsReach n.name n.slices n.table us
+    → HoldsReach n.name n.slices n.table (among us)
+reach_held n us r =
+    subst (λ (set : Names). HoldsReach n.name n.slices n.table set) (sym (fun_ext r.exactly))
+    (reached-holds n.name n.slices n.table)
 
 -- ---- envelopes from outside
 pub outsiders_add_rows : OutsidersAddRows
@@ -99,7 +110,9 @@ outsiders_are_quiet R n e r held o l = elim (cases_Bool (is_taken n.table e)) [
     outs = refl;
     given = refl;
     votes = refl;
-    rows = λ u k i. sym (row-cut R (with_row e n.table) u k i) ∙ (ap (λ (t : List Sent). row t u k) (cut-push_other R e n.table o) ∙ row-cut R n.table u k i);
+    rows = λ u k i. sym (row-cut R (with_row e n.table) u k i)
+        ∙ (ap (λ (t : List Sent). row t u k) (cut-push_other R e n.table o) ∙ row-cut R n.table u k i);
   })
-  | inr f ↦ subst (λ (p : Node × List Out). IsQuiet R n p.0 p.1) (sym (step-stale n e f)) (record { outs = refl; given = refl; votes = refl; rows = λ u k i. refl })
+  | inr f ↦ subst (λ (p : Node × List Out). IsQuiet R n p.0 p.1) (sym (step-stale n e f))
+      (record { outs = refl; given = refl; votes = refl; rows = λ u k i. refl })
 ]

@@ -18,7 +18,8 @@ ascends_on x [] h = tt
 ascends_on x (y ∷ ys) h = h.1
 
 -- the first value is below each other
-pub first_least : (x : List ℕ) (xs : List (List ℕ)) → Ascending (x ∷ xs) → (z : List ℕ) → has_value xs z ≡ true → less x z ≡ true
+pub first_least : (x : List ℕ) (xs : List (List ℕ)) → Ascending (x ∷ xs) → (z : List ℕ) → has_value xs z ≡ true
+    → less x z ≡ true
 first_least x [] h z i = absurd (false≢true i)
 first_least x (y ∷ ys) h z i = elim (or_cases (same_value y z) (has_value ys z) i) [
   | inl e ↦ subst (λ n. less x n ≡ true) (sym (value-true z y e)) (ap is_lt h.0)
@@ -26,7 +27,8 @@ first_least x (y ∷ ys) h z i = elim (or_cases (same_value y z) (has_value ys z
 ]
 
 -- and with such a value before it a list ascends too
-pub ascends_from : (x : List ℕ) (xs : List (List ℕ)) → ((z : List ℕ) → has_value xs z ≡ true → less x z ≡ true) → Ascending xs → Ascending (x ∷ xs)
+pub ascends_from : (x : List ℕ) (xs : List (List ℕ)) → ((z : List ℕ) → has_value xs z ≡ true → less x z ≡ true)
+    → Ascending xs → Ascending (x ∷ xs)
 ascends_from x [] f h = tt
 ascends_from x (y ∷ ys) f h = (is_less (bytes_cmp x y) (f y (or_left (same_value y y) _ (same_value-refl y))), h)
 
@@ -35,7 +37,8 @@ unfolding with_value
 with-has x [] = or_left (same_value x x) false (same_value-refl x)
 with-has x (y ∷ ys) = go (less x y) (same_value y x) refl (with-has x ys)
   where
-    go : (a b : Bool) → (same_value y x) ≡ b → has_value (with_value x ys) x ≡ true → has_value (if a then x ∷ y ∷ ys else (if b then y ∷ ys else y ∷ with_value x ys)) x ≡ true
+    go : (a b : Bool) → (same_value y x) ≡ b → has_value (with_value x ys) x ≡ true
+        → has_value (if a then x ∷ y ∷ ys else (if b then y ∷ ys else y ∷ with_value x ys)) x ≡ true
     go true b e ih = or_left (same_value x x) _ (same_value-refl x)
     go false true e ih = or_left (same_value y x) _ e
     go false false e ih = or_right (same_value y x) _ ih
@@ -45,7 +48,8 @@ unfolding with_value
 with-kept x z [] h = absurd (false≢true h)
 with-kept x z (y ∷ ys) h = go (less x y) (same_value y x) (λ k. with-kept x z ys k)
   where
-    go : (a b : Bool) → (has_value ys z ≡ true → has_value (with_value x ys) z ≡ true) → has_value (if a then x ∷ y ∷ ys else (if b then y ∷ ys else y ∷ with_value x ys)) z ≡ true
+    go : (a b : Bool) → (has_value ys z ≡ true → has_value (with_value x ys) z ≡ true)
+        → has_value (if a then x ∷ y ∷ ys else (if b then y ∷ ys else y ∷ with_value x ys)) z ≡ true
     go true b ih = or_right (same_value x z) _ h
     go false true ih = h
     go false false ih = elim (or_cases (same_value y z) (has_value ys z) h) [
@@ -53,7 +57,8 @@ with-kept x z (y ∷ ys) h = go (less x y) (same_value y x) (λ k. with-kept x z
       | inr e ↦ or_right (same_value y z) _ (ih e)
     ]
 
-pub with-from : (x z : List ℕ) (xs : List (List ℕ)) → has_value (with_value x xs) z ≡ true → (z ≡ x) ⊎ (has_value xs z ≡ true)
+pub with-from : (x z : List ℕ) (xs : List (List ℕ)) → has_value (with_value x xs) z ≡ true
+    → (z ≡ x) ⊎ (has_value xs z ≡ true)
 unfolding with_value
 with-from x z [] h = elim (or_cases (same_value x z) false h) [
   | inl e ↦ inl (value-true z x e)
@@ -61,7 +66,9 @@ with-from x z [] h = elim (or_cases (same_value x z) false h) [
 ]
 with-from x z (y ∷ ys) h = go (less x y) (same_value y x) h (λ k. with-from x z ys k)
   where
-    go : (a b : Bool) → has_value (if a then x ∷ y ∷ ys else (if b then y ∷ ys else y ∷ with_value x ys)) z ≡ true → (has_value (with_value x ys) z ≡ true → (z ≡ x) ⊎ (has_value ys z ≡ true)) → (z ≡ x) ⊎ ((same_value y z || has_value ys z) ≡ true)
+    go : (a b : Bool) → has_value (if a then x ∷ y ∷ ys else (if b then y ∷ ys else y ∷ with_value x ys)) z ≡ true
+        → (has_value (with_value x ys) z ≡ true → (z ≡ x) ⊎ (has_value ys z ≡ true))
+        → (z ≡ x) ⊎ ((same_value y z || has_value ys z) ≡ true)
     go true b k ih = elim (or_cases (same_value x z) (has_value (y ∷ ys) z) k) [
       | inl e ↦ inl (value-true z x e)
       | inr e ↦ inr e
@@ -77,7 +84,8 @@ with-from x z (y ∷ ys) h = go (less x y) (same_value y x) h (λ k. with-from x
 
 more : (a b : List ℕ) → less a b ≡ false → same_value b a ≡ false → less b a ≡ true
 more a b h k = less-total a b h (elim (cases_Bool (same_value a b)) [
-  | inl e ↦ absurd (true≢false (sym (subst (λ c. same_value c a ≡ true) (same_value-true a b e) (same_value-refl a)) ∙ k))
+  | inl e ↦ absurd
+      (true≢false (sym (subst (λ c. same_value c a ≡ true) (same_value-true a b e) (same_value-refl a)) ∙ k))
   | inr e ↦ e
 ])
 
@@ -86,7 +94,8 @@ unfolding with_value
 with-ascending x [] h = tt
 with-ascending x (y ∷ ys) h = go (less x y) (same_value y x) refl refl (with-ascending x ys (ascends_on y ys h))
   where
-    go : (a b : Bool) → less x y ≡ a → (same_value y x) ≡ b → Ascending (with_value x ys) → Ascending (if a then x ∷ y ∷ ys else (if b then y ∷ ys else y ∷ with_value x ys))
+    go : (a b : Bool) → less x y ≡ a → (same_value y x) ≡ b → Ascending (with_value x ys)
+        → Ascending (if a then x ∷ y ∷ ys else (if b then y ∷ ys else y ∷ with_value x ys))
     go true b e k ih = (is_less (bytes_cmp x y) e, h)
     go false true e k ih = h
     go false false e k ih =
@@ -108,7 +117,8 @@ with-same x (y ∷ ys) h i = go (less x y) (same_value y x) refl refl (λ j. wit
     clash_eq : (a b : List ℕ) → less a b ≡ true → same_value b a ≡ true → ⊥
     clash_eq a b h k = true≢false (sym (ap (λ c. less c b) (same_value-true b a k) ∙ h) ∙ less-self b)
 
-    go : (a b : Bool) → less x y ≡ a → (same_value y x) ≡ b → (has_value ys x ≡ true → with_value x ys ≡ ys) → (if a then x ∷ y ∷ ys else (if b then y ∷ ys else y ∷ with_value x ys)) ≡ y ∷ ys
+    go : (a b : Bool) → less x y ≡ a → (same_value y x) ≡ b → (has_value ys x ≡ true → with_value x ys ≡ ys)
+        → (if a then x ∷ y ∷ ys else (if b then y ∷ ys else y ∷ with_value x ys)) ≡ y ∷ ys
     go true b e k ih = elim (or_cases (same_value y x) (has_value ys x) i) [
       | inl j ↦ absurd (clash_eq x y e j)
       | inr j ↦ absurd (clash x y e (first_least y ys h x j))
@@ -126,10 +136,14 @@ all-ascending (y ∷ ys) xs h = with-ascending y (all_with ys xs) (all-ascending
 pub all-has : (ys xs : List (List ℕ)) (z : List ℕ) → has_value ys z ≡ true → has_value (all_with ys xs) z ≡ true
 all-has [] xs z h = absurd (false≢true h)
 all-has (y ∷ ys) xs z h = elim (or_cases (same_value y z) (has_value ys z) h) [
-  | inl e ↦ subst (λ n. has_value (with_value y (all_with ys xs)) n ≡ true) (sym (value-true z y e)) (with-has y (all_with ys xs))
+  | inl e ↦ subst (λ n. has_value (with_value y (all_with ys xs)) n ≡ true) (sym (value-true z y e))
+      (with-has y (all_with ys xs))
   | inr e ↦ with-kept y z (all_with ys xs) (all-has ys xs z e)
 ]
 
-pub all-same : (ys xs : List (List ℕ)) → Ascending xs → ((z : List ℕ) → has_value ys z ≡ true → has_value xs z ≡ true) → all_with ys xs ≡ xs
+pub all-same : (ys xs : List (List ℕ)) → Ascending xs → ((z : List ℕ) → has_value ys z ≡ true → has_value xs z ≡ true)
+    → all_with ys xs ≡ xs
 all-same [] xs h f = refl
-all-same (y ∷ ys) xs h f = ap (with_value y) (all-same ys xs h (λ z i. f z (or_right (same_value y z) (has_value ys z) i))) ∙ with-same y xs h (f y (or_left (same_value y y) (has_value ys y) (same_value-refl y)))
+all-same (y ∷ ys) xs h f =
+    ap (with_value y) (all-same ys xs h (λ z i. f z (or_right (same_value y z) (has_value ys z) i)))
+    ∙ with-same y xs h (f y (or_left (same_value y y) (has_value ys y) (same_value-refl y)))

@@ -29,7 +29,11 @@ not_below-along x y z h k = lt-up nat_list_cmp_total x y z h k
 
 greatest_from : (x : List ℕ) (xs : List (List ℕ)) → IsGreatestValue (x ∷ xs) (greatest_value x xs)
 unfolding greatest_value
-greatest_from x [] = record { has = or_left (same_value x x) false (same_value-refl x); above = λ y h. only y (or_cases (same_value x y) false h) }
+greatest_from x [] =
+    record {
+      has = or_left (same_value x x) false (same_value-refl x);
+      above = λ y h. only y (or_cases (same_value x y) false h);
+    }
   where
     only : (y : List ℕ) → (same_value x y ≡ true) ⊎ (false ≡ true) → less x y ≡ false
     only y (inl e) = ap (λ n. less x n) (sym (same_value-true x y e)) ∙ less-self x
@@ -39,7 +43,9 @@ greatest_from x (y ∷ ys) = go (less x y) refl (greatest_from y ys) (greatest_f
     first : (g : List ℕ) (z : List ℕ) → less g x ≡ false → same_value x z ≡ true → less g z ≡ false
     first g z h e = ap (λ n. less g n) (sym (same_value-true x z e)) ∙ h
 
-    go : (b : Bool) → less x y ≡ b → IsGreatestValue (y ∷ ys) (greatest_value y ys) → IsGreatestValue (x ∷ ys) (greatest_value x ys) → IsGreatestValue (x ∷ y ∷ ys) (greatest_value (if b then y else x) ys)
+    go : (b : Bool) → less x y ≡ b → IsGreatestValue (y ∷ ys) (greatest_value y ys)
+        → IsGreatestValue (x ∷ ys) (greatest_value x ys)
+        → IsGreatestValue (x ∷ y ∷ ys) (greatest_value (if b then y else x) ys)
     go true e up on = record { has = or_right (same_value x g) (has_value (y ∷ ys) g) up.has; above = rest }
       where
         g : List ℕ
@@ -47,7 +53,9 @@ greatest_from x (y ∷ ys) = go (less x y) refl (greatest_from y ys) (greatest_f
 
         rest : (z : List ℕ) → has_value (x ∷ y ∷ ys) z ≡ true → less g z ≡ false
         rest z h = elim (or_cases (same_value x z) (has_value (y ∷ ys) z) h) [
-          | inl i ↦ first g z (not_below-along g y x (up.above y (or_left (same_value y y) (has_value ys y) (same_value-refl y))) (less-asym x y e)) i
+          | inl i ↦ first g z
+              (not_below-along g y x (up.above y (or_left (same_value y y) (has_value ys y) (same_value-refl y)))
+              (less-asym x y e)) i
           | inr i ↦ up.above z i
         ]
     go false e up on = record { has = has; above = rest }

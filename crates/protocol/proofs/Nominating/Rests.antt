@@ -41,11 +41,13 @@ set-from (x ∷ xs) z h = elim (with-from x z (as_set xs) h) [
   | inr e ↦ or_right (same_value x z) (has_value xs z) (set-from xs z e)
 ]
 
-among-filter : (p : List ℕ → Bool) (xs : List (List ℕ)) (z : List ℕ) → has_value xs z ≡ true → p z ≡ true → has_value (filter p xs) z ≡ true
+among-filter : (p : List ℕ → Bool) (xs : List (List ℕ)) (z : List ℕ) → has_value xs z ≡ true → p z ≡ true
+    → has_value (filter p xs) z ≡ true
 among-filter p [] z h k = h
 among-filter p (x ∷ xs) z h k = go (p x) refl (λ j. among-filter p xs z j k)
   where
-    go : (b : Bool) → p x ≡ b → (has_value xs z ≡ true → has_value (filter p xs) z ≡ true) → has_value (cond b (x ∷ filter p xs) (filter p xs)) z ≡ true
+    go : (b : Bool) → p x ≡ b → (has_value xs z ≡ true → has_value (filter p xs) z ≡ true)
+        → has_value (cond b (x ∷ filter p xs) (filter p xs)) z ≡ true
     go true e ih = elim (or_cases (same_value x z) (has_value xs z) h) [
       | inl j ↦ or_left (same_value x z) _ j
       | inr j ↦ or_right (same_value x z) _ (ih j)
@@ -55,11 +57,14 @@ among-filter p (x ∷ xs) z h k = go (p x) refl (λ j. among-filter p xs z j k)
       | inr j ↦ ih j
     ]
 
-filter-has_value : (p : List ℕ → Bool) (xs : List (List ℕ)) (z : List ℕ) → has_value (filter p xs) z ≡ true → (has_value xs z ≡ true) × (p z ≡ true)
+filter-has_value : (p : List ℕ → Bool) (xs : List (List ℕ)) (z : List ℕ) → has_value (filter p xs) z ≡ true
+    → (has_value xs z ≡ true) × (p z ≡ true)
 filter-has_value p [] z h = absurd (false≢true h)
 filter-has_value p (x ∷ xs) z h = go (p x) refl h (λ j. filter-has_value p xs z j)
   where
-    go : (b : Bool) → p x ≡ b → has_value (cond b (x ∷ filter p xs) (filter p xs)) z ≡ true → (has_value (filter p xs) z ≡ true → (has_value xs z ≡ true) × (p z ≡ true)) → (has_value (x ∷ xs) z ≡ true) × (p z ≡ true)
+    go : (b : Bool) → p x ≡ b → has_value (cond b (x ∷ filter p xs) (filter p xs)) z ≡ true
+        → (has_value (filter p xs) z ≡ true → (has_value xs z ≡ true) × (p z ≡ true))
+        → (has_value (x ∷ xs) z ≡ true) × (p z ≡ true)
     go true e k ih = elim (or_cases (same_value x z) (has_value (filter p xs) z) k) [
       | inl j ↦ (or_left (same_value x z) _ j, ap p (value-true z x j) ∙ e)
       | inr j ↦ (or_right (same_value x z) _ (ih j).0, (ih j).1)
@@ -77,12 +82,16 @@ take-has_value (suc k) (x ∷ xs) z h = elim (or_cases (same_value x z) (has_val
 take-ascending : (k : ℕ) (xs : List (List ℕ)) → Ascending xs → Ascending (take k xs)
 take-ascending zero xs h = tt
 take-ascending (suc k) [] h = tt
-take-ascending (suc k) (x ∷ xs) h = ascends_from x (take k xs) (λ y i. first_least x xs h y (take-has_value k xs y i)) (take-ascending k xs (ascends_on x xs h))
+take-ascending (suc k) (x ∷ xs) h =
+    ascends_from x (take k xs) (λ y i. first_least x xs h y (take-has_value k xs y i))
+    (take-ascending k xs (ascends_on x xs h))
 
-all-from : (ys xs : List (List ℕ)) (z : List ℕ) → has_value (all_with ys xs) z ≡ true → (has_value ys z ≡ true) ⊎ (has_value xs z ≡ true)
+all-from : (ys xs : List (List ℕ)) (z : List ℕ) → has_value (all_with ys xs) z ≡ true
+    → (has_value ys z ≡ true) ⊎ (has_value xs z ≡ true)
 all-from [] xs z h = inr h
 all-from (y ∷ ys) xs z h = elim (with-from y z (all_with ys xs) h) [
-  | inl e ↦ inl (or_left (same_value y z) (has_value ys z) (subst (λ n. (same_value y n) ≡ true) (sym e) (same_value-refl y)))
+  | inl e ↦ inl
+      (or_left (same_value y z) (has_value ys z) (subst (λ n. (same_value y n) ≡ true) (sym e) (same_value-refl y)))
   | inr e ↦ elim (all-from ys xs z e) [
     | inl j ↦ inl (or_right (same_value y z) (has_value ys z) j)
     | inr j ↦ inr j
@@ -94,10 +103,12 @@ all-kept [] xs z h = h
 all-kept (y ∷ ys) xs z h = with-kept y z (all_with ys xs) (all-kept ys xs z h)
 
 -- new ones in order are all added
-all-count : (ys xs : List (List ℕ)) → Ascending ys → ((z : List ℕ) → has_value ys z ≡ true → has_value xs z ≡ false) → length xs + length ys ≤ length (all_with ys xs)
+all-count : (ys xs : List (List ℕ)) → Ascending ys → ((z : List ℕ) → has_value ys z ≡ true → has_value xs z ≡ false)
+    → length xs + length ys ≤ length (all_with ys xs)
 all-count [] xs h f = omega arith
 all-count (y ∷ ys) xs h f =
-    let ih : length xs + length ys ≤ length (all_with ys xs) = all-count ys xs (ascends_on y ys h) (λ z i. f z (or_right (same_value y z) (has_value ys z) i)) in
+    let ih : length xs + length ys ≤ length (all_with ys xs) =
+    all-count ys xs (ascends_on y ys h) (λ z i. f z (or_right (same_value y z) (has_value ys z) i)) in
     let fresh : has_value (all_with ys xs) y ≡ false = new (has_value (all_with ys xs) y) refl in
     let up : length (all_with ys xs) < length (with_value y (all_with ys xs)) = with-new y (all_with ys xs) fresh in
     omega (arith, ih, up)
@@ -113,16 +124,26 @@ all-count (y ∷ ys) xs h f =
     ]
 
 -- filled is full, or holds all that was new
-filled-full : (old new : List (List ℕ)) → (16 ≤ length (filled old new)) ⊎ ((z : List ℕ) → has_value new z ≡ true → has_value (filled old new) z ≡ true)
+filled-full : (old new : List (List ℕ))
+    → (16 ≤ length (filled old new)) ⊎ ((z : List ℕ) → has_value new z ≡ true → has_value (filled old new) z ≡ true)
 unfolding filled
 filled-full old new = elim (cases_Bool (nat_le (length S) (16 - length old))) [
-  | inl e ↦ inr (λ z i. subst (λ D. has_value (all_with D old) z ≡ true) (sym (take_all (16 - length old) S (up_to (length S) (16 - length old) e))) (elim (cases_Bool (has_value old z)) [
-    | inl j ↦ all-kept S old z j
-    | inr j ↦ all-has S old z (among-filter (λ x. not (has_value old x)) (as_set new) z (set-has new z i) (not_from_false (has_value old z) j))
-  ]))
-  | inr e ↦ inl (full (length old) (length S) (length (take (16 - length old) S)) (length (all_with (take (16 - length old) S) old)) e (length-take (16 - length old) S)
-      (all-count (take (16 - length old) S) old (take-ascending (16 - length old) S (filter_ascending (λ x. not (has_value old x)) (as_set new) (set_ascending new)))
-      (λ z i. not-true (has_value old z) (filter-has_value (λ x. not (has_value old x)) (as_set new) z (take-has_value (16 - length old) S z i)).1)))
+  | inl e ↦ inr
+      (λ z i. subst (λ D. has_value (all_with D old) z ≡ true)
+      (sym (take_all (16 - length old) S (up_to (length S) (16 - length old) e))) (elim (cases_Bool (has_value old z)) [
+        | inl j ↦ all-kept S old z j
+        | inr j ↦ all-has S old z
+            (among-filter (λ x. not (has_value old x)) (as_set new) z (set-has new z i)
+            (not_from_false (has_value old z) j))
+      ]))
+  | inr e ↦ inl
+      (full (length old) (length S) (length (take (16 - length old) S))
+      (length (all_with (take (16 - length old) S) old)) e (length-take (16 - length old) S)
+      (all-count (take (16 - length old) S) old
+      (take-ascending (16 - length old) S
+      (filter_ascending (λ x. not (has_value old x)) (as_set new) (set_ascending new)))
+      (λ z i. not-true (has_value old z)
+      (filter-has_value (λ x. not (has_value old x)) (as_set new) z (take-has_value (16 - length old) S z i)).1)))
 ]
   where
     S : List (List ℕ)
@@ -135,20 +156,27 @@ filled-full old new = elim (cases_Bool (nat_le (length S) (16 - length old))) [
         past a b h = grind (arith, nat_tests)
 
 -- and then is filled no more
-filled-still : (f new : List (List ℕ)) → (16 ≤ length f) ⊎ ((z : List ℕ) → has_value new z ≡ true → has_value f z ≡ true) → filled f new ≡ f
+filled-still : (f new : List (List ℕ))
+    → (16 ≤ length f) ⊎ ((z : List ℕ) → has_value new z ≡ true → has_value f z ≡ true) → filled f new ≡ f
 unfolding filled
 filled-still f new (inl h) = let e : 16 - length f ≡ 0 = omega (arith, h) in rw e refl
-filled-still f new (inr h) = let e : filter (λ x. not (has_value f x)) (as_set new) ≡ [] = empty (as_set new) (λ z i. h z (set-from new z i)) in rw e (gone (16 - length f))
+filled-still f new (inr h) =
+    let e : filter (λ x. not (has_value f x)) (as_set new) ≡ [] = empty (as_set new) (λ z i. h z (set-from new z i)) in
+    rw e (gone (16 - length f))
   where
     gone : (k : ℕ) → all_with (take k []) f ≡ f
     gone zero = refl
     gone (suc k) = refl
 
-    empty : (xs : List (List ℕ)) → ((z : List ℕ) → has_value xs z ≡ true → has_value f z ≡ true) → filter (λ x. not (has_value f x)) xs ≡ []
+    empty : (xs : List (List ℕ)) → ((z : List ℕ) → has_value xs z ≡ true → has_value f z ≡ true)
+        → filter (λ x. not (has_value f x)) xs ≡ []
     empty [] g = refl
-    empty (x ∷ xs) g = let k : has_value f x ≡ true = g x (or_left (same_value x x) (has_value xs x) (same_value-refl x)) in rw k (empty xs (λ z i. g z (or_right (same_value x z) (has_value xs z) i)))
+    empty (x ∷ xs) g =
+        let k : has_value f x ≡ true = g x (or_left (same_value x x) (has_value xs x) (same_value-refl x)) in
+        rw k (empty xs (λ z i. g z (or_right (same_value x z) (has_value xs z) i)))
 
-append-has_value : (xs ys : List (List ℕ)) (z : List ℕ) → has_value (xs ++ ys) z ≡ true → (has_value xs z ≡ true) ⊎ (has_value ys z ≡ true)
+append-has_value : (xs ys : List (List ℕ)) (z : List ℕ) → has_value (xs ++ ys) z ≡ true
+    → (has_value xs z ≡ true) ⊎ (has_value ys z ≡ true)
 append-has_value [] ys z h = inr h
 append-has_value (x ∷ xs) ys z h = elim (or_cases (same_value x z) (has_value (xs ++ ys) z) h) [
   | inl e ↦ inl (or_left (same_value x z) (has_value xs z) e)
@@ -159,16 +187,28 @@ append-has_value (x ∷ xs) ys z h = elim (or_cases (same_value x z) (has_value 
 ]
 
 -- what is not accepted by v itself is accepted where v votes for it
-value-from : (s : Seen) → Fair s → (V A B : List (List ℕ)) (x : List ℕ) → has_value A x ≡ false → accepted s Nomination (Some (Nominate V A)) (backs_value x) (takes_value x) ≡ true → accepted s Nomination (Some (Nominate V B)) (backs_value x) (takes_value x) ≡ true
-value-from s f V A B x n h = elim (or_cases (s.quorum Nomination (passes (backs_value x) (Some (Nominate V A))) (backs_value x)) (s.blocking Nomination (passes (takes_value x) (Some (Nominate V A))) (takes_value x)) h) [
-  | inl q ↦ or_left _ (s.blocking Nomination (passes (takes_value x) (Some (Nominate V B))) (takes_value x)) (quorum_more s f Nomination (Some (Nominate V A)) (Some (Nominate V B)) (backs_value x) (or_left (has_value V x) (has_value B x) (first_holds (has_value V x) (has_value A x) (quorum_own s f Nomination (Some (Nominate V A)) (backs_value x) q) n)) q)
-  | inr q ↦ or_right (s.quorum Nomination (passes (backs_value x) (Some (Nominate V B))) (backs_value x)) _ (blocking_more s f Nomination (Some (Nominate V A)) (Some (Nominate V B)) (takes_value x) (takes_value x) (λ y i. i) (λ i. absurd (true≢false (sym i ∙ n))) q)
-]
+value-from : (s : Seen) → Fair s → (V A B : List (List ℕ)) (x : List ℕ) → has_value A x ≡ false
+    → accepted s Nomination (Some (Nominate V A)) (backs_value x) (takes_value x) ≡ true
+    → accepted s Nomination (Some (Nominate V B)) (backs_value x) (takes_value x) ≡ true
+value-from s f V A B x n h =
+    elim (or_cases (s.quorum Nomination (passes (backs_value x) (Some (Nominate V A))) (backs_value x))
+    (s.blocking Nomination (passes (takes_value x) (Some (Nominate V A))) (takes_value x)) h) [
+      | inl q ↦ or_left _ (s.blocking Nomination (passes (takes_value x) (Some (Nominate V B))) (takes_value x))
+          (quorum_more s f Nomination (Some (Nominate V A)) (Some (Nominate V B)) (backs_value x)
+          (or_left (has_value V x) (has_value B x)
+          (first_holds (has_value V x) (has_value A x)
+          (quorum_own s f Nomination (Some (Nominate V A)) (backs_value x) q) n)) q)
+      | inr q ↦ or_right (s.quorum Nomination (passes (backs_value x) (Some (Nominate V B))) (backs_value x)) _
+          (blocking_more s f Nomination (Some (Nominate V A)) (Some (Nominate V B)) (takes_value x) (takes_value x)
+          (λ y i. i) (λ i. absurd (true≢false (sym i ∙ n))) q)
+    ]
 
 accepts-still : (s : Seen) → Fair s → (V ac : List (List ℕ)) → new_accepts s V (new_accepts s V ac) ≡ new_accepts s V ac
 accepts-still s f V ac = filled-still A (cands A) (elim (filled-full ac (cands ac)) [
   | inl h ↦ inl h
-  | inr h ↦ inr (λ z i. settle z (filter-has_value (test A) (flat_map values_by (s.rows Nomination) ++ V ++ A) z i) h (cases_Bool (has_value A z)))
+  | inr h ↦ inr
+      (λ z i. settle z (filter-has_value (test A) (flat_map values_by (s.rows Nomination) ++ V ++ A) z i) h
+      (cases_Bool (has_value A z)))
 ])
   where
     A : List (List ℕ)
@@ -180,31 +220,43 @@ accepts-still s f V ac = filled-still A (cands A) (elim (filled-full ac (cands a
     cands : List (List ℕ) → List (List ℕ)
     cands B = filter (test B) (flat_map values_by (s.rows Nomination) ++ V ++ B)
 
-    settle : (z : List ℕ) → (has_value (flat_map values_by (s.rows Nomination) ++ V ++ A) z ≡ true) × (test A z ≡ true) → ((y : List ℕ) → has_value (cands ac) y ≡ true → has_value A y ≡ true) → (has_value A z ≡ true) ⊎ (has_value A z ≡ false) → has_value A z ≡ true
+    settle : (z : List ℕ) → (has_value (flat_map values_by (s.rows Nomination) ++ V ++ A) z ≡ true) × (test A z ≡ true)
+        → ((y : List ℕ) → has_value (cands ac) y ≡ true → has_value A y ≡ true)
+        → (has_value A z ≡ true) ⊎ (has_value A z ≡ false) → has_value A z ≡ true
     settle z p h (inl e) = e
-    settle z p h (inr e) = h z (among-filter (test ac) (flat_map values_by (s.rows Nomination) ++ V ++ ac) z (elim (append-has_value (flat_map values_by (s.rows Nomination) ++ V) A z p.0) [
-      | inl i ↦ value-left (flat_map values_by (s.rows Nomination) ++ V) ac z i
-      | inr j ↦ absurd (true≢false (sym j ∙ e))
-    ]) (value-from s f V A ac z e p.1))
+    settle z p h (inr e) =
+        h z (among-filter (test ac) (flat_map values_by (s.rows Nomination) ++ V ++ ac) z
+        (elim (append-has_value (flat_map values_by (s.rows Nomination) ++ V) A z p.0) [
+          | inl i ↦ value-left (flat_map values_by (s.rows Nomination) ++ V) ac z i
+          | inr j ↦ absurd (true≢false (sym j ∙ e))
+        ]) (value-from s f V A ac z e p.1))
 
 -- one pass over the three sets, and they rest
 pub sets-rest : (v : ℕ) (s : Seen) → Fair s → (g : Given) (vo ac co : List (List ℕ)) → Ascending co
-    → let V = new_voted v s g vo co in let A = new_accepts s V ac in let C = new_confirms s V A co in Ascending C × QuietAt v s g V A C
+    → let V = new_voted v s g vo co in let A = new_accepts s V ac in let C = new_confirms s V A co in
+    Ascending C × QuietAt v s g V A C
 sets-rest v s f g vo ac co h =
     let V = new_voted v s g vo co in
     let A = new_accepts s V ac in
     let F = filter (λ x. confirmed s Nomination (Some (Nominate V A)) (takes_value x)) A in
     let C = all_with F co in
-    let up : Ascending C = all-ascending F co h in
-    (up, quiet-from v s g V A C (voted-stays C (all-longer F co).0 (echoes g C) refl) (accepts-still s f V ac) (all-same F C up (λ z m. all-has F co z m)))
+    let up : Ascending C = all-ascending F co h in (
+      up,
+      quiet-from v s g V A C (voted-stays C (all-longer F co).0 (echoes g C) refl) (accepts-still s f V ac)
+          (all-same F C up (λ z m. all-has F co z m)),
+    )
   where
-    voted-stays : (C : List (List ℕ)) → length co ≤ length C → (b : Bool) → echoes g C ≡ b → (if b then filled (new_voted v s g vo co) (sources v s g) else new_voted v s g vo co) ≡ new_voted v s g vo co
+    voted-stays : (C : List (List ℕ)) → length co ≤ length C → (b : Bool) → echoes g C ≡ b
+        → (if b then filled (new_voted v s g vo co) (sources v s g) else new_voted v s g vo co) ≡ new_voted v s g vo co
     voted-stays C l false k = refl
     voted-stays C l true k =
         let p = and_parts (nat_lt 0 g.round) (not (nat_lt 0 (length C))) k in
-        let q : echoes g co ≡ true = and_from (nat_lt 0 g.round) (not (nat_lt 0 (length co))) p.0 (fewer (length co) (length C) l p.1) in
-        let e : new_voted v s g vo co ≡ filled vo (sources v s g) = ap (λ b. if b then filled vo (sources v s g) else vo) q in
-        subst (λ m. filled m (sources v s g) ≡ m) (sym e) (filled-still (filled vo (sources v s g)) (sources v s g) (filled-full vo (sources v s g)))
+        let q : echoes g co ≡ true =
+        and_from (nat_lt 0 g.round) (not (nat_lt 0 (length co))) p.0 (fewer (length co) (length C) l p.1) in
+        let e : new_voted v s g vo co ≡ filled vo (sources v s g) =
+        ap (λ b. if b then filled vo (sources v s g) else vo) q in
+        subst (λ m. filled m (sources v s g) ≡ m) (sym e)
+        (filled-still (filled vo (sources v s g)) (sources v s g) (filled-full vo (sources v s g)))
       where
         fewer : (a b : ℕ) → a ≤ b → not (nat_lt 0 b) ≡ true → not (nat_lt 0 a) ≡ true
         fewer a b h k = grind (arith, nat_tests)

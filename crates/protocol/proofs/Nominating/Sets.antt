@@ -23,28 +23,41 @@ abbrev pub new_voted : ℕ → Seen → Given → List (List ℕ) → List (List
 new_voted v s g vo co = if echoes g co then filled vo (sources v s g) else vo
 
 abbrev pub new_accepts : Seen → List (List ℕ) → List (List ℕ) → List (List ℕ)
-new_accepts s vo ac = filled ac (filter (λ x. accepted s Nomination (Some (Nominate vo ac)) (backs_value x) (takes_value x)) (flat_map values_by (s.rows Nomination) ++ vo ++ ac))
+new_accepts s vo ac =
+    filled ac
+    (filter (λ x. accepted s Nomination (Some (Nominate vo ac)) (backs_value x) (takes_value x))
+    (flat_map values_by (s.rows Nomination) ++ vo ++ ac))
 
 abbrev pub new_confirms : Seen → List (List ℕ) → List (List ℕ) → List (List ℕ) → List (List ℕ)
 new_confirms s vo ac co = all_with (filter (λ x. confirmed s Nomination (Some (Nominate vo ac)) (takes_value x)) ac) co
 
-echo-is : (v : ℕ) (s : Seen) (g : Given) (w : Votes) → echo v s g w ≡ record w { voted = new_voted v s g w.voted w.confirms }
+echo-is : (v : ℕ) (s : Seen) (g : Given) (w : Votes)
+    → echo v s g w ≡ record w { voted = new_voted v s g w.voted w.confirms }
 unfolding echo
 echo-is v s g w = go (echoes g w.confirms)
   where
-    go : (b : Bool) → (if b then record w { voted = filled w.voted (sources v s g) } else w) ≡ record w { voted = if b then filled w.voted (sources v s g) else w.voted }
+    go : (b : Bool)
+        → (if b then record w { voted = filled w.voted (sources v s g) } else w)
+        ≡ record w { voted = if b then filled w.voted (sources v s g) else w.voted }
     go true = refl
     go false = refl
 
-rest-is : (s : Seen) (w : Votes) → confirm_values s (accept_values s w) ≡ record w { accepts = new_accepts s w.voted w.accepts; confirms = new_confirms s w.voted (new_accepts s w.voted w.accepts) w.confirms }
+rest-is : (s : Seen) (w : Votes)
+    → confirm_values s (accept_values s w) ≡ record w {
+      accepts = new_accepts s w.voted w.accepts;
+      confirms = new_confirms s w.voted (new_accepts s w.voted w.accepts) w.confirms;
+    }
 unfolding confirm_values accept_values nominated
 rest-is s w = refl
 
 pub nominate-is : (v : ℕ) (s : Seen) (g : Given) (w : Votes) → is_none w.high ≡ true
-    → let vo = new_voted v s g w.voted w.confirms in let ac = new_accepts s vo w.accepts in nominate v s g w ≡ record w { voted = vo; accepts = ac; confirms = new_confirms s vo ac w.confirms }
+    → let vo = new_voted v s g w.voted w.confirms in let ac = new_accepts s vo w.accepts in
+    nominate v s g w ≡ record w { voted = vo; accepts = ac; confirms = new_confirms s vo ac w.confirms }
 unfolding nominate
 nominate-is v s g w e =
-    ap (λ b. if b then confirm_values s (accept_values s (echo v s g w)) else w) e ∙ (ap (λ x. confirm_values s (accept_values s x)) (echo-is v s g w) ∙ rest-is s (record w { voted = new_voted v s g w.voted w.confirms }))
+    ap (λ b. if b then confirm_values s (accept_values s (echo v s g w)) else w) e
+    ∙ (ap (λ x. confirm_values s (accept_values s x)) (echo-is v s g w)
+    ∙ rest-is s (record w { voted = new_voted v s g w.voted w.confirms }))
 
 pub nominate-not : (v : ℕ) (s : Seen) (g : Given) (w : Votes) → is_none w.high ≡ false → nominate v s g w ≡ w
 unfolding nominate
@@ -54,10 +67,12 @@ nominate-not v s g w e = ap (λ b. if b then confirm_values s (accept_values s (
 abbrev pub QuietAt : ℕ → Seen → Given → List (List ℕ) → List (List ℕ) → List (List ℕ) → Type 0
 QuietAt v s g vo ac co = (u : Votes) → u.voted ≡ vo → u.accepts ≡ ac → u.confirms ≡ co → nominate v s g u ≡ u
 
-pub quiet-from : (v : ℕ) (s : Seen) (g : Given) (vo ac co : List (List ℕ)) → new_voted v s g vo co ≡ vo → new_accepts s vo ac ≡ ac → new_confirms s vo ac co ≡ co → QuietAt v s g vo ac co
+pub quiet-from : (v : ℕ) (s : Seen) (g : Given) (vo ac co : List (List ℕ)) → new_voted v s g vo co ≡ vo
+    → new_accepts s vo ac ≡ ac → new_confirms s vo ac co ≡ co → QuietAt v s g vo ac co
 quiet-from v s g vo ac co a b c u i j k = elim (cases_Bool (is_none u.high)) [
   | inr e ↦ nominate-not v s g u e
-  | inl e ↦ nominate-is v s g u e ∙ (λ t. record u { voted = (x ∙ sym i) t; accepts = (y ∙ sym j) t; confirms = (z ∙ sym k) t })
+  | inl e ↦ nominate-is v s g u e
+      ∙ (λ t. record u { voted = (x ∙ sym i) t; accepts = (y ∙ sym j) t; confirms = (z ∙ sym k) t })
 ]
   where
     x : new_voted v s g u.voted u.confirms ≡ vo
@@ -66,5 +81,8 @@ quiet-from v s g vo ac co a b c u i j k = elim (cases_Bool (is_none u.high)) [
     y : new_accepts s (new_voted v s g u.voted u.confirms) u.accepts ≡ ac
     y = subst (λ m. new_accepts s m u.accepts ≡ ac) (sym x) (subst (λ m. new_accepts s vo m ≡ ac) (sym j) b)
 
-    z : new_confirms s (new_voted v s g u.voted u.confirms) (new_accepts s (new_voted v s g u.voted u.confirms) u.accepts) u.confirms ≡ co
-    z = subst (λ m. new_confirms s m (new_accepts s (new_voted v s g u.voted u.confirms) u.accepts) u.confirms ≡ co) (sym x) (subst (λ m. new_confirms s vo m u.confirms ≡ co) (sym y) (subst (λ m. new_confirms s vo ac m ≡ co) (sym k) c))
+    z : new_confirms s (new_voted v s g u.voted u.confirms)
+        (new_accepts s (new_voted v s g u.voted u.confirms) u.accepts) u.confirms ≡ co
+    z = subst (λ m. new_confirms s m (new_accepts s (new_voted v s g u.voted u.confirms) u.accepts) u.confirms ≡ co)
+        (sym x) (subst (λ m. new_confirms s vo m u.confirms ≡ co) (sym y)
+        (subst (λ m. new_confirms s vo ac m ≡ co) (sym k) c))

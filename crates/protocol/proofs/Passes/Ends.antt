@@ -53,67 +53,116 @@ finish-committing s g w p = ap (λ q. while_open q (tail s g) w) p
 finish-externalized : (s : Seen) (g : Given) (w : Votes) → w.phase ≡ Externalized → finish s g w ≡ w
 finish-externalized s g w p = ap (λ q. while_open q (tail s g) w) p
 
-pub begins : (v : ℕ) (s : Seen) (g : Given) (w : Votes) (b : Ballot) → w.ballot ≡ Some b → nominate v s g w ≡ w → begun v s g w ≡ w
+pub begins : (v : ℕ) (s : Seen) (g : Given) (w : Votes) (b : Ballot) → w.ballot ≡ Some b → nominate v s g w ≡ w
+    → begun v s g w ≡ w
 begins v s g w b e n = ap (start s) n ∙ start-some s w b e
 
 -- the state after the rules in PREPARE rests, once it is armed
-rests-preparing : (v : ℕ) (s : Seen) → Fair s → (g : Given) (b : Ballot) (w : Votes) (R : Ready s b w) → greatest None (entering s (position R.u) R.u) ≡ None → Risen s g R.n.counter → Rests v s g (arm s R.n R.u)
+rests-preparing : (v : ℕ) (s : Seen) → Fair s → (g : Given) (b : Ballot) (w : Votes) (R : Ready s b w)
+    → greatest None (entering s (position R.u) R.u) ≡ None → Risen s g R.n.counter → Rests v s g (arm s R.n R.u)
 rests-preparing v s f g b w R none risen =
     let a = arm-moves s R.n R.u in
     let y : Votes = record R.u { armed = a.0 } in
     let ball : y.ballot ≡ Some R.n = R.ballot in
     let ph : y.phase ≡ Preparing = R.phase in
-    let e2 : accept_prepared s R.n y ≡ y = accept_prepared-armed s R.n R.u a.0 ∙ ap {B = Votes} (λ (x : Votes). record x { armed = a.0 }) R.still_p in
-    let e3 : raise_high s y ≡ y = raise_high-armed s R.u a.0 ∙ ap {B = Votes} (λ (x : Votes). record x { armed = a.0 }) R.still_h in
+    let e2 : accept_prepared s R.n y ≡ y = accept_prepared-armed s R.n R.u a.0
+    ∙ ap {B = Votes} (λ (x : Votes). record x { armed = a.0 }) R.still_p in
+    let e3 : raise_high s y ≡ y = raise_high-armed s R.u a.0
+    ∙ ap {B = Votes} (λ (x : Votes). record x { armed = a.0 }) R.still_h in
     let e4 : follow_high R.n y ≡ y = follow_high-still R.n y ball R.above_h in
     let e5 : set_commit y ≡ y = set_commit-still y R.u.commit refl (fixed-armed R.u R.u.commit a.0 R.fixed) in
-    let e6 : r4 s y ≡ y = r4-at s y R.n Preparing ph ball ∙ enter_not s R.n y (ap (greatest None) (entering-armed s R.u a.0) ∙ none) in
+    let e6 : r4 s y ≡ y = r4-at s y R.n Preparing ph ball
+    ∙ enter_not s R.n y (ap (greatest None) (entering-armed s R.u a.0) ∙ none) in
     let e7 : r5 s y ≡ y = r5-at s y R.n Preparing ph ball ∙ confirm-none s R.n y in
     let e8 : arm s R.n y ≡ y = subst (λ (x : Votes). arm s R.n x ≡ x) a.1 (arm-still s R.n R.u) in
-    let e9 : finish s g y ≡ y = finish-preparing s g y ph ∙ (counts-still s f g y R.n ball (own-counts y R.n (inl ph) ball) risen ∙ e8) in
-    let e23 : r3 s (r2 s y) ≡ y = r23-preparing s y R.n ph ball ∙ (ap (λ x. set_commit (follow_high R.n (raise_high s x))) e2 ∙ (ap (λ x. set_commit (follow_high R.n x)) e3 ∙ (ap set_commit e4 ∙ e5))) in
+    let e9 : finish s g y ≡ y = finish-preparing s g y ph
+    ∙ (counts-still s f g y R.n ball (own-counts y R.n (inl ph) ball) risen ∙ e8) in
+    let e23 : r3 s (r2 s y) ≡ y = r23-preparing s y R.n ph ball
+    ∙ (ap (λ x. set_commit (follow_high R.n (raise_high s x))) e2
+    ∙ (ap (λ x. set_commit (follow_high R.n x)) e3 ∙ (ap set_commit e4 ∙ e5))) in
     let all : ruled s y ≡ y = ap (λ x. r5 s (r4 s x)) e23 ∙ (ap (r5 s) e6 ∙ e7) in
-    subst (λ (x : Votes). Rests v s g x) (sym a.1) (λ n. pass-preparing v s g y ph ∙ (ap (λ x. finish s g (ruled s x)) (begins v s g y R.n ball n) ∙ (ap (finish s g) all ∙ e9)))
+    subst (λ (x : Votes). Rests v s g x) (sym a.1)
+    (λ n. pass-preparing v s g y ph ∙
+    (ap (λ x. finish s g (ruled s x)) (begins v s g y R.n ball n) ∙ (ap (finish s g) all ∙ e9)))
 
-rests-committing : (v : ℕ) (s : Seen) → Fair s → (g : Given) (b : Ballot) (w : Votes) (R : Steady s b w) → greatest None (deciding s (position R.u) R.n) ≡ None → Risen s g R.n.counter → Rests v s g (arm s R.n R.u)
+rests-committing : (v : ℕ) (s : Seen) → Fair s → (g : Given) (b : Ballot) (w : Votes) (R : Steady s b w)
+    → greatest None (deciding s (position R.u) R.n) ≡ None → Risen s g R.n.counter → Rests v s g (arm s R.n R.u)
 rests-committing v s f g b w R none risen =
     let a = arm-moves s R.n R.u in
     let y : Votes = record R.u { armed = a.0 } in
     let ball : y.ballot ≡ Some R.n = R.ballot in
     let ph : y.phase ≡ Committing = R.phase in
-    let e2 : accept_prepared s R.n y ≡ y = accept_prepared-armed s R.n R.u a.0 ∙ ap {B = Votes} (λ (x : Votes). record x { armed = a.0 }) R.still_p in
-    let e6 : accept_commit Committing s R.n y ≡ y = widen_not s R.n y (ap (λ o. greatest None (widening s o R.n R.u.hi)) (position-armed R.u a.0) ∙ R.still_c) in
-    let e7 : r5 s y ≡ y = r5-at s y R.n Committing ph ball ∙ decide_not s R.n y (ap (λ o. greatest None (deciding s o R.n)) (position-armed R.u a.0) ∙ none) in
+    let e2 : accept_prepared s R.n y ≡ y = accept_prepared-armed s R.n R.u a.0
+    ∙ ap {B = Votes} (λ (x : Votes). record x { armed = a.0 }) R.still_p in
+    let e6 : accept_commit Committing s R.n y ≡ y =
+    widen_not s R.n y (ap (λ o. greatest None (widening s o R.n R.u.hi)) (position-armed R.u a.0) ∙ R.still_c) in
+    let e7 : r5 s y ≡ y = r5-at s y R.n Committing ph ball
+    ∙ decide_not s R.n y (ap (λ o. greatest None (deciding s o R.n)) (position-armed R.u a.0) ∙ none) in
     let e8 : arm s R.n y ≡ y = subst (λ (x : Votes). arm s R.n x ≡ x) a.1 (arm-still s R.n R.u) in
-    let e9 : finish s g y ≡ y = finish-committing s g y ph ∙ (counts-still s f g y R.n ball (own-counts y R.n (inr ph) ball) risen ∙ e8) in
-    let all : ruled s y ≡ y = ap (r5 s) (r234-committing s y R.n ph ball ∙ (ap (λ x. accept_commit Committing s R.n x) e2 ∙ e6)) ∙ e7 in
-    subst (λ (x : Votes). Rests v s g x) (sym a.1) (λ n. pass-committing v s g y ph ∙ (ap (λ x. finish s g (ruled s x)) (begins v s g y R.n ball n) ∙ (ap (finish s g) all ∙ e9)))
+    let e9 : finish s g y ≡ y = finish-committing s g y ph
+    ∙ (counts-still s f g y R.n ball (own-counts y R.n (inr ph) ball) risen ∙ e8) in
+    let all : ruled s y ≡ y =
+    ap (r5 s) (r234-committing s y R.n ph ball ∙ (ap (λ x. accept_commit Committing s R.n x) e2 ∙ e6)) ∙ e7 in
+    subst (λ (x : Votes). Rests v s g x) (sym a.1)
+    (λ n. pass-committing v s g y ph
+    ∙ (ap (λ x. finish s g (ruled s x)) (begins v s g y R.n ball n) ∙ (ap (finish s g) all ∙ e9)))
 
 -- the end of a pass in COMMIT
-closes : (s : Seen) → Fair s → (g : Given) (x : Votes) (n : Ballot) → x.phase ≡ Committing → x.ballot ≡ Some n → Sound x → Went s g x (finish s g (r5 s x)) × (((finish s g (r5 s x)).phase ≡ Externalized) ⊎ (((finish s g (r5 s x)).phase ≡ Committing) × (greatest None (deciding s (position x) n) ≡ None) × (finish s g (r5 s x) ≡ tail s g x)))
+closes : (s : Seen) → Fair s → (g : Given) (x : Votes) (n : Ballot) → x.phase ≡ Committing → x.ballot ≡ Some n → Sound x
+    → Went s g x (finish s g (r5 s x))
+    × (((finish s g (r5 s x)).phase ≡ Externalized)
+    ⊎ (((finish s g (r5 s x)).phase ≡ Committing) × (greatest None (deciding s (position x) n) ≡ None)
+    × (finish s g (r5 s x) ≡ tail s g x)))
 closes s f g x n ph ball sound = elim (decides s n x sound) [
   | inl e ↦
       let same : r5 s x ≡ x = r5-at s x n Committing ph ball ∙ decide_not s n x e in
       let fin : finish s g (r5 s x) ≡ tail s g x = ap (finish s g) same ∙ finish-committing s g x ph in
       let C = counts-on s f g x n ball sound in
       let q : C.u ≡ finish s g (r5 s x) = sym (fin ∙ C.is) in (
-        subst (λ (y : Votes). Went s g x y) q (record { sound = C.sound; voted = C.voted; accepts = C.accepts; confirms = C.confirms; stays = λ h. ap is_none C.high ∙ h; ends = inr (C.n, C.ballot, C.risen) }),
+        subst (λ (y : Votes). Went s g x y) q
+            (record {
+              sound = C.sound;
+              voted = C.voted;
+              accepts = C.accepts;
+              confirms = C.confirms;
+              stays = λ h. ap is_none C.high ∙ h;
+              ends = inr (C.n, C.ballot, C.risen);
+            }),
         inr (ap (λ (y : Votes). y.phase) (sym q) ∙ (C.phase ∙ ph), e, fin),
       )
   | inr D ↦
       let same : r5 s x ≡ D.u = r5-at s x n Committing ph ball ∙ D.is in
       let q : D.u ≡ finish s g (r5 s x) = sym (ap (finish s g) same ∙ finish-externalized s g D.u D.phase) in (
-        subst (λ (y : Votes). Went s g x y) q (record { sound = D.sound; voted = D.voted; accepts = D.accepts; confirms = D.confirms; stays = λ h. ap is_none D.high ∙ h; ends = inl D.phase }),
+        subst (λ (y : Votes). Went s g x y) q
+            (record {
+              sound = D.sound;
+              voted = D.voted;
+              accepts = D.accepts;
+              confirms = D.confirms;
+              stays = λ h. ap is_none D.high ∙ h;
+              ends = inl D.phase;
+            }),
         inl (ap (λ (y : Votes). y.phase) (sym q) ∙ D.phase),
       )
 ]
 
-went-on : (s : Seen) (g : Given) (w x y : Votes) → x.voted ≡ w.voted → x.accepts ≡ w.accepts → x.confirms ≡ w.confirms → (is_none w.high ≡ false → is_none x.high ≡ false) → Went s g x y → Went s g w y
-went-on s g w x y a b c d r = record { sound = r.sound; voted = r.voted ∙ a; accepts = r.accepts ∙ b; confirms = r.confirms ∙ c; stays = λ h. r.stays (d h); ends = r.ends }
+went-on : (s : Seen) (g : Given) (w x y : Votes) → x.voted ≡ w.voted → x.accepts ≡ w.accepts → x.confirms ≡ w.confirms
+    → (is_none w.high ≡ false → is_none x.high ≡ false) → Went s g x y → Went s g w y
+went-on s g w x y a b c d r =
+    record {
+      sound = r.sound;
+      voted = r.voted ∙ a;
+      accepts = r.accepts ∙ b;
+      confirms = r.confirms ∙ c;
+      stays = λ h. r.stays (d h);
+      ends = r.ends;
+    }
 
 -- the rest of a pass in COMMIT: where nothing is to be raised, it then rests
-pub from-committing : (v : ℕ) (s : Seen) → Fair s → (g : Given) (w : Votes) (b : Ballot) → w.phase ≡ Committing → w.ballot ≡ Some b → Sound w
-    → (y : Votes) × (finish s g (ruled s w) ≡ y) × Went s g w y × (Risen s g b.counter → Rests v s g y ⊎ (y.phase ≡ Externalized))
+pub from-committing : (v : ℕ) (s : Seen) → Fair s → (g : Given) (w : Votes) (b : Ballot) → w.phase ≡ Committing
+    → w.ballot ≡ Some b → Sound w
+    → (y : Votes) × (finish s g (ruled s w) ≡ y) × Went s g w y
+    × (Risen s g b.counter → Rests v s g y ⊎ (y.phase ≡ Externalized))
 from-committing v s f g w b ph ball sound =
     let h = sound.committing ph in
     let hb : h.b ≡ b = same_Some h.b b (sym h.ballot ∙ ball) in
@@ -125,13 +174,18 @@ from-committing v s f g w b ph ball sound =
       went-on s g w R.u (finish s g (r5 s R.u)) R.voted R.accepts R.confirms (λ k. ap is_none R.high ∙ k) c.0,
       λ risen. let up = risen-up s f g b.counter R.n.counter R.grows risen in elim c.1 [
         | inl k ↦ inr k
-        | inr k ↦ inl (subst (λ (x : Votes). Rests v s g x) (sym (k.2 ∙ counts-still s f g R.u R.n R.ballot (own-counts R.u R.n (inr R.phase) R.ballot) up)) (rests-committing v s f g b w R k.1 up))
+        | inr k ↦ inl
+            (subst (λ (x : Votes). Rests v s g x)
+            (sym (k.2 ∙ counts-still s f g R.u R.n R.ballot (own-counts R.u R.n (inr R.phase) R.ballot) up))
+            (rests-committing v s f g b w R k.1 up))
       ],
     )
 
 -- the same in PREPARE, where it may go on to COMMIT
-pub from-preparing : (v : ℕ) (s : Seen) → Fair s → (g : Given) (w : Votes) (b : Ballot) → w.phase ≡ Preparing → w.ballot ≡ Some b → Sound w
-    → (y : Votes) × (finish s g (ruled s w) ≡ y) × Went s g w y × (Risen s g b.counter → Rests v s g y ⊎ ((y.phase ≡ Externalized) ⊎ (y.phase ≡ Committing)))
+pub from-preparing : (v : ℕ) (s : Seen) → Fair s → (g : Given) (w : Votes) (b : Ballot) → w.phase ≡ Preparing
+    → w.ballot ≡ Some b → Sound w
+    → (y : Votes) × (finish s g (ruled s w) ≡ y) × Went s g w y
+    × (Risen s g b.counter → Rests v s g y ⊎ ((y.phase ≡ Externalized) ⊎ (y.phase ≡ Committing)))
 from-preparing v s f g w b ph ball sound =
     let R = ready s f b w ph ball sound in
     let e : ruled s w ≡ r5 s (r4 s R.u) = ap (λ x. r5 s (r4 s x)) (r23-preparing s w b ph ball ∙ R.is) in
@@ -139,20 +193,31 @@ from-preparing v s f g w b ph ball sound =
       | inl none ↦
           let e4 : r4 s R.u ≡ R.u = r4-at s R.u R.n Preparing R.phase R.ballot ∙ enter_not s R.n R.u none in
           let e5 : r5 s R.u ≡ R.u = r5-at s R.u R.n Preparing R.phase R.ballot ∙ confirm-none s R.n R.u in
-          let fin : finish s g (ruled s w) ≡ tail s g R.u = ap (finish s g) (e ∙ (ap (r5 s) e4 ∙ e5)) ∙ finish-preparing s g R.u R.phase in
+          let fin : finish s g (ruled s w) ≡ tail s g R.u = ap (finish s g) (e ∙ (ap (r5 s) e4 ∙ e5))
+          ∙ finish-preparing s g R.u R.phase in
           let C = counts-on s f g R.u R.n R.ballot R.sound in (
             C.u,
             fin ∙ C.is,
-            record { sound = C.sound; voted = C.voted ∙ R.voted; accepts = C.accepts ∙ R.accepts; confirms = C.confirms ∙ R.confirms; stays = λ h. ap is_none C.high ∙ R.stays h; ends = inr (C.n, C.ballot, C.risen) },
+            record {
+              sound = C.sound;
+              voted = C.voted ∙ R.voted;
+              accepts = C.accepts ∙ R.accepts;
+              confirms = C.confirms ∙ R.confirms;
+              stays = λ h. ap is_none C.high ∙ R.stays h;
+              ends = inr (C.n, C.ballot, C.risen);
+            },
             λ risen. let up = risen-up s f g b.counter R.n.counter R.grows risen in
-                inl (subst (λ (x : Votes). Rests v s g x) (sym (counts-still s f g R.u R.n R.ballot (own-counts R.u R.n (inl R.phase) R.ballot) up) ∙ C.is) (rests-preparing v s f g b w R none up)),
+                inl (subst (λ (x : Votes). Rests v s g x)
+                (sym (counts-still s f g R.u R.n R.ballot (own-counts R.u R.n (inl R.phase) R.ballot) up) ∙ C.is)
+                (rests-preparing v s f g b w R none up)),
           )
       | inr E ↦
           let e4 : r4 s R.u ≡ E.u = r4-at s R.u R.n Preparing R.phase R.ballot ∙ E.is in
           let c = closes s f g E.u E.n E.phase E.ballot E.sound in (
             finish s g (r5 s E.u),
             ap (finish s g) (e ∙ ap (r5 s) e4),
-            went-on s g w E.u (finish s g (r5 s E.u)) (E.voted ∙ R.voted) (E.accepts ∙ R.accepts) (E.confirms ∙ R.confirms) (λ k. E.stays) c.0,
+            went-on s g w E.u (finish s g (r5 s E.u)) (E.voted ∙ R.voted) (E.accepts ∙ R.accepts)
+                (E.confirms ∙ R.confirms) (λ k. E.stays) c.0,
             λ risen. elim c.1 [
               | inl k ↦ inr (inl k)
               | inr k ↦ inr (inr k.0)

@@ -45,7 +45,8 @@ pub quiet-same : (v : ℕ) (s : Seen) (g : Given) (w : Votes) → Quiet v s g w 
 quiet-same v s g w (inl q) = q w refl refl refl
 quiet-same v s g w (inr h) = nominate-not v s g w h
 
-quiet-on : (v : ℕ) (s : Seen) (g : Given) (w y : Votes) → y.voted ≡ w.voted → y.accepts ≡ w.accepts → y.confirms ≡ w.confirms → (is_none w.high ≡ false → is_none y.high ≡ false) → Quiet v s g w → Quiet v s g y
+quiet-on : (v : ℕ) (s : Seen) (g : Given) (w y : Votes) → y.voted ≡ w.voted → y.accepts ≡ w.accepts
+    → y.confirms ≡ w.confirms → (is_none w.high ≡ false → is_none y.high ≡ false) → Quiet v s g w → Quiet v s g y
 quiet-on v s g w y a b c d (inl q) = inl (λ u i j k. q u (i ∙ a) (j ∙ b) (k ∙ c))
 quiet-on v s g w y a b c d (inr h) = inr (d h)
 
@@ -59,10 +60,12 @@ settle-at n f w y e h = settle-more n f w (subst (λ (x : Votes). IsSome (settle
 
 module _ (v : ℕ) (s : Seen) (f : Fair s) (g : Given) where
   -- in COMMIT, where nothing is to be raised: one pass
-  one-left : (n : ℕ) (w : Votes) (b : Ballot) → Sound w → Quiet v s g w → w.phase ≡ Committing → w.ballot ≡ Some b → Risen s g b.counter → IsSome (settle (suc (suc n)) (pass v s g) w)
+  one-left : (n : ℕ) (w : Votes) (b : Ballot) → Sound w → Quiet v s g w → w.phase ≡ Committing → w.ballot ≡ Some b
+      → Risen s g b.counter → IsSome (settle (suc (suc n)) (pass v s g) w)
   one-left n w b sound q ph ball risen =
       let r = from-committing v s f g w b ph ball sound in
-      let same : pass v s g w ≡ r.0 = pass-committing v s g w ph ∙ (ap (λ x. finish s g (ruled s x)) (begins v s g w b ball (quiet-same v s g w q)) ∙ r.1) in
+      let same : pass v s g w ≡ r.0 = pass-committing v s g w ph
+      ∙ (ap (λ x. finish s g (ruled s x)) (begins v s g w b ball (quiet-same v s g w q)) ∙ r.1) in
       let q1 : Quiet v s g r.0 = quiet-on v s g w r.0 r.2.voted r.2.accepts r.2.confirms r.2.stays q in
       settle-at (suc n) (pass v s g) w r.0 same (settle-still n (pass v s g) r.0 (elim (r.3 risen) [
         | inl k ↦ k (quiet-same v s g r.0 q1)
@@ -70,10 +73,12 @@ module _ (v : ℕ) (s : Seen) (f : Fair s) (g : Given) where
       ]))
 
   -- in PREPARE: two
-  two-left : (n : ℕ) (w : Votes) (b : Ballot) → Sound w → Quiet v s g w → w.phase ≡ Preparing → w.ballot ≡ Some b → Risen s g b.counter → IsSome (settle (suc (suc (suc n))) (pass v s g) w)
+  two-left : (n : ℕ) (w : Votes) (b : Ballot) → Sound w → Quiet v s g w → w.phase ≡ Preparing → w.ballot ≡ Some b
+      → Risen s g b.counter → IsSome (settle (suc (suc (suc n))) (pass v s g) w)
   two-left n w b sound q ph ball risen =
       let r = from-preparing v s f g w b ph ball sound in
-      let same : pass v s g w ≡ r.0 = pass-preparing v s g w ph ∙ (ap (λ x. finish s g (ruled s x)) (begins v s g w b ball (quiet-same v s g w q)) ∙ r.1) in
+      let same : pass v s g w ≡ r.0 = pass-preparing v s g w ph
+      ∙ (ap (λ x. finish s g (ruled s x)) (begins v s g w b ball (quiet-same v s g w q)) ∙ r.1) in
       let q1 : Quiet v s g r.0 = quiet-on v s g w r.0 r.2.voted r.2.accepts r.2.confirms r.2.stays q in
       settle-at (suc (suc n)) (pass v s g) w r.0 same (elim (r.3 risen) [
         | inl k ↦ settle-still (suc n) (pass v s g) r.0 (k (quiet-same v s g r.0 q1))
@@ -101,7 +106,12 @@ module _ (v : ℕ) (s : Seen) (f : Fair s) (g : Given) where
       let S = stepped v s f g w fit.sound ph in
       elim (cases_Bool (is_none w.high)) [
         | inr h ↦ record {
-          fit = record { sound = S.sound; ascending = subst Ascending (sym (S.confirms ∙ ap (λ (x : Votes). x.confirms) (nominate-not v s g w h))) fit.ascending };
+          fit = record {
+            sound = S.sound;
+            ascending =
+                subst Ascending
+                (sym (S.confirms ∙ ap (λ (x : Votes). x.confirms) (nominate-not v s g w h))) fit.ascending;
+          };
           quiet = inr (S.stays h);
           ends = S.ends;
         }
@@ -132,7 +142,11 @@ module _ (v : ℕ) (s : Seen) (f : Fair s) (g : Given) where
         let O = once w fit ph in
         let y = pass v s g w in
         settle-more (suc (suc (suc n))) (pass v s g) w (elim O.ends [
-          | inr k ↦ settle-still (suc (suc n)) (pass v s g) y (pass-preparing v s g y k.0 ∙ (ap (λ x. finish s g (ruled s (start s x))) (quiet-same v s g y O.quiet) ∙ (ap (λ x. finish s g (ruled s x)) k.2 ∙ (ap (finish s g) (ruled-none s y k.0 k.1) ∙ finish-none s g y k.1))))
+          | inr k ↦ settle-still (suc (suc n)) (pass v s g) y
+              (pass-preparing v s g y k.0
+              ∙ (ap (λ x. finish s g (ruled s (start s x))) (quiet-same v s g y O.quiet)
+              ∙ (ap (λ x. finish s g (ruled s x)) k.2
+              ∙ (ap (finish s g) (ruled-none s y k.0 k.1) ∙ finish-none s g y k.1))))
           | inl (inl e) ↦ settle-still (suc (suc n)) (pass v s g) y (pass-externalized v s g y e)
           | inl (inr e) ↦ elim (phases y.phase) [
             | inl k ↦ settle-still (suc (suc n)) (pass v s g) y (pass-externalized v s g y k)

@@ -21,7 +21,8 @@ start-is : (s : Seen) (w : Votes) → start s w ≡ record w { ballot = (start s
 unfolding start started
 start-is s w = go w.ballot (combine w.confirms) refl refl
   where
-    go : (o : Option Ballot) (z : Option (List ℕ)) → w.ballot ≡ o → combine w.confirms ≡ z → start s w ≡ record w { ballot = (start s w).ballot }
+    go : (o : Option Ballot) (z : Option (List ℕ)) → w.ballot ≡ o → combine w.confirms ≡ z
+        → start s w ≡ record w { ballot = (start s w).ballot }
     go (Some b) z e k = rw e refl
     go None (Some x) e k = rw (e, k) refl
     go None None e k = rw (e, k) refl
@@ -33,16 +34,24 @@ cases_Option (Some b) = inr (b, refl)
 start-none : (s : Seen) (w : Votes) → (start s w).ballot ≡ None → (w.ballot ≡ None) × (start s w ≡ w)
 start-none s w e = elim (cases_Option w.ballot) [
   | inl k ↦ (k, start-is s w ∙ (λ i. record w { ballot = (e ∙ sym k) i }))
-  | inr k ↦ let z : Some k.0 ≡ None = sym (ap (λ (x : Votes). x.ballot) (start-some s w k.0 k.1) ∙ k.1) ∙ e in not_none k.0 z
+  | inr k ↦ let z : Some k.0 ≡ None = sym (ap (λ (x : Votes). x.ballot) (start-some s w k.0 k.1) ∙ k.1) ∙ e in
+      not_none k.0 z
 ]
   where
     not_none : {A : Type 0} (b : Ballot) → Some b ≡ None → A
     not_none b e = cc
 
-pub nominate-frame : (v : ℕ) (s : Seen) (g : Given) (w : Votes) → nominate v s g w ≡ record w { voted = (nominate v s g w).voted; accepts = (nominate v s g w).accepts; confirms = (nominate v s g w).confirms }
+pub nominate-frame : (v : ℕ) (s : Seen) (g : Given) (w : Votes)
+    → nominate v s g w ≡ record w {
+      voted = (nominate v s g w).voted;
+      accepts = (nominate v s g w).accepts;
+      confirms = (nominate v s g w).confirms;
+    }
 nominate-frame v s g w = elim (cases_Bool (is_none w.high)) [
-  | inl e ↦ let p = nominate-is v s g w e in p ∙ (λ i. record w { voted = (sym p i).voted; accepts = (sym p i).accepts; confirms = (sym p i).confirms })
-  | inr e ↦ let p = nominate-not v s g w e in p ∙ (λ i. record w { voted = (sym p i).voted; accepts = (sym p i).accepts; confirms = (sym p i).confirms })
+  | inl e ↦ let p = nominate-is v s g w e in p
+      ∙ (λ i. record w { voted = (sym p i).voted; accepts = (sym p i).accepts; confirms = (sym p i).confirms })
+  | inr e ↦ let p = nominate-not v s g w e in p
+      ∙ (λ i. record w { voted = (sym p i).voted; accepts = (sym p i).accepts; confirms = (sym p i).confirms })
 ]
 
 record Begun (v : ℕ) (s : Seen) (g : Given) (w x : Votes) : Type 0 where
@@ -58,11 +67,30 @@ begun-facts : (v : ℕ) (s : Seen) (g : Given) (w : Votes) → Sound w → Begun
 begun-facts v s g w sound =
     let x = nominate v s g w in
     let f = nominate-frame v s g w in
-    let ball : (b : Ballot) → w.ballot ≡ Some b → (start s x).ballot ≡ Some b = λ b e. let k : x.ballot ≡ Some b = ap (λ (y : Votes). y.ballot) f ∙ e in ap (λ (y : Votes). y.ballot) (start-some s x b k) ∙ k in
-    let whole : start s x ≡ record w { voted = x.voted; accepts = x.accepts; confirms = x.confirms; ballot = (start s x).ballot } =
+    let ball : (b : Ballot) → w.ballot ≡ Some b → (start s x).ballot ≡ Some b = λ b e. let k : x.ballot ≡ Some b =
+    ap (λ (y : Votes). y.ballot) f ∙ e in ap (λ (y : Votes). y.ballot) (start-some s x b k) ∙ k in
+    let whole : start s x ≡ record w {
+      voted = x.voted;
+      accepts = x.accepts;
+      confirms = x.confirms;
+      ballot = (start s x).ballot;
+    } =
     start-is s x ∙ ap {B = Votes} (λ (y : Votes). record y { ballot = (start s x).ballot }) f in
     subst (λ (y : Votes). Begun v s g w y) (sym whole) (record {
-      sound = record { aborted = sound.aborted; high = sound.high; committing = λ c. let h = sound.committing c in record { b = h.b; p = h.p; ballot = ball h.b h.ballot; prepared = h.prepared; value = h.value; hi = h.hi; lo = h.lo } };
+      sound = record {
+        aborted = sound.aborted;
+        high = sound.high;
+        committing = λ c. let h = sound.committing c in
+            record {
+              b = h.b;
+              p = h.p;
+              ballot = ball h.b h.ballot;
+              prepared = h.prepared;
+              value = h.value;
+              hi = h.hi;
+              lo = h.lo;
+            };
+      };
       phase = refl;
       high = refl;
       voted = refl;
@@ -81,21 +109,45 @@ pub record Passed (v : ℕ) (s : Seen) (g : Given) (w y : Votes) : Type 0 where
   pub ends : Ends s g y ⊎ ((y.phase ≡ Preparing) × (y.ballot ≡ None) × (start s y ≡ y))
 
 went-step : (v : ℕ) (s : Seen) (g : Given) (w x y : Votes) → Begun v s g w x → Went s g x y → Passed v s g w y
-went-step v s g w x y B W = record { sound = W.sound; voted = W.voted ∙ B.voted; accepts = W.accepts ∙ B.accepts; confirms = W.confirms ∙ B.confirms; stays = λ h. W.stays (ap is_none B.high ∙ h); ends = inl W.ends }
+went-step v s g w x y B W =
+    record {
+      sound = W.sound;
+      voted = W.voted ∙ B.voted;
+      accepts = W.accepts ∙ B.accepts;
+      confirms = W.confirms ∙ B.confirms;
+      stays = λ h. W.stays (ap is_none B.high ∙ h);
+      ends = inl W.ends;
+    }
 
-pub stepped : (v : ℕ) (s : Seen) → Fair s → (g : Given) (w : Votes) → Sound w → (w.phase ≡ Preparing) ⊎ (w.phase ≡ Committing) → Passed v s g w (pass v s g w)
+pub stepped : (v : ℕ) (s : Seen) → Fair s → (g : Given) (w : Votes) → Sound w
+    → (w.phase ≡ Preparing) ⊎ (w.phase ≡ Committing) → Passed v s g w (pass v s g w)
 stepped v s f g w sound (inr ph) =
     let B = begun-facts v s g w sound in
     let h = sound.committing ph in
     let r = from-committing v s f g (begun v s g w) h.b (B.phase ∙ ph) (B.ballot h.b h.ballot) B.sound in
-    subst (λ (y : Votes). Passed v s g w y) (sym (pass-committing v s g w ph ∙ r.1)) (went-step v s g w (begun v s g w) r.0 B r.2)
+    subst (λ (y : Votes). Passed v s g w y) (sym (pass-committing v s g w ph ∙ r.1))
+    (went-step v s g w (begun v s g w) r.0 B r.2)
 stepped v s f g w sound (inl ph) =
     let B = begun-facts v s g w sound in
     let x = begun v s g w in
     elim (cases_Option x.ballot) [
       | inr k ↦ let r = from-preparing v s f g x k.0 (B.phase ∙ ph) k.1 B.sound in
-          subst (λ (y : Votes). Passed v s g w y) (sym (pass-preparing v s g w ph ∙ r.1)) (went-step v s g w x r.0 B r.2)
+          subst (λ (y : Votes). Passed v s g w y) (sym (pass-preparing v s g w ph ∙ r.1))
+          (went-step v s g w x r.0 B r.2)
       | inl k ↦
-          let same : pass v s g w ≡ x = pass-preparing v s g w ph ∙ (ap (finish s g) (ruled-none s x (B.phase ∙ ph) k) ∙ finish-none s g x k) in
-          subst (λ (y : Votes). Passed v s g w y) (sym same) (record { sound = B.sound; voted = B.voted; accepts = B.accepts; confirms = B.confirms; stays = λ h. ap is_none B.high ∙ h; ends = inr (B.phase ∙ ph, k, let e = (start-none s (nominate v s g w) k).1 in subst (λ (y : Votes). start s y ≡ y) (sym e) e) })
+          let same : pass v s g w ≡ x = pass-preparing v s g w ph
+          ∙ (ap (finish s g) (ruled-none s x (B.phase ∙ ph) k) ∙ finish-none s g x k) in
+          subst (λ (y : Votes). Passed v s g w y) (sym same)
+          (record {
+            sound = B.sound;
+            voted = B.voted;
+            accepts = B.accepts;
+            confirms = B.confirms;
+            stays = λ h. ap is_none B.high ∙ h;
+            ends = inr (
+              B.phase ∙ ph,
+              k,
+              let e = (start-none s (nominate v s g w) k).1 in subst (λ (y : Votes). start s y ≡ y) (sym e) e,
+            );
+          })
     ]

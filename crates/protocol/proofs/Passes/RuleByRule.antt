@@ -47,11 +47,13 @@ begun v s g w = start s (nominate v s g w)
 abbrev pub finish : Seen → Given → Votes → Votes
 finish s g w = while_open w.phase (tail s g) w
 
-pub pass-preparing : (v : ℕ) (s : Seen) (g : Given) (w : Votes) → w.phase ≡ Preparing → pass v s g w ≡ finish s g (ruled s (begun v s g w))
+pub pass-preparing : (v : ℕ) (s : Seen) (g : Given) (w : Votes) → w.phase ≡ Preparing
+    → pass v s g w ≡ finish s g (ruled s (begun v s g w))
 unfolding pass pass_rules voting counting confirm_prepared
 pass-preparing v s g w e = ap (λ p. while_open p (pass_rules v s g) w) e
 
-pub pass-committing : (v : ℕ) (s : Seen) (g : Given) (w : Votes) → w.phase ≡ Committing → pass v s g w ≡ finish s g (ruled s (begun v s g w))
+pub pass-committing : (v : ℕ) (s : Seen) (g : Given) (w : Votes) → w.phase ≡ Committing
+    → pass v s g w ≡ finish s g (ruled s (begun v s g w))
 unfolding pass pass_rules voting counting confirm_prepared
 pass-committing v s g w e = ap (λ p. while_open p (pass_rules v s g) w) e
 
@@ -69,7 +71,8 @@ on_ballot-none F w e = rw e refl
 r2-at : (s : Seen) (w : Votes) (b : Ballot) → w.ballot ≡ Some b → r2 s w ≡ accept_prepared s b w
 r2-at s w b e = on_ballot-at (accept_prepared s) w b e
 
-prepared-keeps : (s : Seen) (b : Ballot) (w : Votes) → ((accept_prepared s b w).ballot ≡ w.ballot) × ((accept_prepared s b w).phase ≡ w.phase)
+prepared-keeps : (s : Seen) (b : Ballot) (w : Votes)
+    → ((accept_prepared s b w).ballot ≡ w.ballot) × ((accept_prepared s b w).phase ≡ w.phase)
 unfolding accept_prepared
 prepared-keeps s b w = (refl, refl)
 
@@ -79,22 +82,30 @@ in_prepare-at F w e = rw e refl
 in_prepare-not : (F : Votes → Votes) (w : Votes) → w.phase ≡ Committing → in_prepare F w ≡ w
 in_prepare-not F w e = rw e refl
 
-r3-at : (s : Seen) (w : Votes) (b : Ballot) → w.phase ≡ Preparing → w.ballot ≡ Some b → r3 s w ≡ set_commit (follow_high b (raise_high s w))
-r3-at s w b p e = in_prepare-at (on_ballot (λ b w. set_commit (follow_high b (raise_high s w)))) w p ∙ on_ballot-at (λ b w. set_commit (follow_high b (raise_high s w))) w b e
+r3-at : (s : Seen) (w : Votes) (b : Ballot) → w.phase ≡ Preparing → w.ballot ≡ Some b
+    → r3 s w ≡ set_commit (follow_high b (raise_high s w))
+r3-at s w b p e = in_prepare-at (on_ballot (λ b w. set_commit (follow_high b (raise_high s w)))) w p
+    ∙ on_ballot-at (λ b w. set_commit (follow_high b (raise_high s w))) w b e
 
 r3-not : (s : Seen) (w : Votes) → w.phase ≡ Committing → r3 s w ≡ w
 r3-not s w p = in_prepare-not (on_ballot (λ b w. set_commit (follow_high b (raise_high s w)))) w p
 
-pub r4-at : (s : Seen) (w : Votes) (b : Ballot) (p : Phase) → w.phase ≡ p → w.ballot ≡ Some b → r4 s w ≡ accept_commit p s b w
+pub r4-at : (s : Seen) (w : Votes) (b : Ballot) (p : Phase) → w.phase ≡ p → w.ballot ≡ Some b
+    → r4 s w ≡ accept_commit p s b w
 r4-at s w b p e k = on_ballot-at (λ b w. accept_commit w.phase s b w) w b k ∙ ap (λ q. accept_commit q s b w) e
 
-pub r5-at : (s : Seen) (w : Votes) (b : Ballot) (p : Phase) → w.phase ≡ p → w.ballot ≡ Some b → r5 s w ≡ confirm_commit p s b w
+pub r5-at : (s : Seen) (w : Votes) (b : Ballot) (p : Phase) → w.phase ≡ p → w.ballot ≡ Some b
+    → r5 s w ≡ confirm_commit p s b w
 r5-at s w b p e k = on_ballot-at (λ b w. confirm_commit w.phase s b w) w b k ∙ ap (λ q. confirm_commit q s b w) e
 
-pub r23-preparing : (s : Seen) (w : Votes) (b : Ballot) → w.phase ≡ Preparing → w.ballot ≡ Some b → r3 s (r2 s w) ≡ set_commit (follow_high b (raise_high s (accept_prepared s b w)))
-r23-preparing s w b p e = ap (r3 s) (r2-at s w b e) ∙ r3-at s (accept_prepared s b w) b ((prepared-keeps s b w).1 ∙ p) ((prepared-keeps s b w).0 ∙ e)
+pub r23-preparing : (s : Seen) (w : Votes) (b : Ballot) → w.phase ≡ Preparing → w.ballot ≡ Some b
+    → r3 s (r2 s w) ≡ set_commit (follow_high b (raise_high s (accept_prepared s b w)))
+r23-preparing s w b p e =
+    ap (r3 s) (r2-at s w b e)
+    ∙ r3-at s (accept_prepared s b w) b ((prepared-keeps s b w).1 ∙ p) ((prepared-keeps s b w).0 ∙ e)
 
-pub r234-committing : (s : Seen) (w : Votes) (b : Ballot) → w.phase ≡ Committing → w.ballot ≡ Some b → r4 s (r3 s (r2 s w)) ≡ accept_commit Committing s b (accept_prepared s b w)
+pub r234-committing : (s : Seen) (w : Votes) (b : Ballot) → w.phase ≡ Committing → w.ballot ≡ Some b
+    → r4 s (r3 s (r2 s w)) ≡ accept_commit Committing s b (accept_prepared s b w)
 r234-committing s w b p e =
     let x = accept_prepared s b w in
     let px : x.phase ≡ Committing = (prepared-keeps s b w).1 ∙ p in
@@ -104,7 +115,8 @@ r234-committing s w b p e =
 pub ruled-none : (s : Seen) (w : Votes) → w.phase ≡ Preparing → w.ballot ≡ None → ruled s w ≡ w
 ruled-none s w p e =
     let a : r2 s w ≡ w = on_ballot-none (accept_prepared s) w e in
-    let b : r3 s w ≡ w = in_prepare-at (on_ballot (λ b w. set_commit (follow_high b (raise_high s w)))) w p ∙ on_ballot-none (λ b w. set_commit (follow_high b (raise_high s w))) w e in
+    let b : r3 s w ≡ w = in_prepare-at (on_ballot (λ b w. set_commit (follow_high b (raise_high s w)))) w p
+    ∙ on_ballot-none (λ b w. set_commit (follow_high b (raise_high s w))) w e in
     let c : r4 s w ≡ w = on_ballot-none (λ b w. accept_commit w.phase s b w) w e in
     let d : r5 s w ≡ w = on_ballot-none (λ b w. confirm_commit w.phase s b w) w e in
     ap (λ y. r5 s (r4 s (r3 s y))) a ∙ (ap (λ y. r5 s (r4 s y)) b ∙ (ap (λ y. r5 s y) c ∙ d))
@@ -148,14 +160,16 @@ raised-stays w b n p = go (n == b.counter)
     go true = refl
     go false = ap (λ q. raised_value q w b.value) p
 
-pub counts-on : (s : Seen) → Fair s → (g : Given) (w : Votes) (b : Ballot) → w.ballot ≡ Some b → Sound w → Counted s g w b
+pub counts-on : (s : Seen) → Fair s → (g : Given) (w : Votes) (b : Ballot) → w.ballot ≡ Some b → Sound w
+    → Counted s g w b
 counts-on s f g w b e sound =
     let r = raise-moves s f g b w in
     let x : Votes = record w { ballot = Some (raised w b r.0) } in
     let a = arm-moves s (raised w b r.0) x in
     record {
       u = record x { armed = a.0 };
-      is = ap (on_ballot (arm s)) (on_ballot-at (raise s g) w b e ∙ r.1) ∙ (on_ballot-at (arm s) x (raised w b r.0) refl ∙ a.1);
+      is = ap (on_ballot (arm s)) (on_ballot-at (raise s g) w b e ∙ r.1)
+          ∙ (on_ballot-at (arm s) x (raised w b r.0) refl ∙ a.1);
       n = raised w b r.0;
       ballot = refl;
       phase = refl;
@@ -164,7 +178,15 @@ counts-on s f g w b e sound =
         aborted = sound.aborted;
         high = sound.high;
         committing = λ c. let h = sound.committing c in let z : h.b ≡ b = same_Some h.b b (sym h.ballot ∙ e) in
-            record { b = raised w b r.0; p = h.p; ballot = refl; prepared = h.prepared; value = h.value ∙ (ap (λ (x : Ballot). x.value) z ∙ sym (raised-stays w b r.0 c)); hi = h.hi; lo = h.lo };
+            record {
+              b = raised w b r.0;
+              p = h.p;
+              ballot = refl;
+              prepared = h.prepared;
+              value = h.value ∙ (ap (λ (x : Ballot). x.value) z ∙ sym (raised-stays w b r.0 c));
+              hi = h.hi;
+              lo = h.lo;
+            };
       };
       voted = refl;
       accepts = refl;
@@ -173,10 +195,13 @@ counts-on s f g w b e sound =
     }
 
 -- where nothing is to be raised
-pub counts-still : (s : Seen) → Fair s → (g : Given) (w : Votes) (b : Ballot) → w.ballot ≡ Some b → passes (counts (b.counter + 1)) (position w) ≡ false → Risen s g b.counter → tail s g w ≡ arm s b w
-counts-still s f g w b e c r = ap (on_ballot (arm s)) (on_ballot-at (raise s g) w b e ∙ raise-still s f g b w e c r) ∙ on_ballot-at (arm s) w b e
+pub counts-still : (s : Seen) → Fair s → (g : Given) (w : Votes) (b : Ballot) → w.ballot ≡ Some b
+    → passes (counts (b.counter + 1)) (position w) ≡ false → Risen s g b.counter → tail s g w ≡ arm s b w
+counts-still s f g w b e c r =
+    ap (on_ballot (arm s)) (on_ballot-at (raise s g) w b e ∙ raise-still s f g b w e c r) ∙ on_ballot-at (arm s) w b e
 
-pub own-counts : (w : Votes) (b : Ballot) → (w.phase ≡ Preparing) ⊎ (w.phase ≡ Committing) → w.ballot ≡ Some b → passes (counts (b.counter + 1)) (position w) ≡ false
+pub own-counts : (w : Votes) (b : Ballot) → (w.phase ≡ Preparing) ⊎ (w.phase ≡ Committing) → w.ballot ≡ Some b
+    → passes (counts (b.counter + 1)) (position w) ≡ false
 own-counts w b (inl p) e = rw (position-preparing w b p e) (over b.counter)
   where
     over : (n : ℕ) → nat_le (n + 1) n ≡ false
@@ -187,16 +212,25 @@ own-counts w b (inr p) e = rw (position-committing w b p e) (over b.counter)
     over n = grind (arith, nat_tests)
 
 -- what is armed is not read
-pub accept_prepared-armed : (s : Seen) (b : Ballot) (w : Votes) (k : ℕ) → accept_prepared s b (record w { armed = k }) ≡ record (accept_prepared s b w) { armed = k }
+pub accept_prepared-armed : (s : Seen) (b : Ballot) (w : Votes) (k : ℕ)
+    → accept_prepared s b (record w { armed = k }) ≡ record (accept_prepared s b w) { armed = k }
 unfolding accept_prepared named
 accept_prepared-armed s b w k = ap {B = Votes} (λ (o : Option Statement).
-    let p = greatest w.prepared (filter (λ t. may_be_prepared w.phase b.value t && accepted s Kind.Ballot o (backs_prepare t) (takes_prepare t)) (filter (λ b. nat_lt 0 b.counter) (flat_map named_by (s.rows Kind.Ballot ++ option_to_list o)))) in
+    let p = greatest w.prepared
+    (filter (λ t. may_be_prepared w.phase b.value t && accepted s Kind.Ballot o (backs_prepare t) (takes_prepare t))
+    (filter (λ b. nat_lt 0 b.counter) (flat_map named_by (s.rows Kind.Ballot ++ option_to_list o)))) in
     record w { prepared = p; aborted = aborted_by w.prepared p w.aborted; armed = k }) (position-armed w k)
 
-pub raise_high-armed : (s : Seen) (w : Votes) (k : ℕ) → raise_high s (record w { armed = k }) ≡ record (raise_high s w) { armed = k }
+pub raise_high-armed : (s : Seen) (w : Votes) (k : ℕ)
+    → raise_high s (record w { armed = k }) ≡ record (raise_high s w) { armed = k }
 unfolding raise_high named
 raise_high-armed s w k = ap {B = Votes} (λ (o : Option Statement).
-    record w { high = greatest w.high (filter (λ t. confirmed s Kind.Ballot o (takes_prepare t)) (filter (λ b. nat_lt 0 b.counter) (flat_map named_by (s.rows Kind.Ballot ++ option_to_list o)))); armed = k }) (position-armed w k)
+    record w {
+      high = greatest w.high (filter (λ t. confirmed s Kind.Ballot o (takes_prepare t))
+          (filter (λ b. nat_lt 0 b.counter) (flat_map named_by (s.rows Kind.Ballot ++ option_to_list o))));
+      armed = k;
+    })
+    (position-armed w k)
 
 pub fixed-armed : (w : Votes) (c : Option Ballot) (k : ℕ) → Fixed w c → Fixed (record w { armed = k }) c
 unfolding is_aborted high_counter
@@ -205,10 +239,13 @@ fixed-armed w None k h = go w.high w.prepared
     go : (a p : Option Ballot) → Fixed (record w { armed = k }) None
     go a p = λ x e. same x (h x e)
       where
-        same : (x : Ballot) → ((high_counter w x == x.counter) && not (is_aborted w x)) ≡ false → ((high_counter (record w { armed = k }) x == x.counter) && not (is_aborted (record w { armed = k }) x)) ≡ false
+        same : (x : Ballot) → ((high_counter w x == x.counter) && not (is_aborted w x)) ≡ false
+            → ((high_counter (record w { armed = k }) x == x.counter)
+            && not (is_aborted (record w { armed = k }) x)) ≡ false
         same x j = j
 fixed-armed w (Some c) k h = h
 
-pub entering-armed : (s : Seen) (w : Votes) (k : ℕ) → entering s (position (record w { armed = k })) (record w { armed = k }) ≡ entering s (position w) w
+pub entering-armed : (s : Seen) (w : Votes) (k : ℕ)
+    → entering s (position (record w { armed = k })) (record w { armed = k }) ≡ entering s (position w) w
 unfolding is_aborted
 entering-armed s w k = ap (λ o. entering s o w) (position-armed w k)

@@ -19,7 +19,8 @@ use Rattle.protocol.proofs.Passes.FourPasses.{Fit, IsSome, four, pass-fit}
 use Rattle.std.proofs.lemmas.Option.{same_Some}
 
 -- Nodes
-settle-fit : (k : ℕ) (f : Votes → Votes) → ((w : Votes) → Fit w → Fit (f w)) → (w u : Votes) → Fit w → settle k f w ≡ Some u → Fit u
+settle-fit : (k : ℕ) (f : Votes → Votes) → ((w : Votes) → Fit w → Fit (f w)) → (w u : Votes) → Fit w
+    → settle k f w ≡ Some u → Fit u
 unfolding settle
 settle-fit zero f p w u h e = cc
 settle-fit (suc k) f p w u h e = go (same_votes (f w) w) e (λ j. settle-fit k f p (f w) u (p w h) j)
@@ -30,7 +31,11 @@ settle-fit (suc k) f p w u h e = go (same_votes (f w) w) e (λ j. settle-fit k f
 
 pub fresh-fit : (slot v : ℕ) (q : Slices) → Fit (fresh slot v q).votes
 unfolding fresh
-fresh-fit slot v q = record { sound = record { aborted = omega arith; high = tt; committing = λ (c : Preparing ≡ Committing). cc }; ascending = tt }
+fresh-fit slot v q =
+    record {
+      sound = record { aborted = omega arith; high = tt; committing = λ (c : Preparing ≡ Committing). cc };
+      ascending = tt;
+    }
 
 bumped-fit : (w : Votes) (o : Option Ballot) → w.ballot ≡ o → Fit w → Fit (bumped w o)
 bumped-fit w None e h = h
@@ -39,7 +44,15 @@ bumped-fit w (Some b) e h = record {
     aborted = h.sound.aborted;
     high = h.sound.high;
     committing = λ c. let k = h.sound.committing c in let z : k.b ≡ b = same_Some k.b b (sym k.ballot ∙ e) in
-        record { b = raised w b (b.counter + 1); p = k.p; ballot = refl; prepared = k.prepared; value = k.value ∙ (ap (λ (x : Ballot). x.value) z ∙ sym (raised-stays w b (b.counter + 1) c)); hi = k.hi; lo = k.lo };
+        record {
+          b = raised w b (b.counter + 1);
+          p = k.p;
+          ballot = refl;
+          prepared = k.prepared;
+          value = k.value ∙ (ap (λ (x : Ballot). x.value) z ∙ sym (raised-stays w b (b.counter + 1) c));
+          hi = k.hi;
+          lo = k.lo;
+        };
   };
   ascending = h.ascending;
 }
@@ -70,7 +83,10 @@ settled-fit (Some n) h = go (settle most_passes (passed n) n.votes) refl
   where
     go : (o : Option Votes) → settle most_passes (passed n) n.votes ≡ o → if_fit (settled n o)
     go None e = tt
-    go (Some w) e = settle-fit most_passes (passed n) (pass-fit n.name (seen n.name n.slices n.given.leaders n.table) (seen-fair n.name n.slices n.given.leaders n.table) n.given) n.votes w h e
+    go (Some w) e =
+        settle-fit most_passes (passed n)
+        (pass-fit n.name (seen n.name n.slices n.given.leaders n.table)
+        (seen-fair n.name n.slices n.given.leaders n.table) n.given) n.votes w h e
 
 pub step-fit : (n : Node) (e : NodeEvent) → Fit n.votes → Fit (step n e).0.votes
 unfolding step
@@ -89,8 +105,11 @@ pub changed-fit : (n : Node) (e : NodeEvent) (m : Node) → Fit n.votes → chan
 changed-fit n e m h c = subst if_fit c (change-fit n e h)
 
 -- for each node whose votes are fit
-pub fit-four : (n : Node) (e : NodeEvent) (m : Node) (k : ℕ) → Fit n.votes → change n e ≡ Some m → IsSome (settle (suc (suc (suc (suc k)))) (passed m) m.votes)
-fit-four n e m k h c = four m.name (seen m.name m.slices m.given.leaders m.table) (seen-fair m.name m.slices m.given.leaders m.table) m.given k m.votes (changed-fit n e m h c)
+pub fit-four : (n : Node) (e : NodeEvent) (m : Node) (k : ℕ) → Fit n.votes → change n e ≡ Some m
+    → IsSome (settle (suc (suc (suc (suc k)))) (passed m) m.votes)
+fit-four n e m k h c =
+    four m.name (seen m.name m.slices m.given.leaders m.table)
+    (seen-fair m.name m.slices m.given.leaders m.table) m.given k m.votes (changed-fit n e m h c)
 
 pub never_limited : NeverLimited
 never_limited n r e m c = fit-four n e m 60 (reached-fit r) c

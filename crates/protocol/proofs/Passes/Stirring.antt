@@ -1,4 +1,5 @@
--- Which rules an event stirs: nomination rests after one pass, after a ballot row in the first one too; and after a nomination row balloting rests where nomination confirms nothing.
+-- Which rules an event stirs: nomination rests after one pass, after a ballot row in the first one too; and after a
+-- nomination row balloting rests where nomination confirms nothing.
 use Rattle.std.proofs.Common.{◌≡◌, ℕ, zero, suc, Option, Some, if◌then◌else◌, is_none, refl, sym, ◌∙◌, ap, subst, inl, inr, ◌⊎◌}
 use Rattle.std.proofs.lemmas.Bool.{cases_Bool}
 use Rattle.types.specs.declared.state.Phase.TheVariants.{Preparing, Committing, Externalized}
@@ -35,11 +36,16 @@ quiet-of v s g w same = elim (cases_Bool (is_none w.high)) [
   | inl e ↦
       let p = sym (nominate-is v s g w e) ∙ same in
       let a : new_voted v s g w.voted w.confirms ≡ w.voted = ap (λ (x : Votes). x.voted) p in
-      let b : new_accepts s (new_voted v s g w.voted w.confirms) w.accepts ≡ w.accepts = ap (λ (x : Votes). x.accepts) p in
-      let c : new_confirms s (new_voted v s g w.voted w.confirms) (new_accepts s (new_voted v s g w.voted w.confirms) w.accepts) w.confirms ≡ w.confirms = ap (λ (x : Votes). x.confirms) p in
+      let b : new_accepts s (new_voted v s g w.voted w.confirms) w.accepts ≡ w.accepts =
+      ap (λ (x : Votes). x.accepts) p in
+      let c : new_confirms s (new_voted v s g w.voted w.confirms)
+      (new_accepts s (new_voted v s g w.voted w.confirms) w.accepts) w.confirms ≡ w.confirms =
+      ap (λ (x : Votes). x.confirms) p in
       let b2 : new_accepts s w.voted w.accepts ≡ w.accepts = subst (λ m. new_accepts s m w.accepts ≡ w.accepts) a b in
-      let c1 : new_confirms s w.voted (new_accepts s w.voted w.accepts) w.confirms ≡ w.confirms = subst (λ m. new_confirms s m (new_accepts s m w.accepts) w.confirms ≡ w.confirms) a c in
-      let c2 : new_confirms s w.voted w.accepts w.confirms ≡ w.confirms = subst (λ m. new_confirms s w.voted m w.confirms ≡ w.confirms) b2 c1 in
+      let c1 : new_confirms s w.voted (new_accepts s w.voted w.accepts) w.confirms ≡ w.confirms =
+      subst (λ m. new_confirms s m (new_accepts s m w.accepts) w.confirms ≡ w.confirms) a c in
+      let c2 : new_confirms s w.voted w.accepts w.confirms ≡ w.confirms =
+      subst (λ m. new_confirms s w.voted m w.confirms ≡ w.confirms) b2 c1 in
       inl (quiet-from v s g w.voted w.accepts w.confirms a b2 c2)
 ]
 
@@ -76,7 +82,12 @@ open-nominated v s g w (inl e) = inl (nominate-phase v s g w ∙ e)
 open-nominated v s g w (inr e) = inr (nominate-phase v s g w ∙ e)
 
 -- it changes the three sets of values alone
-nominated-frame : (v : ℕ) (s : Seen) (g : Given) (w : Votes) → nominated_in v s g w ≡ record w { voted = (nominated_in v s g w).voted; accepts = (nominated_in v s g w).accepts; confirms = (nominated_in v s g w).confirms }
+nominated-frame : (v : ℕ) (s : Seen) (g : Given) (w : Votes)
+    → nominated_in v s g w ≡ record w {
+      voted = (nominated_in v s g w).voted;
+      accepts = (nominated_in v s g w).accepts;
+      confirms = (nominated_in v s g w).confirms;
+    }
 nominated-frame v s g w =
     let sets : Votes → Votes = λ x. record w { voted = x.voted; accepts = x.accepts; confirms = x.confirms } in
     elim (phases w.phase) [
@@ -88,7 +99,9 @@ nominated-frame v s g w =
 pass-parts : (v : ℕ) (s : Seen) (g : Given) (w : Votes) → pass v s g w ≡ balloted_in s g (nominated_in v s g w)
 pass-parts v s g w = elim (phases w.phase) [
   | inl e ↦ pass-externalized v s g w e ∙ sym (ap (balloted_in s g) (nominated-over v s g w e) ∙ balloted-over s g w e)
-  | inr o ↦ pass-open v s g w o ∙ sym (ap (balloted_in s g) (nominated-open v s g w o) ∙ balloted-open s g (nominate v s g w) (open-nominated v s g w o))
+  | inr o ↦ pass-open v s g w o
+      ∙ sym (ap (balloted_in s g) (nominated-open v s g w o)
+      ∙ balloted-open s g (nominate v s g w) (open-nominated v s g w o))
 ]
 
 -- a pass where nomination is at rest is balloting
@@ -111,7 +124,8 @@ module _ (v : ℕ) (s : Seen) (f : Fair s) (g : Given) where
         let a : (nominate v s g w).voted ≡ w.voted = sym S.voted ∙ ap (λ (x : Votes). x.voted) calm in
         let b : (nominate v s g w).accepts ≡ w.accepts = sym S.accepts ∙ ap (λ (x : Votes). x.accepts) calm in
         let c : (nominate v s g w).confirms ≡ w.confirms = sym S.confirms ∙ ap (λ (x : Votes). x.confirms) calm in
-        nominated-open v s g w o ∙ (nominate-frame v s g w ∙ (λ i. record w { voted = a i; accepts = b i; confirms = c i }))
+        nominated-open v s g w o
+        ∙ (nominate-frame v s g w ∙ (λ i. record w { voted = a i; accepts = b i; confirms = c i }))
   ]
 
   calm-balloted : (w : Votes) → Sound w → pass v s g w ≡ w → balloted_in s g w ≡ w
@@ -123,14 +137,17 @@ module _ (v : ℕ) (s : Seen) (f : Fair s) (g : Given) where
   rested-settles zero w fit q = refl
   rested-settles (suc n) w fit q =
       let e = pass-rested v s g w (quiet-nominated v s g w q) in
-      let next : settle n (pass v s g) (pass v s g w) ≡ settle n (balloted_in s g) (pass v s g w) = rested-settles n (pass v s g w) (pass-fit v s f g w fit) (elim (phases w.phase) [
+      let next : settle n (pass v s g) (pass v s g w) ≡ settle n (balloted_in s g) (pass v s g w) =
+      rested-settles n (pass v s g w) (pass-fit v s f g w fit) (elim (phases w.phase) [
         | inl x ↦ subst (λ (y : Votes). Quiet v s g y) (sym (pass-externalized v s g w x)) q
         | inr o ↦ (once v s f g w fit o).quiet
       ]) in
-      ap (λ (o : Option Votes). if same_votes (pass v s g w) w then Some w else o) next ∙ ap (λ (y : Votes). if same_votes y w then Some w else settle n (balloted_in s g) y) e
+      ap (λ (o : Option Votes). if same_votes (pass v s g w) w then Some w else o) next
+      ∙ ap (λ (y : Votes). if same_votes y w then Some w else settle n (balloted_in s g) y) e
 
   -- a pass that changed nothing
-  same-or : (w y : Votes) (o : Option Votes) → (if same_votes y w then Some y else o) ≡ (if same_votes y w then Some w else o)
+  same-or : (w y : Votes) (o : Option Votes)
+      → (if same_votes y w then Some y else o) ≡ (if same_votes y w then Some w else o)
   same-or w y o = elim (cases_Bool (same_votes y w)) [
     | inl e ↦ rw e (ap {B = Option Votes} Some (same_votes-true y w e))
     | inr e ↦ rw e refl
@@ -138,15 +155,20 @@ module _ (v : ℕ) (s : Seen) (f : Fair s) (g : Given) where
 
   ballots-settle : (w : Votes) → Fit w → Quiet v s g w → settle_ballots s g w ≡ settle most_passes (pass v s g) w
   unfolding settle_ballots settle_after settle
-  ballots-settle w fit q = same-or w (balloted_in s g w) (settle 63 (balloted_in s g) (balloted_in s g w)) ∙ sym (rested-settles 64 w fit q)
+  ballots-settle w fit q =
+      same-or w (balloted_in s g w) (settle 63 (balloted_in s g) (balloted_in s g w)) ∙ sym (rested-settles 64 w fit q)
 
   over-settles : (w : Votes) → w.phase ≡ Externalized → settle most_passes (pass v s g) w ≡ Some w
   unfolding settle
-  over-settles w e = ap (λ (y : Votes). if same_votes y w then Some w else settle 63 (pass v s g) y) (pass-externalized v s g w e) ∙ ap (λ b. if b then Some w else settle 63 (pass v s g) w) (same_votes-refl w)
+  over-settles w e =
+      ap (λ (y : Votes). if same_votes y w then Some w else settle 63 (pass v s g) y) (pass-externalized v s g w e)
+      ∙ ap (λ b. if b then Some w else settle 63 (pass v s g) w) (same_votes-refl w)
 
   still-settles : (w y : Votes) → y ≡ w → settle_after s g w y ≡ Some w
   unfolding settle_after
-  still-settles w y e = ap (λ (y : Votes). if same_votes y w then Some y else settle 63 (balloted_in s g) y) e ∙ ap (λ b. if b then Some w else settle 63 (balloted_in s g) w) (same_votes-refl w)
+  still-settles w y e =
+      ap (λ (y : Votes). if same_votes y w then Some y else settle 63 (balloted_in s g) y) e
+      ∙ ap (λ b. if b then Some w else settle 63 (balloted_in s g) w) (same_votes-refl w)
 
   all-settle : (w : Votes) → Fit w → settle_all v s g w ≡ settle most_passes (pass v s g) w
   unfolding settle_all settle_after settle
@@ -154,7 +176,8 @@ module _ (v : ℕ) (s : Seen) (f : Fair s) (g : Given) where
     | inl e ↦ still-settles w (pass v s g w) (pass-externalized v s g w e) ∙ sym (over-settles w e)
     | inr o ↦
         same-or w (pass v s g w) (settle 63 (balloted_in s g) (pass v s g w))
-        ∙ ap (λ (o : Option Votes). if same_votes (pass v s g w) w then Some w else o) (sym (rested-settles 63 (pass v s g w) (pass-fit v s f g w fit) (once v s f g w fit o).quiet))
+        ∙ ap (λ (o : Option Votes). if same_votes (pass v s g w) w then Some w else o)
+        (sym (rested-settles 63 (pass v s g w) (pass-fit v s f g w fit) (once v s f g w fit o).quiet))
   ]
 
   all-after : (w : Votes) → Fit w → settle_after s g w (pass v s g w) ≡ settle most_passes (pass v s g) w
@@ -167,60 +190,79 @@ module _ (v : ℕ) (s : Seen) (f : Fair s) (g : Given) where
 
   ends-at : (n : ℕ) (x : Votes) → pass v s g x ≡ x → settle (suc n) (pass v s g) x ≡ Some x
   unfolding settle
-  ends-at n x calm = ap (λ (y : Votes). if same_votes y x then Some x else settle n (pass v s g) y) calm ∙ ap (λ b. if b then Some x else settle n (pass v s g) x) (same_votes-refl x)
+  ends-at n x calm = ap (λ (y : Votes). if same_votes y x then Some x else settle n (pass v s g) y) calm
+      ∙ ap (λ b. if b then Some x else settle n (pass v s g) x) (same_votes-refl x)
 
-  goes-to : (w x : Votes) → pass v s g w ≡ x → settle 63 (pass v s g) x ≡ Some x → settle most_passes (pass v s g) w ≡ Some x
+  goes-to : (w x : Votes) → pass v s g w ≡ x → settle 63 (pass v s g) x ≡ Some x
+      → settle most_passes (pass v s g) w ≡ Some x
   unfolding settle
-  goes-to w x made ends = ap (λ (y : Votes). if same_votes y w then Some w else settle 63 (pass v s g) y) made ∙ elim (cases_Bool (same_votes x w)) [
-    | inl e ↦ ap (λ b. if b then Some w else settle 63 (pass v s g) x) e ∙ ap {B = Option Votes} Some (sym (same_votes-true x w e))
-    | inr e ↦ ap (λ b. if b then Some w else settle 63 (pass v s g) x) e ∙ ends
-  ]
+  goes-to w x made ends = ap (λ (y : Votes). if same_votes y w then Some w else settle 63 (pass v s g) y) made
+      ∙ elim (cases_Bool (same_votes x w)) [
+        | inl e ↦ ap (λ b. if b then Some w else settle 63 (pass v s g) x) e
+            ∙ ap {B = Option Votes} Some (sym (same_votes-true x w e))
+        | inr e ↦ ap (λ b. if b then Some w else settle 63 (pass v s g) x) e ∙ ends
+      ]
 
   -- where nomination confirms nothing new balloting is still at rest
-  unconfirmed : (w : Votes) → balloted_in s g w ≡ w → (nominated_in v s g w).confirms ≡ w.confirms → balloted_in s g (nominated_in v s g w) ≡ nominated_in v s g w
+  unconfirmed : (w : Votes) → balloted_in s g w ≡ w → (nominated_in v s g w).confirms ≡ w.confirms
+      → balloted_in s g (nominated_in v s g w) ≡ nominated_in v s g w
   unconfirmed w rests same =
       let x = nominated_in v s g w in
-      let is : x ≡ with_sets x.voted x.accepts w = nominated-frame v s g w ∙ (λ i. record w { voted = x.voted; accepts = x.accepts; confirms = same i }) in
-      ap (balloted_in s g) is ∙ (balloted-sets x.voted x.accepts s g w ∙ (ap (with_sets x.voted x.accepts) rests ∙ sym is))
+      let is : x ≡ with_sets x.voted x.accepts w = nominated-frame v s g w
+      ∙ (λ i. record w { voted = x.voted; accepts = x.accepts; confirms = same i }) in
+      ap (balloted_in s g) is
+      ∙ (balloted-sets x.voted x.accepts s g w ∙ (ap (with_sets x.voted x.accepts) rests ∙ sym is))
 
-  unconfirmed-settles : (w : Votes) → Fit w → balloted_in s g w ≡ w → (nominated_in v s g w).confirms ≡ w.confirms → settle most_passes (pass v s g) w ≡ Some (nominated_in v s g w)
+  unconfirmed-settles : (w : Votes) → Fit w → balloted_in s g w ≡ w → (nominated_in v s g w).confirms ≡ w.confirms
+      → settle most_passes (pass v s g) w ≡ Some (nominated_in v s g w)
   unconfirmed-settles w fit rests same =
       let x = nominated_in v s g w in
       let still = unconfirmed w rests same in
       let made : pass v s g w ≡ x = pass-parts v s g w ∙ still in
       elim (phases w.phase) [
         | inl e ↦ over-settles w e ∙ ap {B = Option Votes} Some (sym (nominated-over v s g w e))
-        | inr o ↦ goes-to w x made (ends-at 62 x (pass-rested v s g x (quiet-nominated v s g x (subst (λ (y : Votes). Quiet v s g y) made (once v s f g w fit o).quiet)) ∙ still))
+        | inr o ↦ goes-to w x made
+            (ends-at 62 x (pass-rested v s g x
+            (quiet-nominated v s g x (subst (λ (y : Votes). Quiet v s g y) made (once v s f g w fit o).quiet)) ∙ still))
       ]
 
-  nominations-settle : (w : Votes) → Fit w → balloted_in s g w ≡ w → settle_nominations v s g w ≡ settle most_passes (pass v s g) w
+  nominations-settle : (w : Votes) → Fit w → balloted_in s g w ≡ w
+      → settle_nominations v s g w ≡ settle most_passes (pass v s g) w
   unfolding settle_nominations
   nominations-settle w fit rests =
       let x = nominated_in v s g w in
       elim (cases_Bool (same_values x.confirms w.confirms)) [
         | inl e ↦
-            ap (λ b. if b then Some x else settle_after s g w (balloted_in s g x)) e ∙ sym (unconfirmed-settles w fit rests (same_values-true x.confirms w.confirms e))
+            ap (λ b. if b then Some x else settle_after s g w (balloted_in s g x)) e
+            ∙ sym (unconfirmed-settles w fit rests (same_values-true x.confirms w.confirms e))
         | inr e ↦
-            ap (λ b. if b then Some x else settle_after s g w (balloted_in s g x)) e ∙ (ap (settle_after s g w) (sym (pass-parts v s g w)) ∙ all-after w fit)
+            ap (λ b. if b then Some x else settle_after s g w (balloted_in s g x)) e
+            ∙ (ap (settle_after s g w) (sym (pass-parts v s g w)) ∙ all-after w fit)
       ]
 
 -- ---- nodes that events lead to
 pub nomination_rests_after_a_pass : NominationRestsAfterAPass
-nomination_rests_after_a_pass n r e m c = all-settle m.name (seen_by m) (seen-fair m.name m.slices m.given.leaders m.table) m.given m.votes (changed-fit n e m (reached-fit r) c)
+nomination_rests_after_a_pass n r e m c =
+    all-settle m.name (seen_by m) (seen-fair m.name m.slices m.given.leaders m.table) m.given m.votes
+    (changed-fit n e m (reached-fit r) c)
 
 pub ballot_rows_stir_ballots : BallotRowsStirBallots
 ballot_rows_stir_ballots n r e kind reach =
     let m : Node = record n { table = with_row e n.table } in
     let fit = reached-fit r in
     let fair = seen-fair m.name m.slices m.given.leaders m.table in
-    let old = calm-nominated n.name (seen_by n) (seen-fair n.name n.slices n.given.leaders n.table) n.given n.votes fit.sound (reached-calm r) in
+    let old =
+    calm-nominated n.name (seen_by n) (seen-fair n.name n.slices n.given.leaders n.table) n.given n.votes fit.sound
+    (reached-calm r) in
     elim (phases n.votes.phase) [
       | inl over ↦ over-ballots m.name (seen_by m) fair m.given m.votes over
       | inr o ↦
           let still : nominate m.name (seen_by m) m.given m.votes ≡ m.votes =
           nominate-reads m.name (seen_by m) m.given m.votes
-          ∙ (ap (λ s. nominate m.name s m.given m.votes) (nominations-still n.name n.slices n.given.leaders n.table e kind reach)
-          ∙ (sym (nominate-reads n.name (seen_by n) n.given n.votes) ∙ (sym (nominated-open n.name (seen_by n) n.given n.votes o) ∙ old))) in
+          ∙ (ap (λ s. nominate m.name s m.given m.votes)
+          (nominations-still n.name n.slices n.given.leaders n.table e kind reach)
+          ∙ (sym (nominate-reads n.name (seen_by n) n.given n.votes)
+          ∙ (sym (nominated-open n.name (seen_by n) n.given n.votes o) ∙ old))) in
           ballots-settle m.name (seen_by m) fair m.given m.votes fit (quiet-of m.name (seen_by m) m.given m.votes still)
     ]
 
@@ -229,8 +271,11 @@ nomination_rows_stir_nomination n r e kind reach =
     let m : Node = record n { table = with_row e n.table } in
     let fit = reached-fit r in
     let fair = seen-fair m.name m.slices m.given.leaders m.table in
-    let old = calm-balloted n.name (seen_by n) (seen-fair n.name n.slices n.given.leaders n.table) n.given n.votes fit.sound (reached-calm r) in
+    let old =
+    calm-balloted n.name (seen_by n) (seen-fair n.name n.slices n.given.leaders n.table) n.given n.votes fit.sound
+    (reached-calm r) in
     let still : balloted_in (seen_by m) m.given m.votes ≡ m.votes =
     balloted-reads (seen_by m) m.given m.votes
-    ∙ (ap (λ s. balloted_in s m.given m.votes) (ballots-still n.name n.slices n.given.leaders n.table e kind reach) ∙ (sym (balloted-reads (seen_by n) n.given n.votes) ∙ old)) in
+    ∙ (ap (λ s. balloted_in s m.given m.votes) (ballots-still n.name n.slices n.given.leaders n.table e kind reach)
+    ∙ (sym (balloted-reads (seen_by n) n.given n.votes) ∙ old)) in
     nominations-settle m.name (seen_by m) fair m.given m.votes fit still

@@ -29,7 +29,8 @@ place-name : (ps : List Place) (u : ℕ) (p : Place) → place_of ps u ≡ Some 
 place-name [] u p h = cc
 place-name (x ∷ xs) u p h = go (x.node.name == u) refl h (place-name xs u p)
   where
-    go : (b : Bool) → (x.node.name == u) ≡ b → (if b then Some x else place_of xs u) ≡ Some p → (place_of xs u ≡ Some p → p.node.name ≡ u) → p.node.name ≡ u
+    go : (b : Bool) → (x.node.name == u) ≡ b → (if b then Some x else place_of xs u) ≡ Some p
+        → (place_of xs u ≡ Some p → p.node.name ≡ u) → p.node.name ≡ u
     go true e k ih = let same : x ≡ p = cc in ap (λ (y : Place). y.node.name) (sym same) ∙ eqb-true x.node.name u e
     go false e k ih = ih k
 
@@ -58,24 +59,30 @@ module _ (R : Names) (i : ℕ) where
   alike-cut None None h = refl
   alike-cut None (Some q) h = absurd h
   alike-cut (Some p) None h = absurd h
-  alike-cut (Some p) (Some q) h = ap₂ {C = Option Place} (λ (n : Node) (es : List Sent). Some (record { node = n; told = es })) h.0 h.1
+  alike-cut (Some p) (Some q) h =
+      ap₂ {C = Option Place} (λ (n : Node) (es : List Sent). Some (record { node = n; told = es })) h.0 h.1
 
   cut-alike : (a b : Option Place) → option_map (cut_place R) a ≡ option_map (cut_place R) b → ArePlacesAlike R a b
   cut-alike None None h = tt
   cut-alike None (Some q) h = cc
   cut-alike (Some p) None h = cc
-  cut-alike (Some p) (Some q) h = let same : cut_place R p ≡ cut_place R q = cc in (ap (λ (x : Place). x.node) same, ap (λ (x : Place). x.told) same)
+  cut-alike (Some p) (Some q) h =
+      let same : cut_place R p ≡ cut_place R q = cc in
+      (ap (λ (x : Place). x.node) same, ap (λ (x : Place). x.told) same)
 
   agree-sights : (one other : Net) → AgreeIn R i one other → sight R i one ≡ sight R i other
   agree-sights one other a = fun_ext (λ u. go u (R u) refl)
     where
       go : (u : ℕ) (b : Bool) → R u ≡ b
-          → (if b then option_map (cut_place R) (place_in one i u) else None) ≡ (if b then option_map (cut_place R) (place_in other i u) else None)
+          → (if b then option_map (cut_place R) (place_in one i u) else None)
+          ≡ (if b then option_map (cut_place R) (place_in other i u) else None)
       go u true r = alike-cut (place_in one i u) (place_in other i u) (a.places u r)
       go u false r = refl
 
-  sights-alike : (one other : Net) → sight R i one ≡ sight R i other → (u : ℕ) → R u ≡ true → ArePlacesAlike R (place_in one i u) (place_in other i u)
-  sights-alike one other s u r = cut-alike (place_in one i u) (place_in other i u) (seen one ∙ (ap (λ (x : Sight). x u) s ∙ sym (seen other)))
+  sights-alike : (one other : Net) → sight R i one ≡ sight R i other → (u : ℕ) → R u ≡ true
+      → ArePlacesAlike R (place_in one i u) (place_in other i u)
+  sights-alike one other s u r =
+      cut-alike (place_in one i u) (place_in other i u) (seen one ∙ (ap (λ (x : Sight). x u) s ∙ sym (seen other)))
     where
       seen : (net : Net) → option_map (cut_place R) (place_in net i u) ≡ sight R i net u
       seen net = sym (ap (λ b. if b then option_map (cut_place R) (place_in net i u) else None) r)
@@ -83,7 +90,8 @@ module _ (R : Names) (i : ℕ) where
   agree-casts : (one other : Net) → AgreeIn R i one other → cast_of R one.hosts ≡ cast_of R other.hosts
   agree-casts one other a = fun_ext (λ u. go u (R u) refl)
     where
-      go : (u : ℕ) (b : Bool) → R u ≡ b → (if b then slices_of one.hosts u else None) ≡ (if b then slices_of other.hosts u else None)
+      go : (u : ℕ) (b : Bool) → R u ≡ b
+          → (if b then slices_of one.hosts u else None) ≡ (if b then slices_of other.hosts u else None)
       go u true r = a.cast u r
       go u false r = refl
 
@@ -133,18 +141,22 @@ module _ (R : Names) (i : ℕ) where
     hosts : (net_step net e).0.hosts ≡ net.hosts
     closed : IsClosedIn R i (net_step net e).0
 
-  seen_step : (net : Net) (e : Step) (os : List Out) → IsClosedIn R i net → (net_step net e).1 ≡ Done os → if_kept R (kept R i e) → Seen net e os
+  seen_step : (net : Net) (e : Step) (os : List Out) → IsClosedIn R i net → (net_step net e).1 ≡ Done os
+      → if_kept R (kept R i e) → Seen net e os
   seen_step net e os c d k =
       let a = applied net e os d in
       let hosts : HostsIn R net.hosts = c.hosts in
-      let f : Follows R (cast_of R net.hosts) i net (effect net e) (λ w. is_of i w e) (kept R i e) = follows R i net e (all_places net c) hosts a.fresh (kept-to R R i e (λ u r. r) k) in
+      let f : Follows R (cast_of R net.hosts) i net (effect net e) (λ w. is_of i w e) (kept R i e) =
+      follows R i net e (all_places net c) hosts a.fresh (kept-to R R i e (λ u r. r) k) in
       let slots = ap (λ (n : Net). n.slots) a.is ∙ a.slots in
       let same_hosts = ap (λ (n : Net). n.hosts) a.is ∙ a.hosts in
       record {
-        sights = fun_ext (λ u. ap (λ ss. if R u then option_map (cut_place R) (known (places_at ss i) u) else None) slots) ∙ f.sights;
+        sights = fun_ext (λ u. ap (λ ss. if R u then option_map (cut_place R)
+            (known (places_at ss i) u) else None) slots) ∙ f.sights;
         replies = λ u r. ap (λ xs. given_by i u e xs) a.outs ∙ f.replies u r;
         hosts = same_hosts;
-        closed = closed_in (net_step net e).0 (subst (λ hs. HostsIn R hs) (sym same_hosts) hosts) (λ u p h. f.places u p (ap (λ ss. known (places_at ss i) u) (sym slots) ∙ h));
+        closed = closed_in (net_step net e).0 (subst (λ hs. HostsIn R hs) (sym same_hosts) hosts)
+            (λ u p h. f.places u p (ap (λ ss. known (places_at ss i) u) (sym slots) ∙ h));
       }
 
 -- ---- the laws
@@ -169,7 +181,10 @@ other_steps_leave R i one other e os c a done none =
     let s = seen_step R i one e os c done (subst (if_kept R) (sym none) tt) in
     let still : sight R i (net_step one e).0 ≡ sight R i other =
     s.sights ∙ (ap (λ o. play (cast_of R one.hosts) i (sight R i one) o) none ∙ agree-sights R i one other a) in (
-      record { cast = λ u r. ap (λ hs. slices_of hs u) s.hosts ∙ a.cast u r; places = sights-alike R i (net_step one e).0 other still },
+      record {
+        cast = λ u r. ap (λ hs. slices_of hs u) s.hosts ∙ a.cast u r;
+        places = sights-alike R i (net_step one e).0 other still;
+      },
       λ u r. s.replies u r ∙ ap (λ o. reply (sight R i one) o u) none,
     )
 
@@ -180,4 +195,6 @@ pub new_networks_agree : NewNetworksAgree
 new_networks_agree R i one other same = record { cast = same; places = λ u r. tt }
 
 pub runs_stay_closed_in : RunsStayClosedIn
-runs_stay_closed_in config run i v n is = let h = holds-after config run i v n is in closed_in (closure config.hosts i v run) i (state_of config (take n run)) h.1 h.0
+runs_stay_closed_in config run i v n is =
+    let h = holds-after config run i v n is in
+    closed_in (closure config.hosts i v run) i (state_of config (take n run)) h.1 h.0

@@ -31,7 +31,8 @@ quiet_claim R n e c calm o =
       outs = q.1;
       given = ap (λ (m : Node). m.given) q.0;
       votes = ap (λ (m : Node). m.votes) q.0;
-      rows = λ u k r. sym (row-cut R (step n (Take e)).0.table u k r) ∙ (ap (λ (m : Node). row m.table u k) q.0 ∙ row-cut R n.table u k r);
+      rows = λ u k r. sym (row-cut R (step n (Take e)).0.table u k r)
+          ∙ (ap (λ (m : Node). row m.table u k) q.0 ∙ row-cut R n.table u k r);
     }
 
 fits : (R : Names) (e : NodeEvent) → IsOfMembers R e → IsFit R e
@@ -51,7 +52,8 @@ keeps_to R (Reslice q) h = tt
 pub agree_claim : Agree
 agree_claim R n m e c d k h =
     let same : (cut_node R (step n e).0, (step n e).1) ≡ (cut_node R (step m e).0, (step m e).1) =
-    sym (step-kept R n e (good R n c) (fits R e k) (keeps_to R e k)) ∙ (ap (λ (x : Node). step x e) h ∙ step-kept R m e (good R m d) (fits R e k) (keeps_to R e k)) in
+    sym (step-kept R n e (good R n c) (fits R e k) (keeps_to R e k))
+    ∙ (ap (λ (x : Node). step x e) h ∙ step-kept R m e (good R m d) (fits R e k) (keeps_to R e k)) in
     (ap (λ (r : Node × List Out). r.0) same, ap (λ (r : Node × List Out). r.1) same)
 
 pub prefix_of_reach : PrefixOfReach
@@ -61,9 +63,16 @@ pub prefix_of_run : PrefixOfRun
 unfolding closure
 prefix_of_run hosts i v front rest u h =
     let whole = in_least (map host_rule hosts ++ flat_map (λ x. announced i x.event) (front ++ rest)) v in
-    least-in (map host_rule hosts ++ flat_map (λ x. announced i x.event) front) v whole (least-start (map host_rule hosts ++ flat_map (λ x. announced i x.event) (front ++ rest)) v)
-    (front_of (map host_rule hosts) front rest whole (least-keeps (map host_rule hosts ++ flat_map (λ x. announced i x.event) (front ++ rest)) v)) u h
+    least-in (map host_rule hosts ++ flat_map (λ x. announced i x.event) front) v whole
+    (least-start (map host_rule hosts ++ flat_map (λ x. announced i x.event) (front ++ rest)) v)
+    (front_of (map host_rule hosts) front rest whole
+    (least-keeps (map host_rule hosts ++ flat_map (λ x. announced i x.event) (front ++ rest)) v)) u h
   where
-    front_of : (rules : List Rule) (xs ys : List Entry) (S : Names) → list_all (keeps S) (rules ++ flat_map (λ x. announced i x.event) (xs ++ ys)) ≡ true → list_all (keeps S) (rules ++ flat_map (λ x. announced i x.event) xs) ≡ true
-    front_of rules xs ys S k = all-left (keeps S) (rules ++ flat_map (λ x. announced i x.event) xs) (flat_map (λ x. announced i x.event) ys)
-        (subst (λ (zs : List Rule). list_all (keeps S) zs ≡ true) (ap (λ zs. rules ++ zs) (flat_map-append (λ (x : Entry). announced i x.event) xs ys) ∙ sym (append_assoc rules (flat_map (λ x. announced i x.event) xs) (flat_map (λ x. announced i x.event) ys))) k)
+    front_of : (rules : List Rule) (xs ys : List Entry) (S : Names)
+        → list_all (keeps S) (rules ++ flat_map (λ x. announced i x.event) (xs ++ ys)) ≡ true
+        → list_all (keeps S) (rules ++ flat_map (λ x. announced i x.event) xs) ≡ true
+    front_of rules xs ys S k =
+        all-left (keeps S) (rules ++ flat_map (λ x. announced i x.event) xs) (flat_map (λ x. announced i x.event) ys)
+        (subst (λ (zs : List Rule). list_all (keeps S) zs ≡ true)
+        (ap (λ zs. rules ++ zs) (flat_map-append (λ (x : Entry). announced i x.event) xs ys)
+        ∙ sym (append_assoc rules (flat_map (λ x. announced i x.event) xs) (flat_map (λ x. announced i x.event) ys))) k)

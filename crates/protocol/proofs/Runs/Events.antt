@@ -21,18 +21,23 @@ use Rattle.protocol.proofs.Runs.Openings.{HostsIn, cast_of, closes, opens}
 use Rattle.protocol.proofs.Runs.Unkept.{stays}
 
 -- an event of one node that hands over no envelope
-asked : (R : Names) (cast : ℕ → Option Slices) (i : ℕ) (net : Net) (j u : ℕ) (e : NodeEvent) → AllPlaces R i net → ((j == i) ≡ true → R u ≡ true → IsFit R e) → IsKept R e
+asked : (R : Names) (cast : ℕ → Option Slices) (i : ℕ) (net : Net) (j u : ℕ) (e : NodeEvent) → AllPlaces R i net
+    → ((j == i) ≡ true → R u ≡ true → IsFit R e) → IsKept R e
     → Follows R cast i net (act net j u e) (λ w. (j == i) && (u == w)) (when_kept ((j == i) && R u) (Told u e))
 asked R cast i net j u e h f k = elim (cases_Bool ((j == i) && R u)) [
   | inl y ↦ let p = and_parts (j == i) (R u) y in
-      subst (λ (x : Option Kept). Follows R cast i net (act net j u e) (λ w. (j == i) && (u == w)) x) (sym (ap (λ b. when_kept b (Told u e)) y))
-      (subst (λ x. Follows R cast i net (act net x u e) (λ w. (x == i) && (u == w)) (Some (Told u e))) (sym (eqb-true j i p.0)) (member_kept R cast i net u e h p.1 (f p.0 p.1) k))
-  | inr o ↦ subst (λ (x : Option Kept). Follows R cast i net (act net j u e) (λ w. (j == i) && (u == w)) x) (sym (ap (λ b. when_kept b (Told u e)) o)) (unseen R cast i net j u e h o)
+      subst (λ (x : Option Kept). Follows R cast i net (act net j u e) (λ w. (j == i) && (u == w)) x)
+      (sym (ap (λ b. when_kept b (Told u e)) y))
+      (subst (λ x. Follows R cast i net (act net x u e) (λ w. (x == i) && (u == w)) (Some (Told u e)))
+      (sym (eqb-true j i p.0)) (member_kept R cast i net u e h p.1 (f p.0 p.1) k))
+  | inr o ↦ subst (λ (x : Option Kept). Follows R cast i net (act net j u e) (λ w. (j == i) && (u == w)) x)
+      (sym (ap (λ b. when_kept b (Told u e)) o)) (unseen R cast i net j u e h o)
 ]
 
 -- what a delivery to a member from a member announces lies in R, and so do the names of a member's new slices
 abbrev pub IsWithin : Names → ℕ → Step → Type 0
-IsWithin R i (Delivers u size (Read e)) = (e.slot == i) ≡ true → R u ≡ true → R e.sender ≡ true → within (names e.slices) R ≡ true
+IsWithin R i (Delivers u size (Read e)) =
+    (e.slot == i) ≡ true → R u ≡ true → R e.sender ≡ true → within (names e.slices) R ≡ true
 IsWithin R i (Delivers u size (Fault n)) = Unit {0}
 IsWithin R i (Opens j) = Unit {0}
 IsWithin R i (Closes j) = Unit {0}
@@ -42,23 +47,36 @@ IsWithin R i (NominationTimes j u r) = Unit {0}
 IsWithin R i (BallotTimes j u n) = Unit {0}
 IsWithin R i (Reslices j u q) = (j == i) ≡ true → R u ≡ true → within (names q) R ≡ true
 
-delivered : (R : Names) (cast : ℕ → Option Slices) (i : ℕ) (net : Net) (u : ℕ) (e : Sent) → AllPlaces R i net → ((e.slot == i) ≡ true → R u ≡ true → R e.sender ≡ true → within (names e.slices) R ≡ true)
-    → Follows R cast i net (act net e.slot u (Take e)) (λ w. (e.slot == i) && (u == w)) (when_kept ((e.slot == i) && R u && R e.sender) (Told u (Take e)))
+delivered : (R : Names) (cast : ℕ → Option Slices) (i : ℕ) (net : Net) (u : ℕ) (e : Sent) → AllPlaces R i net
+    → ((e.slot == i) ≡ true → R u ≡ true → R e.sender ≡ true → within (names e.slices) R ≡ true)
+    → Follows R cast i net (act net e.slot u (Take e))
+    (λ w. (e.slot == i) && (u == w)) (when_kept ((e.slot == i) && R u && R e.sender) (Told u (Take e)))
 delivered R cast i net u e h f = elim (cases_Bool ((e.slot == i) && R u)) [
-  | inr o ↦ by_kept ((e.slot == i) && R u && R e.sender) None (ap (λ b. when_kept b (Told u (Take e))) (and_left ((e.slot == i) && R u) (R e.sender) o)) (unseen R cast i net e.slot u (Take e) h o)
+  | inr o ↦ by_kept ((e.slot == i) && R u && R e.sender) None
+      (ap (λ b. when_kept b (Told u (Take e))) (and_left ((e.slot == i) && R u) (R e.sender) o))
+      (unseen R cast i net e.slot u (Take e) h o)
   | inl y ↦ let p = and_parts (e.slot == i) (R u) y in elim (cases_Bool (R e.sender)) [
-    | inl r ↦ by_kept ((e.slot == i) && R u && R e.sender) (Some (Told u (Take e))) (ap (λ b. when_kept b (Told u (Take e))) (and_from ((e.slot == i) && R u) (R e.sender) y r))
-        (at i (eqb-true e.slot i p.0) (member_kept R cast i net u (Take e) h p.1 (or_right (not (R e.sender)) (within (names e.slices) R) (f p.0 p.1 r)) (r, f p.0 p.1 r)))
-    | inr o ↦ by_kept ((e.slot == i) && R u && R e.sender) None (ap (λ b. when_kept b (Told u (Take e))) (and_right ((e.slot == i) && R u) (R e.sender) o))
+    | inl r ↦ by_kept ((e.slot == i) && R u && R e.sender) (Some (Told u (Take e)))
+        (ap (λ b. when_kept b (Told u (Take e))) (and_from ((e.slot == i) && R u) (R e.sender) y r))
+        (at i (eqb-true e.slot i p.0) (member_kept R cast i net u (Take e) h p.1
+        (or_right (not (R e.sender)) (within (names e.slices) R) (f p.0 p.1 r)) (r, f p.0 p.1 r)))
+    | inr o ↦ by_kept ((e.slot == i) && R u && R e.sender) None
+        (ap (λ b. when_kept b (Told u (Take e))) (and_right ((e.slot == i) && R u) (R e.sender) o))
         (at i (eqb-true e.slot i p.0) (member_quiet R cast i net u e h p.1 o))
   ]
 ]
   where
-    by_kept : (b : Bool) (k : Option Kept) → when_kept b (Told u (Take e)) ≡ k → Follows R cast i net (act net e.slot u (Take e)) (λ w. (e.slot == i) && (u == w)) k
-        → Follows R cast i net (act net e.slot u (Take e)) (λ w. (e.slot == i) && (u == w)) (when_kept b (Told u (Take e)))
-    by_kept b k q x = subst (λ (y : Option Kept). Follows R cast i net (act net e.slot u (Take e)) (λ w. (e.slot == i) && (u == w)) y) (sym q) x
+    by_kept : (b : Bool) (k : Option Kept) → when_kept b (Told u (Take e)) ≡ k
+        → Follows R cast i net (act net e.slot u (Take e)) (λ w. (e.slot == i) && (u == w)) k
+        → Follows R cast i net (act net e.slot u (Take e))
+        (λ w. (e.slot == i) && (u == w)) (when_kept b (Told u (Take e)))
+    by_kept b k q x =
+        subst (λ (y : Option Kept). Follows R cast i net (act net e.slot u (Take e))
+        (λ w. (e.slot == i) && (u == w)) y) (sym q) x
 
-    at : {k : Option Kept} (x : ℕ) → e.slot ≡ x → Follows R cast i net (act net x u (Take e)) (λ w. (x == i) && (u == w)) k → Follows R cast i net (act net e.slot u (Take e)) (λ w. (e.slot == i) && (u == w)) k
+    at : {k : Option Kept} (x : ℕ) → e.slot ≡ x
+        → Follows R cast i net (act net x u (Take e)) (λ w. (x == i) && (u == w)) k
+        → Follows R cast i net (act net e.slot u (Take e)) (λ w. (e.slot == i) && (u == w)) k
     at {k} x q y = subst (λ z. Follows R cast i net (act net z u (Take e)) (λ w. (z == i) && (u == w)) k) (sym q) y
 
 -- a slot that is opened was not open
@@ -73,7 +91,8 @@ IsNew net (BallotTimes j u n) = Unit {0}
 IsNew net (Reslices j u q) = Unit {0}
 
 -- Each applied event is followed.
-pub follows : (R : Names) (i : ℕ) (net : Net) (e : Step) → AllPlaces R i net → HostsIn R net.hosts → IsNew net e → IsWithin R i e
+pub follows : (R : Names) (i : ℕ) (net : Net) (e : Step) → AllPlaces R i net → HostsIn R net.hosts → IsNew net e
+    → IsWithin R i e
     → Follows R (cast_of R net.hosts) i net (effect net e) (λ w. is_of i w e) (kept R i e)
 unfolding effect
 follows R i net (Opens j) h hosts n f = opens R i net j h hosts n
@@ -82,6 +101,8 @@ follows R i net (Asks j u x) h hosts n f = asked R (cast_of R net.hosts) i net j
 follows R i net (Delivers u size (Read e)) h hosts n f = delivered R (cast_of R net.hosts) i net u e h f
 follows R i net (Delivers u size (Fault x)) h hosts n f = stays R (cast_of R net.hosts) i net (λ w. false) h
 follows R i net (Hears j u from kind k) h hosts n f = heard R (cast_of R net.hosts) i net j u from kind k h
-follows R i net (NominationTimes j u r) h hosts n f = asked R (cast_of R net.hosts) i net j u (NominationTimer r) h (λ y r. tt) tt
-follows R i net (BallotTimes j u c) h hosts n f = asked R (cast_of R net.hosts) i net j u (BallotTimer c) h (λ y r. tt) tt
+follows R i net (NominationTimes j u r) h hosts n f =
+    asked R (cast_of R net.hosts) i net j u (NominationTimer r) h (λ y r. tt) tt
+follows R i net (BallotTimes j u c) h hosts n f =
+    asked R (cast_of R net.hosts) i net j u (BallotTimer c) h (λ y r. tt) tt
 follows R i net (Reslices j u q) h hosts n f = asked R (cast_of R net.hosts) i net j u (Reslice q) h f tt

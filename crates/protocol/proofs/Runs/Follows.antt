@@ -20,29 +20,37 @@ use Rattle.protocol.proofs.Nodes.Quiet.{step-quiet}
 use Rattle.protocol.proofs.Runs.Sights.{cut_place, sight, play, reply, IsPlace, AllPlaces, place-moved, known-same, known-other, known-elsewhere}
 
 -- what an event does, as R sees it
-pub record Follows (R : Names) (cast : ℕ → Option Slices) (i : ℕ) (net : Net) (done : Net × List Out) (of : ℕ → Bool) (k : Option Kept) : Type 0 where
+pub record Follows (R : Names) (cast : ℕ → Option Slices) (i : ℕ) (net : Net) (done : Net × List Out) (of : ℕ → Bool)
+    (k : Option Kept) : Type 0 where
   pub sights : sight R i done.0 ≡ play cast i (sight R i net) k
   pub replies : (w : ℕ) → R w ≡ true → (if of w then done.1 else []) ≡ reply (sight R i net) k w
   pub places : AllPlaces R i done.0
 
 -- the places after a step of one of them
-places-act : (R : Names) (i : ℕ) (net : Net) (j u : ℕ) (e : NodeEvent) → ((j == i) ≡ true → R u ≡ true → IsFit R e) → AllPlaces R i net → AllPlaces R i (act net j u e).0
+places-act : (R : Names) (i : ℕ) (net : Net) (j u : ℕ) (e : NodeEvent) → ((j == i) ≡ true → R u ≡ true → IsFit R e)
+    → AllPlaces R i net → AllPlaces R i (act net j u e).0
 places-act R i net j u e fit h w p k = elim (cases_Bool (j == i)) [
   | inr o ↦ h w p (sym (known-elsewhere net j i u w e o) ∙ k)
   | inl y ↦ let ji : j ≡ i = eqb-true j i y in elim (cases_Bool (w == u)) [
-    | inr o ↦ h w p (sym (known-other net i u w e o) ∙ subst (λ x. known (places_at (act net x u e).0.slots i) w ≡ Some p) ji k)
+    | inr o ↦ h w p
+        (sym (known-other net i u w e o) ∙ subst (λ x. known (places_at (act net x u e).0.slots i) w ≡ Some p) ji k)
     | inl z ↦ let wu : w ≡ u = eqb-true w u z in
-        go (known (places_at net.slots i) w) refl (subst (λ x. option_map (moved e) (known (places_at net.slots i) x) ≡ Some p) (sym wu)
-        (sym (known-same net i u e) ∙ subst (λ x. known (places_at (act net i u e).0.slots i) x ≡ Some p) wu (subst (λ x. known (places_at (act net x u e).0.slots i) w ≡ Some p) ji k))) (λ r. fit y (subst (λ x. R x ≡ true) wu r))
+        go (known (places_at net.slots i) w) refl
+        (subst (λ x. option_map (moved e) (known (places_at net.slots i) x) ≡ Some p) (sym wu)
+        (sym (known-same net i u e) ∙ subst (λ x. known (places_at (act net i u e).0.slots i) x ≡ Some p) wu
+        (subst (λ x. known (places_at (act net x u e).0.slots i) w ≡ Some p) ji k)))
+        (λ r. fit y (subst (λ x. R x ≡ true) wu r))
   ]
 ]
   where
-    go : (o : Option Place) → known (places_at net.slots i) w ≡ o → option_map (moved e) o ≡ Some p → (R w ≡ true → IsFit R e) → IsPlace R w p
+    go : (o : Option Place) → known (places_at net.slots i) w ≡ o → option_map (moved e) o ≡ Some p
+        → (R w ≡ true → IsFit R e) → IsPlace R w p
     go None q s f = cc
     go (Some x) q s f = let m : moved e x ≡ p = cc in subst (λ y. IsPlace R w y) m (place-moved R w x e f (h w x q))
 
 -- a step that R doesn't see
-pub unseen : (R : Names) (cast : ℕ → Option Slices) (i : ℕ) (net : Net) (j u : ℕ) (e : NodeEvent) → AllPlaces R i net → ((j == i) && R u) ≡ false
+pub unseen : (R : Names) (cast : ℕ → Option Slices) (i : ℕ) (net : Net) (j u : ℕ) (e : NodeEvent) → AllPlaces R i net
+    → ((j == i) && R u) ≡ false
     → Follows R cast i net (act net j u e) (λ w. (j == i) && (u == w)) None
 unseen R cast i net j u e h o = record {
   sights = fun_ext (λ w. go w (R w) refl);
@@ -52,46 +60,59 @@ unseen R cast i net j u e h o = record {
   where
     no : (w : ℕ) → R w ≡ true → ((j == i) && (u == w)) ≡ false
     no w r = elim (cases_Bool ((j == i) && (u == w))) [
-      | inl y ↦ let p = and_parts (j == i) (u == w) y in absurd (true≢false (sym (and_from (j == i) (R u) p.0 (ap R (eqb-true u w p.1) ∙ r)) ∙ o))
+      | inl y ↦ let p = and_parts (j == i) (u == w) y in
+          absurd (true≢false (sym (and_from (j == i) (R u) p.0 (ap R (eqb-true u w p.1) ∙ r)) ∙ o))
       | inr n ↦ n
     ]
 
     same : (w : ℕ) → R w ≡ true → known (places_at (act net j u e).0.slots i) w ≡ known (places_at net.slots i) w
     same w r = elim (cases_Bool (j == i)) [
       | inr n ↦ known-elsewhere net j i u w e n
-      | inl y ↦ subst (λ x. known (places_at (act net x u e).0.slots i) w ≡ known (places_at net.slots i) w) (sym (eqb-true j i y))
+      | inl y ↦ subst (λ x. known (places_at (act net x u e).0.slots i) w ≡ known (places_at net.slots i) w)
+          (sym (eqb-true j i y))
           (known-other net i u w e (elim (cases_Bool (w == u)) [
             | inl z ↦ absurd (true≢false (sym (and_from (j == i) (R u) y (sym (ap R (eqb-true w u z)) ∙ r)) ∙ o))
             | inr n ↦ n
           ]))
     ]
 
-    go : (w : ℕ) (b : Bool) → R w ≡ b → (if b then option_map (cut_place R) (known (places_at (act net j u e).0.slots i) w) else None) ≡ (if b then option_map (cut_place R) (known (places_at net.slots i) w) else None)
+    go : (w : ℕ) (b : Bool) → R w ≡ b
+        → (if b then option_map (cut_place R) (known (places_at (act net j u e).0.slots i) w) else None)
+        ≡ (if b then option_map (cut_place R) (known (places_at net.slots i) w) else None)
     go w true r = ap (option_map (cut_place R)) (same w r)
     go w false r = refl
 
 -- a kept step of a place, and one that is not
-moved-cut : (R : Names) (u : ℕ) (p : Place) (e : NodeEvent) → IsPlace R u p → R u ≡ true → IsFit R e → IsKept R e → cut_place R (moved e p) ≡ moved e (cut_place R p)
+moved-cut : (R : Names) (u : ℕ) (p : Place) (e : NodeEvent) → IsPlace R u p → R u ≡ true → IsFit R e → IsKept R e
+    → cut_place R (moved e p) ≡ moved e (cut_place R p)
 unfolding moved
-moved-cut R u p e h r f k = ap {B = Place} (λ (x : Node × List Out). record { node = x.0; told = p.told ++ emissions x.1 }) (sym (step-kept R p.node e (h.good r) f k))
+moved-cut R u p e h r f k =
+    ap {B = Place} (λ (x : Node × List Out). record { node = x.0; told = p.told ++ emissions x.1 })
+    (sym (step-kept R p.node e (h.good r) f k))
 
-moved-quiet : (R : Names) (u : ℕ) (p : Place) (e : Sent) → IsPlace R u p → R u ≡ true → R e.sender ≡ false → cut_place R (moved (Take e) p) ≡ cut_place R p
+moved-quiet : (R : Names) (u : ℕ) (p : Place) (e : Sent) → IsPlace R u p → R u ≡ true → R e.sender ≡ false
+    → cut_place R (moved (Take e) p) ≡ cut_place R p
 unfolding moved
 moved-quiet R u p e h r o =
     let q = step-quiet R p.node e (h.good r) (h.calm r) o in
-    ap₂ {C = Place} (λ (n : Node) (os : List Out). record { node = n; told = p.told ++ emissions os }) q.0 q.1 ∙ ap {B = Place} (λ (es : List Sent). record { node = cut_node R p.node; told = es }) (append-nil p.told)
+    ap₂ {C = Place} (λ (n : Node) (os : List Out). record { node = n; told = p.told ++ emissions os }) q.0 q.1
+    ∙ ap {B = Place} (λ (es : List Sent). record { node = cut_node R p.node; told = es }) (append-nil p.told)
 
 act-outs : (net : Net) (i u : ℕ) (e : NodeEvent) → (act net i u e).1 ≡ outs_at e (known (places_at net.slots i) u)
 unfolding act
 act-outs net i u e = refl
 
-module _ (R : Names) (cast : ℕ → Option Slices) (i : ℕ) (net : Net) (u : ℕ) (e : NodeEvent) (h : AllPlaces R i net) (r : R u ≡ true) (fit : IsFit R e) where
+module _ (R : Names) (cast : ℕ → Option Slices) (i : ℕ) (net : Net) (u : ℕ) (e : NodeEvent) (h : AllPlaces R i net)
+    (r : R u ≡ true) (fit : IsFit R e) where
   -- a step of a member changes what R sees of that member alone
-  pub seen_by : (f : Option Place → Option Place) → option_map (cut_place R) (option_map (moved e) (known (places_at net.slots i) u)) ≡ f (option_map (cut_place R) (known (places_at net.slots i) u))
+  pub seen_by : (f : Option Place → Option Place)
+      → option_map (cut_place R) (option_map (moved e) (known (places_at net.slots i) u))
+      ≡ f (option_map (cut_place R) (known (places_at net.slots i) u))
       → sight R i (act net i u e).0 ≡ (λ w. if w == u then f (sight R i net w) else sight R i net w)
   seen_by f s = fun_ext (λ w. at w (w == u) refl)
     where
-      at : (w : ℕ) (b : Bool) → (w == u) ≡ b → sight R i (act net i u e).0 w ≡ (if b then f (sight R i net w) else sight R i net w)
+      at : (w : ℕ) (b : Bool) → (w == u) ≡ b
+          → sight R i (act net i u e).0 w ≡ (if b then f (sight R i net w) else sight R i net w)
       at w true z = subst (λ x. sight R i (act net i u e).0 x ≡ f (sight R i net x)) (sym (eqb-true w u z))
           (rw (r) (ap (option_map (cut_place R)) (known-same net i u e) ∙ s))
       at w false z = ap (λ o. if R w then option_map (cut_place R) o else None) (known-other net i u w e z)
@@ -100,31 +121,39 @@ module _ (R : Names) (cast : ℕ → Option Slices) (i : ℕ) (net : Net) (u : �
   pub member_kept : IsKept R e → Follows R cast i net (act net i u e) (λ w. (i == i) && (u == w)) (Some (Told u e))
   member_kept k = record {
     sights = seen_by (option_map (moved e)) (go (known (places_at net.slots i) u) refl);
-    replies = λ w s. ap₂ (λ (b : Bool) (os : List Out). if b then os else []) (ap (λ b. b && (u == w)) (eqb-refl i)) (act-outs net i u e ∙ (outs (known (places_at net.slots i) u) refl ∙ rw r refl));
+    replies =
+        λ w s. ap₂ (λ (b : Bool) (os : List Out). if b then os else []) (ap (λ b. b && (u == w)) (eqb-refl i))
+        (act-outs net i u e ∙ (outs (known (places_at net.slots i) u) refl ∙ rw r refl));
     places = places-act R i net i u e (λ y q. fit) h;
   }
     where
-      go : (o : Option Place) → known (places_at net.slots i) u ≡ o → option_map (cut_place R) (option_map (moved e) o) ≡ option_map (moved e) (option_map (cut_place R) o)
+      go : (o : Option Place) → known (places_at net.slots i) u ≡ o
+          → option_map (cut_place R) (option_map (moved e) o) ≡ option_map (moved e) (option_map (cut_place R) o)
       go None q = refl
       go (Some p) q = ap {B = Option Place} Some (moved-cut R u p e (h u p q) r fit k)
 
-      outs : (o : Option Place) → known (places_at net.slots i) u ≡ o → outs_at e o ≡ outs_at e (option_map (cut_place R) o)
+      outs : (o : Option Place) → known (places_at net.slots i) u ≡ o
+          → outs_at e o ≡ outs_at e (option_map (cut_place R) o)
       outs None q = refl
       outs (Some p) q = ap (λ (x : Node × List Out). x.1) (sym (step-kept R p.node e ((h u p q).good r) fit k))
 
 -- an envelope from outside R
-pub member_quiet : (R : Names) (cast : ℕ → Option Slices) (i : ℕ) (net : Net) (u : ℕ) (e : Sent) → AllPlaces R i net → R u ≡ true → R e.sender ≡ false
+pub member_quiet : (R : Names) (cast : ℕ → Option Slices) (i : ℕ) (net : Net) (u : ℕ) (e : Sent) → AllPlaces R i net
+    → R u ≡ true → R e.sender ≡ false
     → Follows R cast i net (act net i u (Take e)) (λ w. (i == i) && (u == w)) None
 member_quiet R cast i net u e h r o = record {
-  sights = seen_by R cast i net u (Take e) h r fit (λ x. x) (go (known (places_at net.slots i) u) refl) ∙ fun_ext (λ w. same (w == u) (sight R i net w));
-  replies = λ w s. none_of ((i == i) && (u == w)) (act-outs net i u (Take e) ∙ outs (known (places_at net.slots i) u) refl);
+  sights = seen_by R cast i net u (Take e) h r fit (λ x. x) (go (known (places_at net.slots i) u) refl)
+      ∙ fun_ext (λ w. same (w == u) (sight R i net w));
+  replies =
+      λ w s. none_of ((i == i) && (u == w)) (act-outs net i u (Take e) ∙ outs (known (places_at net.slots i) u) refl);
   places = places-act R i net i u (Take e) (λ y q. fit) h;
 }
   where
     fit : IsFit R (Take e)
     fit = or_left (not (R e.sender)) (within (names e.slices) R) (not_from_false (R e.sender) o)
 
-    go : (x : Option Place) → known (places_at net.slots i) u ≡ x → option_map (cut_place R) (option_map (moved (Take e)) x) ≡ option_map (cut_place R) x
+    go : (x : Option Place) → known (places_at net.slots i) u ≡ x
+        → option_map (cut_place R) (option_map (moved (Take e)) x) ≡ option_map (cut_place R) x
     go None q = refl
     go (Some p) q = ap {B = Option Place} Some (moved-quiet R u p e (h u p q) r o)
 

@@ -25,48 +25,74 @@ get-all P [] k h = refl
 get-all P (x ∷ xs) zero h = (and_parts (P x) (list_all P xs) h).0
 get-all P (x ∷ xs) (suc k) h = get-all P xs k (and_parts (P x) (list_all P xs) h).1
 
-emission-all : (R : Names) (u : ℕ) (o : Option Place) (kind : Kind) (k : ℕ) → ((p : Place) → o ≡ Some p → IsPlace R u p) → if_some (λ e. (e.sender == u) && announces_in R e) (emission o kind k) ≡ true
+emission-all : (R : Names) (u : ℕ) (o : Option Place) (kind : Kind) (k : ℕ) → ((p : Place) → o ≡ Some p → IsPlace R u p)
+    → if_some (λ e. (e.sender == u) && announces_in R e) (emission o kind k) ≡ true
 emission-all R u None kind k h = refl
 emission-all R u (Some p) kind zero h = refl
-emission-all R u (Some p) kind (suc k) h = get-all (λ e. (e.sender == u) && announces_in R e) (filter (λ e. is_kind kind (kind_of e.body)) p.told) k
-    (all_filter (λ e. (e.sender == u) && announces_in R e) (λ e. (e.sender == u) && announces_in R e) (λ e. is_kind kind (kind_of e.body)) (λ e a b. a) p.told (h p refl).told)
+emission-all R u (Some p) kind (suc k) h =
+    get-all (λ e. (e.sender == u) && announces_in R e) (filter (λ e. is_kind kind (kind_of e.body)) p.told) k
+    (all_filter (λ e. (e.sender == u) && announces_in R e) (λ e. (e.sender == u) && announces_in R e)
+    (λ e. is_kind kind (kind_of e.body)) (λ e a b. a) p.told (h p refl).told)
 
-emission-cut : (R : Names) (o : Option Place) (kind : Kind) (k : ℕ) → emission (option_map (cut_place R) o) kind k ≡ emission o kind k
+emission-cut : (R : Names) (o : Option Place) (kind : Kind) (k : ℕ)
+    → emission (option_map (cut_place R) o) kind k ≡ emission o kind k
 emission-cut R None kind k = refl
 emission-cut R (Some p) kind zero = refl
 emission-cut R (Some p) kind (suc k) = refl
 
-pub heard : (R : Names) (cast : ℕ → Option Slices) (i : ℕ) (net : Net) (j u from : ℕ) (kind : Kind) (k : ℕ) → AllPlaces R i net
-    → Follows R cast i net (act_known net j u (emission (known (places_at net.slots j) from) kind k)) (λ w. (j == i) && (u == w)) (when_kept ((j == i) && R u && R from) (Heard u from kind k))
+pub heard : (R : Names) (cast : ℕ → Option Slices) (i : ℕ) (net : Net) (j u from : ℕ) (kind : Kind) (k : ℕ)
+    → AllPlaces R i net
+    → Follows R cast i net (act_known net j u (emission (known (places_at net.slots j) from) kind k))
+    (λ w. (j == i) && (u == w)) (when_kept ((j == i) && R u && R from) (Heard u from kind k))
 heard R cast i net j u from kind k h = elim (cases_Bool (j == i)) [
-  | inr n ↦ subst (λ (x : Option Kept). Follows R cast i net (act_known net j u (emission (known (places_at net.slots j) from) kind k)) (λ w. (j == i) && (u == w)) x)
-      (sym (ap (λ b. when_kept b (Heard u from kind k)) (and_left ((j == i) && R u) (R from) (and_left (j == i) (R u) n))))
+  | inr n ↦ subst
+      (λ (x : Option Kept). Follows R cast i net
+      (act_known net j u (emission (known (places_at net.slots j) from) kind k)) (λ w. (j == i) && (u == w)) x)
+      (sym (ap (λ b. when_kept b (Heard u from kind k))
+      (and_left ((j == i) && R u) (R from) (and_left (j == i) (R u) n))))
       (elsewhere (emission (known (places_at net.slots j) from) kind k) (and_left (j == i) (R u) n))
-  | inl y ↦ subst (λ x. Follows R cast i net (act_known net x u (emission (known (places_at net.slots x) from) kind k)) (λ w. (x == i) && (u == w)) (when_kept ((x == i) && R u && R from) (Heard u from kind k)))
+  | inl y ↦ subst
+      (λ x. Follows R cast i net (act_known net x u (emission (known (places_at net.slots x) from) kind k))
+      (λ w. (x == i) && (u == w)) (when_kept ((x == i) && R u && R from) (Heard u from kind k)))
       (sym (eqb-true j i y))
-      (here (emission (known (places_at net.slots i) from) kind k) (R u) (R from) refl refl refl (emission-all R from (known (places_at net.slots i) from) kind k (λ p q. h from p q)))
+      (here (emission (known (places_at net.slots i) from) kind k) (R u) (R from) refl refl refl
+      (emission-all R from (known (places_at net.slots i) from) kind k (λ p q. h from p q)))
 ]
   where
-    elsewhere : (o : Option Sent) → ((j == i) && R u) ≡ false → Follows R cast i net (act_known net j u o) (λ w. (j == i) && (u == w)) None
+    elsewhere : (o : Option Sent) → ((j == i) && R u) ≡ false
+        → Follows R cast i net (act_known net j u o) (λ w. (j == i) && (u == w)) None
     elsewhere None b = stays R cast i net (λ w. (j == i) && (u == w)) h
     elsewhere (Some e) b = unseen R cast i net j u (Take e) h b
 
     -- what the machine hands over is the same
-    handed : (o : Option Sent) → R from ≡ true → emission (known (places_at net.slots i) from) kind k ≡ o → o ≡ emission (sight R i net from) kind k
+    handed : (o : Option Sent) → R from ≡ true → emission (known (places_at net.slots i) from) kind k ≡ o
+        → o ≡ emission (sight R i net from) kind k
     handed o r q = sym (rw r (emission-cut R (known (places_at net.slots i) from) kind k ∙ q))
 
-    kept_is : (a b : Bool) → R u ≡ a → R from ≡ b → when_kept (a && b) (Heard u from kind k) ≡ when_kept ((i == i) && R u && R from) (Heard u from kind k)
-    kept_is a b p q = ap₂ (λ (x y : Bool). when_kept (x && y) (Heard u from kind k)) (sym (ap (λ z. z && R u) (eqb-refl i) ∙ p)) (sym q)
+    kept_is : (a b : Bool) → R u ≡ a → R from ≡ b
+        → when_kept (a && b) (Heard u from kind k) ≡ when_kept ((i == i) && R u && R from) (Heard u from kind k)
+    kept_is a b p q =
+        ap₂ (λ (x y : Bool). when_kept (x && y) (Heard u from kind k))
+        (sym (ap (λ z. z && R u) (eqb-refl i) ∙ p)) (sym q)
 
-    at : (a b : Bool) (o : Option Sent) → R u ≡ a → R from ≡ b → Follows R cast i net (act_known net i u o) (λ w. (i == i) && (u == w)) (when_kept (a && b) (Heard u from kind k))
-        → Follows R cast i net (act_known net i u o) (λ w. (i == i) && (u == w)) (when_kept ((i == i) && R u && R from) (Heard u from kind k))
-    at a b o p q x = subst (λ (y : Option Kept). Follows R cast i net (act_known net i u o) (λ w. (i == i) && (u == w)) y) (kept_is a b p q) x
+    at : (a b : Bool) (o : Option Sent) → R u ≡ a → R from ≡ b
+        → Follows R cast i net (act_known net i u o)
+        (λ w. (i == i) && (u == w)) (when_kept (a && b) (Heard u from kind k))
+        → Follows R cast i net (act_known net i u o)
+        (λ w. (i == i) && (u == w)) (when_kept ((i == i) && R u && R from) (Heard u from kind k))
+    at a b o p q x =
+        subst (λ (y : Option Kept). Follows R cast i net (act_known net i u o) (λ w. (i == i) && (u == w)) y)
+        (kept_is a b p q) x
 
-    here : (o : Option Sent) (a b : Bool) → R u ≡ a → R from ≡ b → emission (known (places_at net.slots i) from) kind k ≡ o → if_some (λ e. (e.sender == from) && announces_in R e) o ≡ true
-        → Follows R cast i net (act_known net i u o) (λ w. (i == i) && (u == w)) (when_kept ((i == i) && R u && R from) (Heard u from kind k))
+    here : (o : Option Sent) (a b : Bool) → R u ≡ a → R from ≡ b
+        → emission (known (places_at net.slots i) from) kind k ≡ o
+        → if_some (λ e. (e.sender == from) && announces_in R e) o ≡ true
+        → Follows R cast i net (act_known net i u o)
+        (λ w. (i == i) && (u == w)) (when_kept ((i == i) && R u && R from) (Heard u from kind k))
     here None true true p r q s = at true true None p r (record {
       sights = ap (heard_to (sight R i net) u) (handed None r q);
-      replies = λ w x. empty ((i == i) && (u == w)) (u == w) ∙ ap (λ (o : Option Sent). if u == w then outs_heard (sight R i net) u o else []) (handed None r q);
+      replies = λ w x. empty ((i == i) && (u == w)) (u == w)
+          ∙ ap (λ (o : Option Sent). if u == w then outs_heard (sight R i net) u o else []) (handed None r q);
       places = h;
     })
     here None true false p r q s = at true false None p r (stays R cast i net (λ w. (i == i) && (u == w)) h)
@@ -75,14 +101,25 @@ heard R cast i net j u from kind k h = elim (cases_Bool (j == i)) [
     here (Some e) true true p r q s =
         let sent = and_parts (e.sender == from) (announces_in R e) s in
         let in_R : R e.sender ≡ true = ap R (eqb-true e.sender from sent.0) ∙ r in
-        let f = member_kept R cast i net u (Take e) h p sent.1
-        (in_R, elim (or_cases (not (R e.sender)) (within (names e.slices) R) sent.1) [ inl n ↦ absurd (true≢false (sym in_R ∙ not-true (R e.sender) n)) | inr w ↦ w ]) in
+        let f = member_kept R cast i net u (Take e) h p sent.1 (
+          in_R,
+          elim (or_cases (not (R e.sender)) (within (names e.slices) R) sent.1) [
+            | inl n ↦ absurd
+                (true≢false (sym in_R ∙ not-true (R e.sender) n))
+            | inr w ↦ w
+          ],
+        ) in
         at true true (Some e) p r (record {
           sights = f.sights ∙ ap (heard_to (sight R i net) u) (handed (Some e) r q);
-          replies = λ w x. f.replies w x ∙ ap (λ (o : Option Sent). if u == w then outs_heard (sight R i net) u o else []) (handed (Some e) r q);
+          replies = λ w x. f.replies w x
+              ∙ ap (λ (o : Option Sent). if u == w then outs_heard (sight R i net) u o else []) (handed (Some e) r q);
           places = f.places;
         })
     here (Some e) true false p r q s =
-        at true false (Some e) p r (member_quiet R cast i net u e h p (ap R (eqb-true e.sender from (and_parts (e.sender == from) (announces_in R e) s).0) ∙ r))
-    here (Some e) false true p r q s = at false true (Some e) p r (unseen R cast i net i u (Take e) h (and_right (i == i) (R u) p))
-    here (Some e) false false p r q s = at false false (Some e) p r (unseen R cast i net i u (Take e) h (and_right (i == i) (R u) p))
+        at true false (Some e) p r
+        (member_quiet R cast i net u e h p
+        (ap R (eqb-true e.sender from (and_parts (e.sender == from) (announces_in R e) s).0) ∙ r))
+    here (Some e) false true p r q s =
+        at false true (Some e) p r (unseen R cast i net i u (Take e) h (and_right (i == i) (R u) p))
+    here (Some e) false false p r q s =
+        at false false (Some e) p r (unseen R cast i net i u (Take e) h (and_right (i == i) (R u) p))

@@ -43,13 +43,16 @@ step-number net e = go (first_that (tests net e))
 abbrev after : List Net → ℕ → Step → List Net
 after ns g e = map (λ n. if n.number == g then (net_step n e).0 else n) ns
 
-net_at-same : (ns : List Net) (g : ℕ) (e : Step) (n : Net) → net_at ns g ≡ Some n → net_at (after ns g e) g ≡ Some (net_step n e).0
+net_at-same : (ns : List Net) (g : ℕ) (e : Step) (n : Net) → net_at ns g ≡ Some n
+    → net_at (after ns g e) g ≡ Some (net_step n e).0
 net_at-same [] g e n h = cc
 net_at-same (m ∷ ms) g e n h = go (m.number == g) refl h (net_at-same ms g e n)
   where
-    go : (b : Bool) → (m.number == g) ≡ b → (if b then Some m else net_at ms g) ≡ Some n → (net_at ms g ≡ Some n → net_at (after ms g e) g ≡ Some (net_step n e).0)
+    go : (b : Bool) → (m.number == g) ≡ b → (if b then Some m else net_at ms g) ≡ Some n
+        → (net_at ms g ≡ Some n → net_at (after ms g e) g ≡ Some (net_step n e).0)
         → net_at ((if b then (net_step m e).0 else m) ∷ after ms g e) g ≡ Some (net_step n e).0
-    go true y k ih = let q : m ≡ n = cc in rw (ap (λ x. x == g) (step-number m e) ∙ y) (ap {B = Option Net} (λ (x : Net). Some (net_step x e).0) q)
+    go true y k ih = let q : m ≡ n = cc in
+        rw (ap (λ x. x == g) (step-number m e) ∙ y) (ap {B = Option Net} (λ (x : Net). Some (net_step x e).0) q)
     go false y k ih = rw y (ih k)
 
 net_at-other : (ns : List Net) (g j : ℕ) (e : Step) → (j == g) ≡ false → net_at (after ns j e) g ≡ net_at ns g
@@ -57,8 +60,10 @@ net_at-other [] g j e o = refl
 net_at-other (m ∷ ms) g j e o = go (m.number == j) refl (net_at-other ms g j e o)
   where
     go : (b : Bool) → (m.number == j) ≡ b → net_at (after ms j e) g ≡ net_at ms g
-        → net_at ((if b then (net_step m e).0 else m) ∷ after ms j e) g ≡ (if m.number == g then Some m else net_at ms g)
-    go true y ih = let no : (m.number == g) ≡ false = ap (λ x. x == g) (eqb-true m.number j y) ∙ o in rw (ap (λ x. x == g) (step-number m e) ∙ no, no) ih
+        → net_at ((if b then (net_step m e).0 else m) ∷ after ms j e) g
+        ≡ (if m.number == g then Some m else net_at ms g)
+    go true y ih = let no : (m.number == g) ≡ false = ap (λ x. x == g) (eqb-true m.number j y) ∙ o in
+        rw (ap (λ x. x == g) (step-number m e) ∙ no, no) ih
     go false y ih = ap (λ x. if m.number == g then Some m else x) ih
 
 -- the steps of one network of a host
@@ -67,33 +72,46 @@ steps_to g [] = []
 steps_to g (c ∷ cs) = if c.0 == g then c.1 ∷ steps_to g cs else steps_to g cs
 
 -- a history holds the journal of each of its networks
-pub applied-journal : (g : ℕ) (calls : List (ℕ × Step)) (ns : List Net) (n : Net) → net_at ns g ≡ Some n → applied g calls (host_run ns calls) ≡ journal n (steps_to g calls)
+pub applied-journal : (g : ℕ) (calls : List (ℕ × Step)) (ns : List Net) (n : Net) → net_at ns g ≡ Some n
+    → applied g calls (host_run ns calls) ≡ journal n (steps_to g calls)
 unfolding applied host_run journal steps_to
 applied-journal g [] ns n h = refl
 applied-journal g (c ∷ cs) ns n h = go (c.0 == g) refl (λ ns n. applied-journal g cs ns n)
   where
-    go : (b : Bool) → (c.0 == g) ≡ b → ((ns : List Net) (n : Net) → net_at ns g ≡ Some n → applied g cs (host_run ns cs) ≡ journal n (steps_to g cs))
-        → (if b then entered c.1 (reply_at (net_at ns c.0) c.1) (applied g cs (host_run (after ns c.0 c.1) cs)) else applied g cs (host_run (after ns c.0 c.1) cs)) ≡ journal n (if b then c.1 ∷ steps_to g cs else steps_to g cs)
+    go : (b : Bool) → (c.0 == g) ≡ b
+        → ((ns : List Net) (n : Net) → net_at ns g ≡ Some n → applied g cs (host_run ns cs) ≡ journal n (steps_to g cs))
+        → (if b then entered c.1 (reply_at (net_at ns c.0) c.1)
+        (applied g cs (host_run (after ns c.0 c.1) cs)) else applied g cs (host_run (after ns c.0 c.1) cs))
+        ≡ journal n (if b then c.1 ∷ steps_to g cs else steps_to g cs)
     go true y ih =
         let cg : c.0 ≡ g = eqb-true c.0 g y in
         ap₂ (λ (r : Reply) (xs : List Entry). entered c.1 r xs)
         (ap (λ o. reply_at o c.1) (ap (net_at ns) cg ∙ h))
-        (ap (λ x. applied g cs (host_run (after ns x c.1) cs)) cg ∙ ih (after ns g c.1) (net_step n c.1).0 (net_at-same ns g c.1 n h))
+        (ap (λ x. applied g cs (host_run (after ns x c.1) cs)) cg
+        ∙ ih (after ns g c.1) (net_step n c.1).0 (net_at-same ns g c.1 n h))
     go false y ih = ih (after ns c.0 c.1) n (net_at-other ns g c.0 c.1 y ∙ h)
 
 -- a history holds the answers of each of its networks
-pub answers-run : (g : ℕ) (calls : List (ℕ × Step)) (ns : List Net) (n : Net) → net_at ns g ≡ Some n → answers_of g calls (host_run ns calls) ≡ net_run n (steps_to g calls)
+pub answers-run : (g : ℕ) (calls : List (ℕ × Step)) (ns : List Net) (n : Net) → net_at ns g ≡ Some n
+    → answers_of g calls (host_run ns calls) ≡ net_run n (steps_to g calls)
 unfolding answers_of host_run net_run steps_to
 answers-run g [] ns n h = refl
 answers-run g (c ∷ cs) ns n h = go (c.0 == g) refl (λ ns n. answers-run g cs ns n)
   where
-    go : (b : Bool) → (c.0 == g) ≡ b → ((ns : List Net) (n : Net) → net_at ns g ≡ Some n → answers_of g cs (host_run ns cs) ≡ net_run n (steps_to g cs))
-        → (if b then record { step = c.1; reply = reply_at (net_at ns c.0) c.1 } ∷ answers_of g cs (host_run (after ns c.0 c.1) cs) else answers_of g cs (host_run (after ns c.0 c.1) cs)) ≡ net_run n (if b then c.1 ∷ steps_to g cs else steps_to g cs)
+    go : (b : Bool) → (c.0 == g) ≡ b
+        → ((ns : List Net) (n : Net) → net_at ns g ≡ Some n
+        → answers_of g cs (host_run ns cs) ≡ net_run n (steps_to g cs))
+        → (if b then record {
+          step = c.1;
+          reply = reply_at (net_at ns c.0) c.1;
+        } ∷ answers_of g cs (host_run (after ns c.0 c.1) cs) else answers_of g cs
+        (host_run (after ns c.0 c.1) cs)) ≡ net_run n (if b then c.1 ∷ steps_to g cs else steps_to g cs)
     go true y ih =
         let cg : c.0 ≡ g = eqb-true c.0 g y in
         ap₂ {C = List Answer} (λ (r : Reply) (xs : List Answer). record { step = c.1; reply = r } ∷ xs)
         (ap (λ o. reply_at o c.1) (ap (net_at ns) cg ∙ h))
-        (ap (λ x. answers_of g cs (host_run (after ns x c.1) cs)) cg ∙ ih (after ns g c.1) (net_step n c.1).0 (net_at-same ns g c.1 n h))
+        (ap (λ x. answers_of g cs (host_run (after ns x c.1) cs)) cg
+        ∙ ih (after ns g c.1) (net_step n c.1).0 (net_at-same ns g c.1 n h))
     go false y ih = ih (after ns c.0 c.1) n (net_at-other ns g c.0 c.1 y ∙ h)
 
 -- the network g of a configuration
@@ -107,7 +125,8 @@ pub find_net : (configs : List Config) (g : ℕ) → (hosts_of configs g ≡ [])
 find_net [] g = inl refl
 find_net (c ∷ cs) g = go (c.number == g) refl (find_net cs g)
   where
-    go : (b : Bool) → (c.number == g) ≡ b → (hosts_of cs g ≡ []) ⊎ HasNet cs g → (hosts_of (c ∷ cs) g ≡ []) ⊎ HasNet (c ∷ cs) g
+    go : (b : Bool) → (c.number == g) ≡ b → (hosts_of cs g ≡ []) ⊎ HasNet cs g
+        → (hosts_of (c ∷ cs) g ≡ []) ⊎ HasNet (c ∷ cs) g
     go true y k = inr (record { config = c; is = rw y refl; of = rw y refl; at = rw y refl })
     go false y (inl e) = inl (rw y e)
     go false y (inr n) = inr (record { config = n.config; is = rw y n.is; of = rw y n.of; at = rw y n.at })
@@ -119,18 +138,25 @@ nobody hosts w e h = false≢true (sym (ap (λ x. is_some (slices_of x w)) e) �
 pub isolation : Isolation
 isolation decode one other g i v cast same u r hosted = go (find_net one.configs g) (find_net other.configs g)
   where
-    go : (hosts_of one.configs g ≡ []) ⊎ HasNet one.configs g → (hosts_of other.configs g ≡ []) ⊎ HasNet other.configs g → outs_of i u (entries decode one g) ≡ outs_of i u (entries decode other g)
+    go : (hosts_of one.configs g ≡ []) ⊎ HasNet one.configs g → (hosts_of other.configs g ≡ []) ⊎ HasNet other.configs g
+        → outs_of i u (entries decode one g) ≡ outs_of i u (entries decode other g)
     go (inl e) n = absurd (nobody (hosts_of one.configs g) v e cast.hosted)
     go (inr a) (inl e) = absurd (nobody (hosts_of other.configs g) u e (sym (ap is_some (cast.same u r)) ∙ hosted))
     go (inr a) (inr b) =
-        agree a.of b.of (applied-journal g (steps_of decode one.calls) (nets one.configs) (new_net a.config) a.is) (applied-journal g (steps_of decode other.calls) (nets other.configs) (new_net b.config) b.is)
-        (journals-agree a.config b.config i v (steps_to g (steps_of decode one.calls)) (steps_to g (steps_of decode other.calls))) cast same r
+        agree a.of b.of (applied-journal g (steps_of decode one.calls) (nets one.configs) (new_net a.config) a.is)
+        (applied-journal g (steps_of decode other.calls) (nets other.configs) (new_net b.config) b.is)
+        (journals-agree a.config b.config i v (steps_to g (steps_of decode one.calls))
+        (steps_to g (steps_of decode other.calls))) cast same r
       where
         Claim : List Host → List Host → List Entry → List Entry → Type 0
-        Claim h k x y = SameCast (closure h i v x) v h k → kept_of (closure h i v x) i x ≡ kept_of (closure h i v x) i y → closure h i v x u ≡ true → outs_of i u x ≡ outs_of i u y
+        Claim h k x y =
+            SameCast (closure h i v x) v h k → kept_of (closure h i v x) i x ≡ kept_of (closure h i v x) i y
+            → closure h i v x u ≡ true → outs_of i u x ≡ outs_of i u y
 
         agree : {h h' k k' : List Host} {x x' y y' : List Entry} → h ≡ h' → k ≡ k' → x ≡ x' → y ≡ y'
-            → (SameCast (closure h' i v x') v h' k' → kept_of (closure h' i v x') i x' ≡ kept_of (closure h' i v x') i y' → (w : ℕ) → closure h' i v x' w ≡ true → outs_of i w x' ≡ outs_of i w y')
+            → (SameCast (closure h' i v x') v h' k'
+            → kept_of (closure h' i v x') i x' ≡ kept_of (closure h' i v x') i y' → (w : ℕ) → closure h' i v x' w ≡ true
+            → outs_of i w x' ≡ outs_of i w y')
             → Claim h k x y
         agree {h' = h'} {k' = k'} {x' = x'} {y' = y'} p q s t f =
             subst (λ (z : (List Host × List Host) × (List Entry × List Entry)). Claim z.0.0 z.0.1 z.1.0 z.1.1)

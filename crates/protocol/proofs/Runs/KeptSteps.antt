@@ -24,7 +24,8 @@ abbrev pub answers : (ℕ → Option Slices) → ℕ → Sight → ℕ → List 
 answers cast i s u [] = []
 answers cast i s u (k ∷ ks) = reply s (Some k) u ++ answers cast i (play cast i s (Some k)) u ks
 
-answers-option : (cast : ℕ → Option Slices) (i : ℕ) (s : Sight) (u : ℕ) (o : Option Kept) (ks : List Kept) → answers cast i s u (cons_option o ks) ≡ reply s o u ++ answers cast i (play cast i s o) u ks
+answers-option : (cast : ℕ → Option Slices) (i : ℕ) (s : Sight) (u : ℕ) (o : Option Kept) (ks : List Kept)
+    → answers cast i s u (cons_option o ks) ≡ reply s o u ++ answers cast i (play cast i s o) u ks
 answers-option cast i s u None ks = refl
 answers-option cast i s u (Some k) ks = refl
 
@@ -49,9 +50,12 @@ effect-hosts net (BallotTimes j u n) = act-hosts net j u (BallotTimer n)
 effect-hosts net (Reslices j u q) = act-hosts net j u (Reslice q)
 
 pub is_new : (net : Net) (e : Step) → first_that (tests net e) ≡ None → IsNew net e
-is_new net (Opens j) h = go ((not (nat_lt (length net.slots) net.budgets.slots), TooManySlots) ∷ is_full net (source net.roster (Opens j)) ∷ []) (places_at net.slots j) h
+is_new net (Opens j) h =
+    go ((not (nat_lt (length net.slots) net.budgets.slots), TooManySlots) ∷ is_full net
+    (source net.roster (Opens j)) ∷ []) (places_at net.slots j) h
   where
-    go : (ts : List (Bool × Refusal)) (o : Option (List Place)) → first_that ((is_some o, SlotOpenAlready) ∷ ts) ≡ None → o ≡ None
+    go : (ts : List (Bool × Refusal)) (o : Option (List Place))
+        → first_that ((is_some o, SlotOpenAlready) ∷ ts) ≡ None → o ≡ None
     go ts None h = refl
     go ts (Some x) h = cc
 is_new net (Closes j) h = tt
@@ -66,23 +70,30 @@ abbrev pub AllIn : Names → ℕ → List Entry → Type 0
 AllIn R i entries = AllByRecursion (λ x. IsWithin R i x.event) entries
 
 -- one history, by its applied events
-pub run-sight : (R : Names) (i u : ℕ) → R u ≡ true → (es : List Step) (net : Net) → AllPlaces R i net → HostsIn R net.hosts → AllIn R i (journal net es)
+pub run-sight : (R : Names) (i u : ℕ) → R u ≡ true → (es : List Step) (net : Net) → AllPlaces R i net
+    → HostsIn R net.hosts → AllIn R i (journal net es)
     → outs_of i u (journal net es) ≡ answers (cast_of R net.hosts) i (sight R i net) u (kept_of R i (journal net es))
 unfolding journal net_step outs_of kept_of
 run-sight R i u r [] net h hosts f = refl
 run-sight R i u r (e ∷ es) net h hosts f = go (first_that (tests net e)) refl f (λ n. run-sight R i u r es n)
   where
     Claim : Net → Type 0
-    Claim n = AllPlaces R i n → HostsIn R n.hosts → AllIn R i (journal n es) → outs_of i u (journal n es) ≡ answers (cast_of R n.hosts) i (sight R i n) u (kept_of R i (journal n es))
+    Claim n = AllPlaces R i n → HostsIn R n.hosts → AllIn R i (journal n es)
+        → outs_of i u (journal n es) ≡ answers (cast_of R n.hosts) i (sight R i n) u (kept_of R i (journal n es))
 
-    go : (o : Option Refusal) → first_that (tests net e) ≡ o → AllIn R i (entered e (replied net e o).1 (journal (replied net e o).0 es)) → ((n : Net) → Claim n)
-        → outs_of i u (entered e (replied net e o).1 (journal (replied net e o).0 es)) ≡ answers (cast_of R net.hosts) i (sight R i net) u (kept_of R i (entered e (replied net e o).1 (journal (replied net e o).0 es)))
+    go : (o : Option Refusal) → first_that (tests net e) ≡ o
+        → AllIn R i (entered e (replied net e o).1 (journal (replied net e o).0 es)) → ((n : Net) → Claim n)
+        → outs_of i u (entered e (replied net e o).1 (journal (replied net e o).0 es))
+        ≡ answers (cast_of R net.hosts) i (sight R i net) u
+        (kept_of R i (entered e (replied net e o).1 (journal (replied net e o).0 es)))
     go (Some n) q f ih = ih net h hosts f
     go None q f ih =
         let next : Net = counted (source net.roster e) (size_of e) (effect net e).0 in
-        let step : Follows R (cast_of R net.hosts) i net (effect net e) (λ w. is_of i w e) (kept R i e) = follows R i net e h hosts (is_new net e q) f.0 in
+        let step : Follows R (cast_of R net.hosts) i net (effect net e) (λ w. is_of i w e) (kept R i e) =
+        follows R i net e h hosts (is_new net e q) f.0 in
         let same : next.hosts ≡ net.hosts = effect-hosts net e in
         let rest = ih next step.places (subst (HostsIn R) (sym same) hosts) f.1 in
         ap₂ (λ (xs ys : List Out). xs ++ ys) (step.replies u r)
-        (rest ∙ ap₂ (λ (hs : List Host) (s : Sight). answers (cast_of R hs) i s u (kept_of R i (journal next es))) same step.sights)
+        (rest ∙ ap₂ (λ (hs : List Host) (s : Sight). answers (cast_of R hs) i s u
+        (kept_of R i (journal next es))) same step.sights)
         ∙ sym (answers-option (cast_of R net.hosts) i (sight R i net) u (kept R i e) (kept_of R i (journal next es)))

@@ -1,4 +1,5 @@
--- What the kept steps for one set say of what lies in another: with it the closure of a run says what its hosted members announce.
+-- What the kept steps for one set say of what lies in another: with it the closure of a run says what its hosted
+-- members announce.
 use Rattle.std.proofs.Common.{◌≡◌, ℕ, Bool, true, false, ◌&&◌, ◌==◌, Option, Some, None, List, [], ◌∷◌, ◌++◌, map, flat_map, if◌then◌else◌, refl, ◌∙◌, ap, subst}
 use Rattle.std.specs.List.{list_all, AllByRecursion, cons_option}
 use Rattle.std.proofs.lemmas.Bool.{and_parts, and_from, false≢true, eqb-true}
@@ -28,11 +29,17 @@ hosts-in R (x ∷ xs) h u q e r =
     let p = and_parts (keeps R (host_rule x)) (list_all (keeps R) (map host_rule xs)) h in
     go (x.name == u) refl p.0 e (hosts-in R xs p.1 u q)
   where
-    go : (b : Bool) → (x.name == u) ≡ b → keeps R (host_rule x) ≡ true → (if b then Some x.slices else slices_of xs u) ≡ Some q → (slices_of xs u ≡ Some q → R u ≡ true → within (names q) R ≡ true) → within (names q) R ≡ true
-    go true n k s ih = let m : x.slices ≡ q = cc in subst (λ (t : Slices). within (names t) R ≡ true) m (keeps-at R (host_rule x) k (and_from (R x.name) true (ap R (eqb-true x.name u n) ∙ r) refl))
+    go : (b : Bool) → (x.name == u) ≡ b → keeps R (host_rule x) ≡ true
+        → (if b then Some x.slices else slices_of xs u) ≡ Some q
+        → (slices_of xs u ≡ Some q → R u ≡ true → within (names q) R ≡ true) → within (names q) R ≡ true
+    go true n k s ih =
+        let m : x.slices ≡ q = cc in
+        subst (λ (t : Slices). within (names t) R ≡ true) m
+        (keeps-at R (host_rule x) k (and_from (R x.name) true (ap R (eqb-true x.name u n) ∙ r) refl))
     go false n k s ih = ih s r
 
-events-in : (R : Names) (i : ℕ) (entries : List Entry) → list_all (keeps R) (flat_map (λ x. announced i x.event) entries) ≡ true → AllIn R i entries
+events-in : (R : Names) (i : ℕ) (entries : List Entry)
+    → list_all (keeps R) (flat_map (λ x. announced i x.event) entries) ≡ true → AllIn R i entries
 events-in R i [] h = tt
 events-in R i (x ∷ xs) h = (
   one x.event (all-left (keeps R) (announced i x.event) (flat_map (λ x. announced i x.event) xs) h),
@@ -42,8 +49,12 @@ events-in R i (x ∷ xs) h = (
     one : (e : Step) → list_all (keeps R) (announced i e) ≡ true → IsWithin R i e
     one (Delivers u size (Read e)) k = λ y r s. go (e.slot == i) y k r s
       where
-        go : (b : Bool) → b ≡ true → list_all (keeps R) (if b then record { sources = u ∷ e.sender ∷ []; gives = names e.slices } ∷ [] else []) ≡ true → R u ≡ true → R e.sender ≡ true → within (names e.slices) R ≡ true
-        go true y k r s = keeps-at R (record { sources = u ∷ e.sender ∷ []; gives = names e.slices }) (and_parts (keeps R (record { sources = u ∷ e.sender ∷ []; gives = names e.slices })) true k).0
+        go : (b : Bool) → b ≡ true
+            → list_all (keeps R) (if b then record { sources = u ∷ e.sender ∷ []; gives = names e.slices } ∷ [] else [])
+            ≡ true → R u ≡ true → R e.sender ≡ true → within (names e.slices) R ≡ true
+        go true y k r s =
+            keeps-at R (record { sources = u ∷ e.sender ∷ []; gives = names e.slices })
+            (and_parts (keeps R (record { sources = u ∷ e.sender ∷ []; gives = names e.slices })) true k).0
             (and_from (R u) (R e.sender && true) r (and_from (R e.sender) true s refl))
         go false y k r s = absurd (false≢true y)
     one (Delivers u size (Fault n)) k = tt
@@ -55,8 +66,12 @@ events-in R i (x ∷ xs) h = (
     one (BallotTimes j u n) k = tt
     one (Reslices j u q) k = λ y r. go (j == i) y k r
       where
-        go : (b : Bool) → b ≡ true → list_all (keeps R) (if b then record { sources = u ∷ []; gives = names q } ∷ [] else []) ≡ true → R u ≡ true → within (names q) R ≡ true
-        go true y k r = keeps-at R (record { sources = u ∷ []; gives = names q }) (and_parts (keeps R (record { sources = u ∷ []; gives = names q })) true k).0 (and_from (R u) true r refl)
+        go : (b : Bool) → b ≡ true
+            → list_all (keeps R) (if b then record { sources = u ∷ []; gives = names q } ∷ [] else []) ≡ true
+            → R u ≡ true → within (names q) R ≡ true
+        go true y k r =
+            keeps-at R (record { sources = u ∷ []; gives = names q })
+            (and_parts (keeps R (record { sources = u ∷ []; gives = names q })) true k).0 (and_from (R u) true r refl)
         go false y k r = absurd (false≢true y)
 
 -- what was delivered to members of a set by members, and which slices were given to them, as the kept steps have it
@@ -74,11 +89,13 @@ abbrev pub if_kept : Names → Option Kept → Type 0
 if_kept S None = Unit {0}
 if_kept S (Some k) = IsKeptIn S k
 
-all-option : (S : Names) (o : Option Kept) (ks : List Kept) → if_kept S o → AllByRecursion (IsKeptIn S) ks → AllByRecursion (IsKeptIn S) (cons_option o ks)
+all-option : (S : Names) (o : Option Kept) (ks : List Kept) → if_kept S o → AllByRecursion (IsKeptIn S) ks
+    → AllByRecursion (IsKeptIn S) (cons_option o ks)
 all-option S None ks h k = k
 all-option S (Some x) ks h k = (h, k)
 
-option-all : (S : Names) (o : Option Kept) (ks : List Kept) → AllByRecursion (IsKeptIn S) (cons_option o ks) → if_kept S o × AllByRecursion (IsKeptIn S) ks
+option-all : (S : Names) (o : Option Kept) (ks : List Kept) → AllByRecursion (IsKeptIn S) (cons_option o ks)
+    → if_kept S o × AllByRecursion (IsKeptIn S) ks
 option-all S None ks h = (tt, h)
 option-all S (Some x) ks h = (h.0, h.1)
 
@@ -113,40 +130,57 @@ kept-to R S i (Opens j) w h = tt
 kept-to R S i (Closes j) w h = tt
 kept-to R S i (Asks j u x) w h = tt
 kept-to R S i (Delivers u size (Read e)) w h = λ y r s.
-    (subst (λ b. if_kept S (when_kept b (Told u (Take e)))) (and_from ((e.slot == i) && R u) (R e.sender) (and_from (e.slot == i) (R u) y (w u r)) (w e.sender s)) h) r s
+    (subst (λ b. if_kept S (when_kept b (Told u (Take e))))
+    (and_from ((e.slot == i) && R u) (R e.sender) (and_from (e.slot == i) (R u) y (w u r)) (w e.sender s)) h) r s
 kept-to R S i (Delivers u size (Fault n)) w h = tt
 kept-to R S i (Hears j u from kind k) w h = tt
 kept-to R S i (NominationTimes j u r) w h = tt
 kept-to R S i (BallotTimes j u n) w h = tt
-kept-to R S i (Reslices j u q) w h = λ y r. (subst (λ b. if_kept S (when_kept b (Told u (Reslice q)))) (and_from (j == i) (R u) y (w u r)) h) r
+kept-to R S i (Reslices j u q) w h =
+    λ y r. (subst (λ b. if_kept S (when_kept b (Told u (Reslice q)))) (and_from (j == i) (R u) y (w u r)) h) r
 
-pub all_kept-from : (R S : Names) (i : ℕ) (entries : List Entry) → AllIn S i entries → AllByRecursion (IsKeptIn S) (kept_of R i entries)
+pub all_kept-from : (R S : Names) (i : ℕ) (entries : List Entry) → AllIn S i entries
+    → AllByRecursion (IsKeptIn S) (kept_of R i entries)
 unfolding kept_of
 all_kept-from R S i [] h = tt
-all_kept-from R S i (x ∷ xs) h = all-option S (kept R i x.event) (kept_of R i xs) (kept-from R S i x.event h.0) (all_kept-from R S i xs h.1)
+all_kept-from R S i (x ∷ xs) h =
+    all-option S (kept R i x.event) (kept_of R i xs) (kept-from R S i x.event h.0) (all_kept-from R S i xs h.1)
 
-pub all_kept-to : (R S : Names) (i : ℕ) (entries : List Entry) → AreWithin S R → AllByRecursion (IsKeptIn S) (kept_of R i entries) → AllIn S i entries
+pub all_kept-to : (R S : Names) (i : ℕ) (entries : List Entry) → AreWithin S R
+    → AllByRecursion (IsKeptIn S) (kept_of R i entries) → AllIn S i entries
 unfolding kept_of
 all_kept-to R S i [] w h = tt
-all_kept-to R S i (x ∷ xs) w h = let p = option-all S (kept R i x.event) (kept_of R i xs) h in (kept-to R S i x.event w p.0, all_kept-to R S i xs w p.1)
+all_kept-to R S i (x ∷ xs) w h =
+    let p = option-all S (kept R i x.event) (kept_of R i xs) h in
+    (kept-to R S i x.event w p.0, all_kept-to R S i xs w p.1)
 
 -- what lies in R in one world does in the other, where the kept steps are the same
-pub all_in-other : (R : Names) (i : ℕ) (one other : List Entry) → kept_of R i one ≡ kept_of R i other → AllIn R i one → AllIn R i other
-all_in-other R i one other same h = all_kept-to R R i other (λ u r. r) (subst (AllByRecursion (IsKeptIn R)) same (all_kept-from R R i one h))
+pub all_in-other : (R : Names) (i : ℕ) (one other : List Entry) → kept_of R i one ≡ kept_of R i other → AllIn R i one
+    → AllIn R i other
+all_in-other R i one other same h =
+    all_kept-to R R i other (λ u r. r) (subst (AllByRecursion (IsKeptIn R)) same (all_kept-from R R i one h))
 
 pub closure-start : (hosts : List Host) (i v : ℕ) (entries : List Entry) → closure hosts i v entries v ≡ true
 unfolding closure
 closure-start hosts i v entries = least-start (map host_rule hosts ++ flat_map (λ x. announced i x.event) entries) v
 
-pub closure-keeps : (hosts : List Host) (i v : ℕ) (entries : List Entry) → list_all (keeps (closure hosts i v entries)) (map host_rule hosts ++ flat_map (λ x. announced i x.event) entries) ≡ true
+pub closure-keeps : (hosts : List Host) (i v : ℕ) (entries : List Entry)
+    → list_all (keeps (closure hosts i v entries))
+    (map host_rule hosts ++ flat_map (λ x. announced i x.event) entries) ≡ true
 unfolding closure
 closure-keeps hosts i v entries = least-keeps (map host_rule hosts ++ flat_map (λ x. announced i x.event) entries) v
 
 -- what the closure of a run says of its hosted members, and of what is delivered among them
 pub hosts-closed : (hosts : List Host) (i v : ℕ) (entries : List Entry) → HostsIn (closure hosts i v entries) hosts
 hosts-closed hosts i v entries =
-    let R = closure hosts i v entries in hosts-in R hosts (all-left (keeps R) (map host_rule hosts) (flat_map (λ x. announced i x.event) entries) (closure-keeps hosts i v entries))
+    let R = closure hosts i v entries in
+    hosts-in R hosts
+    (all-left (keeps R) (map host_rule hosts) (flat_map (λ x. announced i x.event) entries)
+    (closure-keeps hosts i v entries))
 
 pub events-closed : (hosts : List Host) (i v : ℕ) (entries : List Entry) → AllIn (closure hosts i v entries) i entries
 events-closed hosts i v entries =
-    let R = closure hosts i v entries in events-in R i entries (all-right (keeps R) (map host_rule hosts) (flat_map (λ x. announced i x.event) entries) (closure-keeps hosts i v entries))
+    let R = closure hosts i v entries in
+    events-in R i entries
+    (all-right (keeps R) (map host_rule hosts) (flat_map (λ x. announced i x.event) entries)
+    (closure-keeps hosts i v entries))

@@ -16,21 +16,26 @@ use Rattle.protocol.proofs.Networks.OpenSlots.{places_at-drop, places_at-drop_ot
 
 -- Opening and closing
 
-pub place_of-opened : (hosts : List Host) (i u : ℕ) → place_of (opened hosts i) u ≡ option_map (λ q. record { node = fresh i u q; told = [] }) (slices_of hosts u)
+pub place_of-opened : (hosts : List Host) (i u : ℕ)
+    → place_of (opened hosts i) u ≡ option_map (λ q. record { node = fresh i u q; told = [] }) (slices_of hosts u)
 unfolding opened fresh
 place_of-opened [] i u = refl
 place_of-opened (h ∷ hs) i u = go (h.name == u) refl (place_of-opened hs i u)
   where
-    go : (b : Bool) → (h.name == u) ≡ b → place_of (opened hs i) u ≡ option_map (λ q. record { node = fresh i u q; told = [] }) (slices_of hs u)
-        → (if b then Some (record { node = fresh i h.name h.slices; told = [] }) else place_of (opened hs i) u) ≡ option_map (λ q. record { node = fresh i u q; told = [] }) (if b then Some h.slices else slices_of hs u)
-    go true e ih = ap {B = Option Place} (λ x. Some (record { node = fresh i x h.slices; told = [] })) (eqb-true h.name u e)
+    go : (b : Bool) → (h.name == u) ≡ b
+        → place_of (opened hs i) u ≡ option_map (λ q. record { node = fresh i u q; told = [] }) (slices_of hs u)
+        → (if b then Some (record { node = fresh i h.name h.slices; told = [] }) else place_of (opened hs i) u)
+        ≡ option_map (λ q. record { node = fresh i u q; told = [] }) (if b then Some h.slices else slices_of hs u)
+    go true e ih =
+        ap {B = Option Place} (λ x. Some (record { node = fresh i x h.slices; told = [] })) (eqb-true h.name u e)
     go false e ih = ih
 
 -- what the hosted members announce lies in R
 abbrev pub HostsIn : Names → List Host → Type 0
 HostsIn R hosts = (u : ℕ) (q : Slices) → slices_of hosts u ≡ Some q → R u ≡ true → within (names q) R ≡ true
 
-fresh-place : (R : Names) (i u : ℕ) (q : Slices) → (R u ≡ true → within (names q) R ≡ true) → IsPlace R u (record { node = fresh i u q; told = [] })
+fresh-place : (R : Names) (i u : ℕ) (q : Slices) → (R u ≡ true → within (names q) R ≡ true)
+    → IsPlace R u (record { node = fresh i u q; told = [] })
 unfolding fresh
 fresh-place R i u q f = record {
   name = refl;
@@ -39,7 +44,9 @@ fresh-place R i u q f = record {
   told = refl;
 }
 
-fresh-cut : (R : Names) (i u : ℕ) (o : Option Slices) → option_map (cut_place R) (option_map (λ q. record { node = fresh i u q; told = [] }) o) ≡ option_map (λ q. record { node = fresh i u q; told = [] }) o
+fresh-cut : (R : Names) (i u : ℕ) (o : Option Slices)
+    → option_map (cut_place R) (option_map (λ q. record { node = fresh i u q; told = [] }) o)
+    ≡ option_map (λ q. record { node = fresh i u q; told = [] }) o
 unfolding fresh
 fresh-cut R i u None = refl
 fresh-cut R i u (Some q) = refl
@@ -48,15 +55,23 @@ abbrev pub cast_of : Names → List Host → ℕ → Option Slices
 cast_of R hosts u = if R u then slices_of hosts u else None
 
 -- a change of the slots that R doesn't see
-other_slot : (R : Names) (cast : ℕ → Option Slices) (i : ℕ) (net net' : Net) → AllPlaces R i net → places_at net'.slots i ≡ places_at net.slots i → Follows R cast i net (net', []) (λ w. false) None
+other_slot : (R : Names) (cast : ℕ → Option Slices) (i : ℕ) (net net' : Net) → AllPlaces R i net
+    → places_at net'.slots i ≡ places_at net.slots i → Follows R cast i net (net', []) (λ w. false) None
 other_slot R cast i net net' h e = record {
   sights = fun_ext (λ u. ap (λ o. if R u then option_map (cut_place R) (known o u) else None) e);
   replies = λ w r. refl;
   places = λ u p k. h u p (ap (λ o. known o u) (sym e) ∙ k);
 }
 
-pub opens : (R : Names) (i : ℕ) (net : Net) (j : ℕ) → AllPlaces R i net → HostsIn R net.hosts → places_at net.slots j ≡ None
-    → Follows R (cast_of R net.hosts) i net (record net { slots = net.slots ++ record { number = j; places = opened net.hosts j } ∷ []; draws = renewed j net.draws }, []) (λ w. false) (when_kept (j == i) Opened)
+pub opens : (R : Names) (i : ℕ) (net : Net) (j : ℕ) → AllPlaces R i net → HostsIn R net.hosts
+    → places_at net.slots j ≡ None
+    → Follows R (cast_of R net.hosts) i net (
+      record net {
+        slots = net.slots ++ record { number = j; places = opened net.hosts j } ∷ [];
+        draws = renewed j net.draws;
+      },
+      [],
+    ) (λ w. false) (when_kept (j == i) Opened)
 opens R i net j h hosts n = go (j == i) refl
   where
     slot : ℕ → Slot
@@ -76,19 +91,28 @@ opens R i net j h hosts n = go (j == i) refl
         ji : j ≡ i
         ji = eqb-true j i y
 
-        there : (u : ℕ) → known (places_at now.slots i) u ≡ option_map (λ q. record { node = fresh i u q; told = [] }) (slices_of net.hosts u)
-        there u = ap (λ o. known o u) (places_at-push net.slots (slot j) i y (ap (places_at net.slots) (sym ji) ∙ n)) ∙ (ap (λ x. place_of (opened net.hosts x) u) ji ∙ place_of-opened net.hosts i u)
+        there : (u : ℕ)
+            → known (places_at now.slots i) u
+            ≡ option_map (λ q. record { node = fresh i u q; told = [] }) (slices_of net.hosts u)
+        there u = ap (λ o. known o u) (places_at-push net.slots (slot j) i y (ap (places_at net.slots) (sym ji) ∙ n))
+            ∙ (ap (λ x. place_of (opened net.hosts x) u) ji ∙ place_of-opened net.hosts i u)
 
-        see : (u : ℕ) (b : Bool) → R u ≡ b → (if b then option_map (cut_place R) (known (places_at now.slots i) u) else None) ≡ option_map (λ q. record { node = fresh i u q; told = [] }) (if b then slices_of net.hosts u else None)
+        see : (u : ℕ) (b : Bool) → R u ≡ b
+            → (if b then option_map (cut_place R) (known (places_at now.slots i) u) else None)
+            ≡ option_map (λ q. record { node = fresh i u q; told = [] }) (if b then slices_of net.hosts u else None)
         see u true r = ap (option_map (cut_place R)) (there u) ∙ fresh-cut R i u (slices_of net.hosts u)
         see u false r = refl
 
-        place : (u : ℕ) (p : Place) (o : Option Slices) → slices_of net.hosts u ≡ o → option_map (λ q. record { node = fresh i u q; told = [] }) o ≡ Some p → IsPlace R u p
+        place : (u : ℕ) (p : Place) (o : Option Slices) → slices_of net.hosts u ≡ o
+            → option_map (λ q. record { node = fresh i u q; told = [] }) o ≡ Some p → IsPlace R u p
         place u p None s q = cc
-        place u p (Some x) s q = let m : record { node = fresh i u x; told = [] } ≡ p = cc in subst (λ y. IsPlace R u y) m (fresh-place R i u x (λ r. hosts u x s r))
+        place u p (Some x) s q =
+            let m : record { node = fresh i u x; told = [] } ≡ p = cc in
+            subst (λ y. IsPlace R u y) m (fresh-place R i u x (λ r. hosts u x s r))
 
 pub closes : (R : Names) (cast : ℕ → Option Slices) (i : ℕ) (net : Net) (j : ℕ) → AllPlaces R i net
-    → Follows R cast i net (record net { slots = filter (λ s. not (s.number == j)) net.slots }, []) (λ w. false) (when_kept (j == i) Closed)
+    → Follows R cast i net (record net { slots = filter (λ s. not (s.number == j)) net.slots }, []) (λ w. false)
+    (when_kept (j == i) Closed)
 closes R cast i net j h = go (j == i) refl
   where
     now : Net

@@ -25,7 +25,8 @@ closed_for R n g = record { has = g.closed.has; own = g.closed.own; leaders = g.
 abbrev pub Holds : Names → ℕ → Net → Type 0
 Holds R i net = AllPlaces R i net × HostsIn R net.hosts
 
-places-after : (R : Names) (i : ℕ) (es : List Step) (net : Net) → Holds R i net → AllIn R i (journal net es) → (n : ℕ) → Holds R i (net_after net (take n (journal net es)))
+places-after : (R : Names) (i : ℕ) (es : List Step) (net : Net) → Holds R i net → AllIn R i (journal net es) → (n : ℕ)
+    → Holds R i (net_after net (take n (journal net es)))
 unfolding journal net_step net_after
 places-after R i [] net h f zero = h
 places-after R i [] net h f (suc n) = h
@@ -34,21 +35,32 @@ places-after R i (e ∷ es) net h f n = go (first_that (tests net e)) refl f (λ
     Claim : Net → List Entry → Type 0
     Claim x run = (n : ℕ) → Holds R i (net_after x (take n run))
 
-    go : (o : Option Refusal) → first_that (tests net e) ≡ o → AllIn R i (entered e (replied net e o).1 (journal (replied net e o).0 es))
-        → ((x : Net) → Holds R i x → AllIn R i (journal x es) → Claim x (journal x es)) → Claim net (entered e (replied net e o).1 (journal (replied net e o).0 es))
+    go : (o : Option Refusal) → first_that (tests net e) ≡ o
+        → AllIn R i (entered e (replied net e o).1 (journal (replied net e o).0 es))
+        → ((x : Net) → Holds R i x → AllIn R i (journal x es) → Claim x (journal x es))
+        → Claim net (entered e (replied net e o).1 (journal (replied net e o).0 es))
     go (Some r) q f ih n = ih net h f n
     go None q f ih zero = h
     go None q f ih (suc n) =
         let after : Net = counted (source net.roster e) (size_of e) (effect net e).0 in
         subst (λ o. Holds R i (net_after (replied net e o).0 (take n (journal after es)))) (sym q)
-        (ih after ((follows R i net e h.0 h.1 (is_new net e q) f.0).places, subst (HostsIn R) (sym (effect-hosts net e)) h.1) f.1 n)
+        (ih after (
+          (follows R i net e h.0 h.1 (is_new net e q) f.0).places,
+          subst (HostsIn R) (sym (effect-hosts net e)) h.1,
+        ) f.1 n)
 
-pub holds-after : (config : Config) (run : List Entry) (i v n : ℕ) → IsRun config run → Holds (closure config.hosts i v run) i (state_of config (take n run))
+pub holds-after : (config : Config) (run : List Entry) (i v n : ℕ) → IsRun config run
+    → Holds (closure config.hosts i v run) i (state_of config (take n run))
 holds-after config run i v n is =
     let R : Names = closure config.hosts i v run in
     let net : Net = new_net config in
-    let all = subst (λ (es : List Entry). AllIn R i es → Holds R i (net_after net (take n es))) (sym (runs_are_journals config run is))
-    (λ f. places-after R i (map (λ (x : Entry). x.event) run) net (no-places R i config, hosts-closed config.hosts i v run) f n) in
+    let all =
+    subst (λ (es : List Entry). AllIn R i es → Holds R i (net_after net (take n es)))
+    (sym (runs_are_journals config run is))
+    (λ f. places-after R i (map (λ (x : Entry). x.event) run) net (
+      no-places R i config,
+      hosts-closed config.hosts i v run,
+    ) f n) in
     all (events-closed config.hosts i v run)
 
 pub prefix_of_whole_run : PrefixOfWholeRun

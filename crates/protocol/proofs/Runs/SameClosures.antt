@@ -21,20 +21,25 @@ use Rattle.protocol.proofs.Runs.KeptWithin.{IsKeptIn, all_kept-from, all_kept-to
 
 module _ (R : Names) where
   -- the rules of hosted nodes are kept where the slices of hosted members lie in the set
-  keeps-hosts : (hosts : List Host) → ((h : Host) → Contains hosts h → R h.name ≡ true → within (names h.slices) R ≡ true) → list_all (keeps R) (map host_rule hosts) ≡ true
+  keeps-hosts : (hosts : List Host)
+      → ((h : Host) → Contains hosts h → R h.name ≡ true → within (names h.slices) R ≡ true)
+      → list_all (keeps R) (map host_rule hosts) ≡ true
   keeps-hosts [] f = refl
   keeps-hosts (h ∷ hs) f =
       and_from (keeps R (host_rule h)) (list_all (keeps R) (map host_rule hs))
-      (keeps-from R (host_rule h) (λ w. f h (contains_head h hs) (and_parts (R h.name) true w).0)) (keeps-hosts hs (λ x c. f x (contains_tail x h hs c)))
+      (keeps-from R (host_rule h) (λ w. f h (contains_head h hs) (and_parts (R h.name) true w).0))
+      (keeps-hosts hs (λ x c. f x (contains_tail x h hs c)))
 
-  one_rule : (b : Bool) (r : Rule) → (b ≡ true → keeps R r ≡ true) → list_all (keeps R) (if b then r ∷ [] else []) ≡ true
+  one_rule : (b : Bool) (r : Rule) → (b ≡ true → keeps R r ≡ true)
+      → list_all (keeps R) (if b then r ∷ [] else []) ≡ true
   one_rule true r f = and_from (keeps R r) true (f refl) refl
   one_rule false r f = refl
 
   keeps-event : (i : ℕ) (e : Step) → IsWithin R i e → list_all (keeps R) (announced i e) ≡ true
   keeps-event i (Delivers u size (Read e)) h =
       one_rule (e.slot == i) (record { sources = u ∷ e.sender ∷ []; gives = names e.slices })
-      (λ y. keeps-from R (record { sources = u ∷ e.sender ∷ []; gives = names e.slices }) (λ w. let p = and_parts (R u) (within (e.sender ∷ []) R) w in h y p.0 (and_parts (R e.sender) true p.1).0))
+      (λ y. keeps-from R (record { sources = u ∷ e.sender ∷ []; gives = names e.slices })
+      (λ w. let p = and_parts (R u) (within (e.sender ∷ []) R) w in h y p.0 (and_parts (R e.sender) true p.1).0))
   keeps-event i (Delivers u size (Fault n)) h = refl
   keeps-event i (Opens j) h = refl
   keeps-event i (Closes j) h = refl
@@ -43,19 +48,26 @@ module _ (R : Names) where
   keeps-event i (NominationTimes j u r) h = refl
   keeps-event i (BallotTimes j u n) h = refl
   keeps-event i (Reslices j u q) h =
-      one_rule (j == i) (record { sources = u ∷ []; gives = names q }) (λ y. keeps-from R (record { sources = u ∷ []; gives = names q }) (λ w. h y (and_parts (R u) true w).0))
+      one_rule (j == i) (record { sources = u ∷ []; gives = names q })
+      (λ y. keeps-from R (record { sources = u ∷ []; gives = names q }) (λ w. h y (and_parts (R u) true w).0))
 
-  keeps-events : (i : ℕ) (entries : List Entry) → AllIn R i entries → list_all (keeps R) (flat_map (λ x. announced i x.event) entries) ≡ true
+  keeps-events : (i : ℕ) (entries : List Entry) → AllIn R i entries
+      → list_all (keeps R) (flat_map (λ x. announced i x.event) entries) ≡ true
   keeps-events i [] h = refl
-  keeps-events i (x ∷ xs) h = all-append (keeps R) (announced i x.event) (flat_map (λ x. announced i x.event) xs) (keeps-event i x.event h.0) (keeps-events i xs h.1)
+  keeps-events i (x ∷ xs) h =
+      all-append (keeps R) (announced i x.event) (flat_map (λ x. announced i x.event) xs) (keeps-event i x.event h.0)
+      (keeps-events i xs h.1)
 
 -- the closure lies in each set that has v, what its hosted members announce, and what is announced among its members
 pub closure-in : (hosts : List Host) (i v : ℕ) (entries : List Entry) (R : Names) → R v ≡ true
-    → ((h : Host) → Contains hosts h → R h.name ≡ true → within (names h.slices) R ≡ true) → AllIn R i entries → AreWithin (closure hosts i v entries) R
+    → ((h : Host) → Contains hosts h → R h.name ≡ true → within (names h.slices) R ≡ true) → AllIn R i entries
+    → AreWithin (closure hosts i v entries) R
 unfolding closure
 closure-in hosts i v entries R start f h =
     let rules = map host_rule hosts ++ flat_map (λ x. announced i x.event) entries in
-    least-in rules v R start (all-append (keeps R) (map host_rule hosts) (flat_map (λ x. announced i x.event) entries) (keeps-hosts R hosts f) (keeps-events R i entries h))
+    least-in rules v R start
+    (all-append (keeps R) (map host_rule hosts) (flat_map (λ x. announced i x.event) entries)
+    (keeps-hosts R hosts f) (keeps-events R i entries h))
 
 pub same_closures : SameClosures
 same_closures one other runs others i v once once_there cast same u =
@@ -75,4 +87,5 @@ same_closures one other runs others i v once once_there cast same u =
     more : AreWithin R S
     more = closure-in one i v runs S (closure-start other i v others)
         (λ h c s. hosts-closed other i v others h.name h.slices (sym (cast.same h.name (fewer h.name s)) ∙ once h c) s)
-        (all_kept-to R S i runs fewer (subst (AllByRecursion (IsKeptIn S)) (sym same) (all_kept-from R S i others (events-closed other i v others))))
+        (all_kept-to R S i runs fewer (subst (AllByRecursion (IsKeptIn S)) (sym same)
+        (all_kept-from R S i others (events-closed other i v others))))

@@ -12,14 +12,17 @@ use Rattle.protocol.proofs.Runs.KeptSteps.{AllIn, answers, run-sight}
 use Rattle.protocol.proofs.Runs.KeptWithin.{all_in-other, events-closed, hosts-closed}
 
 -- the same members in both worlds
-pub casts-same : (R : Names) (v : ℕ) (hosts hosts' : List Host) → SameCast R v hosts hosts' → cast_of R hosts ≡ cast_of R hosts'
+pub casts-same : (R : Names) (v : ℕ) (hosts hosts' : List Host) → SameCast R v hosts hosts'
+    → cast_of R hosts ≡ cast_of R hosts'
 casts-same R v hosts hosts' cast = fun_ext (λ w. go w (R w) refl)
   where
-    go : (w : ℕ) (b : Bool) → R w ≡ b → (if b then slices_of hosts w else None) ≡ (if b then slices_of hosts' w else None)
+    go : (w : ℕ) (b : Bool) → R w ≡ b
+        → (if b then slices_of hosts w else None) ≡ (if b then slices_of hosts' w else None)
     go w true s = cast.same w s
     go w false s = refl
 
-pub hosts-other : (R : Names) (v : ℕ) (hosts hosts' : List Host) → SameCast R v hosts hosts' → HostsIn R hosts → HostsIn R hosts'
+pub hosts-other : (R : Names) (v : ℕ) (hosts hosts' : List Host) → SameCast R v hosts hosts' → HostsIn R hosts
+    → HostsIn R hosts'
 hosts-other R v hosts hosts' cast h w q e s = h w q (cast.same w s ∙ e) s
 
 pub no-places : (R : Names) (i : ℕ) (config : Config) → AllPlaces R i (new_net config)
@@ -33,11 +36,14 @@ pub journals-agree : (config config' : Config) (i v : ℕ) (es es' : List Step) 
     let one = journal (new_net config) es in
     let other = journal (new_net config') es' in
     let R = closure config.hosts i v one in
-    SameCast R v config.hosts config'.hosts → kept_of R i one ≡ kept_of R i other → (u : ℕ) → R u ≡ true → outs_of i u one ≡ outs_of i u other
+    SameCast R v config.hosts config'.hosts → kept_of R i one ≡ kept_of R i other → (u : ℕ) → R u ≡ true
+    → outs_of i u one ≡ outs_of i u other
 journals-agree config config' i v es es' cast same u r =
     run-sight R i u r es (new_net config) (no-places R i config) in_one all_one
-    ∙ (ap₂ (λ (c : ℕ → Option Slices) (ks : List Kept). answers c i (sight R i (new_net config)) u ks) (casts-same R v config.hosts config'.hosts cast) same
-    ∙ sym (run-sight R i u r es' (new_net config') (no-places R i config') (hosts-other R v config.hosts config'.hosts cast in_one) all_other))
+    ∙ (ap₂ (λ (c : ℕ → Option Slices) (ks : List Kept). answers c i (sight R i (new_net config)) u ks)
+    (casts-same R v config.hosts config'.hosts cast) same
+    ∙ sym (run-sight R i u r es' (new_net config') (no-places R i config')
+    (hosts-other R v config.hosts config'.hosts cast in_one) all_other))
   where
     one : List Entry
     one = journal (new_net config) es

@@ -67,16 +67,19 @@ pub record IsPlace (R : Names) (u : ℕ) (p : Place) : Type 0 where
 abbrev pub AllPlaces : Names → ℕ → Net → Type 0
 AllPlaces R i net = (u : ℕ) (p : Place) → known (places_at net.slots i) u ≡ Some p → IsPlace R u p
 
-pub all-append : {X : Type 0} (P : X → Bool) (xs ys : List X) → list_all P xs ≡ true → list_all P ys ≡ true → list_all P (xs ++ ys) ≡ true
+pub all-append : {X : Type 0} (P : X → Bool) (xs ys : List X) → list_all P xs ≡ true → list_all P ys ≡ true
+    → list_all P (xs ++ ys) ≡ true
 all-append P [] ys h k = k
-all-append P (x ∷ xs) ys h k = let p = and_parts (P x) (list_all P xs) h in and_from (P x) (list_all P (xs ++ ys)) p.0 (all-append P xs ys p.1 k)
+all-append P (x ∷ xs) ys h k =
+    let p = and_parts (P x) (list_all P xs) h in and_from (P x) (list_all P (xs ++ ys)) p.0 (all-append P xs ys p.1 k)
 
 moved-name : (e : NodeEvent) (p : Place) → (moved e p).node.name ≡ p.node.name
 unfolding moved
 moved-name e p = step-self p.node e
 
 -- a step keeps it
-pub place-moved : (R : Names) (u : ℕ) (p : Place) (e : NodeEvent) → (R u ≡ true → IsFit R e) → IsPlace R u p → IsPlace R u (moved e p)
+pub place-moved : (R : Names) (u : ℕ) (p : Place) (e : NodeEvent) → (R u ≡ true → IsFit R e) → IsPlace R u p
+    → IsPlace R u (moved e p)
 unfolding moved
 place-moved R u p e fit h = record {
   name = step-self p.node e ∙ h.name;
@@ -84,38 +87,49 @@ place-moved R u p e fit h = record {
   calm = λ i. calm-step p.node e (h.calm i);
   told = all-append (λ x. (x.sender == u) && announces_in R x) p.told (emissions (step p.node e).1) h.told
       (step-emit (λ x. (x.sender == u) && announces_in R x) p.node e (λ slot s.
-      and_from (p.node.name == u) (not (R p.node.name) || within (names (step p.node e).0.slices) R) (eq-eqb p.node.name u h.name)
+      and_from (p.node.name == u) (not (R p.node.name) || within (names (step p.node e).0.slices) R)
+      (eq-eqb p.node.name u h.name)
       (elim (cases_Bool (R u)) [
-        | inl i ↦ or_right (not (R p.node.name)) (within (names (step p.node e).0.slices) R) (good-step R p.node e (h.good i) (fit i)).closed.own
-        | inr o ↦ or_left (not (R p.node.name)) (within (names (step p.node e).0.slices) R) (not_from_false (R p.node.name) (ap R h.name ∙ o))
+        | inl i ↦ or_right (not (R p.node.name)) (within (names (step p.node e).0.slices) R)
+            (good-step R p.node e (h.good i) (fit i)).closed.own
+        | inr o ↦ or_left (not (R p.node.name)) (within (names (step p.node e).0.slices) R)
+            (not_from_false (R p.node.name) (ap R h.name ∙ o))
       ])));
 }
 
 -- Looking up after a step
 
-place_of-same : (u : ℕ) (e : NodeEvent) (ps : List Place) → place_of (act_in u e ps) u ≡ option_map (moved e) (place_of ps u)
+place_of-same : (u : ℕ) (e : NodeEvent) (ps : List Place)
+    → place_of (act_in u e ps) u ≡ option_map (moved e) (place_of ps u)
 place_of-same u e [] = refl
 place_of-same u e (p ∷ ps) = go (p.node.name == u) refl (place_of-same u e ps)
   where
     go : (b : Bool) → (p.node.name == u) ≡ b → place_of (act_in u e ps) u ≡ option_map (moved e) (place_of ps u)
-        → place_of ((if b then moved e p else p) ∷ act_in u e ps) u ≡ option_map (moved e) (if b then Some p else place_of ps u)
+        → place_of ((if b then moved e p else p) ∷ act_in u e ps) u
+        ≡ option_map (moved e) (if b then Some p else place_of ps u)
     go true h ih = rw (ap (λ x. x == u) (moved-name e p) ∙ h)
     go false h ih = rw h ih
 
-place_of-other : (u w : ℕ) (e : NodeEvent) (ps : List Place) → (w == u) ≡ false → place_of (act_in u e ps) w ≡ place_of ps w
+place_of-other : (u w : ℕ) (e : NodeEvent) (ps : List Place) → (w == u) ≡ false
+    → place_of (act_in u e ps) w ≡ place_of ps w
 place_of-other u w e [] o = refl
 place_of-other u w e (p ∷ ps) o = go (p.node.name == u) refl (place_of-other u w e ps o)
   where
-    go : (b : Bool) → (p.node.name == u) ≡ b → place_of (act_in u e ps) w ≡ place_of ps w → place_of ((if b then moved e p else p) ∷ act_in u e ps) w ≡ (if p.node.name == w then Some p else place_of ps w)
+    go : (b : Bool) → (p.node.name == u) ≡ b → place_of (act_in u e ps) w ≡ place_of ps w
+        → place_of ((if b then moved e p else p) ∷ act_in u e ps) w
+        ≡ (if p.node.name == w then Some p else place_of ps w)
     go true h ih =
         let no : (p.node.name == w) ≡ false = elim (cases_Bool (p.node.name == w)) [
-          | inl y ↦ absurd (true≢false (sym (eq-eqb w u (sym (eqb-true p.node.name w y) ∙ eqb-true p.node.name u h)) ∙ o))
+          | inl y ↦ absurd
+              (true≢false (sym (eq-eqb w u (sym (eqb-true p.node.name w y) ∙ eqb-true p.node.name u h)) ∙ o))
           | inr n ↦ n
         ] in
         rw (ap (λ x. x == w) (moved-name e p) ∙ no, no) ih
     go false h ih = ap (λ o. if p.node.name == w then Some p else o) ih
 
-places_at-same : (f : List Place → List Place) (ss : List Slot) (i : ℕ) → places_at (map {B = Slot} (λ (s : Slot). if s.number == i then record s { places = f s.places } else s) ss) i ≡ option_map f (places_at ss i)
+places_at-same : (f : List Place → List Place) (ss : List Slot) (i : ℕ)
+    → places_at (map {B = Slot} (λ (s : Slot). if s.number == i then record s { places = f s.places } else s) ss) i
+    ≡ option_map f (places_at ss i)
 places_at-same f [] i = refl
 places_at-same f (s ∷ ss) i = go (s.number == i) refl (places_at-same f ss i)
   where
@@ -123,23 +137,29 @@ places_at-same f (s ∷ ss) i = go (s.number == i) refl (places_at-same f ss i)
     rest = map {B = Slot} (λ (s : Slot). if s.number == i then record s { places = f s.places } else s) ss
 
     go : (b : Bool) → (s.number == i) ≡ b → places_at rest i ≡ option_map f (places_at ss i)
-        → places_at ((if b then record s { places = f s.places } else s) ∷ rest) i ≡ option_map f (if b then Some s.places else places_at ss i)
+        → places_at ((if b then record s { places = f s.places } else s) ∷ rest) i
+        ≡ option_map f (if b then Some s.places else places_at ss i)
     go true h ih = rw h
     go false h ih = rw h ih
 
-places_at-other : (f : List Place → List Place) (ss : List Slot) (j i : ℕ) → (j == i) ≡ false → places_at (map {B = Slot} (λ (s : Slot). if s.number == j then record s { places = f s.places } else s) ss) i ≡ places_at ss i
+places_at-other : (f : List Place → List Place) (ss : List Slot) (j i : ℕ) → (j == i) ≡ false
+    → places_at (map {B = Slot} (λ (s : Slot). if s.number == j then record s { places = f s.places } else s) ss) i
+    ≡ places_at ss i
 places_at-other f [] j i o = refl
 places_at-other f (s ∷ ss) j i o = go (s.number == j) refl (places_at-other f ss j i o)
   where
     rest : List Slot
     rest = map {B = Slot} (λ (s : Slot). if s.number == j then record s { places = f s.places } else s) ss
 
-    go : (b : Bool) → (s.number == j) ≡ b → places_at rest i ≡ places_at ss i → places_at ((if b then record s { places = f s.places } else s) ∷ rest) i ≡ (if s.number == i then Some s.places else places_at ss i)
+    go : (b : Bool) → (s.number == j) ≡ b → places_at rest i ≡ places_at ss i
+        → places_at ((if b then record s { places = f s.places } else s) ∷ rest) i
+        ≡ (if s.number == i then Some s.places else places_at ss i)
     go true h ih =
         let no : (s.number == i) ≡ false = ap (λ x. x == i) (eqb-true s.number j h) ∙ o in rw no ih
     go false h ih = ap (λ o. if s.number == i then Some s.places else o) ih
 
-pub known-same : (net : Net) (i u : ℕ) (e : NodeEvent) → known (places_at (act net i u e).0.slots i) u ≡ option_map (moved e) (known (places_at net.slots i) u)
+pub known-same : (net : Net) (i u : ℕ) (e : NodeEvent)
+    → known (places_at (act net i u e).0.slots i) u ≡ option_map (moved e) (known (places_at net.slots i) u)
 unfolding act
 known-same net i u e = ap (λ o. known o u) (places_at-same (act_in u e) net.slots i) ∙ go (places_at net.slots i)
   where
@@ -147,7 +167,8 @@ known-same net i u e = ap (λ o. known o u) (places_at-same (act_in u e) net.slo
     go None = refl
     go (Some ps) = place_of-same u e ps
 
-pub known-other : (net : Net) (i u w : ℕ) (e : NodeEvent) → (w == u) ≡ false → known (places_at (act net i u e).0.slots i) w ≡ known (places_at net.slots i) w
+pub known-other : (net : Net) (i u w : ℕ) (e : NodeEvent) → (w == u) ≡ false
+    → known (places_at (act net i u e).0.slots i) w ≡ known (places_at net.slots i) w
 unfolding act
 known-other net i u w e o = ap (λ x. known x w) (places_at-same (act_in u e) net.slots i) ∙ go (places_at net.slots i)
   where
@@ -155,6 +176,7 @@ known-other net i u w e o = ap (λ x. known x w) (places_at-same (act_in u e) ne
     go None = refl
     go (Some ps) = place_of-other u w e ps o
 
-pub known-elsewhere : (net : Net) (j i u w : ℕ) (e : NodeEvent) → (j == i) ≡ false → known (places_at (act net j u e).0.slots i) w ≡ known (places_at net.slots i) w
+pub known-elsewhere : (net : Net) (j i u w : ℕ) (e : NodeEvent) → (j == i) ≡ false
+    → known (places_at (act net j u e).0.slots i) w ≡ known (places_at net.slots i) w
 unfolding act
 known-elsewhere net j i u w e o = ap (λ x. known x w) (places_at-other (act_in u e) net.slots j i o)

@@ -8,7 +8,8 @@ use Rattle.protocol.proofs.Runs.Sights.{AllPlaces}
 use Rattle.protocol.proofs.Runs.Follows.{Follows}
 
 -- nothing happens, and nothing is kept
-pub stays : (R : Names) (cast : ℕ → Option Slices) (i : ℕ) (net : Net) (of : ℕ → Bool) → AllPlaces R i net → Follows R cast i net (net, []) of None
+pub stays : (R : Names) (cast : ℕ → Option Slices) (i : ℕ) (net : Net) (of : ℕ → Bool) → AllPlaces R i net
+    → Follows R cast i net (net, []) of None
 stays R cast i net of h = record { sights = refl; replies = λ w r. nothing (of w); places = h }
   where
     nothing : (b : Bool) → (if b then [] else []) ≡ ◌++◌ {A = Out} [] []

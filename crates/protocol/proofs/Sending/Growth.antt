@@ -58,7 +58,12 @@ module _ (old : Votes) where
   start-grows s w h = go w.ballot refl
     where
       begun : (o : Option (List ℕ)) → w.ballot ≡ None → Grows old (started s w o)
-      begun None e = record { voted = h.voted; accepts = h.accepts; ballot = λ k. absurd (false≢true (sym (ap (λ (b : Option Ballot). is_some b) e) ∙ h.ballot k)) }
+      begun None e =
+          record {
+            voted = h.voted;
+            accepts = h.accepts;
+            ballot = λ k. absurd (false≢true (sym (ap (λ (b : Option Ballot). is_some b) e) ∙ h.ballot k));
+          }
       begun (Some x) e = record { voted = h.voted; accepts = h.accepts; ballot = λ k. refl }
 
       go : (o : Option Ballot) → w.ballot ≡ o → Grows old (start_from s w o)
@@ -102,7 +107,8 @@ module _ (old : Votes) where
   raise-grows s g b w h = record { voted = h.voted; accepts = h.accepts; ballot = λ k. refl }
 
   arm-grows : (s : Seen) (b : Ballot) (w : Votes) → Grows old w → Grows old (arm s b w)
-  arm-grows s b w h = subst (Grows old) (sym (arm-moves s b w).1) (record { voted = h.voted; accepts = h.accepts; ballot = h.ballot })
+  arm-grows s b w h =
+      subst (Grows old) (sym (arm-moves s b w).1) (record { voted = h.voted; accepts = h.accepts; ballot = h.ballot })
 
   voting-grows : (s : Seen) (w : Votes) → Grows old w → Grows old (voting s w)
   unfolding voting
@@ -112,7 +118,9 @@ module _ (old : Votes) where
       let w3 = in_prepare (on_ballot (confirm_prepared s)) w2 in
       let w4 = on_ballot (λ b x. accept_commit x.phase s b x) w3 in
       let h2 : P w2 = on-keeps P (accept_prepared s) w h (λ b e. prepared-grows s b w h) in
-      let h3 : P w3 = prepare-keeps P (on_ballot (confirm_prepared s)) w2 h2 (λ p. on-keeps P (confirm_prepared s) w2 h2 (λ b e. confirmed-grows s b w2 h2)) in
+      let h3 : P w3 =
+      prepare-keeps P (on_ballot (confirm_prepared s)) w2 h2
+      (λ p. on-keeps P (confirm_prepared s) w2 h2 (λ b e. confirmed-grows s b w2 h2)) in
       let h4 : P w4 = on-keeps P (λ b x. accept_commit x.phase s b x) w3 h3 (λ b e. accept-grows w3.phase s b w3 h3) in
       on-keeps P (λ b x. confirm_commit x.phase s b x) w4 h4 (λ b e. confirm-grows w4.phase s b w4 h4)
 
@@ -129,7 +137,8 @@ module _ (old : Votes) where
   pass-grows v s g w h =
       let P : Votes → Type 0 = Grows old in
       let x = voting s (start s (nominate v s g w)) in
-      let hx : P x = voting-grows s (start s (nominate v s g w)) (start-grows s (nominate v s g w) (nominate-grows v s g w h)) in
+      let hx : P x =
+      voting-grows s (start s (nominate v s g w)) (start-grows s (nominate v s g w) (nominate-grows v s g w h)) in
       unless-keeps P (pass_rules v s g) w h (unless-keeps P (counting s g) x hx (counting-grows s g x hx))
 
   -- so does an event's own change, and settling
@@ -154,7 +163,9 @@ module _ (old : Votes) where
     where
       go : (o : Option Votes) → settle most_passes (passed n) n.votes ≡ o → if_node NodeGrows (settled n o)
       go None e = tt
-      go (Some w) e = settle-keeps (Grows old) most_passes (passed n) (pass-grows n.name (seen n.name n.slices n.given.leaders n.table) n.given) n.votes w h e
+      go (Some w) e =
+          settle-keeps (Grows old) most_passes (passed n)
+          (pass-grows n.name (seen n.name n.slices n.given.leaders n.table) n.given) n.votes w h e
 
 pub event-grows : (n : Node) (e : NodeEvent) → if_node (λ m. Grows n.votes m.votes) (after_change (change n e))
 event-grows n e = settled-grows n.votes (change n e) (change-grows n.votes n e (grows-self n.votes))

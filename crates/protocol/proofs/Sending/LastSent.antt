@@ -37,11 +37,15 @@ last-append o (x ∷ xs) ys = last-append (Some x) xs ys
 abbrev after : Kind → Option Sent → List Out → Option Sent
 after kind o os = last_or o (filter (λ e. is_kind kind (kind_of e.body)) (emissions os))
 
-after-append : (kind : Kind) (o : Option Sent) (xs ys : List Out) → after kind o (xs ++ ys) ≡ after kind (after kind o xs) ys
+after-append : (kind : Kind) (o : Option Sent) (xs ys : List Out)
+    → after kind o (xs ++ ys) ≡ after kind (after kind o xs) ys
 after-append kind o xs ys =
-    ap (λ (es : List Sent). last_or o (filter (λ e. is_kind kind (kind_of e.body)) es)) (filter_map-append emission_of xs ys)
-    ∙ (ap (λ (es : List Sent). last_or o es) (filter-append (λ e. is_kind kind (kind_of e.body)) (emissions xs) (emissions ys))
-    ∙ last-append o (filter (λ e. is_kind kind (kind_of e.body)) (emissions xs)) (filter (λ e. is_kind kind (kind_of e.body)) (emissions ys)))
+    ap (λ (es : List Sent). last_or o (filter (λ e. is_kind kind (kind_of e.body)) es))
+    (filter_map-append emission_of xs ys)
+    ∙ (ap (λ (es : List Sent). last_or o es)
+    (filter-append (λ e. is_kind kind (kind_of e.body)) (emissions xs) (emissions ys))
+    ∙ last-append o (filter (λ e. is_kind kind (kind_of e.body)) (emissions xs))
+    (filter (λ e. is_kind kind (kind_of e.body)) (emissions ys)))
 
 -- ---- what is given out
 module _ (kind : Kind) where
@@ -55,42 +59,71 @@ module _ (kind : Kind) where
   last o false x = refl
 
   -- a statement of another kind
-  other : (n : Node) (o : Option Sent) (a x : Option Statement) → ((s : Statement) → x ≡ Some s → is_kind kind (kind_of s) ≡ false) → after kind o (emitted n a x) ≡ o
+  other : (n : Node) (o : Option Sent) (a x : Option Statement)
+      → ((s : Statement) → x ≡ Some s → is_kind kind (kind_of s) ≡ false) → after kind o (emitted n a x) ≡ o
   other n o a None f = refl
   other n o a (Some s) f = go (same_sent a (Some s))
     where
-      go : (b : Bool) → after kind o (if b then [] else Emit (record { sender = n.name; slot = n.slot; slices = n.slices; body = s }) ∷ []) ≡ o
+      go : (b : Bool)
+          → after kind o
+          (if b then [] else Emit (record { sender = n.name; slot = n.slot; slices = n.slices; body = s }) ∷ []) ≡ o
       go true = refl
-      go false = ap (λ b. last_or o (cond b (record { sender = n.name; slot = n.slot; slices = n.slices; body = s } ∷ []) [])) (f s refl)
+      go false =
+          ap (λ b. last_or o (cond b (record {
+            sender = n.name;
+            slot = n.slot;
+            slices = n.slices;
+            body = s;
+          } ∷ []) [])) (f s refl)
 
   -- one of this kind: it is emitted where it is not the one before
-  own : (n : Node) (o : Option Sent) (a x : Option Statement) → option_map (λ e. e.body) o ≡ a → ((s : Statement) → x ≡ Some s → is_kind kind (kind_of s) ≡ true) → (is_some a ≡ true → is_some x ≡ true)
+  own : (n : Node) (o : Option Sent) (a x : Option Statement) → option_map (λ e. e.body) o ≡ a
+      → ((s : Statement) → x ≡ Some s → is_kind kind (kind_of s) ≡ true) → (is_some a ≡ true → is_some x ≡ true)
       → option_map (λ e. e.body) (after kind o (emitted n a x)) ≡ x
   own n o None None h f m = h
   own n o (Some y) None h f m = absurd (false≢true (m refl))
   own n o a (Some s) h f m = go (same_sent a (Some s)) refl
     where
-      go : (b : Bool) → same_sent a (Some s) ≡ b → option_map (λ e. e.body) (after kind o (if b then [] else Emit (record { sender = n.name; slot = n.slot; slices = n.slices; body = s }) ∷ [])) ≡ Some s
+      go : (b : Bool) → same_sent a (Some s) ≡ b
+          → option_map (λ e. e.body)
+          (after kind o (if b then [] else Emit
+          (record { sender = n.name; slot = n.slot; slices = n.slices; body = s }) ∷ [])) ≡ Some s
       go true e = h ∙ same_sent-true a (Some s) e
-      go false e = ap (λ b. option_map (λ (x : Sent). x.body) (last_or o (cond b (record { sender = n.name; slot = n.slot; slices = n.slices; body = s } ∷ []) []))) (f s refl)
+      go false e =
+          ap (λ b. option_map (λ (x : Sent). x.body)
+          (last_or o (cond b (record {
+            sender = n.name;
+            slot = n.slot;
+            slices = n.slices;
+            body = s;
+          } ∷ []) []))) (f s refl)
 
   -- of all that is given out, the two statements count
   outs-after : (o : Option Sent) (old new : Node)
-      → after kind o (outs old new) ≡ after kind (after kind o (emitted new (sent_nomination old.votes) (sent_nomination new.votes))) (emitted new (sent_vote old.votes) (sent_vote new.votes))
+      → after kind o (outs old new)
+      ≡ after kind (after kind o (emitted new (sent_nomination old.votes) (sent_nomination new.votes)))
+      (emitted new (sent_vote old.votes) (sent_vote new.votes))
   unfolding outs
   outs-after o old new =
-      let a = when (not (new.given.round == old.given.round) && is_none new.votes.high) (ArmNomination new.given.round) in
-      let b = when (not (new.votes.armed == old.votes.armed) && (new.votes.armed == counter_of new.votes.ballot) && not (is_externalized new.votes.phase)) (ArmBallot new.votes.armed) in
+      let a = when (not (new.given.round == old.given.round) && is_none new.votes.high)
+      (ArmNomination new.given.round) in
+      let b = when (not (new.votes.armed == old.votes.armed) && (new.votes.armed == counter_of new.votes.ballot)
+      && not (is_externalized new.votes.phase)) (ArmBallot new.votes.armed) in
       let c = emitted new (sent_nomination old.votes) (sent_nomination new.votes) in
       let d = emitted new (sent_vote old.votes) (sent_vote new.votes) in
-      let e = if is_externalized new.votes.phase && not (is_externalized old.votes.phase) then decided new.votes.ballot else [] in
+      let e = if is_externalized new.votes.phase
+      && not (is_externalized old.votes.phase) then decided new.votes.ballot else [] in
       after-append kind o (((a ++ b) ++ c) ++ d) e
-      ∙ (last (after kind o (((a ++ b) ++ c) ++ d)) (is_externalized new.votes.phase && not (is_externalized old.votes.phase)) new.votes.ballot
+      ∙ (last (after kind o (((a ++ b) ++ c) ++ d))
+      (is_externalized new.votes.phase && not (is_externalized old.votes.phase)) new.votes.ballot
       ∙ (after-append kind o ((a ++ b) ++ c) d
       ∙ ap (λ p. after kind p d) (after-append kind o (a ++ b) c
       ∙ ap (λ p. after kind p c) (after-append kind o a b
-      ∙ (armed (after kind o a) (not (new.votes.armed == old.votes.armed) && (new.votes.armed == counter_of new.votes.ballot) && not (is_externalized new.votes.phase)) (ArmBallot new.votes.armed) refl
-      ∙ armed o (not (new.given.round == old.given.round) && is_none new.votes.high) (ArmNomination new.given.round) refl)))))
+      ∙ (armed (after kind o a) (not (new.votes.armed == old.votes.armed)
+      && (new.votes.armed == counter_of new.votes.ballot) && not (is_externalized new.votes.phase))
+      (ArmBallot new.votes.armed) refl
+      ∙ armed o (not (new.given.round == old.given.round) && is_none new.votes.high)
+      (ArmNomination new.given.round) refl)))))
 
 -- ---- the two statements
 nomination-kind : (w : Votes) (s : Statement) → sent_nomination w ≡ Some s → kind_of s ≡ Nomination
@@ -114,10 +147,13 @@ vote-kind w s h = go w.ballot h
     go None e = cc
     go (Some b) e = let same : sent_in w.phase w b ≡ s = cc in ap kind_of (sym same) ∙ in_phase w.phase b
 
-nomination-stays : (old w : Votes) → Grows old w → is_some (sent_nomination old) ≡ true → is_some (sent_nomination w) ≡ true
+nomination-stays : (old w : Votes) → Grows old w → is_some (sent_nomination old) ≡ true
+    → is_some (sent_nomination w) ≡ true
 unfolding sent_nomination
 nomination-stays old w g h =
-    sent (nat_lt 0 (length w.voted) || nat_lt 0 (length w.accepts)) (some (length old.voted) (length w.voted) (length old.accepts) (length w.accepts) g.voted g.accepts (was (nat_lt 0 (length old.voted) || nat_lt 0 (length old.accepts)) h))
+    sent (nat_lt 0 (length w.voted) || nat_lt 0 (length w.accepts))
+    (some (length old.voted) (length w.voted) (length old.accepts) (length w.accepts) g.voted g.accepts
+    (was (nat_lt 0 (length old.voted) || nat_lt 0 (length old.accepts)) h))
   where
     was : (b : Bool) → is_some (if b then Some (Nominate old.voted old.accepts) else None) ≡ true → b ≡ true
     was true e = refl
@@ -143,30 +179,44 @@ vote-stays old w g h = sent w.ballot (g.ballot (was old.ballot h))
     sent (Some b) e = refl
 
 -- ---- a step
-step-sends : (old new : Node) → Grows old.votes new.votes → (kind : Kind) (o : Option Sent) → option_map (λ e. e.body) o ≡ sent_as kind old.votes → option_map (λ e. e.body) (after kind o (outs old new)) ≡ sent_as kind new.votes
+step-sends : (old new : Node) → Grows old.votes new.votes → (kind : Kind) (o : Option Sent)
+    → option_map (λ e. e.body) o ≡ sent_as kind old.votes
+    → option_map (λ e. e.body) (after kind o (outs old new)) ≡ sent_as kind new.votes
 step-sends old new g Nomination o h =
     ap (λ (p : Option Sent). option_map (λ e. e.body) p) (outs-after Nomination o old new
-    ∙ other Nomination new (after Nomination o (emitted new (sent_nomination old.votes) (sent_nomination new.votes))) (sent_vote old.votes) (sent_vote new.votes) (λ s e. ap (is_kind Nomination) (vote-kind new.votes s e)))
-    ∙ own Nomination new o (sent_nomination old.votes) (sent_nomination new.votes) h (λ s e. ap (is_kind Nomination) (nomination-kind new.votes s e)) (nomination-stays old.votes new.votes g)
+    ∙ other Nomination new (after Nomination o (emitted new (sent_nomination old.votes) (sent_nomination new.votes)))
+    (sent_vote old.votes) (sent_vote new.votes) (λ s e. ap (is_kind Nomination) (vote-kind new.votes s e)))
+    ∙ own Nomination new o (sent_nomination old.votes) (sent_nomination new.votes) h
+    (λ s e. ap (is_kind Nomination) (nomination-kind new.votes s e)) (nomination-stays old.votes new.votes g)
 step-sends old new g Kind.Ballot o h =
     ap (λ (p : Option Sent). option_map (λ e. e.body) p) (outs-after Kind.Ballot o old new
     ∙ ap (λ p. after Kind.Ballot p (emitted new (sent_vote old.votes) (sent_vote new.votes)))
-    (other Kind.Ballot new o (sent_nomination old.votes) (sent_nomination new.votes) (λ s e. ap (is_kind Kind.Ballot) (nomination-kind new.votes s e))))
-    ∙ own Kind.Ballot new o (sent_vote old.votes) (sent_vote new.votes) h (λ s e. ap (is_kind Kind.Ballot) (vote-kind new.votes s e)) (vote-stays old.votes new.votes g)
+    (other Kind.Ballot new o (sent_nomination old.votes) (sent_nomination new.votes)
+    (λ s e. ap (is_kind Kind.Ballot) (nomination-kind new.votes s e))))
+    ∙ own Kind.Ballot new o (sent_vote old.votes) (sent_vote new.votes) h
+    (λ s e. ap (is_kind Kind.Ballot) (vote-kind new.votes s e)) (vote-stays old.votes new.votes g)
 
-last_of-more : (kind : Kind) (told : List Sent) (os : List Out) → last_of kind (told ++ emissions os) ≡ option_map (λ e. e.body) (after kind (last_or None (filter (λ e. is_kind kind (kind_of e.body)) told)) os)
+last_of-more : (kind : Kind) (told : List Sent) (os : List Out)
+    → last_of kind (told ++ emissions os)
+    ≡ option_map (λ e. e.body) (after kind (last_or None (filter (λ e. is_kind kind (kind_of e.body)) told)) os)
 last_of-more kind told os =
-    ap (λ (es : List Sent). option_map (λ (e : Sent). e.body) (last_or None es)) (filter-append (λ e. is_kind kind (kind_of e.body)) told (emissions os))
-    ∙ ap (λ (p : Option Sent). option_map (λ e. e.body) p) (last-append None (filter (λ e. is_kind kind (kind_of e.body)) told) (filter (λ e. is_kind kind (kind_of e.body)) (emissions os)))
+    ap (λ (es : List Sent). option_map (λ (e : Sent). e.body) (last_or None es))
+    (filter-append (λ e. is_kind kind (kind_of e.body)) told (emissions os))
+    ∙ ap (λ (p : Option Sent). option_map (λ e. e.body) p)
+    (last-append None (filter (λ e. is_kind kind (kind_of e.body)) told)
+    (filter (λ e. is_kind kind (kind_of e.body)) (emissions os)))
 
 moved-sends : (e : NodeEvent) (p : Place) → SendsItsLast p → SendsItsLast (moved e p)
 unfolding moved step
-moved-sends e p h kind = last_of-more kind p.told (answered p.node (after_change (change p.node e))).1 ∙ go (after_change (change p.node e)) (event-grows p.node e)
+moved-sends e p h kind =
+    last_of-more kind p.told (answered p.node (after_change (change p.node e))).1
+    ∙ go (after_change (change p.node e)) (event-grows p.node e)
   where
     before : Option Sent
     before = last_or None (filter (λ e. is_kind kind (kind_of e.body)) p.told)
 
-    go : (o : Option Node) → if_node (λ m. Grows p.node.votes m.votes) o → option_map (λ e. e.body) (after kind before (answered p.node o).1) ≡ sent_as kind (answered p.node o).0.votes
+    go : (o : Option Node) → if_node (λ m. Grows p.node.votes m.votes) o
+        → option_map (λ e. e.body) (after kind before (answered p.node o).1) ≡ sent_as kind (answered p.node o).0.votes
     go None g = h kind
     go (Some m) g = step-sends p.node m g kind before (h kind)
 

@@ -9,7 +9,8 @@ use Rattle.types.specs.Nominations.{IsNominationSet}
 use Rattle.protocol.specs.States.{counter_of}
 use Rattle.protocol.proofs.Ballots.Above.{Under}
 
--- in PREPARE the highest confirmed ballot is not above the ballot, and there is none without a ballot; later the interval is ordered, and in COMMIT it is up to the ballot
+-- in PREPARE the highest confirmed ballot is not above the ballot, and there is none without a ballot; later the
+-- interval is ordered, and in COMMIT it is up to the ballot
 abbrev pub IsPlaced : Phase → Option Ballot → Option Ballot → ℕ → ℕ → Type 0
 IsPlaced Preparing ballot high lo hi = Under high ballot
 IsPlaced Committing ballot high lo hi = (1 ≤ lo) × ((lo ≤ hi) × (hi ≤ counter_of ballot))

@@ -35,7 +35,8 @@ from_one : (n : ℕ) → nat_lt 0 n ≡ true → 1 ≤ n
 from_one n k = grind (arith, nat_tests)
 
 module _ (fired : ℕ) where
-  pub nominate-keeps : (v : ℕ) (s : Seen) (g : Given) (w : Votes) → IsSendable fired w → IsSendable fired (nominate v s g w)
+  pub nominate-keeps : (v : ℕ) (s : Seen) (g : Given) (w : Votes) → IsSendable fired w
+      → IsSendable fired (nominate v s g w)
   nominate-keeps v s g w h = elim (cases_Bool (is_none w.high)) [
     | inl e ↦ subst (IsSendable fired) (sym (nominate-is v s g w e)) (record {
       voted = voted-set v s g w.voted w.confirms h.voted;
@@ -48,7 +49,8 @@ module _ (fired : ℕ) where
   ]
 
   -- ---- the first ballot
-  first-placed : (p : Phase) (high first : Option Ballot) (lo hi : ℕ) → IsPlaced p None high lo hi → IsPlaced p first high lo hi
+  first-placed : (p : Phase) (high first : Option Ballot) (lo hi : ℕ) → IsPlaced p None high lo hi
+      → IsPlaced p first high lo hi
   first-placed Preparing None first lo hi h = tt
   first-placed Preparing (Some x) first lo hi h = absurd (true≢false h)
   first-placed Committing high first lo hi h = over lo hi (counter_of first) h.0 h.1.0 h.1.1
@@ -57,7 +59,8 @@ module _ (fired : ℕ) where
       over lo hi n a b c = absurd (omega (arith, a, b, c))
   first-placed Externalized high first lo hi h = h
 
-  first-keeps : (w : Votes) (first : Option Ballot) → w.ballot ≡ None → IfSome first (λ b. 1 ≤ b.counter) → IsSendable fired w → IsSendable fired (record w { ballot = first })
+  first-keeps : (w : Votes) (first : Option Ballot) → w.ballot ≡ None → IfSome first (λ b. 1 ≤ b.counter)
+      → IsSendable fired w → IsSendable fired (record w { ballot = first })
   first-keeps w first e c h = record {
     voted = h.voted;
     accepts = h.accepts;
@@ -69,7 +72,8 @@ module _ (fired : ℕ) where
       none : (n : ℕ) → fired ≤ 0 → fired ≤ n
       none n k = omega (arith, k)
 
-  counted-named : (s : Seen) (w : Votes) (test : Ballot → Bool) (o : Option Ballot) → greatest None (filter test (named s w)) ≡ o → IfSome o (λ b. 1 ≤ b.counter)
+  counted-named : (s : Seen) (w : Votes) (test : Ballot → Bool) (o : Option Ballot)
+      → greatest None (filter test (named s w)) ≡ o → IfSome o (λ b. 1 ≤ b.counter)
   counted-named s w test None e = tt
   counted-named s w test (Some t) e = elim (greatest-from None (filter test (named s w)) t e) [
     | inl k ↦ cc
@@ -80,7 +84,8 @@ module _ (fired : ℕ) where
   unfolding start started
   start-keeps s w h = go w.ballot (combine w.confirms) refl refl
     where
-      go : (o : Option Ballot) (z : Option (List ℕ)) → w.ballot ≡ o → combine w.confirms ≡ z → IsSendable fired (start s w)
+      go : (o : Option Ballot) (z : Option (List ℕ)) → w.ballot ≡ o → combine w.confirms ≡ z
+          → IsSendable fired (start s w)
       go (Some b) z e k = subst (IsSendable fired) (sym (start-some s w b e)) h
       go None (Some x) e k =
           let is : start s w ≡ record w { ballot = Some (ballot_at 1 x) } = rw (e, k) refl in
@@ -91,19 +96,24 @@ module _ (fired : ℕ) where
           subst (IsSendable fired) (sym is) (first-keeps w first e (counted-named s w (is_accepted s w) first refl) h)
 
   -- ---- prepared
-  pub prepared-keeps : (s : Seen) (b : Ballot) (w : Votes) → IsSendable fired w → IsSendable fired (accept_prepared s b w)
+  pub prepared-keeps : (s : Seen) (b : Ballot) (w : Votes) → IsSendable fired w
+      → IsSendable fired (accept_prepared s b w)
   unfolding accept_prepared
-  prepared-keeps s b w h = record { voted = h.voted; accepts = h.accepts; timers = h.timers; counted = h.counted; placed = h.placed }
+  prepared-keeps s b w h =
+      record { voted = h.voted; accepts = h.accepts; timers = h.timers; counted = h.counted; placed = h.placed }
 
-  followed : (high : Option Ballot) (b : Ballot) → (b.counter ≤ (at_least high b).counter) × Under high (Some (at_least high b))
+  followed : (high : Option Ballot) (b : Ballot)
+      → (b.counter ≤ (at_least high b).counter) × Under high (Some (at_least high b))
   followed None b = (omega arith, tt)
   followed (Some h) b = go (below b h) refl
     where
-      go : (c : Bool) → below b h ≡ c → (b.counter ≤ (if c then h else b).counter) × (below (if c then h else b) h ≡ false)
+      go : (c : Bool) → below b h ≡ c
+          → (b.counter ≤ (if c then h else b).counter) × (below (if c then h else b) h ≡ false)
       go true e = (below-counter b h e, below-self h)
       go false e = (omega arith, e)
 
-  pub confirmed-keeps : (s : Seen) (b : Ballot) (w : Votes) → w.phase ≡ Preparing → w.ballot ≡ Some b → IsSendable fired w → IsSendable fired (confirm_prepared s b w)
+  pub confirmed-keeps : (s : Seen) (b : Ballot) (w : Votes) → w.phase ≡ Preparing → w.ballot ≡ Some b
+      → IsSendable fired w → IsSendable fired (confirm_prepared s b w)
   unfolding confirm_prepared set_commit follow_high raise_high
   confirmed-keeps s b w p e h =
       let high = greatest w.high (filter (is_confirmed s w) (named s w)) in
@@ -118,7 +128,9 @@ module _ (fired : ℕ) where
       }
 
   -- ---- committed
-  interval : (test : ℕ → Bool) (s : Seen) (w : Votes) (t : Ballot) → IsIn t (commits s w) → (1 ≤ t.counter) × ((1 ≤ lowest test t.value t.counter (commits s w)) × (lowest test t.value t.counter (commits s w) ≤ t.counter))
+  interval : (test : ℕ → Bool) (s : Seen) (w : Votes) (t : Ballot) → IsIn t (commits s w)
+      → (1 ≤ t.counter)
+      × ((1 ≤ lowest test t.value t.counter (commits s w)) × (lowest test t.value t.counter (commits s w) ≤ t.counter))
   interval test s w t i =
       let lo = lowest test t.value t.counter (commits s w) in
       let c = from_one t.counter (commits-parts s w t i).0 in (
@@ -132,20 +144,24 @@ module _ (fired : ℕ) where
         ),
       )
 
-  chosen-in : (test : Ballot → Bool) (ts : List Ballot) (t : Ballot) → greatest None (filter test ts) ≡ Some t → IsIn t ts
+  chosen-in : (test : Ballot → Bool) (ts : List Ballot) (t : Ballot)
+      → greatest None (filter test ts) ≡ Some t → IsIn t ts
   chosen-in test ts t e = elim (greatest-from None (filter test ts) t e) [
     | inl k ↦ cc
     | inr i ↦ (from-filter test t ts i).0
   ]
 
-  pub accept-keeps : (p : Phase) (s : Seen) (b : Ballot) (w : Votes) → w.phase ≡ p → w.ballot ≡ Some b → IsSendable fired w → IsSendable fired (accept_commit p s b w)
+  pub accept-keeps : (p : Phase) (s : Seen) (b : Ballot) (w : Votes) → w.phase ≡ p → w.ballot ≡ Some b
+      → IsSendable fired w → IsSendable fired (accept_commit p s b w)
   unfolding accept_commit enter_commit widen_commit accepted_from first_committed next_committed
   accept-keeps Preparing s b w p e h = go (first_committed s w) refl
     where
       go : (o : Option Ballot) → first_committed s w ≡ o → IsSendable fired (enter_commit s b w o)
       go None k = h
       go (Some t) k =
-          let r = interval (λ lo. commit_accepted s w t.value lo t.counter) s w t (chosen-in (λ t. commit_accepted s w t.value t.counter t.counter && is_confirmed s w t && not (is_aborted w t)) (commits s w) t k) in
+          let r = interval (λ lo. commit_accepted s w t.value lo t.counter) s w t
+          (chosen-in (λ t. commit_accepted s w t.value t.counter t.counter && is_confirmed s w t
+          && not (is_aborted w t)) (commits s w) t k) in
           record {
             voted = h.voted;
             accepts = h.accepts;
@@ -158,10 +174,13 @@ module _ (fired : ℕ) where
       go : (o : Option Ballot) → next_committed s b w ≡ o → IsSendable fired (widen_commit s b w o)
       go None k = h
       go (Some t) k =
-          let r = interval (λ lo. commit_accepted s w t.value lo t.counter) s w t (chosen-in (λ t. same_value t.value b.value && nat_lt w.hi t.counter && commit_accepted s w t.value t.counter t.counter) (commits s w) t k) in
+          let r = interval (λ lo. commit_accepted s w t.value lo t.counter) s w t
+          (chosen-in (λ t. same_value t.value b.value && nat_lt w.hi t.counter
+          && commit_accepted s w t.value t.counter t.counter) (commits s w) t k) in
           let n = ballot_at (max b.counter t.counter) t.value in
           let lo = lowest (λ lo. commit_accepted s w t.value lo t.counter) t.value t.counter (commits s w) in
-          let placed : IsPlaced Committing (Some n) w.high lo t.counter = (r.1.0, (r.1.1, other t.counter b.counter t.counter (omega arith))) in
+          let placed : IsPlaced Committing (Some n) w.high lo t.counter =
+          (r.1.0, (r.1.1, other t.counter b.counter t.counter (omega arith))) in
           record {
             voted = h.voted;
             accepts = h.accepts;
@@ -171,7 +190,8 @@ module _ (fired : ℕ) where
           }
   accept-keeps Externalized s b w p e h = h
 
-  pub confirm-keeps : (p : Phase) (s : Seen) (b : Ballot) (w : Votes) → IsSendable fired w → IsSendable fired (confirm_commit p s b w)
+  pub confirm-keeps : (p : Phase) (s : Seen) (b : Ballot) (w : Votes) → IsSendable fired w
+      → IsSendable fired (confirm_commit p s b w)
   unfolding confirm_commit confirmed_commit externalize
   confirm-keeps Preparing s b w h = h
   confirm-keeps Committing s b w h = go (confirmed_commit s b w) refl
@@ -179,6 +199,14 @@ module _ (fired : ℕ) where
       go : (o : Option Ballot) → confirmed_commit s b w ≡ o → IsSendable fired (externalize s w o)
       go None k = h
       go (Some t) k =
-          let r = interval (λ lo. commit_confirmed s w t.value lo t.counter) s w t (chosen-in (λ t. same_value t.value b.value && commit_confirmed s w t.value t.counter t.counter) (commits s w) t k) in
-          record { voted = h.voted; accepts = h.accepts; timers = h.timers; counted = h.counted; placed = (r.1.0, r.1.1) }
+          let r = interval (λ lo. commit_confirmed s w t.value lo t.counter) s w t
+          (chosen-in (λ t. same_value t.value b.value && commit_confirmed s w t.value t.counter t.counter)
+          (commits s w) t k) in
+          record {
+            voted = h.voted;
+            accepts = h.accepts;
+            timers = h.timers;
+            counted = h.counted;
+            placed = (r.1.0, r.1.1);
+          }
   confirm-keeps Externalized s b w h = h

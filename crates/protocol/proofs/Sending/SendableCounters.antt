@@ -27,36 +27,48 @@ past-counter a b h = below-parts a b ∙ over a.counter b.counter (less a.value 
     over m n false h = grind (arith, nat_tests)
 
 -- a counter that is not lowered keeps what is placed
-raised-placed : (p : Phase) (w : Votes) (b : Ballot) (high : Option Ballot) (n lo hi : ℕ) → b.counter ≤ n → IsPlaced p (Some b) high lo hi → IsPlaced p (Some (raised w b n)) high lo hi
+raised-placed : (p : Phase) (w : Votes) (b : Ballot) (high : Option Ballot) (n lo hi : ℕ) → b.counter ≤ n
+    → IsPlaced p (Some b) high lo hi → IsPlaced p (Some (raised w b n)) high lo hi
 raised-placed Preparing w b None n lo hi k h = tt
 raised-placed Preparing w b (Some x) n lo hi k h = go (n == b.counter) refl
   where
     over : (x m n : ℕ) → x ≤ m → m ≤ n → (n == m) ≡ false → x < n
     over x m n h k e = grind (arith, nat_tests)
 
-    go : (c : Bool) → (n == b.counter) ≡ c → below (if c then b else ballot_at n (raised_value w.phase w b.value)) x ≡ false
+    go : (c : Bool) → (n == b.counter) ≡ c
+        → below (if c then b else ballot_at n (raised_value w.phase w b.value)) x ≡ false
     go true e = h
-    go false e = past-counter (ballot_at n (raised_value w.phase w b.value)) x (over x.counter b.counter n (not_below-counter b x h) k e)
-raised-placed Committing w b high n lo hi k h = (h.0, (h.1.0, subst (λ m. hi ≤ m) (sym (raised-counter w b n)) (through hi b.counter n h.1.1 k)))
+    go false e =
+        past-counter (ballot_at n (raised_value w.phase w b.value)) x
+        (over x.counter b.counter n (not_below-counter b x h) k e)
+raised-placed Committing w b high n lo hi k h =
+    (h.0, (h.1.0, subst (λ m. hi ≤ m) (sym (raised-counter w b n)) (through hi b.counter n h.1.1 k)))
 raised-placed Externalized w b high n lo hi k h = h
 
 -- so does a raise, to a counter that is not below the timers
-pub raised-keeps : (fired more : ℕ) (w : Votes) (b : Ballot) (n : ℕ) → w.ballot ≡ Some b → b.counter ≤ n → more ≤ n → IsSendable fired w → IsSendable more (record w { ballot = Some (raised w b n) })
+pub raised-keeps : (fired more : ℕ) (w : Votes) (b : Ballot) (n : ℕ) → w.ballot ≡ Some b → b.counter ≤ n → more ≤ n
+    → IsSendable fired w → IsSendable more (record w { ballot = Some (raised w b n) })
 raised-keeps fired more w b n e k l h = record {
   voted = h.voted;
   accepts = h.accepts;
   timers = subst (λ m. more ≤ m) (sym (raised-counter w b n)) l;
-  counted = subst (λ m. 1 ≤ m) (sym (raised-counter w b n)) (through 1 b.counter n (subst (λ o. IfSome o (λ b. 1 ≤ b.counter)) e h.counted) k);
+  counted =
+      subst (λ m. 1 ≤ m) (sym (raised-counter w b n))
+      (through 1 b.counter n (subst (λ o. IfSome o (λ b. 1 ≤ b.counter)) e h.counted) k);
   placed = raised-placed w.phase w b w.high n w.lo w.hi k (subst (λ o. IsPlaced w.phase o w.high w.lo w.hi) e h.placed);
 }
 
 module _ (fired : ℕ) where
-  pub raise-keeps : (s : Seen) (g : Given) (b : Ballot) (w : Votes) → w.ballot ≡ Some b → IsSendable fired w → IsSendable fired (raise s g b w)
+  pub raise-keeps : (s : Seen) (g : Given) (b : Ballot) (w : Votes) → w.ballot ≡ Some b → IsSendable fired w
+      → IsSendable fired (raise s g b w)
   unfolding raise raised_counter
   raise-keeps s g b w e h =
-      let up = least_from-low (cap g.fired - b.counter) b.counter (λ n. not (s.blocking _ (passes (counts (n + 1)) (position w)) (counts (n + 1)))) in
-      raised-keeps fired fired w b _ e up (through fired b.counter _ (subst (λ o. fired ≤ counter_of o) e h.timers) up) h
+      let up = least_from-low (cap g.fired - b.counter) b.counter
+      (λ n. not (s.blocking _ (passes (counts (n + 1)) (position w)) (counts (n + 1)))) in
+      raised-keeps fired fired w b _ e up
+      (through fired b.counter _ (subst (λ o. fired ≤ counter_of o) e h.timers) up) h
 
   pub arm-keeps : (s : Seen) (b : Ballot) (w : Votes) → IsSendable fired w → IsSendable fired (arm s b w)
   arm-keeps s b w h = let a = arm-moves s b w in
-      subst (IsSendable fired) (sym a.1) (record { voted = h.voted; accepts = h.accepts; timers = h.timers; counted = h.counted; placed = h.placed })
+      subst (IsSendable fired) (sym a.1)
+      (record { voted = h.voted; accepts = h.accepts; timers = h.timers; counted = h.counted; placed = h.placed })

@@ -13,14 +13,16 @@ use Rattle.protocol.proofs.Sending.Sendable.{IsSendable}
 use Rattle.protocol.proofs.Sending.SendableBallots.{accept-keeps, confirm-keeps, confirmed-keeps, nominate-keeps, prepared-keeps, start-keeps}
 use Rattle.protocol.proofs.Sending.SendableCounters.{arm-keeps, raise-keeps}
 
-pub on-keeps : (P : Votes → Type 0) (f : Ballot → Votes → Votes) (w : Votes) → P w → ((b : Ballot) → w.ballot ≡ Some b → P (f b w)) → P (on_ballot f w)
+pub on-keeps : (P : Votes → Type 0) (f : Ballot → Votes → Votes) (w : Votes) → P w
+    → ((b : Ballot) → w.ballot ≡ Some b → P (f b w)) → P (on_ballot f w)
 on-keeps P f w h g = go w.ballot refl
   where
     go : (o : Option Ballot) → w.ballot ≡ o → P (with_ballot f w o)
     go None e = h
     go (Some b) e = g b e
 
-pub prepare-keeps : (P : Votes → Type 0) (f : Votes → Votes) (w : Votes) → P w → (w.phase ≡ Preparing → P (f w)) → P (in_prepare f w)
+pub prepare-keeps : (P : Votes → Type 0) (f : Votes → Votes) (w : Votes) → P w → (w.phase ≡ Preparing → P (f w))
+    → P (in_prepare f w)
 prepare-keeps P f w h g = go w.phase refl
   where
     go : (p : Phase) → w.phase ≡ p → P (while_preparing p f w)
@@ -44,8 +46,11 @@ voting-keeps fired s w h =
     let w3 = in_prepare (on_ballot (confirm_prepared s)) w2 in
     let w4 = on_ballot (λ b x. accept_commit x.phase s b x) w3 in
     let h2 : P w2 = on-keeps P (accept_prepared s) w h (λ b e. prepared-keeps fired s b w h) in
-    let h3 : P w3 = prepare-keeps P (on_ballot (confirm_prepared s)) w2 h2 (λ p. on-keeps P (confirm_prepared s) w2 h2 (λ b e. confirmed-keeps fired s b w2 p e h2)) in
-    let h4 : P w4 = on-keeps P (λ b x. accept_commit x.phase s b x) w3 h3 (λ b e. accept-keeps fired w3.phase s b w3 refl e h3) in
+    let h3 : P w3 =
+    prepare-keeps P (on_ballot (confirm_prepared s)) w2 h2
+    (λ p. on-keeps P (confirm_prepared s) w2 h2 (λ b e. confirmed-keeps fired s b w2 p e h2)) in
+    let h4 : P w4 =
+    on-keeps P (λ b x. accept_commit x.phase s b x) w3 h3 (λ b e. accept-keeps fired w3.phase s b w3 refl e h3) in
     on-keeps P (λ b x. confirm_commit x.phase s b x) w4 h4 (λ b e. confirm-keeps fired w4.phase s b w4 h4)
 
 counting-keeps : (fired : ℕ) (s : Seen) (g : Given) (w : Votes) → IsSendable fired w → IsSendable fired (counting s g w)
@@ -61,5 +66,7 @@ unfolding pass pass_rules
 pass-keeps fired v s g w h =
     let P : Votes → Type 0 = IsSendable fired in
     let x = voting s (start s (nominate v s g w)) in
-    let hx : P x = voting-keeps fired s (start s (nominate v s g w)) (start-keeps fired s (nominate v s g w) (nominate-keeps fired v s g w h)) in
+    let hx : P x =
+    voting-keeps fired s (start s (nominate v s g w))
+    (start-keeps fired s (nominate v s g w) (nominate-keeps fired v s g w h)) in
     unless-keeps P (pass_rules v s g) w h (unless-keeps P (counting s g) x hx (counting-keeps fired s g x hx))

@@ -19,14 +19,16 @@ unfolding filled
 filled-set old new h =
     let more = take (16 - length old) (filter (λ x. not (has_value old x)) (as_set new)) in
     record {
-      few = upto (length (all_with more old)) (length old) (length more) (all-longer more old).1 (take-few (16 - length old) (filter (λ x. not (has_value old x)) (as_set new))) h.few;
+      few = upto (length (all_with more old)) (length old) (length more) (all-longer more old).1
+          (take-few (16 - length old) (filter (λ x. not (has_value old x)) (as_set new))) h.few;
       ascending = all-ascending more old h.ascending;
     }
   where
     upto : (n old more : ℕ) → n ≤ old + more → more ≤ 16 - old → old ≤ 16 → n ≤ 16
     upto n old more h k l = omega (arith, h, k, l)
 
-pub voted-set : (v : ℕ) (s : Seen) (g : Given) (vo co : List (List ℕ)) → IsNominationSet vo → IsNominationSet (new_voted v s g vo co)
+pub voted-set : (v : ℕ) (s : Seen) (g : Given) (vo co : List (List ℕ)) → IsNominationSet vo
+    → IsNominationSet (new_voted v s g vo co)
 voted-set v s g vo co h = go (echoes g co)
   where
     go : (b : Bool) → IsNominationSet (if b then filled vo (sources v s g) else vo)

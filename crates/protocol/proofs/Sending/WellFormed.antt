@@ -25,9 +25,11 @@ pub nomination-sends : (fired : ℕ) (w : Votes) → IsSendable fired w → IfSo
 unfolding sent_nomination
 nomination-sends fired w h = go (nat_lt 0 (length w.voted) || nat_lt 0 (length w.accepts)) refl
   where
-    go : (b : Bool) → (nat_lt 0 (length w.voted) || nat_lt 0 (length w.accepts)) ≡ b → IfSome (if b then Some (Nominate w.voted w.accepts) else None) IsWellFormed
+    go : (b : Bool) → (nat_lt 0 (length w.voted) || nat_lt 0 (length w.accepts)) ≡ b
+        → IfSome (if b then Some (Nominate w.voted w.accepts) else None) IsWellFormed
     go false e = tt
-    go true e = record { voted_set = h.voted; accepted_set = h.accepts; some = some (length w.voted) (length w.accepts) e }
+    go true e =
+        record { voted_set = h.voted; accepted_set = h.accepts; some = some (length w.voted) (length w.accepts) e }
       where
         some : (m n : ℕ) → (nat_lt 0 m || nat_lt 0 n) ≡ true → 0 < m + n
         some m n e = grind (arith, nat_tests)
@@ -52,11 +54,14 @@ lowered-up-to b p c = go (below b p) refl
     less_counter : (n : ℕ) (o : Ordering) → 1 ≤ n → is_gt (ordering_then (nat_cmp (n - 1) n) o) ≡ false
     less_counter n o h = grind (arith, nat_tests)
 
-    at : (c : Bool) → not (is_gt (bytes_cmp p.value b.value)) ≡ c → IsUpTo (if c then ballot_at b.counter p.value else ballot_at (b.counter - 1) p.value) b
+    at : (c : Bool) → not (is_gt (bytes_cmp p.value b.value)) ≡ c
+        → IsUpTo (if c then ballot_at b.counter p.value else ballot_at (b.counter - 1) p.value) b
     at true e = same_counter b.counter (bytes_cmp p.value b.value) (not-true _ e)
     at false e = less_counter b.counter (bytes_cmp p.value b.value) c
 
-    go : (d : Bool) → below b p ≡ d → IsUpTo (if d then (if not (is_gt (bytes_cmp p.value b.value)) then ballot_at b.counter p.value else ballot_at (b.counter - 1) p.value) else p) b
+    go : (d : Bool) → below b p ≡ d
+        → IsUpTo (if d then (if not (is_gt (bytes_cmp p.value b.value)) then ballot_at b.counter p.value else ballot_at
+        (b.counter - 1) p.value) else p) b
     go true e = at (not (is_gt (bytes_cmp p.value b.value))) refl
     go false e = up-to p b e
 
@@ -77,7 +82,8 @@ commit-up-to most b (Some c) = go (same_value c.value b.value) (nat_le c.counter
     go true false e = omega arith
     go false k e = omega arith
 
-vote-sends-in : (w : Votes) (b : Ballot) (p : Phase) → 1 ≤ b.counter → IsPlaced p (Some b) w.high w.lo w.hi → IsWellFormed (sent_in p w b)
+vote-sends-in : (w : Votes) (b : Ballot) (p : Phase) → 1 ≤ b.counter → IsPlaced p (Some b) w.high w.lo w.hi
+    → IsWellFormed (sent_in p w b)
 unfolding sent_in high_counter commit_counter
 vote-sends-in w b Preparing c h = record {
   counted = c;
@@ -100,6 +106,7 @@ pub vote-sends : (fired : ℕ) (w : Votes) → IsSendable fired w → IfSome (se
 unfolding sent_vote
 vote-sends fired w h = go w.ballot h.counted h.placed
   where
-    go : (o : Option Ballot) → IfSome o (λ b. 1 ≤ b.counter) → IsPlaced w.phase o w.high w.lo w.hi → IfSome (option_map (sent_in w.phase w) o) IsWellFormed
+    go : (o : Option Ballot) → IfSome o (λ b. 1 ≤ b.counter) → IsPlaced w.phase o w.high w.lo w.hi
+        → IfSome (option_map (sent_in w.phase w) o) IsWellFormed
     go None c k = tt
     go (Some b) c k = vote-sends-in w b w.phase c k

@@ -10,7 +10,8 @@ pub contains_tail : {X : Type 0} (x y : X) (xs : List X) → Contains xs x → C
 contains_tail x y xs h = (suc h.0, omega arith, h.2)
 
 -- what all elements pass, each does
-pub all_contained : {X : Type 0} (test : X → Bool) (xs : List X) (x : X) → list_all test xs ≡ true → Contains xs x → test x ≡ true
+pub all_contained : {X : Type 0} (test : X → Bool) (xs : List X) (x : X) → list_all test xs ≡ true → Contains xs x
+    → test x ≡ true
 all_contained {X} test xs x h c = go xs h c.0 c.1 c.2
   where
     go : (ys : List X) → list_all test ys ≡ true → (k : ℕ) → k < length ys → get_or ys k x ≡ x → test x ≡ true
@@ -18,9 +19,12 @@ all_contained {X} test xs x h c = go xs h c.0 c.1 c.2
     go (y ∷ ys) a zero l e = subst (λ z. test z ≡ true) e (and_parts (test y) (list_all test ys) a).0
     go (y ∷ ys) a (suc k) l e = go ys (and_parts (test y) (list_all test ys) a).1 k (omega arith) e
 
-pub all_from_contained : {X : Type 0} (test : X → Bool) (xs : List X) → ((x : X) → Contains xs x → test x ≡ true) → list_all test xs ≡ true
+pub all_from_contained : {X : Type 0} (test : X → Bool) (xs : List X) → ((x : X) → Contains xs x → test x ≡ true)
+    → list_all test xs ≡ true
 all_from_contained test [] f = refl
-all_from_contained test (x ∷ xs) f = and_from (test x) (list_all test xs) (f x (contains_head x xs)) (all_from_contained test xs (λ y c. f y (contains_tail y x xs c)))
+all_from_contained test (x ∷ xs) f =
+    and_from (test x) (list_all test xs) (f x (contains_head x xs))
+    (all_from_contained test xs (λ y c. f y (contains_tail y x xs c)))
 
 pub contained_cases : {X : Type 0} (x y : X) (xs : List X) → Contains (y ∷ xs) x → (y ≡ x) ⊎ Contains xs x
 contained_cases x y xs (zero, l, e) = inl e

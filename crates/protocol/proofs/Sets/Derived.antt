@@ -11,13 +11,17 @@ use Rattle.protocol.proofs.Sets.Contained.{contained_cases, contains_head, conta
 use Rattle.protocol.proofs.Sets.Least.{in_least-closed, in_least-from, in_least-in}
 
 -- what is derived is in each closed set
-pub derived-in : (rules : List Rule) (v : ℕ) (set : Names) → IsClosed rules v set → {u : ℕ} → Derived rules v u → set u ≡ true
+pub derived-in : (rules : List Rule) (v : ℕ) (set : Names) → IsClosed rules v set → {u : ℕ} → Derived rules v u
+    → set u ≡ true
 derived-in rules v set c start = c.start
 derived-in rules v set c (given r {u} i f g) = c.each r i (λ w m. derived-in rules v set c (f w m)) u g
 
 -- A closed set whose members are derived is the least one: what a sweep has to show.
-pub least_is : (rules : List Rule) (v : ℕ) (set : Names) → IsClosed rules v set → ((u : ℕ) → set u ≡ true → Derived rules v u) → set ≡ in_least rules v
-least_is rules v set c d = fun_ext (λ u. same_test (set u) (in_least rules v u) (λ s. in_least-from rules v u (λ other k. derived-in rules v other k (d u s))) (λ s. in_least-in rules v set c u s))
+pub least_is : (rules : List Rule) (v : ℕ) (set : Names) → IsClosed rules v set
+    → ((u : ℕ) → set u ≡ true → Derived rules v u) → set ≡ in_least rules v
+least_is rules v set c d =
+    fun_ext (λ u. same_test (set u) (in_least rules v u)
+    (λ s. in_least-from rules v u (λ other k. derived-in rules v other k (d u s))) (λ s. in_least-in rules v set c u s))
 
 -- ---- each member of the least set is derived: rules are used up one by one, until none that is left applies
 -- one of the rules, and all others of the list
@@ -62,12 +66,22 @@ pick (x ∷ xs) set = elim (cases_Bool (within x.sources set)) [
   | inl e ↦ inl (record {
     rule = x;
     rest = xs;
-    picked = record { picked = contains_head x xs; fewer = omega arith; others = λ y c. contained_cases y x xs c; known = λ y c. contains_tail y x xs c };
+    picked = record {
+      picked = contains_head x xs;
+      fewer = omega arith;
+      others = λ y c. contained_cases y x xs c;
+      known = λ y c. contains_tail y x xs c;
+    };
     applies = e;
   })
   | inr e ↦ elim (pick xs set) [
     | inl p ↦ inl (pick_later x xs set p)
-    | inr none ↦ inr (λ y c. elim (contained_cases y x xs c) [ inl q ↦ subst (λ (z : Rule). within z.sources set ≡ false) q e | inr i ↦ none y i ])
+    | inr none ↦ inr
+        (λ y c. elim (contained_cases y x xs c) [
+          | inl q ↦ subst
+              (λ (z : Rule). within z.sources set ≡ false) q e
+          | inr i ↦ none y i
+        ])
   ]
 ]
 
@@ -93,20 +107,25 @@ module _ (rules : List Rule) (v : ℕ) where
   with_given r set u = among r.gives u || set u
 
   -- a rule that applies gives names that are derived
-  one_more : (left : List Rule) (set : Names) → IsUnderway left set → (p : IsApplicable left set) → IsUnderway p.rest (with_given p.rule set)
+  one_more : (left : List Rule) (set : Names) → IsUnderway left set → (p : IsApplicable left set)
+      → IsUnderway p.rest (with_given p.rule set)
   one_more left set way p = record {
     start = or_right (among p.rule.gives v) (set v) way.start;
     derived = λ u h. elim (or_cases (among p.rule.gives u) (set u) h) [
-      | inl g ↦ given p.rule (way.known p.rule p.picked.picked) (λ w m. way.derived w (within-at p.rule.sources set w p.applies m)) g
+      | inl g ↦ given p.rule (way.known p.rule p.picked.picked)
+          (λ w m. way.derived w (within-at p.rule.sources set w p.applies m)) g
       | inr s ↦ way.derived u s
     ];
     known = λ x c. way.known x (p.picked.known x c);
     used = λ x c. elim (way.used x c) [
       | inl k ↦ elim (p.picked.others x k) [
-        | inl q ↦ inr (all_from (with_given p.rule set) x.gives (λ u g. or_left (among p.rule.gives u) (set u) (rw q g)))
+        | inl q ↦ inr
+            (all_from (with_given p.rule set) x.gives (λ u g. or_left (among p.rule.gives u) (set u) (rw q g)))
         | inr i ↦ inl i
       ]
-      | inr k ↦ inr (all_from (with_given p.rule set) x.gives (λ u g. or_right (among p.rule.gives u) (set u) (within-at x.gives set u k g)))
+      | inr k ↦ inr
+          (all_from (with_given p.rule set) x.gives
+          (λ u g. or_right (among p.rule.gives u) (set u) (within-at x.gives set u k g)))
     ];
   }
 

@@ -39,30 +39,35 @@ among_right (x ∷ xs) ys u h = or_right (x == u) (among (xs ++ ys) u) (among_ri
 
 pub all_from : (test : Names) (xs : List ℕ) → ((u : ℕ) → among xs u ≡ true → test u ≡ true) → list_all test xs ≡ true
 all_from test [] f = refl
-all_from test (x ∷ xs) f = and_from (test x) (list_all test xs) (f x (among_head x xs)) (all_from test xs (λ u h. f u (among_tail x u xs h)))
+all_from test (x ∷ xs) f =
+    and_from (test x) (list_all test xs) (f x (among_head x xs)) (all_from test xs (λ u h. f u (among_tail x u xs h)))
 
 pub within-at : (xs : List ℕ) (set : Names) (u : ℕ) → within xs set ≡ true → among xs u ≡ true → set u ≡ true
 within-at xs set u w h = all_at set xs u w h
 
 -- a set that passes, of those names
-pub some_set-found : (xs : List ℕ) (test : Names → Bool) → some_set xs test ≡ true → (set : Names) × (test set ≡ true) × ((u : ℕ) → set u ≡ true → among xs u ≡ true)
+pub some_set-found : (xs : List ℕ) (test : Names → Bool) → some_set xs test ≡ true
+    → (set : Names) × (test set ≡ true) × ((u : ℕ) → set u ≡ true → among xs u ≡ true)
 unfolding some_set
 some_set-found [] test h = (none, h, λ u e. e)
 some_set-found (x ∷ xs) test h =
     elim (or_cases (some_set xs test) (not (among xs x) && some_set xs (λ set. test (also x set))) h) [
       | inl e ↦ let r = some_set-found xs test e in (r.0, r.1, λ u i. or_right (x == u) (among xs u) (r.2 u i))
-      | inr e ↦ let r = some_set-found xs (λ set. test (also x set)) (and_parts (not (among xs x)) (some_set xs (λ set. test (also x set))) e).1 in (
-        also x r.0,
-        r.1,
-        λ u i. elim (or_cases (x == u) (r.0 u) i) [
-          | inl k ↦ or_left (x == u) (among xs u) k
-          | inr k ↦ or_right (x == u) (among xs u) (r.2 u k)
-        ],
-      )
+      | inr e ↦ let r =
+          some_set-found xs (λ set. test (also x set))
+          (and_parts (not (among xs x)) (some_set xs (λ set. test (also x set))) e).1 in (
+            also x r.0,
+            r.1,
+            λ u i. elim (or_cases (x == u) (r.0 u) i) [
+              | inl k ↦ or_left (x == u) (among xs u) k
+              | inr k ↦ or_right (x == u) (among xs u) (r.2 u k)
+            ],
+          )
     ]
 
 -- a set, cut to those names, that passes
-pub some_set-from : (xs : List ℕ) (test : Names → Bool) (set : Names) → test (both (among xs) set) ≡ true → some_set xs test ≡ true
+pub some_set-from : (xs : List ℕ) (test : Names → Bool) (set : Names) → test (both (among xs) set) ≡ true
+    → some_set xs test ≡ true
 unfolding some_set
 some_set-from [] test set h = h
 some_set-from (x ∷ xs) test set h = elim (cases_Bool (set x)) [
@@ -71,7 +76,8 @@ some_set-from (x ∷ xs) test set h = elim (cases_Bool (set x)) [
         (some_set-from xs test set (subst (λ (U : Names). test U ≡ true) (fun_ext (λ u. again u m)) h))
     | inr n ↦ or_right (some_set xs test) (not (among xs x) && some_set xs (λ U. test (also x U)))
         (and_from (not (among xs x)) (some_set xs (λ U. test (also x U))) (not_from_false (among xs x) n)
-        (some_set-from xs (λ U. test (also x U)) set (subst (λ (U : Names). test U ≡ true) (fun_ext (λ u. with_it u i)) h)))
+        (some_set-from xs (λ U. test (also x U)) set
+        (subst (λ (U : Names). test U ≡ true) (fun_ext (λ u. with_it u i)) h)))
   ]
   | inr o ↦ or_left (some_set xs test) (not (among xs x) && some_set xs (λ U. test (also x U)))
       (some_set-from xs test set (subst (λ (U : Names). test U ≡ true) (fun_ext (λ u. without_it u o)) h))
@@ -102,13 +108,18 @@ some_set-from (x ∷ xs) test set h = elim (cases_Bool (set x)) [
             both_false false b f = f
         go false e = refl
 
-pub every_set-at : (xs : List ℕ) (test : Names → Bool) (set : Names) → every_set xs test ≡ true → test (both (among xs) set) ≡ true
+pub every_set-at : (xs : List ℕ) (test : Names → Bool) (set : Names) → every_set xs test ≡ true
+    → test (both (among xs) set) ≡ true
 unfolding every_set
 every_set-at xs test set h = elim (cases_Bool (test (both (among xs) set))) [
   | inl e ↦ e
   | inr e ↦ absurd (true≢false (sym (some_set-from xs (λ U. not (test U)) set (not_from_false _ e)) ∙ not-true _ h))
 ]
 
-pub every_set-from : (xs : List ℕ) (test : Names → Bool) → ((set : Names) → ((u : ℕ) → set u ≡ true → among xs u ≡ true) → test set ≡ true) → every_set xs test ≡ true
+pub every_set-from : (xs : List ℕ) (test : Names → Bool)
+    → ((set : Names) → ((u : ℕ) → set u ≡ true → among xs u ≡ true) → test set ≡ true) → every_set xs test ≡ true
 unfolding every_set
-every_set-from xs test f = not_from_false _ (false_from_ne_true _ (λ h. let r = some_set-found xs (λ U. not (test U)) h in true≢false (sym (f r.0 r.2) ∙ not-true _ r.1)))
+every_set-from xs test f =
+    not_from_false _
+    (false_from_ne_true _ (λ h. let r = some_set-found xs (λ U. not (test U)) h in
+    true≢false (sym (f r.0 r.2) ∙ not-true _ r.1)))

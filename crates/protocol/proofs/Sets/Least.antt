@@ -9,9 +9,15 @@ use Rattle.protocol.proofs.Sets.Contained.{all_contained, all_from_contained, co
 
 -- ---- one rule
 pub keeps-at : (set : Names) (r : Rule) → keeps set r ≡ true → within r.sources set ≡ true → within r.gives set ≡ true
-keeps-at set r k w = elim (or_cases (not (within r.sources set)) (within r.gives set) k) [ inl e ↦ absurd (false≢true (sym (not-true _ e) ∙ w)) | inr e ↦ e ]
+keeps-at set r k w =
+    elim (or_cases (not (within r.sources set)) (within r.gives set) k) [
+      | inl e ↦ absurd
+          (false≢true (sym (not-true _ e) ∙ w))
+      | inr e ↦ e
+    ]
 
-pub keeps-from : (set : Names) (r : Rule) → (within r.sources set ≡ true → within r.gives set ≡ true) → keeps set r ≡ true
+pub keeps-from : (set : Names) (r : Rule) → (within r.sources set ≡ true → within r.gives set ≡ true)
+    → keeps set r ≡ true
 keeps-from set r f = elim (cases_Bool (within r.sources set)) [
   | inl e ↦ or_right (not (within r.sources set)) (within r.gives set) (f e)
   | inr e ↦ or_left (not (within r.sources set)) (within r.gives set) (not_from_false _ e)
@@ -21,18 +27,21 @@ keeps-from set r f = elim (cases_Bool (within r.sources set)) [
 pub is_closed-from : (rules : List Rule) (v : ℕ) (set : Names) → IsClosed rules v set → is_closed rules v set ≡ true
 is_closed-from rules v set c =
     and_from (set v) (list_all (keeps set) rules) c.start
-    (all_from_contained (keeps set) rules (λ r i. keeps-from set r (λ w. all_from set r.gives (c.each r i (λ u. within-at r.sources set u w)))))
+    (all_from_contained (keeps set) rules
+    (λ r i. keeps-from set r (λ w. all_from set r.gives (c.each r i (λ u. within-at r.sources set u w)))))
 
 pub is_closed-at : (rules : List Rule) (v : ℕ) (set : Names) → is_closed rules v set ≡ true → IsClosed rules v set
 is_closed-at rules v set h =
     let p = and_parts (set v) (list_all (keeps set) rules) h in
     record {
       start = p.0;
-      each = λ r i w u g. within-at r.gives set u (keeps-at set r (all_contained (keeps set) rules r p.1 i) (all_from set r.sources w)) g;
+      each = λ r i w u g. within-at r.gives set u
+          (keeps-at set r (all_contained (keeps set) rules r p.1 i) (all_from set r.sources w)) g;
     }
 
 -- ---- the least set
-pub given_by_rule : (rules : List Rule) (r : Rule) (u : ℕ) → Contains rules r → among r.gives u ≡ true → among (flat_map (λ x. x.gives) rules) u ≡ true
+pub given_by_rule : (rules : List Rule) (r : Rule) (u : ℕ) → Contains rules r → among r.gives u ≡ true
+    → among (flat_map (λ x. x.gives) rules) u ≡ true
 given_by_rule [] r u c g = absurd (let l = c.1 in omega arith)
 given_by_rule (x ∷ xs) r u c g = elim (contained_cases r x xs c) [
   | inl e ↦ among_left x.gives (flat_map (λ y. y.gives) xs) u (rw e g)
@@ -40,7 +49,8 @@ given_by_rule (x ∷ xs) r u c g = elim (contained_cases r x xs c) [
 ]
 
 -- a closed set, cut to the names that the rules give, is closed
-closed_cut : (rules : List Rule) (v : ℕ) (set : Names) → IsClosed rules v set → IsClosed rules v (both (among (v ∷ flat_map (λ r. r.gives) rules)) set)
+closed_cut : (rules : List Rule) (v : ℕ) (set : Names) → IsClosed rules v set
+    → IsClosed rules v (both (among (v ∷ flat_map (λ r. r.gives) rules)) set)
 closed_cut rules v set c =
     let all = v ∷ flat_map (λ r. r.gives) rules in
     record {
@@ -56,7 +66,8 @@ unfolding in_least
 in_least-in rules v set c u h =
     let all = v ∷ flat_map (λ r. r.gives) rules in
     let inside = both (among all) set in
-    let e : (not (is_closed rules v inside) || inside u) ≡ true = every_set-at all (λ s. not (is_closed rules v s) || s u) set h in
+    let e : (not (is_closed rules v inside) || inside u) ≡ true =
+    every_set-at all (λ s. not (is_closed rules v s) || s u) set h in
     let closed = is_closed-from rules v inside (closed_cut rules v set c) in
     elim (or_cases (not (is_closed rules v inside)) (inside u) e) [
       | inl n ↦ absurd (true≢false (sym closed ∙ not-true _ n))
@@ -64,10 +75,12 @@ in_least-in rules v set c u h =
     ]
 
 -- and has what is in all of them
-pub in_least-from : (rules : List Rule) (v u : ℕ) → ((set : Names) → IsClosed rules v set → set u ≡ true) → in_least rules v u ≡ true
+pub in_least-from : (rules : List Rule) (v u : ℕ) → ((set : Names) → IsClosed rules v set → set u ≡ true)
+    → in_least rules v u ≡ true
 unfolding in_least
 in_least-from rules v u f =
-    every_set-from (v ∷ flat_map (λ r. r.gives) rules) (λ s. not (is_closed rules v s) || s u) (λ s w. elim (cases_Bool (is_closed rules v s)) [
+    every_set-from (v ∷ flat_map (λ r. r.gives) rules) (λ s. not (is_closed rules v s) || s u)
+    (λ s w. elim (cases_Bool (is_closed rules v s)) [
       | inl e ↦ or_right (not (is_closed rules v s)) (s u) (f s (is_closed-at rules v s e))
       | inr e ↦ or_left (not (is_closed rules v s)) (s u) (not_from_false _ e)
     ])

@@ -4,7 +4,8 @@ use Rattle.std.specs.List.{Contains}
 use Rattle.protocol.proofs.Sets.Contained.{contains_head, contains_tail, contained_cases}
 
 -- the envelope that an element of a mapped list comes from
-pub mapped_from : {X Y : Type 0} (f : X → Y) (xs : List X) (y : Y) → Contains (map f xs) y → (x : X) × Contains xs x × (f x ≡ y)
+pub mapped_from : {X Y : Type 0} (f : X → Y) (xs : List X) (y : Y) → Contains (map f xs) y
+    → (x : X) × Contains xs x × (f x ≡ y)
 mapped_from f [] y c = absurd (let l = c.1 in omega arith)
 mapped_from f (x ∷ xs) y c = elim (contained_cases y (f x) (map f xs) c) [
   | inl e ↦ (x, contains_head x xs, e)

@@ -7,12 +7,17 @@ use Rattle.protocol.specs.Closures.{Rule, keeps, in_least}
 use Rattle.protocol.proofs.Sets.Least.{is_closed-from, is_closed-at, in_least-in, in_least-from, in_least-closed}
 
 -- it lies in each set that contains v and keeps the rules
-pub least-in : (rules : List Rule) (v : ℕ) (S : Names) → S v ≡ true → list_all (keeps S) rules ≡ true → (u : ℕ) → in_least rules v u ≡ true → S u ≡ true
-least-in rules v S i k u h = in_least-in rules v S (is_closed-at rules v S (and_from (S v) (list_all (keeps S) rules) i k)) u h
+pub least-in : (rules : List Rule) (v : ℕ) (S : Names) → S v ≡ true → list_all (keeps S) rules ≡ true → (u : ℕ)
+    → in_least rules v u ≡ true → S u ≡ true
+least-in rules v S i k u h =
+    in_least-in rules v S (is_closed-at rules v S (and_from (S v) (list_all (keeps S) rules) i k)) u h
 
 -- what is in each such set is in it
-pub least-from : (rules : List Rule) (v u : ℕ) → ((S : Names) → S v ≡ true → list_all (keeps S) rules ≡ true → S u ≡ true) → in_least rules v u ≡ true
-least-from rules v u f = in_least-from rules v u (λ S c. let p = and_parts (S v) (list_all (keeps S) rules) (is_closed-from rules v S c) in f S p.0 p.1)
+pub least-from : (rules : List Rule) (v u : ℕ)
+    → ((S : Names) → S v ≡ true → list_all (keeps S) rules ≡ true → S u ≡ true) → in_least rules v u ≡ true
+least-from rules v u f =
+    in_least-from rules v u
+    (λ S c. let p = and_parts (S v) (list_all (keeps S) rules) (is_closed-from rules v S c) in f S p.0 p.1)
 
 -- it contains v
 pub least-start : (rules : List Rule) (v : ℕ) → in_least rules v v ≡ true
@@ -20,4 +25,6 @@ least-start rules v = (in_least-closed rules v).start
 
 -- and it keeps the rules
 pub least-keeps : (rules : List Rule) (v : ℕ) → list_all (keeps (in_least rules v)) rules ≡ true
-least-keeps rules v = (and_parts (in_least rules v v) (list_all (keeps (in_least rules v)) rules) (is_closed-from rules v (in_least rules v) (in_least-closed rules v))).1
+least-keeps rules v =
+    (and_parts (in_least rules v v) (list_all (keeps (in_least rules v)) rules)
+    (is_closed-from rules v (in_least rules v) (in_least-closed rules v))).1

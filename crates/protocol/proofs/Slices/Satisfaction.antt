@@ -20,13 +20,19 @@ count_monotone none a b h = omega arith
 count_monotone (node u rest) a b h = omega (arith, bit_le (a u) (b u) (h u), count_monotone rest a b h)
 count_monotone (inner k own rest) a b h =
     let more = leb_more k (satisfied_count own a) (satisfied_count own b) (count_monotone own a b h) in
-    omega (arith, bit_le (leb k (satisfied_count own a)) (leb k (satisfied_count own b)) more, count_monotone rest a b h)
+    omega (
+      arith,
+      bit_le (leb k (satisfied_count own a)) (leb k (satisfied_count own b)) more,
+      count_monotone rest a b h,
+    )
 
 -- a greater set still satisfies
 pub sat_monotone : (q : Slices) (a b : Names) → AreWithin a b → IsTrue (sat q a) → IsTrue (sat q b)
-sat_monotone q a b h = leb_more q.threshold (satisfied_count q.members a) (satisfied_count q.members b) (count_monotone q.members a b h)
+sat_monotone q a b h =
+    leb_more q.threshold (satisfied_count q.members a) (satisfied_count q.members b) (count_monotone q.members a b h)
 
-count_local : (ms : Members) (a b : Names) → ((u : ℕ) → IsTrue (among (names_in ms) u) → a u ≡ b u) → satisfied_count ms a ≡ satisfied_count ms b
+count_local : (ms : Members) (a b : Names) → ((u : ℕ) → IsTrue (among (names_in ms) u) → a u ≡ b u)
+    → satisfied_count ms a ≡ satisfied_count ms b
 count_local none a b h = refl
 count_local (node u rest) a b h =
     let here : a u ≡ b u = h u (among_head u (names_in rest)) in
@@ -56,7 +62,8 @@ count_outside : (ms : Members) (b : Names) → satisfied_count ms (outside b) + 
 count_outside none b = refl
 count_outside (node u rest) b = omega (arith, bit_not (b u), count_outside rest b)
 count_outside (inner k own rest) b =
-    let split = bit_split k (satisfied_count own (outside b)) (blocked_count own b) (member_count own) (count_outside own b) in
+    let split =
+    bit_split k (satisfied_count own (outside b)) (blocked_count own b) (member_count own) (count_outside own b) in
     omega (arith, split, count_outside rest b)
 
 split_tests : (k m b n : ℕ) → m + b ≡ n → leb k m ≡ not (ltb n (k + b))
@@ -64,7 +71,9 @@ split_tests k m b n e = grind (arith, nat_tests)
 
 -- a set blocks exactly when what is left does not satisfy
 pub sat_outside : (q : Slices) (b : Names) → sat q (outside b) ≡ not (is_blocked q b)
-sat_outside q b = split_tests q.threshold (satisfied_count q.members (outside b)) (blocked_count q.members b) (member_count q.members) (count_outside q.members b)
+sat_outside q b =
+    split_tests q.threshold (satisfied_count q.members (outside b)) (blocked_count q.members b) (member_count q.members)
+    (count_outside q.members b)
 
 not_from : (b : Bool) → b ≡ false → (c : Bool) → b ≡ not c → c ≡ true
 not_from b e true h = refl

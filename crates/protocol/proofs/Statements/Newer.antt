@@ -20,11 +20,16 @@ use Rattle.protocol.specs.Newer.{Rank, rank_of, rank_cmp, statement_cmp, is_abov
 use Rattle.protocol.proofs.Equality.Sameness.{same_value-refl}
 
 ballots_ordered : IsTotalOrder ballot_cmp
-ballots_ordered = then_total (on_total (λ (b : Ballot). b.counter) nat_cmp_total) (on_total (λ (b : Ballot). b.value) nat_list_cmp_total)
+ballots_ordered =
+    then_total (on_total (λ (b : Ballot). b.counter) nat_cmp_total)
+    (on_total (λ (b : Ballot). b.value) nat_list_cmp_total)
 
 ranks_ordered : IsTotalOrder rank_cmp
 ranks_ordered =
-    then_total (on_total (λ (r : Rank). r.phase) nat_cmp_total) (then_total (on_total (λ (r : Rank). r.ballot) ballots_ordered) (then_total (on_total (λ (r : Rank). r.prepared) (options_total ballots_ordered)) (on_total (λ (r : Rank). r.counters) nat_list_cmp_total)))
+    then_total (on_total (λ (r : Rank). r.phase) nat_cmp_total)
+    (then_total (on_total (λ (r : Rank). r.ballot) ballots_ordered)
+    (then_total (on_total (λ (r : Rank). r.prepared) (options_total ballots_ordered))
+    (on_total (λ (r : Rank). r.counters) nat_list_cmp_total)))
 
 pub statements_ordered : IsTotalOrder statement_cmp
 statements_ordered = on_total rank_of (options_total ranks_ordered)
@@ -41,7 +46,8 @@ same_bytes = slice_cmp-IsAntisymmetric nat_cmp-IsAntisymmetric
 same_ballot : (b d : Ballot) → ballot_cmp b d ≡ Equal → b ≡ d
 same_ballot b d e =
     let p = then_equal (nat_cmp b.counter d.counter) (bytes_cmp b.value d.value) e in
-    ap₂ (λ n x. let c : Ballot = record { counter = n; value = x } in c) (nat_cmp-IsAntisymmetric b.counter d.counter p.0) (same_bytes b.value d.value p.1)
+    ap₂ (λ n x. let c : Ballot = record { counter = n; value = x } in c)
+    (nat_cmp-IsAntisymmetric b.counter d.counter p.0) (same_bytes b.value d.value p.1)
 
 same_known : (p q : Option Ballot) → option_cmp ballot_cmp p q ≡ Equal → p ≡ q
 same_known None None e = refl
@@ -54,8 +60,11 @@ rank_in b p n xs = record { phase = n; ballot = b; prepared = p; counters = xs }
 
 same_rank : (r s : Rank) → rank_cmp r s ≡ Equal → r ≡ s
 same_rank r s e =
-    let p = then_equal (nat_cmp r.phase s.phase) (ordering_then (ballot_cmp r.ballot s.ballot) (ordering_then (option_cmp ballot_cmp r.prepared s.prepared) (bytes_cmp r.counters s.counters))) e in
-    let q = then_equal (ballot_cmp r.ballot s.ballot) (ordering_then (option_cmp ballot_cmp r.prepared s.prepared) (bytes_cmp r.counters s.counters)) p.1 in
+    let p = then_equal (nat_cmp r.phase s.phase)
+    (ordering_then (ballot_cmp r.ballot s.ballot)
+    (ordering_then (option_cmp ballot_cmp r.prepared s.prepared) (bytes_cmp r.counters s.counters))) e in
+    let q = then_equal (ballot_cmp r.ballot s.ballot)
+    (ordering_then (option_cmp ballot_cmp r.prepared s.prepared) (bytes_cmp r.counters s.counters)) p.1 in
     let t = then_equal (option_cmp ballot_cmp r.prepared s.prepared) (bytes_cmp r.counters s.counters) q.1 in
     let phases : r.phase ≡ s.phase = nat_cmp-IsAntisymmetric r.phase s.phase p.0 in
     let ballots : r.ballot ≡ s.ballot = same_ballot r.ballot s.ballot q.0 in
@@ -73,19 +82,22 @@ pub ties_are_one : (s t : Statement) → kind_of s ≡ Kind.Ballot → statement
 ties_are_one (Nominate v a) t k e = cc
 ties_are_one (Prepare b p a h c) (Nominate v w) k e = cc
 ties_are_one (Prepare b p a h c) (Prepare b' p' a' h' c') k e =
-    ap (λ (r : Rank). Prepare r.ballot r.prepared (counter r 0) (counter r 1) (counter r 2)) (same_rank (rank_in b p 1 (a ∷ h ∷ c ∷ [])) (rank_in b' p' 1 (a' ∷ h' ∷ c' ∷ [])) e)
+    ap (λ (r : Rank). Prepare r.ballot r.prepared (counter r 0) (counter r 1) (counter r 2))
+    (same_rank (rank_in b p 1 (a ∷ h ∷ c ∷ [])) (rank_in b' p' 1 (a' ∷ h' ∷ c' ∷ [])) e)
 ties_are_one (Prepare b p a h c) (Commit b' p' h' c') k e = cc
 ties_are_one (Prepare b p a h c) (Externalize b' h') k e = cc
 ties_are_one (Commit b p h c) (Nominate v w) k e = cc
 ties_are_one (Commit b p h c) (Prepare b' p' a' h' c') k e = cc
 ties_are_one (Commit b p h c) (Commit b' p' h' c') k e =
-    ap (λ (r : Rank). Commit r.ballot (counter r 0) (counter r 1) (counter r 2)) (same_rank (rank_in b None 2 (p ∷ h ∷ c ∷ [])) (rank_in b' None 2 (p' ∷ h' ∷ c' ∷ [])) e)
+    ap (λ (r : Rank). Commit r.ballot (counter r 0) (counter r 1) (counter r 2))
+    (same_rank (rank_in b None 2 (p ∷ h ∷ c ∷ [])) (rank_in b' None 2 (p' ∷ h' ∷ c' ∷ [])) e)
 ties_are_one (Commit b p h c) (Externalize b' h') k e = cc
 ties_are_one (Externalize b h) (Nominate v w) k e = cc
 ties_are_one (Externalize b h) (Prepare b' p' a' h' c') k e = cc
 ties_are_one (Externalize b h) (Commit b' p' h' c') k e = cc
 ties_are_one (Externalize b h) (Externalize b' h') k e =
-    ap (λ (r : Rank). Externalize r.ballot (counter r 0)) (same_rank (rank_in b None 3 (h ∷ [])) (rank_in b' None 3 (h' ∷ [])) e)
+    ap (λ (r : Rank). Externalize r.ballot (counter r 0))
+    (same_rank (rank_in b None 3 (h ∷ [])) (rank_in b' None 3 (h' ∷ [])) e)
 
 -- ---- what an order gives of "above"
 greater_not_less : (o p : Ordering) → o ≡ ordering_reverse p → is_gt o ≡ true → is_gt p ≡ false
@@ -110,14 +122,16 @@ pub above-along : (s t r : Statement) → is_above s t ≡ true → is_above t r
 above-along s t r g h = above-over s t r g (above-back t r h)
 
 -- what holds the same value as x holds x
-has_value-along : (values : List (List ℕ)) (x y : List ℕ) → same_value x y ≡ true → has_value values x ≡ true → has_value values y ≡ true
+has_value-along : (values : List (List ℕ)) (x y : List ℕ) → same_value x y ≡ true → has_value values x ≡ true
+    → has_value values y ≡ true
 has_value-along (v ∷ vs) x y e h = elim (or_cases (same_value v x) (has_value vs x) h) [
   | inl s ↦ or_left (same_value v y) (has_value vs y) (nat_list_eq_equiv.congr v x y s ∙ e)
   | inr s ↦ or_right (same_value v y) (has_value vs y) (has_value-along vs x y e s)
 ]
 has_value-along [] x y e h = absurd (false≢true h)
 
-has_all-at : (those these : List (List ℕ)) (x : List ℕ) → has_all those these ≡ true → has_value these x ≡ true → has_value those x ≡ true
+has_all-at : (those these : List (List ℕ)) (x : List ℕ) → has_all those these ≡ true → has_value these x ≡ true
+    → has_value those x ≡ true
 has_all-at those [] x a h = absurd (false≢true h)
 has_all-at those (y ∷ ys) x a h =
     let p = and_parts (has_value those y) (has_all those ys) a in
@@ -126,10 +140,12 @@ has_all-at those (y ∷ ys) x a h =
       | inr s ↦ has_all-at those ys x p.1 s
     ]
 
-has_all-from : (those these : List (List ℕ)) → ((x : List ℕ) → has_value these x ≡ true → has_value those x ≡ true) → has_all those these ≡ true
+has_all-from : (those these : List (List ℕ)) → ((x : List ℕ) → has_value these x ≡ true → has_value those x ≡ true)
+    → has_all those these ≡ true
 has_all-from those [] f = refl
 has_all-from those (y ∷ ys) f =
-    and_from (has_value those y) (has_all those ys) (f y (or_left (same_value y y) (has_value ys y) (same_value-refl y)))
+    and_from (has_value those y) (has_all those ys)
+    (f y (or_left (same_value y y) (has_value ys y) (same_value-refl y)))
     (has_all-from those ys (λ x h. f x (or_right (same_value y x) (has_value ys x) h)))
 
 has_all-itself : (values : List (List ℕ)) → has_all values values ≡ true
@@ -150,7 +166,8 @@ newer-itself (Prepare b p a h c) = above-itself (Prepare b p a h c)
 newer-itself (Commit b p h c) = above-itself (Commit b p h c)
 newer-itself (Externalize b h) = refl
 
-widens-along : (v a v' a' w x : List (List ℕ)) → widens (Nominate v a) v' a' ≡ true → widens (Nominate v' a') w x ≡ true → widens (Nominate v a) w x ≡ true
+widens-along : (v a v' a' w x : List (List ℕ)) → widens (Nominate v a) v' a' ≡ true → widens (Nominate v' a') w x ≡ true
+    → widens (Nominate v a) w x ≡ true
 widens-along v a v' a' w x g h =
     let p = and_parts (has_all v v') (has_all a a' && not (has_all v' v && has_all a' a)) g in
     let q = and_parts (has_all a a') (not (has_all v' v && has_all a' a)) p.1 in
@@ -160,7 +177,9 @@ widens-along v a v' a' w x g h =
     (and_from (has_all a x) (not (has_all w v && has_all x a)) (has_all-along a a' x q.0 s.0)
     (not_from_false (has_all w v && has_all x a) (false_from_ne_true (has_all w v && has_all x a) (λ t.
     let b = and_parts (has_all w v) (has_all x a) t in
-    false≢true (sym (not-true (has_all w v' && has_all x a') s.1) ∙ and_from (has_all w v') (has_all x a') (has_all-along w v v' b.0 p.0) (has_all-along x a a' b.1 q.0))))))
+    false≢true
+    (sym (not-true (has_all w v' && has_all x a') s.1)
+    ∙ and_from (has_all w v') (has_all x a') (has_all-along w v v' b.0 p.0) (has_all-along x a a' b.1 q.0))))))
 
 pub newer-along : (s t r : Statement) → is_newer s t ≡ true → is_newer t r ≡ true → is_newer s r ≡ true
 newer-along (Nominate v a) (Nominate v' a') (Nominate w x) g h = widens-along v a v' a' w x g h
@@ -173,9 +192,11 @@ newer-along s (Externalize b k) (Nominate w x) g h = absurd (false≢true h)
 newer-along s t (Externalize b k) g h = absurd (false≢true h)
 newer-along s (Nominate v a) (Prepare b p k h' c) g h = absurd (false≢true h)
 newer-along s (Nominate v a) (Commit b p h' c) g h = absurd (false≢true h)
-newer-along s (Prepare b p a k c) (Prepare b' p' a' k' c') g h = above-along s (Prepare b p a k c) (Prepare b' p' a' k' c') g h
+newer-along s (Prepare b p a k c) (Prepare b' p' a' k' c') g h =
+    above-along s (Prepare b p a k c) (Prepare b' p' a' k' c') g h
 newer-along s (Prepare b p a k c) (Commit b' p' k' c') g h = above-along s (Prepare b p a k c) (Commit b' p' k' c') g h
-newer-along s (Commit b p k c) (Prepare b' p' a' k' c') g h = above-along s (Commit b p k c) (Prepare b' p' a' k' c') g h
+newer-along s (Commit b p k c) (Prepare b' p' a' k' c') g h =
+    above-along s (Commit b p k c) (Prepare b' p' a' k' c') g h
 newer-along s (Commit b p k c) (Commit b' p' k' c') g h = above-along s (Commit b p k c) (Commit b' p' k' c') g h
 newer-along s (Externalize b k) (Prepare b' p' a' k' c') g h = absurd (false≢true g)
 newer-along s (Externalize b k) (Commit b' p' k' c') g h = absurd (false≢true g)

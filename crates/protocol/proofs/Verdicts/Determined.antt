@@ -18,14 +18,16 @@ module _ (R : Names) (hosts : List Host) (i : ℕ) (run : List Entry) where
   abbrev IsMember : ℕ × List Out → Type 0
   IsMember p = (p.1 ≡ outs_of i p.0 run) × (IsTrue (R p.0) × IsTrue (is_some (slices_of hosts p.0)))
 
-  member_at : (list : List (ℕ × List Out)) → AllByRecursion IsMember list → (u : ℕ) → Contains (map (λ p. p.0) list) u → IsTrue (R u) × IsTrue (is_some (slices_of hosts u))
+  member_at : (list : List (ℕ × List Out)) → AllByRecursion IsMember list → (u : ℕ) → Contains (map (λ p. p.0) list) u
+      → IsTrue (R u) × IsTrue (is_some (slices_of hosts u))
   member_at [] h u c = absurd (nothing_in u c)
   member_at (p ∷ ps) h u c = elim (contained_cases u p.0 (map (λ p. p.0) ps) c) [
     | inl e ↦ subst (λ w. IsTrue (R w) × IsTrue (is_some (slices_of hosts w))) e h.0.1
     | inr k ↦ member_at ps h.1 u k
   ]
 
-  named_alike : (xs ys : List (ℕ × List Out)) → AllByRecursion IsMember xs → AllByRecursion IsMember ys → map (λ p. p.0) xs ≡ map (λ p. p.0) ys → xs ≡ ys
+  named_alike : (xs ys : List (ℕ × List Out)) → AllByRecursion IsMember xs → AllByRecursion IsMember ys
+      → map (λ p. p.0) xs ≡ map (λ p. p.0) ys → xs ≡ ys
   named_alike [] [] h k e = refl
   named_alike [] (y ∷ ys) h k e = cc
   named_alike (x ∷ xs) [] h k e = cc
@@ -33,16 +35,22 @@ module _ (R : Names) (hosts : List Host) (i : ℕ) (run : List Entry) where
       let first : x.0 ≡ y.0 = cc in
       let rest : map (λ p. p.0) xs ≡ map (λ p. p.0) ys = cc in
       let same : x.1 ≡ y.1 = h.0.0 ∙ (ap (λ u. outs_of i u run) first ∙ sym k.0.0) in
-      ap₂ {C = List (ℕ × List Out)} (λ (z : ℕ × List Out) (zs : List (ℕ × List Out)). z ∷ zs) (λ j. (first j, same j)) (named_alike xs ys h.1 k.1 rest)
+      ap₂ {C = List (ℕ × List Out)} (λ (z : ℕ × List Out) (zs : List (ℕ × List Out)). z ∷ zs) (λ j. (first j, same j))
+      (named_alike xs ys h.1 k.1 rest)
 
   one_list_of : (xs ys : List (ℕ × List Out)) → IsListOf R hosts i run xs → IsListOf R hosts i run ys → xs ≡ ys
-  one_list_of xs ys a b = named_alike xs ys a.outs b.outs (one_list (map (λ p. p.0) xs) (map (λ p. p.0) ys) a.ascending b.ascending
-      (λ u c. let m = member_at xs a.outs u c in b.all u m.0 m.1) (λ u c. let m = member_at ys b.outs u c in a.all u m.0 m.1))
+  one_list_of xs ys a b =
+      named_alike xs ys a.outs b.outs (one_list (map (λ p. p.0) xs) (map (λ p. p.0) ys) a.ascending b.ascending
+      (λ u c. let m = member_at xs a.outs u c in b.all u m.0 m.1)
+      (λ u c. let m = member_at ys b.outs u c in a.all u m.0 m.1))
 
-not_before : {A : Type 0} (one other : List A) (p q : ℕ) → IsFirstDifference one other p → IsFirstDifference one other q → p < q → ⊥
-not_before one other p q a b l = a.there (sym (get_taken one p q l) ∙ (ap (λ xs. slice_get xs p) b.before ∙ get_taken other p q l))
+not_before : {A : Type 0} (one other : List A) (p q : ℕ) → IsFirstDifference one other p
+    → IsFirstDifference one other q → p < q → ⊥
+not_before one other p q a b l =
+    a.there (sym (get_taken one p q l) ∙ (ap (λ xs. slice_get xs p) b.before ∙ get_taken other p q l))
 
-pub one_place : {A : Type 0} (one other : List A) (p q : ℕ) → IsFirstDifference one other p → IsFirstDifference one other q → p ≡ q
+pub one_place : {A : Type 0} (one other : List A) (p q : ℕ) → IsFirstDifference one other p
+    → IsFirstDifference one other q → p ≡ q
 one_place one other p q a b = elim (cases_order p q) [
   | inl e ↦ e
   | inr (inl l) ↦ absurd (not_before one other p q a b l)
@@ -66,12 +74,22 @@ module _ (R : Names) (v : ℕ) (one other : List Host) where
   not_unlike u (inr a) c = a.1.1.0 (c.same u a.1.0)
 
 pub verdicts_are_unique : VerdictsAreUnique
-verdicts_are_unique one other runs others i v (CastDiffers u) (CastDiffers w) h k = ap {B = Verdict} CastDiffers (one_unlike (closure one i v runs) v one other u w h k)
-verdicts_are_unique one other runs others i v (CastDiffers u) (InputsDiffer p) h k = absurd (not_unlike (closure one i v runs) v one other u h k.0)
-verdicts_are_unique one other runs others i v (CastDiffers u) (Same xs) h k = absurd (not_unlike (closure one i v runs) v one other u h k.0)
-verdicts_are_unique one other runs others i v (InputsDiffer p) (CastDiffers u) h k = absurd (not_unlike (closure one i v runs) v one other u k h.0)
-verdicts_are_unique one other runs others i v (InputsDiffer p) (InputsDiffer q) h k = ap {B = Verdict} InputsDiffer (one_place (kept_of (closure one i v runs) i runs) (kept_of (closure one i v runs) i others) p q h.1 k.1)
-verdicts_are_unique one other runs others i v (InputsDiffer p) (Same xs) h k = absurd (h.1.there (ap (λ ks. slice_get ks p) k.1.0))
-verdicts_are_unique one other runs others i v (Same xs) (CastDiffers u) h k = absurd (not_unlike (closure one i v runs) v one other u k h.0)
-verdicts_are_unique one other runs others i v (Same xs) (InputsDiffer p) h k = absurd (k.1.there (ap (λ ks. slice_get ks p) h.1.0))
-verdicts_are_unique one other runs others i v (Same xs) (Same ys) h k = ap {B = Verdict} Same (one_list_of (closure one i v runs) one i runs xs ys h.1.1.0 k.1.1.0)
+verdicts_are_unique one other runs others i v (CastDiffers u) (CastDiffers w) h k =
+    ap {B = Verdict} CastDiffers (one_unlike (closure one i v runs) v one other u w h k)
+verdicts_are_unique one other runs others i v (CastDiffers u) (InputsDiffer p) h k =
+    absurd (not_unlike (closure one i v runs) v one other u h k.0)
+verdicts_are_unique one other runs others i v (CastDiffers u) (Same xs) h k =
+    absurd (not_unlike (closure one i v runs) v one other u h k.0)
+verdicts_are_unique one other runs others i v (InputsDiffer p) (CastDiffers u) h k =
+    absurd (not_unlike (closure one i v runs) v one other u k h.0)
+verdicts_are_unique one other runs others i v (InputsDiffer p) (InputsDiffer q) h k =
+    ap {B = Verdict} InputsDiffer
+    (one_place (kept_of (closure one i v runs) i runs) (kept_of (closure one i v runs) i others) p q h.1 k.1)
+verdicts_are_unique one other runs others i v (InputsDiffer p) (Same xs) h k =
+    absurd (h.1.there (ap (λ ks. slice_get ks p) k.1.0))
+verdicts_are_unique one other runs others i v (Same xs) (CastDiffers u) h k =
+    absurd (not_unlike (closure one i v runs) v one other u k h.0)
+verdicts_are_unique one other runs others i v (Same xs) (InputsDiffer p) h k =
+    absurd (k.1.there (ap (λ ks. slice_get ks p) h.1.0))
+verdicts_are_unique one other runs others i v (Same xs) (Same ys) h k =
+    ap {B = Verdict} Same (one_list_of (closure one i v runs) one i runs xs ys h.1.1.0 k.1.1.0)

@@ -30,13 +30,16 @@ rules_in hosts i run = map host_rule hosts ++ flat_map (λ x. announced i x.even
 pub closure-bound : List Host → ℕ → ℕ → List Entry → ℕ
 closure-bound hosts i v run = bound_of (v ∷ flat_map (λ r. r.gives) (rules_in hosts i run))
 
-pub closure-below : (hosts : List Host) (i v : ℕ) (run : List Entry) (u : ℕ) → closure hosts i v run u ≡ true → u < closure-bound hosts i v run
+pub closure-below : (hosts : List Host) (i v : ℕ) (run : List Entry) (u : ℕ) → closure hosts i v run u ≡ true
+    → u < closure-bound hosts i v run
 unfolding closure closure-bound
 closure-below hosts i v run u h =
     let rules = rules_in hosts i run in
     let given = flat_map (λ (r : Rule). r.gives) rules in
     among-below (v ∷ given) u (least-in rules v (among (v ∷ given)) (among_head v given)
-    (all_from_contained (keeps (among (v ∷ given))) rules (λ r c. keeps-from (among (v ∷ given)) r (λ s. all_from (among (v ∷ given)) r.gives (λ w m. among_tail v w given (given_by_rule rules r w c m))))) u h)
+    (all_from_contained (keeps (among (v ∷ given))) rules
+    (λ r c. keeps-from (among (v ∷ given)) r
+    (λ s. all_from (among (v ∷ given)) r.gives (λ w m. among_tail v w given (given_by_rule rules r w c m))))) u h)
 
 -- ---- casts
 pub is_no : {A : Type 0} {x y : A} → (x ≡ y) ⊎ (x ≢ y) → Bool
@@ -64,13 +67,15 @@ module _ (R : Names) (v : ℕ) (one other : List Host) where
   unfolding unlike
   like u r h = is_no-false (decide u) (ap (λ b. b && is_no (decide u)) (sym r) ∙ h)
 
-  pub cast_found : (bound : ℕ) → ((u : ℕ) → R u ≡ true → u < bound) → SameCast R v one other ⊎ ((u : ℕ) × IsFirstUnlike R v one other u)
+  pub cast_found : (bound : ℕ) → ((u : ℕ) → R u ≡ true → u < bound)
+      → SameCast R v one other ⊎ ((u : ℕ) × IsFirstUnlike R v one other u)
   unfolding unlike
   cast_found bound below = elim (cases_Bool (is_some (slices_of one v))) [
     | inr o ↦ inr (v, inl (o, refl))
     | inl h ↦ elim (least_among unlike bound (λ u p. below u (and_parts (R u) (is_no (decide u)) p).0)) [
       | inl f ↦ inl (record { hosted = h; same = λ u r. like u r (f u) })
-      | inr p ↦ let q = and_parts (R p.0) (is_no (decide p.0)) p.1.passes in inr (p.0, inr (h, (q.0, (is_no-true (decide p.0) q.1, λ w r l. like w r (p.1.none_before w l)))))
+      | inr p ↦ let q = and_parts (R p.0) (is_no (decide p.0)) p.1.passes in
+          inr (p.0, inr (h, (q.0, (is_no-true (decide p.0) q.1, λ w r l. like w r (p.1.none_before w l)))))
     ]
   ]
 
@@ -79,15 +84,18 @@ passing : Names → ℕ → List ℕ
 passing test zero = []
 passing test (suc n) = passing test n ++ cond (test n) (n ∷ []) []
 
-all_joined : {A : Type 0} (P : A → Type 0) (xs ys : List A) → AllByRecursion P xs → AllByRecursion P ys → AllByRecursion P (xs ++ ys)
+all_joined : {A : Type 0} (P : A → Type 0) (xs ys : List A) → AllByRecursion P xs → AllByRecursion P ys
+    → AllByRecursion P (xs ++ ys)
 all_joined P [] ys h k = k
 all_joined P (x ∷ xs) ys h k = (h.0, all_joined P xs ys h.1 k)
 
-all_weaker : {A : Type 0} (P Q : A → Type 0) → ((x : A) → P x → Q x) → (xs : List A) → AllByRecursion P xs → AllByRecursion Q xs
+all_weaker : {A : Type 0} (P Q : A → Type 0) → ((x : A) → P x → Q x) → (xs : List A) → AllByRecursion P xs
+    → AllByRecursion Q xs
 all_weaker P Q f [] h = tt
 all_weaker P Q f (x ∷ xs) h = (f x h.0, all_weaker P Q f xs h.1)
 
-all_at : {A : Type 0} (P : A → Type 0) (xs : List A) → AllByRecursion P xs → (k : ℕ) (d : A) → k < length xs → P (get_or xs k d)
+all_at : {A : Type 0} (P : A → Type 0) (xs : List A) → AllByRecursion P xs → (k : ℕ) (d : A) → k < length xs
+    → P (get_or xs k d)
 all_at P [] h k d l = absurd (omega (arith, l))
 all_at P (x ∷ xs) h zero d l = h.0
 all_at P (x ∷ xs) h (suc k) d l = all_at P xs h.1 k d (omega (arith, l))
@@ -96,7 +104,10 @@ module _ (test : Names) where
   passing-below : (n : ℕ) → AllByRecursion (λ u. u < n) (passing test n)
   unfolding passing
   passing-below zero = tt
-  passing-below (suc n) = all_joined (λ u. u < suc n) (passing test n) (cond (test n) (n ∷ []) []) (all_weaker (λ u. u < n) (λ u. u < suc n) (λ u l. omega (arith, l)) (passing test n) (passing-below n)) (last (test n))
+  passing-below (suc n) =
+      all_joined (λ u. u < suc n) (passing test n) (cond (test n) (n ∷ []) [])
+      (all_weaker (λ u. u < n) (λ u. u < suc n) (λ u l. omega (arith, l)) (passing test n) (passing-below n))
+      (last (test n))
     where
       last : (b : Bool) → AllByRecursion (λ u. u < suc n) (cond b (n ∷ []) [])
       last true = (omega arith, tt)
@@ -105,7 +116,8 @@ module _ (test : Names) where
   passing-pass : (n : ℕ) → AllByRecursion (λ u. test u ≡ true) (passing test n)
   unfolding passing
   passing-pass zero = tt
-  passing-pass (suc n) = all_joined (λ u. test u ≡ true) (passing test n) (cond (test n) (n ∷ []) []) (passing-pass n) (last (test n) refl)
+  passing-pass (suc n) =
+      all_joined (λ u. test u ≡ true) (passing test n) (cond (test n) (n ∷ []) []) (passing-pass n) (last (test n) refl)
     where
       last : (b : Bool) → test n ≡ b → AllByRecursion (λ u. test u ≡ true) (cond b (n ∷ []) [])
       last true e = (e, tt)
@@ -115,7 +127,9 @@ module _ (test : Names) where
   unfolding passing
   passing-all zero u l h = absurd (omega (arith, l))
   passing-all (suc n) u l h = elim (cases_order u n) [
-    | inl e ↦ Contains-append_right (passing test n) (cond (test n) (n ∷ []) []) u (subst (λ b. Contains (cond b (n ∷ []) []) u) (sym h ∙ ap test e) (subst (λ w. Contains (w ∷ []) u) e (contains_head u [])))
+    | inl e ↦ Contains-append_right (passing test n) (cond (test n) (n ∷ []) []) u
+        (subst (λ b. Contains (cond b (n ∷ []) []) u) (sym h ∙ ap test e)
+        (subst (λ w. Contains (w ∷ []) u) e (contains_head u [])))
     | inr (inl k) ↦ Contains-append_left (passing test n) (cond (test n) (n ∷ []) []) u (passing-all n u k h)
     | inr (inr k) ↦ absurd (omega (arith, l, k))
   ]
@@ -125,12 +139,16 @@ module _ (test : Names) where
   passing-ascending zero = λ i j d l k. absurd (omega (arith, k))
   passing-ascending (suc n) = go (test n) (passing-ascending n) (passing-below n)
     where
-      go : (b : Bool) → IsAscending (passing test n) → AllByRecursion (λ u. u < n) (passing test n) → IsAscending (passing test n ++ cond b (n ∷ []) [])
-      go true h k = all_pairs_push (λ x y. x < y) (passing test n) n h (λ i d l. all_at (λ u. u < n) (passing test n) k i d l)
+      go : (b : Bool) → IsAscending (passing test n) → AllByRecursion (λ u. u < n) (passing test n)
+          → IsAscending (passing test n ++ cond b (n ∷ []) [])
+      go true h k =
+          all_pairs_push (λ x y. x < y) (passing test n) n h (λ i d l. all_at (λ u. u < n) (passing test n) k i d l)
       go false h k = subst IsAscending (sym (append-nil (passing test n))) h
 
 -- ---- the verdict
-module _ (R : Names) (hosts : List Host) (i : ℕ) (runs others : List Entry) (bound : ℕ) (below : (u : ℕ) → R u ≡ true → u < bound) (same : (u : ℕ) → R u ≡ true → outs_of i u runs ≡ outs_of i u others) where
+module _ (R : Names) (hosts : List Host) (i : ℕ) (runs others : List Entry) (bound : ℕ)
+    (below : (u : ℕ) → R u ≡ true → u < bound)
+    (same : (u : ℕ) → R u ≡ true → outs_of i u runs ≡ outs_of i u others) where
   hosted : Names
   hosted u = R u && is_some (slices_of hosts u)
 
@@ -142,25 +160,35 @@ module _ (R : Names) (hosts : List Host) (i : ℕ) (runs others : List Entry) (b
   names-of [] = refl
   names-of (u ∷ us) = ap (λ ws. u ∷ ws) (names-of us)
 
-  listed_in : (run : List Entry) → ((u : ℕ) → R u ≡ true → outs_of i u runs ≡ outs_of i u run) → IsListOf R hosts i run (with_outs (passing hosted bound))
+  listed_in : (run : List Entry) → ((u : ℕ) → R u ≡ true → outs_of i u runs ≡ outs_of i u run)
+      → IsListOf R hosts i run (with_outs (passing hosted bound))
   unfolding hosted with_outs
   listed_in run same = record {
     outs = each (passing hosted bound) (passing-pass hosted bound);
-    all = λ u r h. subst (λ us. Contains us u) (sym (names-of (passing hosted bound))) (passing-all hosted bound u (below u r) (and_from (R u) (is_some (slices_of hosts u)) r h));
+    all = λ u r h. subst (λ us. Contains us u) (sym (names-of (passing hosted bound)))
+        (passing-all hosted bound u (below u r) (and_from (R u) (is_some (slices_of hosts u)) r h));
     ascending = subst IsAscending (sym (names-of (passing hosted bound))) (passing-ascending hosted bound);
   }
     where
-      each : (us : List ℕ) → AllByRecursion (λ u. hosted u ≡ true) us → AllByRecursion (λ (p : ℕ × List Out). (p.1 ≡ outs_of i p.0 run) × (IsTrue (R p.0) × IsTrue (is_some (slices_of hosts p.0)))) (map (λ u. (u, outs_of i u runs)) us)
+      each : (us : List ℕ) → AllByRecursion (λ u. hosted u ≡ true) us
+          → AllByRecursion
+          (λ (p : ℕ × List Out). (p.1 ≡ outs_of i p.0 run) × (IsTrue (R p.0) × IsTrue (is_some (slices_of hosts p.0))))
+          (map (λ u. (u, outs_of i u runs)) us)
       each [] h = tt
-      each (u ∷ us) h = let p = and_parts (R u) (is_some (slices_of hosts u)) h.0 in ((same u p.0, (p.0, p.1)), each us h.1)
+      each (u ∷ us) h =
+          let p = and_parts (R u) (is_some (slices_of hosts u)) h.0 in ((same u p.0, (p.0, p.1)), each us h.1)
 
 pub verdicts_exist : VerdictsExist
-verdicts_exist one other runs others i v a b = go (cast_found R v one.hosts other.hosts (closure-bound one.hosts i v runs) (closure-below one.hosts i v runs)) (first_difference decided_kept (kept_of R i runs) (kept_of R i others))
+verdicts_exist one other runs others i v a b =
+    go (cast_found R v one.hosts other.hosts (closure-bound one.hosts i v runs) (closure-below one.hosts i v runs))
+    (first_difference decided_kept (kept_of R i runs) (kept_of R i others))
   where
     R : Names
     R = closure one.hosts i v runs
 
-    go : SameCast R v one.hosts other.hosts ⊎ ((u : ℕ) × IsFirstUnlike R v one.hosts other.hosts u) → (kept_of R i runs ≡ kept_of R i others) ⊎ ((place : ℕ) × IsFirstDifference (kept_of R i runs) (kept_of R i others) place)
+    go : SameCast R v one.hosts other.hosts ⊎ ((u : ℕ) × IsFirstUnlike R v one.hosts other.hosts u)
+        → (kept_of R i runs ≡ kept_of R i others)
+        ⊎ ((place : ℕ) × IsFirstDifference (kept_of R i runs) (kept_of R i others) place)
         → (verdict : Verdict) × IsVerdict one.hosts other.hosts runs others i v verdict
     go (inr p) f = (CastDiffers p.0, p.1)
     go (inl cast) (inr p) = (InputsDiffer p.0, (cast, p.1))
@@ -168,6 +196,16 @@ verdicts_exist one other runs others i v a b = go (cast_found R v one.hosts othe
         let alike = isolated_runs one other runs others i v a b cast same in
         let bound = closure-bound one.hosts i v runs in
         let below = closure-below one.hosts i v runs in (
-          Same (with_outs R one.hosts i runs others bound below alike (passing (hosted R one.hosts i runs others bound below alike) bound)),
-          (cast, (same, (listed_in R one.hosts i runs others bound below alike runs (λ u r. refl), listed_in R one.hosts i runs others bound below alike others alike))),
+          Same (with_outs R one.hosts i runs others bound below alike
+              (passing (hosted R one.hosts i runs others bound below alike) bound)),
+          (
+            cast,
+            (
+              same,
+              (
+                listed_in R one.hosts i runs others bound below alike runs (λ u r. refl),
+                listed_in R one.hosts i runs others bound below alike others alike,
+              ),
+            ),
+          ),
         )

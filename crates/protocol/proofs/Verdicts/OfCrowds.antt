@@ -49,7 +49,9 @@ same_roster None b = inr (λ h. h)
 same_roster (Some r) None = inr (λ h. h)
 same_roster (Some r) (Some s) = go (same_names r.names s.names) (decided_shares r.shares s.shares)
   where
-    go : ((u : ℕ) → among r.names u ≡ among s.names u) ⊎ (((u : ℕ) → among r.names u ≡ among s.names u) → ⊥) → (r.shares ≡ s.shares) ⊎ (r.shares ≢ s.shares) → SameRoster (Some r) (Some s) ⊎ (SameRoster (Some r) (Some s) → ⊥)
+    go : ((u : ℕ) → among r.names u ≡ among s.names u) ⊎ (((u : ℕ) → among r.names u ≡ among s.names u) → ⊥)
+        → (r.shares ≡ s.shares) ⊎ (r.shares ≢ s.shares)
+        → SameRoster (Some r) (Some s) ⊎ (SameRoster (Some r) (Some s) → ⊥)
     go (inl f) (inl e) = inl (f, e)
     go (inl f) (inr n) = inr (λ h. n h.1)
     go (inr n) d = inr (λ h. n h.0)
@@ -59,7 +61,9 @@ same_reserves None b = inr (λ h. h)
 same_reserves (Some c) None = inr (λ h. h)
 same_reserves (Some c) (Some d) = go (same_roster c.roster d.roster) (decided_ℕ c.budgets.slots d.budgets.slots)
   where
-    go : SameRoster c.roster d.roster ⊎ (SameRoster c.roster d.roster → ⊥) → (c.budgets.slots ≡ d.budgets.slots) ⊎ (c.budgets.slots ≢ d.budgets.slots) → SameReserves (Some c) (Some d) ⊎ (SameReserves (Some c) (Some d) → ⊥)
+    go : SameRoster c.roster d.roster ⊎ (SameRoster c.roster d.roster → ⊥)
+        → (c.budgets.slots ≡ d.budgets.slots) ⊎ (c.budgets.slots ≢ d.budgets.slots)
+        → SameReserves (Some c) (Some d) ⊎ (SameReserves (Some c) (Some d) → ⊥)
     go (inl f) (inl e) = inl (f, e)
     go (inl f) (inr n) = inr (λ h. n h.1)
     go (inr n) d = inr (λ h. n h.0)
@@ -76,12 +80,22 @@ module _ (R : Names) (names : List ℕ) where
     | inr o ↦ absurd (true≢false (sym (and_from (R u) (not (among names u)) r (not_from_false (among names u) o)) ∙ h))
   ]
 
-  outside_found : (bound : ℕ) → ((u : ℕ) → R u ≡ true → u < bound) → AreWithin R (among names) ⊎ ((u : ℕ) × IsFirstOutside R names u)
+  outside_found : (bound : ℕ) → ((u : ℕ) → R u ≡ true → u < bound)
+      → AreWithin R (among names) ⊎ ((u : ℕ) × IsFirstOutside R names u)
   unfolding strays
-  outside_found bound below = elim (least_among strays bound (λ u p. below u (and_parts (R u) (not (among names u)) p).0)) [
-    | inl f ↦ inl (λ u r. stays u r (f u))
-    | inr p ↦ let q = and_parts (R p.0) (not (among names p.0)) p.1.passes in inr (p.0, record { member = q.0; outside = not-true (among names p.0) q.1; least = λ w r l. stays w r (p.1.none_before w l) })
-  ]
+  outside_found bound below =
+      elim (least_among strays bound (λ u p. below u (and_parts (R u) (not (among names u)) p).0)) [
+        | inl f ↦ inl (λ u r. stays u r (f u))
+        | inr p ↦ let q = and_parts (R p.0) (not (among names p.0)) p.1.passes in
+            inr (
+              p.0,
+              record {
+                member = q.0;
+                outside = not-true (among names p.0) q.1;
+                least = λ w r l. stays w r (p.1.none_before w l);
+              },
+            )
+      ]
 
   one_outside : (u w : ℕ) → IsFirstOutside R names u → IsFirstOutside R names w → u ≡ w
   one_outside u w a b = elim (cases_order u w) [
@@ -100,7 +114,10 @@ module _ (decode : List ℕ → Reading) (one other : History) (g i v : ℕ) whe
 
   pub crowd_found : (c : Crowd) × IsCrowd decode one other g i v c
   unfolding R
-  crowd_found = go (cast_found R v (hosts_of one.configs g) (hosts_of other.configs g) bound below) (same_reserves (config_of one.configs g) (config_of other.configs g)) (outside_found R (roster_names (config_of one.configs g)) bound below)
+  crowd_found =
+      go (cast_found R v (hosts_of one.configs g) (hosts_of other.configs g) bound below)
+      (same_reserves (config_of one.configs g) (config_of other.configs g))
+      (outside_found R (roster_names (config_of one.configs g)) bound below)
       (first_difference decided_step (concerned R i (answers decode one g)) (concerned R i (answers decode other g)))
     where
       bound : ℕ
@@ -109,16 +126,24 @@ module _ (decode : List ℕ → Reading) (one other : History) (g i v : ℕ) whe
       below : (u : ℕ) → R u ≡ true → u < bound
       below u h = closure-below (hosts_of one.configs g) i v (entries decode one g) u h
 
-      go : SameCast R v (hosts_of one.configs g) (hosts_of other.configs g) ⊎ ((u : ℕ) × IsFirstUnlike R v (hosts_of one.configs g) (hosts_of other.configs g) u)
-          → SameReserves (config_of one.configs g) (config_of other.configs g) ⊎ (SameReserves (config_of one.configs g) (config_of other.configs g) → ⊥)
-          → AreWithin R (among (roster_names (config_of one.configs g))) ⊎ ((u : ℕ) × IsFirstOutside R (roster_names (config_of one.configs g)) u)
-          → (concerned R i (answers decode one g) ≡ concerned R i (answers decode other g)) ⊎ ((place : ℕ) × IsFirstDifference (concerned R i (answers decode one g)) (concerned R i (answers decode other g)) place)
+      go : SameCast R v (hosts_of one.configs g) (hosts_of other.configs g)
+          ⊎ ((u : ℕ) × IsFirstUnlike R v (hosts_of one.configs g) (hosts_of other.configs g) u)
+          → SameReserves (config_of one.configs g) (config_of other.configs g)
+          ⊎ (SameReserves (config_of one.configs g) (config_of other.configs g) → ⊥)
+          → AreWithin R (among (roster_names (config_of one.configs g)))
+          ⊎ ((u : ℕ) × IsFirstOutside R (roster_names (config_of one.configs g)) u)
+          → (concerned R i (answers decode one g) ≡ concerned R i (answers decode other g))
+          ⊎ ((place : ℕ) × IsFirstDifference (concerned R i (answers decode one g))
+          (concerned R i (answers decode other g)) place)
           → (c : Crowd) × IsCrowd decode one other g i v c
       go (inr p) b c d = (CastDiffers p.0, p.1)
       go (inl a) (inr n) c d = (RosterDiffers, (a, n))
       go (inl a) (inl b) (inr p) d = (OutsideRoster p.0, (a, (b, p.1)))
       go (inl a) (inl b) (inl c) (inr p) = (InputsDiffer p.0, (a, (b, (c, p.1))))
-      go (inl a) (inl b) (inl c) (inl d) = (Same (replied_to R i (answers decode one g)), (a, (b, (c, (d, (refl, (never_crowded_out decode one other g i v a b c d).0))))))
+      go (inl a) (inl b) (inl c) (inl d) = (
+        Same (replied_to R i (answers decode one g)),
+        (a, (b, (c, (d, (refl, (never_crowded_out decode one other g i v a b c d).0))))),
+      )
 
 pub crowds_exist : CrowdsExist
 crowds_exist decode one other g i v = crowd_found decode one other g i v
@@ -130,10 +155,12 @@ crowds_are_unique decode one other g i v a b h k = go a b h k
     S : Names
     S = closure_in decode one g i v
 
-    casts : (u : ℕ) → IsFirstUnlike S v (hosts_of one.configs g) (hosts_of other.configs g) u → SameCast S v (hosts_of one.configs g) (hosts_of other.configs g) → ⊥
+    casts : (u : ℕ) → IsFirstUnlike S v (hosts_of one.configs g) (hosts_of other.configs g) u
+        → SameCast S v (hosts_of one.configs g) (hosts_of other.configs g) → ⊥
     casts u h c = not_unlike S v (hosts_of one.configs g) (hosts_of other.configs g) u h c
 
-    outside : (u : ℕ) → IsFirstOutside S (roster_names (config_of one.configs g)) u → AreWithin S (among (roster_names (config_of one.configs g))) → ⊥
+    outside : (u : ℕ) → IsFirstOutside S (roster_names (config_of one.configs g)) u
+        → AreWithin S (among (roster_names (config_of one.configs g))) → ⊥
     outside u h c = not_outside S (roster_names (config_of one.configs g)) u h c
 
     steps : History → List Step
@@ -143,7 +170,8 @@ crowds_are_unique decode one other g i v a b h k = go a b h k
     differ place h e = h.there (ap (λ es. slice_get es place) e)
 
     go : (a b : Crowd) → IsCrowd decode one other g i v a → IsCrowd decode one other g i v b → a ≡ b
-    go (CastDiffers u) (CastDiffers w) h k = ap {B = Crowd} CastDiffers (one_unlike S v (hosts_of one.configs g) (hosts_of other.configs g) u w h k)
+    go (CastDiffers u) (CastDiffers w) h k =
+        ap {B = Crowd} CastDiffers (one_unlike S v (hosts_of one.configs g) (hosts_of other.configs g) u w h k)
     go (CastDiffers u) RosterDiffers h k = absurd (casts u h k.0)
     go (CastDiffers u) (OutsideRoster w) h k = absurd (casts u h k.0)
     go (CastDiffers u) (InputsDiffer p) h k = absurd (casts u h k.0)
@@ -155,13 +183,15 @@ crowds_are_unique decode one other g i v a b h k = go a b h k
     go RosterDiffers (Same rs) h k = absurd (h.1 k.1.0)
     go (OutsideRoster u) (CastDiffers w) h k = absurd (casts w k h.0)
     go (OutsideRoster u) RosterDiffers h k = absurd (k.1 h.1.0)
-    go (OutsideRoster u) (OutsideRoster w) h k = ap {B = Crowd} OutsideRoster (one_outside S (roster_names (config_of one.configs g)) u w h.1.1 k.1.1)
+    go (OutsideRoster u) (OutsideRoster w) h k =
+        ap {B = Crowd} OutsideRoster (one_outside S (roster_names (config_of one.configs g)) u w h.1.1 k.1.1)
     go (OutsideRoster u) (InputsDiffer p) h k = absurd (outside u h.1.1 k.1.1.0)
     go (OutsideRoster u) (Same rs) h k = absurd (outside u h.1.1 k.1.1.0)
     go (InputsDiffer p) (CastDiffers w) h k = absurd (casts w k h.0)
     go (InputsDiffer p) RosterDiffers h k = absurd (k.1 h.1.0)
     go (InputsDiffer p) (OutsideRoster w) h k = absurd (outside w k.1.1 h.1.1.0)
-    go (InputsDiffer p) (InputsDiffer q) h k = ap {B = Crowd} InputsDiffer (one_place (steps one) (steps other) p q h.1.1.1 k.1.1.1)
+    go (InputsDiffer p) (InputsDiffer q) h k =
+        ap {B = Crowd} InputsDiffer (one_place (steps one) (steps other) p q h.1.1.1 k.1.1.1)
     go (InputsDiffer p) (Same rs) h k = absurd (differ p h.1.1.1 k.1.1.1.0)
     go (Same rs) (CastDiffers w) h k = absurd (casts w k h.0)
     go (Same rs) RosterDiffers h k = absurd (k.1 h.1.0)

@@ -20,8 +20,11 @@ two_hosts = one_net (host A (just A) ∷ host B (just A) ∷ []) (record { event
 
 -- a Hear hands over what was emitted and nothing else; nobody delivers under a hosted name
 pub hears_what_was_emitted : host_run (nets two_hosts)
-    (in_one (Opens 1 ∷ Asks 1 A x ∷ Hears 1 B A Kind.Ballot 2 ∷ Delivers B 88 (Read (by A (just A) (Externalize (at 1 x) 1))) ∷ Hears 1 B A Kind.Ballot 1 ∷ Hears 1 B C Kind.Ballot 1 ∷ Hears 1 B A Kind.Ballot 0 ∷ []) ++ (7, Opens 1) ∷ [])
-    ≡ Done [] ∷ Done (Emit (by A (just A) (Nominate (x ∷ []) (x ∷ []))) ∷ Emit (by A (just A) (Externalize (at 1 x) 1)) ∷ Decided x ∷ []) ∷ Refused NotEmitted ∷ Refused HostedSender
+    (in_one (Opens 1 ∷ Asks 1 A x ∷ Hears 1 B A Kind.Ballot 2 ∷ Delivers B 88
+    (Read (by A (just A) (Externalize (at 1 x) 1))) ∷ Hears 1 B A Kind.Ballot 1 ∷ Hears 1 B C Kind.Ballot 1 ∷ Hears 1 B A Kind.Ballot 0 ∷ []) ++ (7, Opens 1) ∷ [])
+    ≡ Done [] ∷ Done
+    (Emit (by A (just A) (Nominate (x ∷ []) (x ∷ []))) ∷ Emit
+    (by A (just A) (Externalize (at 1 x) 1)) ∷ Decided x ∷ []) ∷ Refused NotEmitted ∷ Refused HostedSender
     ∷ Done (Emit (by B (just A) (Externalize (at 1 x) 1)) ∷ Decided x ∷ []) ∷ Refused NoSuchNode ∷ Refused NotEmitted ∷ Refused NoSuchNetwork ∷ []
 unfolding everything
 hears_what_was_emitted = refl
@@ -30,15 +33,23 @@ abbrev alone : ℕ → List Config
 alone events = one_net (host A (just A) ∷ []) (record { events = events; bytes = 0; slots = 1 })
 
 -- a closed slot is forgotten, and begins anew when it is opened again
-pub reopened_slot_begins_anew : replies (alone 10) (Opens 1 ∷ Asks 1 A x ∷ Asks 1 A y ∷ Opens 1 ∷ Opens 2 ∷ Closes 1 ∷ Asks 1 A y ∷ Opens 1 ∷ Asks 1 A y ∷ [])
-    ≡ Done [] ∷ Done (Emit (by A (just A) (Nominate (x ∷ []) (x ∷ []))) ∷ Emit (by A (just A) (Externalize (at 1 x) 1)) ∷ Decided x ∷ []) ∷ Refused ProposedAlready ∷ Refused SlotOpenAlready ∷ Refused TooManySlots
-    ∷ Done [] ∷ Refused SlotNotOpen ∷ Done [] ∷ Done (Emit (by A (just A) (Nominate (y ∷ []) (y ∷ []))) ∷ Emit (by A (just A) (Externalize (at 1 y) 1)) ∷ Decided y ∷ []) ∷ []
+pub reopened_slot_begins_anew : replies (alone 10)
+    (Opens 1 ∷ Asks 1 A x ∷ Asks 1 A y ∷ Opens 1 ∷ Opens 2 ∷ Closes 1 ∷ Asks 1 A y ∷ Opens 1 ∷ Asks 1 A y ∷ [])
+    ≡ Done [] ∷ Done
+    (Emit (by A (just A) (Nominate (x ∷ []) (x ∷ []))) ∷ Emit
+    (by A (just A) (Externalize (at 1 x) 1)) ∷ Decided x ∷ []) ∷ Refused ProposedAlready ∷ Refused SlotOpenAlready ∷ Refused TooManySlots
+    ∷ Done [] ∷ Refused SlotNotOpen ∷ Done [] ∷ Done
+    (Emit (by A (just A) (Nominate (y ∷ []) (y ∷ []))) ∷ Emit
+    (by A (just A) (Externalize (at 1 y) 1)) ∷ Decided y ∷ []) ∷ []
 unfolding everything
 reopened_slot_begins_anew = refl
 
 -- a full journal takes nothing more; a value has at least one byte; faulty bytes are refused once the node is known
-pub full_journal_refuses : replies (alone 2) (Opens 1 ∷ Asks 1 A [] ∷ Delivers B 3 (Fault 1) ∷ Delivers A 3 (Fault 1) ∷ Asks 1 A x ∷ Closes 1 ∷ [])
-    ≡ Done [] ∷ Refused BadValue ∷ Refused NoSuchNode ∷ Refused (BadEnvelope 1) ∷ Done (Emit (by A (just A) (Nominate (x ∷ []) (x ∷ []))) ∷ Emit (by A (just A) (Externalize (at 1 x) 1)) ∷ Decided x ∷ []) ∷ Refused JournalFull ∷ []
+pub full_journal_refuses : replies (alone 2)
+    (Opens 1 ∷ Asks 1 A [] ∷ Delivers B 3 (Fault 1) ∷ Delivers A 3 (Fault 1) ∷ Asks 1 A x ∷ Closes 1 ∷ [])
+    ≡ Done [] ∷ Refused BadValue ∷ Refused NoSuchNode ∷ Refused (BadEnvelope 1) ∷ Done
+    (Emit (by A (just A) (Nominate (x ∷ []) (x ∷ []))) ∷ Emit
+    (by A (just A) (Externalize (at 1 x) 1)) ∷ Decided x ∷ []) ∷ Refused JournalFull ∷ []
 unfolding everything
 full_journal_refuses = refl
 
@@ -49,7 +60,9 @@ abbrev from_B : Step
 from_B = to_A B (just B) (Prepare (at 9 m) (Some (at 9 m)) 6 0 0)
 
 -- strangers use up the bytes of a network, also by stale envelopes
-pub strangers_use_up_bytes : replies few_bytes (Opens 1 ∷ to_A Z (just Z) (Prepare (at 9 m) None 0 0 0) ∷ to_A Z (just Z) (Prepare (at 9 m) None 0 0 0) ∷ from_B ∷ []) ≡ Done [] ∷ Done [] ∷ Done [] ∷ Refused BytesFull ∷ []
+pub strangers_use_up_bytes : replies few_bytes
+    (Opens 1 ∷ to_A Z (just Z) (Prepare (at 9 m) None 0 0 0) ∷ to_A Z (just Z)
+    (Prepare (at 9 m) None 0 0 0) ∷ from_B ∷ []) ≡ Done [] ∷ Done [] ∷ Done [] ∷ Refused BytesFull ∷ []
 unfolding everything
 strangers_use_up_bytes = refl
 
@@ -58,7 +71,13 @@ abbrev hosts : List Host
 hosts = host A two_of_bcd ∷ []
 
 abbrev run : List Step → List Entry
-run steps = journal (new_net (record { number = 1; hosts = hosts; budgets = record { events = 100; bytes = 100000; slots = 1 }; roster = None })) steps
+run steps =
+    journal (new_net (record {
+      number = 1;
+      hosts = hosts;
+      budgets = record { events = 100; bytes = 100000; slots = 1 };
+      roster = None;
+    })) steps
 
 abbrev from_C : Step
 from_C = to_A C (just C) (Prepare (at 8 k) (Some (at 8 k)) 6 0 0)
@@ -73,11 +92,13 @@ abbrev members : List Entry → List Bool
 members entries = map (closure hosts 1 A entries) (A ∷ B ∷ C ∷ D ∷ Z ∷ E ∷ [])
 
 -- who is named later is in the closure of the whole run, wherever its own envelope came
-pub named_later_is_in : members (run (Opens 1 ∷ from_B ∷ from_C ∷ from_Z ∷ from_D Z ∷ [])) ≡ true ∷ true ∷ true ∷ true ∷ true ∷ false ∷ []
+pub named_later_is_in : members (run (Opens 1 ∷ from_B ∷ from_C ∷ from_Z ∷ from_D Z ∷ []))
+    ≡ true ∷ true ∷ true ∷ true ∷ true ∷ false ∷ []
 unfolding everything closure
 named_later_is_in = refl
 
-pub named_later_is_in_from_the_beginning : members (run (Opens 1 ∷ from_Z ∷ from_B ∷ from_C ∷ from_D Z ∷ [])) ≡ true ∷ true ∷ true ∷ true ∷ true ∷ false ∷ []
+pub named_later_is_in_from_the_beginning : members (run (Opens 1 ∷ from_Z ∷ from_B ∷ from_C ∷ from_D Z ∷ []))
+    ≡ true ∷ true ∷ true ∷ true ∷ true ∷ false ∷ []
 unfolding everything closure
 named_later_is_in_from_the_beginning = refl
 
@@ -92,17 +113,20 @@ unfolding everything closure
 stranger_is_out = refl
 
 -- with and without the stranger the same steps are kept, and A gives out the same
-pub stranger_is_not_kept : kept_of (closure hosts 1 A without) 1 without ≡ kept_of (closure hosts 1 A without) 1 with_stranger
+pub stranger_is_not_kept : kept_of (closure hosts 1 A without) 1 without
+    ≡ kept_of (closure hosts 1 A without) 1 with_stranger
 unfolding everything closure kept_of
 stranger_is_not_kept = refl
 
-pub stranger_changes_nothing : outs_of 1 A with_stranger ≡ ArmBallot 8 ∷ Emit (by A two_of_bcd (Prepare (at 8 k) (Some (at 1 k)) 0 1 1)) ∷ []
+pub stranger_changes_nothing : outs_of 1 A with_stranger
+    ≡ ArmBallot 8 ∷ Emit (by A two_of_bcd (Prepare (at 8 k) (Some (at 1 k)) 0 1 1)) ∷ []
 unfolding everything outs_of
 stranger_changes_nothing = refl
 
 -- ---- four validators
 abbrev four : List Config
-four = one_net (host A three_of_abcd ∷ host B three_of_abcd ∷ host C three_of_abcd ∷ host D three_of_abcd ∷ []) (record { events = 1000; bytes = 0; slots = 1 })
+four = one_net (host A three_of_abcd ∷ host B three_of_abcd ∷ host C three_of_abcd ∷ host D three_of_abcd ∷ [])
+    (record { events = 1000; bytes = 0; slots = 1 })
 
 abbrev others : ℕ → List ℕ
 others u = filter (λ w. not (w == u)) (A ∷ B ∷ C ∷ D ∷ [])
@@ -131,6 +155,8 @@ values_of (Refused r ∷ rs) = values_of rs
 values_of (Done os ∷ rs) = decided_in os ++ values_of rs
 
 -- whoever leads: once all have heard what each emitted, all four externalize x
-pub all_externalize : values_of (replies four (talk ++ heard_by_all Nomination 1 ++ heard_by_all Nomination 2 ++ heard_by_all Kind.Ballot 1 ++ heard_by_all Kind.Ballot 2 ++ heard_by_all Kind.Ballot 3 ++ heard_by_all Kind.Ballot 4)) ≡ x ∷ x ∷ x ∷ x ∷ []
+pub all_externalize : values_of
+    (replies four (talk ++ heard_by_all Nomination 1 ++ heard_by_all Nomination 2 ++ heard_by_all Kind.Ballot 1
+    ++ heard_by_all Kind.Ballot 2 ++ heard_by_all Kind.Ballot 3 ++ heard_by_all Kind.Ballot 4)) ≡ x ∷ x ∷ x ∷ x ∷ []
 unfolding everything
 all_externalize = refl

@@ -18,7 +18,9 @@ after n (e ∷ es) = after (step n e).0 es
 
 -- B and C accept x as nominated, and B votes to commit x from counter 7 to counter 9
 abbrev before : Node
-before = after (fresh 1 A itself_and_another) (Take (by B (just B) (Nominate (x ∷ []) (x ∷ []))) ∷ Take (by C (just C) (Nominate (x ∷ []) (x ∷ []))) ∷ Take (by B (just B) (Prepare (at 9 x) (Some (at 9 x)) 0 9 7)) ∷ [])
+before = after (fresh 1 A itself_and_another)
+    (Take (by B (just B) (Nominate (x ∷ []) (x ∷ []))) ∷ Take (by C (just C) (Nominate (x ∷ []) (x ∷ []))) ∷ Take
+    (by B (just B) (Prepare (at 9 x) (Some (at 9 x)) 0 9 7)) ∷ [])
 
 -- then C has counter 7, with another value
 abbrev last : NodeEvent

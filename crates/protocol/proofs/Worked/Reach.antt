@@ -49,11 +49,13 @@ pub ring_reaches_its_three : reaches (just B) ring ≡ true ∷ true ∷ true �
 unfolding some_set every_set in_least reached
 ring_reaches_its_three = refl
 
-pub stranger_that_names_a_member : reaches (just B) (names_one Z A ∷ ring) ≡ true ∷ true ∷ true ∷ false ∷ false ∷ false ∷ []
+pub stranger_that_names_a_member : reaches (just B) (names_one Z A ∷ ring)
+    ≡ true ∷ true ∷ true ∷ false ∷ false ∷ false ∷ []
 unfolding some_set every_set in_least reached
 stranger_that_names_a_member = refl
 
-pub stranger_that_a_member_names : reaches two_of_three (names_one D Z ∷ []) ≡ true ∷ true ∷ true ∷ true ∷ true ∷ false ∷ []
+pub stranger_that_a_member_names : reaches two_of_three (names_one D Z ∷ [])
+    ≡ true ∷ true ∷ true ∷ true ∷ true ∷ false ∷ []
 unfolding some_set every_set in_least reached
 stranger_that_a_member_names = refl
 

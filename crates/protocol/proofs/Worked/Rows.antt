@@ -32,16 +32,20 @@ abbrev y : ℕ
 y = 121
 
 -- an equal statement and an older one are stale
-pub older_is_stale : answers [] (by 2 (Prepare (at 9 m) (Some (at 9 m)) 6 0 0) ∷ by 2 (Prepare (at 9 m) (Some (at 9 m)) 6 0 0) ∷ by 2 (Prepare (at 8 k) None 0 0 0) ∷ []) ≡ true ∷ false ∷ false ∷ []
+pub older_is_stale : answers []
+    (by 2 (Prepare (at 9 m) (Some (at 9 m)) 6 0 0) ∷ by 2 (Prepare (at 9 m) (Some (at 9 m)) 6 0 0) ∷ by 2
+    (Prepare (at 8 k) None 0 0 0) ∷ []) ≡ true ∷ false ∷ false ∷ []
 unfolding row with_row is_taken offered
 older_is_stale = refl
 
 -- so is a nomination that lacks an old value
-pub other_value_is_stale : answers [] (by 2 (Nominate ((x ∷ []) ∷ []) []) ∷ by 2 (Nominate ((y ∷ []) ∷ []) []) ∷ []) ≡ true ∷ false ∷ []
+pub other_value_is_stale : answers [] (by 2 (Nominate ((x ∷ []) ∷ []) []) ∷ by 2 (Nominate ((y ∷ []) ∷ []) []) ∷ [])
+    ≡ true ∷ false ∷ []
 unfolding row with_row is_taken offered
 other_value_is_stale = refl
 
 -- nothing replaces an EXTERNALIZE, however great its counter
-pub externalize_stands : answers [] (by 2 (Externalize (at 3 x) 3) ∷ by 2 (Prepare (at 4294967294 x) None 0 0 0) ∷ []) ≡ true ∷ false ∷ []
+pub externalize_stands : answers [] (by 2 (Externalize (at 3 x) 3) ∷ by 2 (Prepare (at 4294967294 x) None 0 0 0) ∷ [])
+    ≡ true ∷ false ∷ []
 unfolding row with_row is_taken offered
 externalize_stands = refl

@@ -26,7 +26,8 @@ F = 70
 
 -- 2[B,1[C,D],2[E,F]]
 abbrev nested : Slices
-nested = record { threshold = 2; members = node B (inner 1 (node C (node D none)) (inner 2 (node E (node F none)) none)) }
+nested =
+    record { threshold = 2; members = node B (inner 1 (node C (node D none)) (inner 2 (node E (node F none)) none)) }
 
 pub satisfied_by_c_e_f : sat nested (among (C ∷ E ∷ F ∷ [])) ≡ true
 satisfied_by_c_e_f = refl
