@@ -23,8 +23,8 @@ use Rattle.view.specs.contracts.region.Region as Region
 use Rattle.latest.specs.contracts.index.Index as Index
 use Rattle.latest.specs.contracts.places.RowPlaces as RowPlaces
 use Rattle.latest.specs.contracts.table.Table as Table
-use Rattle.slot.specs.contracts.configured.Configured as Configured
-use Rattle.slot.specs.contracts.listener.Listener as Listener
+use Rattle.listening.specs.contracts.configured.Configured as Configured
+use Rattle.listening.specs.contracts.listener.Listener as Listener
 use Rattle.slot.specs.contracts.node.Node as Node
 use Rattle.slot.specs.contracts.filed.FiledOut as FiledOut
 use Rattle.envstore.specs.contracts.filed.Filed as Filed

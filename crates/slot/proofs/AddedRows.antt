@@ -20,30 +20,16 @@ use Rattle.protocol.specs.Rows.{is_taken, offered, with_row}
 use Rattle.protocol.proofs.Nodes.Quiet.{outs-none, step-stale}
 use Rattle.protocol.proofs.Equality.Sameness.{same_votes-refl}
 use Rattle.protocol.proofs.Nodes.Strangers.{strangers_add_rows}
-use Rattle.view.specs.declared.region.Region.{Region}
-use Rattle.slot.specs.declared.configured.Configured.{Configured}
-use Rattle.slot.specs.Listening.{AddsRowAlone, Heard, IsStranger, KnowsRegion, KnownAscends, node_of}
+use Rattle.listening.proofs.Offers.{offered-stale, offered-taken}
+use Rattle.listening.specs.Listening.{Heard, IsStranger}
+use Rattle.slot.specs.Listening.{AddsRowAlone, node_of}
 use Rattle.envstore.specs.Archives.{sents_of}
 use Rattle.slot.specs.Wholes.{whole}
-
--- the nodes of a region that is known ascend
-pub known-ascends : (c : Configured) (table : List Sent) (known : Option Region) → KnowsRegion c table known → KnownAscends known
-known-ascends c table None h = tt
-known-ascends c table (Some v) h = h.reach.ascending
 
 -- what is not so is false
 pub untrue : (b : Bool) → IsTrue (not b) → b ≡ false
 untrue true h = sym h
 untrue false h = refl
-
--- ---- offers
-pub offered-taken : (table : List Sent) (x : Sent) → is_taken table x ≡ true → offered table x ≡ with_row x table
-unfolding offered
-offered-taken table x e = rw e refl
-
-pub offered-stale : (table : List Sent) (x : Sent) → is_taken table x ≡ false → offered table x ≡ table
-unfolding offered
-offered-stale table x e = rw e refl
 
 -- ---- a stranger's
 stranger-there : (h : Heard) (given : Given) (votes : Votes) (u : ℕ) → IsStranger h u → IsFalse (among given.leaders u) → Reached (node_of h given votes) → AddsRowAlone (node_of h given votes) u

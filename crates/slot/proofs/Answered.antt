@@ -1,7 +1,7 @@
 -- How an answer leads to the step's: the votes that settle, and what the node of them sends.
-use Rattle.std.proofs.Common.{refl, ◌≡◌, ℕ, ◌+◌, ◌<◌, Bool, true, false, not, ◌&&◌, ◌==◌, nat_lt, List, Option, Some, None, Result, Ok, Err, IfOk, OnOk, option_map, is_some, if◌then◌else◌, subst, ◌∙◌, sym, ap, inl, inr, ◌⊎◌, arith}
+use Rattle.std.proofs.Common.{refl, ◌≡◌, ℕ, ◌+◌, ◌<◌, Bool, true, false, not, ◌&&◌, ◌==◌, nat_lt, List, Option, Some, None, Result, Ok, Err, IfOk, OnOk, option_map, is_some, if◌then◌else◌, subst, ◌∙◌, sym, ap, ◌⊎◌, arith}
 use Rattle.std.specs.Prelude.{IfSome, IsFalse, IsTrue}
-use Rattle.std.proofs.lemmas.Bool.{and_parts, eqb-true, false≢true}
+use Rattle.std.proofs.lemmas.Bool.{and_parts, eqb-true}
 use Rattle.std.proofs.lemmas.Bool.Decides.{nat_tests}
 use Rattle.types.specs.Trees.{Slices}
 use Rattle.types.specs.Statements.{Sent}
@@ -26,10 +26,12 @@ use Rattle.protocol.specs.Sets.{Names, among}
 use Rattle.envstore.specs.declared.filed.Filed.{Filed}
 use Rattle.envstore.specs.Archives.{sents_of}
 use Rattle.latest.specs.declared.table.Put.{Put}
-use Rattle.latest.specs.declared.table.Put.TheVariants.{Stale, NoMemory, Added, Replaced}
+use Rattle.latest.specs.declared.table.Put.TheVariants.{Added, Replaced}
 use Rattle.latest.specs.Puts.{IsPut}
-use Rattle.slot.specs.declared.configured.Configured.{Configured}
-use Rattle.slot.specs.Listening.{Heard, Held, is_put, node_of}
+use Rattle.listening.specs.declared.configured.Configured.{Configured}
+use Rattle.listening.proofs.Offers.{put-takes}
+use Rattle.listening.specs.Listening.{Heard}
+use Rattle.slot.specs.Listening.{Held, node_of}
 use Rattle.slot.specs.declared.filed.GivenOut.{GivenOut}
 use Rattle.slot.specs.Filings.{outs_of}
 use Rattle.slot.specs.Wholes.{whole, led, SendWellFormed}
@@ -121,20 +123,6 @@ live-below k armed (Some b) over h =
     under m e = grind (arith, nat_tests)
 
 -- ---- envelopes
--- a put that the table has is what an offer makes of it
-pub put-takes : (old new : List Filed) (x : Sent) (p : Put) → IsPut old x p new → (p ≡ Added) ⊎ ((y : Filed) × (p ≡ Replaced y)) → (is_taken (sents_of old) x ≡ true) × (sents_of new ≡ with_row x (sents_of old))
-put-takes old new x p put is = go p put (kept is)
-  where
-    kept : (p ≡ Added) ⊎ ((y : Filed) × (p ≡ Replaced y)) → is_put p ≡ true
-    kept (inl q) = ap is_put q
-    kept (inr q) = ap is_put q.1
-
-    go : (p : Put) → IsPut old x p new → is_put p ≡ true → (is_taken (sents_of old) x ≡ true) × (sents_of new ≡ with_row x (sents_of old))
-    go Stale h k = absurd (false≢true k)
-    go NoMemory h k = absurd (false≢true k)
-    go Added h k = (h.1, h.2)
-    go (Replaced r) h k = (h.1, h.2)
-
 pub change-put : (h k : Heard) (given : Given) (votes w : Votes) (n : Node) (x : Sent) (p : Put) → n ≡ node_of h given votes
     → IsPut h.table x p k.table → k.configured ≡ h.configured → (p ≡ Added) ⊎ ((y : Filed) × (p ≡ Replaced y)) → w ≡ votes → change n (Take x) ≡ Some (node_of k given w)
 change-put h k given votes w n x p e put same is ew =

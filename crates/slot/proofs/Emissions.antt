@@ -12,7 +12,7 @@ use Rattle.protocol.specs.Sameness.{same_sent}
 use Rattle.protocol.specs.Nodes.{emitted}
 use Rattle.protocol.specs.States.{sent_nomination}
 use Rattle.protocol.proofs.Equality.Sameness.{same_sent-refl, same_sent-true}
-use Rattle.slot.specs.declared.configured.Configured.{Configured}
+use Rattle.listening.specs.declared.configured.Configured.{Configured}
 use Rattle.slot.specs.Wholes.{whole, sent_by, emitted_by}
 
 -- a node emits by what is configured alone

@@ -2,13 +2,13 @@
 use Rattle.std.proofs.Common.{◌≡◌, ℕ, Bool, true, false, List, Option, Some, None, is_some, if◌then◌else◌, refl, sym, ◌∙◌, ap}
 use Rattle.std.proofs.lemmas.Bool.{false≢true}
 use Rattle.types.specs.Trees.{Slices}
-use Rattle.types.specs.Statements.{Sent, kind_of}
+use Rattle.types.specs.Statements.{Sent}
 use Rattle.types.specs.declared.event.NodeEvent.TheVariants.{Propose, Take, NominationTimer, BallotTimer, Reslice}
 use Rattle.types.specs.declared.state.Given.{Given}
 use Rattle.types.specs.declared.state.Votes.{Votes}
 use Rattle.protocol.specs.Nodes.{Node, change, is_counter_live, is_round_live}
-use Rattle.protocol.specs.Rows.{is_taken, replaces, row}
-use Rattle.slot.specs.declared.configured.Configured.{Configured}
+use Rattle.protocol.specs.Rows.{is_taken}
+use Rattle.listening.specs.declared.configured.Configured.{Configured}
 use Rattle.slot.specs.Wholes.{whole}
 
 -- what is done on a condition alone changes nothing only without it
@@ -40,8 +40,3 @@ idle-round n r idle = guarded _ _ idle
 pub idle-counter : (n : Node) (k : ℕ) → change n (BallotTimer k) ≡ None → is_counter_live n k ≡ false
 unfolding change
 idle-counter n k idle = guarded _ _ idle
-
--- the first envelope of its sender and kind is not stale
-pub first-taken : (table : List Sent) (x : Sent) → row table x.sender (kind_of x.body) ≡ None → is_taken table x ≡ true
-unfolding is_taken
-first-taken table x e = ap (replaces x) e

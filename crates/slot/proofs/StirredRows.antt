@@ -1,7 +1,5 @@
--- The rules that an envelope stirs: where a region that was known is known still the reach stays, and then those of its kind alone.
-use Rattle.std.proofs.Common.{◌≡◌, List, Option, Some, None, is_some, sym, ◌∙◌, subst}
-use Rattle.std.specs.Prelude.{IsTrue}
-use Rattle.std.proofs.lemmas.Bool.{false≢true}
+-- The rules that an envelope stirs: where the reach stays, those of its kind alone.
+use Rattle.std.proofs.Common.{◌≡◌, List, Some, sym, subst}
 use Rattle.types.specs.Statements.{Sent}
 use Rattle.types.specs.declared.event.NodeEvent.{NodeEvent}
 use Rattle.types.specs.declared.event.NodeEvent.TheVariants.{Take}
@@ -13,25 +11,12 @@ use Rattle.protocol.specs.Rows.{with_row}
 use Rattle.protocol.specs.Stirring.{KeepsReach}
 use Rattle.protocol.proofs.Passes.Stirring.{ballot_rows_stir_ballots, nomination_rests_after_a_pass, nomination_rows_stir_nomination}
 use Rattle.envstore.specs.Archives.{sents_of}
-use Rattle.view.specs.declared.region.Entry.{Entry}
-use Rattle.view.specs.declared.region.Region.{Region}
-use Rattle.view.specs.Regions.{IsEntry, IsRegion}
-use Rattle.slot.specs.declared.configured.Configured.{Configured}
 use Rattle.slot.specs.declared.stirring.Stirred.{Stirred}
 use Rattle.slot.specs.declared.stirring.Stirred.TheVariants.{All, Ballots, Nominations}
-use Rattle.slot.specs.Listening.{Heard, KnowsRegion, node_of}
+use Rattle.listening.specs.Listening.{Heard}
+use Rattle.slot.specs.Listening.{node_of}
 use Rattle.slot.specs.Stirrings.{IsStirred, StirsIn}
 use Rattle.slot.specs.Wholes.{whole}
-
--- ---- the reach
--- what is known by both tables
-pub keeps-known : (c : Configured) (table new : List Sent) (known : Option Region) → IsTrue (is_some known) → KnowsRegion c table known → KnowsRegion c new known → KeepsReach c.name c.slices table new
-keeps-known c table new None some before after = absurd (false≢true some)
-keeps-known c table new (Some r) some before after = λ u. sym (after.reach.exactly u) ∙ before.reach.exactly u
-
--- an entry that a row sets, which leaves the reach
-pub keeps-entry : (c : Configured) (table : List Sent) (e : Sent) (r : Region) (x : Entry) → IsEntry c.name c.slices table e r x → IsRegion c.name c.slices table r → KeepsReach c.name c.slices table (with_row e table)
-keeps-entry c table e r x entry is = λ u. sym ((entry.reach is.reach).exactly u) ∙ is.reach.exactly u
 
 -- ---- what is stirred
 -- a node after an event of whatever kind

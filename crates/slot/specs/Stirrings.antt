@@ -9,7 +9,7 @@ use Rattle.protocol.specs.Nodes.{Node, settle}
 use Rattle.protocol.specs.Passes.{balloted_in, nominated_in, pass}
 use Rattle.protocol.specs.Stirring.{KeepsReach, seen_by, settle_all, settle_ballots, settle_nominations}
 use Rattle.protocol.specs.Views.{Seen}
-use Rattle.slot.specs.declared.configured.Configured.{Configured}
+use Rattle.listening.specs.declared.configured.Configured.{Configured}
 use Rattle.slot.specs.declared.stirring.Stirred.{Stirred}
 use Rattle.slot.specs.declared.stirring.Stirred.TheVariants.{All, Ballots, Nominations}
 

@@ -11,7 +11,7 @@ use Rattle.protocol.specs.Leaders.{leader}
 use Rattle.protocol.specs.Sameness.{same_sent}
 use Rattle.protocol.specs.States.{sent_nomination, sent_vote}
 use Rattle.protocol.specs.Nodes.{Node, change}
-use Rattle.slot.specs.declared.configured.Configured.{Configured}
+use Rattle.listening.specs.declared.configured.Configured.{Configured}
 
 -- who it is with its slices, what events gave, what the rules made, and the table
 abbrev pub whole : Configured → Given → Votes → List Sent → Node

@@ -5,11 +5,11 @@ ghost use Rattle.protocol.specs.Nodes.{settle};
 ghost use Rattle.protocol.specs.Passes.{pass};
 ghost use Rattle.slot.specs.Stirrings.{Stirs};
 
-use crate::configured::Configured;
 use crate::filed::GivenOut;
 use crate::settling::{Inputs, settle_from};
 use crate::stirring::Stirred;
 use fedvote::Sight;
+use listening::Configured;
 use std::alloc::{AllocError, Global};
 use types::{Given, Out, Votes};
 

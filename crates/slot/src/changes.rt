@@ -6,10 +6,10 @@ ghost use Rattle.protocol.specs.Timers.{is_ballot_timer_live, is_nomination_time
 ghost use Rattle.protocol.specs.States.{counter_of};
 ghost use Rattle.slot.specs.Wholes.{led};
 
-use crate::configured::Configured;
 use crate::outs::is_externalized;
 use ballot::raised;
 use leaders::leader;
+use listening::Configured;
 use std::alloc::{AllocError, Global};
 use timers::{ballot_is_live, nomination_is_live};
 use types::{Given, Value, Votes};

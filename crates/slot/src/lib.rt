@@ -3,12 +3,10 @@
 #![tactic(auto)]
 
 mod answering;
+mod by_region;
 mod changes;
-mod configured;
 mod filed;
 mod filing;
-mod known;
-mod listener;
 mod node;
 mod outs;
 mod passing;

@@ -17,17 +17,17 @@ ghost use Rattle.types.specs.declared.event.NodeEvent.{NodeEvent};
 ghost use Rattle.types.specs.declared.event.Out.TheVariants.{Emit};
 
 use crate::answering::{Answer, FiledAnswer, Start, State};
+use crate::by_region::answer;
 use crate::changes::{
     Changed, bumped, fired, in_next_round, is_counter_live, is_round_live, proposed,
 };
-use crate::configured::Configured;
 use crate::filed::{FiledEvent, FiledOut, GivenOut};
 use crate::filing::{file_copied, nothing};
-use crate::listener::Listener;
 use crate::outs::is_externalized;
-use crate::stirring::Stirred;
+use crate::stirring::{Stirred, put_row};
 use envstore::{Archive, Filed, Places, Shelf};
 use latest::{Put, Table};
+use listening::{Configured, Listener};
 use nomination::leads;
 use std::alloc::{AllocError, Global};
 use std::marker::Model;
@@ -95,21 +95,21 @@ impl Node {
     pub fn name(&self) -> &NodeId
         ensures { result.now ≡ self.now.node.name }
     {
-        &self.listener.configured().name
+        &self.listener.configuration().name
     }
 
     /// The slot that it is at.
     pub fn slot(&self) -> u64
         ensures { result ≡ self.now.node.slot }
     {
-        self.listener.configured().slot
+        self.listener.configuration().slot
     }
 
     /// Its own slices, those that are configured at this moment.
     pub fn slices(&self) -> &Nested
         ensures { result.now ≡ self.now.node.slices }
     {
-        &self.listener.configured().slices
+        &self.listener.configuration().slices
     }
 
     /// What events alone set.
@@ -182,7 +182,7 @@ impl Node {
         ensures copies { IfOk result (HasCopies copies) }
         ensures kept { Keeps archive.old archive.new }
     {
-        self.reached();
+        self.comes_of_events();
         match event {
             FiledEvent::Propose(value) => self.propose(alloc, archive, value, copies),
             FiledEvent::Take(envelope) => self.take(alloc, archive, envelope, copies),
@@ -216,7 +216,7 @@ impl Node {
     }
 
     /// A law: events led to it.
-    fn reached(&self)
+    fn comes_of_events(&self)
         ensures { Reached self.now.node }
     {
         let _given = &self.given;
@@ -239,7 +239,7 @@ impl Node {
         ensures copies { IfOk result (HasCopies copies) }
         ensures kept { Keeps archive.old archive.new }
     {
-        let given = proposed(alloc, self.listener.configured(), &self.given, value)?;
+        let given = proposed(alloc, self.listener.configuration(), &self.given, value)?;
         let votes = self.votes.try_copy()?;
         self.settle(alloc, archive, Changed { given, votes }, copies)
     }
@@ -266,7 +266,7 @@ impl Node {
             let given_out = nothing(alloc, copies)?;
             return Ok(given_out);
         }
-        let given = in_next_round(alloc, self.listener.configured(), &self.given, round)?;
+        let given = in_next_round(alloc, self.listener.configuration(), &self.given, round)?;
         let votes = self.votes.try_copy()?;
         self.settle(alloc, archive, Changed { given, votes }, copies)
     }
@@ -393,7 +393,7 @@ impl Node {
         ensures copies { IfOk result (HasCopies copies) }
         ensures kept { Keeps archive.old archive.new }
     {
-        let (put, stirred) = self.listener.put(alloc, archive, envelope);
+        let (put, stirred) = put_row(alloc, archive, &mut self.listener, envelope);
         match put {
             Put::Stale => {
                 let given_out = nothing(alloc, copies)?;
@@ -451,7 +451,7 @@ impl Node {
             votes: &votes,
             stirred: Stirred::All,
         };
-        let answered = self.listener.answer(alloc, archive, &old, &start);
+        let answered = answer(alloc, archive, &mut self.listener, &old, &start);
         drop(votes);
         let answer = answered?;
         let given_out = file_copied(alloc, archive, answer.outs, copies)?;
@@ -486,8 +486,7 @@ fn answer_anew<S: Shelf>(
         given: start.given,
         votes: start.votes,
     };
-    let answer = listener.answer(alloc, archive, &old, start)?;
-    let Answer { votes, outs } = answer;
+    let Answer { votes, outs } = answer(alloc, archive, listener, &old, start)?;
     let given_out = file_copied(alloc, archive, outs, copies)?;
     Ok(FiledAnswer { votes, given_out })
 }

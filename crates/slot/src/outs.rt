@@ -8,9 +8,9 @@ ghost use Rattle.types.specs.Statements.{IsWellFormed, Sent};
 ghost use Rattle.types.specs.declared.statement.Statement.{Statement};
 
 use crate::answering::State;
-use crate::configured::Configured;
 use crate::sent::{envelope_of, is_same_sent, nominates_same, sent_nomination};
 use ballot::{counter_of, sent_vote};
+use listening::Configured;
 use std::alloc::{AllocError, Global};
 use types::{Out, Phase, Statement, Votes, statement_of};
 

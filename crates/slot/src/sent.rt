@@ -5,7 +5,7 @@ ghost use Rattle.protocol.specs.States.{sent_nomination};
 ghost use Rattle.slot.specs.Wholes.{sent_by};
 ghost use Rattle.types.specs.Statements.{IsWellFormed};
 
-use crate::configured::Configured;
+use listening::Configured;
 use std::alloc::{AllocError, Global};
 use types::{Envelope, Statement, Votes};
 

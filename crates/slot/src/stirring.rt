@@ -1,8 +1,14 @@
 //! Which rules an event of a node may stir.
 
 ghost use Rattle.std.specs.Prelude.{◌≡◌};
-ghost use Rattle.slot.specs.Stirrings.{stirred_by};
+ghost use Rattle.envstore.specs.Archives.{AreFiled, IsFiled, sent_of, sents_of};
+ghost use Rattle.latest.specs.Puts.{IsFiledPut, IsPut, undone};
+ghost use Rattle.slot.specs.Stirrings.{IsStirred, stirred_by};
 
+use envstore::{Archive, Filed, Places};
+use latest::Put;
+use listening::Listener;
+use std::alloc::Global;
 use types::Kind;
 
 /// The rules that an event may stir: all others change nothing in the first pass after it.
@@ -16,8 +22,33 @@ pub(crate) enum Stirred {
     Nominations,
 }
 
+/// Puts the envelope into the listener's table, and says which rules it stirs where the table takes it.
+pub(crate) fn put_row<S: Places>(
+    alloc: Global,
+    archive: &Archive<S>,
+    listener: &mut Listener,
+    envelope: Filed,
+) -> (Put, Stirred)
+    requires rows { AreFiled archive.now listener.old.table }
+    requires envelope { IsFiled archive.now envelope }
+    ensures put { IsPut listener.old.table (sent_of envelope) result.0 listener.new.table }
+    ensures back { undone result.0 listener.new.table ≡ listener.old.table }
+    ensures stirs { IsStirred result.1 listener.old.configured (sents_of listener.old.table) (sent_of envelope) (sents_of listener.new.table) }
+    ensures same { listener.new.configured ≡ listener.old.configured }
+    ensures filed { AreFiled archive.now listener.new.table }
+    ensures known { IsFiledPut archive.now result.0 }
+{
+    let kind = archive.read(&envelope).body().kind();
+    let (put, reach_stays) = listener.put(alloc, archive, envelope);
+    if reach_stays {
+        (put, stirred_by(kind))
+    } else {
+        (put, Stirred::All)
+    }
+}
+
 /// What a row of this kind stirs where the nodes that are reached stay.
-pub(crate) fn stirred_by(kind: Kind) -> Stirred
+fn stirred_by(kind: Kind) -> Stirred
     ensures { result ≡ stirred_by kind }
 {
     match kind {

@@ -11,7 +11,7 @@ use Rattle.slot.proofs.node.Node.advance.Goals as goal
 
 pub returns-in-Take-clause-quiet : goal.returns-in-Take-clause-quiet
 returns-in-Take-clause-quiet g c =
-    λ R x is held out led. quiet-after c.args.self.now.node c.take.new.self.node (Take (sent_of c.in-Take.envelope)) c.take.result c.reached.ensures c.take.ensures.node c.take.ensures.outs R x (ap event_of (sym c.in-Take.is) ∙ is) held out led
+    λ R x is held out led. quiet-after c.args.self.now.node c.take.new.self.node (Take (sent_of c.in-Take.envelope)) c.take.result c.comes_of_events.ensures c.take.ensures.node c.take.ensures.outs R x (ap event_of (sym c.in-Take.is) ∙ is) held out led
 
 pub returns-in-Propose-clause-emitted : goal.returns-in-Propose-clause-emitted
 returns-in-Propose-clause-emitted g c = emitted-own c.args.self.now.node c.propose.new.self.node c.propose.new.archive (Propose c.in-Propose.value) c.propose.result c.propose.ensures.node c.propose.ensures.outs c.propose.ensures.filed

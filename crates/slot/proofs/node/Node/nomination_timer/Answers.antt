@@ -25,14 +25,14 @@ pub settle-requires-clause-change : goal.settle-requires-clause-change
 settle-requires-clause-change g c =
     let n = c.args.self.now.node in
     let i = c.self.inside in
-    let made = change-round i.listener.configured i.given c.in_ok-given.given i.votes c.in_ok-votes.votes (sents_of i.listener.table) n c.args.round (sym (ap node_in c.self.view_is)) (sym c.is_round_live.ensures ∙ c.if-not-is_round_live.false) (led-by c.configured.result.now i.listener.configured c.in_ok-given.given i.given (c.args.round + 1) c.configured.ensures c.in_ok-given.ensures) c.in_ok-votes.ensures in
+    let made = change-round i.listener.configured i.given c.in_ok-given.given i.votes c.in_ok-votes.votes (sents_of i.listener.table) n c.args.round (sym (ap node_in c.self.view_is)) (sym c.is_round_live.ensures ∙ c.if-not-is_round_live.false) (led-by c.configuration.result.now i.listener.configured c.in_ok-given.given i.given (c.args.round + 1) c.configuration.ensures c.in_ok-given.ensures) c.in_ok-votes.ensures in
     record { event = NominationTimer c.args.round; is = made }
 
 pub returns-clause-node : goal.returns-clause-node
 returns-clause-node g c =
     let n = c.args.self.now.node in
     let i = c.self.inside in
-    let made = change-round i.listener.configured i.given c.in_ok-given.given i.votes c.in_ok-votes.votes (sents_of i.listener.table) n c.args.round (sym (ap node_in c.self.view_is)) (sym c.is_round_live.ensures ∙ c.if-not-is_round_live.false) (led-by c.configured.result.now i.listener.configured c.in_ok-given.given i.given (c.args.round + 1) c.configured.ensures c.in_ok-given.ensures) c.in_ok-votes.ensures in
+    let made = change-round i.listener.configured i.given c.in_ok-given.given i.votes c.in_ok-votes.votes (sents_of i.listener.table) n c.args.round (sym (ap node_in c.self.view_is)) (sym c.is_round_live.ensures ∙ c.if-not-is_round_live.false) (led-by c.configuration.result.now i.listener.configured c.in_ok-given.given i.given (c.args.round + 1) c.configuration.ensures c.in_ok-given.ensures) c.in_ok-votes.ensures in
     let m : Node = record n { given = c.in_ok-given.given; votes = c.in_ok-votes.votes } in
     subst (λ (p : Node × List Out). OnOk c.settle.result (c.settle.new.self.node ≡ p.0)) (sym (step-is n (NominationTimer c.args.round) (Some m) made)) c.settle.ensures.node
 
@@ -40,7 +40,7 @@ pub returns-clause-outs : goal.returns-clause-outs
 returns-clause-outs g c =
     let n = c.args.self.now.node in
     let i = c.self.inside in
-    let made = change-round i.listener.configured i.given c.in_ok-given.given i.votes c.in_ok-votes.votes (sents_of i.listener.table) n c.args.round (sym (ap node_in c.self.view_is)) (sym c.is_round_live.ensures ∙ c.if-not-is_round_live.false) (led-by c.configured.result.now i.listener.configured c.in_ok-given.given i.given (c.args.round + 1) c.configured.ensures c.in_ok-given.ensures) c.in_ok-votes.ensures in
+    let made = change-round i.listener.configured i.given c.in_ok-given.given i.votes c.in_ok-votes.votes (sents_of i.listener.table) n c.args.round (sym (ap node_in c.self.view_is)) (sym c.is_round_live.ensures ∙ c.if-not-is_round_live.false) (led-by c.configuration.result.now i.listener.configured c.in_ok-given.given i.given (c.args.round + 1) c.configuration.ensures c.in_ok-given.ensures) c.in_ok-votes.ensures in
     let m : Node = record n { given = c.in_ok-given.given; votes = c.in_ok-votes.votes } in
     subst (λ (p : Node × List Out). IfOk c.settle.result (λ v. outs_of v.outs.items ≡ p.1)) (sym (step-is n (NominationTimer c.args.round) (Some m) made)) c.settle.ensures.outs
 

@@ -3,7 +3,8 @@ use Rattle.types.specs.declared.event.NodeEvent.TheVariants.{Reslice}
 use Rattle.types.specs.declared.event.Out.{Out}
 use Rattle.protocol.specs.Nodes.{Node, outs}
 use Rattle.protocol.specs.Limits.{Reached}
-use Rattle.slot.specs.Listening.{Heard, Held, node_of}
+use Rattle.listening.specs.Listening.{Heard}
+use Rattle.slot.specs.Listening.{Held, node_of}
 use Rattle.envstore.specs.Archives.{AreFiled, sents_of}
 use Rattle.envstore.proofs.Growing.{keeps_all}
 use Rattle.slot.proofs.Answered.{node_in, settles-after, sends-after, change-slices, outs-by_new, step-some, reached-some}

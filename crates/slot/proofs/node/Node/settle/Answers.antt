@@ -4,7 +4,8 @@ use Rattle.protocol.specs.Nodes.{Node, passed, settle}
 use Rattle.protocol.specs.Limits.{Reached}
 use Rattle.envstore.specs.Archives.{AreFiled}
 use Rattle.envstore.proofs.Growing.{keeps_all}
-use Rattle.slot.specs.Listening.{Heard, Held, node_of}
+use Rattle.listening.specs.Listening.{Heard}
+use Rattle.slot.specs.Listening.{Held, node_of}
 use Rattle.slot.specs.declared.stirring.Stirred.TheVariants.{All}
 use Rattle.slot.specs.Stirrings.{StirsIn}
 use Rattle.slot.specs.Wholes.{SendWellFormed}

@@ -4,7 +4,8 @@ use Rattle.types.specs.Statements.{Sent}
 use Rattle.types.specs.declared.event.Out.{Out}
 use Rattle.protocol.specs.Nodes.{Node}
 use Rattle.protocol.specs.Limits.{Reached}
-use Rattle.slot.specs.Listening.{AddsRowAlone, Heard, node_of}
+use Rattle.listening.specs.Listening.{Heard}
+use Rattle.slot.specs.Listening.{AddsRowAlone, node_of}
 use Rattle.slot.specs.Filings.{outs_of}
 use Rattle.envstore.specs.Archives.{sent_of, sents_of}
 use Rattle.slot.proofs.Answered.{node_in}

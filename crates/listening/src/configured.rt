@@ -8,7 +8,7 @@ use view::Own;
 
 /// Who a node is, at which slot, and the slices that are configured at this moment.
 #[derive(Drop)]
-pub(crate) struct Configured {
+pub struct Configured {
     pub name: NodeId,
     pub slot: u64,
     pub slices: Nested,
@@ -16,7 +16,7 @@ pub(crate) struct Configured {
 
 impl Configured {
     /// Its name and its slices.
-    pub(crate) fn own(&self) -> Own<'_>
+    pub fn own(&self) -> Own<'_>
         ensures { (result.name.now ≡ self.now.name) × (result.slices.now ≡ self.now.slices) }
     {
         Own {
@@ -26,7 +26,7 @@ impl Configured {
     }
 
     /// A copy, which shares the slices. An error says that they have too many owners.
-    pub(crate) fn try_copy(&self) -> Result<Configured, AllocError>
+    pub fn try_copy(&self) -> Result<Configured, AllocError>
         ensures { IfOk result (λ c. c ≡ self.now) }
     {
         Ok(Configured {

@@ -2,10 +2,10 @@ use Rattle.std.proofs.Common.{Box, Option, subst, sym}
 use Rattle.std.specs.Global.{Global}
 use Rattle.view.specs.declared.region.Region.{Region}
 use Rattle.view.specs.Regions.{IsEntry, IsRegion}
-use Rattle.slot.specs.declared.known.Effect.{Effect}
-use Rattle.slot.specs.Listening.{IsEffect, KnowsRegion, region_in}
-use Rattle.slot.proofs.StirredRows.{keeps-entry}
-use Rattle.slot.proofs.known.apply.Goals as goal
+use Rattle.listening.specs.declared.known.Effect.{Effect}
+use Rattle.listening.specs.Listening.{IsEffect, KnowsRegion, region_in}
+use Rattle.listening.proofs.KeptRegions.{keeps-entry}
+use Rattle.listening.proofs.known.apply.Goals as goal
 
 pub returns-in-Some-clause-known : goal.returns-in-Some-clause-known
 returns-in-Some-clause-known c = λ k table e effect is.

@@ -7,8 +7,8 @@ ghost use Rattle.latest.specs.Puts.{IsFiledPut, IsPut, undone};
 ghost use Rattle.protocol.specs.Rows.{with_row};
 ghost use Rattle.protocol.specs.Sets.{IsAscending};
 ghost use Rattle.protocol.specs.Stirring.{KeepsReach};
-ghost use Rattle.slot.specs.declared.configured.Configured.{Configured};
-ghost use Rattle.slot.specs.Listening.{IsEffect, KnownAscends, KnowsRegion, is_put, region_in};
+ghost use Rattle.listening.specs.declared.configured.Configured.{Configured};
+ghost use Rattle.listening.specs.Listening.{IsEffect, KnownAscends, KnowsRegion, is_put, region_in};
 ghost use Rattle.types.specs.Statements.{Sent};
 ghost use Rattle.view.specs.Regions.{IsRegion};
 
@@ -39,7 +39,7 @@ pub(crate) struct FiledRow<'a, S: Places> {
 
 /// The region that is known, or else found now; it is not known afterwards. An error says that memory is
 /// short.
-pub(crate) fn take_region<S: Places>(
+pub(crate) fn take_known<S: Places>(
     alloc: Global,
     known: &mut Option<Box<Region>>,
     configured: &Configured,
@@ -56,18 +56,18 @@ pub(crate) fn take_region<S: Places>(
         None => {
             let rows = Rows::of(table, archive);
             let region = Region::of(alloc, &configured.name, &configured.slices, &rows)?;
-            boxed(alloc, region)
+            on_heap(alloc, region)
         }
     }
 }
 
-/// The region on the heap, so that a node has no place for it before it is found. An error says that memory is
+/// The region on the heap, so that a listener has no place for it before it is found. An error says that memory is
 /// short.
-fn boxed(alloc: Global, region: Region) -> Result<Box<Region>, AllocError>
+fn on_heap(alloc: Global, region: Region) -> Result<Box<Region>, AllocError>
     ensures { IfOk result (λ b. box_value b ≡ region) }
 {
     match Box::new(alloc, region) {
-        Ok(boxed) => Ok(boxed),
+        Ok(region) => Ok(region),
         // Memory: the region has no room.
         Err(_) => Err(AllocError),
     }
@@ -84,7 +84,7 @@ pub(crate) fn copy_of_known(
         None => Ok(None),
         Some(region) => {
             let copy = region.try_copy(alloc)?;
-            Ok(Some(boxed(alloc, copy)?))
+            Ok(Some(on_heap(alloc, copy)?))
         }
     }
 }

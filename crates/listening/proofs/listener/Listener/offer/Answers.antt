@@ -4,11 +4,9 @@ use Rattle.std.proofs.lemmas.Bool.{false≢true}
 use Rattle.latest.specs.Puts.{IsPut}
 use Rattle.envstore.specs.Archives.{sent_of, sents_of}
 use Rattle.protocol.specs.Rows.{offered}
-use Rattle.slot.proofs.Answered.{put-takes}
-use Rattle.slot.proofs.Idle.{first-taken}
-use Rattle.slot.proofs.AddedRows.{offered-taken, offered-stale}
-use Rattle.slot.proofs.listener.Listener.offer.Goals as goal
-use Rattle.slot.proofs.listener.Listener.offer.Goals.{in-NoMemory, in-Stale, in-Added}
+use Rattle.listening.proofs.Offers.{first-taken, offered-stale, offered-taken, put-takes}
+use Rattle.listening.proofs.listener.Listener.offer.Goals as goal
+use Rattle.listening.proofs.listener.Listener.offer.Goals.{in-NoMemory, in-Stale, in-Added}
 
 pub returns-clause-offered : goal.returns-clause-offered
 returns-clause-offered g c =

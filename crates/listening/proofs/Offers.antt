@@ -1,0 +1,38 @@
+-- What a put and an offer make of a table.
+use Rattle.std.proofs.Common.{◌≡◌, true, false, List, None, refl, ap, inl, inr, ◌⊎◌}
+use Rattle.std.proofs.lemmas.Bool.{false≢true}
+use Rattle.types.specs.Statements.{Sent, kind_of}
+use Rattle.protocol.specs.Rows.{is_taken, offered, replaces, row, with_row}
+use Rattle.envstore.specs.declared.filed.Filed.{Filed}
+use Rattle.envstore.specs.Archives.{sents_of}
+use Rattle.latest.specs.declared.table.Put.{Put}
+use Rattle.latest.specs.declared.table.Put.TheVariants.{Stale, NoMemory, Added, Replaced}
+use Rattle.latest.specs.Puts.{IsPut}
+use Rattle.listening.specs.Listening.{is_put}
+
+pub offered-taken : (table : List Sent) (x : Sent) → is_taken table x ≡ true → offered table x ≡ with_row x table
+unfolding offered
+offered-taken table x e = rw e refl
+
+pub offered-stale : (table : List Sent) (x : Sent) → is_taken table x ≡ false → offered table x ≡ table
+unfolding offered
+offered-stale table x e = rw e refl
+
+-- a put that the table has is what an offer makes of it
+pub put-takes : (old new : List Filed) (x : Sent) (p : Put) → IsPut old x p new → (p ≡ Added) ⊎ ((y : Filed) × (p ≡ Replaced y)) → (is_taken (sents_of old) x ≡ true) × (sents_of new ≡ with_row x (sents_of old))
+put-takes old new x p put is = go p put (kept is)
+  where
+    kept : (p ≡ Added) ⊎ ((y : Filed) × (p ≡ Replaced y)) → is_put p ≡ true
+    kept (inl q) = ap is_put q
+    kept (inr q) = ap is_put q.1
+
+    go : (p : Put) → IsPut old x p new → is_put p ≡ true → (is_taken (sents_of old) x ≡ true) × (sents_of new ≡ with_row x (sents_of old))
+    go Stale h k = absurd (false≢true k)
+    go NoMemory h k = absurd (false≢true k)
+    go Added h k = (h.1, h.2)
+    go (Replaced r) h k = (h.1, h.2)
+
+-- the first envelope of its sender and kind is not stale
+pub first-taken : (table : List Sent) (x : Sent) → row table x.sender (kind_of x.body) ≡ None → is_taken table x ≡ true
+unfolding is_taken
+first-taken table x e = ap (replaces x) e

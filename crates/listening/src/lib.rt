@@ -1,0 +1,13 @@
+//! What a node listens with: who it is, the rows that it took, and the nodes that it reaches by them, which are
+//! kept from one event to the next.
+//!
+//! A [`Listener`] runs no rule. Who asks what follows from its rows takes its region, hands it to a
+//! `view::View` of them, and gives it back.
+#![tactic(auto)]
+
+mod configured;
+mod known;
+mod listener;
+
+pub use configured::Configured;
+pub use listener::Listener;

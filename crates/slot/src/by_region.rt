@@ -1,0 +1,84 @@
+//! What a node makes of what its listener has: passes by the region that is kept, and outs.
+
+ghost use Rattle.std.specs.Prelude.{◌≡◌, IfOk, IfSome, IsTrue, List, Some, is_some};
+ghost use Rattle.envstore.specs.Archives.{AreFiled};
+ghost use Rattle.listening.specs.Listening.{IsRegionOf};
+ghost use Rattle.protocol.specs.Nodes.{outs, passed, settle};
+ghost use Rattle.slot.specs.Listening.{node_of};
+ghost use Rattle.slot.specs.Stirrings.{StirsIn};
+ghost use Rattle.slot.specs.Wholes.{SendWellFormed, whole};
+ghost use Rattle.types.specs.Statements.{Sent};
+
+use crate::answering::{Answer, Start, State, settled_votes};
+use crate::outs::outs;
+use envstore::{Archive, Places};
+use latest::Rows;
+use listening::Listener;
+use std::alloc::{AllocError, Global};
+use types::Votes;
+use view::{Region, View};
+
+/// What passes make of a node with these rows from this start on, and what it gives out since the old
+/// state. What contracts see of the listener stays as it was, and an error says that memory is short.
+pub(crate) fn answer<S: Places>(
+    alloc: Global,
+    archive: &Archive<S>,
+    listener: &mut Listener,
+    old: &State<'_>,
+    start: &Start<'_>,
+) -> Result<Answer, AllocError>
+    requires rows { AreFiled archive.now listener.old.table }
+    requires stirs { StirsIn start.now.stirred (node_of listener.old start.now.given.now start.now.votes.now) }
+    requires settles { IsTrue (is_some (settle 64 (passed (node_of listener.old start.now.given.now start.now.votes.now)) start.now.votes.now)) }
+    requires sends { IfSome (settle 64 (passed (node_of listener.old start.now.given.now start.now.votes.now)) start.now.votes.now) SendWellFormed }
+    ensures votes { IfOk result (λ a. settle 64 (passed (node_of listener.old start.now.given.now start.now.votes.now)) start.now.votes.now ≡ Some a.votes) }
+    ensures outs { IfOk result (λ a. (before after : List Sent) → a.outs.items ≡ outs (whole listener.old.configured old.now.given.now old.now.votes.now before) (whole listener.old.configured start.now.given.now a.votes after)) }
+    ensures same { listener.new ≡ listener.old }
+{
+    let votes = votes_after(alloc, archive, listener, start)?;
+    let new = State {
+        given: start.given,
+        votes: &votes,
+    };
+    let outs = outs(alloc, listener.configuration(), old, &new)?;
+    Ok(Answer { votes, outs })
+}
+
+/// The votes after passes from this start on, by the rows.
+fn votes_after<S: Places>(
+    alloc: Global,
+    archive: &Archive<S>,
+    listener: &mut Listener,
+    start: &Start<'_>,
+) -> Result<Votes, AllocError>
+    requires rows { AreFiled archive.now listener.old.table }
+    requires stirs { StirsIn start.now.stirred (node_of listener.old start.now.given.now start.now.votes.now) }
+    requires settles { IsTrue (is_some (settle 64 (passed (node_of listener.old start.now.given.now start.now.votes.now)) start.now.votes.now)) }
+    ensures votes { IfOk result (λ w. settle 64 (passed (node_of listener.old start.now.given.now start.now.votes.now)) start.now.votes.now ≡ Some w) }
+    ensures same { listener.new ≡ listener.old }
+{
+    let region = listener.take_region(alloc, archive)?;
+    let votes = votes_within(alloc, archive, listener, &region, start);
+    listener.keep_region(region);
+    votes
+}
+
+/// The votes after passes from this start on, by the rows of the nodes that are reached.
+fn votes_within<S: Places>(
+    alloc: Global,
+    archive: &Archive<S>,
+    listener: &Listener,
+    region: &Region,
+    start: &Start<'_>,
+) -> Result<Votes, AllocError>
+    requires rows { AreFiled archive.now listener.now.table }
+    requires region { IsRegionOf listener.now region.now }
+    requires stirs { StirsIn start.now.stirred (node_of listener.now start.now.given.now start.now.votes.now) }
+    requires settles { IsTrue (is_some (settle 64 (passed (node_of listener.now start.now.given.now start.now.votes.now)) start.now.votes.now)) }
+    ensures { IfOk result (λ w. settle 64 (passed (node_of listener.now start.now.given.now start.now.votes.now)) start.now.votes.now ≡ Some w) }
+{
+    let configured = listener.configuration();
+    let rows = Rows::of(listener.table(), archive);
+    let view = View::of(alloc, configured.own(), &start.given.leaders, &rows, region)?;
+    settled_votes(alloc, configured, &view, start)
+}
