@@ -4,3 +4,4 @@ pub mod Options
 pub mod Workers
 pub mod Subjects
 pub mod Words
+pub mod Help

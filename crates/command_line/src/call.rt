@@ -1,14 +1,16 @@
 //! The command line: which words are a call, and what is answered to all others.
 
-ghost use Rattle.std.specs.Prelude.{◌≡◌, ◌⊎◌, List, [], true, map, IfOk, OnOk, Ok, Err, IsOkUnless};
+ghost use Rattle.std.specs.Prelude.{◌≡◌, ◌⊎◌, List, [], ◌∷◌, true, map, IfOk, IfErr, OnOk, Ok, Err, IsErrAnd, IsOkUnless};
 ghost use Rattle.clap.specs.Words.{kind_of};
 ghost use Rattle.clap.specs.declared.error.kind.ErrorKind.TheVariants.{OutOfMemory};
 ghost use Rattle.command_line.specs.ClapCommand.{clap_faults, clap_takes};
 ghost use Rattle.command_line.specs.CommandLine.{IsCall, call_in, closure_of, closure_with, compare_of, compare_with, crowd_of, crowd_with, run_of, run_with, table_with};
+ghost use Rattle.command_line.specs.Help.{AreHelp, HaveHelp, HelpsIfItCan, IsHelp, ask_for_help};
 ghost use Rattle.command_line.specs.declared.call.Call.{Call};
 ghost use Rattle.command_line.specs.declared.call.Usage.TheVariants.{NoMemory};
 
 use crate::clap_command::command_line;
+use crate::help::ask_for_help;
 use crate::operands::{explain_and_operands, form_and_operands, operands_of};
 use crate::pool_option::pool_and_operands;
 use crate::pool_size::PoolSize;
@@ -88,13 +90,18 @@ impl From<AllocError> for Usage {
 /// Reads the words after the program's name.
 ///
 /// A call is answered only where clap and this reading agree; the texts of help and of faults are
-/// clap's, and `bad usage` where only this reading refuses.
+/// clap's, and `bad usage` where only this reading refuses. Help is answered only where clap helps and some word
+/// asks for it, never to a call; all else is a fault.
 #[tactic(auto, using(crate::proofs::Forms::call_in_sound, crate::proofs::Forms::call_in_complete, crate::proofs::Forms::takes_call))]
 pub fn read_call<S: AsStr>(alloc: Global, words: &[S]) -> Result<Call, Usage>
     ensures sound { IfOk result (IsCall (map S.text words.now)) }
     ensures agreed { OnOk result (clap_faults (map S.text words.now) ≡ []) }
     ensures complete { (call : Call) → IsCall (map S.text words.now) call
         → (result ≡ Ok call) ⊎ (result ≡ Err Usage.NoMemory) }
+    ensures helped { IfErr result (λ usage. IsHelp usage → HaveHelp (clap_faults (map S.text words.now))) }
+    ensures asked { IfErr result (λ usage. IsHelp usage → ask_for_help (map S.text words.now) ≡ true) }
+    ensures helps { AreHelp (clap_faults (map S.text words.now)) → ask_for_help (map S.text words.now) ≡ true
+        → IsErrAnd result HelpsIfItCan }
 {
     ask_clap(alloc, words)?;
     match call_of(alloc, words)? {
@@ -103,29 +110,36 @@ pub fn read_call<S: AsStr>(alloc: Global, words: &[S]) -> Result<Call, Usage>
     }
 }
 
-/// Gives the words to clap, of which only its refusal counts.
+/// Gives the words to clap, of which only its refusal counts; it helps where some word asks for it.
 fn ask_clap<S: AsStr>(alloc: Global, words: &[S]) -> Result<(), Usage>
     ensures agrees { OnOk result (clap_faults (map S.text words.now) ≡ []) }
     ensures taken { clap_takes (map S.text words.now) ≡ true → IsOkUnless result NoMemory }
+    ensures helped { IfErr result (λ usage. IsHelp usage → HaveHelp (clap_faults (map S.text words.now))) }
+    ensures asked { IfErr result (λ usage. IsHelp usage → ask_for_help (map S.text words.now) ≡ true) }
+    ensures helps { AreHelp (clap_faults (map S.text words.now)) → ask_for_help (map S.text words.now) ≡ true
+        → IsErrAnd result HelpsIfItCan }
 {
     let command = command_line(alloc)?;
     match command.try_get_matches_from(words) {
         Ok(_) => Ok(()),
-        Err(error) => Err(usage_of(alloc, &error)),
+        Err(error) => Err(usage_of(alloc, &error, ask_for_help(words))),
     }
 }
 
-/// What clap's refusal is to the user.
-fn usage_of(alloc: Global, error: &Error) -> Usage
-    ensures { kind_of error.now ≡ OutOfMemory → result ≡ NoMemory }
+/// What clap's refusal is to the user, where some word asks for help or none does.
+fn usage_of(alloc: Global, error: &Error, is_asked: bool) -> Usage
+    ensures memory { kind_of error.now ≡ OutOfMemory → result ≡ NoMemory }
+    ensures helped { IsHelp result → HaveHelp (kind_of error.now ∷ []) }
+    ensures asked { IsHelp result → is_asked ≡ true }
+    ensures helps { HaveHelp (kind_of error.now ∷ []) → is_asked ≡ true → HelpsIfItCan result }
 {
     if error.kind() == ErrorKind::OutOfMemory {
         // Memory: clap says so.
         return Usage::NoMemory;
     }
     match format!(in alloc; "{error}") {
-        Ok(text) if error.use_stderr() => Usage::Bad(text),
-        Ok(text) => Usage::Help(text),
+        Ok(text) if is_asked && !error.use_stderr() => Usage::Help(text),
+        Ok(text) => Usage::Bad(text),
         Err(_) => Usage::NoMemory,
     }
 }

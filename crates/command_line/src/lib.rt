@@ -5,6 +5,7 @@
 
 mod call;
 mod clap_command;
+mod help;
 mod operands;
 mod pool_option;
 mod pool_size;
