@@ -1,5 +1,6 @@
 -- Worked examples, computed from the definitions.
 pub mod Letters
+pub mod Everything
 pub mod Slices
 pub mod Rows
 pub mod Reach

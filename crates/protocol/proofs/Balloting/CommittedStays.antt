@@ -1,4 +1,4 @@
--- In COMMIT: once p and the interval were set with one position, they stay as they are.
+-- In COMMIT: once p and the interval were set with one position, they stay as they are. `Passes` stands on it.
 use Rattle.std.proofs.Common.{◌≡◌, ℕ, ◌≤◌, Bool, true, false, ◌&&◌, nat_lt, nat_le, List, [], ◌∷◌, ◌++◌, Option, Some, None, filter, flat_map, option_to_list, refl, sym, ◌∙◌, ap, subst, inl, inr, ◌⊎◌, arith}
 use Rattle.std.proofs.lemmas.Bool.{cases_Bool, or_left, and_parts, and_from, true≢false}
 use Rattle.std.proofs.lemmas.Bool.Decides.{nat_tests}

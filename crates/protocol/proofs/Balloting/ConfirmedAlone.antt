@@ -1,5 +1,5 @@
 -- Balloting reads of nomination the confirmed values alone: votes with other voted and accepted values are balloted on
--- alike.
+-- alike. `Passes` stands on it.
 use Rattle.std.proofs.Common.{◌≡◌, ℕ, ◌+◌, ◌-◌, max, Bool, true, false, not, ◌&&◌, ◌==◌, nat_lt, List, [], ◌∷◌, ◌++◌, Option, Some, None, if◌then◌else◌, filter, option_map, option_to_list, refl, ◌∙◌, ap}
 use Rattle.types.specs.declared.ballot.Ballot.{Ballot}
 use Rattle.types.specs.declared.kind.Kind.{Kind}

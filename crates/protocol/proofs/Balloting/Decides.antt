@@ -1,4 +1,4 @@
--- A commit that is confirmed: what deciding changes, and where nothing is decided.
+-- A commit that is confirmed: what deciding changes, and where nothing is decided. `Passes` stands on it.
 use Rattle.std.proofs.Common.{◌≡◌, Bool, ◌&&◌, nat_lt, List, ◌++◌, Option, Some, None, filter, flat_map, option_to_list, refl, inl, inr, ◌⊎◌}
 use Rattle.types.specs.declared.ballot.Ballot.{Ballot}
 use Rattle.types.specs.declared.statement.Statement.{Statement}

@@ -1,4 +1,4 @@
--- From PREPARE to COMMIT: what entering changes, and where nothing is entered.
+-- From PREPARE to COMMIT: what entering changes, and where nothing is entered. `Passes` stands on it.
 use Rattle.std.proofs.Common.{◌≡◌, ◌≤◌, max, Bool, true, false, not, ◌&&◌, ◌||◌, nat_lt, List, [], ◌∷◌, ◌++◌, Option, Some, None, if◌then◌else◌, filter, flat_map, option_to_list, is_none, refl, sym, ◌∙◌, ap, subst, inl, inr, ◌⊎◌}
 use Rattle.std.proofs.lemmas.Bool.{and_parts, not-true, not-false}
 use Rattle.types.specs.declared.ballot.Ballot.{Ballot}

@@ -1,4 +1,5 @@
--- What a node sees is fair: of its own position only whether it passes matters.
+-- What a node sees is fair: of its own position only whether it passes matters. `Passes` and the crate `view` stand on
+-- it.
 use Rattle.std.proofs.Common.{◌≡◌, ℕ, Bool, true, false, ◌==◌, Option, Some, None, List, ◌∷◌, map, if◌then◌else◌, refl, sym, ◌∙◌, subst}
 use Rattle.std.proofs.lemmas.Bool.{true≢false, false≢true, false_from_ne_true, not-true, not_from_false, eq-eqb, not-false}
 use Rattle.types.specs.Trees.{Slices}

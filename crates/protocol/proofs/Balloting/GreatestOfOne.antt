@@ -1,4 +1,4 @@
--- The greater of a ballot and one that may be there already.
+-- The greater of a ballot and one that may be there already. `EntersCommit` and `WidensCommit` stand on it.
 use Rattle.std.proofs.Common.{◌≡◌, ◌≤◌, false, [], ◌∷◌, Option, Some, None, refl, inl, inr, ◌⊎◌, arith}
 use Rattle.std.proofs.lemmas.Bool.{true≢false}
 use Rattle.types.specs.declared.ballot.Ballot.{Ballot}

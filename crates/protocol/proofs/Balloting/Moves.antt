@@ -1,4 +1,5 @@
--- What each rule of PREPARE does to the votes, and where it does nothing: p, h, b that becomes h, and c.
+-- What each rule of PREPARE does to the votes, and where it does nothing: p, h, b that becomes h, and c. `Passes`
+-- stands on it.
 use Rattle.std.proofs.Common.{◌≡◌, ◌≤◌, Bool, true, false, not, ◌&&◌, ◌==◌, Option, Some, None, if◌then◌else◌, filter, is_none, refl, sym, ◌∙◌, ap, subst, inl, inr, ◌⊎◌, arith}
 use Rattle.std.proofs.lemmas.Bool.{cases_Bool, and_parts, and_from, true≢false, not-true}
 use Rattle.types.specs.declared.ballot.Ballot.{Ballot}

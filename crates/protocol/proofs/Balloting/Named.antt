@@ -1,4 +1,4 @@
--- The ballots that rows and the own position name: which are candidates.
+-- The ballots that rows and the own position name: which are candidates. `Sending` stands on it.
 use Rattle.std.proofs.Common.{◌≡◌, true, nat_lt, List, ◌++◌, flat_map, option_to_list, ◌⊎◌}
 use Rattle.types.specs.declared.ballot.Ballot.{Ballot}
 use Rattle.types.specs.declared.kind.Kind.{Kind}

@@ -1,4 +1,4 @@
--- In PREPARE: once p, h, b and c were set with one position, they stay as they are.
+-- In PREPARE: once p, h, b and c were set with one position, they stay as they are. `Passes` stands on it.
 use Rattle.std.proofs.Common.{◌≡◌, ◌≤◌, true, false, not, ◌&&◌, ◌||◌, ◌==◌, nat_le, Option, Some, None, is_none, refl, sym, ◌∙◌, ap, subst, inl, inr, ◌⊎◌}
 use Rattle.std.proofs.lemmas.Bool.{cases_Bool, or_left, and_parts, true≢false}
 use Rattle.types.specs.declared.ballot.Ballot.{Ballot}

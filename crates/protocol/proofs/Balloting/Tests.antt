@@ -1,4 +1,5 @@
--- The tests of statements, each as a test of one statement; and what the passes need of what a node sees.
+-- The tests of statements, each as a test of one statement; and what the passes need of what a node sees. `Nominating`
+-- and `Passes` stand on it.
 use Rattle.std.proofs.Common.{◌≡◌, ℕ, Bool, true, List, Option, sym, ◌∙◌, subst}
 use Rattle.types.specs.declared.ballot.Ballot.{Ballot}
 use Rattle.types.specs.declared.kind.Kind.{Kind}

@@ -1,4 +1,4 @@
--- In COMMIT: what a greater interval changes.
+-- In COMMIT: what a greater interval changes. `CommittedStays` stands on it.
 use Rattle.std.proofs.Common.{◌≡◌, ℕ, ◌≤◌, max, Bool, true, false, ◌&&◌, nat_lt, nat_le, [], ◌∷◌, Option, Some, None, filter, refl, sym, ◌∙◌, ap, subst, inl, inr, ◌⊎◌, arith}
 use Rattle.std.proofs.lemmas.Bool.{cases_Bool, and_parts, and_from, true≢false}
 use Rattle.std.proofs.lemmas.Bool.Decides.{nat_tests}

@@ -1,4 +1,4 @@
--- `greatest` gives the greatest, and a greatest is one.
+-- `greatest` gives the greatest, and a greatest is one. The law `extremes_are_exact` and the crate `view` stand on it.
 use Rattle.std.proofs.Common.{◌≡◌, Bool, true, false, List, [], ◌∷◌, Some, None, if◌then◌else◌, refl, sym, subst, inl, inr}
 use Rattle.types.specs.declared.ballot.Ballot.{Ballot}
 use Rattle.protocol.specs.States.{below}

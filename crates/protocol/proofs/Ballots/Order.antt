@@ -1,4 +1,5 @@
--- The orders of values and ballots, by tests.
+-- The orders of values and ballots, by tests. `Balloting`, `Nominating`, `Sending`, and the crates `ballot` and `view`
+-- stand on it.
 use Rattle.std.proofs.Common.{◌≡◌, ℕ, Bool, true, false, ◌&&◌, ◌||◌, ◌==◌, nat_lt, cond, ◌≤◌, ◌⊎◌, arith, List, refl, sym, ◌∙◌, ap, inl, inr}
 use Rattle.std.specs.Cmp.{IsTotalOrder}
 use Rattle.std.specs.Cmp.Lexicographic.{same_text, texts_ties}

@@ -1,4 +1,4 @@
--- A step that concerns R is tested by what R sees, and draws on a member's share.
+-- A step that concerns R is tested by what R sees, and draws on a member's share. `Networks` stands on it.
 use Rattle.types.specs.declared.event.Refusal.{Refusal}
 use Rattle.std.proofs.Common.{◌≡◌, ℕ, Bool, true, false, not, ◌&&◌, ◌||◌, ◌==◌, ◌+◌, nat_lt, length, Option, Some, None, List, [], ◌∷◌, ◌++◌, filter, option_map, if◌then◌else◌, is_some, is_none, refl, sym, ◌∙◌, ap, zero, suc, sum_by}
 use Rattle.std.proofs.lemmas.Bool.{and_parts, and_from, eqb-true, false≢true, true≢false}

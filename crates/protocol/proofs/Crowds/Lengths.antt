@@ -1,4 +1,5 @@
 -- Where all spellings of an envelope have one length, submitted steps that are the same but for lengths are the same.
+-- The law `lengths_follow_from_envelopes` stands on it.
 use Rattle.types.specs.declared.event.Event.{Event}
 use Rattle.types.specs.declared.event.Event.TheVariants.{OpenSlot, CloseSlot, Propose as Ask, Deliver, Hear, NominationTimer as NominationTimeout, BallotTimer as BallotTimeout, Reslice as ChangeSlices}
 use Rattle.std.proofs.Common.{◌≡◌, ℕ, Bool, true, false, ◌==◌, Option, Some, None, List, [], ◌∷◌, map, length, cond, if◌then◌else◌, refl, sym, ◌∙◌, ap, ap₂}

@@ -1,4 +1,5 @@
--- Members of a closure that the roster holds are never crowded out.
+-- Members of a closure that the roster holds are never crowded out. The law `members_are_never_crowded_out` and
+-- `Verdicts` stand on it.
 use Rattle.types.specs.declared.event.Refusal.{Refusal}
 use Rattle.std.proofs.Common.{◌≡◌, ℕ, Bool, true, false, Option, Some, None, List, [], ◌∷◌, map, filter_map, cond, is_some, refl, sym, ◌∙◌, ap, ap₂, subst, inl, inr, ◌⊎◌, IsTrue}
 use Rattle.std.specs.List.{cons_option}

@@ -1,4 +1,4 @@
--- A step that doesn't concern R draws nothing that R sees, and is not kept.
+-- A step that doesn't concern R draws nothing that R sees, and is not kept. `Members` and `Runs` stand on it.
 use Rattle.std.proofs.Common.{◌≡◌, ℕ, Bool, true, false, ◌&&◌, ◌==◌, Option, Some, None, List, ◌++◌, filter, if◌then◌else◌, is_some, refl}
 use Rattle.std.proofs.lemmas.Bool.{true≢false}
 use Rattle.protocol.specs.Sets.{Names}

@@ -1,4 +1,5 @@
 -- Submissions to one network, as R sees them: the replies to the steps that concern R follow from these steps alone.
+-- `Members` and `WithoutRoster` stand on it.
 use Rattle.types.specs.declared.event.Refusal.{Refusal}
 use Rattle.types.specs.declared.event.Out.{Out}
 use Rattle.std.proofs.Common.{◌≡◌, ◌⊎◌, ℕ, Bool, true, false, ◌&&◌, ◌==◌, ◌+◌, Option, Some, None, List, [], ◌∷◌, ◌++◌, map, filter, cond, if◌then◌else◌, refl, sym, ◌∙◌, ap, ap₂, subst, inl, inr, arith}

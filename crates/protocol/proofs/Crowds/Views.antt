@@ -1,5 +1,5 @@
 -- What R sees of a network with a roster, and how that answers the steps that concern R: what one is tested by, what it
--- draws, what it changes. Members stands on it.
+-- draws, what it changes. `Networks` stands on it.
 use Rattle.types.specs.declared.event.Refusal.{Refusal}
 use Rattle.std.proofs.Common.{◌≡◌, ℕ, Bool, true, false, not, ◌&&◌, ◌||◌, ◌==◌, ◌+◌, nat_lt, length, Option, Some, None, List, [], ◌∷◌, ◌++◌, filter, is_some, is_none, ◌∙◌, ap, ap₂}
 use Rattle.std.proofs.lemmas.Bool.{and_parts, and_from, eqb-true, false≢true}

@@ -1,4 +1,4 @@
--- Without a roster nothing changes.
+-- Without a roster nothing changes. The law `without_roster_nothing_changes` stands on it.
 use Rattle.types.specs.declared.event.Refusal.{Refusal}
 use Rattle.std.proofs.Common.{◌≡◌, Bool, Option, Some, None, List, [], ◌∷◌, ◌++◌, ◌+◌, refl, ◌∙◌, ap, ap₂}
 use Rattle.protocol.specs.Rosters.{Draw}

@@ -1,4 +1,5 @@
--- What can be decided: equality of numbers, lists and options, and of what can be had back from them.
+-- What can be decided: equality of numbers, lists and options, and of what can be had back from them. `Verdicts` stands
+-- on it.
 use Rattle.std.proofs.Common.{◌≡◌, ◌≢◌, ◌⊎◌, ℕ, Bool, true, ◌==◌, Option, Some, None, List, [], ◌∷◌, refl, sym, ◌∙◌, ap, ap₂, inl, inr}
 use Rattle.std.proofs.lemmas.Bool.{cases_Bool, eqb-true, eq-eqb, true≢false}
 use Rattle.types.specs.Trees.{Members, Slices, tokens_of, members_from, members_from-tokens_of}

@@ -1,4 +1,4 @@
--- The first difference of two lists.
+-- The first difference of two lists. `Verdicts` stands on it.
 use Rattle.std.proofs.Common.{◌≡◌, ◌≢◌, ◌⊎◌, ℕ, suc, List, [], ◌∷◌, refl, ap₂, inl, inr}
 use Rattle.protocol.specs.Verdicts.{IsFirstDifference}
 use Rattle.protocol.proofs.Equality.Decisions.{IsDecided}

@@ -1,4 +1,4 @@
--- The least number, or name of a list, that passes a test.
+-- The least number, or name of a list, that passes a test. `Verdicts` stands on it.
 use Rattle.std.proofs.Common.{◌≡◌, ◌⊎◌, ℕ, zero, suc, ◌<◌, ◌+◌, true, false, ◌==◌, List, [], ◌∷◌, ◌∙◌, ap, inl, inr, arith}
 use Rattle.std.proofs.lemmas.Bool.{cases_Bool, cases_order, or_cases, eqb-true, false≢true}
 use Rattle.protocol.specs.Sets.{Names, among}

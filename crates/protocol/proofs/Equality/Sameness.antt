@@ -1,4 +1,5 @@
--- The tests of equality are exact.
+-- The tests of equality are exact. Most other folders, and the crates `ballot`, `fedvote`, `slot` and `view` stand on
+-- it.
 use Rattle.std.proofs.Common.{◌≡◌, ℕ, Bool, true, ◌==◌, List, [], ◌∷◌, Option, Some, None, refl, sym, ap, ap₂}
 use Rattle.std.proofs.lemmas.Bool.{and_parts, and_from, eqb-true, eq-eqb, false≢true}
 use Rattle.std.specs.Cmp.Lexicographic.{same_text}

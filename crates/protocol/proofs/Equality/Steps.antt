@@ -1,4 +1,4 @@
--- Equality of steps and of what is kept of a run is decided: they are sums of what they have.
+-- Equality of steps and of what is kept of a run is decided: they are sums of what they have. `Verdicts` stands on it.
 use Rattle.types.specs.declared.event.NodeEvent.{NodeEvent}
 use Rattle.std.proofs.Common.{◌≡◌, ◌⊎◌, ℕ, Bool, true, false, List, refl, inl, inr}
 use Rattle.std.proofs.lemmas.Bool.{false≢true, true≢false}

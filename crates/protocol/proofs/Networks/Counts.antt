@@ -1,4 +1,5 @@
--- What a network counts follows from its journal.
+-- What a network counts follows from its journal. The law `room_is_counted`, `Drawn`, `Room` and the crate `network`
+-- stand on it.
 use Rattle.types.specs.declared.event.Refusal.{Refusal}
 use Rattle.std.proofs.Common.{◌≡◌, ℕ, zero, suc, Bool, true, false, not, ◌&&◌, ◌==◌, ◌+◌, length, take, slice_get, sum_by, Option, Some, None, List, [], ◌∷◌, ◌++◌, filter, cond, if◌then◌else◌, append-nil, append_assoc, refl, sym, ◌∙◌, ap, ap₂, subst, arith}
 use Rattle.std.proofs.lemmas.Bool.{and_parts, eqb-true, false≢true, true≢false}

@@ -1,4 +1,4 @@
--- How counts move with each step.
+-- How counts move with each step. The law `room_is_counted`, `Room` and the crate `network` stand on it.
 use Rattle.std.proofs.Common.{◌≡◌, ℕ, Bool, true, false, ◌&&◌, ◌==◌, ◌+◌, length, sum_by, [], ◌∷◌, cond, if◌then◌else◌, refl, sym, ◌∙◌, ap, subst, arith}
 use Rattle.protocol.specs.Rosters.{Share, Source, Draw, same_share, drawn_on, events_drawn, bytes_drawn}
 use Rattle.protocol.specs.Rosters.Source.{OfBudgets, OfOpens, OfShare}

@@ -1,4 +1,5 @@
--- What an event's effect leaves as it is, beside the slots.
+-- What an event's effect leaves as it is, beside the slots. `Crowds`, and the crates `hoststep`, `network` and `runs`
+-- stand on it.
 use Rattle.types.specs.declared.event.NodeEvent.{NodeEvent}
 use Rattle.std.proofs.Common.{◌≡◌, ℕ, Bool, true, false, not, ◌==◌, Option, Some, None, List, [], ◌∷◌, ◌++◌, map, filter, if◌then◌else◌, cond, refl, ap}
 use Rattle.types.specs.Statements.{Sent}

@@ -1,4 +1,5 @@
--- Journals are runs, and runs are journals.
+-- Journals are runs, and runs are journals. The law `journals_are_runs`, `Runs`, `Verdicts` and the crate `hoststep`
+-- stand on it.
 use Rattle.types.specs.declared.event.Refusal.{Refusal}
 use Rattle.std.proofs.Common.{◌≡◌, ℕ, zero, suc, List, [], ◌∷◌, map, take, slice_get, Option, Some, None, refl, sym, ◌∙◌, ap, subst}
 use Rattle.protocol.specs.Networks.{Step, Net, tests, first_that, effect, source, size_of, counted, replied, net_step}

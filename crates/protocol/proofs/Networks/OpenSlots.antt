@@ -1,4 +1,5 @@
--- Which places a network finds at a slot after it, or another one, is opened or closed.
+-- Which places a network finds at a slot after it, or another one, is opened or closed. `Runs`, and the crates
+-- `hoststep` and `runs` stand on it.
 use Rattle.std.proofs.Common.{◌≡◌, ℕ, Bool, true, false, not, cond, ◌==◌, Some, None, List, [], ◌∷◌, ◌++◌, filter, if◌then◌else◌, refl, ◌∙◌, ap}
 use Rattle.std.proofs.lemmas.Bool.{eqb-true}
 use Rattle.protocol.specs.Networks.{Slot, places_at}

@@ -1,4 +1,5 @@
--- What a fresh place has and each step keeps, each place in a network's run has; so each node there is reached.
+-- What a fresh place has and each step keeps, each place in a network's run has; so each node there is reached. The law
+-- `four_passes_are_enough` and `Sending` stand on it.
 use Rattle.types.specs.declared.event.Refusal.{Refusal}
 use Rattle.types.specs.declared.event.NodeEvent.{NodeEvent}
 use Rattle.std.proofs.Common.{ℕ, Bool, true, false, not, cond, ◌==◌, Option, Some, None, List, [], ◌∷◌, ◌++◌, map, filter, if◌then◌else◌}

@@ -1,4 +1,5 @@
--- A network refuses for want of room exactly where what a step draws on is used up; what is applied found room.
+-- A network refuses for want of room exactly where what a step draws on is used up; what is applied found room. The law
+-- `room_is_counted`, `Room` and the crate `network` stand on it.
 use Rattle.types.specs.declared.event.Refusal.{Refusal}
 use Rattle.std.proofs.Common.{◌≡◌, ℕ, Bool, true, false, ◌+◌, nat_lt, length, Some, None, List, [], ◌∷◌, if◌then◌else◌, refl, subst}
 use Rattle.std.specs.List.{AllByRecursion}

@@ -1,4 +1,4 @@
--- No more is ever drawn than there is.
+-- No more is ever drawn than there is. The law `room_is_counted` and the crate `network` stand on it.
 use Rattle.types.specs.declared.event.Refusal.{Refusal}
 use Rattle.std.proofs.Common.{◌≡◌, ◌⊎◌, ℕ, ◌<◌, ◌≤◌, Bool, true, false, ◌&&◌, ◌==◌, ◌+◌, length, Option, Some, None, List, [], ◌∷◌, filter, not, cond, if◌then◌else◌, refl, sym, ◌∙◌, ap, ap₂, subst, inl, inr, arith}
 use Rattle.std.proofs.lemmas.Bool.{cases_Bool, and_parts, eqb-true}

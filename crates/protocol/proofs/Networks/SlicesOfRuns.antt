@@ -1,4 +1,5 @@
--- The slices of a node at a slot are those that a run gave it last.
+-- The slices of a node at a slot are those that a run gave it last. The law `slices_follow_events` and the crate
+-- `hoststep` stand on it.
 use Rattle.types.specs.declared.event.Refusal.{Refusal}
 use Rattle.types.specs.declared.event.NodeEvent.{NodeEvent}
 use Rattle.types.specs.declared.event.NodeEvent.TheVariants.{Propose, Take, NominationTimer, BallotTimer, Reslice}

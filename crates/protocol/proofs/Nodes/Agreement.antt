@@ -1,4 +1,5 @@
--- Agree, for one event: what is kept does the same on the rows of R alone, where R is closed for the node.
+-- Agree, for one event: what is kept does the same on the rows of R alone, where R is closed for the node. `Runs`
+-- stands on it.
 use Rattle.types.specs.declared.event.NodeEvent.{NodeEvent}
 use Rattle.types.specs.declared.event.Out.{Out}
 use Rattle.std.proofs.Common.{◌≡◌, Bool, true, false, cond, ◌==◌, Option, Some, None, List, [], ◌∷◌, option_map, if◌then◌else◌, refl, sym, ◌∙◌, ap, ap₂, inl, inr}

@@ -1,4 +1,4 @@
--- A node is calm where one more pass changes nothing: a fresh one is, and each step keeps it so.
+-- A node is calm where one more pass changes nothing: a fresh one is, and each step keeps it so. `Runs` stands on it.
 use Rattle.types.specs.declared.event.NodeEvent.{NodeEvent}
 use Rattle.std.proofs.Common.{◌≡◌, ℕ, zero, suc, Bool, true, false, Option, Some, None, if◌then◌else◌, refl, subst}
 use Rattle.types.specs.declared.state.Votes.{Votes}

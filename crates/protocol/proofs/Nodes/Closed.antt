@@ -1,5 +1,5 @@
 -- R is closed for a node: it holds the node's name, the names of its slices, its leaders, and what senders in R
--- announced; each step keeps it closed. Isolation stands on it.
+-- announced; each step keeps it closed. `Runs` stands on it.
 use Rattle.types.specs.declared.event.NodeEvent.{NodeEvent}
 use Rattle.std.proofs.Common.{◌≡◌, ℕ, ◌+◌, Bool, true, false, cond, Option, Some, None, List, [], ◌∷◌, ◌++◌, filter, if◌then◌else◌, refl}
 use Rattle.std.specs.List.{list_all}

@@ -1,4 +1,5 @@
--- A step keeps the node's name, and what it emits carries that name and the slices that the node has after it.
+-- A step keeps the node's name, and what it emits carries that name and the slices that the node has after it. `Runs`
+-- and the crate `network` stand on it.
 use Rattle.types.specs.declared.event.NodeEvent.{NodeEvent}
 use Rattle.types.specs.declared.event.Out.{Out}
 use Rattle.std.proofs.Common.{◌≡◌, ℕ, ◌+◌, Bool, true, false, not, ◌&&◌, ◌==◌, Option, Some, None, List, [], ◌∷◌, ◌++◌, if◌then◌else◌, is_none, refl}

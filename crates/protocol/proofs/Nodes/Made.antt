@@ -1,4 +1,4 @@
--- What holds of the node that an event makes, and so of the one that answers it.
+-- What holds of the node that an event makes, and so of the one that answers it. `Sending` stands on it.
 use Rattle.std.proofs.Common.{Bool, true, false, Option, Some, None, if◌then◌else◌}
 use Rattle.protocol.specs.Nodes.{Node, answered}
 

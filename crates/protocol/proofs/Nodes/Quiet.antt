@@ -1,4 +1,5 @@
--- Quiet, for one event: an envelope from outside R changes at most rows outside R, and gives no outs.
+-- Quiet, for one event: an envelope from outside R changes at most rows outside R, and gives no outs. `Runs` and the
+-- crate `slot` stand on it.
 use Rattle.types.specs.declared.event.Out.{Out}
 use Rattle.std.proofs.Common.{◌≡◌, ℕ, Bool, true, false, not, cond, ◌&&◌, ◌==◌, Option, Some, None, List, [], ◌∷◌, option_map, if◌then◌else◌, refl, sym, ◌∙◌, ap, ap₂, subst, inl, inr}
 use Rattle.std.specs.List.{cons_option}

@@ -1,4 +1,5 @@
 -- Nodes that events lead to: calm, with no counter below the timers that have fired, and what they send is well formed.
+-- The law `reached_nodes_send_well_formed`, `Passes`, `Sending` and the crate `slot` stand on it.
 use Rattle.std.proofs.Common.{◌≡◌, ℕ, zero, suc, ◌+◌, ◌≤◌, Bool, true, false, not, ◌&&◌, ◌==◌, nat_lt, [], Option, Some, None, if◌then◌else◌, is_some, option_map, refl, subst, arith}
 use Rattle.std.specs.Prelude.{IfSome}
 use Rattle.std.proofs.lemmas.Bool.{and_parts, false≢true}

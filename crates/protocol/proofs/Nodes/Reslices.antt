@@ -1,4 +1,4 @@
--- What new slices make of a node.
+-- What new slices make of a node. The law `slices_follow_events` and `Networks` stand on it.
 use Rattle.types.specs.declared.event.NodeEvent.TheVariants.{Propose, Take, NominationTimer, BallotTimer, Reslice}
 use Rattle.types.specs.declared.event.Out.{Out}
 use Rattle.std.proofs.Common.{◌≡◌, ◌+◌, Bool, true, false, List, Option, Some, None, if◌then◌else◌, is_some, refl, ◌∙◌, ap}

@@ -1,4 +1,5 @@
 -- Strangers to a node: leaders are near all slices that it has had, and an envelope from elsewhere adds its row alone.
+-- The law `strangers_add_rows` and the crate `slot` stand on it.
 use Rattle.types.specs.declared.event.NodeEvent.{NodeEvent}
 use Rattle.types.specs.declared.event.NodeEvent.TheVariants.{Propose, Take, NominationTimer, BallotTimer, Reslice}
 use Rattle.std.proofs.Common.{◌≡◌, ℕ, ◌+◌, true, not, List, Option, Some, None, refl, sym, ◌∙◌, ap, subst, inl, inr}

@@ -1,4 +1,5 @@
--- What a node sees is what it sees of the rows of a set that is closed under its slices and those rows.
+-- What a node sees is what it sees of the rows of a set that is closed under its slices and those rows. `Passes`,
+-- `Runs`, and the crates `fedvote` and `view` stand on it.
 use Rattle.std.proofs.Common.{◌≡◌, ℕ, Bool, true, false, not, cond, ◌&&◌, ◌||◌, ◌==◌, Option, Some, None, List, [], ◌∷◌, map, filter, option_map, find, if◌then◌else◌, refl, sym, ◌∙◌, ap, ap₂, subst, inl, inr}
 use Rattle.std.specs.List.{list_all, cons_option}
 use Rattle.std.proofs.Math.Path.{fun_ext}

@@ -1,4 +1,4 @@
--- A value put into an ascending list: it is there, all others stay, and the list ascends.
+-- A value put into an ascending list: it is there, all others stay, and the list ascends. `Sending` stands on it.
 use Rattle.std.proofs.Common.{◌≡◌, ℕ, Bool, true, false, ◌||◌, List, [], ◌∷◌, if◌then◌else◌, refl, sym, ◌∙◌, ap, subst, inl, inr, ◌⊎◌}
 use Rattle.std.proofs.lemmas.Bool.{cases_Bool, or_cases, or_left, or_right, false≢true, true≢false}
 use Rattle.types.specs.Nominations.{Ascending, with_value}

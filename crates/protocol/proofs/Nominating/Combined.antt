@@ -1,4 +1,5 @@
--- A set has the values of its list, and what values are combined to is the greatest of them.
+-- A set has the values of its list, and what values are combined to is the greatest of them. The law
+-- `value_sets_are_exact` stands on it.
 use Rattle.std.proofs.Common.{◌≡◌, ℕ, Bool, true, false, ◌||◌, List, [], ◌∷◌, if◌then◌else◌, refl, sym, ◌∙◌, ap, inl, inr, ◌⊎◌}
 use Rattle.std.proofs.lemmas.Bool.{or_cases, or_left, or_right, false≢true}
 use Rattle.std.proofs.lemmas.Cmp.{nat_list_cmp_total}

@@ -1,4 +1,4 @@
--- How long a list is after values are put into it.
+-- How long a list is after values are put into it. `Sending` stands on it.
 use Rattle.std.proofs.Common.{◌≡◌, ℕ, suc, ◌+◌, ◌≤◌, ◌<◌, Bool, true, false, ◌||◌, length, List, [], ◌∷◌, if◌then◌else◌, refl, sym, ◌∙◌, arith}
 use Rattle.std.proofs.lemmas.Bool.{true≢false}
 use Rattle.types.specs.Nominations.{with_value}

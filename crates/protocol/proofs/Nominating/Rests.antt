@@ -1,4 +1,4 @@
--- Nomination is at rest after one pass.
+-- Nomination is at rest after one pass. `Passes` stands on it.
 use Rattle.std.proofs.Common.{◌≡◌, ℕ, zero, suc, ◌+◌, ◌-◌, ◌≤◌, ◌<◌, min, Bool, true, false, not, cond, nat_lt, nat_le, length, take, List, [], ◌∷◌, ◌++◌, Some, if◌then◌else◌, filter, flat_map, refl, sym, ◌∙◌, ap, subst, inl, inr, ◌⊎◌, arith, length-take}
 use Rattle.std.proofs.lemmas.List.{take_all}
 use Rattle.std.proofs.lemmas.Bool.{cases_Bool, or_cases, or_left, or_right, and_parts, and_from, false≢true, true≢false, not-true, not_from_false}

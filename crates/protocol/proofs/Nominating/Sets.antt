@@ -1,4 +1,4 @@
--- The three sets of nomination after a pass, and where a pass changes none of them.
+-- The three sets of nomination after a pass, and where a pass changes none of them. `Passes` and `Sending` stand on it.
 use Rattle.std.proofs.Common.{◌≡◌, ℕ, Bool, true, false, not, ◌&&◌, nat_lt, length, List, [], ◌++◌, Some, if◌then◌else◌, filter, flat_map, option_to_list, is_none, refl, sym, ◌∙◌, ap, subst, inl, inr}
 use Rattle.std.proofs.lemmas.Bool.{cases_Bool}
 use Rattle.protocol.specs.Sets.{among}

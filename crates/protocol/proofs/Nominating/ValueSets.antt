@@ -1,4 +1,5 @@
--- Sets of values, ascending: which values they have, and that two sets with the same values are one.
+-- Sets of values, ascending: which values they have, and that two sets with the same values are one. `Combined`,
+-- `Rests`, and the crates `nomination` and `view` stand on it.
 use Rattle.std.proofs.Common.{◌≡◌, ℕ, ◌+◌, ◌-◌, ◌≤◌, ◌<◌, Bool, true, false, not, ◌&&◌, ◌||◌, List, [], ◌∷◌, ◌++◌, length, length-take, take, get_or, if◌then◌else◌, filter, refl, sym, ◌∙◌, ap, ap₂, inl, inr, add-one, arith}
 use Rattle.std.proofs.Math.Seq.{take-suc}
 use Rattle.std.proofs.lemmas.List.{take_all}

@@ -1,4 +1,4 @@
--- What passes lead to: after three passes with nomination at rest, one more changes nothing.
+-- What passes lead to: after three passes with nomination at rest, one more changes nothing. `Sending` stands on it.
 use Rattle.std.proofs.Common.{◌≡◌, ℕ, false, Some, None, is_none, refl, sym, ◌∙◌, ap, subst, inl, inr, ◌⊎◌}
 use Rattle.types.specs.declared.ballot.Ballot.{Ballot}
 use Rattle.protocol.specs.Views.{Seen}

@@ -1,4 +1,5 @@
--- Four passes are enough for votes that are fit, the last of which changes nothing.
+-- Four passes are enough for votes that are fit, the last of which changes nothing. `Settling` and `Stirring` stand on
+-- it.
 use Rattle.std.proofs.Common.{◌≡◌, ℕ, suc, true, false, Option, Some, None, is_none, is_some, refl, sym, ◌∙◌, ap, subst, inl, inr, ◌⊎◌}
 use Rattle.std.proofs.lemmas.Bool.{cases_Bool}
 use Rattle.types.specs.declared.ballot.Ballot.{Ballot}

@@ -1,4 +1,4 @@
--- One pass of a sound state: what it leaves as it is, and how it ends.
+-- One pass of a sound state: what it leaves as it is, and how it ends. `FourPasses` and `Stirring` stand on it.
 use Rattle.std.proofs.Common.{◌≡◌, ℕ, false, List, Option, Some, None, is_none, refl, sym, ◌∙◌, ap, subst, inl, inr, ◌⊎◌}
 use Rattle.std.proofs.lemmas.Bool.{cases_Bool}
 use Rattle.types.specs.declared.ballot.Ballot.{Ballot}

@@ -1,4 +1,5 @@
 -- A row of one kind, by which the same nodes are reached, changes nothing of what is seen of rows of the other kind.
+-- `RulesOfKinds` and `Stirring` stand on it.
 use Rattle.std.proofs.Common.{◌≡◌, ℕ, Bool, true, false, not, ◌&&◌, ◌==◌, Option, Some, List, [], ◌∷◌, map, filter, option_map, if◌then◌else◌, refl, sym, ◌∙◌, ap, ap₂, subst}
 use Rattle.std.specs.List.{cons_option}
 use Rattle.std.proofs.Math.Path.{fun_ext}

@@ -1,4 +1,4 @@
--- A pass, rule by rule.
+-- A pass, rule by rule. `Sending` stands on it.
 use Rattle.std.proofs.Common.{◌≡◌, ℕ, ◌+◌, Bool, true, false, not, ◌&&◌, ◌==◌, nat_lt, nat_le, ◌++◌, Option, Some, None, if◌then◌else◌, filter, flat_map, option_to_list, refl, sym, ◌∙◌, ap, subst, inl, inr, ◌⊎◌, arith}
 use Rattle.std.proofs.lemmas.Bool.{eqb-true}
 use Rattle.std.proofs.lemmas.Bool.Decides.{nat_tests}

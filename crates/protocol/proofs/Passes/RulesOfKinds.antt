@@ -1,4 +1,4 @@
--- The rules of nomination read nomination rows alone, and those of balloting ballot rows.
+-- The rules of nomination read nomination rows alone, and those of balloting ballot rows. `Stirring` stands on it.
 use Rattle.std.proofs.Common.{◌≡◌, ℕ, List, Option, Some, None, refl, ◌∙◌, ap}
 use Rattle.types.specs.declared.ballot.Ballot.{Ballot}
 use Rattle.types.specs.declared.state.Phase.{Phase}

@@ -1,4 +1,5 @@
--- No event of a reached node meets the limit of passes: its votes are fit, and each step keeps them so.
+-- No event of a reached node meets the limit of passes: its votes are fit, and each step keeps them so. The law
+-- `four_passes_are_enough`, `Nodes` and the crate `slot` stand on it.
 use Rattle.types.specs.declared.event.NodeEvent.{NodeEvent}
 use Rattle.std.proofs.Common.{◌≡◌, ℕ, zero, suc, ◌+◌, Bool, true, false, Option, Some, None, if◌then◌else◌, refl, sym, ◌∙◌, ap, subst, arith}
 use Rattle.types.specs.Trees.{Slices}

@@ -1,5 +1,6 @@
 -- Which rules an event stirs: nomination rests after one pass, after a ballot row in the first one too; and after a
--- nomination row balloting rests where nomination confirms nothing.
+-- nomination row balloting rests where nomination confirms nothing. The law `rows_stir_their_kind` and the crate `slot`
+-- stand on it.
 use Rattle.std.proofs.Common.{◌≡◌, ℕ, zero, suc, Option, Some, if◌then◌else◌, is_none, refl, sym, ◌∙◌, ap, subst, inl, inr, ◌⊎◌}
 use Rattle.std.proofs.lemmas.Bool.{cases_Bool}
 use Rattle.types.specs.declared.state.Phase.TheVariants.{Preparing, Committing, Externalized}

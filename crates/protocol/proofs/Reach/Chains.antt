@@ -1,4 +1,6 @@
--- The reach of a node: the least set, the end of chains, and a region that holds its members' names.
+-- The reach of a node: the least set, the end of chains, and a region that holds its members' names. The laws
+-- `reach_follows_chains`, `reach_holds_names` and `reach_is_least`, `Nodes`, and the crates `closure`, `fedvote`,
+-- `tables` and `view` stand on it.
 use Rattle.std.proofs.Common.{◌≡◌, ℕ, true, false, ◌==◌, List, [], ◌∷◌, map, refl, sym, ◌∙◌, subst, inl, inr, IsTrue, ◌↔◌}
 use Rattle.std.proofs.lemmas.Bool.{cases_Bool, or_cases, eqb-true, false≢true}
 use Rattle.types.specs.Trees.{Slices}

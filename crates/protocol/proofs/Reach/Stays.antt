@@ -1,4 +1,4 @@
--- Rows that leave the reach of a node as it is.
+-- Rows that leave the reach of a node as it is. The law `reach_stays` and the crate `closure` stand on it.
 use Rattle.std.proofs.Common.{◌≡◌, ℕ, Bool, true, false, cond, ◌⊎◌, List, [], ◌∷◌, map, find, Option, Some, None, if◌then◌else◌, IsTrue, is_some, refl, sym, ◌∙◌, ap, ap₂, subst, inl, inr}
 use Rattle.std.specs.List.{Contains}
 use Rattle.std.proofs.Math.Path.{fun_ext}

@@ -1,4 +1,4 @@
--- Agreement of two networks, from what a set sees of each.
+-- Agreement of two networks, from what a set sees of each. The law `networks_agree` stands on it.
 use Rattle.types.specs.declared.event.NodeEvent.TheVariants.{Propose, Take, NominationTimer, BallotTimer, Reslice}
 use Rattle.types.specs.declared.event.Out.{Out}
 use Rattle.types.specs.declared.event.Refusal.{Refusal}

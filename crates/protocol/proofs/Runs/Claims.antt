@@ -1,4 +1,4 @@
--- The claims, proved.
+-- The claims, proved. The laws `agree`, `prefix` and `quiet`, and `Agreements` stand on it.
 use Rattle.types.specs.declared.event.NodeEvent.{NodeEvent}
 use Rattle.types.specs.declared.event.Out.{Out}
 use Rattle.std.proofs.Common.{◌≡◌, true, not, List, ◌++◌, map, flat_map, append_assoc, sym, ◌∙◌, ap, subst}

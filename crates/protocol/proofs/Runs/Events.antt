@@ -1,4 +1,5 @@
--- Each kind of event, as R sees it: the machine of the kept steps follows them all.
+-- Each kind of event, as R sees it: the machine of the kept steps follows them all. `Crowds` and `Networks` stand on
+-- it.
 use Rattle.types.specs.declared.event.NodeEvent.{NodeEvent}
 use Rattle.std.proofs.Common.{◌≡◌, ℕ, Bool, true, false, not, ◌&&◌, ◌==◌, Option, Some, None, sym, ap, subst, inl, inr}
 use Rattle.std.proofs.lemmas.Bool.{cases_Bool, and_parts, and_from, and_left, and_right, or_right, eqb-true}

@@ -1,4 +1,4 @@
--- Each applied event moves what R sees as the machine of the kept steps says.
+-- Each applied event moves what R sees as the machine of the kept steps says. `Crowds` stands on it.
 use Rattle.types.specs.declared.event.NodeEvent.{NodeEvent}
 use Rattle.types.specs.declared.event.Out.{Out}
 use Rattle.std.proofs.Common.{◌≡◌, ℕ, Bool, true, false, not, ◌&&◌, ◌==◌, Option, Some, None, List, [], ◌++◌, option_map, if◌then◌else◌, refl, sym, ◌∙◌, ap, ap₂, subst, inl, inr, append-nil}

@@ -1,4 +1,4 @@
--- A hearing, as R sees it: a member is handed what the machine of the kept steps emitted.
+-- A hearing, as R sees it: a member is handed what the machine of the kept steps emitted. `Events` stands on it.
 use Rattle.std.proofs.Common.{◌≡◌, ℕ, zero, suc, Bool, true, false, not, ◌&&◌, ◌==◌, Option, Some, None, List, [], ◌∷◌, filter, option_map, slice_get, if◌then◌else◌, refl, sym, ◌∙◌, ap, ap₂, subst, inl, inr}
 use Rattle.std.specs.List.{list_all}
 use Rattle.std.proofs.lemmas.Bool.{cases_Bool, or_cases, and_parts, and_left, and_right, true≢false, not-true, eqb-true}

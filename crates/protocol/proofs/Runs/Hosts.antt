@@ -1,4 +1,5 @@
--- Isolation over two whole host histories.
+-- Isolation over two whole host histories. The law `isolation`, `Crowds`, and the crates `crowds` and `hoststep` stand
+-- on it.
 use Rattle.types.specs.declared.event.Refusal.{Refusal}
 use Rattle.types.specs.declared.event.NodeEvent.{NodeEvent}
 use Rattle.std.proofs.Common.{◌≡◌, ℕ, Bool, true, false, ◌==◌, Option, Some, None, List, [], ◌∷◌, map, if◌then◌else◌, is_some, refl, sym, ◌∙◌, ap, ap₂, subst, inl, inr, ◌⊎◌}

@@ -1,4 +1,4 @@
--- A whole run, as R sees it, is a run of the machine of the kept steps.
+-- A whole run, as R sees it, is a run of the machine of the kept steps. `Crowds` and `Networks` stand on it.
 use Rattle.types.specs.declared.event.Refusal.{Refusal}
 use Rattle.types.specs.declared.event.NodeEvent.{NodeEvent}
 use Rattle.types.specs.declared.event.Out.{Out}

@@ -1,5 +1,5 @@
 -- What the kept steps for one set say of what lies in another: with it the closure of a run says what its hosted
--- members announce.
+-- members announce. `Crowds` stands on it.
 use Rattle.std.proofs.Common.{◌≡◌, ℕ, Bool, true, false, ◌&&◌, ◌==◌, Option, Some, None, List, [], ◌∷◌, ◌++◌, map, flat_map, if◌then◌else◌, refl, ◌∙◌, ap, subst}
 use Rattle.std.specs.List.{list_all, AllByRecursion, cons_option}
 use Rattle.std.proofs.lemmas.Bool.{and_parts, and_from, false≢true, eqb-true}

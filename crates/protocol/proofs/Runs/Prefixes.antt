@@ -1,4 +1,5 @@
--- After each beginning of a run the closure of the whole run is closed for its hosted members.
+-- After each beginning of a run the closure of the whole run is closed for its hosted members. The law
+-- `members_stay_within_closures` and `Agreements` stand on it.
 use Rattle.types.specs.declared.event.Refusal.{Refusal}
 use Rattle.std.proofs.Common.{◌≡◌, ℕ, zero, suc, Option, Some, None, List, [], ◌∷◌, map, take, refl, sym, subst}
 use Rattle.protocol.specs.Sets.{Names}

@@ -1,4 +1,5 @@
--- Where casts and kept steps are the same, the closure is the same set in both worlds.
+-- Where casts and kept steps are the same, the closure is the same set in both worlds. The law `closures_are_the_same`
+-- stands on it.
 use Rattle.std.proofs.Common.{◌≡◌, ℕ, Bool, true, false, ◌==◌, List, [], ◌∷◌, ◌++◌, map, flat_map, if◌then◌else◌, refl, sym, ◌∙◌, subst}
 use Rattle.std.specs.List.{list_all, Contains, AllByRecursion}
 use Rattle.std.proofs.lemmas.Bool.{and_parts, and_from}

@@ -1,4 +1,4 @@
--- Two runs with the same kept steps give a member the same outs.
+-- Two runs with the same kept steps give a member the same outs. `Crowds` and `Verdicts` stand on it.
 use Rattle.std.proofs.Common.{◌≡◌, ℕ, Bool, true, false, Option, Some, None, List, if◌then◌else◌, refl, sym, ◌∙◌, ap₂}
 use Rattle.std.proofs.Math.Path.{fun_ext}
 use Rattle.types.specs.Trees.{Slices}

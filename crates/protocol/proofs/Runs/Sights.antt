@@ -1,4 +1,5 @@
--- What R sees of a network at a slot, and how each event moves it.
+-- What R sees of a network at a slot, and how each event moves it. `Crowds`, `Networks` and the crate `runs` stand on
+-- it.
 use Rattle.types.specs.declared.event.NodeEvent.{NodeEvent}
 use Rattle.types.specs.declared.event.Out.{Out}
 use Rattle.std.proofs.Common.{◌≡◌, ℕ, Bool, true, false, not, ◌&&◌, ◌||◌, ◌==◌, Option, Some, None, List, [], ◌∷◌, ◌++◌, map, option_map, if◌then◌else◌, refl, sym, ◌∙◌, ap, inl, inr}

@@ -1,4 +1,4 @@
--- Where nothing happens, nothing is kept, and R sees the same.
+-- Where nothing happens, nothing is kept, and R sees the same. `Events` and `Hearings` stand on it.
 use Rattle.types.specs.declared.event.Out.{Out}
 use Rattle.std.proofs.Common.{◌≡◌, ℕ, Bool, true, false, Option, None, [], ◌++◌, if◌then◌else◌, refl}
 use Rattle.types.specs.Trees.{Slices}

@@ -1,4 +1,4 @@
--- What votes send never goes: sets of nominations do not shrink, and a ballot stays.
+-- What votes send never goes: sets of nominations do not shrink, and a ballot stays. `LastSent` stands on it.
 use Rattle.std.proofs.Common.{◌≡◌, ℕ, ◌+◌, ◌-◌, ◌≤◌, Bool, true, false, not, take, length, filter, List, Option, Some, None, if◌then◌else◌, is_none, is_some, refl, sym, ◌∙◌, ap, subst, inl, inr, arith}
 use Rattle.std.proofs.lemmas.Bool.{cases_Bool, false≢true}
 use Rattle.types.specs.declared.ballot.Ballot.{Ballot}

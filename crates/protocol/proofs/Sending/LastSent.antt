@@ -1,4 +1,4 @@
--- What a node emitted last of each kind is what it would send now.
+-- What a node emitted last of each kind is what it would send now. The law `last_emitted_is_sent` stands on it.
 use Rattle.types.specs.declared.event.NodeEvent.{NodeEvent}
 use Rattle.types.specs.declared.event.Out.{Out}
 use Rattle.types.specs.declared.event.Out.TheVariants.{ArmNomination, ArmBallot, Emit}

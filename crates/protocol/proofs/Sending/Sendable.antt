@@ -1,4 +1,5 @@
 -- What votes may be sent: sets that a nomination may have, and a ballot with its interval that a statement may have.
+-- `Nodes` stands on it.
 use Rattle.std.proofs.Common.{ℕ, ◌≤◌, Option}
 use Rattle.std.specs.Prelude.{IfSome}
 use Rattle.types.specs.declared.ballot.Ballot.{Ballot}

@@ -1,4 +1,4 @@
--- Each rule of balloting keeps a ballot, with its interval, that a statement may have.
+-- Each rule of balloting keeps a ballot, with its interval, that a statement may have. `SendablePasses` stands on it.
 use Rattle.std.proofs.Common.{◌≡◌, ℕ, ◌≤◌, max, Bool, true, false, not, ◌&&◌, nat_lt, List, Option, Some, None, if◌then◌else◌, filter, is_none, refl, sym, subst, inl, inr, arith}
 use Rattle.std.specs.Prelude.{IfSome}
 use Rattle.std.proofs.lemmas.Bool.{cases_Bool, true≢false}

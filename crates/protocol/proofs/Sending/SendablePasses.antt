@@ -1,4 +1,4 @@
--- Each pass keeps votes that may be sent.
+-- Each pass keeps votes that may be sent. `Nodes` stands on it.
 use Rattle.std.proofs.Common.{◌≡◌, ℕ, Option, Some, None, refl}
 use Rattle.types.specs.declared.ballot.Ballot.{Ballot}
 use Rattle.types.specs.declared.state.Phase.{Phase}

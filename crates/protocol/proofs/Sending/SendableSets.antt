@@ -1,4 +1,4 @@
--- Nomination keeps sets that a nomination may have.
+-- Nomination keeps sets that a nomination may have. `SendableBallots` stands on it.
 use Rattle.std.proofs.Common.{ℕ, zero, suc, ◌+◌, ◌-◌, ◌≤◌, Bool, true, false, not, length, take, List, [], ◌∷◌, if◌then◌else◌, filter, arith}
 use Rattle.types.specs.declared.state.Given.{Given}
 use Rattle.types.specs.Nominations.{IsNominationSet}

@@ -1,4 +1,4 @@
--- What votes send is well formed.
+-- What votes send is well formed. `Nodes` stands on it.
 use Rattle.std.proofs.Common.{◌≡◌, ℕ, ◌+◌, ◌-◌, ◌≤◌, ◌<◌, min, Bool, true, false, not, ◌&&◌, ◌||◌, nat_lt, nat_le, length, Option, Some, None, option_map, if◌then◌else◌, refl, ◌∙◌, ap, arith}
 use Rattle.std.specs.Prelude.{IfSome}
 use Rattle.std.specs.Ordering.{is_lt, is_gt, nat_cmp, ordering_reverse, ordering_then}

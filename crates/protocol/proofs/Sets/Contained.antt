@@ -1,4 +1,5 @@
--- What a list contains: its head, its tail, and what a test of the whole list says of each.
+-- What a list contains: its head, its tail, and what a test of the whole list says of each. Most other folders, and the
+-- crates `closure`, `slot`, `twoworlds` and `view` stand on it.
 use Rattle.std.proofs.Common.{◌≡◌, ℕ, zero, suc, ◌<◌, Bool, true, ◌⊎◌, List, [], ◌∷◌, length, get_or, refl, subst, inl, inr, arith}
 use Rattle.std.specs.List.{list_all, Contains}
 use Rattle.std.proofs.lemmas.Bool.{and_parts, and_from}

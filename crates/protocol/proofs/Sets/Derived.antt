@@ -1,4 +1,5 @@
--- The least set has exactly what is derived: rules are used up one by one, until none that is left applies.
+-- The least set has exactly what is derived: rules are used up one by one, until none that is left applies. The law
+-- `closures_are_derived`, `Reach` and the crate `closure` stand on it.
 use Rattle.std.proofs.Common.{◌≡◌, ℕ, zero, suc, ◌<◌, ◌≤◌, true, false, ◌||◌, ◌==◌, ◌⊎◌, List, [], ◌∷◌, length, refl, sym, ◌∙◌, subst, inl, inr, arith}
 use Rattle.std.specs.List.{Contains}
 use Rattle.std.proofs.Math.Path.{fun_ext}

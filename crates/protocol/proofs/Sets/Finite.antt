@@ -1,4 +1,5 @@
--- Sets of finitely many names: what is among them, and what some set and every set mean.
+-- Sets of finitely many names: what is among them, and what some set and every set mean. Most other folders and eight
+-- crates stand on it.
 use Rattle.std.proofs.Common.{◌≡◌, ℕ, Bool, true, false, not, ◌&&◌, ◌||◌, ◌==◌, List, [], ◌∷◌, ◌++◌, refl, sym, ◌∙◌, subst, inl, inr, ap}
 use Rattle.std.specs.List.{list_all}
 use Rattle.std.proofs.Math.Path.{fun_ext}

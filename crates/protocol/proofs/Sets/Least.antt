@@ -1,4 +1,5 @@
--- The computed least set is closed, and lies in each closed set: closures and reach are such sets.
+-- The computed least set is closed, and lies in each closed set: closures and reach are such sets. The law
+-- `closures_are_least`, `Nodes`, `Reach`, `Runs`, `Verdicts` and the crate `closure` stand on it.
 use Rattle.std.proofs.Common.{◌≡◌, ℕ, true, not, ◌||◌, List, [], ◌∷◌, flat_map, sym, ◌∙◌, inl, inr, arith}
 use Rattle.std.specs.List.{list_all, Contains}
 use Rattle.std.proofs.lemmas.Bool.{cases_Bool, or_cases, and_parts, and_from, or_left, or_right, true≢false, false≢true, not-true, not_from_false}

@@ -1,4 +1,4 @@
--- What a mapped list contains.
+-- What a mapped list contains. `Reach`, and the crates `closure` and `view` stand on it.
 use Rattle.std.proofs.Common.{◌≡◌, List, [], ◌∷◌, map, subst, inl, inr, arith}
 use Rattle.std.specs.List.{Contains}
 use Rattle.protocol.proofs.Sets.Contained.{contains_head, contains_tail, contained_cases}

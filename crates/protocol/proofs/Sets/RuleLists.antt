@@ -1,4 +1,5 @@
--- The least set that keeps a list of rules, by tests of the whole list.
+-- The least set that keeps a list of rules, by tests of the whole list. `Nodes`, `Runs`, `Verdicts`, `Worked` and the
+-- crate `twoworlds` stand on it.
 use Rattle.std.proofs.Common.{◌≡◌, ℕ, true, List}
 use Rattle.std.specs.List.{list_all}
 use Rattle.std.proofs.lemmas.Bool.{and_parts, and_from}

@@ -1,4 +1,5 @@
--- Two tests, joined by "and" or by "or", where one of them is known.
+-- Two tests, joined by "and" or by "or", where one of them is known. `Balloting`, `Nominating` and `Slices` stand on
+-- it.
 use Rattle.std.proofs.Common.{◌≡◌, Bool, true, false, ◌&&◌, ◌||◌, refl, sym, ◌∙◌}
 use Rattle.std.proofs.lemmas.Bool.{true≢false, false≢true}
 

@@ -1,4 +1,4 @@
--- Whether a set blocks slices is decided by the names that the slices have of it.
+-- Whether a set blocks slices is decided by the names that the slices have of it. The crate `fedvote` stands on it.
 use Rattle.std.proofs.Common.{ℕ, Bool, List, sym, ◌∙◌, ◌↔◌}
 use Rattle.std.proofs.lemmas.Bool.{and_parts, and_right}
 use Rattle.protocol.specs.Sets.{Names, among, both, AreApart}

@@ -1,4 +1,6 @@
--- The test of a quorum is its existence, and a quorum cut to a region that holds its members' names is one.
+-- The test of a quorum is its existence, and a quorum cut to a region that holds its members' names is one. The laws
+-- `nested_quorum_cut`, `quorum_cut` and `quorums_are_found`, `Balloting`, `Nodes`, `Passes`, and the crates `compiled`,
+-- `fedvote`, `quorum` and `view` stand on it.
 use Rattle.std.proofs.Common.{◌≡◌, ℕ, Bool, true, not, ◌&&◌, ◌||◌, Option, Some, None, List, refl, sym, ◌∙◌, subst, inl, inr, IsTrue}
 use Rattle.std.specs.List.{list_all}
 use Rattle.std.proofs.lemmas.Bool.{cases_Bool, or_cases, and_parts, and_from, or_left, or_right, true≢false, false≢true, not-true, not_from_false}

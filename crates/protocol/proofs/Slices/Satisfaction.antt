@@ -1,4 +1,5 @@
--- Satisfaction grows with the set, looks at named nodes alone, and is dual to blocking.
+-- Satisfaction grows with the set, looks at named nodes alone, and is dual to blocking. The law `blocking_is_counted`,
+-- `Balloting`, `Nodes`, `Passes` and five crates stand on it.
 use Rattle.std.proofs.Common.{◌≡◌, ℕ, ◌+◌, ◌≤◌, Bool, true, false, not, cond, leb, ltb, refl, sym, ◌∙◌, ap, arith, ◌↔◌, IsTrue}
 use Rattle.std.proofs.lemmas.Bool.{false≢true, not-true, not_from_false, false_from_ne_true}
 use Rattle.std.proofs.lemmas.Bool.Decides.{nat_tests}

@@ -1,5 +1,5 @@
 -- The row that is found for a sender and a kind stands in the table, and where rows are single it is each one that
--- stands there.
+-- stands there. `Reach`, and the crates `closure` and `view` stand on it.
 use Rattle.std.proofs.Common.{◌≡◌, ℕ, true, not, ◌==◌, List, [], ◌∷◌, find, Option, Some, None, option_map, refl, sym, ◌∙◌, subst, inl, inr, arith}
 use Rattle.std.specs.List.{Contains, list_all}
 use Rattle.std.proofs.lemmas.Bool.{cases_Bool, and_parts, eqb-true, true≢false, not-true}

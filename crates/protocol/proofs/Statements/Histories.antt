@@ -1,4 +1,4 @@
--- The rows of a table are a function of the whole list of offers.
+-- The rows of a table are a function of the whole list of offers. The law `rows_follow_from_all_offers` stands on it.
 use Rattle.std.proofs.Common.{◌≡◌, ℕ, Bool, true, false, not, cond, ◌&&◌, Option, Some, None, List, [], ◌∷◌, ◌++◌, filter, ◌==◌, if◌then◌else◌, refl, sym, ◌∙◌, ap, ap₂, subst, append_assoc, append-nil}
 use Rattle.std.specs.List.{find, fold, list_all}
 use Rattle.std.specs.Option.{option_or}

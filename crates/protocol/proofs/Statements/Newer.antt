@@ -1,4 +1,5 @@
--- The order of ballot statements, and that newer is a strict order.
+-- The order of ballot statements, and that newer is a strict order. The laws `newer_is_strict` and
+-- `statements_are_ordered`, and `Histories` stand on it.
 use Rattle.std.proofs.Common.{◌≡◌, ℕ, Bool, true, false, not, ◌&&◌, List, [], ◌∷◌, Option, Some, None, get_or, refl, sym, ◌∙◌, ap, ap₂, inl, inr}
 use Rattle.std.specs.Cmp.{IsTotalOrder}
 use Rattle.std.specs.Cmp.Lexicographic.{options_total}

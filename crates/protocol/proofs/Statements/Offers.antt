@@ -1,4 +1,5 @@
--- The rows of a table after an offer.
+-- The rows of a table after an offer. 4 laws, `Nodes`, `Passes`, `Reach`, and the crates `latest` and `view` stand on
+-- it.
 use Rattle.std.proofs.Common.{◌≡◌, ℕ, Bool, true, false, not, cond, ◌&&◌, ◌==◌, Some, None, List, [], ◌∷◌, ◌++◌, if◌then◌else◌, refl, sym, ◌∙◌, ap, ap₂, subst}
 use Rattle.std.specs.List.{find, list_all}
 use Rattle.std.proofs.lemmas.Bool.{and_parts, and_from, not_from_false, false_from_ne_true, true≢false, false≢true, eqb-true, eq-eqb}

@@ -1,4 +1,4 @@
--- A verdict on two runs is determined: no two are right.
+-- A verdict on two runs is determined: no two are right. The law `verdicts_are_determined` and `OfCrowds` stand on it.
 use Rattle.types.specs.declared.event.Out.{Out}
 use Rattle.std.proofs.Common.{◌≡◌, ℕ, ◌<◌, List, [], ◌∷◌, map, slice_get, is_some, refl, sym, ◌∙◌, ap, ap₂, subst, inl, inr, IsTrue}
 use Rattle.std.specs.List.{AllByRecursion, Contains}

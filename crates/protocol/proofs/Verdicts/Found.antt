@@ -1,4 +1,4 @@
--- Every two runs have a verdict.
+-- Every two runs have a verdict. The law `verdicts_are_determined` and `OfCrowds` stand on it.
 use Rattle.types.specs.declared.event.Out.{Out}
 use Rattle.std.proofs.Common.{◌≡◌, ◌≢◌, ◌⊎◌, ℕ, zero, suc, ◌<◌, Bool, true, false, ◌&&◌, List, [], ◌∷◌, ◌++◌, map, flat_map, length, get_or, cond, is_some, append-nil, refl, sym, ◌∙◌, ap, subst, inl, inr, arith, IsTrue}
 use Rattle.std.specs.List.{AllByRecursion, Contains}

@@ -1,4 +1,5 @@
--- Isolation of two runs of one network, each of its own configuration.
+-- Isolation of two runs of one network, each of its own configuration. The law `verdicts_are_determined`, `Found` and
+-- the crate `twoworlds` stand on it.
 use Rattle.std.proofs.Common.{◌≡◌, ℕ, true, List, sym, subst}
 use Rattle.protocol.specs.Hosts.{Entry}
 use Rattle.protocol.specs.Isolation.{closure, kept_of, outs_of, SameCast}

@@ -1,4 +1,5 @@
--- Every two submissions to a network have one answer, and only one.
+-- Every two submissions to a network have one answer, and only one. The law `crowds_are_determined` and `Worked` stand
+-- on it.
 use Rattle.std.proofs.Common.{◌≡◌, ◌≢◌, ◌⊎◌, ℕ, ◌<◌, ◌+◌, true, false, ◌&&◌, not, Option, Some, None, List, slice_get, refl, sym, ◌∙◌, ap, inl, inr, arith}
 use Rattle.std.proofs.lemmas.Bool.{cases_Bool, cases_order, and_parts, and_from, true≢false, not-true, not_from_false}
 use Rattle.protocol.specs.Sets.{Names, among, AreWithin}

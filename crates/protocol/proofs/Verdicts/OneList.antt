@@ -1,4 +1,4 @@
--- Ascending lists with the same members are one.
+-- Ascending lists with the same members are one. `Determined` stands on it.
 use Rattle.std.proofs.Common.{◌≡◌, ℕ, zero, suc, ◌<◌, List, [], ◌∷◌, refl, sym, ◌∙◌, ap₂, subst, inl, inr, arith}
 use Rattle.std.specs.List.{Contains}
 use Rattle.std.proofs.lemmas.Bool.{cases_order}

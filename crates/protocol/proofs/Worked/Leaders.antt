@@ -1,7 +1,8 @@
 -- Leaders, against hashes and leaders that another program computed.
 use Rattle.std.proofs.Common.{◌≡◌, ◌+◌, ◌^◌, [], ◌∷◌, map, refl}
 use Rattle.protocol.specs.Leaders.{hash, leader}
-use Rattle.protocol.proofs.Worked.Letters.{everything, A, B, C, D, two_of_bcd}
+use Rattle.protocol.proofs.Worked.Everything.{everything}
+use Rattle.protocol.proofs.Worked.Letters.{A, B, C, D, two_of_bcd}
 
 pub first_hash_of_B : hash 1 1 1 B ≡ 11722768529460913967
 unfolding everything

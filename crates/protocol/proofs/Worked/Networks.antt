@@ -12,7 +12,8 @@ use Rattle.protocol.specs.Networks.Step.{Opens, Closes, Asks, Delivers, Hears}
 use Rattle.protocol.specs.Networks.Reply.{Done, Refused}
 use Rattle.protocol.specs.Hosts.{Config, Entry, new_net, nets, journal, host_run}
 use Rattle.protocol.specs.Isolation.{closure, kept_of, outs_of}
-use Rattle.protocol.proofs.Worked.Letters.{everything, A, B, C, D, E, Z, k, m, q, x, y, at, just, two_of_bcd, three_of_abcd, by, to_A, one_net, host, in_one, replies}
+use Rattle.protocol.proofs.Worked.Everything.{everything}
+use Rattle.protocol.proofs.Worked.Letters.{A, B, C, D, E, Z, k, m, q, x, y, at, just, two_of_bcd, three_of_abcd, by, to_A, one_net, host, in_one, replies}
 
 -- ---- refusals
 abbrev two_hosts : List Config

@@ -5,7 +5,8 @@ use Rattle.types.specs.Trees.{Slices, node, inner, none}
 use Rattle.types.specs.declared.statement.Statement.TheVariants.{Nominate, Prepare}
 use Rattle.protocol.specs.Nodes.{Node, fresh, passed, settle, change, step}
 use Rattle.types.specs.declared.event.NodeEvent.TheVariants.{Take}
-use Rattle.protocol.proofs.Worked.Letters.{everything, A, B, C, x, y, at, just, by}
+use Rattle.protocol.proofs.Worked.Everything.{everything}
+use Rattle.protocol.proofs.Worked.Letters.{A, B, C, x, y, at, just, by}
 
 -- A itself, and one of B and C
 abbrev itself_and_another : Slices

@@ -3,39 +3,17 @@ use Rattle.std.proofs.Common.{◌≡◌, ℕ, Bool, true, false, List, [], ◌�
 use Rattle.types.specs.declared.statement.Statement.TheVariants.{Nominate}
 use Rattle.types.specs.Statements.{Sent}
 use Rattle.types.specs.Trees.{Slices, node, none}
+use Rattle.protocol.proofs.Worked.Letters.{A, B, C, D, Z, x, just, two_of_bcd, by}
 use Rattle.protocol.specs.Sets.{some_set, every_set}
 use Rattle.protocol.specs.Closures.{in_least}
 use Rattle.protocol.specs.Reach.{reached}
 
-abbrev A : ℕ
-A = 65
-
-abbrev B : ℕ
-B = 66
-
-abbrev C : ℕ
-C = 67
-
-abbrev D : ℕ
-D = 68
-
-abbrev Z : ℕ
-Z = 90
-
 abbrev X : ℕ
 X = 88
 
--- the slices 1[u]
-abbrev just : ℕ → Slices
-just u = record { threshold = 1; members = node u none }
-
--- the slices 2[B,C,D]
-abbrev two_of_three : Slices
-two_of_three = record { threshold = 2; members = node B (node C (node D none)) }
-
 -- a row of a node that has slices 1[named]
 abbrev names_one : ℕ → ℕ → Sent
-names_one u named = record { sender = u; slot = 1; slices = just named; body = Nominate ((X ∷ []) ∷ []) [] }
+names_one u named = by u (just named) (Nominate (x ∷ []) [])
 
 -- which of A, B, C, D, Z and X are reached by A
 abbrev reaches : Slices → List Sent → List Bool
@@ -54,7 +32,7 @@ pub stranger_that_names_a_member : reaches (just B) (names_one Z A ∷ ring)
 unfolding some_set every_set in_least reached
 stranger_that_names_a_member = refl
 
-pub stranger_that_a_member_names : reaches two_of_three (names_one D Z ∷ [])
+pub stranger_that_a_member_names : reaches two_of_bcd (names_one D Z ∷ [])
     ≡ true ∷ true ∷ true ∷ true ∷ true ∷ false ∷ []
 unfolding some_set every_set in_least reached
 stranger_that_a_member_names = refl

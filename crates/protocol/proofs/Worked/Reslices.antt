@@ -13,7 +13,8 @@ use Rattle.protocol.specs.Networks.Reply.{Done, Refused}
 use Rattle.protocol.specs.Hosts.{Config, Entry, new_net, nets, journal, host_run}
 use Rattle.protocol.specs.Isolation.{Kept, closure, kept_of}
 use Rattle.protocol.specs.Isolation.Kept.{Opened, Told}
-use Rattle.protocol.proofs.Worked.Letters.{everything, A, B, C, D, E, Z, k, m, q, x, at, just, two_of_bcd, by, to_A, net_of_A, one_net, host, in_one, replies}
+use Rattle.protocol.proofs.Worked.Everything.{everything}
+use Rattle.protocol.proofs.Worked.Letters.{A, B, C, D, E, Z, k, m, q, x, at, just, two_of_bcd, by, to_A, net_of_A, one_net, host, in_one, replies}
 
 abbrev two_of_bcz : Slices
 two_of_bcz = record { threshold = 2; members = node B (node C (node Z none)) }

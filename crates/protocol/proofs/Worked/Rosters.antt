@@ -19,7 +19,8 @@ use Rattle.protocol.specs.Crowds.{IsCrowd}
 use Rattle.protocol.specs.Crowds.Crowd.{CastDiffers, RosterDiffers, OutsideRoster, InputsDiffer, Same}
 use Rattle.protocol.proofs.Verdicts.OfCrowds.{closure_in}
 use Rattle.protocol.proofs.Sets.RuleLists.{least-in}
-use Rattle.protocol.proofs.Worked.Letters.{everything, A, B, C, D, Z, m, at, just, two_of_bcd, by, to_A, one_net, host, replies}
+use Rattle.protocol.proofs.Worked.Everything.{everything}
+use Rattle.protocol.proofs.Worked.Letters.{A, B, C, D, Z, m, at, just, two_of_bcd, by, to_A, one_net, host, replies}
 
 -- ---- a network of A with a roster, and strangers
 abbrev X : ℕ

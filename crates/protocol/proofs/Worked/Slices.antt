@@ -1,28 +1,11 @@
 -- Worked examples, computed: slices 2[B,1[C,D],2[E,F]], and three nodes in a ring.
 use Rattle.std.proofs.Common.{◌≡◌, ℕ, true, false, ◌==◌, if◌then◌else◌, [], ◌∷◌, Option, Some, None, refl}
 use Rattle.types.specs.Trees.{Slices, none, node, inner}
+use Rattle.protocol.proofs.Worked.Letters.{A, B, C, D, E, F, just}
 use Rattle.protocol.specs.Sets.{some_set, among}
 use Rattle.protocol.specs.Satisfaction.{sat, is_blocked}
 use Rattle.protocol.specs.Quorums.{has_quorum}
 use Rattle.protocol.specs.Weights.{weight}
-
-abbrev A : ℕ
-A = 65
-
-abbrev B : ℕ
-B = 66
-
-abbrev C : ℕ
-C = 67
-
-abbrev D : ℕ
-D = 68
-
-abbrev E : ℕ
-E = 69
-
-abbrev F : ℕ
-F = 70
 
 -- 2[B,1[C,D],2[E,F]]
 abbrev nested : Slices
@@ -52,10 +35,6 @@ weight_of_f = refl
 
 pub weight_of_a_stranger : weight nested A ≡ None
 weight_of_a_stranger = refl
-
--- the slices 1[u]
-abbrev just : ℕ → Slices
-just u = record { threshold = 1; members = node u none }
 
 -- A has 1[B], B has 1[C], C has 1[A]
 abbrev ring : ℕ → Option Slices

@@ -11,7 +11,8 @@ use Rattle.types.specs.declared.event.Out.TheVariants.{ArmBallot, Emit, External
 use Rattle.protocol.specs.Networks.{Step}
 use Rattle.protocol.specs.Networks.Step.{Opens, Asks, BallotTimes}
 use Rattle.protocol.specs.Networks.Reply.{Done}
-use Rattle.protocol.proofs.Worked.Letters.{everything, A, B, C, D, E, F, Z, k, m, q, x, y, at, just, two_of_bcd, three_of_bcde, by, to_A, net_of_A, replies}
+use Rattle.protocol.proofs.Worked.Everything.{everything}
+use Rattle.protocol.proofs.Worked.Letters.{A, B, C, D, E, F, Z, k, m, q, x, y, at, just, two_of_bcd, three_of_bcde, by, to_A, net_of_A, replies}
 
 -- a validator that trusts itself alone externalizes what it proposes, in one event
 pub alone_externalizes : replies (net_of_A (just A)) (Opens 1 ∷ Asks 1 A x ∷ [])
