@@ -50,46 +50,46 @@ fn vote_of(alloc: Global, sender: u64, accepts: bool) -> Result<Envelope, Fail> 
     Ok(Envelope::new(name(sender), 1, slices, body).ok_or("statement")?)
 }
 
-/// Whether the node accepts and whether it confirms that the ballot is prepared, where it says nothing, where it votes
-/// for that, and where it accepts it.
-fn answers<S: Sight>(alloc: Global, sight: &S) -> Result<[(bool, bool); 3], Fail> {
-    let claim = Claim::Prepare(ballot(alloc)?);
-    let votes = Some(vote(alloc, false)?);
-    let accepts = Some(vote(alloc, true)?);
-    let first = answer(alloc, sight, &None, &claim)?;
-    let second = answer(alloc, sight, &votes, &claim)?;
-    let third = answer(alloc, sight, &accepts, &claim)?;
-    Ok([first, second, third])
-}
-
-/// Whether the node in this position accepts the claim, and whether it confirms it.
+/// Whether the node in this position accepts that the ballot is prepared, and whether it confirms it.
 fn answer<S: Sight>(
     alloc: Global,
     sight: &S,
     position: &Option<Statement>,
-    claim: &Claim,
 ) -> Result<(bool, bool), Fail> {
-    let accepted = is_accepted(alloc, sight, position, claim)?;
-    let confirmed = is_confirmed(alloc, sight, position, claim)?;
+    let claim = Claim::Prepare(ballot(alloc)?);
+    let accepted = is_accepted(alloc, sight, position, &claim)?;
+    let confirmed = is_confirmed(alloc, sight, position, &claim)?;
     Ok((accepted, confirmed))
 }
 
-/// What node 1 answers by a table.
-fn answers_by(alloc: Global, rows: &Rows<'_, VecShelf>) -> Result<[(bool, bool); 3], Fail> {
-    let own = name(1);
-    let slices = two_of_three(alloc)?;
+/// The same where the node votes for it, or accepts it.
+fn answer_with_vote<S: Sight>(
+    alloc: Global,
+    sight: &S,
+    accepts: bool,
+) -> Result<(bool, bool), Fail> {
+    let position = Some(vote(alloc, accepts)?);
+    answer(alloc, sight, &position)
+}
+
+/// The answers where the node says nothing, where it votes for it, and where it accepts it.
+fn answers<S: Sight>(alloc: Global, sight: &S) -> Result<[(bool, bool); 3], Fail> {
+    let silent = answer(alloc, sight, &None)?;
+    let voting = answer_with_vote(alloc, sight, false)?;
+    let accepting = answer_with_vote(alloc, sight, true)?;
+    Ok([silent, voting, accepting])
+}
+
+/// What a node with these slices answers by a table.
+fn answers_by(
+    alloc: Global,
+    own: &NodeId,
+    slices: &Nested,
+    rows: &Rows<'_, VecShelf>,
+) -> Result<[(bool, bool); 3], Fail> {
     let leaders = Leaders::none(alloc);
-    let region = Region::of(alloc, &own, &slices, rows)?;
-    let view = View::of(
-        alloc,
-        Own {
-            name: &own,
-            slices: &slices,
-        },
-        &leaders,
-        rows,
-        &region,
-    )?;
+    let region = Region::of(alloc, own, slices, rows)?;
+    let view = View::of(alloc, Own { name: own, slices }, &leaders, rows, &region)?;
     answers(alloc, &view)
 }
 
@@ -105,7 +105,8 @@ fn accepts_and_confirms_where_there_is_memory(rt: HostRuntime) -> Result<(), Fai
     assert_eq!(rt; table.offer(&archive, voter), Offer::Replaced);
     assert_eq!(rt; table.offer(&archive, acceptor), Offer::Replaced);
     let rows = Rows::of(&table, &archive);
-    let found = answers_by(alloc, &rows)?;
+    let slices = two_of_three(alloc)?;
+    let found = answers_by(alloc, &name(1), &slices, &rows)?;
     assert!(rt; found == [(false, false), (true, false), (true, true)]);
     Ok(())
 }

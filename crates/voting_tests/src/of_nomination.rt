@@ -36,32 +36,40 @@ fn first_votes<S: Sight>(
     Ok(nominate(alloc, own, sight, given, Votes::none())?)
 }
 
+/// The votes of a node with these slices by a table.
+fn votes_by(
+    alloc: Global,
+    own: &NodeId,
+    slices: &Nested,
+    given: &Given,
+    rows: &Rows<'_, VecShelf>,
+) -> Result<Votes, Fail> {
+    let region = Region::of(alloc, own, slices, rows)?;
+    let view = View::of(
+        alloc,
+        Own { name: own, slices },
+        &given.leaders,
+        rows,
+        &region,
+    )?;
+    first_votes(alloc, own, &view, given)
+}
+
 /// The votes of a node that trusts itself alone and has heard nothing.
-fn lone_votes(alloc: Global, own: &NodeId) -> Result<Votes, Fail> {
+fn lone_votes(alloc: Global, own: &NodeId, given: &Given) -> Result<Votes, Fail> {
     let slices = itself(alloc, *own)?;
     let archive = Archive::new(alloc, VecShelf::new(alloc));
     let table = Table::new(alloc);
     let rows = Rows::of(&table, &archive);
-    let region = Region::of(alloc, own, &slices, &rows)?;
-    let given = given(alloc, *own)?;
-    let view = View::of(
-        alloc,
-        Own {
-            name: own,
-            slices: &slices,
-        },
-        &given.leaders,
-        &rows,
-        &region,
-    )?;
-    first_votes(alloc, own, &view, &given)
+    votes_by(alloc, own, &slices, given, &rows)
 }
 
 #[test]
 fn nominates_where_there_is_memory(rt: HostRuntime) -> Result<(), Fail> {
     let alloc = rt.alloc();
     let own = NodeId::from_words(1, 0, 0, 0);
-    let votes = lone_votes(alloc, &own)?;
+    let given = given(alloc, own)?;
+    let votes = lone_votes(alloc, &own, &given)?;
     let input = Value::of(alloc, b"i")?;
     assert!(rt; votes.voted.has(&input));
     assert!(rt; votes.accepts.has(&input));
