@@ -1,2 +1,2 @@
-mod Supporting
+mod Backed
 pub mod RunLaws

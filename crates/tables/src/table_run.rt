@@ -3,10 +3,11 @@
 ghost use Rattle.std.specs.Prelude.{◌≡◌, ◌≢◌, ◌↔◌, IsTrue, IfNone, IfOk, IfSome, None, Some, Err, map, option_map, string_bytes};
 ghost use Rattle.tables.specs.TableLines.{Asks, AsksNone, Backs, Takes, Tells};
 
-use crate::listener::{Listener, Taken};
+use crate::table_listener::{TableListener, Taken};
 use codec::{CodecError, decode};
 use envstore::Places;
 use latest::Rows;
+use listening::Configured;
 use scripts::{
     LineError, LineRunner, ballot_of, bytes_of, name_of, number_of, push_name, push_slices,
     push_statement, slices_of, statement_of,
@@ -19,16 +20,16 @@ use types::{Ballot, Envelope, Kind, NodeId};
 /// first line names.
 #[derive(Drop)]
 pub struct TableRun {
-    listener: Option<Listener>,
+    listener: Option<TableListener>,
 }
 
 impl Model for TableRun {
     ghost use Rattle.std.specs.Prelude.{Option};
     ghost use Rattle.std.specs.Coded.{codes};
     ghost use Rattle.types.specs.Trees.{members_code};
-    ghost use Rattle.tables.specs.Listeners.{Heard};
+    ghost use Rattle.tables.specs.Listeners.{HeardRows};
 
-    ghost Value = { Option Heard };
+    ghost Value = { Option HeardRows };
 
     ghost coded = { Prim.hlevel (codes, members_code) };
 
@@ -79,7 +80,7 @@ fn ballot_asked(alloc: Global, fields: &[&[u8]]) -> Result<Option<Ballot>, Alloc
 }
 
 /// The listener that a first line begins: `self NAME SLOT SLICES`.
-fn listener_of(alloc: Global, fields: &[&[u8]]) -> Result<Listener, LineError>
+fn listener_of(alloc: Global, fields: &[&[u8]]) -> Result<TableListener, LineError>
     ensures { IfOk result (λ listener. Tells None (map (λ field. field.now) fields.now) None (Some listener)) }
 {
     match fields {
@@ -87,7 +88,7 @@ fn listener_of(alloc: Global, fields: &[&[u8]]) -> Result<Listener, LineError>
             let name = name_of(name).ok_or(LineError::Bad)?;
             let slot = number_of(slot).ok_or(LineError::Bad)?;
             let slices = slices_of(alloc, slices)?.ok_or(LineError::Bad)?;
-            Ok(Listener::new(alloc, name, slot, slices))
+            Ok(TableListener::new(alloc, Configured { name, slot, slices }))
         }
         _ => Err(LineError::Bad),
     }
@@ -96,7 +97,7 @@ fn listener_of(alloc: Global, fields: &[&[u8]]) -> Result<Listener, LineError>
 /// Runs a line behind the first.
 fn run(
     alloc: Global,
-    listener: &mut Listener,
+    listener: &mut TableListener,
     fields: &[&[u8]],
 ) -> Result<Option<String>, LineError>
     ensures told { IfOk result (λ printed.
@@ -113,7 +114,7 @@ fn run(
 /// Runs a line behind the first that asks about no ballot.
 fn run_another(
     alloc: Global,
-    listener: &mut Listener,
+    listener: &mut TableListener,
     fields: &[&[u8]],
 ) -> Result<Option<String>, LineError> {
     match fields {
@@ -148,7 +149,7 @@ fn envelope_of(
 /// Offers the envelope that the bytes spell, or answers what is wrong with them.
 fn offer_bytes(
     alloc: Global,
-    listener: &mut Listener,
+    listener: &mut TableListener,
     bytes: &[u8],
 ) -> Result<Option<String>, LineError> {
     match decode(alloc, bytes) {
@@ -164,13 +165,13 @@ fn offer_bytes(
 /// Offers an envelope and answers what became of it.
 fn offer(
     alloc: Global,
-    listener: &mut Listener,
+    listener: &mut TableListener,
     envelope: Envelope,
 ) -> Result<Option<String>, LineError>
     ensures takes { IfOk result (λ printed. Takes listener.old envelope (option_map string_bytes printed) listener.new) }
     ensures runs { result ≢ Err LineError.Bad }
 {
-    match listener.take(envelope) {
+    match listener.take(alloc, envelope) {
         Taken::Replaced => say(alloc, "replaced"),
         Taken::Stale => say(alloc, "stale"),
         Taken::OtherSlot => say(alloc, "other"),
@@ -179,7 +180,11 @@ fn offer(
 }
 
 /// Answers whether the node's quorums back a ballot.
-fn ask(alloc: Global, listener: &mut Listener, ballot: &Ballot) -> Result<Option<String>, LineError>
+fn ask(
+    alloc: Global,
+    listener: &mut TableListener,
+    ballot: &Ballot,
+) -> Result<Option<String>, LineError>
     ensures backs { IfOk result (λ printed. Backs listener.old ballot.now (option_map string_bytes printed)) }
     ensures unchanged { listener.new ≡ listener.old }
     ensures runs { result ≢ Err LineError.Bad }
@@ -207,7 +212,7 @@ fn say(alloc: Global, word: &str) -> Result<Option<String>, LineError>
 }
 
 /// The names of all nodes that the node reaches, ascending.
-fn show_reach(alloc: Global, listener: &Listener) -> Result<Option<String>, LineError> {
+fn show_reach(alloc: Global, listener: &TableListener) -> Result<Option<String>, LineError> {
     let mut text = String::new(alloc);
     for name in &listener.reach(alloc)? {
         if !text.is_empty() {
@@ -219,7 +224,7 @@ fn show_reach(alloc: Global, listener: &Listener) -> Result<Option<String>, Line
 }
 
 /// The rows, a line each, ascending by sender, the nomination row first.
-fn show(alloc: Global, listener: &Listener) -> Result<Option<String>, LineError> {
+fn show(alloc: Global, listener: &TableListener) -> Result<Option<String>, LineError> {
     let table = listener.rows();
     let mut text = String::new(alloc);
     for sender in table.senders() {

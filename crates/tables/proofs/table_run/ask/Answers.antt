@@ -1,5 +1,3 @@
-use Rattle.std.proofs.Common.{rules, ◌≡◌, sym, ◌∙◌, true, false}
-use Rattle.std.specs.Prelude.{IsTrue}
 use Rattle.tables.specs.Listeners.{IsBacked}
 use Rattle.tables.specs.TableLines.{Backs}
 use Rattle.tables.proofs.RunLaws.{said}

@@ -1,12 +1,11 @@
-use Rattle.std.proofs.Common.{rules, ◌≡◌, sym, subst}
-use Rattle.std.specs.Prelude.{◌≢◌}
+use Rattle.std.proofs.Common.{◌≡◌, sym, subst}
 use Rattle.tables.specs.TableLines.{Takes}
 use Rattle.tables.proofs.RunLaws.{said, same_number}
 use Rattle.tables.proofs.table_run.offer.Goals as goal
 
 pub returns-in-Replaced-clause-takes : goal.returns-in-Replaced-clause-takes
 returns-in-Replaced-clause-takes c =
-    let slot : c.args.envelope.slot ≡ c.args.listener.now.slot = same_number _ _ (λ other. let e = c.take.ensures.other.1 other in cc) in
+    let slot : c.args.envelope.slot ≡ c.args.listener.now.configured.slot = same_number _ _ (λ other. let e = c.take.ensures.other.1 other in cc) in
     said _ _ (λ printed. Takes c.args.listener.now c.args.envelope printed c.take.new.self) c.say.result
     (subst (λ k. Takes c.args.listener.now c.args.envelope _ k) (sym (c.take.ensures.replaced c.in-Replaced.is)) (Takes.replaced slot (c.take.ensures.newer c.in-Replaced.is))) c.say.ensures.said
 

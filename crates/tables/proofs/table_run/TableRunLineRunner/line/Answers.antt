@@ -1,4 +1,4 @@
-use Rattle.std.proofs.Common.{◌≡◌, ◌∙◌, sym, subst}
+use Rattle.std.proofs.Common.{◌∙◌, sym, subst}
 use Rattle.std.specs.Prelude.{map}
 use Rattle.tables.specs.TableLines.{Refuses}
 use Rattle.tables.proofs.table_run.TableRunLineRunner.line.Goals as goal

@@ -1,0 +1,196 @@
+//! One node at one slot, with an archive of its own: the rows of the envelopes that it took, and what follows from
+//! them.
+
+ghost use Rattle.std.specs.Prelude.{◌≡◌, ◌≢◌, ◌↔◌, IsTrue, IfOk, [], false, true, OnErr, OnOk};
+ghost use Rattle.fedvote.specs.Questions.{backs};
+ghost use Rattle.fedvote.specs.declared.claim.Claim.{Claim};
+ghost use Rattle.types.specs.declared.kind.Kind.{Kind};
+ghost use Rattle.protocol.specs.Backing.{passing};
+ghost use Rattle.protocol.specs.Rows.{is_taken, offered};
+ghost use Rattle.protocol.specs.Reach.{IsReach};
+ghost use Rattle.tables.specs.Listeners.{IsBacked};
+ghost use Rattle.view.specs.Regions.{IsRegion};
+
+use closure::reach;
+use envstore::{Archive, Places, VecShelf};
+use fedvote::{Claim, Question, Sight};
+use latest::Rows;
+use listening::{Configured, Listener};
+use std::alloc::{AllocError, Global};
+use std::marker::Model;
+use types::{Ballot, Envelope, Kind, Leaders, NodeId};
+use view::{Region, View};
+
+/// What became of an envelope.
+#[derive(Clone, Copy, Debug, PartialEq, Eq)]
+pub enum Taken {
+    /// It is its sender's row of its kind now.
+    Replaced,
+    /// It is not newer than the row that stands.
+    Stale,
+    /// It is about another slot.
+    OtherSlot,
+    /// There was no memory for it.
+    NoMemory,
+}
+
+/// A listener that hears envelopes of its own slot alone, with the archive where its rows lie.
+///
+/// The nodes that it reaches are kept from one question to the next, until a row comes that may
+/// change them.
+///
+/// For example, where A's slices name B alone, and B's row names C, what A keeps is A, B and C.
+#[derive(Drop)]
+pub struct TableListener {
+    listener: Listener,
+    archive: Archive<VecShelf>,
+}
+
+impl Model for TableListener {
+    ghost use Rattle.tables.specs.Listeners.{HeardRows};
+    ghost use Rattle.types.specs.Trees.{members_code};
+    ghost use Rattle.std.specs.Coded.{codes};
+
+    ghost Value = { HeardRows };
+
+    ghost coded = { Prim.hlevel (codes, members_code) };
+
+    ghost use Rattle.envstore.specs.Archives.{AreFiled, sents_of};
+
+    ghost view = { λ s. record { configured = s.listener.configured; rows = sents_of s.listener.table } };
+
+    ghost invariant = { λ s. AreFiled s.archive s.listener.table };
+}
+
+impl TableListener {
+    /// A listener that has taken nothing. It takes no memory.
+    pub fn new(alloc: Global, configured: Configured) -> TableListener
+        ensures { result ≡ record { configured = configured; rows = [] } }
+    {
+        TableListener {
+            listener: Listener::new(alloc, configured),
+            archive: Archive::new(alloc, VecShelf::new(alloc)),
+        }
+    }
+
+    /// The slot that it is about.
+    pub fn slot(&self) -> u64
+        ensures { result ≡ self.now.configured.slot }
+    {
+        self.listener.configuration().slot
+    }
+
+    /// The rows.
+    pub fn rows(&self) -> Rows<'_, VecShelf>
+        ensures { result ≡ self.now.rows }
+    {
+        Rows::of(self.listener.table(), &self.archive)
+    }
+
+    /// Offers an envelope to the table. Where the answer is not [`Taken::Replaced`], nothing changed. A stale
+    /// envelope, and one about another slot, takes no memory.
+    pub fn take(&mut self, alloc: Global, envelope: Envelope) -> Taken
+        ensures other { (result ≡ Taken.OtherSlot) ↔ (envelope.slot ≢ self.old.configured.slot) }
+        ensures stale { (result ≡ Taken.Stale) ↔ ((envelope.slot ≡ self.old.configured.slot) × (is_taken self.old.rows envelope ≡ false)) }
+        ensures replaced { result ≡ Taken.Replaced → self.new ≡ record self.old { rows = offered self.old.rows envelope } }
+        ensures newer { result ≡ Taken.Replaced → is_taken self.old.rows envelope ≡ true }
+        ensures unchanged { result ≢ Taken.Replaced → self.new ≡ self.old }
+    {
+        if envelope.slot() != self.slot() {
+            return Taken::OtherSlot;
+        }
+        if !self.rows().takes(&envelope) {
+            return Taken::Stale;
+        }
+        match self.offer(alloc, envelope) {
+            Ok(()) => Taken::Replaced,
+            // Memory: the archive has none, or the table.
+            Err(_) => Taken::NoMemory,
+        }
+    }
+
+    /// Files the envelope, and offers it to the table. An error says that memory is short, and nothing changed.
+    fn offer(&mut self, alloc: Global, envelope: Envelope) -> Result<(), AllocError>
+        ensures offered { OnOk result (self.new ≡ record self.old { rows = offered self.old.rows envelope }) }
+        ensures err { OnErr result (self.new ≡ self.old) }
+    {
+        let filed = self.archive.put(envelope)?;
+        self.listener.offer(alloc, &self.archive, filed)
+    }
+
+    /// All nodes that the node reaches, ascending, none twice: itself, the names of its configured
+    /// slices, and the names in any row whose sender is reached.
+    pub fn reach(&self, alloc: Global) -> Result<Vec<NodeId>, AllocError>
+        ensures { IfOk result (λ v. IsReach self.now.configured.name self.now.configured.slices self.now.rows v.items) }
+    {
+        let configured = self.listener.configuration();
+        reach(alloc, &self.rows(), &configured.name, &configured.slices)
+    }
+
+    /// Whether the node is in a quorum whose ballot rows all vote for or accept that the ballot is
+    /// prepared (Mazières 2015, of quorums). The node's own slices are the configured ones; every
+    /// other node's are those of its ballot row. What contracts see of the listener stays as it was, and an
+    /// error says that memory is short.
+    pub fn is_backed(&mut self, alloc: Global, ballot: &Ballot) -> Result<bool, AllocError>
+        ensures answer { IfOk result (λ b. IsTrue b ↔ IsBacked self.old ballot.now) }
+        ensures unchanged { self.new ≡ self.old }
+    {
+        let region = self.listener.take_region(alloc, &self.archive)?;
+        let answer = self.is_backed_within(alloc, ballot, &region);
+        self.listener.keep_region(region);
+        answer
+    }
+
+    /// The answer by the rows of the nodes that the node reaches.
+    fn is_backed_within(
+        &self,
+        alloc: Global,
+        ballot: &Ballot,
+        region: &Region,
+    ) -> Result<bool, AllocError>
+        requires { IsRegion self.now.configured.name self.now.configured.slices self.now.rows region.now }
+        ensures { IfOk result (λ b. IsTrue b ↔ IsBacked self.now ballot.now) }
+    {
+        let rows = self.rows();
+        is_backed_by(alloc, self.listener.configuration(), &rows, region, ballot)
+    }
+}
+
+/// Whether the node is in a quorum whose ballot rows all back the ballot, as a view of the rows sees it. An error
+/// says that memory is short.
+fn is_backed_by<S: Places>(
+    alloc: Global,
+    configured: &Configured,
+    rows: &Rows<'_, S>,
+    region: &Region,
+    ballot: &Ballot,
+) -> Result<bool, AllocError>
+    requires { IsRegion configured.now.name configured.now.slices rows.now region.now }
+    ensures { IfOk result (λ b. IsTrue b ↔ IsBacked (record { configured = configured.now; rows = rows.now }) ballot.now) }
+{
+    // No rule asks this view whom the node follows.
+    let leaders = Leaders::none(alloc);
+    let view = View::of(alloc, configured.own(), &leaders, rows, region)?;
+    let claim = claim_of(ballot)?;
+    let question = Question::Backs(&claim);
+    let own_passes = is_claim_backed(rows, &configured.name, &claim);
+    let answer = view.quorum(alloc, own_passes, &question)?;
+    Ok(answer)
+}
+
+/// The claim that the ballot is prepared. An error says that its value has too many owners.
+fn claim_of(ballot: &Ballot) -> Result<Claim, AllocError>
+    ensures { IfOk result (λ c. c ≡ Claim.Prepare ballot.now) }
+{
+    Ok(Claim::Prepare(ballot.try_copy()?))
+}
+
+/// Whether the sender's ballot row votes for or accepts the claim.
+fn is_claim_backed<S: Places>(rows: &Rows<'_, S>, sender: &NodeId, claim: &Claim) -> bool
+    ensures { result ≡ passing rows.now Kind.Ballot (backs claim.now) sender.now }
+{
+    match rows.row(sender, Kind::Ballot) {
+        Some(row) => claim.is_backed_by(row.body()),
+        None => false,
+    }
+}
