@@ -3,3 +3,4 @@ pub mod SearchLaws
 pub mod ChoosingLaws
 pub mod LowestLaws
 pub mod PreparedLaws
+mod ArmLaws

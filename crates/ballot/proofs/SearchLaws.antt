@@ -1,5 +1,6 @@
 -- To try candidates from the greatest down finds the greatest that passes.
-use Rattle.std.proofs.Common.{◌≡◌, ◌<◌, ◌≤◌, Bool, true, false, cond, List, [], ◌∷◌, length, filter, Option, Some, None, refl, sym, ◌∙◌, subst, ap, inl, inr, arith}
+use Rattle.std.proofs.Common.{◌≡◌, ◌<◌, ◌≤◌, Bool, true, false, cond, List, [], ◌∷◌, length, filter, Option, Some, None, Result, Ok, Err, IfOk, refl, sym, ◌∙◌, subst, ap, inl, inr, arith}
+use Rattle.std.specs.Option.{option_or}
 use Rattle.std.proofs.lemmas.Bool.{cases_Bool, true≢false}
 use Rattle.types.specs.declared.ballot.Ballot.{Ballot}
 use Rattle.protocol.specs.States.{below}
@@ -97,3 +98,9 @@ module _ (listed : List Ballot) (holds : Ballot → Bool) where
   comes_down bound t e =
       let r = from-filter (is_under bound) t listed (next_in bound t e) in
       fewer_by (is_under (Some t)) (is_under bound) (λ x h. under_along bound t x r.1 h) listed t r.0 r.1 (below-self t)
+
+-- where there was no ballot, what is found is all
+pub found_alone : {E : Type 0} (r : Result (Option Ballot) E) (p : Option Ballot) → IfOk r (λ o. option_or o None ≡ p) → IfOk r (λ o. o ≡ p)
+found_alone (Ok None) p h = h
+found_alone (Ok (Some x)) p h = h
+found_alone (Err e) p h = tt

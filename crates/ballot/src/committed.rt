@@ -2,16 +2,19 @@
 //!
 //! Where a function here answers an error, memory is short.
 
-ghost use Rattle.std.specs.Prelude.{◌≡◌, ◌∷◌, [], IfOk, max};
+ghost use Rattle.std.specs.Prelude.{◌≡◌, ◌∷◌, [], IfOk, OnOk, Some};
+ghost use Rattle.ballot.specs.Intervals.{moved_to};
+ghost use Rattle.drafts.specs.Drafted.{after};
 ghost use Rattle.protocol.specs.Candidates.{commits, greatest, lowest};
-ghost use Rattle.protocol.specs.States.{ballot_at};
 ghost use Rattle.protocol.specs.Balloting.{accept_commit, accepted_from, commit_confirmed, confirm_commit, confirmed_commit, enter_commit, externalize, first_committed, next_committed, widen_commit};
+ghost use Rattle.protocol.specs.Passes.{on_ballot};
 
 use crate::intervals::{AcceptedUpTo, CommitConfirmed, ConfirmedUpTo, EntersCommit, WidensCommit};
 use crate::lowest::lowest_of;
 use crate::named::Committed;
 use crate::positions::own_position;
 use crate::search::greatest_of;
+use drafts::Draft;
 use fedvote::Sight;
 use std::alloc::{AllocError, Global};
 use types::{Ballot, Phase, Votes};
@@ -19,27 +22,19 @@ use types::{Ballot, Phase, Votes};
 /// Accepts commit. In [`types::Phase::Preparing`]: of the greatest counter, over all values, that is
 /// accepted as committed, confirmed as prepared and not aborted, with the widest interval below it, and
 /// the phase becomes [`types::Phase::Committing`]. In that phase: of a greater counter of the ballot's
-/// value (after the Stellar Consensus Protocol draft). `ballot` is the node's. An error says that memory
-/// is short, and the votes handed over are dropped.
+/// value (after the Stellar Consensus Protocol draft). Without a ballot nothing changes.
 #[tactic(auto, unfolding(protocol::specs::Balloting::accept_commit))]
 pub fn accept_commit<S: Sight>(
     alloc: Global,
     sight: &S,
-    ballot: &Ballot,
-    votes: Votes,
-) -> Result<Votes, AllocError>
-    ensures { IfOk result (λ w. w ≡ accept_commit votes.phase (S.seen sight.now) ballot.now votes) }
+    draft: &mut Draft<'_>,
+) -> Result<(), AllocError>
+    ensures { OnOk result (draft.new ≡ after (on_ballot (λ b w. accept_commit w.phase (S.seen sight.now) b w)) draft.old) }
 {
-    match votes.phase {
-        Phase::Preparing => {
-            let first = first_committed(alloc, sight, &votes)?;
-            enter_commit(alloc, sight, ballot, votes, first)
-        }
-        Phase::Committing => {
-            let next = next_committed(alloc, sight, ballot, &votes)?;
-            widen_commit(alloc, sight, ballot, votes, next)
-        }
-        Phase::Externalized => Ok(votes),
+    match draft.votes().phase {
+        Phase::Preparing => enter_commit(alloc, sight, draft),
+        Phase::Committing => widen_commit(alloc, sight, draft),
+        Phase::Externalized => Ok(()),
     }
 }
 
@@ -60,7 +55,7 @@ fn first_committed<S: Sight>(
         own: &own,
         votes,
     };
-    greatest_of(alloc, &candidates, &test, &None)
+    greatest_of(alloc, &candidates, &test)
 }
 
 /// The greatest counter of the ballot's value above the interval that is accepted as committed.
@@ -81,7 +76,7 @@ fn next_committed<S: Sight>(
         value: &ballot.value,
         hi: votes.hi,
     };
-    greatest_of(alloc, &candidates, &test, &None)
+    greatest_of(alloc, &candidates, &test)
 }
 
 /// The least commit counter of the value from which on the interval up to this ballot's counter is accepted.
@@ -107,102 +102,84 @@ fn accepted_from<S: Sight>(
 /// The phase becomes [`types::Phase::Committing`], with the interval up to the first counter, where there is
 /// one, and nothing stays below that.
 #[tactic(auto, unfolding(protocol::specs::Balloting::enter_commit))]
-fn enter_commit<S: Sight>(
-    alloc: Global,
-    sight: &S,
-    ballot: &Ballot,
-    votes: Votes,
-    first: Option<Ballot>,
-) -> Result<Votes, AllocError>
-    ensures { IfOk result (λ w. w ≡ enter_commit (S.seen sight.now) ballot.now votes first) }
+fn enter_commit<S: Sight>(alloc: Global, sight: &S, draft: &mut Draft<'_>) -> Result<(), AllocError>
+    ensures { OnOk result (draft.new ≡ after (on_ballot (λ b w. enter_commit (S.seen sight.now) b w (first_committed (S.seen sight.now) w))) draft.old) }
 {
-    let Some(first) = first else {
-        return Ok(votes);
+    let Some(_) = &draft.votes().ballot else {
+        return Ok(());
     };
-    let lo = accepted_from(alloc, sight, &votes, &first)?;
-    let hi = first.counter;
-    let ballot = up_to(ballot, &first)?;
-    let prepared = raised_to(&votes.prepared, &first)?;
-    let high = raised_to(&votes.high, &first)?;
-    Ok(Votes {
-        phase: Phase::Committing,
-        ballot: Some(ballot),
-        prepared,
-        high,
-        lo,
-        hi,
-        ..votes
-    })
+    let Some(first) = first_committed(alloc, sight, draft.votes())? else {
+        return Ok(());
+    };
+    let lo = accepted_from(alloc, sight, draft.votes(), &first)?;
+    move_interval(draft, &first, lo)?;
+    let high = greater(&draft.votes().high, &first)?;
+    draft.set_high(high)?;
+    draft.set_phase(Phase::Committing)
 }
 
 /// The interval goes up to the next counter, where there is one, with the ballot's counter and the highest
 /// accepted ballot.
 #[tactic(auto, unfolding(protocol::specs::Balloting::widen_commit))]
-fn widen_commit<S: Sight>(
-    alloc: Global,
-    sight: &S,
-    ballot: &Ballot,
-    votes: Votes,
-    next: Option<Ballot>,
-) -> Result<Votes, AllocError>
-    ensures { IfOk result (λ w. w ≡ widen_commit (S.seen sight.now) ballot.now votes next) }
+fn widen_commit<S: Sight>(alloc: Global, sight: &S, draft: &mut Draft<'_>) -> Result<(), AllocError>
+    ensures { OnOk result (draft.new ≡ after (on_ballot (λ b w. widen_commit (S.seen sight.now) b w (next_committed (S.seen sight.now) b w))) draft.old) }
 {
-    let Some(next) = next else {
-        return Ok(votes);
+    let votes = draft.votes();
+    let Some(ballot) = &votes.ballot else {
+        return Ok(());
     };
-    let lo = accepted_from(alloc, sight, &votes, &next)?;
-    let hi = next.counter;
-    let ballot = up_to(ballot, &next)?;
-    let prepared = raised_to(&votes.prepared, &next)?;
-    Ok(Votes {
-        ballot: Some(ballot),
-        prepared,
-        lo,
-        hi,
-        ..votes
-    })
+    let Some(next) = next_committed(alloc, sight, ballot, votes)? else {
+        return Ok(());
+    };
+    let lo = accepted_from(alloc, sight, votes, &next)?;
+    move_interval(draft, &next, lo)
 }
 
-/// The end's value, with the greater of both counters.
-fn up_to(ballot: &Ballot, end: &Ballot) -> Result<Ballot, AllocError>
-    ensures { IfOk result (λ b. b ≡ ballot_at (max ballot.now.counter end.now.counter) end.now.value) }
+/// The interval that is accepted as committed goes from this counter to this ballot's. The node's ballot has the
+/// end's value and is not below it, nor is the highest accepted ballot.
+fn move_interval(draft: &mut Draft<'_>, end: &Ballot, lo: u32) -> Result<(), AllocError>
+    ensures { OnOk result (draft.new ≡ after (on_ballot (λ b w. moved_to lo end.now b w)) draft.old) }
 {
-    end.at(ballot.counter.max(end.counter))
+    let votes = draft.votes();
+    let Some(ballot) = &votes.ballot else {
+        return Ok(());
+    };
+    let ballot = end.at(ballot.counter.max(end.counter))?;
+    let prepared = greater(&votes.prepared, end)?;
+    draft.set_ballot(ballot)?;
+    draft.set_prepared(prepared)?;
+    draft.set_interval(lo, end.counter)
 }
 
 /// The ballot that is there, or this one where that is below it or where there is none.
 #[tactic(auto, unfolding(protocol::specs::Candidates::greatest))]
-fn raised_to(there: &Option<Ballot>, ballot: &Ballot) -> Result<Option<Ballot>, AllocError>
-    ensures { IfOk result (λ o. o ≡ greatest there.now (ballot.now ∷ [])) }
+fn greater(there: &Option<Ballot>, ballot: &Ballot) -> Result<Ballot, AllocError>
+    ensures { IfOk result (λ b. Some b ≡ greatest there.now (ballot.now ∷ [])) }
 {
     match there {
-        None => Ok(Some(ballot.try_copy()?)),
+        None => ballot.try_copy(),
         Some(there) => {
             let greater = if *there < *ballot { ballot } else { there };
-            Ok(Some(greater.try_copy()?))
+            greater.try_copy()
         }
     }
 }
 
 /// Confirms commit of the ballot's value, in [`types::Phase::Committing`]: of the greatest counter that
 /// is confirmed as committed, with the widest interval below it, and the phase becomes
-/// [`types::Phase::Externalized`] (after the Stellar Consensus Protocol draft). `ballot` is the node's.
-/// An error says that memory is short, and the votes handed over are dropped.
+/// [`types::Phase::Externalized`] (after the Stellar Consensus Protocol draft). Without a ballot nothing
+/// changes.
 #[tactic(auto, unfolding(protocol::specs::Balloting::confirm_commit))]
 pub fn confirm_commit<S: Sight>(
     alloc: Global,
     sight: &S,
-    ballot: &Ballot,
-    votes: Votes,
-) -> Result<Votes, AllocError>
-    ensures { IfOk result (λ w. w ≡ confirm_commit votes.phase (S.seen sight.now) ballot.now votes) }
+    draft: &mut Draft<'_>,
+) -> Result<(), AllocError>
+    ensures { OnOk result (draft.new ≡ after (on_ballot (λ b w. confirm_commit w.phase (S.seen sight.now) b w)) draft.old) }
 {
-    match votes.phase {
-        Phase::Committing => {
-            let last = confirmed_commit(alloc, sight, ballot, &votes)?;
-            externalize(alloc, sight, votes, last)
-        }
-        Phase::Preparing | Phase::Externalized => Ok(votes),
+    match draft.votes().phase {
+        Phase::Committing => externalize(alloc, sight, draft),
+        Phase::Preparing | Phase::Externalized => Ok(()),
     }
 }
 
@@ -223,31 +200,25 @@ fn confirmed_commit<S: Sight>(
         own: &own,
         value: &ballot.value,
     };
-    greatest_of(alloc, &candidates, &test, &None)
+    greatest_of(alloc, &candidates, &test)
 }
 
 /// The phase becomes [`types::Phase::Externalized`], with the confirmed interval up to the last counter,
 /// where there is one.
 #[tactic(auto, unfolding(protocol::specs::Balloting::externalize))]
-fn externalize<S: Sight>(
-    alloc: Global,
-    sight: &S,
-    votes: Votes,
-    last: Option<Ballot>,
-) -> Result<Votes, AllocError>
-    ensures { IfOk result (λ w. w ≡ externalize (S.seen sight.now) votes last) }
+fn externalize<S: Sight>(alloc: Global, sight: &S, draft: &mut Draft<'_>) -> Result<(), AllocError>
+    ensures { OnOk result (draft.new ≡ after (on_ballot (λ b w. externalize (S.seen sight.now) w (confirmed_commit (S.seen sight.now) b w))) draft.old) }
 {
-    let Some(last) = last else {
-        return Ok(votes);
+    let votes = draft.votes();
+    let Some(ballot) = &votes.ballot else {
+        return Ok(());
     };
-    let lo = confirmed_from(alloc, sight, &votes, &last)?;
-    let hi = last.counter;
-    Ok(Votes {
-        phase: Phase::Externalized,
-        lo,
-        hi,
-        ..votes
-    })
+    let Some(last) = confirmed_commit(alloc, sight, ballot, votes)? else {
+        return Ok(());
+    };
+    let lo = confirmed_from(alloc, sight, votes, &last)?;
+    draft.set_phase(Phase::Externalized)?;
+    draft.set_interval(lo, last.counter)
 }
 
 /// The least commit counter of the value from which on the interval up to this ballot's counter is confirmed.

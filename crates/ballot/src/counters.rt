@@ -1,13 +1,16 @@
 //! How the ballot's counter rises, and for which counter the ballot timer is armed.
 
-ghost use Rattle.std.specs.Prelude.{◌≡◌, ◌+◌, ◌-◌, ◌++◌, IfOk, not, option_map, option_to_list};
+ghost use Rattle.std.specs.Prelude.{◌≡◌, ◌+◌, ◌-◌, ◌++◌, IfOk, OnOk, not, option_map, option_to_list};
 ghost use Rattle.types.specs.declared.kind.Kind.{Kind};
 ghost use Rattle.protocol.specs.Views.{passes};
-ghost use Rattle.protocol.specs.Passes.{arm, counts, known_or, raise, raised, raised_value, value_or};
+ghost use Rattle.drafts.specs.Drafted.{after};
+ghost use Rattle.protocol.specs.Passes.{arm, counts, known_or, on_ballot, raise, raised, raised_counter, raised_value, value_or};
+ghost use Rattle.protocol.specs.States.{position};
 ghost use Rattle.protocol.specs.Candidates.{combine, greatest_value, least_from};
 ghost use Rattle.fedvote.specs.Searching.{next_counter};
 
 use crate::positions::own_position;
+use drafts::Draft;
 use fedvote::{Position, Question, Sight, counter_by, lesser};
 use std::alloc::{AllocError, Global};
 use timers::cap;
@@ -16,32 +19,49 @@ use types::{Ballot, Given, LentBallot, Phase, SharedValues, Statement, Value, Vo
 /// Raises the ballot to the lowest counter, from its own on, at which those with greater counters do
 /// not block; the cap is the greatest to which it is raised, and a counter above the cap stays. The
 /// value is chosen anew only where the counter changes (after the Stellar Consensus Protocol draft; the
-/// cap is this host's profile). `ballot` is the node's. An error says that memory is short, and the
-/// votes handed over are dropped.
-#[tactic(auto, unfolding(protocol::specs::Passes::raise, protocol::specs::Passes::raised_counter))]
+/// cap is this host's profile). Without a ballot nothing changes.
+#[tactic(auto, unfolding(protocol::specs::Passes::raise))]
 pub fn raise<S: Sight>(
     alloc: Global,
     sight: &S,
     given: &Given,
-    ballot: &Ballot,
-    votes: Votes,
-) -> Result<Votes, AllocError>
-    ensures { IfOk result (λ w. w ≡ raise (S.seen sight.now) given.now ballot.now votes) }
+    draft: &mut Draft<'_>,
+) -> Result<(), AllocError>
+    ensures { OnOk result (draft.new ≡ after (on_ballot (raise (S.seen sight.now) given.now)) draft.old) }
 {
-    let position = own_position(&votes)?;
+    let votes = draft.votes();
+    let Some(ballot) = &votes.ballot else {
+        return Ok(());
+    };
+    let counter = counter_after_raise(alloc, sight, given, votes, ballot)?;
+    if counter == ballot.counter {
+        return Ok(());
+    }
+    let higher = ballot_at_counter(votes, ballot, counter).try_copy()?;
+    draft.set_ballot(higher)
+}
+
+/// The counter to which the ballot is raised. `ballot` is the node's.
+#[tactic(auto, unfolding(protocol::specs::Passes::raised_counter))]
+fn counter_after_raise<S: Sight>(
+    alloc: Global,
+    sight: &S,
+    given: &Given,
+    votes: &Votes,
+    ballot: &Ballot,
+) -> Result<u32, AllocError>
+    ensures { IfOk result (λ n. n ≡ raised_counter (S.seen sight.now) given.now ballot.now votes.now) }
+{
+    let position = own_position(votes)?;
     let most = cap(given.fired);
-    let counter = raised_counter(alloc, sight, &position, ballot.counter, most)?;
-    let raised = raised(&votes, ballot, counter).try_copy()?;
-    Ok(Votes {
-        ballot: Some(raised),
-        ..votes
-    })
+    let counter = counter_to_raise_to(alloc, sight, &position, ballot.counter, most)?;
+    Ok(counter)
 }
 
 /// The lowest counter from this one on at which those with greater counters do not block, at most the
 /// cap, or this one where it is above the cap. Between counters that appear nobody's answer changes, so
 /// only those are tried.
-fn raised_counter<S: Sight>(
+fn counter_to_raise_to<S: Sight>(
     alloc: Global,
     sight: &S,
     position: &Option<Statement>,
@@ -98,27 +118,40 @@ fn next_counter<S: Sight>(sight: &S, position: &Option<Statement>, above: u32) -
 }
 
 /// Arms the ballot timer for the ballot's counter where all members of some quorum that contains the
-/// node have counters of at least that (after the Stellar Consensus Protocol draft). `ballot` is the
-/// node's. An error says that memory is short, and the votes handed over are dropped.
+/// node have counters of at least that (after the Stellar Consensus Protocol draft). Without a ballot
+/// nothing changes, and no quorum is searched for where the timer was last armed for that counter.
 #[tactic(auto, unfolding(protocol::specs::Passes::arm))]
-pub fn arm<S: Sight>(
+pub fn arm<S: Sight>(alloc: Global, sight: &S, draft: &mut Draft<'_>) -> Result<(), AllocError>
+    ensures { OnOk result (draft.new ≡ after (on_ballot (arm (S.seen sight.now))) draft.old) }
+{
+    let votes = draft.votes();
+    let Some(ballot) = &votes.ballot else {
+        return Ok(());
+    };
+    let counter = ballot.counter;
+    if counter == votes.armed {
+        return Ok(());
+    }
+    if is_quorum_at(alloc, sight, votes, counter)? {
+        draft.set_armed(counter)
+    } else {
+        Ok(())
+    }
+}
+
+/// Whether all members of some quorum that contains the node have counters from this one on.
+fn is_quorum_at<S: Sight>(
     alloc: Global,
     sight: &S,
-    ballot: &Ballot,
-    votes: Votes,
-) -> Result<Votes, AllocError>
-    ensures { IfOk result (λ w. w ≡ arm (S.seen sight.now) ballot.now votes) }
+    votes: &Votes,
+    least: u32,
+) -> Result<bool, AllocError>
+    ensures { IfOk result (λ b. b ≡ (S.seen sight.now).quorum Kind.Ballot (passes (counts least) (position votes.now)) (counts least)) }
 {
-    let question = Question::HasCounter(ballot.counter);
-    let own_passes = own_position(&votes)?.passes(&question);
-    if sight.quorum(alloc, own_passes, &question)? {
-        Ok(Votes {
-            armed: ballot.counter,
-            ..votes
-        })
-    } else {
-        Ok(votes)
-    }
+    let question = Question::HasCounter(least);
+    let own_passes = own_position(votes)?.passes(&question);
+    let is_quorum = sight.quorum(alloc, own_passes, &question)?;
+    Ok(is_quorum)
 }
 
 /// The node's ballot at this counter; its value is chosen anew only where that is another counter: in
@@ -126,19 +159,19 @@ pub fn arm<S: Sight>(
 /// else that of the highest accepted ballot, else its own; in the other phases the value stays (after
 /// the Stellar Consensus Protocol draft; the combination is this host's profile). It takes no memory.
 #[tactic(auto, unfolding(protocol::specs::Passes::raised))]
-pub fn raised<'a>(votes: &'a Votes, ballot: &'a Ballot, counter: u32) -> LentBallot<'a>
+pub fn ballot_at_counter<'a>(votes: &'a Votes, ballot: &'a Ballot, counter: u32) -> LentBallot<'a>
     ensures { result ≡ raised votes.now ballot.now counter }
 {
     if counter == ballot.counter {
         LentBallot::of(ballot)
     } else {
-        LentBallot::at(counter, raised_value(votes, &ballot.value))
+        LentBallot::at(counter, value_once_raised(votes, &ballot.value))
     }
 }
 
 /// The value of a raised ballot that has this one.
 #[tactic(auto, unfolding(protocol::specs::Passes::raised_value))]
-fn raised_value<'a>(votes: &'a Votes, value: &'a Value) -> &'a Value
+fn value_once_raised<'a>(votes: &'a Votes, value: &'a Value) -> &'a Value
     ensures { result.now ≡ raised_value votes.now.phase votes.now value.now }
 {
     match votes.phase {

@@ -2,7 +2,8 @@
 //!
 //! Where a function here answers an error, memory is short.
 
-ghost use Rattle.std.specs.Prelude.{◌≡◌, IfOk, None, filter};
+ghost use Rattle.std.specs.Prelude.{◌≡◌, IfOk, None, OnOk, filter};
+ghost use Rattle.drafts.specs.Drafted.{after};
 ghost use Rattle.protocol.specs.Candidates.{combine, greatest, named};
 ghost use Rattle.protocol.specs.Balloting.{is_accepted, start, started};
 
@@ -11,41 +12,47 @@ use crate::counters::combine;
 use crate::named::Named;
 use crate::positions::own_position;
 use crate::search::greatest_of;
+use drafts::Draft;
 use fedvote::Sight;
 use std::alloc::{AllocError, Global};
 use types::{Ballot, Votes};
 
 /// Sets the first ballot where there is none: counter 1 with the combined confirmed value; where no
 /// value is confirmed, the greatest named ballot whose prepare is accepted, with its counter (the
-/// latter is this host's profile). An error says that memory is short, and the votes handed over are
-/// dropped.
+/// latter is this host's profile).
 #[tactic(auto, unfolding(protocol::specs::Balloting::start))]
-pub fn start<S: Sight>(alloc: Global, sight: &S, votes: Votes) -> Result<Votes, AllocError>
-    ensures { IfOk result (λ w. w ≡ start (S.seen sight.now) votes) }
+pub fn start<S: Sight>(alloc: Global, sight: &S, draft: &mut Draft<'_>) -> Result<(), AllocError>
+    ensures { OnOk result (draft.new ≡ after (start (S.seen sight.now)) draft.old) }
 {
-    match votes.ballot {
-        None => started(alloc, sight, votes),
-        Some(_) => Ok(votes),
+    if draft.votes().ballot.is_some() {
+        return Ok(());
+    }
+    match first_ballot(alloc, sight, draft.votes())? {
+        None => Ok(()),
+        Some(ballot) => draft.set_ballot(ballot),
     }
 }
 
-/// Sets the ballot.
+/// The first ballot, where there may be one.
 #[tactic(auto, unfolding(protocol::specs::Balloting::started))]
-fn started<S: Sight>(alloc: Global, sight: &S, votes: Votes) -> Result<Votes, AllocError>
-    ensures { IfOk result (λ w. w ≡ started (S.seen sight.now) votes (combine votes.confirms)) }
+fn first_ballot<S: Sight>(
+    alloc: Global,
+    sight: &S,
+    votes: &Votes,
+) -> Result<Option<Ballot>, AllocError>
+    ensures { IfOk result (λ o. record votes.now { ballot = o } ≡ started (S.seen sight.now) votes.now (combine votes.now.confirms)) }
 {
-    let ballot = match combine(&votes.confirms) {
-        None => greatest_accepted(alloc, sight, &votes)?,
-        Some(value) => Some(Ballot {
+    match combine(&votes.confirms) {
+        None => greatest_with_prepare_accepted(alloc, sight, votes),
+        Some(value) => Ok(Some(Ballot {
             counter: 1,
             value: value.try_copy()?,
-        }),
-    };
-    Ok(Votes { ballot, ..votes })
+        })),
+    }
 }
 
 /// The greatest named ballot whose prepare is accepted.
-fn greatest_accepted<S: Sight>(
+fn greatest_with_prepare_accepted<S: Sight>(
     alloc: Global,
     sight: &S,
     votes: &Votes,
@@ -55,5 +62,5 @@ fn greatest_accepted<S: Sight>(
     let own = own_position(votes)?;
     let named = Named { sight, own: &own };
     let check = PrepareAccepted { sight, own: &own };
-    greatest_of(alloc, &named, &check, &None)
+    greatest_of(alloc, &named, &check)
 }

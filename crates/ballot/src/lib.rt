@@ -1,7 +1,8 @@
 //! Balloting: by which rules a ballot is begun, prepared, committed and externalized, and how its
 //! counter rises (after the Stellar Consensus Protocol draft).
 //!
-//! Each rule is one function of what the node sees and of its votes, and gives the votes after it.
+//! Each rule is one function of what the node sees and of its votes, which it changes in a [`drafts::Draft`]. Where
+//! one answers an error, memory is short, and the node's own votes are as they were.
 #![tactic(auto)]
 
 mod checks;
@@ -17,7 +18,7 @@ mod search;
 mod sent;
 
 pub use committed::{accept_commit, confirm_commit};
-pub use counters::{arm, raise, raised};
+pub use counters::{arm, ballot_at_counter, raise};
 pub use first::start;
 pub use positions::{counter_of, position};
 pub use prepared::{accept_prepared, confirm_prepared};

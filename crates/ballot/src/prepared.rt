@@ -1,59 +1,77 @@
 //! What is accepted and confirmed as prepared.
 
-ghost use Rattle.std.specs.Prelude.{◌≡◌, ◌+◌, IfOk, None, false, if◌then◌else◌};
+ghost use Rattle.std.specs.Option.{option_or};
+ghost use Rattle.std.specs.Prelude.{◌≡◌, ◌+◌, ◌&&◌, IfOk, None, OnOk, Some, false, filter, if◌then◌else◌, is_some};
 ghost use Rattle.std.specs.Ordering.{is_lt};
 ghost use Rattle.types.specs.Orders.{bytes_cmp};
 ghost use Rattle.types.specs.Votes.{same_value};
+ghost use Rattle.drafts.specs.Drafted.{after};
+ghost use Rattle.protocol.specs.Candidates.{greatest, named};
 ghost use Rattle.protocol.specs.States.{Under, below};
-ghost use Rattle.protocol.specs.Balloting.{aborted_by, accept_prepared, at_least, chosen, cleared, confirm_prepared, follow_high, is_aborted, is_overtaken, raise_high, set_commit};
+ghost use Rattle.protocol.specs.Balloting.{aborted_by, accept_prepared, chosen, cleared, confirm_prepared, follow_high, is_aborted, is_accepted, is_confirmed, is_overtaken, may_be_prepared, raise_high, set_commit};
+ghost use Rattle.protocol.specs.Passes.{in_prepare, on_ballot};
 
 use crate::checks::{MayBePrepared, PrepareAccepted, PrepareConfirmed};
 use crate::named::Named;
 use crate::positions::{high_counter, own_position};
-use crate::search::greatest_of;
+use crate::search::greatest_above;
+use drafts::Draft;
 use fedvote::Sight;
 use std::alloc::{AllocError, Global};
-use types::{Ballot, LentBallot, Votes};
+use types::{Ballot, LentBallot, Phase, Votes};
 
 /// Accepts as prepared the greatest of the highest accepted ballot and the named ballots whose prepare
 /// is accepted; in [`types::Phase::Committing`] only those of the ballot's value count. Where the
 /// highest accepted ballot goes to another value, lower ballots are aborted (after the Stellar
-/// Consensus Protocol draft; the aborted counter is this host's profile). `ballot` is the node's. An
-/// error says that memory is short, and the votes handed over are dropped.
-#[tactic(auto, unfolding(protocol::specs::Balloting::accept_prepared))]
-pub fn accept_prepared<'a, S: Sight>(
+/// Consensus Protocol draft; the aborted counter is this host's profile). Without a ballot nothing
+/// changes.
+pub fn accept_prepared<S: Sight>(
+    alloc: Global,
+    sight: &S,
+    draft: &mut Draft<'_>,
+) -> Result<(), AllocError>
+    ensures { OnOk result (draft.new ≡ after (on_ballot (accept_prepared (S.seen sight.now))) draft.old) }
+{
+    let votes = draft.votes();
+    let Some(ballot) = &votes.ballot else {
+        return Ok(());
+    };
+    let Some(prepared) = higher_prepared(alloc, sight, votes, ballot)? else {
+        return Ok(());
+    };
+    let aborted = aborted_by(&votes.prepared, &prepared, votes.aborted);
+    draft.set_prepared(prepared)?;
+    draft.set_aborted(aborted)
+}
+
+/// The highest accepted ballot, where it is above the one that was. `ballot` is the node's.
+fn higher_prepared<'a, S: Sight>(
     alloc: Global,
     sight: &'a S,
+    votes: &'a Votes,
     ballot: &'a Ballot,
-    votes: Votes,
-) -> Result<Votes, AllocError>
-    ensures { IfOk result (λ w. w ≡ accept_prepared (S.seen sight.now) ballot.now votes) }
+) -> Result<Option<Ballot>, AllocError>
+    ensures { IfOk result (λ o. option_or o votes.now.prepared ≡ greatest votes.now.prepared (filter (λ t. may_be_prepared votes.now.phase ballot.now.value t && is_accepted (S.seen sight.now) votes.now t) (named (S.seen sight.now) votes.now))) }
 {
-    let own = own_position(&votes)?;
+    let own = own_position(votes)?;
     let named = Named { sight, own: &own };
     let check = MayBePrepared {
         accepted: PrepareAccepted { sight, own: &own },
         phase: votes.phase,
         value: &ballot.value,
     };
-    let prepared = greatest_of(alloc, &named, &check, &votes.prepared)?;
-    let aborted = aborted_by(&votes.prepared, &prepared, votes.aborted);
-    Ok(Votes {
-        prepared,
-        aborted,
-        ..votes
-    })
+    greatest_above(alloc, &named, &check, &votes.prepared)
 }
 
 /// The aborted counter once the highest accepted ballot is the second of these: where its value is
 /// another than before, the first ballot's counter or one more, but never less than the counter was.
 #[tactic(auto, unfolding(protocol::specs::Balloting::aborted_by))]
-fn aborted_by(old: &Option<Ballot>, new: &Option<Ballot>, aborted: u32) -> u32
-    requires { Under old.now new.now }
-    ensures { result ≡ aborted_by old.now new.now aborted }
+fn aborted_by(old: &Option<Ballot>, new: &Ballot, aborted: u32) -> u32
+    requires { Under old.now (Some new.now) }
+    ensures { result ≡ aborted_by old.now (Some new.now) aborted }
 {
-    match (old, new) {
-        (Some(old), Some(new)) if old.value != new.value => aborted.max(first_kept(old, new)),
+    match old {
+        Some(old) if old.value != new.value => aborted.max(first_kept(old, new)),
         _ => aborted,
     }
 }
@@ -77,92 +95,114 @@ fn first_kept(old: &Ballot, new: &Ballot) -> u32
 
 /// Confirms as prepared: the highest confirmed ballot, the ballot, which follows it, and the ballot
 /// whose commit is voted for, in this order; for [`types::Phase::Preparing`] (after the Stellar
-/// Consensus Protocol draft; that the ballot follows is this host's profile). `ballot` is the node's.
-/// An error says that memory is short, and the votes handed over are dropped.
-#[tactic(auto, unfolding(protocol::specs::Balloting::confirm_prepared))]
+/// Consensus Protocol draft; that the ballot follows is this host's profile). Without a ballot nothing
+/// changes.
+#[tactic(auto, unfolding(protocol::specs::Balloting::confirm_prepared, protocol::specs::Balloting::raise_high))]
 pub fn confirm_prepared<S: Sight>(
     alloc: Global,
     sight: &S,
-    ballot: &Ballot,
-    votes: Votes,
-) -> Result<Votes, AllocError>
-    ensures { IfOk result (λ w. w ≡ confirm_prepared (S.seen sight.now) ballot.now votes) }
+    draft: &mut Draft<'_>,
+) -> Result<(), AllocError>
+    ensures { OnOk result (draft.new ≡ after (in_prepare (on_ballot (confirm_prepared (S.seen sight.now)))) draft.old) }
 {
-    let votes = raise_high(alloc, sight, votes)?;
-    let votes = follow_high(ballot, votes)?;
-    set_commit(votes)
+    match draft.votes().phase {
+        Phase::Preparing => confirm_on_ballot(alloc, sight, draft),
+        Phase::Committing | Phase::Externalized => Ok(()),
+    }
+}
+
+/// The same in [`types::Phase::Preparing`].
+#[tactic(auto, unfolding(protocol::specs::Balloting::confirm_prepared, protocol::specs::Balloting::raise_high))]
+fn confirm_on_ballot<S: Sight>(
+    alloc: Global,
+    sight: &S,
+    draft: &mut Draft<'_>,
+) -> Result<(), AllocError>
+    ensures { OnOk result (draft.new ≡ after (on_ballot (confirm_prepared (S.seen sight.now))) draft.old) }
+{
+    let Some(_) = &draft.votes().ballot else {
+        return Ok(());
+    };
+    raise_high(alloc, sight, draft)?;
+    follow_high(draft)?;
+    set_commit(draft)
 }
 
 /// The highest confirmed ballot becomes the greatest of itself and the named ballots whose prepare is
-/// confirmed. An error says that memory is short.
+/// confirmed.
 #[tactic(auto, unfolding(protocol::specs::Balloting::raise_high))]
-fn raise_high<S: Sight>(alloc: Global, sight: &S, votes: Votes) -> Result<Votes, AllocError>
-    ensures { IfOk result (λ w. w ≡ raise_high (S.seen sight.now) votes) }
+fn raise_high<S: Sight>(alloc: Global, sight: &S, draft: &mut Draft<'_>) -> Result<(), AllocError>
+    ensures { OnOk result (draft.new ≡ after (raise_high (S.seen sight.now)) draft.old) }
 {
-    let own = own_position(&votes)?;
+    match higher_confirmed(alloc, sight, draft.votes())? {
+        None => Ok(()),
+        Some(high) => draft.set_high(high),
+    }
+}
+
+/// The highest confirmed ballot, where it is above the one that was.
+fn higher_confirmed<'a, S: Sight>(
+    alloc: Global,
+    sight: &'a S,
+    votes: &'a Votes,
+) -> Result<Option<Ballot>, AllocError>
+    ensures { IfOk result (λ o. option_or o votes.now.high ≡ greatest votes.now.high (filter (is_confirmed (S.seen sight.now) votes.now) (named (S.seen sight.now) votes.now))) }
+{
+    let own = own_position(votes)?;
     let named = Named { sight, own: &own };
     let check = PrepareConfirmed { sight, own: &own };
-    let high = greatest_of(alloc, &named, &check, &votes.high)?;
-    Ok(Votes { high, ..votes })
+    greatest_above(alloc, &named, &check, &votes.high)
 }
 
 /// The ballot becomes the highest confirmed one where that is above it.
-#[tactic(auto, unfolding(protocol::specs::Balloting::follow_high))]
-fn follow_high(ballot: &Ballot, votes: Votes) -> Result<Votes, AllocError>
-    ensures { IfOk result (λ w. w ≡ follow_high ballot.now votes) }
+fn follow_high(draft: &mut Draft<'_>) -> Result<(), AllocError>
+    ensures { OnOk result (draft.new ≡ after (on_ballot follow_high) draft.old) }
 {
-    let ballot = Some(at_least(&votes.high, ballot)?);
-    Ok(Votes { ballot, ..votes })
+    match high_above_ballot(draft.votes())? {
+        None => Ok(()),
+        Some(high) => draft.set_ballot(high),
+    }
 }
 
-/// The ballot, or the highest confirmed one where that is above it.
-fn at_least(high: &Option<Ballot>, ballot: &Ballot) -> Result<Ballot, AllocError>
-    ensures { IfOk result (λ b. b ≡ at_least high.now ballot.now) }
+/// The highest confirmed ballot, where it is above the ballot.
+#[tactic(auto, unfolding(protocol::specs::Balloting::follow_high))]
+fn high_above_ballot(votes: &Votes) -> Result<Option<Ballot>, AllocError>
+    ensures { IfOk result (λ o. record votes.now { ballot = option_or o votes.now.ballot } ≡ on_ballot follow_high votes.now) }
 {
-    match high {
-        None => ballot.try_copy(),
-        Some(high) => {
-            if *ballot < *high {
-                high.try_copy()
-            } else {
-                ballot.try_copy()
-            }
-        }
+    match (&votes.ballot, &votes.high) {
+        (Some(ballot), Some(high)) if *ballot < *high => Ok(Some(high.try_copy()?)),
+        _ => Ok(None),
     }
 }
 
 /// The ballot whose commit is voted for is reset where it is aborted; where there is none, it becomes
 /// the ballot once that is confirmed as prepared and is not aborted.
 #[tactic(auto, unfolding(protocol::specs::Balloting::set_commit))]
-fn set_commit(votes: Votes) -> Result<Votes, AllocError>
-    ensures { IfOk result (λ w. w ≡ set_commit votes) }
+fn set_commit(draft: &mut Draft<'_>) -> Result<(), AllocError>
+    ensures { OnOk result (draft.new ≡ after set_commit draft.old) }
 {
-    let commit = match cleared(&votes)? {
-        Some(commit) => Some(commit),
-        None => chosen(&votes)?,
-    };
-    Ok(Votes { commit, ..votes })
+    if keeps_commit(draft.votes()) {
+        return Ok(());
+    }
+    match ballot_to_commit(draft.votes())? {
+        None => reset_commit(draft),
+        Some(ballot) => draft.set_commit(Some(ballot)),
+    }
 }
 
-/// The ballot whose commit is voted for, unless it is aborted.
-fn cleared(votes: &Votes) -> Result<Option<Ballot>, AllocError>
-    ensures { IfOk result (λ o. o ≡ cleared votes.now votes.now.commit) }
+/// Whether there is a ballot whose commit is voted for, and it is not aborted.
+fn keeps_commit(votes: &Votes) -> bool
+    ensures { result ≡ is_some (cleared votes.now votes.now.commit) }
 {
     match &votes.commit {
-        None => Ok(None),
-        Some(commit) => {
-            if is_aborted(votes, &LentBallot::of(commit)) {
-                Ok(None)
-            } else {
-                Ok(Some(commit.try_copy()?))
-            }
-        }
+        None => false,
+        Some(commit) => !is_aborted(votes, &LentBallot::of(commit)),
     }
 }
 
 /// The ballot whose commit is to be voted for where there is none: the node's, once it is confirmed as
 /// prepared and is not aborted.
-fn chosen(votes: &Votes) -> Result<Option<Ballot>, AllocError>
+fn ballot_to_commit(votes: &Votes) -> Result<Option<Ballot>, AllocError>
     ensures { IfOk result (λ o. o ≡ chosen votes.now votes.now.ballot None) }
 {
     match &votes.ballot {
@@ -176,6 +216,16 @@ fn chosen(votes: &Votes) -> Result<Option<Ballot>, AllocError>
                 Ok(None)
             }
         }
+    }
+}
+
+/// Commit is voted for no longer.
+fn reset_commit(draft: &mut Draft<'_>) -> Result<(), AllocError>
+    ensures { OnOk result (draft.new ≡ after (λ w. record w { commit = None }) draft.old) }
+{
+    match draft.votes().commit {
+        None => Ok(()),
+        Some(_) => draft.set_commit(None),
     }
 }
 

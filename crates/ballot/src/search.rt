@@ -2,14 +2,15 @@
 //!
 //! Where a function here answers an error, memory is short.
 
-ghost use Rattle.std.specs.Prelude.{◌≡◌, Bool, IfOk, List, filter};
+ghost use Rattle.std.specs.Option.{option_or};
+ghost use Rattle.std.specs.Prelude.{◌≡◌, Bool, IfOk, List, None, filter};
 ghost use Rattle.types.specs.declared.ballot.Ballot.{Ballot};
 ghost use Rattle.protocol.specs.States.{above};
 ghost use Rattle.protocol.specs.Candidates.{greatest};
 ghost use Rattle.fedvote.specs.Searching.{next_under};
 
 use std::alloc::{AllocError, Global};
-use types::{Ballot, LentBallot, copy_of};
+use types::{Ballot, LentBallot};
 
 /// Ballots among which a rule chooses; `listed` is what contracts speak of, in no order.
 pub(crate) trait Candidates {
@@ -29,25 +30,35 @@ pub(crate) trait Check {
         ensures { IfOk result (λ b. b ≡ holds self.now candidate.now) };
 }
 
-/// The greatest of the candidates that pass and of the ballot that is there, if one is. None is tried that is
-/// not above that ballot, nor any below the first that passes.
+/// The greatest of the candidates that pass.
+#[tactic(auto, using(crate::proofs::SearchLaws::found_alone))]
 pub(crate) fn greatest_of<C: Candidates, T: Check>(
+    alloc: Global,
+    candidates: &C,
+    test: &T,
+) -> Result<Option<Ballot>, AllocError>
+    ensures { IfOk result (λ r. r ≡ greatest None (filter (T.holds test.now) (C.listed candidates.now))) }
+{
+    greatest_above(alloc, candidates, test, &None)
+}
+
+/// The greatest of the candidates that pass and are above the ballot that is there, if one is; `None` where there
+/// is no such candidate. None is tried that is not above that ballot, nor any below the first that passes.
+pub(crate) fn greatest_above<C: Candidates, T: Check>(
     alloc: Global,
     candidates: &C,
     test: &T,
     there: &Option<Ballot>,
 ) -> Result<Option<Ballot>, AllocError>
-    ensures { IfOk result (λ r. r ≡ greatest there.now (filter (T.holds test.now) (C.listed candidates.now))) }
+    ensures { IfOk result (λ r. option_or r there.now ≡ greatest there.now (filter (T.holds test.now) (C.listed candidates.now))) }
 {
     let mut bound = None;
     loop {
         let Some(next) = candidates.next(&bound) else {
-            let kept = copy_of(there)?;
-            return Ok(kept);
+            return Ok(None);
         };
         if !is_above(there, &next) {
-            let kept = copy_of(there)?;
-            return Ok(kept);
+            return Ok(None);
         }
         if test.check(alloc, &next)? {
             let found = next.try_copy()?;

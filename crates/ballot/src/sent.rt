@@ -1,6 +1,6 @@
 //! What a node sends of its position in balloting.
 
-ghost use Rattle.std.specs.Prelude.{◌≡◌, min, option_map};
+ghost use Rattle.std.specs.Prelude.{◌≡◌, option_map};
 ghost use Rattle.types.specs.declared.state.Phase.{Phase};
 ghost use Rattle.protocol.specs.States.{lowered, sent_in, sent_vote};
 
@@ -29,8 +29,8 @@ pub fn sent_vote<'a>(votes: &'a Votes) -> Option<LentStatement<'a>>
 fn sent_prepare<'a>(votes: &'a Votes, ballot: &'a Ballot) -> LentStatement<'a>
     ensures { result ≡ sent_in Phase.Preparing votes.now ballot.now }
 {
-    let prepared = lowered_prepared(ballot, &votes.prepared);
-    let aborted_counter = held(votes.aborted, ballot);
+    let prepared = highest_accepted(ballot, &votes.prepared);
+    let aborted_counter = votes.aborted.min(ballot.counter);
     let high_counter = high_counter(votes, ballot);
     let commit_counter = commit_counter(votes, ballot);
     LentStatement::prepare(
@@ -40,27 +40,20 @@ fn sent_prepare<'a>(votes: &'a Votes, ballot: &'a Ballot) -> LentStatement<'a>
     )
 }
 
-/// A counter, or the ballot's where that is lower.
-fn held(counter: u32, ballot: &Ballot) -> u32
-    ensures { result ≡ min counter ballot.now.counter }
-{
-    counter.min(ballot.counter)
-}
-
 /// The highest accepted ballot, where there is one, as it is sent.
-fn lowered_prepared<'a>(ballot: &Ballot, prepared: &'a Option<Ballot>) -> Option<LentBallot<'a>>
+fn highest_accepted<'a>(ballot: &Ballot, prepared: &'a Option<Ballot>) -> Option<LentBallot<'a>>
     ensures { result ≡ option_map (lowered ballot.now) prepared.now }
 {
     match prepared {
         None => None,
-        Some(prepared) => Some(lowered(ballot, prepared)),
+        Some(prepared) => Some(prepared_as_sent(ballot, prepared)),
     }
 }
 
 /// The highest accepted ballot as it is sent: where it is above the ballot, the greatest of its value
 /// that is not. At counter 0 there may be none, and then it stays above.
 #[tactic(auto, unfolding(protocol::specs::States::lowered))]
-fn lowered<'a>(ballot: &Ballot, prepared: &'a Ballot) -> LentBallot<'a>
+fn prepared_as_sent<'a>(ballot: &Ballot, prepared: &'a Ballot) -> LentBallot<'a>
     ensures { result ≡ lowered ballot.now prepared.now }
 {
     if *ballot < *prepared {

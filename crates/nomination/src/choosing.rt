@@ -2,7 +2,7 @@
 //!
 //! Where a function here answers an error, memory is short.
 
-ghost use Rattle.std.specs.Prelude.{◌≡◌, List, ℕ, Bool, not, IfOk, filter, take};
+ghost use Rattle.std.specs.Prelude.{◌≡◌, List, ℕ, Bool, not, IfOk, filter, take, unwrap_or};
 ghost use Rattle.types.specs.Votes.{has_value};
 ghost use Rattle.protocol.specs.Candidates.{all_with};
 
@@ -70,18 +70,18 @@ pub fn with_all(set: Values, values: &[Value]) -> Result<Values, AllocError>
     Ok(set)
 }
 
-/// A set with these values too; where there are none it is the same set, and takes no memory. An error says that
-/// memory is short, and the set handed over is dropped.
-pub fn joined(
+/// The set with these values too; `None` where there are none, which takes no memory.
+pub fn larger_set(
     alloc: Global,
-    set: SharedValues,
+    set: &SharedValues,
     values: &[Value],
-) -> Result<SharedValues, AllocError>
-    ensures { IfOk result (λ s. s ≡ all_with values.now set) }
+) -> Result<Option<SharedValues>, AllocError>
+    ensures { IfOk result (λ o. unwrap_or o set.now ≡ all_with values.now set.now) }
 {
     if values.is_empty() {
-        return Ok(set);
+        return Ok(None);
     }
     let own = set.to_values(alloc)?;
-    SharedValues::new(alloc, with_all(own, values)?)
+    let larger = SharedValues::new(alloc, with_all(own, values)?)?;
+    Ok(Some(larger))
 }

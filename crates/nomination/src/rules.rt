@@ -2,85 +2,110 @@
 //!
 //! Where a function here answers an error, memory is short.
 
-ghost use Rattle.std.specs.Prelude.{◌≡◌, ◌-◌, ◌++◌, IfOk, flat_map, length, option_map, option_to_list};
+ghost use Rattle.std.specs.Prelude.{◌≡◌, ◌-◌, ◌++◌, IfOk, OnOk, flat_map, length, option_map, option_to_list, unwrap_or};
+ghost use Rattle.drafts.specs.Drafted.{after};
 ghost use Rattle.types.specs.Nominations.{most_nominated};
 ghost use Rattle.types.specs.declared.kind.Kind.{Kind};
 ghost use Rattle.protocol.specs.Candidates.{all_with, as_set, values_by};
 ghost use Rattle.protocol.specs.Sets.{among};
 ghost use Rattle.protocol.specs.Nominating.{accept_values, confirm_values, echo, nominate, own_input};
 
-use crate::choosing::{IsNew, choose, joined, with_all};
+use crate::choosing::{IsNew, choose, larger_set, with_all};
 use crate::voting::{IsConfirmed, IsNewlyAccepted};
+use drafts::Draft;
 use fedvote::Sight;
 use std::alloc::{AllocError, Global};
 use types::{Given, MAX_NOMINATED, NodeId, SharedValues, Value, Values, Votes};
 
 /// The rules of nomination, in order, each with what the one before it made; while no ballot is
 /// confirmed as prepared (after the Stellar Consensus Protocol draft). An error says that memory is
-/// short, and the votes handed over are dropped.
+/// short.
 #[tactic(auto, unfolding(protocol::specs::Nominating::nominate))]
 pub fn nominate<S: Sight>(
     alloc: Global,
     own: &NodeId,
     sight: &S,
     given: &Given,
-    votes: Votes,
-) -> Result<Votes, AllocError>
-    ensures { IfOk result (λ w. w ≡ nominate own.now (S.seen sight.now) given.now votes) }
+    draft: &mut Draft<'_>,
+) -> Result<(), AllocError>
+    ensures { OnOk result (draft.new ≡ after (nominate own.now (S.seen sight.now) given.now) draft.old) }
 {
-    match votes.high {
-        Some(_) => Ok(votes),
-        None => {
-            let votes = echo(alloc, own, sight, given, votes)?;
-            let votes = accept_values(alloc, sight, votes)?;
-            confirm_values(alloc, sight, votes)
-        }
+    if draft.votes().high.is_some() {
+        return Ok(());
     }
+    echo(alloc, own, sight, given, draft)?;
+    accept_values(alloc, sight, draft)?;
+    confirm_values(alloc, sight, draft)
 }
 
 /// Echo: from round 1 on, while nothing is confirmed, the node votes for each value that its leaders
-/// propose, as far as there is room (after the Stellar Consensus Protocol draft). An error says that
-/// memory is short, and the votes handed over are dropped.
-#[tactic(auto, unfolding(protocol::specs::Nominating::echo, protocol::specs::Candidates::filled))]
-pub(crate) fn echo<S: Sight>(
+/// propose, as far as there is room (after the Stellar Consensus Protocol draft).
+fn echo<S: Sight>(
     alloc: Global,
     own: &NodeId,
     sight: &S,
     given: &Given,
-    votes: Votes,
-) -> Result<Votes, AllocError>
-    ensures { IfOk result (λ w. w ≡ echo own.now (S.seen sight.now) given.now votes) }
+    draft: &mut Draft<'_>,
+) -> Result<(), AllocError>
+    ensures { OnOk result (draft.new ≡ after (echo own.now (S.seen sight.now) given.now) draft.old) }
+{
+    match values_to_vote_for(alloc, own, sight, given, draft.votes())? {
+        None => Ok(()),
+        Some(voted) => draft.set_voted(voted),
+    }
+}
+
+/// The values that the node votes for by its leaders, with those that it voted for; `None` where these are all.
+#[tactic(auto, unfolding(protocol::specs::Nominating::echo, protocol::specs::Candidates::filled))]
+fn values_to_vote_for<S: Sight>(
+    alloc: Global,
+    own: &NodeId,
+    sight: &S,
+    given: &Given,
+    votes: &Votes,
+) -> Result<Option<SharedValues>, AllocError>
+    ensures { IfOk result (λ o. record votes.now { voted = unwrap_or o votes.now.voted } ≡ echo own.now (S.seen sight.now) given.now votes.now) }
 {
     if given.round == 0 || !votes.confirms.as_slice().is_empty() {
-        return Ok(votes);
+        return Ok(None);
     }
     let proposed = proposed_values(alloc, own, sight, given)?;
     let is_new = IsNew { set: &votes.voted };
     let new = choose(alloc, proposed.as_slice(), room_in(&votes.voted), &is_new)?;
-    let voted = joined(alloc, votes.voted, new.as_slice())?;
-    Ok(Votes { voted, ..votes })
+    let larger = larger_set(alloc, &votes.voted, new.as_slice())?;
+    Ok(larger)
 }
 
 /// Accept: the values of reached nominations and of the node itself that are accepted are added, as
-/// far as there is room (after the Stellar Consensus Protocol draft). An error says that memory is
-/// short, and the votes handed over are dropped.
-#[tactic(auto, unfolding(protocol::specs::Nominating::accept_values, protocol::specs::Candidates::filled))]
-pub(crate) fn accept_values<S: Sight>(
+/// far as there is room (after the Stellar Consensus Protocol draft).
+fn accept_values<S: Sight>(
     alloc: Global,
     sight: &S,
-    votes: Votes,
-) -> Result<Votes, AllocError>
-    ensures { IfOk result (λ w. w ≡ accept_values (S.seen sight.now) votes) }
+    draft: &mut Draft<'_>,
+) -> Result<(), AllocError>
+    ensures { OnOk result (draft.new ≡ after (accept_values (S.seen sight.now)) draft.old) }
 {
-    let candidates = candidates(alloc, sight, &votes)?;
-    let is_accepted = IsNewlyAccepted {
-        sight,
-        votes: &votes,
-    };
+    match values_to_accept(alloc, sight, draft.votes())? {
+        None => Ok(()),
+        Some(accepts) => draft.set_accepts(accepts),
+    }
+}
+
+/// The values that are accepted, with those that were; `None` where these are all.
+#[tactic(auto, unfolding(protocol::specs::Nominating::accept_values, protocol::specs::Candidates::filled))]
+fn values_to_accept<'a, S: Sight>(
+    alloc: Global,
+    sight: &'a S,
+    votes: &'a Votes,
+) -> Result<Option<SharedValues>, AllocError>
+    ensures { IfOk result (λ o. record votes.now { accepts = unwrap_or o votes.now.accepts } ≡ accept_values (S.seen sight.now) votes.now) }
+{
+    let candidates = candidates(alloc, sight, votes)?;
+    let is_accepted = IsNewlyAccepted { sight, votes };
     let room = room_in(&votes.accepts);
     let new = choose(alloc, candidates.as_slice(), room, &is_accepted)?;
-    let accepts = joined(alloc, votes.accepts, new.as_slice())?;
-    Ok(Votes { accepts, ..votes })
+    let larger = larger_set(alloc, &votes.accepts, new.as_slice())?;
+    Ok(larger)
 }
 
 /// The values of reached nominations and those that the node itself votes for, ascending.
@@ -92,23 +117,34 @@ fn candidates<S: Sight>(alloc: Global, sight: &S, votes: &Votes) -> Result<Value
 }
 
 /// Confirm: of the accepted values those that are confirmed are added (after the Stellar Consensus
-/// Protocol draft). An error says that memory is short, and the votes handed over are dropped.
-#[tactic(auto, unfolding(protocol::specs::Nominating::confirm_values))]
-pub(crate) fn confirm_values<S: Sight>(
+/// Protocol draft).
+fn confirm_values<S: Sight>(
     alloc: Global,
     sight: &S,
-    votes: Votes,
-) -> Result<Votes, AllocError>
-    ensures { IfOk result (λ w. w ≡ confirm_values (S.seen sight.now) votes) }
+    draft: &mut Draft<'_>,
+) -> Result<(), AllocError>
+    ensures { OnOk result (draft.new ≡ after (confirm_values (S.seen sight.now)) draft.old) }
 {
-    let is_confirmed = IsConfirmed {
-        sight,
-        votes: &votes,
-    };
+    match values_to_confirm(alloc, sight, draft.votes())? {
+        None => Ok(()),
+        Some(confirms) => draft.set_confirms(confirms),
+    }
+}
+
+/// The values that are confirmed, with those that were; `None` where these are all.
+#[tactic(auto, unfolding(protocol::specs::Nominating::confirm_values))]
+fn values_to_confirm<'a, S: Sight>(
+    alloc: Global,
+    sight: &'a S,
+    votes: &'a Votes,
+) -> Result<Option<SharedValues>, AllocError>
+    ensures { IfOk result (λ o. record votes.now { confirms = unwrap_or o votes.now.confirms } ≡ confirm_values (S.seen sight.now) votes.now) }
+{
+    let is_confirmed = IsConfirmed { sight, votes };
     let accepted = votes.accepts.as_slice();
     let new = choose(alloc, accepted, accepted.len(), &is_confirmed)?;
-    let confirms = joined(alloc, votes.confirms, new.as_slice())?;
-    Ok(Votes { confirms, ..votes })
+    let larger = larger_set(alloc, &votes.confirms, new.as_slice())?;
+    Ok(larger)
 }
 
 /// What the node's leaders propose, ascending: the values of their nominations, and the node's own input

@@ -1,6 +1,5 @@
 -- One of so many passes, as the loop makes it.
-use Rattle.std.proofs.Common.{◌≡◌, ℕ, zero, suc, ◌+◌, ◌-◌, ◌<◌, Bool, true, false, Option, Some, None, Result, Ok, Err, IfOk, if◌then◌else◌, refl, sym, ap, subst, ◌∙◌, inl, inr, arith}
-use Rattle.std.specs.Prelude.{IfSome}
+use Rattle.std.proofs.Common.{◌≡◌, ℕ, zero, suc, ◌+◌, ◌-◌, ◌<◌, Bool, true, false, Option, Some, None, if◌then◌else◌, refl, sym, ap, subst, ◌∙◌, inl, inr, arith}
 use Rattle.std.proofs.lemmas.Bool.{cases_Bool}
 use Rattle.types.specs.declared.state.Votes.{Votes}
 use Rattle.protocol.specs.Nodes.{settle}
@@ -29,17 +28,3 @@ settle-other i f w h other = elim (cases_Bool (same_votes (f w) w)) [
 pub settle-end : (f : Votes → Votes) (w : Votes) → settle (64 - 64) f w ≡ None
 unfolding settle
 settle-end f w = refl
-
--- where passes end one more changes nothing
-pub settled-calm : (n : ℕ) (f : Votes → Votes) (w : Votes) → IfSome (settle n f w) (λ u. f u ≡ u)
-unfolding settle
-settled-calm zero f w = tt
-settled-calm (suc n) f w = go (same_votes (f w) w) refl (settled-calm n f (f w))
-  where
-    go : (b : Bool) → same_votes (f w) w ≡ b → IfSome (settle n f (f w)) (λ u. f u ≡ u) → IfSome (if b then Some w else settle n f (f w)) (λ u. f u ≡ u)
-    go true e later = same_votes-true (f w) w e
-    go false e later = later
-
-pub calm-after : {E : Type 0} (n : ℕ) (f : Votes → Votes) (w : Votes) (r : Result (Option Votes) E) → IfOk r (λ o. o ≡ settle n f w) → IfOk r (λ o. IfSome o (λ u. f u ≡ u))
-calm-after n f w (Ok o) is = subst (λ (o : Option Votes). IfSome o (λ u. f u ≡ u)) (sym is) (settled-calm n f w)
-calm-after n f w (Err e) is = tt

@@ -1,5 +1,5 @@
 -- The votes after passes that begin with certain rules, as the code finds them.
-use Rattle.std.proofs.Common.{◌≡◌, ℕ, true, Option, Some, Result, IfOk, if◌then◌else◌, sym, ◌∙◌, ap, subst, inl, inr}
+use Rattle.std.proofs.Common.{◌≡◌, ℕ, true, Option, Some, Result, IfOk, if◌then◌else◌, refl, sym, ◌∙◌, ap, subst, inl, inr}
 use Rattle.std.proofs.lemmas.Bool.{cases_Bool}
 use Rattle.types.specs.declared.state.Given.{Given}
 use Rattle.types.specs.declared.state.Votes.{Votes}
@@ -43,21 +43,33 @@ confirms-more v s g w x y is other made =
     ∙ ap (settle_after s g w) (sym made))
 
 -- ---- by the rules that are stirred
-pub all-arm : {E : Type 0} (t : Stirred) (v : ℕ) (s : Seen) (g : Given) (w x : Votes) (r : Result (Option Votes) E) → t ≡ All → Stirs t v s g w → x ≡ part t v s g w → IfOk r (λ o. o ≡ settle_after s g w x) → IfOk r (λ o. o ≡ settle 64 (pass v s g) w)
+-- a first pass that changes nothing is the last
+pub no-arm : (t : Stirred) (v : ℕ) (s : Seen) (g : Given) (w : Votes) → Stirs t v s g w → part t v s g w ≡ w → settle 64 (pass v s g) w ≡ Some w
+unfolding settle_all settle_ballots
+no-arm All v s g w stirs e = sym stirs ∙ after-same s g w (pass v s g w) e ∙ ap {B = Option Votes} Some e
+no-arm Ballots v s g w stirs e = sym stirs ∙ after-same s g w (balloted_in s g w) e ∙ ap {B = Option Votes} Some e
+no-arm Nominations v s g w stirs e = sym stirs ∙ confirms-none v s g w w (sym e) refl
+
+pub all-arm : {E : Type 0} (t : Stirred) (v : ℕ) (s : Seen) (g : Given) (w x : Votes) (r : Result (Option Votes) E) → t ≡ All → Stirs t v s g w → (x ≡ part t v s g w) × (part t v s g w ≡ w → ⊥) → IfOk r (λ o. o ≡ settle 63 (balloted_in s g) x) → IfOk r (λ o. o ≡ settle 64 (pass v s g) w)
 unfolding settle_all
 all-arm t v s g w x r is stirs made done =
     let stirred : Stirs All v s g w = subst (λ u. Stirs u v s g w) is stirs in
-    let next : x ≡ pass v s g w = made ∙ ap (λ u. part u v s g w) is in
-    subst (λ (e : Option Votes). IfOk r (λ o. o ≡ e)) (ap (settle_after s g w) next ∙ stirred) done
+    let next : x ≡ pass v s g w = made.0 ∙ ap (λ u. part u v s g w) is in
+    let other : x ≡ w → ⊥ = λ e. made.1 (sym made.0 ∙ e) in
+    subst (λ (e : Option Votes). IfOk r (λ o. o ≡ e)) (sym (after-other s g w x other) ∙ ap (settle_after s g w) next ∙ stirred) done
 
-pub ballots-arm : {E : Type 0} (t : Stirred) (v : ℕ) (s : Seen) (g : Given) (w x : Votes) (r : Result (Option Votes) E) → t ≡ Ballots → Stirs t v s g w → x ≡ part t v s g w → IfOk r (λ o. o ≡ settle_after s g w x) → IfOk r (λ o. o ≡ settle 64 (pass v s g) w)
+pub ballots-arm : {E : Type 0} (t : Stirred) (v : ℕ) (s : Seen) (g : Given) (w x : Votes) (r : Result (Option Votes) E) → t ≡ Ballots → Stirs t v s g w → (x ≡ part t v s g w) × (part t v s g w ≡ w → ⊥) → IfOk r (λ o. o ≡ settle 63 (balloted_in s g) x) → IfOk r (λ o. o ≡ settle 64 (pass v s g) w)
 unfolding settle_ballots
 ballots-arm t v s g w x r is stirs made done =
     let stirred : Stirs Ballots v s g w = subst (λ u. Stirs u v s g w) is stirs in
-    let next : x ≡ balloted_in s g w = made ∙ ap (λ u. part u v s g w) is in
-    subst (λ (e : Option Votes). IfOk r (λ o. o ≡ e)) (ap (settle_after s g w) next ∙ stirred) done
+    let next : x ≡ balloted_in s g w = made.0 ∙ ap (λ u. part u v s g w) is in
+    let other : x ≡ w → ⊥ = λ e. made.1 (sym made.0 ∙ e) in
+    subst (λ (e : Option Votes). IfOk r (λ o. o ≡ e)) (sym (after-other s g w x other) ∙ ap (settle_after s g w) next ∙ stirred) done
 
 pub nominations-arm : {E : Type 0} (t : Stirred) (v : ℕ) (s : Seen) (g : Given) (w : Votes) (r : Result (Option Votes) E) → t ≡ Nominations → Stirs t v s g w → IfOk r (λ o. o ≡ settle_nominations v s g w) → IfOk r (λ o. o ≡ settle 64 (pass v s g) w)
 nominations-arm t v s g w r is stirs done =
     let stirred : Stirs Nominations v s g w = subst (λ u. Stirs u v s g w) is stirs in
     subst (λ (e : Option Votes). IfOk r (λ o. o ≡ e)) stirred done
+
+pub nominated-arm : (t : Stirred) (v : ℕ) (s : Seen) (g : Given) (w x : Votes) → t ≡ Nominations → x ≡ part t v s g w → x ≡ nominated_in v s g w
+nominated-arm t v s g w x is made = made ∙ ap (λ u. part u v s g w) is

@@ -1,3 +1,4 @@
+pub mod Differences
 pub mod Wholes
 pub mod Listening
 pub mod Filings

@@ -7,7 +7,7 @@ ghost use Rattle.protocol.specs.States.{counter_of};
 ghost use Rattle.slot.specs.Wholes.{led};
 
 use crate::outs::is_externalized;
-use ballot::raised;
+use ballot::ballot_at_counter;
 use leaders::leader;
 use listening::Configured;
 use std::alloc::{AllocError, Global};
@@ -41,7 +41,7 @@ pub(crate) fn is_counter_live(votes: &Votes, counter: u32) -> bool
 
 /// What is given once the node is to propose a value: round 1 begins with its leader. An error says
 /// that memory is short.
-pub(crate) fn proposed(
+pub(crate) fn given_input(
     alloc: Global,
     configured: &Configured,
     given: &Given,
@@ -86,7 +86,7 @@ fn in_round(configured: &Configured, given: Given, round: u32) -> Result<Given, 
 }
 
 /// What is given once one more ballot timer has fired. An error says that memory is short.
-pub(crate) fn fired(alloc: Global, given: &Given) -> Result<Given, AllocError>
+pub(crate) fn given_timeout(alloc: Global, given: &Given) -> Result<Given, AllocError>
     requires { given.now.fired < 4294967295 }
     ensures { IfOk result (λ g. g ≡ record given.now { fired = given.now.fired + 1 }) }
 {
@@ -97,13 +97,13 @@ pub(crate) fn fired(alloc: Global, given: &Given) -> Result<Given, AllocError>
 
 /// The votes with the ballot one counter up, its value chosen as after a raise. It takes no memory; an error
 /// says that a value has too many owners.
-pub(crate) fn bumped(votes: &Votes) -> Result<Votes, AllocError>
+pub(crate) fn votes_at_next_counter(votes: &Votes) -> Result<Votes, AllocError>
     requires { counter_of votes.now.ballot < 4294967295 }
     ensures { IfOk result (λ w. w ≡ bumped votes.now votes.now.ballot) }
 {
     let mut next = votes.try_copy()?;
     if let Some(ballot) = &votes.ballot {
-        next.ballot = Some(raised(votes, ballot, ballot.counter + 1).try_copy()?);
+        next.ballot = Some(ballot_at_counter(votes, ballot, ballot.counter + 1).try_copy()?);
     }
     Ok(next)
 }

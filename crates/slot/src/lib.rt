@@ -17,5 +17,3 @@ mod stirring;
 
 pub use filed::{FiledEvent, FiledOut, GivenOut};
 pub use node::Node;
-pub use passing::pass;
-pub use settling::settle;

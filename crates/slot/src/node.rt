@@ -19,7 +19,8 @@ ghost use Rattle.types.specs.declared.event.Out.TheVariants.{Emit};
 use crate::answering::{Answer, FiledAnswer, Start, State};
 use crate::by_region::answer;
 use crate::changes::{
-    Changed, bumped, fired, in_next_round, is_counter_live, is_round_live, proposed,
+    Changed, given_input, given_timeout, in_next_round, is_counter_live, is_round_live,
+    votes_at_next_counter,
 };
 use crate::filed::{FiledEvent, FiledOut, GivenOut};
 use crate::filing::{file_copied, nothing};
@@ -239,7 +240,7 @@ impl Node {
         ensures copies { IfOk result (HasCopies copies) }
         ensures kept { Keeps archive.old archive.new }
     {
-        let given = proposed(alloc, self.listener.configuration(), &self.given, value)?;
+        let given = given_input(alloc, self.listener.configuration(), &self.given, value)?;
         let votes = self.votes.try_copy()?;
         self.settle(alloc, archive, Changed { given, votes }, copies)
     }
@@ -293,8 +294,8 @@ impl Node {
             let given_out = nothing(alloc, copies)?;
             return Ok(given_out);
         }
-        let given = fired(alloc, &self.given)?;
-        let votes = bumped(&self.votes)?;
+        let given = given_timeout(alloc, &self.given)?;
+        let votes = votes_at_next_counter(&self.votes)?;
         self.settle(alloc, archive, Changed { given, votes }, copies)
     }
 

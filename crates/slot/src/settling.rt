@@ -1,13 +1,16 @@
 //! Passes, until one changes nothing.
 
-ghost use Rattle.std.specs.Prelude.{◌≡◌, IfOk, IfSome};
+ghost use Rattle.std.specs.Prelude.{◌≡◌, IfOk, OnOk, unwrap_or};
+ghost use Rattle.drafts.specs.Drafted.{after};
 ghost use Rattle.protocol.specs.Nodes.{settle};
-ghost use Rattle.protocol.specs.Passes.{nominated_in, pass};
+ghost use Rattle.protocol.specs.Passes.{balloted_in, nominated_in, pass};
 ghost use Rattle.protocol.specs.Stirring.{settle_after, settle_nominations};
+ghost use Rattle.slot.specs.Differences.{IsDifference};
 ghost use Rattle.slot.specs.Stirrings.{Stirs, part};
 
-use crate::passing::{balloted_in, nominated_in, pass};
+use crate::passing::{ballot_unless_over, nominate_unless_over, pass};
 use crate::stirring::Stirred;
+use drafts::Draft;
 use fedvote::Sight;
 use std::alloc::{AllocError, Global};
 use types::{Given, NodeId, Votes};
@@ -26,28 +29,10 @@ pub(crate) struct Inputs<'a, S> {
     pub given: &'a Given,
 }
 
-/// The votes after passes, until one changes nothing; `None` where each of 64 changes something, which
-/// no event of a node makes (the limit is this host's profile). An error says that memory is short.
-pub fn settle<'a, S: Sight>(
-    alloc: Global,
-    own: &'a NodeId,
-    sight: &'a S,
-    given: &'a Given,
-    votes: Votes,
-) -> Result<Option<Votes>, AllocError>
-    ensures value { IfOk result (λ o. o ≡ settle 64 (pass own.now (S.seen sight.now) given.now) votes) }
-    ensures calm { IfOk result (λ o. IfSome o (λ w. pass own.now (S.seen sight.now) given.now w ≡ w)) }
-{
-    let inputs = Inputs { own, sight, given };
-    let next = part_of(alloc, &inputs, &votes, Stirred::All)?;
-    if next.is_same(&votes) {
-        return Ok(Some(next));
-    }
-    settle_on(alloc, &inputs, next, Stirred::All)
-}
-
-/// The same, from votes that stay, after an event that stirs these rules alone: where a first pass changes
-/// nothing, as after most events, the votes are copied once.
+/// The votes after passes, from votes that stay, until one changes nothing; the event before them stirs these
+/// rules alone. `None` where each of 64 changes something, which no event of a node makes (the limit is this
+/// host's profile). Votes are copied once for each pass that changes some, and once where none does. An error
+/// says that memory is short.
 pub(crate) fn settle_from<S: Sight>(
     alloc: Global,
     inputs: &Inputs<'_, S>,
@@ -57,10 +42,13 @@ pub(crate) fn settle_from<S: Sight>(
     requires { Stirs stirred inputs.now.own.now (S.seen inputs.now.sight.now) inputs.now.given.now votes.now }
     ensures { IfOk result (λ o. o ≡ settle 64 (pass inputs.now.own.now (S.seen inputs.now.sight.now) inputs.now.given.now) votes.now) }
 {
-    let next = part_of(alloc, inputs, votes, stirred)?;
+    let Some(next) = difference_by(alloc, inputs, votes, stirred)? else {
+        let same = votes.try_copy()?;
+        return Ok(Some(same));
+    };
     match stirred {
-        Stirred::All => settle_after(alloc, inputs, votes, next),
-        Stirred::Ballots => settle_after(alloc, inputs, votes, next),
+        Stirred::All => settle_on(alloc, inputs, next),
+        Stirred::Ballots => settle_on(alloc, inputs, next),
         Stirred::Nominations => settle_nominated(alloc, inputs, votes, next),
     }
 }
@@ -79,8 +67,22 @@ fn settle_nominated<S: Sight>(
     if nominated.confirms.is_same(&before.confirms) {
         return Ok(Some(nominated));
     }
-    let next = balloted_in(alloc, inputs.sight, inputs.given, nominated)?;
+    let next = ballot_from(alloc, inputs, nominated)?;
     settle_after(alloc, inputs, before, next)
+}
+
+/// The votes after the part of a pass that is balloting.
+fn ballot_from<S: Sight>(
+    alloc: Global,
+    inputs: &Inputs<'_, S>,
+    votes: Votes,
+) -> Result<Votes, AllocError>
+    ensures { IfOk result (λ w. w ≡ balloted_in (S.seen inputs.now.sight.now) inputs.now.given.now votes) }
+{
+    match difference_by(alloc, inputs, &votes, Stirred::Ballots)? {
+        None => Ok(votes),
+        Some(next) => Ok(next),
+    }
 }
 
 /// The votes after the passes that follow on a first one: in these nomination changes nothing.
@@ -95,42 +97,76 @@ fn settle_after<S: Sight>(
     if after.is_same(before) {
         return Ok(Some(after));
     }
-    settle_on(alloc, inputs, after, Stirred::Ballots)
+    settle_on(alloc, inputs, after)
 }
 
-/// The votes after the passes that are left once a first one has changed something, each of these rules.
+/// The votes after the passes that are left once a first one has changed something: in these nomination changes
+/// nothing.
 fn settle_on<S: Sight>(
     alloc: Global,
     inputs: &Inputs<'_, S>,
     votes: Votes,
-    rules: Stirred,
 ) -> Result<Option<Votes>, AllocError>
-    ensures { IfOk result (λ o. o ≡ settle 63 (part rules inputs.now.own.now (S.seen inputs.now.sight.now) inputs.now.given.now) votes) }
+    ensures { IfOk result (λ o. o ≡ settle 63 (balloted_in (S.seen inputs.now.sight.now) inputs.now.given.now) votes) }
 {
     let mut settled = votes;
     for number in 1..MOST_PASSES {
-        let next = part_of(alloc, inputs, &settled, rules)?;
-        if next.is_same(&settled) {
+        let Some(next) = difference_by(alloc, inputs, &settled, Stirred::Ballots)? else {
             return Ok(Some(settled));
-        }
+        };
         settled = next;
     }
     Ok(None)
 }
 
-/// What the part of a pass with these rules makes of votes that stay. An error says that memory is short.
-fn part_of<S: Sight>(
+/// What the part of a pass with these rules makes of votes that stay; `None` where that is the same votes. An
+/// error says that memory is short.
+fn difference_by<S: Sight>(
     alloc: Global,
     inputs: &Inputs<'_, S>,
     votes: &Votes,
     rules: Stirred,
-) -> Result<Votes, AllocError>
-    ensures { IfOk result (λ w. w ≡ part rules inputs.now.own.now (S.seen inputs.now.sight.now) inputs.now.given.now votes.now) }
+) -> Result<Option<Votes>, AllocError>
+    ensures { IfOk result (IsDifference votes.now (part rules inputs.now.own.now (S.seen inputs.now.sight.now) inputs.now.given.now votes.now)) }
 {
-    let copy = votes.try_copy()?;
+    let mut draft = Draft::of(votes);
+    apply_part(alloc, inputs, rules, &mut draft)?;
+    let changed = draft.into_changed();
+    let difference = unless_same(changed, votes);
+    Ok(difference)
+}
+
+/// The part of a pass with these rules. An error says that memory is short.
+fn apply_part<S: Sight>(
+    alloc: Global,
+    inputs: &Inputs<'_, S>,
+    rules: Stirred,
+    draft: &mut Draft<'_>,
+) -> Result<(), AllocError>
+    ensures { OnOk result (draft.new ≡ after (part rules inputs.now.own.now (S.seen inputs.now.sight.now) inputs.now.given.now) draft.old) }
+{
     match rules {
-        Stirred::All => pass(alloc, inputs.own, inputs.sight, inputs.given, copy),
-        Stirred::Ballots => balloted_in(alloc, inputs.sight, inputs.given, copy),
-        Stirred::Nominations => nominated_in(alloc, inputs.own, inputs.sight, inputs.given, copy),
+        Stirred::All => pass(alloc, inputs.own, inputs.sight, inputs.given, draft),
+        Stirred::Ballots => ballot_unless_over(alloc, inputs.sight, inputs.given, draft),
+        Stirred::Nominations => nominate_unless_over(
+            alloc,
+            inputs.own,
+            inputs.sight,
+            inputs.given,
+            draft,
+        ),
     }
+}
+
+/// Votes that were changed, unless they are the same as before after all.
+fn unless_same(changed: Option<Votes>, before: &Votes) -> Option<Votes>
+    ensures { IsDifference before.now (unwrap_or changed before.now) result }
+{
+    let Some(changed) = changed else {
+        return None;
+    };
+    if changed.is_same(before) {
+        return None;
+    }
+    Some(changed)
 }

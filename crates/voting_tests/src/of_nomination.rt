@@ -1,6 +1,7 @@
 //! That with memory a node nominates. No clause says so; what it votes for, accepts and confirms is the
 //! definition's.
 
+use drafts::Draft;
 use envstore::{Archive, VecShelf};
 use fedvote::Sight;
 use latest::{Rows, Table};
@@ -33,7 +34,10 @@ fn first_votes<S: Sight>(
     sight: &S,
     given: &Given,
 ) -> Result<Votes, Fail> {
-    Ok(nominate(alloc, own, sight, given, Votes::none())?)
+    let none = Votes::none();
+    let mut draft = Draft::of(&none);
+    nominate(alloc, own, sight, given, &mut draft)?;
+    Ok(draft.into_changed().ok_or("nothing is nominated")?)
 }
 
 /// The votes of a node with these slices by a table.

@@ -1,10 +1,10 @@
 use Rattle.std.proofs.Common.{◌≡◌, ◌-◌}
 use Rattle.protocol.specs.Nodes.{settle}
-use Rattle.slot.specs.Stirrings.{part}
+use Rattle.protocol.specs.Passes.{balloted_in}
 use Rattle.slot.proofs.settling.settle_on.Given as goal
 
 -- the passes that are left lead where all of them do
 abbrev pub invariant-loop-number : goal.invariant-loop-number
 invariant-loop-number g l =
-    let f = part l.rules l.inputs.own.now (g.S.Sight.seen l.inputs.sight.now) l.inputs.given.now in
+    let f = balloted_in (g.S.Sight.seen l.inputs.sight.now) l.inputs.given.now in
     settle (64 - l.number) f l.settled ≡ settle 63 f l.fn.votes

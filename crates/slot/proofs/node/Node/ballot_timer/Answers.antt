@@ -22,8 +22,8 @@ returns-then-not-is_counter_live-clause-outs g c =
     let i = c.self.inside in
     ap outs_of c.in_ok-given_out.ensures.outs ∙ sym (ap (λ (p : Node × List Out). p.1) (step-is c.args.self.now.node (BallotTimer c.args.counter) None (change-no_counter i.listener.configured i.given i.votes (sents_of i.listener.table) c.args.self.now.node c.args.counter (sym (ap node_in c.self.view_is)) (sym c.is_counter_live.ensures ∙ c.if-not-is_counter_live.true))))
 
-pub fired-requires : goal.fired-requires
-fired-requires g c =
+pub given_timeout-requires : goal.given_timeout-requires
+given_timeout-requires g c =
     let i = c.self.inside in
     let low = reached-fired c.self.invariant in
     let high = live-below c.args.counter i.votes.armed i.votes.ballot _ (sym c.is_counter_live.ensures ∙ c.if-not-is_counter_live.false) in

@@ -2,12 +2,12 @@ use Rattle.std.proofs.Common.{List, ℕ, filter, ◌∙◌, ap}
 use Rattle.protocol.specs.Candidates.{all_with}
 use Rattle.protocol.specs.Nominating.{confirm_values, is_value_confirmed}
 use Rattle.nomination.proofs.Chosen.{all_chosen}
-use Rattle.nomination.proofs.rules.confirm_values.Goals as goal
+use Rattle.nomination.proofs.rules.values_to_confirm.Goals as goal
 
 pub returns : goal.returns
 unfolding confirm_values
 returns g c =
-    let w = c.args.votes in
+    let w = c.args.votes.now in
     let passes = is_value_confirmed (g.S.Sight.seen c.args.sight.now) w in
     let new = c.as_slice.ensures.value ∙ c.in_ok-new.ensures ∙ all_chosen passes c.as_slice-accepted.result.now ∙ ap (filter passes) c.as_slice-accepted.ensures.value in
-    ap (λ (xs : List (List ℕ)). record w { confirms = xs }) (c.in_ok-confirms.ensures ∙ ap (λ (xs : List (List ℕ)). all_with xs w.confirms) new)
+    ap (λ (xs : List (List ℕ)). record w { confirms = xs }) (c.in_ok-larger.ensures ∙ ap (λ (xs : List (List ℕ)). all_with xs w.confirms) new)

@@ -1,7 +1,7 @@
 use Rattle.std.proofs.Common.{◌∙◌, ℕ, None, Some, sym, subst, arith}
 use Rattle.fedvote.proofs.Honesty.{honest_from}
 use Rattle.ballot.proofs.RaiseLaws.{Raised, raised_far, raised_on, not_raised, goes_up, heard}
-use Rattle.ballot.proofs.counters.raised_counter.Goals as goal
+use Rattle.ballot.proofs.counters.counter_to_raise_to.Goals as goal
 
 pub loop-number-init : goal.loop-number-init
 loop-number-init g c = not_raised (g.S.Sight.seen c.args.sight.now) c.args.position.now c.args.from c.args.most

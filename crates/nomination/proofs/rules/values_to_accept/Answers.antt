@@ -5,12 +5,12 @@ use Rattle.types.specs.Votes.{has_value}
 use Rattle.protocol.specs.Candidates.{all_with, filled, values_by}
 use Rattle.protocol.specs.Nominating.{accept_values, is_value_accepted}
 use Rattle.protocol.proofs.Nominating.ValueSets.{new_ones}
-use Rattle.nomination.proofs.rules.accept_values.Goals as goal
+use Rattle.nomination.proofs.rules.values_to_accept.Goals as goal
 
 pub returns : goal.returns
 unfolding accept_values filled
 returns g c =
-    let w = c.args.votes in
+    let w = c.args.votes.now in
     let seen = g.S.Sight.seen c.args.sight.now in
     let rows = flat_map values_by (seen.rows Nomination) in
     let passes = λ (x : List ℕ). not (has_value w.accepts x) && is_value_accepted seen w x in
@@ -18,4 +18,4 @@ returns g c =
     let candidates = c.as_slice.ensures.value ∙ c.in_ok-candidates.ensures in
     let new = c.as_slice-2.ensures.value ∙ c.in_ok-new.ensures ∙ ap (λ (n : ℕ). take n (filter passes c.as_slice.result.now)) c.room_in-room.ensures
     ∙ ap (λ (xs : List (List ℕ)). take room (filter passes xs)) candidates ∙ ap (take room) (new_ones (is_value_accepted seen w) rows w.voted w.accepts) in
-    ap (λ (xs : List (List ℕ)). record w { accepts = xs }) (c.in_ok-accepts.ensures ∙ ap (λ (xs : List (List ℕ)). all_with xs w.accepts) new)
+    ap (λ (xs : List (List ℕ)). record w { accepts = xs }) (c.in_ok-larger.ensures ∙ ap (λ (xs : List (List ℕ)). all_with xs w.accepts) new)

@@ -1,5 +1,5 @@
 use Rattle.protocol.specs.Candidates.{named}
-use Rattle.ballot.proofs.first.greatest_accepted.Goals as goal
+use Rattle.ballot.proofs.first.greatest_with_prepare_accepted.Goals as goal
 
 pub returns : goal.returns
 unfolding named

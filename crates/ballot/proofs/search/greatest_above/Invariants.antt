@@ -1,7 +1,7 @@
 use Rattle.std.proofs.Common.{filter, length}
 use Rattle.fedvote.specs.Searching.{is_under}
 use Rattle.ballot.proofs.SearchLaws.{Tried}
-use Rattle.ballot.proofs.search.greatest_of.Given as goal
+use Rattle.ballot.proofs.search.greatest_above.Given as goal
 
 abbrev pub invariant-loop-next : goal.invariant-loop-next
 invariant-loop-next g l = Tried (g.C.Candidates.listed l.candidates) (g.T.Check.holds l.test) l.bound

@@ -1,0 +1,15 @@
+-- The interval that is accepted as committed, once it has another end.
+use Rattle.std.specs.Prelude.{ℕ, max, [], ◌∷◌, Some}
+use Rattle.types.specs.declared.ballot.Ballot.{Ballot}
+use Rattle.types.specs.declared.state.Votes.{Votes}
+use Rattle.protocol.specs.Candidates.{greatest}
+use Rattle.protocol.specs.States.{ballot_at}
+
+-- the interval goes from lo to the counter of the end, and neither the ballot nor the highest accepted one stays below the end
+abbrev pub moved_to : ℕ → Ballot → Ballot → Votes → Votes
+moved_to lo end b w = record w {
+  ballot = Some (ballot_at (max b.counter end.counter) end.value);
+  prepared = greatest w.prepared (end ∷ []);
+  lo = lo;
+  hi = end.counter;
+}

@@ -1,0 +1,16 @@
+use Rattle.std.proofs.Common.{◌≡◌, ◌∙◌, unwrap_or, ap, subst}
+use Rattle.types.specs.declared.state.Votes.{Votes}
+use Rattle.drafts.specs.Drafted.{Drafted, after}
+use Rattle.slot.specs.Differences.{IsDifference}
+use Rattle.slot.specs.Stirrings.{part}
+use Rattle.slot.proofs.settling.difference_by.Goals as goal
+
+pub returns : goal.returns
+returns g c =
+    let w = c.args.votes.now in
+    let f = part c.args.rules c.args.inputs.now.own.now (g.S.Sight.seen c.args.inputs.now.sight.now) c.args.inputs.now.given.now in
+    let done = c.in_ok-apply_part.ensures ∙ ap (after f) c.of-draft.ensures in
+    let P : Drafted → Type 0 = λ d. unwrap_or c.into_changed-changed.result d.before ≡ d.now in
+    let now : unwrap_or c.into_changed-changed.result w ≡ f w = subst P done c.into_changed-changed.ensures in
+    let Q : Votes → Type 0 = λ u. IsDifference w u c.unless_same-difference.result in
+    subst Q now c.unless_same-difference.ensures

@@ -1,0 +1,8 @@
+-- Votes that a part of a pass may change.
+use Rattle.std.specs.Prelude.{◌≡◌, Option, Some, None}
+use Rattle.types.specs.declared.state.Votes.{Votes}
+
+-- none where the new votes are the old ones, else the new votes
+abbrev pub IsDifference : Votes → Votes → Option Votes → Type 0
+IsDifference old new None = new ≡ old
+IsDifference old new (Some w) = (w ≡ new) × (new ≡ old → ⊥)
