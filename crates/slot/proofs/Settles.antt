@@ -1,9 +1,14 @@
 -- One of so many passes, as the loop makes it.
 use Rattle.std.proofs.Common.{◌≡◌, ℕ, zero, suc, ◌+◌, ◌-◌, ◌<◌, Bool, true, false, Option, Some, None, if◌then◌else◌, refl, sym, ap, subst, ◌∙◌, inl, inr, arith}
 use Rattle.std.proofs.lemmas.Bool.{cases_Bool}
+use Rattle.types.specs.declared.state.Phase.{Phase}
+use Rattle.types.specs.declared.state.Phase.TheVariants.{Externalized}
+use Rattle.types.specs.declared.state.Given.{Given}
 use Rattle.types.specs.declared.state.Votes.{Votes}
 use Rattle.protocol.specs.Nodes.{settle}
+use Rattle.protocol.specs.Passes.{pass, pass_rules, while_open}
 use Rattle.protocol.specs.Sameness.{same_votes}
+use Rattle.protocol.specs.Views.{Seen}
 use Rattle.protocol.proofs.Equality.Sameness.{same_votes-refl, same_votes-true}
 
 one : (n : ℕ) (f : Votes → Votes) (w : Votes) → settle (suc n) f w ≡ (if same_votes (f w) w then Some w else settle n f (f w))
@@ -28,3 +33,11 @@ settle-other i f w h other = elim (cases_Bool (same_votes (f w) w)) [
 pub settle-end : (f : Votes → Votes) (w : Votes) → settle (64 - 64) f w ≡ None
 unfolding settle
 settle-end f w = refl
+
+-- after EXTERNALIZE none changes anything
+over-stays : (own : ℕ) (seen : Seen) (given : Given) (w : Votes) → w.phase ≡ Externalized → pass own seen given w ≡ w
+unfolding pass
+over-stays own seen given w over = ap (λ (p : Phase). while_open p (pass_rules own seen given) w) over
+
+pub over_settles : (w v : Votes) → w.phase ≡ Externalized → v ≡ w → (own : ℕ) (seen : Seen) (given : Given) → settle 64 (pass own seen given) w ≡ Some v
+over_settles w v over copy own seen given = settle-same 0 (pass own seen given) w (omega arith) (over-stays own seen given w over) ∙ ap Some (sym copy)

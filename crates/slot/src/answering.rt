@@ -1,9 +1,12 @@
 //! What passes make of a node that an event changed.
 
-ghost use Rattle.std.specs.Prelude.{◌≡◌, IfOk, IsTrue, Some, is_some};
+ghost use Rattle.std.specs.Prelude.{◌≡◌, ℕ, IfOk, IsTrue, Some, is_some};
 ghost use Rattle.protocol.specs.Nodes.{settle};
 ghost use Rattle.protocol.specs.Passes.{pass};
+ghost use Rattle.protocol.specs.Views.{Seen};
 ghost use Rattle.slot.specs.Stirrings.{Stirs};
+ghost use Rattle.types.specs.declared.state.Given.{Given};
+ghost use Rattle.types.specs.declared.state.Phase.TheVariants.{Externalized};
 
 use crate::filed::GivenOut;
 use crate::settling::{Inputs, settle_from};
@@ -45,6 +48,17 @@ pub(crate) struct Answer {
 pub(crate) struct FiledAnswer {
     pub votes: Votes,
     pub given_out: GivenOut,
+}
+
+/// The votes after passes from a start at which a value is externalized, whatever the node sees: no rule changes them.
+/// An error says that they have too many owners.
+#[tactic(auto, using(crate::proofs::Settles::over_settles))]
+pub(crate) fn votes_at_rest(start: &Start<'_>) -> Result<Votes, AllocError>
+    requires { start.now.votes.now.phase ≡ Externalized }
+    ensures { IfOk result (λ w. (own : ℕ) (seen : Seen) (given : Given) → settle 64 (pass own seen given) start.now.votes.now ≡ Some w) }
+{
+    let votes = start.votes.try_copy()?;
+    Ok(votes)
 }
 
 /// The votes after passes from this start on, by what the node sees. An error says that memory is short.

@@ -9,13 +9,14 @@ ghost use Rattle.slot.specs.Stirrings.{StirsIn};
 ghost use Rattle.slot.specs.Wholes.{SendWellFormed, whole};
 ghost use Rattle.types.specs.Statements.{Sent};
 
-use crate::answering::{Answer, Start, State, settled_votes};
+use crate::answering::{Answer, Start, State, settled_votes, votes_at_rest};
 use crate::outs::outs;
+use crate::stirring::Stirred;
 use envstore::{Archive, Places};
 use latest::Rows;
 use listening::Listener;
 use std::alloc::{AllocError, Global};
-use types::Votes;
+use types::{Phase, Votes};
 use view::{Region, View};
 
 /// What passes make of a node with these rows from this start on, and what it gives out since the old
@@ -44,7 +45,7 @@ pub(crate) fn answer<S: Places>(
     Ok(Answer { votes, outs })
 }
 
-/// The votes after passes from this start on, by the rows.
+/// The votes after passes from this start on, by the rows. Where a value is externalized no rule reads any.
 fn votes_after<S: Places>(
     alloc: Global,
     archive: &Archive<S>,
@@ -57,6 +58,9 @@ fn votes_after<S: Places>(
     ensures votes { IfOk result (λ w. settle 64 (passed (node_of listener.old start.now.given.now start.now.votes.now)) start.now.votes.now ≡ Some w) }
     ensures same { listener.new ≡ listener.old }
 {
+    if let Phase::Externalized = start.votes.phase {
+        return votes_at_rest(start);
+    }
     let region = listener.take_region(alloc, archive)?;
     let votes = votes_within(alloc, archive, listener, &region, start);
     listener.keep_region(region);
@@ -79,6 +83,16 @@ fn votes_within<S: Places>(
 {
     let configured = listener.configuration();
     let rows = Rows::of(listener.table(), archive);
-    let view = View::of(alloc, configured.own(), &start.given.leaders, &rows, region)?;
-    settled_votes(alloc, configured, &view, start)
+    let own = configured.own();
+    let leaders = &start.given.leaders;
+    match start.stirred {
+        Stirred::Nominations => {
+            let view = View::unlisted(alloc, own, leaders, &rows, region);
+            settled_votes(alloc, configured, &view, start)
+        }
+        Stirred::All | Stirred::Ballots => {
+            let view = View::of(alloc, own, leaders, &rows, region)?;
+            settled_votes(alloc, configured, &view, start)
+        }
+    }
 }

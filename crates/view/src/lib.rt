@@ -15,6 +15,7 @@ mod region;
 mod rows;
 mod searching;
 mod seeing;
+mod unlisted;
 
 pub use own::Own;
 pub use region::{Entry, Region};

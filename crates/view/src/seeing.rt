@@ -2,7 +2,7 @@
 
 ghost use Rattle.std.proofs.Props.{props};
 ghost use Rattle.std.specs.Coded.{codes};
-ghost use Rattle.std.specs.Prelude.{◌≡◌, IfOk, length, refl, true};
+ghost use Rattle.std.specs.Prelude.{◌≡◌, IfOk, IfSome, length, refl, true};
 ghost use Rattle.compiled.specs.Places.{compiled_code};
 ghost use Rattle.types.specs.declared.kind.Kind.{Kind};
 ghost use Rattle.protocol.specs.Rows.{has_single_rows};
@@ -23,6 +23,7 @@ use crate::reached::ReachedRows;
 use crate::region::Region;
 use crate::rows::{values_of, values_of_others};
 use crate::searching::next_counter;
+use crate::unlisted::{next_committed, next_named};
 use compiled::{Form, in_quorum, is_met, no_places};
 use envstore::Places;
 use fedvote::{Question, Sight};
@@ -53,14 +54,14 @@ pub struct View<'a, S: Places> {
     region: &'a Region,
     ballots: ReachedRows<'a, S>,
     nominations: ReachedRows<'a, S>,
-    named: ListedBallots<'a>,
-    committed: ListedBallots<'a>,
+    named: Option<ListedBallots<'a>>,
+    committed: Option<ListedBallots<'a>>,
     ghost known: { IsRegion own.now slices.now table.now region.now } by { Prim.hlevel (props, codes, compiled_code) },
     ghost single: { has_single_rows table.now ≡ true },
     ghost ballots_kept: { ballots ≡ record { nodes = region.now.nodes.items; table = table.now; kind = Kind.Ballot } },
     ghost nominations_kept: { nominations ≡ record { nodes = region.now.nodes.items; table = table.now; kind = Kind.Nomination } },
-    ghost named_listed: { StandsFor named (named_in (rows_of_others own.now Kind.Ballot table.now region.now.nodes.items)) },
-    ghost committed_listed: { StandsFor committed (committed_in (rows_of_others own.now Kind.Ballot table.now region.now.nodes.items)) },
+    ghost named_listed: { IfSome named (λ l. StandsFor l (named_in (rows_of_others own.now ballots.kind ballots.table ballots.nodes))) } by { Prim.hlevel (props, codes) },
+    ghost committed_listed: { IfSome committed (λ l. StandsFor l (committed_in (rows_of_others own.now ballots.kind ballots.table ballots.nodes))) } by { Prim.hlevel (props, codes) },
 }
 
 impl<'a, S: Places> View<'a, S> {
@@ -95,9 +96,44 @@ impl<'a, S: Places> View<'a, S> {
             region,
             ballots,
             nominations,
-            named,
-            committed,
+            named: Some(named),
+            committed: Some(committed),
         })
+    }
+
+    /// The same, where the rules of balloting are hardly asked: their candidates are not listed, and each search for one
+    /// goes through the rows where they stand. It takes no memory.
+    pub fn unlisted(
+        alloc: Global,
+        own: Own<'a>,
+        leaders: &'a Leaders,
+        table: &'a Rows<'a, S>,
+        region: &'a Region,
+    ) -> View<'a, S>
+        requires { IsRegion own.name.now own.slices.now table.now region.now }
+        ensures { ⟦<View<'a, S> as Sight>⟧.seen result ≡ seen own.entry.name.now own.entry.slices.now leaders.now table.now }
+    {
+        table.are_single();
+        let nodes = &region.nodes;
+        let ballots = ReachedRows::in_place(alloc, nodes, &region.ballot_rows, table, Kind::Ballot);
+        let nominations = ReachedRows::in_place(
+            alloc,
+            nodes,
+            &region.nomination_rows,
+            table,
+            Kind::Nomination,
+        );
+        View {
+            own: own.name,
+            slices: own.slices,
+            leaders,
+            table,
+            region,
+            ballots,
+            nominations,
+            named: None,
+            committed: None,
+        }
     }
 
     /// The rows that a question asks.
@@ -197,11 +233,11 @@ impl<'a, S: Places> Sight for View<'a, S> {
     }
 
     fn next_named<'b>(&'b self, bound: &Option<LentBallot>) -> Option<LentBallot<'b>> {
-        self.named.next(bound)
+        next_named(&self.named, self.own, &self.ballots, bound)
     }
 
     fn next_committed<'b>(&'b self, bound: &Option<LentBallot>) -> Option<LentBallot<'b>> {
-        self.committed.next(bound)
+        next_committed(&self.committed, self.own, &self.ballots, bound)
     }
 
     fn next_counter(&self, above: u32) -> Option<u32> {

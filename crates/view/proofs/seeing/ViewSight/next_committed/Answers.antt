@@ -3,6 +3,7 @@ use Rattle.types.specs.declared.kind.Kind.{Kind}
 use Rattle.types.specs.declared.statement.Statement.{Statement}
 use Rattle.protocol.specs.Candidates.{committed_in}
 use Rattle.fedvote.specs.Searching.{next_under}
+use Rattle.view.specs.Watching.{Kept, rows_of_others}
 use Rattle.view.proofs.FoundRows.{committed_found}
 use Rattle.view.proofs.Sightings.{seen_rows}
 use Rattle.view.proofs.seeing.ViewSight.next_committed.Goals as goal
@@ -10,8 +11,9 @@ use Rattle.view.proofs.seeing.ViewSight.next_committed.Goals as goal
 pub returns : goal.returns
 returns g c =
     let view = c.args.self.now in
-    let reach = view.region.now.nodes.items in
-    c.next.ensures
-    ∙ view.committed_listed c.args.bound.now
-    ∙ committed_found view.own.now view.slices.now view.table.now reach view.known.reach.exactly view.single c.args.bound.now
-    ∙ ap (λ (ss : List Statement). next_under c.args.bound.now (committed_in ss)) (sym (seen_rows view.own.now view.slices.now view.leaders.now view.table.now Kind.Ballot))
+    let own = view.own.now in
+    let search = λ (ss : List Statement). next_under c.args.bound.now (committed_in ss) in
+    c.next_committed.ensures
+    ∙ ap (λ (k : Kept). search (rows_of_others own k.kind k.table k.nodes)) view.ballots_kept
+    ∙ committed_found own view.slices.now view.table.now view.region.now.nodes.items view.known.reach.exactly view.single c.args.bound.now
+    ∙ ap search (sym (seen_rows own view.slices.now view.leaders.now view.table.now Kind.Ballot))
