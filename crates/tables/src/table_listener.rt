@@ -19,7 +19,7 @@ use listening::{Configured, Listener};
 use std::alloc::{AllocError, Global};
 use std::marker::Model;
 use types::{Ballot, Envelope, Kind, Leaders, NodeId};
-use view::{Region, View};
+use view::{Own, Region, View};
 
 /// What became of an envelope.
 #[derive(Clone, Copy, Debug, PartialEq, Eq)]
@@ -170,7 +170,11 @@ fn is_backed_by<S: Places>(
 {
     // No rule asks this view whom the node follows.
     let leaders = Leaders::none(alloc);
-    let view = View::of(alloc, configured.own(), &leaders, rows, region)?;
+    let own = Own {
+        name: &configured.name,
+        slices: &configured.slices,
+    };
+    let view = View::of(alloc, own, &leaders, rows, region)?;
     let claim = claim_of(ballot)?;
     let question = Question::Backs(&claim);
     let own_passes = is_claim_backed(rows, &configured.name, &claim);
