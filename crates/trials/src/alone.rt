@@ -50,10 +50,10 @@ impl Alone {
     /// The same, from the words of its name and slices.
     pub fn of_words(alloc: Global, name: &[u8], slices: &[u8]) -> Result<Alone, Halt> {
         let Some(name) = name_of(name) else {
-            return Err(Halt::Differs);
+            return Err(Halt::BadWords);
         };
         match slices_of(alloc, slices)? {
-            None => Err(Halt::Differs),
+            None => Err(Halt::BadWords),
             Some(slices) => Ok(Alone::new(alloc, name, slices)),
         }
     }
@@ -79,7 +79,7 @@ impl Alone {
     fn step(&mut self, alloc: Global, line: &[u8]) -> Result<String, Halt> {
         let Alone { archive, node } = self;
         let Some(event) = event_of(alloc, archive, line)? else {
-            return Err(Halt::Differs);
+            return Err(Halt::BadWords);
         };
         let (stepped, outs) = node.step(alloc, archive, event)?;
         answer_of(alloc, archive, &stepped, &outs)
@@ -88,7 +88,7 @@ impl Alone {
     fn advance(&mut self, alloc: Global, line: &[u8]) -> Result<String, Halt> {
         let Alone { archive, node } = self;
         let Some(event) = event_of(alloc, archive, line)? else {
-            return Err(Halt::Differs);
+            return Err(Halt::BadWords);
         };
         let given_out = node.advance(alloc, archive, event, 0)?;
         answer_of(alloc, archive, node, &given_out.outs)
@@ -229,39 +229,71 @@ fn answer_of(
 ) -> Result<String, Halt>
     requires { AreFiledOuts archive.now outs.now }
 {
+    agree(are_from(archive, node, outs))?;
     let mut text = String::new(alloc);
     text.push_str("ok")?;
-    for out in outs {
-        push_out(&mut text, archive, node, out)?;
-    }
+    push_outs(&mut text, archive, outs)?;
     text.push('\n')?;
     push_state(&mut text, node)?;
     Ok(text)
 }
 
-fn push_out(
-    text: &mut String,
-    archive: &Archive<VecShelf>,
-    node: &Node,
-    out: &FiledOut,
-) -> Result<(), Halt>
+/// Whether what is emitted has the name, the slot and the slices of a node.
+fn are_from(archive: &Archive<VecShelf>, node: &Node, outs: &[FiledOut]) -> bool
+    requires { AreFiledOuts archive.now outs.now }
+{
+    for out in outs {
+        if !is_out_from(archive, node, out) {
+            return false;
+        }
+    }
+    true
+}
+
+/// Whether this is no envelope, or one that has the name, the slot and the slices of a node.
+fn is_out_from(archive: &Archive<VecShelf>, node: &Node, out: &FiledOut) -> bool
     requires { IsFiledOut archive.now out.now }
 {
     match out {
-        FiledOut::ArmNomination(round) => write!(text, " arm-nomination {round}")?,
-        FiledOut::ArmBallot(counter) => write!(text, " arm-ballot {counter}")?,
+        FiledOut::Emit(filed) => is_from(archive.read(filed), node),
+        _ => true,
+    }
+}
+
+/// What is given out, in words, with a space before each.
+pub fn push_outs(
+    text: &mut String,
+    archive: &Archive<VecShelf>,
+    outs: &[FiledOut],
+) -> Result<(), AllocError>
+    requires { AreFiledOuts archive.now outs.now }
+{
+    for out in outs {
+        push_out(text, archive, out)?;
+    }
+    Ok(())
+}
+
+/// One thing that is given out, in words, with a space before it.
+fn push_out(
+    text: &mut String,
+    archive: &Archive<VecShelf>,
+    out: &FiledOut,
+) -> Result<(), AllocError>
+    requires { IsFiledOut archive.now out.now }
+{
+    match out {
+        FiledOut::ArmNomination(round) => write!(text, " arm-nomination {round}"),
+        FiledOut::ArmBallot(counter) => write!(text, " arm-ballot {counter}"),
         FiledOut::Emit(filed) => {
-            let envelope = archive.read(filed);
-            agree(is_from(envelope, node))?;
             text.push_str(" emit ")?;
-            push_statement(text, envelope.body())?;
+            push_statement(text, archive.read(filed).body())
         }
         FiledOut::Externalized(value) => {
             text.push_str(" externalized ")?;
-            push_value(text, value)?;
+            push_value(text, value)
         }
     }
-    Ok(())
 }
 
 /// The state of a node in words, with no more of its table than the number of rows.

@@ -1,7 +1,7 @@
 //! What the histories and crowds show.
 
-use crate::slow::{Phase, Votes};
-use crate::statements::{Ballot, Row, Set, Statement, Trust, has};
+use crate::slow::Votes;
+use crate::statements::{Ballot, Phase, Row, Set, Statement, Trust, has};
 use std::alloc::AllocError;
 
 /// A node at one moment, with the ballot statement that it sent last.

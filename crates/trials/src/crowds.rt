@@ -118,7 +118,15 @@ impl Crowd {
         let after = self.bearing();
         match happening {
             Happening::Said { sender, row } => {
-                let coming = self.coming(sender, row, old, before, after);
+                let coming = Coming {
+                    sender,
+                    row,
+                    old,
+                    before: before.reach,
+                    after: after.reach,
+                    follows_slices: self.is_resliced,
+                    moves: before.votes != after.votes,
+                };
                 agree(!coming.surely_stays() || before.reach == after.reach)?;
                 reaches.note(coming);
             }
@@ -136,25 +144,6 @@ impl Crowd {
         match happening {
             Happening::Said { sender, row } => self.twin.slow.row(sender, row.said.kind()),
             _ => None,
-        }
-    }
-
-    fn coming(
-        &self,
-        sender: u8,
-        row: Row,
-        old: Option<Row>,
-        before: Bearing,
-        after: Bearing,
-    ) -> Coming {
-        Coming {
-            sender,
-            row,
-            old,
-            before: before.reach,
-            after: after.reach,
-            follows_slices: self.is_resliced,
-            moves: before.votes != after.votes,
         }
     }
 }

@@ -1,7 +1,14 @@
 //! Numbers at random, and what they say.
 
-use crate::statements::{Ballot, NODES, Set, Statement, Trust, bit};
+use crate::statements::{Ballot, InnerTrust, NODES, Set, Statement, Trust, bit};
 
+/// The multiplier of the linear congruential generator of Knuth's MMIX.
+const MULTIPLIER: u64 = 6364136223846793005;
+
+/// Its increment.
+const INCREMENT: u64 = 1442695040888963407;
+
+/// A source of numbers at random, the same from the same seed.
 #[derive(Clone, Copy)]
 pub struct Dice {
     state: u64,
@@ -14,10 +21,7 @@ impl Dice {
 
     /// A number below this one, which is not 0.
     pub fn below(&mut self, sides: u32) -> u32 {
-        self.state = self
-            .state
-            .wrapping_mul(6364136223846793005)
-            .wrapping_add(1442695040888963407);
+        self.state = self.state.wrapping_mul(MULTIPLIER).wrapping_add(INCREMENT);
         let mut number = (self.state / (1 << 33)) as u32;
         if sides > 0 {
             number %= sides;
@@ -164,22 +168,32 @@ impl Dice {
     /// Slices over the first nodes.
     pub fn trust(&mut self, count: u32) -> Trust {
         let members = self.set(count) | bit(self.number(count));
-        let inner = if self.is_one_in(3) {
+        let others = if self.is_one_in(3) {
             self.set(count) & !members
         } else {
             0
         };
         let mut entries = members.count_ones();
-        if inner != 0 {
+        if others != 0 {
             entries = entries.saturating_add(1);
         }
         Trust {
             threshold: self.from_to(1, entries),
             members,
-            inner_threshold: self.from_to(1, inner.count_ones()),
-            inner,
+            inner: self.inner_trust(others),
         }
     }
+
+    /// Slices of some of these nodes, where there are any.
+    fn inner_trust(&mut self, members: Set) -> Option<InnerTrust> {
+        let threshold = self.from_to(1, members.count_ones());
+        if members == 0 {
+            None
+        } else {
+            Some(InnerTrust { threshold, members })
+        }
+    }
+
     /// Slices of one to three of the first nodes.
     pub fn few(&mut self, count: u32) -> Trust {
         let members = bit(self.number(count)) | bit(self.number(count)) | bit(self.number(count));
@@ -202,11 +216,6 @@ impl Dice {
     }
 
     fn some_of(&mut self, members: Set) -> Trust {
-        Trust {
-            threshold: self.from_to(1, members.count_ones()),
-            members,
-            inner_threshold: 1,
-            inner: 0,
-        }
+        Trust::flat(self.from_to(1, members.count_ones()), members)
     }
 }

@@ -9,8 +9,10 @@ use std::alloc::{AllocError, AllocFailed};
 pub enum Halt {
     /// Memory is short.
     NoMemory,
-    /// The node and the slow program differ, or words tell nothing.
+    /// The node and the slow program differ.
     Differs,
+    /// Words tell no node, or no event.
+    BadWords,
 }
 
 impl From<AllocError> for Halt {

@@ -16,12 +16,7 @@ fn majority(count: u32) -> Trust {
             members |= bit(node);
         }
     }
-    Trust {
-        threshold: (count / 2).saturating_add(1),
-        members,
-        inner_threshold: 1,
-        inner: 0,
-    }
+    Trust::flat((count / 2).saturating_add(1), members)
 }
 
 /// A few nodes.
@@ -110,7 +105,7 @@ impl History {
         };
         match self.twins.get_mut(node as usize) {
             None => Ok(()),
-            Some(twin) => meet_all(alloc, twin, node, happening, senders, counts),
+            Some(twin) => meet_all(alloc, twin, happening, senders, counts),
         }
     }
 }
@@ -119,7 +114,6 @@ impl History {
 fn meet_all(
     alloc: Global,
     twin: &mut Twin,
-    node: u8,
     happening: Happening,
     senders: Set,
     counts: &mut Counts,
@@ -127,7 +121,7 @@ fn meet_all(
     twin.meet(alloc, happening, counts)?;
     if let Happening::Said { row, .. } = happening {
         for sender in NODES {
-            if has(senders, sender) && sender != node {
+            if has(senders, sender) && sender != twin.slow.own {
                 twin.meet(alloc, Happening::Said { sender, row }, counts)?;
             }
         }

@@ -4,15 +4,18 @@
 //! 256, or all where there are fewer, and each of them as many from itself on: more than two thirds of them,
 //! which is 43 of 64. Each has a nomination and a ballot in the node's table, and so many strangers have one
 //! ballot each. Then the reached nodes raise their ballots, one after another, in so many events. It prints
-//! how many statements the node sends meanwhile.
+//! these numbers with their names, and how many statements the node sends meanwhile.
 //!
 //! `trials story` tells it the story of a stranger who becomes reached, with timers, and of senders that
-//! announce other slices; an event that finds no memory is tried once more. It prints how many things the
-//! node gives out at each event, and 8 for one that found no memory and left a trace in the node.
+//! announce other slices; an event that finds no memory is tried once more. It prints each event and what the
+//! node gives out at it, or that it left a trace in the node, where it found no memory and did.
 //!
 //! `trials compare` prints that too. Then it compares the node with a plain slow program that follows the rules
 //! step by step, in histories and crowds at random, in the words of scripts, and tells it two stories that no
 //! script of networks can tell. It prints what was met in them, and `differs` where the node answered otherwise.
+//!
+//! The status is 0 after what was asked for, 2 where the words ask for none of these, 3 for want of memory, and
+//! 4 where the output cannot be written.
 #![tactic(auto)]
 
 mod alone;
@@ -32,9 +35,8 @@ mod stories;
 mod twin;
 mod wording;
 
-use crate::measure::{Sizes, sent_in};
-use crate::memory::story_digits;
-use crate::report::report_of_comparisons;
+use crate::measure::{Sizes, report_of_measure};
+use crate::report::{report_of_comparisons, report_of_story};
 use scripts::number_of;
 use std::alloc::{AllocError, Global};
 use std::env;
@@ -50,16 +52,25 @@ enum Call {
     Compare,
 }
 
+/// The status where the words ask for nothing.
+const BAD_USAGE: u8 = 2;
+
+/// The status for want of memory.
+const NO_MEMORY: u8 = 3;
+
+/// The status where the output cannot be written.
+const NOT_WRITTEN: u8 = 4;
+
 fn main(rt: HostRuntime) -> ExitCode {
     let mut out = rt.stdout();
     let Some(call) = call_of(&rt) else {
-        return ExitCode::from(2);
+        return ExitCode::from(BAD_USAGE);
     };
     match output_of(rt.alloc(), call) {
-        Err(_) => ExitCode::from(3),
+        Err(_) => ExitCode::from(NO_MEMORY),
         Ok(text) => match out.write_all(text.as_str().as_bytes()) {
             Ok(()) => ExitCode::from(0),
-            Err(_) => ExitCode::from(4),
+            Err(_) => ExitCode::from(NOT_WRITTEN),
         },
     }
 }
@@ -67,18 +78,13 @@ fn main(rt: HostRuntime) -> ExitCode {
 /// What the call prints.
 fn output_of(alloc: Global, call: Call) -> Result<String, AllocError> {
     match call {
-        Call::Measure(sizes) => line_of(alloc, sent_in(alloc, sizes)?),
-        Call::Story => line_of(alloc, story_digits(alloc)?),
+        Call::Measure(sizes) => report_of_measure(alloc, sizes),
+        Call::Story => report_of_story(alloc),
         Call::Compare => report_of_comparisons(alloc),
     }
 }
 
-fn line_of(alloc: Global, number: u64) -> Result<String, AllocError> {
-    let mut line = String::new(alloc);
-    writeln!(line, "{number}")?;
-    Ok(line)
-}
-
+/// The call that the words behind the program's name are.
 fn call_of<R: Env + AllocGlobal>(rt: &R) -> Option<Call> {
     let Ok(words) = env::args(rt) else {
         return None;

@@ -11,11 +11,20 @@ use types::{Ballot, Envelope, Member, Nested, NodeId, SliceSet, Statement, Value
 /// The most nodes that slices name.
 const MOST_NAMED: u64 = 64;
 
+/// The number of the first stranger: those of reached nodes are below it.
+const FIRST_STRANGER: u64 = 1_000_000;
+
+/// The greatest counter that a ballot is raised to.
+const MOST_COUNTER: u64 = 1_000_000;
+
 /// The sizes of a run.
 #[derive(Clone, Copy)]
 pub struct Sizes {
+    /// How many nodes are reached.
     pub reached: u64,
+    /// How many strangers have a ballot in the node's table.
     pub strangers: u64,
+    /// How many events are measured.
     pub events: u64,
 }
 
@@ -27,7 +36,7 @@ impl Alone {
             self.raise(alloc, sizes, number, 1)?;
         }
         for number in 0..sizes.strangers {
-            self.raise(alloc, sizes, number.saturating_add(1_000_000), 1)?;
+            self.raise(alloc, sizes, number.saturating_add(FIRST_STRANGER), 1)?;
         }
         Ok(())
     }
@@ -42,17 +51,19 @@ impl Alone {
             let Some(turn) = number.checked_div(sizes.reached) else {
                 return Ok(sent);
             };
-            let counter = turn.saturating_add(2).min(1_000_000) as u32;
+            let counter = turn.saturating_add(2).min(MOST_COUNTER) as u32;
             sent = sent.saturating_add(self.raise(alloc, sizes, sender, counter)?);
         }
         Ok(sent)
     }
 
+    /// How many statements a sender's nomination makes it send.
     fn nominate(&mut self, alloc: Global, sizes: Sizes, sender: u64) -> Result<u64, AllocError> {
         let body = nomination(alloc)?;
         self.take(alloc, sizes, sender, body)
     }
 
+    /// How many statements a sender's ballot with this counter makes it send.
     fn raise(
         &mut self,
         alloc: Global,
@@ -64,7 +75,7 @@ impl Alone {
         self.take(alloc, sizes, sender, body)
     }
 
-    /// How many statements a sender's statement makes it send.
+    /// How many statements a sender's statement makes it send: none where no slices name so many nodes.
     fn take(
         &mut self,
         alloc: Global,
@@ -72,21 +83,40 @@ impl Alone {
         sender: u64,
         body: Statement,
     ) -> Result<u64, AllocError> {
+        let Some(slices) = slices_from(alloc, sender, sizes.reached)? else {
+            return Ok(0);
+        };
+        let Some(envelope) = Envelope::new(name(sender), 1, slices, body) else {
+            return Ok(0);
+        };
         let Alone { archive, node } = self;
-        let outs = take(alloc, archive, node, sizes, sender, body)?;
+        let outs = take(alloc, archive, node, envelope)?;
         Ok(sent_among(&outs))
     }
 }
 
-/// How many statements the node sends during the events.
-pub fn sent_in(alloc: Global, sizes: Sizes) -> Result<u64, AllocError> {
+/// The sizes of a run and how many statements the node sends during its events, a line each.
+pub fn report_of_measure(alloc: Global, sizes: Sizes) -> Result<String, AllocError> {
+    let mut text = String::new(alloc);
     let Some(mut node) = node_of(alloc, sizes)? else {
-        return Ok(0);
+        text.push_str("no slices name so many nodes\n")?;
+        return Ok(text);
     };
     node.meet(alloc, sizes)?;
-    node.bear(alloc, sizes)
+    let sent = node.bear(alloc, sizes)?;
+    push_figures(&mut text, sizes, sent)?;
+    Ok(text)
 }
 
+/// The figures of a run, a line each.
+fn push_figures(text: &mut String, sizes: Sizes, sent: u64) -> Result<(), AllocError> {
+    writeln!(text, "reached {}", sizes.reached)?;
+    writeln!(text, "strangers {}", sizes.strangers)?;
+    writeln!(text, "events {}", sizes.events)?;
+    writeln!(text, "sent {sent}")
+}
+
+/// How many statements are among these outs.
 fn sent_among(outs: &[FiledOut]) -> u64 {
     let mut sent = 0u64;
     for out in outs {
@@ -97,6 +127,7 @@ fn sent_among(outs: &[FiledOut]) -> u64 {
     sent
 }
 
+/// The node that is measured, if slices name so many nodes.
 fn node_of(alloc: Global, sizes: Sizes) -> Result<Option<Alone>, AllocError> {
     match slices_from(alloc, 0, sizes.reached)? {
         None => Ok(None),
@@ -104,35 +135,22 @@ fn node_of(alloc: Global, sizes: Sizes) -> Result<Option<Alone>, AllocError> {
     }
 }
 
+/// What the node gives out at an envelope.
 fn take(
     alloc: Global,
     archive: &mut Archive<VecShelf>,
     node: &mut Node,
-    sizes: Sizes,
-    sender: u64,
-    body: Statement,
+    envelope: Envelope,
 ) -> Result<Vec<FiledOut>, AllocError>
     requires { AreFiled archive.old node.old.rows }
     ensures { AreFiled archive.new node.new.rows }
 {
-    let Some(slices) = slices_from(alloc, sender, sizes.reached)? else {
-        return Ok(Vec::new(alloc));
-    };
-    match Envelope::new(name(sender), 1, slices, body) {
-        None => Ok(Vec::new(alloc)),
-        Some(envelope) => {
-            let filed = archive.put(envelope)?;
-            let GivenOut { outs, copies: _ } = node.advance(
-                alloc,
-                archive,
-                FiledEvent::Take(filed),
-                0,
-            )?;
-            Ok(outs)
-        }
-    }
+    let filed = archive.put(envelope)?;
+    let GivenOut { outs, copies: _ } = node.advance(alloc, archive, FiledEvent::Take(filed), 0)?;
+    Ok(outs)
 }
 
+/// The name of a node, by number.
 fn name(number: u64) -> NodeId {
     NodeId::from_words(number, 0, 0, 0)
 }

@@ -2,79 +2,125 @@
 
 ghost use Rattle.std.specs.Prelude.{◌≡◌, IfOk, OnErr};
 ghost use Rattle.envstore.specs.Archives.{AreFiled, Keeps};
+ghost use Rattle.slot.specs.Filings.{AreFiledOuts};
+ghost use Rattle.trials.specs.declared.memory.Unanswered.TheVariants.{NoMemory};
 
-use crate::alone::{Alone, event_of};
+use crate::alone::{Alone, event_of, push_outs};
+use crate::halt::Halt;
 use envstore::{Archive, VecShelf};
 use latest::Rows;
-use scripts::{name_of, slices_of};
-use slot::Node;
+use slot::{FiledOut, Node};
 use std::alloc::{AllocError, Global};
 use types::{Given, Kind, NodeId};
 
+/// The name of the node.
+const NAME: &str = "A";
+
+/// Its slices before the first event.
+const SLICES: &str = "2[B,C,D]";
+
 /// What happens to the node, in the words of scripts.
-const STORY: [&[u8]; 10] = [
-    b"say B 1[B] prep(9:m,9:m,6,0,0)",
-    b"say C 1[C] prep(8:k,8:k,6,0,0)",
-    b"say Z 1[Z] prep(5:q,-,0,0,0)",
-    b"say D 1[Z] prep(1:k,-,0,0,0)",
-    b"btimer 8",
-    b"btimer 8",
-    b"say C 1[C] prep(9:m,9:m,6,0,0)",
-    b"reslice 2[B,C,Z]",
-    b"say B 1[Z] prep(10:m,9:m,6,0,0)",
-    b"say C 1[B] prep(10:m,9:m,6,0,0)",
+const STORY: [&str; 10] = [
+    "say B 1[B] prep(9:m,9:m,6,0,0)",
+    "say C 1[C] prep(8:k,8:k,6,0,0)",
+    "say Z 1[Z] prep(5:q,-,0,0,0)",
+    "say D 1[Z] prep(1:k,-,0,0,0)",
+    "btimer 8",
+    "btimer 8",
+    "say C 1[C] prep(9:m,9:m,6,0,0)",
+    "reslice 2[B,C,Z]",
+    "say B 1[Z] prep(10:m,9:m,6,0,0)",
+    "say C 1[B] prep(10:m,9:m,6,0,0)",
 ];
 
-/// Stands for words that tell no node, or a line that tells no event.
-const NO_EVENT: u64 = 9;
+/// Why a line of the story has no answer.
+#[derive(Clone, Copy)]
+enum Unanswered {
+    /// It tells no event.
+    NoEvent,
+    /// Its event found no memory, and left a trace in the node.
+    LeftTrace,
+    /// Its event found no memory.
+    NoMemory,
+}
 
-/// Stands for an event that found no memory and left a trace.
-const TRACE: u64 = 8;
+impl From<AllocError> for Unanswered {
+    ghost from_gives = { λ _ unanswered. unanswered ≡ NoMemory };
 
-/// How many things the node A with the slices `2[B,C,D]` gives out at each event: a digit each, from the
-/// first on.
-pub fn story_digits(alloc: Global) -> Result<u64, AllocError> {
-    match begin_or_again(alloc)? {
-        None => Ok(NO_EVENT),
-        Some(mut node) => node.digits(alloc),
+    fn from(_error: AllocError) -> Unanswered {
+        Unanswered::NoMemory
     }
+}
+
+/// A line for the node, and one for each event of the story: its words, and what the node gives out at it. An
+/// event that finds no memory is tried once more.
+pub fn push_story(alloc: Global, text: &mut String) -> Result<(), Halt> {
+    let mut node = begin_or_again(alloc)?;
+    writeln!(text, "node {NAME} {SLICES}")?;
+    for line in STORY {
+        node.push_answer(alloc, line, text)?;
+    }
+    Ok(())
 }
 
 impl Alone {
-    /// The digits of the story, behind a 1.
-    fn digits(&mut self, alloc: Global) -> Result<u64, AllocError> {
-        let mut digits = 1u64;
-        for line in STORY {
-            let given_out = self.hear(alloc, line)?;
-            digits = digits.saturating_mul(10).saturating_add(given_out);
-        }
-        Ok(digits)
-    }
-
-    /// The digit of a line of the story.
-    fn hear(&mut self, alloc: Global, line: &[u8]) -> Result<u64, AllocError> {
+    /// A line of the story, and what the node gives out at it.
+    fn push_answer(
+        &mut self,
+        alloc: Global,
+        line: &str,
+        text: &mut String,
+    ) -> Result<(), AllocError> {
         let Alone { archive, node } = self;
-        try_twice(alloc, archive, node, line)
+        let answer = try_twice(alloc, archive, node, line.as_bytes());
+        text.push_str(line)?;
+        match answer {
+            Ok(outs) => push_given_out(text, archive, &outs)?,
+            Err(Unanswered::NoEvent) => text.push_str(": no such event")?,
+            Err(Unanswered::LeftTrace) => text.push_str(": left a trace in the node")?,
+            Err(Unanswered::NoMemory) => return Err(AllocError),
+        }
+        text.push('\n')
     }
+}
+
+/// What is given out, in words.
+fn push_given_out(
+    text: &mut String,
+    archive: &Archive<VecShelf>,
+    outs: &[FiledOut],
+) -> Result<(), AllocError>
+    requires { AreFiledOuts archive.now outs.now }
+{
+    if outs.is_empty() {
+        return text.push_str(": nothing");
+    }
+    text.push(':')?;
+    push_outs(text, archive, outs)
 }
 
 /// The node of the story before its first event, tried once more where it finds no memory.
-fn begin_or_again(alloc: Global) -> Result<Option<Alone>, AllocError> {
+fn begin_or_again(alloc: Global) -> Result<Alone, Halt> {
     match begin(alloc) {
-        Ok(node) => Ok(node),
-        Err(_) => begin(alloc),
+        Err(Halt::NoMemory) => begin(alloc),
+        begun => begun,
     }
 }
 
-/// The digit of an event, which is tried once more where it finds no memory.
+fn begin(alloc: Global) -> Result<Alone, Halt> {
+    Alone::of_words(alloc, NAME.as_bytes(), SLICES.as_bytes())
+}
+
+/// What the node gives out at an event, which is tried once more where it finds no memory.
 fn try_twice(
     alloc: Global,
     archive: &mut Archive<VecShelf>,
     node: &mut Node,
     line: &[u8],
-) -> Result<u64, AllocError>
+) -> Result<Vec<FiledOut>, Unanswered>
     requires { AreFiled archive.old node.old.rows }
-    ensures { AreFiled archive.new node.new.rows }
+    ensures rows { AreFiled archive.new node.new.rows }
+    ensures outs { IfOk result (λ outs. AreFiledOuts archive.new outs.items) }
 {
     let before = copy_or_again(alloc, archive, node)?;
     try_or_again(alloc, archive, node, &before, line)
@@ -95,25 +141,29 @@ fn copy_or_again(
     }
 }
 
-/// The digit of an event. Where it finds no memory it is tried once more, if it has left the node as it was.
+/// What the node gives out at an event. Where it finds no memory it is tried once more, if it has left the
+/// node as it was.
 fn try_or_again(
     alloc: Global,
     archive: &mut Archive<VecShelf>,
     node: &mut Node,
     before: &Node,
     line: &[u8],
-) -> Result<u64, AllocError>
+) -> Result<Vec<FiledOut>, Unanswered>
     requires rows { AreFiled archive.old node.old.rows }
     requires before_rows { AreFiled archive.old before.now.rows }
-    ensures { AreFiled archive.new node.new.rows }
+    ensures rows { AreFiled archive.new node.new.rows }
+    ensures outs { IfOk result (λ outs. AreFiledOuts archive.new outs.items) }
 {
-    if let Ok(given_out) = count_given_out(alloc, archive, node, line) {
-        return Ok(given_out);
+    match give_out(alloc, archive, node, line) {
+        Ok(outs) => return Ok(outs),
+        Err(Unanswered::NoMemory) => {}
+        Err(other) => return Err(other),
     }
     if !is_as(archive, node, before) {
-        return Ok(TRACE);
+        return Err(Unanswered::LeftTrace);
     }
-    count_given_out(alloc, archive, node, line)
+    give_out(alloc, archive, node, line)
 }
 
 /// Whether two nodes have the same slices and votes, were given the same, and have the same statements and
@@ -131,6 +181,7 @@ fn is_as(archive: &Archive<VecShelf>, node: &Node, other: &Node) -> bool
         )
 }
 
+/// Whether two nodes were given the same.
 fn has_same_given(given: &Given, other: &Given) -> bool {
     given.round == other.round
         && given.fired == other.fired
@@ -138,6 +189,7 @@ fn has_same_given(given: &Given, other: &Given) -> bool {
         && given.leaders.as_slice() == other.leaders.as_slice()
 }
 
+/// Whether two tables have the same statements and slices.
 fn has_same_rows(rows: &Rows<'_, VecShelf>, others: &Rows<'_, VecShelf>) -> bool {
     for sender in rows.senders() {
         if !has_same_rows_of(rows, others, sender) {
@@ -147,6 +199,7 @@ fn has_same_rows(rows: &Rows<'_, VecShelf>, others: &Rows<'_, VecShelf>) -> bool
     rows.sender_count() == others.sender_count()
 }
 
+/// Whether two tables have the same statements and slices of a sender.
 fn has_same_rows_of(
     rows: &Rows<'_, VecShelf>,
     others: &Rows<'_, VecShelf>,
@@ -156,6 +209,7 @@ fn has_same_rows_of(
         && has_same_row(rows, others, sender, Kind::Ballot)
 }
 
+/// Whether two tables have the same statement and slices of a sender, of this kind.
 fn has_same_row(
     rows: &Rows<'_, VecShelf>,
     others: &Rows<'_, VecShelf>,
@@ -171,37 +225,22 @@ fn has_same_row(
     }
 }
 
-fn begin(alloc: Global) -> Result<Option<Alone>, AllocError> {
-    let Some(name) = name_of(b"A") else {
-        return Ok(None);
-    };
-    match slices_of(alloc, b"2[B,C,D]")? {
-        None => Ok(None),
-        Some(slices) => Ok(Some(Alone::new(alloc, name, slices))),
-    }
-}
-
-/// How many things a line's event gives out.
-fn count_given_out(
+/// What the node gives out at a line's event.
+fn give_out(
     alloc: Global,
     archive: &mut Archive<VecShelf>,
     node: &mut Node,
     line: &[u8],
-) -> Result<u64, AllocError>
+) -> Result<Vec<FiledOut>, Unanswered>
     requires { AreFiled archive.old node.old.rows }
     ensures rows { AreFiled archive.new node.new.rows }
+    ensures outs { IfOk result (λ outs. AreFiledOuts archive.new outs.items) }
     ensures kept { Keeps archive.old archive.new }
     ensures err { OnErr result (node.new ≡ node.old) }
 {
-    match event_of(alloc, archive, line)? {
-        None => Ok(NO_EVENT),
-        Some(event) => {
-            let given_out = node.advance(alloc, archive, event, 0)?;
-            let mut number = 0u64;
-            for _ in given_out.outs.as_slice() {
-                number = number.saturating_add(1);
-            }
-            Ok(number)
-        }
-    }
+    let Some(event) = event_of(alloc, archive, line)? else {
+        return Err(Unanswered::NoEvent);
+    };
+    let given_out = node.advance(alloc, archive, event, 0)?;
+    Ok(given_out.outs)
 }

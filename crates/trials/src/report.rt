@@ -1,9 +1,8 @@
-//! What is printed of the comparisons of a node with the slow program.
+//! What is printed of the story, and of the comparisons of a node with the slow program.
 
 use crate::counts::{Counts, Reaches};
 use crate::halt::Halt;
-use crate::memory::story_digits;
-use crate::{crowds, histories, stories};
+use crate::{crowds, histories, memory, stories};
 use std::alloc::{AllocError, Global};
 
 /// How many histories there are.
@@ -12,7 +11,14 @@ const HISTORIES: u64 = 3000;
 /// How many crowds.
 const CROWDS: u64 = 400;
 
-/// The digits of the story, and what was met in histories, crowds and stories.
+/// The story of a node that bears want of memory.
+pub fn report_of_story(alloc: Global) -> Result<String, AllocError> {
+    let mut text = String::new(alloc);
+    push_story(alloc, &mut text)?;
+    Ok(text)
+}
+
+/// The story, and what was met in histories, crowds and stories.
 pub fn report_of_comparisons(alloc: Global) -> Result<String, AllocError> {
     let mut text = String::new(alloc);
     push_story(alloc, &mut text)?;
@@ -23,8 +29,10 @@ pub fn report_of_comparisons(alloc: Global) -> Result<String, AllocError> {
 }
 
 fn push_story(alloc: Global, text: &mut String) -> Result<(), AllocError> {
-    let digits = story_digits(alloc)?;
-    writeln!(text, "{digits}")
+    match memory::push_story(alloc, text) {
+        Ok(()) => Ok(()),
+        Err(halt) => push_halt(text, halt),
+    }
 }
 
 fn push_histories(alloc: Global, text: &mut String) -> Result<(), AllocError> {
@@ -51,7 +59,15 @@ fn push_stories(alloc: Global, text: &mut String) -> Result<(), AllocError> {
 fn push_end(text: &mut String, end: Result<(), Halt>) -> Result<(), AllocError> {
     match end {
         Ok(()) => text.push_str("the same throughout\n"),
-        Err(Halt::Differs) => text.push_str("differs\n"),
-        Err(Halt::NoMemory) => Err(AllocError),
+        Err(halt) => push_halt(text, halt),
+    }
+}
+
+/// Why it ended early; want of memory ends the run.
+fn push_halt(text: &mut String, halt: Halt) -> Result<(), AllocError> {
+    match halt {
+        Halt::Differs => text.push_str("differs\n"),
+        Halt::BadWords => text.push_str("words tell no node or no event\n"),
+        Halt::NoMemory => Err(AllocError),
     }
 }

@@ -1,7 +1,9 @@
 //! The rules of the plain slow program: nomination, balloting and counters, each as it is stated.
 
-use crate::slow::{Phase, State, Votes};
-use crate::statements::{Ask, Ballot, Kind, NODES, Set, Statement, VALUES, at, bit, has};
+use crate::slow::{State, Votes};
+use crate::statements::{
+    Ask, Ballot, Interval, Kind, NODES, Phase, Set, Statement, VALUES, at, bit, has,
+};
 use std::alloc::{AllocError, Global};
 
 /// What is claimed of commit.
@@ -9,6 +11,15 @@ use std::alloc::{AllocError, Global};
 pub enum Claim {
     Accepted,
     Confirmed,
+}
+
+/// What a rule speaks of, and so which ballots it tries.
+#[derive(Clone, Copy)]
+pub enum Topic {
+    /// That ballots are prepared: those that are named.
+    Prepare,
+    /// Commit: the ends of the intervals that are named.
+    Commit,
 }
 
 impl State {
@@ -168,9 +179,9 @@ impl State {
         &self,
         alloc: Global,
         votes: Votes,
-        of_commit: bool,
+        topic: Topic,
     ) -> Result<Vec<Ballot>, AllocError> {
-        let all = self.named_ballots(alloc, votes, of_commit)?;
+        let all = self.named_ballots(alloc, votes, topic)?;
         with_counters(alloc, &all)
     }
 
@@ -179,13 +190,13 @@ impl State {
         &self,
         alloc: Global,
         votes: Votes,
-        of_commit: bool,
+        topic: Topic,
     ) -> Result<Vec<Ballot>, AllocError> {
         let reach = self.reach();
         let mut all = Vec::new(alloc);
         for node in NODES {
             if let Some(said) = self.said_by(node, reach, votes) {
-                push_candidates(&mut all, said, of_commit)?;
+                push_candidates(&mut all, said, topic)?;
             }
         }
         Ok(all)
@@ -221,13 +232,13 @@ impl State {
     }
 
     /// Whether commit of the value is accepted, or confirmed, at each counter of the interval.
-    pub fn has_commit(&self, votes: Votes, claim: Claim, value: u8, low: u32, high: u32) -> bool {
+    pub fn has_commit(&self, votes: Votes, claim: Claim, interval: Interval) -> bool {
         let position = State::position(votes);
-        let accepts = Ask::AcceptsCommit(value, low, high);
+        let accepts = Ask::AcceptsCommit(interval);
         match claim {
             Claim::Confirmed => self.is_confirmed_by(Kind::Balloting, position, accepts),
             Claim::Accepted => {
-                let backs = Ask::BacksCommit(value, low, high);
+                let backs = Ask::BacksCommit(interval);
                 self.is_accepted_by(Kind::Balloting, position, backs, accepts)
             }
         }
@@ -239,7 +250,7 @@ impl State {
         for t in commits {
             if t.value == end.value
                 && t.counter < lo
-                && self.has_commit(votes, claim, t.value, t.counter, end.counter)
+                && self.has_commit(votes, claim, from_to(*t, end.counter))
             {
                 lo = t.counter;
             }
@@ -258,7 +269,7 @@ impl State {
             });
         }
         let mut ballot = None;
-        for t in self.candidates(alloc, votes, false)?.as_slice() {
+        for t in self.candidates(alloc, votes, Topic::Prepare)?.as_slice() {
             if self.is_accepted(votes, *t) {
                 ballot = greater(ballot, *t);
             }
@@ -271,7 +282,7 @@ impl State {
             return Ok(votes);
         };
         let mut prepared = votes.prepared;
-        for t in self.candidates(alloc, votes, false)?.as_slice() {
+        for t in self.candidates(alloc, votes, Topic::Prepare)?.as_slice() {
             let counts = votes.phase != Phase::Committing || t.value == ballot.value;
             if counts && self.is_accepted(votes, *t) {
                 prepared = greater(prepared, *t);
@@ -313,7 +324,7 @@ impl State {
             return Ok(votes);
         }
         let mut high = votes.high;
-        for t in self.candidates(alloc, votes, false)?.as_slice() {
+        for t in self.candidates(alloc, votes, Topic::Prepare)?.as_slice() {
             if self.is_confirmed(votes, *t) {
                 high = greater(high, *t);
             }
@@ -349,7 +360,7 @@ impl State {
             } else {
                 t.value == ballot.value && t.counter > votes.hi
             };
-            if counts && self.has_commit(votes, Claim::Accepted, t.value, t.counter, t.counter) {
+            if counts && self.has_commit(votes, Claim::Accepted, from_to(*t, t.counter)) {
                 end = greater(end, *t);
             }
         }
@@ -363,7 +374,7 @@ impl State {
         if votes.phase == Phase::Externalized {
             return Ok(votes);
         }
-        let commits = self.candidates(alloc, votes, true)?;
+        let commits = self.candidates(alloc, votes, Topic::Commit)?;
         let Some(end) = self.accepted_end(votes, &commits, ballot) else {
             return Ok(votes);
         };
@@ -397,7 +408,7 @@ impl State {
         let mut end = None;
         for t in commits {
             if t.value == ballot.value
-                && self.has_commit(votes, Claim::Confirmed, t.value, t.counter, t.counter)
+                && self.has_commit(votes, Claim::Confirmed, from_to(*t, t.counter))
             {
                 end = greater(end, *t);
             }
@@ -412,7 +423,7 @@ impl State {
         if votes.phase != Phase::Committing {
             return Ok(votes);
         }
-        let commits = self.candidates(alloc, votes, true)?;
+        let commits = self.candidates(alloc, votes, Topic::Commit)?;
         let Some(end) = self.confirmed_end(votes, &commits, ballot) else {
             return Ok(votes);
         };
@@ -487,18 +498,24 @@ impl State {
     }
 }
 
-fn push_candidates(
-    all: &mut Vec<Ballot>,
-    said: Statement,
-    of_commit: bool,
-) -> Result<(), AllocError> {
-    if of_commit {
-        said.push_commits(all)
-    } else {
-        said.push_named(all)
+/// The interval of a ballot's value from its counter up to this one.
+fn from_to(from: Ballot, high: u32) -> Interval {
+    Interval {
+        value: from.value,
+        low: from.counter,
+        high,
     }
 }
 
+/// The ballots that a statement names on the topic.
+fn push_candidates(all: &mut Vec<Ballot>, said: Statement, topic: Topic) -> Result<(), AllocError> {
+    match topic {
+        Topic::Prepare => said.push_named(all),
+        Topic::Commit => said.push_commits(all),
+    }
+}
+
+/// Those with a counter from 1 on, each once.
 fn with_counters(alloc: Global, all: &[Ballot]) -> Result<Vec<Ballot>, AllocError> {
     let mut counted = Vec::new(alloc);
     for ballot in all {

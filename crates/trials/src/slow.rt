@@ -2,20 +2,14 @@
 //! trying every set of nodes. Nodes are the letters A to H and values the letters a to d, and sets of either
 //! are bits.
 
-use crate::statements::{Ask, Ballot, Kind, NODES, Row, Set, Statement, Trust, bit, has};
+use crate::statements::{Ask, Ballot, Kind, NODES, Phase, Row, Set, Statement, Trust, bit, has};
 use std::alloc::{AllocError, Global};
 
+/// The newest rows of a sender.
 #[derive(Clone, Copy)]
 pub struct Rows {
     pub nomination: Option<Row>,
     pub balloting: Option<Row>,
-}
-
-#[derive(Clone, Copy, PartialEq, Eq)]
-pub enum Phase {
-    Preparing,
-    Committing,
-    Externalized,
 }
 
 /// What the rules change.

@@ -1,4 +1,5 @@
-//! What nodes say, for the plain slow program: what a statement votes for and accepts, and its slices.
+//! What nodes say, for the plain slow program: what a statement votes for and accepts, and its slices. Nodes
+//! are the letters A to H and values the letters a to d, each by its number.
 
 use std::alloc::AllocError;
 
@@ -26,12 +27,14 @@ pub fn has(set: Set, number: u8) -> bool {
     set & bit(number) != 0
 }
 
+/// A ballot: ballots are in the order of counters, and of values where these are the same.
 #[derive(Clone, Copy, PartialEq, Eq, PartialOrd, Ord)]
 pub struct Ballot {
     pub counter: u32,
     pub value: u8,
 }
 
+/// What a node says of nomination or of ballots.
 #[derive(Clone, Copy, PartialEq, Eq)]
 pub enum Statement {
     Nominate {
@@ -57,38 +60,84 @@ pub enum Statement {
     },
 }
 
+/// What a statement speaks of.
 #[derive(Clone, Copy, PartialEq, Eq)]
 pub enum Kind {
     Nomination,
     Balloting,
 }
 
-/// Slices: so many of the members, an inner set counting as one member where it is not empty.
+/// How far a ballot has come. What is said of a later phase is newer.
+#[derive(Clone, Copy, PartialEq, Eq, PartialOrd, Ord)]
+pub enum Phase {
+    Preparing,
+    Committing,
+    Externalized,
+}
+
+/// Slices: so many of the members, an inner set counting as one member.
 #[derive(Clone, Copy, PartialEq, Eq)]
 pub struct Trust {
     pub threshold: u32,
     pub members: Set,
-    pub inner_threshold: u32,
-    pub inner: Set,
+    pub inner: Option<InnerTrust>,
+}
+
+/// Slices within slices: so many of the members, of which there are some.
+#[derive(Clone, Copy, PartialEq, Eq)]
+pub struct InnerTrust {
+    pub threshold: u32,
+    pub members: Set,
 }
 
 impl Trust {
-    /// The nodes that it names.
-    pub fn names(self) -> Set {
-        self.members | self.inner
+    /// So many of these nodes.
+    pub fn flat(threshold: u32, members: Set) -> Trust {
+        Trust {
+            threshold,
+            members,
+            inner: None,
+        }
     }
 
+    /// The nodes that it names.
+    pub fn names(self) -> Set {
+        match self.inner {
+            None => self.members,
+            Some(inner) => self.members | inner.members,
+        }
+    }
+
+    /// Whether some slice lies within the set.
     pub fn is_satisfied(self, set: Set) -> bool {
-        let inner = self.inner != 0 && (self.inner & set).count_ones() >= self.inner_threshold;
         let members = (self.members & set).count_ones();
-        members >= self.threshold || (inner && members.saturating_add(1) >= self.threshold)
+        match self.inner {
+            Some(inner) if inner.is_satisfied(set) => members.saturating_add(1) >= self.threshold,
+            _ => members >= self.threshold,
+        }
     }
 }
 
+impl InnerTrust {
+    /// Whether so many of the members are in the set.
+    fn is_satisfied(self, set: Set) -> bool {
+        (self.members & set).count_ones() >= self.threshold
+    }
+}
+
+/// What stands in a node's table: what a sender said, and its slices then.
 #[derive(Clone, Copy)]
 pub struct Row {
     pub trust: Trust,
     pub said: Statement,
+}
+
+/// Ballots of one value, at each counter from the lowest to the highest.
+#[derive(Clone, Copy)]
+pub struct Interval {
+    pub value: u8,
+    pub low: u32,
+    pub high: u32,
 }
 
 /// What is asked of a statement.
@@ -98,11 +147,12 @@ pub enum Ask {
     AcceptsNominate(u8),
     BacksPrepare(Ballot),
     AcceptsPrepare(Ballot),
-    BacksCommit(u8, u32, u32),
-    AcceptsCommit(u8, u32, u32),
+    BacksCommit(Interval),
+    AcceptsCommit(Interval),
     Counts(u32),
 }
 
+/// Whether the greater ballot being prepared says that the other one is.
 fn implies(greater: Ballot, ballot: Ballot) -> bool {
     greater.value == ballot.value && ballot.counter <= greater.counter
 }
@@ -171,8 +221,9 @@ impl Statement {
         }
     }
 
-    /// At each counter of the interval.
-    fn backs_commit(self, value: u8, low: u32, high: u32) -> bool {
+    /// Whether it votes for or accepts commit at each counter of the interval.
+    fn backs_commit(self, interval: Interval) -> bool {
+        let Interval { value, low, high } = interval;
         let mut backs = true;
         for n in low..high.saturating_add(1) {
             backs = backs && (self.votes_commit_at(value, n) || self.accepts_commit_at(value, n));
@@ -180,7 +231,9 @@ impl Statement {
         backs
     }
 
-    fn accepts_commit(self, value: u8, low: u32, high: u32) -> bool {
+    /// Whether it accepts commit at each counter of the interval.
+    fn accepts_commit(self, interval: Interval) -> bool {
+        let Interval { value, low, high } = interval;
         let mut accepts = true;
         for n in low..high.saturating_add(1) {
             accepts = accepts && self.accepts_commit_at(value, n);
@@ -209,29 +262,18 @@ impl Statement {
         }
     }
 
-    /// The phase and the fields in message order; of an EXTERNALIZE the phase alone.
-    fn order(self) -> (u32, Ballot, Option<Ballot>, u32, u32, u32) {
-        let none = at(0, 0);
+    /// The phase of the sender's ballot, if it speaks of one.
+    fn phase(self) -> Option<Phase> {
         match self {
-            Statement::Nominate { .. } => (0, none, None, 0, 0, 0),
-            Statement::Prepare {
-                ballot,
-                prepared,
-                aborted,
-                high,
-                commit,
-            } => (1, ballot, prepared, aborted, high, commit),
-            Statement::Commit {
-                ballot,
-                prepared,
-                high,
-                commit,
-            } => (2, ballot, None, prepared, high, commit),
-            Statement::Externalize { .. } => (3, none, None, 0, 0, 0),
+            Statement::Nominate { .. } => None,
+            Statement::Prepare { .. } => Some(Phase::Preparing),
+            Statement::Commit { .. } => Some(Phase::Committing),
+            Statement::Externalize { .. } => Some(Phase::Externalized),
         }
     }
 
-    /// Whether it is newer than an older one of the same kind.
+    /// Whether it is newer than an older one of the same kind: a nomination that says more, or a later phase,
+    /// or greater fields in message order.
     pub fn is_newer(self, old: Statement) -> bool {
         match (self, old) {
             (
@@ -245,7 +287,48 @@ impl Statement {
                     && old_accepted & !accepted == 0
                     && (voted != old_voted || accepted != old_accepted)
             }
-            _ => self.order() > old.order(),
+            _ => self.phase() > old.phase() || self.has_greater_fields(old),
+        }
+    }
+
+    /// Whether its fields are greater than those of another one of its phase, in message order.
+    fn has_greater_fields(self, old: Statement) -> bool {
+        match (self, old) {
+            (
+                Statement::Prepare {
+                    ballot,
+                    prepared,
+                    aborted,
+                    high,
+                    commit,
+                },
+                Statement::Prepare {
+                    ballot: old_ballot,
+                    prepared: old_prepared,
+                    aborted: old_aborted,
+                    high: old_high,
+                    commit: old_commit,
+                },
+            ) => {
+                (ballot, prepared, aborted, high, commit)
+                    > (old_ballot, old_prepared, old_aborted, old_high, old_commit)
+            }
+            (
+                Statement::Commit {
+                    ballot,
+                    prepared,
+                    high,
+                    commit,
+                },
+                Statement::Commit {
+                    ballot: old_ballot,
+                    prepared: old_prepared,
+                    high: old_high,
+                    commit: old_commit,
+                },
+            ) => (ballot, prepared, high, commit)
+                > (old_ballot, old_prepared, old_high, old_commit),
+            _ => false,
         }
     }
 
@@ -320,8 +403,8 @@ impl Ask {
             Ask::AcceptsNominate(value) => said.accepts_nominate(value),
             Ask::BacksPrepare(t) => said.votes_prepare(t) || said.accepts_prepare(t),
             Ask::AcceptsPrepare(t) => said.accepts_prepare(t),
-            Ask::BacksCommit(value, low, high) => said.backs_commit(value, low, high),
-            Ask::AcceptsCommit(value, low, high) => said.accepts_commit(value, low, high),
+            Ask::BacksCommit(interval) => said.backs_commit(interval),
+            Ask::AcceptsCommit(interval) => said.accepts_commit(interval),
             Ask::Counts(n) => said.counts(n),
         }
     }

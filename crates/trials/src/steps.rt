@@ -1,7 +1,7 @@
 //! The events of the plain slow program, the passes after each of them, and what it gives out.
 
-use crate::slow::{Phase, State, Votes};
-use crate::statements::{Kind, Row, Statement, Trust};
+use crate::slow::{State, Votes};
+use crate::statements::{Kind, Phase, Row, Statement, Trust};
 use std::alloc::{AllocError, Global};
 
 /// What one node gives out.

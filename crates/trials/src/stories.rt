@@ -5,21 +5,31 @@ use crate::alone::Alone;
 use crate::halt::{Halt, agree};
 use std::alloc::Global;
 
-/// A line, and what the node answers.
-type Told = (&'static [u8], &'static str);
+/// A line, and how what the node answers begins.
+#[derive(Clone, Copy)]
+struct Exchange {
+    line: &'static str,
+    answer: &'static str,
+}
+
+/// A line that is answered so.
+fn answers(line: &'static str, answer: &'static str) -> Exchange {
+    Exchange { line, answer }
+}
 
 /// The node A with the slices `2[B,C,D]` answers each line of the story, and then its state begins so.
-fn is_told(alloc: Global, story: &[Told], state: &str) -> Result<(), Halt> {
+fn is_told(alloc: Global, story: &[Exchange], state: &str) -> Result<(), Halt> {
     let mut node = Alone::of_words(alloc, b"A", b"2[B,C,D]")?;
-    for (line, answer) in story {
-        is_answered(alloc, &mut node, line, answer)?;
+    for exchange in story {
+        is_answered(alloc, &mut node, exchange)?;
     }
     agree(node.state(alloc)?.as_str().starts_with(state))
 }
 
-fn is_answered(alloc: Global, node: &mut Alone, line: &[u8], answer: &str) -> Result<(), Halt> {
-    let said = node.answer(alloc, line)?;
-    agree(said.as_str().starts_with(answer))
+/// The node answers the line so.
+fn is_answered(alloc: Global, node: &mut Alone, exchange: &Exchange) -> Result<(), Halt> {
+    let said = node.answer(alloc, exchange.line.as_bytes())?;
+    agree(said.as_str().starts_with(exchange.answer))
 }
 
 /// Both stories.
@@ -34,9 +44,9 @@ fn a_row_of_its_own_names_no_candidates(alloc: Global) -> Result<(), Halt> {
     is_told(
         alloc,
         &[
-            (b"say B 1[B] prep(9:m,9:m,6,0,0)", "ok\n"),
-            (b"say C 1[C] prep(8:k,8:k,6,0,0)", "ok\n"),
-            (b"say A 1[A] prep(5:q,-,0,0,0)", "ok\n"),
+            answers("say B 1[B] prep(9:m,9:m,6,0,0)", "ok\n"),
+            answers("say C 1[C] prep(8:k,8:k,6,0,0)", "ok\n"),
+            answers("say A 1[A] prep(5:q,-,0,0,0)", "ok\n"),
         ],
         "rows 3 2[B,C,D] round 0 fired 0 leaders voted",
     )
@@ -47,9 +57,9 @@ fn a_second_proposal_begins_the_first_round_again(alloc: Global) -> Result<(), H
     is_told(
         alloc,
         &[
-            (b"propose x", "ok arm-nomination 1\n"),
-            (b"ntimer 1", "ok arm-nomination 2\n"),
-            (b"propose y", "ok arm-nomination 1\n"),
+            answers("propose x", "ok arm-nomination 1\n"),
+            answers("ntimer 1", "ok arm-nomination 2\n"),
+            answers("propose y", "ok arm-nomination 1\n"),
         ],
         "rows 0 2[B,C,D] round 1 fired 0 leaders C C C input y voted",
     )

@@ -1,7 +1,7 @@
 //! What the plain slow program says, in the words of scripts.
 
-use crate::slow::{Phase, State, Votes};
-use crate::statements::{Ballot, Kind, NODES, Row, Set, Statement, Trust, has};
+use crate::slow::{State, Votes};
+use crate::statements::{Ballot, InnerTrust, Kind, NODES, Phase, Row, Set, Statement, Trust, has};
 use crate::steps::Out;
 use std::alloc::{AllocError, Global};
 
@@ -40,18 +40,19 @@ fn push_members(text: &mut String, members: Set) -> Result<bool, AllocError> {
 pub fn push_trust(text: &mut String, trust: Trust) -> Result<(), AllocError> {
     push_threshold(text, trust.threshold)?;
     let some = push_members(text, trust.members)?;
-    if trust.inner != 0 {
-        push_inner(text, some, trust)?;
+    if let Some(inner) = trust.inner {
+        push_inner(text, some, inner)?;
     }
     text.push(']')
 }
 
-fn push_inner(text: &mut String, some: bool, trust: Trust) -> Result<(), AllocError> {
+/// The inner slices, behind a comma where some member stands before them.
+fn push_inner(text: &mut String, some: bool, inner: InnerTrust) -> Result<(), AllocError> {
     if some {
         text.push(',')?;
     }
-    push_threshold(text, trust.inner_threshold)?;
-    push_members(text, trust.inner)?;
+    push_threshold(text, inner.threshold)?;
+    push_members(text, inner.members)?;
     text.push(']')
 }
 
