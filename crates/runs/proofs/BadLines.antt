@@ -9,7 +9,7 @@ use Rattle.types.specs.declared.event.Event.{Event}
 use Rattle.types.specs.declared.event.Event.TheVariants as event
 use Rattle.protocol.specs.Networks.{Budgets}
 use Rattle.protocol.specs.Rosters.{Shares}
-use Rattle.runs.specs.declared.drafts.Reserved.{Reserved}
+use Rattle.runs.specs.declared.outlines.Reserved.{Reserved}
 use Rattle.runs.specs.declared.requests.Declaration.{Declaration}
 use Rattle.runs.specs.declared.requests.Declaration.TheVariants.{Net, Node, Roster}
 use Rattle.runs.specs.declared.requests.Request.{Request}
@@ -18,7 +18,7 @@ use Rattle.runs.specs.declared.verbs.Verb.{Verb}
 use Rattle.runs.specs.declared.verbs.Verb.TheVariants as verb
 use Rattle.runs.specs.declared.verbs.EventVerb.{EventVerb}
 use Rattle.runs.specs.declared.verbs.EventVerb.TheVariants as ask
-use Rattle.runs.specs.Drafts.{Drafted, Waiting, waiting_at}
+use Rattle.runs.specs.Outlines.{Outlined, Waiting, waiting_at}
 use Rattle.runs.specs.Joining.{IsNamedAt, Joins}
 use Rattle.runs.specs.Naming.{Named}
 use Rattle.runs.specs.Taking.{takes}
@@ -202,7 +202,7 @@ asks-alike (word ∷ number ∷ fields) g r asked h k = asks-alike-of (verb_in w
 
 -- ---- what is told is not bad
 
-pub bare-joins-nothing : {S : Type 0} (joins : Joins S) (g : ℕ) (o : Option Drafted) (ws us : Waiting) (old new : S) → IsBare o → IsNamedAt joins g o ws us old new → ⊥
+pub bare-joins-nothing : {S : Type 0} (joins : Joins S) (g : ℕ) (o : Option Outlined) (ws us : Waiting) (old new : S) → IsBare o → IsNamedAt joins g o ws us old new → ⊥
 bare-joins-nothing joins g None ws us old new h k = h
 bare-joins-nothing joins g (Some d) ws us old new h k = k.1.1.some_nodes h
 

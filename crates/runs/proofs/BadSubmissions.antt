@@ -6,7 +6,7 @@ use Rattle.types.specs.declared.event.Event.TheVariants as event
 use Rattle.runs.specs.declared.requests.Declaration.{Declaration}
 use Rattle.runs.specs.declared.requests.Request.{Request}
 use Rattle.runs.specs.declared.requests.Request.TheVariants.{Declare, Apply, Settle}
-use Rattle.runs.specs.Drafts.{Waiting, waiting_at}
+use Rattle.runs.specs.Outlines.{Waiting, waiting_at}
 use Rattle.runs.specs.Naming.{Named}
 use Rattle.runs.specs.Taking.{takes}
 use Rattle.runs.specs.Telling.{HasNoNode}

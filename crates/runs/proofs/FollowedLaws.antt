@@ -27,7 +27,7 @@ use Rattle.network.specs.Decoding.{step_of}
 use Rattle.hoststep.specs.Logs.{Log, extended}
 use Rattle.hoststep.specs.Worlds.{IsAnsweredAt, items_of, log_at, logs_set, logs_with}
 use Rattle.hoststep.proofs.Histories.{has-number}
-use Rattle.runs.specs.Drafts.{Drafted, IsConfigOf, IsRevised, Waiting, fresh, waiting_at, waiting_without}
+use Rattle.runs.specs.Outlines.{Outlined, IsConfigOf, IsRevised, Waiting, fresh, waiting_at, waiting_without}
 use Rattle.runs.specs.Emissions.{OpenSlot, OpenSlots, at_number, changed_at, handed_on}
 use Rattle.runs.specs.Followed.{Followed, also_followed, followed_with, turn_of, turned, with_handed}
 use Rattle.runs.specs.Hosting.{Hosting, IsApplied, IsBegun, logs_joined, noted_answer, unhosted}
@@ -229,9 +229,9 @@ nothing-run c = record { applied = λ k x at. absurd (nothing-there k x at); out
 some-less : (a b c d : ℕ) → a + 1 ≡ b → b + c ≤ 4096 → d ≤ c → d < 4096
 some-less a b c d e f h = omega (arith, e, f, h)
 
-module _ (ws : Waiting) (n : Named) (logs : List Log) (f : Followed) (g : ℕ) (d : Drafted) (c : Config) (room : HaveRoom ws n logs) (at : waiting_at ws g ≡ Some d) (is : IsConfigOf g d c) where
+module _ (ws : Waiting) (n : Named) (logs : List Log) (f : Followed) (g : ℕ) (d : Outlined) (c : Config) (room : HaveRoom ws n logs) (at : waiting_at ws g ≡ Some d) (is : IsConfigOf g d c) where
   waits-there : is_some (waiting_at ws g) ≡ true
-  waits-there = ap (λ (o : Option Drafted). is_some o) at
+  waits-there = ap (λ (o : Option Outlined). is_some o) at
 
   not-running : is_in n.running g ≡ false
   not-running = room.apart g waits-there
@@ -270,7 +270,7 @@ module _ (ws : Waiting) (n : Named) (logs : List Log) (f : Followed) (g : ℕ) (
   joined-room = record {
     joined = λ j h. has-inserted g j n.running ∙ joined j (c.number == j) refl (sym (ap (λ (o : Option Log). is_some o) (ap (λ (xs : List Log). log_at xs j) joins-there ∙ log-with logs (record { config = c; entries = [] }) j)) ∙ h);
     counted = let a = length-log-with logs (record { config = c; entries = [] }) in let b = ap (λ (xs : List Log). length xs) joins-there in let e = keys-inserted g n.running not-running in let k = room.counted in omega (arith, a, b, e, k);
-    apart = λ j h. has-inserted g j n.running ∙ apart j (g == j) refl (sym (ap (λ (o : Option Drafted). is_some o) (at-removed g j ws room.once)) ∙ h);
+    apart = λ j h. has-inserted g j n.running ∙ apart j (g == j) refl (sym (ap (λ (o : Option Outlined). is_some o) (at-removed g j ws room.once)) ∙ h);
     once = once-removed g ws room.once;
     few = let a = length-removed g ws waits-there in let e = keys-inserted g n.running not-running in let k = room.few in omega (arith, a, e, k);
   }
@@ -289,7 +289,7 @@ module _ (ws : Waiting) (n : Named) (logs : List Log) (f : Followed) (g : ℕ) (
 begun-follows : (g : ℕ) (old new : Hosting) → FollowsJournals old → IsBegun g old new → FollowsJournals new
 begun-follows g old new s h = go (waiting_at old.waiting g) refl h.0 h.1
   where
-    go : (o : Option Drafted) → waiting_at old.waiting g ≡ o → IsNamedAt (also_followed logs_joined) g o old.waiting new.waiting (old.logs, old.followed) (new.logs, new.followed) → new.named ≡ named_with g o old.named → FollowsJournals new
+    go : (o : Option Outlined) → waiting_at old.waiting g ≡ o → IsNamedAt (also_followed logs_joined) g o old.waiting new.waiting (old.logs, old.followed) (new.logs, new.followed) → new.named ≡ named_with g o old.named → FollowsJournals new
     go None at k named = record {
       room = subst (λ (x : Waiting × Named × List Log). HaveRoom x.0 x.1 x.2) (λ i. (sym k.0 i, sym named i, (sym k.1 i).0)) (record { joined = s.room.joined; counted = s.room.counted; apart = s.room.apart; once = s.room.once; few = s.room.few });
       slots = subst (λ (x : List Log × Followed). AreFollowed x.0 x.1) (sym k.1) s.slots;
@@ -301,19 +301,19 @@ begun-follows g old new s h = go (waiting_at old.waiting g) refl h.0 h.1
 
 -- ---- a declaration
 
-revised-room : (g : ℕ) (change : Drafted → Drafted) (ws us : Waiting) (n : Named) (logs : List Log) → IsRevised g change ws us → HaveRoom ws n logs → HaveRoom us n logs
+revised-room : (g : ℕ) (change : Outlined → Outlined) (ws us : Waiting) (n : Named) (logs : List Log) → IsRevised g change ws us → HaveRoom ws n logs → HaveRoom us n logs
 revised-room g change ws us n logs h room =
     subst (λ (x : Waiting). HaveRoom x n logs) (sym h.2)
     (record {
       joined = room.joined;
       counted = room.counted;
-      apart = λ j k. room.apart j (was j (g == j) refl (sym (ap (λ (o : Option Drafted). is_some o) (at-set g (change h.0) j ws there)) ∙ k));
+      apart = λ j k. room.apart j (was j (g == j) refl (sym (ap (λ (o : Option Outlined). is_some o) (at-set g (change h.0) j ws there)) ∙ k));
       once = once-set g (change h.0) ws there room.once;
       few = let a = length-set g (change h.0) ws in let k = room.few in omega (arith, a, k);
     })
   where
     there : is_some (waiting_at ws g) ≡ true
-    there = ap (λ (o : Option Drafted). is_some o) h.1
+    there = ap (λ (o : Option Outlined). is_some o) h.1
 
     was : (j : ℕ) (b : Bool) → (g == j) ≡ b → is_some (if g == j then Some (change h.0) else at_number ws j) ≡ true → is_some (waiting_at ws j) ≡ true
     was j true e k = ap (λ m. is_some (waiting_at ws m)) (sym (eqb-true g j e)) ∙ there
@@ -327,7 +327,7 @@ declared-room g (Net b) ws us n logs t p room =
     (record {
       joined = room.joined;
       counted = room.counted;
-      apart = λ j k. apart j (g == j) refl (sym (ap (λ (o : Option Drafted). is_some o) (at-inserted g (fresh b) j ws)) ∙ k);
+      apart = λ j k. apart j (g == j) refl (sym (ap (λ (o : Option Outlined). is_some o) (at-inserted g (fresh b) j ws)) ∙ k);
       once = once-inserted g (fresh b) ws p.0 room.once;
       few = let a = length-inserted g (fresh b) ws in let k = ltb-true (declared_count ws n) 4096 taken.1 in omega (arith, a, k);
     })

@@ -1,6 +1,6 @@
 pub mod BadLines
 pub mod BadSubmissions
-mod DraftLaws
+mod OutlineLaws
 mod Hearings
 mod JoiningLaws
 mod LineForms

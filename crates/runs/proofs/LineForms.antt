@@ -10,7 +10,7 @@ use Rattle.runs.specs.declared.requests.Request.{Request}
 use Rattle.runs.specs.declared.requests.Request.TheVariants.{Declare, Apply, Settle}
 use Rattle.runs.specs.declared.verbs.Verb.{Verb}
 use Rattle.runs.specs.Lines.{verb_in}
-use Rattle.runs.specs.Drafts.{Waiting}
+use Rattle.runs.specs.Outlines.{Waiting}
 use Rattle.runs.specs.Naming.{Named}
 use Rattle.runs.specs.Preparing.{Prepares}
 use Rattle.runs.specs.Requests.{IsRequested, IsRequestOf}

@@ -12,7 +12,7 @@ use Rattle.scripts.specs.Script.{Bytes}
 use Rattle.runs.specs.declared.requests.Request.{Request}
 use Rattle.runs.specs.declared.requests.Declaration.{Declaration}
 use Rattle.runs.specs.declared.requests.Request.TheVariants.{Declare, Apply, Settle}
-use Rattle.runs.specs.Drafts.{Waiting}
+use Rattle.runs.specs.Outlines.{Waiting}
 use Rattle.runs.specs.Followed.{Followed}
 use Rattle.runs.specs.Hosting.{Hosting, IsPut}
 use Rattle.runs.specs.Settling.{IsSettled}

@@ -2,7 +2,7 @@
 use Rattle.std.proofs.Common.{◌≡◌, ◌∙◌, ℕ, List, Some, sym, ap, subst}
 use Rattle.scripts.specs.Script.{Bytes}
 use Rattle.protocol.specs.Rosters.{Shares}
-use Rattle.runs.specs.declared.drafts.Reserved.{Reserved}
+use Rattle.runs.specs.declared.outlines.Reserved.{Reserved}
 use Rattle.runs.specs.declared.requests.Declaration.TheVariants.{Roster}
 use Rattle.runs.specs.declared.requests.Request.{Request}
 use Rattle.runs.specs.declared.requests.Request.TheVariants.{Declare}

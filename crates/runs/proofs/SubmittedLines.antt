@@ -6,7 +6,7 @@ use Rattle.protocol.specs.Hosts.{History}
 use Rattle.runs.specs.declared.requests.Declaration.{Declaration}
 use Rattle.runs.specs.declared.requests.Request.{Request}
 use Rattle.runs.specs.declared.requests.Request.TheVariants.{Declare, Apply}
-use Rattle.runs.specs.Drafts.{Waiting}
+use Rattle.runs.specs.Outlines.{Waiting}
 use Rattle.runs.specs.Naming.{Named}
 use Rattle.runs.specs.Preparing.{Prepares}
 use Rattle.runs.specs.Requests.{IsRequested}

@@ -18,7 +18,7 @@ use Rattle.hoststep.specs.Logs.{Log}
 use Rattle.hoststep.specs.Worlds.{log_at}
 use Rattle.scripts.specs.Script.{Bytes}
 use Rattle.scripts.specs.Runs.{HasRun}
-use Rattle.runs.specs.Drafts.{Waiting, waiting_at}
+use Rattle.runs.specs.Outlines.{Waiting, waiting_at}
 use Rattle.runs.specs.Emissions.{OpenSlot, OpenSlots, at_number}
 use Rattle.runs.specs.Followed.{Followed, open_slot}
 use Rattle.runs.specs.Hosting.{Hosting, unhosted}

@@ -7,7 +7,7 @@ use Rattle.types.specs.declared.event.Out.{Out}
 use Rattle.types.specs.declared.event.Refusal.{Refusal}
 use Rattle.hoststep.specs.Logs.{Log}
 use Rattle.hoststep.specs.Worlds.{IsAnswered, items_of, log_at, logs_with}
-use Rattle.runs.specs.Drafts.{Waiting, waiting_at}
+use Rattle.runs.specs.Outlines.{Waiting, waiting_at}
 use Rattle.runs.specs.Followed.{Followed, also_followed, noted, turn_of}
 use Rattle.runs.specs.Joining.{HaveJoined, IsNamed, Joins}
 use Rattle.runs.specs.Naming.{Named, named_with, unnamed}

@@ -1,4 +1,4 @@
-pub mod Drafts
+pub mod Outlines
 pub mod Hosting
 pub mod Joining
 pub mod Naming

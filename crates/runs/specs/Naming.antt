@@ -4,7 +4,7 @@ use Rattle.std.specs.List.{list_any}
 use Rattle.std.specs.Ordering.{nat_cmp}
 use Rattle.std.specs.BTreeMap.{is_at}
 use Rattle.std.specs.BTreeSet.{insert_key}
-use Rattle.runs.specs.Drafts.{Drafted}
+use Rattle.runs.specs.Outlines.{Outlined}
 
 -- the numbers that an event or a line that settles has named, and those of them whose network was declared by then; both ascending
 pub record Named : Type 0 where
@@ -24,6 +24,6 @@ abbrev pub with_number : List ℕ → ℕ → List ℕ
 with_number us g = insert_key nat_cmp us g
 
 -- the number is named, of which no network waits, or this one
-abbrev pub named_with : ℕ → Option Drafted → Named → Named
+abbrev pub named_with : ℕ → Option Outlined → Named → Named
 named_with g None n = record { numbers = with_number n.numbers g; running = n.running }
 named_with g (Some d) n = record { numbers = with_number n.numbers g; running = with_number n.running g }

@@ -4,7 +4,7 @@ use Rattle.scripts.specs.Script.{Bytes}
 use Rattle.runs.specs.declared.requests.Declaration.{Declaration}
 use Rattle.runs.specs.declared.requests.Declaration.TheVariants.{Net, Node, Roster}
 use Rattle.runs.specs.declared.requests.Request.TheVariants.{Declare}
-use Rattle.runs.specs.Drafts.{IsRevised, Waiting, fresh, waiting_at, waiting_with, with_node, with_roster}
+use Rattle.runs.specs.Outlines.{IsRevised, Waiting, fresh, waiting_at, waiting_with, with_node, with_roster}
 use Rattle.runs.specs.Naming.{Named}
 use Rattle.runs.specs.Requests.{IsRequested}
 use Rattle.runs.specs.Taking.{takes}

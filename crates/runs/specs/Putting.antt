@@ -5,7 +5,7 @@ use Rattle.types.specs.declared.event.Event.{Event}
 use Rattle.types.specs.declared.event.Event.TheVariants.{OpenSlot, CloseSlot}
 use Rattle.runs.specs.declared.requests.Request.{Request}
 use Rattle.runs.specs.declared.requests.Request.TheVariants.{Declare, Apply, Settle}
-use Rattle.runs.specs.Drafts.{Waiting}
+use Rattle.runs.specs.Outlines.{Waiting}
 use Rattle.runs.specs.Naming.{Named}
 use Rattle.runs.specs.Plans.{Plan}
 use Rattle.runs.specs.Taking.{takes}

@@ -11,7 +11,7 @@ use Rattle.types.specs.declared.event.Event.{Event}
 use Rattle.protocol.specs.Networks.{Budgets}
 use Rattle.protocol.specs.Rosters.{Shares}
 use Rattle.configuration.specs.Budgets.{AreBudgets}
-use Rattle.runs.specs.declared.drafts.Reserved.{Reserved}
+use Rattle.runs.specs.declared.outlines.Reserved.{Reserved}
 use Rattle.runs.specs.declared.requests.Declaration.TheVariants.{Net, Node, Roster}
 use Rattle.runs.specs.declared.requests.Request.{Request}
 use Rattle.runs.specs.declared.requests.Request.TheVariants.{Declare, Apply, Settle}

@@ -5,7 +5,7 @@ use Rattle.types.specs.declared.event.Event.{Event}
 use Rattle.protocol.specs.Hosts.{History}
 use Rattle.protocol.specs.Submissions.{config_of}
 use Rattle.crowds.specs.Submitted.{and_then, declared}
-use Rattle.runs.specs.Drafts.{Waiting, waiting_at}
+use Rattle.runs.specs.Outlines.{Waiting, waiting_at}
 use Rattle.runs.specs.Joining.{HaveJoined, IsNamed, Joins}
 use Rattle.runs.specs.Naming.{Named, named_with, unnamed}
 use Rattle.runs.specs.Preparing.{IsPrepared}

@@ -5,7 +5,7 @@ use Rattle.protocol.specs.Rosters.{Shares}
 use Rattle.configuration.specs.Faults.{first_fault, roster_tests}
 use Rattle.runs.specs.declared.requests.Declaration.{Declaration}
 use Rattle.runs.specs.declared.requests.Declaration.TheVariants.{Net, Node, Roster}
-use Rattle.runs.specs.Drafts.{Drafted, Waiting, waiting_at}
+use Rattle.runs.specs.Outlines.{Outlined, Waiting, waiting_at}
 use Rattle.runs.specs.Naming.{Named, is_in}
 
 -- a line has declared the network of the number: it waits for an event that names it, or one has named it since
@@ -17,7 +17,7 @@ abbrev pub declared_count : Waiting → Named → ℕ
 declared_count ws n = length ws + length n.running
 
 -- a network may have a node of this name: it is declared, it has none of that name, and fewer than 256
-abbrev pub takes_node : Option Drafted → ℕ → Bool
+abbrev pub takes_node : Option Outlined → ℕ → Bool
 takes_node None u = false
 takes_node (Some d) u = nat_lt (length d.nodes) 256 && not (list_any (λ host. host.name == u) d.nodes)
 
@@ -26,7 +26,7 @@ abbrev pub is_roster : List ℕ → Shares → Bool
 is_roster names shares = not (is_some (first_fault (roster_tests names shares)))
 
 -- a network may have this roster: it is declared, and has none
-abbrev pub takes_roster : Option Drafted → List ℕ → Shares → Bool
+abbrev pub takes_roster : Option Outlined → List ℕ → Shares → Bool
 takes_roster None names shares = false
 takes_roster (Some d) names shares = not (is_some d.roster) && is_roster names shares
 

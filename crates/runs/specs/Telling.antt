@@ -5,7 +5,7 @@ use Rattle.scripts.specs.Words.{word_counter}
 use Rattle.types.specs.declared.event.Event.{Event}
 use Rattle.runs.specs.declared.requests.Request.{Request}
 use Rattle.runs.specs.declared.requests.Request.TheVariants.{Declare, Apply, Settle}
-use Rattle.runs.specs.Drafts.{Drafted, Waiting, waiting_at}
+use Rattle.runs.specs.Outlines.{Outlined, Waiting, waiting_at}
 use Rattle.runs.specs.Naming.{Named}
 use Rattle.runs.specs.Requests.{IsRequested}
 use Rattle.runs.specs.Taking.{takes}
@@ -25,7 +25,7 @@ NamesNet fields g = ⊥
 
 -- ---- bad lines
 
-abbrev pub IsBare : Option Drafted → Type 0
+abbrev pub IsBare : Option Outlined → Type 0
 IsBare None = ⊥
 IsBare (Some d) = d.nodes ≡ []
 

@@ -5,7 +5,6 @@
 //! an archive of its own. What may be used above is the run of lines of `scripts`.
 #![tactic(auto)]
 
-mod drafts;
 mod emissions;
 mod events;
 mod followed;
@@ -14,6 +13,7 @@ mod job_run;
 mod named;
 mod nets;
 mod networks;
+mod outlines;
 mod quiet_run;
 mod refusals;
 mod replies;

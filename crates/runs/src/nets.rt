@@ -1,7 +1,7 @@
 //! The networks of a script, by number: what their lines have declared, and how far they are.
 
 ghost use Rattle.std.specs.Prelude.{◌≡◌, [], Err, IfOk, None, OnOk, false, true};
-ghost use Rattle.runs.specs.Drafts.{IsRevised, fresh, waiting_at, waiting_with, with_node, with_roster};
+ghost use Rattle.runs.specs.Outlines.{IsRevised, fresh, waiting_at, waiting_with, with_node, with_roster};
 ghost use Rattle.runs.specs.Followed.{also_followed};
 ghost use Rattle.runs.specs.Joining.{HasJoined, HaveJoined, IsNamed, IsTaken};
 ghost use Rattle.runs.specs.Naming.{named_with, unnamed};
@@ -10,10 +10,10 @@ ghost use Rattle.runs.specs.Taking.{takes};
 ghost use Rattle.runs.specs.declared.requests.Declaration.TheVariants.{Net, Node, Roster};
 ghost use Rattle.runs.specs.Telling.{HasNoNode};
 
-use crate::drafts::{Draft, Reserved};
 use crate::followed::Followed;
 use crate::named::Named;
 use crate::networks::Networks;
+use crate::outlines::{Outline, Reserved};
 use crate::requests::Declaration;
 use crate::waiting::Waiting;
 use configuration::{Budgets, NetConfig};
@@ -132,10 +132,10 @@ impl Nets {
     pub fn finish<N: Networks>(&mut self, networks: &mut N) -> Result<(), AllocError>
         ensures { OnOk result (HaveJoined N.joins self.old.waiting networks.old networks.new) }
     {
-        let Some((number, draft)) = self.waiting.take_first() else {
+        let Some((number, outline)) = self.waiting.take_first() else {
             return Ok(());
         };
-        join_complete(self.alloc, networks, number, draft)?;
+        join_complete(self.alloc, networks, number, outline)?;
         self.finish(networks)
     }
 
@@ -148,7 +148,7 @@ impl Nets {
         ensures bad { result ≡ Err LineError.Bad → HasNoNode self.old.waiting number }
     {
         match self.waiting.take(number) {
-            Some(draft) => match draft.config(number) {
+            Some(outline) => match outline.config(number) {
                 Ok(config) => {
                     self.named.run(number)?;
                     Ok(Some(config))
@@ -168,11 +168,11 @@ fn join_complete<N: Networks>(
     alloc: Global,
     networks: &mut N,
     number: u32,
-    draft: Draft,
+    outline: Outline,
 ) -> Result<(), AllocError>
-    ensures { OnOk result (HasJoined N.joins number draft networks.old networks.new) }
+    ensures { OnOk result (HasJoined N.joins number outline networks.old networks.new) }
 {
-    match draft.config(number) {
+    match outline.config(number) {
         Ok(config) => networks.join(alloc, config),
         Err(LineError::Bad) => Ok(()),
         // Memory: the configuration has none.

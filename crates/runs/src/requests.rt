@@ -4,8 +4,8 @@ ghost use Rattle.std.specs.Prelude.{◌≡◌, Err, IfOk, None, Some, map, optio
 ghost use Rattle.runs.specs.Lines.{IsRead};
 ghost use Rattle.runs.specs.Requests.{AreAllowed, AsksNode, AsksRoster, IsRequest, IsRequested, budgets_in, counted, names_in, only_names, settled, shares_in};
 
-use crate::drafts::Reserved;
 use crate::events::event_of;
+use crate::outlines::Reserved;
 use crate::verbs::{Verb, is_word, verb_of};
 use configuration::{Budgets, Shares};
 use scripts::{LineError, counter_of, name_of, number_of, slices_of};

@@ -1,10 +1,10 @@
 //! The networks of a script that are declared and that no event has named.
 
 ghost use Rattle.std.specs.Prelude.{◌<◌, ◌≡◌, ◌^◌, ◌∷◌, [], Err, IfNone, IfSome, None, OnOk, false, is_some, length, true};
-ghost use Rattle.runs.specs.Drafts.{IsRevised, fresh, waiting_at, waiting_with, waiting_without, with_node, with_roster};
+ghost use Rattle.runs.specs.Outlines.{IsRevised, fresh, waiting_at, waiting_with, waiting_without, with_node, with_roster};
 ghost use Rattle.runs.specs.Taking.{takes_node, takes_roster};
 
-use crate::drafts::{Draft, Reserved};
+use crate::outlines::{Outline, Reserved};
 use configuration::Budgets;
 use scripts::LineError;
 use std::alloc::Global;
@@ -17,19 +17,19 @@ use types::{Nested, NodeId};
 #[derive(Drop)]
 pub(crate) struct Waiting {
     alloc: Global,
-    drafts: BTreeMap<u32, Draft>,
+    outlines: BTreeMap<u32, Outline>,
 }
 
 impl Model for Waiting {
     ghost use Rattle.std.specs.Coded.{codes};
     ghost use Rattle.types.specs.Trees.{members_code};
-    ghost use Rattle.runs.specs.Drafts.{Waiting};
+    ghost use Rattle.runs.specs.Outlines.{Waiting};
 
     ghost Value = { Waiting };
 
     ghost coded = { Prim.hlevel (codes, members_code) };
 
-    ghost view = { λ waiting. waiting.drafts.entries };
+    ghost view = { λ waiting. waiting.outlines.entries };
 }
 
 impl Waiting {
@@ -39,7 +39,7 @@ impl Waiting {
     {
         Waiting {
             alloc,
-            drafts: BTreeMap::new(alloc),
+            outlines: BTreeMap::new(alloc),
         }
     }
 
@@ -49,10 +49,13 @@ impl Waiting {
         ensures declared { OnOk result (self.new ≡ waiting_with self.old number (fresh budgets)) }
         ensures bad { result ≡ Err LineError.Bad → is_some (waiting_at self.old number) ≡ true }
     {
-        if self.drafts.contains_key(&number) {
+        if self.outlines.contains_key(&number) {
             return Err(LineError::Bad);
         }
-        match self.drafts.insert(number, Draft::new(self.alloc, budgets)) {
+        match self
+            .outlines
+            .insert(number, Outline::new(self.alloc, budgets))
+        {
             Ok(_) => Ok(()),
             Err(_) => Err(LineError::NoMemory),
         }
@@ -65,8 +68,8 @@ impl Waiting {
         ensures taken { OnOk result (takes_node (waiting_at self.old number) name ≡ true) }
         ensures bad { result ≡ Err LineError.Bad → takes_node (waiting_at self.old number) name ≡ false }
     {
-        match self.drafts.get_mut(&number) {
-            Some(draft) => draft.host(name, slices),
+        match self.outlines.get_mut(&number) {
+            Some(outline) => outline.host(name, slices),
             None => Err(LineError::Bad),
         }
     }
@@ -81,8 +84,8 @@ impl Waiting {
         ensures bad { result ≡ Err LineError.Bad
             → takes_roster (waiting_at self.old number) roster.names.items roster.shares ≡ false }
     {
-        match self.drafts.get_mut(&number) {
-            Some(draft) => draft.reserve(roster),
+        match self.outlines.get_mut(&number) {
+            Some(outline) => outline.reserve(roster),
             None => Err(LineError::Bad),
         }
     }
@@ -92,23 +95,23 @@ impl Waiting {
         ensures count { result ≡ length self.now }
         ensures small { result < 2 ^ 63 }
     {
-        self.drafts.len()
+        self.outlines.len()
     }
 
     /// The network of a number leaves.
-    pub fn take(&mut self, number: u32) -> Option<Draft>
+    pub fn take(&mut self, number: u32) -> Option<Outline>
         ensures which { result ≡ waiting_at self.old number }
         ensures rest { IfSome result (λ _. self.new ≡ waiting_without self.old number) }
         ensures same { IfNone result (self.new ≡ self.old) }
     {
-        self.drafts.remove(&number)
+        self.outlines.remove(&number)
     }
 
     /// The first network leaves.
-    pub fn take_first(&mut self) -> Option<(u32, Draft)>
+    pub fn take_first(&mut self) -> Option<(u32, Outline)>
         ensures some { IfSome result (λ first. self.old ≡ first ∷ self.new) }
         ensures none { IfNone result (self.old ≡ []) }
     {
-        self.drafts.pop_first()
+        self.outlines.pop_first()
     }
 }

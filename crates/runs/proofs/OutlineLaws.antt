@@ -7,7 +7,7 @@ use Rattle.types.specs.Trees.{Slices, all_differ}
 use Rattle.types.proofs.Bools.{both, join, not_is}
 use Rattle.protocol.specs.Networks.{Host}
 use Rattle.configuration.specs.Configs.{names_of}
-use Rattle.runs.specs.Drafts.{Drafted, IsSound}
+use Rattle.runs.specs.Outlines.{Outlined, IsSound}
 
 swapped : (x u : ℕ) → (x == u) ≡ false → (u == x) ≡ false
 swapped x u h = grind (arith, nat_tests)
@@ -46,7 +46,7 @@ length-more [] h = refl
 length-more (x ∷ nodes) h = omega (arith, length-more nodes h)
 
 -- a node of another name may follow
-pub hosted-sound : (d : Drafted) (h : Host) (now : List Host) → IsSound d → length d.nodes < 256 → list_any (λ host. host.name == h.name) d.nodes ≡ false
+pub hosted-sound : (d : Outlined) (h : Host) (now : List Host) → IsSound d → length d.nodes < 256 → list_any (λ host. host.name == h.name) d.nodes ≡ false
     → now ≡ d.nodes ++ h ∷ [] → IsSound (record d { nodes = now })
 hosted-sound d h now sound few other e = record {
   differ = subst (λ nodes. all_differ (names_of nodes) ≡ true) (sym e)
@@ -57,7 +57,7 @@ hosted-sound d h now sound few other e = record {
 }
 
 -- the same of a list that may have been too short of room
-pub hosted-or-same : (d : Drafted) (h : Host) (u : ℕ) (q : Slices) (seen now : List Host) (ok : Bool) → IsSound d → length d.nodes < 256
+pub hosted-or-same : (d : Outlined) (h : Host) (u : ℕ) (q : Slices) (seen now : List Host) (ok : Bool) → IsSound d → length d.nodes < 256
     → h ≡ record { name = u; slices = q } → seen ≡ d.nodes → list_any (λ host. host.name == u) seen ≡ false
     → now ≡ (if ok then d.nodes ++ h ∷ [] else d.nodes) → IsSound (record d { nodes = now })
 hosted-or-same d h u q seen now true sound few is same other e =

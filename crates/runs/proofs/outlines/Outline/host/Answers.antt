@@ -1,6 +1,6 @@
 use Rattle.std.proofs.Common.{◌∙◌, sym, arith}
-use Rattle.runs.proofs.DraftLaws.{hosted-or-same}
-use Rattle.runs.proofs.drafts.Draft.host.Goals as goal
+use Rattle.runs.proofs.OutlineLaws.{hosted-or-same}
+use Rattle.runs.proofs.outlines.Outline.host.Goals as goal
 
 pub invariant_of-self : goal.invariant_of-self
 invariant_of-self c = hosted-or-same _ c.new.result c.args.name _ _ _ _ c.self.invariant

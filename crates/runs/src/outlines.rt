@@ -3,7 +3,7 @@
 ghost use Rattle.std.specs.Prelude.{◌≡◌, ◌==◌, [], Err, IfOk, None, OnOk, Some, false, true};
 ghost use Rattle.std.specs.List.{list_any};
 ghost use Rattle.types.specs.Trees.{all_differ as names_differ};
-ghost use Rattle.runs.specs.Drafts.{IsConfigOf, fresh, with_node, with_roster};
+ghost use Rattle.runs.specs.Outlines.{IsConfigOf, fresh, with_node, with_roster};
 ghost use Rattle.runs.specs.Taking.{is_roster, takes_node, takes_roster};
 
 use configuration::{
@@ -17,9 +17,9 @@ use types::{Nested, NodeId};
 /// What the lines of a network have declared so far: its budgets, its nodes in the order of their lines, and
 /// its roster.
 ///
-/// Nodes may come in any order, none twice: C, then A are nodes of a draft, and C is not taken again.
+/// Nodes may come in any order, none twice: C, then A are nodes of an outline, and C is not taken again.
 #[derive(Drop)]
-pub(crate) struct Draft {
+pub(crate) struct Outline {
     alloc: Global,
     budgets: Budgets,
     nodes: Vec<Host>,
@@ -33,13 +33,13 @@ pub(crate) struct Reserved {
     pub shares: Shares,
 }
 
-impl Model for Draft {
+impl Model for Outline {
     ghost use Rattle.std.specs.Coded.{codes};
     ghost use Rattle.std.specs.Prelude.{option_map};
     ghost use Rattle.types.specs.Trees.{members_code};
-    ghost use Rattle.runs.specs.Drafts.{Drafted, IsSound};
+    ghost use Rattle.runs.specs.Outlines.{Outlined, IsSound};
 
-    ghost Value = { Drafted };
+    ghost Value = { Outlined };
 
     ghost coded = { Prim.hlevel (codes, members_code) };
 
@@ -48,12 +48,12 @@ impl Model for Draft {
     ghost invariant = { λ d. IsSound (record { budgets = d.budgets; nodes = d.nodes.items; roster = option_map (λ r. (r.names.items, r.shares)) d.roster }) };
 }
 
-impl Draft {
+impl Outline {
     /// A network with these budgets and no node. It takes no memory.
-    pub fn new(alloc: Global, budgets: Budgets) -> Draft
+    pub fn new(alloc: Global, budgets: Budgets) -> Outline
         ensures { result ≡ fresh budgets }
     {
-        Draft {
+        Outline {
             alloc,
             budgets,
             nodes: Vec::new(alloc),
@@ -97,7 +97,7 @@ impl Draft {
         ensures config { IfOk result (IsConfigOf number self) }
         ensures bad { result ≡ Err LineError.Bad → self.nodes ≡ [] }
     {
-        let Draft {
+        let Outline {
             alloc,
             budgets,
             nodes,

@@ -14,37 +14,37 @@ use Rattle.configuration.specs.Faults.{first_fault, roster_tests}
 use Rattle.configuration.specs.Rosters.{HasRosterOf}
 
 -- what lines have declared of a network: its budgets, its nodes in the order of their lines, and the names and the shares of its roster
-pub record Drafted : Type 0 where
+pub record Outlined : Type 0 where
   pub budgets : Budgets
   pub nodes : List Host
   pub roster : Option (List ℕ × Shares)
 
 -- the networks that are declared and that no event has named since, ascending by number
 abbrev pub Waiting : Type 0
-Waiting = List (ℕ × Drafted)
+Waiting = List (ℕ × Outlined)
 
 -- ---- what lines change
 
 -- a network without nodes and without a roster
-abbrev pub fresh : Budgets → Drafted
+abbrev pub fresh : Budgets → Outlined
 fresh b = record { budgets = b; nodes = []; roster = None }
 
-abbrev pub with_node : Drafted → ℕ → Slices → Drafted
+abbrev pub with_node : Outlined → ℕ → Slices → Outlined
 with_node d u q = record d { nodes = d.nodes ++ record { name = u; slices = q } ∷ [] }
 
-abbrev pub with_roster : Drafted → List ℕ → Shares → Drafted
+abbrev pub with_roster : Outlined → List ℕ → Shares → Outlined
 with_roster d names shares = record d { roster = Some (names, shares) }
 
 -- the network of a number, where it waits
-abbrev pub waiting_at : Waiting → ℕ → Option Drafted
+abbrev pub waiting_at : Waiting → ℕ → Option Outlined
 waiting_at ws g = lookup (is_at (nat_cmp g)) ws
 
 -- with one more, in the place of its number
-abbrev pub waiting_with : Waiting → ℕ → Drafted → Waiting
+abbrev pub waiting_with : Waiting → ℕ → Outlined → Waiting
 waiting_with ws g d = insert_entry nat_cmp ws g d
 
 -- with that one in the place of the one of its number
-abbrev pub waiting_set : Waiting → ℕ → Drafted → Waiting
+abbrev pub waiting_set : Waiting → ℕ → Outlined → Waiting
 waiting_set ws g d = set_value (is_at (nat_cmp g)) ws d
 
 -- without the one of a number
@@ -52,8 +52,8 @@ abbrev pub waiting_without : Waiting → ℕ → Waiting
 waiting_without ws g = remove_entry (is_at (nat_cmp g)) ws
 
 -- the network of a number, which waits, is replaced by that
-abbrev pub IsRevised : ℕ → (Drafted → Drafted) → Waiting → Waiting → Type 0
-IsRevised g change old new = (d : Drafted) × (waiting_at old g ≡ Some d) × (new ≡ waiting_set old g (change d))
+abbrev pub IsRevised : ℕ → (Outlined → Outlined) → Waiting → Waiting → Type 0
+IsRevised g change old new = (d : Outlined) × (waiting_at old g ≡ Some d) × (new ≡ waiting_set old g (change d))
 
 -- ---- what becomes of them
 
@@ -63,7 +63,7 @@ IsAllowed None = Unit {0}
 IsAllowed (Some r) = first_fault (roster_tests r.0 r.1) ≡ None
 
 -- what a configuration refuses of nodes and rosters has not been declared
-pub record IsSound (d : Drafted) : Type 0 where
+pub record IsSound (d : Outlined) : Type 0 where
   pub differ : all_differ (names_of d.nodes) ≡ true
   pub few_nodes : length d.nodes ≤ 256
   pub allowed : IsAllowed d.roster
@@ -74,7 +74,7 @@ IsRosterAs None roster = roster ≡ None
 IsRosterAs (Some r) roster = HasRosterOf r.0 r.1 roster
 
 -- what was declared has nodes and is this configuration, with the nodes ascending by name
-pub record IsConfigOf (g : ℕ) (d : Drafted) (c : Config) : Type 0 where
+pub record IsConfigOf (g : ℕ) (d : Outlined) (c : Config) : Type 0 where
   pub some_nodes : d.nodes ≢ []
   pub number : c.number ≡ g
   pub budgets : c.budgets ≡ d.budgets
