@@ -1,15 +1,17 @@
 -- Who a node is, the rows that it has, and the nodes that it reaches by them.
-use Rattle.std.specs.Prelude.{ℕ, Bool, Box, true, false, List, Option, IfSome, IsFalse, ⊤, box_value, option_map}
+use Rattle.std.specs.Prelude.{ℕ, Bool, Box, true, false, List, Option, Some, None, IfSome, IsFalse, ⊤, box_value, option_map}
 use Rattle.std.specs.Global.{Global}
 use Rattle.types.specs.Statements.{Sent}
 use Rattle.protocol.specs.Reach.{IsReach}
 use Rattle.protocol.specs.Rows.{with_row}
+use Rattle.view.specs.declared.known_reach.KnownReach.{KnownReach}
 use Rattle.view.specs.declared.region.Region.{Region}
+use Rattle.view.specs.Knowing.{AreBallotsOf, IsKnown}
 use Rattle.view.specs.Regions.{IsEntry, IsRegion}
-use Rattle.protocol.specs.Sets.{among, IsAscending}
+use Rattle.protocol.specs.Sets.{among}
 use Rattle.latest.specs.declared.table.Put.{Put}
 use Rattle.envstore.specs.declared.filed.Filed.{Filed}
-use Rattle.envstore.specs.Archives.{sents_of}
+use Rattle.envstore.specs.Archives.{sent_of, sents_of}
 use Rattle.latest.specs.declared.table.Put.TheVariants.{Stale, NoMemory, Added, Replaced}
 use Rattle.listening.specs.declared.configured.Configured.{Configured}
 use Rattle.listening.specs.declared.known.Effect.{Effect}
@@ -20,27 +22,35 @@ pub record Heard : Type 0 where
   pub configured : Configured
   pub table : List Filed
 
--- the region that is kept on the heap, if one is
-abbrev pub region_in : Option (Box Region Global) → Option Region
-region_in = option_map box_value
+-- what is known, on the heap, if anything is
+abbrev pub reach_in : Option (Box KnownReach Global) → Option KnownReach
+reach_in = option_map box_value
 
--- the region of such a node
-abbrev pub IsRegionOf : Heard → Region → Type 0
-IsRegionOf h r = IsRegion h.configured.name h.configured.slices (sents_of h.table) r
+-- the region of it
+abbrev pub region_of : Option KnownReach → Option Region
+region_of = option_map (λ k. k.region)
 
--- a region that is known is what the configuration and the table give
+-- what such a node knows of its reach
+abbrev pub IsKnownOf : Heard → KnownReach → Type 0
+IsKnownOf h k = IsKnown h.configured.name h.configured.slices (sents_of h.table) k
+
+-- what is known is what the configuration and the table give
+abbrev pub KnowsReach : Configured → List Sent → Option KnownReach → Type 0
+KnowsReach c table known = IfSome known (λ k. IsKnown c.name c.slices table k)
+
+-- so is a region
 abbrev pub KnowsRegion : Configured → List Sent → Option Region → Type 0
-KnowsRegion c table known = IfSome known (λ r. IsRegion c.name c.slices table r)
+KnowsRegion c table region = IfSome region (λ r. IsRegion c.name c.slices table r)
 
--- its nodes ascend
-abbrev pub KnownAscends : Option Region → Type 0
-KnownAscends known = IfSome known (λ r. IsAscending r.nodes.items)
+-- and the ballots of a reach that is known, where they are listed
+abbrev pub KnowsBallots : Configured → List Sent → Option KnownReach → Type 0
+KnowsBallots c table known = IfSome known (λ k. IfSome k.ballots (λ b. AreBallotsOf c.name table k.region.nodes.items b))
 
--- what an envelope does to what such a node knows where the table takes it: nothing, one entry is set, or it is not known any more
+-- what an envelope does to the region that such a node knows where the table takes it: nothing, one entry is set, or it is not known any more
 abbrev pub IsEffect : Configured → List Sent → Sent → Option Region → Effect → Type 0
-IsEffect c table e known Nothing = KnowsRegion c table known → KnowsRegion c (with_row e table) known
-IsEffect c table e known (Sets x) = IfSome known (λ r. IsEntry c.name c.slices table e r x)
-IsEffect c table e known Forgets = ⊤
+IsEffect c table e region Nothing = KnowsRegion c table region → KnowsRegion c (with_row e table) region
+IsEffect c table e region (Sets x) = IfSome region (λ r. IsEntry c.name c.slices table e r x)
+IsEffect c table e region Forgets = ⊤
 
 -- a node that is not among those that are reached
 pub record IsStranger (h : Heard) (u : ℕ) : Type 0 where
@@ -54,3 +64,10 @@ is_put Stale = false
 is_put NoMemory = false
 is_put Added = true
 is_put (Replaced r) = true
+
+-- the row that a put replaced
+abbrev pub replaced : Put → Option Sent
+replaced Stale = None
+replaced NoMemory = None
+replaced Added = None
+replaced (Replaced r) = Some (sent_of r)

@@ -1,25 +1,26 @@
 //! What a listener knows of the nodes that it reaches: it is kept from one event to the next, and a row that
-//! comes leaves it, changes one entry of it, or makes it unknown.
+//! comes leaves its region, changes one entry of it, or makes it unknown. Where it stays known, the ballots that are
+//! listed follow the row.
 
-ghost use Rattle.std.specs.Prelude.{◌≡◌, IfOk, IsTrue, List, None, Some, is_some, box_value};
+ghost use Rattle.std.specs.Prelude.{◌≡◌, IfOk, IsTrue, List, None, Some, is_some, box_value, option_map};
 ghost use Rattle.envstore.specs.Archives.{AreFiled, IsFiled, sent_of, sents_of};
 ghost use Rattle.latest.specs.Puts.{IsFiledPut, IsPut, undone};
 ghost use Rattle.protocol.specs.Rows.{with_row};
 ghost use Rattle.protocol.specs.Sets.{IsAscending};
 ghost use Rattle.protocol.specs.Stirring.{KeepsReach};
 ghost use Rattle.listening.specs.declared.configured.Configured.{Configured};
-ghost use Rattle.listening.specs.Listening.{IsEffect, KnownAscends, KnowsRegion, is_put, region_in};
+ghost use Rattle.listening.specs.Listening.{IsEffect, KnowsBallots, KnowsReach, KnowsRegion, is_put, reach_in, region_of, replaced};
 ghost use Rattle.types.specs.Statements.{Sent};
-ghost use Rattle.view.specs.Regions.{IsRegion};
+ghost use Rattle.view.specs.Knowing.{IsKnown, IsTaken};
 
 use crate::configured::Configured;
 use envstore::{Archive, Filed, Places};
 use latest::{Put, Rows, Table};
 use std::alloc::{AllocError, Global};
 use types::Envelope;
-use view::{Entry, Region};
+use view::{Entry, KnownReach, Region, Taken};
 
-/// What a row does to what is known.
+/// What a row does to the region that is known.
 #[derive(Drop)]
 pub(crate) enum Effect {
     /// It stays.
@@ -37,38 +38,37 @@ pub(crate) struct FiledRow<'a, S: Places> {
     pub envelope: Filed,
 }
 
-/// The region that is known, or else found now; it is not known afterwards. An error says that memory is
-/// short.
+/// What is known, or else is found now; it is not known afterwards. An error says that memory is short.
 pub(crate) fn take_known<S: Places>(
     alloc: Global,
-    known: &mut Option<Box<Region>>,
+    known: &mut Option<Box<KnownReach>>,
     configured: &Configured,
     table: &Table,
     archive: &Archive<S>,
-) -> Result<Box<Region>, AllocError>
+) -> Result<Box<KnownReach>, AllocError>
     requires rows { AreFiled archive.now table.now }
-    requires known { KnowsRegion configured.now (sents_of table.now) (region_in known.old) }
-    ensures region { IfOk result (λ r. IsRegion configured.now.name configured.now.slices (sents_of table.now) (box_value r)) }
+    requires known { KnowsReach configured.now (sents_of table.now) (reach_in known.old) }
+    ensures reach { IfOk result (λ k. IsKnown configured.now.name configured.now.slices (sents_of table.now) (box_value k)) }
     ensures forgotten { known.new ≡ None }
 {
     match known.take() {
-        Some(region) => Ok(region),
+        Some(known) => Ok(known),
         None => {
             let rows = Rows::of(table, archive);
-            let region = Region::of(alloc, &configured.name, &configured.slices, &rows)?;
-            on_heap(alloc, region)
+            let reach = KnownReach::of(alloc, configured.own(), &rows)?;
+            on_heap(alloc, reach)
         }
     }
 }
 
-/// The region on the heap, so that a listener has no place for it before it is found. An error says that memory is
+/// What is known on the heap, so that a listener has no place for it before it is found. An error says that memory is
 /// short.
-fn on_heap(alloc: Global, region: Region) -> Result<Box<Region>, AllocError>
-    ensures { IfOk result (λ b. box_value b ≡ region) }
+fn on_heap(alloc: Global, known: KnownReach) -> Result<Box<KnownReach>, AllocError>
+    ensures { IfOk result (λ b. box_value b ≡ known) }
 {
-    match Box::new(alloc, region) {
-        Ok(region) => Ok(region),
-        // Memory: the region has no room.
+    match Box::new(alloc, known) {
+        Ok(known) => Ok(known),
+        // Memory: what is known has no room.
         Err(_) => Err(AllocError),
     }
 }
@@ -76,14 +76,14 @@ fn on_heap(alloc: Global, region: Region) -> Result<Box<Region>, AllocError>
 /// A copy of what is known. An error says that memory is short.
 pub(crate) fn copy_of_known(
     alloc: Global,
-    known: &Option<Box<Region>>,
-) -> Result<Option<Box<Region>>, AllocError>
-    ensures { IfOk result (λ copy. (c : Configured) (table : List Sent) → KnowsRegion c table (region_in known.now) → KnowsRegion c table (region_in copy)) }
+    known: &Option<Box<KnownReach>>,
+) -> Result<Option<Box<KnownReach>>, AllocError>
+    ensures { IfOk result (λ copy. (c : Configured) (table : List Sent) → KnowsReach c table (reach_in known.now) → KnowsReach c table (reach_in copy)) }
 {
     match known {
         None => Ok(None),
-        Some(region) => {
-            let copy = region.try_copy(alloc)?;
+        Some(known) => {
+            let copy = known.try_copy(alloc)?;
             Ok(Some(on_heap(alloc, copy)?))
         }
     }
@@ -96,48 +96,55 @@ pub(crate) fn put_row<S: Places>(
     alloc: Global,
     configured: &Configured,
     table: &mut Table,
-    known: &mut Option<Box<Region>>,
+    known: &mut Option<Box<KnownReach>>,
     row: FiledRow<'_, S>,
 ) -> Put
     requires rows { AreFiled row.archive.now table.old }
     requires envelope { IsFiled row.archive.now row.envelope }
-    requires known { KnownAscends (region_in known.old) }
+    requires known { KnowsReach configured.now (sents_of table.old) (reach_in known.old) }
     ensures put { IsPut table.old (sent_of row.entry.envelope) result table.new }
     ensures back { undone result table.new ≡ table.old }
-    ensures known { KnowsRegion configured.now (sents_of table.old) (region_in known.old) → KnowsRegion configured.now (sents_of table.new) (region_in known.new) }
-    ensures reach { IsTrue (is_some known.new) → KnowsRegion configured.now (sents_of table.old) (region_in known.old) → KeepsReach configured.now.name configured.now.slices (sents_of table.old) (sents_of table.new) }
+    ensures known { KnowsReach configured.now (sents_of table.new) (reach_in known.new) }
+    ensures reach { IsTrue (is_some known.new) → KeepsReach configured.now.name configured.now.slices (sents_of table.old) (sents_of table.new) }
     ensures filed { AreFiled row.entry.archive.now table.new }
     ensures replaced { IsFiledPut row.entry.archive.now result }
 {
-    // What memory this wants, it wants before the table changes.
+    // What memory the region wants, it wants before the table changes.
     let effect = effect_of(alloc, configured, known, table, &row);
     let FiledRow { archive, envelope } = row;
+    let again = archive.again(&envelope);
     let put = table.put(archive, envelope);
     if is_put(&put) {
         apply(known, effect);
+        let heard = HeardRow {
+            archive,
+            envelope: &again,
+            put: &put,
+        };
+        hear(alloc, known, configured, table, heard);
     }
     put
 }
 
-/// What the row does to what is known where the table takes it.
+/// What the row does to the region that is known where the table takes it.
 fn effect_of<S: Places>(
     alloc: Global,
     configured: &Configured,
-    known: &Option<Box<Region>>,
+    known: &Option<Box<KnownReach>>,
     table: &Table,
     row: &FiledRow<'_, S>,
 ) -> Effect
     requires rows { AreFiled row.now.archive.now table.now }
     requires envelope { IsFiled row.now.archive.now row.now.envelope }
-    requires known { KnownAscends (region_in known.now) }
-    ensures { IsEffect configured.now (sents_of table.now) (sent_of row.now.envelope) (region_in known.now) result }
+    requires known { KnowsReach configured.now (sents_of table.now) (reach_in known.now) }
+    ensures { IsEffect configured.now (sents_of table.now) (sent_of row.now.envelope) (region_of (reach_in known.now)) result }
 {
     match known {
         None => Effect::Nothing,
-        Some(region) => {
+        Some(known) => {
             let rows = Rows::of(table, row.archive);
             let envelope = row.archive.read(&row.envelope);
-            effect_on(alloc, configured, region, &rows, envelope)
+            effect_on(alloc, configured, &known.region, &rows, envelope)
         }
     }
 }
@@ -163,19 +170,64 @@ fn effect_on<S: Places>(
     }
 }
 
-/// Does it.
-fn apply(known: &mut Option<Box<Region>>, effect: Effect)
-    ensures known { (c : Configured) (table : List Sent) (e : Sent) → IsEffect c table e (region_in known.old) effect → KnowsRegion c table (region_in known.old) → KnowsRegion c (with_row e table) (region_in known.new) }
-    ensures reach { IsTrue (is_some known.new) → (c : Configured) (table : List Sent) (e : Sent) → IsEffect c table e (region_in known.old) effect → KnowsRegion c table (region_in known.old) → KeepsReach c.name c.slices table (with_row e table) }
+/// Does it. The ballots that are listed stay as they are.
+fn apply(known: &mut Option<Box<KnownReach>>, effect: Effect)
+    ensures known { (c : Configured) (table : List Sent) (e : Sent) → IsEffect c table e (region_of (reach_in known.old)) effect → KnowsRegion c table (region_of (reach_in known.old)) → KnowsRegion c (with_row e table) (region_of (reach_in known.new)) }
+    ensures reach { IsTrue (is_some known.new) → (c : Configured) (table : List Sent) (e : Sent) → IsEffect c table e (region_of (reach_in known.old)) effect → KnowsRegion c table (region_of (reach_in known.old)) → KeepsReach c.name c.slices table (with_row e table) }
+    ensures ballots { (c : Configured) (table : List Sent) → KnowsBallots c table (reach_in known.old) → KnowsBallots c table (reach_in known.new) }
 {
     match effect {
         Effect::Nothing => {}
         Effect::Sets(entry) => {
-            if let Some(region) = known {
-                region.set_entry(entry);
+            if let Some(known) = known {
+                known.region.set_entry(entry);
             }
         }
         Effect::Forgets => *known = None,
+    }
+}
+
+/// A row that a table has now, and what the put answered.
+#[derive(Drop)]
+struct HeardRow<'a, S: Places> {
+    archive: &'a Archive<S>,
+    envelope: &'a Filed,
+    put: &'a Put,
+}
+
+/// Has the ballots that are listed follow a row that the table has now, where the region does already.
+fn hear<S: Places>(
+    alloc: Global,
+    known: &mut Option<Box<KnownReach>>,
+    configured: &Configured,
+    table: &Table,
+    heard: HeardRow<'_, S>,
+)
+    requires rows { AreFiled heard.archive.now table.now }
+    requires envelope { IsFiled heard.archive.now heard.envelope.now }
+    requires put { IsFiledPut heard.archive.now heard.put.now }
+    requires region { KnowsRegion configured.now (sents_of table.now) (region_of (reach_in known.old)) }
+    ensures some { IsTrue (is_some known.new) → IsTrue (is_some known.old) }
+    ensures known { (old : List Sent) → IsTaken old (sents_of table.now) (sent_of heard.entry.envelope.now) (replaced heard.entry.put.now) → KnowsBallots configured.now old (reach_in known.old) → KnowsReach configured.now (sents_of table.now) (reach_in known.new) }
+{
+    if let Some(known) = known {
+        let rows = Rows::of(table, heard.archive);
+        let taken = Taken {
+            row: heard.archive.read(heard.envelope),
+            before: replaced(heard.archive, heard.put),
+        };
+        known.hear(alloc, configured.own(), &rows, &taken);
+    }
+}
+
+/// The row that the put replaced, if there was one.
+fn replaced<'a, S: Places>(archive: &'a Archive<S>, put: &Put) -> Option<&'a Envelope>
+    requires { IsFiledPut archive.now put.now }
+    ensures { option_map (λ r. r.now) result ≡ replaced put.now }
+{
+    match put {
+        Put::Stale | Put::NoMemory | Put::Added => None,
+        Put::Replaced(row) => Some(archive.read(row)),
     }
 }
 

@@ -3,26 +3,27 @@
 ghost use Rattle.std.specs.Prelude.{◌≡◌, IfOk, IsTrue, List, OnErr, OnOk, [], box_value, false, is_ok};
 ghost use Rattle.envstore.specs.Archives.{AreFiled, IsFiled, sent_of, sents_of};
 ghost use Rattle.latest.specs.Puts.{IsFiledPut, IsPut, undone};
-ghost use Rattle.listening.specs.Listening.{IsRegionOf, IsStranger};
+ghost use Rattle.listening.specs.Listening.{IsKnownOf, IsStranger};
 ghost use Rattle.protocol.specs.Rows.{is_taken, offered};
 ghost use Rattle.protocol.specs.Stirring.{KeepsReach};
 
 use crate::configured::Configured;
 use crate::known::{FiledRow, copy_of_known, put_row, take_known};
 use envstore::{Archive, Filed, Places};
-use latest::{Put, Table};
+use latest::{Put, Rows, Table};
 use slices::is_among;
 use std::alloc::{AllocError, Global};
 use std::marker::Model;
 use std::mem;
 use types::{Nested, NodeId};
-use view::Region;
+use view::KnownReach;
 
 /// Who a node is, and the rows that it has.
 ///
 /// The nodes that it reaches and their slices, compiled, are kept from one event to the next, until a row
 /// or slices come that may change the reach. A reached node's row that surely leaves it, and has slices that
-/// are new there, changes one entry.
+/// are new there, changes one entry. With them the ballots are kept that rows of reached nodes speak of, in order, once
+/// a rule of balloting was asked for: such a row adds its own, and takes away those that it alone spoke of.
 ///
 /// The rows lie in one archive, which is lent to each call that reads one. Contracts see who the node is and its
 /// rows, and nothing of what is known.
@@ -30,14 +31,14 @@ use view::Region;
 pub struct Listener {
     configured: Configured,
     table: Table,
-    known: Option<Box<Region>>,
+    known: Option<Box<KnownReach>>,
 }
 
 impl Model for Listener {
     ghost use Rattle.std.specs.Coded.{codes};
     ghost use Rattle.types.specs.Trees.{members_code};
     ghost use Rattle.envstore.specs.Archives.{sents_of};
-    ghost use Rattle.listening.specs.Listening.{Heard, KnowsRegion, region_in};
+    ghost use Rattle.listening.specs.Listening.{Heard, KnowsReach, reach_in};
 
     ghost Value = { Heard };
 
@@ -45,7 +46,7 @@ impl Model for Listener {
 
     ghost view = { λ l. record { configured = l.configured; table = l.table } };
 
-    ghost invariant = { λ l. KnowsRegion l.configured (sents_of l.table) (region_in l.known) };
+    ghost invariant = { λ l. KnowsReach l.configured (sents_of l.table) (reach_in l.known) };
 }
 
 impl Listener {
@@ -96,7 +97,7 @@ impl Listener {
     {
         match &self.known {
             None => false,
-            Some(region) => !is_among(&region.nodes, sender),
+            Some(known) => !is_among(&known.region.nodes, sender),
         }
     }
 
@@ -171,32 +172,48 @@ impl Listener {
         mem::replace(&mut self.configured.slices, slices)
     }
 
-    /// The region of the node: the one that is known, or else found now. It is not known afterwards, until
-    /// [`Listener::keep_region`] gives it back. An error says that memory is short.
-    pub fn take_region<S: Places>(
+    /// What is known of the node's reach, or else is found now. It is not known afterwards, until
+    /// [`Listener::keep_reach`] gives it back. An error says that memory is short.
+    pub fn take_reach<S: Places>(
         &mut self,
         alloc: Global,
         archive: &Archive<S>,
-    ) -> Result<Box<Region>, AllocError>
+    ) -> Result<Box<KnownReach>, AllocError>
         requires rows { AreFiled archive.now self.old.table }
-        ensures region { IfOk result (λ r. IsRegionOf self.old (box_value r)) }
+        ensures reach { IfOk result (λ k. IsKnownOf self.old (box_value k)) }
         ensures same { self.new ≡ self.old }
     {
-        let region = take_known(
+        let known = take_known(
             alloc,
             &mut self.known,
             &self.configured,
             &self.table,
             archive,
         )?;
-        Ok(region)
+        Ok(known)
     }
 
-    /// Keeps the region of the node, until a row or slices come that may change it.
-    pub fn keep_region(&mut self, region: Box<Region>)
-        requires { IsRegionOf self.old (box_value region) }
+    /// The same with its ballots listed, for the rules of balloting.
+    pub fn take_listed_reach<S: Places>(
+        &mut self,
+        alloc: Global,
+        archive: &Archive<S>,
+    ) -> Result<Box<KnownReach>, AllocError>
+        requires rows { AreFiled archive.now self.old.table }
+        ensures reach { IfOk result (λ k. IsKnownOf self.old (box_value k)) }
+        ensures same { self.new ≡ self.old }
+    {
+        let mut known = self.take_reach(alloc, archive)?;
+        let rows = Rows::of(&self.table, archive);
+        known.list_ballots(alloc, self.configured.own(), &rows)?;
+        Ok(known)
+    }
+
+    /// Keeps what is known of the node's reach, until a row or slices come that may change it.
+    pub fn keep_reach(&mut self, known: Box<KnownReach>)
+        requires { IsKnownOf self.old (box_value known) }
         ensures { self.new ≡ self.old }
     {
-        self.known = Some(region);
+        self.known = Some(known);
     }
 }

@@ -1,8 +1,8 @@
-//! What a node makes of what its listener has: passes by the region that is kept, and outs.
+//! What a node makes of what its listener has: passes by what is known of the reach, and outs.
 
-ghost use Rattle.std.specs.Prelude.{◌≡◌, IfOk, IfSome, IsTrue, List, Some, is_some};
+ghost use Rattle.std.specs.Prelude.{◌≡◌, IfOk, IfSome, IsTrue, List, Some, box_value, is_some};
 ghost use Rattle.envstore.specs.Archives.{AreFiled};
-ghost use Rattle.listening.specs.Listening.{IsRegionOf};
+ghost use Rattle.listening.specs.Listening.{IsKnownOf};
 ghost use Rattle.protocol.specs.Nodes.{outs, passed, settle};
 ghost use Rattle.slot.specs.Listening.{node_of};
 ghost use Rattle.slot.specs.Stirrings.{StirsIn};
@@ -17,7 +17,7 @@ use latest::Rows;
 use listening::Listener;
 use std::alloc::{AllocError, Global};
 use types::{Phase, Votes};
-use view::{Region, View};
+use view::{KnownReach, View};
 
 /// What passes make of a node with these rows from this start on, and what it gives out since the old
 /// state. What contracts see of the listener stays as it was, and an error says that memory is short.
@@ -61,10 +61,27 @@ fn votes_after<S: Places>(
     if let Phase::Externalized = start.votes.phase {
         return votes_at_rest(start);
     }
-    let region = listener.take_region(alloc, archive)?;
-    let votes = votes_within(alloc, archive, listener, &region, start);
-    listener.keep_region(region);
+    let reach = take_reach(alloc, archive, listener, start.stirred)?;
+    let votes = votes_within(alloc, archive, listener, &reach, start);
+    listener.keep_reach(reach);
     votes
+}
+
+/// What the listener knows of its reach: with the ballots listed, where rules of balloting are stirred.
+fn take_reach<S: Places>(
+    alloc: Global,
+    archive: &Archive<S>,
+    listener: &mut Listener,
+    stirred: Stirred,
+) -> Result<Box<KnownReach>, AllocError>
+    requires rows { AreFiled archive.now listener.old.table }
+    ensures reach { IfOk result (λ k. IsKnownOf listener.old (box_value k)) }
+    ensures same { listener.new ≡ listener.old }
+{
+    match stirred {
+        Stirred::Nominations => listener.take_reach(alloc, archive),
+        Stirred::All | Stirred::Ballots => listener.take_listed_reach(alloc, archive),
+    }
 }
 
 /// The votes after passes from this start on, by the rows of the nodes that are reached.
@@ -72,11 +89,11 @@ fn votes_within<S: Places>(
     alloc: Global,
     archive: &Archive<S>,
     listener: &Listener,
-    region: &Region,
+    reach: &KnownReach,
     start: &Start<'_>,
 ) -> Result<Votes, AllocError>
     requires rows { AreFiled archive.now listener.now.table }
-    requires region { IsRegionOf listener.now region.now }
+    requires reach { IsKnownOf listener.now reach.now }
     requires stirs { StirsIn start.now.stirred (node_of listener.now start.now.given.now start.now.votes.now) }
     requires settles { IsTrue (is_some (settle 64 (passed (node_of listener.now start.now.given.now start.now.votes.now)) start.now.votes.now)) }
     ensures { IfOk result (λ w. settle 64 (passed (node_of listener.now start.now.given.now start.now.votes.now)) start.now.votes.now ≡ Some w) }
@@ -87,11 +104,11 @@ fn votes_within<S: Places>(
     let leaders = &start.given.leaders;
     match start.stirred {
         Stirred::Nominations => {
-            let view = View::unlisted(alloc, own, leaders, &rows, region);
+            let view = View::in_place(alloc, own, leaders, &rows, reach);
             settled_votes(alloc, configured, &view, start)
         }
         Stirred::All | Stirred::Ballots => {
-            let view = View::of(alloc, own, leaders, &rows, region)?;
+            let view = View::of(alloc, own, leaders, &rows, reach)?;
             settled_votes(alloc, configured, &view, start)
         }
     }

@@ -9,7 +9,7 @@ ghost use Rattle.protocol.specs.Backing.{passing};
 ghost use Rattle.protocol.specs.Rows.{is_taken, offered};
 ghost use Rattle.protocol.specs.Reach.{IsReach};
 ghost use Rattle.tables.specs.Listeners.{IsBacked};
-ghost use Rattle.view.specs.Regions.{IsRegion};
+ghost use Rattle.view.specs.Knowing.{IsKnown};
 
 use closure::reach;
 use envstore::{Archive, Places, VecShelf};
@@ -19,7 +19,7 @@ use listening::{Configured, Listener};
 use std::alloc::{AllocError, Global};
 use std::marker::Model;
 use types::{Ballot, Envelope, Kind, Leaders, NodeId};
-use view::{Own, Region, View};
+use view::{KnownReach, Own, View};
 
 /// What became of an envelope.
 #[derive(Clone, Copy, Debug, PartialEq, Eq)]
@@ -135,9 +135,9 @@ impl TableListener {
         ensures answer { IfOk result (λ b. IsTrue b ↔ IsBacked self.old ballot.now) }
         ensures unchanged { self.new ≡ self.old }
     {
-        let region = self.listener.take_region(alloc, &self.archive)?;
-        let answer = self.is_backed_within(alloc, ballot, &region);
-        self.listener.keep_region(region);
+        let reach = self.listener.take_reach(alloc, &self.archive)?;
+        let answer = self.is_backed_within(alloc, ballot, &reach);
+        self.listener.keep_reach(reach);
         answer
     }
 
@@ -146,13 +146,13 @@ impl TableListener {
         &self,
         alloc: Global,
         ballot: &Ballot,
-        region: &Region,
+        reach: &KnownReach,
     ) -> Result<bool, AllocError>
-        requires { IsRegion self.now.configured.name self.now.configured.slices self.now.rows region.now }
+        requires { IsKnown self.now.configured.name self.now.configured.slices self.now.rows reach.now }
         ensures { IfOk result (λ b. IsTrue b ↔ IsBacked self.now ballot.now) }
     {
         let rows = self.rows();
-        is_backed_by(alloc, self.listener.configuration(), &rows, region, ballot)
+        is_backed_by(alloc, self.listener.configuration(), &rows, reach, ballot)
     }
 }
 
@@ -162,10 +162,10 @@ fn is_backed_by<S: Places>(
     alloc: Global,
     configured: &Configured,
     rows: &Rows<'_, S>,
-    region: &Region,
+    reach: &KnownReach,
     ballot: &Ballot,
 ) -> Result<bool, AllocError>
-    requires { IsRegion configured.now.name configured.now.slices rows.now region.now }
+    requires { IsKnown configured.now.name configured.now.slices rows.now reach.now }
     ensures { IfOk result (λ b. IsTrue b ↔ IsBacked (record { configured = configured.now; rows = rows.now }) ballot.now) }
 {
     // No rule asks this view whom the node follows.
@@ -174,7 +174,7 @@ fn is_backed_by<S: Places>(
         name: &configured.name,
         slices: &configured.slices,
     };
-    let view = View::of(alloc, own, &leaders, rows, region)?;
+    let view = View::of(alloc, own, &leaders, rows, reach)?;
     let claim = claim_of(ballot)?;
     let question = Question::Backs(&claim);
     let own_passes = is_claim_backed(rows, &configured.name, &claim);

@@ -20,14 +20,14 @@ use Rattle.fedvote.specs.Searching.{next_counter, next_under}
 use Rattle.view.specs.Watching.{rows_of_others, said_by_another, values_in}
 use Rattle.view.proofs.SameRows.{AreSame, none_contained, found_from, found_to, kept_from, kept_to, same_committed, same_counter, same_named, same_values}
 
-among_from : (us : List ℕ) (u : ℕ) → Contains us u → among us u ≡ true
+pub among_from : (us : List ℕ) (u : ℕ) → Contains us u → among us u ≡ true
 among_from [] u c = absurd (none_contained u c)
 among_from (v ∷ us) u c = elim (contained_cases u v us c) [
   | inl q ↦ or_left (v == u) (among us u) (eq-eqb v u q)
   | inr i ↦ or_right (v == u) (among us u) (among_from us u i)
 ]
 
-among_to : (us : List ℕ) (u : ℕ) → among us u ≡ true → Contains us u
+pub among_to : (us : List ℕ) (u : ℕ) → among us u ≡ true → Contains us u
 among_to [] u h = absurd (false≢true h)
 among_to (v ∷ us) u h = elim (or_cases (v == u) (among us u) h) [
   | inl e ↦ subst (λ w. Contains (v ∷ us) w) (eqb-true v u e) (contains_head v us)
@@ -35,7 +35,7 @@ among_to (v ∷ us) u h = elim (or_cases (v == u) (among us u) h) [
 ]
 
 -- a row that is found is of that sender and kind
-row_is : (table : List Sent) (u : ℕ) (k : Kind) (e : Sent) → row table u k ≡ Some e → is_row_of u k e ≡ true
+pub row_is : (table : List Sent) (u : ℕ) (k : Kind) (e : Sent) → row table u k ≡ Some e → is_row_of u k e ≡ true
 unfolding row
 row_is [] u k e h = cc
 row_is (x ∷ xs) u k e h = elim (cases_Bool (is_row_of u k x)) [

@@ -10,4 +10,7 @@ pub mod EntryLaws
 pub mod AskingLaws
 pub mod PlaceLaws
 pub mod ListedLaws
+pub mod Leaving
+pub mod Following
+pub mod Knowing
 pub mod QuorumLaws

@@ -26,7 +26,7 @@ use Rattle.fedvote.specs.Searching.{is_under, next_under}
 use Rattle.view.specs.Listing.{AreListed, IsBallotPlace, IsDescending, IsPlaceUnder, StandsFor}
 use Rattle.view.proofs.SameRows.{is_contained, is_in, kept_from, kept_to, none_contained, same_next}
 
-less_or_same : (i j : ℕ) → i ≤ j → (i < j) ⊎ (i ≡ j)
+pub less_or_same : (i j : ℕ) → i ≤ j → (i < j) ⊎ (i ≡ j)
 less_or_same i j l = elim (cases_Bool (nat_lt i j)) [ inl e ↦ inl (is_less i j e) | inr e ↦ inr (is_same i j l e) ]
   where
     is_less : (i j : ℕ) → nat_lt i j ≡ true → i < j
@@ -35,7 +35,7 @@ less_or_same i j l = elim (cases_Bool (nat_lt i j)) [ inl e ↦ inl (is_less i j
     is_same : (i j : ℕ) → i ≤ j → nat_lt i j ≡ false → i ≡ j
     is_same i j l e = grind (arith, nat_tests)
 
-less_or_from : (i j : ℕ) → (i < j) ⊎ (j ≤ i)
+pub less_or_from : (i j : ℕ) → (i < j) ⊎ (j ≤ i)
 less_or_from i j = elim (cases_Bool (nat_lt i j)) [ inl e ↦ inl (is_less i j e) | inr e ↦ inr (is_from i j e) ]
   where
     is_less : (i j : ℕ) → nat_lt i j ≡ true → i < j

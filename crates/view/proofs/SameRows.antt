@@ -100,7 +100,7 @@ given_to f (z ∷ zs) x y c h = elim (contained_cases x z zs c) [
 ]
 
 -- ---- lists with the same elements
-same_kept : {X : Type 0} (p : X → Bool) (xs ys : List X) → AreSame xs ys → AreSame (filter p xs) (filter p ys)
+pub same_kept : {X : Type 0} (p : X → Bool) (xs ys : List X) → AreSame xs ys → AreSame (filter p xs) (filter p ys)
 same_kept p xs ys same x = (
   λ c. let r = kept_from p xs x c in kept_to p ys x ((same x).0 r.0) r.1,
   λ c. let r = kept_from p ys x c in kept_to p xs x ((same x).1 r.0) r.1,
@@ -112,7 +112,7 @@ same_found f xs ys same y = (
   λ c. let r = found_from f ys y c in found_to f xs r.0 y ((same r.0).1 r.1) r.2,
 )
 
-same_given : {X Y : Type 0} (f : X → List Y) (xs ys : List X) → AreSame xs ys → AreSame (flat_map f xs) (flat_map f ys)
+pub same_given : {X Y : Type 0} (f : X → List Y) (xs ys : List X) → AreSame xs ys → AreSame (flat_map f xs) (flat_map f ys)
 same_given f xs ys same y = (
   λ c. let r = given_from f xs y c in given_to f ys r.0 y ((same r.0).0 r.1) r.2,
   λ c. let r = given_from f ys y c in given_to f xs r.0 y ((same r.0).1 r.1) r.2,

@@ -3,3 +3,4 @@ pub mod Regions
 pub mod Asking
 pub mod Listing
 pub mod Forms
+pub mod Knowing

@@ -1,7 +1,8 @@
 -- Ballots that are listed once, so that each search goes through them in order.
-use Rattle.std.specs.Prelude.{◌≡◌, ℕ, ◌<◌, ◌≤◌, ◌↔◌, true, false, List, [], ◌∷◌, Option, Some, None, Result, Ok, Err, get_or, length}
+use Rattle.std.specs.Prelude.{◌≡◌, ◌⊎◌, ℕ, ◌<◌, ◌≤◌, ◌↔◌, Bool, ◌||◌, true, false, List, [], ◌∷◌, Option, Some, None, Result, Ok, Err, get_or, length}
 use Rattle.std.specs.List.{Contains}
 use Rattle.types.specs.declared.ballot.Ballot.{Ballot}
+use Rattle.protocol.specs.Sameness.{same_ballot}
 use Rattle.protocol.specs.States.{below}
 use Rattle.fedvote.specs.Searching.{is_under, next_under}
 
@@ -12,6 +13,15 @@ IsDescending ts = (i j : ℕ) (d : Ballot) → i < j → j < length ts → below
 -- listed are these ballots and no others
 abbrev pub AreListed : List Ballot → List Ballot → Type 0
 AreListed listed ts = (t : Ballot) → Contains listed t ↔ Contains ts t
+
+-- of the ballots in a list those are left that are among the ones that stay, or none of those that may go
+abbrev pub AreLeft : List Ballot → List Ballot → List Ballot → List Ballot → Type 0
+AreLeft staying going old new = (t : Ballot) → Contains new t ↔ (Contains old t × (Contains staying t ⊎ (Contains going t → ⊥)))
+
+-- whether a ballot is one of these
+abbrev pub is_one_of : List Ballot → Ballot → Bool
+is_one_of [] t = false
+is_one_of (s ∷ ts) t = same_ballot s t || is_one_of ts t
 
 -- each search in the list finds what it would find among these ballots
 abbrev pub StandsFor : List Ballot → List Ballot → Type 0

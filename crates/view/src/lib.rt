@@ -7,16 +7,21 @@
 
 mod asking;
 mod forms;
+mod known_reach;
 mod listed;
+mod mentions;
 mod own;
 mod passing;
 mod reached;
+mod reached_ballots;
 mod region;
 mod rows;
 mod searching;
 mod seeing;
 mod unlisted;
 
+pub use known_reach::{KnownReach, Taken};
 pub use own::Own;
+pub use reached_ballots::ReachedBallots;
 pub use region::{Entry, Region};
 pub use seeing::View;

@@ -1,27 +1,27 @@
-//! The ballots that a search goes through, listed once.
+//! Ballots in the order in which a search goes through them.
 
-ghost use Rattle.std.specs.Prelude.{◌≡◌, ◌∷◌, ◌++◌, [], IfOk, IsTrue, OnOk, Some, filter, option_map};
-ghost use Rattle.protocol.specs.Candidates.{committed_by, committed_in, is_counted, named_by, named_in};
+ghost use Rattle.std.specs.Prelude.{◌≡◌, ◌<◌, ◌∷◌, ◌++◌, [], OnOk, Some, filter, length};
+ghost use Rattle.std.specs.List.{remove};
+ghost use Rattle.protocol.specs.Candidates.{committed_by, is_counted, named_by};
 ghost use Rattle.fedvote.specs.Searching.{next_under};
 ghost use Rattle.types.specs.Orders.{ballot_cmp};
-ghost use Rattle.view.specs.Listing.{AreListed, IsBallotPlace, IsPlaceUnder, both_of};
-ghost use Rattle.view.specs.Watching.{rows_of_others};
+ghost use Rattle.view.specs.Listing.{AreLeft, AreListed, IsBallotPlace, IsDescending, IsPlaceUnder, both_of};
 
-use crate::reached::ReachedRows;
-use envstore::Places;
 use std::alloc::{AllocError, Global};
 use std::cmp::Ordering;
 use std::marker::Model;
-use types::{LentBallot, NodeId, Statement};
+use types::{Ballot, LentBallot, Statement};
 
 /// Ballots in descending order, none twice: a search for the greatest one below a bound is a binary search.
 /// Contracts see the list.
+///
+/// For example, of ballots (2, y), (1, z) and (1, y) the greatest below (2, x) is (1, z).
 #[derive(Drop)]
-pub(crate) struct ListedBallots<'a> {
-    ballots: Vec<LentBallot<'a>>,
+pub struct ListedBallots {
+    ballots: Vec<Ballot>,
 }
 
-impl<'a> Model for ListedBallots<'a> {
+impl Model for ListedBallots {
     ghost use Rattle.std.specs.Prelude.{List};
     ghost use Rattle.types.specs.declared.ballot.Ballot.{Ballot};
     ghost use Rattle.view.specs.Listing.{IsDescending};
@@ -33,45 +33,19 @@ impl<'a> Model for ListedBallots<'a> {
     ghost invariant = { λ l. IsDescending l.ballots.items };
 }
 
-impl<'a> ListedBallots<'a> {
-    /// The ballots that the statements name, and those at whose counters they speak of commit, both with
-    /// counters from 1 on. An error says that memory is short.
-    pub(crate) fn of_rows<S: Places>(
-        alloc: Global,
-        own: &NodeId,
-        rows: &ReachedRows<'a, S>,
-    ) -> Result<(ListedBallots<'a>, ListedBallots<'a>), AllocError>
-        ensures { IfOk result (λ l. AreListed l.0 (named_in (rows_of_others own.now rows.now.kind rows.now.table rows.now.nodes)) × AreListed l.1 (committed_in (rows_of_others own.now rows.now.kind rows.now.table rows.now.nodes))) }
-    {
-        let mut named = ListedBallots::nothing(alloc);
-        let mut committed = ListedBallots::nothing(alloc);
-        let mut last = None;
-        for place in 0..rows.nodes().len() {
-            let Some(statement) = rows.said_by_another(own, place) else {
-                continue;
-            };
-            if says(last, statement) {
-                continue;
-            }
-            named.add_named(statement)?;
-            committed.add_committed(statement)?;
-            last = Some(statement);
-        }
-        Ok((named, committed))
-    }
-
+impl ListedBallots {
     /// The greatest of them below the bound.
-    pub(crate) fn next(&self, bound: &Option<LentBallot>) -> Option<LentBallot<'a>>
+    pub(crate) fn next(&self, bound: &Option<LentBallot>) -> Option<LentBallot<'_>>
         ensures { result ≡ next_under bound.now self.now }
     {
         match self.ballots.get(self.place_under(bound)) {
             None => None,
-            Some(ballot) => Some(ballot.again()),
+            Some(ballot) => Some(LentBallot::of(ballot)),
         }
     }
 
     /// No ballots. It takes no memory.
-    fn nothing(alloc: Global) -> ListedBallots<'a>
+    pub(crate) fn nothing(alloc: Global) -> ListedBallots
         ensures { result ≡ [] }
     {
         ListedBallots {
@@ -80,7 +54,7 @@ impl<'a> ListedBallots<'a> {
     }
 
     /// Lists the ballots that the statement names. An error says that memory is short.
-    fn add_named(&mut self, statement: &'a Statement) -> Result<(), AllocError>
+    pub(crate) fn add_named(&mut self, statement: &Statement) -> Result<(), AllocError>
         ensures { OnOk result (AreListed self.new (self.old ++ filter is_counted (named_by statement.now))) }
     {
         match statement {
@@ -119,7 +93,7 @@ impl<'a> ListedBallots<'a> {
 
     /// Lists the ballots at the counters at which the statement speaks of commit. An error says that memory
     /// is short.
-    fn add_committed(&mut self, statement: &'a Statement) -> Result<(), AllocError>
+    pub(crate) fn add_committed(&mut self, statement: &Statement) -> Result<(), AllocError>
         ensures { OnOk result (AreListed self.new (self.old ++ filter is_counted (committed_by statement.now))) }
     {
         match committed_by(statement) {
@@ -129,7 +103,7 @@ impl<'a> ListedBallots<'a> {
     }
 
     /// Lists two ballots. An error says that memory is short.
-    fn add_both(&mut self, one: LentBallot<'a>, other: LentBallot<'a>) -> Result<(), AllocError>
+    fn add_both(&mut self, one: LentBallot, other: LentBallot) -> Result<(), AllocError>
         ensures { OnOk result (AreListed self.new (self.old ++ filter is_counted (one.entry ∷ other.entry ∷ []))) }
     {
         self.add(one)?;
@@ -138,7 +112,7 @@ impl<'a> ListedBallots<'a> {
 
     /// Lists a ballot whose counter is from 1 on, where it is not listed yet. An error says that memory is
     /// short.
-    fn add(&mut self, ballot: LentBallot<'a>) -> Result<(), AllocError>
+    fn add(&mut self, ballot: LentBallot) -> Result<(), AllocError>
         ensures { OnOk result (AreListed self.new (self.old ++ filter is_counted (ballot.entry ∷ []))) }
     {
         if ballot.counter() == 0 {
@@ -147,10 +121,37 @@ impl<'a> ListedBallots<'a> {
         match self.find(&ballot) {
             Ok(_) => Ok(()),
             Err(place) => {
-                self.ballots.insert(place, ballot)?;
+                let copy = ballot.try_copy()?;
+                self.ballots.insert(place, copy)?;
                 Ok(())
             }
         }
+    }
+
+    /// The ballot is listed no longer. It takes no memory.
+    pub(crate) fn remove(&mut self, ballot: &LentBallot)
+        ensures { AreLeft [] (ballot.now ∷ []) self.old self.new }
+    {
+        self.are_descending();
+        match self.find(ballot) {
+            Err(_) => {}
+            Ok(place) => self.remove_at(place - 1),
+        }
+    }
+
+    /// They descend.
+    fn are_descending(&self)
+        ensures { IsDescending self.now }
+    {
+        let _ballots = &self.ballots;
+    }
+
+    /// The ballot at this place is listed no longer. It takes no memory.
+    fn remove_at(&mut self, place: usize)
+        requires { place < length self.old }
+        ensures { self.new ≡ remove self.old place }
+    {
+        let _gone = self.ballots.remove(place);
     }
 
     /// The place of the first of them that is below the bound, or behind all of them.
@@ -188,18 +189,8 @@ impl<'a> ListedBallots<'a> {
     }
 }
 
-/// Whether the last statement, if there was one, says the same as this one.
-fn says(last: Option<&Statement>, statement: &Statement) -> bool
-    ensures { IsTrue result → option_map (λ s. s.now) last.entry ≡ Some statement.now }
-{
-    match last {
-        None => false,
-        Some(last) => last.is_same(statement),
-    }
-}
-
 /// The ballots at the counters at which a statement speaks of commit.
-fn committed_by<'a>(statement: &'a Statement) -> Option<(LentBallot<'a>, LentBallot<'a>)>
+pub(crate) fn committed_by<'a>(statement: &'a Statement) -> Option<(LentBallot<'a>, LentBallot<'a>)>
     ensures { both_of result ≡ committed_by statement.now }
 {
     match statement {
@@ -231,14 +222,14 @@ fn committed_by<'a>(statement: &'a Statement) -> Option<(LentBallot<'a>, LentBal
 
 /// How two ballots are ordered: by counter, then value. That two values are the same is seen sooner than which
 /// of them is above the other.
-fn order(ballot: &LentBallot, other: &LentBallot) -> Ordering
+fn order(ballot: &LentBallot, other: &Ballot) -> Ordering
     ensures { result ≡ ballot_cmp ballot.now other.now }
 {
-    if ballot.counter() != other.counter() {
-        return ballot.counter().cmp(&other.counter());
+    if ballot.counter() != other.counter {
+        return ballot.counter().cmp(&other.counter);
     }
-    if ballot.value().is_same(other.value()) {
+    if ballot.value().is_same(&other.value) {
         return Ordering::Equal;
     }
-    ballot.value().cmp(other.value())
+    ballot.value().cmp(&other.value)
 }

@@ -193,10 +193,11 @@ impl Region {
         }
     }
 
-    /// Sets what [`Region::entry_for`] found. The region is then that of the table with the row. It takes
-    /// no memory.
+    /// Sets what [`Region::entry_for`] found. The region is then that of the table with the row, of the same nodes. It
+    /// takes no memory.
     pub fn set_entry(&mut self, entry: Entry)
-        ensures { (own : ℕ) (configured : Slices) (table : List Sent) (e : Sent) → IsEntry own configured table e self.old entry → IsRegion own configured table self.old → IsRegion own configured (with_row e table) self.new }
+        ensures nodes { self.new.nodes.items ≡ self.old.nodes.items }
+        ensures region { (own : ℕ) (configured : Slices) (table : List Sent) (e : Sent) → IsEntry own configured table e self.old entry → IsRegion own configured table self.old → IsRegion own configured (with_row e table) self.new }
     {
         self.numbers = entry.numbers;
         self.latest = entry.place;

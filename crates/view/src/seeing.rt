@@ -9,17 +9,16 @@ ghost use Rattle.protocol.specs.Rows.{has_single_rows};
 ghost use Rattle.protocol.specs.Views.{seen};
 ghost use Rattle.protocol.specs.Backing.{slices_by};
 ghost use Rattle.compiled.specs.Searching.{AreCompiled};
-ghost use Rattle.protocol.specs.Candidates.{committed_in, named_in};
 ghost use Rattle.fedvote.specs.Questions.{asks, kind_asked};
 ghost use Rattle.view.specs.Asking.{IsEmptySet};
-ghost use Rattle.view.specs.Listing.{StandsFor};
+ghost use Rattle.view.specs.Knowing.{AreSearched, IsKnown};
 ghost use Rattle.view.specs.Regions.{IsRegion};
-ghost use Rattle.view.specs.Watching.{rows_of_others};
 
-use crate::listed::ListedBallots;
+use crate::known_reach::KnownReach;
 use crate::own::Own;
 use crate::passing::{OwnAnswer, add_supporters, add_supporters_at};
 use crate::reached::ReachedRows;
+use crate::reached_ballots::ReachedBallots;
 use crate::region::Region;
 use crate::rows::{values_of, values_of_others};
 use crate::searching::next_counter;
@@ -42,9 +41,10 @@ const FEW_WORDS: usize = 8;
 /// them, and both tests find them by the node's place in the reach. Where many are reached, their ballots are read
 /// once, when the view is made; their nominations, for which rules of nomination alone ask, are read where they
 /// stand, and rows of leaders are looked up. A blocking test asks the names of the node's slices alone, where many
-/// are reached. The ballots that a search goes through are listed in order, once a view, since the
-/// rules ask for the next one below a bound again and again; nominated values are gathered when a rule asks
-/// for them, since most events ask for none. The region is its owner's, who keeps it from event to event.
+/// are reached. The ballots that a search goes through are listed in order, where their owner has listed them, since the
+/// rules ask for the next one below a bound again and again, and else it goes through the rows; nominated values are
+/// gathered when a rule asks for them, since most events ask for none. What is known of the reach is its owner's, who
+/// keeps it from event to event.
 #[derive(Drop)]
 pub struct View<'a, S: Places> {
     own: &'a NodeId,
@@ -54,30 +54,29 @@ pub struct View<'a, S: Places> {
     region: &'a Region,
     ballots: ReachedRows<'a, S>,
     nominations: ReachedRows<'a, S>,
-    named: Option<ListedBallots<'a>>,
-    committed: Option<ListedBallots<'a>>,
+    listed: &'a Option<ReachedBallots>,
     ghost known: { IsRegion own.now slices.now table.now region.now } by { Prim.hlevel (props, codes, compiled_code) },
     ghost single: { has_single_rows table.now ≡ true },
     ghost ballots_kept: { ballots ≡ record { nodes = region.now.nodes.items; table = table.now; kind = Kind.Ballot } },
     ghost nominations_kept: { nominations ≡ record { nodes = region.now.nodes.items; table = table.now; kind = Kind.Nomination } },
-    ghost named_listed: { IfSome named (λ l. StandsFor l (named_in (rows_of_others own.now ballots.kind ballots.table ballots.nodes))) } by { Prim.hlevel (props, codes) },
-    ghost committed_listed: { IfSome committed (λ l. StandsFor l (committed_in (rows_of_others own.now ballots.kind ballots.table ballots.nodes))) } by { Prim.hlevel (props, codes) },
+    ghost ballots_listed: { IfSome listed.now (λ l. AreSearched own.now ballots.kind ballots.table ballots.nodes l) } by { Prim.hlevel (props, codes) },
 }
 
 impl<'a, S: Places> View<'a, S> {
-    /// What the node sees of the table now, by the nodes that it reaches now. An error says that memory is
-    /// short.
+    /// What the node sees of the table now, by what is known of its reach. Where many are reached, their ballot rows are
+    /// gathered. An error says that memory is short.
     pub fn of(
         alloc: Global,
         own: Own<'a>,
         leaders: &'a Leaders,
         table: &'a Rows<'a, S>,
-        region: &'a Region,
+        known: &'a KnownReach,
     ) -> Result<View<'a, S>, AllocError>
-        requires { IsRegion own.name.now own.slices.now table.now region.now }
+        requires { IsKnown own.name.now own.slices.now table.now known.now }
         ensures { IfOk result (λ v. ⟦<View<'a, S> as Sight>⟧.seen v ≡ seen own.entry.name.now own.entry.slices.now leaders.now table.now) }
     {
         table.are_single();
+        let region = &known.region;
         let nodes = &region.nodes;
         let ballots = ReachedRows::gather(alloc, nodes, &region.ballot_rows, table, Kind::Ballot)?;
         let nominations = ReachedRows::in_place(
@@ -87,7 +86,6 @@ impl<'a, S: Places> View<'a, S> {
             table,
             Kind::Nomination,
         );
-        let (named, committed) = ListedBallots::of_rows(alloc, own.name, &ballots)?;
         Ok(View {
             own: own.name,
             slices: own.slices,
@@ -96,24 +94,23 @@ impl<'a, S: Places> View<'a, S> {
             region,
             ballots,
             nominations,
-            named: Some(named),
-            committed: Some(committed),
+            listed: &known.ballots,
         })
     }
 
-    /// The same, where the rules of balloting are hardly asked: their candidates are not listed, and each search for one
-    /// goes through the rows where they stand. It takes no memory.
-    pub fn unlisted(
+    /// The same, where the rules of balloting are hardly asked: ballot rows are read where they stand. It takes no memory.
+    pub fn in_place(
         alloc: Global,
         own: Own<'a>,
         leaders: &'a Leaders,
         table: &'a Rows<'a, S>,
-        region: &'a Region,
+        known: &'a KnownReach,
     ) -> View<'a, S>
-        requires { IsRegion own.name.now own.slices.now table.now region.now }
+        requires { IsKnown own.name.now own.slices.now table.now known.now }
         ensures { ⟦<View<'a, S> as Sight>⟧.seen result ≡ seen own.entry.name.now own.entry.slices.now leaders.now table.now }
     {
         table.are_single();
+        let region = &known.region;
         let nodes = &region.nodes;
         let ballots = ReachedRows::in_place(alloc, nodes, &region.ballot_rows, table, Kind::Ballot);
         let nominations = ReachedRows::in_place(
@@ -131,8 +128,7 @@ impl<'a, S: Places> View<'a, S> {
             region,
             ballots,
             nominations,
-            named: None,
-            committed: None,
+            listed: &known.ballots,
         }
     }
 
@@ -233,11 +229,11 @@ impl<'a, S: Places> Sight for View<'a, S> {
     }
 
     fn next_named<'b>(&'b self, bound: &Option<LentBallot>) -> Option<LentBallot<'b>> {
-        next_named(&self.named, self.own, &self.ballots, bound)
+        next_named(self.listed, self.own, &self.ballots, bound)
     }
 
     fn next_committed<'b>(&'b self, bound: &Option<LentBallot>) -> Option<LentBallot<'b>> {
-        next_committed(&self.committed, self.own, &self.ballots, bound)
+        next_committed(self.listed, self.own, &self.ballots, bound)
     }
 
     fn next_counter(&self, above: u32) -> Option<u32> {

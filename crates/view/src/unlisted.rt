@@ -3,43 +3,43 @@
 ghost use Rattle.std.specs.Prelude.{◌≡◌, IfSome, flat_map, option_map, option_to_list};
 ghost use Rattle.protocol.specs.Candidates.{committed_by, committed_in, named_by, named_in};
 ghost use Rattle.fedvote.specs.Searching.{bettered, next_under};
-ghost use Rattle.view.specs.Listing.{StandsFor};
+ghost use Rattle.view.specs.Knowing.{AreSearched};
 ghost use Rattle.view.specs.Watching.{rows_of_others};
 
-use crate::listed::ListedBallots;
 use crate::reached::ReachedRows;
+use crate::reached_ballots::ReachedBallots;
 use envstore::Places;
 use fedvote::{better_committed, better_named};
 use types::{LentBallot, NodeId, Statement};
 
 /// The greatest ballot below the bound that the rows of others than this node name: by their list, or else by each row.
 pub(crate) fn next_named<'a, S: Places>(
-    listed: &Option<ListedBallots<'a>>,
+    listed: &'a Option<ReachedBallots>,
     own: &NodeId,
     rows: &ReachedRows<'a, S>,
     bound: &Option<LentBallot>,
 ) -> Option<LentBallot<'a>>
-    requires { IfSome listed.now (λ l. StandsFor l (named_in (rows_of_others own.now rows.now.kind rows.now.table rows.now.nodes))) }
+    requires { IfSome listed.now (λ l. AreSearched own.now rows.now.kind rows.now.table rows.now.nodes l) }
     ensures { result ≡ next_under bound.now (named_in (rows_of_others own.now rows.now.kind rows.now.table rows.now.nodes)) }
 {
     match listed {
-        Some(ballots) => ballots.next(bound),
+        Some(listed) => listed.named.next(bound),
         None => named_in_rows(own, rows, bound),
     }
 }
 
 /// The same of the ballots at whose counters the rows speak of commit.
 pub(crate) fn next_committed<'a, S: Places>(
-    listed: &Option<ListedBallots<'a>>,
+    listed: &'a Option<ReachedBallots>,
     own: &NodeId,
     rows: &ReachedRows<'a, S>,
     bound: &Option<LentBallot>,
 ) -> Option<LentBallot<'a>>
-    requires { IfSome listed.now (λ l. StandsFor l (committed_in (rows_of_others own.now rows.now.kind rows.now.table rows.now.nodes))) }
+    requires { IfSome listed.now (λ l. AreSearched own.now rows.now.kind rows.now.table rows.now.nodes l) }
     ensures { result ≡ next_under bound.now (committed_in (rows_of_others own.now rows.now.kind rows.now.table rows.now.nodes)) }
 {
     match listed {
-        Some(ballots) => ballots.next(bound),
+        Some(listed) => listed.committed.next(bound),
         None => committed_in_rows(own, rows, bound),
     }
 }

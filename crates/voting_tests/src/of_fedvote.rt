@@ -7,7 +7,7 @@ use latest::{Offer, Rows, Table};
 use std::alloc::Global;
 use std::test::Fail;
 use types::{Ballot, Envelope, Leaders, Member, Nested, NodeId, SliceSet, Statement, Value};
-use view::{Own, Region, View};
+use view::{KnownReach, Own, View};
 
 /// The name of a number.
 fn name(number: u64) -> NodeId {
@@ -88,8 +88,8 @@ fn answers_by(
     rows: &Rows<'_, VecShelf>,
 ) -> Result<[(bool, bool); 3], Fail> {
     let leaders = Leaders::none(alloc);
-    let region = Region::of(alloc, own, slices, rows)?;
-    let view = View::of(alloc, Own { name: own, slices }, &leaders, rows, &region)?;
+    let reach = KnownReach::of(alloc, Own { name: own, slices }, rows)?;
+    let view = View::of(alloc, Own { name: own, slices }, &leaders, rows, &reach)?;
     answers(alloc, &view)
 }
 

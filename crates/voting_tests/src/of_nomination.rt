@@ -9,7 +9,7 @@ use nomination::nominate;
 use std::alloc::Global;
 use std::test::Fail;
 use types::{Given, Member, Nested, NodeId, SliceSet, Value, Votes};
-use view::{Own, Region, View};
+use view::{KnownReach, Own, View};
 
 /// The slices of a node that trusts itself alone.
 fn itself(alloc: Global, own: NodeId) -> Result<Nested, Fail> {
@@ -48,13 +48,13 @@ fn votes_by(
     given: &Given,
     rows: &Rows<'_, VecShelf>,
 ) -> Result<Votes, Fail> {
-    let region = Region::of(alloc, own, slices, rows)?;
+    let reach = KnownReach::of(alloc, Own { name: own, slices }, rows)?;
     let view = View::of(
         alloc,
         Own { name: own, slices },
         &given.leaders,
         rows,
-        &region,
+        &reach,
     )?;
     first_votes(alloc, own, &view, given)
 }

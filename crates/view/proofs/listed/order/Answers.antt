@@ -4,5 +4,5 @@ use Rattle.view.proofs.listed.order.Goals as goal
 
 pub returns-then-is_same : goal.returns-then-is_same
 returns-then-is_same c =
-    same_ballots c.args.ballot.now c.args.other.now (sym c.counter.ensures ∙ (omega (arith, c.if-counter.false) ∙ c.counter-2.ensures))
-    (sym c.value.ensures ∙ (c.is_same.ensures.0 c.if-is_same.true ∙ c.value-2.ensures))
+    same_ballots c.args.ballot.now c.args.other.now (sym c.counter.ensures ∙ omega (arith, c.if-counter-other.false))
+    (sym c.value.ensures ∙ c.is_same.ensures.0 c.if-is_same.true)

@@ -20,4 +20,4 @@ returns-in-Some c =
     let all = c.deref.ensures.value ∙ c.self.view_is in
     let within = subst (λ (us : List Ballot). p < length us) all (ltb-true p _ (sym c.in-Some.ensures.lookup.0)) in
     let is = subst (λ (us : List Ballot). t ≡ get_or us p t) all c.in-Some.ensures.lookup.1 in
-    ap Some c.again.ensures ∙ next_there c.args.bound.now ts p (subst IsDescending c.self.view_is c.self.invariant) c.place_under.ensures t within is
+    ap Some c.of.ensures ∙ next_there c.args.bound.now ts p (subst IsDescending c.self.view_is c.self.invariant) c.place_under.ensures t within is

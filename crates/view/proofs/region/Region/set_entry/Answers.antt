@@ -5,8 +5,8 @@ use Rattle.compiled.specs.Places.{Numbered}
 use Rattle.view.proofs.EntryLaws.{ballot_set, nomination_set}
 use Rattle.view.proofs.region.Region.set_entry.Goals as goal
 
-pub returns-in-Ballot : goal.returns-in-Ballot
-returns-in-Ballot c = λ own configured table e entry is.
+pub returns-in-Ballot-clause-region : goal.returns-in-Ballot-clause-region
+returns-in-Ballot-clause-region c = λ own configured table e entry is.
     let v = c.args.self.now.ballots in
     let x = c.args.entry in
     let now = c.set_at.new.entries in
@@ -21,8 +21,8 @@ returns-in-Ballot c = λ own configured table e entry is.
     with_items_is w rows (omega (arith, c.set_row.auto.rows, c.deref_mut-in-Ballot.ensures.len, few))
     ∙ (c.set_row.ensures (omega (arith, within, few)) ∙ ap (λ (os : List (Option ℕ)). set os x.place (Some x.row)) c.deref_mut-in-Ballot.ensures.value))
 
-pub returns-in-Nomination : goal.returns-in-Nomination
-returns-in-Nomination c = λ own configured table e entry is.
+pub returns-in-Nomination-clause-region : goal.returns-in-Nomination-clause-region
+returns-in-Nomination-clause-region c = λ own configured table e entry is.
     let v = c.args.self.now.nominations in
     let x = c.args.entry in
     let now = c.set_at-in-Nomination.new.entries in

@@ -1,10 +1,11 @@
-use Rattle.std.proofs.Common.{◌∙◌, ◌<◌, Bor, List, ℕ, Option, ap, arith, length, option_map, subst, sym}
+use Rattle.std.proofs.Common.{◌∙◌, ◌<◌, ◌≤◌, Bor, List, ℕ, Option, ap, arith, length, option_map, subst, sym}
 use Rattle.types.specs.declared.statement.Statement.{Statement}
-use Rattle.protocol.specs.Candidates.{committed_by, named_by}
+use Rattle.protocol.specs.Candidates.{committed_by, committed_in, named_by, named_in}
 use Rattle.protocol.specs.Rows.{row}
-use Rattle.view.specs.Watching.{said_by_another}
+use Rattle.view.specs.Listing.{AreListed}
+use Rattle.view.specs.Watching.{rows_of_others, said_by_another}
 use Rattle.view.proofs.ListedLaws.{HasListed, all_listed, has_added, none_listed, one_listed}
-use Rattle.view.proofs.listed.ListedBallots.of_rows.Goals as goal
+use Rattle.view.proofs.reached_ballots.ReachedBallots.of_rows.Goals as goal
 
 pub loop-place-preserved-in_default : goal.loop-place-preserved-in_default
 loop-place-preserved-in_default g c =
@@ -51,7 +52,10 @@ pub returns : goal.returns
 returns g c =
     let rows = c.args.rows.now in
     let last = c.loop-place in
-    let said : ℕ → Option Statement = λ u. said_by_another c.args.own.now (row rows.table u rows.kind) in (
-      all_listed said named_by rows.nodes last.place last.named (omega (arith, c.loop-place-test.false, ap (λ (us : List ℕ). length us) c.nodes-place-end.ensures)) last.invariant.named,
-      all_listed said committed_by rows.nodes last.place last.committed (omega (arith, c.loop-place-test.false, ap (λ (us : List ℕ). length us) c.nodes-place-end.ensures)) last.invariant.committed,
-    )
+    let own = c.args.own.now in
+    let said : ℕ → Option Statement = λ u. said_by_another own (row rows.table u rows.kind) in
+    let end : length rows.nodes ≤ last.place = omega (arith, c.loop-place-test.false, ap (λ (us : List ℕ). length us) c.nodes-place-end.ensures) in
+    record {
+      named = subst (λ k. AreListed last.named (named_in (rows_of_others own k rows.table rows.nodes))) c.requires (all_listed said named_by rows.nodes last.place last.named end last.invariant.named);
+      committed = subst (λ k. AreListed last.committed (committed_in (rows_of_others own k rows.table rows.nodes))) c.requires (all_listed said committed_by rows.nodes last.place last.committed end last.invariant.committed);
+    }

@@ -5,7 +5,7 @@ use Rattle.protocol.specs.Rows.{row}
 use Rattle.view.specs.Listing.{AreListed}
 use Rattle.view.specs.Watching.{said_by_another}
 use Rattle.view.proofs.ListedLaws.{HasListed}
-use Rattle.view.proofs.listed.ListedBallots.of_rows.Given as goal
+use Rattle.view.proofs.reached_ballots.ReachedBallots.of_rows.Given as goal
 
 abbrev pub invariant-loop-place : goal.invariant-loop-place
 invariant-loop-place g l = record {

@@ -1,0 +1,35 @@
+use Rattle.std.proofs.Common.{◌∙◌, Bor, Option, ap, flat_map, option_map, subst}
+use Rattle.types.specs.declared.statement.Statement.{Statement}
+use Rattle.protocol.specs.Candidates.{committed_by, named_by}
+use Rattle.view.specs.Knowing.{IsHeard}
+use Rattle.view.specs.Listing.{AreLeft}
+use Rattle.view.specs.Watching.{rows_of_others}
+use Rattle.view.proofs.Following.{first_followed, other_followed}
+use Rattle.view.proofs.reached_ballots.ReachedBallots.replace.Goals as goal
+
+pub returns-in-Some : goal.returns-in-Some
+returns-in-Some g c = λ old heard are.
+    let rows = c.args.rows.now in
+    let own = c.args.own.now in
+    let now = c.args.now.now in
+    let before = c.in-Some.before.now in
+    let listed = c.args.self.now in
+    let there = subst (IsHeard own rows.nodes old rows.table now) (ap (option_map (λ (s : Bor Statement). s.now)) c.in-Some.is) heard in
+    record {
+      named = other_followed own rows.nodes old rows.table now named_by listed.named c.add_named.new.self before c.leave_named.new.listed there are.named c.in_ok-add_named.ensures
+          (subst (λ k. AreLeft (flat_map named_by (rows_of_others own k rows.table rows.nodes)) (named_by before) c.add_named.new.self c.leave_named.new.listed) c.requires c.leave_named.ensures);
+      committed = other_followed own rows.nodes old rows.table now committed_by listed.committed c.add_committed.new.self before c.leave_committed.new.listed there are.committed c.in_ok-add_committed.ensures
+          (subst (λ k. AreLeft (flat_map committed_by (rows_of_others own k rows.table rows.nodes)) (committed_by before) c.add_committed.new.self c.leave_committed.new.listed) c.requires c.leave_committed.ensures);
+    }
+
+pub returns-in_default : goal.returns-in_default
+returns-in_default g c = λ old heard are.
+    let rows = c.args.rows.now in
+    let own = c.args.own.now in
+    let now = c.args.now.now in
+    let listed = c.args.self.now in
+    let there = subst (IsHeard own rows.nodes old rows.table now) (ap (option_map (λ (s : Bor Statement). s.now)) c.in_default.is) heard in
+    record {
+      named = first_followed own rows.nodes old rows.table now named_by listed.named c.add_named.new.self there are.named c.in_ok-add_named.ensures;
+      committed = first_followed own rows.nodes old rows.table now committed_by listed.committed c.add_committed.new.self there are.committed c.in_ok-add_committed.ensures;
+    }

@@ -1,0 +1,22 @@
+use Rattle.std.proofs.Common.{◌≡◌, ◌∙◌, ℕ, IfSome, List, ap, subst, sym}
+use Rattle.types.specs.declared.kind.Kind.{Kind}
+use Rattle.types.specs.declared.kind.Kind.TheVariants.{Nomination}
+use Rattle.view.specs.Knowing.{AreSearched}
+use Rattle.view.specs.Watching.{Kept}
+use Rattle.view.proofs.Knowing.{searched}
+use Rattle.view.proofs.seeing.View.in_place.Goals as goal
+
+pub invariant_of-result : goal.invariant_of-result
+invariant_of-result g c =
+    let own = c.args.own.name.now in
+    let table = c.args.table.now in
+    let known = c.args.known.now in
+    let at : List ℕ → Kind → Kept = λ us kind. record { nodes = us; table = table; kind = kind } in
+    let kept : c.in_place-ballots.result ≡ at known.region.nodes.items Kind.Ballot = c.in_place-ballots.ensures ∙ ap (λ (us : List ℕ). at us Kind.Ballot) c.deref.ensures.value in
+    record {
+      known = c.requires.region;
+      single = c.are_single.ensures;
+      ballots_kept = kept;
+      nominations_kept = c.in_place-nominations.ensures ∙ ap (λ (us : List ℕ). at us Nomination) c.deref-3.ensures.value;
+      ballots_listed = subst (λ (k : Kept). IfSome known.ballots (λ b. AreSearched own k.kind k.table k.nodes b)) (sym kept) (searched own table known.region.nodes.items known.ballots c.requires.ballots);
+    }

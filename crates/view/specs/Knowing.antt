@@ -1,0 +1,47 @@
+-- What a node knows of the nodes that it reaches, from one event to the next.
+use Rattle.std.specs.Prelude.{◌≡◌, ℕ, Bool, not, ◌&&◌, List, Option, IfSome, IsTrue, ◌==◌, option_map}
+use Rattle.types.specs.Trees.{Slices}
+use Rattle.types.specs.Statements.{Sent, kind_of}
+use Rattle.types.specs.declared.kind.Kind.{Kind}
+use Rattle.types.specs.declared.statement.Statement.{Statement}
+use Rattle.protocol.specs.Candidates.{committed_in, named_in}
+use Rattle.protocol.specs.Rows.{is_kind, row, with_row}
+use Rattle.protocol.specs.Sets.{among}
+use Rattle.view.specs.Listing.{AreListed, StandsFor}
+use Rattle.view.specs.Regions.{IsRegion}
+use Rattle.view.specs.Watching.{rows_of_others}
+use Rattle.view.specs.declared.known_reach.KnownReach.{KnownReach}
+use Rattle.view.specs.declared.reached_ballots.ReachedBallots.{ReachedBallots}
+
+-- listed are the ballots that the ballot rows of the others of these nodes name, and those at whose counters these rows speak of commit
+pub record AreBallotsOf (own : ℕ) (table : List Sent) (nodes : List ℕ) (b : ReachedBallots) : Type 0 where
+  pub named : AreListed b.named (named_in (rows_of_others own Kind.Ballot table nodes))
+  pub committed : AreListed b.committed (committed_in (rows_of_others own Kind.Ballot table nodes))
+
+-- each search among listed ballots finds what it would find among those that the rows of a kind speak of
+abbrev pub AreSearched : ℕ → Kind → List Sent → List ℕ → ReachedBallots → Type 0
+AreSearched own kind table nodes b =
+    StandsFor b.named (named_in (rows_of_others own kind table nodes)) × StandsFor b.committed (committed_in (rows_of_others own kind table nodes))
+
+-- the region of a node, and the ballots in it where they are listed
+pub record IsKnown (own : ℕ) (configured : Slices) (table : List Sent) (k : KnownReach) : Type 0 where
+  pub region : IsRegion own configured table k.region
+  pub ballots : IfSome k.ballots (AreBallotsOf own table k.region.nodes.items)
+
+-- a table took an envelope: its row is this one now, and there was this one before
+pub record IsTaken (old new : List Sent) (e : Sent) (before : Option Sent) : Type 0 where
+  pub now : new ≡ with_row e old
+  pub replaced : before ≡ row old e.sender (kind_of e.body)
+
+-- whether an envelope speaks of ballots, and is of one of these nodes, another than this one
+abbrev pub is_heard : ℕ → List ℕ → Sent → Bool
+is_heard own nodes e = is_kind Kind.Ballot (kind_of e.body) && not (own == e.sender) && among nodes e.sender
+
+-- a table took such an envelope: what it says, and what the row before it said
+pub record IsHeard (own : ℕ) (nodes : List ℕ) (old new : List Sent) (now : Statement) (before : Option Statement) : Type 0 where
+  pub envelope : Sent
+  pub row : Option Sent
+  pub heard : IsTrue (is_heard own nodes envelope)
+  pub taken : IsTaken old new envelope row
+  pub says : envelope.body ≡ now
+  pub said : option_map (λ e. e.body) row ≡ before

@@ -1,0 +1,143 @@
+//! What a node knows of the nodes that it reaches, from one event to the next.
+
+ghost use Rattle.std.specs.Prelude.{◌≡◌, ℕ, List, IfOk, IfSome, option_map};
+ghost use Rattle.types.specs.Statements.{Sent};
+ghost use Rattle.types.specs.Trees.{Slices};
+ghost use Rattle.protocol.specs.Sets.{IsAscending};
+ghost use Rattle.view.specs.Knowing.{AreBallotsOf, IsKnown, IsTaken, is_heard};
+ghost use Rattle.view.specs.Regions.{IsRegion};
+
+use crate::own::Own;
+use crate::reached::ReachedRows;
+use crate::reached_ballots::ReachedBallots;
+use crate::region::Region;
+use envstore::Places;
+use latest::Rows;
+use slices::is_among;
+use std::alloc::{AllocError, Global};
+use types::{Envelope, Kind, NodeId, Statement};
+
+/// The region of a node, and the ballots that rows in it speak of, once a rule of balloting was asked for. Its owner
+/// keeps both from event to event.
+#[derive(Drop)]
+pub struct KnownReach {
+    pub region: Region,
+    pub ballots: Option<ReachedBallots>,
+}
+
+/// A row that a table took, and the row that stood in its place.
+#[derive(Drop)]
+pub struct Taken<'a> {
+    pub row: &'a Envelope,
+    pub before: Option<&'a Envelope>,
+}
+
+impl KnownReach {
+    /// What is known of a node's reach by a table; no ballots are listed. An error says that memory is short.
+    pub fn of<S: Places>(
+        alloc: Global,
+        own: Own<'_>,
+        table: &Rows<'_, S>,
+    ) -> Result<KnownReach, AllocError>
+        ensures { IfOk result (λ k. IsKnown own.entry.name.now own.entry.slices.now table.now k) }
+    {
+        let region = Region::of(alloc, own.name, own.slices, table)?;
+        Ok(KnownReach {
+            region,
+            ballots: None,
+        })
+    }
+
+    /// A copy, which lists ballots anew when a rule asks. An error says that memory is short.
+    pub fn try_copy(&self, alloc: Global) -> Result<KnownReach, AllocError>
+        ensures { IfOk result (λ k. (own : ℕ) (configured : Slices) (table : List Sent) → IsKnown own configured table self.now → IsKnown own configured table k) }
+    {
+        let region = self.region.try_copy(alloc)?;
+        Ok(KnownReach {
+            region,
+            ballots: None,
+        })
+    }
+
+    /// Lists the ballots, where they are not listed yet. An error says that memory is short, and nothing changed.
+    pub fn list_ballots<S: Places>(
+        &mut self,
+        alloc: Global,
+        own: Own<'_>,
+        table: &Rows<'_, S>,
+    ) -> Result<(), AllocError>
+        requires { IsKnown own.name.now own.slices.now table.now self.old }
+        ensures { IsKnown own.entry.name.now own.entry.slices.now table.now self.new }
+    {
+        if self.ballots.is_some() {
+            return Ok(());
+        }
+        let ballots = ballots_within(alloc, own, &self.region, table)?;
+        self.ballots = Some(ballots);
+        Ok(())
+    }
+
+    /// A table took a row that leaves the reach as it is, and the region is that of the table with the row. Where memory
+    /// is short for the ballots that the row speaks of, none are listed any more.
+    pub fn hear<S: Places>(
+        &mut self,
+        alloc: Global,
+        own: Own<'_>,
+        table: &Rows<'_, S>,
+        taken: &Taken<'_>,
+    )
+        requires { IsRegion own.name.now own.slices.now table.now self.old.region }
+        ensures region { self.new.region ≡ self.old.region }
+        ensures ballots { (old : List Sent) → IsTaken old table.now taken.now.row.now (option_map (λ r. r.now) taken.now.before) → IfSome self.old.ballots (AreBallotsOf own.entry.name.now old self.old.region.nodes.items) → IfSome self.new.ballots (AreBallotsOf own.entry.name.now table.now self.old.region.nodes.items) }
+    {
+        if !concerns(&self.region, own.name, taken.row) {
+            return;
+        }
+        let Some(mut ballots) = self.ballots.take() else {
+            return;
+        };
+        let places = &self.region.ballot_rows;
+        let rows = ReachedRows::in_place(alloc, &self.region.nodes, places, table, Kind::Ballot);
+        let before = body_of(taken.before);
+        let replaced = ballots.replace(own.name, &rows, taken.row.body(), before);
+        if let Ok(()) = replaced {
+            self.ballots = Some(ballots);
+        }
+    }
+}
+
+/// The ballots that the ballot rows in a region speak of. An error says that memory is short.
+fn ballots_within<S: Places>(
+    alloc: Global,
+    own: Own<'_>,
+    region: &Region,
+    table: &Rows<'_, S>,
+) -> Result<ReachedBallots, AllocError>
+    requires { IsRegion own.name.now own.slices.now table.now region.now }
+    ensures { IfOk result (λ b. AreBallotsOf own.entry.name.now table.now region.now.nodes.items b) }
+{
+    let places = &region.ballot_rows;
+    let rows = ReachedRows::in_place(alloc, &region.nodes, places, table, Kind::Ballot);
+    ReachedBallots::of_rows(alloc, own.name, &rows)
+}
+
+/// Whether the envelope speaks of ballots, and is of another reached node.
+fn concerns(region: &Region, own: &NodeId, envelope: &Envelope) -> bool
+    requires { IsAscending region.now.nodes.items }
+    ensures { result ≡ is_heard own.now region.now.nodes.items envelope.now }
+{
+    match envelope.body().kind() {
+        Kind::Nomination => false,
+        Kind::Ballot => { *own != *envelope.sender() && is_among(&region.nodes, envelope.sender()) }
+    }
+}
+
+/// What the row says, if there is one.
+fn body_of<'a>(row: Option<&'a Envelope>) -> Option<&'a Statement>
+    ensures { option_map (λ s. s.now) result ≡ option_map (λ e. e.body) (option_map (λ r. r.now) row.entry) }
+{
+    match row {
+        None => None,
+        Some(row) => Some(row.body()),
+    }
+}

@@ -1,0 +1,106 @@
+//! Whether some row speaks of a ballot.
+
+ghost use Rattle.std.specs.Prelude.{◌≡◌, flat_map};
+ghost use Rattle.protocol.specs.Candidates.{committed_by, named_by};
+ghost use Rattle.protocol.specs.Sameness.{same_ballot};
+ghost use Rattle.view.specs.Listing.{is_one_of};
+ghost use Rattle.view.specs.Watching.{rows_of_others};
+
+use crate::listed::committed_by;
+use crate::reached::ReachedRows;
+use envstore::Places;
+use types::{LentBallot, NodeId, Statement};
+
+/// Whether the row of another than this node names the ballot.
+pub(crate) fn is_named<S: Places>(
+    own: &NodeId,
+    rows: &ReachedRows<'_, S>,
+    ballot: &LentBallot,
+) -> bool
+    ensures { result ≡ is_one_of (flat_map named_by (rows_of_others own.now rows.now.kind rows.now.table rows.now.nodes)) ballot.now }
+{
+    for place in 0..rows.nodes().len() {
+        let Some(statement) = rows.said_by_another(own, place) else {
+            continue;
+        };
+        if names(statement, ballot) {
+            return true;
+        }
+    }
+    false
+}
+
+/// Whether the row of another than this node speaks of commit at the ballot's counter.
+pub(crate) fn is_committed<S: Places>(
+    own: &NodeId,
+    rows: &ReachedRows<'_, S>,
+    ballot: &LentBallot,
+) -> bool
+    ensures { result ≡ is_one_of (flat_map committed_by (rows_of_others own.now rows.now.kind rows.now.table rows.now.nodes)) ballot.now }
+{
+    for place in 0..rows.nodes().len() {
+        let Some(statement) = rows.said_by_another(own, place) else {
+            continue;
+        };
+        if commits(statement, ballot) {
+            return true;
+        }
+    }
+    false
+}
+
+/// Whether the statement names the ballot.
+fn names(statement: &Statement, ballot: &LentBallot) -> bool
+    ensures { result ≡ is_one_of (named_by statement.now) ballot.now }
+{
+    match statement {
+        Statement::Nominate { .. } => false,
+        Statement::Prepare {
+            ballot: first,
+            prepared,
+            ..
+        } => {
+            is_same(&LentBallot::of(first), ballot)
+                || match prepared {
+                    None => false,
+                    Some(prepared) => is_same(&LentBallot::of(prepared), ballot),
+                }
+        }
+        Statement::Commit {
+            ballot: first,
+            prepared_counter,
+            high_counter,
+            ..
+        } => {
+            let low = LentBallot::at(*prepared_counter, &first.value);
+            let high = LentBallot::at(*high_counter, &first.value);
+            is_same(&LentBallot::of(first), ballot)
+                || is_same(&low, ballot)
+                || is_same(&high, ballot)
+        }
+        Statement::Externalize {
+            commit,
+            high_counter,
+        } => {
+            let high = LentBallot::at(*high_counter, &commit.value);
+            is_same(&LentBallot::of(commit), ballot) || is_same(&high, ballot)
+        }
+    }
+}
+
+/// Whether the statement speaks of commit at the ballot's counter.
+fn commits(statement: &Statement, ballot: &LentBallot) -> bool
+    ensures { result ≡ is_one_of (committed_by statement.now) ballot.now }
+{
+    match committed_by(statement) {
+        None => false,
+        Some((low, high)) => is_same(&low, ballot) || is_same(&high, ballot),
+    }
+}
+
+/// Whether two ballots are one.
+fn is_same(one: &LentBallot, other: &LentBallot) -> bool
+    ensures { result ≡ same_ballot one.now other.now }
+{
+    one.counter() == other.counter() && one.value().is_same(other.value())
+}

@@ -1,0 +1,187 @@
+//! The ballots that reached rows speak of, listed once and kept from event to event.
+
+ghost use Rattle.std.specs.Prelude.{◌≡◌, ◌∷◌, [], List, IfOk, IsTrue, OnOk, Some, flat_map, option_map};
+ghost use Rattle.protocol.specs.Candidates.{committed_by, named_by};
+ghost use Rattle.types.specs.Statements.{Sent};
+ghost use Rattle.types.specs.declared.kind.Kind.{Kind};
+ghost use Rattle.view.specs.Knowing.{AreBallotsOf, IsHeard};
+ghost use Rattle.view.specs.Listing.{AreLeft};
+ghost use Rattle.view.specs.Watching.{rows_of_others};
+
+use crate::listed::{ListedBallots, committed_by};
+use crate::mentions::{is_committed, is_named};
+use crate::reached::ReachedRows;
+use envstore::Places;
+use std::alloc::{AllocError, Global};
+use types::{LentBallot, NodeId, Statement};
+
+/// The ballots that the ballot rows of other reached nodes name, and those at whose counters these rows speak of commit,
+/// both with counters from 1 on, in descending order.
+///
+/// A row that comes adds what it speaks of, and takes away what the row before it spoke of and no row speaks of any more.
+#[derive(Drop)]
+pub struct ReachedBallots {
+    pub(crate) named: ListedBallots,
+    pub(crate) committed: ListedBallots,
+}
+
+impl ReachedBallots {
+    /// Those of these rows. An error says that memory is short.
+    pub(crate) fn of_rows<S: Places>(
+        alloc: Global,
+        own: &NodeId,
+        rows: &ReachedRows<'_, S>,
+    ) -> Result<ReachedBallots, AllocError>
+        requires { rows.now.kind ≡ Kind.Ballot }
+        ensures { IfOk result (λ b. AreBallotsOf own.now rows.now.table rows.now.nodes b) }
+    {
+        let mut named = ListedBallots::nothing(alloc);
+        let mut committed = ListedBallots::nothing(alloc);
+        let mut last = None;
+        for place in 0..rows.nodes().len() {
+            let Some(statement) = rows.said_by_another(own, place) else {
+                continue;
+            };
+            if says(last, statement) {
+                continue;
+            }
+            named.add_named(statement)?;
+            committed.add_committed(statement)?;
+            last = Some(statement);
+        }
+        Ok(ReachedBallots { named, committed })
+    }
+
+    /// One of these rows has come in the place of another one, or as a first one. An error says that memory is short, and
+    /// nothing is known of what is listed then.
+    pub(crate) fn replace<S: Places>(
+        &mut self,
+        own: &NodeId,
+        rows: &ReachedRows<'_, S>,
+        now: &Statement,
+        before: Option<&Statement>,
+    ) -> Result<(), AllocError>
+        requires { rows.now.kind ≡ Kind.Ballot }
+        ensures { OnOk result ((old : List Sent) → IsHeard own.now rows.now.nodes old rows.now.table now.now (option_map (λ s. s.now) before.entry) → AreBallotsOf own.now old rows.now.nodes self.old → AreBallotsOf own.now rows.now.table rows.now.nodes self.new) }
+    {
+        self.named.add_named(now)?;
+        self.committed.add_committed(now)?;
+        if let Some(before) = before {
+            leave_named(&mut self.named, own, rows, before);
+            leave_committed(&mut self.committed, own, rows, before);
+        }
+        Ok(())
+    }
+}
+
+/// The ballots that a row named which stands no longer are listed no longer, but for those that some row names. It takes
+/// no memory.
+fn leave_named<S: Places>(
+    listed: &mut ListedBallots,
+    own: &NodeId,
+    rows: &ReachedRows<'_, S>,
+    before: &Statement,
+)
+    ensures { AreLeft (flat_map named_by (rows_of_others own.now rows.now.kind rows.now.table rows.now.nodes)) (named_by before.now) listed.old listed.new }
+{
+    match before {
+        Statement::Nominate { .. } => {}
+        Statement::Prepare {
+            ballot,
+            prepared,
+            ..
+        } => {
+            unless_named(listed, own, rows, &LentBallot::of(ballot));
+            if let Some(prepared) = prepared {
+                unless_named(listed, own, rows, &LentBallot::of(prepared));
+            }
+        }
+        Statement::Commit {
+            ballot,
+            prepared_counter,
+            high_counter,
+            ..
+        } => {
+            unless_named(listed, own, rows, &LentBallot::of(ballot));
+            unless_named(
+                listed,
+                own,
+                rows,
+                &LentBallot::at(*prepared_counter, &ballot.value),
+            );
+            unless_named(
+                listed,
+                own,
+                rows,
+                &LentBallot::at(*high_counter, &ballot.value),
+            );
+        }
+        Statement::Externalize {
+            commit,
+            high_counter,
+        } => {
+            unless_named(listed, own, rows, &LentBallot::of(commit));
+            unless_named(
+                listed,
+                own,
+                rows,
+                &LentBallot::at(*high_counter, &commit.value),
+            );
+        }
+    }
+}
+
+/// The same of the ballots at whose counters it spoke of commit.
+fn leave_committed<S: Places>(
+    listed: &mut ListedBallots,
+    own: &NodeId,
+    rows: &ReachedRows<'_, S>,
+    before: &Statement,
+)
+    ensures { AreLeft (flat_map committed_by (rows_of_others own.now rows.now.kind rows.now.table rows.now.nodes)) (committed_by before.now) listed.old listed.new }
+{
+    if let Some((low, high)) = committed_by(before) {
+        unless_committed(listed, own, rows, &low);
+        unless_committed(listed, own, rows, &high);
+    }
+}
+
+/// A ballot is listed no longer, unless some row names it.
+fn unless_named<S: Places>(
+    listed: &mut ListedBallots,
+    own: &NodeId,
+    rows: &ReachedRows<'_, S>,
+    ballot: &LentBallot,
+)
+    ensures { AreLeft (flat_map named_by (rows_of_others own.now rows.now.kind rows.now.table rows.now.nodes)) (ballot.now ∷ []) listed.old listed.new }
+{
+    if is_named(own, rows, ballot) {
+        return;
+    }
+    listed.remove(ballot);
+}
+
+/// A ballot is listed no longer, unless some row speaks of commit at its counter.
+fn unless_committed<S: Places>(
+    listed: &mut ListedBallots,
+    own: &NodeId,
+    rows: &ReachedRows<'_, S>,
+    ballot: &LentBallot,
+)
+    ensures { AreLeft (flat_map committed_by (rows_of_others own.now rows.now.kind rows.now.table rows.now.nodes)) (ballot.now ∷ []) listed.old listed.new }
+{
+    if is_committed(own, rows, ballot) {
+        return;
+    }
+    listed.remove(ballot);
+}
+
+/// Whether the last statement, if there was one, says the same as this one.
+fn says(last: Option<&Statement>, statement: &Statement) -> bool
+    ensures { IsTrue result → option_map (λ s. s.now) last.entry ≡ Some statement.now }
+{
+    match last {
+        None => false,
+        Some(last) => last.is_same(statement),
+    }
+}
