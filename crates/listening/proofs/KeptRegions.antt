@@ -1,8 +1,8 @@
 -- The reach that stays known while its table changes.
-use Rattle.std.proofs.Common.{◌≡◌, List, Option, Some, None, IfSome, is_some, map, option_map, refl, sym, ◌∙◌, ap, subst, true}
+use Rattle.std.proofs.Common.{◌≡◌, List, Option, Some, None, is_some, sym, ◌∙◌, true}
 use Rattle.std.specs.Prelude.{IsTrue}
 use Rattle.std.proofs.lemmas.Bool.{false≢true}
-use Rattle.types.specs.Statements.{Sent, kind_of}
+use Rattle.types.specs.Statements.{Sent}
 use Rattle.envstore.specs.declared.filed.Filed.{Filed}
 use Rattle.envstore.specs.Archives.{sents_of}
 use Rattle.latest.specs.declared.table.Put.{Put}

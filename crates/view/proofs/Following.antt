@@ -1,5 +1,5 @@
 -- A row that comes in the place of another one, or as a first one: what the reached rows say then, and which ballots are listed.
-use Rattle.std.proofs.Common.{◌≡◌, ℕ, Bool, true, false, not, ◌&&◌, ◌==◌, List, [], ◌∷◌, ◌++◌, Option, Some, None, filter, flat_map, IfSome, if◌then◌else◌, option_map, refl, sym, ◌∙◌, ap, subst, inl, inr, ◌⊎◌}
+use Rattle.std.proofs.Common.{◌≡◌, ℕ, true, false, not, ◌&&◌, ◌==◌, List, [], ◌++◌, Option, Some, None, filter, flat_map, IfSome, if◌then◌else◌, option_map, refl, sym, ◌∙◌, ap, subst, inl, inr, ◌⊎◌}
 use Rattle.std.specs.List.{Contains}
 use Rattle.std.proofs.lemmas.Bool.{and_from, and_parts, cases_Bool, eq-eqb, eqb-true, not-true, true≢false}
 use Rattle.std.proofs.lemmas.List.Elements.{Contains-append_cases, Contains-append_left, Contains-append_right}
@@ -84,7 +84,7 @@ module _ (own : ℕ) (nodes : List ℕ) (old : List Sent) (e : Sent) (heard : is
     pub followed : ((s : Statement) → said_old e.sender ≡ Some s → (x : Ballot) → Contains (by s) x → Contains going x)
         → AreListed listed (filter is_counted (flat_map by (rows_of_others own Kind.Ballot old nodes)))
         → AreListed mid (listed ++ filter is_counted (by e.body))
-        → AreLeft (flat_map by (rows_of_others own Kind.Ballot (with_row e old) nodes)) going mid now
+        → AreLeft (filter is_counted (flat_map by (rows_of_others own Kind.Ballot (with_row e old) nodes))) going mid now
         → AreListed now (filter is_counted (flat_map by (rows_of_others own Kind.Ballot (with_row e old) nodes)))
     followed goes are added left x = (over, back)
       where
@@ -101,8 +101,8 @@ module _ (own : ℕ) (nodes : List ℕ) (old : List Sent) (e : Sent) (heard : is
           | inr i ↦ let r = kept_from is_counted (by e.body) x i in (inr r.0, r.1)
         ]
 
-        still : Contains (flat_map by before) x ⊎ Contains (by e.body) x → Contains (flat_map by after) x ⊎ (Contains going x → ⊥) → Contains (flat_map by after) x
-        still i (inl s) = s
+        still : Contains (flat_map by before) x ⊎ Contains (by e.body) x → Contains (filter is_counted (flat_map by after)) x ⊎ (Contains going x → ⊥) → Contains (flat_map by after) x
+        still i (inl s) = (kept_from is_counted (flat_map by after) x s).0
         still (inr i) (inr n) = given_to by after e.body x stands i
         still (inl i) (inr n) =
             let r = given_from by before x i in
@@ -126,7 +126,7 @@ module _ (own : ℕ) (nodes : List ℕ) (old : List Sent) (e : Sent) (heard : is
             ]
 
         back : Contains (filter is_counted (flat_map by after)) x → Contains now x
-        back c = let r = kept_from is_counted (flat_map by after) x c in (left x).1 (into_mid r.0 r.1, inl r.0)
+        back c = let r = kept_from is_counted (flat_map by after) x c in (left x).1 (into_mid r.0 r.1, inl c)
 
 -- ---- a row of the other kind, of the node itself or of a stranger
 module _ (own : ℕ) (nodes : List ℕ) (old : List Sent) (e : Sent) (unheard : is_heard own nodes e ≡ false) where
@@ -191,7 +191,7 @@ module _ (own : ℕ) (nodes : List ℕ) (old new : List Sent) (now : Statement) 
       subst (λ (t : List Sent). AreListed added (filter is_counted (flat_map by (rows_of_others own Kind.Ballot t nodes)))) (sym h.taken.now)
       (followed own nodes old e h.heard by listed added added [] goes are
       (subst (λ s. AreListed added (listed ++ filter is_counted (by s))) (sym h.says) adds)
-      (none_left (flat_map by (rows_of_others own Kind.Ballot (with_row e old) nodes)) added))
+      (none_left (filter is_counted (flat_map by (rows_of_others own Kind.Ballot (with_row e old) nodes))) added))
     where
       goes : (s : Statement) → said_old own nodes old h.envelope h.heard h.envelope.sender ≡ Some s → (x : Ballot) → Contains (by s) x → Contains [] x
       goes s q x c =
@@ -202,14 +202,14 @@ module _ (own : ℕ) (nodes : List ℕ) (old new : List Sent) (now : Statement) 
   pub other_followed : (before : Statement) (left : List Ballot) → IsHeard own nodes old new now (Some before)
       → AreListed listed (filter is_counted (flat_map by (rows_of_others own Kind.Ballot old nodes)))
       → AreListed added (listed ++ filter is_counted (by now))
-      → AreLeft (flat_map by (rows_of_others own Kind.Ballot new nodes)) (by before) added left
+      → AreLeft (filter is_counted (flat_map by (rows_of_others own Kind.Ballot new nodes))) (by before) added left
       → AreListed left (filter is_counted (flat_map by (rows_of_others own Kind.Ballot new nodes)))
   other_followed before left h are adds leaves =
       let e = h.envelope in
       subst (λ (t : List Sent). AreListed left (filter is_counted (flat_map by (rows_of_others own Kind.Ballot t nodes)))) (sym h.taken.now)
       (followed own nodes old e h.heard by listed added left (by before) goes are
       (subst (λ s. AreListed added (listed ++ filter is_counted (by s))) (sym h.says) adds)
-      (subst (λ (t : List Sent). AreLeft (flat_map by (rows_of_others own Kind.Ballot t nodes)) (by before) added left) h.taken.now leaves))
+      (subst (λ (t : List Sent). AreLeft (filter is_counted (flat_map by (rows_of_others own Kind.Ballot t nodes))) (by before) added left) h.taken.now leaves))
     where
       goes : (s : Statement) → said_old own nodes old h.envelope h.heard h.envelope.sender ≡ Some s → (x : Ballot) → Contains (by s) x → Contains (by before) x
       goes s q x c =

@@ -1,24 +1,26 @@
 -- Ballots that leave a list: whether some row still speaks of one, and what is left.
-use Rattle.std.proofs.Common.{◌≡◌, ℕ, suc, zero, ◌+◌, ◌-◌, ◌<◌, ◌≤◌, Bool, true, false, ◌||◌, ◌==◌, add-one, List, [], ◌∷◌, ◌++◌, Option, Some, None, drop, filter_map, flat_map, get_or, length, option_to_list, refl, sym, ◌∙◌, ap, subst, inl, inr, ◌⊎◌, ◌↔◌, arith}
+use Rattle.std.proofs.Common.{◌≡◌, ℕ, ◌+◌, ◌-◌, ◌<◌, ◌≤◌, Bool, true, false, ◌||◌, ◌&&◌, ◌==◌, add-one, List, [], ◌∷◌, ◌++◌, Option, Some, None, drop, filter, filter_map, flat_map, get_or, length, refl, sym, ◌∙◌, ap, subst, inl, inr, ◌⊎◌, arith}
 use Rattle.std.specs.List.{Contains, cons_option, remove}
 use Rattle.std.specs.List.Sorted.{IsPermutation}
 use Rattle.std.proofs.Math.Seq.{drop-cons}
 use Rattle.std.proofs.lemmas.Bool.{and_from, and_parts, cases_Bool, eq-eqb, eqb-true, false≢true, or_cases, or_left, or_right, true≢false}
-use Rattle.std.proofs.lemmas.List.{append-nil, drop_all, get_or_default}
+use Rattle.std.proofs.lemmas.List.{drop_all}
 use Rattle.std.proofs.lemmas.List.Edits.{get_or-remove_above, get_or-remove_below, length-remove}
 use Rattle.std.proofs.lemmas.List.Elements.{Contains-append_cases, Contains-append_left, Contains-append_right}
 use Rattle.std.proofs.lemmas.List.Sorted.{Contains-permutation, IsPermutation-remove, IsPermutation-sym}
 use Rattle.types.specs.declared.ballot.Ballot.{Ballot}
 use Rattle.types.specs.declared.statement.Statement.{Statement}
 use Rattle.types.specs.Votes.{same_value}
+use Rattle.protocol.specs.Candidates.{is_counted}
 use Rattle.protocol.specs.Sameness.{same_ballot}
 use Rattle.protocol.specs.States.{below}
 use Rattle.protocol.proofs.Ballots.Order.{below-self}
 use Rattle.protocol.proofs.Equality.Sameness.{same_value-refl, same_value-true}
 use Rattle.protocol.proofs.Sets.Contained.{contained_cases, contains_head, contains_tail}
+use Rattle.protocol.proofs.Sets.Finite.{same_test}
 use Rattle.view.specs.Listing.{AreLeft, IsDescending, IsPlaceUnder, is_one_of}
-use Rattle.view.proofs.ListedLaws.{less_or_from, less_or_same}
-use Rattle.view.proofs.SameRows.{none_contained}
+use Rattle.view.proofs.ListedLaws.{less_or_from}
+use Rattle.view.proofs.SameRows.{kept_from, kept_to, none_contained}
 
 -- ---- one of some ballots
 one_from : (a b : Ballot) → same_ballot a b ≡ true → a ≡ b
@@ -44,6 +46,13 @@ one_of_to (s ∷ ts) t c = elim (contained_cases t s ts c) [
   | inl q ↦ or_left (same_ballot s t) (is_one_of ts t) (one_to s t q)
   | inr i ↦ or_right (same_ballot s t) (is_one_of ts t) (one_of_to ts t i)
 ]
+
+-- of those with counters from 1 on
+pub counted_one : (ts : List Ballot) (t : Ballot) → is_one_of (filter is_counted ts) t ≡ is_counted t && is_one_of ts t
+counted_one ts t =
+    same_test (is_one_of (filter is_counted ts) t) (is_counted t && is_one_of ts t)
+    (λ h. let r = kept_from is_counted ts t (one_of_from (filter is_counted ts) t h) in and_from (is_counted t) (is_one_of ts t) r.1 (one_of_to ts t r.0))
+    (λ h. let p = and_parts (is_counted t) (is_one_of ts t) h in one_of_to (filter is_counted ts) t (kept_to is_counted ts t (one_of_from ts t p.1) p.0))
 
 or_assoc : (a b c : Bool) → (a || b) || c ≡ a || (b || c)
 or_assoc true b c = refl

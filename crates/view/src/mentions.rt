@@ -1,7 +1,7 @@
 //! Whether some row speaks of a ballot.
 
 ghost use Rattle.std.specs.Prelude.{◌≡◌, flat_map};
-ghost use Rattle.protocol.specs.Candidates.{committed_by, named_by};
+ghost use Rattle.protocol.specs.Candidates.{committed_by, committed_in, named_by, named_in};
 ghost use Rattle.protocol.specs.Sameness.{same_ballot};
 ghost use Rattle.view.specs.Listing.{is_one_of};
 ghost use Rattle.view.specs.Watching.{rows_of_others};
@@ -11,12 +11,20 @@ use crate::reached::ReachedRows;
 use envstore::Places;
 use types::{LentBallot, NodeId, Statement};
 
-/// Whether the row of another than this node names the ballot.
+/// Whether a row of another than this node names the ballot, and its counter is from 1 on.
+#[tactic(auto, using(crate::proofs::Leaving::counted_one))]
 pub(crate) fn is_named<S: Places>(
     own: &NodeId,
     rows: &ReachedRows<'_, S>,
     ballot: &LentBallot,
 ) -> bool
+    ensures { result ≡ is_one_of (named_in (rows_of_others own.now rows.now.kind rows.now.table rows.now.nodes)) ballot.now }
+{
+    ballot.counter() > 0 && is_named_by_one(own, rows, ballot)
+}
+
+/// The same for any counter.
+fn is_named_by_one<S: Places>(own: &NodeId, rows: &ReachedRows<'_, S>, ballot: &LentBallot) -> bool
     ensures { result ≡ is_one_of (flat_map named_by (rows_of_others own.now rows.now.kind rows.now.table rows.now.nodes)) ballot.now }
 {
     for place in 0..rows.nodes().len() {
@@ -30,8 +38,20 @@ pub(crate) fn is_named<S: Places>(
     false
 }
 
-/// Whether the row of another than this node speaks of commit at the ballot's counter.
+/// Whether a row of another than this node speaks of commit at the ballot's counter, which is from 1 on.
+#[tactic(auto, using(crate::proofs::Leaving::counted_one))]
 pub(crate) fn is_committed<S: Places>(
+    own: &NodeId,
+    rows: &ReachedRows<'_, S>,
+    ballot: &LentBallot,
+) -> bool
+    ensures { result ≡ is_one_of (committed_in (rows_of_others own.now rows.now.kind rows.now.table rows.now.nodes)) ballot.now }
+{
+    ballot.counter() > 0 && is_committed_by_one(own, rows, ballot)
+}
+
+/// The same for any counter.
+fn is_committed_by_one<S: Places>(
     own: &NodeId,
     rows: &ReachedRows<'_, S>,
     ballot: &LentBallot,

@@ -1,7 +1,7 @@
 //! The ballots that reached rows speak of, listed once and kept from event to event.
 
-ghost use Rattle.std.specs.Prelude.{◌≡◌, ◌∷◌, [], List, IfOk, IsTrue, OnOk, Some, flat_map, option_map};
-ghost use Rattle.protocol.specs.Candidates.{committed_by, named_by};
+ghost use Rattle.std.specs.Prelude.{◌≡◌, ◌∷◌, [], List, IfOk, IsTrue, OnOk, Some, option_map};
+ghost use Rattle.protocol.specs.Candidates.{committed_by, committed_in, named_by, named_in};
 ghost use Rattle.types.specs.Statements.{Sent};
 ghost use Rattle.types.specs.declared.kind.Kind.{Kind};
 ghost use Rattle.view.specs.Knowing.{AreBallotsOf, IsHeard};
@@ -82,7 +82,7 @@ fn leave_named<S: Places>(
     rows: &ReachedRows<'_, S>,
     before: &Statement,
 )
-    ensures { AreLeft (flat_map named_by (rows_of_others own.now rows.now.kind rows.now.table rows.now.nodes)) (named_by before.now) listed.old listed.new }
+    ensures { AreLeft (named_in (rows_of_others own.now rows.now.kind rows.now.table rows.now.nodes)) (named_by before.now) listed.old listed.new }
 {
     match before {
         Statement::Nominate { .. } => {}
@@ -138,7 +138,7 @@ fn leave_committed<S: Places>(
     rows: &ReachedRows<'_, S>,
     before: &Statement,
 )
-    ensures { AreLeft (flat_map committed_by (rows_of_others own.now rows.now.kind rows.now.table rows.now.nodes)) (committed_by before.now) listed.old listed.new }
+    ensures { AreLeft (committed_in (rows_of_others own.now rows.now.kind rows.now.table rows.now.nodes)) (committed_by before.now) listed.old listed.new }
 {
     if let Some((low, high)) = committed_by(before) {
         unless_committed(listed, own, rows, &low);
@@ -153,7 +153,7 @@ fn unless_named<S: Places>(
     rows: &ReachedRows<'_, S>,
     ballot: &LentBallot,
 )
-    ensures { AreLeft (flat_map named_by (rows_of_others own.now rows.now.kind rows.now.table rows.now.nodes)) (ballot.now ∷ []) listed.old listed.new }
+    ensures { AreLeft (named_in (rows_of_others own.now rows.now.kind rows.now.table rows.now.nodes)) (ballot.now ∷ []) listed.old listed.new }
 {
     if is_named(own, rows, ballot) {
         return;
@@ -168,7 +168,7 @@ fn unless_committed<S: Places>(
     rows: &ReachedRows<'_, S>,
     ballot: &LentBallot,
 )
-    ensures { AreLeft (flat_map committed_by (rows_of_others own.now rows.now.kind rows.now.table rows.now.nodes)) (ballot.now ∷ []) listed.old listed.new }
+    ensures { AreLeft (committed_in (rows_of_others own.now rows.now.kind rows.now.table rows.now.nodes)) (ballot.now ∷ []) listed.old listed.new }
 {
     if is_committed(own, rows, ballot) {
         return;

@@ -1,7 +1,6 @@
-use Rattle.std.proofs.Common.{Box, IfSome, List, Option, ap, subst, sym, ℕ}
+use Rattle.std.proofs.Common.{Box, IfSome, List, Option, subst, sym, ℕ}
 use Rattle.std.specs.Global.{Global}
 use Rattle.view.specs.declared.known_reach.KnownReach.{KnownReach}
-use Rattle.view.specs.declared.region.Region.{Region}
 use Rattle.view.specs.Knowing.{AreBallotsOf}
 use Rattle.view.specs.Regions.{IsEntry, IsRegion}
 use Rattle.listening.specs.declared.known.Effect.{Effect}

@@ -1,5 +1,4 @@
 use Rattle.std.proofs.Common.{◌∙◌, Bor, IfSome, List, Option, Some, option_map, ap, subst, sym, ℕ}
-use Rattle.types.specs.Statements.{Sent}
 use Rattle.types.specs.declared.envelope.Envelope.{Envelope}
 use Rattle.types.specs.declared.kind.Kind.{Kind}
 use Rattle.types.specs.declared.statement.Statement.{Statement}

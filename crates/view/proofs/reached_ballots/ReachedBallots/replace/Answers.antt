@@ -1,6 +1,6 @@
-use Rattle.std.proofs.Common.{◌∙◌, Bor, Option, ap, flat_map, option_map, subst}
+use Rattle.std.proofs.Common.{Bor, ap, option_map, subst}
 use Rattle.types.specs.declared.statement.Statement.{Statement}
-use Rattle.protocol.specs.Candidates.{committed_by, named_by}
+use Rattle.protocol.specs.Candidates.{committed_by, committed_in, named_by, named_in}
 use Rattle.view.specs.Knowing.{IsHeard}
 use Rattle.view.specs.Listing.{AreLeft}
 use Rattle.view.specs.Watching.{rows_of_others}
@@ -17,9 +17,9 @@ returns-in-Some g c = λ old heard are.
     let there = subst (IsHeard own rows.nodes old rows.table now) (ap (option_map (λ (s : Bor Statement). s.now)) c.in-Some.is) heard in
     record {
       named = other_followed own rows.nodes old rows.table now named_by listed.named c.add_named.new.self before c.leave_named.new.listed there are.named c.in_ok-add_named.ensures
-          (subst (λ k. AreLeft (flat_map named_by (rows_of_others own k rows.table rows.nodes)) (named_by before) c.add_named.new.self c.leave_named.new.listed) c.requires c.leave_named.ensures);
+          (subst (λ k. AreLeft (named_in (rows_of_others own k rows.table rows.nodes)) (named_by before) c.add_named.new.self c.leave_named.new.listed) c.requires c.leave_named.ensures);
       committed = other_followed own rows.nodes old rows.table now committed_by listed.committed c.add_committed.new.self before c.leave_committed.new.listed there are.committed c.in_ok-add_committed.ensures
-          (subst (λ k. AreLeft (flat_map committed_by (rows_of_others own k rows.table rows.nodes)) (committed_by before) c.add_committed.new.self c.leave_committed.new.listed) c.requires c.leave_committed.ensures);
+          (subst (λ k. AreLeft (committed_in (rows_of_others own k rows.table rows.nodes)) (committed_by before) c.add_committed.new.self c.leave_committed.new.listed) c.requires c.leave_committed.ensures);
     }
 
 pub returns-in_default : goal.returns-in_default

@@ -3,7 +3,7 @@ use Rattle.protocol.specs.Candidates.{committed_by}
 use Rattle.protocol.specs.Rows.{row}
 use Rattle.view.specs.Listing.{is_one_of}
 use Rattle.view.specs.Watching.{rows_of_others, said_by_another}
-use Rattle.view.proofs.mentions.is_committed.Given as goal
+use Rattle.view.proofs.mentions.is_committed_by_one.Given as goal
 
 abbrev pub invariant-loop-place : goal.invariant-loop-place
 invariant-loop-place g l =
