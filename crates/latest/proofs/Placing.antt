@@ -1,7 +1,7 @@
 -- Where the rows of a table stand after it took an envelope: where they stood, and a first row behind all others.
-use Rattle.std.proofs.Common.{◌≡◌, ℕ, suc, Bool, true, false, cond, List, [], ◌∷◌, length, Option, Some, None, option_map, if◌then◌else◌, refl, sym, ◌∙◌, ap, slice_get}
+use Rattle.std.proofs.Common.{◌≡◌, ℕ, suc, Bool, true, false, cond, List, [], ◌∷◌, Option, Some, None, option_map, if◌then◌else◌, refl, sym, ◌∙◌, ap, slice_get}
 use Rattle.std.specs.List.{find}
-use Rattle.std.proofs.lemmas.Bool.{cases_Bool, true≢false, false≢true}
+use Rattle.std.proofs.lemmas.Bool.{true≢false}
 use Rattle.types.specs.declared.kind.Kind.{Kind}
 use Rattle.types.specs.Statements.{Sent, kind_of}
 use Rattle.protocol.specs.Rows.{is_row_of, row, with_row}
@@ -31,19 +31,6 @@ place-of_replaced e (x ∷ xs) u k r there h = go (is_row_of e.sender (kind_of e
     go true true p q t ih = rw h refl
     go true false p q t ih = absurd (true≢false (sym h ∙ (sym (is_row_of-alike u k x e p) ∙ q)))
     go false true p q t ih = absurd (true≢false (sym (is_row_of-both u k x e q h) ∙ p))
-    go false false p q t ih = rw q (ap (option_map suc) (ih t))
-
--- whose first row it is
-pub place-of_first : (e : Sent) (table : List Sent) (u : ℕ) (k : Kind) → row table u k ≡ None → is_row_of u k e ≡ true → place_of (with_row e table) u k ≡ Some (length table)
-unfolding row with_row
-place-of_first e [] u k none h = rw h refl
-place-of_first e (x ∷ xs) u k none h = go (is_row_of e.sender (kind_of e.body) x) (is_row_of u k x) refl refl none (λ t. place-of_first e xs u k t h)
-  where
-    go : (a b : Bool) → is_row_of e.sender (kind_of e.body) x ≡ a → is_row_of u k x ≡ b → cond b (Some x) (find (is_row_of u k) xs) ≡ None
-        → (find (is_row_of u k) xs ≡ None → place_of (with_row e xs) u k ≡ Some (length xs))
-        → place_of (if a then e ∷ xs else x ∷ with_row e xs) u k ≡ Some (suc (length xs))
-    go a true p q t ih = cc
-    go true false p q t ih = absurd (true≢false (sym h ∙ (sym (is_row_of-alike u k x e p) ∙ q)))
     go false false p q t ih = rw q (ap (option_map suc) (ih t))
 
 -- what stands at the place of a row is that row

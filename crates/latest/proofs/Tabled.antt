@@ -1,5 +1,5 @@
 -- What the code of a table rests on: its rows with their index.
-use Rattle.std.proofs.Common.{◌≡◌, ◌≢◌, ◌↔◌, ℕ, ◌<◌, true, false, List, [], ◌∷◌, ◌++◌, length, get_or, set, map, Option, Some, None, if◌then◌else◌, refl, sym, ◌∙◌, ap, ap₂, subst}
+use Rattle.std.proofs.Common.{◌≡◌, ◌≢◌, ◌↔◌, ℕ, ◌<◌, true, false, List, [], ◌∷◌, ◌++◌, length, get_or, set, map, Option, Some, None, if◌then◌else◌, refl, sym, ◌∙◌, ap, subst}
 use Rattle.std.specs.Prelude.{IfSome}
 use Rattle.std.proofs.lemmas.Bool.{true≢false}
 use Rattle.std.proofs.lemmas.List.{length-map}
@@ -90,17 +90,11 @@ found-read rows now index u k h r = indexed-found rows index u k h ∙ ap (λ xs
 pub senders-read : (rows now : List Sent) (index : List Places) → IsIndexed rows index → rows ≡ now → map (λ (p : Places). p.sender) index ≡ senders now
 senders-read rows now index h r = indexed-senders rows index h ∙ ap senders r
 
-pub row-read : (rows now : List Sent) (u : ℕ) (k : Kind) (i : ℕ) (x : Sent) → rows ≡ now → Some i ≡ place_of now u k → x ≡ get_or rows i x → Some x ≡ row now u k
-row-read rows now u k i x r h e = sym (row-placed now u k i x (sym h) (e ∙ ap (λ xs. get_or xs i x) r))
-
 pub taken-read : (rows now : List Sent) (e x : Sent) (i : ℕ) → rows ≡ now → place_of now e.sender (kind_of e.body) ≡ Some i → x ≡ get_or rows i x → is_newer e.body x.body ≡ is_taken now e
 taken-read rows now e x i r h s = sym (taken-placed now e i x h (s ∙ ap (λ xs. get_or xs i x) r))
 
 pub set-read : (rows now : List Sent) (index : List Places) (e : Sent) (i : ℕ) → IsIndexed rows index → rows ≡ now → place_of now e.sender (kind_of e.body) ≡ Some i → IsIndexed (set rows i e) index
 set-read rows now index e i h r p = indexed-set rows index e i h (ap (λ xs. place_of xs e.sender (kind_of e.body)) r ∙ p)
-
-pub replaced-read : (rows now : List Sent) (e : Sent) (i : ℕ) → rows ≡ now → place_of now e.sender (kind_of e.body) ≡ Some i → set rows i e ≡ with_row e now
-replaced-read rows now e i r p = ap (λ xs. set xs i e) r ∙ sym (with_row-set now e i p)
 
 pub push-read : (rows now more : List Sent) (index noted_index : List Places) (e : Sent) (u : ℕ) (k : Kind) (n : ℕ)
     → IsIndexed rows index → rows ≡ now → place_of now e.sender (kind_of e.body) ≡ None
@@ -136,21 +130,8 @@ answer-table old e Replaced new h n = h.1 ∙ sym (offered-taken old e h.0)
 answer-table old e Stale new h n = h.1 ∙ sym (offered-stale old e h.0)
 answer-table old e NoMemory new h n = absurd (n refl)
 
-pub answer-unchanged : (old : List Sent) (e : Sent) (o : Offer) (new : List Sent) → IsAnswer old e o new → o ≢ Replaced → new ≡ old
-answer-unchanged old e Replaced new h n = absurd (n refl)
-answer-unchanged old e Stale new h n = h.1
-answer-unchanged old e NoMemory new h n = h.1
-
-pub answer-memory : (old : List Sent) (e : Sent) (o : Offer) (new : List Sent) → IsAnswer old e o new → o ≡ NoMemory → row old e.sender (kind_of e.body) ≡ None
-answer-memory old e Replaced new h m = cc
-answer-memory old e Stale new h m = cc
-answer-memory old e NoMemory new h m = h.0
-
 pub answer-whole : (old : List Sent) (e : Sent) (o : Offer) (new : List Sent) → IsAnswer old e o new → (taken : List Sent) → old ≡ table_after taken → o ≢ NoMemory → new ≡ table_after (taken ++ e ∷ [])
 answer-whole old e o new h taken t n = answer-table old e o new h n ∙ (ap (λ es. offered es e) t ∙ sym (table_after-push taken e))
-
-pub nowhere-read : (now : List Sent) (e : Sent) (u : ℕ) (k : Kind) → u ≡ e.sender → k ≡ kind_of e.body → None ≡ place_of now u k → place_of now e.sender (kind_of e.body) ≡ None
-nowhere-read now e u k a b h = sym (h ∙ ap₂ (λ w j. place_of now w j) a b)
 
 pub senders-counted : (rows now : List Sent) (index : List Places) → IsIndexed rows index → rows ≡ now → length index ≡ length (senders now)
 unfolding index_of

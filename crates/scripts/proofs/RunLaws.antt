@@ -1,6 +1,6 @@
 -- A run goes on line by line.
 use Rattle.std.proofs.Common.{◌≡◌, ◌∙◌, ℕ, List, [], ◌∷◌, ◌++◌, refl, sym, ap, subst, append_assoc}
-use Rattle.std.specs.Prelude.{Option, Some, None, Result, Ok, Err, IfOk, IfSome}
+use Rattle.std.specs.Prelude.{Option, Some, None, Result, Ok, Err, IfOk}
 use Rattle.std.specs.List.{enumerate_from}
 use Rattle.std.specs.Io.KnownBytes.{Appends, Keeps}
 use Rattle.scripts.specs.Script.{Bytes, AreLines, AreFields, lines_of}
@@ -117,16 +117,6 @@ nothing_ran tells refuses s text out = record {
   ran = Runs.short;
   written = appends_nothing out;
 }
-
--- a text that was read was run as the script
-pub script_ran : {S : Type 0} (tells : Telling S) (refuses : Refusing S) (s t : S) (script old new : Option Bytes) (text : Bytes) (end : Result (Unit {0}) Stop)
-    → IfSome script (λ left. text ≡ left) → HasRunText tells refuses s text old new end t → HasRunScript tells refuses s script old new end t
-script_ran tells refuses s t script old new text (Ok r) known ran = (text, known, ran)
-script_ran tells refuses s t script old new text (Err (stop.BadLine n)) known ran = (text, known, ran)
-script_ran tells refuses s t script old new text (Err stop.NoMemory) known ran = (text, known, ran)
-script_ran tells refuses s t script old new text (Err stop.CannotWrite) known ran = (text, known, ran)
-script_ran tells refuses s t script old new text (Err stop.CannotRead) known ran = absurd ran
-script_ran tells refuses s t script old new text (Err stop.TooLong) known ran = absurd ran
 
 -- a script that was not read ran no line
 read_short : {S : Type 0} (tells : Telling S) (refuses : Refusing S) (s : S) (script out : Option Bytes)

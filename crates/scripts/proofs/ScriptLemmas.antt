@@ -15,15 +15,7 @@ pub both_true : (a b : Bool) → (a && b) ≡ true → (a ≡ true) × (b ≡ tr
 both_true true b e = (refl, e)
 both_true false b e = cc
 
-not_true : (b : Bool) → not b ≡ true → b ≡ false
-not_true true e = cc
-not_true false e = refl
-
 -- ---- lines
-
-feed_first : (more : Bytes) → closed (10 ∷ more) ≡ 10 ∷ closed more
-feed_first [] = refl
-feed_first (c ∷ more) = refl
 
 closed_not_empty : (c : ℕ) (more : Bytes) → [] ≡ closed (c ∷ more) → ⊥
 closed_not_empty c [] e = elim (c == 10) as (λ b. [] ≡ (if b then c ∷ [] else c ∷ 10 ∷ []) → ⊥) [ true ↦ λ h. cc | false ↦ λ h. cc ] e

@@ -151,10 +151,6 @@ split_at at (b ∷ word) more e =
     let both = both_true (not (b == at)) (lacks at word) e in
     rw (not_is (b == at) both.0, split_at at word more both.1) refl
 
--- the bytes of each value fit
-abbrev Fit : List Bytes → Type 0
-Fit vs = AllByRecursion IsValue vs × AllByRecursion IsBytes vs
-
 value_no_plus : (v : Bytes) → IsBytes v → lacks 43 (text_of_value v) ≡ true
 value_no_plus v fits = all_pass is_of_value (λ b. not (b == 43)) no_plus (text_of_value v) (value_text v fits)
 

@@ -268,9 +268,6 @@ ended_unfed limit tells refuses s script mid now old kept new t u number room by
       ran_to limit tells refuses s script mid old kept new t u number room bytes (written ++ []) (Ok tt) h last (subst (λ w. Appends kept new w) (sym (append_nothing written)) takes),
     )
 
-no_end : (bytes : Bytes) → length bytes ≡ 0 → ends_with_byte 10 bytes ≡ false
-no_end bytes e = rw e refl
-
 -- nothing is left
 pub ended : {S : Type 0} (limit : ℕ) (tells : Telling S) (refuses : Refusing S) (s : S) (script mid now old kept : Option Bytes) (t : S) (number room : ℕ) (bytes : Bytes)
     → Streams limit tells refuses s script mid old kept t number room → IsNext mid now bytes → length bytes ≡ 0 → HasRunStream limit tells refuses s script old kept (Ok tt) t

@@ -1,18 +1,17 @@
 -- Words are cut and printed piece by piece.
 use Rattle.std.proofs.Common.{◌≡◌, ◌∙◌, ℕ, ◌+◌, ◌-◌, ◌<◌, ◌≤◌, ◌/◌, ◌%◌, [], ◌∷◌, ◌++◌, refl, sym, ap, arith, length, take, drop, get_or, append_assoc, add-one, drop-cons}
-use Rattle.std.specs.Prelude.{◌==◌, Option, Some, None, position, slice_index}
+use Rattle.std.specs.Prelude.{◌==◌, Some, None, position, slice_index}
 use Rattle.std.proofs.lemmas.List.{take_all, length-drop}
 use Rattle.std.proofs.Math.ListN.{drop_of_length-le}
 use Rattle.hex.specs.Hex.{encode_with, lower_digits}
 use Rattle.scripts.specs.Script.{Bytes}
-use Rattle.std.proofs.Common.{◌^◌}
 use Rattle.std.proofs.Common.{Bool, true, false, cond}
 use Rattle.std.specs.Prelude.{nat_lt, not}
 use Rattle.std.specs.List.{position_or_len}
 use Rattle.std.specs.Char.{is_ascii_alphanumeric}
 use Rattle.std.proofs.lemmas.Bool.Decides.{nat_tests}
 use Rattle.scripts.specs.Fronts.{plain_count, plain_part, behind_plain}
-use Rattle.scripts.specs.Words.{cut_at, counted, with_counter, word_number}
+use Rattle.scripts.specs.Words.{cut_at}
 use Rattle.scripts.proofs.RunLaws.{append_nothing}
 
 pub cut_found : (text : Bytes) (at n : ℕ) → n < length text → position (λ b. b == at) text ≡ Some n
@@ -41,10 +40,6 @@ all_digits text target bytes i end so_far =
     sym (append_nothing text) ∙ sym (ap (λ bs. text ++ encode_with lower_digits bs) rest) ∙ so_far
 
 -- ---- ballots
-
-pub counter_read : (result : Option (ℕ × Bytes)) (word before behind : Bytes) (counter : Option ℕ)
-    → Some (before, behind) ≡ cut_at 58 word → counter ≡ word_number (2 ^ 32) before → result ≡ with_counter counter behind → result ≡ counted (cut_at 58 word)
-counter_read result word before behind counter cut c e = e ∙ ap (λ n. with_counter n behind) c ∙ ap counted cut
 
 -- ---- letters and digits at the front
 
