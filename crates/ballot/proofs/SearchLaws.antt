@@ -45,9 +45,6 @@ module _ (listed : List Ballot) (holds : Ballot → Bool) where
   pub record Tried (bound : Option Ballot) : Type 0 where
     pub fails : (x : Ballot) → IsIn x listed → is_under bound x ≡ false → holds x ≡ false
 
-  pub none_tried : Tried None
-  none_tried = record { fails = λ x i h. absurd (true≢false h) }
-
   -- those that pass are under the bound
   passing : (bound : Option Ballot) → Tried bound → (x : Ballot) → IsIn x (filter holds listed) → IsIn x (filter (is_under bound) listed)
   passing bound tried x i = let r = from-filter holds x listed i in elim (cases_Bool (is_under bound x)) [

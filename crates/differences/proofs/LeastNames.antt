@@ -1,8 +1,7 @@
 -- The least of the names that is not as it should be, name after name.
-use Rattle.std.proofs.Common.{◌≡◌, ℕ, ◌+◌, ◌<◌, ◌≤◌, Bool, true, false, ◌==◌, ◌⊎◌, List, [], ◌∷◌, ◌++◌, length, take, slice_get, Option, Some, None, if◌then◌else◌, nat_lt, refl, sym, ◌∙◌, ap, subst, inl, inr, arith, IsTrue, MatchOption}
+use Rattle.std.proofs.Common.{◌≡◌, ℕ, ◌+◌, ◌<◌, ◌≤◌, Bool, true, false, ◌==◌, ◌⊎◌, List, [], ◌∷◌, ◌++◌, take, slice_get, Option, Some, None, if◌then◌else◌, nat_lt, refl, sym, ◌∙◌, ap, subst, inl, inr, arith, IsTrue, MatchOption}
 use Rattle.std.proofs.lemmas.Bool.{cases_lt, or_cases, or_left, or_right, eq-eqb, eqb-true, false≢true}
 use Rattle.std.proofs.lemmas.Bool.Decides.{nat_tests}
-use Rattle.std.proofs.lemmas.List.{take_all}
 use Rattle.protocol.specs.Sets.{among}
 use Rattle.std.proofs.lemmas.List.Folds.{list_any-append}
 use Rattle.differences.specs.Least.{AreAll, IsLeast, lesser}
@@ -51,6 +50,3 @@ module _ (Bad Good : ℕ → Type 0) where
           bad = e;
           least = λ w m k. let a : x ≤ u = grind (arith, nat_tests) in elim (either w m) [ inl i ↦ elim (cases_lt w u) [ inl b ↦ h.least w i b | inr b ↦ absurd (omega (arith, a, b, k)) ] | inr q ↦ absurd (omega (arith, q, k)) ];
         }
-
-  pub least_of_all : (list : List ℕ) (n : ℕ) (least : Option ℕ) → length list ≤ n → IsLeastSoFar (take n list) least → IsLeastSoFar list least
-  least_of_all list n least l h = subst (λ (xs : List ℕ). IsLeastSoFar xs least) (take_all n list l) h
