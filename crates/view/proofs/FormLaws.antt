@@ -77,13 +77,7 @@ module _ (us : List ℕ) (slices_at : ℕ → Option Slices) (fs : List (Option 
     ];
   }
 
-  -- a node without slices has no form
-  pub part_none : (n : ℕ) → length fs ≡ n → None ≡ slices_at (get_or us n 0) → ArePart us slices_at (fs ++ None ∷ [])
-  part_none n many none =
-      part_more None (λ ws. ap (λ (o : Option Slices). is_satisfied sat o (among (picked us ws))) (none ∙ ap (λ k. slices_at (get_or us k 0)) (sym many)))
-      (λ f is. cc)
-
-  -- and one with slices has the form that was found
+  -- a node with slices has the form that was found
   pub part_some : (n : ℕ) (q : Slices) (f : Numbered) → length fs ≡ n → Some q ≡ slices_at (get_or us n 0) → IsFound us slices_at fs n q f → ArePart us slices_at (fs ++ Some f ∷ [])
   part_some n q f many some found =
       let own : IsCompiled false us q f.set = elim found [ inl t ↦ twin_compiled us slices_at fs q f part.each t | inr new ↦ new.1 ] in

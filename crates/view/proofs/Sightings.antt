@@ -7,15 +7,15 @@ use Rattle.types.specs.declared.kind.Kind.TheVariants.{Nomination}
 use Rattle.types.specs.declared.statement.Statement.{Statement}
 use Rattle.types.specs.Statements.{Sent}
 use Rattle.protocol.specs.Sets.{among}
-use Rattle.protocol.specs.Satisfaction.{sat, is_blocked, Blocks}
+use Rattle.protocol.specs.Satisfaction.{sat}
 use Rattle.protocol.specs.Quorums.{HasQuorum}
 use Rattle.protocol.specs.Backing.{slices_by}
 use Rattle.protocol.specs.Reach.{reached}
-use Rattle.protocol.specs.Views.{rows_seen, led_by, passing_with, quorum_passes, blocking_passes, seen}
+use Rattle.protocol.specs.Views.{rows_seen, led_by, passing_with, quorum_passes, seen}
 use Rattle.protocol.proofs.Balloting.FairSight.{seen-fair}
 use Rattle.protocol.proofs.Slices.Quorums.{has_quorum-from, has_quorum-found}
 use Rattle.protocol.proofs.Reach.Chains.{reach_least}
-use Rattle.protocol.proofs.Slices.Satisfaction.{sat_monotone, sat_dual}
+use Rattle.protocol.proofs.Slices.Satisfaction.{sat_monotone}
 use Rattle.protocol.proofs.Sets.Finite.{same_test}
 use Rattle.protocol.proofs.Nodes.Views.{lists}
 use Rattle.view.specs.Watching.{rows_by}
@@ -54,11 +54,3 @@ quorum_tested own q leaders table k own_passes test b h =
     same_test b _
     (λ i. has_quorum-from sat slices_at sat_monotone all passing own (lists own q table k) (h.0 i))
     (λ i. h.1 (has_quorum-found sat slices_at all passing own i))
-
--- those who pass block, as the test
-pub blocking_tested : (own : ℕ) (q : Slices) (leaders : List ℕ) (table : List Sent) (k : Kind) (own_passes : Bool) (test : Statement → Bool) (b : Bool)
-    → IsTrue b ↔ Blocks sat q (passing_with own table k own_passes test) → b ≡ (seen own q leaders table).blocking k own_passes test
-unfolding seen blocking_passes
-blocking_tested own q leaders table k own_passes test b h =
-    let dual = sat_dual q (passing_with own table k own_passes test) in
-    same_test b (is_blocked q (passing_with own table k own_passes test)) (λ i. dual.1 (h.0 i)) (λ i. h.1 (dual.0 i))
