@@ -3,7 +3,7 @@ use Rattle.std.proofs.Common.{◌≡◌, ◌<◌, ℕ, Bool, true, false, ◌&&�
 use Rattle.std.specs.Prelude.{All, filter, is_some}
 use Rattle.std.proofs.lemmas.Bool.{and_parts, and_from}
 use Rattle.std.proofs.lemmas.List.{append-nil, map-append}
-use Rattle.std.proofs.lemmas.List.Elements.{All-nil, All-push, filter-append}
+use Rattle.std.proofs.lemmas.List.Elements.{All-push, filter-append}
 use Rattle.std.proofs.lemmas.List.Kept.{AllPairs-filter}
 use Rattle.types.specs.Trees.{Slices, IsNested}
 use Rattle.protocol.specs.Sets.{Names, among, IsAscending}
@@ -49,9 +49,6 @@ flips false true = refl
 flips false false = refl
 
 module _ (slices : ℕ → Option Slices) (set : Names) where
-  pub none_found : AreFound slices set [] []
-  none_found = record { names = refl; blockers = All-nil (IsBlockedBy slices set) }
-
   -- one more name, which has no slices
   pub one_passed : (done : List ℕ) (hosted : List (ℕ × List ℕ)) (u : ℕ) → slices u ≡ None → AreFound slices set done hosted → AreFound slices set (done ++ u ∷ []) hosted
   one_passed done hosted u e found = record {

@@ -1,8 +1,8 @@
 -- The lines of members, one after the other.
-use Rattle.std.proofs.Common.{◌≡◌, ◌∙◌, ℕ, zero, suc, ◌+◌, List, [], ◌∷◌, ◌++◌, drop, slice_get, refl, sym, ap, subst, append_assoc, arith}
+use Rattle.std.proofs.Common.{◌≡◌, ◌∙◌, ℕ, zero, suc, ◌+◌, [], ◌∷◌, ◌++◌, drop, slice_get, refl, sym, ap, subst, append_assoc, arith}
 use Rattle.scripts.specs.Script.{Bytes}
 use Rattle.closure.specs.Announcing.{Listed}
-use Rattle.explorer.specs.Texts.{line_at, line_of_member, lines_from}
+use Rattle.explorer.specs.Texts.{line_at, lines_from}
 
 split-at : (members : Listed) (n k : ℕ) → lines_from k (drop n members) ≡ line_at k (slice_get members n) ++ lines_from (k + 1) (drop (suc n) members)
 split-at [] zero k = refl

@@ -27,14 +27,14 @@ impl Frame {
         };
         for place in 0..members {
             let (x, y) = point(layout.radius(place), layout.angle(place));
-            frame = frame.with(x, y);
+            frame = frame.with_point(x, y);
         }
         let missing = least_width.saturating_sub(frame.width()) / 2;
         frame.with_margins(margin.max(missing), margin)
     }
 
     /// The least frame that holds this one and a point.
-    fn with(self, x: i64, y: i64) -> Frame {
+    fn with_point(self, x: i64, y: i64) -> Frame {
         Frame {
             left: self.left.min(x),
             top: self.top.min(y),

@@ -9,7 +9,7 @@ use std::alloc::{AllocError, Global};
 use types::NodeId;
 
 /// The members of a closure, ascending.
-pub fn ascending(alloc: Global, members: &ClosureList) -> Result<Vec<NodeId>, AllocError>
+pub fn ascending_members(alloc: Global, members: &ClosureList) -> Result<Vec<NodeId>, AllocError>
     ensures ascending { IfOk result (λ v. IsAscending v.items) }
     ensures all { IfOk result (λ v. (u : ℕ) → among v.items u ≡ among (names_of members.now) u) }
 {

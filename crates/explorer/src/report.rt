@@ -6,7 +6,7 @@ ghost use Rattle.closure.specs.Announcing.{IsClosureList, names_of, slices_then}
 ghost use Rattle.explorer.specs.Reports.{AreHosted};
 
 use crate::hosted::hosted_members;
-use crate::order::ascending;
+use crate::order::ascending_members;
 use closure::{Announcements, ClosureList, closure};
 use std::alloc::{AllocError, Global};
 use std::marker::Model;
@@ -93,7 +93,7 @@ pub fn report_of<J: Announcements>(
     ensures hosted { IfOk result (λ r. AreHosted (slices_then (J.hosts journal.now) slot (J.entries journal.now)) (among (names_of r.members)) r.hosted) }
 {
     let members = closure(alloc, journal, slot, node)?;
-    let names = ascending(alloc, &members)?;
+    let names = ascending_members(alloc, &members)?;
     let hosted = hosted_members(alloc, journal, slot, &names)?;
     Ok(Report { members, hosted })
 }

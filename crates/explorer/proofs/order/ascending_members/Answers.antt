@@ -8,8 +8,8 @@ use Rattle.types.proofs.NameOrder.{name_cmp_is}
 use Rattle.protocol.specs.Sets.{among}
 use Rattle.closure.specs.Announcing.{names_of}
 use Rattle.explorer.proofs.Names.{sorted_once, taken_more, none_taken}
-use Rattle.explorer.proofs.order.ascending.Goals as goal
-use Rattle.explorer.proofs.order.ascending.Goals.{in-Some+in_ok-push, in_default}
+use Rattle.explorer.proofs.order.ascending_members.Goals as goal
+use Rattle.explorer.proofs.order.ascending_members.Goals.{in-Some+in_ok-push, in_default}
 
 pub loop-place-preserved : goal.loop-place-preserved
 loop-place-preserved c = elim c.match-name.branch [
