@@ -2,23 +2,15 @@
 use Rattle.std.proofs.Common.{◌≡◌, ℕ, ◌<◌, Bool, true, ◌||◌, nat_lt, length, List, [], ◌∷◌, Option, Some, None, if◌then◌else◌, refl, sym, ◌∙◌, ap, ap₂, inl, inr, arith}
 use Rattle.std.proofs.lemmas.Bool.{cases_Bool}
 use Rattle.std.proofs.lemmas.Bool.Decides.{nat_tests}
-use Rattle.types.specs.Statements.{Sent}
 use Rattle.types.specs.declared.event.Out.TheVariants.{Emit}
-use Rattle.types.specs.declared.state.Given.{Given}
 use Rattle.types.specs.declared.state.Votes.{Votes}
 use Rattle.types.specs.declared.statement.Statement.{Statement}
 use Rattle.types.specs.declared.statement.Statement.TheVariants.{Nominate}
 use Rattle.protocol.specs.Sameness.{same_sent}
-use Rattle.protocol.specs.Nodes.{emitted}
 use Rattle.protocol.specs.States.{sent_nomination}
 use Rattle.protocol.proofs.Equality.Sameness.{same_sent-refl, same_sent-true}
 use Rattle.listening.specs.declared.configured.Configured.{Configured}
-use Rattle.slot.specs.Wholes.{whole, sent_by, emitted_by}
-
--- a node emits by what is configured alone
-pub emitted-is : (c : Configured) (given : Given) (votes : Votes) (table : List Sent) (old new : Option Statement) → emitted_by c old new ≡ emitted (whole c given votes table) old new
-emitted-is c given votes table old None = refl
-emitted-is c given votes table old (Some s) = refl
+use Rattle.slot.specs.Wholes.{sent_by, emitted_by}
 
 -- the same statement is not sent again
 pub emitted-same : (c : Configured) (old new : Option Statement) → old ≡ new → emitted_by c old new ≡ []
