@@ -1,5 +1,5 @@
 -- Envelopes that are no more than rows: those of strangers, and all that reach a node which has externalized a value.
-use Rattle.std.proofs.Common.{◌≡◌, ℕ, Bool, true, false, not, List, [], Option, Some, None, if◌then◌else◌, refl, sym, ◌∙◌, ap, subst, inl, inr}
+use Rattle.std.proofs.Common.{◌≡◌, ℕ, Bool, true, false, not, List, [], Option, Some, None, if◌then◌else◌, refl, sym, ◌∙◌, ap, subst, inl, inr, ◌-◌}
 use Rattle.std.proofs.lemmas.Bool.{cases_Bool, false≢true}
 use Rattle.types.specs.Statements.{Sent}
 use Rattle.types.specs.declared.event.NodeEvent.TheVariants.{Take}
@@ -8,7 +8,7 @@ use Rattle.types.specs.declared.state.Given.{Given}
 use Rattle.types.specs.declared.state.Phase.{Phase}
 use Rattle.types.specs.declared.state.Phase.TheVariants.{Preparing, Committing, Externalized}
 use Rattle.types.specs.declared.state.Votes.{Votes}
-use Rattle.protocol.specs.Nodes.{Node, after_change, answered, change, is_externalized, passed, settle, settled, step}
+use Rattle.protocol.specs.Nodes.{Node, after_change, answered, change, is_externalized, passed, settle, settled, step, most_passes}
 use Rattle.protocol.specs.Passes.{pass, pass_rules, while_open}
 use Rattle.protocol.specs.Sameness.{same_votes}
 use Rattle.protocol.specs.Views.{Seen, seen}
@@ -68,8 +68,8 @@ over-taken n e over t =
     still : passed m n.votes ≡ n.votes
     still = over-pass n.name (seen n.name n.slices n.given.leaders m.table) n.given n.votes over
 
-    at_once : settle 64 (passed m) n.votes ≡ Some n.votes
-    at_once = ap (λ b. if b then Some n.votes else settle 63 (passed m) (passed m n.votes)) (ap (λ w. same_votes w n.votes) still ∙ same_votes-refl n.votes)
+    at_once : settle most_passes (passed m) n.votes ≡ Some n.votes
+    at_once = ap (λ b. if b then Some n.votes else settle (most_passes - 1) (passed m) (passed m n.votes)) (ap (λ w. same_votes w n.votes) still ∙ same_votes-refl n.votes)
 
 pub over-row : (n : Node) (u : ℕ) → is_externalized n.votes.phase ≡ true → AddsRowAlone n u
 over-row n u over = λ e from.

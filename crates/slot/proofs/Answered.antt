@@ -14,7 +14,7 @@ use Rattle.types.specs.declared.state.Votes.{Votes}
 use Rattle.protocol.specs.Rows.{is_taken, row, with_row}
 use Rattle.protocol.specs.States.{counter_of}
 use Rattle.protocol.specs.Timers.{is_nomination_timer_live, is_ballot_timer_live}
-use Rattle.protocol.specs.Nodes.{Node, passed, settle, change, settled, after_change, answered, outs, step, in_round, timed_out, bumped, is_externalized}
+use Rattle.protocol.specs.Nodes.{Node, passed, settle, change, settled, after_change, answered, outs, step, in_round, timed_out, bumped, is_externalized, most_passes}
 use Rattle.protocol.specs.Limits.{Reached}
 use Rattle.protocol.specs.Limits.Reached.{next}
 use Rattle.protocol.proofs.Nodes.Reached.{reached-sends}
@@ -41,13 +41,13 @@ abbrev pub node_in : Held → Node
 node_in h = h.node
 
 -- the votes that an event changes settle within the limit
-pub settles-after : (n m : Node) (e : NodeEvent) → Reached n → change n e ≡ Some m → IsTrue (is_some (settle 64 (passed m) m.votes))
+pub settles-after : (n m : Node) (e : NodeEvent) → Reached n → change n e ≡ Some m → IsTrue (is_some (settle most_passes (passed m) m.votes))
 settles-after n m e r h = never_limited n r e m h
 
 -- what they send once they settle is well formed
-pub sends-after : (n m : Node) (e : NodeEvent) → Reached n → change n e ≡ Some m → IfSome (settle 64 (passed m) m.votes) SendWellFormed
+pub sends-after : (n m : Node) (e : NodeEvent) → Reached n → change n e ≡ Some m → IfSome (settle most_passes (passed m) m.votes) SendWellFormed
 unfolding step
-sends-after n m e r h = go (settle 64 (passed m) m.votes) (subst (λ (o : Option Node). Reached (answered n (after_change o)).0) h (next r e))
+sends-after n m e r h = go (settle most_passes (passed m) m.votes) (subst (λ (o : Option Node). Reached (answered n (after_change o)).0) h (next r e))
   where
     go : (o : Option Votes) → Reached (answered n (settled m o)).0 → IfSome o SendWellFormed
     go None r = tt
@@ -150,10 +150,10 @@ outs-by_new c d given votes before table new = refl
 
 -- ---- whole steps
 -- the votes settle
-pub step-some : (n m : Node) (e : NodeEvent) (w : Votes) → change n e ≡ Some m → settle 64 (passed m) m.votes ≡ Some w → step n e ≡ answered n (Some (record m { votes = w }))
+pub step-some : (n m : Node) (e : NodeEvent) (w : Votes) → change n e ≡ Some m → settle most_passes (passed m) m.votes ≡ Some w → step n e ≡ answered n (Some (record m { votes = w }))
 step-some n m e w h s = step-is n e (Some m) h ∙ ap (λ (o : Option Votes). answered n (settled m o)) s
 
-pub reached-some : (n m : Node) (e : NodeEvent) (w : Votes) → Reached n → change n e ≡ Some m → settle 64 (passed m) m.votes ≡ Some w → Reached (record m { votes = w })
+pub reached-some : (n m : Node) (e : NodeEvent) (w : Votes) → Reached n → change n e ≡ Some m → settle most_passes (passed m) m.votes ≡ Some w → Reached (record m { votes = w })
 reached-some n m e w r h s = subst (λ (p : Node × List Out). Reached p.0) (step-some n m e w h s) (next r e)
 
 -- ---- quiet

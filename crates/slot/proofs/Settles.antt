@@ -1,11 +1,11 @@
 -- One of so many passes, as the loop makes it.
-use Rattle.std.proofs.Common.{◌≡◌, ℕ, zero, suc, ◌+◌, ◌-◌, ◌<◌, Bool, true, false, Option, Some, None, if◌then◌else◌, refl, sym, ap, subst, ◌∙◌, inl, inr, arith}
+use Rattle.std.proofs.Common.{◌≡◌, ℕ, suc, ◌+◌, ◌-◌, ◌<◌, true, Some, None, if◌then◌else◌, refl, sym, ap, subst, ◌∙◌, inl, inr, arith}
 use Rattle.std.proofs.lemmas.Bool.{cases_Bool}
 use Rattle.types.specs.declared.state.Phase.{Phase}
 use Rattle.types.specs.declared.state.Phase.TheVariants.{Externalized}
 use Rattle.types.specs.declared.state.Given.{Given}
 use Rattle.types.specs.declared.state.Votes.{Votes}
-use Rattle.protocol.specs.Nodes.{settle}
+use Rattle.protocol.specs.Nodes.{settle, most_passes}
 use Rattle.protocol.specs.Passes.{pass, pass_rules, while_open}
 use Rattle.protocol.specs.Sameness.{same_votes}
 use Rattle.protocol.specs.Views.{Seen}
@@ -15,22 +15,22 @@ one : (n : ℕ) (f : Votes → Votes) (w : Votes) → settle (suc n) f w ≡ (if
 unfolding settle
 one n f w = refl
 
-settle-step : (i : ℕ) (f : Votes → Votes) (w : Votes) → i < 64 → settle (64 - i) f w ≡ (if same_votes (f w) w then Some w else settle (64 - (i + 1)) f (f w))
-settle-step i f w h = subst (λ n. settle n f w ≡ (if same_votes (f w) w then Some w else settle (64 - (i + 1)) f (f w))) (omega arith) (one (64 - (i + 1)) f w)
+settle-step : (i : ℕ) (f : Votes → Votes) (w : Votes) → i < most_passes → settle (most_passes - i) f w ≡ (if same_votes (f w) w then Some w else settle (most_passes - (i + 1)) f (f w))
+settle-step i f w h = subst (λ n. settle n f w ≡ (if same_votes (f w) w then Some w else settle (most_passes - (i + 1)) f (f w))) (omega arith) (one (most_passes - (i + 1)) f w)
 
 -- a pass that changes nothing is the last
-pub settle-same : (i : ℕ) (f : Votes → Votes) (w : Votes) → i < 64 → f w ≡ w → settle (64 - i) f w ≡ Some w
+pub settle-same : (i : ℕ) (f : Votes → Votes) (w : Votes) → i < most_passes → f w ≡ w → settle (most_passes - i) f w ≡ Some w
 settle-same i f w h e = let same : same_votes (f w) w ≡ true = ap (λ (u : Votes). same_votes u w) e ∙ same_votes-refl w in settle-step i f w h ∙ rw same refl
 
 -- after every other pass those that are left go on
-pub settle-other : (i : ℕ) (f : Votes → Votes) (w : Votes) → i < 64 → (f w ≡ w → ⊥) → settle (64 - i) f w ≡ settle (64 - (i + 1)) f (f w)
+pub settle-other : (i : ℕ) (f : Votes → Votes) (w : Votes) → i < most_passes → (f w ≡ w → ⊥) → settle (most_passes - i) f w ≡ settle (most_passes - (i + 1)) f (f w)
 settle-other i f w h other = elim (cases_Bool (same_votes (f w) w)) [
   | inl e ↦ absurd (other (same_votes-true (f w) w e))
   | inr e ↦ settle-step i f w h ∙ rw e refl
 ]
 
 -- no pass is left
-pub settle-end : (f : Votes → Votes) (w : Votes) → settle (64 - 64) f w ≡ None
+pub settle-end : (f : Votes → Votes) (w : Votes) → settle (most_passes - most_passes) f w ≡ None
 unfolding settle
 settle-end f w = refl
 
@@ -39,5 +39,5 @@ over-stays : (own : ℕ) (seen : Seen) (given : Given) (w : Votes) → w.phase �
 unfolding pass
 over-stays own seen given w over = ap (λ (p : Phase). while_open p (pass_rules own seen given) w) over
 
-pub over_settles : (w v : Votes) → w.phase ≡ Externalized → v ≡ w → (own : ℕ) (seen : Seen) (given : Given) → settle 64 (pass own seen given) w ≡ Some v
+pub over_settles : (w v : Votes) → w.phase ≡ Externalized → v ≡ w → (own : ℕ) (seen : Seen) (given : Given) → settle most_passes (pass own seen given) w ≡ Some v
 over_settles w v over copy own seen given = settle-same 0 (pass own seen given) w (omega arith) (over-stays own seen given w over) ∙ ap Some (sym copy)

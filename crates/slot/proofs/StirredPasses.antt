@@ -1,9 +1,9 @@
 -- The votes after passes that begin with certain rules, as the code finds them.
-use Rattle.std.proofs.Common.{◌≡◌, ℕ, true, Option, Some, Result, IfOk, if◌then◌else◌, refl, sym, ◌∙◌, ap, subst, inl, inr}
+use Rattle.std.proofs.Common.{◌≡◌, ℕ, true, Option, Some, Result, IfOk, if◌then◌else◌, refl, sym, ◌∙◌, ap, subst, inl, inr, ◌-◌}
 use Rattle.std.proofs.lemmas.Bool.{cases_Bool}
 use Rattle.types.specs.declared.state.Given.{Given}
 use Rattle.types.specs.declared.state.Votes.{Votes}
-use Rattle.protocol.specs.Nodes.{settle}
+use Rattle.protocol.specs.Nodes.{settle, most_passes}
 use Rattle.protocol.specs.Passes.{balloted_in, nominated_in, pass}
 use Rattle.protocol.specs.Sameness.{same_values, same_votes}
 use Rattle.protocol.specs.Stirring.{settle_after, settle_all, settle_ballots, settle_nominations}
@@ -16,13 +16,13 @@ use Rattle.slot.specs.Stirrings.{Stirs, part}
 -- ---- after a first pass
 pub after-same : (s : Seen) (g : Given) (before after : Votes) → after ≡ before → settle_after s g before after ≡ Some after
 unfolding settle_after
-after-same s g before after e = ap (λ b. if b then Some after else settle 63 (balloted_in s g) after) (ap (λ (w : Votes). same_votes w before) e ∙ same_votes-refl before)
+after-same s g before after e = ap (λ b. if b then Some after else settle (most_passes - 1) (balloted_in s g) after) (ap (λ (w : Votes). same_votes w before) e ∙ same_votes-refl before)
 
-pub after-other : (s : Seen) (g : Given) (before after : Votes) → (after ≡ before → ⊥) → settle_after s g before after ≡ settle 63 (balloted_in s g) after
+pub after-other : (s : Seen) (g : Given) (before after : Votes) → (after ≡ before → ⊥) → settle_after s g before after ≡ settle (most_passes - 1) (balloted_in s g) after
 unfolding settle_after
 after-other s g before after other = elim (cases_Bool (same_votes after before)) [
   | inl e ↦ absurd (other (same_votes-true after before e))
-  | inr e ↦ ap (λ b. if b then Some after else settle 63 (balloted_in s g) after) e
+  | inr e ↦ ap (λ b. if b then Some after else settle (most_passes - 1) (balloted_in s g) after) e
 ]
 
 -- ---- after nomination
@@ -44,13 +44,13 @@ confirms-more v s g w x y is other made =
 
 -- ---- by the rules that are stirred
 -- a first pass that changes nothing is the last
-pub no-arm : (t : Stirred) (v : ℕ) (s : Seen) (g : Given) (w : Votes) → Stirs t v s g w → part t v s g w ≡ w → settle 64 (pass v s g) w ≡ Some w
+pub no-arm : (t : Stirred) (v : ℕ) (s : Seen) (g : Given) (w : Votes) → Stirs t v s g w → part t v s g w ≡ w → settle most_passes (pass v s g) w ≡ Some w
 unfolding settle_all settle_ballots
 no-arm All v s g w stirs e = sym stirs ∙ after-same s g w (pass v s g w) e ∙ ap {B = Option Votes} Some e
 no-arm Ballots v s g w stirs e = sym stirs ∙ after-same s g w (balloted_in s g w) e ∙ ap {B = Option Votes} Some e
 no-arm Nominations v s g w stirs e = sym stirs ∙ confirms-none v s g w w (sym e) refl
 
-pub all-arm : {E : Type 0} (t : Stirred) (v : ℕ) (s : Seen) (g : Given) (w x : Votes) (r : Result (Option Votes) E) → t ≡ All → Stirs t v s g w → (x ≡ part t v s g w) × (part t v s g w ≡ w → ⊥) → IfOk r (λ o. o ≡ settle 63 (balloted_in s g) x) → IfOk r (λ o. o ≡ settle 64 (pass v s g) w)
+pub all-arm : {E : Type 0} (t : Stirred) (v : ℕ) (s : Seen) (g : Given) (w x : Votes) (r : Result (Option Votes) E) → t ≡ All → Stirs t v s g w → (x ≡ part t v s g w) × (part t v s g w ≡ w → ⊥) → IfOk r (λ o. o ≡ settle (most_passes - 1) (balloted_in s g) x) → IfOk r (λ o. o ≡ settle most_passes (pass v s g) w)
 unfolding settle_all
 all-arm t v s g w x r is stirs made done =
     let stirred : Stirs All v s g w = subst (λ u. Stirs u v s g w) is stirs in
@@ -58,7 +58,7 @@ all-arm t v s g w x r is stirs made done =
     let other : x ≡ w → ⊥ = λ e. made.1 (sym made.0 ∙ e) in
     subst (λ (e : Option Votes). IfOk r (λ o. o ≡ e)) (sym (after-other s g w x other) ∙ ap (settle_after s g w) next ∙ stirred) done
 
-pub ballots-arm : {E : Type 0} (t : Stirred) (v : ℕ) (s : Seen) (g : Given) (w x : Votes) (r : Result (Option Votes) E) → t ≡ Ballots → Stirs t v s g w → (x ≡ part t v s g w) × (part t v s g w ≡ w → ⊥) → IfOk r (λ o. o ≡ settle 63 (balloted_in s g) x) → IfOk r (λ o. o ≡ settle 64 (pass v s g) w)
+pub ballots-arm : {E : Type 0} (t : Stirred) (v : ℕ) (s : Seen) (g : Given) (w x : Votes) (r : Result (Option Votes) E) → t ≡ Ballots → Stirs t v s g w → (x ≡ part t v s g w) × (part t v s g w ≡ w → ⊥) → IfOk r (λ o. o ≡ settle (most_passes - 1) (balloted_in s g) x) → IfOk r (λ o. o ≡ settle most_passes (pass v s g) w)
 unfolding settle_ballots
 ballots-arm t v s g w x r is stirs made done =
     let stirred : Stirs Ballots v s g w = subst (λ u. Stirs u v s g w) is stirs in
@@ -66,7 +66,7 @@ ballots-arm t v s g w x r is stirs made done =
     let other : x ≡ w → ⊥ = λ e. made.1 (sym made.0 ∙ e) in
     subst (λ (e : Option Votes). IfOk r (λ o. o ≡ e)) (sym (after-other s g w x other) ∙ ap (settle_after s g w) next ∙ stirred) done
 
-pub nominations-arm : {E : Type 0} (t : Stirred) (v : ℕ) (s : Seen) (g : Given) (w : Votes) (r : Result (Option Votes) E) → t ≡ Nominations → Stirs t v s g w → IfOk r (λ o. o ≡ settle_nominations v s g w) → IfOk r (λ o. o ≡ settle 64 (pass v s g) w)
+pub nominations-arm : {E : Type 0} (t : Stirred) (v : ℕ) (s : Seen) (g : Given) (w : Votes) (r : Result (Option Votes) E) → t ≡ Nominations → Stirs t v s g w → IfOk r (λ o. o ≡ settle_nominations v s g w) → IfOk r (λ o. o ≡ settle most_passes (pass v s g) w)
 nominations-arm t v s g w r is stirs done =
     let stirred : Stirs Nominations v s g w = subst (λ u. Stirs u v s g w) is stirs in
     subst (λ (e : Option Votes). IfOk r (λ o. o ≡ e)) stirred done

@@ -5,7 +5,7 @@ use Rattle.types.specs.declared.kind.Kind.{Kind}
 use Rattle.types.specs.declared.kind.Kind.TheVariants.{Nomination}
 use Rattle.types.specs.declared.state.Given.{Given}
 use Rattle.types.specs.declared.state.Votes.{Votes}
-use Rattle.protocol.specs.Nodes.{Node, settle}
+use Rattle.protocol.specs.Nodes.{Node, settle, most_passes}
 use Rattle.protocol.specs.Passes.{balloted_in, nominated_in, pass}
 use Rattle.protocol.specs.Stirring.{KeepsReach, seen_by, settle_all, settle_ballots, settle_nominations}
 use Rattle.protocol.specs.Views.{Seen}
@@ -32,7 +32,7 @@ settled_by Nominations own seen g w = settle_nominations own seen g w
 
 -- the other rules have nothing to do: these passes lead where whole ones lead
 abbrev pub Stirs : Stirred → ℕ → Seen → Given → Votes → Type 0
-Stirs stirred own seen g w = settled_by stirred own seen g w ≡ settle 64 (pass own seen g) w
+Stirs stirred own seen g w = settled_by stirred own seen g w ≡ settle most_passes (pass own seen g) w
 
 -- of a node that an event changed
 abbrev pub StirsIn : Stirred → Node → Type 0

@@ -1,7 +1,7 @@
 //! What passes make of a node that an event changed.
 
 ghost use Rattle.std.specs.Prelude.{◌≡◌, ℕ, IfOk, IsTrue, Some, is_some};
-ghost use Rattle.protocol.specs.Nodes.{settle};
+ghost use Rattle.protocol.specs.Nodes.{settle, most_passes};
 ghost use Rattle.protocol.specs.Passes.{pass};
 ghost use Rattle.protocol.specs.Views.{Seen};
 ghost use Rattle.slot.specs.Stirrings.{Stirs};
@@ -55,7 +55,7 @@ pub(crate) struct FiledAnswer {
 #[tactic(auto, using(crate::proofs::Settles::over_settles))]
 pub(crate) fn votes_at_rest(start: &Start<'_>) -> Result<Votes, AllocError>
     requires { start.now.votes.now.phase ≡ Externalized }
-    ensures { IfOk result (λ w. (own : ℕ) (seen : Seen) (given : Given) → settle 64 (pass own seen given) start.now.votes.now ≡ Some w) }
+    ensures { IfOk result (λ w. (own : ℕ) (seen : Seen) (given : Given) → settle most_passes (pass own seen given) start.now.votes.now ≡ Some w) }
 {
     let votes = start.votes.try_copy()?;
     Ok(votes)
@@ -69,8 +69,8 @@ pub(crate) fn settled_votes<'a, S: Sight>(
     start: &'a Start<'a>,
 ) -> Result<Votes, AllocError>
     requires stirs { Stirs start.now.stirred configured.now.name (S.seen sight.now) start.now.given.now start.now.votes.now }
-    requires settles { IsTrue (is_some (settle 64 (pass configured.now.name (S.seen sight.now) start.now.given.now) start.now.votes.now)) }
-    ensures { IfOk result (λ w. settle 64 (pass configured.now.name (S.seen sight.now) start.now.given.now) start.now.votes.now ≡ Some w) }
+    requires settles { IsTrue (is_some (settle most_passes (pass configured.now.name (S.seen sight.now) start.now.given.now) start.now.votes.now)) }
+    ensures { IfOk result (λ w. settle most_passes (pass configured.now.name (S.seen sight.now) start.now.given.now) start.now.votes.now ≡ Some w) }
 {
     let inputs = Inputs {
         own: &configured.name,

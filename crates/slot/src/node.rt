@@ -2,7 +2,7 @@
 
 ghost use Rattle.std.specs.Prelude.{[], ◌≡◌, IfOk, IfSome, IsFalse, IsTrue, List, None, OnErr, OnOk, Some, is_ok, is_some};
 ghost use Rattle.std.specs.List.{Contains};
-ghost use Rattle.protocol.specs.Nodes.{Calm, after_change, answered, change, fresh, outs, passed, settle, step};
+ghost use Rattle.protocol.specs.Nodes.{Calm, after_change, answered, change, fresh, outs, passed, settle, step, most_passes};
 ghost use Rattle.protocol.specs.Claims.{IsQuiet};
 ghost use Rattle.protocol.specs.Reach.{HoldsReach};
 ghost use Rattle.protocol.specs.Limits.{Reached};
@@ -474,9 +474,9 @@ fn answer_anew<S: Shelf>(
 ) -> Result<FiledAnswer, AllocError>
     requires rows { AreFiled archive.old listener.old.table }
     requires stirs { StirsIn start.now.stirred (node_of listener.old start.now.given.now start.now.votes.now) }
-    requires settles { IsTrue (is_some (settle 64 (passed (node_of listener.old start.now.given.now start.now.votes.now)) start.now.votes.now)) }
-    requires sends { IfSome (settle 64 (passed (node_of listener.old start.now.given.now start.now.votes.now)) start.now.votes.now) SendWellFormed }
-    ensures votes { IfOk result (λ a. settle 64 (passed (node_of listener.old start.now.given.now start.now.votes.now)) start.now.votes.now ≡ Some a.votes) }
+    requires settles { IsTrue (is_some (settle most_passes (passed (node_of listener.old start.now.given.now start.now.votes.now)) start.now.votes.now)) }
+    requires sends { IfSome (settle most_passes (passed (node_of listener.old start.now.given.now start.now.votes.now)) start.now.votes.now) SendWellFormed }
+    ensures votes { IfOk result (λ a. settle most_passes (passed (node_of listener.old start.now.given.now start.now.votes.now)) start.now.votes.now ≡ Some a.votes) }
     ensures outs { IfOk result (λ a. (before after : List Sent) → outs_of a.given_out.outs.items ≡ outs (whole listener.old.configured start.now.given.now start.now.votes.now before) (whole listener.old.configured start.now.given.now a.votes after)) }
     ensures same { listener.new ≡ listener.old }
     ensures filed { IfOk result (λ a. AreFiledOuts archive.new a.given_out.outs.items) }

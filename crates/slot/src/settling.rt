@@ -1,8 +1,8 @@
 //! Passes, until one changes nothing.
 
-ghost use Rattle.std.specs.Prelude.{◌≡◌, IfOk, OnOk, unwrap_or};
+ghost use Rattle.std.specs.Prelude.{◌≡◌, ◌-◌, IfOk, OnOk, unwrap_or};
 ghost use Rattle.drafts.specs.Drafted.{after};
-ghost use Rattle.protocol.specs.Nodes.{settle};
+ghost use Rattle.protocol.specs.Nodes.{settle, most_passes};
 ghost use Rattle.protocol.specs.Passes.{balloted_in, nominated_in, pass};
 ghost use Rattle.protocol.specs.Stirring.{settle_after, settle_nominations};
 ghost use Rattle.slot.specs.Differences.{IsDifference};
@@ -15,7 +15,7 @@ use fedvote::Sight;
 use std::alloc::{AllocError, Global};
 use types::{Given, NodeId, Votes};
 
-/// How many passes are tried after an event; none needs more than four.
+/// How many passes are tried after an event, `most_passes` of the definitions; none needs more than four.
 const MOST_PASSES: u32 = 64;
 
 /// What the rules of a pass read beside the votes.
@@ -40,7 +40,7 @@ pub(crate) fn settle_from<S: Sight>(
     stirred: Stirred,
 ) -> Result<Option<Votes>, AllocError>
     requires { Stirs stirred inputs.now.own.now (S.seen inputs.now.sight.now) inputs.now.given.now votes.now }
-    ensures { IfOk result (λ o. o ≡ settle 64 (pass inputs.now.own.now (S.seen inputs.now.sight.now) inputs.now.given.now) votes.now) }
+    ensures { IfOk result (λ o. o ≡ settle most_passes (pass inputs.now.own.now (S.seen inputs.now.sight.now) inputs.now.given.now) votes.now) }
 {
     let Some(next) = difference_by(alloc, inputs, votes, stirred)? else {
         let same = votes.try_copy()?;
@@ -107,7 +107,7 @@ fn settle_on<S: Sight>(
     inputs: &Inputs<'_, S>,
     votes: Votes,
 ) -> Result<Option<Votes>, AllocError>
-    ensures { IfOk result (λ o. o ≡ settle 63 (balloted_in (S.seen inputs.now.sight.now) inputs.now.given.now) votes) }
+    ensures { IfOk result (λ o. o ≡ settle (most_passes - 1) (balloted_in (S.seen inputs.now.sight.now) inputs.now.given.now) votes) }
 {
     let mut settled = votes;
     for number in 1..MOST_PASSES {

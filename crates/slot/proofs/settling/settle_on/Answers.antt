@@ -1,6 +1,6 @@
 use Rattle.std.proofs.Common.{◌≡◌, ◌∙◌, ℕ, ◌-◌, ◌+◌, sym, ap, subst, arith}
 use Rattle.types.specs.declared.state.Votes.{Votes}
-use Rattle.protocol.specs.Nodes.{settle}
+use Rattle.protocol.specs.Nodes.{settle, most_passes}
 use Rattle.protocol.specs.Passes.{balloted_in}
 use Rattle.slot.specs.Differences.{IsDifference}
 use Rattle.slot.proofs.Settles.{settle-same, settle-other, settle-end}
@@ -18,11 +18,11 @@ loop-number-preserved g c =
     let f = balloted_in (g.S.Sight.seen c.args.inputs.now.sight.now) c.args.inputs.now.given.now in
     let w = c.loop-number.settled in
     let made = subst (IsDifference w (f w)) c.in-Some.is c.in_ok-next.ensures in
-    ap (λ (u : Votes). settle (64 - (c.loop-number.number + 1)) f u) made.0 ∙ sym (settle-other c.loop-number.number f w (omega arith) made.1) ∙ c.loop-number.invariant
+    ap (λ (u : Votes). settle (most_passes - (c.loop-number.number + 1)) f u) made.0 ∙ sym (settle-other c.loop-number.number f w (omega arith) made.1) ∙ c.loop-number.invariant
 
 pub returns : goal.returns
 returns g c =
     let f = balloted_in (g.S.Sight.seen c.args.inputs.now.sight.now) c.args.inputs.now.given.now in
     let w = c.loop-number.settled in
-    let at : c.loop-number.number ≡ 64 = omega arith in
-    sym (settle-end f w) ∙ ap (λ (n : ℕ). settle (64 - n) f w) (sym at) ∙ c.loop-number.invariant
+    let at : c.loop-number.number ≡ most_passes = omega arith in
+    sym (settle-end f w) ∙ ap (λ (n : ℕ). settle (most_passes - n) f w) (sym at) ∙ c.loop-number.invariant

@@ -1,5 +1,5 @@
 use Rattle.std.proofs.Common.{◌≡◌, ◌-◌}
-use Rattle.protocol.specs.Nodes.{settle}
+use Rattle.protocol.specs.Nodes.{settle, most_passes}
 use Rattle.protocol.specs.Passes.{balloted_in}
 use Rattle.slot.proofs.settling.settle_on.Given as goal
 
@@ -7,4 +7,4 @@ use Rattle.slot.proofs.settling.settle_on.Given as goal
 abbrev pub invariant-loop-number : goal.invariant-loop-number
 invariant-loop-number g l =
     let f = balloted_in (g.S.Sight.seen l.inputs.sight.now) l.inputs.given.now in
-    settle (64 - l.number) f l.settled ≡ settle 63 f l.fn.votes
+    settle (most_passes - l.number) f l.settled ≡ settle (most_passes - 1) f l.fn.votes

@@ -1,6 +1,6 @@
 use Rattle.std.proofs.Common.{◌≡◌, Some, is_some, sym, subst, ap}
 use Rattle.std.specs.Prelude.{IfSome, IsTrue}
-use Rattle.protocol.specs.Nodes.{Node, passed, settle}
+use Rattle.protocol.specs.Nodes.{Node, passed, settle, most_passes}
 use Rattle.protocol.specs.Limits.{Reached}
 use Rattle.envstore.specs.Archives.{AreFiled}
 use Rattle.envstore.proofs.Growing.{keeps_all}
@@ -19,7 +19,7 @@ answer-answered-requires-clause-settles g c =
     let n = c.args.self.now.node in
     let m : Node = record n { given = c.args.changed.given; votes = c.args.changed.votes } in
     let h = settles-after n m c.requires.change.event (subst Reached (ap node_in c.self.view_is) c.self.invariant) c.requires.change.is in
-    subst (λ (x : Node). IsTrue (is_some (settle 64 (passed (record x { given = c.args.changed.given; votes = c.args.changed.votes })) c.args.changed.votes))) (sym (ap node_in c.self.view_is)) h
+    subst (λ (x : Node). IsTrue (is_some (settle most_passes (passed (record x { given = c.args.changed.given; votes = c.args.changed.votes })) c.args.changed.votes))) (sym (ap node_in c.self.view_is)) h
 
 pub answer-answered-requires-clause-stirs : goal.answer-answered-requires-clause-stirs
 answer-answered-requires-clause-stirs g c =
@@ -33,7 +33,7 @@ answer-answered-requires-clause-sends g c =
     let n = c.args.self.now.node in
     let m : Node = record n { given = c.args.changed.given; votes = c.args.changed.votes } in
     let h = sends-after n m c.requires.change.event (subst Reached (ap node_in c.self.view_is) c.self.invariant) c.requires.change.is in
-    subst (λ (x : Node). IfSome (settle 64 (passed (record x { given = c.args.changed.given; votes = c.args.changed.votes })) c.args.changed.votes) SendWellFormed) (sym (ap node_in c.self.view_is)) h
+    subst (λ (x : Node). IfSome (settle most_passes (passed (record x { given = c.args.changed.given; votes = c.args.changed.votes })) c.args.changed.votes) SendWellFormed) (sym (ap node_in c.self.view_is)) h
 
 pub invariant_of-self : goal.invariant_of-self
 invariant_of-self g c = subst (λ (h : Heard). Reached (node_of h c.self.inside.given c.self.inside.votes)) (sym c.answer-answered.ensures.same) c.self.invariant
@@ -43,7 +43,7 @@ invariant_of-self-2 g c =
     let n = c.args.self.now.node in
     let m : Node = record n { given = c.args.changed.given; votes = c.args.changed.votes } in
     let w = c.in_ok-answer.answer.votes in
-    let settled : settle 64 (passed m) c.args.changed.votes ≡ Some w = subst (λ (x : Node). settle 64 (passed (record x { given = c.args.changed.given; votes = c.args.changed.votes })) c.args.changed.votes ≡ Some w) (ap node_in c.self.view_is) c.in_ok-answer.ensures.votes in
+    let settled : settle most_passes (passed m) c.args.changed.votes ≡ Some w = subst (λ (x : Node). settle most_passes (passed (record x { given = c.args.changed.given; votes = c.args.changed.votes })) c.args.changed.votes ≡ Some w) (ap node_in c.self.view_is) c.in_ok-answer.ensures.votes in
     let reached = reached-some n m c.requires.change.event w (subst Reached (ap node_in c.self.view_is) c.self.invariant) c.requires.change.is settled in
     subst (λ (h : Heard). Reached (node_of h c.args.changed.given w)) (sym c.answer-answered.ensures.same) (subst (λ (x : Node). Reached (record x { given = c.args.changed.given; votes = w })) (sym (ap node_in c.self.view_is)) reached)
 
