@@ -1,4 +1,6 @@
 //! What a node gives out is filed.
+//!
+//! Where a function here answers an error, memory is short.
 
 ghost use Rattle.std.specs.Prelude.{[], ◌≡◌, IfOk, IsTrue, is_ok, map, replicate};
 ghost use Rattle.envstore.specs.Archives.{Keeps};
@@ -9,8 +11,7 @@ use envstore::{Archive, Shelf};
 use std::alloc::{AllocError, Global};
 use types::Out;
 
-/// The same, each emitted envelope filed. An error says that memory is short; some envelopes may be filed
-/// then.
+/// The same, each emitted envelope filed. With an error some envelopes may be filed.
 pub(crate) fn file_all<S: Shelf>(
     alloc: Global,
     archive: &mut Archive<S>,
@@ -27,7 +28,7 @@ pub(crate) fn file_all<S: Shelf>(
     Ok(filed)
 }
 
-/// The same, filed where it is an emitted envelope. An error says that memory is short.
+/// The same, filed where it is an emitted envelope.
 fn file<S: Shelf>(archive: &mut Archive<S>, out: Out) -> Result<FiledOut, AllocError>
     ensures out { IfOk result (λ o. out_of o ≡ out) }
     ensures filed { IfOk result (λ o. IsFiledOut archive.new o) }
@@ -45,8 +46,8 @@ fn file<S: Shelf>(archive: &mut Archive<S>, out: Out) -> Result<FiledOut, AllocE
     }
 }
 
-/// The same, each emitted envelope filed, with so many whole copies, which are made before. An error says
-/// that memory is short; some envelopes may be filed then.
+/// The same, each emitted envelope filed, with so many whole copies, which are made before. With an error some
+/// envelopes may be filed.
 pub(crate) fn file_copied<S: Shelf>(
     alloc: Global,
     archive: &mut Archive<S>,
@@ -63,7 +64,7 @@ pub(crate) fn file_copied<S: Shelf>(
     Ok(GivenOut { outs, copies })
 }
 
-/// Nothing is given out, with so many copies. An error says that memory is short, which no copies take.
+/// Nothing is given out, with so many copies; no copies take no memory.
 pub(crate) fn nothing(alloc: Global, copies: usize) -> Result<GivenOut, AllocError>
     ensures outs { IfOk result (λ v. v.outs.items ≡ []) }
     ensures copies { IfOk result (HasCopies copies) }
@@ -74,7 +75,7 @@ pub(crate) fn nothing(alloc: Global, copies: usize) -> Result<GivenOut, AllocErr
     Ok(GivenOut { outs, copies })
 }
 
-/// So many copies of outs. An error says that memory is short, which no copies take.
+/// So many copies of outs; no copies take no memory.
 fn copies_of(alloc: Global, outs: &[Out], count: usize) -> Result<Vec<Vec<Out>>, AllocError>
     ensures copies { IfOk result (λ v. map (λ w. w.items) v.items ≡ replicate count outs.now) }
     ensures idle { count ≡ 0 → IsTrue (is_ok result) }
@@ -86,7 +87,7 @@ fn copies_of(alloc: Global, outs: &[Out], count: usize) -> Result<Vec<Vec<Out>>,
     Ok(copies)
 }
 
-/// A copy of outs. An error says that memory is short.
+/// A copy of outs.
 fn copy_of(alloc: Global, outs: &[Out]) -> Result<Vec<Out>, AllocError>
     ensures { IfOk result (λ v. v.items ≡ outs.now) }
 {

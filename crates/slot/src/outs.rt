@@ -1,4 +1,6 @@
 //! What a node gives out after an event.
+//!
+//! Where a function here answers an error, memory is short.
 
 ghost use Rattle.std.specs.Prelude.{◌≡◌, ◌++◌, [], List, Option, IfOk, IfSome, OnOk, not, ◌&&◌, if◌then◌else◌};
 ghost use Rattle.protocol.specs.Nodes.{decided, is_externalized, outs, when};
@@ -16,8 +18,7 @@ use types::{Out, Phase, Statement, Votes, statement_of};
 
 /// What is given out where an event led from one state to another, in this order: the timer of a new
 /// round, the ballot timer that was armed, the nomination and the ballot statement where another one
-/// would have been sent before, and the value that is externalized now (this host's profile). An error
-/// says that memory is short.
+/// would have been sent before, and the value that is externalized now (this host's profile).
 #[tactic(auto, unfolding(protocol::specs::Nodes::outs))]
 pub(crate) fn outs(
     alloc: Global,

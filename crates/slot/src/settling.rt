@@ -1,4 +1,6 @@
 //! Passes, until one changes nothing.
+//!
+//! Where a function here answers an error, memory is short.
 
 ghost use Rattle.std.specs.Prelude.{◌≡◌, ◌-◌, IfOk, OnOk, unwrap_or};
 ghost use Rattle.drafts.specs.Drafted.{after};
@@ -31,8 +33,7 @@ pub(crate) struct Inputs<'a, S> {
 
 /// The votes after passes, from votes that stay, until one changes nothing; the event before them stirs these
 /// rules alone. `None` where each of 64 changes something, which no event of a node makes (the limit is this
-/// host's profile). Votes are copied once for each pass that changes some, and once where none does. An error
-/// says that memory is short.
+/// host's profile). Votes are copied once for each pass that changes some, and once where none does.
 pub(crate) fn settle_from<S: Sight>(
     alloc: Global,
     inputs: &Inputs<'_, S>,
@@ -119,8 +120,7 @@ fn settle_on<S: Sight>(
     Ok(None)
 }
 
-/// What the part of a pass with these rules makes of votes that stay; `None` where that is the same votes. An
-/// error says that memory is short.
+/// What the part of a pass with these rules makes of votes that stay; `None` where that is the same votes.
 fn difference_by<S: Sight>(
     alloc: Global,
     inputs: &Inputs<'_, S>,
@@ -136,7 +136,7 @@ fn difference_by<S: Sight>(
     Ok(difference)
 }
 
-/// The part of a pass with these rules. An error says that memory is short.
+/// The part of a pass with these rules.
 fn apply_part<S: Sight>(
     alloc: Global,
     inputs: &Inputs<'_, S>,
