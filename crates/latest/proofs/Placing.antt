@@ -47,17 +47,3 @@ row-at_place (x ∷ xs) u k i h = go (is_row_of u k x) h (place_of xs u k) (row-
         later : (o : Option ℕ) → option_map suc o ≡ Some i → ((j : ℕ) → o ≡ Some j → slice_get xs j ≡ find (is_row_of u k) xs) → slice_get (x ∷ xs) i ≡ find (is_row_of u k) xs
         later None e f = cc
         later (Some j) e f = let s : suc j ≡ i = cc in ap (slice_get (x ∷ xs)) (sym s) ∙ f j refl
-
--- a node without a place has no row
-pub row-without_place : (table : List Sent) (u : ℕ) (k : Kind) → place_of table u k ≡ None → row table u k ≡ None
-unfolding row
-row-without_place [] u k h = refl
-row-without_place (x ∷ xs) u k h = go (is_row_of u k x) h (row-without_place xs u k)
-  where
-    go : (b : Bool) → cond b (Some 0) (option_map suc (place_of xs u k)) ≡ None → (place_of xs u k ≡ None → find (is_row_of u k) xs ≡ None) → cond b (Some x) (find (is_row_of u k) xs) ≡ None
-    go true h ih = cc
-    go false h ih = later (place_of xs u k) h ih
-      where
-        later : (o : Option ℕ) → option_map suc o ≡ None → (o ≡ None → find (is_row_of u k) xs ≡ None) → find (is_row_of u k) xs ≡ None
-        later None e f = f refl
-        later (Some j) e f = cc

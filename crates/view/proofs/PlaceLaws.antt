@@ -7,13 +7,14 @@ use Rattle.types.specs.Statements.{Sent, kind_of}
 use Rattle.protocol.specs.Rows.{is_row_of, row, with_row}
 use Rattle.latest.specs.Places.{place_of}
 use Rattle.protocol.proofs.Statements.Offers.{is_row_of-own}
-use Rattle.latest.proofs.Placing.{place-of_others, place-of_replaced, row-at_place, row-without_place}
+use Rattle.latest.proofs.Placing.{place-of_others, place-of_replaced, row-at_place}
+use Rattle.latest.proofs.Tabled.{row-nowhere}
 use Rattle.view.specs.Regions.{row_places}
 use Rattle.view.specs.Watching.{row_where, rows_at}
 
 -- what stands at the place of a row is the row
 pub one_where : (table : List Sent) (u : ℕ) (k : Kind) (o : Option ℕ) → place_of table u k ≡ o → row_where table o ≡ row table u k
-one_where table u k None is = sym (row-without_place table u k is)
+one_where table u k None is = sym (row-nowhere table u k is)
 one_where table u k (Some i) is = row-at_place table u k i is
 
 -- and so for all nodes
