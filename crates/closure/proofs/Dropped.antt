@@ -1,18 +1,15 @@
 -- A row with other slices that leaves the reach as it is: it names reached nodes alone, and drops none but such as the node reaches by itself.
-use Rattle.std.proofs.Common.{◌≡◌, ◌⊎◌, ℕ, Bool, true, false, cond, ◌||◌, ◌==◌, ◌↔◌, List, [], ◌∷◌, find, Option, Some, None, Bor, option_map, if◌then◌else◌, IsTrue, refl, sym, ◌∙◌, ap, subst, inl, inr}
+use Rattle.std.proofs.Common.{◌≡◌, ℕ, Bool, true, false, ◌||◌, ◌==◌, ◌↔◌, List, [], ◌∷◌, Some, None, if◌then◌else◌, IsTrue, refl, sym, ◌∙◌, subst, inl, inr}
 use Rattle.std.specs.List.{Contains}
-use Rattle.std.proofs.Math.Path.{fun_ext}
 use Rattle.std.proofs.lemmas.Bool.{or_cases, eqb-true}
 use Rattle.types.specs.Trees.{Slices}
 use Rattle.types.specs.Statements.{Sent, kind_of}
-use Rattle.protocol.specs.Sets.{Names, among, also, within, AreWithin}
+use Rattle.protocol.specs.Sets.{among, also, within, AreWithin}
 use Rattle.protocol.specs.Satisfaction.{names}
-use Rattle.protocol.specs.Quorums.{NamesWithin}
 use Rattle.protocol.specs.Rows.{is_row_of, row, with_row}
-use Rattle.protocol.specs.Backing.{slices_by}
 use Rattle.protocol.specs.Reach.{reached, IsReach}
 use Rattle.protocol.proofs.Sets.Finite.{all_from, within-at}
-use Rattle.protocol.proofs.Sets.Contained.{contains_head, contains_tail, contained_cases}
+use Rattle.protocol.proofs.Sets.Contained.{contains_head, contains_tail}
 use Rattle.protocol.proofs.Reach.Chains.{reached-holds}
 use Rattle.protocol.proofs.Statements.Found.{row_contained}
 use Rattle.protocol.proofs.Reach.Stays.{stays_where, went}

@@ -1,9 +1,7 @@
 -- Members that join: what stays, and that each is named by an earlier one.
 use Rattle.std.proofs.Common.{◌≡◌, ℕ, zero, suc, ◌+◌, ◌<◌, ◌≤◌, Bool, true, false, ◌==◌, List, [], ◌∷◌, ◌++◌, length, take, slice_get, Some, if◌then◌else◌, refl, sym, ◌∙◌, ap, subst, inl, inr, arith}
-use Rattle.std.specs.List.{IsDistinct, list_any}
-use Rattle.std.proofs.Math.Path.{fun_ext}
+use Rattle.std.specs.List.{IsDistinct}
 use Rattle.std.proofs.lemmas.Bool.{cases_lt, or_cases, or_left, or_right, eqb-true, false≢true}
-use Rattle.std.proofs.lemmas.Bool.Decides.{nat_tests}
 use Rattle.std.proofs.lemmas.Cmp.{nat_eq_equiv}
 use Rattle.std.proofs.lemmas.List.{take-append-le, take_all, take-take, length-map, take-map, length_push, take_more, map_push}
 use Rattle.std.proofs.lemmas.Map.Made.{length-le_from_is_member}
@@ -19,6 +17,7 @@ use Rattle.closure.specs.Announcing.{IsNamedBy, Listed, names_of, IsNamedBefore,
 use Rattle.closure.specs.Announcing.IsNamedBy.{configured, learnt}
 use Rattle.closure.specs.Turns.{IsSettled, AreSettled, IsGrown, IsGiven, with_member}
 use Rattle.closure.proofs.Noted.{among_append}
+use Rattle.closure.proofs.NameLookups.{member_is}
 use Rattle.closure.proofs.ClosureSteps.{rules, all_given, all_derived, among_at}
 use Rattle.protocol.proofs.Sets.Lists.{get_taken}
 
@@ -60,6 +59,12 @@ front_kept old mid new a b l = sym (take-take (length old) (length mid) new l) �
 pub named_more : (hosts : List Host) (i : ℕ) (run : List Entry) (one other : Names) (w u : ℕ) → AreWithin one other → IsNamedBy hosts i run one w u → IsNamedBy hosts i run other w u
 named_more hosts i run one other w u f (configured q e g) = configured q e g
 named_more hosts i run one other w u f (learnt n a e s t r g) = learnt n a e s t (f a.receiver r) g
+
+-- a list that another begins with is no longer than that
+length_of_front : (old more : Listed) → take (length old) more ≡ old → length old ≤ length more
+length_of_front [] more e = omega arith
+length_of_front (x ∷ xs) [] e = cc
+length_of_front (x ∷ xs) (y ∷ ys) e = let rest : take (length xs) ys ≡ xs = cc in let l = length_of_front xs ys rest in omega arith
 
 -- ---- one more member
 module _ (hosts : List Host) (i : ℕ) (run : List Entry) where
@@ -196,11 +201,6 @@ module _ (hosts : List Host) (i : ℕ) (run : List Entry) where
                   turn w (subst (λ k. slice_get (names_of now) k ≡ Some w) same was) u (named_more hosts i run (among (names_of initial)) (among (names_of now)) w u (front_among initial now way.kept) h)
             ];
       }
-    where
-      length_of_front : (old more : Listed) → take (length old) more ≡ old → length old ≤ length more
-      length_of_front [] more e = omega arith
-      length_of_front (x ∷ xs) [] e = cc
-      length_of_front (x ∷ xs) (y ∷ ys) e = let rest : take (length xs) ys ≡ xs = cc in let l = length_of_front xs ys rest in omega arith
 
   pub sweep_settles : (initial now : Listed) (place : ℕ) → IsSweeping initial now place → length now ≤ place → AreSettled hosts i run (names_of now) (names_of initial)
   sweep_settles initial now place way over j w e = way.settled j w (let l = slice_get_within (names_of now) j w e in omega (arith, l, over, names_length now)) e
@@ -210,9 +210,6 @@ module _ (hosts : List Host) (i : ℕ) (run : List Entry) where
   settled_of_front old new kept settled j w e u h = settled j w e u (subst (λ (xs : List ℕ). IsNamedBy hosts i run (among xs) w u) (front_names old new kept) h)
 
   -- ---- how many members there can be
-  flips : (x y : ℕ) → (x == y) ≡ (y == x)
-  flips x y = grind (arith, nat_tests)
-
   pub members_bound : (v : ℕ) (list : Listed) → IsChained hosts i v run list → IsDistinct (λ x y. x == y) (names_of list) → length list ≤ suc (length (all_given hosts i run))
   members_bound v list chained once =
       let all = v ∷ all_given hosts i run in
@@ -223,9 +220,6 @@ module _ (hosts : List Host) (i : ℕ) (run : List Entry) where
       let few : length (names_of list) ≤ length all = length-le_from_is_member nat_eq_equiv (names_of list) all once
       (λ q h. member_is all q ∙ derived-in (rules hosts i run) v (among all) closed (all_derived hosts i run v list chained q (sym (member_is (names_of list) q) ∙ h))) in
       omega (arith, few, names_length list)
-    where
-      member_is : (xs : List ℕ) (q : ℕ) → list_any (λ x. q == x) xs ≡ among xs q
-      member_is xs q = ap (λ (p : ℕ → Bool). list_any p xs) (fun_ext (λ x. flips q x))
 
 pub one_name : (xs : List ℕ) (k u w : ℕ) → slice_get xs k ≡ Some u → slice_get xs k ≡ Some w → u ≡ w
 one_name xs k u w e h = same (sym e ∙ h)
@@ -249,14 +243,9 @@ swept_at_first hosts i v run = record { chained = first_chained hosts i v run; w
 pub swept_again : (hosts : List Host) (i v : ℕ) (run : List Entry) (old new : Listed) → IsGrown hosts i v run old new → AreSettled hosts i run (names_of new) (names_of old) → IsSwept hosts i v run new (length old)
 swept_again hosts i v run old new grown settled = record {
   chained = grown.chained;
-  within = longer old new grown.kept;
+  within = length_of_front old new grown.kept;
   settled = λ some. settled_of_front hosts i run old new grown.kept settled;
 }
-  where
-    longer : (xs ys : Listed) → take (length xs) ys ≡ xs → length xs ≤ length ys
-    longer [] ys e = omega arith
-    longer (x ∷ xs) [] e = cc
-    longer (x ∷ xs) (y ∷ ys) e = let rest : take (length xs) ys ≡ xs = cc in let l = longer xs ys rest in omega arith
 
 -- there is a first member
 some_member : (v : ℕ) (list : Listed) → slice_get list 0 ≡ Some (v, 0) → 0 < length list

@@ -1,5 +1,6 @@
 -- Names looked up in a list of pairs, by the derived equality of names.
 use Rattle.std.proofs.Common.{◌≡◌, ℕ, Bool, true, false, cond, ◌||◌, ◌==◌, List, [], ◌∷◌, ◌++◌, ◌<◌, Option, Some, None, is_some, position, slice_get, MatchOption, length, get_or, refl, sym, ◌∙◌, ap, subst, if◌then◌else◌, arith, IsFalse}
+use Rattle.std.specs.List.{list_any}
 use Rattle.std.specs.Map.{lookup, lookup_key, keys_of}
 use Rattle.std.proofs.lemmas.Bool.{eqb-true, true≢false}
 use Rattle.std.proofs.lemmas.Option.{slice_get-get_or}
@@ -16,6 +17,10 @@ use Rattle.closure.specs.Turns.{Linked, IsLinkedTo, found_by, with_member}
 
 flips : (x y : ℕ) → (x == y) ≡ (y == x)
 flips x y = grind (arith, nat_tests)
+
+-- a list has a name, as two definitions write it
+pub member_is : (xs : List ℕ) (q : ℕ) → list_any (λ x. q == x) xs ≡ among xs q
+member_is xs q = ap (λ (p : ℕ → Bool). list_any p xs) (fun_ext (λ x. flips q x))
 
 -- the test of a name, as code makes it and as definitions write it
 pub test_is : (k : ℕ) → equal.eq k ≡ (λ y. y == k)

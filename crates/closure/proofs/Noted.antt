@@ -1,5 +1,5 @@
 -- Names that are noted one after another.
-use Rattle.std.proofs.Common.{◌≡◌, ℕ, ◌+◌, ◌<◌, ◌≤◌, Bool, cond, true, false, not, ◌&&◌, ◌||◌, ◌==◌, List, [], ◌∷◌, ◌++◌, length, get_or, Err, refl, sym, ◌∙◌, ap, subst, inl, inr, arith, IsTrue, length-append, ap₂, ◌-◌}
+use Rattle.std.proofs.Common.{◌≡◌, ℕ, ◌+◌, ◌<◌, ◌≤◌, Bool, cond, true, false, not, ◌&&◌, ◌||◌, ◌==◌, List, [], ◌∷◌, ◌++◌, length, get_or, Err, refl, sym, ◌∙◌, ap, subst, inl, inr, arith, length-append, ap₂, ◌-◌}
 use Rattle.std.specs.List.{insert, list_any}
 use Rattle.std.specs.List.Sorted.{IsBinarySearchResult, IsStrictlySortedBy}
 use Rattle.std.specs.Ordering.{is_eq, nat_cmp}
@@ -10,12 +10,12 @@ use Rattle.std.proofs.lemmas.Bool.Decides.{nat_tests}
 use Rattle.std.proofs.lemmas.Map.Keys.{Less-from_sorted}
 use Rattle.types.specs.contracts.node_id.NodeIdOrd.TheImpl.{ghosts as ord}
 use Rattle.types.proofs.NameOrder.{name_cmp_is}
-use Rattle.std.proofs.lemmas.Bool.{cases_lt, or_cases, or_left, or_right, and_parts, false≢true}
+use Rattle.std.proofs.lemmas.Bool.{cases_lt, and_parts, false≢true}
 use Rattle.std.proofs.lemmas.List.Edits.{length-insert, get_or-insert_below, get_or-insert_at, get_or-insert_above}
 use Rattle.std.proofs.lemmas.List.{get_or_default}
 use Rattle.std.proofs.lemmas.List.Folds.{list_any-append}
 use Rattle.std.proofs.lemmas.List.Sorted.{searched}
-use Rattle.protocol.specs.Sets.{Names, among, IsAscending}
+use Rattle.protocol.specs.Sets.{among, IsAscending}
 use Rattle.closure.specs.Sweeps.{Swept, just, AreNoted}
 
 -- ---- an ascending list with one more name

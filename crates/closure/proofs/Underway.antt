@@ -1,10 +1,8 @@
 -- A sweep: what holds before it, at each of its steps and at its end; and how many names it can find.
-use Rattle.std.proofs.Common.{◌≡◌, ◌≢◌, ℕ, ◌≤◌, Bool, true, false, not, ◌==◌, List, [], ◌∷◌, flat_map, length, Option, Some, None, refl, sym, ◌∙◌, ap, subst, inl, inr, arith, IsTrue}
+use Rattle.std.proofs.Common.{◌≡◌, ◌≢◌, ℕ, ◌≤◌, true, false, not, ◌==◌, List, [], ◌∷◌, flat_map, length, Option, Some, None, refl, sym, ◌∙◌, ap, subst, inl, inr, arith, IsTrue}
 use Rattle.std.specs.Prelude.{AllPairs}
-use Rattle.std.specs.List.{list_any}
-use Rattle.std.proofs.Math.Path.{fun_ext}
 use Rattle.std.proofs.lemmas.Bool.{or_cases, or_left, or_right, and_from, eqb-true, eq-eqb, false≢true}
-use Rattle.std.proofs.lemmas.Bool.Decides.{Decides-eqb, nat_tests}
+use Rattle.std.proofs.lemmas.Bool.Decides.{Decides-eqb}
 use Rattle.std.proofs.lemmas.Map.Made.{IsDistinct-from_AllPairs, length-le_from_is_member}
 use Rattle.std.proofs.lemmas.Cmp.{nat_eq_equiv}
 use Rattle.types.specs.declared.kind.Kind.{Kind}
@@ -24,6 +22,7 @@ use Rattle.protocol.proofs.Sets.Derived.{derived-in}
 use Rattle.protocol.proofs.Reach.Chains.{derived_chain, reach_is, names_held}
 use Rattle.protocol.proofs.Statements.Found.{row_contained, row_found}
 use Rattle.closure.specs.Sweeps.{Swept, is_done, just, AreNoted, IsTaken, named_in, named_by}
+use Rattle.closure.proofs.NameLookups.{member_is}
 
 -- between two steps: what was looked at names nothing that is not found, and a chain leads to all that is found
 pub record IsUnderway (own : ℕ) (configured : Slices) (table : List Sent) (s : Swept) : Type 0 where
@@ -124,12 +123,6 @@ module _ (own : ℕ) (configured : Slices) (table : List Sent) where
   -- ---- how many names can be found: no more than there are in all
   pub all_named : List ℕ
   all_named = own ∷ flat_map (λ r. r.gives) (rules_of own configured table)
-
-flips : (x y : ℕ) → (x == y) ≡ (y == x)
-flips x y = grind (arith, nat_tests)
-
-member_is : (xs : List ℕ) (q : ℕ) → list_any (λ x. q == x) xs ≡ among xs q
-member_is xs q = ap (λ (p : ℕ → Bool). list_any p xs) (fun_ext (λ x. flips q x))
 
 -- an ascending list is no longer than a list that has all its names
 pub no_longer : (xs ys : List ℕ) → IsAscending xs → AreWithin (among xs) (among ys) → length xs ≤ length ys
