@@ -4,9 +4,11 @@ use Rattle.std.specs.Prelude.{◌&&◌, ◌==◌, ◌^◌, if◌then◌else◌, 
 use Rattle.std.specs.List.{list_all}
 use Rattle.std.specs.Str.{bytes_eq}
 use Rattle.std.proofs.lemmas.Option.{option_and_then_some}
+use Rattle.std.proofs.lemmas.List.{append-nil}
+use Rattle.types.proofs.Bools.{not_is}
 use Rattle.clap.proofs.OnLiterals.{clap_on_literals}
 use Rattle.command_line.specs.ClapCommand.{whole_command, clap_takes}
-use Rattle.command_line.proofs.OperandLaws.{Alone, Behind, append_nil, first_true, form_of, in_front, no_option, not_true, operands_plain, operands_sound, same_bytes, with_command}
+use Rattle.command_line.proofs.OperandLaws.{Alone, Behind, first_true, form_of, in_front, no_option, operands_plain, operands_sound, same_bytes, with_command}
 use Rattle.command_line.proofs.WorkerForms.{Pooled, pool_complete, pool_sound, takes_run}
 use Rattle.command_line.specs.Workers.{AsksWorkers, pool_in}
 use Rattle.command_line.proofs.Asking.{closure_untold, closure_ended, closure_attached_before, closure_attached_behind, closure_attached_ended, closure_named_before, closure_named_behind, closure_named_ended, is_value, compare_untold, compare_ended, compare_before, compare_behind, compare_told_ended, crowd_ended, crowd_plain}
@@ -158,7 +160,7 @@ plain_behind g f front options operands true told plain e =
     let front_is : front ≡ operands = (same_read g f front operands e).1 in (
       told.0,
       subst (AsksFormat told.0) g_is told.1,
-      inr (inr (ap (λ xs. front ++ xs) (told.2 ∙ append_nil told.0) ∙ ap (λ xs. xs ++ told.0) front_is, subst (λ xs. list_all is_plain xs ≡ true) front_is plain)),
+      inr (inr (ap (λ xs. front ++ xs) (told.2 ∙ append-nil told.0) ∙ ap (λ xs. xs ++ told.0) front_is, subst (λ xs. list_all is_plain xs ≡ true) front_is plain)),
     )
 plain_behind g f front options operands false told plain e = text_sound (front ++ options) f operands e
 
@@ -477,7 +479,7 @@ takes_longer x y more e = simp e
 takes_plain : (file : Text) → is_plain file ≡ true → clap_takes (codes "table" ∷ file ∷ []) ≡ true
 takes_plain [] e = takes_empty
 takes_plain (x ∷ []) e = takes_one x (x == 45) refl
-takes_plain (x ∷ y ∷ more) e = takes_longer x y more (not_true (x == 45) e)
+takes_plain (x ∷ y ∷ more) e = takes_longer x y more (not_is (x == 45) e)
 
 attached_word : (f : Format) → word_of_format f ≡ codes "--format=" ++ name_of_format f
 attached_word format.Text = refl

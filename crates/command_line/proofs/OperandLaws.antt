@@ -1,15 +1,12 @@
 -- Words that are no options, and the operands behind a command.
 use Rattle.std.proofs.Common.{◌≡◌, ◌∙◌, ◌⊎◌, inl, inr, Bool, true, false, List, [], ◌∷◌, ◌++◌, Some, None, refl, ap, subst, codes}
-use Rattle.std.specs.Prelude.{◌&&◌, ◌==◌, not, if◌then◌else◌}
+use Rattle.std.specs.Prelude.{◌&&◌, ◌==◌, if◌then◌else◌}
 use Rattle.std.specs.List.{list_all}
 use Rattle.std.specs.Str.{bytes_eq}
 use Rattle.std.proofs.lemmas.Slice.Eq.{bytes_eq-Decides}
+use Rattle.types.proofs.Bools.{not_is}
 use Rattle.command_line.specs.Words.{Text, HasForm, is_plain, operands_in}
 use Rattle.command_line.specs.Options.{HasFormWith}
-
-pub not_true : (b : Bool) → not b ≡ true → b ≡ false
-not_true true e = cc
-not_true false e = refl
 
 pub first_true : (a b : Bool) → (a && b) ≡ true → a ≡ true
 first_true true b e = refl
@@ -18,7 +15,7 @@ first_true false b e = cc
 pub no_option : (word more : Text) → is_plain word ≡ true → bytes_eq word (45 ∷ 45 ∷ more) ≡ false
 no_option [] more e = refl
 no_option (x ∷ []) more e = elim (x == 45) as (λ b. (b && false) ≡ false) [ true ↦ refl | false ↦ refl ]
-no_option (x ∷ y ∷ rest) more e = simp (not_true (x == 45) e)
+no_option (x ∷ y ∷ rest) more e = simp (not_is (x == 45) e)
 
 pub operands_plain : (word : Text) (rest : List Text) → list_all is_plain (word ∷ rest) ≡ true → operands_in (word ∷ rest) ≡ Some (word ∷ rest)
 operands_plain word rest e = rw (no_option word [] (first_true (is_plain word) (list_all is_plain rest) e), e) refl
@@ -68,10 +65,6 @@ operands_sound (word ∷ rest) operands e = found_operands word rest operands
 pub in_front : (options more operands rest : List Text) → rest ≡ options ++ more → Alone more operands → Behind rest options operands
 in_front options more operands rest is (inl p) = inl (is ∙ ap (λ xs. options ++ xs) p.0, p.1)
 in_front options more operands rest is (inr e) = inr (inl (is ∙ ap (λ xs. options ++ xs) e))
-
-pub append_nil : (xs : List Text) → xs ++ [] ≡ xs
-append_nil [] = refl
-append_nil (x ∷ xs) = ap (λ ys. x ∷ ys) (append_nil xs)
 
 pub form_of : (command : Text) (rest operands : List Text) → Alone rest operands → HasForm (command ∷ rest) command operands
 form_of command rest operands (inl p) = inl (ap (λ xs. command ∷ xs) p.0, p.1)

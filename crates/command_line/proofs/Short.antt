@@ -1,8 +1,7 @@
 -- Words that are too few, or too many.
-use Rattle.std.proofs.Common.{◌≡◌, ◌<◌, ◌≤◌, ℕ, Bool, List, [], ◌∷◌, Some, None, refl, map, length, arith}
+use Rattle.std.proofs.Common.{◌≡◌, ◌<◌, ◌≤◌, Bool, List, [], ◌∷◌, None, refl, map, length, arith}
 use Rattle.command_line.specs.Words.{Text}
 use Rattle.command_line.specs.Options.{explain_behind, form_behind, form_or_text, unexplained}
-use Rattle.command_line.specs.Workers.{without_workers, workers_chosen}
 use Rattle.command_line.specs.CommandLine.{closure_of, compare_of, crowd_of}
 use Rattle.command_line.specs.declared.subject.Format.{Format}
 
@@ -32,10 +31,6 @@ module _ {X : Type 0} (text : X → Text) where
   explain_long (a ∷ b ∷ d ∷ e ∷ f ∷ []) le = absurd (omega arith)
   explain_long (a ∷ b ∷ d ∷ e ∷ f ∷ g ∷ []) le = absurd (omega arith)
   explain_long (a ∷ b ∷ d ∷ e ∷ f ∷ g ∷ h ∷ more) le = refl
-
-  pub chosen_long : (n : ℕ) (xs : List X) (operands rest : List Text) → 1 ≤ length xs → workers_chosen (Some (n, map text xs)) operands rest ≡ without_workers rest
-  chosen_long n [] operands rest le = absurd (omega arith)
-  chosen_long n (a ∷ more) operands rest le = refl
 
   pub closure_short : (format : Format) (xs : List X) → length xs < 4 → None ≡ closure_of format (map text xs)
   closure_short format [] lt = refl

@@ -1,17 +1,15 @@
 -- Clap takes the forms of commands that ask about a node.
 use Rattle.std.proofs.Common.{◌≡◌, ◌∙◌, ℕ, Bool, true, false, List, [], ◌∷◌, ◌++◌, Some, None, refl, sym, ap, ap₂, subst}
-use Rattle.std.specs.Prelude.{◌&&◌, ◌==◌, fold, find, is_some, not}
+use Rattle.std.specs.Prelude.{◌&&◌, ◌==◌, fold, find, is_some}
 use Rattle.std.specs.List.{list_all}
+use Rattle.std.proofs.lemmas.List.{append-nil}
+use Rattle.types.proofs.Bools.{join, not_is}
 use Rattle.clap.specs.Walk.{Held, Names, Rule, Walk, after_step, answers_to, arg_by_index, finished, idle, nothing_held, option, plain_word, to_positional, value, walk_from, walked, word_met}
 use Rattle.clap.specs.Simple.{App, Shape, label_of, entered, names_of}
 use Rattle.clap.specs.Takes.{built_takes, default_passes, entered_passes, is_valid, positional_passes, settle_passes, turn_passes, walk_passes, word_passes}
 use Rattle.command_line.specs.Words.{Text, is_plain}
 
 -- ---- a plain word
-
-not_true : (b : Bool) → not b ≡ true → b ≡ false
-not_true true e = cc
-not_true false e = refl
 
 met_one : (c : List Rule) (p x : ℕ) (h : Held) (b : Bool) → (x == 45) ≡ b → word_met c [] false idle p (x ∷ []) h ≡ (h, value)
 met_one c p x h true e = simp e
@@ -23,7 +21,7 @@ met_longer c p x y more h e = simp e
 met_plain : (c : List Rule) (p : ℕ) (word : Text) (h : Held) → is_plain word ≡ true → word_met c [] false idle p word h ≡ (h, value)
 met_plain c p [] h e = refl
 met_plain c p (x ∷ []) h e = met_one c p x h (x == 45) refl
-met_plain c p (x ∷ y ∷ more) h e = met_longer c p x y more h (not_true (x == 45) e)
+met_plain c p (x ∷ y ∷ more) h e = met_longer c p x y more h (not_is (x == 45) e)
 
 passes_one : (s : Shape) (x : ℕ) (h : Held) (b : Bool) → (x == 45) ≡ b → word_passes s [] false idle (x ∷ []) h ≡ true
 passes_one s x h true e = simp e
@@ -35,7 +33,7 @@ passes_longer s x y more h e = simp e
 passes_plain : (s : Shape) (word : Text) (h : Held) → is_plain word ≡ true → word_passes s [] false idle word h ≡ true
 passes_plain s [] h e = refl
 passes_plain s (x ∷ []) h e = passes_one s x h (x == 45) refl
-passes_plain s (x ∷ y ∷ more) h e = passes_longer s x y more h (not_true (x == 45) e)
+passes_plain s (x ∷ y ∷ more) h e = passes_longer s x y more h (not_is (x == 45) e)
 
 -- ---- the rest of a level, from where a walk stands
 
@@ -110,10 +108,6 @@ value_step s id p x more h words e rest =
 abbrev stopped_at : Walk → Text → List Text → Walk
 stopped_at w name seen = record w { stopped = Some (name, seen) }
 
-append_nil : (xs : List Text) → xs ++ [] ≡ xs
-append_nil [] = refl
-append_nil (x ∷ xs) = ap (λ ys. x ∷ ys) (append_nil xs)
-
 append_one : (xs : List Text) (word : Text) (more : List Text) → (xs ++ word ∷ []) ++ more ≡ xs ++ word ∷ more
 append_one [] word more = refl
 append_one (x ∷ xs) word more = ap (λ ys. x ∷ ys) (append_one xs word more)
@@ -121,7 +115,7 @@ append_one (x ∷ xs) word more = ap (λ ys. x ∷ ys) (append_one xs word more)
 fold_stopped : (c : List Rule) (names : Names) (w : Walk) (name : Text) (seen words : List Text)
     → fold (walked c names) (stopped_at w name seen) words ≡ stopped_at w name (seen ++ words)
 unfolding walked
-fold_stopped c names w name seen [] = ap (stopped_at w name) (sym (append_nil seen))
+fold_stopped c names w name seen [] = ap (stopped_at w name) (sym (append-nil seen))
 fold_stopped c names w name seen (word ∷ words) =
     fold_stopped c names w name (seen ++ word ∷ []) words ∙ ap (stopped_at w name) (append_one seen word words)
 
@@ -129,9 +123,6 @@ passes_stopped : (s : Shape) (names : Names) (w : Walk) (name : Text) (seen word
 unfolding walk_passes walked
 passes_stopped s names w name seen [] = refl
 passes_stopped s names w name seen (word ∷ words) = passes_stopped s names w name (seen ++ word ∷ []) words
-
-and_true : (a b : Bool) → a ≡ true → b ≡ true → (a && b) ≡ true
-and_true a b e f = rw (e, f) refl
 
 abbrev takes_from : App → Text → Walk → Bool → Bool
 takes_from b name v p = entered_passes b v.stopped && ((turn_passes b.top (names_of b) (walk_from nothing_held) name && p)
@@ -151,4 +142,4 @@ enters b s name words moved found turned rest inner =
     ap₂ (takes_from b name) (ap (λ v. fold (walked b.top.rules (names_of b)) v words) moved
     ∙ fold_stopped b.top.rules (names_of b) (walk_from nothing_held) name [] words)
     (ap (λ v. walk_passes b.top (names_of b) v words) moved ∙ passes_stopped b.top (names_of b) (walk_from nothing_held) name [] words)
-    ∙ rw found (and_true _ _ inner (and_true _ _ (and_true _ _ turned refl) rest))
+    ∙ rw found (join _ _ inner (join _ _ (join _ _ turned refl) rest))

@@ -4,8 +4,9 @@ use Rattle.std.specs.Prelude.{◌&&◌, ◌==◌, ◌^◌, nat_lt, if◌then◌e
 use Rattle.std.specs.List.{list_all}
 use Rattle.std.specs.Str.{bytes_eq}
 use Rattle.std.proofs.lemmas.Bool.Decides.{nat_tests}
-use Rattle.std.proofs.lemmas.List.{take-append-drop}
+use Rattle.std.proofs.lemmas.List.{take-append-drop, append-nil}
 use Rattle.std.proofs.lemmas.Option.{option_and_then_some, some_pair_parts}
+use Rattle.types.proofs.Bools.{not_is}
 use Rattle.scripts.specs.Numbers.{IsDigit, decimal}
 use Rattle.scripts.specs.Words.{is_decimal, word_number}
 use Rattle.command_line.specs.Words.{Text, is_plain, operands_in}
@@ -13,7 +14,7 @@ use Rattle.command_line.specs.Options.{HasFormWith}
 use Rattle.command_line.specs.Workers.{AreWorkers, AsksWorkers, attached_workers, behind, pool_in, without_workers, worker_count, workers_before, workers_behind, workers_chosen, workers_in, workers_named, workers_with}
 use Rattle.command_line.specs.ClapCommand.{clap_takes}
 use Rattle.scripts.proofs.NumberLaws.{tested_decimal}
-use Rattle.command_line.proofs.OperandLaws.{Behind, first_true, in_front, no_option, not_true, operands_plain, operands_sound, same_bytes}
+use Rattle.command_line.proofs.OperandLaws.{Behind, first_true, in_front, no_option, operands_plain, operands_sound, same_bytes}
 use Rattle.command_line.proofs.AskingWorkers.{run_alone, run_ended, run_attached_before, run_attached_behind, run_attached_ended, run_named_before, run_named_behind, run_named_ended}
 
 -- ---- the matcher finds each form
@@ -21,7 +22,7 @@ use Rattle.command_line.proofs.AskingWorkers.{run_alone, run_ended, run_attached
 plain_unattached : (word : Text) → is_plain word ≡ true → behind (codes "--workers=") word ≡ None
 plain_unattached [] e = refl
 plain_unattached (x ∷ []) e = elim (x == 45) as (λ b. (if b && false then Some (drop 10 (x ∷ [])) else None) ≡ None) [ true ↦ refl | false ↦ refl ]
-plain_unattached (x ∷ y ∷ rest) e = simp (not_true (x == 45) e)
+plain_unattached (x ∷ y ∷ rest) e = simp (not_is (x == 45) e)
 
 plain_before : (word : Text) (rest : List Text) → is_plain word ≡ true → workers_before (word ∷ rest) ≡ None
 plain_before word rest e = rw (no_option word (codes "workers") e, plain_unattached word e) refl
@@ -177,14 +178,10 @@ alone_sound n script options workers operands true told plain e =
       told.0,
       subst (AsksWorkers told.0) same.0 told.1,
       inr (inr (
-        ap (λ xs. script ∷ xs) (told.2 ∙ append_none told.0) ∙ ap (λ xs. xs ++ told.0) same.1,
+        ap (λ xs. script ∷ xs) (told.2 ∙ append-nil told.0) ∙ ap (λ xs. xs ++ told.0) same.1,
         subst (λ xs. list_all is_plain xs ≡ true) same.1 plain,
       )),
     )
-  where
-    append_none : (xs : List Text) → xs ++ [] ≡ xs
-    append_none [] = refl
-    append_none (x ∷ xs) = ap (λ ys. x ∷ ys) (append_none xs)
 alone_sound n script options workers operands false told plain e = without_sound (script ∷ options) workers operands e
 
 chosen_sound : (script : Text) (options : List Text) (workers : Option ℕ) (operands : List Text) (r : Option (ℕ × List Text)) → workers_before options ≡ r
