@@ -2,7 +2,7 @@
 
 ghost use Rattle.std.specs.Prelude.{◌≡◌, ◌<◌, ◌≤◌, ◌+◌, ℕ, length, [], ◌∷◌, ◌++◌, IfOk, MatchResult, MatchOption};
 ghost use Rattle.crossbeam_queue.specs.Passes.{view};
-ghost use Rattle.work.specs.Hands.{hand, MayHaveMany, weigh};
+ghost use Rattle.work.specs.Hands.{hand, MayHaveMany, weigh, all_parts};
 ghost use Rattle.work.specs.Queues.{IsPassOfQueue, AllPasses, IsOf, IsFresh, parts_by, put_by, taken_by};
 ghost use Rattle.work.specs.declared.rule.Job.{Job};
 
@@ -22,8 +22,8 @@ impl Queue {
         passes: usize,
     ) -> Result<(Queue, Vec<Pass>), AllocError>
         requires capacity { (0 < capacity) × (capacity ≤ 65536) }
-        requires passes { (0 < passes) × (passes ≤ 64) }
-        ensures { IfOk result (λ r. (r.0.capacity ≡ capacity) × (length r.1.items ≡ passes) × (parts_by r.1.items ≡ 64) × AllPasses (IsFresh r.0) r.1.items) }
+        requires passes { (0 < passes) × (passes ≤ all_parts) }
+        ensures { IfOk result (λ r. (r.0.capacity ≡ capacity) × (length r.1.items ≡ passes) × (parts_by r.1.items ≡ all_parts) × AllPasses (IsFresh r.0) r.1.items) }
     {
         let mut all = Vec::with_capacity(alloc, passes)?;
         let room = Vec::with_capacity(alloc, capacity)?;
@@ -53,7 +53,7 @@ impl Queue {
         requires part { 0 < (view pass.old).parts }
         ensures pass { IsPassOfQueue self.now pass.new }
         ensures put { MatchResult result (λ _. view pass.new ≡ hand (view pass.old).parts ((view pass.old).put ++ job ∷ []) (view pass.old).taken) (λ x. (x ≡ job) × (view pass.new ≡ view pass.old) × MayHaveMany self.now.capacity (view pass.old)) }
-        ensures alone { (view pass.old).parts ≡ 64 → MatchResult result (λ _. Unit {0}) (λ _. length (view pass.old).put ≡ length (view pass.old).taken + self.now.capacity) }
+        ensures alone { (view pass.old).parts ≡ all_parts → MatchResult result (λ _. Unit {0}) (λ _. length (view pass.old).put ≡ length (view pass.old).taken + self.now.capacity) }
     {
         self.line.push_as::<Puts, R>(rt, pass, job)
     }
@@ -68,7 +68,7 @@ impl Queue {
         requires part { 0 < (view pass.old).parts }
         ensures pass { IsPassOfQueue self.now pass.new }
         ensures take { MatchOption result ((view pass.new ≡ view pass.old) × MayHaveMany 0 (view pass.old)) (λ x. view pass.new ≡ hand (view pass.old).parts (view pass.old).put ((view pass.old).taken ++ x ∷ [])) }
-        ensures alone { (view pass.old).parts ≡ 64 → MatchOption result (length (view pass.old).put ≡ length (view pass.old).taken) (λ _. Unit {0}) }
+        ensures alone { (view pass.old).parts ≡ all_parts → MatchOption result (length (view pass.old).put ≡ length (view pass.old).taken) (λ _. Unit {0}) }
     {
         self.line.pop_as::<Takes, R>(rt, pass)
     }
@@ -79,7 +79,7 @@ impl Queue {
     /// Whatever each job weighs, what was put by all passes weighs what was taken by them and what is left: so
     /// no job is lost, and none comes twice.
     pub fn close<R: Wait>(self, rt: &R, passes: Vec<Pass>) -> Vec<Job>
-        requires all { parts_by passes.items ≡ 64 }
+        requires all { parts_by passes.items ≡ all_parts }
         requires passes { AllPasses (IsOf self) passes.items }
         ensures { (h : Job → ℕ) → put_by h passes.items ≡ taken_by h passes.items + weigh h result.items }
     {

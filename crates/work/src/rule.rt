@@ -40,11 +40,11 @@ pub struct Fair;
 
 impl Protocol<Job, Hand> for Fair {
     ghost use Rattle.std.specs.Prelude.{[]};
-    ghost use Rattle.work.specs.Hands.{Balanced, hand};
+    ghost use Rattle.work.specs.Hands.{Balanced, all_parts, hand};
 
     ghost holds = { Balanced };
 
-    ghost first = { hand 64 [] [] };
+    ghost first = { hand all_parts [] [] };
 }
 
 /// A job is put.

@@ -2,10 +2,11 @@ use Rattle.std.proofs.Common.{◌≡◌, ◌≤◌, ◌+◌, ◌++◌, length, v
 use Rattle.crossbeam_queue.specs.Passes.{view, IsPassOf, ruled_capacity}
 use Rattle.work.specs.Queues.{parts}
 use Rattle.work.proofs.closing.drain.Given as goal
+use Rattle.work.specs.Hands.{all_parts}
 
 abbrev pub invariant-loop-taken : goal.invariant-loop-taken
 invariant-loop-taken g l =
-    IsPassOf l.line l.whole × (parts l.whole ≡ 64)
+    IsPassOf l.line l.whole × (parts l.whole ≡ all_parts)
     × ((view l.whole).put ≡ (view l.fn.whole).put)
     × ((view l.whole).taken ≡ (view l.fn.whole).taken ++ l.room.items)
     × (vec_len l.room ≡ l._taken)
