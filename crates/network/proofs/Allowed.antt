@@ -1,9 +1,8 @@
 -- What the tests of an event answer, by places.
-use Rattle.std.proofs.Common.{◌≡◌, ℕ, zero, suc, ◌<◌, ◌≤◌, ◌+◌, Bool, true, false, not, nat_lt, List, [], ◌∷◌, map, Option, Some, None, is_some, option_map, slice_get, if◌then◌else◌, refl, sym, ◌∙◌, ap, subst, arith, length}
-use Rattle.std.proofs.lemmas.Bool.Decides.{nat_tests}
+use Rattle.std.proofs.Common.{◌≡◌, ℕ, zero, suc, ◌<◌, Bool, true, false, not, List, [], ◌∷◌, map, Some, None, is_some, option_map, slice_get, if◌then◌else◌, refl, ◌∙◌, ap, subst, arith, length}
 use Rattle.types.specs.declared.event.Refusal.{Refusal}
 use Rattle.types.specs.declared.event.Refusal.TheVariants.{NoSuchNode, SlotNotOpen}
-use Rattle.protocol.specs.Networks.{Host, Net, Slot, Place, is_hosted, is_hosted_not, is_open, is_open_not, first_that}
+use Rattle.protocol.specs.Networks.{Host, Net, Slot, is_hosted, is_hosted_not, is_open, is_open_not, first_that}
 use Rattle.configuration.specs.Configs.{index_in, index_of_name, names_of}
 use Rattle.network.specs.Deeds.{IsSlotThere, index_of_slot}
 use Rattle.network.specs.Lodgings.{slot_of}
@@ -64,8 +63,3 @@ pub open_then : (m : Standing) (net : Net) (i k : ℕ) (ts : List (Bool × Refus
 open_then m net i k ts s q = passes (is_open_not net i) ts (ap not (opened_at net i k (slot-in m net i s ∙ q)))
 
 -- ---- limits
-pub below-is : (a b : ℕ) → a < b → nat_lt a b ≡ true
-below-is a b h = grind (arith, nat_tests, h)
-
-pub below-not : (a b : ℕ) → b ≤ a → nat_lt a b ≡ false
-below-not a b h = grind (arith, nat_tests, h)

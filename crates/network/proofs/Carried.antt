@@ -2,7 +2,6 @@
 use Rattle.std.proofs.Common.{◌≡◌, ℕ, zero, suc, ◌<◌, ◌≤◌, ◌+◌, ◌^◌, Bool, true, false, not, ◌||◌, ◌==◌, length, take, drop, List, [], ◌∷◌, ◌++◌, map, replicate, slice_get, Option, Some, None, option_map, if◌then◌else◌, refl, sym, ◌∙◌, ap, ap₂, subst, inl, inr, arith}
 use Rattle.std.specs.List.{All, AllByRecursion, list_any, remove}
 use Rattle.std.proofs.lemmas.Bool.{false≢true, and_parts, eqb-true}
-use Rattle.std.proofs.lemmas.Bool.Decides.{nat_tests}
 use Rattle.std.proofs.lemmas.List.{map-append}
 use Rattle.std.proofs.lemmas.List.Elements.{All-append, All-cons, All-drop, All-head, All-map, All-nil, All-tail, All-take, All-weaker}
 use Rattle.types.specs.Statements.{Sent}
@@ -28,7 +27,6 @@ use Rattle.network.specs.Changes.{IsChangedAt, changed_at}
 use Rattle.network.specs.Charges.{HasRoomInCounts, HasRoomOnNetwork, IsActed, IsReady, IsSlotActed, on_budgets_of, on_opens_of}
 use Rattle.network.specs.Deeds.{IsDrawn, IsNamed, IsNodeOf, IsPlan, IsThere, acted, handed, node_at, outs_after, slots_after}
 use Rattle.network.specs.Doings.{IsAnswer, IsDoable, IsDone, marks_after, slots_of}
-use Rattle.network.specs.Keyed.{at_key}
 use Rattle.network.specs.Lodgings.{AreTallied, IsLodged, IsTallied, IsUncounted, Lodging, Lodgings, Seat, Seats, bytes_from, events_from, place_in, seat_of, seats_of, slot_of}
 use Rattle.network.specs.Marks.{marks_in, numbered, place_named, told_at, told_before}
 use Rattle.network.specs.Standing.{IsStanding, IsStep, IsTidy, Machine, Standing, StandsFor, machine_of, net_of}
@@ -40,10 +38,14 @@ use Rattle.network.specs.declared.plan.Drawn.{Drawn}
 use Rattle.network.specs.declared.plan.Drawn.TheVariants.{Budgets as ByBudgets, Opens as ByOpens, Own as ByOwn, Pair as ByPair}
 use Rattle.network.specs.declared.plan.Plan.{Plan}
 use Rattle.network.proofs.Counting.{Agrees, IsSourceOf, agrees, moves, pair_of, source-of, spared-name, spared-none, spared-slot, stays}
-use Rattle.network.proofs.Indexes.{at-index}
+use Rattle.network.proofs.Indexes.{at-index, mapped-length}
 use Rattle.network.proofs.KeyPlaces.{map-remove}
 use Rattle.network.proofs.SlotPlaceLaws.{numbers-are}
-use Rattle.network.proofs.Tidiness.{IsFresh, Neat, absent, fresh-of, moved-name, names_at, neat, slot_numbers}
+use Rattle.network.proofs.Tidiness.{IsFresh, Neat, absent, fresh-of, moved-name, names_at, neat, same-test, slot_numbers}
+use Rattle.types.proofs.Bools.{not_is}
+use Rattle.network.proofs.Plans.{at-place, place_of-is, places_at-is, same-option}
+use Rattle.network.proofs.Emitted.{all-at}
+use Rattle.protocol.proofs.Equality.Sameness.{eqb-refl}
 
 -- ---- a place that is the only one
 -- this stands there and nowhere else
@@ -71,15 +73,11 @@ only-at (n ∷ ns) i k h d = go (n == i) (index_in ns i) (λ j e g. only-at ns i
     parts : (not (list_any (λ w. w == n) ns) ≡ true) × (all_differ ns ≡ true)
     parts = and_parts (not (list_any (λ w. w == n) ns)) (all_differ ns) d
 
-    negated : (b : Bool) → not b ≡ true → b ≡ false
-    negated true h = absurd (false≢true h)
-    negated false h = refl
-
     go : (b : Bool) (o : Option ℕ) → ((j : ℕ) → index_in ns i ≡ Some j → all_differ ns ≡ true → IsOnlyAt i j ns) → (n == i) ≡ b → index_in ns i ≡ o → (if b then Some 0 else option_map suc o) ≡ Some k → IsOnlyAt i k (n ∷ ns)
     go true o ih q e p =
         let z : 0 ≡ k = cc in
         let same : n ≡ i = eqb-true n i q in
-        subst (λ j. IsOnlyAt i j (n ∷ ns)) z (same, none-any ns i (ap (λ v. list_any (λ w. w == v) ns) (sym same) ∙ negated (list_any (λ w. w == n) ns) parts.0))
+        subst (λ j. IsOnlyAt i j (n ∷ ns)) z (same, none-any ns i (ap (λ v. list_any (λ w. w == v) ns) (sym same) ∙ not_is (list_any (λ w. w == n) ns) parts.0))
     go false None ih q e p = absurd (cc)
     go false (Some j) ih q e p = let z : suc j ≡ k = cc in subst (λ j. IsOnlyAt i j (n ∷ ns)) z (q, ih j e parts.1)
 
@@ -106,10 +104,6 @@ name_at l = l.held.node.name
 
 abbrev number_at : Lodgings → ℕ
 number_at s = s.number
-
-pub places-are : (ps : List Lodging) → map node_of (map seat_of ps) ≡ map place_in ps
-places-are [] = refl
-places-are (p ∷ ps) = ap (λ (qs : List Place). place_in p ∷ qs) (places-are ps)
 
 names-are : (ps : List Lodging) → map (λ (x : Seat). x.place.node.name) (map seat_of ps) ≡ map name_at ps
 names-are [] = refl
@@ -213,21 +207,11 @@ closings-draw : (o : Option Roster) (i m : ℕ) (t : Share) → is_of_share m t 
 closings-draw None i m t = refl
 closings-draw (Some r) i m t = refl
 
-turn : (n i : ℕ) → (n == i) ≡ false → (i == n) ≡ false
-turn n i h = go (i == n) refl
-  where
-    go : (b : Bool) → (i == n) ≡ b → (i == n) ≡ false
-    go true q = absurd (false≢true (sym h ∙ (ap (λ m. m == i) (sym (eqb-true i n q)) ∙ (ap (λ m. i == m) (eqb-true i n q) ∙ q))))
-    go false q = q
-
-self : (i : ℕ) → (i == i) ≡ true
-self i = grind (nat_tests, arith)
-
 fresh-tallied : (net after : Net) (i : ℕ) (l : Lodging) → IsCountedAfter net (Opens i) after → IsUncounted l → IsTallied i after.draws (seat_of l)
 fresh-tallied net after i l c u = record {
-  own = u.own ∙ sym (c.renewed i (Own l.held.node.name) (self i)).0;
-  events = λ v. ap (λ ts. events_from ts v) u.heard ∙ sym (c.renewed i (Pair l.held.node.name v) (self i)).0;
-  bytes = λ v. ap (λ ts. bytes_from ts v) u.heard ∙ sym (c.renewed i (Pair l.held.node.name v) (self i)).1;
+  own = u.own ∙ sym (c.renewed i (Own l.held.node.name) (eqb-refl i)).0;
+  events = λ v. ap (λ ts. events_from ts v) u.heard ∙ sym (c.renewed i (Pair l.held.node.name v) (eqb-refl i)).0;
+  bytes = λ v. ap (λ ts. bytes_from ts v) u.heard ∙ sym (c.renewed i (Pair l.held.node.name v) (eqb-refl i)).1;
 }
 
 counted-open : (net after : Net) (s : Lodgings) (old : List Lodgings) → IsCountedAfter net (Opens s.number) after → AllByRecursion (λ m. (m == s.number) ≡ false) (map number_at old) → All IsUncounted s.places
@@ -236,7 +220,7 @@ counted-open net after s old c out fresh a =
     All-append (AreCounted after.draws) old (s ∷ [])
     (others number_at (AreCounted net.draws) (AreCounted after.draws) s.number old out
     (λ x d b. All-weaker (λ (l : Lodging). IsTallied x.number net.draws (seat_of l)) (λ (l : Lodging). IsTallied x.number after.draws (seat_of l))
-    (λ l t. stays net after (Opens s.number) x.number (seat_of l) c (turn x.number s.number d) (spared-none x.number l.held.node.name (source net.roster (Opens s.number)) (openings-draw net.roster s.number)) t) x.places b)
+    (λ l t. stays net after (Opens s.number) x.number (seat_of l) c (same-test s.number x.number ∙ d) (spared-none x.number l.held.node.name (source net.roster (Opens s.number)) (openings-draw net.roster s.number)) t) x.places b)
     a)
     (All-cons (AreCounted after.draws) s [] (All-weaker IsUncounted (λ (l : Lodging). IsTallied s.number after.draws (seat_of l)) (λ l u. fresh-tallied net after s.number l c u) s.places fresh) (All-nil (AreCounted after.draws)))
 
@@ -300,23 +284,6 @@ nodes_of s = s.places
 abbrev name_of : Place → ℕ
 name_of p = p.node.name
 
-places_at-is : (slots : List Slot) (i : ℕ) → places_at slots i ≡ at_key number_of nodes_of slots i
-places_at-is [] i = refl
-places_at-is (s ∷ ss) i = ap (λ o. if s.number == i then Some s.places else o) (places_at-is ss i)
-
-place_of-is : (ps : List Place) (u : ℕ) → place_of ps u ≡ at_key name_of (λ p. p) ps u
-place_of-is [] u = refl
-place_of-is (p ∷ ps) u = ap (λ o. if p.node.name == u then Some p else o) (place_of-is ps u)
-
-same-option : {X : Type 0} (o : Option X) → option_map (λ x. x) o ≡ o
-same-option None = refl
-same-option (Some x) = refl
-
-at-slot : (P : Slot → Type 0) (slots : List Slot) (k : ℕ) (s : Slot) → AllByRecursion P slots → slice_get slots k ≡ Some s → P s
-at-slot P [] k s a h = absurd (cc)
-at-slot P (t ∷ ts) zero s a h = let q : t ≡ s = cc in subst P q a.0
-at-slot P (t ∷ ts) (suc k) s a h = at-slot P ts k s a.1 h
-
 known-place : (ns : List ℕ) (ps : List Place) (u h : ℕ) → names_at ps ≡ ns → index_in ns u ≡ Some h → place_of ps u ≡ slice_get ps h
 known-place ns ps u h e q = place_of-is ps u ∙ at-index name_of (λ p. p) ps u h (ap (λ ms. index_in ms u) e ∙ q) ∙ same-option (slice_get ps h)
 
@@ -325,7 +292,7 @@ known-at ns slots i u k h names q r = ap (λ o. known o u) (places_at-is slots i
   where
     go : (o : Option Slot) → slice_get slots k ≡ o → known (option_map nodes_of o) u ≡ node_at o h
     go None e = refl
-    go (Some s) e = known-place ns s.places u h (at-slot (λ (s : Slot). names_at s.places ≡ ns) slots k s names e) r
+    go (Some s) e = known-place ns s.places u h (at-place (λ (s : Slot). names_at s.places ≡ ns) slots k s names e) r
 
 -- ---- the step
 abbrev pub charge_of : Plan → Charge
@@ -477,15 +444,6 @@ keyed key [] k u h = absurd (cc)
 keyed key (x ∷ xs) zero u h = let q : key x ≡ u = cc in record { it = x; is = refl; named = q }
 keyed key (x ∷ xs) (suc k) u h = let r = keyed key xs k u h in record { it = r.it; is = r.is; named = r.named }
 
-all-get : {X : Type 0} (P : X → Type 0) (xs : List X) (k : ℕ) (x : X) → All P xs → slice_get xs k ≡ Some x → P x
-all-get P [] k x a h = absurd (cc)
-all-get P (y ∷ ys) zero x a h = let q : y ≡ x = cc in subst P q (All-head P y ys a)
-all-get P (y ∷ ys) (suc k) x a h = all-get P ys k x (All-tail P y ys a) h
-
-map-length : {X Y : Type 0} (f : X → Y) (xs : List X) → length (map f xs) ≡ length xs
-map-length f [] = refl
-map-length f (x ∷ xs) = ap suc (map-length f xs)
-
 -- the network stands, the plan is one for it, and its budgets and shares keep their limits
 pub record IsCarriable (m : Standing) (e : Step) (p : Plan) : Type 0 where
   pub standing : IsStanding m
@@ -571,16 +529,16 @@ module _ {m : Standing} {e : Step} {p : Plan} (known : IsCarriable m e p) where
   ready k h nm =
       let a = node-named (machine_of m) e k h nm in
       let x = keyed number_at m.slots k a.0 (index-gives (map number_at m.slots) a.0 k (ap (λ ns. index_in ns a.0) (sym (numbers-are m.slots)) ∙ a.3)) in
-      let names = all-get (λ (s : Lodgings). map name_at s.places ≡ names_of m.config.hosts) m.slots k x.it (names-all (names_of m.config.hosts) m.slots known.standing.tidy.names) x.is in
+      let names = all-at (λ (s : Lodgings). map name_at s.places ≡ names_of m.config.hosts) m.slots k x.it (names-all (names_of m.config.hosts) m.slots known.standing.tidy.names) x.is in
       let y = keyed name_at x.it.places h a.1 (index-gives (map name_at x.it.places) a.1 h (ap (λ ns. index_in ns a.1) names ∙ a.4)) in
-      let tl = all-get (λ (l : Lodging). IsTallied x.it.number known.standing.stood.0 (seat_of l)) x.it.places h y.it (all-get (AreCounted known.standing.stood.0) m.slots k x.it (counted-from known.standing.stood.0 m.slots known.standing.stood.1) x.is) y.is in
+      let tl = all-at (λ (l : Lodging). IsTallied x.it.number known.standing.stood.0 (seat_of l)) x.it.places h y.it (all-at (AreCounted known.standing.stood.0) m.slots k x.it (counted-from known.standing.stood.0 m.slots known.standing.stood.1) x.is) y.is in
       record { slot = x.it; place = y.it; slot_is = x.is; place_is = y.is; room = node-room p.drawn a.0 a.1 x.it y.it known.plan.drawn (source-of m.config.roster e a.0 a.1 a.2) x.named y.named tl }
 
   doable-by : (d : Deed) → IsNamed (machine_of m) e d → IsThere m.archive (slots_of m.slots) d → IsDoable m.archive (charge_of p) m.slots d
   doable-by (Open s) nm th = (th.0, none-index (map number_at m.slots) s.number (out-of m e p known.standing known.plan known.standing.stood.0 known.standing.stood.1 s.number nm))
   doable-by (Close k) nm th =
-      let a = map-length slot_of (map seats_of m.slots) in
-      let b = map-length seats_of m.slots in
+      let a = mapped-length slot_of (map seats_of m.slots) in
+      let b = mapped-length seats_of m.slots in
       let l : k < length (slots_of m.slots) = th in
       (omega (arith, a, b, l), ap all_differ (sym (seat-numbers m.slots)) ∙ known.standing.tidy.apart)
   doable-by (Act k h x) nm th = (ready k h nm, th.1)

@@ -1,5 +1,5 @@
 -- One slot of those that are open.
-use Rattle.std.proofs.Common.{◌≡◌, ℕ, zero, suc, ◌<◌, List, [], ◌∷◌, ◌++◌, length, map, get_or, set, take, drop, replicate, Option, Some, IfSome, slice_get, ◌+◌, refl, sym, ◌∙◌, ap, subst, arith}
+use Rattle.std.proofs.Common.{◌≡◌, ℕ, zero, suc, ◌<◌, List, [], ◌∷◌, ◌++◌, length, map, get_or, set, take, drop, Option, Some, IfSome, slice_get, refl, sym, ◌∙◌, ap, subst, arith}
 use Rattle.std.specs.List.{All, remove}
 use Rattle.std.proofs.lemmas.List.Elements.{All-append, All-cons, All-drop, All-nil, All-set, All-take}
 use Rattle.types.specs.Statements.{Sent}
@@ -64,9 +64,6 @@ place-room c items k h y r is =
     let q = at-get items k r.slot y r.slot_is is in
     subst (λ (s : Lodgings). IfSome (slice_get s.places h) (HasRoomFor c)) (sym q) (subst (λ (o : Option Lodging). IfSome o (HasRoomFor c)) (sym r.place_is) r.room)
 
-pub place-within : (c : Charge) (items : List Lodgings) (k h : ℕ) (y : Lodgings) → (r : IsReady c items k h) → y ≡ get_or items k y → h < length y.places
-place-within c items k h y r is = subst (λ (s : Lodgings). h < length s.places) (sym (at-get items k r.slot y r.slot_is is)) (within r.slot.places h r.place r.place_is)
-
 abbrev pub IsSeen : NodeEvent → ℕ → Option Place → Noted → Type 0
 IsSeen e count o n = IsGiven (outs_at e o) (numbered (told_at o) (emissions (outs_at e o))) count n
 
@@ -75,11 +72,3 @@ pub given-seen : (c : Charge) (items : List Lodgings) (k h : ℕ) (y : Lodgings)
 given-seen c items k h y e count n r is g =
     let q = at-get items k r.slot y r.slot_is is in
     subst (λ (o : Option Place). IsSeen e count o n) (ap (λ (s : Lodgings). slice_get (map place_in s.places) h) q ∙ sym (seen-at items k h r.slot r.slot_is)) g
-
--- one empty list more
-pub replicate-more : {X : Type 0} (n : ℕ) (x : X) → replicate (n + 1) x ≡ replicate n x ++ x ∷ []
-replicate-more {X} n x = let z : n + 1 ≡ suc n = omega arith in ap (λ m. replicate m x) z ∙ go n
-  where
-    go : (n : ℕ) → replicate (suc n) x ≡ replicate n x ++ x ∷ []
-    go zero = refl
-    go (suc n) = ap (λ xs. x ∷ xs) (go n)

@@ -1,11 +1,10 @@
 -- What one event gives out is little: five outs at most, two of them emissions.
-use Rattle.std.proofs.Common.{◌≡◌, ℕ, suc, ◌+◌, ◌≤◌, Bool, true, false, not, ◌&&◌, ◌==◌, is_none, List, [], ◌∷◌, ◌++◌, length, Option, Some, None, if◌then◌else◌, refl, sym, ◌∙◌, ap, subst, arith}
+use Rattle.std.proofs.Common.{◌≡◌, ℕ, ◌+◌, ◌≤◌, Bool, true, false, not, ◌&&◌, ◌==◌, is_none, List, [], ◌∷◌, ◌++◌, length, Option, Some, None, if◌then◌else◌, arith}
 use Rattle.types.specs.declared.event.NodeEvent.{NodeEvent}
 use Rattle.types.specs.declared.event.Out.{Out}
 use Rattle.types.specs.declared.event.Out.TheVariants.{ArmNomination, ArmBallot, Emit, Externalized}
 use Rattle.types.specs.declared.ballot.Ballot.{Ballot}
 use Rattle.types.specs.declared.statement.Statement.{Statement}
-use Rattle.types.specs.Statements.{Sent}
 use Rattle.protocol.specs.Networks.{emissions}
 use Rattle.protocol.specs.Nodes.{Node, after_change, answered, change, decided, emitted, is_externalized, outs, step, when}
 use Rattle.protocol.specs.Sameness.{same_sent}
@@ -89,10 +88,6 @@ few-answered old (Some new) = few-given old new
 few-step : (n : Node) (e : NodeEvent) → AreFew 5 2 (step n e).1
 unfolding step
 few-step n e = few-answered n (after_change (change n e))
-
--- one event gives out five outs at most
-pub few_outs : (n : Node) (e : NodeEvent) → length (step n e).1 ≤ 5
-few_outs n e = (few-step n e).outs
 
 -- and two emissions at most
 pub few_emissions : (n : Node) (e : NodeEvent) → length (emissions (step n e).1) ≤ 2

@@ -1,11 +1,11 @@
 -- Plans where an envelope reaches a node, delivered or heard, and refusals.
-use Rattle.std.proofs.Common.{◌≡◌, ℕ, zero, suc, Bool, true, false, not, ◌||◌, ◌==◌, List, [], ◌∷◌, map, Option, Some, None, option_map, Result, Ok, Err, is_none, is_some, refl, sym, ◌∙◌, ap, subst, inl, inr}
+use Rattle.std.proofs.Common.{◌≡◌, ℕ, zero, suc, Bool, true, false, not, ◌||◌, ◌==◌, List, [], ◌∷◌, map, Option, Some, None, option_map, Result, Ok, Err, is_none, is_some, refl, sym, ◌∙◌, ap, subst, inr}
 use Rattle.std.specs.Borrow.{Bor}
 use Rattle.types.specs.Statements.{Sent}
 use Rattle.types.specs.declared.kind.Kind.{Kind}
 use Rattle.types.specs.declared.event.Refusal.{Refusal}
 use Rattle.types.specs.declared.event.Refusal.TheVariants.{BadEnvelope, HostedSender, NoSuchNode, NotEmitted, SlotNotOpen}
-use Rattle.protocol.specs.Networks.{Net, Place, Reading, Step, act_known, effect, emission, first_that, is_full, is_full_of_bytes, is_hosted, is_hosted_not, is_open_not, known, places_at, source, tests}
+use Rattle.protocol.specs.Networks.{Net, Place, Reading, act_known, effect, emission, first_that, is_full, is_full_of_bytes, is_hosted, is_hosted_not, is_open_not, known, places_at, source, tests}
 use Rattle.protocol.specs.Networks.Reading.{Read, Fault}
 use Rattle.protocol.specs.Networks.Step.{Delivers, Hears}
 use Rattle.protocol.specs.Rosters.{Roster, Source}
@@ -143,12 +143,6 @@ second-holds true true c h = absurd (cc)
 second-holds true false c h = refl
 second-holds false b c h = refl
 
-third-holds : (a b c : Bool) → c ≡ true → (not a || not b || c) ≡ true
-third-holds true true true h = refl
-third-holds true false true h = refl
-third-holds false b true h = refl
-third-holds a b false h = absurd (cc)
-
 none-holds : (a b c : Bool) → a ≡ true → b ≡ true → c ≡ false → (not a || not b || c) ≡ false
 none-holds true true false h k l = refl
 none-holds true true true h k l = absurd (cc)
@@ -162,10 +156,6 @@ hears-nowhere m i u w kind n q =
 pub hears-nobody : (m : Standing) (i u w : ℕ) (kind : Kind) (n : ℕ) → index_of_name m.config.hosts w ≡ None → IsRefusal (machine_of m) (Hears i u w kind n) NoSuchNode
 hears-nobody m i u w kind n q =
     inr (λ net s. hears-are net i u w kind n ∙ refuses (apart net u w) NoSuchNode (after_nodes net i w kind n (pair_source net.roster i u w)) (second-holds (is_hosted net u) (is_hosted net w) (u == w) (hosted-not net w (host-in m net w s ∙ q))))
-
-pub hears-itself : (m : Standing) (i u w : ℕ) (kind : Kind) (n : ℕ) → (u == w) ≡ true → IsRefusal (machine_of m) (Hears i u w kind n) NoSuchNode
-hears-itself m i u w kind n q =
-    inr (λ net s. hears-are net i u w kind n ∙ refuses (apart net u w) NoSuchNode (after_nodes net i w kind n (pair_source net.roster i u w)) (third-holds (is_hosted net u) (is_hosted net w) (u == w) q))
 
 -- two hosted nodes
 pub record AreTwo (m : Standing) (u h w j : ℕ) : Type 0 where

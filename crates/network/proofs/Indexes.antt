@@ -7,6 +7,7 @@ use Rattle.types.specs.Trees.{all_differ}
 use Rattle.configuration.specs.Configs.{index_in}
 use Rattle.network.specs.Changes.{IsChangedAt, changed_at}
 use Rattle.network.specs.Keyed.{at_key}
+use Rattle.types.proofs.Bools.{not_is}
 
 -- a number that is the one and not the other
 pub another : (a w u : ℕ) → (a == w) ≡ false → (a == u) ≡ true → (w == u) ≡ false
@@ -31,7 +32,7 @@ at-none {X} {Y} key val (x ∷ xs) u h = go (key x == u) (index_in (map key xs) 
     go false (Some j) ih e q = absurd (cc)
 
 -- ---- lengths
-pub mapped-length : {X : Type 0} (f : X → ℕ) (xs : List X) → length (map f xs) ≡ length xs
+pub mapped-length : {X Y : Type 0} (f : X → Y) (xs : List X) → length (map f xs) ≡ length xs
 mapped-length f [] = refl
 mapped-length f (x ∷ xs) = ap suc (mapped-length f xs)
 
@@ -62,14 +63,10 @@ changed-map {X} key f (x ∷ xs) u k h d = go (key x == u) (index_in (map key xs
     parts : (not (list_any (λ w. w == key x) (map key xs)) ≡ true) × (all_differ (map key xs) ≡ true)
     parts = and_parts (not (list_any (λ w. w == key x) (map key xs))) (all_differ (map key xs)) d
 
-    absent : (b : Bool) → not b ≡ true → b ≡ false
-    absent true h = absurd (false≢true h)
-    absent false h = refl
-
     go : (b : Bool) (o : Option ℕ) → ((j : ℕ) → index_in (map key xs) u ≡ Some j → all_differ (map key xs) ≡ true → changed_at j f xs ≡ map (λ x. if key x == u then f x else x) xs) → (key x == u) ≡ b → index_in (map key xs) u ≡ o → (if b then Some 0 else option_map suc o) ≡ Some k → changed_at k f (x ∷ xs) ≡ (if b then f x else x) ∷ map (λ x. if key x == u then f x else x) xs
     go true o ih y e q =
         let z : 0 ≡ k = cc in
-        let none = absent (list_any (λ w. w == key x) (map key xs)) parts.0 in
+        let none = not_is (list_any (λ w. w == key x) (map key xs)) parts.0 in
         ap (λ n. changed_at n f (x ∷ xs)) (sym z) ∙ ap (λ ys. f x ∷ ys) (sym (others-stay key f xs u (ap (λ v. list_any (λ w. w == v) (map key xs)) (sym (eqb-true (key x) u y)) ∙ none)))
     go false None ih y e q = absurd (cc)
     go false (Some j) ih y e q = let z : suc j ≡ k = cc in ap (λ n. changed_at n f (x ∷ xs)) (sym z) ∙ ap (λ ys. x ∷ ys) (ih j e parts.1)

@@ -1,5 +1,5 @@
 -- One emission more: its place and its mark.
-use Rattle.std.proofs.Common.{◌≡◌, ℕ, suc, ◌+◌, ◌++◌, length, map, Bool, true, false, List, [], ◌∷◌, filter, if◌then◌else◌, refl, sym, ◌∙◌, ap, ap₂, subst, arith, ◌<◌, get_or, drop, append_assoc}
+use Rattle.std.proofs.Common.{◌≡◌, ℕ, suc, ◌+◌, ◌++◌, length, List, [], ◌∷◌, if◌then◌else◌, refl, sym, ◌∙◌, ap, arith, ◌<◌, get_or, drop, append_assoc}
 use Rattle.std.proofs.lemmas.List.{map-append}
 use Rattle.std.specs.Prelude.{zero, Option, Some, None, Vec, option_map, slice_get}
 use Rattle.std.specs.Global.{Global}
@@ -20,7 +20,7 @@ use Rattle.std.proofs.Math.Seq.{drop-cons}
 use Rattle.network.specs.Lodgings.{HaveRoom}
 use Rattle.network.specs.Tellings.{AreByKind, places_of_kind}
 use Rattle.network.specs.declared.told.PlacesByKind.{PlacesByKind}
-use Rattle.network.proofs.Tellings.{count_of_kind, places_next}
+use Rattle.network.proofs.Tellings.{count_of_kind, of_kind, places_next}
 
 sents-length : (fs : List Filed) → length (sents_of fs) ≡ length fs
 sents-length [] = refl
@@ -46,9 +46,6 @@ pub by-kind : (old new : PlacesByKind) (k : Kind) (es all : List Filed) (f : Fil
     → AreByKind new (sents_of all)
 by-kind old new k es all f at same length_is is before n b =
     (noted Nomination k es f old.nominations.items new.nominations.items at all same length_is before.0 n is, noted Ballot k es f old.ballots.items new.ballots.items at all same length_is before.1 b is)
-
-abbrev of_kind : Kind → List Sent → List Sent
-of_kind k told = filter (λ x. is_kind k (kind_of x.body)) told
 
 pub counted : (k : Kind) (es : List Filed) (f : Filed) (places : PlacesByKind) (mark : ℕ)
     → k ≡ kind_of (sent_of f).body → AreByKind places (sents_of es) → mark ≡ (if is_kind Nomination k then length places.nominations.items else length places.ballots.items) + 1

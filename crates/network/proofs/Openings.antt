@@ -1,10 +1,10 @@
 -- Plans to open and to close a slot, and refusals.
-use Rattle.std.proofs.Common.{◌≡◌, ℕ, suc, ◌<◌, ◌≤◌, Bool, true, false, not, nat_lt, ◌==◌, List, [], ◌∷◌, ◌++◌, length, map, filter, Option, Some, None, is_some, Result, Ok, Err, refl, sym, ◌∙◌, ap, subst, inl, inr}
-use Rattle.std.specs.List.{All, remove}
+use Rattle.std.proofs.Common.{◌≡◌, ℕ, ◌<◌, Bool, true, false, not, nat_lt, List, [], ◌∷◌, ◌++◌, length, map, Option, Some, None, is_some, Ok, Err, refl, sym, ◌∙◌, ap, subst, inr}
+use Rattle.std.specs.List.{All}
 use Rattle.types.specs.Statements.{Sent}
 use Rattle.types.specs.declared.event.Refusal.{Refusal}
 use Rattle.types.specs.declared.event.Refusal.TheVariants.{SlotNotOpen, SlotOpenAlready, TooManySlots}
-use Rattle.protocol.specs.Networks.{Net, Place, Slot, effect, first_that, is_full, is_open, is_open_not, opened, source, tests}
+use Rattle.protocol.specs.Networks.{Net, Place, Slot, effect, first_that, is_full, is_open, opened, source, tests}
 use Rattle.protocol.specs.Networks.Step.{Opens, Closes}
 use Rattle.network.specs.Deeds.{IsPlan, IsRoom, IsSlotThere, index_of_slot}
 use Rattle.network.specs.Lodgings.{IsLodged, IsUncounted, Lodging, Lodgings, place_in, seat_of, seats_of, slot_of}
@@ -16,12 +16,8 @@ use Rattle.network.proofs.Indexes.{index-within, mapped-length}
 use Rattle.network.proofs.Plans.{neat-net, removed-is}
 
 -- ---- opening
-lengths : {X Y : Type 0} (f : X → Y) (xs : List X) → length (map f xs) ≡ length xs
-lengths f [] = refl
-lengths f (x ∷ xs) = ap suc (lengths f xs)
-
 slots-in : (m : Standing) (net : Net) → StandsFor (machine_of m) net → length net.slots ≡ length m.slots
-slots-in m net s = ap (λ (n : Net). length n.slots) s.is ∙ lengths slot_of (map seats_of m.slots) ∙ lengths seats_of m.slots
+slots-in m net s = ap (λ (n : Net). length n.slots) s.is ∙ mapped-length slot_of (map seats_of m.slots) ∙ mapped-length seats_of m.slots
 
 budget-in : (m : Standing) (net : Net) → StandsFor (machine_of m) net → net.budgets.slots ≡ m.config.budgets.slots
 budget-in m net s = ap (λ (n : Net). n.budgets.slots) s.is

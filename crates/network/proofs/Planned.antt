@@ -1,19 +1,19 @@
 -- Plans for events that nothing refuses, and refusals.
-use Rattle.std.proofs.Common.{◌≡◌, ℕ, Bool, true, false, List, [], ◌∷◌, map, slice_get, Option, Some, None, Result, Ok, Err, refl, sym, ◌∙◌, ap, subst, inl, inr}
+use Rattle.std.proofs.Common.{◌≡◌, ℕ, Bool, true, false, List, [], ◌∷◌, map, slice_get, Option, Some, None, Ok, Err, refl, sym, ◌∙◌, ap, subst, inr}
 use Rattle.types.specs.Statements.{Sent}
 use Rattle.types.specs.declared.event.NodeEvent.{NodeEvent}
 use Rattle.types.specs.declared.event.Out.{Out}
 use Rattle.types.specs.declared.event.Refusal.{Refusal}
 use Rattle.types.specs.declared.event.Refusal.TheVariants.{BadValue, ProposedAlready}
-use Rattle.protocol.specs.Networks.{Net, Slot, Step, act, effect, first_that, has_input, is_bad_value, is_full, is_hosted_not, is_open_not, known, outs_at, places_at, size_of, source, tests}
+use Rattle.protocol.specs.Networks.{Net, Step, act, effect, first_that, has_input, is_bad_value, is_full, is_hosted_not, is_open_not, known, outs_at, places_at, size_of, source, tests}
 use Rattle.protocol.specs.Rosters.{Roster, Source}
 use Rattle.slot.specs.Filings.{IsFiledEvent, event_of}
 use Rattle.slot.specs.declared.filed.FiledEvent.{FiledEvent}
 use Rattle.slot.specs.declared.filed.FiledEvent.TheVariants as events
 use Rattle.types.specs.Trees.{Slices}
 use Rattle.protocol.specs.Networks.Step.{Asks, NominationTimes, BallotTimes, Reslices}
-use Rattle.configuration.specs.Configs.{index_of_name, names_of}
-use Rattle.network.specs.Deeds.{HasNoRoom, HasRoom, IsDrawn, IsNodeOf, IsNodeThere, IsOwnEvent, IsPlan, IsPlanned, IsRoom, IsSeat, IsSlotThere, IsSpot, IsSpotRefused, acted, index_of_slot, node_at, own_source, own_tests}
+use Rattle.configuration.specs.Configs.{index_of_name}
+use Rattle.network.specs.Deeds.{HasNoRoom, HasRoom, IsDrawn, IsNodeOf, IsNodeThere, IsOwnEvent, IsPlan, IsRoom, IsSeat, IsSlotThere, IsSpot, IsSpotRefused, acted, node_at, own_source}
 use Rattle.network.specs.Answers.{delivered_of}
 use Rattle.network.specs.Lodgings.{Seat, slot_of}
 use Rattle.network.specs.Marks.{place_named}

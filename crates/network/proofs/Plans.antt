@@ -1,19 +1,19 @@
 -- What is done by places is what an event does.
-use Rattle.std.proofs.Common.{◌≡◌, ℕ, zero, suc, ◌<◌, Bool, true, false, not, ◌==◌, length, List, [], ◌∷◌, ◌++◌, ◌||◌, cond, map, filter, take, drop, slice_get, Option, Some, None, option_map, if◌then◌else◌, refl, sym, ◌∙◌, ap, ap₂, subst, arith}
+use Rattle.std.proofs.Common.{◌≡◌, ℕ, zero, suc, Bool, true, false, not, ◌==◌, List, [], ◌∷◌, ◌||◌, cond, map, filter, slice_get, Option, Some, None, option_map, if◌then◌else◌, refl, sym, ◌∙◌, ap, ap₂, subst}
 use Rattle.std.specs.List.{AllByRecursion, list_any, remove}
-use Rattle.std.proofs.lemmas.Option.{slice_get-map, slice_get_within, same_Some}
+use Rattle.std.proofs.lemmas.Option.{slice_get-map, slice_get_within}
 use Rattle.std.proofs.lemmas.Bool.{eqb-true, false≢true, and_parts}
-use Rattle.types.specs.Trees.{Slices, all_differ}
+use Rattle.types.specs.Trees.{all_differ}
 use Rattle.types.specs.declared.event.NodeEvent.{NodeEvent}
-use Rattle.types.specs.declared.event.Out.{Out}
 use Rattle.protocol.specs.Networks.{Host, Net, Place, Slot, act, act_in, known, moved, outs_at, place_of, places_at, slices_of}
 use Rattle.configuration.specs.Configs.{index_in, index_of_name, names_of}
 use Rattle.network.specs.Changes.{changed_at}
 use Rattle.network.specs.Deeds.{IsNodeThere, IsSeat, acted, index_of_slot, node_at}
 use Rattle.network.specs.Lodgings.{Seat, Seats, slot_of}
-use Rattle.network.specs.Standing.{IsTidy, Machine, StandsFor, net_of}
+use Rattle.network.specs.Standing.{IsTidy, Machine, StandsFor}
 use Rattle.network.specs.Keyed.{at_key}
-use Rattle.network.proofs.Indexes.{at-index, at-none, changed-map, index-within, mapped-length}
+use Rattle.network.proofs.Indexes.{at-index, changed-map}
+use Rattle.types.proofs.Bools.{not_is}
 
 abbrev number_of : Slot → ℕ
 number_of s = s.number
@@ -50,7 +50,7 @@ pub slices_of-is : (hosts : List Host) (u : ℕ) → slices_of hosts u ≡ at_ke
 slices_of-is [] u = refl
 slices_of-is (h ∷ hs) u = ap (λ o. if h.name == u then Some h.slices else o) (slices_of-is hs u)
 
-same-option : {X : Type 0} (o : Option X) → option_map (λ x. x) o ≡ o
+pub same-option : {X : Type 0} (o : Option X) → option_map (λ x. x) o ≡ o
 same-option None = refl
 same-option (Some x) = refl
 
@@ -156,15 +156,11 @@ removed-is {X} key (x ∷ xs) u k h d = go (key x == u) (index_in (map key xs) u
     parts : (not (list_any (λ w. w == key x) (map key xs)) ≡ true) × (all_differ (map key xs) ≡ true)
     parts = and_parts (not (list_any (λ w. w == key x) (map key xs))) (all_differ (map key xs)) d
 
-    absent : (b : Bool) → not b ≡ true → b ≡ false
-    absent true h = absurd (false≢true h)
-    absent false h = refl
-
     go : (b : Bool) (o : Option ℕ) → ((j : ℕ) → index_in (map key xs) u ≡ Some j → all_differ (map key xs) ≡ true → remove xs j ≡ filter (λ x. not (key x == u)) xs) → (key x == u) ≡ b → index_in (map key xs) u ≡ o → (if b then Some 0 else option_map suc o) ≡ Some k
         → remove (x ∷ xs) k ≡ cond (not b) (x ∷ filter (λ x. not (key x == u)) xs) (filter (λ x. not (key x == u)) xs)
     go true o ih y e q =
         let z : 0 ≡ k = cc in
-        let none = absent (list_any (λ w. w == key x) (map key xs)) parts.0 in
+        let none = not_is (list_any (λ w. w == key x) (map key xs)) parts.0 in
         ap (λ n. remove (x ∷ xs) n) (sym z) ∙ sym (others-kept key xs u (ap (λ v. list_any (λ w. w == v) (map key xs)) (sym (eqb-true (key x) u y)) ∙ none))
     go false None ih y e q = absurd (cc)
     go false (Some j) ih y e q = let z : suc j ≡ k = cc in ap (λ n. remove (x ∷ xs) n) (sym z) ∙ ap (λ ys. x ∷ ys) (ih j e parts.1)

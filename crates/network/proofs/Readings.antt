@@ -1,9 +1,6 @@
 -- What is read in bytes is what the grammar of envelopes says of them.
-use Rattle.std.proofs.Common.{◌≡◌, ◌↔◌, ℕ, List, [], ◌∷◌, get_or, Result, Ok, Err, refl, sym, ◌∙◌, ap}
-use Rattle.std.specs.Prelude.{IfOk, IfErr}
+use Rattle.std.proofs.Common.{◌≡◌, ℕ, List, [], ◌∷◌, get_or, Result, Ok, Err, refl, sym, ◌∙◌, ap}
 use Rattle.types.specs.Statements.{Sent}
-use Rattle.codec.specs.declared.error.CodecError.{CodecError}
-use Rattle.codec.specs.declared.error.CodecError.TheVariants as errors
 use Rattle.codec.specs.declared.error.Fault.{Fault as Wrong}
 use Rattle.codec.specs.declared.error.Fault.TheVariants.{Truncated, TrailingBytes, Version, Kind, Limit, BadSlices, BadStatement, SpareVersion}
 use Rattle.codec.specs.Answers.{fault_number}
@@ -12,7 +9,6 @@ use Rattle.codec.specs.Reading.{decoded}
 use Rattle.codec.specs.Spelling.{Spells}
 use Rattle.codec.specs.Steps.{IsBytes}
 use Rattle.codec.proofs.EnvelopeLaws.{is_spelled, is_read, is_fault, fault_is}
-use Rattle.protocol.specs.Networks.{Reading}
 use Rattle.protocol.specs.Networks.Reading.{Read, Fault}
 use Rattle.network.specs.Decoding.{said, reading, ReadingsAreExact}
 

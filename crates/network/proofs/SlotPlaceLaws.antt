@@ -1,5 +1,5 @@
 -- What is kept of the places of open slots, and where their numbers stand, as slots are opened and closed.
-use Rattle.std.proofs.Common.{◌≡◌, ℕ, zero, suc, ◌+◌, ◌-◌, ◌<◌, Bool, true, false, not, ◌||◌, ◌==◌, length, get_or, take, drop, List, [], ◌∷◌, ◌++◌, map, Option, Some, None, option_map, Result, Ok, Err, OnErr, OnOk, if◌then◌else◌, refl, sym, ◌∙◌, ap, ap₂, subst, arith}
+use Rattle.std.proofs.Common.{◌≡◌, ℕ, zero, suc, ◌<◌, Bool, true, false, not, ◌||◌, ◌==◌, length, get_or, take, drop, List, [], ◌∷◌, ◌++◌, map, Option, Some, None, option_map, Result, Ok, Err, OnErr, OnOk, if◌then◌else◌, refl, sym, ◌∙◌, ap, ap₂, subst, arith}
 use Rattle.std.specs.List.{insert, list_any, remove}
 use Rattle.std.proofs.lemmas.Bool.{false≢true, and_parts, eqb-true}
 use Rattle.std.proofs.lemmas.Bool.Decides.{nat_tests}
@@ -19,6 +19,7 @@ use Rattle.network.specs.declared.plan.Charge.{Charge}
 use Rattle.network.specs.declared.slot_index.SlotPlace.{SlotPlace}
 use Rattle.network.proofs.Indexes.{another, at-index, at-none}
 use Rattle.network.proofs.KeyPlaces.{map-remove}
+use Rattle.types.proofs.Bools.{not_is}
 
 -- ---- the first that has a key
 at-first : (b : Bool) (o : Option ℕ) → (if b then Some 0 else option_map suc o) ≡ Some 0 → b ≡ true
@@ -55,11 +56,7 @@ record Apart (m : ℕ) (ms : List ℕ) : Type 0 where
 apart : (m : ℕ) (ms : List ℕ) → all_differ (m ∷ ms) ≡ true → Apart m ms
 apart m ms d =
     let p = and_parts (not (list_any (λ w. w == m) ms)) (all_differ ms) d in
-    record { first = none-of ms m (absent (list_any (λ w. w == m) ms) p.0); rest = p.1 }
-  where
-    absent : (b : Bool) → not b ≡ true → b ≡ false
-    absent true h = absurd (false≢true h)
-    absent false h = refl
+    record { first = none-of ms m (not_is (list_any (λ w. w == m) ms) p.0); rest = p.1 }
 
 -- a number that differs from the others stands where it stands
 pub index-at : (ns : List ℕ) (k n : ℕ) → all_differ ns ≡ true → k < length ns → get_or ns k 0 ≡ n

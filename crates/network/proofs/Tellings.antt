@@ -1,12 +1,11 @@
 -- The places of emissions of a kind lead to them.
-use Rattle.std.proofs.Common.{◌≡◌, ℕ, zero, suc, ◌+◌, ◌-◌, ◌≤◌, ◌++◌, length, Bool, true, false, List, [], ◌∷◌, filter, slice_get, Option, Some, None, if◌then◌else◌, cond, refl, sym, ◌∙◌, ap, arith}
-use Rattle.std.proofs.lemmas.List.{append-nil}
+use Rattle.std.proofs.Common.{◌≡◌, ℕ, zero, suc, ◌+◌, ◌-◌, ◌≤◌, ◌++◌, length, Bool, true, false, List, [], ◌∷◌, filter, slice_get, Some, None, if◌then◌else◌, cond, refl, sym, ◌∙◌, ap, arith}
 use Rattle.types.specs.declared.kind.Kind.{Kind}
 use Rattle.types.specs.Statements.{Sent, kind_of}
 use Rattle.protocol.specs.Rows.{is_kind}
 use Rattle.network.specs.Tellings.{places_from, places_of_kind, nth_of}
 
-abbrev of_kind : Kind → List Sent → List Sent
+abbrev pub of_kind : Kind → List Sent → List Sent
 of_kind kind told = filter (λ e. is_kind kind (kind_of e.body)) told
 
 none-from : (kind : Kind) (n : ℕ) (told : List Sent) (k : ℕ) → slice_get (places_from kind n told) k ≡ None → slice_get (of_kind kind told) k ≡ None

@@ -97,7 +97,7 @@ push-any (n ∷ ns) i x = ap (λ b. (n == x) || b) (push-any ns i x) ∙ assoc (
     assoc true b c = refl
     assoc false b c = refl
 
-same-test : (a b : ℕ) → (a == b) ≡ (b == a)
+pub same-test : (a b : ℕ) → (a == b) ≡ (b == a)
 same-test a b = grind (nat_tests, arith)
 
 push-apart : (ns : List ℕ) (i : ℕ) → all_differ ns ≡ true → list_any (λ w. w == i) ns ≡ false → all_differ (ns ++ i ∷ []) ≡ true

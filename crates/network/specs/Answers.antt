@@ -1,5 +1,5 @@
 -- What an applied event of a network leaves.
-use Rattle.std.specs.Prelude.{◌≡◌, ℕ, List, map, replicate, Option, Some, None, IfSome, option_map}
+use Rattle.std.specs.Prelude.{◌≡◌, ℕ, map, replicate, Option, Some, None, IfSome, option_map}
 use Rattle.types.specs.Statements.{Sent}
 use Rattle.protocol.specs.Networks.{Net, Step}
 use Rattle.protocol.specs.Networks.Reading.{Read}

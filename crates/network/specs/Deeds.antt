@@ -1,5 +1,5 @@
 -- What is to be done for an event, by place, once nothing refuses it, and on what it draws.
-use Rattle.std.specs.Prelude.{◌≡◌, ℕ, Bool, true, false, ◌<◌, ◌≤◌, ◌+◌, length, map, List, [], ◌∷◌, ◌++◌, slice_get, Option, Some, None, Result, Ok, Err, ⊤}
+use Rattle.std.specs.Prelude.{◌≡◌, ℕ, Bool, true, false, ◌<◌, length, map, List, [], ◌∷◌, ◌++◌, slice_get, Option, Some, None, Result, Ok, Err, ⊤}
 use Rattle.std.specs.List.{All, remove}
 use Rattle.types.specs.Statements.{Sent}
 use Rattle.types.specs.declared.event.NodeEvent.{NodeEvent}

@@ -5,14 +5,12 @@ use Rattle.std.specs.List.{All}
 use Rattle.types.specs.Statements.{Sent}
 use Rattle.types.specs.declared.event.Out.{Out}
 use Rattle.protocol.specs.Networks.{Place, Slot}
-use Rattle.protocol.specs.Rosters.{Draw, Share, bytes_drawn, events_drawn}
+use Rattle.protocol.specs.Rosters.{Draw, bytes_drawn, events_drawn}
 use Rattle.protocol.specs.Rosters.Share.{Own, Pair}
 use Rattle.envstore.specs.Archives.{AreFiled, sents_of}
 use Rattle.envstore.specs.declared.filed.Filed.{Filed}
-use Rattle.slot.specs.Filings.{AreFiledOuts, outs_of}
+use Rattle.slot.specs.Filings.{outs_of}
 use Rattle.slot.specs.Listening.{Held}
-use Rattle.slot.specs.declared.filed.GivenOut.{GivenOut}
-use Rattle.slot.specs.declared.filed.FiledOut.{FiledOut}
 use Rattle.network.specs.declared.tallies.Tally.{Tally}
 use Rattle.network.specs.declared.told.Noted.{Noted}
 use Rattle.network.specs.declared.told.PlacesByKind.{PlacesByKind}

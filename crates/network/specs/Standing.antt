@@ -1,6 +1,5 @@
 -- A network as the host keeps it, and the networks of the definitions that it stands for.
-use Rattle.std.specs.Prelude.{◌≡◌, ◌⊎◌, ℕ, ◌≤◌, ◌+◌, true, List, [], map, option_map, Option, Some, slice_get, Vec, Result, Ok, Err}
-use Rattle.std.specs.Global.{Global}
+use Rattle.std.specs.Prelude.{◌≡◌, ◌⊎◌, ℕ, ◌≤◌, true, List, map, option_map, Option, Some}
 use Rattle.std.specs.List.{AllByRecursion}
 use Rattle.types.specs.Statements.{Sent}
 use Rattle.types.specs.Trees.{Slices, all_differ}

@@ -1,5 +1,5 @@
 -- What a node has emitted, and where among it the emissions of a kind stand.
-use Rattle.std.specs.Prelude.{◌≡◌, ℕ, zero, suc, List, [], ◌∷◌, length, filter, slice_get, Option, None, if◌then◌else◌}
+use Rattle.std.specs.Prelude.{◌≡◌, ℕ, zero, suc, List, [], ◌∷◌, filter, slice_get, Option, None, if◌then◌else◌}
 use Rattle.types.specs.declared.kind.Kind.{Kind}
 use Rattle.types.specs.declared.kind.Kind.TheVariants.{Nomination, Ballot}
 use Rattle.types.specs.Statements.{Sent, kind_of}

@@ -1,4 +1,4 @@
-use Rattle.std.proofs.Common.{◌≡◌, ◌+◌, ◌++◌, ◌∷◌, [], length, drop, subst}
+use Rattle.std.proofs.Common.{◌+◌, ◌++◌, ◌∷◌, [], length, drop, subst}
 use Rattle.envstore.specs.Archives.{sents_of}
 use Rattle.protocol.specs.Networks.{emissions}
 use Rattle.network.specs.Marks.{numbered}

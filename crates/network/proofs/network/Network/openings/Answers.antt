@@ -1,4 +1,4 @@
-use Rattle.std.proofs.Common.{◌≡◌, ◌∙◌, Option, Some, option_map, sym, ap}
+use Rattle.std.proofs.Common.{◌∙◌, Option, option_map, sym, ap}
 use Rattle.protocol.specs.Networks.{source}
 use Rattle.protocol.specs.Networks.Step.{Opens, Closes}
 use Rattle.protocol.specs.Rosters.{Roster}

@@ -1,6 +1,6 @@
-use Rattle.std.proofs.Common.{rules, ◌≡◌, ◌∙◌, ◌&&◌, Bool, true, Option, Some, option_map, sym, ap, subst}
+use Rattle.std.proofs.Common.{rules, ◌≡◌, ◌∙◌, ◌&&◌, true, option_map, sym, ap, subst}
 use Rattle.protocol.specs.Sets.{among}
-use Rattle.network.specs.Standing.{IsStanding, Standing, machine_of}
+use Rattle.network.specs.Standing.{IsStanding, Standing}
 use Rattle.network.proofs.Drawing.{pair-on}
 use Rattle.network.proofs.network.Network.pair.Goals as goal
 

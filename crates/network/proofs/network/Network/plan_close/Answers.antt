@@ -1,10 +1,9 @@
-use Rattle.std.proofs.Common.{rules, ◌≡◌, ◌∙◌, Bool, true, false, Option, Some, None, is_some, Result, Err, sym, ap, subst, inl, inr, nat_lt, length, map}
-use Rattle.types.specs.declared.event.Refusal.{Refusal}
+use Rattle.std.proofs.Common.{rules, ◌≡◌, Err, sym, subst}
 use Rattle.types.specs.declared.event.Refusal.TheVariants.{SlotNotOpen}
 use Rattle.protocol.specs.Networks.{source}
 use Rattle.protocol.specs.Networks.Step.{Closes}
 use Rattle.network.specs.Deeds.{IsPlanned}
-use Rattle.network.specs.Standing.{IsStanding, Standing, machine_of}
+use Rattle.network.specs.Standing.{IsStanding}
 use Rattle.network.proofs.Openings.{closes-full, closes-nowhere, closes-plan}
 use Rattle.network.proofs.Planned.{room-err, room-ok}
 use Rattle.network.proofs.network.Network.plan_close.Goals as goal

@@ -1,12 +1,11 @@
-use Rattle.std.proofs.Common.{rules, ◌≡◌, ◌∙◌, Bool, true, false, Option, Some, None, is_some, Result, Err, sym, ap, subst, inl, inr, nat_lt, length, map}
-use Rattle.types.specs.declared.event.Refusal.{Refusal}
+use Rattle.std.proofs.Common.{rules, ◌≡◌, ◌∙◌, Err, sym, ap, subst, length}
 use Rattle.types.specs.declared.event.Refusal.TheVariants.{NoSuchNode, BadEnvelope}
 use Rattle.protocol.specs.Networks.{Reading}
 use Rattle.protocol.specs.Networks.Reading.{Fault}
 use Rattle.protocol.specs.Networks.Step.{Delivers}
 use Rattle.network.specs.Decoding.{reading, said_by}
 use Rattle.network.specs.Deeds.{IsPlanned}
-use Rattle.network.specs.Standing.{IsRefusal, IsStanding, Standing, machine_of}
+use Rattle.network.specs.Standing.{IsRefusal, machine_of}
 use Rattle.network.proofs.Handings.{bytes-bad, bytes-nowhere}
 use Rattle.network.proofs.network.Network.plan_deliver.Goals as goal
 

@@ -1,12 +1,11 @@
-use Rattle.std.proofs.Common.{rules, ◌≡◌, ◌∙◌, Bool, true, false, Option, Some, None, is_some, Result, Ok, Err, sym, ap, subst, map, ℕ}
-use Rattle.types.specs.declared.event.Refusal.{Refusal}
+use Rattle.std.proofs.Common.{rules, ◌≡◌, ◌∙◌, true, false, None, is_some, Ok, Err, sym, ap, subst, map}
 use Rattle.configuration.specs.Configs.{index_of_name}
-use Rattle.network.specs.Lodgings.{slot_of, seat_of}
-use Rattle.types.specs.declared.event.Refusal.TheVariants.{HostedSender, SlotNotOpen}
+use Rattle.network.specs.Lodgings.{slot_of}
+use Rattle.types.specs.declared.event.Refusal.TheVariants.{SlotNotOpen}
 use Rattle.protocol.specs.Networks.Reading.{Read}
 use Rattle.protocol.specs.Networks.Step.{Delivers}
 use Rattle.network.specs.Deeds.{IsPlanned, index_of_slot}
-use Rattle.network.specs.Standing.{IsStanding, Standing, machine_of}
+use Rattle.network.specs.Standing.{IsStanding, machine_of}
 use Rattle.network.proofs.Handings.{envelope-closed, envelope-full, envelope-large, envelope-plan, reaching, sender-hosted-so, sender-room}
 use Rattle.network.proofs.Openings.{none-so}
 use Rattle.network.proofs.network.Network.plan_envelope.Goals as goal

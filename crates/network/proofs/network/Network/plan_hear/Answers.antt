@@ -1,12 +1,9 @@
-use Rattle.std.proofs.Common.{rules, ◌≡◌, ◌∙◌, ◌==◌, Bool, true, false, Option, Some, None, is_some, Result, Ok, Err, sym, subst, map, ℕ}
-use Rattle.types.specs.declared.event.Refusal.{Refusal}
-use Rattle.configuration.specs.Configs.{index_of_name}
-use Rattle.network.specs.Lodgings.{slot_of, seat_of}
-use Rattle.types.specs.declared.event.Refusal.TheVariants.{NoSuchNode, NotEmitted, SlotNotOpen}
+use Rattle.std.proofs.Common.{rules, ◌≡◌, ◌==◌, false, Err, sym, subst}
+use Rattle.network.specs.Lodgings.{seat_of}
+use Rattle.types.specs.declared.event.Refusal.TheVariants.{NoSuchNode, SlotNotOpen}
 use Rattle.protocol.specs.Networks.Step.{Hears}
-use Rattle.network.specs.Deeds.{IsPlan, IsPlanned, IsRoom, IsSlotThere, index_of_slot, pair_source}
+use Rattle.network.specs.Deeds.{IsPlan, IsPlanned}
 use Rattle.network.specs.declared.plan.Deed.TheVariants.{Act}
-use Rattle.network.specs.declared.plan.Plan.{Plan}
 use Rattle.envstore.specs.declared.filed.Filed.{Filed}
 use Rattle.slot.specs.declared.filed.FiledEvent.TheVariants as events
 use Rattle.network.specs.Standing.{IsStanding, machine_of}

@@ -1,10 +1,9 @@
-use Rattle.std.proofs.Common.{rules, ◌≡◌, ◌∙◌, Bool, true, false, Option, Some, None, is_some, Result, Err, sym, ap, subst, inl, inr, not, nat_lt, length, map}
-use Rattle.types.specs.declared.event.Refusal.{Refusal}
+use Rattle.std.proofs.Common.{rules, ◌≡◌, ◌∙◌, true, false, is_some, Err, sym, ap, subst, not, nat_lt, length, map}
 use Rattle.protocol.specs.Networks.{opened, source}
 use Rattle.protocol.specs.Networks.Step.{Opens}
 use Rattle.network.specs.Deeds.{IsPlanned, index_of_slot}
 use Rattle.network.specs.Lodgings.{slot_of}
-use Rattle.network.specs.Standing.{IsStanding, Standing, machine_of}
+use Rattle.network.specs.Standing.{Standing, machine_of}
 use Rattle.network.proofs.Openings.{none-so, opens-again-so, opens-full, opens-many, opens-plan}
 use Rattle.network.proofs.Planned.{room-err, room-ok}
 use Rattle.network.proofs.network.Network.plan_open.Goals as goal

@@ -1,4 +1,4 @@
-use Rattle.std.proofs.Common.{◌≡◌, ◌≤◌, ◌∙◌, length, List, ap, sym, subst, arith}
+use Rattle.std.proofs.Common.{◌≤◌, ◌∙◌, length, List, ap, sym, subst, arith}
 use Rattle.types.specs.declared.event.Out.{Out}
 use Rattle.protocol.specs.Networks.{emissions}
 use Rattle.slot.specs.Filings.{event_of, outs_of}

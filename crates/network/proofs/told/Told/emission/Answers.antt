@@ -1,7 +1,6 @@
-use Rattle.std.proofs.Common.{◌≡◌, ◌∙◌, Option, List, slice_get, option_map, ◌+◌, ◌-◌, suc, sym, ap, subst, arith}
+use Rattle.std.proofs.Common.{◌∙◌, List, slice_get, option_map, ◌-◌, sym, ap, subst, arith}
 use Rattle.envstore.specs.Archives.{AreFiled, sent_of, sents_of}
 use Rattle.envstore.specs.declared.filed.Filed.{Filed}
-use Rattle.network.specs.Tellings.{nth_of}
 use Rattle.network.proofs.Emitted.{filed-at}
 use Rattle.network.proofs.Tellings.{nth-none, nth-some, from-one}
 use Rattle.network.proofs.Noted.{sent-at, get-sent}
