@@ -81,7 +81,7 @@ impl Place {
     }
 
     /// How many of its own events it drew since the slot was opened.
-    pub(crate) fn own(&self) -> u64
+    pub(crate) fn own_events(&self) -> u64
         ensures { result ≡ self.now.own }
     {
         self.own

@@ -114,7 +114,7 @@ impl<S: Shelf> Network<S> {
         let drawn = self.own_room(&spot, node)?;
         match Value::of(self.alloc, value) {
             Err(_) => Err(Refusal::NoMemory),
-            Ok(value) => Ok(acting(&spot, drawn, FiledEvent::Propose(value))),
+            Ok(value) => Ok(plan_at(&spot, drawn, FiledEvent::Propose(value))),
         }
     }
 
@@ -140,7 +140,7 @@ impl<S: Shelf> Network<S> {
         let _slots = &self.slots;
         let spot = self.spot(slot, node)?;
         let drawn = self.own_room(&spot, node)?;
-        Ok(acting(&spot, drawn, event))
+        Ok(plan_at(&spot, drawn, event))
     }
 
     /// What is to be done where the slices of a node change.
@@ -152,7 +152,7 @@ impl<S: Shelf> Network<S> {
         let drawn = self.own_room(&spot, node)?;
         match slices.try_copy() {
             Err(_) => Err(Refusal::NoMemory),
-            Ok(slices) => Ok(acting(&spot, drawn, FiledEvent::Reslice(slices))),
+            Ok(slices) => Ok(plan_at(&spot, drawn, FiledEvent::Reslice(slices))),
         }
     }
 
@@ -171,7 +171,7 @@ impl<S: Shelf> Network<S> {
         requires host { index_of_name self.now.config.hosts node.now ≡ Some spot.now.host_at }
         ensures { IsOwnRoom self.now spot.now node.now result }
     {
-        let drawn = self.own(spot.slot_at, spot.host_at, node);
+        let drawn = self.own_events(spot.slot_at, spot.host_at, node);
         self.has_room(&drawn)?;
         Ok(drawn)
     }
@@ -185,7 +185,7 @@ fn is_bad(value: &[u8]) -> bool
 }
 
 /// A node's own event is to be done there, and it draws on this.
-fn acting(spot: &Spot, drawn: Drawn, event: FiledEvent) -> Plan
+fn plan_at(spot: &Spot, drawn: Drawn, event: FiledEvent) -> Plan
     ensures { result ≡ record { deed = Act spot.now.slot_at spot.now.host_at event; drawn = drawn; size = 0 } }
 {
     Plan {

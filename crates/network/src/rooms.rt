@@ -28,7 +28,7 @@ impl<S: Shelf> Network<S> {
     }
 
     /// On what a node's own events draw.
-    pub(crate) fn own(&self, slot_at: usize, host_at: usize, node: &NodeId) -> Drawn
+    pub(crate) fn own_events(&self, slot_at: usize, host_at: usize, node: &NodeId) -> Drawn
         requires host { index_of_name self.now.config.hosts node.now ≡ Some host_at }
         ensures { (i : ℕ) → index_of_slot (map slot_of (machine_of self.now).slots) i ≡ Some slot_at → IsDrawn (machine_of self.now) result (own_source self.now.config.roster i node.now) }
     {
@@ -73,14 +73,14 @@ impl<S: Shelf> Network<S> {
     {
         match drawn {
             Drawn::Budgets => {
-                within(
+                keeps_within(
                     self.events,
                     1,
                     self.config.budgets().events(),
                     Refusal::JournalFull,
                 )
             }
-            Drawn::Opens => within(self.opens, 1, self.shares().opens(), Refusal::ShareFull),
+            Drawn::Opens => keeps_within(self.opens, 1, self.shares().opens(), Refusal::ShareFull),
             Drawn::Own { slot_at, host_at } => self.has_own_room(*slot_at, *host_at),
             Drawn::Pair {
                 slot_at,
@@ -95,8 +95,8 @@ impl<S: Shelf> Network<S> {
         requires { IsDrawnThere (machine_of self.now) (Own slot_at host_at) }
         ensures { MatchResult result (λ _. HasRoom (machine_of self.now) (Own slot_at host_at)) (λ r. HasNoRoom (machine_of self.now) (Own slot_at host_at) r) }
     {
-        let used = self.place(slot_at, host_at).own();
-        within(used, 1, self.shares().own(), Refusal::ShareFull)
+        let used = self.place(slot_at, host_at).own_events();
+        keeps_within(used, 1, self.shares().own(), Refusal::ShareFull)
     }
 
     /// Whether there is room for one more event on what the node at these places gets from a name.
@@ -105,7 +105,7 @@ impl<S: Shelf> Network<S> {
         ensures { MatchResult result (λ _. HasRoom (machine_of self.now) (Pair slot_at host_at from.now)) (λ r. HasNoRoom (machine_of self.now) (Pair slot_at host_at from.now) r) }
     {
         let used = self.place(slot_at, host_at).events_from(from);
-        within(used, 1, self.shares().pair(), Refusal::ShareFull)
+        keeps_within(used, 1, self.shares().pair(), Refusal::ShareFull)
     }
 
     /// Whether there is room for so many bytes more on what is drawn by what comes to a node.
@@ -116,7 +116,7 @@ impl<S: Shelf> Network<S> {
     {
         match drawn {
             Drawn::Budgets => {
-                within(
+                keeps_within(
                     self.bytes,
                     size,
                     self.config.budgets().bytes(),
@@ -144,7 +144,7 @@ impl<S: Shelf> Network<S> {
         ensures { MatchResult result (λ _. HasBytes (machine_of self.now) (Pair slot_at host_at from.now) size) (λ r. HasNoBytes (machine_of self.now) (Pair slot_at host_at from.now) size r) }
     {
         let used = self.place(slot_at, host_at).bytes_from(from);
-        within(used, size, self.shares().bytes(), Refusal::ShareBytesFull)
+        keeps_within(used, size, self.shares().bytes(), Refusal::ShareBytesFull)
     }
 
     /// The shares of the roster.
@@ -160,7 +160,7 @@ impl<S: Shelf> Network<S> {
 }
 
 /// Whether so much more keeps within a limit; else this refusal. Their sum may be no `u64`.
-fn within(used: u64, more: u64, limit: u64, refusal: Refusal) -> Result<(), Refusal>
+fn keeps_within(used: u64, more: u64, limit: u64, refusal: Refusal) -> Result<(), Refusal>
     ensures { MatchResult result (λ _. used + more ≤ limit) (λ r. (r ≡ refusal) × (limit < used + more)) }
 {
     if used > limit || more > limit - used {

@@ -1,8 +1,7 @@
-use Rattle.std.proofs.Common.{rules, ◌≡◌, ◌∙◌, Bool, true, false, Option, Some, None, is_some, Result, Err, sym, ap, subst, inl, inr, nat_lt, length, map}
-use Rattle.types.specs.declared.event.Refusal.{Refusal}
+use Rattle.std.proofs.Common.{rules, ◌≡◌, Err, sym, subst}
 use Rattle.network.specs.Deeds.{IsPlanned, IsPlan}
 use Rattle.network.specs.declared.plan.Plan.{Plan}
-use Rattle.network.specs.Standing.{IsStanding, Standing, machine_of}
+use Rattle.network.specs.Standing.{IsStanding}
 use Rattle.network.proofs.Planned.{own-full, own-nowhere, own-plan}
 use Rattle.network.proofs.network.Network.plan_own.Goals as goal
 
@@ -27,4 +26,4 @@ pub returns : goal.returns
 returns g c =
     let m = c.args.self.now in
     let st : IsStanding m = subst IsStanding c.self.view_is c.self.invariant in
-    λ e own. subst (λ (p : Plan). IsPlan m e p) (sym c.acting.ensures) (own-plan m c.args.slot c.args.node.now c.in_ok-spot.spot c.args.event c.in_ok-drawn.drawn e st c.in_ok-spot.ensures c.requires (c.in_ok-drawn.ensures c.args.slot c.in_ok-spot.ensures.slot) own)
+    λ e own. subst (λ (p : Plan). IsPlan m e p) (sym c.plan_at.ensures) (own-plan m c.args.slot c.args.node.now c.in_ok-spot.spot c.args.event c.in_ok-drawn.drawn e st c.in_ok-spot.ensures c.requires (c.in_ok-drawn.ensures c.args.slot c.in_ok-spot.ensures.slot) own)

@@ -1,14 +1,13 @@
-use Rattle.std.proofs.Common.{rules, ◌≡◌, ◌∙◌, Bool, true, false, Option, Some, None, is_some, Result, Err, sym, ap, subst, inl, inr, nat_lt, length, map}
-use Rattle.types.specs.declared.event.Refusal.{Refusal}
-use Rattle.protocol.specs.Networks.{has_input, is_bad_value}
+use Rattle.std.proofs.Common.{rules, ◌≡◌, ◌∙◌, true, false, Err, sym, ap, subst}
+use Rattle.protocol.specs.Networks.{is_bad_value}
 use Rattle.protocol.specs.Networks.Step.{Asks}
 use Rattle.slot.specs.declared.filed.FiledEvent.TheVariants as events
 use Rattle.std.specs.Prelude.{List, ℕ}
 use Rattle.network.specs.Deeds.{IsPlanned, IsPlan}
-use Rattle.network.specs.Lodgings.{place_in, seat_of}
+use Rattle.network.specs.Lodgings.{seat_of}
 use Rattle.network.specs.declared.plan.Deed.TheVariants.{Act}
 use Rattle.network.specs.declared.plan.Plan.{Plan}
-use Rattle.network.specs.Standing.{IsStanding, Standing, machine_of}
+use Rattle.network.specs.Standing.{IsStanding, machine_of}
 use Rattle.network.proofs.Plans.{seat-there}
 use Rattle.network.proofs.Planned.{asks-again, asks-bad, asks-full, asks-nowhere, asks-plan}
 use Rattle.network.proofs.network.Network.plan_propose.Goals as goal
@@ -58,5 +57,5 @@ returns-in-Ok g c =
     let st : IsStanding m = subst IsStanding c.self.view_is c.self.invariant in
     let bad : is_bad_value c.args.value.now ≡ false = search rules in
     let plan = asks-plan m c.args.slot c.args.node.now c.args.value.now c.in_ok-spot.spot (seat_of c.place.result.now) c.has_input.result c.in_ok-drawn.drawn st c.in_ok-spot.ensures c.place.ensures.seat bad c.has_input.ensures c.if-has_input.false (c.in_ok-drawn.ensures c.args.slot c.in_ok-spot.ensures.slot) in
-    let e : c.acting.result ≡ record { deed = Act c.in_ok-spot.spot.slot_at c.in_ok-spot.spot.host_at (events.Propose c.args.value.now); drawn = c.in_ok-drawn.drawn; size = 0 } = c.acting.ensures ∙ ap (λ (x : List ℕ). record { deed = Act c.in_ok-spot.spot.slot_at c.in_ok-spot.spot.host_at (events.Propose x); drawn = c.in_ok-drawn.drawn; size = 0 }) c.in-Ok.ensures in
+    let e : c.plan_at.result ≡ record { deed = Act c.in_ok-spot.spot.slot_at c.in_ok-spot.spot.host_at (events.Propose c.args.value.now); drawn = c.in_ok-drawn.drawn; size = 0 } = c.plan_at.ensures ∙ ap (λ (x : List ℕ). record { deed = Act c.in_ok-spot.spot.slot_at c.in_ok-spot.spot.host_at (events.Propose x); drawn = c.in_ok-drawn.drawn; size = 0 }) c.in-Ok.ensures in
     subst (λ (p : Plan). IsPlan m (Asks c.args.slot c.args.node.now c.args.value.now) p) (sym e) plan

@@ -1,12 +1,11 @@
-use Rattle.std.proofs.Common.{rules, ◌≡◌, ◌∙◌, Bool, true, false, Option, Some, None, is_some, Result, Err, sym, ap, subst, inl, inr, nat_lt, length, map}
-use Rattle.types.specs.declared.event.Refusal.{Refusal}
+use Rattle.std.proofs.Common.{rules, ◌≡◌, ◌∙◌, Err, sym, ap, subst}
 use Rattle.protocol.specs.Networks.Step.{Reslices}
 use Rattle.slot.specs.declared.filed.FiledEvent.TheVariants as events
 use Rattle.types.specs.Trees.{Slices}
 use Rattle.network.specs.Deeds.{IsPlanned, IsPlan}
 use Rattle.network.specs.declared.plan.Plan.{Plan}
 use Rattle.network.specs.declared.plan.Deed.TheVariants.{Act}
-use Rattle.network.specs.Standing.{IsStanding, Standing, machine_of}
+use Rattle.network.specs.Standing.{IsStanding}
 use Rattle.network.proofs.Planned.{own-full, own-nowhere, own-plan, reslice-own}
 use Rattle.network.proofs.network.Network.plan_reslice.Goals as goal
 
@@ -36,5 +35,5 @@ returns-in-Ok g c =
     let q = c.args.slices.now in
     let st : IsStanding m = subst IsStanding c.self.view_is c.self.invariant in
     let plan = own-plan m c.args.slot c.args.node.now c.in_ok-spot.spot (events.Reslice q) c.in_ok-drawn.drawn (Reslices c.args.slot c.args.node.now q) st c.in_ok-spot.ensures tt (c.in_ok-drawn.ensures c.args.slot c.in_ok-spot.ensures.slot) (reslice-own c.args.slot c.args.node.now q) in
-    let e : c.acting.result ≡ record { deed = Act c.in_ok-spot.spot.slot_at c.in_ok-spot.spot.host_at (events.Reslice q); drawn = c.in_ok-drawn.drawn; size = 0 } = c.acting.ensures ∙ ap (λ (x : Slices). record { deed = Act c.in_ok-spot.spot.slot_at c.in_ok-spot.spot.host_at (events.Reslice x); drawn = c.in_ok-drawn.drawn; size = 0 }) c.in-Ok.ensures in
+    let e : c.plan_at.result ≡ record { deed = Act c.in_ok-spot.spot.slot_at c.in_ok-spot.spot.host_at (events.Reslice q); drawn = c.in_ok-drawn.drawn; size = 0 } = c.plan_at.ensures ∙ ap (λ (x : Slices). record { deed = Act c.in_ok-spot.spot.slot_at c.in_ok-spot.spot.host_at (events.Reslice x); drawn = c.in_ok-drawn.drawn; size = 0 }) c.in-Ok.ensures in
     subst (λ (p : Plan). IsPlan m (Reslices c.args.slot c.args.node.now q) p) (sym e) plan

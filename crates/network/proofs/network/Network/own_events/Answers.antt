@@ -1,8 +1,8 @@
-use Rattle.std.proofs.Common.{rules, ◌≡◌, ◌∙◌, Bool, true, Option, Some, option_map, sym, ap, subst}
+use Rattle.std.proofs.Common.{rules, ◌≡◌, ◌∙◌, true, option_map, sym, ap, subst}
 use Rattle.protocol.specs.Sets.{among}
-use Rattle.network.specs.Standing.{IsStanding, Standing, machine_of}
+use Rattle.network.specs.Standing.{IsStanding, Standing}
 use Rattle.network.proofs.Drawing.{own-on}
-use Rattle.network.proofs.network.Network.own.Goals as goal
+use Rattle.network.proofs.network.Network.own_events.Goals as goal
 
 pub returns-then-has : goal.returns-then-has
 returns-then-has g c =
