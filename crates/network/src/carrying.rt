@@ -1,4 +1,7 @@
 //! What was planned is done.
+//!
+//! Where a function here answers an `AllocError`, memory is short, and nothing happened but that the archive may
+//! have more.
 
 ghost use Rattle.std.specs.Prelude.{◌≡◌, ◌<◌, ◌≤◌, ◌+◌, ◌^◌, ◌++◌, ◌∷◌, [], IfErr, IfOk, List, None, OnErr, OnOk, Some, length, map, replicate, true};
 ghost use Rattle.std.specs.List.{All, remove};
@@ -50,8 +53,7 @@ impl<S: Shelf> Network<S> {
         }
     }
 
-    /// What was planned for an event is done and counted. An error says that memory is short; then the
-    /// network is as it was, but that the archive may have more.
+    /// What was planned for an event is done and counted.
     fn carry_out(&mut self, event: &Event, plan: Plan, copies: usize) -> Result<Applied, AllocError>
         requires { IsPlan self.old (step_of event.now) plan }
         ensures applied { IfOk result (IsApplied self.old (step_of event.now) copies self.new) }
@@ -117,8 +119,7 @@ fn count(events: &mut u64, bytes: &mut u64, opens: &mut u64, charge: &Charge)
     }
 }
 
-/// Does a deed, and counts it where it draws on a share of a node. An error says that memory is short; then
-/// nothing happened but that the archive may have more.
+/// Does a deed, and counts it where it draws on a share of a node.
 fn perform<S: Shelf>(
     alloc: Global,
     archive: &mut Archive<S>,
@@ -156,8 +157,7 @@ fn perform<S: Shelf>(
     }
 }
 
-/// One open slot more, of a number that none of them has. An error says that memory is short; then nothing
-/// happened.
+/// One open slot more, of a number that none of them has.
 fn open<S: Shelf>(
     alloc: Global,
     archive: &Archive<S>,
@@ -178,7 +178,7 @@ fn open<S: Shelf>(
     Ok(applied)
 }
 
-/// The open slot at this place is let go. An error says that memory is short; then nothing happened.
+/// The open slot at this place is let go.
 fn close<S: Shelf>(
     alloc: Global,
     archive: &Archive<S>,
@@ -199,8 +199,7 @@ fn close<S: Shelf>(
     Ok(applied)
 }
 
-/// One event of the node at these places. An error says that memory is short; then nothing happened but that
-/// the archive may have more.
+/// One event of the node at these places.
 fn act<S: Shelf>(
     archive: &mut Archive<S>,
     slots: &mut Vec<OpenSlot>,
@@ -226,8 +225,7 @@ fn act<S: Shelf>(
     })
 }
 
-/// The node at these places is handed an envelope, which is filed first. An error says that memory is short;
-/// then nothing happened but that the archive may have more.
+/// The node at these places is handed an envelope, which is filed first.
 fn hand<S: Shelf>(
     archive: &mut Archive<S>,
     slots: &mut Vec<OpenSlot>,
@@ -254,7 +252,7 @@ fn hand<S: Shelf>(
     })
 }
 
-/// Nothing is given out, in so many copies. An error says that memory is short.
+/// Nothing is given out, in so many copies.
 fn nothing<S: Shelf>(
     alloc: Global,
     archive: &Archive<S>,
@@ -270,7 +268,7 @@ fn nothing<S: Shelf>(
     })
 }
 
-/// So many empty lists of outs. An error says that memory is short.
+/// So many empty lists of outs.
 fn no_outs(alloc: Global, copies: usize) -> Result<Vec<Vec<Out>>, AllocError>
     ensures { IfOk result (λ v. map (λ w. w.items) v.items ≡ replicate copies []) }
 {
