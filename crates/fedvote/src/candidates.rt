@@ -42,10 +42,7 @@ pub fn better_named<'a>(
         Statement::Externalize {
             commit,
             high_counter,
-        } => {
-            let best = better(best, bound, LentBallot::of(commit));
-            better(best, bound, LentBallot::at(*high_counter, &commit.value))
-        }
+        } => better_ends(best, bound, commit, commit.counter, *high_counter),
     }
 }
 
@@ -77,10 +74,7 @@ pub fn better_committed<'a>(
         Statement::Externalize {
             commit,
             high_counter,
-        } => {
-            let best = better(best, bound, LentBallot::of(commit));
-            better(best, bound, LentBallot::at(*high_counter, &commit.value))
-        }
+        } => better_ends(best, bound, commit, commit.counter, *high_counter),
     }
 }
 

@@ -1,5 +1,4 @@
 use Rattle.std.proofs.Common.{◌∙◌, ◌∷◌, [], ap, sym}
-use Rattle.types.specs.declared.ballot.Ballot.{Ballot}
 use Rattle.types.specs.declared.statement.Statement.{Statement}
 use Rattle.protocol.specs.Candidates.{named_by}
 use Rattle.protocol.specs.States.{ballot_at}
@@ -11,9 +10,3 @@ pub returns-in-Commit : goal.returns-in-Commit
 returns-in-Commit c =
     one_first c.args.best c.args.bound.now c.better-best-in-Commit.result c.better_ends.result c.in-Commit.ballot (ballot_at c.in-Commit.prepared_counter c.in-Commit.ballot.value ∷ ballot_at c.in-Commit.high_counter c.in-Commit.ballot.value ∷ []) (simp c.of-in-Commit.ensures at c.better-best-in-Commit.ensures) c.better_ends.ensures
     ∙ ap (λ (s : Statement). bettered c.args.best c.args.bound.now (named_by s)) (sym c.in-Commit.is)
-
-pub returns-in-Externalize : goal.returns-in-Externalize
-returns-in-Externalize c =
-    one_first c.args.best c.args.bound.now c.better-best-in-Externalize.result c.better-in-Externalize.result c.in-Externalize.commit (c.at.result ∷ []) (simp c.of-in-Externalize.ensures at c.better-best-in-Externalize.ensures) c.better-in-Externalize.ensures
-    ∙ ap (λ (high : Ballot). bettered c.args.best c.args.bound.now (c.in-Externalize.commit ∷ high ∷ [])) c.at.ensures
-    ∙ ap (λ (s : Statement). bettered c.args.best c.args.bound.now (named_by s)) (sym c.in-Externalize.is)
