@@ -160,10 +160,10 @@ out_sync = search (sendable, crosses, value.the_sync) depth 40
 out_send : IsSend (FiledOut.the_row)
 out_send = search (sendable, crosses, value.the_send) depth 40
 
-event_sync : IsSync (Event.the_field.row)
+pub event_sync : IsSync (Event.the_field.row)
 event_sync = search (sendable, crosses, name.the_sync, bytes.the_sync, nested_sync, kind.the_field_sync) depth 40
 
-event_send : IsSend (Event.the_field.row)
+pub event_send : IsSend (Event.the_field.row)
 event_send = search (sendable, crosses, name.the_send, bytes.the_send, nested_send, kind.the_field_send) depth 40
 
 kept_event_sync : IsSync (KeptEvent.the_field.row)
@@ -205,6 +205,3 @@ module _ (S P : RattleType) (g : Ghosts S.Denot P.Denot) where
 
   pub world_sync : IsSync S → IsSync P → IsSync (World.the_row S P g)
   world_sync s p = let a = journal_sync s p in search (sendable, crosses) depth 40
-
-  pub world_send : IsSend S → IsSend P → IsSend (World.the_row S P g)
-  world_send s p = let a = journal_send s p in search (sendable, crosses) depth 40

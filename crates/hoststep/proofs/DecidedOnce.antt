@@ -27,7 +27,7 @@ none-there = omega (arith)
 one-there : 1 ≤ 1
 one-there = omega (arith)
 
-values-append : (xs ys : List Out) → values_in (xs ++ ys) ≡ values_in xs ++ values_in ys
+pub values-append : (xs ys : List Out) → values_in (xs ++ ys) ≡ values_in xs ++ values_in ys
 values-append [] ys = refl
 values-append (ArmNomination r ∷ xs) ys = values-append xs ys
 values-append (ArmBallot n ∷ xs) ys = values-append xs ys
@@ -46,9 +46,9 @@ ballot-timer : (b : Bool) (n : ℕ) → values_in (when b (ArmBallot n)) ≡ []
 ballot-timer true n = refl
 ballot-timer false n = refl
 
-sent : (n : Node) (old new : Option Statement) → values_in (emitted n old new) ≡ []
-sent n old None = refl
-sent n old (Some s) = go (same_sent old (Some s))
+pub no-values-emitted : (n : Node) (old new : Option Statement) → values_in (emitted n old new) ≡ []
+no-values-emitted n old None = refl
+no-values-emitted n old (Some s) = go (same_sent old (Some s))
   where
     go : (b : Bool) → values_in (if b then [] else Emit (record { sender = n.name; slot = n.slot; slices = n.slices; body = s }) ∷ []) ≡ []
     go true = refl
@@ -75,7 +75,7 @@ by-node old (Some new) =
     (emitted new (sent_nomination old.votes) (sent_nomination new.votes)) (emitted new (sent_vote old.votes) (sent_vote new.votes))
     (if is_now then decided new.votes.ballot else [])
     (round-timer is_round new.given.round) (ballot-timer is_armed new.votes.armed)
-    (sent new (sent_nomination old.votes) (sent_nomination new.votes)) (sent new (sent_vote old.votes) (sent_vote new.votes))
+    (no-values-emitted new (sent_nomination old.votes) (sent_nomination new.votes)) (no-values-emitted new (sent_vote old.votes) (sent_vote new.votes))
     (value is_now new.votes.ballot)
 
 at-place : (e : NodeEvent) (p : Option Place) → AtMostOne (outs_at e p)

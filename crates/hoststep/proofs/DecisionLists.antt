@@ -1,30 +1,18 @@
 -- What entries decided, with one entry more, and from one number on.
 use Rattle.std.proofs.Common.{◌≡◌, ℕ, zero, suc, ◌<◌, ◌≤◌, List, [], ◌∷◌, ◌++◌, length, refl, sym, ap, ◌∙◌, append_assoc, arith}
 use Rattle.std.proofs.lemmas.List.{append-nil}
-use Rattle.types.specs.declared.event.Out.{Out}
 use Rattle.protocol.specs.Hosts.{Entry}
-use Rattle.protocol.specs.Networks.{Step}
-use Rattle.hoststep.specs.Deciding.{Decided, decisions_at, decisions_by, decisions_from, decisions_in, decisions_of}
-use Rattle.hoststep.specs.Logs.{Log, extended}
+use Rattle.hoststep.specs.Deciding.{Decided, decisions_at, decisions_by, decisions_from, decisions_in}
 
 pub decisions_by-append : (xs ys : List Entry) → decisions_by (xs ++ ys) ≡ decisions_by xs ++ decisions_by ys
 decisions_by-append [] ys = refl
 decisions_by-append (x ∷ xs) ys = ap (λ (ds : List Decided). decisions_in x ++ ds) (decisions_by-append xs ys) ∙ sym (append_assoc (decisions_in x) (decisions_by xs) (decisions_by ys))
-
--- an entry more decides behind all others
-pub decisions_extended : (l : Log) (e : Step) (os : List Out) → decisions_of (extended l e os) ≡ decisions_of l ++ decisions_in (record { event = e; outs = os })
-decisions_extended l e os = decisions_by-append l.entries (record { event = e; outs = os } ∷ []) ∙ ap (λ (ds : List Decided). decisions_of l ++ ds) (append-nil _)
 
 -- from a number that has an entry on: that entry's, and those from the next number on
 pub decisions_from-next : (entries : List Entry) (n : ℕ) → n < length entries → decisions_from entries n ≡ decisions_at entries n ++ decisions_from entries (suc n)
 decisions_from-next [] n within = absurd (omega (arith, within))
 decisions_from-next (x ∷ xs) zero within = refl
 decisions_from-next (x ∷ xs) (suc n) within = decisions_from-next xs n (omega (arith, within))
-
--- past the last there are none
-pub decisions_from-end : (entries : List Entry) → decisions_from entries (length entries) ≡ []
-decisions_from-end [] = refl
-decisions_from-end (x ∷ xs) = decisions_from-end xs
 
 -- with an entry more
 pub decisions_from-extended : (entries : List Entry) (x : Entry) (n : ℕ) → n ≤ length entries → decisions_from (entries ++ x ∷ []) n ≡ decisions_from entries n ++ decisions_in x

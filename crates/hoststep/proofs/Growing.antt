@@ -33,7 +33,7 @@ use Rattle.hoststep.specs.Logs.{IsJournal, Log, extended}
 
 -- ---- runs
 -- an element of a list one longer stands in the old part, or is the new one
-slice_get-snoc : {A : Type 0} (xs : List A) (x y : A) (k : ℕ) → slice_get (xs ++ x ∷ []) k ≡ Some y → (slice_get xs k ≡ Some y) ⊎ ((k ≡ length xs) × (x ≡ y))
+pub slice_get-snoc : {A : Type 0} (xs : List A) (x y : A) (k : ℕ) → slice_get (xs ++ x ∷ []) k ≡ Some y → (slice_get xs k ≡ Some y) ⊎ ((k ≡ length xs) × (x ≡ y))
 slice_get-snoc [] x y zero e = inr (refl, cc)
 slice_get-snoc [] x y (suc k) e = absurd (cc)
 slice_get-snoc (z ∷ xs) x y zero e = inl e
@@ -45,7 +45,7 @@ unfolding net_after
 after-one [] net x = refl
 after-one (y ∷ ys) net x = after-one ys (net_step net y.event).0 x
 
-abbrev IsNext : Config → List Entry → Entry → Type 0
+abbrev pub IsNext : Config → List Entry → Entry → Type 0
 IsNext config before x = (refusal_of config before x.event ≡ None) × (x.outs ≡ outs_given config before x.event)
 
 pub run-grows : (config : Config) (es : List Entry) (x : Entry) → IsRun config es → IsNext config es x → IsRun config (es ++ x ∷ [])

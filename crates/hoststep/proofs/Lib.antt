@@ -1,11 +1,11 @@
 mod Begins
-mod Growing
+pub mod Growing
 mod Spelled
 pub mod Histories
 mod ByNumber
 mod OutsAt
 mod Configured
-mod SlicesThen
+pub mod SlicesThen
 pub mod DecidedOnce
 pub mod DecisionLists
 pub mod Crossing

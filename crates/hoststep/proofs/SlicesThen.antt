@@ -19,9 +19,9 @@ use Rattle.network.specs.Standing.{slices_at}
 
 -- ---- open slots
 -- a slot is open where its number is among those of the open ones
-numbered : (ss : List Slot) (i : ℕ) → is_some (places_at ss i) ≡ list_any (λ n. n == i) (numbers ss)
-numbered [] i = refl
-numbered (s ∷ ss) i = go (s.number == i) (numbered ss i)
+pub open-numbers : (ss : List Slot) (i : ℕ) → is_some (places_at ss i) ≡ list_any (λ n. n == i) (numbers ss)
+open-numbers [] i = refl
+open-numbers (s ∷ ss) i = go (s.number == i) (open-numbers ss i)
   where
     go : (b : Bool) → is_some (places_at ss i) ≡ list_any (λ n. n == i) (numbers ss) → is_some (if b then Some s.places else places_at ss i) ≡ (b || list_any (λ n. n == i) (numbers ss))
     go true h = refl
@@ -29,7 +29,7 @@ numbered (s ∷ ss) i = go (s.number == i) (numbered ss i)
 
 -- an event that neither opens nor closes a slot leaves open what is open
 still-open : (net : Net) (e : Step) (i : ℕ) → opened_after e (numbers net.slots) ≡ numbers net.slots → is_open (effect net e).0 i ≡ is_open net i
-still-open net e i same = numbered (effect net e).0.slots i ∙ ap (list_any (λ n. n == i)) ((effect-keeps net e).slots ∙ same) ∙ sym (numbered net.slots i)
+still-open net e i same = open-numbers (effect net e).0.slots i ∙ ap (list_any (λ n. n == i)) ((effect-keeps net e).slots ∙ same) ∙ sym (open-numbers net.slots i)
 
 -- new slices that nothing refuses come to an open slot
 open-there : (net : Net) (j w : ℕ) (new : Slices) → first_that (tests net (Reslices j w new)) ≡ None → is_open net j ≡ true

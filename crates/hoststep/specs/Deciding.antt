@@ -4,7 +4,6 @@ use Rattle.types.specs.declared.event.Out.{Out}
 use Rattle.types.specs.declared.event.Out.TheVariants.{ArmNomination, ArmBallot, Emit, Externalized}
 use Rattle.protocol.specs.Hosts.{Entry}
 use Rattle.network.specs.Marks.{place_named}
-use Rattle.hoststep.specs.Logs.{Log}
 use Rattle.hoststep.specs.declared.lent_decision.LentDecision.{LentDecision}
 
 -- a node externalized a value for a slot
@@ -43,10 +42,6 @@ decisions_at entries n = decisions_in_any (slice_get entries n)
 abbrev pub decisions_by : List Entry → List Decided
 decisions_by [] = []
 decisions_by (x ∷ xs) = decisions_in x ++ decisions_by xs
-
--- all that a journal decided, in order
-abbrev pub decisions_of : Log → List Decided
-decisions_of l = decisions_by l.entries
 
 -- what the entries from this number on decided
 abbrev pub decisions_from : List Entry → ℕ → List Decided
