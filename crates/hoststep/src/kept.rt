@@ -1,4 +1,6 @@
 //! Entries of a journal as they are kept, in places of its archive.
+//!
+//! Where a function here answers an error, memory is short.
 
 ghost use Rattle.std.specs.Prelude.{◌≡◌, ◌++◌, IfOk, IfSome, List, OnErr, OnOk, false, length, option_map, take};
 ghost use Rattle.codec.specs.Steps.{IsBytes};
@@ -163,8 +165,7 @@ fn count_bytes(bytes: &[u8]) -> u64
     bytes.len() as u64
 }
 
-/// The event as it came, a delivery with its bytes: they are the one spelling of its envelope. An error says
-/// that memory is short.
+/// The event as it came, a delivery with its bytes: they are the one spelling of its envelope.
 pub(crate) fn whole_event<S: Shelf>(
     alloc: Global,
     network: &Network<S>,
@@ -211,7 +212,7 @@ pub(crate) fn whole_event<S: Shelf>(
     }
 }
 
-/// The bytes of an envelope that was filed. An error says that memory is short.
+/// The bytes of an envelope that was filed.
 fn whole_bytes<S: Shelf>(
     alloc: Global,
     network: &Network<S>,
@@ -225,8 +226,8 @@ fn whole_bytes<S: Shelf>(
     Ok(Bytes::new(bytes))
 }
 
-/// Appends what was given out, with whole envelopes. An error says that memory is short; then what was there
-/// stands in front of what was appended by then.
+/// Appends what was given out, with whole envelopes. With an error what was there stands in front of what was
+/// appended by then.
 pub(crate) fn push_whole_outs<S: Shelf>(
     alloc: Global,
     network: &Network<S>,
@@ -243,7 +244,7 @@ pub(crate) fn push_whole_outs<S: Shelf>(
     Ok(())
 }
 
-/// One of what was given out, with its whole envelope. An error says that memory is short.
+/// One of what was given out, with its whole envelope.
 fn whole_out<S: Shelf>(
     alloc: Global,
     network: &Network<S>,
