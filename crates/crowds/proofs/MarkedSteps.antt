@@ -1,6 +1,5 @@
 -- The steps of marked events, event after event, and where two submissions part.
-use Rattle.std.proofs.Common.{◌≡◌, ◌≢◌, ℕ, zero, suc, ◌+◌, ◌<◌, ◌≤◌, Bool, true, false, ◌==◌, List, [], ◌∷◌, length, map, filter, drop, get_or, slice_get, Some, if◌then◌else◌, refl, ◌∙◌, ap, ap₂, subst, arith}
-use Rattle.std.proofs.lemmas.Bool.{and_parts}
+use Rattle.std.proofs.Common.{◌≡◌, ◌≢◌, ℕ, zero, suc, ◌+◌, ◌<◌, ◌≤◌, Bool, true, false, List, [], ◌∷◌, length, map, filter, drop, get_or, slice_get, Some, if◌then◌else◌, refl, ◌∙◌, ap, ap₂, arith}
 use Rattle.std.proofs.lemmas.List.{drop_all}
 use Rattle.std.proofs.lemmas.Option.{slice_get-get_or, slice_get_within}
 use Rattle.types.specs.declared.event.Event.{Event}
@@ -116,11 +115,3 @@ module _ (R : Names) (i g : ℕ) where
   readable (NominationTimes j u r) h = tt
   readable (BallotTimes j u n) h = tt
   readable (Reslices j u q) h = tt
-
-  pub marked_readable : (calls : Calls) → AreReadable (map (is_asked R i g) calls) calls
-  marked_readable [] k c p q = cc
-  marked_readable (x ∷ xs) zero c p q =
-      let is : is_asked R i g x ≡ true = cc in
-      let same : x ≡ c = cc in
-      subst (λ (y : ℕ × Event). IsReadable (step_of y.1)) same (readable (step_of x.1) (and_parts (x.0 == g) (concerns R i (step_of x.1)) is).1)
-  marked_readable (x ∷ xs) (suc k) c p q = marked_readable xs k c p q
