@@ -138,7 +138,7 @@ impl<S: Shelf, H: Wait + Drop> Desk<S, H> {
         match self.journal.apply_recorded(event) {
             Ok(recorded) => {
                 let network = self.journal.config().number();
-                let (receipt, answer) = split(network, recorded);
+                let (receipt, answer) = receipt_and_outs(network, recorded);
                 let made = Snapshot::of(&receipt);
                 receipts.push_reserved(receipt);
                 Ok(Entered { made, answer })
@@ -149,7 +149,7 @@ impl<S: Shelf, H: Wait + Drop> Desk<S, H> {
 }
 
 /// The receipt of an entry of this network, and the outs for the answer.
-fn split(network: u32, recorded: Recorded) -> (Receipt, Vec<Out>)
+fn receipt_and_outs(network: u32, recorded: Recorded) -> (Receipt, Vec<Out>)
     ensures receipt { result.0 ≡ record { network = network; number = recorded.number; event = recorded.event; outs = recorded.outs.items; marks = recorded.marks.items } }
     ensures answer { result.1 ≡ recorded.answer }
 {
