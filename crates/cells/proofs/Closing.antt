@@ -1,7 +1,7 @@
 -- What the close finds.
-use Rattle.std.proofs.Common.{◌≡◌, ℕ, zero, suc, ◌+◌, ◌<◌, ◌≤◌, Bool, true, false, List, [], ◌∷◌, ◌++◌, length, take, drop, map, Some, refl, sym, ap, ◌∙◌, subst, arith, slice_get}
+use Rattle.std.proofs.Common.{◌≡◌, ℕ, zero, suc, ◌+◌, ◌<◌, ◌≤◌, Bool, true, List, [], ◌∷◌, ◌++◌, length, take, drop, map, Some, refl, sym, ap, ◌∙◌, subst, arith, slice_get}
 use mathlib.Core.List.{IsPrefix}
-use Rattle.std.proofs.lemmas.List.{append-nil}
+use Rattle.std.proofs.lemmas.List.{append-nil, drop_all}
 use Rattle.std.proofs.Math.Seq.{take-append_seam}
 use Rattle.protocol.specs.Hosts.{Config, Entry}
 use Rattle.hoststep.specs.Logs.{Log}
@@ -18,9 +18,6 @@ use Rattle.std.proofs.lemmas.List.Edits.{map_over_more}
 
 pub keeps_shown : (b v w n : Known) → Keeps b v → w ≡ shown v n → Keeps b w
 keeps_shown b v w n k is = subst (Keeps b) (sym is) (record { holding = k.holding; live = k.live; known = k.known; opens = k.opens; config = k.config; all = k.all; owners = k.owners; over = k.over; stopper = k.stopper })
-
-pub keeps_taken : (v x : Known) → x.holding ≡ true → x.live ≡ false → x.known ≡ true → x.opens ≡ false → Keeps x x
-keeps_taken v x holding live known opens = record { holding = holding; live = live; known = known; opens = opens; config = refl; all = refl; owners = refl; over = refl; stopper = refl }
 
 pub told_by : (b v w : Known) → Keeps b v → Told v.config v.all v.owners v.over v.stopper w → Told b.config b.all b.owners b.over b.stopper w
 told_by b v w k t = subst (λ (y : Config × List Entry × List ℕ × Bool × ℕ). Told y.0 y.1 y.2 y.3 y.4 w) (λ i. (k.config i, k.all i, k.owners i, k.over i, k.stopper i)) t
@@ -48,12 +45,6 @@ gathered c n d v w xs now i t config seats is whole all =
       within = λ s. subst (λ (k : ℕ). w.stopper < k) seats (t.stopper (over ∙ s));
       told = subst (λ (y : Config × List Entry × Bool × List Sight). AllSeats (λ s. Told y.0 y.1 w.owners y.2 w.stopper s.me × IsSound s.me × (s.me.config ≡ y.0)) y.3) (λ j. (same j, entries j, over j, sym now_is j)) all;
     }
-  where
-    drop_all : (k : ℕ) (l : List Sight) → length l ≤ k → drop k l ≡ []
-    drop_all zero [] h = refl
-    drop_all (suc k) [] h = refl
-    drop_all zero (x ∷ l) h = absurd (omega arith)
-    drop_all (suc k) (x ∷ l) h = drop_all k l (omega arith)
 
 get_map : (l : List Sight) (i : ℕ) (s : Sight) → slice_get l i ≡ Some s → slice_get (map ended_sight l) i ≡ Some (ended_sight s)
 get_map [] i s e = absurd (cc)

@@ -21,10 +21,6 @@ abbrev count : List ℕ → ℕ → ℕ
 count [] k = 0
 count (o ∷ os) k = hit o k + count os k
 
-below_same : (f h : ℕ → ℕ) (n : ℕ) → ((k : ℕ) → f k ≡ h k) → below f n ≡ below h n
-below_same f h zero same = refl
-below_same f h (suc n) same = let a = same n in let b = below_same f h n same in omega arith
-
 below_plus : (f h : ℕ → ℕ) (n : ℕ) → below (λ k. f k + h k) n ≡ below f n + below h n
 below_plus f h zero = refl
 below_plus f h (suc n) = let b = below_plus f h n in omega arith

@@ -2,18 +2,15 @@
 use denote.RattleType.{RattleType}
 use denote.Param.Send.{IsSend, IsSync, sendable}
 use Rattle.std.proofs.Crossing.{crosses}
-use Rattle.types.proofs.bytes.Bytes.TheSendSync as bytes
-use Rattle.types.proofs.kind.Kind.TheSendSync as kind
 use Rattle.types.proofs.node_id.NodeId.TheSendSync as name
 use Rattle.types.proofs.statement.Statement.TheSendSync as statement
 use Rattle.types.proofs.value.Value.TheSendSync as value
 use Rattle.types.specs.contracts.envelope.Envelope as Envelope
-use Rattle.types.specs.contracts.event.Event as Event
 use Rattle.types.specs.contracts.event.Out as Out
 use Rattle.envstore.specs.declared.shelf.Places.{Ghosts}
 use Rattle.envstore.specs.declared.shelf.Shelf.{Ghosts as ShelfGhosts}
 use Rattle.decisions.proofs.publisher.Publisher.TheSendSync as publisher
-use Rattle.hoststep.proofs.Crossing.{config_send, config_sync, journal_send, nested_send}
+use Rattle.hoststep.proofs.Crossing.{config_send, config_sync, event_send, journal_send, nested_send}
 use Rattle.atomic_table.proofs.shared.Seat.TheSendSync as pass
 use Rattle.crossbeam_queue.proofs.array_queue.Slotted.TheSendSync as queue
 use Rattle.std.specs.declared.sync.Wait.{Ghosts as WaitGhosts}
@@ -23,14 +20,11 @@ use Rattle.cells.specs.contracts.receipt.Receipt as Receipt
 use Rattle.cells.specs.contracts.seat.Seat as Seat
 use Rattle.cells.specs.contracts.watched.WatchedJournal as WatchedJournal
 
-envelope_send : IsSend (Envelope.the_row)
+pub envelope_send : IsSend (Envelope.the_row)
 envelope_send = search (sendable, crosses, name.the_send, nested_send, statement.the_field_send) depth 40
 
 out_send : IsSend (Out.the_field.row)
 out_send = search (sendable, crosses, envelope_send, value.the_send) depth 40
-
-event_send : IsSend (Event.the_field.row)
-event_send = search (sendable, crosses, name.the_send, bytes.the_send, nested_send, kind.the_field_send) depth 40
 
 receipt_send : IsSend (Receipt.the_row)
 receipt_send = search (sendable, crosses, event_send, out_send) depth 40

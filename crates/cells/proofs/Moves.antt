@@ -20,9 +20,6 @@ off e = absurd (true≢false (sym e))
 is_or_not : (b : Bool) → (b ≡ true) ⊎ (b ≡ false)
 is_or_not b = elim b as (λ v. (v ≡ true) ⊎ (v ≡ false)) [ true ↦ inl refl | false ↦ inr refl ]
 
-prefix_refl : (l : List Entry) → IsPrefix l l
-prefix_refl l = ([], append-nil l)
-
 pub prefix_more : (a l : List Entry) (e : Entry) → IsPrefix a l → IsPrefix a (l ++ e ∷ [])
 prefix_more a l e p = (p.0 ++ e ∷ [], sym (append_assoc a p.0 (e ∷ [])) ∙ ap (λ (x : List Entry). x ++ e ∷ []) p.1)
 
@@ -87,6 +84,10 @@ empties id v mine items views h at =
     let f = w.1.fit id v at in
     ⊎_elim (λ (m : v.holding ≡ true). w.1.away (f.holding m).free) (λ (m : v.opening ≡ true). off (sym f.opening ∙ m)) mine)
     h
+
+-- what is put back is the desk that is named, and the view is then the one that is named
+pub pushed_as : (id : ℕ) (v w next : Known) (d desk : DeskSight) → desk ≡ d → next ≡ w → Pushes Holds 1 id v d (λ u. u ≡ w) → Pushes Holds 1 id v desk (λ u. u ≡ next)
+pushed_as id v w next d desk is named h = subst (λ (y : DeskSight × Known). Pushes Holds 1 id v y.0 (λ u. u ≡ y.1)) (λ i. (sym is i, sym named i)) h
 
 -- the opening
 abbrev first_world : Config → ℕ → World

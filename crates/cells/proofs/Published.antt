@@ -1,9 +1,8 @@
 -- What is published, waits, and is still in the journal alone, with each step.
-use Rattle.std.proofs.Common.{◌≡◌, ℕ, zero, suc, ◌+◌, ◌<◌, ◌≤◌, List, [], ◌∷◌, ◌++◌, drop, length, map, replicate, refl, sym, ap, ◌∙◌, subst, arith, append_assoc, length-append, Result, Ok, Err, is_ok, Bool, true, true≢false}
+use Rattle.std.proofs.Common.{◌≡◌, ℕ, suc, ◌+◌, ◌<◌, ◌≤◌, List, [], ◌∷◌, ◌++◌, length, map, sym, ap, ◌∙◌, subst, arith, append_assoc, length-append, Result, Ok, Err, is_ok, Bool, true, true≢false}
 use Rattle.std.specs.Prelude.{IfOk, OnErr, OnOk}
 use Rattle.std.proofs.lemmas.List.{append-nil, length-map, map-append}
 use mathlib.Core.List.{IsPrefix}
-use Rattle.types.specs.declared.event.Out.{Out}
 use Rattle.types.specs.declared.event.Refusal.{Refusal}
 use Rattle.protocol.specs.Hosts.{Config, Entry}
 use Rattle.protocol.specs.Networks.{Step}
@@ -13,7 +12,7 @@ use Rattle.hoststep.specs.Deciding.{Decided, decisions_at, decisions_by, decisio
 use Rattle.hoststep.specs.Logs.{Log, extended}
 use Rattle.hoststep.specs.declared.recorded.Recorded.{Recorded}
 use Rattle.hoststep.proofs.DecidedOnce.{decisions-few}
-use Rattle.hoststep.proofs.DecisionLists.{decisions_by-append, decisions_from-end, decisions_from-extended, decisions_from-next}
+use Rattle.hoststep.proofs.DecisionLists.{decisions_by-append, decisions_from-extended, decisions_from-next}
 use Rattle.cells.specs.Publishing.{IsPublished, IsToldBut, as_published, decisions_known}
 
 next : (entries : List Entry) (n : ℕ) → n < length entries → decisions_from entries n ≡ decisions_at entries n ++ decisions_from entries (n + 1)
@@ -38,10 +37,6 @@ one_more_waits entries n p q d h lt is shown waiting =
           ∙ ap (λ (ds : List Decided). p.0 ++ p.1 ++ map as_published ds) (sym split) ∙ h.all;
     }
 
--- the same decisions, others of which are published
-pub same_published : (entries : List Entry) (n : ℕ) (p q : List Decision × List Decision) → q.0 ++ q.1 ≡ p.0 ++ p.1 → IsPublished entries n p → IsPublished entries n q
-same_published entries n p q same h = record { within = h.within; all = ap (λ (l : List Decision). l ++ map as_published (decisions_from entries n)) same ∙ h.all }
-
 -- with an entry more
 pub entry_more : (entries : List Entry) (x : Entry) (n : ℕ) (p : List Decision × List Decision) → IsPublished entries n p → IsPublished (entries ++ x ∷ []) n p
 entry_more entries x n p h =
@@ -59,10 +54,6 @@ pub after_event : (old new : Log) (e : Step) (n : ℕ) (p : List Decision × Lis
     → IsPublished old.entries n p → IsPublished new.entries n p
 after_event old new e n p (Ok x) ok err h = subst (λ (l : Log). IsPublished l.entries n p) (sym ok) (entry_more old.entries (record { event = e; outs = x.outs.items }) n p h)
 after_event old new e n p (Err x) ok err h = subst (λ (l : Log). IsPublished l.entries n p) (sym err) h
-
--- nothing has happened, and nothing is appended
-pub nothing_yet : (entries : List Entry) (p : List Decision × List Decision) → entries ≡ [] → p.0 ≡ [] → p.1 ≡ [] → IsPublished entries 0 p
-nothing_yet entries p none shown waiting = subst (λ (l : List Entry). IsPublished l 0 p) (sym none) (record { within = omega arith; all = λ i. shown i ++ waiting i ++ [] })
 
 -- what is published is a beginning
 pub published_begins : (entries : List Entry) (n : ℕ) (p : List Decision × List Decision) → IsPublished entries n p → IsPrefix p.0 (decisions_known entries)
@@ -90,10 +81,6 @@ few_wait config entries n p run h =
 -- how many there are from a number on
 pub count_next : (entries : List Entry) (n : ℕ) → n < length entries → length (decisions_from entries n) ≡ length (decisions_at entries n) + length (decisions_from entries (n + 1))
 count_next entries n lt = ap length (next entries n lt) ∙ length-append (decisions_at entries n) (decisions_from entries (n + 1))
-
-pub replicate_more : {A : Type 0} (n : ℕ) (x : A) → replicate n x ++ x ∷ [] ≡ replicate (suc n) x
-replicate_more zero x = refl
-replicate_more (suc n) x = ap (λ (l : List _). x ∷ l) (replicate_more n x)
 
 -- what came of the attempt to append it
 pub appended : {T E : Type 0} (entries : List Entry) (n : ℕ) (p q : List Decision × List Decision) (d : Decided) (x : Decision) (r : Result T E) (b : Bool) → IsPublished entries n p → n < length entries → d ∷ [] ≡ decisions_at entries n

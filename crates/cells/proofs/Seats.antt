@@ -1,5 +1,5 @@
 -- What each seat knows stays right.
-use Rattle.std.proofs.Common.{◌≡◌, ◌⊎◌, ℕ, zero, suc, ◌+◌, ◌<◌, ◌≤◌, Bool, true, false, List, [], ◌∷◌, ◌++◌, length, take, Some, refl, sym, ap, ◌∙◌, subst, inl, inr, ⊎_elim, arith, length-append, append_assoc, slice_get}
+use Rattle.std.proofs.Common.{◌≡◌, ℕ, zero, suc, ◌+◌, ◌<◌, ◌≤◌, Bool, true, false, List, [], ◌∷◌, ◌++◌, length, take, Some, refl, sym, ap, ◌∙◌, subst, inl, inr, ⊎_elim, arith, length-append, append_assoc, slice_get}
 use mathlib.Core.List.{IsPrefix}
 use Rattle.std.proofs.lemmas.List.{take-append-le}
 use Rattle.std.proofs.Math.Seq.{take-append_seam, take-length}
@@ -16,17 +16,12 @@ use Rattle.protocol.specs.Hosts.{Config, Entry}
 use Rattle.cells.specs.declared.refusal.CellRefusal.{CellRefusal}
 use Rattle.cells.specs.Receipts.{Applied, Extract, entry_of, extract, extract_of, receipt}
 use Rattle.cells.specs.Views.{Denial, DeskSight, Known}
-use Rattle.cells.specs.Rule.{denial, IsTaken, added, denied, looked, stopped, HasDesk, fresh, ended}
+use Rattle.cells.specs.Rule.{denial, IsTaken, added, denied, looked, stopped, fresh}
 use Rattle.cells.specs.Sights.{Sight}
 use Rattle.cells.specs.Sounds.{Stands, IsRight, IsWhy, refused_by, AllStand, AllRight, IsRising, IsSound, IsFree, IsSeat}
 use Rattle.cells.specs.Cells.{AllFresh, IsSeatOf}
 use Rattle.cells.specs.Closing.{AllSeats, ended_sight}
-
-slice_get-snoc : {A : Type 0} (l : List A) (x y : A) (k : ℕ) → slice_get (l ++ x ∷ []) k ≡ Some y → (slice_get l k ≡ Some y) ⊎ ((k ≡ length l) × (x ≡ y))
-slice_get-snoc [] x y zero e = inr (refl, cc)
-slice_get-snoc [] x y (suc k) e = absurd (cc)
-slice_get-snoc (z ∷ l) x y zero e = inl e
-slice_get-snoc (z ∷ l) x y (suc k) e = ⊎_elim (λ h. inl h) (λ h. inr (ap suc h.0, h.1)) (slice_get-snoc l x y k e)
+use Rattle.hoststep.proofs.Growing.{slice_get-snoc}
 
 get_front : {A : Type 0} (xs ys : List A) (k : ℕ) (p : A) → slice_get xs k ≡ Some p → slice_get (xs ++ ys) k ≡ Some p
 get_front [] ys k p e = absurd (cc)
@@ -71,10 +66,6 @@ rising_snoc config a n [] r up all le far = (le, tt)
 rising_snoc config a n (x ∷ xs) r up all le far =
     let within : x.number < length a = slice_get_within a x.number all.0.0 all.0.1 in
     (up.0, rising_snoc config a (suc x.number) xs r up.1 all.1 (omega arith) far)
-
--- the seat that has the desk
-pub has_desk : (v : Known) (x : DeskSight) (w : Known) → IsFree v → v.closed ≡ false → IsTaken v x w → HasDesk w
-has_desk v x w f open_yet t = subst (λ (u : Known). HasDesk u) (sym t.now) (record { known = f.known; live = f.live; claims = f.claims; opens = f.opens; closed = open_yet; holding = refl })
 
 -- what a seat claims is right of all that it sees at the desk
 sound_seen : (v : Known) (x : DeskSight) (w : Known) (over : Bool) (stops : ℕ) → IsFree v → IsSound v → IsTaken v x w → (v.stopped ≡ true → over ≡ true)
@@ -188,19 +179,6 @@ seat_fresh p config seats n slot is = record {
   free = subst IsFree (sym is) (record { known = refl; live = refl; claims = refl; opens = refl; holding = refl });
   sound = subst IsSound (sym is) (record { stand = tt; rising = tt; right = tt });
 }
-
--- one that has ended
-pub seat_ended : (p q : Pass DeskSight Known) (n : ℕ) (rs : List Applied) → IsSeat p n rs → q.me.1 ≡ p.me.1 → view q ≡ ended (view p) → IsSeat q n rs
-seat_ended p q n rs s slot is =
-    let f = s.free in
-    let o = s.sound in
-    record {
-      no_slot = slot ∙ s.no_slot;
-      number = ap (λ (y : Known). y.number) is ∙ s.number;
-      receipts = ap (λ (y : Known). y.receipts) is ∙ s.receipts;
-      free = subst IsFree (sym is) (record { known = f.known; live = f.live; claims = f.claims; opens = f.opens; holding = f.holding });
-      sound = subst IsSound (sym is) (record { stand = o.stand; rising = o.rising; right = o.right });
-    }
 
 pub seat_same : (p q : Pass DeskSight Known) (n : ℕ) (rs : List Applied) → IsSeat p n rs → q.me.1 ≡ p.me.1 → view q ≡ view p → IsSeat q n rs
 seat_same p q n rs s slot is = record {

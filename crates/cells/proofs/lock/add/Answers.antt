@@ -1,11 +1,5 @@
-use Rattle.std.proofs.Common.{sym, subst, ◌≡◌}
-use Rattle.crossbeam_queue.specs.Fifo.{Pushes}
-use Rattle.crossbeam_queue.specs.Passes.{view}
-use Rattle.cells.specs.Rule.{Holds}
-use Rattle.cells.specs.Views.{DeskSight, Known}
-use Rattle.cells.proofs.Moves.{adds}
+use Rattle.cells.proofs.Moves.{adds, pushed_as}
 use Rattle.cells.proofs.lock.add.Goals as goal
 
 pub give-requires-clause-rule : goal.give-requires-clause-rule
-give-requires-clause-rule g c =
-    subst (λ (y : DeskSight × Known). Pushes Holds 1 c.args.pass.now.id (view c.args.pass.now) y.0 (λ w. w ≡ y.1)) (λ i. (sym c.requires.desk i, sym c.requires.next i)) (adds _ _ _ c.requires.sits c.requires.made)
+give-requires-clause-rule g c = pushed_as _ _ _ _ _ _ c.requires.desk c.requires.next (adds _ _ _ c.requires.sits c.requires.made)

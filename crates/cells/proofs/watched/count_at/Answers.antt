@@ -1,4 +1,4 @@
-use Rattle.std.proofs.Common.{◌≡◌, Option, length, sym, ap, ◌∙◌, option_map, option_to_list}
+use Rattle.std.proofs.Common.{Option, length, sym, ap, ◌∙◌, option_map, option_to_list}
 use Rattle.hoststep.specs.Deciding.{decided_by}
 use Rattle.hoststep.specs.declared.lent_decision.LentDecision.{LentDecision}
 use Rattle.cells.proofs.watched.count_at.Goals as goal

@@ -1,4 +1,4 @@
-use Rattle.std.proofs.Common.{◌≡◌, ◌<◌, length, arith}
+use Rattle.std.proofs.Common.{◌<◌, length, arith}
 use Rattle.cells.proofs.Published.{count_next}
 use Rattle.cells.proofs.watched.count_decisions.Goals as goal
 

@@ -1,4 +1,4 @@
-use Rattle.std.proofs.Common.{◌≡◌, ℕ, ◌+◌, length, subst, ap, ◌∙◌, arith}
+use Rattle.std.proofs.Common.{ℕ, ◌+◌, length, subst, ap, ◌∙◌, arith}
 use Rattle.hoststep.specs.Deciding.{decisions_from}
 use Rattle.hoststep.specs.Logs.{Log}
 use Rattle.cells.specs.Publishing.{IsToldBut}
