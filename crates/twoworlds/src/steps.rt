@@ -68,17 +68,17 @@ fn node_of(step: &LentEvent<'_>, slot: u64) -> Option<NodeId>
     match step {
         LentEvent::OpenSlot { .. } => None,
         LentEvent::CloseSlot { .. } => None,
-        LentEvent::Propose { slot: at, node, .. } => when(*at == slot, node),
-        LentEvent::Deliver { node, envelope, .. } => when(envelope.slot() == slot, node),
-        LentEvent::Hear { slot: at, node, .. } => when(*at == slot, node),
-        LentEvent::NominationTimer { slot: at, node, .. } => when(*at == slot, node),
-        LentEvent::BallotTimer { slot: at, node, .. } => when(*at == slot, node),
-        LentEvent::Reslice { slot: at, node, .. } => when(*at == slot, node),
+        LentEvent::Propose { slot: at, node, .. } => node_if(*at == slot, node),
+        LentEvent::Deliver { node, envelope, .. } => node_if(envelope.slot() == slot, node),
+        LentEvent::Hear { slot: at, node, .. } => node_if(*at == slot, node),
+        LentEvent::NominationTimer { slot: at, node, .. } => node_if(*at == slot, node),
+        LentEvent::BallotTimer { slot: at, node, .. } => node_if(*at == slot, node),
+        LentEvent::Reslice { slot: at, node, .. } => node_if(*at == slot, node),
     }
 }
 
 /// The node, where the test holds.
-fn when(holds: bool, node: &NodeId) -> Option<NodeId>
+fn node_if(holds: bool, node: &NodeId) -> Option<NodeId>
     ensures { result ≡ at_slot holds node.now }
 {
     if holds { Some(*node) } else { None }
