@@ -13,11 +13,11 @@ use Rattle.protocol.specs.Isolation.{closure, kept_of, outs_of, SameCast}
 use Rattle.protocol.specs.Verdicts.{IsFirstDifference, IsListOf, IsVerdict}
 use Rattle.protocol.proofs.Sets.Contained.{contains_head, contains_tail, contained_cases}
 use Rattle.closure.specs.Announcing.{Listed, names_of, IsClosureList}
-use Rattle.twoworlds.specs.declared.verdict.Verdict.TheVariants.{CastDiffers, InputsDiffer, Same}
-use Rattle.differences.specs.Hosting.{AreAlike, IsLeastUnlike}
+use Rattle.twoworlds.specs.declared.verdict.Verdict.TheVariants.{InputsDiffer, Same}
+use Rattle.differences.specs.Hosting.{AreAlike}
 use Rattle.hoststep.specs.Logs.{Log}
 use Rattle.protocol.specs.Runs.{IsRun}
-use Rattle.protocol.proofs.Sets.RuleLists.{least-start}
+use Rattle.protocol.proofs.Runs.KeptWithin.{closure-start}
 use Rattle.protocol.proofs.Verdicts.IsolatedRuns.{isolated_runs}
 use Rattle.twoworlds.specs.declared.verdict.Verdict.{Verdict}
 use Rattle.twoworlds.specs.Meanings.{AreIsolated, IsVerdictOn, hosts_in, meant}
@@ -96,10 +96,6 @@ AreIsolatedRuns one other run others i v =
     let R = closure one i v run in
     SameCast R v one other → kept_of R i run ≡ kept_of R i others → (u : ℕ) → IsTrue (R u) → outs_of i u run ≡ outs_of i u others
 
-pub closure-start : (hosts : List Host) (i v : ℕ) (run : List Entry) → closure hosts i v run v ≡ true
-unfolding closure
-closure-start hosts i v run = least-start _ v
-
 -- ---- isolation of two journals, and where a world has none
 pub isolated_both : (one other : Log) (i v : ℕ) → IsRun one.config one.entries → IsRun other.config other.entries → AreIsolated (Some one) (Some other) i v
 isolated_both one other i v a b = isolated_runs one.config other.config one.entries other.entries i v a b
@@ -107,22 +103,13 @@ isolated_both one other i v a b = isolated_runs one.config other.config one.entr
 pub isolated_alone : (one : Log) (i v : ℕ) → AreIsolated (Some one) None i v
 isolated_alone one i v cast same u m = absurd (true≢false (sym cast.hosted ∙ ap is_some (cast.same v (closure-start one.config.hosts i v one.entries))))
 
-pub isolated_nowhere : (other : Option Log) (i v : ℕ) → AreIsolated None other i v
-isolated_nowhere other i v cast same u m = absurd (false≢true cast.hosted)
-
 module _ (one other : List Host) (run others : List Entry) (i v : ℕ) where
-  pub judged_nobody : is_some (slices_of one v) ≡ false → IsVerdictOf one other run others i v (CastDiffers v)
-  judged_nobody h = inl (h, refl)
-
   module _ (list : Listed) (c : IsClosureList one i v run list) (hosted : is_some (slices_of one v) ≡ true) where
     abbrev here : Names
     here = among (names_of list)
 
     set_is : here ≡ closure one i v run
     set_is = fun_ext c.exactly
-
-    pub judged_unlike : (u : ℕ) → IsLeastUnlike one other (names_of list) u → IsVerdictOf one other run others i v (CastDiffers u)
-    judged_unlike u h = inr (hosted, (sym (c.exactly u) ∙ h.member, (h.bad, λ w m l. h.least w (c.exactly w ∙ m) l)))
 
     cast : AreAlike one other (names_of list) → SameCast (closure one i v run) v one other
     cast a = record { hosted = hosted; same = λ u m. a u (c.exactly u ∙ m) }

@@ -88,8 +88,6 @@ each_length i run [] = refl
 each_length i run (u ∷ us) = ap (λ n. suc n) (each_length i run us)
 
 -- ---- where an entry is noted
-pub noted_no_node : (i : ℕ) (x : Entry) (list : List ℕ) (old : List (ℕ × List Out)) → node_of i x.event ≡ None → IsNoted i x list old old
-noted_no_node i x list old e = nobody (λ k u h. is_of_is i u x.event ∙ ap (λ (o : Option ℕ). is_node o u) e) refl
 
 is_here : (i w u : ℕ) (x : Entry) → node_of i x.event ≡ Some w → is_of i u x.event ≡ (w == u)
 is_here i w u x e = is_of_is i u x.event ∙ ap (λ (o : Option ℕ). is_node o u) e

@@ -9,7 +9,7 @@ use Rattle.protocol.specs.Verdicts.Verdict.{CastDiffers, InputsDiffer, Same}
 use Rattle.network.specs.Decoding.{reading}
 use Rattle.hoststep.specs.Logs.{Log}
 use Rattle.hoststep.specs.Worlds.{IsToldBy, log_at}
-use Rattle.twoworlds.proofs.Judging.{closure-start}
+use Rattle.protocol.proofs.Runs.KeptWithin.{closure-start}
 use Rattle.twoworlds.specs.Meanings.{IsVerdictBetween, IsVerdictOn, entries_in, hosts_in, meant}
 use Rattle.twoworlds.specs.declared.verdict.Verdict as code
 

@@ -2,7 +2,7 @@ use denote.Param.{param}
 use denote.Param.Send.{IsSync, sendable}
 use Rattle.hoststep.specs.contracts.world.World as World
 use Rattle.std.proofs.Crossing.{crosses}
-use Rattle.std.proofs.Common.{◌≡◌, ◌∙◌, ap, subst, ℕ, List, IfOk}
+use Rattle.std.proofs.Common.{◌∙◌, ap, subst, ℕ, List, IfOk}
 use Rattle.rayon.proofs.ToStd.{slice-AllZip}
 use Rattle.hoststep.specs.Logs.{Log}
 use Rattle.hoststep.specs.Worlds.{log_at}
