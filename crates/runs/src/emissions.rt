@@ -67,7 +67,7 @@ impl OpenSlot {
     }
 
     /// The first emission that has not been handed on.
-    pub fn waiting(&self) -> Option<Emission>
+    pub fn first_waiting(&self) -> Option<Emission>
         ensures first { result ≡ waits self.now }
         ensures small { IfSome result (λ _. self.now.handed < 2 ^ 63) }
     {

@@ -66,7 +66,7 @@ fn propose(alloc: Global, fields: &[&[u8]]) -> Result<Option<Event>, AllocError>
     let Some((slot, node, value)) = three_of(fields) else {
         return Ok(None);
     };
-    let Some((slot, node)) = place_of(slot, node) else {
+    let Some((slot, node)) = place_in(slot, node) else {
         return Ok(None);
     };
     let Some(value) = proposal_of(alloc, value)? else {
@@ -122,14 +122,14 @@ fn say(alloc: Global, fields: &[&[u8]]) -> Result<Option<Event>, AllocError>
     let Some(node) = name_of(node) else {
         return Ok(None);
     };
-    match said(alloc, from, slot, slices, statement)? {
+    match envelope_bytes(alloc, from, slot, slices, statement)? {
         Some(bytes) => Ok(Some(Event::Deliver { node, bytes })),
         None => Ok(None),
     }
 }
 
 /// The bytes of the envelope of these words.
-fn said(
+fn envelope_bytes(
     alloc: Global,
     from: &[u8],
     slot: &[u8],
@@ -179,7 +179,7 @@ fn hear(fields: &[&[u8]]) -> Option<Event>
     let Some((slot, node, from, kind, number)) = five_of(fields) else {
         return None;
     };
-    let Some((slot, node)) = place_of(slot, node) else {
+    let Some((slot, node)) = place_in(slot, node) else {
         return None;
     };
     match emission_of(from, kind, number) {
@@ -228,7 +228,7 @@ fn nomination_timer(fields: &[&[u8]]) -> Option<Event>
     let Some((slot, node, round)) = three_of(fields) else {
         return None;
     };
-    let Some((slot, node)) = place_of(slot, node) else {
+    let Some((slot, node)) = place_in(slot, node) else {
         return None;
     };
     match counter_of(round) {
@@ -244,7 +244,7 @@ fn ballot_timer(fields: &[&[u8]]) -> Option<Event>
     let Some((slot, node, counter)) = three_of(fields) else {
         return None;
     };
-    let Some((slot, node)) = place_of(slot, node) else {
+    let Some((slot, node)) = place_in(slot, node) else {
         return None;
     };
     match counter_of(counter) {
@@ -264,7 +264,7 @@ fn reslice(alloc: Global, fields: &[&[u8]]) -> Result<Option<Event>, AllocError>
     let Some((slot, node, slices)) = three_of(fields) else {
         return Ok(None);
     };
-    let Some((slot, node)) = place_of(slot, node) else {
+    let Some((slot, node)) = place_in(slot, node) else {
         return Ok(None);
     };
     match slices_of(alloc, slices)? {
@@ -274,7 +274,7 @@ fn reslice(alloc: Global, fields: &[&[u8]]) -> Result<Option<Event>, AllocError>
 }
 
 /// The slot and the node that words name.
-fn place_of(slot: &[u8], node: &[u8]) -> Option<(u64, NodeId)>
+fn place_in(slot: &[u8], node: &[u8]) -> Option<(u64, NodeId)>
     ensures { result ≡ place_in slot.now node.now }
 {
     let Some(slot) = number_of(slot) else {

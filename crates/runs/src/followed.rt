@@ -76,12 +76,12 @@ impl Followed {
     }
 
     /// The first emission at a slot that has not been handed on.
-    pub fn waiting(&self, number: u32, slot: u64) -> Option<Emission>
+    pub fn first_waiting(&self, number: u32, slot: u64) -> Option<Emission>
         ensures first { result ≡ waiting self.now number slot }
         ensures small { IfSome result (λ _. handed_at self.now number slot < 2 ^ 63) }
     {
         match self.open_slot(number, slot) {
-            Some(open) => open.waiting(),
+            Some(open) => open.first_waiting(),
             None => None,
         }
     }

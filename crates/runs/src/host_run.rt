@@ -173,11 +173,11 @@ impl HostRun {
     }
 
     /// The first emission at a slot that has not been handed on.
-    fn waiting(&self, number: u32, slot: u64) -> Option<Emission>
+    fn first_waiting(&self, number: u32, slot: u64) -> Option<Emission>
         ensures first { result ≡ waiting self.now.followed number slot }
         ensures small { IfSome result (λ _. handed_at self.now.followed number slot < 2 ^ 63) }
     {
-        self.nets.followed.waiting(number, slot)
+        self.nets.followed.first_waiting(number, slot)
     }
 
     /// The line of a slot whose emissions have been handed on: the refusal that ended it, or what each node
@@ -207,7 +207,7 @@ impl HostRun {
     ) -> Result<Option<Refusal>, AllocError>
         ensures { IfOk result (λ ended. AreHandedOn number slot names.now self.old ended self.new) }
     {
-        while let Some(emission) = self.waiting(number, slot) {
+        while let Some(emission) = self.first_waiting(number, slot) {
             match self.hand_on(number, slot, names, &emission)? {
                 Some(refusal) => return Ok(Some(refusal)),
                 None => {}
