@@ -22,4 +22,5 @@ mod told;
 
 pub use applied::Applied;
 pub use network::Network;
+pub use plan::Emission;
 pub use reading::readings_are_exact;

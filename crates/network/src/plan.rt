@@ -72,7 +72,7 @@ pub(crate) struct Terms {
 /// An emission by the name under which another node hears it: by whom, of which kind, and its number among
 /// those of that kind since the slot was opened, from 1 on.
 #[derive(Clone, Copy)]
-pub(crate) struct Emission {
+pub struct Emission {
     pub from: NodeId,
     pub kind: Kind,
     pub number: u64,

@@ -40,7 +40,7 @@ use Rattle.runs.specs.Settling.{AreHandedOn, HasSettledAt, IsHeardBy, handed_ove
 use Rattle.runs.specs.Settling.IsHeardBy.{by_all, by_one, refused}
 use Rattle.runs.specs.Settling.AreHandedOn.{none_waits, one_waits, cut_short}
 use Rattle.runs.specs.Taking.{declared_count, takes}
-use Rattle.runs.specs.declared.emissions.Emission.{Emission}
+use Rattle.network.specs.declared.plan.Emission.{Emission}
 use Rattle.runs.specs.declared.requests.Declaration.{Declaration}
 use Rattle.runs.specs.declared.requests.Declaration.TheVariants.{Net, Node, Roster}
 use Rattle.runs.specs.ByJournals.{AreFollowed, AreSlotsAt, AreSlotsBy, FollowsJournals, HaveRoom, IsSlotBy, LinesFollowJournals, RunsFollowJournals}

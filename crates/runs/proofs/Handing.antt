@@ -8,7 +8,7 @@ use Rattle.types.specs.declared.event.Out.{Out}
 use Rattle.types.specs.declared.event.Out.TheVariants.{ArmNomination, ArmBallot, Emit, Externalized}
 use Rattle.types.specs.declared.event.Refusal.{Refusal}
 use Rattle.hoststep.specs.Worlds.{items_of}
-use Rattle.runs.specs.declared.emissions.Emission.{Emission}
+use Rattle.network.specs.declared.plan.Emission.{Emission}
 use Rattle.runs.specs.declared.followed.Turn.TheVariants.{Within}
 use Rattle.runs.specs.Emissions.{OpenSlot, OpenSlots, at_number, changed_at, first_emitted, given_out, given_out_by, handed_on, noted_outs, waits}
 use Rattle.runs.specs.Followed.{Followed, handed_at, handed_in, noted, open_slot, waiting, with_handed}

@@ -24,7 +24,7 @@ use Rattle.protocol.proofs.Networks.OpenSlots.{places_at-drop, places_at-drop_ot
 use Rattle.protocol.proofs.Runs.Sights.{known-elsewhere, known-other, known-same}
 use Rattle.network.specs.Marks.{told_at}
 use Rattle.hoststep.specs.Logs.{Log}
-use Rattle.runs.specs.declared.emissions.Emission.{Emission}
+use Rattle.network.specs.declared.plan.Emission.{Emission}
 use Rattle.runs.specs.Emissions.{OpenSlot, OpenSlots, at_number}
 use Rattle.runs.specs.ByJournals.{KeptAreFound, count_among, numbered_behind, sent_at, AreSlotsAt, AreSlotsBy}
 use Rattle.runs.proofs.NumberedRows.{equal-flip, equal-self}

@@ -9,7 +9,7 @@ use Rattle.std.proofs.Math.Seq.{drop-cons}
 use Rattle.types.specs.declared.event.Event.{Event}
 use Rattle.types.specs.declared.event.Out.{Out}
 use Rattle.types.specs.declared.event.Refusal.{Refusal}
-use Rattle.runs.specs.declared.emissions.Emission.{Emission}
+use Rattle.network.specs.declared.plan.Emission.{Emission}
 use Rattle.runs.specs.Followed.{waiting}
 use Rattle.runs.specs.Hosting.{Hosting, IsApplied}
 use Rattle.runs.specs.Settling.{AreHandedOn, IsHanded, IsHeardBy, hearing, others}

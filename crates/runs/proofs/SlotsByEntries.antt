@@ -19,7 +19,7 @@ use Rattle.protocol.specs.Hosts.{Entry}
 use Rattle.network.specs.Marks.{place_named}
 use Rattle.hoststep.specs.Deciding.{Decided, decided_at, decisions_by, decisions_in, values_in}
 use Rattle.hoststep.proofs.DecisionLists.{decisions_by-append}
-use Rattle.runs.specs.declared.emissions.Emission.{Emission}
+use Rattle.network.specs.declared.plan.Emission.{Emission}
 use Rattle.runs.specs.declared.emissions.Speaker.{Speaker}
 use Rattle.runs.specs.Emissions.{OpenSlot, count_of, emitted, given_out, next_number, numbered, speaker_at, with_decision, with_emission, with_speaker}
 use Rattle.runs.specs.ByJournals.{IsSlotBy, count_among, numbered_behind, sent_at, speaker_of, values_at}

@@ -12,7 +12,7 @@ use Rattle.protocol.specs.Runs.{IsRun, state_of}
 use Rattle.protocol.specs.Counts.{since_opened}
 use Rattle.configuration.specs.Configs.{names_of}
 use Rattle.hoststep.specs.Deciding.{decisions_by}
-use Rattle.runs.specs.declared.emissions.Emission.{Emission}
+use Rattle.network.specs.declared.plan.Emission.{Emission}
 use Rattle.runs.specs.declared.emissions.Speaker.{Speaker}
 use Rattle.hoststep.specs.Logs.{Log}
 use Rattle.hoststep.specs.Worlds.{log_at}

@@ -7,7 +7,7 @@ use Rattle.types.specs.declared.event.Event.TheVariants as event
 use Rattle.types.specs.declared.event.Out.{Out}
 use Rattle.protocol.specs.Hosts.{Config}
 use Rattle.configuration.specs.Configs.{names_of}
-use Rattle.runs.specs.declared.emissions.Emission.{Emission}
+use Rattle.network.specs.declared.plan.Emission.{Emission}
 use Rattle.runs.specs.declared.followed.Turn.{Turn}
 use Rattle.runs.specs.declared.followed.Turn.TheVariants.{Opens, Closes, Within}
 use Rattle.runs.specs.Joining.{Joins}

@@ -7,7 +7,7 @@ use Rattle.types.specs.declared.event.Event.TheVariants.{Hear}
 use Rattle.types.specs.declared.event.Out.{Out}
 use Rattle.types.specs.declared.event.Refusal.{Refusal}
 use Rattle.types.specs.declared.event.Refusal.TheVariants.{NoSuchNetwork, SlotNotOpen}
-use Rattle.runs.specs.declared.emissions.Emission.{Emission}
+use Rattle.network.specs.declared.plan.Emission.{Emission}
 use Rattle.runs.specs.Emissions.{OpenSlot}
 use Rattle.runs.specs.Followed.{handed_at, names_at, open_slot, waiting, with_handed}
 use Rattle.runs.specs.Hosting.{Hosting, IsApplied, IsBegun}

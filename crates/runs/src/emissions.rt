@@ -9,20 +9,12 @@ ghost use Rattle.runs.specs.SettledLines.{text_of_decided, text_of_speaker, text
 
 use crate::followed::Turn;
 use configuration::NetConfig;
+use network::Emission;
 use scripts::{push_name, push_value};
 use std::alloc::{AllocError, Global};
 use std::collections::BTreeMap;
 use std::marker::Model;
 use types::{Envelope, Kind, NodeId, Out, Value};
-
-/// An emission by the name under which another node hears it: by whom, of which kind, and its number among
-/// those of that kind since the slot was opened, from 1 on.
-#[derive(Clone, Copy)]
-pub(crate) struct Emission {
-    pub from: NodeId,
-    pub kind: Kind,
-    pub number: u64,
-}
 
 /// A hosted node at an open slot: how much it has emitted of each kind, and what it has externalized.
 #[derive(Drop)]

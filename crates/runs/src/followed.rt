@@ -5,8 +5,9 @@ ghost use Rattle.runs.specs.Emissions.{at_number};
 ghost use Rattle.runs.specs.Followed.{followed_with, handed_at, names_at, noted, open_slot, turn_of, waiting, with_handed};
 ghost use Rattle.runs.specs.SettledLines.{settled_text};
 
-use crate::emissions::{Emission, OpenSlot, OpenSlots};
+use crate::emissions::{OpenSlot, OpenSlots};
 use configuration::NetConfig;
+use network::Emission;
 use std::alloc::{AllocError, Global};
 use std::collections::BTreeMap;
 use std::marker::Model;

@@ -10,13 +10,13 @@ ghost use Rattle.runs.specs.Running.{BadLinesTellNothing, RefusesLine};
 ghost use Rattle.runs.specs.Settling.{AreHandedOn, HandedOnIsCounted, HasSettled, HeardWaitsOn, IsHanded, IsHeardBy, IsSettled, line_of, others};
 ghost use Rattle.runs.specs.Telling.{HasNoNode};
 
-use crate::emissions::Emission;
 use crate::followed::turn_of;
 use crate::nets::Nets;
 use crate::replies::{line_of_refusal, reply};
 use crate::requests::{Request, request_of};
 use envstore::VecShelf;
 use hoststep::World;
+use network::Emission;
 use scripts::{LineError, LineRunner};
 use std::alloc::{AllocError, Global};
 use std::marker::Model;
