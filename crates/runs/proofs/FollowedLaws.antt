@@ -1,12 +1,9 @@
 -- What is kept of open slots is what the journals have.
-use Rattle.std.proofs.Common.{◌≡◌, ◌∙◌, ◌==◌, ◌||◌, ◌&&◌, ◌+◌, ◌≤◌, ◌<◌, ℕ, suc, Bool, true, false, not, nat_lt, List, [], ◌∷◌, length, Option, Some, None, Ok, Err, is_some, if◌then◌else◌, refl, sym, ap, ap₂, subst, arith, ◌++◌, ◌⊎◌, inl, inr, ⊎_elim, take, slice_get, zero}
+use Rattle.std.proofs.Common.{◌≡◌, ◌∙◌, ◌==◌, ◌||◌, ◌&&◌, ◌+◌, ◌≤◌, ◌<◌, ℕ, suc, Bool, true, false, not, nat_lt, List, [], ◌∷◌, length, Option, Some, None, Ok, Err, is_some, if◌then◌else◌, refl, sym, ap, ap₂, subst, arith, slice_get}
 use Rattle.std.specs.Prelude.{Result, Vec, option_map}
 use Rattle.std.specs.Global.{Global}
 use Rattle.std.proofs.lemmas.Bool.{and_parts, eqb-true, false≢true, lt-ltb, ltb-true, not-true, or_parts}
 use Rattle.std.specs.List.{enumerate_from}
-use Rattle.std.proofs.lemmas.List.{take-append-le}
-use Rattle.std.proofs.lemmas.Option.{slice_get_within}
-use Rattle.std.proofs.Math.Seq.{take-append_seam}
 use Rattle.scripts.specs.Script.{Bytes}
 use Rattle.scripts.specs.Runs.{Passes, Runs}
 use Rattle.scripts.specs.Runs.Passes.{skipped, told}
@@ -20,13 +17,14 @@ use Rattle.types.specs.Trees.{all_differ}
 use Rattle.protocol.specs.Networks.{Step}
 use Rattle.protocol.specs.Counts.{since_opened}
 use Rattle.protocol.specs.Hosts.{Config, Entry}
-use Rattle.protocol.specs.Runs.{net_after, IsRun, outs_given, refusal_of}
+use Rattle.protocol.specs.Runs.{net_after, IsRun}
 use Rattle.configuration.specs.Configs.{names_of}
 use Rattle.configuration.proofs.Names.{names-differ}
 use Rattle.network.specs.Decoding.{step_of}
 use Rattle.hoststep.specs.Logs.{Log, extended}
 use Rattle.hoststep.specs.Worlds.{IsAnsweredAt, items_of, log_at, logs_set, logs_with}
 use Rattle.hoststep.proofs.Histories.{has-number}
+use Rattle.hoststep.proofs.Growing.{run-grows}
 use Rattle.runs.specs.Outlines.{Outlined, IsConfigOf, IsRevised, Waiting, fresh, waiting_at, waiting_without}
 use Rattle.runs.specs.Emissions.{OpenSlot, OpenSlots, at_number, changed_at, handed_on}
 use Rattle.runs.specs.Followed.{Followed, also_followed, followed_with, turn_of, turned, with_handed}
@@ -117,27 +115,6 @@ turn-is (event.NominationTimer slot u r) = refl
 turn-is (event.BallotTimer slot u n) = refl
 turn-is (event.Reslice slot u q) = refl
 
--- an element of a list one longer stands in the old part, or is the new one
-old-or-new : {A : Type 0} (xs : List A) (x y : A) (k : ℕ) → slice_get (xs ++ x ∷ []) k ≡ Some y → (slice_get xs k ≡ Some y) ⊎ ((k ≡ length xs) × (x ≡ y))
-old-or-new [] x y zero e = inr (refl, cc)
-old-or-new [] x y (suc k) e = absurd (cc)
-old-or-new (z ∷ xs) x y zero e = inl e
-old-or-new (z ∷ xs) x y (suc k) e = ⊎_elim (λ h. inl h) (λ h. inr (ap suc h.0, h.1)) (old-or-new xs x y k e)
-
-abbrev IsNext : Config → List Entry → Entry → Type 0
-IsNext config before x = (refusal_of config before x.event ≡ None) × (x.outs ≡ outs_given config before x.event)
-
--- a run goes on with what is not refused
-run-next : (config : Config) (es : List Entry) (x : Entry) → IsRun config es → IsNext config es x → IsRun config (es ++ x ∷ [])
-run-next config es x run is = record { applied = λ k y at. (all k y at).0; outs = λ k y at. (all k y at).1 }
-  where
-    all : (k : ℕ) (y : Entry) → slice_get (es ++ x ∷ []) k ≡ Some y → IsNext config (take k (es ++ x ∷ [])) y
-    all k y at =
-        ⊎_elim
-        (λ (h : slice_get es k ≡ Some y). let lt : k < length es = slice_get_within es k y h in let le : k ≤ length es = omega arith in subst (λ (l : List Entry). IsNext config l y) (sym (take-append-le k es (x ∷ []) le)) (run.applied k y h, run.outs k y h))
-        (λ (h : (k ≡ length es) × (x ≡ y)). subst (λ (z : List Entry × Entry). IsNext config z.0 z.1) (λ i. (sym (ap (λ n. take n (es ++ x ∷ [])) h.0 ∙ take-append_seam es (x ∷ [])) i, h.1 i)) is)
-        (old-or-new es x y k at)
-
 -- the network of a number, with another journal and other slots
 module _ (logs now : List Log) (f kept : Followed) (g : ℕ) (l new : Log) (change : OpenSlots → OpenSlots)
     (at : log_at logs g ≡ Some l) (logs_now : (j : ℕ) → log_at now j ≡ (if g == j then Some new else log_at logs j)) (kept_now : (j : ℕ) → at_number kept j ≡ (if g == j then option_map change (at_number f j) else at_number f j))
@@ -169,7 +146,7 @@ answer-follows logs now f kept g e (Ok os) (Some l) at h k s =
     changed-follows logs now f kept g l new (turned (turn_of e) os) at
     (λ j. ap (λ (xs : List Log). log_at xs j) h.1 ∙ (log-set logs new j there ∙ ap (λ n. if n == j then Some new else log_at logs j) named))
     (λ j. ap (λ (xs : Followed). at_number xs j) k ∙ at-changed g (turned (turn_of e) os) j f)
-    (λ run. run-next l.config l.entries (record { event = step_of e; outs = os }) run h.0)
+    (λ run. run-grows l.config l.entries (record { event = step_of e; outs = os }) run h.0)
     (λ m sm. subst (λ t. AreSlotsBy l.config new.entries (turned t os m)) (sym (turn-is e)) (slots-next l.config l.entries m (step_of e) os sm h.0.0 h.0.1)) s
 
 -- no network comes or goes

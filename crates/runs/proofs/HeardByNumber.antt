@@ -6,7 +6,6 @@ use Rattle.std.proofs.lemmas.Bool.{eqb-true, eq-eqb, false≢true}
 use Rattle.std.proofs.lemmas.List.Elements.{filter-append}
 use Rattle.types.specs.Statements.{Sent, kind_of}
 use Rattle.types.specs.declared.kind.Kind.{Kind}
-use Rattle.types.specs.declared.kind.Kind.TheVariants.{Nomination}
 use Rattle.types.specs.declared.event.NodeEvent.{NodeEvent}
 use Rattle.types.specs.declared.event.NodeEvent.TheVariants.{Propose, Take, NominationTimer, BallotTimer, Reslice}
 use Rattle.types.specs.declared.event.Out.{Out}
@@ -22,15 +21,17 @@ use Rattle.protocol.specs.Runs.{net_after, IsRun}
 use Rattle.protocol.proofs.Networks.Effects.{effect-keeps, numbers, opened_after}
 use Rattle.protocol.proofs.Networks.OpenSlots.{places_at-drop, places_at-drop_other, places_at-push, places_at-push_other}
 use Rattle.protocol.proofs.Runs.Sights.{known-elsewhere, known-other, known-same}
+use Rattle.protocol.proofs.Statements.Offers.{is_kind-itself}
 use Rattle.network.specs.Marks.{told_at}
 use Rattle.hoststep.specs.Logs.{Log}
+use Rattle.hoststep.proofs.SlicesThen.{open-numbers}
 use Rattle.network.specs.declared.plan.Emission.{Emission}
 use Rattle.runs.specs.Emissions.{OpenSlot, OpenSlots, at_number}
 use Rattle.runs.specs.ByJournals.{KeptAreFound, count_among, numbered_behind, sent_at, AreSlotsAt, AreSlotsBy}
 use Rattle.runs.proofs.NumberedRows.{equal-flip, equal-self}
 use Rattle.runs.proofs.SlotsByEntries.{AreFrom, sent-elsewhere, sent-more, sent-there}
 use Rattle.runs.proofs.OutsAtPlaces.{AreInPlace, act-given, effect-in-place}
-use Rattle.runs.proofs.NetsByEntries.{is-none, open-numbers, passes-first, since-more}
+use Rattle.runs.proofs.NetsByEntries.{is-none, passes-first, since-more}
 
 -- ---- what a node has emitted is what the entries emitted, since its slot was opened
 
@@ -212,10 +213,6 @@ at-the-end (y ∷ xs) ys x = at-the-end xs ys x
 one-more : (n : ℕ) → n + 1 ≡ suc n
 one-more n = omega arith
 
-kind-itself : (k : Kind) → is_kind k k ≡ true
-kind-itself Nomination = refl
-kind-itself Kind.Ballot = refl
-
 record IsFoundAs (told : List Sent) (m : Emission) (x : Sent) : Type 0 where
   place : ℕ
   number : m.number ≡ suc place
@@ -228,7 +225,7 @@ found-first before es e m is =
       number = one-more (count_among e.sender (kind_of e.body) before);
       there =
           ap (λ (xs : List Sent). slice_get xs (count_among e.sender (kind_of e.body) before)) (filter-append (is_row_of e.sender (kind_of e.body)) before (e ∷ es))
-          ∙ rw (equal-self e.sender, kind-itself (kind_of e.body)) (at-the-end (filter (is_row_of e.sender (kind_of e.body)) before) (filter (is_row_of e.sender (kind_of e.body)) es) e);
+          ∙ rw (equal-self e.sender, is_kind-itself (kind_of e.body)) (at-the-end (filter (is_row_of e.sender (kind_of e.body)) before) (filter (is_row_of e.sender (kind_of e.body)) es) e);
     })
 
 found-numbered : (es before : List Sent) (n : ℕ) (m : Emission) → slice_get (numbered_behind before es) n ≡ Some m → (x : Sent) × (slice_get es n ≡ Some x) × IsFoundAs (before ++ es) m x

@@ -48,7 +48,7 @@ names-net (word ∷ number ∷ fields) g r h = names-number (verb_in word) (word
 
 -- ---- what each tells, as the code reads it
 
-abbrev Asked : List Bytes → ℕ → Request → Type 0
+abbrev pub Asked : List Bytes → ℕ → Request → Type 0
 Asked fields g r = IsRequested fields (Some (g, r))
 
 pub tells-declaration : (old : Hosting) (ws us : Waiting) (n m : Named) (f k : Followed) (logs : List Log) (fields : List Bytes) (g : ℕ) (r : Request) (d : Declaration)

@@ -8,7 +8,7 @@ use Rattle.types.specs.Statements.{Sent}
 use Rattle.types.specs.declared.event.Out.{Out}
 use Rattle.types.specs.declared.event.Out.TheVariants.{ArmNomination, ArmBallot, Emit, Externalized}
 use Rattle.types.specs.declared.event.Refusal.{Refusal}
-use Rattle.protocol.specs.Networks.{Host, Net, Slot, Step, effect, emissions, first_that, is_hosted, is_open, net_step, places_at, replied, slices_of, tests}
+use Rattle.protocol.specs.Networks.{Host, Net, Step, effect, emissions, first_that, is_hosted, is_open, net_step, replied, slices_of, tests}
 use Rattle.protocol.specs.Networks.Reading.{Read, Fault}
 use Rattle.protocol.specs.Networks.Step.{Opens, Closes, Asks, Delivers, Hears, NominationTimes, BallotTimes, Reslices}
 use Rattle.protocol.specs.Counts.{is_opening, since_opened}
@@ -18,6 +18,8 @@ use Rattle.protocol.proofs.Networks.Effects.{effect-keeps, numbers, opened_after
 use Rattle.configuration.specs.Configs.{names_of}
 use Rattle.network.specs.Marks.{place_named}
 use Rattle.hoststep.specs.Deciding.{decided_at, values_in}
+use Rattle.hoststep.proofs.Growing.{after-one}
+use Rattle.hoststep.proofs.SlicesThen.{open-numbers}
 use Rattle.runs.specs.declared.followed.Turn.{Turn}
 use Rattle.runs.specs.declared.followed.Turn.TheVariants as turn
 use Rattle.runs.specs.Emissions.{OpenSlot, OpenSlots, at_number, changed_at, first_emitted, given_out, given_out_by, just_opened, noted_outs, with_slot, without_slot}
@@ -28,12 +30,6 @@ use Rattle.runs.proofs.SlotsByEntries.{AreFrom, slot-next, slot-still, sent-else
 use Rattle.runs.proofs.OutsAtPlaces.{IsGivenAt, IsGivenBy, effect-given, run-in-place}
 
 -- ---- runs
-
--- the state after one entry more
-after-one : (xs : List Entry) (net : Net) (x : Entry) → net_after net (xs ++ x ∷ []) ≡ (net_step (net_after net xs) x.event).0
-unfolding net_after
-after-one [] net x = refl
-after-one (y ∷ ys) net x = after-one ys (net_step net y.event).0 x
 
 step-hosts : (net : Net) (e : Step) → (net_step net e).0.hosts ≡ net.hosts
 unfolding net_step
@@ -47,15 +43,6 @@ run-hosts : (net : Net) (xs : List Entry) → (net_after net xs).hosts ≡ net.h
 unfolding net_after
 run-hosts net [] = refl
 run-hosts net (x ∷ xs) = run-hosts (net_step net x.event).0 xs ∙ step-hosts net x.event
-
--- a slot is open where its number is among those of the open ones
-pub open-numbers : (ss : List Slot) (i : ℕ) → is_some (places_at ss i) ≡ list_any (λ n. n == i) (numbers ss)
-open-numbers [] i = refl
-open-numbers (s ∷ ss) i = go (s.number == i) (open-numbers ss i)
-  where
-    go : (b : Bool) → is_some (places_at ss i) ≡ list_any (λ n. n == i) (numbers ss) → is_some (if b then Some s.places else places_at ss i) ≡ (b || list_any (λ n. n == i) (numbers ss))
-    go true h = refl
-    go false h = h
 
 open-then : (net : Net) (e : Step) (i : ℕ) → first_that (tests net e) ≡ None → is_open (net_step net e).0 i ≡ list_any (λ n. n == i) (opened_after e (numbers net.slots))
 unfolding net_step

@@ -18,7 +18,7 @@ use Rattle.types.specs.declared.event.Refusal.{Refusal}
 use Rattle.protocol.specs.Rows.{is_taken, with_row}
 use Rattle.protocol.specs.States.{counter_of, sent_in, sent_nomination, sent_vote}
 use Rattle.protocol.specs.Sameness.{same_sent}
-use Rattle.protocol.specs.Nodes.{Node, after_change, answered, change, decided, emitted, fresh, in_round, is_counter_live, is_externalized, is_round_live, outs, passed, resliced, settle, settled, step, timed_out, when}
+use Rattle.protocol.specs.Nodes.{Node, after_change, answered, change, decided, emitted, fresh, in_round, is_counter_live, is_externalized, is_round_live, outs, passed, resliced, settle, settled, step, timed_out, when, most_passes}
 use Rattle.protocol.specs.Networks.{Host, Net, Place, Slot, Step, act, act_in, act_known, effect, emission, emissions, first_that, known, moved, net_step, opened, outs_at, place_of, places_at, replied, tests}
 use Rattle.protocol.specs.Networks.Reading.{Read, Fault}
 use Rattle.protocol.specs.Networks.Step.{Opens, Closes, Asks, Delivers, Hears, NominationTimes, BallotTimes, Reslices}
@@ -26,6 +26,7 @@ use Rattle.protocol.specs.Hosts.{Entry}
 use Rattle.protocol.specs.Runs.{net_after}
 use Rattle.network.specs.Marks.{place_named}
 use Rattle.hoststep.specs.Deciding.{values_in}
+use Rattle.hoststep.proofs.DecidedOnce.{no-values-emitted, values-append}
 use Rattle.runs.proofs.SlotsByEntries.{AreFrom}
 
 -- all that is emitted is this node's, at this slot; and where nothing is emitted, nothing is decided
@@ -68,27 +69,12 @@ from-emitted n old (Some s) = go (same_sent old (Some s))
     go true = tt
     go false = ((refl, refl), tt)
 
-values-both : (xs ys : List Out) → values_in (xs ++ ys) ≡ values_in xs ++ values_in ys
-values-both [] ys = refl
-values-both (ArmNomination r ∷ xs) ys = values-both xs ys
-values-both (ArmBallot n ∷ xs) ys = values-both xs ys
-values-both (Emit e ∷ xs) ys = values-both xs ys
-values-both (Externalized x ∷ xs) ys = ap (λ (vs : List (List ℕ)). x ∷ vs) (values-both xs ys)
-
 no-values : (xs ys : List Out) → values_in xs ≡ [] → values_in ys ≡ [] → values_in (xs ++ ys) ≡ []
-no-values xs ys h k = values-both xs ys ∙ ap₂ (λ (a b : List (List ℕ)). a ++ b) h k
+no-values xs ys h k = values-append xs ys ∙ ap₂ (λ (a b : List (List ℕ)). a ++ b) h k
 
 no-values-timer : (b : Bool) (x : Out) → values_in (x ∷ []) ≡ [] → values_in (when b x) ≡ []
 no-values-timer true x h = h
 no-values-timer false x h = refl
-
-no-values-emitted : (n : Node) (old new : Option Statement) → values_in (emitted n old new) ≡ []
-no-values-emitted n old None = refl
-no-values-emitted n old (Some s) = go (same_sent old (Some s))
-  where
-    go : (b : Bool) → values_in (if b then [] else Emit (record { sender = n.name; slot = n.slot; slices = n.slices; body = s }) ∷ []) ≡ []
-    go true = refl
-    go false = refl
 
 none-of-either : {A : Type 0} (xs ys : List A) → xs ++ ys ≡ [] → (xs ≡ []) × (ys ≡ [])
 none-of-either [] ys h = (refl, h)
@@ -158,7 +144,7 @@ settled-stays n m (Some w) name slot =
 
 stays : (n : Node) (b : Bool) (m : Node) → m.name ≡ n.name → m.slot ≡ n.slot → StaysAt n.slot n.name (answered n (after_change (if b then Some m else None)))
 stays n false m name slot = record { name = refl; slot = refl; given = nothing-given n.slot n.name }
-stays n true m name slot = settled-stays n m (settle 64 (passed m) m.votes) name slot
+stays n true m name slot = settled-stays n m (settle most_passes (passed m) m.votes) name slot
 
 step-stays : (n : Node) (e : NodeEvent) → StaysAt n.slot n.name (step n e)
 unfolding step change

@@ -1,5 +1,5 @@
 -- Lines that are read for the jobs that they give to a pool.
-use Rattle.std.proofs.Common.{◌≡◌, ℕ, List, Some, None, true, refl, subst}
+use Rattle.std.proofs.Common.{◌≡◌, ℕ, List, None, true, refl, subst}
 use Rattle.scripts.specs.Script.{Bytes}
 use Rattle.types.specs.declared.event.Event.{Event}
 use Rattle.runs.specs.declared.requests.Declaration.{Declaration}
@@ -9,12 +9,9 @@ use Rattle.runs.specs.Plans.{Plan}
 use Rattle.runs.specs.Preparing.{Prepares}
 use Rattle.runs.specs.Putting.{IsPlanned, Puts}
 use Rattle.runs.specs.Putting.Puts.{declares, plans}
-use Rattle.runs.specs.Requests.{IsRequested}
 use Rattle.runs.specs.Submitting.{Submitting}
 use Rattle.runs.specs.Taking.{takes}
-
-abbrev Asked : List Bytes → ℕ → Request → Type 0
-Asked fields g r = IsRequested fields (Some (g, r))
+use Rattle.runs.proofs.LineForms.{Asked}
 
 pub puts-declaration : (old : Plan) (s t : Submitting) (opens : List _) (fields : List Bytes) (g : ℕ) (r : Request) (d : Declaration)
     → record { submitted = s; opens = opens } ≡ old → r ≡ Declare d → Asked fields g r → takes s.waiting s.named g d ≡ true

@@ -19,10 +19,9 @@ use Rattle.runs.specs.Settling.{IsSettled}
 use Rattle.runs.specs.Naming.{Named}
 use Rattle.runs.specs.Preparing.{Prepares}
 use Rattle.runs.specs.Replies.{IsReply, behind_space, refusal_text}
-use Rattle.runs.specs.Requests.{IsRequested}
 use Rattle.runs.specs.Quiet.{IsPutQuietly, IsRunBy}
 use Rattle.runs.specs.Taking.{takes}
-use Rattle.runs.proofs.LineForms.{names-net, tells-declaration, tells-event, tells-settle}
+use Rattle.runs.proofs.LineForms.{Asked, names-net, tells-declaration, tells-event, tells-settle}
 
 -- each answer has a line
 line_of : (r : Result (Vec Out Global) Refusal) → (text : Bytes) × IsReply (items_of r) text
@@ -31,9 +30,6 @@ line_of (Err refusal) = (refusal_text refusal, refl)
 
 put_of : (g : _) (e : Event) (old new : Hosting) → IsPutQuietly g e old new → (text : Bytes) × IsPut g e old text new
 put_of g e old new h = ((line_of h.1).0, (h.0, h.1, h.2, h.3, (line_of h.1).1))
-
-abbrev Asked : List Bytes → ℕ → Request → Type 0
-Asked fields g r = IsRequested fields (Some (g, r))
 
 pub quiet-declaration : (old : Hosting) (ws us : Waiting) (n m : Named) (f k : Followed) (logs : List Log) (fields : List Bytes) (g : ℕ) (r : Request) (d : Declaration)
     → record { waiting = ws; named = n; followed = f; logs = logs } ≡ old → r ≡ Declare d → Asked fields g r → takes ws n g d ≡ true → Prepares g d ws us → m ≡ n

@@ -1,5 +1,5 @@
 -- Lines that are run for what they submit.
-use Rattle.std.proofs.Common.{◌≡◌, ℕ, List, Some, None, true, refl, subst}
+use Rattle.std.proofs.Common.{◌≡◌, ℕ, List, None, true, refl, subst}
 use Rattle.scripts.specs.Script.{Bytes}
 use Rattle.types.specs.declared.event.Event.{Event}
 use Rattle.protocol.specs.Hosts.{History}
@@ -9,13 +9,10 @@ use Rattle.runs.specs.declared.requests.Request.TheVariants.{Declare, Apply}
 use Rattle.runs.specs.Outlines.{Waiting}
 use Rattle.runs.specs.Naming.{Named}
 use Rattle.runs.specs.Preparing.{Prepares}
-use Rattle.runs.specs.Requests.{IsRequested}
 use Rattle.runs.specs.Submitting.{IsSubmitted, Submits, Submitting}
 use Rattle.runs.specs.Submitting.Submits.{declares, submits}
 use Rattle.runs.specs.Taking.{takes}
-
-abbrev Asked : List Bytes → ℕ → Request → Type 0
-Asked fields g r = IsRequested fields (Some (g, r))
+use Rattle.runs.proofs.LineForms.{Asked}
 
 pub submits-declaration : (old : Submitting) (ws us : Waiting) (n m : Named) (h : History) (fields : List Bytes) (g : ℕ) (r : Request) (d : Declaration)
     → record { waiting = ws; named = n; history = h } ≡ old → r ≡ Declare d → Asked fields g r → takes ws n g d ≡ true → Prepares g d ws us → m ≡ n
