@@ -32,7 +32,7 @@ pub(crate) struct Crew<S: Shelf, H: Wait + Drop> {
 }
 
 /// The less of a number and how many seats a bench has.
-fn less<S: Shelf, H: Wait + Drop>(bench: &Bench<S, H>, most: usize) -> usize
+fn lesser_count<S: Shelf, H: Wait + Drop>(bench: &Bench<S, H>, most: usize) -> usize
     requires { 0 < most }
     ensures bound { (result ≤ most) × (result ≤ length bench.now.seats.items) }
     ensures some { 0 < length bench.now.seats.items → 0 < result }
@@ -42,7 +42,7 @@ fn less<S: Shelf, H: Wait + Drop>(bench: &Bench<S, H>, most: usize) -> usize
 }
 
 /// So many workers, or as many as the fewest seats of a cell.
-pub(crate) fn fewest<S: Shelf, H: Wait + Drop>(benches: &[Bench<S, H>], most: usize) -> usize
+pub(crate) fn fewest_seats<S: Shelf, H: Wait + Drop>(benches: &[Bench<S, H>], most: usize) -> usize
     requires some { 0 < most }
     requires seats { AllHave 1 benches.now }
     ensures bound { (0 < result) × (result ≤ most) }
@@ -50,7 +50,7 @@ pub(crate) fn fewest<S: Shelf, H: Wait + Drop>(benches: &[Bench<S, H>], most: us
 {
     let mut least = most;
     for bench in benches {
-        least = less(bench, least);
+        least = lesser_count(bench, least);
     }
     least
 }

@@ -2,7 +2,7 @@
 
 ghost use Rattle.std.specs.Option.{option_to_list};
 ghost use Rattle.std.specs.Prelude.{◌≡◌, ◌<◌, ◌≤◌, ◌+◌, ◌++◌, ℕ, Some, None, vec_capacity, vec_len, length, slice_index_or, map};
-ghost use Rattle.work.specs.Hands.{weigh};
+ghost use Rattle.work.specs.Hands.{all_parts, weigh};
 ghost use Rattle.work.specs.Queues.{parts_by};
 ghost use Rattle.work.specs.declared.line.Queue.{Queue};
 ghost use Rattle.workers.specs.Numbers.{IsNumbered};
@@ -99,7 +99,7 @@ fn finish<S: Shelf + Drop, H: Wait + Drop, R: Wait, G: Gate>(
     requires some { 0 < length workers.old }
     requires ready { AllReady shared.old.cells.items shared.old.queue workers.old }
     requires there { (q : Queue) × (shared.old.queue ≡ Some q) }
-    requires queue { AllPassing shared.old.queue passes.items × (parts_by passes.items + weigh parts_of workers.old ≡ 64) }
+    requires queue { AllPassing shared.old.queue passes.items × (parts_by passes.items + weigh parts_of workers.old ≡ all_parts) }
     requires room { vec_len passes + length workers.old ≤ vec_capacity passes }
     ensures shared { (shared.new.numbers ≡ shared.old.numbers) × (shared.new.cells ≡ shared.old.cells) × (shared.new.queue ≡ None) }
     ensures ready { AllReady shared.old.cells.items None workers.new }
@@ -124,7 +124,7 @@ where
     S::Place: Send,
     requires order { IsNumbered shared.old.numbers.items shared.old.cells.items }
     requires some { 0 < length workers.old }
-    requires queue { AllPassing shared.old.queue passes.items × (parts_by passes.items + weigh parts_of workers.old ≡ 64) }
+    requires queue { AllPassing shared.old.queue passes.items × (parts_by passes.items + weigh parts_of workers.old ≡ all_parts) }
     requires there { (q : Queue) × (shared.old.queue ≡ Some q) }
     requires ready { AllReady shared.old.cells.items shared.old.queue workers.old }
     requires room { vec_len passes + length workers.old ≤ vec_capacity passes }

@@ -1,7 +1,7 @@
 //! A run of all workers, and jobs that are put before it.
 
 ghost use Rattle.std.specs.Prelude.{◌≡◌, ◌<◌, ◌≤◌, ◌+◌, ℕ, None, Some, length, vec_capacity, vec_len, []};
-ghost use Rattle.work.specs.Hands.{weigh};
+ghost use Rattle.work.specs.Hands.{all_parts, weigh};
 ghost use Rattle.work.specs.Queues.{AllPasses, IsOf, parts_by, put_by, taken_by};
 ghost use Rattle.work.specs.declared.line.Queue.{Queue};
 ghost use Rattle.workers.specs.Benches.{AllGrownBenches, AllHave, AllHosted, IsCounted, IsCrew, IsWorked};
@@ -9,7 +9,7 @@ ghost use Rattle.workers.specs.Nets.{AllGrownNets, IsRun};
 ghost use Rattle.workers.specs.Numbers.{IsNumbered};
 ghost use Rattle.workers.specs.Sums.{AllPassing};
 
-use crate::deal::{Crew, Room, deal, deal_one, fewest, give_back, make_crew};
+use crate::deal::{Crew, Room, deal, deal_one, fewest_seats, give_back, make_crew};
 use crate::floor::Floor;
 use crate::gate::Gate;
 use crate::host::Host;
@@ -61,7 +61,7 @@ where
     requires order { IsNumbered floor.old.shared.numbers.items floor.old.shared.cells.items }
     requires hosted { AllHosted floor.old.shared.cells.items floor.old.benches.items }
     requires there { (q : Queue) × (floor.old.shared.queue ≡ Some q) }
-    requires queue { AllPassing floor.old.shared.queue passes.items × (parts_by passes.items ≡ 64) }
+    requires queue { AllPassing floor.old.shared.queue passes.items × (parts_by passes.items ≡ all_parts) }
     requires room { length crew.rooms.items ≤ vec_len passes }
     requires crew { (0 < length crew.rooms.items) × AllHave (length crew.rooms.items) floor.old.benches.items × IsCrew (length crew.rooms.items) (length floor.old.benches.items) crew }
     ensures shared { (floor.new.shared.numbers ≡ floor.old.shared.numbers) × (floor.new.shared.cells ≡ floor.old.shared.cells) × (floor.new.shared.queue ≡ None) }
@@ -103,12 +103,12 @@ pub fn run<S: Shelf + Drop + Send, H: Wait + Drop + Send, R: Threads + Wait + Sy
 where
     S::Place: Send,
     requires workers { (0 < workers) × (workers ≤ 64) }
-    requires passes { AllPasses (IsOf queue.0) queue.1.items × (parts_by queue.1.items ≡ 64) }
+    requires passes { AllPasses (IsOf queue.0) queue.1.items × (parts_by queue.1.items ≡ all_parts) }
     ensures same { AllGrownNets host.old host.new }
     ensures run { IsRun host.old host.new (λ h. put_by h queue.1.items) (λ h. taken_by h queue.1.items) result }
 {
     let (queue, passes) = queue;
-    let many = fewest(host.floor.benches.as_slice(), workers.min(passes.len()));
+    let many = fewest_seats(host.floor.benches.as_slice(), workers.min(passes.len()));
     match make_crew(host.alloc, many, host.floor.benches.len()) {
         Ok(crew) => {
             host.floor.shared.queue = Some(queue);

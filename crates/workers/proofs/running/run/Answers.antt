@@ -4,8 +4,8 @@ use Rattle.workers.proofs.Nets.{done_after, floor_after, grown_after, nets_same}
 use Rattle.workers.proofs.Worked.{hosted_have, many_ones}
 use Rattle.workers.proofs.running.run.Goals as goal
 
-pub fewest-many-requires-clause-seats : goal.fewest-many-requires-clause-seats
-fewest-many-requires-clause-seats g c =
+pub fewest_seats-many-requires-clause-seats : goal.fewest_seats-many-requires-clause-seats
+fewest_seats-many-requires-clause-seats g c =
     subst (AllHave 1) (sym c.as_slice.ensures.value) (hosted_have c.host.inside.floor.shared.cells.items c.host.inside.floor.benches.items c.host.invariant.hosted)
 
 pub run_crew-requires-clause-there : goal.run_crew-requires-clause-there

@@ -1,5 +1,5 @@
 use Rattle.std.proofs.Common.{◌≡◌, ◌+◌, [], ℕ, List, refl, sym, ap, ◌∙◌, subst, arith}
-use Rattle.work.specs.Hands.{weigh}
+use Rattle.work.specs.Hands.{all_parts, weigh}
 use Rattle.work.specs.Queues.{parts_by}
 use Rattle.cells.specs.Sights.{Sight}
 use Rattle.workers.specs.declared.walk.Walk.{Walk}
@@ -15,7 +15,7 @@ pub work_through-requires-clause-queue : goal.work_through-requires-clause-queue
 work_through-requires-clause-queue g c κs within =
     let split = c.deal-workers.ensures.passes in (
       (split.passing c.args.floor.now.shared.queue c.requires.queue.0).0,
-      subst (λ (l : List (Worker _ _ _)). parts_by c.deal-workers.new.passes.items + weigh parts_of l ≡ 64) (sym c.as_mut_slice.ensures.value) (sym split.parts_all ∙ c.requires.queue.1),
+      subst (λ (l : List (Worker _ _ _)). parts_by c.deal-workers.new.passes.items + weigh parts_of l ≡ all_parts) (sym c.as_mut_slice.ensures.value) (sym split.parts_all ∙ c.requires.queue.1),
     )
 
 pub work_through-requires-clause-ready : goal.work_through-requires-clause-ready
