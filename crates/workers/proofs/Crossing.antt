@@ -3,13 +3,9 @@ use denote.RattleType.{RattleType}
 use denote.Param.Send.{IsSend, IsSync, sendable}
 use Rattle.std.proofs.Crossing.{crosses}
 use Rattle.std.specs.declared.sync.Wait.{Ghosts as WaitGhosts}
-use Rattle.types.proofs.bytes.Bytes.TheSendSync as bytes
-use Rattle.types.proofs.kind.Kind.TheSendSync as kind
-use Rattle.types.proofs.node_id.NodeId.TheSendSync as name
-use Rattle.types.specs.contracts.event.Event as Event
 use Rattle.envstore.specs.declared.shelf.Places.{Ghosts}
 use Rattle.envstore.specs.declared.shelf.Shelf.{Ghosts as ShelfGhosts}
-use Rattle.hoststep.proofs.Crossing.{nested_send, nested_sync}
+use Rattle.hoststep.proofs.Crossing.{event_send, event_sync}
 use Rattle.atomic_table.proofs.shared.Seat.TheSendSync as pass
 use Rattle.crossbeam_queue.proofs.array_queue.Slotted.TheSendSync as slotted
 use Rattle.work.specs.contracts.rule.Job as Job
@@ -19,12 +15,6 @@ use Rattle.workers.specs.contracts.host.Host as Host
 use Rattle.workers.specs.contracts.shared.Shared as Shared
 use Rattle.workers.specs.contracts.walk.Walk as Walk
 use Rattle.workers.specs.contracts.worker.Worker as Worker
-
-event_send : IsSend (Event.the_field.row)
-event_send = search (sendable, crosses, name.the_send, bytes.the_send, nested_send, kind.the_field_send) depth 40
-
-event_sync : IsSync (Event.the_field.row)
-event_sync = search (sendable, crosses, name.the_sync, bytes.the_sync, nested_sync, kind.the_field_sync) depth 40
 
 job_send : IsSend (Job.the_row)
 job_send = search (sendable, crosses, event_send) depth 40

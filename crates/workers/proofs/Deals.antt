@@ -126,9 +126,6 @@ blank_snoc n (x ∷ rs) r all none room = (all.0, blank_snoc n rs r all.1 none r
 
 -- passes that workers have
 
-pub split_none : {S H P : Type 0} (ps : List (Pass Job Hand)) → IsSplit {S = S} {H = H} {P = P} ps [] ps
-split_none ps = record { passing = λ q all. (all, tt); put_all = λ h. omega arith; taken_all = λ h. omega arith; parts_all = omega arith }
-
 hold_snoc : {S H P : Type 0} → (q : Option Queue) (ws : List (Worker S H P)) (w : (Worker S H P)) → AllHold q ws → IsPassing q w.pass → AllHold q (ws ++ w ∷ [])
 hold_snoc q [] w all one = (one, tt)
 hold_snoc q (x ∷ ws) w all one = (all.0, hold_snoc q ws w all.1 one)

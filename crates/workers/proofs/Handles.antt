@@ -8,10 +8,8 @@ use Rattle.types.proofs.node_id.NodeId.TheSendSync as name
 use Rattle.types.proofs.statement.Statement.TheSendSync as statement
 use Rattle.types.specs.contracts.envelope.Envelope as Envelope
 use Rattle.envstore.specs.contracts.shared.SharedHandle as SharedHandle
-use Rattle.hoststep.proofs.Crossing.{nested_send, nested_sync}
-
-pub envelope_send : IsSend (Envelope.the_row)
-envelope_send = search (sendable, crosses, name.the_send, nested_send, statement.the_field_send) depth 40
+use Rattle.hoststep.proofs.Crossing.{nested_sync}
+use Rattle.cells.proofs.Crossing.{envelope_send}
 
 pub envelope_sync : IsSync (Envelope.the_row)
 envelope_sync = search (sendable, crosses, name.the_sync, nested_sync, statement.the_field_sync) depth 40

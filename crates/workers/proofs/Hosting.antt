@@ -3,16 +3,11 @@ use Rattle.std.proofs.Common.{◌≡◌, ◌∙◌, ◌<◌, ℕ, zero, suc, Lis
 use Rattle.std.specs.List.{All}
 use Rattle.std.proofs.lemmas.List.Elements.{All-head, All-tail}
 use Rattle.std.proofs.lemmas.Option.{slice_get-get_or}
-use Rattle.crossbeam_queue.specs.Passes.{Pass}
 use Rattle.protocol.specs.Hosts.{Config}
-use Rattle.work.specs.declared.line.Queue.{Queue}
-use Rattle.work.specs.declared.rule.Hand.{Hand}
-use Rattle.work.specs.declared.rule.Job.{Job}
-use Rattle.work.specs.Queues.{AllPasses, IsFresh, IsOf}
-use Rattle.work.proofs.Many.{all_passes_map}
 use Rattle.cells.specs.Cells.{AllFresh, IsSeatOf}
-use Rattle.cells.specs.Closing.{AllSeats, HasNumber}
+use Rattle.cells.specs.Closing.{HasNumber}
 use Rattle.cells.specs.Sights.{CellSight, Sight}
+use Rattle.cells.proofs.Seats.{seats_from_all}
 use Rattle.workers.specs.Benches.{IsHosted}
 
 -- each number is a seat's: the first one's, or that of one that is as it was
@@ -23,17 +18,13 @@ numbered c config n a s rest fresh many same (suc k) below =
     let e : slice_get rest k ≡ Some (get_or rest k a) = slice_get-get_or rest k a (omega arith) in
     (suc k, get_or rest k a, e, ap (λ m. m.number) (fresh (suc k) (get_or rest k a) e).1)
 
-all_seats : (P : Sight → Type 0) (ss : List Sight) → All P ss → AllSeats P ss
-all_seats P [] h = tt
-all_seats P (s ∷ ss) h = (All-head P s ss h, all_seats P ss (All-tail P s ss h))
-
 -- the seats that a cell is opened with are all its seats, also where the first has asked for something since
 pub hosted : (c : CellSight) (config : Config) (n : ℕ) (old : List Sight) (s : Sight) → 0 < n → c.seats ≡ n → length old ≡ n
     → AllFresh c.cell config n old → All (IsSeatOf c) old → IsSeatOf c s → ((d : Sight) → slice_get old 0 ≡ Some d → s.me.number ≡ d.me.number)
     → IsHosted c (slice_set old 0 s)
 hosted c config n [] s some seats many fresh all own same = absurd (omega arith)
 hosted c config n (a ∷ rest) s some seats many fresh all own same = record {
-  own = (own, all_seats (IsSeatOf c) rest (All-tail (IsSeatOf c) a rest all));
+  own = (own, seats_from_all (IsSeatOf c) rest (All-tail (IsSeatOf c) a rest all));
   some = subst (λ k. 0 < k) (sym seats) some;
   all = λ k below. numbered c config n a s rest fresh many (same a refl) k (subst (λ m. k < m) seats below);
 }
@@ -43,6 +34,3 @@ pub hosted_fresh : (c : CellSight) (config : Config) (n : ℕ) (seats : List Sig
 hosted_fresh c config n [] some seats many fresh all = absurd (omega arith)
 hosted_fresh c config n (a ∷ rest) some seats many fresh all =
     hosted c config n (a ∷ rest) a some seats many fresh all (All-head (IsSeatOf c) a rest all) (λ d e. cc)
-
-pub all_of : (q : Queue) (ps : List (Pass Job Hand)) → AllPasses (IsFresh q) ps → AllPasses (IsOf q) ps
-all_of q ps all = all_passes_map (IsFresh q) (IsOf q) ps (λ p f. f.own) all

@@ -211,11 +211,6 @@ leaves {S} {H} {P} f g c seats is gone =
 
 -- networks part
 
-above_drop : (n k : ℕ) (xs : List ℕ) → AllAbove n xs → AllAbove n (drop k xs)
-above_drop n zero xs all = all
-above_drop n (suc k) [] all = all
-above_drop n (suc k) (x ∷ xs) all = above_drop n k xs all.1
-
 above_take : (n k : ℕ) (xs : List ℕ) → AllAbove n xs → AllAbove n (take k xs)
 above_take n zero xs all = tt
 above_take n (suc k) [] all = all

@@ -1,12 +1,12 @@
 -- The sums of all workers, when the queue is closed.
-use Rattle.std.proofs.Common.{◌≡◌, ◌≤◌, ◌<◌, ◌+◌, ℕ, zero, suc, List, [], ◌∷◌, ◌++◌, length, length-append, take, drop, map, get_or, slice_set, refl, sym, ap, ◌∙◌, subst, arith, Option, Some, None, append_assoc, append-nil}
+use Rattle.std.proofs.Common.{◌≡◌, ◌<◌, ◌+◌, ℕ, zero, suc, List, [], ◌∷◌, ◌++◌, length, length-append, take, drop, map, get_or, slice_set, refl, sym, ap, ◌∙◌, subst, arith, Option, Some, None, append_assoc, append-nil}
 use Rattle.std.specs.Option.{option_to_list}
 use Rattle.std.proofs.lemmas.List.{take_more}
 use Rattle.crossbeam_queue.specs.Passes.{Pass, view}
 use Rattle.work.specs.declared.rule.Job.{Job}
 use Rattle.work.specs.declared.rule.Hand.{Hand}
 use Rattle.work.specs.declared.line.Queue.{Queue}
-use Rattle.work.specs.Hands.{weigh}
+use Rattle.work.specs.Hands.{all_parts, weigh}
 use Rattle.work.specs.Queues.{put_by, taken_by, parts_by, parts, AllPasses, IsOf}
 use Rattle.work.proofs.Balances.{weigh-append}
 use Rattle.cells.specs.Sights.{CellSight}
@@ -27,18 +27,6 @@ passes_of-append (x ∷ xs) w = ap (λ l. option_to_list x.pass ++ l) (passes_of
 
 pub passes_more : {S H P : Type 0} → (xs : List (Worker S H P)) (i : ℕ) (w : (Worker S H P)) → i < length xs → w ≡ get_or xs i w → passes_of (take (i + 1) xs) ≡ passes_of (take i xs) ++ option_to_list w.pass
 passes_more xs i w lt at = ap passes_of (take_more xs i w lt ∙ ap (λ (y : (Worker _ _ _)). take i xs ++ y ∷ []) (sym at)) ∙ passes_of-append (take i xs) w
-
-pub take_all : {X : Type 0} (xs : List X) (k : ℕ) → length xs ≤ k → take k xs ≡ xs
-take_all [] zero le = refl
-take_all [] (suc k) le = refl
-take_all (x ∷ xs) zero le = absurd (omega arith)
-take_all (x ∷ xs) (suc k) le = ap (λ l. x ∷ l) (take_all xs k (omega arith))
-
-pub drop_all : {X : Type 0} (xs : List X) (k : ℕ) → length xs ≤ k → drop k xs ≡ []
-drop_all [] zero le = refl
-drop_all [] (suc k) le = refl
-drop_all (x ∷ xs) zero le = absurd (omega arith)
-drop_all (x ∷ xs) (suc k) le = drop_all xs k (omega arith)
 
 seam_at : {S H P : Type 0} (xs : List (Worker S H P)) (i : ℕ) (d : Worker S H P) → i < length xs → get_or (map at_rest (take i xs) ++ drop i xs) i d ≡ get_or xs i d
 seam_at [] i d lt = absurd (omega arith)
@@ -77,7 +65,7 @@ all_taken h ws = all_weigh (λ (p : Pass Job Hand). weigh h (view p).taken) (λ 
 all_parts_of : {S H P : Type 0} → (ws : List (Worker S H P)) → parts_by (passes_of ws) ≡ weigh parts_of ws
 all_parts_of ws = all_weigh parts (λ (v : Hand). v.parts) (λ p. refl) refl ws
 
-pub parts_all : {S H P : Type 0} → (ps qs : List (Pass Job Hand)) (ws : List (Worker S H P)) → qs ≡ ps ++ passes_of ws → parts_by ps + weigh parts_of ws ≡ 64 → parts_by qs ≡ 64
+pub parts_all : {S H P : Type 0} → (ps qs : List (Pass Job Hand)) (ws : List (Worker S H P)) → qs ≡ ps ++ passes_of ws → parts_by ps + weigh parts_of ws ≡ all_parts → parts_by qs ≡ all_parts
 parts_all ps qs ws is all = ap parts_by is ∙ weigh-append parts ps (passes_of ws) ∙ (let a = all_parts_of ws in omega arith)
 
 pub passing_append : (q : Option Queue) (ps qs : List (Pass Job Hand)) → AllPassing q ps → AllPassing q qs → AllPassing q (ps ++ qs)
@@ -112,10 +100,6 @@ rest_later (w ∷ ws) = (all_later_none w.walks.items, rest_later ws)
 no_put : (h : Job → ℕ) (o : Option (Pass Job Hand)) → IsPassing None o → (weigh h (hand_of o).put ≡ 0) × (weigh h (hand_of o).taken ≡ 0)
 no_put h None n = (refl, refl)
 no_put h (Some p) n = absurd n
-
-later_workers_none : {S H P : Type 0} → (xs : List (Worker S H P)) → AllLaterWorkers xs xs
-later_workers_none [] = tt
-later_workers_none (x ∷ xs) = (all_later_none x.walks.items, later_workers_none xs)
 
 pub later_workers_both : {S H P : Type 0} → (xs ys zs : List (Worker S H P)) → AllLaterWorkers xs ys → AllLaterWorkers ys zs → AllLaterWorkers xs zs
 later_workers_both [] [] zs a b = b

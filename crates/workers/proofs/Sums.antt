@@ -46,12 +46,6 @@ seated_at (x ∷ xs) [] k c w all lt is at = absurd all
 seated_at (x ∷ xs) (y ∷ ys) zero c w all lt is at = subst (λ (z : CellSight). IsWalk z w) (sym is) (subst (λ (z : Walk _ _ _). IsWalk x z) (sym at) all.0)
 seated_at (x ∷ xs) (y ∷ ys) (suc k) c w all lt is at = seated_at xs ys k c w all.1 (omega arith) is at
 
--- the cell there
-pub cell_at : (cs : List CellSight) (k : ℕ) → k < length cs → (c : CellSight) × (c ≡ get_or cs k c)
-cell_at [] k lt = absurd (omega arith)
-cell_at (x ∷ xs) zero lt = (x, refl)
-cell_at (x ∷ xs) (suc k) lt = cell_at xs k (omega arith)
-
 pub seated_many : {S H P : Type 0} → (cs : List CellSight) (ws : List (Walk S H P)) → AllSeated cs ws → length ws ≡ length cs
 seated_many [] [] all = refl
 seated_many [] (w ∷ ws) all = absurd all
@@ -128,12 +122,6 @@ place_at (x ∷ xs) [] k a b all lt is at = absurd all
 place_at (x ∷ xs) (y ∷ ys) zero a b all lt is at = ap (λ (z : (Walk _ _ _)). z.place) at ∙ all.0 ∙ sym (ap (λ (z : (Walk _ _ _)). z.place) is)
 place_at (x ∷ xs) (y ∷ ys) (suc k) a b all lt is at = place_at xs ys k a b all.1 (omega arith) is at
 
-pub places_many : {S H P : Type 0} → (xs ys : List (Walk S H P)) → SamePlaces xs ys → length ys ≡ length xs
-places_many [] [] all = refl
-places_many [] (b ∷ bs) all = absurd all
-places_many (a ∷ xs) [] all = absurd all
-places_many (a ∷ xs) (b ∷ ys) all = ap suc (places_many xs ys all.1)
-
 -- the receipt at the place stays, and there are no fewer
 pub next_later : {S H P : Type 0} → (a b : (Walk S H P)) (r : Applied) → IsLater a.seat b.seat → b.place ≡ a.place → a.place < length a.seat.me.receipts → IsNext a r → IsNext b r × (b.place < length b.seat.me.receipts)
 next_later a b r later place lt next =
@@ -148,12 +136,6 @@ short_at ws k w short is = subst (λ (v : (Walk _ _ _)). v.place < length v.seat
 
 pub still_next : {S H P : Type 0} → (xs ys : List (Walk S H P)) (k : ℕ) (a b : (Walk S H P)) (r : Applied) → IsShort xs k → a ≡ get_or xs k a → b ≡ get_or ys k b → SamePlaces xs ys → AllLater xs ys → IsNext a r → IsNext b r × (b.place < length b.seat.me.receipts)
 still_next xs ys k a b r short is at places later next = next_later a b r (later_at xs ys k a b later short.0 is at) (place_at xs ys k a b places short.0 is at) (short_at xs k a short is) next
-
-pub take_whole : {A : Type 0} (xs : List A) (k : ℕ) → length xs ≤ k → take k xs ≡ xs
-take_whole [] zero le = refl
-take_whole [] (suc k) le = refl
-take_whole (x ∷ xs) zero le = absurd (omega arith)
-take_whole (x ∷ xs) (suc k) le = ap (λ l. x ∷ l) (take_whole xs k (omega arith))
 
 pub moved_walk : {S H P : Type 0} → (c : CellSight) (w v : (Walk S H P)) → IsWalk c w → w.place < length w.seat.me.receipts → v.seat ≡ w.seat → v.place ≡ w.place + 1 → IsWalk c v
 moved_walk c w v walk lt seat place = (subst (IsSeatOf c) (sym seat) walk.0, (let l : length v.seat.me.receipts ≡ length w.seat.me.receipts = ap (λ (s : Sight). length s.me.receipts) seat in omega arith))
@@ -472,18 +454,6 @@ summed cs q (x ∷ xs) (y ∷ ys) len all =
     let t = all 0 x (omega arith) in
     let r = summed cs q xs ys (omega arith) (λ i d lt. all (suc i) d (omega arith)) in
     (summed_one cs x y xs ys t.kept r.0, (t.ready, r.1))
-
--- what was handed, in another order
-pub kept_handed : {S H P : Type 0} → (cs : List CellSight) (xs ys : List Job) (a b : (Worker S H P)) → ((h : Job → ℕ) → weigh h xs ≡ weigh h ys) → IsKept cs xs a b → IsKept cs ys a b
-kept_handed cs xs ys a b same k = record {
-  lacking = k.lacking;
-  elsewhere = k.elsewhere;
-  sum = λ h. let x = k.sum h in let y = same h in omega arith;
-  applied = k.applied;
-  refused = k.refused;
-  later = k.later;
-  parts = k.parts;
-}
 
 -- the last of a list
 

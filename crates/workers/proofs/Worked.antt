@@ -1,6 +1,6 @@
 -- What a run did, over all seats.
 use Rattle.std.proofs.Common.{◌≡◌, ◌≤◌, ◌<◌, ◌+◌, ℕ, zero, suc, List, [], ◌∷◌, ◌++◌, length, get_or, take, drop, refl, sym, ap, ◌∙◌, subst, arith, Option, Some, None, slice_get}
-use Rattle.std.proofs.lemmas.List.{take_more}
+use Rattle.std.proofs.lemmas.List.{take_all, take_more}
 use Rattle.std.proofs.Math.Seq.{take-append_seam}
 use Rattle.crossbeam_queue.specs.Passes.{Pass, view}
 use Rattle.work.specs.declared.rule.Job.{Job}
@@ -19,7 +19,7 @@ use Rattle.workers.specs.declared.walk.Walk.{Walk}
 use Rattle.workers.specs.declared.worker.Worker.{Worker}
 use Rattle.workers.specs.Sums.{AllLater, AllLaterWorkers, AllPassing, AllPast, AllReady, AllSeated, IsClosed, IsLater, IsReady, applied_by, told, told_by, denials_of, done, heard_of, parts_of, put, receipts_of, refused_by, seat_applied, seat_done, seat_heard, seat_refused, taken}
 use Rattle.workers.specs.Benches.{AllFresh, AllGrown, AllGrownBenches, AllHave, AllHold, AllHosted, AllRoomy, IsCounted, IsDealt, IsDealtAll, IsGiven, IsSplit, IsWorked, at_work, on_benches}
-use Rattle.workers.proofs.Sums.{later_none, take_whole}
+use Rattle.workers.proofs.Sums.{later_none}
 use Rattle.workers.proofs.Deals.{dealt_all_sum, dealt_len, dealt_sum, given_sum, passing_cut}
 use Rattle.workers.proofs.Pools.{parts_weigh, passing_append, passing_one, put_weighs, taken_weighs}
 use Rattle.std.specs.Option.{option_to_list}
@@ -175,7 +175,7 @@ told_past : {S H P : Type 0} → (h : Job → ℕ) (ws : List (Walk S H P)) → 
 told_past h [] all = refl
 told_past h (w ∷ ws) all =
     let r = told_past h ws all.1 in
-    let e : told_by h w ≡ seat_heard h w.seat = ap (heard_of h w.seat.me.config) (take_whole w.seat.me.receipts w.place all.0) in omega arith
+    let e : told_by h w ≡ seat_heard h w.seat = ap (heard_of h w.seat.me.config) (take_all w.place w.seat.me.receipts all.0) in omega arith
 
 told_all : {S H P : Type 0} → (cs : List CellSight) (q : Option Queue) (h : Job → ℕ) (ws : List (Worker S H P)) → AllReady cs q ws → weigh (told h) ws ≡ at_work (seat_heard h) ws
 told_all cs q h [] all = refl

@@ -1,7 +1,7 @@
 use Rattle.std.proofs.Common.{ap, ◌∙◌, arith, refl, length, ◌≤◌}
 use Rattle.work.specs.Hands.{weigh}
 use Rattle.workers.specs.Sums.{applied_by, refused_by}
-use Rattle.workers.proofs.Pools.{take_all}
+use Rattle.std.proofs.lemmas.List.{take_all}
 use Rattle.workers.proofs.Worked.{weigh_more}
 use Rattle.workers.proofs.running.report_of.Goals as goal
 
@@ -21,7 +21,7 @@ returns g c =
     let ws = c.args.workers.now in
     let le : length ws ≤ c.loop-worker.worker-index = let t = c.loop-worker-test.false in omega arith in
     record {
-      applied = i.0 ∙ ap (weigh applied_by) (take_all ws c.loop-worker.worker-index le);
-      refused = i.1 ∙ ap (weigh refused_by) (take_all ws c.loop-worker.worker-index le);
+      applied = i.0 ∙ ap (weigh applied_by) (take_all c.loop-worker.worker-index ws le);
+      refused = i.1 ∙ ap (weigh refused_by) (take_all c.loop-worker.worker-index ws le);
       unrun = refl;
     }

@@ -1,6 +1,5 @@
 use Rattle.std.proofs.Common.{List, length, sym, ◌∙◌, ap}
 use Rattle.workers.specs.NetSights.{Net}
-use Rattle.workers.specs.Nets.{nets_of}
 use Rattle.workers.proofs.Nets.{nets_len}
 use Rattle.workers.proofs.host.Host.len.Goals as goal
 
