@@ -3,7 +3,7 @@
 ghost use Rattle.std.specs.Prelude.{◌≡◌, IfOk, IfSome, IsTrue, List, Some, box_value, is_some};
 ghost use Rattle.envstore.specs.Archives.{AreFiled};
 ghost use Rattle.listening.specs.Listening.{IsKnownOf};
-ghost use Rattle.protocol.specs.Nodes.{outs, passed, settle};
+ghost use Rattle.protocol.specs.Nodes.{most_passes, outs, passed, settle};
 ghost use Rattle.slot.specs.Listening.{node_of};
 ghost use Rattle.slot.specs.Stirrings.{StirsIn};
 ghost use Rattle.slot.specs.Wholes.{SendWellFormed, whole};
@@ -30,9 +30,9 @@ pub(crate) fn answer<S: Places>(
 ) -> Result<Answer, AllocError>
     requires rows { AreFiled archive.now listener.old.table }
     requires stirs { StirsIn start.now.stirred (node_of listener.old start.now.given.now start.now.votes.now) }
-    requires settles { IsTrue (is_some (settle 64 (passed (node_of listener.old start.now.given.now start.now.votes.now)) start.now.votes.now)) }
-    requires sends { IfSome (settle 64 (passed (node_of listener.old start.now.given.now start.now.votes.now)) start.now.votes.now) SendWellFormed }
-    ensures votes { IfOk result (λ a. settle 64 (passed (node_of listener.old start.now.given.now start.now.votes.now)) start.now.votes.now ≡ Some a.votes) }
+    requires settles { IsTrue (is_some (settle most_passes (passed (node_of listener.old start.now.given.now start.now.votes.now)) start.now.votes.now)) }
+    requires sends { IfSome (settle most_passes (passed (node_of listener.old start.now.given.now start.now.votes.now)) start.now.votes.now) SendWellFormed }
+    ensures votes { IfOk result (λ a. settle most_passes (passed (node_of listener.old start.now.given.now start.now.votes.now)) start.now.votes.now ≡ Some a.votes) }
     ensures outs { IfOk result (λ a. (before after : List Sent) → a.outs.items ≡ outs (whole listener.old.configured old.now.given.now old.now.votes.now before) (whole listener.old.configured start.now.given.now a.votes after)) }
     ensures same { listener.new ≡ listener.old }
 {
@@ -54,8 +54,8 @@ fn votes_after<S: Places>(
 ) -> Result<Votes, AllocError>
     requires rows { AreFiled archive.now listener.old.table }
     requires stirs { StirsIn start.now.stirred (node_of listener.old start.now.given.now start.now.votes.now) }
-    requires settles { IsTrue (is_some (settle 64 (passed (node_of listener.old start.now.given.now start.now.votes.now)) start.now.votes.now)) }
-    ensures votes { IfOk result (λ w. settle 64 (passed (node_of listener.old start.now.given.now start.now.votes.now)) start.now.votes.now ≡ Some w) }
+    requires settles { IsTrue (is_some (settle most_passes (passed (node_of listener.old start.now.given.now start.now.votes.now)) start.now.votes.now)) }
+    ensures votes { IfOk result (λ w. settle most_passes (passed (node_of listener.old start.now.given.now start.now.votes.now)) start.now.votes.now ≡ Some w) }
     ensures same { listener.new ≡ listener.old }
 {
     if let Phase::Externalized = start.votes.phase {
@@ -95,8 +95,8 @@ fn votes_within<S: Places>(
     requires rows { AreFiled archive.now listener.now.table }
     requires reach { IsKnownOf listener.now reach.now }
     requires stirs { StirsIn start.now.stirred (node_of listener.now start.now.given.now start.now.votes.now) }
-    requires settles { IsTrue (is_some (settle 64 (passed (node_of listener.now start.now.given.now start.now.votes.now)) start.now.votes.now)) }
-    ensures { IfOk result (λ w. settle 64 (passed (node_of listener.now start.now.given.now start.now.votes.now)) start.now.votes.now ≡ Some w) }
+    requires settles { IsTrue (is_some (settle most_passes (passed (node_of listener.now start.now.given.now start.now.votes.now)) start.now.votes.now)) }
+    ensures { IfOk result (λ w. settle most_passes (passed (node_of listener.now start.now.given.now start.now.votes.now)) start.now.votes.now ≡ Some w) }
 {
     let configured = listener.configuration();
     let rows = Rows::of(listener.table(), archive);
