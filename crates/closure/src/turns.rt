@@ -21,6 +21,13 @@ pub(crate) struct Turns<'a, J: Announcements> {
     pub deliveries: &'a Deliveries,
 }
 
+/// The turn of a member: its place and its name.
+#[derive(Clone, Copy)]
+struct Turn {
+    place: usize,
+    node: NodeId,
+}
+
 impl<'a, J: Announcements> Turns<'a, J> {
     /// Goes through the members by place, those that it adds included: each has its turn.
     pub fn sweep(
@@ -63,7 +70,8 @@ impl<'a, J: Announcements> Turns<'a, J> {
         ensures counted { OnOk result ((w : ℕ) → slice_get (names_of members.old) place ≡ Some w → length ready.new ≡ length (turned ready.old place)) }
     {
         if let Some(node) = members.name(place) {
-            let given = self.names_of_turn(alloc, members, ready, place, &node)?;
+            let turn = Turn { place, node };
+            let given = self.names_of_turn(alloc, members, ready, &turn)?;
             for name in &given {
                 self.join(members, ready, name, place)?;
             }
@@ -71,25 +79,24 @@ impl<'a, J: Announcements> Turns<'a, J> {
         Ok(())
     }
 
-    /// The names that the member at a place gives, ascending, save such as are members: in its first turn
+    /// The names that the member whose turn it is gives, ascending, save such as are members: in its first turn
     /// all of them, then those that announcements add which became ready since the last one.
     fn names_of_turn(
         &self,
         alloc: Global,
         members: &ClosureList,
         ready: &mut Ready,
-        place: usize,
-        node: &NodeId,
+        turn: &Turn,
     ) -> Result<Vec<NodeId>, AllocError>
         requires index { AreIndexed self.now.slot (J.entries self.now.journal.now) (length (J.entries self.now.journal.now)) self.now.deliveries.now }
-        requires there { slice_get (names_of members.now) place ≡ Some node.now }
+        requires there { slice_get (names_of members.now) turn.now.place ≡ Some turn.now.node }
         requires ready { IsReady (J.hosts self.now.journal.now) self.now.slot (J.entries self.now.journal.now) (names_of members.now) ready.old }
-        ensures given { IfOk result (λ v. IsGiven (J.hosts self.now.journal.now) self.now.slot (J.entries self.now.journal.now) (names_of members.now) node.now v.items) }
-        ensures turned { OnOk result (ready.new ≡ turned ready.old place) }
+        ensures given { IfOk result (λ v. IsGiven (J.hosts self.now.journal.now) self.now.slot (J.entries self.now.journal.now) (names_of members.now) turn.now.node v.items) }
+        ensures turned { OnOk result (ready.new ≡ turned ready.old turn.now.place) }
     {
-        let mut names = match ready.take(alloc, place)? {
-            None => self.all_names(alloc, members, node)?,
-            Some(numbers) => self.names_at(alloc, members, node, &numbers)?,
+        let mut names = match ready.take(alloc, turn.place)? {
+            None => self.all_names(alloc, members, &turn.node)?,
+            Some(numbers) => self.names_at(alloc, members, &turn.node, &numbers)?,
         };
         names.sort_unstable();
         Ok(names)
