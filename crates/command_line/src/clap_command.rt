@@ -2,7 +2,7 @@
 
 ghost use Rattle.std.specs.Prelude.{◌≡◌, IfOk};
 ghost use Rattle.clap.specs.Words.{app_of, with_rule};
-ghost use Rattle.command_line.specs.ClapCommand.{closure_command, compare_command, comparing, crowd_command, flag_rule, operand_rule, option_rule, run_command, wanting, whole_command, with_subject};
+ghost use Rattle.command_line.specs.ClapCommand.{closure_command, compare_command, comparing, crowd_command, flag_rule, operand_rule, option_rule, run_command, table_command, wanting, whole_command, with_subject};
 
 use clap::{Arg, ArgAction, Command};
 use std::alloc::{AllocError, Global};
@@ -64,14 +64,7 @@ stand on one roster, and the same was submitted for them, applied or refused, so
 pub fn command_line<'a>(alloc: Global) -> Result<Command<'a>, AllocError>
     ensures { IfOk result (λ c. app_of c ≡ whole_command) }
 {
-    let table = command_of_file(
-        alloc,
-        "table",
-        "Runs the lines of a table file",
-        TABLE_HELP,
-        "FILE",
-        "The table file, or - for the standard input",
-    )?;
+    let table = table_command(alloc)?;
     let run = run_command(alloc)?;
     let closure = closure_command(alloc)?;
     let compare = compare_command(alloc)?;
@@ -89,18 +82,30 @@ pub fn command_line<'a>(alloc: Global) -> Result<Command<'a>, AllocError>
         .subcommand(crowd)
 }
 
+/// `table FILE`.
+fn table_command<'a>(alloc: Global) -> Result<Command<'a>, AllocError>
+    ensures { IfOk result (λ c. app_of c ≡ table_command) }
+{
+    let texts = CommandTexts {
+        name: "table",
+        about: "Runs the lines of a table file",
+        behind: TABLE_HELP,
+    };
+    let help = "The table file, or - for the standard input";
+    command_of_file(alloc, texts, "FILE", help)
+}
+
 /// `run SCRIPT`.
 fn run_command<'a>(alloc: Global) -> Result<Command<'a>, AllocError>
     ensures { IfOk result (λ c. app_of c ≡ run_command) }
 {
-    let command = command_of_file(
-        alloc,
-        "run",
-        "Runs the lines of a script of networks",
-        RUN_HELP,
-        "SCRIPT",
-        "The script, or - for the standard input",
-    )?;
+    let texts = CommandTexts {
+        name: "run",
+        about: "Runs the lines of a script of networks",
+        behind: RUN_HELP,
+    };
+    let help = "The script, or - for the standard input";
+    let command = command_of_file(alloc, texts, "SCRIPT", help)?;
     option(
         alloc,
         command,
@@ -114,14 +119,13 @@ fn run_command<'a>(alloc: Global) -> Result<Command<'a>, AllocError>
 fn closure_command<'a>(alloc: Global) -> Result<Command<'a>, AllocError>
     ensures { IfOk result (λ c. app_of c ≡ closure_command) }
 {
-    let command = command_of_file(
-        alloc,
-        "closure",
-        "Reports whom a node depends on, after a script",
-        CLOSURE_HELP,
-        "SCRIPT",
-        "The script, or - for the standard input",
-    )?;
+    let texts = CommandTexts {
+        name: "closure",
+        about: "Reports whom a node depends on, after a script",
+        behind: CLOSURE_HELP,
+    };
+    let help = "The script, or - for the standard input";
+    let command = command_of_file(alloc, texts, "SCRIPT", help)?;
     let command = subject(alloc, command)?;
     option(
         alloc,
@@ -136,12 +140,12 @@ fn closure_command<'a>(alloc: Global) -> Result<Command<'a>, AllocError>
 fn compare_command<'a>(alloc: Global) -> Result<Command<'a>, AllocError>
     ensures { IfOk result (λ c. app_of c ≡ compare_command) }
 {
-    let command = command_of_two_scripts(
-        alloc,
-        "compare",
-        "Compares what concerns a node in two scripts, and what it gave out",
-        COMPARE_HELP,
-    )?;
+    let texts = CommandTexts {
+        name: "compare",
+        about: "Compares what concerns a node in two scripts, and what it gave out",
+        behind: COMPARE_HELP,
+    };
+    let command = command_of_two_scripts(alloc, texts)?;
     flag(
         alloc,
         command,
@@ -154,46 +158,46 @@ fn compare_command<'a>(alloc: Global) -> Result<Command<'a>, AllocError>
 fn crowd_command<'a>(alloc: Global) -> Result<Command<'a>, AllocError>
     ensures { IfOk result (λ c. app_of c ≡ crowd_command) }
 {
-    command_of_two_scripts(
-        alloc,
-        "crowd",
-        "Compares what was submitted for a node in two scripts, and the answers",
-        CROWD_HELP,
-    )
+    let texts = CommandTexts {
+        name: "crowd",
+        about: "Compares what was submitted for a node in two scripts, and the answers",
+        behind: CROWD_HELP,
+    };
+    command_of_two_scripts(alloc, texts)
 }
 
-/// A command with one operand, which it wants, as clap knows it; what its file holds is said behind the help.
-fn command_of_file<'a>(
-    alloc: Global,
+/// What a command says of itself: its name, what it is about, and what stands behind its help.
+#[derive(Clone, Copy)]
+struct CommandTexts<'a> {
     name: &'a str,
     about: &'a str,
-    holds: &'a str,
+    behind: &'a str,
+}
+
+/// A command with one operand, which it wants, as clap knows it.
+fn command_of_file<'a>(
+    alloc: Global,
+    texts: CommandTexts<'a>,
     file: &'a str,
     help: &'a str,
 ) -> Result<Command<'a>, AllocError>
-    ensures { IfOk result (λ c. app_of c ≡ wanting name.entry.now file.entry.now) }
+    ensures { IfOk result (λ c. app_of c ≡ wanting texts.entry.name.now file.entry.now) }
 {
-    let command = Command::new(alloc, name).about(about).after_help(holds);
+    let command = Command::new(alloc, texts.name)
+        .about(texts.about)
+        .after_help(texts.behind);
     operand(alloc, command, file, help)
 }
 
-/// A command that compares two scripts, and wants them and a subject; what it says is said behind the help.
+/// A command that compares two scripts, and wants them and a subject.
 fn command_of_two_scripts<'a>(
     alloc: Global,
-    name: &'a str,
-    about: &'a str,
-    says: &'a str,
+    texts: CommandTexts<'a>,
 ) -> Result<Command<'a>, AllocError>
-    ensures { IfOk result (λ c. app_of c ≡ comparing name.entry.now) }
+    ensures { IfOk result (λ c. app_of c ≡ comparing texts.entry.name.now) }
 {
-    let command = command_of_file(
-        alloc,
-        name,
-        about,
-        says,
-        "SCRIPT1",
-        "The first script, or - for the standard input",
-    )?;
+    let help = "The first script, or - for the standard input";
+    let command = command_of_file(alloc, texts, "SCRIPT1", help)?;
     let command = operand(
         alloc,
         command,
