@@ -11,8 +11,7 @@ ghost use Rattle.configuration.specs.Rosters.{HasRosterOf};
 use crate::budgets::Budgets;
 use crate::error::ConfigError;
 use crate::host::Host;
-use crate::roster::Roster;
-use crate::shares::Shares;
+use crate::roster::{Reservation, Roster};
 use std::alloc::{AllocError, Global};
 use std::marker::Model;
 use types::NodeId;
@@ -91,18 +90,17 @@ impl NetConfig {
         number: u32,
         nodes: Vec<Host>,
         budgets: Budgets,
-        roster: Vec<NodeId>,
-        shares: Shares,
+        roster: Reservation,
     ) -> Result<NetConfig, ConfigError>
         ensures parts { IfOk result (λ c. (c.number ≡ number) × (c.budgets ≡ budgets)) }
         ensures hosts { IfOk result (λ c. IsPermutation nodes.items c.hosts) }
         ensures ascending { IfOk result (λ c. IsAscending (names_of c.hosts)) }
-        ensures roster { IfOk result (λ c. HasRosterOf roster.items shares c.roster) }
-        ensures faultless { IfOk result (λ _. first_fault (node_tests nodes.items ++ roster_tests roster.items shares) ≡ None) }
-        ensures fault { IfErr result (λ e. first_fault (node_tests nodes.items ++ roster_tests roster.items shares) ≡ fault_of e) }
+        ensures roster { IfOk result (λ c. HasRosterOf roster.names.items roster.shares c.roster) }
+        ensures faultless { IfOk result (λ _. first_fault (node_tests nodes.items ++ roster_tests roster.names.items roster.shares) ≡ None) }
+        ensures fault { IfErr result (λ e. first_fault (node_tests nodes.items ++ roster_tests roster.names.items roster.shares) ≡ fault_of e) }
     {
         let nodes = check_nodes(nodes)?;
-        let roster = Roster::new(roster, shares)?;
+        let roster = Roster::new(roster.names, roster.shares)?;
         let names = list_names(alloc, &nodes)?;
         Ok(NetConfig {
             number,

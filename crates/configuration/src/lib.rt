@@ -16,5 +16,5 @@ pub use budgets::{Budgets, MAX_BUDGET, MAX_OPEN_SLOTS};
 pub use config::{MAX_HOSTS, NetConfig};
 pub use error::ConfigError;
 pub use host::Host;
-pub use roster::{MAX_ROSTER, Roster};
+pub use roster::{MAX_ROSTER, Reservation, Roster};
 pub use shares::{MAX_SHARE, Shares};

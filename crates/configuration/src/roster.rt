@@ -27,6 +27,15 @@ pub struct Roster {
     shares: Shares,
 }
 
+/// What a roster is made of: its names, in any order, and what is reserved for them.
+#[derive(Drop)]
+pub struct Reservation {
+    /// The names.
+    pub names: Vec<NodeId>,
+    /// What is reserved for each of them.
+    pub shares: Shares,
+}
+
 impl Model for Roster {
     ghost use Rattle.protocol.specs.Rosters.{Roster as Meant};
     ghost use Rattle.configuration.specs.Rosters.{AreReserved};

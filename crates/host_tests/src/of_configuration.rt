@@ -1,6 +1,6 @@
 //! What a network can be configured with, and which fault is answered.
 
-use configuration::{Budgets, ConfigError, Host, NetConfig, Shares};
+use configuration::{Budgets, ConfigError, Host, NetConfig, Reservation, Shares};
 use std::alloc::Global;
 use std::test::Fail;
 use types::{Member, Nested, NodeId, SliceSet};
@@ -73,22 +73,24 @@ fn plain(alloc: Global, nodes: Vec<Host>) -> Result<u8, Fail> {
 }
 
 /// The error of a network of one node with a roster.
-fn error_with_roster(alloc: Global, roster: Vec<NodeId>, shares: Shares) -> Result<u8, Fail> {
+fn error_with_roster(alloc: Global, names: Vec<NodeId>, shares: Shares) -> Result<u8, Fail> {
     let nodes = nodes(alloc, &[7])?;
     let budgets = budgets()?;
-    Ok(error(NetConfig::with_roster(alloc, 1, nodes, budgets, roster, shares)))
+    let roster = Reservation { names, shares };
+    Ok(error(NetConfig::with_roster(alloc, 1, nodes, budgets, roster)))
 }
 
 /// The error of a network of these nodes, whose roster has a name twice and too large a share.
 fn all_wrong(alloc: Global, numbers: &[u64]) -> Result<u8, Fail> {
     let nodes = nodes(alloc, numbers)?;
-    let roster = vec![in alloc; name(5), name(5)]?;
+    let names = vec![in alloc; name(5), name(5)]?;
     let shares = Shares {
         own: MOST + 1,
         ..SHARES
     };
     let budgets = budgets()?;
-    Ok(error(NetConfig::with_roster(alloc, 1, nodes, budgets, roster, shares)))
+    let roster = Reservation { names, shares };
+    Ok(error(NetConfig::with_roster(alloc, 1, nodes, budgets, roster)))
 }
 
 #[test]
@@ -179,12 +181,20 @@ fn is_in_order(config: &NetConfig, numbers: &[u64]) -> bool {
     place == numbers.len()
 }
 
+/// A roster of the names 0 to 2.
+fn three_names(alloc: Global) -> Result<Reservation, Fail> {
+    Ok(Reservation {
+        names: names(alloc, 3)?,
+        shares: SHARES,
+    })
+}
+
 #[test]
 fn names_come_out_ascending(rt: HostRuntime) -> Result<(), Fail> {
     let alloc = rt.alloc();
     let given = nodes(alloc, &[9, 7, 8])?;
-    let roster = names(alloc, 3)?;
-    let config = NetConfig::with_roster(alloc, 6, given, budgets()?, roster, SHARES)
+    let roster = three_names(alloc)?;
+    let config = NetConfig::with_roster(alloc, 6, given, budgets()?, roster)
         .ok()
         .ok_or("a network")?;
     assert!(rt; is_in_order(&config, &[7, 8, 9]));
@@ -214,7 +224,8 @@ fn is_roster_of_three(config: &NetConfig) -> bool {
 fn a_copy_has_the_roster(rt: HostRuntime) -> Result<(), Fail> {
     let alloc = rt.alloc();
     let given = nodes(alloc, &[9])?;
-    let config = NetConfig::with_roster(alloc, 6, given, budgets()?, names(alloc, 3)?, SHARES)
+    let roster = three_names(alloc)?;
+    let config = NetConfig::with_roster(alloc, 6, given, budgets()?, roster)
         .ok()
         .ok_or("a network")?;
     assert!(rt; is_roster_of_three(&config));

@@ -3,7 +3,7 @@
 use closure::Announcements;
 use codec::encode;
 use envstore::VecShelf;
-use hoststep::{Budgets, Host, Journal, LentEvent, NetConfig, NetMachine, Shares};
+use hoststep::{Budgets, Host, Journal, LentEvent, NetConfig, NetMachine, Reservation, Shares};
 use std::alloc::Global;
 use std::test::Fail;
 use types::{
@@ -318,8 +318,11 @@ fn shared_config(alloc: Global, bytes: u64) -> Option<NetConfig> {
         bytes,
         opens: 1,
     };
-    let names = eight_names(alloc)?;
-    NetConfig::with_roster(alloc, 7, hosts, Budgets::new(1, 1, 1)?, names, shares).ok()
+    let roster = Reservation {
+        names: eight_names(alloc)?,
+        shares,
+    };
+    NetConfig::with_roster(alloc, 7, hosts, Budgets::new(1, 1, 1)?, roster).ok()
 }
 
 /// A journal of that network, with its slot open.

@@ -9,7 +9,7 @@ use Rattle.types.specs.declared.event.Event.{Event}
 use Rattle.types.specs.declared.event.Event.TheVariants as event
 use Rattle.protocol.specs.Networks.{Budgets}
 use Rattle.protocol.specs.Rosters.{Shares}
-use Rattle.runs.specs.declared.outlines.Reserved.{Reserved}
+use Rattle.configuration.specs.declared.roster.Reservation.{Reservation}
 use Rattle.runs.specs.declared.requests.Declaration.{Declaration}
 use Rattle.runs.specs.declared.requests.Declaration.TheVariants.{Net, Node, Roster}
 use Rattle.runs.specs.declared.requests.Request.{Request}
@@ -69,7 +69,7 @@ abbrev names-of-some : Option (List ℕ) → List ℕ
 names-of-some None = []
 names-of-some (Some us) = us
 
-same-rosters : (d e : Reserved) → d.names.items ≡ e.names.items → d.shares ≡ e.shares → Alike (Declare (Roster d)) (Declare (Roster e))
+same-rosters : (d e : Reservation) → d.names.items ≡ e.names.items → d.shares ≡ e.shares → Alike (Declare (Roster d)) (Declare (Roster e))
 same-rosters d e names shares = λ ws n g. rw (names, shares) refl
 
 two-rosters : (o : Option (Shares × List Bytes)) (r q : Request) → IsReserved o r → IsReserved o q → Alike r q

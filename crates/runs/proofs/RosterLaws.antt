@@ -2,12 +2,12 @@
 use Rattle.std.proofs.Common.{◌≡◌, ◌∙◌, ℕ, List, Some, sym, ap, subst}
 use Rattle.scripts.specs.Script.{Bytes}
 use Rattle.protocol.specs.Rosters.{Shares}
-use Rattle.runs.specs.declared.outlines.Reserved.{Reserved}
+use Rattle.configuration.specs.declared.roster.Reservation.{Reservation}
 use Rattle.runs.specs.declared.requests.Declaration.TheVariants.{Roster}
 use Rattle.runs.specs.declared.requests.Request.{Request}
 use Rattle.runs.specs.declared.requests.Request.TheVariants.{Declare}
 use Rattle.runs.specs.Requests.{AsksRoster, IsReserved, only_names, shares_in}
 
-pub asks_roster : (fields : List Bytes) (w : Shares × List Bytes) (names : List ℕ) (d : Reserved) (r : Request) → Some w ≡ shares_in fields
+pub asks_roster : (fields : List Bytes) (w : Shares × List Bytes) (names : List ℕ) (d : Reservation) (r : Request) → Some w ≡ shares_in fields
     → Some names ≡ only_names w.1 → d.names.items ≡ names → d.shares ≡ w.0 → r ≡ Declare (Roster d) → AsksRoster fields r
 asks_roster fields w names d r is spelled n s e = subst (λ o. IsReserved o r) is (d, sym spelled ∙ ap (λ us. Some us) (sym n), s, e)

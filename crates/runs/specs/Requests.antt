@@ -11,7 +11,7 @@ use Rattle.types.specs.declared.event.Event.{Event}
 use Rattle.protocol.specs.Networks.{Budgets}
 use Rattle.protocol.specs.Rosters.{Shares}
 use Rattle.configuration.specs.Budgets.{AreBudgets}
-use Rattle.runs.specs.declared.outlines.Reserved.{Reserved}
+use Rattle.configuration.specs.declared.roster.Reservation.{Reservation}
 use Rattle.runs.specs.declared.requests.Declaration.TheVariants.{Net, Node, Roster}
 use Rattle.runs.specs.declared.requests.Request.{Request}
 use Rattle.runs.specs.declared.requests.Request.TheVariants.{Declare, Apply, Settle}
@@ -68,7 +68,7 @@ only_names fields = None
 -- these shares, if any, are reserved for the names that the fields behind them spell
 abbrev pub IsReserved : Option (Shares × List Bytes) → Request → Type 0
 IsReserved None r = ⊥
-IsReserved (Some w) r = (d : Reserved) × (only_names w.1 ≡ Some d.names.items) × (d.shares ≡ w.0) × (r ≡ Declare (Roster d))
+IsReserved (Some w) r = (d : Reservation) × (only_names w.1 ≡ Some d.names.items) × (d.shares ≡ w.0) × (r ≡ Declare (Roster d))
 
 -- shares and names
 abbrev pub AsksRoster : List Bytes → Request → Type 0

@@ -13,10 +13,10 @@ ghost use Rattle.runs.specs.Telling.{HasNoNode};
 use crate::followed::Followed;
 use crate::named::Named;
 use crate::networks::Networks;
-use crate::outlines::{Outline, Reserved};
+use crate::outlines::Outline;
 use crate::requests::Declaration;
 use crate::waiting::Waiting;
-use configuration::{Budgets, NetConfig};
+use configuration::{Budgets, NetConfig, Reservation};
 use scripts::LineError;
 use std::alloc::{AllocError, Global};
 use types::{Nested, NodeId};
@@ -98,7 +98,7 @@ impl Nets {
 
     /// Gives a network its roster. It is a bad line where the network is not declared or has been named by an
     /// event, and where the configuration refuses the roster.
-    fn reserve(&mut self, number: u32, roster: Reserved) -> Result<(), LineError>
+    fn reserve(&mut self, number: u32, roster: Reservation) -> Result<(), LineError>
         ensures reserved { OnOk result
             (IsRevised number (λ d. with_roster d roster.names.items roster.shares) self.old.waiting self.new.waiting) }
         ensures taken { OnOk result (takes self.old.waiting self.old.named number (Roster roster) ≡ true) }

@@ -7,7 +7,7 @@ ghost use Rattle.runs.specs.Outlines.{IsConfigOf, fresh, with_node, with_roster}
 ghost use Rattle.runs.specs.Taking.{is_roster, takes_node, takes_roster};
 
 use configuration::{
-    Budgets, ConfigError, Host, MAX_HOSTS, MAX_ROSTER, MAX_SHARE, NetConfig, Shares,
+    Budgets, ConfigError, Host, MAX_HOSTS, MAX_ROSTER, MAX_SHARE, NetConfig, Reservation, Shares,
 };
 use scripts::LineError;
 use std::alloc::Global;
@@ -23,14 +23,7 @@ pub(crate) struct Outline {
     alloc: Global,
     budgets: Budgets,
     nodes: Vec<Host>,
-    roster: Option<Reserved>,
-}
-
-/// The names of a roster, in the order in which they were given, and what is reserved for them.
-#[derive(Drop)]
-pub(crate) struct Reserved {
-    pub names: Vec<NodeId>,
-    pub shares: Shares,
+    roster: Option<Reservation>,
 }
 
 impl Model for Outline {
@@ -79,12 +72,12 @@ impl Outline {
 
     /// Its roster. It is a bad line where there is one already, and where the configuration refuses it: a
     /// name stands twice on it, it has more than 1,024 names, or a share is above 2^40.
-    pub fn reserve(&mut self, roster: Reserved) -> Result<(), LineError>
+    pub fn reserve(&mut self, roster: Reservation) -> Result<(), LineError>
         ensures reserved { OnOk result (self.new ≡ with_roster self.old roster.names.items roster.shares) }
         ensures taken { OnOk result (takes_roster (Some self.old) roster.names.items roster.shares ≡ true) }
         ensures bad { result ≡ Err LineError.Bad → takes_roster (Some self.old) roster.names.items roster.shares ≡ false }
     {
-        if self.roster.is_some() || !roster.is_allowed() {
+        if self.roster.is_some() || !is_allowed(&roster) {
             return Err(LineError::Bad);
         }
         self.roster = Some(roster);
@@ -108,9 +101,7 @@ impl Outline {
         }
         let made = match roster {
             None => NetConfig::new(alloc, number, nodes, budgets),
-            Some(Reserved { names, shares }) => {
-                NetConfig::with_roster(alloc, number, nodes, budgets, names, shares)
-            }
+            Some(roster) => NetConfig::with_roster(alloc, number, nodes, budgets, roster),
         };
         match made {
             Ok(config) => Ok(config),
@@ -120,21 +111,19 @@ impl Outline {
     }
 }
 
-impl Reserved {
-    /// The configuration takes it.
-    fn is_allowed(&self) -> bool
-        ensures { result ≡ is_roster self.now.names.items self.now.shares }
-    {
-        let Shares {
-            own,
-            pair,
-            bytes,
-            opens,
-        } = self.shares;
-        self.names.len() <= MAX_ROSTER
-            && own.max(pair).max(bytes).max(opens) <= MAX_SHARE
-            && all_differ(&self.names)
-    }
+/// The configuration takes the roster.
+fn is_allowed(roster: &Reservation) -> bool
+    ensures { result ≡ is_roster roster.now.names.items roster.now.shares }
+{
+    let Shares {
+        own,
+        pair,
+        bytes,
+        opens,
+    } = roster.shares;
+    roster.names.len() <= MAX_ROSTER
+        && own.max(pair).max(bytes).max(opens) <= MAX_SHARE
+        && all_differ(&roster.names)
 }
 
 /// A node has the name.

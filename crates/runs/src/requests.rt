@@ -5,9 +5,8 @@ ghost use Rattle.runs.specs.Lines.{IsRead};
 ghost use Rattle.runs.specs.Requests.{AreAllowed, AsksNode, AsksRoster, IsRequest, IsRequested, budgets_in, counted, names_in, only_names, settled, shares_in};
 
 use crate::events::event_of;
-use crate::outlines::Reserved;
 use crate::verbs::{Verb, is_word, verb_of};
-use configuration::{Budgets, Shares};
+use configuration::{Budgets, Reservation, Shares};
 use scripts::{LineError, counter_of, name_of, number_of, slices_of};
 use std::alloc::{AllocError, Global};
 use types::{Event, Nested, NodeId};
@@ -31,7 +30,7 @@ pub(crate) enum Declaration {
     /// A hosted node of the network.
     Node(NodeId, Nested),
     /// The roster of the network.
-    Roster(Reserved),
+    Roster(Reservation),
 }
 
 /// The number of the network that a line names, and what it asks for. It is a bad line where it has none of
@@ -150,7 +149,10 @@ fn roster_of(alloc: Global, fields: &[&[u8]]) -> Result<Option<Request>, AllocEr
         return Ok(None);
     };
     match only_names_of(alloc, rest)? {
-        Some(names) => Ok(Some(Request::Declare(Declaration::Roster(Reserved { names, shares })))),
+        Some(names) => Ok(Some(Request::Declare(Declaration::Roster(Reservation {
+            names,
+            shares,
+        })))),
         None => Ok(None),
     }
 }

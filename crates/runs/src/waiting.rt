@@ -4,8 +4,8 @@ ghost use Rattle.std.specs.Prelude.{◌<◌, ◌≡◌, ◌^◌, ◌∷◌, [], 
 ghost use Rattle.runs.specs.Outlines.{IsRevised, fresh, waiting_at, waiting_with, waiting_without, with_node, with_roster};
 ghost use Rattle.runs.specs.Taking.{takes_node, takes_roster};
 
-use crate::outlines::{Outline, Reserved};
-use configuration::Budgets;
+use crate::outlines::Outline;
+use configuration::{Budgets, Reservation};
 use scripts::LineError;
 use std::alloc::Global;
 use std::collections::BTreeMap;
@@ -76,7 +76,7 @@ impl Waiting {
 
     /// A network has a roster. It is a bad line where the network does not wait, and where the configuration
     /// refuses the roster.
-    pub fn reserve(&mut self, number: u32, roster: Reserved) -> Result<(), LineError>
+    pub fn reserve(&mut self, number: u32, roster: Reservation) -> Result<(), LineError>
         ensures reserved { OnOk result
             (IsRevised number (λ d. with_roster d roster.names.items roster.shares) self.old self.new) }
         ensures taken { OnOk result
