@@ -21,6 +21,7 @@ mod running;
 mod shared;
 mod walk;
 mod worker;
+mod workplace;
 
 pub use gate::Gate;
 pub use host::{Host, MAX_NETWORKS};

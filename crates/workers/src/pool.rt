@@ -12,6 +12,7 @@ ghost use Rattle.workers.specs.declared.worker.Worker.{Worker};
 use crate::gate::Gate;
 use crate::shared::Shared;
 use crate::worker::Worker;
+use crate::workplace::Workplace;
 use envstore::Shelf;
 use std::sync::Wait;
 use std::thread;
@@ -41,7 +42,7 @@ where
         &|_, w: &mut Worker<S, H>|
             requires { IsNumbered shared.now.numbers.items shared.now.cells.items × IsReady shared.now.cells.items shared.now.queue w.old }
             ensures { IsThrough shared.entry.now.cells.items shared.entry.now.queue w.old w.new }
-        { w.work(rt, shared, gate) },
+        { w.work(&Workplace { rt, shared, gate }) },
     );
 }
 
@@ -110,7 +111,7 @@ fn finish<S: Shelf + Drop, H: Wait + Drop, R: Wait, G: Gate>(
         unreachable!()
     };
     let left = queue.close(rt, passes);
-    workers[0].serve_all(rt, shared, gate, left);
+    workers[0].serve_all(&Workplace { rt, shared, gate }, left);
 }
 
 /// Works until all is done, and closes the queue.

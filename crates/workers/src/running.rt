@@ -15,6 +15,7 @@ use crate::gate::Gate;
 use crate::host::Host;
 use crate::pool::{leave, work_through};
 use crate::worker::{Worker, add};
+use crate::workplace::Workplace;
 use envstore::Shelf;
 use std::sync::Wait;
 use std::thread::Threads;
@@ -148,7 +149,12 @@ fn offer_on<S: Shelf + Drop, H: Wait + Drop, R: Wait, G: Gate>(
         applied: 0,
         refused: 0,
     };
-    worker.submit_all(rt, &floor.shared, gate, jobs);
+    let workplace = Workplace {
+        rt,
+        shared: &floor.shared,
+        gate,
+    };
+    worker.submit_all(&workplace, jobs);
     leave(&mut worker, &mut passes);
     let report = Report {
         applied: worker.applied,

@@ -9,6 +9,7 @@ ghost use Rattle.workers.specs.Sums.{IsBusy, IsKept, IsPassing, IsReady, IsShort
 use crate::gate::Gate;
 use crate::shared::Shared;
 use crate::walk::{Emission, Walk, apply_by, emission_at, is_short, move_on, read};
+use crate::workplace::Workplace;
 use configuration::Host;
 use envstore::Shelf;
 use std::sync::Wait;
@@ -63,22 +64,26 @@ impl<S: Shelf + Drop, H: Wait + Drop> Worker<S, H> {
     /// Applies a job by the seat at a cell, and counts it.
     fn apply_at<R: Wait, G: Gate>(
         &mut self,
-        rt: &R,
-        shared: &Shared<S, H>,
-        gate: &G,
+        workplace: &Workplace<'_, S, H, R, G>,
         k: usize,
         job: Job,
     )
-        requires busy { IsBusy shared.now.cells.items shared.now.queue k self.old }
-        requires job { IsNumberAt shared.now.cells.items k job.network }
-        ensures busy { IsBusy shared.now.cells.items shared.now.queue k self.new }
+        requires busy { IsBusy workplace.now.shared.now.cells.items workplace.now.shared.now.queue k self.old }
+        requires job { IsNumberAt workplace.now.shared.now.cells.items k job.network }
+        ensures busy { IsBusy workplace.now.shared.now.cells.items workplace.now.shared.now.queue k self.new }
         ensures places { SamePlaces self.old.walks.items self.new.walks.items }
-        ensures kept { IsKept shared.now.cells.items (job ∷ []) self.old self.new }
+        ensures kept { IsKept workplace.now.shared.now.cells.items (job ∷ []) self.old self.new }
     {
-        if apply_by(rt, &shared.cells[k], &mut self.walks[k], gate, job) {
-            self.applied = add(rt, self.applied, 1);
+        if apply_by(
+            workplace.rt,
+            &workplace.shared.cells[k],
+            &mut self.walks[k],
+            workplace.gate,
+            job,
+        ) {
+            self.applied = add(workplace.rt, self.applied, 1);
         } else {
-            self.refused = add(rt, self.refused, 1);
+            self.refused = add(workplace.rt, self.refused, 1);
         }
     }
 
@@ -111,41 +116,39 @@ impl<S: Shelf + Drop, H: Wait + Drop> Worker<S, H> {
     /// Each other node of a cell's network hears an emission.
     fn tell_others<R: Wait, G: Gate>(
         &mut self,
-        rt: &R,
-        shared: &Shared<S, H>,
-        gate: &G,
+        workplace: &Workplace<'_, S, H, R, G>,
         k: usize,
         emission: Emission,
     )
-        requires busy { IsBusy shared.now.cells.items shared.now.queue k self.old }
-        requires network { IsNumberAt shared.now.cells.items k emission.network }
-        ensures busy { IsBusy shared.now.cells.items shared.now.queue k self.new }
+        requires busy { IsBusy workplace.now.shared.now.cells.items workplace.now.shared.now.queue k self.old }
+        requires network { IsNumberAt workplace.now.shared.now.cells.items k emission.network }
+        ensures busy { IsBusy workplace.now.shared.now.cells.items workplace.now.shared.now.queue k self.new }
         ensures places { SamePlaces self.old.walks.items self.new.walks.items }
-        ensures kept { (c : CellSight) → c ≡ slice_index_or shared.now.cells.items k c → IsKept shared.now.cells.items (hears_of emission c.config.hosts) self.old self.new }
+        ensures kept { (c : CellSight) → c ≡ slice_index_or workplace.now.shared.now.cells.items k c → IsKept workplace.now.shared.now.cells.items (hears_of emission c.config.hosts) self.old self.new }
     {
-        let hosts = shared.cells[k].config().hosts();
+        let hosts = workplace.shared.cells[k].config().hosts();
         for host in hosts {
             match hearing(&emission, host) {
-                Some(job) => self.apply_at(rt, shared, gate, k, job),
+                Some(job) => self.apply_at(workplace, k, job),
                 None => {}
             }
         }
     }
 
     /// The others hear each emission of the receipt at a walk's place, and the place moves on.
-    fn tell_one<R: Wait, G: Gate>(&mut self, rt: &R, shared: &Shared<S, H>, gate: &G, k: usize)
-        requires busy { IsBusy shared.now.cells.items shared.now.queue k self.old }
+    fn tell_one<R: Wait, G: Gate>(&mut self, workplace: &Workplace<'_, S, H, R, G>, k: usize)
+        requires busy { IsBusy workplace.now.shared.now.cells.items workplace.now.shared.now.queue k self.old }
         requires place { IsShort self.old.walks.items k }
-        ensures busy { IsBusy shared.now.cells.items shared.now.queue k self.new }
-        ensures kept { IsKept shared.now.cells.items [] self.old self.new }
+        ensures busy { IsBusy workplace.now.shared.now.cells.items workplace.now.shared.now.queue k self.new }
+        ensures kept { IsKept workplace.now.shared.now.cells.items [] self.old self.new }
     {
-        let config = shared.cells[k].config();
+        let config = workplace.shared.cells[k].config();
         let (receipt, many) = read(&self.walks[k]);
         let mut mark = 0;
         for index in 0..many {
             match emission_at(&self.walks[k], &receipt, config.number(), index, mark) {
                 Some(emission) => {
-                    self.tell_others(rt, shared, gate, k, emission);
+                    self.tell_others(workplace, k, emission);
                     mark += 1;
                 }
                 None => {}
@@ -157,14 +160,14 @@ impl<S: Shelf + Drop, H: Wait + Drop> Worker<S, H> {
     /// Goes through the receipts at one cell until its place is past them. A hearing that is applied adds a receipt
     /// behind the others, so what follows from hearings is one list and no call within a call; each receipt draws an
     /// event of the network's budget, which is finite.
-    fn settle<R: Wait, G: Gate>(&mut self, rt: &R, shared: &Shared<S, H>, gate: &G, k: usize)
-        requires { IsBusy shared.now.cells.items shared.now.queue k self.old }
-        ensures ready { IsReady shared.now.cells.items shared.now.queue self.new }
-        ensures kept { IsKept shared.now.cells.items [] self.old self.new }
+    fn settle<R: Wait, G: Gate>(&mut self, workplace: &Workplace<'_, S, H, R, G>, k: usize)
+        requires { IsBusy workplace.now.shared.now.cells.items workplace.now.shared.now.queue k self.old }
+        ensures ready { IsReady workplace.now.shared.now.cells.items workplace.now.shared.now.queue self.new }
+        ensures kept { IsKept workplace.now.shared.now.cells.items [] self.old self.new }
     {
-        for _ in rt.forever() {
+        for _ in workplace.rt.forever() {
             if is_short(&self.walks[k]) {
-                self.tell_one(rt, shared, gate, k);
+                self.tell_one(workplace, k);
             } else {
                 break;
             }
@@ -172,31 +175,31 @@ impl<S: Shelf + Drop, H: Wait + Drop> Worker<S, H> {
     }
 
     /// Applies a job, and what follows from it. One of a network that is not here counts as refused.
-    fn serve<R: Wait, G: Gate>(&mut self, rt: &R, shared: &Shared<S, H>, gate: &G, job: Job)
-        requires order { IsNumbered shared.now.numbers.items shared.now.cells.items }
-        requires ready { IsReady shared.now.cells.items shared.now.queue self.old }
-        ensures ready { IsReady shared.now.cells.items shared.now.queue self.new }
-        ensures kept { IsKept shared.now.cells.items (job ∷ []) self.old self.new }
+    fn serve<R: Wait, G: Gate>(&mut self, workplace: &Workplace<'_, S, H, R, G>, job: Job)
+        requires order { IsNumbered workplace.now.shared.now.numbers.items workplace.now.shared.now.cells.items }
+        requires ready { IsReady workplace.now.shared.now.cells.items workplace.now.shared.now.queue self.old }
+        ensures ready { IsReady workplace.now.shared.now.cells.items workplace.now.shared.now.queue self.new }
+        ensures kept { IsKept workplace.now.shared.now.cells.items (job ∷ []) self.old self.new }
     {
-        match shared.find(job.network) {
+        match workplace.shared.find(job.network) {
             Some(k) => {
-                self.apply_at(rt, shared, gate, k, job);
-                self.settle(rt, shared, gate, k);
+                self.apply_at(workplace, k, job);
+                self.settle(workplace, k);
             }
-            None => self.refused = add(rt, self.refused, 1),
+            None => self.refused = add(workplace.rt, self.refused, 1),
         }
     }
 
     /// Takes and serves jobs until the queue was empty after the last put.
-    pub(crate) fn work<R: Wait, G: Gate>(&mut self, rt: &R, shared: &Shared<S, H>, gate: &G)
-        requires order { IsNumbered shared.now.numbers.items shared.now.cells.items }
-        requires ready { IsReady shared.now.cells.items shared.now.queue self.old }
-        ensures ready { IsReady shared.now.cells.items shared.now.queue self.new }
-        ensures kept { IsKept shared.now.cells.items [] self.old self.new }
+    pub(crate) fn work<R: Wait, G: Gate>(&mut self, workplace: &Workplace<'_, S, H, R, G>)
+        requires order { IsNumbered workplace.now.shared.now.numbers.items workplace.now.shared.now.cells.items }
+        requires ready { IsReady workplace.now.shared.now.cells.items workplace.now.shared.now.queue self.old }
+        ensures ready { IsReady workplace.now.shared.now.cells.items workplace.now.shared.now.queue self.new }
+        ensures kept { IsKept workplace.now.shared.now.cells.items [] self.old self.new }
     {
-        for _ in rt.forever() {
-            match self.take(rt, shared) {
-                Some(job) => self.serve(rt, shared, gate, job),
+        for _ in workplace.rt.forever() {
+            match self.take(workplace.rt, workplace.shared) {
+                Some(job) => self.serve(workplace, job),
                 None => break,
             }
         }
@@ -205,50 +208,46 @@ impl<S: Shelf + Drop, H: Wait + Drop> Worker<S, H> {
     /// Serves jobs.
     pub(crate) fn serve_all<R: Wait, G: Gate>(
         &mut self,
-        rt: &R,
-        shared: &Shared<S, H>,
-        gate: &G,
+        workplace: &Workplace<'_, S, H, R, G>,
         mut jobs: Vec<Job>,
     )
-        requires order { IsNumbered shared.now.numbers.items shared.now.cells.items }
-        requires ready { IsReady shared.now.cells.items shared.now.queue self.old }
-        ensures ready { IsReady shared.now.cells.items shared.now.queue self.new }
-        ensures kept { IsKept shared.now.cells.items jobs.items self.old self.new }
+        requires order { IsNumbered workplace.now.shared.now.numbers.items workplace.now.shared.now.cells.items }
+        requires ready { IsReady workplace.now.shared.now.cells.items workplace.now.shared.now.queue self.old }
+        ensures ready { IsReady workplace.now.shared.now.cells.items workplace.now.shared.now.queue self.new }
+        ensures kept { IsKept workplace.now.shared.now.cells.items jobs.items self.old self.new }
     {
         while let Some(job) = jobs.pop() {
-            self.serve(rt, shared, gate, job);
+            self.serve(workplace, job);
         }
     }
 
     /// Puts a job, or serves it where no queue has room.
-    fn submit<R: Wait, G: Gate>(&mut self, rt: &R, shared: &Shared<S, H>, gate: &G, job: Job)
-        requires order { IsNumbered shared.now.numbers.items shared.now.cells.items }
-        requires ready { IsReady shared.now.cells.items shared.now.queue self.old }
-        ensures ready { IsReady shared.now.cells.items shared.now.queue self.new }
-        ensures kept { IsKept shared.now.cells.items (job ∷ []) self.old self.new }
+    fn submit<R: Wait, G: Gate>(&mut self, workplace: &Workplace<'_, S, H, R, G>, job: Job)
+        requires order { IsNumbered workplace.now.shared.now.numbers.items workplace.now.shared.now.cells.items }
+        requires ready { IsReady workplace.now.shared.now.cells.items workplace.now.shared.now.queue self.old }
+        ensures ready { IsReady workplace.now.shared.now.cells.items workplace.now.shared.now.queue self.new }
+        ensures kept { IsKept workplace.now.shared.now.cells.items (job ∷ []) self.old self.new }
     {
-        match self.put(rt, shared, job) {
+        match self.put(workplace.rt, workplace.shared, job) {
             Ok(()) => {}
-            Err(job) => self.serve(rt, shared, gate, job),
+            Err(job) => self.serve(workplace, job),
         }
     }
 
     /// Submits jobs in their order.
     pub(crate) fn submit_all<R: Wait, G: Gate>(
         &mut self,
-        rt: &R,
-        shared: &Shared<S, H>,
-        gate: &G,
+        workplace: &Workplace<'_, S, H, R, G>,
         mut jobs: Vec<Job>,
     )
-        requires order { IsNumbered shared.now.numbers.items shared.now.cells.items }
-        requires ready { IsReady shared.now.cells.items shared.now.queue self.old }
-        ensures ready { IsReady shared.now.cells.items shared.now.queue self.new }
-        ensures kept { IsKept shared.now.cells.items jobs.items self.old self.new }
+        requires order { IsNumbered workplace.now.shared.now.numbers.items workplace.now.shared.now.cells.items }
+        requires ready { IsReady workplace.now.shared.now.cells.items workplace.now.shared.now.queue self.old }
+        ensures ready { IsReady workplace.now.shared.now.cells.items workplace.now.shared.now.queue self.new }
+        ensures kept { IsKept workplace.now.shared.now.cells.items jobs.items self.old self.new }
     {
         jobs.reverse();
         while let Some(job) = jobs.pop() {
-            self.submit(rt, shared, gate, job);
+            self.submit(workplace, job);
         }
     }
 }

@@ -7,7 +7,7 @@ pub index_mut-requires : goal.index_mut-requires
 index_mut-requires g c = let lt = is_seated _ _ _ _ c.requires.busy in let ok = c.args.self.now.walks.ok.0 in omega arith
 
 pub apply_by-requires-clause-walk : goal.apply_by-requires-clause-walk
-apply_by-requires-clause-walk g c = seated_at c.args.shared.now.cells.items c.args.self.now.walks.items c.args.k c.index.result.now c.index_mut.result.now c.requires.busy.seated c.requires.busy.there c.index.ensures c.index_mut.ensures.value
+apply_by-requires-clause-walk g c = seated_at c.args.workplace.now.shared.now.cells.items c.args.self.now.walks.items c.args.k c.index.result.now c.index_mut.result.now c.requires.busy.seated c.requires.busy.there c.index.ensures c.index_mut.ensures.value
 
 pub returns-then-apply_by-clause-busy : goal.returns-then-apply_by-clause-busy
 returns-then-apply_by-clause-busy g c = busy_set _ _ c.args.k c.args.self.now _ c.index.result.now c.apply_by.new.walk refl refl c.index.ensures c.apply_by.ensures.walk c.requires.busy

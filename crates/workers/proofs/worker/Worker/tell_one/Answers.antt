@@ -23,7 +23,7 @@ pub tell_others-requires-clause-network : goal.tell_others-requires-clause-netwo
 tell_others-requires-clause-network g c =
     let found = c.emission_at.ensures (ArmBallot 0) in
     let n = c.number.ensures ∙ ap (λ (k : Config). k.number) c.config-config.ensures in
-    number_at c.args.shared.now.cells.items c.args.k c.index.result.now c.number.result c.in-Some.emission.network c.requires.busy.there c.index.ensures n (found_network _ _ _ c.in-Some.emission (sym found ∙ c.in-Some.is))
+    number_at c.args.workplace.now.shared.now.cells.items c.args.k c.index.result.now c.number.result c.in-Some.emission.network c.requires.busy.there c.index.ensures n (found_network _ _ _ c.in-Some.emission (sym found ∙ c.in-Some.is))
 
 pub loop-index-preserved : goal.loop-index-preserved
 loop-index-preserved g c =
@@ -32,7 +32,7 @@ loop-index-preserved g c =
     let config = c.config-config.result.now in
     let was = c.loop-index.self in
     let a = c.args.self.now in
-    let cs = c.args.shared.now.cells.items in
+    let cs = c.args.workplace.now.shared.now.cells.items in
     let index = c.loop-index.index in
     let mark = c.loop-index.mark in
     let o : Out = ArmBallot 0 in
@@ -47,7 +47,7 @@ loop-index-preserved g c =
           let now = w.tell_others.new.self in
           let more = found_some config r.outs r.marks index mark o e lt (sym found ∙ w.in-Some.is) in
           let kept = subst (λ (k : Config). IsKept cs (hears_of e k.hosts) was now) (sym c.config-config.ensures) (s.kept c.index.result.now c.index.ensures) in
-          subst (λ y. IsBusy cs c.args.shared.now.queue c.args.k y × SamePlaces a.walks.items y.walks.items × (c.match-emission_at.mark ≤ index + 1)
+          subst (λ y. IsBusy cs c.args.workplace.now.shared.now.queue c.args.k y × SamePlaces a.walks.items y.walks.items × (c.match-emission_at.mark ≤ index + 1)
           × ((handed : List Job) × (handed ++ hears_from config (drop (index + 1) r.outs) (drop c.match-emission_at.mark r.marks) ≡ hears config r) × IsKept cs handed a y)) (sym w.self-is) (
             s.busy,
             places_both a.walks.items was.walks.items now.walks.items i.1 s.places,
@@ -61,7 +61,7 @@ loop-index-preserved g c =
           )
       | in-None w ↦
           let more = found_none config r.outs r.marks index mark o lt (sym found ∙ w.in-None.is) in
-          subst (λ y. IsBusy cs c.args.shared.now.queue c.args.k y × SamePlaces a.walks.items y.walks.items × (c.match-emission_at.mark ≤ index + 1)
+          subst (λ y. IsBusy cs c.args.workplace.now.shared.now.queue c.args.k y × SamePlaces a.walks.items y.walks.items × (c.match-emission_at.mark ≤ index + 1)
           × ((handed : List Job) × (handed ++ hears_from config (drop (index + 1) r.outs) (drop c.match-emission_at.mark r.marks) ≡ hears config r) × IsKept cs handed a y)) (sym w.self-is) (
             i.0,
             i.1,
@@ -85,7 +85,7 @@ move_on-requires g c =
 pub returns-clause-busy : goal.returns-clause-busy
 returns-clause-busy g c =
     let i = c.loop-index.invariant in
-    let cs = c.args.shared.now.cells.items in
+    let cs = c.args.workplace.now.shared.now.cells.items in
     let w = c.index_mut.result.now in
     let d = c.index.result.now in
     let next = still_next c.args.self.now.walks.items c.loop-index.self.walks.items c.args.k c.index-2.result.now w c.read-receipt.result.0.value c.requires.place c.index-2.ensures c.index_mut.ensures.value i.1 i.3.2.later c.read-receipt.ensures.0 in
@@ -95,7 +95,7 @@ returns-clause-busy g c =
 pub returns-clause-kept : goal.returns-clause-kept
 returns-clause-kept g c =
     let i = c.loop-index.invariant in
-    let cs = c.args.shared.now.cells.items in
+    let cs = c.args.workplace.now.shared.now.cells.items in
     let w = c.index_mut.result.now in
     let r = c.read-receipt.result.0.value in
     let d = c.index.result.now in

@@ -23,28 +23,28 @@ loop-host-preserved g c =
     let h = c.host-item.result in
     let was = c.loop-host.self in
     let a = c.args.self.now in
-    let cs = c.args.shared.now.cells.items in
+    let cs = c.args.workplace.now.shared.now.cells.items in
     let more = hears_more e hs n h c.loop-host-test.true c.host-item.is in
     elim c.match-hearing.branch [
       | in-Some w ↦
           let s = w.apply_at.ensures in
           let now = w.apply_at.new.self in
           let what = sym (ap option_to_list w.in-Some.is) ∙ c.hearing.ensures.jobs in
-          subst (λ y. IsBusy cs c.args.shared.now.queue c.args.k y × SamePlaces a.walks.items y.walks.items × IsKept cs (hears_of e (take (n + 1) hs)) a y) (sym w.self-is) (
+          subst (λ y. IsBusy cs c.args.workplace.now.shared.now.queue c.args.k y × SamePlaces a.walks.items y.walks.items × IsKept cs (hears_of e (take (n + 1) hs)) a y) (sym w.self-is) (
             s.busy,
             places_both a.walks.items was.walks.items now.walks.items i.1 s.places,
             subst (λ l. IsKept cs l a now) (ap (λ l. hears_of e (take n hs) ++ l) what ∙ more) (kept_both cs _ _ a was now i.2 s.kept),
           )
       | in-None w ↦
           let what = sym (ap option_to_list w.in-None.is) ∙ c.hearing.ensures.jobs in
-          subst (λ y. IsBusy cs c.args.shared.now.queue c.args.k y × SamePlaces a.walks.items y.walks.items × IsKept cs (hears_of e (take (n + 1) hs)) a y) (sym w.self-is)
+          subst (λ y. IsBusy cs c.args.workplace.now.shared.now.queue c.args.k y × SamePlaces a.walks.items y.walks.items × IsKept cs (hears_of e (take (n + 1) hs)) a y) (sym w.self-is)
           (i.0, i.1, subst (λ l. IsKept cs l a was) (sym (append-nil _) ∙ ap (λ l. hears_of e (take n hs) ++ l) what ∙ more) i.2)
     ]
 
 pub returns-clause-kept : goal.returns-clause-kept
 returns-clause-kept g c = λ d at.
     (let i = c.loop-host.invariant in
-    let cs = c.args.shared.now.cells.items in
+    let cs = c.args.workplace.now.shared.now.cells.items in
     let le : length c.hosts-hosts.result.now ≤ c.loop-host.host-index = let t = c.loop-host-test.false in omega arith in
     let cell : c.index.result.now ≡ d = c.index.ensures ∙ get_or_same cs c.args.k c.index.result.now d c.requires.busy.there ∙ sym at in
     let hosts = take_all c.loop-host.host-index c.hosts-hosts.result.now le ∙ c.hosts-hosts.ensures.value ∙ ap (λ (k : Config). k.hosts) c.config.ensures ∙ ap (λ (x : CellSight). x.config.hosts) cell in

@@ -4,5 +4,5 @@ use Rattle.workers.proofs.worker.Worker.tell_others.Given as goal
 
 abbrev pub invariant-loop-host : goal.invariant-loop-host
 invariant-loop-host g l =
-    IsBusy l.shared.cells.items l.shared.queue l.k l.self × SamePlaces l.fn.self.walks.items l.self.walks.items
-    × IsKept l.shared.cells.items (hears_of l.emission (take l.host-index l.hosts)) l.fn.self l.self
+    IsBusy l.workplace.shared.now.cells.items l.workplace.shared.now.queue l.k l.self × SamePlaces l.fn.self.walks.items l.self.walks.items
+    × IsKept l.workplace.shared.now.cells.items (hears_of l.emission (take l.host-index l.hosts)) l.fn.self l.self

@@ -14,5 +14,5 @@ loop-preserved g c =
     let t = c.in-Some-take.ensures in
     let e = c.serve.ensures in (
       e.ready,
-      kept_both c.args.shared.now.cells.items [] [] _ c.loop.self _ i.1 (kept_taken c.args.shared.now.cells.items c.loop.self c.take.new.self c.serve.new.self c.in-Some-take.job t.same.0 t.same.1 t.same.2 t.take e.kept),
+      kept_both c.args.workplace.now.shared.now.cells.items [] [] _ c.loop.self _ i.1 (kept_taken c.args.workplace.now.shared.now.cells.items c.loop.self c.take.new.self c.serve.new.self c.in-Some-take.job t.same.0 t.same.1 t.same.2 t.take e.kept),
     )
