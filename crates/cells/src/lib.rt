@@ -17,7 +17,7 @@ mod seat;
 mod watched;
 
 pub use cell::Cell;
-pub use cell::acts::SeatsMissing;
+pub use cell::acts::{CellUsers, SeatsMissing};
 pub use receipt::Receipt;
 pub use refusal::CellRefusal;
 pub use seat::Seat;

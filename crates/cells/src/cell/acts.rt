@@ -35,6 +35,15 @@ pub struct SeatsMissing<S: Shelf, H: Wait + Drop> {
     pub seats: Vec<Seat<S, H>>,
 }
 
+/// How many use a cell: its seats, by which threads apply events, and the watches of what it decides.
+#[derive(Clone, Copy)]
+pub struct CellUsers {
+    /// The seats.
+    pub seats: u64,
+    /// The watches.
+    pub watches: usize,
+}
+
 /// Whether a seat has this number.
 fn has<S: Shelf, H: Wait + Drop>(seats: &[Seat<S, H>], number: u64) -> bool
     ensures { IsTrue result ↔ HasNumber seats.now number }
@@ -140,18 +149,18 @@ impl<S: Shelf + Drop, H: Wait + Drop + Copy> Cell<S, H> {
         rt: &H,
         alloc: Global,
         config: NetConfig,
-        seats: u64,
         shelf: S,
-        watches: usize,
+        users: CellUsers,
     ) -> Result<(Cell<S, H>, Vec<Seat<S, H>>, Vec<Watch>), AllocError>
-        requires some { 0 < seats }
-        requires few { (seats ≤ 64) × (watches ≤ 64) }
-        ensures cell { IfOk result (λ r. (r.0.config ≡ config) × (r.0.seats ≡ seats)) }
-        ensures seats { IfOk result (λ r. length r.1.items ≡ seats) }
-        ensures fresh { IfOk result (λ r. AllFresh r.0.cell config seats r.1.items) }
+        requires some { 0 < users.seats }
+        requires few { (users.seats ≤ 64) × (users.watches ≤ 64) }
+        ensures cell { IfOk result (λ r. (r.0.config ≡ config) × (r.0.seats ≡ users.seats)) }
+        ensures seats { IfOk result (λ r. length r.1.items ≡ users.seats) }
+        ensures fresh { IfOk result (λ r. AllFresh r.0.cell config users.seats r.1.items) }
         ensures theirs { IfOk result (λ r. All (IsSeatOf r.0) r.1.items) }
-        ensures watches { IfOk result (λ r. r.2.items ≡ replicate watches []) }
+        ensures watches { IfOk result (λ r. r.2.items ≡ replicate users.watches []) }
     {
+        let CellUsers { seats, watches } = users;
         let kept = config.try_copy(alloc)?;
         let mut all = Vec::with_capacity(alloc, seats as usize)?;
         let publisher = Publisher::new(alloc, *rt, watches + 1)?;
@@ -190,7 +199,8 @@ impl<S: Shelf + Drop, H: Wait + Drop + Copy> Cell<S, H> {
         ensures fresh { IfOk result (λ r. AllFresh r.0.cell config seats r.1.items) }
         ensures theirs { IfOk result (λ r. All (IsSeatOf r.0) r.1.items) }
     {
-        let (cell, all, _watches) = Cell::open_watched(rt, alloc, config, seats, shelf, 0)?;
+        let users = CellUsers { seats, watches: 0 };
+        let (cell, all, _watches) = Cell::open_watched(rt, alloc, config, shelf, users)?;
         Ok((cell, all))
     }
 }

@@ -2,7 +2,7 @@
 
 ghost use Rattle.std.specs.Prelude.{◌≡◌, ◌<◌, ◌≤◌};
 
-use cells::{Cell, CellRefusal, Receipt, Seat};
+use cells::{Cell, CellRefusal, CellUsers, Receipt, Seat};
 use configuration::{Budgets, Host, NetConfig};
 use decisions::{Board, Watch};
 use envstore::{SharedHandle, Shelf, VecShelf};
@@ -71,7 +71,8 @@ pub(super) fn watched<R: Wait + Drop + Copy>(
 {
     let shelf = VecShelf::new(alloc);
     let config = config(alloc, 1000)?;
-    let (cell, seats, watches) = Cell::open_watched(rt, alloc, config, seats, shelf, 1).ok()?;
+    let users = CellUsers { seats, watches: 1 };
+    let (cell, seats, watches) = Cell::open_watched(rt, alloc, config, shelf, users).ok()?;
     let mut watches = watches;
     Some((Room { cell, seats }, watches.pop()?))
 }
