@@ -1,6 +1,6 @@
 //! Hosts run by several workers, with gates that hold jobs up.
 
-use fixtures::{Tally, close_all, joined, numbers_closed, openings, proposals, run_jobs};
+use fixtures::{Offer, Tally, close_all, joined, numbers_closed, openings, proposals, run_jobs};
 use std::sync::Wait;
 use std::sync::atomic::{AtomicU64, Ordering};
 use std::test::Fail;
@@ -126,7 +126,7 @@ fn two_workers_apply_at_once(rt: HostRuntime) -> Result<(), Fail> {
         met: AtomicU64::new(0),
         left: AtomicU64::new(0),
     };
-    let report = run_jobs(&rt, alloc, &mut host, (8, 2), jobs, &gate).ok_or("memory")?;
+    let report = run_jobs(&rt, alloc, &mut host, Offer::new(8, 2, jobs), &gate).ok_or("memory")?;
     assert_eq!(rt; (report.applied, report.refused, report.unrun), (2, 0, 0));
     assert_eq!(rt; gate.first.load(Ordering::SeqCst), 1);
     assert_eq!(rt; gate.second.load(Ordering::SeqCst), 1);
@@ -143,7 +143,7 @@ fn a_network_that_is_held_up_holds_up_no_other(rt: HostRuntime) -> Result<(), Fa
     let gate = Holding {
         released: AtomicU64::new(0),
     };
-    let report = run_jobs(&rt, alloc, &mut host, (8, 2), jobs, &gate).ok_or("memory")?;
+    let report = run_jobs(&rt, alloc, &mut host, Offer::new(8, 2, jobs), &gate).ok_or("memory")?;
     assert_eq!(rt; (report.applied, report.refused, report.unrun), (2, 0, 0));
     let tally = close_all(&rt, alloc, &mut host).ok_or("not closed")?;
     assert_eq!(rt; tally.entries, 2);
@@ -155,10 +155,10 @@ fn a_queue_of_one_place_loses_no_job(rt: HostRuntime) -> Result<(), Fail> {
     let alloc = rt.alloc();
     let mut host = joined(&rt, alloc, 3, 3, 2).ok_or("memory")?;
     let jobs = openings(alloc, 3).ok_or("memory")?;
-    let opened = run_jobs(&rt, alloc, &mut host, (1, 2), jobs, &Open).ok_or("memory")?;
+    let opened = run_jobs(&rt, alloc, &mut host, Offer::new(1, 2, jobs), &Open).ok_or("memory")?;
     assert_eq!(rt; (opened.applied, opened.refused, opened.unrun), (3, 0, 0));
     let jobs = proposals(alloc, 3, 3).ok_or("memory")?;
-    let report = run_jobs(&rt, alloc, &mut host, (1, 2), jobs, &Open).ok_or("memory")?;
+    let report = run_jobs(&rt, alloc, &mut host, Offer::new(1, 2, jobs), &Open).ok_or("memory")?;
     let tally = close_all(&rt, alloc, &mut host).ok_or("not closed")?;
     // Nine proposals, and for each emission a job for each of the two other nodes.
     let served = report.applied.saturating_add(report.refused);
@@ -177,10 +177,10 @@ fn four_workers_with_a_slow_gate_apply_each_job_once(rt: HostRuntime) -> Result<
         after: AtomicU64::new(0),
     };
     let jobs = openings(alloc, 6).ok_or("memory")?;
-    let opened = run_jobs(&rt, alloc, &mut host, (16, 4), jobs, &gate).ok_or("memory")?;
+    let opened = run_jobs(&rt, alloc, &mut host, Offer::new(16, 4, jobs), &gate).ok_or("memory")?;
     assert_eq!(rt; opened.applied, 6);
     let jobs = proposals(alloc, 6, 3).ok_or("memory")?;
-    let report = run_jobs(&rt, alloc, &mut host, (16, 4), jobs, &gate).ok_or("memory")?;
+    let report = run_jobs(&rt, alloc, &mut host, Offer::new(16, 4, jobs), &gate).ok_or("memory")?;
     let tally = close_all(&rt, alloc, &mut host).ok_or("not closed")?;
     let served = report
         .applied
@@ -202,9 +202,9 @@ fn what_a_full_queue_hands_back_is_applied_at_once(rt: HostRuntime) -> Result<()
     let mut host = joined(&rt, alloc, 3, 1, 1).ok_or("memory")?;
     // Network 5 is not there.
     let jobs = openings(alloc, 5).ok_or("memory")?;
-    let (queue, offered) = fixtures::offer_jobs(&rt, alloc, &mut host, (2, 1), jobs, &Open).ok_or(
-        "memory",
-    )?;
+    let offer = Offer::new(2, 1, jobs);
+    let made = fixtures::offer_jobs(&rt, alloc, &mut host, offer, &Open);
+    let (queue, offered) = made.ok_or("memory")?;
     assert_eq!(rt;
         (offered.applied, offered.refused, offered.unrun),
         (1, 2, 0)
@@ -221,7 +221,7 @@ fn what_follows_from_a_job_comes_before_the_next_job(rt: HostRuntime) -> Result<
     let alloc = rt.alloc();
     let mut host = joined(&rt, alloc, 2, 3, 1).ok_or("memory")?;
     let jobs = openings(alloc, 2).ok_or("memory")?;
-    let opened = run_jobs(&rt, alloc, &mut host, (64, 1), jobs, &Open).ok_or("memory")?;
+    let opened = run_jobs(&rt, alloc, &mut host, Offer::new(64, 1, jobs), &Open).ok_or("memory")?;
     assert_eq!(rt; opened.applied, 2);
     let gate = Turns {
         network: AtomicU64::new(0),
@@ -229,7 +229,7 @@ fn what_follows_from_a_job_comes_before_the_next_job(rt: HostRuntime) -> Result<
     };
     // Network 1 and network 2 by turns, three times.
     let jobs = proposals(alloc, 2, 3).ok_or("memory")?;
-    let report = run_jobs(&rt, alloc, &mut host, (64, 1), jobs, &gate).ok_or("memory")?;
+    let report = run_jobs(&rt, alloc, &mut host, Offer::new(64, 1, jobs), &gate).ok_or("memory")?;
     let tally = close_all(&rt, alloc, &mut host).ok_or("not closed")?;
     let served = report.applied.saturating_add(report.refused);
     assert_eq!(rt; served, tally.emissions.saturating_mul(2).saturating_add(6));
@@ -243,13 +243,13 @@ fn four_workers_leave_journals_of_one_thread(rt: HostRuntime) -> Result<(), Fail
     let alloc = rt.alloc();
     let mut host = joined(&rt, alloc, 4096, 3, 4).ok_or("memory")?;
     let jobs = openings(alloc, 4096).ok_or("memory")?;
-    let opened = run_jobs(&rt, alloc, &mut host, (256, 4), jobs, &Open).ok_or("memory")?;
+    let opened = run_jobs(&rt, alloc, &mut host, Offer::new(256, 4, jobs), &Open).ok_or("memory")?;
     assert_eq!(rt;
         (opened.applied, opened.refused, opened.unrun),
         (4096, 0, 0)
     );
     let jobs = proposals(alloc, 4096, 3).ok_or("memory")?;
-    let report = run_jobs(&rt, alloc, &mut host, (256, 4), jobs, &Open).ok_or("memory")?;
+    let report = run_jobs(&rt, alloc, &mut host, Offer::new(256, 4, jobs), &Open).ok_or("memory")?;
     // Each journal is applied once more by one thread, which gives out the same.
     let tally = close_all(&rt, alloc, &mut host).ok_or("not closed")?;
     assert_eq!(rt; tally.entries, report.applied.saturating_add(4096));

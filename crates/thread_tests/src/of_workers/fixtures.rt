@@ -12,7 +12,7 @@ use std::sync::Wait;
 use std::thread::Threads;
 use types::{Bytes, Event, Member, Nested, NodeId, Out, SliceSet};
 use work::{Job, Pass, Queue};
-use workers::{Gate, Host, Report, offer, run};
+use workers::{Gate, Host, Report, run};
 
 /// How much the journals of a host have, and their seats.
 #[derive(Clone, Copy)]
@@ -123,21 +123,40 @@ pub(super) fn proposals(alloc: Global, networks: u32, nodes: u64) -> Option<Vec<
     Some(jobs)
 }
 
-/// A queue of so many places and passes, to which the jobs were offered.
+/// Jobs that are to be offered to a queue of so many places and passes.
+#[derive(Drop)]
+pub(super) struct Offer {
+    pub places: usize,
+    pub passes: usize,
+    pub jobs: Vec<Job>,
+}
+
+impl Offer {
+    /// These.
+    pub(super) fn new(places: usize, passes: usize, jobs: Vec<Job>) -> Offer
+        ensures { (result.places ≡ places) × (result.passes ≡ passes) }
+    {
+        Offer {
+            places,
+            passes,
+            jobs,
+        }
+    }
+}
+
+/// A queue to which the jobs were offered.
 pub(super) fn offer_jobs<R: Wait + Drop, G: Gate>(
     rt: &R,
     alloc: Global,
     host: &mut Host<SharedHandle<R>, R>,
-    size: (usize, usize),
-    jobs: Vec<Job>,
+    offer: Offer,
     gate: &G,
 ) -> Option<((Queue, Vec<Pass>), Report)>
-    requires { (0 < size.0) × (size.0 ≤ 65536) × (0 < size.1) × (size.1 ≤ 64) }
+    requires { (0 < offer.places) × (offer.places ≤ 65536) × (0 < offer.passes) × (offer.passes ≤ 64) }
     ensures { IfSome result (λ r. AllPasses (IsOf r.0.0) r.0.1.items × (parts_by r.0.1.items ≡ 64)) }
 {
-    let (places, passes) = size;
-    match Queue::new(alloc, places, passes) {
-        Ok(queue) => Some(offer(rt, host, queue, jobs, gate)),
+    match Queue::new(alloc, offer.places, offer.passes) {
+        Ok(queue) => Some(workers::offer(rt, host, queue, offer.jobs, gate)),
         Err(_) => None,
     }
 }
@@ -156,19 +175,19 @@ pub(super) fn run_offered<R: Threads + Wait + Sync + Send + Drop, G: Gate + Sync
     run(rt, host, queue, workers, gate)
 }
 
-/// The jobs are offered to a queue of so many places, and run by so many workers.
+/// The jobs are offered to their queue, and run by as many workers as it has passes.
 pub(super) fn run_jobs<R: Threads + Wait + Sync + Send + Drop, G: Gate + Sync>(
     rt: &R,
     alloc: Global,
     host: &mut Host<SharedHandle<R>, R>,
-    size: (usize, usize),
-    jobs: Vec<Job>,
+    offer: Offer,
     gate: &G,
 ) -> Option<Report>
-    requires { (0 < size.0) × (size.0 ≤ 65536) × (0 < size.1) × (size.1 ≤ 64) }
+    requires { (0 < offer.places) × (offer.places ≤ 65536) × (0 < offer.passes) × (offer.passes ≤ 64) }
 {
-    let (queue, offered) = offer_jobs(rt, alloc, host, size, jobs, gate)?;
-    let ran = run_offered(rt, host, queue, size.1, gate);
+    let threads = offer.passes;
+    let (queue, offered) = offer_jobs(rt, alloc, host, offer, gate)?;
+    let ran = run_offered(rt, host, queue, threads, gate);
     Some(Report {
         applied: offered.applied.saturating_add(ran.applied),
         refused: offered.refused.saturating_add(ran.refused),
