@@ -20,7 +20,7 @@ use Rattle.command_line.specs.Options.{AsksExplanation, AsksFormat, HasFormWith,
 use Rattle.command_line.specs.CommandLine.{IsCall, call_in, closure_of, closure_with, compare_of, compare_with, crowd_of, crowd_with, run_of, run_with, table_of, table_with}
 use Rattle.command_line.specs.declared.call.Call.{Call}
 use Rattle.command_line.specs.declared.call.Call.TheVariants.{Table, Run, Closure, Compare, Crowd}
-use Rattle.command_line.specs.declared.subject.Subject.{Subject}
+use Rattle.types.specs.declared.subject.Subject.{Subject}
 use Rattle.command_line.specs.declared.subject.Format.{Format}
 use Rattle.command_line.specs.declared.subject.Format.TheVariants as format
 

@@ -4,7 +4,7 @@ use Rattle.std.specs.Str.{bytes_eq}
 use Rattle.scripts.specs.Names.{word_name}
 use Rattle.scripts.specs.Words.{word_number}
 use Rattle.command_line.specs.Words.{Text}
-use Rattle.command_line.specs.declared.subject.Subject.{Subject}
+use Rattle.types.specs.declared.subject.Subject.{Subject}
 use Rattle.command_line.specs.declared.subject.Format.{Format}
 use Rattle.command_line.specs.declared.subject.Format.TheVariants as format
 

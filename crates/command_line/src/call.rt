@@ -14,12 +14,13 @@ use crate::help::ask_for_help;
 use crate::operands::{explain_and_operands, form_and_operands, operands_of};
 use crate::pool_option::pool_and_operands;
 use crate::pool_size::PoolSize;
-use crate::subject::{Format, Subject, subject_of};
+use crate::subject::{Format, subject_of};
 use crate::word::Word;
 use clap::Error;
 use clap::error::ErrorKind;
 use std::alloc::{AllocError, Global};
 use std::convert::AsStr;
+use types::Subject;
 
 /// What the command line asks for: one variant a command, with its words.
 #[derive(Drop)]

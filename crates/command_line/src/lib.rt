@@ -14,5 +14,5 @@ mod word;
 
 pub use call::{Call, Usage, read_call};
 pub use pool_size::{MAX_WORKERS, PoolSize};
-pub use subject::{Format, Subject};
+pub use subject::Format;
 pub use word::Word;

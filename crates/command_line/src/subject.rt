@@ -6,18 +6,7 @@ ghost use Rattle.command_line.specs.Subjects.{format_in, subject_in};
 
 use scripts::{counter_of, name_of, number_of};
 use std::convert::AsStr;
-use types::NodeId;
-
-/// The node of a network, at a slot, that a command asks about.
-#[derive(Clone, Copy)]
-pub struct Subject {
-    /// The number of the network.
-    pub net: u32,
-    /// The slot.
-    pub slot: u64,
-    /// The name of the node.
-    pub node: NodeId,
-}
+use types::Subject;
 
 /// The form of a report.
 #[derive(Clone, Copy, Debug, PartialEq, Eq)]

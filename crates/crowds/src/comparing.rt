@@ -20,11 +20,11 @@ use crate::verdict::Crowd;
 use closure::{ClosureList, closure};
 use protocol::members_are_never_crowded_out;
 use std::alloc::{AllocError, Global};
-use types::NodeId;
+use types::Subject;
 
-/// Compares what was submitted to a network in two submissions, by the closure of a node at a slot in the run
-/// of the first, and answers the replies where all that is reserved and all that concerns the closure are the
-/// same (this host's profile). A submission that does not declare the network hosts nobody there.
+/// Compares what was submitted to the network of a subject in two submissions, by the closure of its node at its
+/// slot in the run of the first, and answers the replies where all that is reserved and all that concerns the
+/// closure are the same (this host's profile). A submission that does not declare the network hosts nobody there.
 ///
 /// Whatever is answered, want of memory included: where both networks host the members of the closure alike,
 /// have one roster with equal shares and equal budgets of open slots, the closure lies in the roster, and the
@@ -36,23 +36,21 @@ pub fn crowd(
     alloc: Global,
     one: &Submission,
     other: &Submission,
-    net: u32,
-    slot: u64,
-    node: &NodeId,
+    subject: &Subject,
 ) -> Result<Crowd, AllocError>
-    ensures verdict { IfOk result (IsCrowdHere one.now other.now net slot node.now) }
-    ensures never_crowded_out { AreNeverCrowdedOut one.now other.now net slot node.now }
+    ensures verdict { IfOk result (IsCrowdHere one.now other.now subject.now.net subject.now.slot subject.now.node) }
+    ensures never_crowded_out { AreNeverCrowdedOut one.now other.now subject.now.net subject.now.slot subject.now.node }
 {
-    are_never_crowded_out(one, other, net, slot, node);
-    let Some(config) = one.config(net) else {
-        return Ok(Crowd::CastDiffers(*node));
+    are_never_crowded_out(one, other, subject);
+    let Some(config) = one.config(subject.net) else {
+        return Ok(Crowd::CastDiffers(subject.node));
     };
-    if slices_among(one.hosts(net), node).is_none() {
-        return Ok(Crowd::CastDiffers(*node));
+    if slices_among(one.hosts(subject.net), &subject.node).is_none() {
+        return Ok(Crowd::CastDiffers(subject.node));
     }
-    let journal = replay(alloc, one, config, net)?;
-    let members = closure(alloc, &journal, slot, node)?;
-    crowd_among(alloc, one, other, net, slot, node, &members)
+    let journal = replay(alloc, one, config, subject.net)?;
+    let members = closure(alloc, &journal, subject.slot, &subject.node)?;
+    crowd_among(alloc, one, other, subject, &members)
 }
 
 /// The same, where the first network hosts the node, by the members of its closure.
@@ -60,16 +58,16 @@ fn crowd_among(
     alloc: Global,
     one: &Submission,
     other: &Submission,
-    net: u32,
-    slot: u64,
-    node: &NodeId,
+    subject: &Subject,
     members: &ClosureList,
 ) -> Result<Crowd, AllocError>
-    requires hosted { IsTrue (is_some (slices_of (hosts_of one.now.configs net) node.now)) }
-    requires members { (u : ℕ) → among (names_of members.now) u ≡ closure (hosts_of one.now.configs net) slot node.now (entries reading one.now net) u }
-    ensures { IfOk result (IsCrowdHere one.now other.now net slot node.now) }
+    requires hosted { IsTrue (is_some (slices_of (hosts_of one.now.configs subject.now.net) subject.now.node)) }
+    requires members { (u : ℕ) → among (names_of members.now) u ≡ closure (hosts_of one.now.configs subject.now.net) subject.now.slot subject.now.node (entries reading one.now subject.now.net) u }
+    ensures { IfOk result (IsCrowdHere one.now other.now subject.now.net subject.now.slot subject.now.node) }
 {
-    are_never_crowded_out(one, other, net, slot, node);
+    are_never_crowded_out(one, other, subject);
+    let net = subject.net;
+    let slot = subject.slot;
     if let Some(name) = least_unlike(one.hosts(net), other.hosts(net), members) {
         return Ok(Crowd::CastDiffers(name));
     }
@@ -98,8 +96,8 @@ fn crowd_among(
 }
 
 /// Nobody crowds out the members of a closure that the roster holds.
-fn are_never_crowded_out(one: &Submission, other: &Submission, net: u32, slot: u64, node: &NodeId)
-    ensures { AreNeverCrowdedOut one.now other.now net slot node.now }
+fn are_never_crowded_out(one: &Submission, other: &Submission, subject: &Subject)
+    ensures { AreNeverCrowdedOut one.now other.now subject.now.net subject.now.slot subject.now.node }
 {
     members_are_never_crowded_out();
 }

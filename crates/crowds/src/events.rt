@@ -51,7 +51,16 @@ fn is_same_event(one: &Event, other: &Event) -> bool
             from,
             kind,
             number,
-        } => is_hearing(other, *slot, node, from, *kind, *number),
+        } => {
+            let sought = Hearing {
+                slot: *slot,
+                node,
+                from,
+                kind: *kind,
+                number: *number,
+            };
+            is_hearing(other, &sought)
+        }
         Event::NominationTimer { slot, node, round } => {
             is_nomination_timer(other, *slot, node, *round)
         }
@@ -110,16 +119,19 @@ fn is_delivery(event: &Event, sought_node: &NodeId, sought_bytes: &Bytes) -> boo
     }
 }
 
-/// Whether by an event this node hears the emission of this sender, kind and number at this slot.
-fn is_hearing(
-    event: &Event,
-    sought: u64,
-    sought_node: &NodeId,
-    sought_from: &NodeId,
-    sought_kind: Kind,
-    sought_number: u64,
-) -> bool
-    ensures { IsTrue result ↔ Hear sought sought_node.now sought_from.now sought_kind sought_number ≡ event.now }
+/// A node hears at a slot the emission of a sender that has this kind and number.
+#[derive(Clone, Copy)]
+struct Hearing<'a> {
+    slot: u64,
+    node: &'a NodeId,
+    from: &'a NodeId,
+    kind: Kind,
+    number: u64,
+}
+
+/// Whether by an event this is heard.
+fn is_hearing(event: &Event, sought: &Hearing<'_>) -> bool
+    ensures { IsTrue result ↔ Hear sought.now.slot sought.now.node.now sought.now.from.now sought.now.kind sought.now.number ≡ event.now }
 {
     match event {
         Event::Hear {
@@ -129,11 +141,11 @@ fn is_hearing(
             kind,
             number,
         } => {
-            sought == *slot
-                && sought_node.is_same(node)
-                && sought_from.is_same(from)
-                && sought_kind == *kind
-                && sought_number == *number
+            sought.slot == *slot
+                && sought.node.is_same(node)
+                && sought.from.is_same(from)
+                && sought.kind == *kind
+                && sought.number == *number
         }
         _ => false,
     }

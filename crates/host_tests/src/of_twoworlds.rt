@@ -8,7 +8,8 @@ use std::alloc::Global;
 use std::test::Fail;
 use twoworlds::{MemberOuts, Verdict, compare, compare_all};
 use types::{
-    Ballot, Bytes, Envelope, Event, Member, Nested, NodeId, Out, SliceSet, Statement, Value,
+    Ballot, Bytes, Envelope, Event, Member, Nested, NodeId, Out, SliceSet, Statement, Subject,
+    Value,
 };
 
 type Told = World<VecShelf>;
@@ -16,6 +17,15 @@ type Told = World<VecShelf>;
 /// The name of a number.
 fn name(number: u64) -> NodeId {
     NodeId::from_words(0, 0, 0, number)
+}
+
+/// The node of a number, at a slot of a network.
+fn subject(net: u32, slot: u64, number: u64) -> Subject {
+    Subject {
+        net,
+        slot,
+        node: name(number),
+    }
 }
 
 /// Slices by which so many of these nodes are wanted.
@@ -171,12 +181,12 @@ fn are_those_one_by_one(
     alloc: Global,
     one: &Told,
     other: &Told,
-    questions: &[(u32, u64, NodeId)],
+    subjects: &[Subject],
     verdicts: &[Verdict],
 ) -> Option<bool> {
-    let mut same = verdicts.len() == questions.len();
-    for ((net, slot, node), verdict) in questions.iter().zip(verdicts) {
-        let alone = compare(alloc, one, other, *net, *slot, node).ok()?;
+    let mut same = verdicts.len() == subjects.len();
+    for (subject, verdict) in subjects.iter().zip(verdicts) {
+        let alone = compare(alloc, one, other, subject).ok()?;
         same = same && is_same_verdict(verdict, &alone);
     }
     Some(same)
@@ -238,19 +248,19 @@ fn many_questions_are_answered_as_each_alone(rt: HostRuntime) -> Result<(), Fail
     let alloc = rt.alloc();
     let one = quiet(alloc).ok_or("memory")?;
     let other = flood(alloc).ok_or("memory")?;
-    let questions = [
-        (1, 1, name(1)),
-        (1, 1, name(2)),
-        (2, 1, name(1)),
-        (3, 1, name(1)),
-        (4, 1, name(1)),
-        (5, 1, name(1)),
-        (1, 2, name(1)),
-        (2, 1, name(1)),
+    let subjects = [
+        subject(1, 1, 1),
+        subject(1, 1, 2),
+        subject(2, 1, 1),
+        subject(3, 1, 1),
+        subject(4, 1, 1),
+        subject(5, 1, 1),
+        subject(1, 2, 1),
+        subject(2, 1, 1),
     ];
-    let verdicts = compare_all(&rt, alloc, &one, &other, &questions)?;
+    let verdicts = compare_all(&rt, alloc, &one, &other, &subjects)?;
     assert!(rt; are_expected(&verdicts));
-    let alone = are_those_one_by_one(alloc, &one, &other, &questions, &verdicts);
+    let alone = are_those_one_by_one(alloc, &one, &other, &subjects, &verdicts);
     assert!(rt; alone.ok_or("memory")?);
     Ok(())
 }

@@ -12,7 +12,7 @@ use Rattle.scphost.specs.Scripts.{IsSubmittedBy, IsTold, Story}
 use Rattle.scphost.specs.declared.answer.Answer.{Answer}
 use Rattle.command_line.specs.declared.call.Call.TheVariants.{Run}
 use Rattle.command_line.specs.declared.subject.Format.{Format}
-use Rattle.command_line.specs.declared.subject.Subject.{Subject}
+use Rattle.types.specs.declared.subject.Subject.{Subject}
 
 -- an answer is printed
 pub has-reported : (format : Format) (subject : Subject) (file old new : Option Bytes) (status : ℕ) (story : Story) (a : Answer) → IsTold false file story

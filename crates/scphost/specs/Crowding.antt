@@ -14,7 +14,7 @@ use Rattle.crowds.specs.declared.verdict.Crowd.TheVariants.{CastDiffers, RosterD
 use Rattle.runs.specs.Replies.{behind_space, refusal_text}
 use Rattle.command_line.specs.Words.{Text}
 use Rattle.scphost.specs.declared.answer.Answer.{Answer}
-use Rattle.command_line.specs.declared.subject.Subject.{Subject}
+use Rattle.types.specs.declared.subject.Subject.{Subject}
 
 -- the text with a line feed (10) behind it
 abbrev pub line : Text → Text

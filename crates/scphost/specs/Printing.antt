@@ -13,7 +13,7 @@ use Rattle.scphost.specs.declared.answer.Answer.{Answer}
 use Rattle.command_line.specs.declared.call.Call.{Call}
 use Rattle.command_line.specs.declared.call.Call.TheVariants.{Run, Closure, Compare, Crowd}
 use Rattle.command_line.specs.declared.subject.Format.{Format}
-use Rattle.command_line.specs.declared.subject.Subject.{Subject}
+use Rattle.types.specs.declared.subject.Subject.{Subject}
 
 -- the whole answer is written, with 1 for a difference, or a write failed
 abbrev pub IsPrinted : Answer → Option Bytes → Option Bytes → ℕ → Type 0

@@ -10,7 +10,7 @@ use Rattle.explorer.specs.Texts.{text_of_report}
 use Rattle.scphost.specs.declared.answer.Answer.{Answer}
 use Rattle.command_line.specs.declared.subject.Format.{Format}
 use Rattle.command_line.specs.declared.subject.Format.TheVariants as format
-use Rattle.command_line.specs.declared.subject.Subject.{Subject}
+use Rattle.types.specs.declared.subject.Subject.{Subject}
 
 -- the closure of a node at a slot of a network, and who blocks whom in it; where there is no such network, that is the node alone
 pub record IsReportOf (log : Option Log) (slot node : ℕ) (r : Shown) : Type 0 where

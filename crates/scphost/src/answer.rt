@@ -3,6 +3,7 @@
 ghost use Rattle.std.specs.Prelude.{OnOk, string_bytes};
 ghost use Rattle.std.specs.Io.KnownBytes.{Appends};
 
+use crate::outputs::Outputs;
 use crate::perform::{DIFFERS, DONE, print_stop};
 use scripts::Stop;
 use std::io;
@@ -21,11 +22,11 @@ impl Answer {
     ghost use Rattle.scphost.specs.Printing.{IsPrinted};
 
     /// Prints the answer, and gives the exit status.
-    pub fn print<W: Write, E: Write>(&self, out: &mut W, err: &mut E) -> u8
-        ensures { IsPrinted self.now (W.contents out.old) (W.contents out.new) result }
+    pub fn print<W: Write, E: Write>(&self, outputs: &mut Outputs<W, E>) -> u8
+        ensures { IsPrinted self.now (W.contents outputs.old.out) (W.contents outputs.new.out) result }
     {
-        if self.write(out).is_err() {
-            return print_stop(Stop::CannotWrite, "", err);
+        if self.write(&mut outputs.out).is_err() {
+            return print_stop(Stop::CannotWrite, "", &mut outputs.err);
         }
         if self.differs { DIFFERS } else { DONE }
     }

@@ -8,12 +8,11 @@ ghost use Rattle.scphost.specs.Comparisons.{IsComparison, is_difference, line_of
 use crate::answer::Answer;
 use crate::explaining::{push_nodes, push_steps};
 use crate::quiet::FinishedScript;
-use command_line::Subject;
 use runs::push_outs;
 use scripts::push_name;
 use std::alloc::{AllocError, Global};
 use twoworlds::{MemberOuts, Verdict, compare};
-use types::NodeId;
+use types::{NodeId, Subject};
 
 /// A script that has been run, and the name of its file.
 #[derive(Clone, Copy)]
@@ -24,26 +23,29 @@ pub struct Side<'a> {
     pub script: &'a FinishedScript,
 }
 
+/// Two scripts that have been run.
+#[derive(Clone, Copy)]
+pub struct Sides<'a> {
+    /// The first one.
+    pub one: Side<'a>,
+    /// The second one.
+    pub other: Side<'a>,
+}
+
 /// Compares what concerns the subject in two scripts; where it is asked for, a difference is explained. An
 /// error says that memory is short.
 pub fn answer_compare(
     alloc: Global,
-    one: Side<'_>,
-    other: Side<'_>,
+    sides: &Sides<'_>,
     subject: &Subject,
     explain: bool,
 ) -> Result<Answer, AllocError>
-    ensures { IfOk result (IsComparison one.entry.script.now.run.hosting.logs other.entry.script.now.run.hosting.logs subject.now.net subject.now.slot subject.now.node explain) }
+    ensures { IfOk result (IsComparison sides.now.one.script.now.run.hosting.logs sides.now.other.script.now.run.hosting.logs subject.now.net subject.now.slot subject.now.node explain) }
 {
-    let verdict = compare(
-        alloc,
-        one.script.run().world(),
-        other.script.run().world(),
-        subject.net,
-        subject.slot,
-        &subject.node,
-    )?;
-    let text = text_of_comparison(alloc, one, other, subject, explain, &verdict)?;
+    let one = sides.one.script.run().world();
+    let other = sides.other.script.run().world();
+    let verdict = compare(alloc, one, other, subject)?;
+    let text = text_of_comparison(alloc, sides, subject, explain, &verdict)?;
     let differs = is_difference(&verdict);
     Ok(Answer { differs, text })
 }
@@ -61,8 +63,7 @@ fn is_difference(verdict: &Verdict) -> bool
 /// The lines of a verdict, and behind them what explains a difference, where it is asked for.
 fn text_of_comparison(
     alloc: Global,
-    one: Side<'_>,
-    other: Side<'_>,
+    sides: &Sides<'_>,
     subject: &Subject,
     explain: bool,
     verdict: &Verdict,
@@ -71,7 +72,7 @@ fn text_of_comparison(
 {
     let mut text = text_of_verdict(alloc, verdict)?;
     if explain {
-        push_explanation(alloc, &mut text, one, other, subject, verdict)?;
+        push_explanation(alloc, &mut text, sides, subject, verdict)?;
     }
     Ok(text)
 }
@@ -80,15 +81,14 @@ fn text_of_comparison(
 fn push_explanation(
     alloc: Global,
     text: &mut String,
-    one: Side<'_>,
-    other: Side<'_>,
+    sides: &Sides<'_>,
     subject: &Subject,
     verdict: &Verdict,
 ) -> Result<(), AllocError> {
     match verdict {
         Verdict::Same(_) => Ok(()),
-        Verdict::CastDiffers(node) => push_nodes(text, one, other, subject.net, node),
-        Verdict::InputsDiffer(place) => push_steps(alloc, text, one, other, subject, *place),
+        Verdict::CastDiffers(node) => push_nodes(text, sides, subject.net, node),
+        Verdict::InputsDiffer(place) => push_steps(alloc, text, sides, subject, *place),
     }
 }
 

@@ -7,14 +7,13 @@ ghost use Rattle.scphost.specs.Crowding.{Tells, TellsCrowd, line, line_of_replie
 ghost use Rattle.scphost.specs.Scripts.{IsSubmittedBy};
 
 use crate::answer::Answer;
-use command_line::Subject;
 use crowds::{Crowd, Replies, Reply, Submission, crowd};
 use runs::{SubmissionRun, line_of_reply};
 use scripts::{Stop, push_name, run_script};
 use std::alloc::{AllocError, Global};
 use std::io;
 use std::io::Read;
-use types::NodeId;
+use types::{NodeId, Subject};
 
 /// Reads a script whole and runs its lines in order for what they submit, without printing. After the last
 /// one the networks that are declared with nodes and that no event has named are declared too. A line that is
@@ -41,7 +40,7 @@ pub fn answer_crowd(
 ) -> Result<Answer, AllocError>
     ensures { IfOk result (TellsCrowd one.now other.now subject.now) }
 {
-    let verdict = crowd(alloc, one, other, subject.net, subject.slot, &subject.node)?;
+    let verdict = crowd(alloc, one, other, subject)?;
     let answer = answer_verdict(alloc, &verdict)?;
     Ok(answer)
 }

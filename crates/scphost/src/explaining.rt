@@ -1,25 +1,23 @@
 //! Both sides of a difference between two scripts.
 
-use crate::comparing::Side;
+use crate::comparing::{Side, Sides};
 use closure::{Announcements, ClosureList, closure};
-use command_line::Subject;
 use envstore::VecShelf;
 use hoststep::{Journal, LentEvent};
 use scripts::{push_name, push_slices};
 use std::alloc::{AllocError, Global};
 use twoworlds::kept_entry;
-use types::{Kind, NodeId};
+use types::{Kind, NodeId, Subject};
 
 /// Adds a line for each side: how it hosts a node of a network.
 pub fn push_nodes(
     text: &mut String,
-    one: Side<'_>,
-    other: Side<'_>,
+    sides: &Sides<'_>,
     net: u32,
     node: &NodeId,
 ) -> Result<(), AllocError> {
-    push_node(text, one, net, node)?;
-    push_node(text, other, net, node)
+    push_node(text, sides.one, net, node)?;
+    push_node(text, sides.other, net, node)
 }
 
 /// Adds `FILE: node NET NAME SLICES`, or `FILE: not hosted`.
@@ -45,17 +43,16 @@ fn push_node(text: &mut String, side: Side<'_>, net: u32, node: &NodeId) -> Resu
 pub fn push_steps(
     alloc: Global,
     text: &mut String,
-    one: Side<'_>,
-    other: Side<'_>,
+    sides: &Sides<'_>,
     subject: &Subject,
     place: usize,
 ) -> Result<(), AllocError> {
-    let Some(journal) = one.script.run().world().journal(subject.net) else {
+    let Some(journal) = sides.one.script.run().world().journal(subject.net) else {
         return Ok(());
     };
     let members = closure(alloc, journal, subject.slot, &subject.node)?;
-    push_step(text, one, subject, &members, place)?;
-    push_step(text, other, subject, &members, place)
+    push_step(text, sides.one, subject, &members, place)?;
+    push_step(text, sides.other, subject, &members, place)
 }
 
 /// Adds `FILE:LINE: ..` with the line of the step, or `FILE: end` where there are fewer.

@@ -5,6 +5,7 @@ mod answer;
 mod comparing;
 mod crowding;
 mod explaining;
+mod outputs;
 mod perform;
 mod pooling;
 mod quiet;
@@ -13,6 +14,7 @@ mod reporting;
 mod tests;
 
 use command_line::{Call, Usage, read_call};
+use outputs::Outputs;
 use perform::{perform, perform_stream, print_stop, print_usage};
 use scripts::Stop;
 use std::io::{ErrorKind, Input, Read, Write};
@@ -24,11 +26,13 @@ use std::{env, fs, io};
 
 /// Reads the command line, carries out its call, and ends with its status.
 fn main(rt: HostRuntime) -> ExitCode {
-    let mut out = rt.stdout();
-    let mut err = rt.stderr();
+    let mut outputs = Outputs {
+        out: rt.stdout(),
+        err: rt.stderr(),
+    };
     let status = match read_command_line(&rt) {
-        Ok(call) => open_and_perform(&rt, &call, &mut out, &mut err),
-        Err(usage) => print_usage(&usage, &mut out, &mut err),
+        Ok(call) => open_and_perform(&rt, &call, &mut outputs),
+        Err(usage) => print_usage(&usage, &mut outputs),
     };
     ExitCode::from(status)
 }
@@ -51,13 +55,13 @@ fn open_and_perform<
     R: Files + Input + AllocGlobal + Threads + Wait + Sync + Send + Copy + Drop,
     W: Write,
     E: Write,
->(rt: &R, call: &Call, out: &mut W, err: &mut E) -> u8 {
+>(rt: &R, call: &Call, outputs: &mut Outputs<W, E>) -> u8 {
     match call {
         Call::Table { file }
         | Call::Run { script: file, .. }
-        | Call::Closure { script: file, .. } => perform_one(rt, call, file.as_str(), out, err),
+        | Call::Closure { script: file, .. } => perform_one(rt, call, file.as_str(), outputs),
         Call::Compare { first, second, .. } | Call::Crowd { first, second, .. } => {
-            perform_two(rt, call, first.as_str(), second.as_str(), out, err)
+            perform_two(rt, call, first.as_str(), second.as_str(), outputs)
         }
     }
 }
@@ -67,13 +71,13 @@ fn perform_one<
     R: Files + Input + AllocGlobal + Threads + Wait + Sync + Send + Copy + Drop,
     W: Write,
     E: Write,
->(rt: &R, call: &Call, file: &str, out: &mut W, err: &mut E) -> u8 {
+>(rt: &R, call: &Call, file: &str, outputs: &mut Outputs<W, E>) -> u8 {
     if file == "-" {
-        return perform_stream(rt, call, &mut rt.reader(), out, err);
+        return perform_stream(rt, call, &mut rt.reader(), outputs);
     }
     match fs::open(rt, file) {
-        Ok(mut opened) => perform(rt, call, &mut opened, &mut io::empty(), out, err),
-        Err(_) => print_stop(Stop::CannotRead, file, err),
+        Ok(mut opened) => perform(rt, call, &mut opened, &mut io::empty(), outputs),
+        Err(_) => print_stop(Stop::CannotRead, file, &mut outputs.err),
     }
 }
 
@@ -82,18 +86,18 @@ fn perform_two<
     R: Files + Input + AllocGlobal + Threads + Wait + Sync + Send + Copy + Drop,
     W: Write,
     E: Write,
->(rt: &R, call: &Call, one: &str, other: &str, out: &mut W, err: &mut E) -> u8 {
+>(rt: &R, call: &Call, one: &str, other: &str, outputs: &mut Outputs<W, E>) -> u8 {
     if one == "-" {
-        return perform_with_second(rt, call, &mut rt.reader(), other, out, err);
+        return perform_with_second(rt, call, &mut rt.reader(), other, outputs);
     }
     let mut first = match fs::open(rt, one) {
         Ok(first) => first,
-        Err(_) => return print_stop(Stop::CannotRead, one, err),
+        Err(_) => return print_stop(Stop::CannotRead, one, &mut outputs.err),
     };
     if other == "-" {
-        return perform(rt, call, &mut first, &mut rt.reader(), out, err);
+        return perform(rt, call, &mut first, &mut rt.reader(), outputs);
     }
-    perform_with_second(rt, call, &mut first, other, out, err)
+    perform_with_second(rt, call, &mut first, other, outputs)
 }
 
 /// Opens the second file of a call and carries it out. A `-` names no file here, since the first one is the
@@ -103,9 +107,9 @@ fn perform_with_second<
     F: Read,
     W: Write,
     E: Write,
->(rt: &R, call: &Call, first: &mut F, other: &str, out: &mut W, err: &mut E) -> u8 {
+>(rt: &R, call: &Call, first: &mut F, other: &str, outputs: &mut Outputs<W, E>) -> u8 {
     match fs::open(rt, other) {
-        Ok(mut second) => perform(rt, call, first, &mut second, out, err),
-        Err(_) => print_stop(Stop::CannotRead, other, err),
+        Ok(mut second) => perform(rt, call, first, &mut second, outputs),
+        Err(_) => print_stop(Stop::CannotRead, other, &mut outputs.err),
     }
 }

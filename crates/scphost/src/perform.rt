@@ -4,12 +4,13 @@ ghost use Rattle.std.specs.Prelude.{◌≡◌, ◌⊎◌, Err, IfSome};
 ghost use Rattle.scphost.specs.Printing.{HasAnswered, IsCompared, IsCrowd, IsPerformed, IsPooled, IsReported};
 ghost use Rattle.scphost.specs.Stops.{IsRefusal, IsStatus, IsStatusOf, status_of};
 
-use crate::comparing::{Side, answer_compare};
+use crate::comparing::{Side, Sides, answer_compare};
 use crate::crowding::{answer_crowd, read_submission};
+use crate::outputs::Outputs;
 use crate::pooling::answer_pool;
 use crate::quiet::FinishedScript;
 use crate::reporting::answer_closure;
-use command_line::{Call, Format, PoolSize, Subject, Usage, Word};
+use command_line::{Call, Format, PoolSize, Usage, Word};
 use runs::HostRun;
 use scripts::{LineRunner, Stop, run_script, run_stream};
 use std::alloc::Global;
@@ -18,6 +19,7 @@ use std::io::{BufRead, BufWriter, Read, Write};
 use std::sync::Wait;
 use std::thread::Threads;
 use tables::TableRun;
+use types::Subject;
 
 /// The status of a call that was carried out.
 pub const DONE: u8 = 0;
@@ -37,7 +39,7 @@ pub const NO_WRITE: u8 = 4;
 /// Carries out a call on the files that it names, in their order, of which the second is empty
 /// where it names one, and answers the exit status.
 ///
-/// What the call prints goes to `out`, and one line on what ended it early to `err`: status 2 for
+/// What the call prints goes to `outputs.out`, and one line on what ended it early to `outputs.err`: status 2 for
 /// a file that cannot be read, is too long or has a bad line, 3 for want of memory, 4 for a write
 /// to `out` that failed; status 1 is the answer of a comparison that finds a difference. Of `table` and
 /// `run` what lines before a bad one printed is written by then; `closure`, `compare` and `crowd` print
@@ -49,43 +51,82 @@ pub fn perform<
     T: Read,
     W: Write,
     E: Write,
->(rt: &A, call: &Call, first: &mut R, second: &mut T, out: &mut W, err: &mut E) -> u8
+>(rt: &A, call: &Call, first: &mut R, second: &mut T, outputs: &mut Outputs<W, E>) -> u8
     ensures status { IsStatus result }
-    ensures performed { IsPerformed call.now (R.remaining first.old) (T.remaining second.old) (W.contents out.old) (W.contents out.new) result }
+    ensures performed { IsPerformed call.now (R.remaining first.old) (T.remaining second.old) (W.contents outputs.old.out) (W.contents outputs.new.out) result }
 {
     let alloc = rt.alloc();
     match call {
         Call::Table { file } => {
-            let ran = run_whole(alloc, &mut TableRun::new(), first, out);
-            print_end(ran, file.as_str(), err)
+            let ran = run_whole(alloc, &mut TableRun::new(), first, &mut outputs.out);
+            print_end(ran, file.as_str(), &mut outputs.err)
         }
-        Call::Run { script, workers } => perform_run(rt, *workers, script, first, out, err),
+        Call::Run { script, workers } => perform_run(rt, *workers, script, first, outputs),
         Call::Closure {
             script,
             subject,
             format,
-        } => perform_closure(alloc, script, subject, *format, first, out, err),
+        } => {
+            let request = ClosureRequest {
+                file: script,
+                subject,
+                format: *format,
+            };
+            perform_closure(alloc, &request, first, outputs)
+        }
         Call::Compare {
             first: one,
             second: other,
             subject,
             explain,
-        } => perform_compare(
-            alloc,
-            [one, other],
-            subject,
-            *explain,
-            first,
-            second,
-            out,
-            err,
-        ),
+        } => {
+            let request = CompareRequest {
+                first: one,
+                second: other,
+                subject,
+                explain: *explain,
+            };
+            perform_compare(alloc, &request, first, second, outputs)
+        }
         Call::Crowd {
             first: one,
             second: other,
             subject,
-        } => perform_crowd(alloc, [one, other], subject, first, second, out, err),
+        } => {
+            let request = CrowdRequest {
+                first: one,
+                second: other,
+                subject,
+            };
+            perform_crowd(alloc, &request, first, second, outputs)
+        }
     }
+}
+
+/// What `closure` asks for: whom a subject depends on after the script of a file, in a form.
+#[derive(Clone, Copy)]
+struct ClosureRequest<'a> {
+    file: &'a Word,
+    subject: &'a Subject,
+    format: Format,
+}
+
+/// What `compare` asks for: what concerns a subject in the scripts of two files, and whether a difference is to be
+/// explained.
+#[derive(Clone, Copy)]
+struct CompareRequest<'a> {
+    first: &'a Word,
+    second: &'a Word,
+    subject: &'a Subject,
+    explain: bool,
+}
+
+/// What `crowd` asks for: what the scripts of two files submit for a subject.
+#[derive(Clone, Copy)]
+struct CrowdRequest<'a> {
+    first: &'a Word,
+    second: &'a Word,
+    subject: &'a Subject,
 }
 
 /// Runs the lines of a script in order, or as jobs of so many workers.
@@ -94,17 +135,17 @@ fn perform_run<
     R: Read,
     W: Write,
     E: Write,
->(rt: &A, workers: Option<PoolSize>, file: &Word, script: &mut R, out: &mut W, err: &mut E) -> u8
+>(rt: &A, workers: Option<PoolSize>, file: &Word, script: &mut R, outputs: &mut Outputs<W, E>) -> u8
     ensures status { IsStatus result }
-    ensures pooled { IfSome workers (λ n. HasAnswered (IsPooled n (R.remaining script.old)) (W.contents out.old) (W.contents out.new) result) }
+    ensures pooled { IfSome workers (λ n. HasAnswered (IsPooled n (R.remaining script.old)) (W.contents outputs.old.out) (W.contents outputs.new.out) result) }
 {
     match workers {
         None => {
             let alloc = rt.alloc();
-            let ran = run_whole(alloc, &mut HostRun::new(alloc), script, out);
-            print_end(ran, file.as_str(), err)
+            let ran = run_whole(alloc, &mut HostRun::new(alloc), script, &mut outputs.out);
+            print_end(ran, file.as_str(), &mut outputs.err)
         }
-        Some(workers) => perform_pool(rt, workers, file, script, out, err),
+        Some(workers) => perform_pool(rt, workers, file, script, outputs),
     }
 }
 
@@ -115,99 +156,96 @@ fn perform_pool<
     R: Read,
     W: Write,
     E: Write,
->(rt: &A, workers: PoolSize, file: &Word, script: &mut R, out: &mut W, err: &mut E) -> u8
-    ensures { HasAnswered (IsPooled workers (R.remaining script.old)) (W.contents out.old) (W.contents out.new) result }
+>(rt: &A, workers: PoolSize, file: &Word, script: &mut R, outputs: &mut Outputs<W, E>) -> u8
+    ensures { HasAnswered (IsPooled workers (R.remaining script.old)) (W.contents outputs.old.out) (W.contents outputs.new.out) result }
 {
     match answer_pool(rt, script, workers) {
-        Ok(answer) => answer.print(out, err),
-        Err(stop) => print_stop(stop, file.as_str(), err),
+        Ok(answer) => answer.print(outputs),
+        Err(stop) => print_stop(stop, file.as_str(), &mut outputs.err),
     }
 }
 
 /// Runs a script without printing, and prints the report of the subject.
 fn perform_closure<R: Read, W: Write, E: Write>(
     alloc: Global,
-    file: &Word,
-    subject: &Subject,
-    format: Format,
+    request: &ClosureRequest<'_>,
     script: &mut R,
-    out: &mut W,
-    err: &mut E,
+    outputs: &mut Outputs<W, E>,
 ) -> u8
-    ensures { HasAnswered (IsReported format subject.now (R.remaining script.old)) (W.contents out.old) (W.contents out.new) result }
+    ensures { HasAnswered (IsReported request.now.format request.now.subject.now (R.remaining script.old)) (W.contents outputs.old.out) (W.contents outputs.new.out) result }
 {
     let finished = match FinishedScript::read_and_run(alloc, script, false) {
         Ok(finished) => finished,
-        Err(stop) => return print_stop(stop, file.as_str(), err),
+        Err(stop) => return print_stop(stop, request.file.as_str(), &mut outputs.err),
     };
-    match answer_closure(alloc, &finished, subject, format) {
-        Ok(answer) => answer.print(out, err),
-        Err(_) => print_stop(Stop::NoMemory, "", err),
+    match answer_closure(alloc, &finished, request.subject, request.format) {
+        Ok(answer) => answer.print(outputs),
+        Err(_) => print_stop(Stop::NoMemory, "", &mut outputs.err),
     }
 }
 
 /// Runs a script without printing, then another one, and prints how they compare for the subject.
 fn perform_compare<R: Read, T: Read, W: Write, E: Write>(
     alloc: Global,
-    files: [&Word; 2],
-    subject: &Subject,
-    explain: bool,
+    request: &CompareRequest<'_>,
     first: &mut R,
     second: &mut T,
-    out: &mut W,
-    err: &mut E,
+    outputs: &mut Outputs<W, E>,
 ) -> u8
-    ensures { HasAnswered (IsCompared explain subject.now (R.remaining first.old) (T.remaining second.old))
-        (W.contents out.old) (W.contents out.new) result }
+    ensures { HasAnswered (IsCompared request.now.explain request.now.subject.now (R.remaining first.old) (T.remaining second.old))
+        (W.contents outputs.old.out) (W.contents outputs.new.out) result }
 {
-    let [one, other] = files;
-    let first = match FinishedScript::read_and_run(alloc, first, explain) {
+    let first = match FinishedScript::read_and_run(alloc, first, request.explain) {
         Ok(finished) => finished,
-        Err(stop) => return print_stop(stop, one.as_str(), err),
+        Err(stop) => return print_stop(stop, request.first.as_str(), &mut outputs.err),
     };
-    let second = match FinishedScript::read_and_run(alloc, second, explain) {
+    let second = match FinishedScript::read_and_run(alloc, second, request.explain) {
         Ok(finished) => finished,
-        Err(stop) => return print_stop(stop, other.as_str(), err),
+        Err(stop) => return print_stop(stop, request.second.as_str(), &mut outputs.err),
     };
-    let one = Side {
-        file: one.as_str(),
-        script: &first,
+    let sides = Sides {
+        one: Side {
+            file: request.first.as_str(),
+            script: &first,
+        },
+        other: Side {
+            file: request.second.as_str(),
+            script: &second,
+        },
     };
-    let other = Side {
-        file: other.as_str(),
-        script: &second,
-    };
-    match answer_compare(alloc, one, other, subject, explain) {
-        Ok(answer) => answer.print(out, err),
-        Err(_) => print_stop(Stop::NoMemory, "", err),
+    match answer_compare(alloc, &sides, request.subject, request.explain) {
+        Ok(answer) => answer.print(outputs),
+        Err(_) => print_stop(Stop::NoMemory, "", &mut outputs.err),
     }
 }
 
 /// Runs a script for what it submits, then another one, and prints how the answers compare for the subject.
 fn perform_crowd<R: Read, T: Read, W: Write, E: Write>(
     alloc: Global,
-    files: [&Word; 2],
-    subject: &Subject,
+    request: &CrowdRequest<'_>,
     first: &mut R,
     second: &mut T,
-    out: &mut W,
-    err: &mut E,
+    outputs: &mut Outputs<W, E>,
 ) -> u8
-    ensures { HasAnswered (IsCrowd subject.now (R.remaining first.old) (T.remaining second.old))
-        (W.contents out.old) (W.contents out.new) result }
+    ensures { HasAnswered (IsCrowd request.now.subject.now (R.remaining first.old) (T.remaining second.old))
+        (W.contents outputs.old.out) (W.contents outputs.new.out) result }
 {
-    let [one, other] = files;
     let first = match read_submission(alloc, first) {
         Ok(run) => run,
-        Err(stop) => return print_stop(stop, one.as_str(), err),
+        Err(stop) => return print_stop(stop, request.first.as_str(), &mut outputs.err),
     };
     let second = match read_submission(alloc, second) {
         Ok(run) => run,
-        Err(stop) => return print_stop(stop, other.as_str(), err),
+        Err(stop) => return print_stop(stop, request.second.as_str(), &mut outputs.err),
     };
-    match answer_crowd(alloc, first.submission(), second.submission(), subject) {
-        Ok(answer) => answer.print(out, err),
-        Err(_) => print_stop(Stop::NoMemory, "", err),
+    match answer_crowd(
+        alloc,
+        first.submission(),
+        second.submission(),
+        request.subject,
+    ) {
+        Ok(answer) => answer.print(outputs),
+        Err(_) => print_stop(Stop::NoMemory, "", &mut outputs.err),
     }
 }
 
@@ -220,21 +258,21 @@ pub fn perform_stream<
     R: BufRead,
     W: Write,
     E: Write,
->(rt: &A, call: &Call, input: &mut R, out: &mut W, err: &mut E) -> u8
+>(rt: &A, call: &Call, input: &mut R, outputs: &mut Outputs<W, E>) -> u8
     ensures { IsStatus result }
 {
     let alloc = rt.alloc();
     match call {
         Call::Table { file } => {
-            let ran = run_line_by_line(alloc, &mut TableRun::new(), input, out);
-            print_end(ran, file.as_str(), err)
+            let ran = run_line_by_line(alloc, &mut TableRun::new(), input, &mut outputs.out);
+            print_end(ran, file.as_str(), &mut outputs.err)
         }
         Call::Run {
             script,
             workers: None,
         } => {
-            let ran = run_line_by_line(alloc, &mut HostRun::new(alloc), input, out);
-            print_end(ran, script.as_str(), err)
+            let ran = run_line_by_line(alloc, &mut HostRun::new(alloc), input, &mut outputs.out);
+            print_end(ran, script.as_str(), &mut outputs.err)
         }
         Call::Run {
             workers: Some(_),
@@ -242,7 +280,7 @@ pub fn perform_stream<
         }
         | Call::Closure { .. }
         | Call::Compare { .. }
-        | Call::Crowd { .. } => { perform(rt, call, input, &mut io::empty(), out, err) }
+        | Call::Crowd { .. } => { perform(rt, call, input, &mut io::empty(), outputs) }
     }
 }
 
@@ -299,9 +337,11 @@ fn leaves_nothing(ran: &Result<(), Stop>) -> bool {
 }
 
 /// Answers words that are no call: prints the text where it belongs, and gives the exit status.
-pub fn print_usage<W: Write, E: Write>(usage: &Usage, out: &mut W, err: &mut E) -> u8
+pub fn print_usage<W: Write, E: Write>(usage: &Usage, outputs: &mut Outputs<W, E>) -> u8
     ensures { IsRefusal usage.now result }
 {
+    let out = &mut outputs.out;
+    let err = &mut outputs.err;
     match usage {
         Usage::Help(text) => match write!(out, "{text}").and_then(|()| out.flush()) {
             Ok(()) => DONE,

@@ -7,9 +7,10 @@ ghost use Rattle.scphost.specs.Reporting.{IsReport, IsReportOf};
 
 use crate::answer::Answer;
 use crate::quiet::FinishedScript;
-use command_line::{Format, Subject};
+use command_line::Format;
 use explorer::{NoNetwork, Report, push_dot, push_svg, push_text, report_of};
 use std::alloc::{AllocError, Global};
+use types::Subject;
 
 /// Whom the subject depends on after a script, in a form. In a network that no line declares that is the node
 /// alone. An error says that memory is short.

@@ -1,6 +1,7 @@
 -- Many questions about the same two worlds: from the answer of each to the list of verdicts.
-use Rattle.std.proofs.Common.{◌≡◌, ℕ, List, [], ◌∷◌, map, Result, Ok, Err, MatchResult, IfOk, subst, Vec, Global, sym}
+use Rattle.std.proofs.Common.{◌≡◌, List, [], ◌∷◌, map, Result, Ok, Err, MatchResult, IfOk, subst, Vec, Global, sym}
 use Rattle.std.specs.List.{AllZip}
+use Rattle.types.specs.declared.subject.Subject.{Subject}
 use Rattle.protocol.specs.Hosts.{History}
 use Rattle.hoststep.specs.Logs.{Log}
 use Rattle.hoststep.specs.Worlds.{IsToldBy}
@@ -22,9 +23,9 @@ all_ok {X} {Y} {E} Q R xs rs (Ok v) h z =
 all_ok Q R xs rs (Err e) h z = tt
 
 -- verdicts on the journals are verdicts on the histories
-pub told_verdicts : (h k : History) (ls ms : List Log) → IsToldBy h ls → IsToldBy k ms → (questions : List (ℕ × ℕ × ℕ)) (verdicts : List Verdict)
-    → AreVerdictsOn ls ms questions verdicts → AreVerdictsBetween h k questions verdicts
+pub told_verdicts : (h k : History) (ls ms : List Log) → IsToldBy h ls → IsToldBy k ms → (subjects : List Subject) (verdicts : List Verdict)
+    → AreVerdictsOn ls ms subjects verdicts → AreVerdictsBetween h k subjects verdicts
 told_verdicts h k ls ms one other [] [] x = tt
 told_verdicts h k ls ms one other [] (r ∷ rs) x = absurd x
-told_verdicts h k ls ms one other (q ∷ qs) [] x = absurd x
-told_verdicts h k ls ms one other (q ∷ qs) (r ∷ rs) x = (told_verdict h k ls ms q.0 q.1 q.2 r one other x.0, told_verdicts h k ls ms one other qs rs x.1)
+told_verdicts h k ls ms one other (s ∷ ss) [] x = absurd x
+told_verdicts h k ls ms one other (s ∷ ss) (r ∷ rs) x = (told_verdict h k ls ms s.net s.slot s.node r one other x.0, told_verdicts h k ls ms one other ss rs x.1)

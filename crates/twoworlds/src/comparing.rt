@@ -13,10 +13,10 @@ use closure::{Announcements, closure};
 use envstore::Shelf;
 use hoststep::{Journal, World};
 use std::alloc::{AllocError, Global};
-use types::NodeId;
+use types::{NodeId, Subject};
 
-/// Compares what concerned a node of a network at a slot in two worlds, by the closure of the node in the
-/// first of them. A world that lacks the network hosts nobody there. The worlds may keep their envelopes on
+/// Compares what concerned a subject in two worlds, a node of a network at a slot, by the closure of the node
+/// in the first of them. A world that lacks the network hosts nobody there. The worlds may keep their envelopes on
 /// shelves of different kinds (this host's profile).
 ///
 /// Whatever is answered, want of memory included: where both worlds host the same members of the closure with
@@ -30,18 +30,17 @@ pub fn compare<S: Shelf, T: Shelf>(
     alloc: Global,
     one: &World<S>,
     other: &World<T>,
-    net: u32,
-    slot: u64,
-    node: &NodeId,
+    subject: &Subject,
 ) -> Result<Verdict, AllocError>
-    ensures verdict { IfOk result (λ r. IsVerdictOn (log_at one.now net) (log_at other.now net) slot node.now r) }
-    ensures isolated { AreIsolated (log_at one.now net) (log_at other.now net) slot node.now }
-    ensures told { (h k : History) → IsToldBy h one.now → IsToldBy k other.now → IfOk result (IsVerdictBetween h k net slot node.now) }
+    ensures verdict { IfOk result (λ r. IsVerdictOn (log_at one.now subject.now.net) (log_at other.now subject.now.net) subject.now.slot subject.now.node r) }
+    ensures isolated { AreIsolated (log_at one.now subject.now.net) (log_at other.now subject.now.net) subject.now.slot subject.now.node }
+    ensures told { (h k : History) → IsToldBy h one.now → IsToldBy k other.now → IfOk result (IsVerdictBetween h k subject.now.net subject.now.slot subject.now.node) }
 {
-    let Some(journal) = one.journal(net) else {
-        return Ok(Verdict::CastDiffers(*node));
+    let Some(journal) = one.journal(subject.net) else {
+        return Ok(Verdict::CastDiffers(subject.node));
     };
-    let verdict = compare_journal(alloc, journal, other.journal(net), slot, node)?;
+    let counterpart = other.journal(subject.net);
+    let verdict = compare_journal(alloc, journal, counterpart, subject.slot, &subject.node)?;
     Ok(verdict)
 }
 
@@ -79,14 +78,17 @@ fn compare_journal<S: Shelf, T: Shelf>(
 pub(crate) fn are_isolated_at<S: Shelf, T: Shelf>(
     one: &World<S>,
     other: &World<T>,
-    net: u32,
-    slot: u64,
-    node: &NodeId,
+    subject: &Subject,
 )
-    ensures { AreIsolated (log_at one.now net) (log_at other.now net) slot node.now }
+    ensures { AreIsolated (log_at one.now subject.now.net) (log_at other.now subject.now.net) subject.now.slot subject.now.node }
 {
-    if let Some(journal) = one.journal(net) {
-        are_isolated(journal, other.journal(net), slot, node);
+    if let Some(journal) = one.journal(subject.net) {
+        are_isolated(
+            journal,
+            other.journal(subject.net),
+            subject.slot,
+            &subject.node,
+        );
     }
 }
 

@@ -13,11 +13,11 @@ use hoststep::World;
 use rayon::prelude::*;
 use std::alloc::{AllocError, Global};
 use std::thread::Threads;
-use types::NodeId;
+use types::Subject;
 
-/// Answers many questions about the same two worlds, each of which names a network, a slot and a node: of each
-/// question the verdict of [`compare`](crate::compare), in the order of the questions. A question may stand
-/// there more than once, and is then answered as often (this host's profile).
+/// Answers many questions about the same two worlds, each of which is of a subject: of each the verdict of
+/// [`compare`](crate::compare), in the order of the subjects. A subject may stand there more than once, and is
+/// then answered as often (this host's profile).
 ///
 /// The questions are shared among threads, two pieces for each processor and 64 at most, each piece of one
 /// question or more; the threads have ended when the call returns. Each question reads the two journals of its
@@ -36,17 +36,17 @@ pub fn compare_all<S: Shelf + Sync, T: Shelf + Sync>(
     alloc: Global,
     one: &World<S>,
     other: &World<T>,
-    questions: &[(u32, u64, NodeId)],
+    subjects: &[Subject],
 ) -> Result<Vec<Verdict>, AllocError>
 where
     S::Place: Sync,
     T::Place: Sync,
-    ensures verdicts { IfOk result (λ all. AreVerdictsOn one.now other.now questions.now all.items) }
-    ensures isolated { AreAllIsolated one.now other.now questions.now }
-    ensures told { (h k : History) → IsToldBy h one.now → IsToldBy k other.now → IfOk result (λ all. AreVerdictsBetween h k questions.now all.items) }
+    ensures verdicts { IfOk result (λ all. AreVerdictsOn one.now other.now subjects.now all.items) }
+    ensures isolated { AreAllIsolated one.now other.now subjects.now }
+    ensures told { (h k : History) → IsToldBy h one.now → IsToldBy k other.now → IfOk result (λ all. AreVerdictsBetween h k subjects.now all.items) }
 {
-    are_all_isolated(one, other, questions);
-    let verdicts = verdicts_of(rt, alloc, one, other, questions)?;
+    are_all_isolated(one, other, subjects);
+    let verdicts = verdicts_of(rt, alloc, one, other, subjects)?;
     Ok(verdicts)
 }
 
@@ -56,33 +56,29 @@ fn verdicts_of<S: Shelf + Sync, T: Shelf + Sync>(
     alloc: Global,
     one: &World<S>,
     other: &World<T>,
-    questions: &[(u32, u64, NodeId)],
+    subjects: &[Subject],
 ) -> Result<Vec<Verdict>, AllocError>
 where
     S::Place: Sync,
     T::Place: Sync,
-    ensures { IfOk result (λ all. AreVerdictsOn one.now other.now questions.now all.items) }
+    ensures { IfOk result (λ all. AreVerdictsOn one.now other.now subjects.now all.items) }
 {
-    questions
+    subjects
         .par_iter()
         .with_min_len(1)
         .map(
-            |q: &(u32, u64, NodeId)| -> Result<Verdict, AllocError>
-                ensures { IfOk result (λ r. IsVerdictOn (log_at one.entry.now q.now.0) (log_at other.entry.now q.now.0) q.now.1 q.now.2 r) }
-            { compare(alloc, one, other, q.0, q.1, &q.2) },
+            |subject: &Subject| -> Result<Verdict, AllocError>
+                ensures { IfOk result (λ r. IsVerdictOn (log_at one.entry.now subject.now.net) (log_at other.entry.now subject.now.net) subject.now.slot subject.now.node r) }
+            { compare(alloc, one, other, subject) },
         )
         .collect::<Result<Vec<Verdict>, AllocError>>(rt, alloc)?
 }
 
 /// A law: each question is isolated.
-fn are_all_isolated<S: Shelf, T: Shelf>(
-    one: &World<S>,
-    other: &World<T>,
-    questions: &[(u32, u64, NodeId)],
-)
-    ensures { AreAllIsolated one.now other.now questions.now }
+fn are_all_isolated<S: Shelf, T: Shelf>(one: &World<S>, other: &World<T>, subjects: &[Subject])
+    ensures { AreAllIsolated one.now other.now subjects.now }
 {
-    for question in questions {
-        are_isolated_at(one, other, question.0, question.1, &question.2);
+    for subject in subjects {
+        are_isolated_at(one, other, subject);
     }
 }

@@ -16,6 +16,13 @@ use hoststep::Journal;
 use std::alloc::{AllocError, Global};
 use types::NodeId;
 
+/// The entry of a journal that has this number, if there is one.
+#[derive(Drop)]
+struct EntryOf<'a, S: Shelf> {
+    journal: &'a Journal<S>,
+    number: usize,
+}
+
 /// The hosted nodes that are members, in their order.
 pub fn hosted_members(
     alloc: Global,
@@ -45,32 +52,32 @@ pub fn outs_of_each<S: Shelf>(
 {
     let mut list = nothing_of_each(alloc, names)?;
     for number in 0..journal.len() {
-        note(alloc, &mut list, names, journal, number, slot)?;
+        let entry = EntryOf { journal, number };
+        note(alloc, &mut list, names, &entry, slot)?;
     }
     Ok(OutsOfMembers::of(list))
 }
 
-/// Adds what the entry of this number gave out to the node that it is of, where that is one of the names.
+/// Adds what an entry gave out to the node that it is of, where there is one and that is one of the names.
 fn note<S: Shelf>(
     alloc: Global,
     list: &mut Vec<MemberOuts>,
     names: &[NodeId],
-    journal: &Journal<S>,
-    number: usize,
+    entry: &EntryOf<'_, S>,
     slot: u64,
 ) -> Result<(), AllocError>
     requires ascending { IsAscending names.now }
     requires same { length list.old.items ≡ length names.now }
-    ensures { OnOk result (IsNotedAt slot journal.now.entries number names.now list.old.items list.new.items) }
+    ensures { OnOk result (IsNotedAt slot entry.now.journal.now.entries entry.now.number names.now list.old.items list.new.items) }
 {
-    let Some(node) = node_at(journal, number, slot) else {
+    let Some(node) = node_at(entry.journal, entry.number, slot) else {
         return Ok(());
     };
     let Ok(place) = names.binary_search(&node) else {
         return Ok(());
     };
     let member = &mut list[place];
-    member.extend(alloc, journal, number)?;
+    member.extend(alloc, entry.journal, entry.number)?;
     Ok(())
 }
 

@@ -1,6 +1,7 @@
 //! Scripts whose events are jobs of a pool, from the standard input.
 
 use super::fakes::FakeWriter;
+use crate::outputs::Outputs;
 use crate::perform::perform_stream;
 use command_line::{Call, PoolSize, Word};
 use std::test::Fail;
@@ -25,10 +26,13 @@ fn a_pool_reads_the_standard_input_whole(rt: HostRuntime) -> Result<(), Fail> {
         (BAD, 2, b"", b"bad script line 3\n"),
     ] {
         let mut input = script;
-        let mut out = FakeWriter::new(rt.alloc(), 100, 0);
-        let mut err = FakeWriter::new(rt.alloc(), 100, 0);
-        let answered = perform_stream(&rt, &call, &mut input, &mut out, &mut err);
+        let mut outputs = Outputs {
+            out: FakeWriter::new(rt.alloc(), 100, 0),
+            err: FakeWriter::new(rt.alloc(), 100, 0),
+        };
+        let answered = perform_stream(&rt, &call, &mut input, &mut outputs);
         assert_eq!(rt; answered, status);
+        let Outputs { out, err } = outputs;
         assert!(rt; err.written.as_slice() == wanted && out.written.as_slice() == printed);
     }
     Ok(())

@@ -1,6 +1,7 @@
 //! Runs of scripts over memory, with each read and each write failing in turn.
 
 use super::fakes::{FakeReader, FakeWriter, LastField};
+use crate::outputs::Outputs;
 use crate::perform::{
     perform, perform_stream, print_stop, print_usage, run_line_by_line, run_whole,
 };
@@ -178,10 +179,13 @@ fn answers_the_standard_input(rt: HostRuntime) -> Result<(), Fail> {
         ),
     ] {
         let mut input = script;
-        let mut out = FakeWriter::new(rt.alloc(), 5, 0);
-        let mut err = FakeWriter::new(rt.alloc(), 100, 0);
-        let answered = perform_stream(&rt, &call, &mut input, &mut out, &mut err);
+        let mut outputs = Outputs {
+            out: FakeWriter::new(rt.alloc(), 5, 0),
+            err: FakeWriter::new(rt.alloc(), 100, 0),
+        };
+        let answered = perform_stream(&rt, &call, &mut input, &mut outputs);
         assert_eq!(rt; answered, status);
+        let Outputs { out, err } = outputs;
         assert!(rt; err.written.as_slice() == wanted && out.written.as_slice() == printed);
     }
     Ok(())
@@ -215,10 +219,13 @@ fn answers_the_status(rt: HostRuntime) -> Result<(), Fail> {
         (b"\nno line", 0, 2, b"bad script line 2\n"),
     ] {
         let mut first = FakeReader::new(script, 4, fails_at);
-        let mut out = FakeWriter::new(rt.alloc(), 5, 0);
-        let mut err = FakeWriter::new(rt.alloc(), 5, 0);
-        let answered = perform(&rt, &call, &mut first, &mut io::empty(), &mut out, &mut err);
+        let mut outputs = Outputs {
+            out: FakeWriter::new(rt.alloc(), 5, 0),
+            err: FakeWriter::new(rt.alloc(), 5, 0),
+        };
+        let answered = perform(&rt, &call, &mut first, &mut io::empty(), &mut outputs);
         assert_eq!(rt; answered, status);
+        let Outputs { out, err } = outputs;
         assert!(rt; err.written.as_slice() == wanted && out.written.is_empty());
     }
     Ok(())
@@ -234,9 +241,12 @@ fn answers_bad_usage(rt: HostRuntime) -> Result<(), Fail> {
         (&bad, 0, 2, b"", b"bad usage\n"),
         (&Usage::NoMemory, 0, 3, b"", b"no memory\n"),
     ] {
-        let mut out = FakeWriter::new(rt.alloc(), 100, write_fails_at);
-        let mut err = FakeWriter::new(rt.alloc(), 100, 0);
-        assert_eq!(rt; print_usage(usage, &mut out, &mut err), status);
+        let mut outputs = Outputs {
+            out: FakeWriter::new(rt.alloc(), 100, write_fails_at),
+            err: FakeWriter::new(rt.alloc(), 100, 0),
+        };
+        assert_eq!(rt; print_usage(usage, &mut outputs), status);
+        let Outputs { out, err } = outputs;
         assert!(rt; out.written.as_slice() == printed && err.written.as_slice() == wanted);
     }
     Ok(())

@@ -8,10 +8,10 @@ use Rattle.crowds.proofs.RunsOf.{hosts_are, nobody}
 use Rattle.crowds.proofs.comparing.crowd.Goals as goal
 
 pub returns-in_default-clause-verdict : goal.returns-in_default-clause-verdict
-returns-in_default-clause-verdict c = inl (nobody c.args.one.now.configs c.args.net c.args.node.now (sym c.in_default.ensures), refl)
+returns-in_default-clause-verdict c = inl (nobody c.args.one.now.configs c.args.subject.now.net c.args.subject.now.node (sym c.in_default.ensures), refl)
 
 pub crowd_among-requires-clause-members : goal.crowd_among-requires-clause-members
 crowd_among-requires-clause-members c = λ u.
     c.in_ok-members.ensures.exactly u
-    ∙ (ap (λ (l : Log). closure l.config.hosts c.args.slot c.args.node.now l.entries u) c.in_ok-journal.ensures
-    ∙ ap (λ (hs : List Host). closure hs c.args.slot c.args.node.now (entries reading c.args.one.now c.args.net) u) (hosts_are c.args.one.now.configs c.args.net c.in-Some.config.now (sym c.in-Some.ensures)))
+    ∙ (ap (λ (l : Log). closure l.config.hosts c.args.subject.now.slot c.args.subject.now.node l.entries u) c.in_ok-journal.ensures
+    ∙ ap (λ (hs : List Host). closure hs c.args.subject.now.slot c.args.subject.now.node (entries reading c.args.one.now c.args.subject.now.net) u) (hosts_are c.args.one.now.configs c.args.subject.now.net c.in-Some.config.now (sym c.in-Some.ensures)))

@@ -2,14 +2,15 @@ use denote.Param.{param}
 use denote.Param.Send.{IsSync, sendable}
 use Rattle.hoststep.specs.contracts.world.World as World
 use Rattle.std.proofs.Crossing.{crosses}
-use Rattle.std.proofs.Common.{◌∙◌, ap, subst, ℕ, List, IfOk}
+use Rattle.std.proofs.Common.{◌∙◌, ap, subst, List, IfOk}
 use Rattle.rayon.proofs.ToStd.{slice-AllZip}
 use Rattle.hoststep.specs.Logs.{Log}
 use Rattle.hoststep.specs.Worlds.{log_at}
 use Rattle.twoworlds.specs.Meanings.{IsVerdictOn}
 use Rattle.twoworlds.specs.Questions.{AreVerdictsOn}
 use Rattle.twoworlds.specs.declared.verdict.Verdict.{Verdict}
-use Rattle.types.proofs.node_id.NodeId.TheSendSync as name
+use Rattle.types.proofs.subject.Subject.TheSendSync as subject
+use Rattle.types.specs.declared.subject.Subject.{Subject}
 use Rattle.hoststep.proofs.Crossing.{world_sync}
 use Rattle.twoworlds.proofs.Crossing.{global_sync, verdict_send}
 use Rattle.twoworlds.proofs.ManyLaws.{all_ok}
@@ -22,9 +23,9 @@ returns g c =
     let chain = h.1 in
     let one : List Log = c.map.result.f.1.now in
     let other : List Log = c.map.result.f.2.now in
-    let all = all_ok _ (λ (q : ℕ × ℕ × ℕ) (r : Verdict). IsVerdictOn (log_at one q.0) (log_at other q.0) q.1 q.2 r) c.args.questions.now h.0 c.in_ok-collect.field-0 h.2
-    (slice-AllZip chain.0 c.args.questions.now (chain.1 ∙ slice) (λ q r. IfOk r (λ (v : Verdict). IsVerdictOn (log_at one q.0) (log_at other q.0) q.1 q.2 v)) h.0 chain.2) in
-    subst (λ f. IfOk c.in_ok-collect.field-0 (λ rs. AreVerdictsOn f.1.now f.2.now c.args.questions.now rs.items)) c.map.ensures.f all
+    let all = all_ok _ (λ (s : Subject) (r : Verdict). IsVerdictOn (log_at one s.net) (log_at other s.net) s.slot s.node r) c.args.subjects.now h.0 c.in_ok-collect.field-0 h.2
+    (slice-AllZip chain.0 c.args.subjects.now (chain.1 ∙ slice) (λ s r. IfOk r (λ (v : Verdict). IsVerdictOn (log_at one s.net) (log_at other s.net) s.slot s.node v)) h.0 chain.2) in
+    subst (λ f. IfOk c.in_ok-collect.field-0 (λ rs. AreVerdictsOn f.1.now f.2.now c.args.subjects.now rs.items)) c.map.ensures.f all
 
 pub map-requires-send-U : goal.map-requires-send-U
 map-requires-send-U g c κs within = search (sendable, crosses, verdict_send) depth 40
@@ -45,7 +46,7 @@ pub collect-requires-send-Self : goal.collect-requires-send-Self
 collect-requires-send-Self g c κs within =
     let one : IsSync (World.the_row (param 0 g.row.S) (param 3 g.row.S-Place) g.S.Places) = world_sync (param 0 g.row.S) (param 3 g.row.S-Place) g.S.Places c.type_bounds.sync-S c.type_bounds.sync-S-Place in
     let other : IsSync (World.the_row (param 1 g.row.T) (param 4 g.row.T-Place) g.T.Places) = world_sync (param 1 g.row.T) (param 4 g.row.T-Place) g.T.Places c.type_bounds.sync-T c.type_bounds.sync-T-Place in
-    search (sendable, crosses, global_sync, name.the_sync) depth 60
+    search (sendable, crosses, global_sync, subject.the_field_sync) depth 60
 
 pub collect-requires-send-Self-Item : goal.collect-requires-send-Self-Item
 collect-requires-send-Self-Item g c κs within = search (sendable, crosses, verdict_send) depth 40
