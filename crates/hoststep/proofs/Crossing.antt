@@ -19,6 +19,9 @@ use Rattle.envstore.specs.declared.shelf.Places.{Ghosts}
 use Rattle.types.specs.contracts.event.Event as Event
 use Rattle.types.specs.contracts.nested.Nested as Nested
 use Rattle.compiled.specs.contracts.form.Form as Form
+use Rattle.view.specs.contracts.known_reach.KnownReach as KnownReach
+use Rattle.view.specs.contracts.listed.ListedBallots as ListedBallots
+use Rattle.view.specs.contracts.reached_ballots.ReachedBallots as ReachedBallots
 use Rattle.view.specs.contracts.region.Region as Region
 use Rattle.latest.specs.contracts.index.Index as Index
 use Rattle.latest.specs.contracts.places.RowPlaces as RowPlaces
@@ -58,11 +61,30 @@ form_sync = search (sendable, crosses, compiled.send-CompiledSet, compiled.sync-
 form_send : IsSend (Form.the_row)
 form_send = search (sendable, crosses, compiled.send-CompiledSet, compiled.sync-CompiledSet) depth 40
 
-region_sync : IsSync (Region.the_row)
+-- what a node knows of its reach
+region_sync : IsSync (Region.the_field.row)
 region_sync = search (sendable, crosses, name.the_sync, compiled.sync-CompiledSet, form_sync) depth 40
 
-region_send : IsSend (Region.the_row)
+region_send : IsSend (Region.the_field.row)
 region_send = search (sendable, crosses, name.the_send, compiled.send-CompiledSet, form_send) depth 40
+
+listed_sync : IsSync (ListedBallots.the_row)
+listed_sync = search (sendable, crosses, value.the_sync) depth 40
+
+listed_send : IsSend (ListedBallots.the_row)
+listed_send = search (sendable, crosses, value.the_send) depth 40
+
+ballots_sync : IsSync (ReachedBallots.the_field.row)
+ballots_sync = search (sendable, crosses, listed_sync) depth 40
+
+ballots_send : IsSend (ReachedBallots.the_field.row)
+ballots_send = search (sendable, crosses, listed_send) depth 40
+
+known_sync : IsSync (KnownReach.the_row)
+known_sync = search (sendable, crosses, region_sync, ballots_sync) depth 40
+
+known_send : IsSend (KnownReach.the_row)
+known_send = search (sendable, crosses, region_send, ballots_send) depth 40
 
 places_sync : IsSync (RowPlaces.the_row)
 places_sync = search (sendable, crosses) depth 40
@@ -95,10 +117,10 @@ configured_send : IsSend (Configured.the_field.row)
 configured_send = search (sendable, crosses, name.the_send, nested_send) depth 40
 
 listener_sync : IsSync (Listener.the_row)
-listener_sync = search (sendable, crosses, configured_sync, table_sync, region_sync) depth 40
+listener_sync = search (sendable, crosses, configured_sync, table_sync, known_sync) depth 40
 
 listener_send : IsSend (Listener.the_row)
-listener_send = search (sendable, crosses, configured_send, table_send, region_send) depth 40
+listener_send = search (sendable, crosses, configured_send, table_send, known_send) depth 40
 
 node_sync : IsSync (Node.the_row)
 node_sync = search (sendable, crosses, listener_sync, given.the_field_sync, votes.the_field_sync) depth 40
