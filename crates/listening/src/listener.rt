@@ -1,6 +1,6 @@
 //! Who a node is, the rows that it has, and the nodes that it reaches by them.
 
-ghost use Rattle.std.specs.Prelude.{◌≡◌, IfOk, IsTrue, List, OnErr, OnOk, [], box_value, false, is_ok};
+ghost use Rattle.std.specs.Prelude.{◌≡◌, IfOk, IsTrue, List, OnErr, OnOk, [], box_value, false, is_ok, is_some};
 ghost use Rattle.envstore.specs.Archives.{AreFiled, IsFiled, sent_of, sents_of};
 ghost use Rattle.latest.specs.Puts.{IsFiledPut, IsPut, undone};
 ghost use Rattle.listening.specs.Listening.{IsKnownOf, IsStranger};
@@ -201,6 +201,7 @@ impl Listener {
     ) -> Result<Box<KnownReach>, AllocError>
         requires rows { AreFiled archive.now self.old.table }
         ensures reach { IfOk result (λ k. IsKnownOf self.old (box_value k)) }
+        ensures listed { IfOk result (λ k. IsTrue (is_some (box_value k).ballots)) }
         ensures same { self.new ≡ self.old }
     {
         let mut known = self.take_reach(alloc, archive)?;

@@ -1,6 +1,6 @@
 //! What a node knows of the nodes that it reaches, from one event to the next.
 
-ghost use Rattle.std.specs.Prelude.{◌≡◌, ℕ, List, IfOk, IfSome, option_map};
+ghost use Rattle.std.specs.Prelude.{◌≡◌, ℕ, List, IfOk, IfSome, IsTrue, OnErr, OnOk, false, is_some, option_map};
 ghost use Rattle.types.specs.Statements.{Sent};
 ghost use Rattle.types.specs.Trees.{Slices};
 ghost use Rattle.protocol.specs.Sets.{IsAscending};
@@ -67,7 +67,9 @@ impl KnownReach {
         table: &Rows<'_, S>,
     ) -> Result<(), AllocError>
         requires { IsKnown own.name.now own.slices.now table.now self.old }
-        ensures { IsKnown own.entry.name.now own.entry.slices.now table.now self.new }
+        ensures known { IsKnown own.entry.name.now own.entry.slices.now table.now self.new }
+        ensures listed { OnOk result (IsTrue (is_some self.new.ballots)) }
+        ensures err { OnErr result (self.new ≡ self.old) }
     {
         if self.ballots.is_some() {
             return Ok(());
@@ -78,7 +80,8 @@ impl KnownReach {
     }
 
     /// A table took a row that leaves the reach as it is, and the region is that of the table with the row. Where memory
-    /// is short for the ballots that the row speaks of, none are listed any more.
+    /// is short for the ballots that the row speaks of, none are listed any more. A row of nominations, of the node itself
+    /// or of a stranger changes nothing.
     pub fn hear<S: Places>(
         &mut self,
         alloc: Global,
@@ -88,6 +91,7 @@ impl KnownReach {
     )
         requires { IsRegion own.name.now own.slices.now table.now self.old.region }
         ensures region { self.new.region ≡ self.old.region }
+        ensures other { is_heard own.entry.name.now self.old.region.nodes.items taken.now.row.now ≡ false → self.new ≡ self.old }
         ensures ballots { (old : List Sent) → IsTaken old table.now taken.now.row.now (option_map (λ r. r.now) taken.now.before) → IfSome self.old.ballots (AreBallotsOf own.entry.name.now old self.old.region.nodes.items) → IfSome self.new.ballots (AreBallotsOf own.entry.name.now table.now self.old.region.nodes.items) }
     {
         if !concerns(&self.region, own.name, taken.row) {
