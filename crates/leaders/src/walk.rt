@@ -17,7 +17,7 @@ use types::{Member, Nested, NodeId, SliceSet};
 /// The node that leads a round of nomination, as this node with these slices sees it: of its
 /// neighbours in the round the one with the greatest priority, and of several the one with the
 /// greatest name: itself or a name of its slices. It takes no memory, and makes at most two hashes for
-/// each name of the slices and one more.
+/// each name of the slices and one more; a name that is not better than the best before it costs one.
 ///
 /// A node is a neighbour where the first hash, 64 bits, lies below the share of all hashes that its
 /// weight is; the node itself weighs all and so is always a neighbour. The second hash is the
