@@ -266,101 +266,92 @@ record IsBack (past : History) (v : Known) (x : DeskSight) (w : Known) (now : Hi
   mine : Claims now w
   others : (u : Known) → u.number ≢ v.number → Claims past u → Claims now u
 
-gives : (g : World) (items : List DeskSight) (views : List Known) (id : ℕ) (v : Known) (x : DeskSight) (seen : List Entry) (stop : Bool) (receipts : List Applied) (denials : List Denial) (stops : ℕ)
-    (entries : List Entry) (owners : List ℕ) (over : Bool) (stopper : ℕ) → HasDesk v → IsOpen g items views → get_elem? views id ≡ some v
-    → IsBack g.past v x (back v seen stop receipts denials stops) (renewed g.past entries owners over stopper) → Holds (items ++ x ∷ []) (set views id (back v seen stop receipts denials stops))
-gives g items views id v x seen stop receipts denials stops entries owners over stopper s o at b =
-    let f = o.fit id v at in
-    let has = f.holding s.holding in
-    let g' : World = record g { past = renewed g.past entries owners over stopper; free = true } in
-    inr (
-      g',
-      record {
-        there = λ _. ap (λ (l : List DeskSight). l ++ x ∷ []) (o.away has.free) ∙ ap (λ (y : DeskSight). y ∷ []) b.desk;
-        away = λ t. absurd (true≢false t);
-        paired = b.paired;
-        owned = b.owned;
-        stopper = b.stopper;
-        made = o.made;
-        fit = all_set (Fits g') views id (back v seen stop receipts denials stops)
-            (record {
-              opening = f.opening;
-              opens = f.opens;
-              known = f.known;
-              live = λ _. ((f.live s.live).0, b.mine);
-              claims = λ l. off (sym s.claims ∙ l);
-              holding = λ l. off l;
-            })
-            (λ j u apart e.
-            let k = o.fit j u e in record {
-              opening = k.opening;
-              opens = k.opens;
-              known = k.known;
-              live = λ l. ((k.live l).0, b.others u (another g id v j u s f k apart (inl l)) (k.live l).1);
-              claims = λ l. ((k.claims l).0, b.others u (another g id v j u s f k apart (inr l)) (k.claims l).1);
-              holding = λ l. absurd (apart ((k.holding l).holder ∙ sym has.holder));
-            });
-      },
-    )
-
-pub adds : (id : ℕ) (v : Known) (r : Applied) → HasDesk v → extract_of r ≡ extract v.config v.all (entry_of r) → Pushes Holds 1 id v (desk_at v.config v.seats (v.all ++ entry_of r ∷ []) v.over) (λ w. w ≡ added v r)
-adds id v r s is items views room h at =
-    let e : Entry = entry_of r in
+-- a seat puts the desk back with what this makes of the history, if it fits whatever world is open
+gives : (id : ℕ) (v : Known) (x : DeskSight) (seen : List Entry) (stop : Bool) (receipts : List Applied) (denials : List Denial) (stops : ℕ)
+    (entries : History → List Entry) (owners : History → List ℕ) (over : History → Bool) (stopper : History → ℕ) → HasDesk v
+    → ((g : World) (items : List DeskSight) (views : List Known) → IsOpen g items views → Fits g id v → Has g id v → Claims g.past v
+    → IsBack g.past v x (back v seen stop receipts denials stops) (renewed g.past (entries g.past) (owners g.past) (over g.past) (stopper g.past)))
+    → Pushes Holds 1 id v x (λ w. w ≡ back v seen stop receipts denials stops)
+gives id v x seen stop receipts denials stops entries owners over stopper s fits items views room h at =
     let world = past_opening items views id v h at s.known in
     let g : World = world.0 in
     let o : IsOpen g items views = world.1 in
     let f = o.fit id v at in
     let has = f.holding s.holding in
-    let c = (f.live s.live).1 in
-    let past = g.past in
-    let now : History = grown past v.number e in
-    let mine : Claims now (added v r) = record {
-      made = c.made;
-      seen = ([], append-nil (v.all ++ e ∷ []) ∙ ap (λ (y : List Entry). y ++ e ∷ []) has.all);
-      stopped = λ t. sym has.over ∙ t;
-      receipts = map-append extract_of v.receipts (r ∷ []) ∙ ap (λ (l : List Extract). l ++ extract_of r ∷ []) c.receipts
-          ∙ ap (λ (x : Extract). extracts_of past.config v.number past.owners past.entries ++ x ∷ []) (is ∙ (λ i. extract ((f.known s.known).0 i) (has.all i) e))
-          ∙ sym (extracts_mine past.config v.number past.owners e past.entries o.paired);
-      stops = c.stops;
-      ended = c.ended;
-    } in (
-      added v r,
-      gives g items views id v (desk_at v.config v.seats (v.all ++ e ∷ []) v.over) (v.all ++ e ∷ []) v.over (v.receipts ++ r ∷ []) v.denials v.stops
-          now.entries now.owners past.over past.stopper s o at
-          (record {
-            desk = λ i. desk_at ((f.known s.known).0 i) ((f.known s.known).1 i) (has.all i ++ e ∷ []) (has.over i);
-            paired = length-append past.owners (v.number ∷ []) ∙ ap (λ (n : ℕ). n + 1) o.paired ∙ sym (length-append past.entries (e ∷ []));
-            owned = below_snoc past.made v.number past.owners o.owned c.made;
-            stopper = o.stopper;
-            mine = mine;
-            others = λ u apart k. others_grow past v.number e u o.paired apart k;
-          }),
+    let b = fits g items views o f has (f.live s.live).1 in
+    let w : Known = back v seen stop receipts denials stops in
+    let g' : World = record g { past = renewed g.past (entries g.past) (owners g.past) (over g.past) (stopper g.past); free = true } in (
+      w,
+      inr (
+        g',
+        record {
+          there = λ _. ap (λ (l : List DeskSight). l ++ x ∷ []) (o.away has.free) ∙ ap (λ (y : DeskSight). y ∷ []) b.desk;
+          away = λ t. absurd (true≢false t);
+          paired = b.paired;
+          owned = b.owned;
+          stopper = b.stopper;
+          made = o.made;
+          fit = all_set (Fits g') views id w
+              (record {
+                opening = f.opening;
+                opens = f.opens;
+                known = f.known;
+                live = λ _. ((f.live s.live).0, b.mine);
+                claims = λ l. off (sym s.claims ∙ l);
+                holding = λ l. off l;
+              })
+              (λ j u apart e.
+              let k = o.fit j u e in record {
+                opening = k.opening;
+                opens = k.opens;
+                known = k.known;
+                live = λ l. ((k.live l).0, b.others u (another g id v j u s f k apart (inl l)) (k.live l).1);
+                claims = λ l. ((k.claims l).0, b.others u (another g id v j u s f k apart (inr l)) (k.claims l).1);
+                holding = λ l. absurd (apart ((k.holding l).holder ∙ sym has.holder));
+              });
+        },
+      ),
       refl,
     )
+
+pub adds : (id : ℕ) (v : Known) (r : Applied) → HasDesk v → extract_of r ≡ extract v.config v.all (entry_of r) → Pushes Holds 1 id v (desk_at v.config v.seats (v.all ++ entry_of r ∷ []) v.over) (λ w. w ≡ added v r)
+adds id v r s is =
+    let e : Entry = entry_of r in
+    gives id v (desk_at v.config v.seats (v.all ++ e ∷ []) v.over) (v.all ++ e ∷ []) v.over (v.receipts ++ r ∷ []) v.denials v.stops
+    (λ past. past.entries ++ e ∷ []) (λ past. past.owners ++ v.number ∷ []) (λ past. past.over) (λ past. past.stopper) s
+    (λ g items views o f has c.
+    let past = g.past in record {
+      desk = λ i. desk_at ((f.known s.known).0 i) ((f.known s.known).1 i) (has.all i ++ e ∷ []) (has.over i);
+      paired = length-append past.owners (v.number ∷ []) ∙ ap (λ (n : ℕ). n + 1) o.paired ∙ sym (length-append past.entries (e ∷ []));
+      owned = below_snoc past.made v.number past.owners o.owned c.made;
+      stopper = o.stopper;
+      mine = record {
+        made = c.made;
+        seen = ([], append-nil (v.all ++ e ∷ []) ∙ ap (λ (y : List Entry). y ++ e ∷ []) has.all);
+        stopped = λ t. sym has.over ∙ t;
+        receipts = map-append extract_of v.receipts (r ∷ []) ∙ ap (λ (l : List Extract). l ++ extract_of r ∷ []) c.receipts
+            ∙ ap (λ (x : Extract). extracts_of past.config v.number past.owners past.entries ++ x ∷ []) (is ∙ (λ i. extract ((f.known s.known).0 i) (has.all i) e))
+            ∙ sym (extracts_mine past.config v.number past.owners e past.entries o.paired);
+        stops = c.stops;
+        ended = c.ended;
+      };
+      others = λ u apart k. others_grow past v.number e u o.paired apart k;
+    })
 
 -- nothing was added, and the view has what else it wants
 sees : (id : ℕ) (v : Known) (denials : List Denial) → HasDesk v
     → Pushes Holds 1 id v (desk_at v.config v.seats v.all v.over) (λ w. w ≡ back v v.all v.over v.receipts denials v.stops)
-sees id v denials s items views room h at =
-    let world = past_opening items views id v h at s.known in
-    let g : World = world.0 in
-    let o : IsOpen g items views = world.1 in
-    let f = o.fit id v at in
-    let has = f.holding s.holding in
-    let c = (f.live s.live).1 in
-    let past = g.past in (
-      back v v.all v.over v.receipts denials v.stops,
-      gives g items views id v (desk_at v.config v.seats v.all v.over) v.all v.over v.receipts denials v.stops past.entries past.owners past.over past.stopper s o at
-          (record {
-            desk = λ i. desk_at ((f.known s.known).0 i) ((f.known s.known).1 i) (has.all i) (has.over i);
-            paired = o.paired;
-            owned = o.owned;
-            stopper = o.stopper;
-            mine = record { made = c.made; seen = ([], append-nil v.all ∙ has.all); stopped = λ t. sym has.over ∙ t; receipts = c.receipts; stops = c.stops; ended = c.ended };
-            others = λ u apart k. k;
-          }),
-      refl,
-    )
+sees id v denials s =
+    gives id v (desk_at v.config v.seats v.all v.over) v.all v.over v.receipts denials v.stops
+    (λ past. past.entries) (λ past. past.owners) (λ past. past.over) (λ past. past.stopper) s
+    (λ g items views o f has c. record {
+      desk = λ i. desk_at ((f.known s.known).0 i) ((f.known s.known).1 i) (has.all i) (has.over i);
+      paired = o.paired;
+      owned = o.owned;
+      stopper = o.stopper;
+      mine = record { made = c.made; seen = ([], append-nil v.all ∙ has.all); stopped = λ t. sym has.over ∙ t; receipts = c.receipts; stops = c.stops; ended = c.ended };
+      others = λ u apart k. k;
+    })
 
 pub denies : (id : ℕ) (v : Known) (event : Event) (refusal : CellRefusal) → HasDesk v → Pushes Holds 1 id v (desk_at v.config v.seats v.all v.over) (λ w. w ≡ denied v event refusal)
 denies id v event refusal s = sees id v (v.denials ++ denial event refusal (length v.all) ∷ []) s
@@ -371,41 +362,32 @@ looks id v s = sees id v v.denials s
 
 -- the stop mark is set
 pub stops : (id : ℕ) (v : Known) → HasDesk v → Pushes Holds 1 id v (desk_at v.config v.seats v.all true) (λ w. w ≡ stopped v)
-stops id v s items views room h at =
-    let world = past_opening items views id v h at s.known in
-    let g : World = world.0 in
-    let o : IsOpen g items views = world.1 in
-    let f = o.fit id v at in
-    let has = f.holding s.holding in
-    let c = (f.live s.live).1 in
+stops id v s =
+    gives id v (desk_at v.config v.seats v.all true) v.all true v.receipts v.denials (suc v.stops)
+    (λ past. past.entries) (λ past. past.owners) (λ past. true) (λ past. if past.over then past.stopper else v.number) s
+    (λ g items views o f has c.
     let past = g.past in
-    let first : ℕ = if past.over then past.stopper else v.number in
-    let made : first < past.made = ⊎_elim
+    let made : (if past.over then past.stopper else v.number) < past.made = ⊎_elim
     (λ (t : past.over ≡ true). subst (λ (b : Bool). (if b then past.stopper else v.number) < past.made) (sym t) (o.stopper t))
     (λ (t : past.over ≡ false). subst (λ (b : Bool). (if b then past.stopper else v.number) < past.made) (sym t) c.made)
-    (is_or_not past.over) in (
-      stopped v,
-      gives g items views id v (desk_at v.config v.seats v.all true) v.all true v.receipts v.denials (suc v.stops) past.entries past.owners true first s o at
-          (record {
-            desk = λ i. desk_at ((f.known s.known).0 i) ((f.known s.known).1 i) (has.all i) true;
-            paired = o.paired;
-            owned = o.owned;
-            stopper = λ _. made;
-            mine = record { made = c.made; seen = ([], append-nil v.all ∙ has.all); stopped = λ t. refl; receipts = c.receipts; stops = λ _ _. omega arith; ended = c.ended };
-            others = λ u apart k. record {
-              made = k.made;
-              seen = k.seen;
-              stopped = λ _. refl;
-              receipts = k.receipts;
-              stops = λ _ n. ⊎_elim
-                  (λ (t : past.over ≡ true). k.stops t (n ∙ ap (λ (b : Bool). if b then past.stopper else v.number) t))
-                  (λ (t : past.over ≡ false). absurd (apart (n ∙ ap (λ (b : Bool). if b then past.stopper else v.number) t)))
-                  (is_or_not past.over);
-              ended = k.ended;
-            };
-          }),
-      refl,
-    )
+    (is_or_not past.over) in record {
+      desk = λ i. desk_at ((f.known s.known).0 i) ((f.known s.known).1 i) (has.all i) true;
+      paired = o.paired;
+      owned = o.owned;
+      stopper = λ _. made;
+      mine = record { made = c.made; seen = ([], append-nil v.all ∙ has.all); stopped = λ t. refl; receipts = c.receipts; stops = λ _ _. omega arith; ended = c.ended };
+      others = λ u apart k. record {
+        made = k.made;
+        seen = k.seen;
+        stopped = λ _. refl;
+        receipts = k.receipts;
+        stops = λ _ n. ⊎_elim
+            (λ (t : past.over ≡ true). k.stops t (n ∙ ap (λ (b : Bool). if b then past.stopper else v.number) t))
+            (λ (t : past.over ≡ false). absurd (apart (n ∙ ap (λ (b : Bool). if b then past.stopper else v.number) t)))
+            (is_or_not past.over);
+        ended = k.ended;
+      };
+    })
 
 -- where a view is set and another added
 all_forked : (F : ℕ → Known → Type 0) (views : List Known) (id : ℕ) (w new : Known) → F id w → F (length (set views id w)) new → ((j : ℕ) (u : Known) → j ≢ id → get_elem? views j ≡ some u → F j u) → (j : ℕ) (u : Known) → get_elem? (set views id w ++ new ∷ []) j ≡ some u → F j u

@@ -271,6 +271,12 @@ subject_sound net slot node subject e = by_net (word_number (2 ^ 32) net) (word_
         let is : record { net = g; slot = i; node = v } ≡ subject = cc in
         (one ∙ ap (λ (s : Subject). Some s.net) is, two ∙ ap (λ (s : Subject). Some s.slot) is, three ∙ ap (λ (s : Subject). Some s.node) is)
 
+-- what holds of the call about each subject that the operands name
+of_subject : (P : Call → Type 0) (about : Subject → Call) (call : Call) (o : Option Subject) → ((subject : Subject) → o ≡ Some subject → P (about subject))
+    → option_map about o ≡ Some call → P call
+of_subject P about call None holds e = cc
+of_subject P about call (Some subject) holds e = let is : about subject ≡ call = cc in subst P is (holds subject refl)
+
 closure_of_sound : (rest : List Text) (f : Format) (operands : List Text) (call : Call) → Understood rest f operands → closure_of f operands ≡ Some call
     → IsCall (codes "closure" ∷ rest) call
 closure_of_sound rest f [] call told e = cc
@@ -278,14 +284,9 @@ closure_of_sound rest f (a ∷ []) call told e = cc
 closure_of_sound rest f (a ∷ b ∷ []) call told e = cc
 closure_of_sound rest f (a ∷ b ∷ d ∷ []) call told e = cc
 closure_of_sound rest f (script ∷ net ∷ slot ∷ node ∷ another ∷ more) call told e = cc
-closure_of_sound rest f (script ∷ net ∷ slot ∷ node ∷ []) call told e = made (subject_in net slot node) refl e
-  where
-    made : (s : Option Subject) → subject_in net slot node ≡ s → option_map (λ subject. Closure script subject f) s ≡ Some call → IsCall (codes "closure" ∷ rest) call
-    made None is by = cc
-    made (Some subject) is by =
-        let call_is : Closure script subject f ≡ call = cc in
-        subst (IsCall (codes "closure" ∷ rest)) call_is
-        (net, slot, node, told.0, subject_sound net slot node subject is, told.1, with_command (codes "closure") rest told.0 (script ∷ net ∷ slot ∷ node ∷ []) told.2)
+closure_of_sound rest f (script ∷ net ∷ slot ∷ node ∷ []) call told e =
+    of_subject (IsCall (codes "closure" ∷ rest)) (λ subject. Closure script subject f) call (subject_in net slot node)
+    (λ subject is. (net, slot, node, told.0, subject_sound net slot node subject is, told.1, with_command (codes "closure") rest told.0 (script ∷ net ∷ slot ∷ node ∷ []) told.2)) e
 
 compare_of_sound : (rest : List Text) (explain : Bool) (operands : List Text) (call : Call) → Explained rest explain operands → compare_of explain operands ≡ Some call
     → IsCall (codes "compare" ∷ rest) call
@@ -295,14 +296,9 @@ compare_of_sound rest x (a ∷ b ∷ []) call told e = cc
 compare_of_sound rest x (a ∷ b ∷ d ∷ []) call told e = cc
 compare_of_sound rest x (a ∷ b ∷ d ∷ h ∷ []) call told e = cc
 compare_of_sound rest x (one ∷ other ∷ net ∷ slot ∷ node ∷ another ∷ more) call told e = cc
-compare_of_sound rest x (one ∷ other ∷ net ∷ slot ∷ node ∷ []) call told e = made (subject_in net slot node) refl e
-  where
-    made : (s : Option Subject) → subject_in net slot node ≡ s → option_map (λ subject. Compare one other subject x) s ≡ Some call → IsCall (codes "compare" ∷ rest) call
-    made None is by = cc
-    made (Some subject) is by =
-        let call_is : Compare one other subject x ≡ call = cc in
-        subst (IsCall (codes "compare" ∷ rest)) call_is
-        (net, slot, node, told.0, subject_sound net slot node subject is, told.1, with_command (codes "compare") rest told.0 (one ∷ other ∷ net ∷ slot ∷ node ∷ []) told.2)
+compare_of_sound rest x (one ∷ other ∷ net ∷ slot ∷ node ∷ []) call told e =
+    of_subject (IsCall (codes "compare" ∷ rest)) (λ subject. Compare one other subject x) call (subject_in net slot node)
+    (λ subject is. (net, slot, node, told.0, subject_sound net slot node subject is, told.1, with_command (codes "compare") rest told.0 (one ∷ other ∷ net ∷ slot ∷ node ∷ []) told.2)) e
 
 table_sound : (rest operands : List Text) (call : Call) → Alone rest operands → table_of operands ≡ Some call → IsCall (codes "table" ∷ rest) call
 table_sound rest [] call alone e = cc
@@ -326,14 +322,9 @@ crowd_of_sound rest (a ∷ b ∷ []) call alone e = cc
 crowd_of_sound rest (a ∷ b ∷ d ∷ []) call alone e = cc
 crowd_of_sound rest (a ∷ b ∷ d ∷ h ∷ []) call alone e = cc
 crowd_of_sound rest (one ∷ other ∷ net ∷ slot ∷ node ∷ another ∷ more) call alone e = cc
-crowd_of_sound rest (one ∷ other ∷ net ∷ slot ∷ node ∷ []) call alone e = made (subject_in net slot node) refl e
-  where
-    made : (s : Option Subject) → subject_in net slot node ≡ s → option_map (λ subject. Crowd one other subject) s ≡ Some call → IsCall (codes "crowd" ∷ rest) call
-    made None is by = cc
-    made (Some subject) is by =
-        let call_is : Crowd one other subject ≡ call = cc in
-        subst (IsCall (codes "crowd" ∷ rest)) call_is
-        (net, slot, node, subject_sound net slot node subject is, form_of (codes "crowd") rest (one ∷ other ∷ net ∷ slot ∷ node ∷ []) alone)
+crowd_of_sound rest (one ∷ other ∷ net ∷ slot ∷ node ∷ []) call alone e =
+    of_subject (IsCall (codes "crowd" ∷ rest)) (λ subject. Crowd one other subject) call (subject_in net slot node)
+    (λ subject is. (net, slot, node, subject_sound net slot node subject is, form_of (codes "crowd") rest (one ∷ other ∷ net ∷ slot ∷ node ∷ []) alone)) e
 
 named_sound : (command : Text) (rest : List Text) (call : Call) (is_table is_run is_closure is_compare is_crowd : Bool)
     → bytes_eq command (codes "table") ≡ is_table → bytes_eq command (codes "run") ≡ is_run → bytes_eq command (codes "closure") ≡ is_closure

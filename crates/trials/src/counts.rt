@@ -234,7 +234,7 @@ pub struct Reaches {
     pub after_slices: u32,
     pub slices_grew: u32,
     pub slices_shrank: u32,
-    pub again: u32,
+    pub returned: u32,
     /// How many crowds were begun.
     pub crowds: u32,
 }
@@ -254,7 +254,7 @@ impl Reaches {
             after_slices: 0,
             slices_grew: 0,
             slices_shrank: 0,
-            again: 0,
+            returned: 0,
             crowds: 0,
         }
     }
@@ -305,8 +305,8 @@ impl Reaches {
     }
 
     /// Nodes that were out of reach for some time are reached.
-    pub fn note_again(&mut self, returned: Set) {
-        count(&mut self.again, returned != 0);
+    pub fn note_returned(&mut self, returned: Set) {
+        count(&mut self.returned, returned != 0);
     }
 
     /// Which of them was seen, a line each.
@@ -319,7 +319,7 @@ impl Reaches {
         push_seen(
             text,
             "events that brought back who was reached before",
-            self.again,
+            self.returned,
         )
     }
 

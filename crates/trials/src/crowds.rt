@@ -134,7 +134,7 @@ impl Crowd {
             _ => {}
         }
         self.is_resliced = is_resliced(happening);
-        reaches.note_again(self.left & after.reach);
+        reaches.note_returned(self.left & after.reach);
         self.left = (self.left | before.reach) & !after.reach;
         Ok(())
     }

@@ -55,7 +55,7 @@ impl From<AllocError> for Unanswered {
 /// A line for the node, and one for each event of the story: its words, and what the node gives out at it. An
 /// event that finds no memory is tried once more.
 pub fn push_story(alloc: Global, text: &mut String) -> Result<(), Halt> {
-    let mut node = begin_or_again(alloc)?;
+    let mut node = begin_or_retry(alloc)?;
     writeln!(text, "node {NAME} {SLICES}")?;
     for line in STORY {
         node.push_answer(alloc, line, text)?;
@@ -100,7 +100,7 @@ fn push_given_out(
 }
 
 /// The node of the story before its first event, tried once more where it finds no memory.
-fn begin_or_again(alloc: Global) -> Result<Alone, Halt> {
+fn begin_or_retry(alloc: Global) -> Result<Alone, Halt> {
     match begin(alloc) {
         Err(Halt::NoMemory) => begin(alloc),
         begun => begun,
@@ -122,12 +122,12 @@ fn try_twice(
     ensures rows { AreFiled archive.new node.new.rows }
     ensures outs { IfOk result (λ outs. AreFiledOuts archive.new outs.items) }
 {
-    let before = copy_or_again(alloc, archive, node)?;
-    try_or_again(alloc, archive, node, &before, line)
+    let before = copy_or_retry(alloc, archive, node)?;
+    try_or_retry(alloc, archive, node, &before, line)
 }
 
 /// A copy, tried once more where it finds no memory.
-fn copy_or_again(
+fn copy_or_retry(
     alloc: Global,
     archive: &Archive<VecShelf>,
     node: &Node,
@@ -143,7 +143,7 @@ fn copy_or_again(
 
 /// What the node gives out at an event. Where it finds no memory it is tried once more, if it has left the
 /// node as it was.
-fn try_or_again(
+fn try_or_retry(
     alloc: Global,
     archive: &mut Archive<VecShelf>,
     node: &mut Node,

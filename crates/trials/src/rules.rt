@@ -467,7 +467,7 @@ impl State {
         let mut counter = ballot.counter;
         for _ in ballot.counter..self.cap() {
             let above = Ask::Counts(counter.saturating_add(1));
-            if !self.blocks(self.passing(Kind::Balloting, position, above)) {
+            if !self.blocks(self.nodes_that_meet(Kind::Balloting, position, above)) {
                 break;
             }
             counter = counter.saturating_add(1);
@@ -486,7 +486,7 @@ impl State {
         let position = State::position(votes);
         if self.has_quorum(
             Kind::Balloting,
-            self.passing(Kind::Balloting, position, counts),
+            self.nodes_that_meet(Kind::Balloting, position, counts),
         ) {
             Votes {
                 armed: ballot.counter,

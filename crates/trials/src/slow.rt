@@ -149,8 +149,9 @@ impl State {
         reach
     }
 
-    pub fn passing(&self, kind: Kind, position: Option<Statement>, ask: Ask) -> Set {
-        let mut passing = 0;
+    /// The nodes whose statement of this kind meets what is asked; the node's own is the position.
+    pub fn nodes_that_meet(&self, kind: Kind, position: Option<Statement>, ask: Ask) -> Set {
+        let mut nodes = 0;
         for node in NODES {
             let said = if node == self.own {
                 position
@@ -161,12 +162,12 @@ impl State {
                 }
             };
             if let Some(said) = said {
-                if ask.passes(said) {
-                    passing |= bit(node);
+                if ask.is_met_by(said) {
+                    nodes |= bit(node);
                 }
             }
         }
-        passing
+        nodes
     }
 
     pub fn is_quorum(&self, kind: Kind, set: Set) -> bool {
@@ -209,24 +210,24 @@ impl State {
         Ok(())
     }
 
-    /// Some quorum with the node lies within those who pass.
-    pub fn has_quorum(&self, kind: Kind, passing: Set) -> bool {
+    /// Some quorum with the node lies within these.
+    pub fn has_quorum(&self, kind: Kind, nodes: Set) -> bool {
         let quorums = match kind {
             Kind::Nomination => self.nomination_quorums.as_slice(),
             Kind::Balloting => self.balloting_quorums.as_slice(),
         };
         for set in quorums {
-            if *set & !passing == 0 {
+            if *set & !nodes == 0 {
                 return true;
             }
         }
         false
     }
 
-    /// No set apart from those who pass satisfies the node's slices.
-    pub fn blocks(&self, passing: Set) -> bool {
+    /// No set apart from these satisfies the node's slices.
+    pub fn blocks(&self, nodes: Set) -> bool {
         for set in self.satisfying.as_slice() {
-            if *set & passing == 0 {
+            if *set & nodes == 0 {
                 return false;
             }
         }
@@ -240,11 +241,11 @@ impl State {
         backs: Ask,
         accepts: Ask,
     ) -> bool {
-        self.has_quorum(kind, self.passing(kind, position, backs))
-            || self.blocks(self.passing(kind, position, accepts))
+        self.has_quorum(kind, self.nodes_that_meet(kind, position, backs))
+            || self.blocks(self.nodes_that_meet(kind, position, accepts))
     }
 
     pub fn is_confirmed_by(&self, kind: Kind, position: Option<Statement>, accepts: Ask) -> bool {
-        self.has_quorum(kind, self.passing(kind, position, accepts))
+        self.has_quorum(kind, self.nodes_that_meet(kind, position, accepts))
     }
 }

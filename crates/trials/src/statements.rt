@@ -397,7 +397,7 @@ pub fn at(counter: u32, value: u8) -> Ballot {
 }
 
 impl Ask {
-    pub fn passes(self, said: Statement) -> bool {
+    pub fn is_met_by(self, said: Statement) -> bool {
         match self {
             Ask::BacksNominate(value) => said.nominates(value),
             Ask::AcceptsNominate(value) => said.accepts_nominate(value),

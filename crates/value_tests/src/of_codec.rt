@@ -61,8 +61,8 @@ fn decoded_where_there_is_memory(rt: HostRuntime) -> Result<(), Fail> {
 fn round_where_there_is_memory(rt: HostRuntime) -> Result<(), Fail> {
     let alloc = rt.alloc();
     let envelope = first_of_parts(alloc)?;
-    let again = round_trip(alloc, &envelope).ok().ok_or("there is memory")?;
-    assert_eq!(rt; encode(alloc, &again)?.as_slice(), FIRST);
+    let decoded = round_trip(alloc, &envelope).ok().ok_or("there is memory")?;
+    assert_eq!(rt; encode(alloc, &decoded)?.as_slice(), FIRST);
     Ok(())
 }
 

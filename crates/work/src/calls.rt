@@ -8,7 +8,8 @@ ghost use Rattle.work.specs.declared.rule.Job.{Job};
 
 use crate::closing::{drain, gather};
 use crate::line::Queue;
-use crate::rule::{Cut, Job, Line, Pass, Puts, Takes};
+use crate::opening::share_out;
+use crate::rule::{Job, Line, Pass, Puts, Takes};
 use std::alloc::{AllocError, Global};
 use std::sync::Wait;
 
@@ -25,13 +26,10 @@ impl Queue {
         requires passes { (0 < passes) × (passes ≤ all_parts) }
         ensures { IfOk result (λ r. (r.0.capacity ≡ capacity) × (length r.1.items ≡ passes) × (parts_by r.1.items ≡ all_parts) × AllPasses (IsFresh r.0) r.1.items) }
     {
-        let mut all = Vec::with_capacity(alloc, passes)?;
+        let all = Vec::with_capacity(alloc, passes)?;
         let room = Vec::with_capacity(alloc, capacity)?;
-        let (line, mut first) = Line::ruled(alloc, capacity)?;
-        for _made in 1..passes {
-            all.push_reserved(line.another::<Cut>(&mut first));
-        }
-        all.push_reserved(first);
+        let (line, first) = Line::ruled(alloc, capacity)?;
+        let all = share_out(&line, first, passes, all);
         Ok((
             Queue {
                 line,

@@ -11,6 +11,7 @@
 mod calls;
 mod closing;
 mod line;
+mod opening;
 mod rule;
 
 pub use line::Queue;

@@ -1,6 +1,6 @@
 //! A worker, with a seat at each cell.
 
-ghost use Rattle.std.specs.Prelude.{◌≡◌, ◌<◌, ◌+◌, length, [], ◌∷◌, None, MatchOption, MatchResult, IfSome, slice_index_or};
+ghost use Rattle.std.specs.Prelude.{◌≡◌, ◌<◌, ◌+◌, if◌then◌else◌, length, [], ◌∷◌, None, MatchOption, MatchResult, IfSome, slice_index_or};
 ghost use Rattle.std.specs.Option.{option_to_list};
 ghost use Rattle.cells.specs.Sights.{CellSight};
 ghost use Rattle.workers.specs.Numbers.{IsNumbered, IsNumberAt};
@@ -61,6 +61,19 @@ fn hearing(emission: &Emission, host: &Host) -> Option<Job>
 }
 
 impl<S: Shelf + Drop, H: Wait + Drop> Worker<S, H> {
+    /// Counts a job, as applied or as refused.
+    fn count<R: Wait>(&mut self, rt: &R, is_applied: bool)
+        ensures same { (self.new.walks ≡ self.old.walks) × (self.new.pass ≡ self.old.pass) }
+        ensures applied { self.new.applied ≡ self.old.applied + (if is_applied then 1 else 0) }
+        ensures refused { self.new.refused ≡ self.old.refused + (if is_applied then 0 else 1) }
+    {
+        if is_applied {
+            self.applied = add(rt, self.applied, 1);
+        } else {
+            self.refused = add(rt, self.refused, 1);
+        }
+    }
+
     /// Applies a job by the seat at a cell, and counts it.
     fn apply_at<R: Wait, G: Gate>(
         &mut self,
@@ -74,17 +87,14 @@ impl<S: Shelf + Drop, H: Wait + Drop> Worker<S, H> {
         ensures places { SamePlaces self.old.walks.items self.new.walks.items }
         ensures kept { IsKept workplace.now.shared.now.cells.items (job ∷ []) self.old self.new }
     {
-        if apply_by(
+        let is_applied = apply_by(
             workplace.rt,
             &workplace.shared.cells[k],
             &mut self.walks[k],
             workplace.gate,
             job,
-        ) {
-            self.applied = add(workplace.rt, self.applied, 1);
-        } else {
-            self.refused = add(workplace.rt, self.refused, 1);
-        }
+        );
+        self.count(workplace.rt, is_applied);
     }
 
     /// Puts a job where there is a queue with room, or hands it back.
@@ -186,7 +196,7 @@ impl<S: Shelf + Drop, H: Wait + Drop> Worker<S, H> {
                 self.apply_at(workplace, k, job);
                 self.settle(workplace, k);
             }
-            None => self.refused = add(workplace.rt, self.refused, 1),
+            None => self.count(workplace.rt, false),
         }
     }
 
