@@ -1,7 +1,6 @@
 //! The reach of a node in one table.
 
 ghost use Rattle.std.specs.Prelude.{◌≡◌, ℕ, IfOk, OnOk, option_map};
-ghost use Rattle.types.specs.declared.kind.Kind.{Kind};
 ghost use Rattle.protocol.specs.Reach.{IsReach};
 ghost use Rattle.protocol.specs.Sets.{IsAscending};
 ghost use Rattle.closure.specs.Sweeps.{AreNoted, named_by, named_in};
@@ -11,7 +10,7 @@ use envstore::Places;
 use latest::Rows;
 use slices::SliceFamily;
 use std::alloc::{AllocError, Global};
-use types::{Envelope, Kind, Nested, NodeId};
+use types::{Envelope, Nested, NodeId};
 
 /// All nodes that a node reaches, ascending, none twice: the node itself, the names of its configured
 /// slices, and the names in any row, of either kind, whose sender is reached (this host's profile).
@@ -48,8 +47,9 @@ fn note_rows_of<S: Places>(
     requires { IsAscending sweep.old.found }
     ensures { OnOk result (AreNoted sweep.old sweep.new (named_by table.now node.now)) }
 {
-    note_row(alloc, table.row(node, Kind::Nomination), sweep)?;
-    note_row(alloc, table.row(node, Kind::Ballot), sweep)
+    let rows = table.rows_of(node);
+    note_row(alloc, rows.nomination, sweep)?;
+    note_row(alloc, rows.ballot, sweep)
 }
 
 /// Notes the names in a row, if there is one.

@@ -57,3 +57,7 @@ added ws place within =
       length-set ws (place / 64) (with word k),
       changed 1 ws place (with word k) within (bit_at_set_same w64 word k (within_word place), λ i _ apart. bit_at_set_other w64 word k (within_word place) i apart),
     )
+
+-- the words with a place put in
+pub with_place : (ws : List ℕ) (place : ℕ) → place / 64 < length ws → (now : List ℕ) × IsAdded place ws now
+with_place ws place within = (set ws (place / 64) (with (get_or ws (place / 64) 0) (place % 64)), added ws place within)

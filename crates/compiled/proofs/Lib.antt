@@ -4,3 +4,5 @@ pub mod MembersMet
 pub mod Weights
 pub mod Sweeps
 pub mod Clearing
+pub mod Tallies
+pub mod PassingWords

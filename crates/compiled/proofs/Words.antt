@@ -1,12 +1,13 @@
 -- Bits of words, and how many of them are set.
-use Rattle.std.proofs.Common.{◌≡◌, ℕ, zero, suc, ◌+◌, ◌*◌, ◌/◌, ◌%◌, ◌^◌, ◌<◌, List, [], ◌∷◌, ◌++◌, get_or, set, length, refl, sym, ◌∙◌, ap, arith, bit_and, bit_or, count_ones}
+use Rattle.std.proofs.Common.{◌≡◌, ℕ, zero, suc, ◌+◌, ◌*◌, ◌/◌, ◌%◌, ◌^◌, ◌<◌, ◌≤◌, List, [], ◌∷◌, ◌++◌, get_or, set, length, refl, sym, ◌∙◌, ap, arith, bit_and, bit_or, count_ones}
 use Rattle.std.specs.Int.{bit_at}
+use Rattle.std.specs.Int.Bits.{and_self}
 use Rattle.std.proofs.lemmas.Nat.{and_block, and_comm, and_le_l, ones_cat, shr_split, pow_pos, or_disjoint, mod_below, one_shl}
 use Rattle.std.proofs.lemmas.Nat.Bits.{and_pow}
 use Rattle.compiled.specs.declared.mask.Mask.{Mask}
-use Rattle.compiled.specs.Places.{bit_of, ones_at, places_in, is_free}
+use Rattle.compiled.specs.Places.{bit_of, count_in, ones_at, places_in, is_free}
 
-nothing : count_ones 0 ≡ 0
+pub nothing : count_ones 0 ≡ 0
 unfolding lib.Count.ones
 nothing = refl
 
@@ -67,6 +68,71 @@ one_alone k w =
     let is : bit_and (2 ^ k) w ≡ d * 2 ^ k + 0 = omega (arith, and_comm (2 ^ k) w, and_pow w k) in
     omega (arith, ap count_ones is, ones_cat k d 0 (pow_pos k), (and_bit d (bit_below w k)).2, nothing)
 
+-- the lowest bit and those above it
+pub lowest_first : (b w : ℕ) → count_ones (bit_and b w) ≡ count_ones (bit_and (b % 2) (w % 2)) + count_ones (bit_and (b / 2) (w / 2))
+lowest_first b w =
+    let low_b : b % 2 < 2 = mod_below b 2 (omega arith) in
+    let low_w : w % 2 < 2 = mod_below w 2 (omega arith) in
+    let b_is : b ≡ b / 2 * 2 ^ 1 + b % 2 = omega (arith, shr_split b 1) in
+    let w_is : w ≡ w / 2 * 2 ^ 1 + w % 2 = omega (arith, shr_split w 1) in
+    let low : bit_and (b % 2) (w % 2) < 2 ^ 1 = low_and (b % 2) (w % 2) low_b low_w in
+    let one = ap count_ones ((λ i. bit_and (b_is i) (w_is i)) ∙ and_block 1 (b / 2) (w / 2) (b % 2) (w % 2) low_b low_w) ∙ ones_cat 1 (bit_and (b / 2) (w / 2)) (bit_and (b % 2) (w % 2)) low in
+    omega (arith, one)
+  where
+    low_and : (c v : ℕ) → c < 2 → v < 2 → bit_and c v < 2 ^ 1
+    low_and zero v h k = omega (arith, (and_bit v k).0)
+    low_and (suc zero) v h k = omega (arith, (and_bit v k).1)
+    low_and (suc (suc c)) v h k = absurd (omega arith)
+
+pub ones_first : (b : ℕ) → count_ones b ≡ b % 2 + count_ones (b / 2)
+ones_first b =
+    let low : b % 2 < 2 = mod_below b 2 (omega arith) in
+    let b_is : b ≡ b / 2 * 2 ^ 1 + b % 2 = omega (arith, shr_split b 1) in
+    let one = ap count_ones b_is ∙ ones_cat 1 (b / 2) (b % 2) low in
+    omega (arith, one, (and_bit (b % 2) low).2)
+
+-- one bit of each
+common_bit : (c v : ℕ) → c < 2 → v < 2 → count_ones (bit_and c v) ≡ c * v
+common_bit zero v h k = omega (arith, ap count_ones (and_bit v k).0, nothing)
+common_bit (suc zero) v h k = omega (arith, ap count_ones (and_bit v k).1, (and_bit v k).2)
+common_bit (suc (suc c)) v h k = absurd (omega arith)
+
+pub common_first : (b w : ℕ) → count_ones (bit_and b w) ≡ b % 2 * (w % 2) + count_ones (bit_and (b / 2) (w / 2))
+common_first b w = lowest_first b w ∙ ap (λ n. n + count_ones (bit_and (b / 2) (w / 2))) (common_bit (b % 2) (w % 2) (mod_below b 2 (omega arith)) (mod_below w 2 (omega arith)))
+
+few_bits : (c v : ℕ) → c < 2 → v < 2 → c * v ≤ c
+few_bits zero v h k = omega arith
+few_bits (suc zero) v h k = omega arith
+few_bits (suc (suc c)) v h k = absurd (omega arith)
+
+pub none_common : (b w : ℕ) → b ≡ 0 → count_ones (bit_and b w) ≡ 0
+none_common b w e = let less = and_le_l b w in ap count_ones (omega (arith, less, e)) ∙ nothing
+
+-- no more bits are common to two words than one of them has
+pub few_common : (fuel b w : ℕ) → b < 2 ^ fuel → count_ones (bit_and b w) ≤ count_ones b
+few_common zero b w h = omega (arith, none_common b w (omega arith))
+few_common (suc fuel) b w h =
+    let half : b / 2 < 2 ^ fuel = omega arith in
+    omega (arith, common_first b w, ones_first b, few_common fuel (b / 2) (w / 2) half, few_bits (b % 2) (w % 2) (mod_below b 2 (omega arith)) (mod_below w 2 (omega arith)))
+
+pub below_pow : (n : ℕ) → n < 2 ^ n
+below_pow zero = omega arith
+below_pow (suc n) = omega (arith, below_pow n)
+
+-- a bit more makes no more than one more
+pub few_more : (m k : ℕ) → bit_and m (2 ^ k) ≡ 0 → count_ones (bit_or m (2 ^ k)) ≤ count_ones m + 1
+few_more m k free =
+    let more = bit_or m (2 ^ k) in
+    let all : count_ones (bit_and more more) ≡ count_ones more = ap count_ones (and_self more) in
+    let low : bit_at more k < 2 = bit_below more k in
+    omega (arith, one_more k m more free, all, low, few_common m m more (below_pow m))
+
+few_alone : (k : ℕ) → count_ones (2 ^ k) ≤ 1
+few_alone k =
+    let all : count_ones (bit_and (2 ^ k) (2 ^ k)) ≡ count_ones (2 ^ k) = ap count_ones (and_self (2 ^ k)) in
+    let low : bit_at (2 ^ k) k < 2 = bit_below (2 ^ k) k in
+    omega (arith, one_alone k (2 ^ k), all, low)
+
 -- ---- in a list of masks
 places_after : (ms : List Mask) (m : Mask) (ws : List ℕ) → places_in (ms ++ m ∷ []) ws ≡ places_in ms ws + ones_at m ws
 places_after [] m ws = omega arith
@@ -101,3 +167,30 @@ added_to ms i place d within free bits is ws =
     let here : count_ones (bit_and old.bits (get_or ws old.index 0)) ≡ count_ones (bit_and old.bits w) = ap (λ j. count_ones (bit_and old.bits (get_or ws j 0))) free.0 in
     let grown : count_ones (bit_and bits w) ≡ count_ones (bit_and old.bits w) + bit_at w k = ap (λ x. count_ones (bit_and x w)) (is ∙ ap (bit_or old.bits) bit) ∙ one_more k old.bits w apart in
     places_set ms i (record { index = place / 64; bits = bits }) d ws (bit_of ws place) within (omega (arith, grown, here))
+
+-- ---- and how many they have
+count_after : (ms : List Mask) (m : Mask) → count_in (ms ++ m ∷ []) ≡ count_in ms + count_ones m.bits
+count_after [] m = omega arith
+count_after (n ∷ ms) m = omega (arith, count_after ms m)
+
+count_set : (ms : List Mask) (i : ℕ) (m d : Mask) → i < length ms → count_ones m.bits ≤ count_ones (get_or ms i d).bits + 1 → count_in (set ms i m) ≤ count_in ms + 1
+count_set [] i m d within h = absurd (omega arith)
+count_set (x ∷ ms) zero m d within h = omega (arith, h)
+count_set (x ∷ ms) (suc i) m d within h = omega (arith, count_set ms i m d (omega arith) h)
+
+pub counted_alone : (ms now : List Mask) (place : ℕ) → now ≡ ms ++ record { index = place / 64; bits = (1 * 2 ^ (place % 64)) % 2 ^ 64 } ∷ [] → count_in now ≤ count_in ms + 1
+counted_alone ms now place is =
+    let k = place % 64 in
+    let bit = one_shl k 64 (mod_below place 64 (omega arith)) in
+    let m : Mask = record { index = place / 64; bits = (1 * 2 ^ k) % 2 ^ 64 } in
+    omega (arith, ap count_in is, count_after ms m, ap count_ones bit, few_alone k)
+
+pub counted_to : (ms : List Mask) (i place : ℕ) (d : Mask) → i < length ms → is_free (place / 64) ((1 * 2 ^ (place % 64)) % 2 ^ 64) (get_or ms i d)
+    → (bits : ℕ) → bits ≡ bit_or (get_or ms i d).bits ((1 * 2 ^ (place % 64)) % 2 ^ 64) → count_in (set ms i (record { index = place / 64; bits = bits })) ≤ count_in ms + 1
+counted_to ms i place d within free bits is =
+    let k = place % 64 in
+    let old = get_or ms i d in
+    let bit = one_shl k 64 (mod_below place 64 (omega arith)) in
+    let apart : bit_and old.bits (2 ^ k) ≡ 0 = ap (bit_and old.bits) (sym bit) ∙ free.1 in
+    let grown : count_ones bits ≤ count_ones old.bits + 1 = omega (arith, ap count_ones (is ∙ ap (bit_or old.bits) bit), few_more old.bits k apart) in
+    count_set ms i (record { index = place / 64; bits = bits }) d within grown

@@ -2,3 +2,4 @@ pub mod Places
 pub mod Met
 pub mod Searching
 pub mod Answering
+pub mod Asking

@@ -19,6 +19,11 @@ abbrev pub places_in : List Mask → List ℕ → ℕ
 places_in [] ws = 0
 places_in (m ∷ ms) ws = ones_at m ws + places_in ms ws
 
+-- how many places masks have
+abbrev pub count_in : List Mask → ℕ
+count_in [] = 0
+count_in (m ∷ ms) = count_ones m.bits + count_in ms
+
 -- a mask of this word that has not got the bit
 abbrev pub is_free : ℕ → ℕ → Mask → Type 0
 is_free index bit m = (m.index ≡ index) × (bit_and m.bits bit ≡ 0)
@@ -27,6 +32,11 @@ is_free index bit m = (m.index ≡ index) × (bit_and m.bits bit ≡ 0)
 pub data Sets : Type 0 where
   none : Sets
   set : ℕ → List Mask → Sets → Sets → Sets
+
+-- how many sets there are
+abbrev pub count_sets : Sets → ℕ
+count_sets none = 0
+count_sets (set k ms own rest) = 1 + count_sets rest
 
 -- how many of these places and inner sets are needed
 pub record Compiled : Type 0 where

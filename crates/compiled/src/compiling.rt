@@ -1,10 +1,10 @@
 //! From slices to their compiled form.
 
-ghost use Rattle.std.specs.Prelude.{◌≡◌, ◌+◌, ◌<◌, ◌^◌, ℕ, List, IfOk, IfSome, OnOk, get_or, is_some, length};
+ghost use Rattle.std.specs.Prelude.{◌≡◌, ◌+◌, ◌<◌, ◌≤◌, ◌^◌, ℕ, List, IfOk, IfSome, OnOk, get_or, is_some, length};
 ghost use Rattle.types.specs.Trees.{names_in};
 ghost use Rattle.protocol.specs.Sets.{IsAscending, among, within};
 ghost use Rattle.compiled.specs.Met.{IsCompiled, one_where, picked, needed_of};
-ghost use Rattle.compiled.specs.Places.{places_in};
+ghost use Rattle.compiled.specs.Places.{count_in, places_in};
 
 use crate::mask::{Mask, add_place};
 use crate::set::CompiledSet;
@@ -35,7 +35,7 @@ pub fn compile(
         }
     }
     let needed = needed_of(set.threshold(), members.len(), blocking);
-    Ok(CompiledSet::new(needed, masks, inner))
+    Ok(CompiledSet::new(needed, members.len(), masks, inner))
 }
 
 /// How many members meet the set: its threshold or, to block it, one more than it can spare.
@@ -53,7 +53,8 @@ fn needed_of(threshold: u8, members: usize, blocking: bool) -> usize
 /// Adds the place of a node, where it has one.
 fn add_node(masks: &mut Vec<Mask>, nodes: &[NodeId], node: &NodeId) -> Result<(), AllocError>
     requires { IsAscending nodes.now }
-    ensures { OnOk result ((ws : List ℕ) → places_in masks.new.items ws ≡ places_in masks.old.items ws + one_where (among (picked nodes.now ws) node.now)) }
+    ensures places { OnOk result ((ws : List ℕ) → places_in masks.new.items ws ≡ places_in masks.old.items ws + one_where (among (picked nodes.now ws) node.now)) }
+    ensures count { OnOk result (count_in masks.new.items ≤ count_in masks.old.items + 1) }
 {
     match place_of(nodes, node) {
         None => Ok(()),

@@ -3,6 +3,7 @@
 #![tactic(auto)]
 
 mod answers;
+mod asking;
 mod compiling;
 mod form;
 mod mask;
@@ -10,6 +11,7 @@ mod places;
 mod search;
 mod set;
 
+pub use asking::{Passing, is_met_by};
 pub use compiling::{compile, has_places, place_of};
 pub use form::Form;
 pub use places::{add_place, has_place, no_places};

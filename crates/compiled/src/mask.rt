@@ -1,7 +1,7 @@
 //! Places in one word.
 
-ghost use Rattle.std.specs.Prelude.{◌≡◌, ◌+◌, ◌-◌, ◌<◌, ℕ, List, IfOk, IfSome, OnOk, get_or, length, bit_and};
-ghost use Rattle.compiled.specs.Places.{bit_of, ones_at, places_in, is_free};
+ghost use Rattle.std.specs.Prelude.{◌≡◌, ◌+◌, ◌-◌, ◌<◌, ◌≤◌, ℕ, List, IfOk, IfSome, OnOk, get_or, length, bit_and};
+ghost use Rattle.compiled.specs.Places.{bit_of, count_in, ones_at, places_in, is_free};
 
 use std::alloc::AllocError;
 
@@ -35,7 +35,8 @@ pub(crate) fn missing_after(needed: usize, masks: &[Mask], places: &[u64]) -> us
 
 /// Adds a place: to a mask of its word that has not got it, or else as a mask of its own.
 pub(crate) fn add_place(masks: &mut Vec<Mask>, place: usize) -> Result<(), AllocError>
-    ensures { OnOk result ((ws : List ℕ) → places_in masks.new.items ws ≡ places_in masks.old.items ws + bit_of ws place) }
+    ensures places { OnOk result ((ws : List ℕ) → places_in masks.new.items ws ≡ places_in masks.old.items ws + bit_of ws place) }
+    ensures count { OnOk result (count_in masks.new.items ≤ count_in masks.old.items + 1) }
 {
     let index = place / 64;
     let bit = 1u64 << (place % 64);

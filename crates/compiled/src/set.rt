@@ -1,23 +1,25 @@
 //! A compiled set.
 
-ghost use Rattle.std.specs.Prelude.{◌≡◌, IfOk};
+ghost use Rattle.std.specs.Prelude.{◌≡◌, ◌+◌, ◌≤◌, IfOk, length};
 ghost use Rattle.compiled.specs.Met.{met};
-ghost use Rattle.compiled.specs.Places.{sets_of};
+ghost use Rattle.compiled.specs.Places.{count_in, count_sets, sets_of};
 
 use crate::mask::{Mask, missing_after};
 use std::alloc::{AllocError, Global};
 use std::marker::Model;
 
-/// A threshold over places and inner sets, compiled against a list of nodes.
+/// A threshold over places and inner sets, compiled against a list of nodes. It has no more of both than members.
 #[derive(Drop)]
 pub struct CompiledSet {
     needed: usize,
+    members: usize,
     masks: Vec<Mask>,
     inner: Vec<CompiledSet>,
 }
 
 impl Model for CompiledSet {
-    ghost use Rattle.compiled.specs.Places.{Compiled, compiled_code, sets_of, weight_of_sets, most_le};
+    ghost use Rattle.std.specs.Prelude.{◌+◌, ◌≤◌, length};
+    ghost use Rattle.compiled.specs.Places.{Compiled, compiled_code, count_in, sets_of, weight_of_sets, most_le};
     ghost use Rattle.std.proofs.Common.{arith};
 
     ghost Value = { Compiled };
@@ -26,18 +28,27 @@ impl Model for CompiledSet {
 
     ghost view = { λ a. record { needed = a.needed; masks = a.masks.items; inner = sets_of a.inner.items } };
 
+    ghost invariant = { λ a. count_in a.masks.items + length a.inner.items ≤ a.members };
+
     ghost size = { λ c. weight_of_sets c.inner };
 
     ghost size_decreases = { λ a h. omega (arith, most_le a.inner.items) };
 }
 
 impl CompiledSet {
-    /// A set of which so many places and inner sets are needed.
-    pub(crate) fn new(needed: usize, masks: Vec<Mask>, inner: Vec<CompiledSet>) -> CompiledSet
+    /// A set of which so many places and inner sets are needed, of no more than so many members.
+    pub(crate) fn new(
+        needed: usize,
+        members: usize,
+        masks: Vec<Mask>,
+        inner: Vec<CompiledSet>,
+    ) -> CompiledSet
+        requires { count_in masks.items + length inner.items ≤ members }
         ensures { result ≡ record { needed = needed; masks = masks.items; inner = sets_of inner.items } }
     {
         CompiledSet {
             needed,
+            members,
             masks,
             inner,
         }
@@ -51,21 +62,28 @@ impl CompiledSet {
     }
 
     /// Its places.
-    fn masks(&self) -> &[Mask]
+    pub(crate) fn masks(&self) -> &[Mask]
         ensures { result.now ≡ self.now.masks }
     {
         &self.masks
     }
 
     /// Its inner sets.
-    fn inner(&self) -> &[CompiledSet]
+    pub(crate) fn inner(&self) -> &[CompiledSet]
         ensures { sets_of result.now ≡ self.now.inner }
     {
         &self.inner
     }
 
+    /// Its places and inner sets are no more than this.
+    pub(crate) fn members(&self) -> usize
+        ensures { count_in self.now.masks + count_sets self.now.inner ≤ result }
+    {
+        self.members
+    }
+
     /// How many of both are needed.
-    fn needed(&self) -> usize
+    pub(crate) fn needed(&self) -> usize
         ensures { result ≡ self.now.needed }
     {
         self.needed
@@ -82,7 +100,7 @@ fn copy_of_set(alloc: Global, set: &CompiledSet) -> Result<CompiledSet, AllocErr
     for each in sets {
         inner.push(copy_of_set(alloc, each)?)?;
     }
-    Ok(CompiledSet::new(set.needed(), masks, inner))
+    Ok(CompiledSet::new(set.needed(), set.members(), masks, inner))
 }
 
 /// Whether as many places and inner sets as are needed are in the set of nodes. It takes no memory.

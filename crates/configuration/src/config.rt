@@ -4,7 +4,7 @@ ghost use Rattle.std.specs.Prelude.{◌≡◌, ◌≤◌, ◌++◌, IfErr, IfOk,
 ghost use Rattle.std.specs.List.Sorted.{IsPermutation};
 ghost use Rattle.types.specs.Trees.{all_differ};
 ghost use Rattle.protocol.specs.Sets.{IsAscending};
-ghost use Rattle.configuration.specs.Configs.{AreHosts, index_of_name, names_of, rises};
+ghost use Rattle.configuration.specs.Configs.{AreHosts, index_in, index_of_name, names_of, rises};
 ghost use Rattle.configuration.specs.Faults.{fault_of, first_fault, node_tests, roster_tests};
 ghost use Rattle.configuration.specs.Rosters.{HasRosterOf};
 
@@ -142,14 +142,12 @@ impl NetConfig {
         self.roster.as_ref()
     }
 
-    /// The place of a hosted node among them, from 0 on, by a binary search; `None` where it is not hosted.
+    /// The place of a hosted node among them, from 0 on, by a binary search where they are many; `None` where it is
+    /// not hosted.
     pub fn place(&self, name: &NodeId) -> Option<usize>
         ensures { result ≡ index_of_name self.now.hosts name.now }
     {
-        match self.names.binary_search(name) {
-            Ok(place) => Some(place),
-            Err(_) => None,
-        }
+        place_in(&self.names, name)
     }
 
     /// A copy. An error says that memory is short.
@@ -257,4 +255,33 @@ fn copy_of_roster(alloc: Global, roster: &Option<Roster>) -> Result<Option<Roste
         None => Ok(None),
         Some(roster) => Ok(Some(roster.try_copy(alloc)?)),
     }
+}
+
+/// Among so many names each is looked at: to halve them again and again would cost more.
+const FEW_NAMES: usize = 8;
+
+/// The place of a name in an ascending list, if it is there.
+fn place_in(names: &[NodeId], name: &NodeId) -> Option<usize>
+    requires { IsAscending names.now }
+    ensures { result ≡ index_in names.now name.now }
+{
+    if names.len() <= FEW_NAMES {
+        return place_in_few(names, name);
+    }
+    match names.binary_search(name) {
+        Ok(place) => Some(place),
+        Err(_) => None,
+    }
+}
+
+/// The place of a name in a list, each of whose names is looked at, if it is there.
+fn place_in_few(names: &[NodeId], name: &NodeId) -> Option<usize>
+    ensures { result ≡ index_in names.now name.now }
+{
+    for place in 0..names.len() {
+        if names[place] == *name {
+            return Some(place);
+        }
+    }
+    None
 }

@@ -47,8 +47,8 @@ pub trait Sight {
     ) -> Result<bool, AllocError>
         ensures { IfOk result (λ b. b ≡ (seen self.now).blocking (kind_asked question.now) own_passes (asks question.now)) };
 
-    /// The values that the nomination rows of the others that are reached vote for or accept, ascending,
-    /// gathered anew at each call.
+    /// The values that the nomination rows of the others that are reached vote for or accept, ascending, in a
+    /// list of the caller's own.
     fn nominated_values(&self, alloc: Global) -> Result<Values, AllocError>
         ensures { IfOk result (λ v. v ≡ as_set (flat_map values_by ((seen self.now).rows Kind.Nomination))) };
 

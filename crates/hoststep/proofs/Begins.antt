@@ -1,13 +1,12 @@
 -- A journal without entries.
-use Rattle.std.proofs.Common.{◌≡◌, Vec, List, [], map, refl, sym, subst}
+use Rattle.std.proofs.Common.{◌≡◌, ◌<◌, List, [], map, refl, sym, subst, arith}
 use Rattle.std.proofs.lemmas.List.Elements.{All-nil}
-use Rattle.std.specs.Global.{Global}
 use Rattle.protocol.specs.Hosts.{Config}
 use Rattle.protocol.specs.Runs.{net_after}
 use Rattle.slot.specs.Filings.{AreFiledOuts}
-use Rattle.slot.specs.declared.filed.FiledOut.{FiledOut}
 use Rattle.hoststep.specs.declared.kept.Kept.{Kept}
-use Rattle.hoststep.specs.Giving.{IsListedIn, kept_outs}
+use Rattle.hoststep.specs.declared.outs_list.EntryOuts.{EntryOuts}
+use Rattle.hoststep.specs.Giving.{kept_outs}
 use Rattle.hoststep.specs.Keeping.{AreKept, IsKeptEvent, entry_of}
 use Rattle.network.specs.Lodgings.{IsTallied, Seats}
 use Rattle.hoststep.specs.Logs.{IsJournal}
@@ -21,11 +20,18 @@ begins config = (
     run = record { applied = λ k x h. absurd (cc); outs = λ k x h. absurd (cc) };
     state = record { is = refl; tallied = All-nil (λ (s : Seats). All (IsTallied s.number []) s.seats) };
   },
-  All-nil (λ (x : Kept). IsKeptEvent config.hosts [] x.event × IsListedIn [] x.outs × AreFiledOuts [] (kept_outs x.outs)),
+  (
+    All-nil (λ (x : Kept). IsKeptEvent config.hosts [] x.event × AreFiledOuts [] (kept_outs x.outs)),
+    record {
+      ascending = λ i j d l m. absurd (omega (arith, m));
+      earlier = All-nil (λ (x : EntryOuts). x.entry < 0);
+      listed = λ k d l. absurd (omega (arith, l));
+    },
+  ),
 )
 
-pub fresh-journal : (config : Config) (m : Standing) (lists : List (Vec FiledOut Global)) (xs : List Kept) → m ≡ record { config = config; archive = []; slots = []; events = 0; bytes = 0; opens = 0 } → lists ≡ [] → xs ≡ []
+pub fresh-journal : (config : Config) (m : Standing) (lists : List EntryOuts) (xs : List Kept) → m ≡ record { config = config; archive = []; slots = []; events = 0; bytes = 0; opens = 0 } → lists ≡ [] → xs ≡ []
     → IsJournal (machine_of m) (map entry_of xs) × AreKept m.config.hosts m.archive lists xs
 fresh-journal config m lists xs is fresh none =
     subst (λ (s : Standing). IsJournal (machine_of s) (map entry_of xs) × AreKept s.config.hosts s.archive lists xs) (sym is)
-    (subst (λ (l : List (Vec FiledOut Global) × List Kept). IsJournal (machine_of (record { config = config; archive = []; slots = []; events = 0; bytes = 0; opens = 0 })) (map entry_of l.1) × AreKept config.hosts [] l.0 l.1) (λ i. (sym fresh i, sym none i)) (begins config))
+    (subst (λ (l : List EntryOuts × List Kept). IsJournal (machine_of (record { config = config; archive = []; slots = []; events = 0; bytes = 0; opens = 0 })) (map entry_of l.1) × AreKept config.hosts [] l.0 l.1) (λ i. (sym fresh i, sym none i)) (begins config))

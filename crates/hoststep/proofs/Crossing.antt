@@ -24,6 +24,7 @@ use Rattle.view.specs.contracts.listed.ListedBallots as ListedBallots
 use Rattle.view.specs.contracts.reached_ballots.ReachedBallots as ReachedBallots
 use Rattle.view.specs.contracts.region.Region as Region
 use Rattle.latest.specs.contracts.index.Index as Index
+use Rattle.latest.proofs.places.RowPlace.TheSendSync as row_place
 use Rattle.latest.specs.contracts.places.RowPlaces as RowPlaces
 use Rattle.latest.specs.contracts.table.Table as Table
 use Rattle.listening.specs.contracts.configured.Configured as Configured
@@ -44,6 +45,7 @@ use Rattle.network.specs.contracts.network.Network as Network
 use Rattle.hoststep.specs.contracts.event_room.EventRoom as EventRoom
 use Rattle.hoststep.specs.contracts.kept.KeptEvent as KeptEvent
 use Rattle.hoststep.specs.contracts.kept.Kept as Kept
+use Rattle.hoststep.specs.contracts.outs_list.EntryOuts as EntryOuts
 use Rattle.hoststep.specs.contracts.journal.Journal as Journal
 use Rattle.hoststep.specs.contracts.world.World as World
 
@@ -63,10 +65,10 @@ form_send = search (sendable, crosses, compiled.send-CompiledSet, compiled.sync-
 
 -- what a node knows of its reach
 region_sync : IsSync (Region.the_field.row)
-region_sync = search (sendable, crosses, name.the_sync, compiled.sync-CompiledSet, form_sync) depth 40
+region_sync = search (sendable, crosses, name.the_sync, row_place.the_sync, compiled.sync-CompiledSet, form_sync) depth 40
 
 region_send : IsSend (Region.the_field.row)
-region_send = search (sendable, crosses, name.the_send, compiled.send-CompiledSet, form_send) depth 40
+region_send = search (sendable, crosses, name.the_send, row_place.the_send, compiled.send-CompiledSet, form_send) depth 40
 
 listed_sync : IsSync (ListedBallots.the_row)
 listed_sync = search (sendable, crosses, value.the_sync) depth 40
@@ -87,10 +89,10 @@ known_send : IsSend (KnownReach.the_row)
 known_send = search (sendable, crosses, region_send, ballots_send) depth 40
 
 places_sync : IsSync (RowPlaces.the_row)
-places_sync = search (sendable, crosses) depth 40
+places_sync = search (sendable, crosses, row_place.the_sync) depth 40
 
 places_send : IsSend (RowPlaces.the_row)
-places_send = search (sendable, crosses) depth 40
+places_send = search (sendable, crosses, row_place.the_send) depth 40
 
 index_sync : IsSync (Index.the_row)
 index_sync = search (sendable, crosses, maps, name.the_sync, places_sync) depth 40
@@ -182,6 +184,12 @@ out_sync = search (sendable, crosses, value.the_sync) depth 40
 out_send : IsSend (FiledOut.the_row)
 out_send = search (sendable, crosses, value.the_send) depth 40
 
+entry_outs_sync : IsSync (EntryOuts.the_row)
+entry_outs_sync = search (sendable, crosses, out_sync) depth 40
+
+entry_outs_send : IsSend (EntryOuts.the_row)
+entry_outs_send = search (sendable, crosses, out_send) depth 40
+
 pub event_sync : IsSync (Event.the_field.row)
 event_sync = search (sendable, crosses, name.the_sync, bytes.the_sync, nested_sync, kind.the_field_sync) depth 40
 
@@ -220,10 +228,10 @@ module _ (S P : RattleType) (g : Ghosts S.Denot P.Denot) where
   network_send s p = let a = archive_send s p in search (sendable, crosses, config_send, slots_send) depth 40
 
   pub journal_sync : IsSync S → IsSync P → IsSync (Journal.the_row S P g)
-  journal_sync s p = let a = network_sync s p in search (sendable, crosses, kept_sync, out_sync, room_sync) depth 40
+  journal_sync s p = let a = network_sync s p in search (sendable, crosses, kept_sync, entry_outs_sync, room_sync) depth 40
 
   pub journal_send : IsSend S → IsSend P → IsSend (Journal.the_row S P g)
-  journal_send s p = let a = network_send s p in search (sendable, crosses, kept_send, out_send, room_send) depth 40
+  journal_send s p = let a = network_send s p in search (sendable, crosses, kept_send, entry_outs_send, room_send) depth 40
 
   pub world_sync : IsSync S → IsSync P → IsSync (World.the_row S P g)
   world_sync s p = let a = journal_sync s p in search (sendable, crosses) depth 40

@@ -1,10 +1,13 @@
 -- A journal that grows by one entry.
-use Rattle.std.proofs.Common.{Vec, ◌≡◌, ◌⊎◌, ℕ, zero, suc, ◌<◌, ◌≤◌, Bool, true, false, not, ◌||◌, ◌==◌, if◌then◌else◌, replicate, List, [], ◌∷◌, ◌++◌, length, map, take, Option, Some, None, refl, sym, ap, ◌∙◌, subst, inl, inr, ⊎_elim, arith, slice_get, get_or}
-use Rattle.std.proofs.lemmas.List.{map-append, take-append-le}
+use Rattle.std.proofs.Common.{Vec, ◌≡◌, ◌⊎◌, ℕ, zero, suc, ◌<◌, ◌≤◌, Bool, true, false, not, ◌||◌, ◌==◌, if◌then◌else◌, List, [], ◌∷◌, ◌++◌, length, map, take, Option, Some, None, refl, sym, ap, ap₂, ◌∙◌, subst, inl, inr, ⊎_elim, arith, slice_get, get_or, nat_lt}
+use Rattle.std.specs.List.{All}
+use Rattle.std.proofs.lemmas.List.{get_or_append_left, get_or_push, length_push, map-append, take-append-le}
 use Rattle.std.proofs.lemmas.List.Elements.{All-append, All-cons, All-nil}
 use Rattle.std.proofs.Math.Seq.{take-append_seam}
 use Rattle.std.proofs.lemmas.Option.{slice_get_within}
 use Rattle.std.specs.Global.{Global}
+use Rattle.std.proofs.lemmas.Bool.{cases_Bool}
+use Rattle.std.proofs.lemmas.Bool.Decides.{nat_tests}
 use Rattle.types.specs.Statements.{Sent}
 use Rattle.types.specs.declared.event.Out.{Out}
 use Rattle.types.specs.declared.event.Refusal.{Refusal}
@@ -16,18 +19,19 @@ use Rattle.protocol.specs.Networks.Reply.{Done}
 use Rattle.protocol.specs.Networks.Step.{Opens, Closes, Asks, Delivers, Hears, NominationTimes, BallotTimes, Reslices}
 use Rattle.protocol.specs.Hosts.{Config, Entry, new_net}
 use Rattle.protocol.specs.Runs.{IsRun, net_after, outs_given, refusal_of, state_of}
-use Rattle.slot.specs.Filings.{AreFiledOuts, IsFiledOut, outs_of}
+use Rattle.slot.specs.Filings.{AreFiledOuts, IsFiledOut, copies_of, outs_of}
 use Rattle.slot.specs.declared.filed.FiledOut.{FiledOut}
 use Rattle.network.specs.Answers.{IsApplied}
 use Rattle.network.specs.declared.applied.Applied.{Applied}
 use Rattle.network.specs.Standing.{IsStep, Standing, StandsFor, machine_of}
 use Rattle.hoststep.specs.declared.kept.Kept.{Kept}
-use Rattle.hoststep.specs.declared.outs_place.OutsPlace.{OutsPlace}
-use Rattle.hoststep.specs.Giving.{IsListedIn, kept_outs}
+use Rattle.hoststep.specs.declared.outs_list.EntryOuts.{EntryOuts}
+use Rattle.hoststep.specs.Giving.{kept_outs, listed_at, with_outs}
 use Rattle.hoststep.specs.declared.kept.KeptEvent.{KeptEvent}
 use Rattle.hoststep.specs.declared.kept.KeptEvent.TheVariants as events
 use Rattle.hoststep.specs.Hosting.{NamesHosts}
-use Rattle.hoststep.specs.Keeping.{AreKept, IsKeptEvent, IsReadable, entry_of, step_in}
+use Rattle.hoststep.specs.Keeping.{AreKept, AreListed, IsKeptEvent, IsReadable, entry_of, step_in}
+use Rattle.hoststep.proofs.Listing.{AreEarlier, put-behind}
 use Rattle.hoststep.specs.Entering.{IsEnteredWith, outs_after}
 use Rattle.hoststep.specs.Logs.{IsJournal, Log, extended}
 
@@ -125,11 +129,7 @@ journal-grows old new es e os h step same = record {
 
 -- ---- what is kept
 abbrev pub OutsLists : Type 0
-OutsLists = List (Vec FiledOut Global)
-
--- what stands in its place stands there still
-abbrev pub OutsStay : OutsLists → OutsLists → Type 0
-OutsStay before after = (p : OutsPlace) → IsListedIn before p → IsListedIn after p
+OutsLists = List EntryOuts
 
 event-stays : (hosts : List Host) (old new : List Sent) (x : KeptEvent) → Keeps old new → IsKeptEvent hosts old x → IsKeptEvent hosts new x
 event-stays hosts old new (events.OpenSlot i) kept h = tt
@@ -146,15 +146,41 @@ out-stays old new (FiledOut.ArmBallot n) kept h = tt
 out-stays old new (FiledOut.Emit f) kept h = (kept f h.0, h.1)
 out-stays old new (FiledOut.Externalized x) kept h = tt
 
-pub kept-still : (hosts : List Host) (old new : List Sent) (before after : OutsLists) (xs : List Kept) → Keeps old new → OutsStay before after → AreKept hosts old before xs → AreKept hosts new after xs
-kept-still hosts old new before after xs kept stay all =
-    λ k d l. (event-stays hosts old new (get_or xs k d).event kept (all k d l).0, stay (get_or xs k d).outs (all k d l).1, λ j c m. out-stays old new (get_or (kept_outs (get_or xs k d).outs) j c) kept ((all k d l).2 j c m))
+abbrev pub IsKeptIn : List Host → List Sent → Kept → Type 0
+IsKeptIn hosts archive x = IsKeptEvent hosts archive x.event × AreFiledOuts archive (kept_outs x.outs)
 
-pub kept-more : (hosts : List Host) (old new : List Sent) (before after : OutsLists) (xs : List Kept) (x : Kept) → Keeps old new → OutsStay before after → AreKept hosts old before xs
-    → IsKeptEvent hosts new x.event → IsListedIn after x.outs → AreFiledOuts new (kept_outs x.outs) → AreKept hosts new after (xs ++ x ∷ [])
-kept-more hosts old new before after xs x kept stay all event listed outs =
-    let P : Kept → Type 0 = λ y. IsKeptEvent hosts new y.event × IsListedIn after y.outs × AreFiledOuts new (kept_outs y.outs) in
-    All-append P xs (x ∷ []) (kept-still hosts old new before after xs kept stay all) (All-cons P x [] (event, listed, outs) (All-nil P))
+kept-still : (hosts : List Host) (old new : List Sent) (xs : List Kept) → Keeps old new → All (IsKeptIn hosts old) xs → All (IsKeptIn hosts new) xs
+kept-still hosts old new xs kept all =
+    λ k d l. (event-stays hosts old new (get_or xs k d).event kept (all k d l).0, λ j c m. out-stays old new (get_or (kept_outs (get_or xs k d).outs) j c) kept ((all k d l).1 j c m))
+
+below_or_last : (k n : ℕ) → k < suc n → (k < n) ⊎ (k ≡ n)
+below_or_last k n l = elim (cases_Bool (nat_lt k n)) [
+  | inl less ↦ inl (grind (arith, nat_tests, less))
+  | inr more ↦ inr (grind (arith, nat_tests, more, l))
+]
+
+-- what was given out by an entry more is listed by its number
+listed-more : (before : OutsLists) (xs : List Kept) (x : Kept) (outs : Vec FiledOut Global) → AreListed before xs → kept_outs x.outs ≡ outs.items → AreListed (with_outs (length xs) outs before) (xs ++ x ∷ [])
+listed-more before xs x outs h gave =
+    let put = put-behind before (length xs) outs h.ascending h.earlier in
+    let longer : length (xs ++ x ∷ []) ≡ suc (length xs) = omega (arith, length_push xs x) in
+    record {
+      ascending = put.ascending;
+      earlier = subst (λ n. AreEarlier (with_outs (length xs) outs before) n) (sym longer) put.earlier;
+      listed = λ k d l.
+          let within : k < suc (length xs) = subst (λ n. k < n) longer l in
+          ⊎_elim
+          (λ (less : k < length xs). put.others k less ∙ h.listed k d less ∙ ap (λ (y : Kept). kept_outs y.outs) (sym (get_or_append_left xs (x ∷ []) d k less)))
+          (λ (last : k ≡ length xs). ap (listed_at (with_outs (length xs) outs before)) last ∙ put.here ∙ sym gave ∙ ap (λ (y : Kept). kept_outs y.outs) (sym (ap (λ n. get_or (xs ++ x ∷ []) n d) last ∙ get_or_push xs x d (length xs) refl)))
+          (below_or_last k (length xs) within);
+    }
+
+pub kept-more : (hosts : List Host) (old new : List Sent) (before : OutsLists) (xs : List Kept) (x : Kept) (outs : Vec FiledOut Global) → Keeps old new → AreKept hosts old before xs
+    → IsKeptEvent hosts new x.event → kept_outs x.outs ≡ outs.items → AreFiledOuts new (kept_outs x.outs) → AreKept hosts new (with_outs (length xs) outs before) (xs ++ x ∷ [])
+kept-more hosts old new before xs x outs kept all event gave filed = (
+  All-append (IsKeptIn hosts new) xs (x ∷ []) (kept-still hosts old new xs kept all.0) (All-cons (IsKeptIn hosts new) x [] (event, filed) (All-nil (IsKeptIn hosts new))),
+  listed-more before xs x outs all.1 gave,
+)
 
 -- ---- an event that is entered
 -- the entries are a run that leads to the machine, and the hosts, the archive and the lists have what they keep
@@ -179,33 +205,33 @@ pub entered-with : (l : Log) (old new : Standing) (lists : OutsLists) (xs : List
 entered-with l old new lists xs e count a is h d =
     let next = next-of old new lists xs e count a h d in
     subst (λ (k : Log). IsEnteredWith k e count (record { marks = a.marks; copies = a.copies })) is
-    (record { free = next.0; marks = d.marks (state_of old.config (map entry_of xs)) h.0.state; copies = d.copies ∙ ap (λ (os : List Out). replicate count os) next.1 })
+    (record { free = next.0; marks = d.marks (state_of old.config (map entry_of xs)) h.0.state; copies = d.copies ∙ ap (λ (os : List Out). copies_of count os) next.1 })
 
--- what an entry more is made of: the event, and what was given out in its place of the lists
-pub record IsEntryFor (lists : OutsLists) (e : Step) (outs : List FiledOut) (x : Kept) : Type 0 where
+-- what an entry more is made of: the event, and what was given out
+pub record IsEntryFor (e : Step) (outs : List FiledOut) (x : Kept) : Type 0 where
   pub step : step_in x.event ≡ e
   pub gave : kept_outs x.outs ≡ outs
-  pub listed : IsListedIn lists x.outs
 
-more : (xs ys zs : List Kept) (lists : OutsLists) (x : Kept) (e : Step) (os : List FiledOut) → ys ≡ xs → zs ≡ ys ++ x ∷ [] → IsEntryFor lists e os x → map entry_of zs ≡ map entry_of xs ++ record { event = e; outs = outs_of os } ∷ []
-more xs ys zs lists x e os same is entry =
+more : (xs ys zs : List Kept) (x : Kept) (e : Step) (os : List FiledOut) → ys ≡ xs → zs ≡ ys ++ x ∷ [] → IsEntryFor e os x → map entry_of zs ≡ map entry_of xs ++ record { event = e; outs = outs_of os } ∷ []
+more xs ys zs x e os same is entry =
     ap (map entry_of) (is ∙ ap (λ (l : List Kept). l ++ x ∷ []) same) ∙ map-append entry_of xs (x ∷ [])
     ∙ ap (λ (s : Step). map entry_of xs ++ record { event = s; outs = outs_of (kept_outs x.outs) } ∷ []) entry.step
     ∙ ap (λ (l : List FiledOut). map entry_of xs ++ record { event = e; outs = outs_of l } ∷ []) entry.gave
 
-pub stands-more : (old new : Standing) (hosting : Config) (before after : OutsLists) (xs ys zs : List Kept) (x : Kept) (e : Step) (count : ℕ) (a : Applied) → Stands old before xs → IsApplied old e count new a → hosting ≡ new.config → new.config ≡ old.config
-    → Keeps old.archive new.archive → OutsStay before after → ys ≡ xs → zs ≡ ys ++ x ∷ [] → IsEntryFor after e a.outs.items x → IsKeptEvent hosting.hosts new.archive x.event → Stands new after zs
-stands-more old new hosting before after xs ys zs x e count a h d there config kept stay same is entry filed =
+pub stands-more : (old new : Standing) (hosting : Config) (before middle after : OutsLists) (n : ℕ) (xs ys zs : List Kept) (x : Kept) (e : Step) (count : ℕ) (a : Applied) → Stands old before xs → IsApplied old e count new a → hosting ≡ new.config → new.config ≡ old.config
+    → Keeps old.archive new.archive → middle ≡ before → n ≡ length ys → after ≡ with_outs n a.outs middle → ys ≡ xs → zs ≡ ys ++ x ∷ [] → IsEntryFor e a.outs.items x → IsKeptEvent hosting.hosts new.archive x.event → Stands new after zs
+stands-more old new hosting before middle after n xs ys zs x e count a h d there config kept stays counted put same is entry filed =
     let earlier : AreKept new.config.hosts old.archive before xs = subst (λ (k : Config). AreKept k.hosts old.archive before xs) (sym config) h.1 in
     let mine : IsKeptEvent new.config.hosts new.archive x.event = subst (λ (k : Config). IsKeptEvent k.hosts new.archive x.event) there filed in
-    let outs : AreFiledOuts new.archive (kept_outs x.outs) = subst (λ (os : List FiledOut). AreFiledOuts new.archive os) (sym entry.gave) d.outs in (
-      subst (λ (es : List Entry). IsJournal (machine_of new) es) (sym (more xs ys zs after x e a.outs.items same is entry)) (journal-grows old new (map entry_of xs) e (outs_of a.outs.items) h.0 d.step config),
-      subst (λ (l : List Kept). AreKept new.config.hosts new.archive after l) (sym (is ∙ ap (λ (l : List Kept). l ++ x ∷ []) same)) (kept-more new.config.hosts old.archive new.archive before after xs x kept stay earlier mine entry.listed outs),
+    let outs : AreFiledOuts new.archive (kept_outs x.outs) = subst (λ (os : List FiledOut). AreFiledOuts new.archive os) (sym entry.gave) d.outs in
+    let lists : after ≡ with_outs (length xs) a.outs before = put ∙ ap₂ (λ (i : ℕ) (l : OutsLists). with_outs i a.outs l) (counted ∙ ap length same) stays in (
+      subst (λ (es : List Entry). IsJournal (machine_of new) es) (sym (more xs ys zs x e a.outs.items same is entry)) (journal-grows old new (map entry_of xs) e (outs_of a.outs.items) h.0 d.step config),
+      subst (λ (l : OutsLists × List Kept). AreKept new.config.hosts new.archive l.0 l.1) (λ i. (sym lists i, sym (is ∙ ap (λ (l : List Kept). l ++ x ∷ []) same) i)) (kept-more new.config.hosts old.archive new.archive before xs x a.outs kept earlier mine entry.gave outs),
     )
 
-pub log-grows : (l : Log) (old new : Standing) (before after : OutsLists) (xs ys zs : List Kept) (x : Kept) (e : Step) (count : ℕ) (a : Applied) → log_of old xs ≡ l → Stands old before xs → IsApplied old e count new a → new.config ≡ old.config
-    → ys ≡ xs → zs ≡ ys ++ x ∷ [] → IsEntryFor after e a.outs.items x → log_of new zs ≡ extended l e (outs_after l e)
-log-grows l old new before after xs ys zs x e count a of h d config same is entry =
+pub log-grows : (l : Log) (old new : Standing) (before : OutsLists) (xs ys zs : List Kept) (x : Kept) (e : Step) (count : ℕ) (a : Applied) → log_of old xs ≡ l → Stands old before xs → IsApplied old e count new a → new.config ≡ old.config
+    → ys ≡ xs → zs ≡ ys ++ x ∷ [] → IsEntryFor e a.outs.items x → log_of new zs ≡ extended l e (outs_after l e)
+log-grows l old new before xs ys zs x e count a of h d config same is entry =
     let next = next-of old new before xs e count a h d in
     subst (λ (k : Log). log_of new zs ≡ extended k e (outs_after k e)) of
-    (λ i. record { config = config i; entries = (more xs ys zs after x e a.outs.items same is entry ∙ ap (λ (os : List Out). map entry_of xs ++ record { event = e; outs = os } ∷ []) next.1) i })
+    (λ i. record { config = config i; entries = (more xs ys zs x e a.outs.items same is entry ∙ ap (λ (os : List Out). map entry_of xs ++ record { event = e; outs = os } ∷ []) next.1) i })

@@ -1,4 +1,5 @@
 mod Begins
+mod Listing
 pub mod Growing
 mod Spelled
 pub mod Histories

@@ -1,7 +1,9 @@
 -- The bytes of a delivery are the one spelling of its envelope.
-use Rattle.std.proofs.Common.{◌≡◌, ℕ, List, length, Option, Some, IfSome, option_map, refl, sym, ap, ◌∙◌, subst}
+use Rattle.std.proofs.Common.{◌≡◌, ◌≤◌, ℕ, false, List, length, Option, Some, IfSome, option_map, refl, sym, ap, ◌∙◌, subst, arith}
+use Rattle.std.proofs.lemmas.Bool.Decides.{nat_tests}
 use Rattle.types.specs.Statements.{Sent}
-use Rattle.codec.specs.Spelling.{Spells}
+use Rattle.codec.specs.Spelling.{Spells, most_bytes}
+use Rattle.codec.proofs.Lengths.{spelling_is_short}
 use Rattle.codec.specs.Steps.{IsBytes}
 use Rattle.envstore.specs.declared.filed.Filed.{Filed}
 use Rattle.envstore.specs.Archives.{IsFiled, sent_of}
@@ -12,6 +14,7 @@ use Rattle.network.specs.Answers.{delivered_of}
 use Rattle.network.specs.Decoding.{reading}
 use Rattle.network.proofs.Readings.{readings_are_exact}
 use Rattle.hoststep.specs.declared.host_place.HostPlace.{HostPlace}
+use Rattle.hoststep.specs.Boxing.{is_wide}
 use Rattle.hoststep.specs.Hosting.{IsHostAt, host_name}
 use Rattle.hoststep.specs.Keeping.{spelled_size}
 
@@ -19,15 +22,25 @@ pub counted : (bytes : List ℕ) (e : Sent) → Spells bytes e → length bytes 
 unfolding spelled_size
 counted bytes e h = ap length h.text
 
-pub spelled : (bytes : List ℕ) (u : ℕ) (e : Sent) → IsBytes bytes → Some e ≡ delivered_of (Delivers u (length bytes) (reading bytes)) → length bytes ≡ spelled_size e
-spelled bytes u e fits h = go (reading bytes) refl h
+spells : (bytes : List ℕ) (u : ℕ) (e : Sent) → IsBytes bytes → Some e ≡ delivered_of (Delivers u (length bytes) (reading bytes)) → Spells bytes e
+spells bytes u e fits h = go (reading bytes) refl h
   where
-    go : (r : Reading) → reading bytes ≡ r → Some e ≡ delivered_of (Delivers u (length bytes) r) → length bytes ≡ spelled_size e
-    go (Read d) q k = let z : d ≡ e = cc in counted bytes e (((readings_are_exact bytes fits).envelope e).0 (q ∙ ap (λ (x : Sent). Read x) z))
+    go : (r : Reading) → reading bytes ≡ r → Some e ≡ delivered_of (Delivers u (length bytes) r) → Spells bytes e
+    go (Read d) q k = let z : d ≡ e = cc in ((readings_are_exact bytes fits).envelope e).0 (q ∙ ap (λ (x : Sent). Read x) z)
     go (Fault n) q k = absurd (cc)
+
+-- the bytes of an envelope are few
+pub few_bytes : (delivered : Option Filed) (f : Filed) (bytes : List ℕ) (u : HostPlace) (size : ℕ) → delivered ≡ Some f → option_map sent_of delivered ≡ delivered_of (Delivers (host_name u) (length bytes) (reading bytes)) → IsBytes bytes → size ≡ length bytes
+    → is_wide size ≡ false
+few_bytes delivered f bytes u size is from fits count =
+    let said = spells bytes (host_name u) (sent_of f) fits (sym (ap (option_map sent_of) is) ∙ from) in
+    below (length bytes) size count (subst (λ n. n ≤ most_bytes) (ap length (sym said.text)) (spelling_is_short (sent_of f) said.envelope))
+  where
+    below : (n size : ℕ) → size ≡ n → n ≤ 65536 → is_wide size ≡ false
+    below n size is h = grind (arith, nat_tests, is, h)
 
 -- a delivery as it is kept
 pub filed : (delivered : Option Filed) (f : Filed) (bytes : List ℕ) (u : HostPlace) (size : ℕ) → delivered ≡ Some f → option_map sent_of delivered ≡ delivered_of (Delivers (host_name u) (length bytes) (reading bytes)) → IsBytes bytes → size ≡ length bytes
     → (hosts : List Host) (archive : List Sent) → IsHostAt hosts u → IfSome delivered (IsFiled archive) → IsHostAt hosts u × IsFiled archive f × (size ≡ spelled_size (sent_of f))
 filed delivered f bytes u size is from fits count hosts archive there h =
-    (there, subst (λ (o : Option Filed). IfSome o (IsFiled archive)) is h, count ∙ spelled bytes (host_name u) (sent_of f) fits (sym (ap (option_map sent_of) is) ∙ from))
+    (there, subst (λ (o : Option Filed). IfSome o (IsFiled archive)) is h, count ∙ counted bytes (sent_of f) (spells bytes (host_name u) (sent_of f) fits (sym (ap (option_map sent_of) is) ∙ from)))

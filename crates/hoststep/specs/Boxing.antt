@@ -1,16 +1,20 @@
 -- Events that are kept in a box.
-use Rattle.std.specs.Prelude.{◌≡◌, Bool, true, false, is_some}
+use Rattle.std.specs.Prelude.{◌≡◌, ◌||◌, ◌^◌, ℕ, Bool, true, false, is_some, nat_le}
 use Rattle.types.specs.declared.event.Event.{Event}
 use Rattle.types.specs.declared.event.Event.TheVariants.{OpenSlot, CloseSlot, Propose, Deliver, Hear, NominationTimer, BallotTimer, Reslice}
 use Rattle.hoststep.specs.declared.event_room.EventRoom.{EventRoom}
 
--- it brings a value or slices of its own
+-- a number of more than 32 bits
+abbrev pub is_wide : ℕ → Bool
+is_wide n = nat_le (2 ^ 32) n
+
+-- it brings a value or slices of its own, or tells of what was heard by wide numbers
 abbrev pub is_large : Event → Bool
 is_large (OpenSlot i) = false
 is_large (CloseSlot i) = false
 is_large (Propose i u x) = true
 is_large (Deliver u bytes) = false
-is_large (Hear i u from kind k) = false
+is_large (Hear i u from kind k) = is_wide i || is_wide k
 is_large (NominationTimer i u r) = false
 is_large (BallotTimer i u n) = false
 is_large (Reslice i u q) = true

@@ -1,18 +1,33 @@
--- What entries of a journal gave out, by the places of its lists.
-use Rattle.std.specs.Prelude.{◌≡◌, ℕ, zero, suc, Vec, List, [], Option, Some, option_map, slice_get}
+-- What entries of a journal gave out, by the numbers of the entries.
+use Rattle.std.specs.Prelude.{◌≡◌, ◌==◌, ◌<◌, ℕ, Vec, List, [], ◌∷◌, ◌++◌, length, map, Some, None, Result, Ok, Err, if◌then◌else◌}
 use Rattle.std.specs.Global.{Global}
+use Rattle.configuration.specs.Configs.{index_in}
 use Rattle.slot.specs.declared.filed.FiledOut.{FiledOut}
-use Rattle.hoststep.specs.declared.outs_place.OutsPlace.{OutsPlace}
+use Rattle.hoststep.specs.declared.outs_list.EntryOuts.{EntryOuts}
+use Rattle.hoststep.specs.declared.outs_list.KeptOuts.{KeptOuts}
 
 -- what was given out
-abbrev pub kept_outs : OutsPlace → List FiledOut
+abbrev pub kept_outs : KeptOuts → List FiledOut
 kept_outs p = p.outs.value.items
 
--- what these lists have at a place: nothing at 0, and then one list after the other
-abbrev pub listed_at : List (Vec FiledOut Global) → ℕ → Option (List FiledOut)
-listed_at lists zero = Some []
-listed_at lists (suc k) = option_map (λ v. v.items) (slice_get lists k)
+-- the number of the entry that gave these out
+abbrev pub entry_number : EntryOuts → ℕ
+entry_number x = x.entry
 
--- it stands there
-abbrev pub IsListedIn : List (Vec FiledOut Global) → OutsPlace → Type 0
-IsListedIn lists p = listed_at lists p.place ≡ Some (kept_outs p)
+-- what the entry with a number gave out: nothing, where these lists have none of it
+abbrev pub listed_at : List EntryOuts → ℕ → List FiledOut
+listed_at [] n = []
+listed_at (x ∷ xs) n = if x.entry == n then x.outs.items else listed_at xs n
+
+-- the lists with one more behind them, where something was given out
+abbrev pub put_behind : List FiledOut → List EntryOuts → EntryOuts → List EntryOuts
+put_behind [] lists x = lists
+put_behind (o ∷ os) lists x = lists ++ x ∷ []
+
+abbrev pub with_outs : ℕ → Vec FiledOut Global → List EntryOuts → List EntryOuts
+with_outs n outs lists = put_behind outs.items lists (record { entry = n; outs = outs })
+
+-- the place of the list of an entry, or none
+abbrev pub IsFoundAt : List EntryOuts → ℕ → Result ℕ ℕ → Type 0
+IsFoundAt lists n (Ok at) = (index_in (map entry_number lists) n ≡ Some at) × (at < length lists)
+IsFoundAt lists n (Err at) = index_in (map entry_number lists) n ≡ None

@@ -1,6 +1,5 @@
 -- Entries of a journal as they are kept, and what they stand for.
-use Rattle.std.specs.Prelude.{◌≡◌, ℕ, true, Vec, List, box_value, length, ⊤}
-use Rattle.std.specs.Global.{Global}
+use Rattle.std.specs.Prelude.{◌≡◌, ◌<◌, ℕ, true, List, box_value, get_or, length, map, ⊤}
 use Rattle.std.specs.List.{All}
 use Rattle.types.specs.Statements.{Sent}
 use Rattle.codec.specs.Spelling.{spelling}
@@ -10,12 +9,14 @@ use Rattle.protocol.specs.Networks.Reading.{Read, Fault}
 use Rattle.protocol.specs.Networks.Step.{Opens, Closes, Delivers, Hears, NominationTimes, BallotTimes}
 use Rattle.envstore.specs.Archives.{IsFiled, sent_of}
 use Rattle.slot.specs.Filings.{AreFiledOuts, outs_of}
-use Rattle.slot.specs.declared.filed.FiledOut.{FiledOut}
+use Rattle.protocol.specs.Sets.{IsAscending}
 use Rattle.network.specs.Decoding.{step_of}
 use Rattle.hoststep.specs.Hosting.{IsHostAt, host_name}
 use Rattle.hoststep.specs.Boxing.{is_large}
-use Rattle.hoststep.specs.Giving.{IsListedIn, kept_outs}
+use Rattle.hoststep.specs.Giving.{entry_number, kept_outs, listed_at}
 use Rattle.hoststep.specs.declared.kept.Kept.{Kept}
+use Rattle.hoststep.specs.declared.kept.LentEntry.{LentEntry}
+use Rattle.hoststep.specs.declared.outs_list.EntryOuts.{EntryOuts}
 use Rattle.hoststep.specs.declared.kept.KeptEvent.{KeptEvent}
 use Rattle.hoststep.specs.declared.kept.KeptEvent.TheVariants.{OpenSlot, CloseSlot, Deliver, Hear, NominationTimer, BallotTimer, Large}
 
@@ -52,6 +53,19 @@ IsKeptEvent hosts archive (NominationTimer u r i) = IsHostAt hosts u
 IsKeptEvent hosts archive (BallotTimer u n i) = IsHostAt hosts u
 IsKeptEvent hosts archive (Large b) = is_large (box_value b) ≡ true
 
--- that of each entry; what it gave out stands in its place of the lists, and the archive has what was emitted
-abbrev pub AreKept : List Host → List Sent → List (Vec FiledOut Global) → List Kept → Type 0
-AreKept hosts archive lists xs = All (λ x. IsKeptEvent hosts archive x.event × IsListedIn lists x.outs × AreFiledOuts archive (kept_outs x.outs)) xs
+-- what each entry gave out is listed by its number: the lists ascend, and are of these entries
+pub record AreListed (lists : List EntryOuts) (xs : List Kept) : Type 0 where
+  pub ascending : IsAscending (map entry_number lists)
+  pub earlier : All (λ x. x.entry < length xs) lists
+  pub listed : (k : ℕ) (d : Kept) → k < length xs → listed_at lists k ≡ kept_outs (get_or xs k d).outs
+
+-- that of each entry; the archive has what was emitted, and what was given out is listed
+abbrev pub AreKept : List Host → List Sent → List EntryOuts → List Kept → Type 0
+AreKept hosts archive lists xs = All (λ x. IsKeptEvent hosts archive x.event × AreFiledOuts archive (kept_outs x.outs)) xs × AreListed lists xs
+
+-- an entry that is read in place
+abbrev pub lent_entry : LentEntry → Entry
+lent_entry x = record { event = step_in x.event.now; outs = outs_of x.outs.now }
+
+abbrev pub IsLentEntry : List Host → List Sent → LentEntry → Type 0
+IsLentEntry hosts archive x = IsKeptEvent hosts archive x.event.now × AreFiledOuts archive x.outs.now

@@ -1,12 +1,13 @@
 //! Room for a large event, made before it is applied.
 
 ghost use Rattle.std.specs.Prelude.{◌≡◌, OnOk, box_value, is_some, true};
-ghost use Rattle.hoststep.specs.Boxing.{HasBoxFor, is_large};
+ghost use Rattle.hoststep.specs.Boxing.{HasBoxFor, is_large, is_wide};
 
 use std::alloc::{AllocError, Global};
 use types::Event;
 
-/// A box for an event that brings a value or slices of its own, so that the entries of all others are small.
+/// A box for an event that brings a value or slices of its own, or wide numbers, so that the entries of all others are
+/// small.
 /// Where such an event is refused, the box stays for the next one; what lies in it until then means nothing.
 #[derive(Drop)]
 pub(crate) struct EventRoom {
@@ -46,9 +47,21 @@ impl EventRoom {
     }
 }
 
-/// Whether an event brings a value or slices of its own.
+/// Whether an event brings a value or slices of its own, or is a hearing at a slot or with a number of more than 32
+/// bits.
 pub(crate) fn is_large(event: &Event) -> bool
     ensures { result ≡ is_large event.now }
 {
-    matches!(event, Event::Propose { .. } | Event::Reslice { .. })
+    match event {
+        Event::Propose { .. } | Event::Reslice { .. } => true,
+        Event::Hear { slot, number, .. } => is_wide(*slot) || is_wide(*number),
+        _ => false,
+    }
+}
+
+/// Whether a number has more than 32 bits.
+fn is_wide(number: u64) -> bool
+    ensures { result ≡ is_wide number }
+{
+    number > u32::MAX as u64
 }

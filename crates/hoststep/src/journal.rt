@@ -12,15 +12,14 @@ ghost use Rattle.hoststep.specs.Deciding.{decided_by, decisions_at};
 
 use crate::entered::{Entered, both_copies, only_copy};
 use crate::event_room::EventRoom;
-use crate::kept::{Kept, kept_event, push_whole_outs, whole_event};
+use crate::kept::{Kept, entry_at, kept_event, push_whole_outs, whole_event};
 use crate::lent_decision::{LentDecision, lent_decision};
 use crate::lent_event::{LentEvent, lent_event};
-use crate::outs_place::OutsPlace;
+use crate::outs_list::{EntryOuts, KeptOuts};
 use crate::recorded::Recorded;
 use configuration::NetConfig;
 use envstore::Shelf;
 use network::{Applied, Network};
-use slot::FiledOut;
 use std::alloc::{AllocError, Global};
 use std::marker::Model;
 use types::{Event, Nested, NodeId, Out, Refusal};
@@ -35,8 +34,8 @@ pub struct Journal<S: Shelf> {
     alloc: Global,
     network: Network<S>,
     entries: Vec<Kept>,
-    /// What was given out, a list for each entry that gave anything out.
-    given: Vec<Vec<FiledOut>>,
+    /// What was given out, a list for each entry that gave anything out, ascending by entry.
+    given: Vec<EntryOuts>,
     room: EventRoom,
 }
 
@@ -169,7 +168,7 @@ impl<S: Shelf> Journal<S> {
             delivered,
         } = applied;
         let event = kept_event(self.network.config(), &mut self.room, event, delivered);
-        let outs = OutsPlace::put(&mut self.given, outs);
+        let outs = KeptOuts::put(&mut self.given, self.entries.len(), outs);
         self.entries.push_reserved(Kept { event, outs });
         Ok(Entered { marks, copies })
     }
@@ -183,13 +182,12 @@ impl<S: Shelf> Journal<S> {
     ) -> Result<Option<(Event, Vec<Out>)>, AllocError>
         ensures { IfOk result (IsEntryAt (slice_get self.now.entries number)) }
     {
-        match self.entries.get(number) {
+        match entry_at(&self.network, &self.given, &self.entries, number) {
             None => Ok(None),
             Some(kept) => {
-                let event = whole_event(alloc, &self.network, &kept.event)?;
-                let given = kept.outs.outs(&self.given);
-                let mut outs = Vec::with_capacity(alloc, given.len())?;
-                push_whole_outs(alloc, &self.network, given, &mut outs)?;
+                let event = whole_event(alloc, &self.network, kept.event)?;
+                let mut outs = Vec::with_capacity(alloc, kept.outs.len())?;
+                push_whole_outs(alloc, &self.network, kept.outs, &mut outs)?;
                 Ok(Some((event, outs)))
             }
         }
@@ -210,9 +208,9 @@ impl<S: Shelf> Journal<S> {
     pub fn decision(&self, number: usize) -> Option<LentDecision<'_>>
         ensures { option_to_list (option_map decided_by result) ≡ decisions_at self.now.entries number }
     {
-        match self.entries.get(number) {
+        match entry_at(&self.network, &self.given, &self.entries, number) {
             None => None,
-            Some(kept) => lent_decision(&self.network, &kept.event, kept.outs.outs(&self.given)),
+            Some(kept) => lent_decision(&self.network, kept.event, kept.outs),
         }
     }
 
@@ -228,9 +226,9 @@ impl<S: Shelf> Journal<S> {
         ensures ok { OnOk result (outs.new.items ≡ outs.old.items ++ outs_at self.now.entries number) }
         ensures err { OnErr result (take (length outs.old.items) outs.new.items ≡ outs.old.items) }
     {
-        match self.entries.get(number) {
+        match entry_at(&self.network, &self.given, &self.entries, number) {
             None => Ok(()),
-            Some(kept) => push_whole_outs(alloc, &self.network, kept.outs.outs(&self.given), outs),
+            Some(kept) => push_whole_outs(alloc, &self.network, kept.outs, outs),
         }
     }
 }

@@ -2,7 +2,7 @@
 //!
 //! Where a function here answers an error, memory is short.
 
-ghost use Rattle.std.specs.Prelude.{◌≡◌, ◌++◌, IfOk, IfSome, List, OnErr, OnOk, false, length, option_map, take};
+ghost use Rattle.std.specs.Prelude.{◌≡◌, ◌++◌, IfOk, IfSome, List, OnErr, OnOk, false, length, option_map, slice_get, take};
 ghost use Rattle.codec.specs.Steps.{IsBytes};
 ghost use Rattle.envstore.specs.Archives.{IsFiled, sent_of};
 ghost use Rattle.protocol.specs.Networks.{Host};
@@ -13,12 +13,12 @@ ghost use Rattle.types.specs.Statements.{Sent};
 ghost use Rattle.network.specs.Answers.{delivered_of};
 ghost use Rattle.network.specs.Decoding.{reading, step_of};
 ghost use Rattle.hoststep.specs.Hosting.{IsHostAt, NamesHosts, host_name};
-ghost use Rattle.hoststep.specs.Boxing.{HasBoxFor, is_large};
-ghost use Rattle.hoststep.specs.Keeping.{IsKeptEvent, IsReadable, spelled_size, step_in};
+ghost use Rattle.hoststep.specs.Boxing.{HasBoxFor, is_large, is_wide};
+ghost use Rattle.hoststep.specs.Keeping.{AreKept, IsLentEntry, IsKeptEvent, IsReadable, entry_of, lent_entry, spelled_size, step_in};
 
 use crate::event_room::{EventRoom, is_large};
 use crate::host_place::HostPlace;
-use crate::outs_place::OutsPlace;
+use crate::outs_list::{EntryOuts, KeptOuts, outs_of_entry};
 use codec::encode;
 use configuration::NetConfig;
 use envstore::{Filed, Shelf};
@@ -28,8 +28,8 @@ use std::alloc::{AllocError, Global};
 use types::{Bytes, Event, Kind, Out};
 
 /// An applied event, as it is kept: what was delivered lies in the archive of the network, nodes are named by
-/// their places among the hosts, and a large event lies in a box. Small fields come first, since fields lie as
-/// they are written here.
+/// their places among the hosts, and a large event lies in a box: sixteen bytes. Small fields come first, since fields
+/// lie as they are written here.
 #[derive(Drop)]
 pub(crate) enum KeptEvent {
     OpenSlot {
@@ -41,15 +41,15 @@ pub(crate) enum KeptEvent {
     /// The envelope that the bytes were, and how many they were.
     Deliver {
         node: HostPlace,
-        size: u64,
+        size: u32,
         envelope: Filed,
     },
     Hear {
         node: HostPlace,
         from: HostPlace,
         kind: Kind,
-        slot: u64,
-        number: u64,
+        slot: u32,
+        number: u32,
     },
     NominationTimer {
         node: HostPlace,
@@ -61,15 +61,42 @@ pub(crate) enum KeptEvent {
         counter: u32,
         slot: u64,
     },
-    /// A proposal or new slices, as they came.
+    /// A proposal, new slices, or a hearing with a wide number, as it came.
     Large(Box<Event>),
 }
 
-/// An applied event with what it gave out.
+/// An applied event, and in contracts what it gave out.
 #[derive(Drop)]
 pub(crate) struct Kept {
     pub event: KeptEvent,
-    pub outs: OutsPlace,
+    pub outs: KeptOuts,
+}
+
+/// An entry of a journal, read in place.
+#[derive(Clone, Copy)]
+pub(crate) struct LentEntry<'a> {
+    pub event: &'a KeptEvent,
+    pub outs: &'a [FiledOut],
+}
+
+/// The entry of this number, read in place; `None` past the last. It takes no memory.
+pub(crate) fn entry_at<'a, S: Shelf>(
+    network: &Network<S>,
+    lists: &'a Vec<EntryOuts>,
+    entries: &'a Vec<Kept>,
+    number: usize,
+) -> Option<LentEntry<'a>>
+    requires { AreKept network.now.config.hosts network.now.archive lists.now.items entries.now.items }
+    ensures at { option_map lent_entry result ≡ option_map entry_of (slice_get entries.now.items number) }
+    ensures kept { IfSome result (IsLentEntry network.now.config.hosts network.now.archive) }
+{
+    match entries.get(number) {
+        None => None,
+        Some(kept) => Some(LentEntry {
+            event: &kept.event,
+            outs: outs_of_entry(lists, number),
+        }),
+    }
 }
 
 /// An event as it is kept, a large one in the box that is there for it. For the bytes of a delivery stands the
@@ -118,8 +145,8 @@ fn kept_small(config: &NetConfig, event: &Event, delivered: Option<Filed>) -> Ke
             node: HostPlace::of(config, node),
             from: HostPlace::of(config, from),
             kind: *kind,
-            slot: *slot,
-            number: *number,
+            slot: narrow(*slot),
+            number: narrow(*number),
         },
         Event::NominationTimer { slot, node, round } => KeptEvent::NominationTimer {
             node: HostPlace::of(config, node),
@@ -149,7 +176,7 @@ fn kept_delivery(node: HostPlace, bytes: &Bytes, delivered: Option<Filed>) -> Ke
     let Some(envelope) = delivered else {
         unreachable!()
     };
-    let size = count_bytes(bytes.as_slice());
+    let size = narrow(count_bytes(bytes.as_slice()));
     KeptEvent::Deliver {
         node,
         size,
@@ -163,6 +190,14 @@ fn count_bytes(bytes: &[u8]) -> u64
     ensures bytes { IsBytes bytes.now }
 {
     bytes.len() as u64
+}
+
+/// A number that is not wide, in 32 bits.
+fn narrow(number: u64) -> u32
+    requires { is_wide number ≡ false }
+    ensures { result ≡ number }
+{
+    number as u32
 }
 
 /// The event as it came, a delivery with its bytes: they are the one spelling of its envelope.
@@ -188,11 +223,11 @@ pub(crate) fn whole_event<S: Shelf>(
             slot,
             number,
         } => Ok(Event::Hear {
-            slot: *slot,
+            slot: *slot as u64,
             node: node.name(network.config()),
             from: from.name(network.config()),
             kind: *kind,
-            number: *number,
+            number: *number as u64,
         }),
         KeptEvent::NominationTimer { node, round, slot } => Ok(Event::NominationTimer {
             slot: *slot,

@@ -70,7 +70,7 @@ fn place_named<S: Shelf>(network: &Network<S>, event: &KeptEvent) -> Option<(u64
         KeptEvent::Deliver { node, envelope, .. } => {
             Some((network.read(envelope).slot(), node.name(config)))
         }
-        KeptEvent::Hear { node, slot, .. } => Some((*slot, node.name(config))),
+        KeptEvent::Hear { node, slot, .. } => Some((*slot as u64, node.name(config))),
         KeptEvent::NominationTimer { node, slot, .. } => Some((*slot, node.name(config))),
         KeptEvent::BallotTimer { node, slot, .. } => Some((*slot, node.name(config))),
         KeptEvent::Large(event) => place_of_large(event),
@@ -83,9 +83,9 @@ fn place_of_large(event: &Event) -> Option<(u64, NodeId)>
     ensures { result ≡ place_named (step_of event.now) }
 {
     match event {
-        Event::Propose { slot, node, .. } | Event::Reslice { slot, node, .. } => {
-            Some((*slot, *node))
-        }
+        Event::Propose { slot, node, .. }
+        | Event::Reslice { slot, node, .. }
+        | Event::Hear { slot, node, .. } => Some((*slot, *node)),
         _ => unreachable!(),
     }
 }

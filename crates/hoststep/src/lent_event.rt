@@ -82,7 +82,7 @@ pub(crate) fn lent_event<'a, S: Shelf>(
             node,
             size,
             envelope,
-        } => lent_delivery(network, node.name(network.config()), *size, envelope),
+        } => lent_delivery(network, node.name(network.config()), *size as u64, envelope),
         KeptEvent::Hear {
             node,
             from,
@@ -90,11 +90,11 @@ pub(crate) fn lent_event<'a, S: Shelf>(
             slot,
             number,
         } => LentEvent::Hear {
-            slot: *slot,
+            slot: *slot as u64,
             node: node.name(network.config()),
             from: from.name(network.config()),
             kind: *kind,
-            number: *number,
+            number: *number as u64,
         },
         KeptEvent::NominationTimer { node, round, slot } => LentEvent::NominationTimer {
             slot: *slot,
@@ -129,6 +129,19 @@ fn lent_large(event: &Event) -> LentEvent<'_>
             slot: *slot,
             node: *node,
             slices,
+        },
+        Event::Hear {
+            slot,
+            node,
+            from,
+            kind,
+            number,
+        } => LentEvent::Hear {
+            slot: *slot,
+            node: *node,
+            from: *from,
+            kind: *kind,
+            number: *number,
         },
         _ => unreachable!(),
     }

@@ -15,7 +15,7 @@ mod kept;
 mod lent_decision;
 mod lent_event;
 mod machine;
-mod outs_place;
+mod outs_list;
 mod recorded;
 mod sizes;
 mod world;

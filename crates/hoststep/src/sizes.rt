@@ -5,6 +5,6 @@
 use crate::kept::{Kept, KeptEvent};
 use std::mem::size_of;
 
-const _: () = prove!(size_of::<KeptEvent>() <= 24);
+const _: () = prove!(size_of::<KeptEvent>() <= 16);
 
-const _: () = prove!(size_of::<Kept>() <= 32);
+const _: () = prove!(size_of::<Kept>() <= 16);

@@ -1,9 +1,9 @@
 //! Where the rows of each sender stand: an index ordered by name.
 
-ghost use Rattle.std.specs.Prelude.{◌≡◌, [], IfOk, OnErr, OnOk, length, map, true};
+ghost use Rattle.std.specs.Prelude.{◌≡◌, ◌<◌, ◌-◌, ◌^◌, [], IfOk, OnErr, OnOk, length, map, true};
 ghost use Rattle.latest.specs.Places.{Places, ascends, forgotten, found, found_places, noted, of_sender};
 
-use crate::places::RowPlaces;
+use crate::places::{RowPlace, RowPlaces};
 use crate::sender_names::SenderNames;
 use std::alloc::{AllocError, Global};
 use std::collections::BTreeMap;
@@ -42,14 +42,14 @@ impl Index {
     }
 
     /// The place of a sender's row of a kind.
-    pub fn place(&self, sender: &NodeId, kind: Kind) -> Option<usize>
+    pub fn place(&self, sender: &NodeId, kind: Kind) -> RowPlace
         ensures { result ≡ found self.now sender.now kind }
     {
         self.places(sender).place(kind)
     }
 
     /// The places of a sender's rows; none, where it has no row.
-    fn places(&self, sender: &NodeId) -> RowPlaces
+    pub fn places(&self, sender: &NodeId) -> RowPlaces
         ensures { of_sender sender.now result ≡ found_places self.now sender.now }
     {
         match self.by_sender.get(sender) {
@@ -60,7 +60,8 @@ impl Index {
 
     /// Notes the place of a new row. Where memory is wanting the index stays as it was.
     pub fn note(&mut self, sender: NodeId, kind: Kind, place: usize) -> Result<(), AllocError>
-        requires { ascends self.old ≡ true }
+        requires ascends { ascends self.old ≡ true }
+        requires small { place < 2 ^ 64 - 1 }
         ensures ok { OnOk result (self.new ≡ noted self.old sender kind place) }
         ensures err { OnErr result (self.new ≡ self.old) }
     {

@@ -10,7 +10,8 @@ mod senders;
 mod table;
 
 pub use newer::is_newer;
-pub use rows::Rows;
+pub use places::{RowPlace, RowPlaces};
+pub use rows::{Rows, SenderRows};
 pub use sender_names::SenderNames;
 pub use senders::senders_are_those_with_a_row;
 pub use table::{Offer, Put, Table};

@@ -1,12 +1,15 @@
 //! The rows of a table, as they read in the archive where they lie.
 
-ghost use Rattle.std.specs.Prelude.{◌≡◌, length, option_map, slice_get, true};
+ghost use Rattle.std.specs.Prelude.{◌≡◌, ℕ, Some, length, option_map, slice_get, true};
 ghost use Rattle.envstore.specs.Archives.{AreFiled, sents_of};
 ghost use Rattle.latest.specs.Places.{place_of};
 ghost use Rattle.latest.specs.Senders.{senders};
 ghost use Rattle.protocol.specs.Rows.{has_single_rows, is_taken, row};
+ghost use Rattle.types.specs.declared.kind.Kind.{Kind};
+ghost use Rattle.types.specs.declared.kind.Kind.TheVariants.{Nomination};
 
 use crate::newer::is_newer;
+use crate::places::{RowPlace, RowPlaces};
 use crate::sender_names::SenderNames;
 use crate::table::Table;
 use envstore::Archive;
@@ -40,6 +43,13 @@ impl<'a, S: envstore::Places> Model for Rows<'a, S> {
     ghost invariant = { λ a. AreFiled a.archive.now a.table.now };
 }
 
+/// The rows of one sender, where it has any.
+#[derive(Drop)]
+pub struct SenderRows<'a> {
+    pub nomination: Option<&'a Envelope>,
+    pub ballot: Option<&'a Envelope>,
+}
+
 impl<'a, S: envstore::Places> Rows<'a, S> {
     /// The rows of a table that lie in this archive.
     pub fn of(table: &'a Table, archive: &'a Archive<S>) -> Rows<'a, S>
@@ -58,10 +68,51 @@ impl<'a, S: envstore::Places> Rows<'a, S> {
 
     /// The place of the sender's row of a kind among all rows. A newer row stands in its place, and a first
     /// one behind all others, so a place stays as long as the table only takes envelopes. It takes no memory.
-    pub fn place(&self, sender: &NodeId, kind: Kind) -> Option<usize>
+    pub fn place(&self, sender: &NodeId, kind: Kind) -> RowPlace
         ensures { result ≡ place_of self.now sender.now kind }
     {
-        self.table.place(sender, kind)
+        let places = self.places(sender);
+        match kind {
+            Kind::Nomination => places.nomination,
+            Kind::Ballot => places.ballot,
+        }
+    }
+
+    /// The place behind all rows. It takes no memory.
+    pub fn end(&self) -> RowPlace
+        ensures { result ≡ Some (length self.now) }
+    {
+        RowPlace::at(self.table.len())
+    }
+
+    /// The places of the sender's rows of both kinds, by one look-up. It takes no memory.
+    pub fn places(&self, sender: &NodeId) -> RowPlaces
+        ensures nomination { result.nomination ≡ place_of self.now sender.now Nomination }
+        ensures ballot { result.ballot ≡ place_of self.now sender.now Kind.Ballot }
+    {
+        self.table.places(sender)
+    }
+
+    /// The sender's rows of both kinds, by one look-up. It takes no memory.
+    pub fn rows_of(&self, sender: &NodeId) -> SenderRows<'a>
+        ensures nomination { option_map (λ r. r.now) result.nomination ≡ row self.now sender.now Nomination }
+        ensures ballot { option_map (λ r. r.now) result.ballot ≡ row self.now sender.now Kind.Ballot }
+    {
+        let places = self.places(sender);
+        SenderRows {
+            nomination: self.row_where(places.nomination),
+            ballot: self.row_where(places.ballot),
+        }
+    }
+
+    /// The row at the place of a sender's row of a kind, if it has one.
+    fn row_where(&self, place: RowPlace) -> Option<&'a Envelope>
+        ensures { (u : ℕ) (kind : Kind) → place ≡ place_of self.now u kind → option_map (λ r. r.now) result ≡ row self.now u kind }
+    {
+        match place.get() {
+            None => None,
+            Some(place) => self.at(place),
+        }
     }
 
     /// The row at this place, if there are so many. It takes no memory.

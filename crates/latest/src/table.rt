@@ -1,15 +1,18 @@
 //! The table of newest rows.
 
-ghost use Rattle.std.specs.Prelude.{◌≡◌, ◌≢◌, ◌↔◌, ◌++◌, ◌∷◌, [], ◌<◌, List, IfOk, IfSome, OnErr, OnOk, IsTrue, None, Some, false, length, option_map, slice_get, slice_index_or, slice_set, true, vec_capacity, vec_len};
+ghost use Rattle.std.specs.Prelude.{◌≡◌, ◌≢◌, ◌↔◌, ◌++◌, ◌∷◌, [], ◌<◌, ◌^◌, List, IfOk, IfSome, OnErr, OnOk, IsTrue, None, Some, false, length, option_map, slice_get, slice_index_or, slice_set, true, vec_capacity, vec_len};
 ghost use Rattle.envstore.specs.Archives.{AreFiled, IsFiled, sent_of, sents_of};
 ghost use Rattle.latest.specs.Places.{ascends, forgotten, place_of};
 ghost use Rattle.latest.specs.Puts.{IsFiledPut, IsPut, offer_of, undone, with_known_row, without_last};
 ghost use Rattle.latest.specs.Senders.{senders};
 ghost use Rattle.protocol.specs.Rows.{has_single_rows, is_taken, offered, row, table_after};
 ghost use Rattle.types.specs.Statements.{Sent, kind_of};
+ghost use Rattle.types.specs.declared.kind.Kind.{Kind};
+ghost use Rattle.types.specs.declared.kind.Kind.TheVariants.{Nomination};
 
 use crate::index::Index;
 use crate::newer::is_newer;
+use crate::places::RowPlaces;
 use crate::sender_names::SenderNames;
 use envstore::{Archive, Filed};
 use std::alloc::{AllocError, Global};
@@ -212,7 +215,8 @@ impl Table {
 
     /// How many rows there are.
     pub fn len(&self) -> usize
-        ensures { result ≡ length self.now }
+        ensures value { result ≡ length self.now }
+        ensures small { result < 2 ^ 63 }
     {
         self.rows.len()
     }
@@ -243,7 +247,15 @@ impl Table {
         ensures value { result ≡ place_of (sents_of self.now) sender.now kind }
         ensures within { IfSome result (λ place. place < length self.now) }
     {
-        self.index.place(sender, kind)
+        self.index.place(sender, kind).get()
+    }
+
+    /// The places of a sender's rows of both kinds, by one look-up.
+    pub(crate) fn places(&self, sender: &NodeId) -> RowPlaces
+        ensures nomination { result.nomination ≡ place_of (sents_of self.now) sender.now Nomination }
+        ensures ballot { result.ballot ≡ place_of (sents_of self.now) sender.now Kind.Ballot }
+    {
+        self.index.places(sender)
     }
 
     /// Whether an envelope is newer than its sender's row of its kind, which stands at this place.

@@ -6,7 +6,7 @@ use Rattle.protocol.specs.Reach.{IsReach}
 use Rattle.protocol.specs.Rows.{with_row}
 use Rattle.view.specs.declared.known_reach.KnownReach.{KnownReach}
 use Rattle.view.specs.declared.region.Region.{Region}
-use Rattle.view.specs.Knowing.{AreBallotsOf, IsKnown}
+use Rattle.view.specs.Knowing.{AreBallotsOf, AreValuesOf, IsKnown}
 use Rattle.view.specs.Regions.{IsEntry, IsRegion}
 use Rattle.protocol.specs.Sets.{among}
 use Rattle.latest.specs.declared.table.Put.{Put}
@@ -42,9 +42,10 @@ KnowsReach c table known = IfSome known (λ k. IsKnown c.name c.slices table k)
 abbrev pub KnowsRegion : Configured → List Sent → Option Region → Type 0
 KnowsRegion c table region = IfSome region (λ r. IsRegion c.name c.slices table r)
 
--- and the ballots of a reach that is known, where they are listed
-abbrev pub KnowsBallots : Configured → List Sent → Option KnownReach → Type 0
-KnowsBallots c table known = IfSome known (λ k. IfSome k.ballots (λ b. AreBallotsOf c.name table k.region.nodes.items b))
+-- and the ballots and the values of a reach that is known, where they are listed
+abbrev pub KnowsLists : Configured → List Sent → Option KnownReach → Type 0
+KnowsLists c table known =
+    IfSome known (λ k. IfSome k.ballots (λ b. AreBallotsOf c.name table k.region.nodes.items b) × IfSome k.values (λ v. AreValuesOf c.name table k.region.nodes.items v))
 
 -- what an envelope does to the region that such a node knows where the table takes it: nothing, one entry is set, or it is not known any more
 abbrev pub IsEffect : Configured → List Sent → Sent → Option Region → Effect → Type 0

@@ -1,6 +1,6 @@
 //! What a listener knows of the nodes that it reaches: it is kept from one event to the next, and a row that
-//! comes leaves its region, changes one entry of it, or makes it unknown. Where it stays known, the ballots that are
-//! listed follow the row.
+//! comes leaves its region, changes one entry of it, or makes it unknown. Where it stays known, the ballots and the
+//! nominated values that are listed follow the row.
 
 ghost use Rattle.std.specs.Prelude.{◌≡◌, IfOk, IsTrue, List, None, Some, is_some, box_value, option_map};
 ghost use Rattle.envstore.specs.Archives.{AreFiled, IsFiled, sent_of, sents_of};
@@ -9,7 +9,7 @@ ghost use Rattle.protocol.specs.Rows.{with_row};
 ghost use Rattle.protocol.specs.Sets.{IsAscending};
 ghost use Rattle.protocol.specs.Stirring.{KeepsReach};
 ghost use Rattle.listening.specs.declared.configured.Configured.{Configured};
-ghost use Rattle.listening.specs.Listening.{IsEffect, KnowsBallots, KnowsReach, KnowsRegion, is_put, reach_in, region_of, replaced};
+ghost use Rattle.listening.specs.Listening.{IsEffect, KnowsLists, KnowsReach, KnowsRegion, is_put, reach_in, region_of, replaced};
 ghost use Rattle.types.specs.Statements.{Sent};
 ghost use Rattle.view.specs.Knowing.{IsKnown, IsTaken};
 
@@ -170,11 +170,11 @@ fn effect_on<S: Places>(
     }
 }
 
-/// Does it. The ballots that are listed stay as they are.
+/// Does it. The ballots and values that are listed stay as they are.
 fn apply(known: &mut Option<Box<KnownReach>>, effect: Effect)
     ensures known { (c : Configured) (table : List Sent) (e : Sent) → IsEffect c table e (region_of (reach_in known.old)) effect → KnowsRegion c table (region_of (reach_in known.old)) → KnowsRegion c (with_row e table) (region_of (reach_in known.new)) }
     ensures reach { IsTrue (is_some known.new) → (c : Configured) (table : List Sent) (e : Sent) → IsEffect c table e (region_of (reach_in known.old)) effect → KnowsRegion c table (region_of (reach_in known.old)) → KeepsReach c.name c.slices table (with_row e table) }
-    ensures ballots { (c : Configured) (table : List Sent) → KnowsBallots c table (reach_in known.old) → KnowsBallots c table (reach_in known.new) }
+    ensures lists { (c : Configured) (table : List Sent) → KnowsLists c table (reach_in known.old) → KnowsLists c table (reach_in known.new) }
 {
     match effect {
         Effect::Nothing => {}
@@ -195,7 +195,7 @@ struct HeardRow<'a, S: Places> {
     put: &'a Put,
 }
 
-/// Has the ballots that are listed follow a row that the table has now, where the region does already.
+/// Has the ballots and values that are listed follow a row that the table has now, where the region does already.
 fn hear<S: Places>(
     alloc: Global,
     known: &mut Option<Box<KnownReach>>,
@@ -208,7 +208,7 @@ fn hear<S: Places>(
     requires put { IsFiledPut heard.archive.now heard.put.now }
     requires region { KnowsRegion configured.now (sents_of table.now) (region_of (reach_in known.old)) }
     ensures some { IsTrue (is_some known.new) → IsTrue (is_some known.old) }
-    ensures known { (old : List Sent) → IsTaken old (sents_of table.now) (sent_of heard.entry.envelope.now) (replaced heard.entry.put.now) → KnowsBallots configured.now old (reach_in known.old) → KnowsReach configured.now (sents_of table.now) (reach_in known.new) }
+    ensures known { (old : List Sent) → IsTaken old (sents_of table.now) (sent_of heard.entry.envelope.now) (replaced heard.entry.put.now) → KnowsLists configured.now old (reach_in known.old) → KnowsReach configured.now (sents_of table.now) (reach_in known.new) }
 {
     if let Some(known) = known {
         let rows = Rows::of(table, heard.archive);

@@ -22,8 +22,9 @@ use view::KnownReach;
 ///
 /// The nodes that it reaches and their slices, compiled, are kept from one event to the next, until a row
 /// or slices come that may change the reach. A reached node's row that surely leaves it, and has slices that
-/// are new there, changes one entry. With them the ballots are kept that rows of reached nodes speak of, in order, once
-/// a rule of balloting was asked for: such a row adds its own, and takes away those that it alone spoke of.
+/// are new there, changes one entry. With them the ballots are kept that rows of reached nodes speak of, in order, and the
+/// values that their nominations do, once the owner has listed them: such a row adds its own, and takes away the ballots
+/// that the row before it alone spoke of.
 ///
 /// The rows lie in one archive, which is lent to each call that reads one. Contracts see who the node is and its
 /// rows, and nothing of what is known.
@@ -190,23 +191,6 @@ impl Listener {
             &self.table,
             archive,
         )?;
-        Ok(known)
-    }
-
-    /// The same with its ballots listed, for the rules of balloting.
-    pub fn take_listed_reach<S: Places>(
-        &mut self,
-        alloc: Global,
-        archive: &Archive<S>,
-    ) -> Result<Box<KnownReach>, AllocError>
-        requires rows { AreFiled archive.now self.old.table }
-        ensures reach { IfOk result (λ k. IsKnownOf self.old (box_value k)) }
-        ensures listed { IfOk result (λ k. IsTrue (is_some (box_value k).ballots)) }
-        ensures same { self.new ≡ self.old }
-    {
-        let mut known = self.take_reach(alloc, archive)?;
-        let rows = Rows::of(&self.table, archive);
-        known.list_ballots(alloc, self.configured.own(), &rows)?;
         Ok(known)
     }
 

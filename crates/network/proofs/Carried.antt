@@ -1,5 +1,5 @@
 -- From a deed to the step of the network.
-use Rattle.std.proofs.Common.{◌≡◌, ℕ, zero, suc, ◌<◌, ◌≤◌, ◌+◌, ◌^◌, Bool, true, false, not, ◌||◌, ◌==◌, length, take, drop, List, [], ◌∷◌, ◌++◌, map, replicate, slice_get, Option, Some, None, option_map, if◌then◌else◌, refl, sym, ◌∙◌, ap, ap₂, subst, inl, inr, arith}
+use Rattle.std.proofs.Common.{◌≡◌, ℕ, zero, suc, ◌<◌, ◌≤◌, ◌+◌, ◌^◌, Bool, true, false, not, ◌||◌, ◌==◌, length, take, drop, List, [], ◌∷◌, ◌++◌, map, slice_get, Option, Some, None, option_map, if◌then◌else◌, refl, sym, ◌∙◌, ap, ap₂, subst, inl, inr, arith}
 use Rattle.std.specs.List.{All, AllByRecursion, list_any, remove}
 use Rattle.std.proofs.lemmas.Bool.{false≢true, and_parts, eqb-true}
 use Rattle.std.proofs.lemmas.List.{map-append}
@@ -19,7 +19,7 @@ use Rattle.protocol.proofs.Networks.Counts.{next}
 use Rattle.protocol.proofs.Networks.Effects.{effect-keeps}
 use Rattle.protocol.proofs.Networks.Room.{room-bytes, room-events}
 use Rattle.protocol.proofs.Networks.Drawn.{steps_are_counted}
-use Rattle.slot.specs.Filings.{event_of, outs_of}
+use Rattle.slot.specs.Filings.{copies_of, event_of, outs_of}
 use Rattle.configuration.specs.Configs.{index_in, names_of}
 use Rattle.configuration.specs.Budgets.{AreShares}
 use Rattle.network.specs.Answers.{IsApplied}
@@ -573,7 +573,7 @@ applied m e p new archive events bytes opens count a t plan done x y z answer = 
   step = subst (λ (w : Machine). IsStep (machine_of m) e (outs_of a.outs.items) w) (λ j. record { config = m.config; slots = map seats_of new; events = sym x j; bytes = sym y j; opens = sym z j })
       (steps m e p new (outs_of a.outs.items) t plan done answer.outs_are);
   marks = marks m e p a.marks.items t plan answer.marks_are;
-  copies = answer.copies ∙ ap (replicate count) (sym answer.outs_are);
+  copies = answer.copies ∙ ap (copies_of count) (sym answer.outs_are);
   outs = answer.outs_filed;
   delivered = answer.delivered_is ∙ plan.handed;
   filed = answer.filed;

@@ -7,7 +7,7 @@ mod Emitted
 mod FewOuts
 mod Handings
 mod Indexes
-mod KeyPlaces
+pub mod KeyPlaces
 mod Noted
 mod Openings
 mod Placed

@@ -1,11 +1,11 @@
 -- What an applied event of a network leaves.
-use Rattle.std.specs.Prelude.{◌≡◌, ℕ, map, replicate, Option, Some, None, IfSome, option_map}
+use Rattle.std.specs.Prelude.{◌≡◌, ℕ, map, Option, Some, None, IfSome, option_map}
 use Rattle.types.specs.Statements.{Sent}
 use Rattle.protocol.specs.Networks.{Net, Step}
 use Rattle.protocol.specs.Networks.Reading.{Read}
 use Rattle.protocol.specs.Networks.Step.{Delivers}
 use Rattle.envstore.specs.Archives.{IsFiled, sent_of}
-use Rattle.slot.specs.Filings.{AreFiledOuts, outs_of}
+use Rattle.slot.specs.Filings.{AreFiledOuts, copies_of, outs_of}
 use Rattle.network.specs.Marks.{marks_in}
 use Rattle.network.specs.Standing.{IsStep, Standing, StandsFor, machine_of}
 use Rattle.network.specs.declared.applied.Applied.{Applied}
@@ -20,7 +20,7 @@ delivered_of _ = None
 pub record IsApplied (old : Standing) (e : Step) (count : ℕ) (new : Standing) (a : Applied) : Type 0 where
   pub step : IsStep (machine_of old) e (outs_of a.outs.items) (machine_of new)
   pub marks : (net : Net) → StandsFor (machine_of old) net → a.marks.items ≡ marks_in net e
-  pub copies : map (λ v. v.items) a.copies.items ≡ replicate count (outs_of a.outs.items)
+  pub copies : map (λ v. v.items) a.copies.items ≡ copies_of count (outs_of a.outs.items)
   pub outs : AreFiledOuts new.archive a.outs.items
   pub delivered : option_map sent_of a.delivered ≡ delivered_of e
   pub filed : IfSome a.delivered (IsFiled new.archive)

@@ -1,5 +1,5 @@
 -- What a deed makes of the open slots, and what it gives out.
-use Rattle.std.specs.Prelude.{◌≡◌, ℕ, ◌<◌, length, List, [], ◌∷◌, ◌++◌, map, replicate, slice_get, Option, None, option_map, IfSome, true}
+use Rattle.std.specs.Prelude.{◌≡◌, ℕ, ◌<◌, length, List, [], ◌∷◌, ◌++◌, map, slice_get, Option, None, option_map, IfSome, true}
 use Rattle.std.specs.List.{All, remove}
 use Rattle.types.specs.Statements.{Sent}
 use Rattle.types.specs.Trees.{all_differ}
@@ -7,7 +7,7 @@ use Rattle.types.specs.declared.event.NodeEvent.{NodeEvent}
 use Rattle.types.specs.declared.event.Out.{Out}
 use Rattle.protocol.specs.Networks.{Slot, emissions}
 use Rattle.envstore.specs.Archives.{IsFiled, sent_of}
-use Rattle.slot.specs.Filings.{AreFiledOuts, IsFiledEvent, event_of, outs_of}
+use Rattle.slot.specs.Filings.{AreFiledOuts, IsFiledEvent, copies_of, event_of, outs_of}
 use Rattle.configuration.specs.Configs.{index_in}
 use Rattle.network.specs.Charges.{IsReady, IsSlotActed}
 use Rattle.network.specs.Changes.{IsChangedAt}
@@ -50,7 +50,7 @@ marks_after slots (Hand k h e) = numbered (told_at (node_at (slice_get slots k) 
 pub record IsAnswer (outs : List Out) (marks : List ℕ) (delivered : Option Sent) (count : ℕ) (archive : List Sent) (a : Applied) : Type 0 where
   pub outs_are : outs_of a.outs.items ≡ outs
   pub marks_are : a.marks.items ≡ marks
-  pub copies : map (λ v. v.items) a.copies.items ≡ replicate count outs
+  pub copies : map (λ v. v.items) a.copies.items ≡ copies_of count outs
   pub outs_filed : AreFiledOuts archive a.outs.items
   pub delivered_is : option_map sent_of a.delivered ≡ delivered
   pub filed : IfSome a.delivered (IsFiled archive)

@@ -1,5 +1,5 @@
 -- Hosted nodes whose envelopes lie in an archive, with what they drew on shares, and what they stand for.
-use Rattle.std.specs.Prelude.{◌≡◌, ℕ, ◌≤◌, ◌+◌, ◌==◌, List, [], ◌∷◌, map, replicate, Vec, vec_len, vec_capacity, if◌then◌else◌}
+use Rattle.std.specs.Prelude.{◌≡◌, ℕ, ◌≤◌, ◌+◌, ◌==◌, List, [], ◌∷◌, map, Vec, vec_len, vec_capacity, if◌then◌else◌}
 use Rattle.std.specs.Global.{Global}
 use Rattle.std.specs.List.{All}
 use Rattle.types.specs.Statements.{Sent}
@@ -9,7 +9,7 @@ use Rattle.protocol.specs.Rosters.{Draw, bytes_drawn, events_drawn}
 use Rattle.protocol.specs.Rosters.Share.{Own, Pair}
 use Rattle.envstore.specs.Archives.{AreFiled, sents_of}
 use Rattle.envstore.specs.declared.filed.Filed.{Filed}
-use Rattle.slot.specs.Filings.{outs_of}
+use Rattle.slot.specs.Filings.{copies_of, outs_of}
 use Rattle.slot.specs.Listening.{Held}
 use Rattle.network.specs.declared.tallies.Tally.{Tally}
 use Rattle.network.specs.declared.told.Noted.{Noted}
@@ -87,7 +87,7 @@ AreTallied draws slots = All (λ s. All (IsTallied s.number draws) s.seats) slot
 pub record IsGiven (outs : List Out) (marks : List ℕ) (count : ℕ) (a : Noted) : Type 0 where
   pub outs_are : outs_of a.outs.items ≡ outs
   pub marks_are : a.marks.items ≡ marks
-  pub copies : map (λ v. v.items) a.copies.items ≡ replicate count outs
+  pub copies : map (λ v. v.items) a.copies.items ≡ copies_of count outs
 
 -- ---- room that is made before an event
 pub record HaveRoom (count : ℕ) (emitted : Vec Filed Global) (places : PlacesByKind) (marks : Vec ℕ Global) : Type 0 where

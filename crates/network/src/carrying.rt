@@ -3,7 +3,7 @@
 //! Where a function here answers an `AllocError`, memory is short, and nothing happened but that the archive may
 //! have more.
 
-ghost use Rattle.std.specs.Prelude.{◌≡◌, ◌<◌, ◌≤◌, ◌+◌, ◌^◌, ◌++◌, ◌∷◌, [], IfErr, IfOk, List, None, OnErr, OnOk, Some, length, map, replicate, true};
+ghost use Rattle.std.specs.Prelude.{◌≡◌, ◌<◌, ◌≤◌, ◌+◌, ◌^◌, ◌++◌, ◌∷◌, [], IfErr, IfOk, List, None, OnErr, OnOk, Some, length, true, ℕ};
 ghost use Rattle.std.specs.List.{All, remove};
 ghost use Rattle.types.specs.Trees.{all_differ};
 ghost use Rattle.configuration.specs.Budgets.{AreShares};
@@ -136,8 +136,8 @@ fn perform<S: Shelf>(
     ensures kept { Keeps archive.old archive.new }
 {
     match deed {
-        Deed::Open(slot) => open(alloc, archive, slots, slot, terms.copies),
-        Deed::Close { slot_at } => close(alloc, archive, slots, slot_at, terms.copies),
+        Deed::Open(slot) => open(alloc, archive, slots, slot),
+        Deed::Close { slot_at } => Ok(close(alloc, archive, slots, slot_at)),
         Deed::Act {
             slot_at,
             host_at,
@@ -163,40 +163,35 @@ fn open<S: Shelf>(
     archive: &Archive<S>,
     slots: &mut OpenSlots,
     slot: OpenSlot,
-    copies: usize,
 ) -> Result<Applied, AllocError>
     requires lodged { AreLodged archive.now slots.old }
     requires slot { All (IsLodged archive.now) slot.places }
     requires fresh { index_in (numbers_of slots.old) slot.number ≡ None }
     ensures done { OnOk result (slots.new ≡ slots.old ++ slot ∷ []) }
-    ensures answer { IfOk result (IsAnswer [] [] None copies archive.now) }
+    ensures answer { (count : ℕ) → IfOk result (IsAnswer [] [] None count archive.now) }
     ensures err { OnErr result (slots.new ≡ slots.old) }
     ensures lodged { AreLodged archive.now slots.new }
 {
-    let applied = nothing(alloc, archive, copies)?;
     slots.open(slot)?;
-    Ok(applied)
+    Ok(nothing(alloc, archive))
 }
 
-/// The open slot at this place is let go.
+/// The open slot at this place is let go. It takes no memory.
 fn close<S: Shelf>(
     alloc: Global,
     archive: &Archive<S>,
     slots: &mut OpenSlots,
     slot_at: usize,
-    copies: usize,
-) -> Result<Applied, AllocError>
+) -> Applied
     requires lodged { AreLodged archive.now slots.old }
     requires at { slot_at < length slots.old }
     requires apart { all_differ (numbers_of slots.old) ≡ true }
-    ensures done { OnOk result (slots.new ≡ remove slots.old slot_at) }
-    ensures answer { IfOk result (IsAnswer [] [] None copies archive.now) }
-    ensures err { OnErr result (slots.new ≡ slots.old) }
+    ensures done { slots.new ≡ remove slots.old slot_at }
+    ensures answer { (count : ℕ) → IsAnswer [] [] None count archive.now result }
     ensures lodged { AreLodged archive.now slots.new }
 {
-    let applied = nothing(alloc, archive, copies)?;
     slots.close(slot_at);
-    Ok(applied)
+    nothing(alloc, archive)
 }
 
 /// One event of the node at these places.
@@ -252,29 +247,14 @@ fn hand<S: Shelf>(
     })
 }
 
-/// Nothing is given out, in so many copies.
-fn nothing<S: Shelf>(
-    alloc: Global,
-    archive: &Archive<S>,
-    copies: usize,
-) -> Result<Applied, AllocError>
-    ensures { IfOk result (IsAnswer [] [] None copies archive.now) }
+/// Nothing is given out, and so in no copies. It takes no memory.
+fn nothing<S: Shelf>(alloc: Global, archive: &Archive<S>) -> Applied
+    ensures { (count : ℕ) → IsAnswer [] [] None count archive.now result }
 {
-    Ok(Applied {
+    Applied {
         outs: Vec::new(alloc),
         marks: Vec::new(alloc),
-        copies: no_outs(alloc, copies)?,
+        copies: Vec::new(alloc),
         delivered: None,
-    })
-}
-
-/// So many empty lists of outs.
-fn no_outs(alloc: Global, copies: usize) -> Result<Vec<Vec<Out>>, AllocError>
-    ensures { IfOk result (λ v. map (λ w. w.items) v.items ≡ replicate copies []) }
-{
-    let mut lists = Vec::with_capacity(alloc, copies)?;
-    for _ in 0..copies {
-        lists.push(Vec::new(alloc))?;
     }
-    Ok(lists)
 }

@@ -5,10 +5,29 @@ ghost use Rattle.protocol.specs.Sets.{among, IsAscending};
 
 use types::NodeId;
 
-/// Whether a node is in a set, an ascending slice, by a binary search.
+/// Among so many nodes each is looked at: to halve them again and again would cost more.
+const FEW_NODES: usize = 8;
+
+/// Whether a node is in a set, an ascending slice, by a binary search where they are many.
 pub fn is_among(nodes: &[NodeId], node: &NodeId) -> bool
     requires { IsAscending nodes.now }
     ensures { result ≡ among nodes.now node.now }
 {
-    nodes.binary_search(node).is_ok()
+    if nodes.len() <= FEW_NODES {
+        is_among_few(nodes, node)
+    } else {
+        nodes.binary_search(node).is_ok()
+    }
+}
+
+/// Whether a node is one of these, each looked at.
+fn is_among_few(nodes: &[NodeId], node: &NodeId) -> bool
+    ensures { result ≡ among nodes.now node.now }
+{
+    for other in nodes {
+        if *other == *node {
+            return true;
+        }
+    }
+    false
 }

@@ -6,3 +6,4 @@ pub mod Sendings
 pub mod Answered
 pub mod AddedRows
 pub mod Idle
+mod Copying

@@ -1,5 +1,5 @@
 -- One of so many passes, as the loop makes it.
-use Rattle.std.proofs.Common.{◌≡◌, ℕ, suc, ◌+◌, ◌-◌, ◌<◌, true, Some, None, if◌then◌else◌, refl, sym, ap, subst, ◌∙◌, inl, inr, arith}
+use Rattle.std.proofs.Common.{◌≡◌, ℕ, suc, ◌+◌, ◌-◌, ◌<◌, true, Some, None, if◌then◌else◌, refl, ap, subst, ◌∙◌, inl, inr, arith}
 use Rattle.std.proofs.lemmas.Bool.{cases_Bool}
 use Rattle.types.specs.declared.state.Phase.{Phase}
 use Rattle.types.specs.declared.state.Phase.TheVariants.{Externalized}
@@ -39,5 +39,5 @@ over-stays : (own : ℕ) (seen : Seen) (given : Given) (w : Votes) → w.phase �
 unfolding pass
 over-stays own seen given w over = ap (λ (p : Phase). while_open p (pass_rules own seen given) w) over
 
-pub over_settles : (w v : Votes) → w.phase ≡ Externalized → v ≡ w → (own : ℕ) (seen : Seen) (given : Given) → settle most_passes (pass own seen given) w ≡ Some v
-over_settles w v over copy own seen given = settle-same 0 (pass own seen given) w (omega arith) (over-stays own seen given w over) ∙ ap Some (sym copy)
+pub over_settles : (w : Votes) → w.phase ≡ Externalized → (own : ℕ) (seen : Seen) (given : Given) → settle most_passes (pass own seen given) w ≡ Some w
+over_settles w over own seen given = settle-same 0 (pass own seen given) w (omega arith) (over-stays own seen given w over)

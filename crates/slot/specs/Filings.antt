@@ -1,5 +1,5 @@
 -- Events and outs whose envelopes lie in an archive, and what they stand for.
-use Rattle.std.specs.Prelude.{◌≡◌, ℕ, List, map, replicate, ⊤}
+use Rattle.std.specs.Prelude.{◌≡◌, ℕ, List, [], ◌∷◌, map, replicate, ⊤}
 use Rattle.std.specs.List.{All}
 use Rattle.types.specs.Statements.{Sent, IsEnvelope}
 use Rattle.types.specs.declared.event.NodeEvent.{NodeEvent}
@@ -47,6 +47,10 @@ IsFiledOut archive (Externalized x) = ⊤
 abbrev pub AreFiledOuts : List Sent → List FiledOut → Type 0
 AreFiledOuts archive os = All (IsFiledOut archive) os
 
--- so many whole copies
+-- so many whole copies; of nothing none is made
+abbrev pub copies_of : ℕ → List Out → List (List Out)
+copies_of count [] = []
+copies_of count (o ∷ os) = replicate count (o ∷ os)
+
 abbrev pub HasCopies : ℕ → GivenOut → Type 0
-HasCopies count g = map (λ v. v.items) g.copies.items ≡ replicate count (outs_of g.outs.items)
+HasCopies count g = map (λ v. v.items) g.copies.items ≡ copies_of count (outs_of g.outs.items)

@@ -1,5 +1,5 @@
 -- The rules that an event of a node may stir.
-use Rattle.std.specs.Prelude.{◌≡◌, ℕ, List, Option, ⊤}
+use Rattle.std.specs.Prelude.{◌≡◌, ℕ, Bool, ◌&&◌, List, Option, is_some, ⊤}
 use Rattle.types.specs.Statements.{Sent, kind_of}
 use Rattle.types.specs.declared.kind.Kind.{Kind}
 use Rattle.types.specs.declared.kind.Kind.TheVariants.{Nomination}
@@ -10,6 +10,7 @@ use Rattle.protocol.specs.Passes.{balloted_in, nominated_in, pass}
 use Rattle.protocol.specs.Stirring.{KeepsReach, seen_by, settle_all, settle_ballots, settle_nominations}
 use Rattle.protocol.specs.Views.{Seen}
 use Rattle.listening.specs.declared.configured.Configured.{Configured}
+use Rattle.view.specs.declared.known_reach.KnownReach.{KnownReach}
 use Rattle.slot.specs.declared.stirring.Stirred.{Stirred}
 use Rattle.slot.specs.declared.stirring.Stirred.TheVariants.{All, Ballots, Nominations}
 
@@ -43,3 +44,9 @@ abbrev pub IsStirred : Stirred → Configured → List Sent → Sent → List Se
 IsStirred All c old e new = ⊤
 IsStirred Ballots c old e new = (kind_of e.body ≡ Kind.Ballot) × KeepsReach c.name c.slices old new
 IsStirred Nominations c old e new = (kind_of e.body ≡ Nomination) × KeepsReach c.name c.slices old new
+
+-- what these rules go through is listed: values for nomination, ballots for balloting
+abbrev pub is_listed : Stirred → KnownReach → Bool
+is_listed All k = is_some k.values && is_some k.ballots
+is_listed Ballots k = is_some k.ballots
+is_listed Nominations k = is_some k.values

@@ -1,6 +1,6 @@
 //! What passes make of a node that an event changed.
 
-ghost use Rattle.std.specs.Prelude.{◌≡◌, ℕ, IfOk, IsTrue, Some, is_some};
+ghost use Rattle.std.specs.Prelude.{◌≡◌, ℕ, IfOk, IsTrue, Some, is_some, unwrap_or};
 ghost use Rattle.protocol.specs.Nodes.{settle, most_passes};
 ghost use Rattle.protocol.specs.Passes.{pass};
 ghost use Rattle.protocol.specs.Views.{Seen};
@@ -43,41 +43,61 @@ pub(crate) struct Answer {
     pub outs: Vec<Out>,
 }
 
-/// The same, each emitted envelope filed, with whole copies.
+/// The votes after an event, where it changed them, and what the node gives out, each emitted envelope filed, with whole
+/// copies.
 #[derive(Drop)]
 pub(crate) struct FiledAnswer {
-    pub votes: Votes,
+    pub votes: Option<Votes>,
     pub given_out: GivenOut,
 }
 
-/// The votes after passes from a start at which a value is externalized, whatever the node sees: no rule changes them.
-/// An error says that they have too many owners.
+/// A law: votes at which a value is externalized are at rest, whatever the node sees, since no rule changes them.
 #[tactic(auto, using(crate::proofs::Settles::over_settles))]
-pub(crate) fn votes_at_rest(start: &Start<'_>) -> Result<Votes, AllocError>
+pub(crate) fn rests(start: &Start<'_>)
     requires { start.now.votes.now.phase ≡ Externalized }
-    ensures { IfOk result (λ w. (own : ℕ) (seen : Seen) (given : Given) → settle most_passes (pass own seen given) start.now.votes.now ≡ Some w) }
+    ensures { (own : ℕ) (seen : Seen) (given : Given) → settle most_passes (pass own seen given) start.now.votes.now ≡ Some start.now.votes.now }
 {
-    let votes = start.votes.try_copy()?;
-    Ok(votes)
+    let _phase = start.votes.phase;
 }
 
-/// The votes after passes from this start on, by what the node sees. An error says that memory is short.
+/// The votes after passes from this start on, by what the node sees; `None` where they stay. An error says that memory
+/// is short.
 pub(crate) fn settled_votes<'a, S: Sight>(
     alloc: Global,
     configured: &'a Configured,
     sight: &'a S,
     start: &'a Start<'a>,
-) -> Result<Votes, AllocError>
+) -> Result<Option<Votes>, AllocError>
     requires stirs { Stirs start.now.stirred configured.now.name (S.seen sight.now) start.now.given.now start.now.votes.now }
     requires settles { IsTrue (is_some (settle most_passes (pass configured.now.name (S.seen sight.now) start.now.given.now) start.now.votes.now)) }
-    ensures { IfOk result (λ w. settle most_passes (pass configured.now.name (S.seen sight.now) start.now.given.now) start.now.votes.now ≡ Some w) }
+    ensures { IfOk result (λ o. settle most_passes (pass configured.now.name (S.seen sight.now) start.now.given.now) start.now.votes.now ≡ Some (unwrap_or o start.now.votes.now)) }
 {
     let inputs = Inputs {
         own: &configured.name,
         sight,
         given: start.given,
     };
-    let settled = settle_from(alloc, &inputs, start.votes, start.stirred)?;
-    let Some(votes) = settled else { unreachable!() };
-    Ok(votes)
+    settle_from(alloc, &inputs, start.votes, start.stirred)
+}
+
+/// The votes that settled, a copy of those before where they stay. An error says that they have too many owners.
+pub(crate) fn votes_or(settled: Option<Votes>, before: &Votes) -> Result<Votes, AllocError>
+    ensures { IfOk result (λ w. w ≡ unwrap_or settled before.now) }
+{
+    match settled {
+        None => {
+            let same = before.try_copy()?;
+            Ok(same)
+        }
+        Some(votes) => Ok(votes),
+    }
+}
+
+/// Sets the votes that settled; those that stay are left as they are.
+pub(crate) fn set_settled(votes: &mut Votes, settled: Option<Votes>)
+    ensures { votes.new ≡ unwrap_or settled votes.old }
+{
+    if let Some(settled) = settled {
+        *votes = settled;
+    }
 }

@@ -1,15 +1,16 @@
 //! What a node makes of what its listener has: passes by what is known of the reach, and outs.
 
-ghost use Rattle.std.specs.Prelude.{◌≡◌, IfOk, IfSome, IsTrue, List, Some, box_value, is_some};
+ghost use Rattle.std.specs.Prelude.{◌≡◌, IfOk, IfSome, IsTrue, List, OnOk, Some, box_value, is_some, unwrap_or};
 ghost use Rattle.envstore.specs.Archives.{AreFiled};
 ghost use Rattle.listening.specs.Listening.{IsKnownOf};
 ghost use Rattle.protocol.specs.Nodes.{most_passes, outs, passed, settle};
 ghost use Rattle.slot.specs.Listening.{node_of};
-ghost use Rattle.slot.specs.Stirrings.{StirsIn};
+ghost use Rattle.slot.specs.Stirrings.{StirsIn, is_listed};
 ghost use Rattle.slot.specs.Wholes.{SendWellFormed, whole};
 ghost use Rattle.types.specs.Statements.{Sent};
+ghost use Rattle.view.specs.Knowing.{IsKnown};
 
-use crate::answering::{Answer, Start, State, settled_votes, votes_at_rest};
+use crate::answering::{Answer, Start, State, rests, settled_votes, votes_or};
 use crate::outs::outs;
 use crate::stirring::Stirred;
 use envstore::{Archive, Places};
@@ -17,7 +18,7 @@ use latest::Rows;
 use listening::Listener;
 use std::alloc::{AllocError, Global};
 use types::{Phase, Votes};
-use view::{KnownReach, View};
+use view::{KnownReach, Own, View};
 
 /// What passes make of a node with these rows from this start on, and what it gives out since the old
 /// state. What contracts see of the listener stays as it was, and an error says that memory is short.
@@ -36,7 +37,8 @@ pub(crate) fn answer<S: Places>(
     ensures outs { IfOk result (λ a. (before after : List Sent) → a.outs.items ≡ outs (whole listener.old.configured old.now.given.now old.now.votes.now before) (whole listener.old.configured start.now.given.now a.votes after)) }
     ensures same { listener.new ≡ listener.old }
 {
-    let votes = votes_after(alloc, archive, listener, start)?;
+    let settled = votes_after(alloc, archive, listener, start)?;
+    let votes = votes_or(settled, start.votes)?;
     let new = State {
         given: start.given,
         votes: &votes,
@@ -45,21 +47,23 @@ pub(crate) fn answer<S: Places>(
     Ok(Answer { votes, outs })
 }
 
-/// The votes after passes from this start on, by the rows. Where a value is externalized no rule reads any.
-fn votes_after<S: Places>(
+/// The votes after passes from this start on, by the rows; `None` where they stay. Where a value is externalized no rule
+/// reads any row.
+pub(crate) fn votes_after<S: Places>(
     alloc: Global,
     archive: &Archive<S>,
     listener: &mut Listener,
     start: &Start<'_>,
-) -> Result<Votes, AllocError>
+) -> Result<Option<Votes>, AllocError>
     requires rows { AreFiled archive.now listener.old.table }
     requires stirs { StirsIn start.now.stirred (node_of listener.old start.now.given.now start.now.votes.now) }
     requires settles { IsTrue (is_some (settle most_passes (passed (node_of listener.old start.now.given.now start.now.votes.now)) start.now.votes.now)) }
-    ensures votes { IfOk result (λ w. settle most_passes (passed (node_of listener.old start.now.given.now start.now.votes.now)) start.now.votes.now ≡ Some w) }
+    ensures votes { IfOk result (λ o. settle most_passes (passed (node_of listener.old start.now.given.now start.now.votes.now)) start.now.votes.now ≡ Some (unwrap_or o start.now.votes.now)) }
     ensures same { listener.new ≡ listener.old }
 {
     if let Phase::Externalized = start.votes.phase {
-        return votes_at_rest(start);
+        rests(start);
+        return Ok(None);
     }
     let reach = take_reach(alloc, archive, listener, start.stirred)?;
     let votes = votes_within(alloc, archive, listener, &reach, start);
@@ -67,7 +71,8 @@ fn votes_after<S: Places>(
     votes
 }
 
-/// What the listener knows of its reach: with the ballots listed, where rules of balloting are stirred.
+/// What the listener knows of its reach, with what the rules that are stirred go through listed. An error says that memory
+/// is short.
 fn take_reach<S: Places>(
     alloc: Global,
     archive: &Archive<S>,
@@ -76,27 +81,57 @@ fn take_reach<S: Places>(
 ) -> Result<Box<KnownReach>, AllocError>
     requires rows { AreFiled archive.now listener.old.table }
     ensures reach { IfOk result (λ k. IsKnownOf listener.old (box_value k)) }
+    ensures listed { IfOk result (λ k. IsTrue (is_listed stirred (box_value k))) }
     ensures same { listener.new ≡ listener.old }
 {
+    let mut reach = listener.take_reach(alloc, archive)?;
+    let rows = Rows::of(listener.table(), archive);
+    list_for(
+        alloc,
+        listener.configuration().own(),
+        &rows,
+        &mut reach,
+        stirred,
+    )?;
+    Ok(reach)
+}
+
+/// Lists the values of nominations where rules of nomination are stirred, and the ballots where those of balloting are.
+/// An error says that memory is short.
+fn list_for<S: Places>(
+    alloc: Global,
+    own: Own<'_>,
+    rows: &Rows<'_, S>,
+    reach: &mut KnownReach,
+    stirred: Stirred,
+) -> Result<(), AllocError>
+    requires { IsKnown own.name.now own.slices.now rows.now reach.old }
+    ensures known { IsKnown own.entry.name.now own.entry.slices.now rows.now reach.new }
+    ensures listed { OnOk result (IsTrue (is_listed stirred reach.new)) }
+{
     match stirred {
-        Stirred::Nominations => listener.take_reach(alloc, archive),
-        Stirred::All | Stirred::Ballots => listener.take_listed_reach(alloc, archive),
+        Stirred::Nominations => reach.list_values(alloc, own, rows),
+        Stirred::Ballots => reach.list_ballots(alloc, own, rows),
+        Stirred::All => {
+            reach.list_values(alloc, own, rows)?;
+            reach.list_ballots(alloc, own, rows)
+        }
     }
 }
 
-/// The votes after passes from this start on, by the rows of the nodes that are reached.
+/// The votes after passes from this start on, by the rows of the nodes that are reached; `None` where they stay.
 fn votes_within<S: Places>(
     alloc: Global,
     archive: &Archive<S>,
     listener: &Listener,
     reach: &KnownReach,
     start: &Start<'_>,
-) -> Result<Votes, AllocError>
+) -> Result<Option<Votes>, AllocError>
     requires rows { AreFiled archive.now listener.now.table }
     requires reach { IsKnownOf listener.now reach.now }
     requires stirs { StirsIn start.now.stirred (node_of listener.now start.now.given.now start.now.votes.now) }
     requires settles { IsTrue (is_some (settle most_passes (passed (node_of listener.now start.now.given.now start.now.votes.now)) start.now.votes.now)) }
-    ensures { IfOk result (λ w. settle most_passes (passed (node_of listener.now start.now.given.now start.now.votes.now)) start.now.votes.now ≡ Some w) }
+    ensures { IfOk result (λ o. settle most_passes (passed (node_of listener.now start.now.given.now start.now.votes.now)) start.now.votes.now ≡ Some (unwrap_or o start.now.votes.now)) }
 {
     let configured = listener.configuration();
     let rows = Rows::of(listener.table(), archive);

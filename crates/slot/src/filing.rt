@@ -2,9 +2,9 @@
 //!
 //! Where a function here answers an error, memory is short.
 
-ghost use Rattle.std.specs.Prelude.{[], ◌≡◌, IfOk, IsTrue, is_ok, map, replicate};
+ghost use Rattle.std.specs.Prelude.{[], ◌≡◌, ℕ, IfOk, map, replicate};
 ghost use Rattle.envstore.specs.Archives.{Keeps};
-ghost use Rattle.slot.specs.Filings.{AreFiledOuts, HasCopies, IsFiledOut, out_of, outs_of};
+ghost use Rattle.slot.specs.Filings.{AreFiledOuts, HasCopies, IsFiledOut, copies_of, out_of, outs_of};
 
 use crate::filed::{FiledOut, GivenOut};
 use envstore::{Archive, Shelf};
@@ -64,21 +64,31 @@ pub(crate) fn file_copied<S: Shelf>(
     Ok(GivenOut { outs, copies })
 }
 
-/// Nothing is given out, with so many copies; no copies take no memory.
-pub(crate) fn nothing(alloc: Global, copies: usize) -> Result<GivenOut, AllocError>
-    ensures outs { IfOk result (λ v. v.outs.items ≡ []) }
-    ensures copies { IfOk result (HasCopies copies) }
-    ensures idle { copies ≡ 0 → IsTrue (is_ok result) }
+/// Nothing is given out, with as many copies as may be asked for: of nothing none is made. It takes no memory.
+pub(crate) fn nothing(alloc: Global) -> GivenOut
+    ensures outs { result.outs.items ≡ [] }
+    ensures copies { (count : ℕ) → HasCopies count result }
 {
-    let outs = Vec::new(alloc);
-    let copies = copies_of(alloc, &[], copies)?;
-    Ok(GivenOut { outs, copies })
+    GivenOut {
+        outs: Vec::new(alloc),
+        copies: Vec::new(alloc),
+    }
 }
 
-/// So many copies of outs; no copies take no memory.
+/// So many copies of outs; of nothing none is made.
+#[tactic(auto, using(crate::proofs::Copying::copied))]
 fn copies_of(alloc: Global, outs: &[Out], count: usize) -> Result<Vec<Vec<Out>>, AllocError>
-    ensures copies { IfOk result (λ v. map (λ w. w.items) v.items ≡ replicate count outs.now) }
-    ensures idle { count ≡ 0 → IsTrue (is_ok result) }
+    ensures { IfOk result (λ v. map (λ w. w.items) v.items ≡ copies_of count outs.now) }
+{
+    if outs.is_empty() {
+        return Ok(Vec::new(alloc));
+    }
+    lists_of(alloc, outs, count)
+}
+
+/// So many lists of the same outs.
+fn lists_of(alloc: Global, outs: &[Out], count: usize) -> Result<Vec<Vec<Out>>, AllocError>
+    ensures { IfOk result (λ v. map (λ w. w.items) v.items ≡ replicate count outs.now) }
 {
     let mut copies = Vec::new(alloc);
     for number in 0..count {

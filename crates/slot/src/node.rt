@@ -1,6 +1,6 @@
 //! A node at a slot.
 
-ghost use Rattle.std.specs.Prelude.{[], ◌≡◌, IfOk, IfSome, IsFalse, IsTrue, List, None, OnErr, OnOk, Some, is_ok, is_some};
+ghost use Rattle.std.specs.Prelude.{[], ◌≡◌, IfOk, IfSome, IsFalse, IsTrue, List, None, OnErr, OnOk, Some, is_ok, is_some, unwrap_or};
 ghost use Rattle.std.specs.List.{Contains};
 ghost use Rattle.protocol.specs.Nodes.{Calm, after_change, answered, change, fresh, outs, passed, settle, step, most_passes};
 ghost use Rattle.protocol.specs.Claims.{IsQuiet};
@@ -16,15 +16,15 @@ ghost use Rattle.types.specs.Statements.{Sent};
 ghost use Rattle.types.specs.declared.event.NodeEvent.{NodeEvent};
 ghost use Rattle.types.specs.declared.event.Out.TheVariants.{Emit};
 
-use crate::answering::{Answer, FiledAnswer, Start, State};
-use crate::by_region::answer;
+use crate::answering::{FiledAnswer, Start, State, set_settled};
+use crate::by_region::{answer, votes_after};
 use crate::changes::{
     Changed, given_input, given_timeout, in_next_round, is_counter_live, is_round_live,
     votes_at_next_counter,
 };
 use crate::filed::{FiledEvent, FiledOut, GivenOut};
 use crate::filing::{file_copied, nothing};
-use crate::outs::is_externalized;
+use crate::outs::{is_externalized, outs};
 use crate::stirring::{Stirred, put_row};
 use envstore::{Archive, Filed, Places, Shelf};
 use latest::{Put, Table};
@@ -143,8 +143,8 @@ impl Node {
 
     /// One event: its own change, then passes until one changes nothing, then what is given out, in
     /// order (the Stellar Consensus Protocol draft; the order of events and outs is this host's
-    /// profile). A stale envelope and a timer that is not live change nothing, give nothing out and,
-    /// where no copies are asked for, take no memory, so such an event never fails then.
+    /// profile). A stale envelope and a timer that is not live change nothing, give nothing out and
+    /// take no memory, so such an event never fails.
     /// The slot that an envelope is about is not looked at: the caller hands a node those of its own.
     ///
     /// New slices are in force from this event on, for later leaders too; earlier leaders stay. They are
@@ -159,7 +159,7 @@ impl Node {
     ///
     /// Of what it gives out as many whole copies are made as are asked for, before anything changes: so a
     /// caller that has made room beforehand for the outs, of which there are at most five, needs no memory
-    /// afterwards. No copies cost an empty list and take no memory, copies of nothing take a list.
+    /// afterwards. Of nothing no copies are made.
     ///
     /// An error says that memory is short, and the node is as it was; some of what it would have given out
     /// may be filed.
@@ -175,7 +175,7 @@ impl Node {
         ensures node { OnOk result (self.new.node ≡ (step self.old.node (event_of event)).0) }
         ensures outs { IfOk result (λ v. outs_of v.outs.items ≡ (step self.old.node (event_of event)).1) }
         ensures err { OnErr result (self.new ≡ self.old) }
-        ensures idle { copies ≡ 0 → change self.old.node (event_of event) ≡ None → IsTrue (is_ok result) }
+        ensures idle { change self.old.node (event_of event) ≡ None → IsTrue (is_ok result) }
         ensures quiet { (R : Names) (e : Sent) → event_of event ≡ NodeEvent.Take e → HoldsReach self.old.node.name self.old.node.slices self.old.node.table R → IsFalse (R e.sender) → IsFalse (among self.old.node.given.leaders e.sender) → IfOk result (λ v. IsQuiet R self.old.node self.new.node (outs_of v.outs.items)) }
         ensures emitted { IfOk result (λ v. (e : Sent) → Contains (outs_of v.outs.items) (Emit e) → IsSentBy self.new.node e) }
         ensures rows { AreFiled archive.new self.new.rows }
@@ -257,15 +257,14 @@ impl Node {
         ensures node { OnOk result (self.new.node ≡ (step self.old.node (NodeEvent.NominationTimer round)).0) }
         ensures outs { IfOk result (λ v. outs_of v.outs.items ≡ (step self.old.node (NodeEvent.NominationTimer round)).1) }
         ensures err { OnErr result (self.new ≡ self.old) }
-        ensures idle { copies ≡ 0 → change self.old.node (NodeEvent.NominationTimer round) ≡ None → IsTrue (is_ok result) }
+        ensures idle { change self.old.node (NodeEvent.NominationTimer round) ≡ None → IsTrue (is_ok result) }
         ensures rows { AreFiled archive.new self.new.rows }
         ensures filed { IfOk result (λ v. AreFiledOuts archive.new v.outs.items) }
         ensures copies { IfOk result (HasCopies copies) }
         ensures kept { Keeps archive.old archive.new }
     {
         if !is_round_live(&self.given, &self.votes, round) {
-            let given_out = nothing(alloc, copies)?;
-            return Ok(given_out);
+            return Ok(nothing(alloc));
         }
         let given = in_next_round(alloc, self.listener.configuration(), &self.given, round)?;
         let votes = self.votes.try_copy()?;
@@ -284,15 +283,14 @@ impl Node {
         ensures node { OnOk result (self.new.node ≡ (step self.old.node (NodeEvent.BallotTimer counter)).0) }
         ensures outs { IfOk result (λ v. outs_of v.outs.items ≡ (step self.old.node (NodeEvent.BallotTimer counter)).1) }
         ensures err { OnErr result (self.new ≡ self.old) }
-        ensures idle { copies ≡ 0 → change self.old.node (NodeEvent.BallotTimer counter) ≡ None → IsTrue (is_ok result) }
+        ensures idle { change self.old.node (NodeEvent.BallotTimer counter) ≡ None → IsTrue (is_ok result) }
         ensures rows { AreFiled archive.new self.new.rows }
         ensures filed { IfOk result (λ v. AreFiledOuts archive.new v.outs.items) }
         ensures copies { IfOk result (HasCopies copies) }
         ensures kept { Keeps archive.old archive.new }
     {
         if !is_counter_live(&self.votes, counter) {
-            let given_out = nothing(alloc, copies)?;
-            return Ok(given_out);
+            return Ok(nothing(alloc));
         }
         let given = given_timeout(alloc, &self.given)?;
         let votes = votes_at_next_counter(&self.votes)?;
@@ -325,7 +323,7 @@ impl Node {
         };
         match answer_anew(alloc, archive, &mut self.listener, &start, copies) {
             Ok(FiledAnswer { votes, given_out }) => {
-                self.votes = votes;
+                set_settled(&mut self.votes, votes);
                 Ok(given_out)
             }
             Err(error) => {
@@ -359,7 +357,7 @@ impl Node {
         ensures node { OnOk result (self.new.node ≡ (step self.old.node (NodeEvent.Take (sent_of envelope))).0) }
         ensures outs { IfOk result (λ v. outs_of v.outs.items ≡ (step self.old.node (NodeEvent.Take (sent_of envelope))).1) }
         ensures err { OnErr result (self.new ≡ self.old) }
-        ensures idle { copies ≡ 0 → change self.old.node (NodeEvent.Take (sent_of envelope)) ≡ None → IsTrue (is_ok result) }
+        ensures idle { change self.old.node (NodeEvent.Take (sent_of envelope)) ≡ None → IsTrue (is_ok result) }
         ensures rows { AreFiled archive.new self.new.rows }
         ensures filed { IfOk result (λ v. AreFiledOuts archive.new v.outs.items) }
         ensures copies { IfOk result (HasCopies copies) }
@@ -367,9 +365,8 @@ impl Node {
     {
         let sender = archive.read(&envelope).sender();
         if self.adds_row_alone(sender) {
-            let given_out = nothing(alloc, copies)?;
             self.listener.offer(alloc, archive, envelope)?;
-            return Ok(given_out);
+            return Ok(nothing(alloc));
         }
         self.take_and_settle(alloc, archive, envelope, copies)
     }
@@ -388,7 +385,7 @@ impl Node {
         ensures node { OnOk result (self.new.node ≡ (step self.old.node (NodeEvent.Take (sent_of envelope))).0) }
         ensures outs { IfOk result (λ v. outs_of v.outs.items ≡ (step self.old.node (NodeEvent.Take (sent_of envelope))).1) }
         ensures err { OnErr result (self.new ≡ self.old) }
-        ensures idle { copies ≡ 0 → change self.old.node (NodeEvent.Take (sent_of envelope)) ≡ None → IsTrue (is_ok result) }
+        ensures idle { change self.old.node (NodeEvent.Take (sent_of envelope)) ≡ None → IsTrue (is_ok result) }
         ensures rows { AreFiled archive.new self.new.rows }
         ensures filed { IfOk result (λ v. AreFiledOuts archive.new v.outs.items) }
         ensures copies { IfOk result (HasCopies copies) }
@@ -396,10 +393,7 @@ impl Node {
     {
         let (put, stirred) = put_row(alloc, archive, &mut self.listener, envelope);
         match put {
-            Put::Stale => {
-                let given_out = nothing(alloc, copies)?;
-                Ok(given_out)
-            }
+            Put::Stale => Ok(nothing(alloc)),
             Put::NoMemory => Err(AllocError),
             Put::Added | Put::Replaced(_) => {
                 let start = Start {
@@ -411,7 +405,7 @@ impl Node {
                     Ok(FiledAnswer { votes, given_out }) => {
                         // The row stays, and the way back is let go.
                         drop(put);
-                        self.votes = votes;
+                        set_settled(&mut self.votes, votes);
                         Ok(given_out)
                     }
                     Err(error) => {
@@ -463,8 +457,8 @@ impl Node {
 }
 
 /// What passes make of a node whose rows or slices are other ones now, and what is given out since its votes
-/// settled, with so many whole copies. What contracts see of the listener stays as it was, and an error says
-/// that memory is short.
+/// settled, with so many whole copies: nothing where the votes stay. What contracts see of the listener stays as it
+/// was, and an error says that memory is short.
 fn answer_anew<S: Shelf>(
     alloc: Global,
     archive: &mut Archive<S>,
@@ -476,18 +470,32 @@ fn answer_anew<S: Shelf>(
     requires stirs { StirsIn start.now.stirred (node_of listener.old start.now.given.now start.now.votes.now) }
     requires settles { IsTrue (is_some (settle most_passes (passed (node_of listener.old start.now.given.now start.now.votes.now)) start.now.votes.now)) }
     requires sends { IfSome (settle most_passes (passed (node_of listener.old start.now.given.now start.now.votes.now)) start.now.votes.now) SendWellFormed }
-    ensures votes { IfOk result (λ a. settle most_passes (passed (node_of listener.old start.now.given.now start.now.votes.now)) start.now.votes.now ≡ Some a.votes) }
-    ensures outs { IfOk result (λ a. (before after : List Sent) → outs_of a.given_out.outs.items ≡ outs (whole listener.old.configured start.now.given.now start.now.votes.now before) (whole listener.old.configured start.now.given.now a.votes after)) }
+    ensures votes { IfOk result (λ a. settle most_passes (passed (node_of listener.old start.now.given.now start.now.votes.now)) start.now.votes.now ≡ Some (unwrap_or a.votes start.now.votes.now)) }
+    ensures outs { IfOk result (λ a. (before after : List Sent) → outs_of a.given_out.outs.items ≡ outs (whole listener.old.configured start.now.given.now start.now.votes.now before) (whole listener.old.configured start.now.given.now (unwrap_or a.votes start.now.votes.now) after)) }
     ensures same { listener.new ≡ listener.old }
     ensures filed { IfOk result (λ a. AreFiledOuts archive.new a.given_out.outs.items) }
     ensures copies { IfOk result (λ a. HasCopies copies a.given_out) }
     ensures kept { Keeps archive.old archive.new }
 {
+    let settled = votes_after(alloc, archive, listener, start)?;
+    let Some(votes) = settled else {
+        return Ok(FiledAnswer {
+            votes: None,
+            given_out: nothing(alloc),
+        });
+    };
     let old = State {
         given: start.given,
         votes: start.votes,
     };
-    let Answer { votes, outs } = answer(alloc, archive, listener, &old, start)?;
+    let new = State {
+        given: start.given,
+        votes: &votes,
+    };
+    let outs = outs(alloc, listener.configuration(), &old, &new)?;
     let given_out = file_copied(alloc, archive, outs, copies)?;
-    Ok(FiledAnswer { votes, given_out })
+    Ok(FiledAnswer {
+        votes: Some(votes),
+        given_out,
+    })
 }

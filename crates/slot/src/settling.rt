@@ -2,7 +2,7 @@
 //!
 //! Where a function here answers an error, memory is short.
 
-ghost use Rattle.std.specs.Prelude.{◌≡◌, ◌-◌, IfOk, OnOk, unwrap_or};
+ghost use Rattle.std.specs.Prelude.{◌≡◌, ◌-◌, IfOk, IsTrue, OnOk, Some, is_some, unwrap_or};
 ghost use Rattle.drafts.specs.Drafted.{after};
 ghost use Rattle.protocol.specs.Nodes.{settle, most_passes};
 ghost use Rattle.protocol.specs.Passes.{balloted_in, nominated_in, pass};
@@ -32,25 +32,45 @@ pub(crate) struct Inputs<'a, S> {
 }
 
 /// The votes after passes, from votes that stay, until one changes nothing; the event before them stirs these
-/// rules alone. `None` where each of 64 changes something, which no event of a node makes (the limit is this
-/// host's profile). Votes are copied once for each pass that changes some, and once where none does.
+/// rules alone. `None` where the first changes nothing, as after most events: then votes are not even copied, and else
+/// once for each pass that changes some.
 pub(crate) fn settle_from<S: Sight>(
     alloc: Global,
     inputs: &Inputs<'_, S>,
     votes: &Votes,
     stirred: Stirred,
 ) -> Result<Option<Votes>, AllocError>
-    requires { Stirs stirred inputs.now.own.now (S.seen inputs.now.sight.now) inputs.now.given.now votes.now }
-    ensures { IfOk result (λ o. o ≡ settle most_passes (pass inputs.now.own.now (S.seen inputs.now.sight.now) inputs.now.given.now) votes.now) }
+    requires stirs { Stirs stirred inputs.now.own.now (S.seen inputs.now.sight.now) inputs.now.given.now votes.now }
+    requires settles { IsTrue (is_some (settle most_passes (pass inputs.now.own.now (S.seen inputs.now.sight.now) inputs.now.given.now) votes.now)) }
+    ensures { IfOk result (λ o. settle most_passes (pass inputs.now.own.now (S.seen inputs.now.sight.now) inputs.now.given.now) votes.now ≡ Some (unwrap_or o votes.now)) }
 {
     let Some(next) = difference_by(alloc, inputs, votes, stirred)? else {
-        let same = votes.try_copy()?;
-        return Ok(Some(same));
+        return Ok(None);
     };
+    let settled = settle_next(alloc, inputs, votes, next, stirred)?;
+    let Some(settled) = settled else {
+        unreachable!()
+    };
+    Ok(Some(settled))
+}
+
+/// The votes after all passes, where the first one, of these rules, made other votes. `None` where each of 64 changes
+/// something, which no event of a node makes (the limit is this host's profile).
+fn settle_next<S: Sight>(
+    alloc: Global,
+    inputs: &Inputs<'_, S>,
+    before: &Votes,
+    next: Votes,
+    stirred: Stirred,
+) -> Result<Option<Votes>, AllocError>
+    requires stirs { Stirs stirred inputs.now.own.now (S.seen inputs.now.sight.now) inputs.now.given.now before.now }
+    requires next { IsDifference before.now (part stirred inputs.now.own.now (S.seen inputs.now.sight.now) inputs.now.given.now before.now) (Some next) }
+    ensures { IfOk result (λ o. o ≡ settle most_passes (pass inputs.now.own.now (S.seen inputs.now.sight.now) inputs.now.given.now) before.now) }
+{
     match stirred {
         Stirred::All => settle_on(alloc, inputs, next),
         Stirred::Ballots => settle_on(alloc, inputs, next),
-        Stirred::Nominations => settle_nominated(alloc, inputs, votes, next),
+        Stirred::Nominations => settle_nominated(alloc, inputs, before, next),
     }
 }
 

@@ -22,7 +22,6 @@ use Rattle.compiled.specs.Searching.{AreCompiled, met_at}
 use Rattle.view.specs.declared.region.Entry.{Entry}
 use Rattle.view.specs.declared.region.Region.{Region}
 use Rattle.latest.specs.Places.{place_of}
-use Rattle.view.specs.Asking.{AreAsked}
 use Rattle.view.specs.Forms.{AreBelow, Fits, IsFoundWithin, MayJoin}
 use Rattle.view.specs.Regions.{IsCopy, IsEntry, IsRegion, forms_of, row_places}
 use Rattle.view.proofs.FormLaws.{agreed_set, below_more, below_set}
@@ -117,7 +116,7 @@ module _ (table : List Sent) (e : Sent) (r : Region) (own : ℕ) (configured : S
         ap (λ w. w == get_or r.nodes.items i 0) (sym entry.sender) ∙ apart r.nodes.items x.place i is.reach.ascending entry.within h (λ same. other (sym same))
 
     -- where the rows of its kind stand, once the place of this one is set
-    row_set : (k : Kind) → k ≡ kind_of e.body → set (row_places table k r.nodes.items) x.place (Some x.row) ≡ row_places (with_row e table) k r.nodes.items
+    row_set : (k : Kind) → k ≡ kind_of e.body → set (row_places table k r.nodes.items) x.place x.row ≡ row_places (with_row e table) k r.nodes.items
     row_set k same =
         place_set table e k r.nodes.items x.place x.row entry.within entry.sender
         (ap (λ j. place_of (with_row e table) e.sender j) same ∙ entry.row)
@@ -135,7 +134,7 @@ module _ (table : List Sent) (e : Sent) (r : Region) (own : ℕ) (configured : S
         (sym same) entry.form
 
     pub ballot_set : x.kind ≡ Kind.Ballot → (v : Vec (Option Numbered) Global) → (x.place < length r.ballots.items → v.items ≡ set r.ballots.items x.place (Some x.slices))
-        → (w : Vec (Option ℕ) Global) → (x.place < length r.ballot_rows.items → w.items ≡ set r.ballot_rows.items x.place (Some x.row))
+        → (w : Vec (Option ℕ) Global) → (x.place < length r.ballot_rows.items → w.items ≡ set r.ballot_rows.items x.place x.row)
         → IsRegion own configured (with_row e table) (record r { ballots = v; ballot_rows = w; numbers = x.numbers; latest = x.place })
     ballot_set kind v now w row_now =
         let is_now = now (omega (arith, entry.within, is.ballots.as_many)) in
@@ -148,18 +147,17 @@ module _ (table : List Sent) (e : Sent) (r : Region) (own : ℕ) (configured : S
           within = is.within;
           itself = is.itself;
           blocking = is.blocking;
-          asked = is.asked;
           ballots = subst (λ (cs : List (Option Numbered)). AreCompiled r.nodes.items (slices_by own configured (with_row e table) Kind.Ballot) cs) (sym is_now)
               (set_compiled own configured table e Kind.Ballot r.nodes.items r.ballots.items x.place x.slices is.reach.ascending entry.within entry.sender another (ap (is_kind Kind.Ballot) (sym k)) joins.compiled joins.fits is.ballots);
           nominations = same_compiled own configured table e Nomination r.nodes.items r.nominations.items (λ i h. inr (other_kind Nomination e (get_or r.nodes.items i 0) (ap (is_kind Nomination) (sym k)))) is.nominations;
-          ballot_rows = row_is_now ∙ ap (λ (os : List (Option ℕ)). set os x.place (Some x.row)) is.ballot_rows ∙ row_set Kind.Ballot k;
+          ballot_rows = row_is_now ∙ ap (λ (os : List (Option ℕ)). set os x.place x.row) is.ballot_rows ∙ row_set Kind.Ballot k;
           nomination_rows = is.nomination_rows ∙ rows_of_other_kind Nomination (ap (is_kind Nomination) (sym k));
           ballot_numbers = subst (λ (cs : List (Option Numbered)). AreBelow x.numbers cs) (sym is_now) (below_set r.ballots.items x.place x.slices r.numbers x.numbers room entry.numbers joins.below is.ballot_numbers);
           nomination_numbers = below_more r.nominations.items r.numbers x.numbers entry.numbers is.nomination_numbers;
         }
 
     pub nomination_set : x.kind ≡ Nomination → (v : Vec (Option Numbered) Global) → (x.place < length r.nominations.items → v.items ≡ set r.nominations.items x.place (Some x.slices))
-        → (w : Vec (Option ℕ) Global) → (x.place < length r.nomination_rows.items → w.items ≡ set r.nomination_rows.items x.place (Some x.row))
+        → (w : Vec (Option ℕ) Global) → (x.place < length r.nomination_rows.items → w.items ≡ set r.nomination_rows.items x.place x.row)
         → IsRegion own configured (with_row e table) (record r { nominations = v; nomination_rows = w; numbers = x.numbers; latest = x.place })
     nomination_set kind v now w row_now =
         let is_now = now (omega (arith, entry.within, is.nominations.as_many)) in
@@ -172,12 +170,11 @@ module _ (table : List Sent) (e : Sent) (r : Region) (own : ℕ) (configured : S
           within = is.within;
           itself = is.itself;
           blocking = is.blocking;
-          asked = is.asked;
           ballots = same_compiled own configured table e Kind.Ballot r.nodes.items r.ballots.items (λ i h. inr (other_kind Kind.Ballot e (get_or r.nodes.items i 0) (ap (is_kind Kind.Ballot) (sym k)))) is.ballots;
           nominations = subst (λ (cs : List (Option Numbered)). AreCompiled r.nodes.items (slices_by own configured (with_row e table) Nomination) cs) (sym is_now)
               (set_compiled own configured table e Nomination r.nodes.items r.nominations.items x.place x.slices is.reach.ascending entry.within entry.sender another (ap (is_kind Nomination) (sym k)) joins.compiled joins.fits is.nominations);
           ballot_rows = is.ballot_rows ∙ rows_of_other_kind Kind.Ballot (ap (is_kind Kind.Ballot) (sym k));
-          nomination_rows = row_is_now ∙ ap (λ (os : List (Option ℕ)). set os x.place (Some x.row)) is.nomination_rows ∙ row_set Nomination k;
+          nomination_rows = row_is_now ∙ ap (λ (os : List (Option ℕ)). set os x.place x.row) is.nomination_rows ∙ row_set Nomination k;
           ballot_numbers = below_more r.ballots.items r.numbers x.numbers entry.numbers is.ballot_numbers;
           nomination_numbers = subst (λ (cs : List (Option Numbered)). AreBelow x.numbers cs) (sym is_now) (below_set r.nominations.items x.place x.slices r.numbers x.numbers room entry.numbers joins.below is.nomination_numbers);
         }
@@ -197,7 +194,6 @@ copied old new same own configured table is = record {
   within = omega (arith, is.within, same.place, ap (λ (us : List ℕ). length us) same.nodes);
   itself = (λ i. get_or (same.nodes i) (same.place i) 0) ∙ is.itself;
   blocking = subst (λ (p : List ℕ × Compiled). IsCompiled true p.0 configured p.1) (λ i. (sym same.nodes i, sym same.blocking i)) is.blocking;
-  asked = subst (λ (p : List ℕ × List ℕ). AreAsked p.0 (names configured) p.1) (λ i. (sym same.nodes i, sym same.asked i)) is.asked;
   ballots = subst (λ (p : List ℕ × List (Option Numbered)). AreCompiled p.0 (slices_by own configured table Kind.Ballot) p.1) (λ i. (sym same.nodes i, sym same.ballots i)) is.ballots;
   nominations = subst (λ (p : List ℕ × List (Option Numbered)). AreCompiled p.0 (slices_by own configured table Nomination) p.1) (λ i. (sym same.nodes i, sym same.nominations i)) is.nominations;
   ballot_rows = same.ballot_rows ∙ is.ballot_rows ∙ ap (row_places table Kind.Ballot) (sym same.nodes);

@@ -1,5 +1,5 @@
 -- A row that comes in the place of another one, or as a first one: what the reached rows say then, and which ballots are listed.
-use Rattle.std.proofs.Common.{◌≡◌, ℕ, true, false, not, ◌&&◌, ◌==◌, List, [], ◌++◌, Option, Some, None, filter, flat_map, IfSome, if◌then◌else◌, option_map, refl, sym, ◌∙◌, ap, subst, inl, inr, ◌⊎◌}
+use Rattle.std.proofs.Common.{◌≡◌, ℕ, Bool, true, false, not, ◌&&◌, ◌==◌, List, [], ◌++◌, Option, Some, None, filter, flat_map, IfSome, if◌then◌else◌, option_map, refl, sym, ◌∙◌, ap, subst, inl, inr, ◌⊎◌}
 use Rattle.std.specs.List.{Contains}
 use Rattle.std.proofs.lemmas.Bool.{and_from, and_parts, cases_Bool, eq-eqb, eqb-true, not-true, true≢false}
 use Rattle.std.proofs.lemmas.List.Elements.{Contains-append_cases, Contains-append_left, Contains-append_right}
@@ -11,7 +11,7 @@ use Rattle.protocol.specs.Candidates.{committed_by, is_counted, named_by}
 use Rattle.protocol.specs.Rows.{is_kind, row, with_row}
 use Rattle.protocol.specs.Sets.{among}
 use Rattle.protocol.proofs.Statements.Offers.{is_row_of-parts, row-with, same_kind}
-use Rattle.view.specs.Knowing.{AreBallotsOf, IsHeard, is_heard}
+use Rattle.view.specs.Knowing.{AreBallotsOf, IsHeard, is_heard, is_of_another}
 use Rattle.view.specs.Listing.{AreLeft, AreListed}
 use Rattle.view.specs.Watching.{rows_of_others, said_by_another}
 use Rattle.view.specs.declared.reached_ballots.ReachedBallots.{ReachedBallots}
@@ -23,34 +23,34 @@ one_statement : (s t : Statement) → Some s ≡ Some t → s ≡ t
 one_statement s t h = cc
 
 -- ---- what the rows of the others say
-module _ (own : ℕ) (nodes : List ℕ) (old : List Sent) (e : Sent) (heard : is_heard own nodes e ≡ true) where
+module _ (k : Kind) (own : ℕ) (nodes : List ℕ) (old : List Sent) (e : Sent) (heard : is_heard k own nodes e ≡ true) where
   abbrev pub said_old : ℕ → Option Statement
-  said_old u = said_by_another own (row old u Kind.Ballot)
+  said_old u = said_by_another own (row old u k)
 
   abbrev pub said_new : ℕ → Option Statement
-  said_new u = said_by_another own (row (with_row e old) u Kind.Ballot)
+  said_new u = said_by_another own (row (with_row e old) u k)
 
-  parts : (is_kind Kind.Ballot (kind_of e.body) ≡ true) × ((own == e.sender) ≡ false) × (among nodes e.sender ≡ true)
+  pub parts : (is_kind k (kind_of e.body) ≡ true) × ((own == e.sender) ≡ false) × (among nodes e.sender ≡ true)
   parts =
-      let p = and_parts (is_kind Kind.Ballot (kind_of e.body) && not (own == e.sender)) (among nodes e.sender) heard in
-      let q = and_parts (is_kind Kind.Ballot (kind_of e.body)) (not (own == e.sender)) p.0 in
-      (q.0, not-true (own == e.sender) q.1, p.1)
+      let p = and_parts (is_kind k (kind_of e.body)) (is_of_another own nodes e) heard in
+      let q = and_parts (not (own == e.sender)) (among nodes e.sender) p.1 in
+      (p.0, not-true (own == e.sender) q.0, q.1)
 
-  other_row : (u : ℕ) → (e.sender == u) ≡ false → row (with_row e old) u Kind.Ballot ≡ row old u Kind.Ballot
+  other_row : (u : ℕ) → (e.sender == u) ≡ false → row (with_row e old) u k ≡ row old u k
   other_row u h =
-      row-with e old u Kind.Ballot ∙ ap (λ b. if b && is_kind Kind.Ballot (kind_of e.body) then Some e else row old u Kind.Ballot) h
+      row-with e old u k ∙ ap (λ b. if b && is_kind k (kind_of e.body) then Some e else row old u k) h
 
-  this_row : row (with_row e old) e.sender Kind.Ballot ≡ Some e
+  this_row : row (with_row e old) e.sender k ≡ Some e
   this_row =
-      row-with e old e.sender Kind.Ballot
-      ∙ ap (λ b. if b then Some e else row old e.sender Kind.Ballot)
-      (and_from (e.sender == e.sender) (is_kind Kind.Ballot (kind_of e.body)) (eq-eqb e.sender e.sender refl) parts.0)
+      row-with e old e.sender k
+      ∙ ap (λ b. if b then Some e else row old e.sender k)
+      (and_from (e.sender == e.sender) (is_kind k (kind_of e.body)) (eq-eqb e.sender e.sender refl) parts.0)
 
   now_said : said_new e.sender ≡ Some e.body
   now_said = ap (said_by_another own) this_row ∙ ap (λ b. if b then None else Some e.body) parts.1
 
   -- what one says as before, but for the sender
-  stays : (s : Statement) → Contains (rows_of_others own Kind.Ballot old nodes) s → (said_old e.sender ≡ Some s) ⊎ Contains (rows_of_others own Kind.Ballot (with_row e old) nodes) s
+  pub stays : (s : Statement) → Contains (rows_of_others own k old nodes) s → (said_old e.sender ≡ Some s) ⊎ Contains (rows_of_others own k (with_row e old) nodes) s
   stays s c =
       let r = found_from said_old nodes s c in
       elim (cases_Bool (e.sender == r.0)) [
@@ -58,7 +58,7 @@ module _ (own : ℕ) (nodes : List ℕ) (old : List Sent) (e : Sent) (heard : is
         | inr h ↦ inr (found_to said_new nodes r.0 s r.1 (ap (said_by_another own) (other_row r.0 h) ∙ r.2))
       ]
 
-  came : (s : Statement) → Contains (rows_of_others own Kind.Ballot (with_row e old) nodes) s → (e.body ≡ s) ⊎ Contains (rows_of_others own Kind.Ballot old nodes) s
+  pub came : (s : Statement) → Contains (rows_of_others own k (with_row e old) nodes) s → (e.body ≡ s) ⊎ Contains (rows_of_others own k old nodes) s
   came s c =
       let r = found_from said_new nodes s c in
       elim (cases_Bool (e.sender == r.0)) [
@@ -66,33 +66,33 @@ module _ (own : ℕ) (nodes : List ℕ) (old : List Sent) (e : Sent) (heard : is
         | inr h ↦ inr (found_to said_old nodes r.0 s r.1 (sym (ap (said_by_another own) (other_row r.0 h)) ∙ r.2))
       ]
 
-  stands : Contains (rows_of_others own Kind.Ballot (with_row e old) nodes) e.body
+  pub stands : Contains (rows_of_others own k (with_row e old) nodes) e.body
   stands = found_to said_new nodes e.sender e.body (among_to nodes e.sender parts.2) now_said
 
   -- what the sender said before
   said_before : (before : Option Sent) → before ≡ row old e.sender (kind_of e.body) → option_map (λ (x : Sent). x.body) before ≡ said_old e.sender
-  said_before before is = go before (is ∙ ap (row old e.sender) (sym (same_kind Kind.Ballot (kind_of e.body) parts.0)))
+  said_before before is = go before (is ∙ ap (row old e.sender) (sym (same_kind k (kind_of e.body) parts.0)))
     where
-      go : (o : Option Sent) → o ≡ row old e.sender Kind.Ballot → option_map (λ (x : Sent). x.body) o ≡ said_by_another own (row old e.sender Kind.Ballot)
+      go : (o : Option Sent) → o ≡ row old e.sender k → option_map (λ (x : Sent). x.body) o ≡ said_by_another own (row old e.sender k)
       go None at = ap (said_by_another own) at
       go (Some x) at =
-          let sender : x.sender ≡ e.sender = (is_row_of-parts e.sender Kind.Ballot x (row_is old e.sender Kind.Ballot x (sym at))).0 in
+          let sender : x.sender ≡ e.sender = (is_row_of-parts e.sender k x (row_is old e.sender k x (sym at))).0 in
           ap (λ b. if b then None else Some x.body) (sym (ap (λ u. own == u) sender ∙ parts.1)) ∙ ap (said_by_another own) at
 
   -- ---- which ballots are listed
   module _ (by : Statement → List Ballot) (listed mid now going : List Ballot) where
     pub followed : ((s : Statement) → said_old e.sender ≡ Some s → (x : Ballot) → Contains (by s) x → Contains going x)
-        → AreListed listed (filter is_counted (flat_map by (rows_of_others own Kind.Ballot old nodes)))
+        → AreListed listed (filter is_counted (flat_map by (rows_of_others own k old nodes)))
         → AreListed mid (listed ++ filter is_counted (by e.body))
-        → AreLeft (filter is_counted (flat_map by (rows_of_others own Kind.Ballot (with_row e old) nodes))) going mid now
-        → AreListed now (filter is_counted (flat_map by (rows_of_others own Kind.Ballot (with_row e old) nodes)))
+        → AreLeft (filter is_counted (flat_map by (rows_of_others own k (with_row e old) nodes))) going mid now
+        → AreListed now (filter is_counted (flat_map by (rows_of_others own k (with_row e old) nodes)))
     followed goes are added left x = (over, back)
       where
         before : List Statement
-        before = rows_of_others own Kind.Ballot old nodes
+        before = rows_of_others own k old nodes
 
         after : List Statement
-        after = rows_of_others own Kind.Ballot (with_row e old) nodes
+        after = rows_of_others own k (with_row e old) nodes
 
         -- a ballot that was listed, or is added now
         from_mid : Contains mid x → (Contains (flat_map by before) x ⊎ Contains (by e.body) x) × (is_counted x ≡ true)
@@ -129,55 +129,55 @@ module _ (own : ℕ) (nodes : List ℕ) (old : List Sent) (e : Sent) (heard : is
         back c = let r = kept_from is_counted (flat_map by after) x c in (left x).1 (into_mid r.0 r.1, inl c)
 
 -- ---- a row of the other kind, of the node itself or of a stranger
-module _ (own : ℕ) (nodes : List ℕ) (old : List Sent) (e : Sent) (unheard : is_heard own nodes e ≡ false) where
-  own_silent : (t : List Sent) (u : ℕ) → own ≡ u → said_by_another own (row t u Kind.Ballot) ≡ None
-  own_silent t u is = go (row t u Kind.Ballot) refl
+module _ (k : Kind) (own : ℕ) (nodes : List ℕ) (old : List Sent) (e : Sent) (unheard : is_heard k own nodes e ≡ false) where
+  own_silent : (t : List Sent) (u : ℕ) → own ≡ u → said_by_another own (row t u k) ≡ None
+  own_silent t u is = go (row t u k) refl
     where
-      go : (o : Option Sent) → row t u Kind.Ballot ≡ o → said_by_another own o ≡ None
+      go : (o : Option Sent) → row t u k ≡ o → said_by_another own o ≡ None
       go None at = refl
       go (Some x) at =
-          let sender : x.sender ≡ u = (is_row_of-parts u Kind.Ballot x (row_is t u Kind.Ballot x at)).0 in
+          let sender : x.sender ≡ u = (is_row_of-parts u k x (row_is t u k x at)).0 in
           ap (λ b. if b then None else Some x.body) (eq-eqb own x.sender (is ∙ sym sender))
 
-  as_before : (u : ℕ) → Contains nodes u → said_by_another own (row (with_row e old) u Kind.Ballot) ≡ said_by_another own (row old u Kind.Ballot)
-  as_before u c = go (cases_Bool (e.sender == u)) (cases_Bool (is_kind Kind.Ballot (kind_of e.body))) (cases_Bool (own == e.sender))
+  as_before : (u : ℕ) → Contains nodes u → said_by_another own (row (with_row e old) u k) ≡ said_by_another own (row old u k)
+  as_before u c = go (cases_Bool (e.sender == u)) (cases_Bool (is_kind k (kind_of e.body))) (cases_Bool (own == e.sender))
     where
-      row_stays : (e.sender == u) && is_kind Kind.Ballot (kind_of e.body) ≡ false → said_by_another own (row (with_row e old) u Kind.Ballot) ≡ said_by_another own (row old u Kind.Ballot)
-      row_stays h = ap (said_by_another own) (row-with e old u Kind.Ballot ∙ ap (λ b. if b then Some e else row old u Kind.Ballot) h)
+      row_stays : (e.sender == u) && is_kind k (kind_of e.body) ≡ false → said_by_another own (row (with_row e old) u k) ≡ said_by_another own (row old u k)
+      row_stays h = ap (said_by_another own) (row-with e old u k ∙ ap (λ b. if b then Some e else row old u k) h)
 
-      go : ((e.sender == u) ≡ true) ⊎ ((e.sender == u) ≡ false) → (is_kind Kind.Ballot (kind_of e.body) ≡ true) ⊎ (is_kind Kind.Ballot (kind_of e.body) ≡ false) → ((own == e.sender) ≡ true) ⊎ ((own == e.sender) ≡ false)
-          → said_by_another own (row (with_row e old) u Kind.Ballot) ≡ said_by_another own (row old u Kind.Ballot)
-      go (inr other) k o = row_stays (ap (λ b. b && is_kind Kind.Ballot (kind_of e.body)) other)
-      go (inl this) (inr another) o = row_stays (ap (λ b. b && is_kind Kind.Ballot (kind_of e.body)) this ∙ another)
+      go : ((e.sender == u) ≡ true) ⊎ ((e.sender == u) ≡ false) → (is_kind k (kind_of e.body) ≡ true) ⊎ (is_kind k (kind_of e.body) ≡ false) → ((own == e.sender) ≡ true) ⊎ ((own == e.sender) ≡ false)
+          → said_by_another own (row (with_row e old) u k) ≡ said_by_another own (row old u k)
+      go (inr other) kinds o = row_stays (ap (λ b. b && is_kind k (kind_of e.body)) other)
+      go (inl this) (inr another) o = row_stays (ap (λ b. b && is_kind k (kind_of e.body)) this ∙ another)
       go (inl this) (inl kind) (inl itself) =
           let is : own ≡ u = eqb-true own e.sender itself ∙ eqb-true e.sender u this in
           own_silent (with_row e old) u is ∙ sym (own_silent old u is)
       go (inl this) (inl kind) (inr other) =
           let reached : among nodes e.sender ≡ true = ap (among nodes) (eqb-true e.sender u this) ∙ among_from nodes u c in
-          let all : is_heard own nodes e ≡ true =
-          and_from (is_kind Kind.Ballot (kind_of e.body) && not (own == e.sender)) (among nodes e.sender)
-          (and_from (is_kind Kind.Ballot (kind_of e.body)) (not (own == e.sender)) kind (ap not other)) reached in
+          let all : is_heard k own nodes e ≡ true =
+          and_from (is_kind k (kind_of e.body)) (is_of_another own nodes e) kind
+          (and_from (not (own == e.sender)) (among nodes e.sender) (ap not other) reached) in
           absurd (true≢false (sym all ∙ unheard))
 
-  said_alike : AreSame (rows_of_others own Kind.Ballot old nodes) (rows_of_others own Kind.Ballot (with_row e old) nodes)
+  pub said_alike : AreSame (rows_of_others own k old nodes) (rows_of_others own k (with_row e old) nodes)
   said_alike s = (
-    λ c. let r = found_from (λ u. said_by_another own (row old u Kind.Ballot)) nodes s c in found_to (λ u. said_by_another own (row (with_row e old) u Kind.Ballot)) nodes r.0 s r.1 (as_before r.0 r.1 ∙ r.2),
-    λ c. let r = found_from (λ u. said_by_another own (row (with_row e old) u Kind.Ballot)) nodes s c in found_to (λ u. said_by_another own (row old u Kind.Ballot)) nodes r.0 s r.1 (sym (as_before r.0 r.1) ∙ r.2),
+    λ c. let r = found_from (λ u. said_by_another own (row old u k)) nodes s c in found_to (λ u. said_by_another own (row (with_row e old) u k)) nodes r.0 s r.1 (as_before r.0 r.1 ∙ r.2),
+    λ c. let r = found_from (λ u. said_by_another own (row (with_row e old) u k)) nodes s c in found_to (λ u. said_by_another own (row old u k)) nodes r.0 s r.1 (sym (as_before r.0 r.1) ∙ r.2),
   )
 
-  listed_alike : (by : Statement → List Ballot) (listed : List Ballot) → AreListed listed (filter is_counted (flat_map by (rows_of_others own Kind.Ballot old nodes)))
-      → AreListed listed (filter is_counted (flat_map by (rows_of_others own Kind.Ballot (with_row e old) nodes)))
+  listed_alike : (by : Statement → List Ballot) (listed : List Ballot) → AreListed listed (filter is_counted (flat_map by (rows_of_others own k old nodes)))
+      → AreListed listed (filter is_counted (flat_map by (rows_of_others own k (with_row e old) nodes)))
   listed_alike by listed are x =
       let same = same_kept is_counted _ _ (same_given by _ _ said_alike) x in
       (λ c. same.0 ((are x).0 c), λ c. (are x).1 (same.1 c))
 
 -- it leaves what is listed
-pub unheard_listed : (own : ℕ) (nodes : List ℕ) (old new : List Sent) (e : Sent) → is_heard own nodes e ≡ false → new ≡ with_row e old
+pub unheard_listed : (own : ℕ) (nodes : List ℕ) (old new : List Sent) (e : Sent) → is_heard Kind.Ballot own nodes e ≡ false → new ≡ with_row e old
     → (o : Option ReachedBallots) → IfSome o (λ b. AreBallotsOf own old nodes b) → IfSome o (λ b. AreBallotsOf own new nodes b)
 unheard_listed own nodes old new e unheard is None are = tt
 unheard_listed own nodes old new e unheard is (Some b) are = subst (λ (t : List Sent). AreBallotsOf own t nodes b) (sym is) record {
-  named = listed_alike own nodes old e unheard named_by b.named are.named;
-  committed = listed_alike own nodes old e unheard committed_by b.committed are.committed;
+  named = listed_alike Kind.Ballot own nodes old e unheard named_by b.named are.named;
+  committed = listed_alike Kind.Ballot own nodes old e unheard committed_by b.committed are.committed;
 }
 
 -- ---- as the code lists them: a first row takes nothing away
@@ -189,13 +189,13 @@ module _ (own : ℕ) (nodes : List ℕ) (old new : List Sent) (now : Statement) 
   first_followed h are adds =
       let e = h.envelope in
       subst (λ (t : List Sent). AreListed added (filter is_counted (flat_map by (rows_of_others own Kind.Ballot t nodes)))) (sym h.taken.now)
-      (followed own nodes old e h.heard by listed added added [] goes are
+      (followed Kind.Ballot own nodes old e h.heard by listed added added [] goes are
       (subst (λ s. AreListed added (listed ++ filter is_counted (by s))) (sym h.says) adds)
       (none_left (filter is_counted (flat_map by (rows_of_others own Kind.Ballot (with_row e old) nodes))) added))
     where
-      goes : (s : Statement) → said_old own nodes old h.envelope h.heard h.envelope.sender ≡ Some s → (x : Ballot) → Contains (by s) x → Contains [] x
+      goes : (s : Statement) → said_old Kind.Ballot own nodes old h.envelope h.heard h.envelope.sender ≡ Some s → (x : Ballot) → Contains (by s) x → Contains [] x
       goes s q x c =
-          let none : None ≡ Some s = sym h.said ∙ said_before own nodes old h.envelope h.heard h.row h.taken.replaced ∙ q in
+          let none : None ≡ Some s = sym h.said ∙ said_before Kind.Ballot own nodes old h.envelope h.heard h.row h.taken.replaced ∙ q in
           cc
 
   -- another one takes away what it alone spoke of
@@ -207,11 +207,25 @@ module _ (own : ℕ) (nodes : List ℕ) (old new : List Sent) (now : Statement) 
   other_followed before left h are adds leaves =
       let e = h.envelope in
       subst (λ (t : List Sent). AreListed left (filter is_counted (flat_map by (rows_of_others own Kind.Ballot t nodes)))) (sym h.taken.now)
-      (followed own nodes old e h.heard by listed added left (by before) goes are
+      (followed Kind.Ballot own nodes old e h.heard by listed added left (by before) goes are
       (subst (λ s. AreListed added (listed ++ filter is_counted (by s))) (sym h.says) adds)
       (subst (λ (t : List Sent). AreLeft (filter is_counted (flat_map by (rows_of_others own Kind.Ballot t nodes))) (by before) added left) h.taken.now leaves))
     where
-      goes : (s : Statement) → said_old own nodes old h.envelope h.heard h.envelope.sender ≡ Some s → (x : Ballot) → Contains (by s) x → Contains (by before) x
+      goes : (s : Statement) → said_old Kind.Ballot own nodes old h.envelope h.heard h.envelope.sender ≡ Some s → (x : Ballot) → Contains (by s) x → Contains (by before) x
       goes s q x c =
-          let same : Some before ≡ Some s = sym h.said ∙ said_before own nodes old h.envelope h.heard h.row h.taken.replaced ∙ q in
+          let same : Some before ≡ Some s = sym h.said ∙ said_before Kind.Ballot own nodes old h.envelope h.heard h.row h.taken.replaced ∙ q in
           subst (λ t. Contains (by t) x) (sym (one_statement before s same)) c
+
+-- ---- of whom and of which kind a row is
+pub unheard_itself : (k : Kind) (own : ℕ) (nodes : List ℕ) (e : Sent) → is_of_another own nodes e ≡ false → is_heard k own nodes e ≡ false
+unheard_itself k own nodes e h = ap (λ b. is_kind k (kind_of e.body) && b) h ∙ and_false (is_kind k (kind_of e.body))
+  where
+    and_false : (b : Bool) → (b && false) ≡ false
+    and_false true = refl
+    and_false false = refl
+
+pub unheard_kind : (k j : Kind) (own : ℕ) (nodes : List ℕ) (e : Sent) → kind_of e.body ≡ j → is_kind k j ≡ false → is_heard k own nodes e ≡ false
+unheard_kind k j own nodes e is other = ap (λ b. b && is_of_another own nodes e) (ap (is_kind k) is ∙ other)
+
+pub heard_kind : (k : Kind) (own : ℕ) (nodes : List ℕ) (e : Sent) → kind_of e.body ≡ k → is_kind k k ≡ true → is_of_another own nodes e ≡ true → is_heard k own nodes e ≡ true
+heard_kind k own nodes e is itself another = and_from (is_kind k (kind_of e.body)) (is_of_another own nodes e) (ap (is_kind k) is ∙ itself) another

@@ -6,7 +6,7 @@ use Rattle.types.specs.Statements.{Sent}
 use Rattle.latest.specs.Places.{place_of}
 use Rattle.protocol.specs.Rows.{row}
 use Rattle.view.specs.Regions.{row_places}
-use Rattle.view.specs.Watching.{row_where}
+use Rattle.view.specs.Watching.{ArePlaces, row_where}
 use Rattle.view.proofs.PlaceLaws.{one_where, rows_where_placed}
 
 module _ (kind : Kind) (table : List Sent) (nodes : List ℕ) where
@@ -15,9 +15,13 @@ module _ (kind : Kind) (table : List Sent) (nodes : List ℕ) where
   as_many places is = ap (λ (os : List (Option ℕ)). length os) is ∙ length-map nodes (λ u. place_of table u kind)
 
   -- what stands at a node's place is its row
-  pub row_there : (places : List (Option ℕ)) (i : ℕ) (o : Option ℕ) → places ≡ row_places table kind nodes → i < length nodes → o ≡ get_or places i o → row_where table o ≡ row table (get_or nodes i 0) kind
-  row_there places i o is inside at =
-      one_where table (get_or nodes i 0) kind o (sym (at ∙ ap (λ (os : List (Option ℕ)). get_or os i o) is ∙ get_or-map (λ (u : ℕ). place_of table u kind) nodes i 0 o inside))
+  pub row_there : (places : List (Option ℕ)) (i : ℕ) (o : Option ℕ) → ArePlaces table kind nodes places → i < length places → o ≡ get_or places i None → row_where table o ≡ row table (get_or nodes i 0) kind
+  row_there places i o are inside at = one_where table (get_or nodes i 0) kind o (sym (at ∙ are i inside))
+
+  -- where places of all are kept
+  pub places_of_all : (places : List (Option ℕ)) → places ≡ row_places table kind nodes → ArePlaces table kind nodes places
+  places_of_all places is i inside =
+      ap (λ (os : List (Option ℕ)). get_or os i None) is ∙ get_or-map (λ (u : ℕ). place_of table u kind) nodes i 0 None (subst (λ n. i < n) (as_many places is) inside)
 
   -- and so is what was read there
   pub row_gathered : {X : Type 0} (f : X → Option Sent) (xs : List X) (d : X) (places : List (Option ℕ)) → map f xs ≡ map (row_where table) places → places ≡ row_places table kind nodes

@@ -1,13 +1,13 @@
 pub mod Gathering
 pub mod Searches
 pub mod Sightings
+pub mod Widening
 pub mod SameRows
 pub mod FoundRows
 pub mod Keeping
 pub mod RegionLaws
 pub mod FormLaws
 pub mod EntryLaws
-pub mod AskingLaws
 pub mod PlaceLaws
 pub mod ListedLaws
 pub mod Leaving

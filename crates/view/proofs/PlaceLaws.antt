@@ -67,23 +67,23 @@ pub stands_there : (e : Sent) (table : List Sent) (i : ℕ) → Some i ≡ place
 stands_there e table i there = stands_at e table ∙ ap (λ o. Some (unwrap_or o (length table))) (sym there)
 
 -- where the row of one node then stands, while those of all others keep their places
-pub place_set : (table : List Sent) (e : Sent) (k : Kind) (us : List ℕ) (p n : ℕ) → p < length us → get_or us p 0 ≡ e.sender → place_of (with_row e table) e.sender k ≡ Some n
-    → ((i : ℕ) → i < length us → i ≢ p → is_row_of (get_or us i 0) k e ≡ false) → set (row_places table k us) p (Some n) ≡ row_places (with_row e table) k us
+pub place_set : (table : List Sent) (e : Sent) (k : Kind) (us : List ℕ) (p : ℕ) (n : Option ℕ) → p < length us → get_or us p 0 ≡ e.sender → place_of (with_row e table) e.sender k ≡ n
+    → ((i : ℕ) → i < length us → i ≢ p → is_row_of (get_or us i 0) k e ≡ false) → set (row_places table k us) p n ≡ row_places (with_row e table) k us
 place_set table e k us p n within sender stands others =
     let old = λ (u : ℕ). place_of table u k in
     let new = λ (u : ℕ). place_of (with_row e table) u k in
-    same_lists None (set (map old us) p (Some n)) (map new us) (length-set (map old us) p (Some n) ∙ length-map us old ∙ sym (length-map us new))
+    same_lists None (set (map old us) p n) (map new us) (length-set (map old us) p n ∙ length-map us old ∙ sym (length-map us new))
     (λ i inside.
-    let here : i < length us = omega (arith, inside, length-set (map old us) p (Some n), length-map us old) in
+    let here : i < length us = omega (arith, inside, length-set (map old us) p n, length-map us old) in
     elim (cases_Bool (i == p)) [
       | inl same ↦
           let is : i ≡ p = eqb-true i p same in
-          ap (λ j. get_or (set (map old us) p (Some n)) j None) is
-          ∙ get_or-set_same (map old us) p (Some n) None (omega (arith, within, length-map us old))
+          ap (λ j. get_or (set (map old us) p n) j None) is
+          ∙ get_or-set_same (map old us) p n None (omega (arith, within, length-map us old))
           ∙ sym (get_or-map new us i 0 None here ∙ ap new (ap (λ j. get_or us j 0) is ∙ sender) ∙ stands)
       | inr apart ↦
           let other : i ≢ p = λ is. true≢false (sym (eq-eqb i p is) ∙ apart) in
-          get_or-set_other (map old us) p i (Some n) None other
+          get_or-set_other (map old us) p i n None other
           ∙ get_or-map old us i 0 None here
           ∙ sym (place-of_others e table (get_or us i 0) k (others i here other))
           ∙ sym (get_or-map new us i 0 None here)

@@ -11,7 +11,7 @@ module _ {Q : Type 0} (sat : Q → Names → Bool) (names : Q → List ℕ) (sli
   to_all : (set : Names) (reach : List ℕ) (v : ℕ) → HasQuorum sat slices_at (among (filter set reach)) v → HasQuorum sat slices_at set v
   to_all set reach v h = record { set = h.set; quorum = h.quorum; within = λ u m. (among-from_filter set reach u (h.within u m)).1; member = h.member }
 
-  from_all : IsLocal sat names → (set : Names) (reach : List ℕ) → NamesWithin names slices_at (among reach) → (v : ℕ) → IsTrue (among reach v) → HasQuorum sat slices_at set v → HasQuorum sat slices_at (among (filter set reach)) v
+  pub from_all : IsLocal sat names → (set : Names) (reach : List ℕ) → NamesWithin names slices_at (among reach) → (v : ℕ) → IsTrue (among reach v) → HasQuorum sat slices_at set v → HasQuorum sat slices_at (among (filter set reach)) v
   from_all local set reach closed v member h =
       let k = cut_answer sat names slices_at local set (among reach) closed v member h in
       record {

@@ -1,6 +1,7 @@
 -- The two tests over places are those of the definitions, and rows with the same slices leave a region as it is.
-use Rattle.std.proofs.Common.{◌≡◌, ℕ, suc, ◌+◌, ◌<◌, Bool, true, false, cond, ◌==◌, List, [], ◌∷◌, filter, get_or, length, Option, Some, None, option_map, if◌then◌else◌, IsTrue, ◌↔◌, refl, sym, subst, ◌∙◌, ap, arith, inl, inr}
-use Rattle.std.proofs.lemmas.Bool.{cases_Bool, true≢false, eq-eqb}
+use Rattle.std.proofs.Common.{◌≡◌, ℕ, suc, ◌+◌, ◌^◌, ◌<◌, Bool, true, false, cond, ◌==◌, ◌&&◌, List, [], ◌∷◌, filter, get_or, length, nat_lt, Option, Some, None, option_map, if◌then◌else◌, IsTrue, ◌↔◌, refl, sym, subst, ◌∙◌, ap, arith, inl, inr}
+use Rattle.std.proofs.lemmas.Bool.{cases_Bool, true≢false, eq-eqb, false_from_ne_true, lt-ltb, le-ltb}
+use Rattle.std.proofs.lemmas.List.{get_or_default}
 use Rattle.std.proofs.lemmas.List.Folds.{list_any_at}
 use Rattle.types.specs.Trees.{Slices}
 use Rattle.types.specs.declared.kind.Kind.{Kind}
@@ -14,22 +15,34 @@ use Rattle.protocol.specs.Backing.{slices_by}
 use Rattle.protocol.specs.Reach.{IsReach}
 use Rattle.protocol.specs.Rows.{row, with_row, is_row_of}
 use Rattle.protocol.specs.Views.{passing_with, blocking_passes, seen}
-use Rattle.protocol.proofs.Slices.Satisfaction.{sat_local}
+use Rattle.protocol.proofs.Nodes.Views.{is_blocked-local}
+use Rattle.protocol.proofs.Slices.Quorums.{is_satisfied-more}
+use Rattle.protocol.proofs.Slices.Satisfaction.{sat_local, sat_monotone}
+use Rattle.quorum.proofs.Kept.{among-filter, among-from_filter}
+use Rattle.fedvote.proofs.Honesty.{names_reached}
 use Rattle.protocol.proofs.Statements.Offers.{row-with, is_row_of-parts}
 use Rattle.closure.specs.Keeping.{KeepsReach}
 use Rattle.closure.specs.Keeping.KeepsReach.{stranger, same_slices}
-use Rattle.view.proofs.QuorumLaws.{quorum_of_all}
+use Rattle.view.proofs.QuorumLaws.{from_all, quorum_of_all}
+use Rattle.compiled.specs.Asking.{ArePassing}
 use Rattle.compiled.specs.Places.{bit_of, Numbered}
-use Rattle.compiled.specs.Met.{picked, picked_from, one_where}
-use Rattle.compiled.specs.Searching.{AreCompiled}
+use Rattle.compiled.specs.Met.{met, picked, picked_from, one_where}
+use Rattle.compiled.specs.Searching.{AreCompiled, met_at}
 use Rattle.view.specs.declared.region.Region.{Region}
 use Rattle.view.specs.Regions.{IsRegion, row_places}
+use Rattle.view.specs.Watching.{Kept, passes_at, passes_within}
+use Rattle.view.specs.declared.passing.OwnAnswer.{OwnAnswer}
+use Rattle.compiled.proofs.PassingWords.{passing_words}
 use Rattle.view.proofs.PlaceLaws.{places_kept}
 use Rattle.view.proofs.Sightings.{itself_reached}
 
 -- the bits are those of who is in the set
 abbrev pub AreBits : List ℕ → List ℕ → Names → Type 0
 AreBits us ws p = (i : ℕ) → i < length us → bit_of ws i ≡ one_where (p (get_or us i 0))
+
+-- the words of all who pass among so many nodes are their bits
+pub bits_within : (us ws : List ℕ) (p : Names) → ArePassing (λ i. nat_lt i (length us) && p (get_or us i 0)) ws → AreBits us ws p
+bits_within us ws p are i within = are.bits i ∙ ap (λ b. one_where (b && p (get_or us i 0))) (lt-ltb i (length us) within)
 
 -- a number is a test's where it is one exactly then
 pub one_is : (b : Bool) → (one_where b == 1) ≡ b
@@ -60,6 +73,61 @@ module _ (own : ℕ) (configured : Slices) (table : List Sent) (r : Region) (is 
       let among_reached = subst (λ (vs : List ℕ). IsTrue b ↔ HasQuorum sat slices_at (among vs) own) (picked_is us ws p bits)
       (subst (λ v. IsTrue b ↔ HasQuorum sat slices_at (among (picked us ws)) v) is.itself over_places) in
       quorum_of_all sat names slices_at sat_local p us (is.reach.closed kind) own (itself_reached own configured table us is.reach.exactly) b among_reached
+
+-- whoever is reached is at a place of the set where it is one of them
+picked_where : (us ws : List ℕ) (p : Names) (u : ℕ) → AreBits us ws p → among us u ≡ true → among (picked us ws) u ≡ p u
+picked_where us ws p u bits reached = ap (λ (vs : List ℕ). among vs u) (picked_is us ws p bits) ∙ go (p u) refl
+  where
+    go : (b : Bool) → p u ≡ b → among (filter p us) u ≡ b
+    go true passes = among-filter p us u reached passes
+    go false fails = false_from_ne_true (among (filter p us) u) (λ h. true≢false (sym (among-from_filter p us u h).1 ∙ fails))
+
+module _ (own : ℕ) (configured : Slices) (table : List Sent) (r : Region) (is : IsRegion own configured table r) where
+  -- places of all who pass meet what blocks where these block
+  blocking_found : (ws : List ℕ) (p : Names) → AreBits r.nodes.items ws p → met r.blocking ws ≡ is_blocked configured p
+  blocking_found ws p bits =
+      let us = r.nodes.items in
+      is.blocking ws ∙ is_blocked-local configured (among (picked us ws)) p (λ u named. picked_where us ws p u bits (is.reach.exactly u ∙ names_reached own configured table u named))
+
+  -- where those who pass do not satisfy the node's slices, no quorum that contains it all passes
+  none_unsatisfied : (kind : Kind) (cs : List (Option Numbered)) → AreCompiled r.nodes.items (slices_by own configured table kind) cs
+      → (ws : List ℕ) (p : Names) → AreBits r.nodes.items ws p → met_at (get_or cs r.place None) ws ≡ false → HasQuorum sat (slices_by own configured table kind) p own → ⊥
+  none_unsatisfied kind cs compiled ws p bits fails h =
+      let us = r.nodes.items in
+      let slices_at = slices_by own configured table kind in
+      let k = from_all sat names slices_at sat_local p us (is.reach.closed kind) own (itself_reached own configured table us is.reach.exactly) h in
+      let more : is_satisfied sat (slices_at own) (among (filter p us)) ≡ true = is_satisfied-more sat slices_at sat_monotone (slices_at own) k.set (among (filter p us)) k.within (k.quorum.each own k.member) in
+      let there : met_at (get_or cs r.place None) ws ≡ is_satisfied sat (slices_at own) (among (filter p us)) =
+      compiled.each r.place is.within ws ∙ (λ i. is_satisfied sat (slices_at (is.itself i)) (among (picked_is us ws p bits i))) in
+      true≢false (sym more ∙ (sym there ∙ fails))
+
+  -- those who pass, by the rows that are asked
+  module _ (kind : Kind) (k : Kept) (a : OwnAnswer) (own_passes : Bool) (test : Statement → Bool) (few : length r.nodes.items < 2 ^ 64)
+      (rows : k ≡ record { nodes = r.nodes.items; table = table; kind = kind }) (answer : a ≡ record { place = r.place; passes = own_passes }) where
+    supporting_words : (ws : List ℕ) × ArePassing (passes_within k a.place a.passes test) ws × AreBits r.nodes.items ws (passing_with own table kind own_passes test)
+    supporting_words =
+        let us = r.nodes.items in
+        let reached : Kept = record { nodes = us; table = table; kind = kind } in
+        let by_place : ℕ → Names = λ u. passing_with u table kind own_passes test in
+        let found = passing_words (length us) (passes_within reached r.place own_passes test) few (λ i out. ap (λ b. b && passes_at reached r.place own_passes test i) (le-ltb i (length us) out)) in (
+          found.0,
+          subst (λ (p : Kept × OwnAnswer). ArePassing (passes_within p.0 p.1.place p.1.passes test) found.0) (λ i. (sym rows i, sym answer i)) found.1,
+          subst (λ u. AreBits us found.0 (by_place u)) is.itself (bits_within us found.0 (by_place (get_or us r.place 0)) found.1),
+        )
+
+    -- they block the node's slices where they meet what blocks these
+    pub blocking_asked : (b : Bool) → ((ws : List ℕ) → ArePassing (passes_within k a.place a.passes test) ws → b ≡ met r.blocking ws) → b ≡ is_blocked configured (passing_with own table kind own_passes test)
+    blocking_asked b asked = asked supporting_words.0 supporting_words.1 ∙ blocking_found supporting_words.0 (passing_with own table kind own_passes test) supporting_words.2
+
+    -- and where they do not meet its own form, no quorum that contains it all passes
+    pub none_where_unmet : (cs : List (Option Numbered)) → AreCompiled r.nodes.items (slices_by own configured table kind) cs → (o : Option Numbered) → o ≡ get_or cs a.place o
+        → (b : Bool) → ((ws : List ℕ) → ArePassing (passes_within k a.place a.passes test) ws → b ≡ met_at o ws) → b ≡ false
+        → HasQuorum sat (slices_by own configured table kind) (passing_with own table kind own_passes test) own → ⊥
+    none_where_unmet cs compiled o there b asked fails =
+        let within : r.place < length cs = omega (arith, is.within, compiled.as_many) in
+        let own_form : get_or cs r.place None ≡ o = get_or_default cs r.place None o within ∙ (ap (λ (x : OwnAnswer). get_or cs x.place o) (sym answer) ∙ sym there) in
+        let unmet : met_at (get_or cs r.place None) supporting_words.0 ≡ false = ap (λ (x : Option Numbered). met_at x supporting_words.0) own_form ∙ (sym (asked supporting_words.0 supporting_words.1) ∙ fails) in
+        none_unsatisfied kind cs compiled supporting_words.0 (passing_with own table kind own_passes test) supporting_words.2 unmet
 
 pub blocking_seen : (own : ℕ) (q : Slices) (leaders : List ℕ) (table : List Sent) (k : Kind) (own_passes : Bool) (test : Statement → Bool)
     → (seen own q leaders table).blocking k own_passes test ≡ is_blocked q (passing_with own table k own_passes test)
@@ -114,7 +182,6 @@ region_kept r table e keeps own configured is reach = record {
   within = is.within;
   itself = is.itself;
   blocking = is.blocking;
-  asked = is.asked;
   ballots = compiled_stay r.nodes.items table e keeps own configured Kind.Ballot r.ballots.items is.ballots;
   nominations = compiled_stay r.nodes.items table e keeps own configured Nomination r.nominations.items is.nominations;
   ballot_rows = is.ballot_rows ∙ places_stay r.nodes.items table e keeps Kind.Ballot;

@@ -230,21 +230,21 @@ pub same_counter : (n : ℕ) (xs ys : List Statement) → AreSame xs ys → next
 same_counter n xs ys same = same_least n (filter_map counter_by xs) (filter_map counter_by ys) (same_found counter_by xs ys same)
 
 -- ---- the set of the same values
-has_from : (vs : List (List ℕ)) (z : List ℕ) → has_value vs z ≡ true → Contains vs z
+pub has_from : (vs : List (List ℕ)) (z : List ℕ) → has_value vs z ≡ true → Contains vs z
 has_from [] z h = absurd (false≢true h)
 has_from (v ∷ vs) z h = elim (or_cases (same_value v z) (has_value vs z) h) [
   | inl e ↦ subst (λ w. Contains (v ∷ vs) w) (same_value-true v z e) (contains_head v vs)
   | inr e ↦ contains_tail z v vs (has_from vs z e)
 ]
 
-has_to : (vs : List (List ℕ)) (z : List ℕ) → Contains vs z → has_value vs z ≡ true
+pub has_to : (vs : List (List ℕ)) (z : List ℕ) → Contains vs z → has_value vs z ≡ true
 has_to [] z c = absurd (none_contained z c)
 has_to (v ∷ vs) z c = elim (contained_cases z v vs c) [
   | inl q ↦ or_left (same_value v z) (has_value vs z) (subst (λ w. same_value v w ≡ true) q (same_value-refl v))
   | inr i ↦ or_right (same_value v z) (has_value vs z) (has_to vs z i)
 ]
 
-same_set : (vs ws : List (List ℕ)) → AreSame vs ws → as_set vs ≡ as_set ws
+pub same_set : (vs ws : List (List ℕ)) → AreSame vs ws → as_set vs ≡ as_set ws
 same_set vs ws same = one_set (as_set vs) (as_set ws) (set_ascending vs) (set_ascending ws) (λ z. has_all vs [] z ∙ ap (λ b. b || false) (one_test z) ∙ sym (has_all ws [] z))
   where
     one_test : (z : List ℕ) → has_value vs z ≡ has_value ws z

@@ -3,13 +3,14 @@ use Rattle.std.specs.Prelude.{◌≡◌, ℕ, Bool, not, ◌&&◌, List, Option,
 use Rattle.types.specs.Trees.{Slices}
 use Rattle.types.specs.Statements.{Sent, kind_of}
 use Rattle.types.specs.declared.kind.Kind.{Kind}
+use Rattle.types.specs.declared.kind.Kind.TheVariants.{Nomination}
 use Rattle.types.specs.declared.statement.Statement.{Statement}
 use Rattle.protocol.specs.Candidates.{committed_in, named_in}
-use Rattle.protocol.specs.Rows.{is_kind, row, with_row}
+use Rattle.protocol.specs.Rows.{is_kind, is_taken, row, with_row}
 use Rattle.protocol.specs.Sets.{among}
 use Rattle.view.specs.Listing.{AreListed, StandsFor}
 use Rattle.view.specs.Regions.{IsRegion}
-use Rattle.view.specs.Watching.{rows_of_others}
+use Rattle.view.specs.Watching.{rows_of_others, values_in}
 use Rattle.view.specs.declared.known_reach.KnownReach.{KnownReach}
 use Rattle.view.specs.declared.reached_ballots.ReachedBallots.{ReachedBallots}
 
@@ -18,30 +19,40 @@ pub record AreBallotsOf (own : ℕ) (table : List Sent) (nodes : List ℕ) (b : 
   pub named : AreListed b.named (named_in (rows_of_others own Kind.Ballot table nodes))
   pub committed : AreListed b.committed (committed_in (rows_of_others own Kind.Ballot table nodes))
 
+-- these are the values that the nomination rows of the others of these nodes vote for or accept, as a set
+abbrev pub AreValuesOf : ℕ → List Sent → List ℕ → List (List ℕ) → Type 0
+AreValuesOf own table nodes values = values ≡ values_in (rows_of_others own Nomination table nodes)
+
 -- each search among listed ballots finds what it would find among those that the rows of a kind speak of
 abbrev pub AreSearched : ℕ → Kind → List Sent → List ℕ → ReachedBallots → Type 0
 AreSearched own kind table nodes b =
     StandsFor b.named (named_in (rows_of_others own kind table nodes)) × StandsFor b.committed (committed_in (rows_of_others own kind table nodes))
 
--- the region of a node, and the ballots in it where they are listed
+-- the region of a node, and the ballots and nominated values in it where they are listed
 pub record IsKnown (own : ℕ) (configured : Slices) (table : List Sent) (k : KnownReach) : Type 0 where
   pub region : IsRegion own configured table k.region
   pub ballots : IfSome k.ballots (AreBallotsOf own table k.region.nodes.items)
+  pub values : IfSome k.values (AreValuesOf own table k.region.nodes.items)
 
--- a table took an envelope: its row is this one now, and there was this one before
+-- a table took an envelope, newer than its sender's row of its kind: its row is this one now, and there was this one before
 pub record IsTaken (old new : List Sent) (e : Sent) (before : Option Sent) : Type 0 where
   pub now : new ≡ with_row e old
   pub replaced : before ≡ row old e.sender (kind_of e.body)
+  pub newer : IsTrue (is_taken old e)
 
--- whether an envelope speaks of ballots, and is of one of these nodes, another than this one
-abbrev pub is_heard : ℕ → List ℕ → Sent → Bool
-is_heard own nodes e = is_kind Kind.Ballot (kind_of e.body) && not (own == e.sender) && among nodes e.sender
+-- whether an envelope is of one of these nodes, another than this one
+abbrev pub is_of_another : ℕ → List ℕ → Sent → Bool
+is_of_another own nodes e = not (own == e.sender) && among nodes e.sender
 
--- a table took such an envelope: what it says, and what the row before it said
+-- and of this kind
+abbrev pub is_heard : Kind → ℕ → List ℕ → Sent → Bool
+is_heard kind own nodes e = is_kind kind (kind_of e.body) && is_of_another own nodes e
+
+-- a table took such an envelope of ballots: what it says, and what the row before it said
 pub record IsHeard (own : ℕ) (nodes : List ℕ) (old new : List Sent) (now : Statement) (before : Option Statement) : Type 0 where
   pub envelope : Sent
   pub row : Option Sent
-  pub heard : IsTrue (is_heard own nodes envelope)
+  pub heard : IsTrue (is_heard Kind.Ballot own nodes envelope)
   pub taken : IsTaken old new envelope row
   pub says : envelope.body ≡ now
   pub said : option_map (λ e. e.body) row ≡ before

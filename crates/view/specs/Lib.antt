@@ -1,6 +1,6 @@
 pub mod Watching
 pub mod Regions
-pub mod Asking
+pub mod Words
 pub mod Listing
 pub mod Forms
 pub mod Knowing

@@ -1,5 +1,5 @@
 -- The nodes that a node reaches, and slices compiled against them.
-use Rattle.std.specs.Prelude.{◌≡◌, ◌≢◌, ℕ, ◌<◌, List, Option, Some, get_or, length, map, true}
+use Rattle.std.specs.Prelude.{◌≡◌, ◌≢◌, ℕ, ◌<◌, List, Option, get_or, length, map, true}
 use Rattle.types.specs.Trees.{Slices}
 use Rattle.types.specs.Statements.{Sent, kind_of}
 use Rattle.types.specs.declared.kind.Kind.{Kind}
@@ -7,13 +7,11 @@ use Rattle.types.specs.declared.kind.Kind.TheVariants.{Nomination}
 use Rattle.protocol.specs.Backing.{slices_by}
 use Rattle.protocol.specs.Reach.{IsReach}
 use Rattle.protocol.specs.Rows.{with_row}
-use Rattle.protocol.specs.Satisfaction.{names}
 use Rattle.compiled.specs.Met.{IsCompiled}
 use Rattle.compiled.specs.Places.{Numbered}
 use Rattle.compiled.specs.Searching.{AreCompiled}
 use Rattle.view.specs.Forms.{AreBelow, MayJoin}
 use Rattle.latest.specs.Places.{place_of}
-use Rattle.view.specs.Asking.{AreAsked}
 use Rattle.view.specs.declared.region.Entry.{Entry}
 use Rattle.view.specs.declared.region.Region.{Region}
 
@@ -26,13 +24,12 @@ abbrev pub forms_of : Kind → Region → List (Option Numbered)
 forms_of Nomination r = r.nominations.items
 forms_of Kind.Ballot r = r.ballots.items
 
--- what the configuration and the table give: the reach, the node's own place, what blocks it, whom to ask for that, and of all that are reached the slices, in forms whose numbers are below those to come, and where their rows stand
+-- what the configuration and the table give: the reach, the node's own place, what blocks it, and of all that are reached the slices, in forms whose numbers are below those to come, and where their rows stand
 pub record IsRegion (own : ℕ) (configured : Slices) (table : List Sent) (r : Region) : Type 0 where
   pub reach : IsReach own configured table r.nodes.items
   pub within : r.place < length r.nodes.items
   pub itself : get_or r.nodes.items r.place 0 ≡ own
   pub blocking : IsCompiled true r.nodes.items configured r.blocking
-  pub asked : AreAsked r.nodes.items (names configured) r.asked.items
   pub ballots : AreCompiled r.nodes.items (slices_by own configured table Kind.Ballot) r.ballots.items
   pub nominations : AreCompiled r.nodes.items (slices_by own configured table Nomination) r.nominations.items
   pub ballot_rows : r.ballot_rows.items ≡ row_places table Kind.Ballot r.nodes.items
@@ -45,7 +42,6 @@ pub record IsCopy (old new : Region) : Type 0 where
   pub nodes : new.nodes.items ≡ old.nodes.items
   pub place : new.place ≡ old.place
   pub blocking : new.blocking ≡ old.blocking
-  pub asked : new.asked.items ≡ old.asked.items
   pub ballots : new.ballots.items ≡ old.ballots.items
   pub nominations : new.nominations.items ≡ old.nominations.items
   pub ballot_rows : new.ballot_rows.items ≡ old.ballot_rows.items
@@ -62,4 +58,4 @@ pub record IsEntry (own : ℕ) (configured : Slices) (table : List Sent) (e : Se
   pub numbers : r.numbers < x.numbers
   pub form : AreCompiled r.nodes.items (slices_by own configured table (kind_of e.body)) (forms_of (kind_of e.body) r) → AreBelow r.numbers (forms_of (kind_of e.body) r)
       → MayJoin r.nodes.items (forms_of (kind_of e.body) r) x.numbers e.slices x.slices
-  pub row : place_of (with_row e table) e.sender (kind_of e.body) ≡ Some x.row
+  pub row : place_of (with_row e table) e.sender (kind_of e.body) ≡ x.row

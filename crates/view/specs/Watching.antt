@@ -1,8 +1,9 @@
 -- What a view keeps of a table.
-use Rattle.std.specs.Prelude.{ℕ, ◌==◌, List, Bool, Option, Some, None, filter_map, flat_map, get_or, if◌then◌else◌, map, option_map, slice_get}
+use Rattle.std.specs.Prelude.{◌≡◌, ℕ, ◌<◌, ◌==◌, ◌&&◌, List, Bool, Option, Some, None, filter_map, flat_map, get_or, length, nat_lt, if◌then◌else◌, map, option_map, slice_get}
 use Rattle.types.specs.declared.kind.Kind.{Kind}
 use Rattle.types.specs.declared.statement.Statement.{Statement}
 use Rattle.types.specs.Statements.{Sent}
+use Rattle.latest.specs.Places.{place_of}
 use Rattle.protocol.specs.Rows.{row}
 use Rattle.protocol.specs.Candidates.{as_set, values_by}
 use Rattle.protocol.specs.Views.{passing_with}
@@ -14,6 +15,10 @@ pub record Kept : Type 0 where
   pub table : List Sent
   pub kind : Kind
 
+-- the first of these nodes, of whom places are kept, have their rows of a kind there
+abbrev pub ArePlaces : List Sent → Kind → List ℕ → List (Option ℕ) → Type 0
+ArePlaces table kind nodes places = (i : ℕ) → i < length places → get_or places i None ≡ place_of table (get_or nodes i 0) kind
+
 -- the rows of a kind that these nodes have, in the order of the nodes: nothing for a node without one
 abbrev pub rows_at : Kind → List Sent → List ℕ → List (Option Sent)
 rows_at kind table nodes = map (λ u. row table u kind) nodes
@@ -21,6 +26,10 @@ rows_at kind table nodes = map (λ u. row table u kind) nodes
 -- whether the node at a place passes a test: the one at the own place where its position does, another where its row does
 abbrev pub passes_at : Kept → ℕ → Bool → (Statement → Bool) → ℕ → Bool
 passes_at rows own_place own_passes test i = passing_with (get_or rows.nodes own_place 0) rows.table rows.kind own_passes test (get_or rows.nodes i 0)
+
+-- the same where there is a node at the place: at none other a test is passed
+abbrev pub passes_within : Kept → ℕ → Bool → (Statement → Bool) → ℕ → Bool
+passes_within rows own_place own_passes test i = nat_lt i (length rows.nodes) && passes_at rows own_place own_passes test i
 
 -- the row at a place in a table: nothing without a place
 abbrev pub row_where : List Sent → Option ℕ → Option Sent

@@ -9,11 +9,11 @@ ghost use Rattle.compiled.specs.Searching.{AreCompiled};
 ghost use Rattle.view.specs.Forms.{ArePart, AreBelow, IsFound, IsFoundWithin, IsTwin};
 
 use crate::own::Own;
+use crate::reached::ReachedRows;
 use compiled::{Form, compile, has_places};
 use envstore::Places;
-use latest::Rows;
 use std::alloc::{AllocError, Global};
-use types::{Kind, Nested, NodeId};
+use types::{Nested, NodeId};
 
 /// The forms that are there, and two places at which slices that are the same are looked for.
 #[derive(Clone, Copy)]
@@ -22,46 +22,37 @@ pub(crate) struct Candidates<'a> {
     pub places: (usize, usize),
 }
 
-/// A node's name and slices, the nodes that it reaches, and their slices by the rows of a kind.
+/// A node's name and slices, the nodes that it reaches, and their rows of one kind.
 #[derive(Drop)]
 pub(crate) struct SlicesInReach<'a, S: Places> {
     own: &'a NodeId,
     slices: &'a Nested,
-    nodes: &'a [NodeId],
-    table: &'a Rows<'a, S>,
-    kind: Kind,
+    rows: ReachedRows<'a, S>,
 }
 
 impl<'a, S: Places> SlicesInReach<'a, S> {
-    /// The nodes that the node with this name and these slices reaches, by the rows of a kind.
-    pub(crate) fn new(
-        own: Own<'a>,
-        nodes: &'a [NodeId],
-        table: &'a Rows<'a, S>,
-        kind: Kind,
-    ) -> SlicesInReach<'a, S>
-        ensures { (result.own.now ≡ own.entry.name.now) × (result.slices.now ≡ own.entry.slices.now) × (result.nodes.now ≡ nodes.now) × (result.table.now ≡ table.now) × (result.kind ≡ kind) }
+    /// The nodes that the node with this name and these slices reaches, by their rows.
+    pub(crate) fn new(own: Own<'a>, rows: ReachedRows<'a, S>) -> SlicesInReach<'a, S>
+        ensures { (result.own.now ≡ own.entry.name.now) × (result.slices.now ≡ own.entry.slices.now) × (result.rows ≡ rows.entry) }
     {
         SlicesInReach {
             own: own.name,
             slices: own.slices,
-            nodes,
-            table,
-            kind,
+            rows,
         }
     }
 
     /// The slices of all, compiled, in the order of the nodes. An error says that memory is short.
     #[tactic(auto, using(crate::proofs::FormLaws::part_empty, crate::proofs::FormLaws::part_whole))]
     pub(crate) fn forms(&self, alloc: Global) -> Result<Vec<Option<Form>>, AllocError>
-        requires { IsAscending self.now.nodes.now }
-        ensures compiled { IfOk result (λ v. AreCompiled self.now.nodes.now (slices_by self.now.own.now self.now.slices.now self.now.table.now self.now.kind) v.items) }
-        ensures below { IfOk result (λ v. AreBelow (length self.now.nodes.now) v.items) }
+        requires { IsAscending self.now.rows.nodes }
+        ensures compiled { IfOk result (λ v. AreCompiled self.now.rows.nodes (slices_by self.now.own.now self.now.slices.now self.now.rows.table self.now.rows.kind) v.items) }
+        ensures below { IfOk result (λ v. AreBelow (length self.now.rows.nodes) v.items) }
     {
-        let mut forms = Vec::with_capacity(alloc, self.nodes.len())?;
+        let mut forms = Vec::with_capacity(alloc, self.rows.nodes().len())?;
         let mut latest = 0;
         let mut before = 0;
-        for place in 0..self.nodes.len() {
+        for place in 0..self.rows.nodes().len() {
             let form = self.form_at(alloc, &forms, place, (latest, before))?;
             if is_new(&form, place) {
                 before = latest;
@@ -81,11 +72,11 @@ impl<'a, S: Places> SlicesInReach<'a, S> {
         place: usize,
         candidates: (usize, usize),
     ) -> Result<Option<Form>, AllocError>
-        requires ascending { IsAscending self.now.nodes.now }
-        requires inside { place < length self.now.nodes.now }
+        requires ascending { IsAscending self.now.rows.nodes }
+        requires inside { place < length self.now.rows.nodes }
         requires before { length forms.now ≡ place }
-        requires part { ArePart self.now.nodes.now (slices_by self.now.own.now self.now.slices.now self.now.table.now self.now.kind) forms.now }
-        ensures { IfOk result (λ o. ArePart self.now.nodes.now (slices_by self.now.own.now self.now.slices.now self.now.table.now self.now.kind) (forms.now ++ o ∷ [])) }
+        requires part { ArePart self.now.rows.nodes (slices_by self.now.own.now self.now.slices.now self.now.rows.table self.now.rows.kind) forms.now }
+        ensures { IfOk result (λ o. ArePart self.now.rows.nodes (slices_by self.now.own.now self.now.slices.now self.now.rows.table self.now.rows.kind) (forms.now ++ o ∷ [])) }
     {
         match self.slices_at(place) {
             None => Ok(None),
@@ -109,12 +100,12 @@ impl<'a, S: Places> SlicesInReach<'a, S> {
         there: Candidates<'_>,
         number: usize,
     ) -> Result<Form, AllocError>
-        requires { IsAscending self.now.nodes.now }
-        ensures { IfOk result (IsFound self.now.nodes.now (slices_by self.now.own.now self.now.slices.now self.now.table.now self.now.kind) there.entry.forms.now number slices.now) }
+        requires { IsAscending self.now.rows.nodes }
+        ensures { IfOk result (IsFound self.now.rows.nodes (slices_by self.now.own.now self.now.slices.now self.now.rows.table self.now.rows.kind) there.entry.forms.now number slices.now) }
     {
         match self.twin_among(slices, there) {
             Some(form) => form.try_copy(),
-            None => new_form(alloc, slices, self.nodes, number),
+            None => new_form(alloc, slices, self.rows.nodes(), number),
         }
     }
 
@@ -127,21 +118,21 @@ impl<'a, S: Places> SlicesInReach<'a, S> {
         there: Candidates<'_>,
         number: usize,
     ) -> Result<Option<Form>, AllocError>
-        requires { IsAscending self.now.nodes.now }
-        ensures { IfOk result (λ o. IfSome o (IsFoundWithin self.now.nodes.now (slices_by self.now.own.now self.now.slices.now self.now.table.now self.now.kind) there.entry.forms.now number slices.now)) }
+        requires { IsAscending self.now.rows.nodes }
+        ensures { IfOk result (λ o. IfSome o (IsFoundWithin self.now.rows.nodes (slices_by self.now.own.now self.now.slices.now self.now.rows.table self.now.rows.kind) there.entry.forms.now number slices.now)) }
     {
         match self.twin_among(slices, there) {
             Some(form) => {
                 let form = form.try_copy()?;
                 Ok(Some(form))
             }
-            None => new_form_within(alloc, slices, self.nodes, number),
+            None => new_form_within(alloc, slices, self.rows.nodes(), number),
         }
     }
 
     /// The form at one of two places whose nodes have these slices, if there is one. It takes no memory.
     fn twin_among<'b>(&self, slices: &Nested, there: Candidates<'b>) -> Option<&'b Form>
-        ensures { IfSome result (λ f. IsTwin self.now.nodes.now (slices_by self.now.own.now self.now.slices.now self.now.table.now self.now.kind) there.entry.forms.now slices.now f.now) }
+        ensures { IfSome result (λ f. IsTwin self.now.rows.nodes (slices_by self.now.own.now self.now.slices.now self.now.rows.table self.now.rows.kind) there.entry.forms.now slices.now f.now) }
     {
         match self.twin(slices, there.forms, there.places.0) {
             Some(form) => Some(form),
@@ -151,9 +142,9 @@ impl<'a, S: Places> SlicesInReach<'a, S> {
 
     /// The form at a place, if the node there has these slices. It takes no memory.
     fn twin<'b>(&self, slices: &Nested, forms: &'b [Option<Form>], place: usize) -> Option<&'b Form>
-        ensures { IfSome result (λ f. IsTwin self.now.nodes.now (slices_by self.now.own.now self.now.slices.now self.now.table.now self.now.kind) forms.now slices.now f.now) }
+        ensures { IfSome result (λ f. IsTwin self.now.rows.nodes (slices_by self.now.own.now self.now.slices.now self.now.rows.table self.now.rows.kind) forms.now slices.now f.now) }
     {
-        if place >= self.nodes.len() {
+        if place >= self.rows.nodes().len() {
             return None;
         }
         match self.slices_at(place) {
@@ -170,14 +161,14 @@ impl<'a, S: Places> SlicesInReach<'a, S> {
 
     /// The slices of the node at a place, if it has any: its own, or those of the row. It takes no memory.
     fn slices_at(&self, place: usize) -> Option<&'a Nested>
-        requires { place < length self.now.nodes.now }
-        ensures { option_map (λ q. q.now) result ≡ slices_by self.now.own.now self.now.slices.now self.now.table.now self.now.kind (get_or self.now.nodes.now place 0) }
+        requires { place < length self.now.rows.nodes }
+        ensures { option_map (λ q. q.now) result ≡ slices_by self.now.own.now self.now.slices.now self.now.rows.table self.now.rows.kind (get_or self.now.rows.nodes place 0) }
     {
-        let node = &self.nodes[place];
+        let node = &self.rows.nodes()[place];
         if *self.own == *node {
             return Some(self.slices);
         }
-        match self.table.row(node, self.kind) {
+        match self.rows.row_at(place) {
             None => None,
             Some(row) => Some(row.slices()),
         }

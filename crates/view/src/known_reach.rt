@@ -3,26 +3,33 @@
 ghost use Rattle.std.specs.Prelude.{◌≡◌, ℕ, List, IfOk, IfSome, IsTrue, OnErr, OnOk, false, is_some, option_map};
 ghost use Rattle.types.specs.Statements.{Sent};
 ghost use Rattle.types.specs.Trees.{Slices};
+ghost use Rattle.types.specs.declared.kind.Kind.{Kind};
+ghost use Rattle.types.specs.declared.kind.Kind.TheVariants.{Nomination};
+ghost use Rattle.protocol.specs.Candidates.{all_with, values_by};
 ghost use Rattle.protocol.specs.Sets.{IsAscending};
-ghost use Rattle.view.specs.Knowing.{AreBallotsOf, IsKnown, IsTaken, is_heard};
+ghost use Rattle.view.specs.Knowing.{AreBallotsOf, AreValuesOf, IsKnown, IsTaken, is_heard, is_of_another};
 ghost use Rattle.view.specs.Regions.{IsRegion};
 
 use crate::own::Own;
 use crate::reached::ReachedRows;
 use crate::reached_ballots::ReachedBallots;
 use crate::region::Region;
+use crate::rows::{insert_values, values_of_others};
 use envstore::Places;
 use latest::Rows;
 use slices::is_among;
 use std::alloc::{AllocError, Global};
-use types::{Envelope, Kind, NodeId, Statement};
+use types::{Envelope, Kind, NodeId, Statement, Values};
 
-/// The region of a node, and the ballots that rows in it speak of, once a rule of balloting was asked for. Its owner
-/// keeps both from event to event.
+/// The region of a node, the ballots that rows in it speak of, once a rule of balloting was asked for, and the values
+/// that its nominations vote for or accept, once a rule of nomination was. Its owner keeps all three from event to event.
+///
+/// A newer nomination has all values of the one before it, so the values only ever grow.
 #[derive(Drop)]
 pub struct KnownReach {
     pub region: Region,
     pub ballots: Option<ReachedBallots>,
+    pub values: Option<Values>,
 }
 
 /// A row that a table took, and the row that stood in its place.
@@ -33,7 +40,8 @@ pub struct Taken<'a> {
 }
 
 impl KnownReach {
-    /// What is known of a node's reach by a table; no ballots are listed. An error says that memory is short.
+    /// What is known of a node's reach by a table; no ballots and no values are listed. An error says that memory is
+    /// short.
     pub fn of<S: Places>(
         alloc: Global,
         own: Own<'_>,
@@ -45,10 +53,11 @@ impl KnownReach {
         Ok(KnownReach {
             region,
             ballots: None,
+            values: None,
         })
     }
 
-    /// A copy, which lists ballots anew when a rule asks. An error says that memory is short.
+    /// A copy, which lists ballots and values anew when a rule asks. An error says that memory is short.
     pub fn try_copy(&self, alloc: Global) -> Result<KnownReach, AllocError>
         ensures { IfOk result (λ k. (own : ℕ) (configured : Slices) (table : List Sent) → IsKnown own configured table self.now → IsKnown own configured table k) }
     {
@@ -56,6 +65,7 @@ impl KnownReach {
         Ok(KnownReach {
             region,
             ballots: None,
+            values: None,
         })
     }
 
@@ -69,6 +79,7 @@ impl KnownReach {
         requires { IsKnown own.name.now own.slices.now table.now self.old }
         ensures known { IsKnown own.entry.name.now own.entry.slices.now table.now self.new }
         ensures listed { OnOk result (IsTrue (is_some self.new.ballots)) }
+        ensures values { self.new.values ≡ self.old.values }
         ensures err { OnErr result (self.new ≡ self.old) }
     {
         if self.ballots.is_some() {
@@ -79,9 +90,31 @@ impl KnownReach {
         Ok(())
     }
 
+    /// Lists the nominated values, where they are not listed yet. An error says that memory is short, and nothing
+    /// changed.
+    pub fn list_values<S: Places>(
+        &mut self,
+        alloc: Global,
+        own: Own<'_>,
+        table: &Rows<'_, S>,
+    ) -> Result<(), AllocError>
+        requires { IsKnown own.name.now own.slices.now table.now self.old }
+        ensures known { IsKnown own.entry.name.now own.entry.slices.now table.now self.new }
+        ensures listed { OnOk result (IsTrue (is_some self.new.values)) }
+        ensures ballots { self.new.ballots ≡ self.old.ballots }
+        ensures err { OnErr result (self.new ≡ self.old) }
+    {
+        if self.values.is_some() {
+            return Ok(());
+        }
+        let values = values_within(alloc, own, &self.region, table)?;
+        self.values = Some(values);
+        Ok(())
+    }
+
     /// A table took a row that leaves the reach as it is, and the region is that of the table with the row. Where memory
-    /// is short for the ballots that the row speaks of, none are listed any more. A row of nominations, of the node itself
-    /// or of a stranger changes nothing.
+    /// is short for the ballots or values that the row speaks of, none are listed any more. A row of the node itself
+    /// or of a stranger changes nothing, a nomination no ballots, and a row of ballots no values.
     pub fn hear<S: Places>(
         &mut self,
         alloc: Global,
@@ -91,12 +124,35 @@ impl KnownReach {
     )
         requires { IsRegion own.name.now own.slices.now table.now self.old.region }
         ensures region { self.new.region ≡ self.old.region }
-        ensures other { is_heard own.entry.name.now self.old.region.nodes.items taken.now.row.now ≡ false → self.new ≡ self.old }
+        ensures other { is_of_another own.entry.name.now self.old.region.nodes.items taken.now.row.now ≡ false → self.new ≡ self.old }
+        ensures same_ballots { is_heard Kind.Ballot own.entry.name.now self.old.region.nodes.items taken.now.row.now ≡ false → self.new.ballots ≡ self.old.ballots }
+        ensures same_values { is_heard Nomination own.entry.name.now self.old.region.nodes.items taken.now.row.now ≡ false → self.new.values ≡ self.old.values }
         ensures ballots { (old : List Sent) → IsTaken old table.now taken.now.row.now (option_map (λ r. r.now) taken.now.before) → IfSome self.old.ballots (AreBallotsOf own.entry.name.now old self.old.region.nodes.items) → IfSome self.new.ballots (AreBallotsOf own.entry.name.now table.now self.old.region.nodes.items) }
+        ensures values { (old : List Sent) → IsTaken old table.now taken.now.row.now (option_map (λ r. r.now) taken.now.before) → IfSome self.old.values (AreValuesOf own.entry.name.now old self.old.region.nodes.items) → IfSome self.new.values (AreValuesOf own.entry.name.now table.now self.old.region.nodes.items) }
     {
-        if !concerns(&self.region, own.name, taken.row) {
+        if !is_of_another(&self.region, own.name, taken.row) {
             return;
         }
+        match taken.row.body().kind() {
+            Kind::Ballot => self.follow_ballots(alloc, own, table, taken),
+            Kind::Nomination => self.follow_values(taken.row.body()),
+        }
+    }
+
+    /// The ballots follow a row of ballots of another reached node.
+    fn follow_ballots<S: Places>(
+        &mut self,
+        alloc: Global,
+        own: Own<'_>,
+        table: &Rows<'_, S>,
+        taken: &Taken<'_>,
+    )
+        requires region { IsRegion own.name.now own.slices.now table.now self.old.region }
+        requires heard { IsTrue (is_heard Kind.Ballot own.name.now self.old.region.nodes.items taken.now.row.now) }
+        ensures region { self.new.region ≡ self.old.region }
+        ensures values { self.new.values ≡ self.old.values }
+        ensures ballots { (old : List Sent) → IsTaken old table.now taken.now.row.now (option_map (λ r. r.now) taken.now.before) → IfSome self.old.ballots (AreBallotsOf own.entry.name.now old self.old.region.nodes.items) → IfSome self.new.ballots (AreBallotsOf own.entry.name.now table.now self.old.region.nodes.items) }
+    {
         let Some(mut ballots) = self.ballots.take() else {
             return;
         };
@@ -106,6 +162,20 @@ impl KnownReach {
         let replaced = ballots.replace(own.name, &rows, taken.row.body(), before);
         if let Ok(()) = replaced {
             self.ballots = Some(ballots);
+        }
+    }
+
+    /// The values follow what a nomination of another reached node says: those that were are its too, or were another's.
+    fn follow_values(&mut self, said: &Statement)
+        ensures region { self.new.region ≡ self.old.region }
+        ensures ballots { self.new.ballots ≡ self.old.ballots }
+        ensures values { (before after : List (List ℕ)) → all_with (values_by said.now) before ≡ after → IfSome self.old.values (λ v. v ≡ before) → IfSome self.new.values (λ v. v ≡ after) }
+    {
+        let Some(mut values) = self.values.take() else {
+            return;
+        };
+        if let Ok(()) = insert_values(&mut values, said) {
+            self.values = Some(values);
         }
     }
 }
@@ -125,15 +195,27 @@ fn ballots_within<S: Places>(
     ReachedBallots::of_rows(alloc, own.name, &rows)
 }
 
-/// Whether the envelope speaks of ballots, and is of another reached node.
-fn concerns(region: &Region, own: &NodeId, envelope: &Envelope) -> bool
-    requires { IsAscending region.now.nodes.items }
-    ensures { result ≡ is_heard own.now region.now.nodes.items envelope.now }
+/// The values that the nomination rows in a region vote for or accept. An error says that memory is short.
+fn values_within<S: Places>(
+    alloc: Global,
+    own: Own<'_>,
+    region: &Region,
+    table: &Rows<'_, S>,
+) -> Result<Values, AllocError>
+    requires { IsRegion own.name.now own.slices.now table.now region.now }
+    ensures { IfOk result (λ v. AreValuesOf own.entry.name.now table.now region.now.nodes.items v) }
 {
-    match envelope.body().kind() {
-        Kind::Nomination => false,
-        Kind::Ballot => { *own != *envelope.sender() && is_among(&region.nodes, envelope.sender()) }
-    }
+    let places = &region.nomination_rows;
+    let rows = ReachedRows::in_place(alloc, &region.nodes, places, table, Kind::Nomination);
+    values_of_others(alloc, own.name, &rows)
+}
+
+/// Whether the envelope is of another reached node.
+fn is_of_another(region: &Region, own: &NodeId, envelope: &Envelope) -> bool
+    requires { IsAscending region.now.nodes.items }
+    ensures { result ≡ is_of_another own.now region.now.nodes.items envelope.now }
+{
+    *own != *envelope.sender() && is_among(&region.nodes, envelope.sender())
 }
 
 /// What the row says, if there is one.

@@ -5,7 +5,6 @@
 //! both stay as they are meanwhile.
 #![tactic(auto)]
 
-mod asking;
 mod forms;
 mod known_reach;
 mod listed;

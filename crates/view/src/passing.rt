@@ -1,16 +1,17 @@
 //! Who passes a question, by the rows of one kind.
 
-ghost use Rattle.std.specs.Prelude.{◌≡◌, ◌<◌, ◌&&◌, ℕ, get_or, length};
-ghost use Rattle.std.specs.List.{All};
+ghost use Rattle.std.specs.Prelude.{◌≡◌, ◌<◌, ℕ, List, length};
+ghost use Rattle.compiled.specs.Asking.{ArePassing};
 ghost use Rattle.compiled.specs.Met.{one_where};
 ghost use Rattle.compiled.specs.Places.{bit_of};
-ghost use Rattle.protocol.specs.Sets.{IsAscending, among};
+ghost use Rattle.compiled.specs.Searching.{met_at};
+ghost use Rattle.protocol.specs.Sets.{IsAscending};
 ghost use Rattle.fedvote.specs.Questions.{asks};
-ghost use Rattle.view.specs.Asking.{IsEmptySet};
-ghost use Rattle.view.specs.Watching.{passes_at};
+ghost use Rattle.view.specs.Watching.{passes_at, passes_within};
+ghost use Rattle.view.specs.Words.{IsEmptySet};
 
 use crate::reached::ReachedRows;
-use compiled::add_place;
+use compiled::{Form, Passing, add_place, is_met_by};
 use envstore::Places;
 use fedvote::Question;
 
@@ -19,6 +20,37 @@ use fedvote::Question;
 pub(crate) struct OwnAnswer {
     pub place: usize,
     pub passes: bool,
+}
+
+/// The reached nodes, to be asked one by one whether they pass a question: the node itself passes where its position
+/// does, another where its row does.
+#[derive(Drop)]
+pub(crate) struct Supporters<'a, S: Places> {
+    pub rows: &'a ReachedRows<'a, S>,
+    pub own: OwnAnswer,
+    pub question: &'a Question<'a>,
+    ghost ascending: { IsAscending rows.now.nodes },
+    ghost listed: { own.place < length rows.now.nodes },
+}
+
+impl<'a, S: Places> Passing for Supporters<'a, S> {
+    ghost passing = { λ s. passes_within s.rows.now s.own.place s.own.passes (asks s.question.now) };
+
+    fn passes(&self, place: usize) -> bool {
+        place < self.rows.nodes().len() && passes_at(self.rows, self.own, self.question, place)
+    }
+}
+
+impl<'a, S: Places> Supporters<'a, S> {
+    /// Whether those who pass meet compiled slices. Where there are none, nobody does.
+    pub(crate) fn meet(&self, form: &Option<Form>) -> bool
+        ensures { (ws : List ℕ) → ArePassing (passes_within self.now.rows.now self.now.own.place self.now.own.passes (asks self.now.question.now)) ws → result ≡ met_at form.now ws }
+    {
+        match form {
+            None => false,
+            Some(form) => is_met_by(form.set(), self),
+        }
+    }
 }
 
 /// Adds to the empty set the places of those reached nodes who pass a question: of the node itself where its
@@ -37,27 +69,6 @@ pub(crate) fn add_supporters<S: Places>(
     for place in 0..rows.nodes().len() {
         if passes_at(rows, own, question, place) {
             add_place(places, place);
-        }
-    }
-}
-
-/// Adds to the empty set those of the asked places at which a question is passed: nobody else is asked.
-pub(crate) fn add_supporters_at<S: Places>(
-    places: &mut [u64],
-    rows: &ReachedRows<'_, S>,
-    own: OwnAnswer,
-    question: &Question<'_>,
-    asked: &[usize],
-)
-    requires ascending { IsAscending rows.now.nodes }
-    requires own { own.place < length rows.now.nodes }
-    requires empty { IsEmptySet (length rows.now.nodes) places.old }
-    requires within { All (λ i. i < length rows.now.nodes) asked.now }
-    ensures { (i : ℕ) → bit_of places.new i ≡ one_where (among asked.now i && passes_at rows.now own.place own.passes (asks question.now) i) }
-{
-    for place in asked {
-        if passes_at(rows, own, question, *place) {
-            add_place(places, *place);
         }
     }
 }

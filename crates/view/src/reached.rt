@@ -7,23 +7,23 @@ ghost use Rattle.view.specs.Watching.{said_by_another};
 
 use crate::rows::{row_where, rows_where};
 use envstore::Places;
-use latest::Rows;
+use latest::{RowPlace, Rows};
 use std::alloc::{AllocError, Global};
 use std::marker::Model;
 use types::{Envelope, Kind, NodeId, Statement};
 
 /// Of so many nodes the rows are read where they stand, whenever one is asked for: to gather them would cost more.
-const FEW_NODES: usize = 8;
+const FEW_NODES: usize = 64;
 
 /// The rows of one kind that the reached nodes have in a table.
 ///
-/// Each is found by the place that is kept of it: so it costs the same however many rows of strangers the table
-/// holds. Rows that are gathered are read there once, and later found by their nodes' places among the nodes.
+/// Each is found by the place that is kept of it, where that is: so it costs the same however many rows of strangers the
+/// table holds. Rows that are gathered are read there once, and later found by their nodes' places among the nodes.
 /// Contracts see the nodes, the table and the kind.
 #[derive(Drop)]
 pub(crate) struct ReachedRows<'a, S: Places> {
     nodes: &'a [NodeId],
-    places: &'a [Option<usize>],
+    places: &'a [RowPlace],
     gathered: Vec<Option<&'a Envelope>>,
     table: &'a Rows<'a, S>,
     kind: Kind,
@@ -34,8 +34,7 @@ impl<'a, S: Places> Model for ReachedRows<'a, S> {
     ghost use Rattle.std.specs.Prelude.{◌≡◌, ◌<◌, ℕ, None, get_or, length, option_map};
     ghost use Rattle.protocol.specs.Rows.{row};
     ghost use Rattle.types.specs.Trees.{members_code};
-    ghost use Rattle.view.specs.Regions.{row_places};
-    ghost use Rattle.view.specs.Watching.{Kept};
+    ghost use Rattle.view.specs.Watching.{ArePlaces, Kept};
 
     ghost Value = { Kept };
 
@@ -43,7 +42,7 @@ impl<'a, S: Places> Model for ReachedRows<'a, S> {
 
     ghost view = { λ a. record { nodes = a.nodes.now; table = a.table.now; kind = a.kind } };
 
-    ghost invariant = { λ a. (a.places.now ≡ row_places a.table.now a.kind a.nodes.now) × ((i : ℕ) → i < length a.gathered.items → option_map (λ r. r.now) (get_or a.gathered.items i None) ≡ row a.table.now (get_or a.nodes.now i 0) a.kind) };
+    ghost invariant = { λ a. ArePlaces a.table.now a.kind a.nodes.now a.places.now × ((i : ℕ) → i < length a.gathered.items → option_map (λ r. r.now) (get_or a.gathered.items i None) ≡ row a.table.now (get_or a.nodes.now i 0) a.kind) };
 }
 
 impl<'a, S: Places> ReachedRows<'a, S> {
@@ -52,7 +51,7 @@ impl<'a, S: Places> ReachedRows<'a, S> {
     pub(crate) fn in_place(
         alloc: Global,
         nodes: &'a [NodeId],
-        places: &'a [Option<usize>],
+        places: &'a [RowPlace],
         table: &'a Rows<'a, S>,
         kind: Kind,
     ) -> ReachedRows<'a, S>
@@ -68,12 +67,30 @@ impl<'a, S: Places> ReachedRows<'a, S> {
         }
     }
 
+    /// The same where no places are kept: a row is looked up, when it is asked for.
+    pub(crate) fn looked_up(
+        alloc: Global,
+        nodes: &'a [NodeId],
+        table: &'a Rows<'a, S>,
+        kind: Kind,
+    ) -> ReachedRows<'a, S>
+        ensures { result ≡ record { nodes = nodes.now; table = table.now; kind = kind } }
+    {
+        ReachedRows {
+            nodes,
+            places: &[],
+            gathered: Vec::new(alloc),
+            table,
+            kind,
+        }
+    }
+
     /// The same for rows that are asked for often: they are gathered, where the nodes are many. An error says that
     /// memory is short.
     pub(crate) fn gather(
         alloc: Global,
         nodes: &'a [NodeId],
-        places: &'a [Option<usize>],
+        places: &'a [RowPlace],
         table: &'a Rows<'a, S>,
         kind: Kind,
     ) -> Result<ReachedRows<'a, S>, AllocError>
@@ -107,7 +124,18 @@ impl<'a, S: Places> ReachedRows<'a, S> {
     {
         match self.gathered.get(place) {
             Some(row) => *row,
-            None => row_where(self.table, self.places[place]),
+            None => self.row_there(place),
+        }
+    }
+
+    /// The same where it is not gathered: at the place that is kept of it, or else it is looked up.
+    fn row_there(&self, place: usize) -> Option<&'a Envelope>
+        requires { place < length self.now.nodes }
+        ensures { option_map (λ r. r.now) result ≡ row self.now.table (get_or self.now.nodes place 0) self.now.kind }
+    {
+        match self.places.get(place) {
+            Some(row) => row_where(self.table, *row),
+            None => self.table.row(&self.nodes[place], self.kind),
         }
     }
 

@@ -3,6 +3,8 @@
 ghost use Rattle.std.specs.Prelude.{◌≡◌, ◌<◌, ◌≤◌, ℕ, List, IfOk, IfSome, IsTrue, Some, get_or, length, set};
 ghost use Rattle.types.specs.Statements.{Sent, kind_of};
 ghost use Rattle.types.specs.Trees.{Slices};
+ghost use Rattle.types.specs.declared.kind.Kind.{Kind};
+ghost use Rattle.types.specs.declared.kind.Kind.TheVariants.{Nomination};
 ghost use Rattle.protocol.specs.Backing.{slices_by};
 ghost use Rattle.protocol.specs.Rows.{with_row};
 ghost use Rattle.protocol.specs.Sets.{IsAscending, among};
@@ -11,19 +13,18 @@ ghost use Rattle.latest.specs.Places.{place_of};
 ghost use Rattle.view.specs.Forms.{AreBelow, IsFoundWithin};
 ghost use Rattle.view.specs.Regions.{IsCopy, IsEntry, IsRegion, forms_of, row_places};
 
-use crate::asking::places_to_ask;
 use crate::forms::{Candidates, SlicesInReach};
 use crate::own::Own;
+use crate::reached::ReachedRows;
 use closure::{drops_none, keeps_reach, reach};
 use compiled::{CompiledSet, Form, compile, place_of};
 use envstore::Places;
-use latest::Rows;
+use latest::{RowPlace, Rows};
 use std::alloc::{AllocError, Global};
 use types::{Envelope, Kind, Nested, NodeId};
 
-/// The nodes that a node reaches, where it stands among them, what blocks it, whom to ask whether it is
-/// blocked, and of each kind whose slices are met by whom and where in the table the rows of the nodes stand.
-/// Its owner keeps it from event to event.
+/// The nodes that a node reaches, where it stands among them, what blocks it, and of each kind whose slices are
+/// met by whom and where in the table the rows of the nodes stand. Its owner keeps it from event to event.
 ///
 /// Slices that are the same are mostly compiled once: their forms in one list have one number, below `numbers`, and
 /// a new row's slices are held against the node's own and those of the row that was set last.
@@ -34,11 +35,10 @@ pub struct Region {
     pub nodes: Vec<NodeId>,
     pub place: usize,
     pub blocking: CompiledSet,
-    pub asked: Vec<usize>,
     pub ballots: Vec<Option<Form>>,
     pub nominations: Vec<Option<Form>>,
-    pub ballot_rows: Vec<Option<usize>>,
-    pub nomination_rows: Vec<Option<usize>>,
+    pub ballot_rows: Vec<RowPlace>,
+    pub nomination_rows: Vec<RowPlace>,
     pub numbers: usize,
     pub latest: usize,
 }
@@ -50,35 +50,43 @@ pub struct Entry {
     kind: Kind,
     place: usize,
     slices: Form,
-    row: usize,
+    row: RowPlace,
     numbers: usize,
 }
 
 impl Region {
     /// The region of a node by a table. An error says that memory is short.
-    pub fn of<S: Places>(
+    pub fn of<'a, S: Places>(
         alloc: Global,
-        own: &NodeId,
-        slices: &Nested,
-        table: &Rows<'_, S>,
+        own: &'a NodeId,
+        slices: &'a Nested,
+        table: &'a Rows<'a, S>,
     ) -> Result<Region, AllocError>
         ensures { IfOk result (λ r. IsRegion own.now slices.now table.now r) }
     {
-        let nodes = reach(alloc, table, own, slices)?;
+        let nodes = reach(alloc, &*table, own, slices)?;
         let place = place_in(&nodes, own);
         let blocking = compile(alloc, slices.set(), &nodes, true)?;
-        let asked = places_to_ask(alloc, slices, &nodes)?;
         let itself = Own { name: own, slices };
-        let ballots = forms_by(alloc, itself, table, Kind::Ballot, &nodes)?;
-        let nominations = forms_by(alloc, itself, table, Kind::Nomination, &nodes)?;
         let numbers = nodes.len();
-        let ballot_rows = row_places(alloc, table, Kind::Ballot, &nodes)?;
-        let nomination_rows = row_places(alloc, table, Kind::Nomination, &nodes)?;
+        let KindPlaces {
+            ballots: ballot_rows,
+            nominations: nomination_rows,
+        } = row_places(alloc, &*table, &nodes)?;
+        let rows = ReachedRows::in_place(alloc, &nodes, &ballot_rows, &*table, Kind::Ballot);
+        let ballots = forms_by(alloc, itself, rows)?;
+        let rows = ReachedRows::in_place(
+            alloc,
+            &nodes,
+            &nomination_rows,
+            &*table,
+            Kind::Nomination,
+        );
+        let nominations = forms_by(alloc, itself, rows)?;
         Ok(Region {
             nodes,
             place,
             blocking,
-            asked,
             ballots,
             nominations,
             ballot_rows,
@@ -96,7 +104,6 @@ impl Region {
             nodes: Vec::from_slice(alloc, &self.nodes)?,
             place: self.place,
             blocking: self.blocking.try_copy(alloc)?,
-            asked: Vec::from_slice(alloc, &self.asked)?,
             ballots: copy_of_all(alloc, &self.ballots)?,
             nominations: copy_of_all(alloc, &self.nominations)?,
             ballot_rows: Vec::from_slice(alloc, &self.ballot_rows)?,
@@ -175,7 +182,8 @@ impl Region {
         ensures { IfOk result (λ o. IfSome o (IsFoundWithin self.now.nodes.items (slices_by own.entry.name.now own.entry.slices.now table.now (kind_of envelope.now.body)) (forms_of (kind_of envelope.now.body) self.now) self.now.numbers envelope.now.slices)) }
     {
         let kind = envelope.body().kind();
-        let reached = SlicesInReach::new(own, &self.nodes, table, kind);
+        let rows = ReachedRows::looked_up(alloc, &self.nodes, table, kind);
+        let reached = SlicesInReach::new(own, rows);
         let there = Candidates {
             forms: self.forms(kind),
             places: (self.place, self.latest),
@@ -217,12 +225,13 @@ impl Region {
 /// Where the envelope stands where the table takes it: in the place of its sender's row of that kind, or behind
 /// all others.
 #[tactic(auto, using(crate::proofs::PlaceLaws::stands_behind, crate::proofs::PlaceLaws::stands_there))]
-fn row_place<S: Places>(table: &Rows<'_, S>, envelope: &Envelope) -> usize
-    ensures { place_of (with_row envelope.now table.now) envelope.now.sender (kind_of envelope.now.body) ≡ Some result }
+fn row_place<S: Places>(table: &Rows<'_, S>, envelope: &Envelope) -> RowPlace
+    ensures { place_of (with_row envelope.now table.now) envelope.now.sender (kind_of envelope.now.body) ≡ result }
 {
-    match table.place(envelope.sender(), envelope.body().kind()) {
-        None => table.len(),
-        Some(place) => place,
+    let place = table.place(envelope.sender(), envelope.body().kind());
+    match place.get() {
+        None => table.end(),
+        Some(_) => place,
     }
 }
 
@@ -236,11 +245,11 @@ fn set_at(entries: &mut [Option<Form>], place: usize, slices: Form)
 }
 
 /// Sets where the row of the node at a place stands, where there is such a place.
-fn set_row(rows: &mut [Option<usize>], place: usize, row: usize)
-    ensures { place < length rows.old → rows.new ≡ set rows.old place (Some row) }
+fn set_row(rows: &mut [RowPlace], place: usize, row: RowPlace)
+    ensures { place < length rows.old → rows.new ≡ set rows.old place row }
 {
     if place < rows.len() {
-        rows[place] = Some(row);
+        rows[place] = row;
     }
 }
 
@@ -278,35 +287,46 @@ fn place_in(nodes: &[NodeId], node: &NodeId) -> usize
     place
 }
 
-/// The slices that the nodes have by the rows of a kind, compiled, in the order of the nodes; the node's own are
+/// The slices that the nodes have by rows of one kind, compiled, in the order of the nodes; the node's own are
 /// configured. An error says that memory is short.
 fn forms_by<S: Places>(
     alloc: Global,
     own: Own<'_>,
-    table: &Rows<'_, S>,
-    kind: Kind,
-    nodes: &[NodeId],
+    rows: ReachedRows<'_, S>,
 ) -> Result<Vec<Option<Form>>, AllocError>
-    requires { IsAscending nodes.now }
-    ensures compiled { IfOk result (λ v. AreCompiled nodes.now (slices_by own.entry.name.now own.entry.slices.now table.now kind) v.items) }
-    ensures below { IfOk result (λ v. AreBelow (length nodes.now) v.items) }
+    requires { IsAscending rows.nodes }
+    ensures compiled { IfOk result (λ v. AreCompiled rows.entry.nodes (slices_by own.entry.name.now own.entry.slices.now rows.entry.table rows.entry.kind) v.items) }
+    ensures below { IfOk result (λ v. AreBelow (length rows.entry.nodes) v.items) }
 {
-    let reached = SlicesInReach::new(own, nodes, table, kind);
+    let reached = SlicesInReach::new(own, rows);
     reached.forms(alloc)
 }
 
-/// Where the rows of a kind that the nodes have stand in the table, in the order of the nodes.
+/// Where the rows of the nodes stand in the table, in the order of the nodes, kind by kind.
+#[derive(Drop)]
+struct KindPlaces {
+    ballots: Vec<RowPlace>,
+    nominations: Vec<RowPlace>,
+}
+
+/// Where the rows that the nodes have stand in the table: each node is looked up once. An error says that memory is short.
 fn row_places<S: Places>(
     alloc: Global,
     table: &Rows<'_, S>,
-    kind: Kind,
     nodes: &[NodeId],
-) -> Result<Vec<Option<usize>>, AllocError>
-    ensures { IfOk result (λ v. v.items ≡ row_places table.now kind nodes.now) }
+) -> Result<KindPlaces, AllocError>
+    ensures ballots { IfOk result (λ p. p.ballots.items ≡ row_places table.now Kind.Ballot nodes.now) }
+    ensures nominations { IfOk result (λ p. p.nominations.items ≡ row_places table.now Nomination nodes.now) }
 {
-    let mut places = Vec::with_capacity(alloc, nodes.len())?;
+    let mut ballots = Vec::with_capacity(alloc, nodes.len())?;
+    let mut nominations = Vec::with_capacity(alloc, nodes.len())?;
     for node in nodes {
-        places.push(table.place(node, kind))?;
+        let places = table.places(node);
+        ballots.push(places.ballot)?;
+        nominations.push(places.nomination)?;
     }
-    Ok(places)
+    Ok(KindPlaces {
+        ballots,
+        nominations,
+    })
 }

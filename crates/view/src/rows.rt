@@ -6,14 +6,14 @@ ghost use Rattle.view.specs.Watching.{row_where, rows_by, rows_of_others, values
 
 use crate::reached::ReachedRows;
 use envstore::Places;
-use latest::Rows;
+use latest::{RowPlace, Rows};
 use std::alloc::{AllocError, Global};
 use types::{Envelope, Kind, NodeId, Statement, Value, Values};
 
 /// The rows at these places in a table, in their order: nothing without a place. An error says that memory is short.
 pub(crate) fn rows_where<'a, S: Places>(
     alloc: Global,
-    places: &[Option<usize>],
+    places: &[RowPlace],
     table: &'a Rows<'a, S>,
 ) -> Result<Vec<Option<&'a Envelope>>, AllocError>
     ensures { IfOk result (λ v. map (λ o. option_map (λ r. r.now) o) v.items ≡ map (row_where table.now) places.now) }
@@ -28,11 +28,11 @@ pub(crate) fn rows_where<'a, S: Places>(
 /// The row at a place in a table: nothing without a place.
 pub(crate) fn row_where<'a, S: Places>(
     table: &'a Rows<'a, S>,
-    place: Option<usize>,
+    place: RowPlace,
 ) -> Option<&'a Envelope>
     ensures { option_map (λ r. r.now) result ≡ row_where table.now place }
 {
-    match place {
+    match place.get() {
         None => None,
         Some(place) => table.at(place),
     }
@@ -96,7 +96,7 @@ fn insert_said(values: &mut Values, said: Option<&Statement>) -> Result<(), Allo
 
 /// Adds the values that a statement votes for or accepts as nominated, each where it is not there yet.
 #[tactic(auto, using(crate::proofs::Gathering::all_with_append))]
-fn insert_values(values: &mut Values, statement: &Statement) -> Result<(), AllocError>
+pub(crate) fn insert_values(values: &mut Values, statement: &Statement) -> Result<(), AllocError>
     ensures { OnOk result (values.new ≡ all_with (values_by statement.now) values.old) }
 {
     match statement {

@@ -2,7 +2,7 @@
 
 ghost use Rattle.std.proofs.Props.{props};
 ghost use Rattle.std.specs.Coded.{codes};
-ghost use Rattle.std.specs.Prelude.{◌≡◌, IfOk, IfSome, length, refl, true};
+ghost use Rattle.std.specs.Prelude.{◌≡◌, IfOk, IfSome, false, length, refl, true, IsFalse};
 ghost use Rattle.compiled.specs.Places.{compiled_code};
 ghost use Rattle.types.specs.declared.kind.Kind.{Kind};
 ghost use Rattle.protocol.specs.Rows.{has_single_rows};
@@ -10,20 +10,21 @@ ghost use Rattle.protocol.specs.Views.{seen};
 ghost use Rattle.protocol.specs.Backing.{slices_by};
 ghost use Rattle.compiled.specs.Searching.{AreCompiled};
 ghost use Rattle.fedvote.specs.Questions.{asks, kind_asked};
-ghost use Rattle.view.specs.Asking.{IsEmptySet};
 ghost use Rattle.view.specs.Knowing.{AreSearched, IsKnown};
 ghost use Rattle.view.specs.Regions.{IsRegion};
+ghost use Rattle.view.specs.Watching.{rows_of_others, values_in};
+ghost use Rattle.view.specs.Words.{IsEmptySet};
 
 use crate::known_reach::KnownReach;
 use crate::own::Own;
-use crate::passing::{OwnAnswer, add_supporters, add_supporters_at};
+use crate::passing::{OwnAnswer, Supporters, add_supporters};
 use crate::reached::ReachedRows;
 use crate::reached_ballots::ReachedBallots;
 use crate::region::Region;
-use crate::rows::{values_of, values_of_others};
+use crate::rows::values_of;
 use crate::searching::next_counter;
-use crate::unlisted::{next_committed, next_named};
-use compiled::{Form, in_quorum, is_met, no_places};
+use crate::unlisted::{next_committed, next_named, nominated_values};
+use compiled::{Form, in_quorum, is_met_by, no_places};
 use envstore::Places;
 use fedvote::{Question, Sight};
 use latest::Rows;
@@ -33,6 +34,9 @@ use types::{Kind, Leaders, LentBallot, Nested, NodeId, Values};
 /// A set of the reached nodes stands in so many words on the stack, where they have room for all of them.
 const FEW_WORDS: usize = 8;
 
+/// Among so many nodes a quorum is searched for at once: to ask first whether there may be one would cost more.
+const FEW_NODES: usize = 8;
+
 /// What a node with these slices and leaders sees of a table: the rows of the other nodes that it reaches,
 /// and the nomination rows of its leaders, reached or not (the Stellar Consensus Protocol draft, of federated
 /// voting; that strangers' rows are left out is this host's profile).
@@ -40,11 +44,11 @@ const FEW_WORDS: usize = 8;
 /// Rows of strangers are not looked at: each reached node's rows stand at the places that the region keeps of
 /// them, and both tests find them by the node's place in the reach. Where many are reached, their ballots are read
 /// once, when the view is made; their nominations, for which rules of nomination alone ask, are read where they
-/// stand, and rows of leaders are looked up. A blocking test asks the names of the node's slices alone, where many
-/// are reached. The ballots that a search goes through are listed in order, where their owner has listed them, since the
+/// stand, and rows of leaders are looked up. A test asks the names of the node's slices one by one, until its answer is
+/// known. The ballots that a search goes through are listed in order, where their owner has listed them, since the
 /// rules ask for the next one below a bound again and again, and else it goes through the rows; nominated values are
-/// gathered when a rule asks for them, since most events ask for none. What is known of the reach is its owner's, who
-/// keeps it from event to event.
+/// copied from their list, where there is one, or gathered when a rule asks for them. What is known of the reach is its
+/// owner's, who keeps it from event to event.
 #[derive(Drop)]
 pub struct View<'a, S: Places> {
     own: &'a NodeId,
@@ -55,11 +59,13 @@ pub struct View<'a, S: Places> {
     ballots: ReachedRows<'a, S>,
     nominations: ReachedRows<'a, S>,
     listed: &'a Option<ReachedBallots>,
+    values: &'a Option<Values>,
     ghost known: { IsRegion own.now slices.now table.now region.now } by { Prim.hlevel (props, codes, compiled_code) },
     ghost single: { has_single_rows table.now ≡ true },
     ghost ballots_kept: { ballots ≡ record { nodes = region.now.nodes.items; table = table.now; kind = Kind.Ballot } },
     ghost nominations_kept: { nominations ≡ record { nodes = region.now.nodes.items; table = table.now; kind = Kind.Nomination } },
     ghost ballots_listed: { IfSome listed.now (λ l. AreSearched own.now ballots.kind ballots.table ballots.nodes l) } by { Prim.hlevel (props, codes) },
+    ghost values_listed: { IfSome values.now (λ v. v ≡ values_in (rows_of_others own.now nominations.kind nominations.table nominations.nodes)) } by { Prim.hlevel (props, codes) },
 }
 
 impl<'a, S: Places> View<'a, S> {
@@ -95,6 +101,7 @@ impl<'a, S: Places> View<'a, S> {
             ballots,
             nominations,
             listed: &known.ballots,
+            values: &known.values,
         })
     }
 
@@ -129,6 +136,7 @@ impl<'a, S: Places> View<'a, S> {
             ballots,
             nominations,
             listed: &known.ballots,
+            values: &known.values,
         }
     }
 
@@ -157,26 +165,52 @@ impl<'a, S: Places> View<'a, S> {
         requires { IsEmptySet (length self.now.region.now.nodes.items) places.old }
         ensures { result ≡ (seen self.now.own.now self.now.slices.now self.now.leaders.now self.now.table.now).quorum (kind_asked question.now) own_passes (asks question.now) }
     {
-        let own = OwnAnswer {
-            place: self.region.place,
-            passes: own_passes,
-        };
+        let own = self.own_answer(own_passes);
         add_supporters(places, self.rows_for(question), own, question);
-        in_quorum(places, own.place, self.forms_for(question))
+        in_quorum(places, self.region.place, self.forms_for(question))
     }
 
-    /// Whether those who pass block the node's slices. The words are the empty set of the reached nodes.
-    fn is_blocked(&self, places: &mut [u64], own_passes: bool, question: &Question<'_>) -> bool
-        requires { IsEmptySet (length self.now.region.now.nodes.items) places.old }
+    /// Whether there may be a quorum that contains the node and all passes. There is none where those who pass do not
+    /// satisfy the node's slices: that is so most often, and known after a few of them. Among few nodes it is not asked.
+    fn may_have_quorum(&self, own_passes: bool, question: &Question<'_>) -> bool
+        ensures { IsFalse result → (seen self.now.own.now self.now.slices.now self.now.leaders.now self.now.table.now).quorum (kind_asked question.now) own_passes (asks question.now) ≡ false }
+    {
+        if self.region.nodes.len() <= FEW_NODES {
+            return true;
+        }
+        let rows = self.rows_for(question);
+        let own = self.own_answer(own_passes);
+        let supporters = Supporters {
+            rows,
+            own,
+            question,
+        };
+        let forms = self.forms_for(question);
+        supporters.meet(&forms[own.place])
+    }
+
+    /// Whether those who pass block the node's slices.
+    fn is_blocked(&self, own_passes: bool, question: &Question<'_>) -> bool
         ensures { result ≡ (seen self.now.own.now self.now.slices.now self.now.leaders.now self.now.table.now).blocking (kind_asked question.now) own_passes (asks question.now) }
     {
         let rows = self.rows_for(question);
-        let own = OwnAnswer {
-            place: self.region.place,
-            passes: own_passes,
+        let own = self.own_answer(own_passes);
+        let supporters = Supporters {
+            rows,
+            own,
+            question,
         };
-        add_supporters_at(places, rows, own, question, &self.region.asked);
-        is_met(&self.region.blocking, places)
+        is_met_by(&self.region.blocking, &supporters)
+    }
+
+    /// The node's own answer, where its position answers so.
+    fn own_answer(&self, passes: bool) -> OwnAnswer
+        ensures { result ≡ record { place = self.now.region.now.place; passes = passes } }
+    {
+        OwnAnswer {
+            place: self.region.place,
+            passes,
+        }
     }
 }
 
@@ -194,6 +228,9 @@ impl<'a, S: Places> Sight for View<'a, S> {
         if !own_passes {
             return Ok(false);
         }
+        if !self.may_have_quorum(own_passes, question) {
+            return Ok(false);
+        }
         let count = self.region.nodes.len();
         if count <= 64 * FEW_WORDS {
             let mut places = [0u64; FEW_WORDS];
@@ -205,21 +242,15 @@ impl<'a, S: Places> Sight for View<'a, S> {
 
     fn blocking(
         &self,
-        alloc: Global,
+        _alloc: Global,
         own_passes: bool,
         question: &Question<'_>,
     ) -> Result<bool, AllocError> {
-        let count = self.region.nodes.len();
-        if count <= 64 * FEW_WORDS {
-            let mut places = [0u64; FEW_WORDS];
-            return Ok(self.is_blocked(&mut places, own_passes, question));
-        }
-        let mut places = no_places(alloc, count)?;
-        Ok(self.is_blocked(&mut places, own_passes, question))
+        Ok(self.is_blocked(own_passes, question))
     }
 
     fn nominated_values(&self, alloc: Global) -> Result<Values, AllocError> {
-        let values = values_of_others(alloc, self.own, &self.nominations)?;
+        let values = nominated_values(alloc, self.values, self.own, &self.nominations)?;
         Ok(values)
     }
 

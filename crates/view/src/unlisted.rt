@@ -1,16 +1,36 @@
-//! Searches among the ballots of a view's rows, which go through a list where there is one.
+//! Searches among the ballots of a view's rows, which go through a list where there is one, and the values that its
+//! nominations speak of, likewise.
 
-ghost use Rattle.std.specs.Prelude.{◌≡◌, IfSome, flat_map, option_map, option_to_list};
+ghost use Rattle.std.specs.Prelude.{◌≡◌, IfOk, IfSome, flat_map, option_map, option_to_list};
 ghost use Rattle.protocol.specs.Candidates.{committed_by, committed_in, named_by, named_in};
 ghost use Rattle.fedvote.specs.Searching.{bettered, next_under};
 ghost use Rattle.view.specs.Knowing.{AreSearched};
-ghost use Rattle.view.specs.Watching.{rows_of_others};
+ghost use Rattle.view.specs.Watching.{rows_of_others, values_in};
 
 use crate::reached::ReachedRows;
 use crate::reached_ballots::ReachedBallots;
+use crate::rows::values_of_others;
 use envstore::Places;
 use fedvote::{better_committed, better_named};
-use types::{LentBallot, NodeId, Statement};
+use std::alloc::{AllocError, Global};
+use types::{LentBallot, NodeId, Statement, Values};
+
+/// The values that the nomination rows of others than this node vote for or accept, ascending: a copy of their list, or
+/// else gathered from each row. An error says that memory is short.
+pub(crate) fn nominated_values<S: Places>(
+    alloc: Global,
+    listed: &Option<Values>,
+    own: &NodeId,
+    rows: &ReachedRows<'_, S>,
+) -> Result<Values, AllocError>
+    requires { IfSome listed.now (λ v. v ≡ values_in (rows_of_others own.now rows.now.kind rows.now.table rows.now.nodes)) }
+    ensures { IfOk result (λ v. v ≡ values_in (rows_of_others own.now rows.now.kind rows.now.table rows.now.nodes)) }
+{
+    match listed {
+        Some(values) => values.try_copy(alloc),
+        None => values_of_others(alloc, own, rows),
+    }
+}
 
 /// The greatest ballot below the bound that the rows of others than this node name: by their list, or else by each row.
 pub(crate) fn next_named<'a, S: Places>(

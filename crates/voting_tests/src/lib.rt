@@ -1,5 +1,5 @@
-//! Tests of what judges statements, from slices compiled to bits to the view of a table, by what those crates show
-//! to anybody: they stand here so that those crates are proved once. It holds nothing else.
+//! Tests of what judges statements, from slices compiled to bits to the view of a table and what a listener keeps, by
+//! what those crates show to anybody: they stand here so that those crates are proved once. It holds nothing else.
 #![tactic(auto)]
 
 #[cfg(test)]
@@ -12,6 +12,8 @@ mod of_compiled;
 mod of_fedvote;
 #[cfg(test)]
 mod of_latest;
+#[cfg(test)]
+mod of_listening;
 #[cfg(test)]
 mod of_nomination;
 #[cfg(test)]

@@ -5,7 +5,7 @@ ghost use Rattle.std.specs.Prelude.{IfOk};
 ghost use Rattle.protocol.specs.Sets.{IsAscending};
 
 use envstore::{Archive, VecShelf};
-use latest::{Offer, Rows, Table};
+use latest::{Offer, RowPlace, Rows, Table};
 use std::alloc::Global;
 use std::test::Fail;
 use types::{Ballot, Envelope, Member, Nested, NodeId, SliceSet, Statement, Value};
@@ -85,7 +85,7 @@ fn a_first_row_is_an_entry(rt: HostRuntime) -> Result<(), Fail> {
     let mut region = region_of(alloc, &rows)?;
     let row = row_of(alloc, 2)?;
     set_row(alloc, &rows, &mut region, &row)?;
-    assert!(rt; region.ballot_rows.as_slice() == [None, Some(0)].as_slice());
+    assert!(rt; region.ballot_rows.as_slice() == [RowPlace::none(), RowPlace::at(0)].as_slice());
     Ok(())
 }
 
@@ -102,7 +102,7 @@ fn a_row_with_other_slices_is_an_entry(rt: HostRuntime) -> Result<(), Fail> {
     let slices = only(alloc, 2)?;
     let newer = statement_of(alloc, 2, slices)?;
     set_row(alloc, &rows, &mut region, &newer)?;
-    assert!(rt; region.ballot_rows.as_slice() == [None, Some(0)].as_slice());
+    assert!(rt; region.ballot_rows.as_slice() == [RowPlace::none(), RowPlace::at(0)].as_slice());
     Ok(())
 }
 

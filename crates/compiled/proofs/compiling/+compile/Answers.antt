@@ -1,10 +1,11 @@
-use Rattle.std.proofs.Common.{◌+◌, List, Vec, length, ap, ◌∙◌, arith}
+use Rattle.std.proofs.Common.{◌+◌, List, [], ◌∷◌, Vec, length, ap, ◌∙◌, arith}
 use Rattle.std.specs.Global.{Global}
+use Rattle.std.proofs.lemmas.List.{length-append}
 use Rattle.types.specs.Trees.{weight_of}
 use Rattle.compiled.specs.declared.mask.Mask.{Mask}
 use Rattle.types.proofs.Weights.{inner_weighs_less}
 use Rattle.protocol.specs.Sets.{among}
-use Rattle.compiled.specs.Places.{Compiled, places_in, sets_of}
+use Rattle.compiled.specs.Places.{Compiled, count_in, places_in, sets_of}
 use Rattle.compiled.specs.Met.{met, sets_met, picked, one_where, needed_of}
 use Rattle.compiled.proofs.MembersMet.{node_on, set_on, one_set_more, all_met}
 use Rattle.compiled.proofs.compiling.+compile.Goals as goal
@@ -19,6 +20,19 @@ compile-requires t c =
 pub loop-member-preserved : goal.loop-member-preserved
 loop-member-preserved t c = record {
   shape = c.loop-member.invariant.shape;
+  count =
+      let before = c.loop-member.invariant.count in
+      elim c.match-member.branch [
+        | in-Node+in_ok-add_node-in-Node w ↦
+            let added = ap (λ (v : Vec Mask Global). count_in v.items) w.masks-is in
+            let same = ap (λ (v : Vec Compiled Global). length v.items) w.inner-is in
+            omega (arith, before, added, same, w.in_ok-add_node-in-Node.ensures.count)
+        | in-Set+in_ok-compile-in-Set+in_ok-push-in-Set w ↦
+            let same = ap (λ (v : Vec Mask Global). count_in v.items) w.masks-is in
+            let added = ap (λ (v : Vec Compiled Global). length v.items) w.inner-is in
+            let more = ap (λ (cs : List Compiled). length cs) w.in_ok-push-in-Set.ensures.items in
+            omega (arith, before, added, same, more, length-append c.loop-member.inner.items (w.in_ok-compile-in-Set.field-0 ∷ []))
+      ];
   so_far = λ ws.
       let ms = c.members-members.result.now in
       let i = c.loop-member.member-index in
@@ -26,7 +40,7 @@ loop-member-preserved t c = record {
       let before = c.loop-member.invariant.so_far ws in
       elim c.match-member.branch [
         | in-Node+in_ok-add_node-in-Node w ↦
-            let added = ap (λ (v : Vec Mask Global). places_in v.items ws) w.masks-is ∙ w.in_ok-add_node-in-Node.ensures ws in
+            let added = ap (λ (v : Vec Mask Global). places_in v.items ws) w.masks-is ∙ w.in_ok-add_node-in-Node.ensures.places ws in
             let same = ap (λ (v : Vec Compiled Global). sets_met (sets_of v.items) ws) w.inner-is in
             omega (arith, before, added, same, node_on c.args.blocking ms i c.member-item.result w.in-Node.node s c.loop-member-test.true c.member-item.is w.in-Node.is)
         | in-Set+in_ok-compile-in-Set+in_ok-push-in-Set w ↦

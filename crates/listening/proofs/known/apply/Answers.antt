@@ -1,10 +1,10 @@
 use Rattle.std.proofs.Common.{Box, IfSome, List, Option, subst, sym, ℕ}
 use Rattle.std.specs.Global.{Global}
 use Rattle.view.specs.declared.known_reach.KnownReach.{KnownReach}
-use Rattle.view.specs.Knowing.{AreBallotsOf}
+use Rattle.view.specs.Knowing.{AreBallotsOf, AreValuesOf}
 use Rattle.view.specs.Regions.{IsEntry, IsRegion}
 use Rattle.listening.specs.declared.known.Effect.{Effect}
-use Rattle.listening.specs.Listening.{IsEffect, KnowsBallots, KnowsRegion, reach_in, region_of}
+use Rattle.listening.specs.Listening.{IsEffect, KnowsLists, KnowsRegion, reach_in, region_of}
 use Rattle.listening.proofs.KeptRegions.{keeps-entry}
 use Rattle.listening.proofs.known.apply.Goals as goal
 
@@ -25,9 +25,10 @@ returns-in-Some-clause-reach c = λ some k table e effect is.
     let before : IsRegion k.name k.slices table r = subst (λ (o : Option (Box KnownReach Global)). KnowsRegion k table (region_of (reach_in o))) c.in-Some.is is in
     keeps-entry k table e r c.in-Sets.entry entry before
 
-pub returns-in-Some-clause-ballots : goal.returns-in-Some-clause-ballots
-returns-in-Some-clause-ballots c = λ k table are.
+pub returns-in-Some-clause-lists : goal.returns-in-Some-clause-lists
+returns-in-Some-clause-lists c = λ k table are.
     let v = c.deref_mut.result.now in
-    let known = subst (λ (o : Option (Box KnownReach Global)). KnowsBallots k table (reach_in o)) c.in-Some.is are in
-    let before = subst (λ (w : KnownReach). IfSome w.ballots (λ b. AreBallotsOf k.name table w.region.nodes.items b)) (sym c.deref_mut.ensures.value) known in
-    subst (λ (us : List ℕ). IfSome v.ballots (λ b. AreBallotsOf k.name table us b)) (sym c.set_entry.ensures.nodes) before
+    let known = subst (λ (o : Option (Box KnownReach Global)). KnowsLists k table (reach_in o)) c.in-Some.is are in
+    let lists : KnownReach → List ℕ → Type 0 = λ w us. IfSome w.ballots (λ b. AreBallotsOf k.name table us b) × IfSome w.values (λ z. AreValuesOf k.name table us z) in
+    let before = subst (λ (w : KnownReach). lists w w.region.nodes.items) (sym c.deref_mut.ensures.value) known in
+    subst (lists v) (sym c.set_entry.ensures.nodes) before

@@ -6,4 +6,4 @@ use Rattle.latest.proofs.index.Index.note.Goals as goal
 pub returns-clause-ok : goal.returns-clause-ok
 returns-clause-ok c =
     ap listed c.in_ok-insert.ensures.entries
-    ∙ noted-read c.self.inside.by_sender.entries c.args.self.now c.args.sender c.args.kind c.args.place c.places.result c.with_place-places.result c.self.view_is c.requires c.places.ensures (c.with_place-places.ensures c.args.sender)
+    ∙ noted-read c.self.inside.by_sender.entries c.args.self.now c.args.sender c.args.kind c.args.place c.places.result c.with_place-places.result c.self.view_is c.requires.ascends c.places.ensures (c.with_place-places.ensures c.args.sender)

@@ -4,8 +4,8 @@ use Rattle.latest.proofs.Tabled.{indexed-ascends, push-read}
 use Rattle.latest.proofs.Filings.{sents-length, sents-push}
 use Rattle.latest.proofs.table.Table.add.Goals as goal
 
-pub note-requires : goal.note-requires
-note-requires c = indexed-ascends (sents_of c.self.inside.rows.items) c.self.inside.index c.self.invariant
+pub note-requires-clause-ascends : goal.note-requires-clause-ascends
+note-requires-clause-ascends c = indexed-ascends (sents_of c.self.inside.rows.items) c.self.inside.index c.self.invariant
 
 pub invariant_of-self-2 : goal.invariant_of-self-2
 invariant_of-self-2 c =

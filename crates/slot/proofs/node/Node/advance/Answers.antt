@@ -29,7 +29,7 @@ pub returns-in-Reslice-clause-emitted : goal.returns-in-Reslice-clause-emitted
 returns-in-Reslice-clause-emitted g c = emitted-own c.args.self.now.node c.reslice.new.self.node c.reslice.new.archive (Reslice c.in-Reslice.slices) c.reslice.result c.reslice.ensures.node c.reslice.ensures.outs c.reslice.ensures.filed
 
 pub returns-in-Propose-clause-idle : goal.returns-in-Propose-clause-idle
-returns-in-Propose-clause-idle g c = λ none e. absurd (propose-changes c.args.self.now.node c.in-Propose.value (ap (λ (x : FiledEvent). change c.args.self.now.node (event_of x)) (sym c.in-Propose.is) ∙ e))
+returns-in-Propose-clause-idle g c = λ e. absurd (propose-changes c.args.self.now.node c.in-Propose.value (ap (λ (x : FiledEvent). change c.args.self.now.node (event_of x)) (sym c.in-Propose.is) ∙ e))
 
 pub returns-in-Reslice-clause-idle : goal.returns-in-Reslice-clause-idle
-returns-in-Reslice-clause-idle g c = λ none e. absurd (reslice-changes c.args.self.now.node c.in-Reslice.slices (ap (λ (x : FiledEvent). change c.args.self.now.node (event_of x)) (sym c.in-Reslice.is) ∙ e))
+returns-in-Reslice-clause-idle g c = λ e. absurd (reslice-changes c.args.self.now.node c.in-Reslice.slices (ap (λ (x : FiledEvent). change c.args.self.now.node (event_of x)) (sym c.in-Reslice.is) ∙ e))

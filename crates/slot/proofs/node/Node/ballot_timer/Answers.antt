@@ -20,7 +20,7 @@ returns-then-not-is_counter_live-clause-node g c =
 pub returns-then-not-is_counter_live-clause-outs : goal.returns-then-not-is_counter_live-clause-outs
 returns-then-not-is_counter_live-clause-outs g c =
     let i = c.self.inside in
-    ap outs_of c.in_ok-given_out.ensures.outs ∙ sym (ap (λ (p : Node × List Out). p.1) (step-is c.args.self.now.node (BallotTimer c.args.counter) None (change-no_counter i.listener.configured i.given i.votes (sents_of i.listener.table) c.args.self.now.node c.args.counter (sym (ap node_in c.self.view_is)) (sym c.is_counter_live.ensures ∙ c.if-not-is_counter_live.true))))
+    ap outs_of c.nothing.ensures.outs ∙ sym (ap (λ (p : Node × List Out). p.1) (step-is c.args.self.now.node (BallotTimer c.args.counter) None (change-no_counter i.listener.configured i.given i.votes (sents_of i.listener.table) c.args.self.now.node c.args.counter (sym (ap node_in c.self.view_is)) (sym c.is_counter_live.ensures ∙ c.if-not-is_counter_live.true))))
 
 pub given_timeout-requires : goal.given_timeout-requires
 given_timeout-requires g c =
@@ -53,10 +53,10 @@ returns-clause-outs g c =
     subst (λ (p : Node × List Out). IfOk c.settle.result (λ v. outs_of v.outs.items ≡ p.1)) (sym (step-is n (BallotTimer c.args.counter) (Some m) made)) c.settle.ensures.outs
 
 pub returns-in_err-given-clause-idle : goal.returns-in_err-given-clause-idle
-returns-in_err-given-clause-idle g c = λ none idle. absurd (false≢true (sym (idle-counter c.args.self.now.node c.args.counter idle) ∙ sym (ap (λ (h : Held). is_counter_live h.node c.args.counter) c.self.view_is) ∙ sym c.is_counter_live.ensures ∙ c.if-not-is_counter_live.false))
+returns-in_err-given-clause-idle g c = λ idle. absurd (false≢true (sym (idle-counter c.args.self.now.node c.args.counter idle) ∙ sym (ap (λ (h : Held). is_counter_live h.node c.args.counter) c.self.view_is) ∙ sym c.is_counter_live.ensures ∙ c.if-not-is_counter_live.false))
 
 pub returns-in_err-votes-clause-idle : goal.returns-in_err-votes-clause-idle
-returns-in_err-votes-clause-idle g c = λ none idle. absurd (false≢true (sym (idle-counter c.args.self.now.node c.args.counter idle) ∙ sym (ap (λ (h : Held). is_counter_live h.node c.args.counter) c.self.view_is) ∙ sym c.is_counter_live.ensures ∙ c.if-not-is_counter_live.false))
+returns-in_err-votes-clause-idle g c = λ idle. absurd (false≢true (sym (idle-counter c.args.self.now.node c.args.counter idle) ∙ sym (ap (λ (h : Held). is_counter_live h.node c.args.counter) c.self.view_is) ∙ sym c.is_counter_live.ensures ∙ c.if-not-is_counter_live.false))
 
 pub returns-clause-idle : goal.returns-clause-idle
-returns-clause-idle g c = λ none idle. absurd (false≢true (sym (idle-counter c.args.self.now.node c.args.counter idle) ∙ sym (ap (λ (h : Held). is_counter_live h.node c.args.counter) c.self.view_is) ∙ sym c.is_counter_live.ensures ∙ c.if-not-is_counter_live.false))
+returns-clause-idle g c = λ idle. absurd (false≢true (sym (idle-counter c.args.self.now.node c.args.counter idle) ∙ sym (ap (λ (h : Held). is_counter_live h.node c.args.counter) c.self.view_is) ∙ sym c.is_counter_live.ensures ∙ c.if-not-is_counter_live.false))

@@ -19,7 +19,7 @@ returns-then-not-is_round_live-clause-node g c =
 pub returns-then-not-is_round_live-clause-outs : goal.returns-then-not-is_round_live-clause-outs
 returns-then-not-is_round_live-clause-outs g c =
     let i = c.self.inside in
-    ap outs_of c.in_ok-given_out.ensures.outs ∙ sym (ap (λ (p : Node × List Out). p.1) (step-is c.args.self.now.node (NominationTimer c.args.round) None (change-no_round i.listener.configured i.given i.votes (sents_of i.listener.table) c.args.self.now.node c.args.round (sym (ap node_in c.self.view_is)) (sym c.is_round_live.ensures ∙ c.if-not-is_round_live.true))))
+    ap outs_of c.nothing.ensures.outs ∙ sym (ap (λ (p : Node × List Out). p.1) (step-is c.args.self.now.node (NominationTimer c.args.round) None (change-no_round i.listener.configured i.given i.votes (sents_of i.listener.table) c.args.self.now.node c.args.round (sym (ap node_in c.self.view_is)) (sym c.is_round_live.ensures ∙ c.if-not-is_round_live.true))))
 
 pub settle-requires-clause-change : goal.settle-requires-clause-change
 settle-requires-clause-change g c =
@@ -45,10 +45,10 @@ returns-clause-outs g c =
     subst (λ (p : Node × List Out). IfOk c.settle.result (λ v. outs_of v.outs.items ≡ p.1)) (sym (step-is n (NominationTimer c.args.round) (Some m) made)) c.settle.ensures.outs
 
 pub returns-in_err-given-clause-idle : goal.returns-in_err-given-clause-idle
-returns-in_err-given-clause-idle g c = λ none idle. absurd (false≢true (sym (idle-round c.args.self.now.node c.args.round idle) ∙ sym (ap (λ (h : Held). is_round_live h.node c.args.round) c.self.view_is) ∙ sym c.is_round_live.ensures ∙ c.if-not-is_round_live.false))
+returns-in_err-given-clause-idle g c = λ idle. absurd (false≢true (sym (idle-round c.args.self.now.node c.args.round idle) ∙ sym (ap (λ (h : Held). is_round_live h.node c.args.round) c.self.view_is) ∙ sym c.is_round_live.ensures ∙ c.if-not-is_round_live.false))
 
 pub returns-in_err-votes-clause-idle : goal.returns-in_err-votes-clause-idle
-returns-in_err-votes-clause-idle g c = λ none idle. absurd (false≢true (sym (idle-round c.args.self.now.node c.args.round idle) ∙ sym (ap (λ (h : Held). is_round_live h.node c.args.round) c.self.view_is) ∙ sym c.is_round_live.ensures ∙ c.if-not-is_round_live.false))
+returns-in_err-votes-clause-idle g c = λ idle. absurd (false≢true (sym (idle-round c.args.self.now.node c.args.round idle) ∙ sym (ap (λ (h : Held). is_round_live h.node c.args.round) c.self.view_is) ∙ sym c.is_round_live.ensures ∙ c.if-not-is_round_live.false))
 
 pub returns-clause-idle : goal.returns-clause-idle
-returns-clause-idle g c = λ none idle. absurd (false≢true (sym (idle-round c.args.self.now.node c.args.round idle) ∙ sym (ap (λ (h : Held). is_round_live h.node c.args.round) c.self.view_is) ∙ sym c.is_round_live.ensures ∙ c.if-not-is_round_live.false))
+returns-clause-idle g c = λ idle. absurd (false≢true (sym (idle-round c.args.self.now.node c.args.round idle) ∙ sym (ap (λ (h : Held). is_round_live h.node c.args.round) c.self.view_is) ∙ sym c.is_round_live.ensures ∙ c.if-not-is_round_live.false))

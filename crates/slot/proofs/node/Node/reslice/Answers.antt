@@ -1,6 +1,7 @@
-use Rattle.std.proofs.Common.{refl, ◌∙◌, List, sym, ap, subst}
+use Rattle.std.proofs.Common.{refl, ◌∙◌, List, unwrap_or, sym, ap, subst}
 use Rattle.types.specs.declared.event.NodeEvent.TheVariants.{Reslice}
 use Rattle.types.specs.declared.event.Out.{Out}
+use Rattle.types.specs.declared.state.Votes.{Votes}
 use Rattle.protocol.specs.Nodes.{Node, outs}
 use Rattle.protocol.specs.Limits.{Reached}
 use Rattle.listening.specs.Listening.{Heard}
@@ -41,8 +42,9 @@ invariant_of-self g c =
     let n = c.args.self.now.node in
     let k = c.exchange_slices-old_slices.new.self in
     let made = change-slices i.listener k i.given i.votes i.votes n c.args.slices (sym (ap node_in c.self.view_is)) c.exchange_slices-old_slices.ensures.now refl in
-    let after = reached-some n (node_of k i.given i.votes) (Reslice c.args.slices) c.in-Ok.field-0.votes (subst Reached (ap node_in c.self.view_is) c.self.invariant) made c.in-Ok.ensures.votes in
-    subst (λ (h : Heard). Reached (node_of h i.given c.in-Ok.field-0.votes)) (sym c.answer_anew.ensures.same) after
+    let w = unwrap_or c.in-Ok.field-0.votes i.votes in
+    let after = reached-some n (node_of k i.given i.votes) (Reslice c.args.slices) w (subst Reached (ap node_in c.self.view_is) c.self.invariant) made c.in-Ok.ensures.votes in
+    subst (λ (v : Votes). Reached (node_of c.answer_anew.new.listener i.given v)) (sym c.set_settled.ensures) (subst (λ (h : Heard). Reached (node_of h i.given w)) (sym c.answer_anew.ensures.same) after)
 
 pub returns-in-Ok-clause-node : goal.returns-in-Ok-clause-node
 returns-in-Ok-clause-node g c =
@@ -50,9 +52,9 @@ returns-in-Ok-clause-node g c =
     let n = c.args.self.now.node in
     let k = c.exchange_slices-old_slices.new.self in
     let made = change-slices i.listener k i.given i.votes i.votes n c.args.slices (sym (ap node_in c.self.view_is)) c.exchange_slices-old_slices.ensures.now refl in
-    let w = c.in-Ok.field-0.votes in
+    let w = unwrap_or c.in-Ok.field-0.votes i.votes in
     let stepped = step-some n (node_of k i.given i.votes) (Reslice c.args.slices) w made c.in-Ok.ensures.votes in
-    ap (λ (h : Heard). node_of h i.given w) c.answer_anew.ensures.same ∙ sym (ap (λ (p : Node × List Out). p.0) stepped)
+    ap (node_of c.answer_anew.new.listener i.given) c.set_settled.ensures ∙ ap (λ (h : Heard). node_of h i.given w) c.answer_anew.ensures.same ∙ sym (ap (λ (p : Node × List Out). p.0) stepped)
 
 pub returns-in-Ok-clause-outs : goal.returns-in-Ok-clause-outs
 returns-in-Ok-clause-outs g c =
@@ -61,7 +63,7 @@ returns-in-Ok-clause-outs g c =
     let k = c.exchange_slices-old_slices.new.self in
     let made = change-slices i.listener k i.given i.votes i.votes n c.args.slices (sym (ap node_in c.self.view_is)) c.exchange_slices-old_slices.ensures.now refl in
     let m = node_of k i.given i.votes in
-    let w = c.in-Ok.field-0.votes in
+    let w = unwrap_or c.in-Ok.field-0.votes i.votes in
     let after : Node = record m { votes = w } in
     let stepped = step-some n m (Reslice c.args.slices) w made c.in-Ok.ensures.votes in
     let from = outs-by_new k.configured i.listener.configured i.given i.votes (sents_of i.listener.table) (sents_of i.listener.table) after ∙ ap (λ (x : Node). outs x after) (ap node_in c.self.view_is) in

@@ -1,36 +1,56 @@
-use Rattle.std.proofs.Common.{◌∙◌, Bor, IfSome, List, Option, Some, option_map, ap, subst, sym, ℕ}
-use Rattle.types.specs.declared.envelope.Envelope.{Envelope}
+use Rattle.std.proofs.Common.{◌≡◌, ◌∙◌, IfSome, List, Option, ap, refl, subst, sym}
 use Rattle.types.specs.declared.kind.Kind.{Kind}
-use Rattle.types.specs.declared.statement.Statement.{Statement}
-use Rattle.view.specs.Knowing.{AreBallotsOf, IsHeard}
-use Rattle.view.specs.Watching.{Kept}
+use Rattle.types.specs.declared.kind.Kind.TheVariants.{Nomination}
+use Rattle.types.specs.Statements.{kind_of}
+use Rattle.protocol.specs.Candidates.{all_with, values_by}
+use Rattle.view.specs.Knowing.{AreBallotsOf, AreValuesOf}
+use Rattle.view.specs.Watching.{rows_of_others, values_in}
 use Rattle.view.specs.declared.reached_ballots.ReachedBallots.{ReachedBallots}
-use Rattle.view.proofs.Following.{unheard_listed}
+use Rattle.view.proofs.Following.{heard_kind, unheard_itself, unheard_kind, unheard_listed}
+use Rattle.view.proofs.Widening.{heard_values, unheard_values}
 use Rattle.view.proofs.known_reach.KnownReach.hear.Goals as goal
 
-pub returns-then-not-concerns-clause-ballots : goal.returns-then-not-concerns-clause-ballots
-returns-then-not-concerns-clause-ballots g c = λ old taken are.
-    let nodes = c.args.self.now.region.nodes.items in
-    unheard_listed c.args.own.name.now nodes old c.args.table.now c.args.taken.now.row.now (sym c.concerns.ensures ∙ c.if-not-concerns.true) taken.now c.args.self.now.ballots are
-
-pub returns-in-Ok-clause-ballots : goal.returns-in-Ok-clause-ballots
-returns-in-Ok-clause-ballots g c = λ old taken are.
+pub returns-then-not-is_of_another-clause-ballots : goal.returns-then-not-is_of_another-clause-ballots
+returns-then-not-is_of_another-clause-ballots g c = λ old taken are.
     let own = c.args.own.name.now in
     let nodes = c.args.self.now.region.nodes.items in
-    let table = c.args.table.now in
     let e = c.args.taken.now.row.now in
-    let at : List ℕ → Kept = λ us. record { nodes = us; table = table; kind = Kind.Ballot } in
-    let rows = c.in_place-rows.ensures ∙ ap at c.deref.ensures.value in
-    let before = c.in-Some.ballots in
-    let there : IfSome (Some before) (λ b. AreBallotsOf own old nodes b) = subst (λ (o : Option ReachedBallots). IfSome o (λ b. AreBallotsOf own old nodes b)) (sym c.take.ensures.value ∙ c.in-Some.is) are in
-    let said : Option Statement = option_map (λ (s : Bor Statement). s.now) c.body_of-before.result in
-    let heard : IsHeard own nodes old table c.body.result.now said = record {
-      envelope = e;
-      row = option_map (λ (r : Bor Envelope). r.now) c.args.taken.now.before;
-      heard = sym c.concerns.ensures ∙ c.if-not-concerns.false;
-      taken = taken;
-      says = sym c.body.ensures.value;
-      said = sym c.body_of-before.ensures;
-    } in
-    subst (λ (k : Kept). IsHeard own k.nodes old k.table c.body.result.now said → AreBallotsOf own old k.nodes before → AreBallotsOf own k.table k.nodes c.replace-replaced.new.self) rows
-    (c.in-Ok.ensures old) heard there
+    unheard_listed own nodes old c.args.table.now e (unheard_itself Kind.Ballot own nodes e (sym c.is_of_another.ensures ∙ c.if-not-is_of_another.true)) taken.now c.args.self.now.ballots are
+
+pub returns-then-not-is_of_another-clause-values : goal.returns-then-not-is_of_another-clause-values
+returns-then-not-is_of_another-clause-values g c = λ old taken are.
+    let own = c.args.own.name.now in
+    let nodes = c.args.self.now.region.nodes.items in
+    let e = c.args.taken.now.row.now in
+    unheard_values own nodes old c.args.table.now e (unheard_itself Nomination own nodes e (sym c.is_of_another.ensures ∙ c.if-not-is_of_another.true)) taken.now c.args.self.now.values are
+
+pub returns-in-Ballot-clause-values : goal.returns-in-Ballot-clause-values
+returns-in-Ballot-clause-values g c = λ old taken are.
+    let own = c.args.own.name.now in
+    let nodes = c.args.self.now.region.nodes.items in
+    let e = c.args.taken.now.row.now in
+    let kind : kind_of e.body ≡ Kind.Ballot = ap kind_of (sym c.body.ensures.value) ∙ sym c.kind.ensures ∙ c.in-Ballot.is in
+    subst (λ (o : Option (List (List _))). IfSome o (λ v. AreValuesOf own c.args.table.now nodes v)) (sym c.follow_ballots.ensures.values)
+    (unheard_values own nodes old c.args.table.now e (unheard_kind Nomination Kind.Ballot own nodes e kind refl) taken.now c.args.self.now.values are)
+
+pub returns-in-Nomination-clause-ballots : goal.returns-in-Nomination-clause-ballots
+returns-in-Nomination-clause-ballots g c = λ old taken are.
+    let own = c.args.own.name.now in
+    let nodes = c.args.self.now.region.nodes.items in
+    let e = c.args.taken.now.row.now in
+    let kind : kind_of e.body ≡ Nomination = ap kind_of (sym c.body.ensures.value) ∙ sym c.kind.ensures ∙ c.in-Nomination.is in
+    subst (λ (o : Option ReachedBallots). IfSome o (λ b. AreBallotsOf own c.args.table.now nodes b)) (sym c.follow_values.ensures.ballots)
+    (unheard_listed own nodes old c.args.table.now e (unheard_kind Kind.Ballot Nomination own nodes e kind refl) taken.now c.args.self.now.ballots are)
+
+pub returns-in-Nomination-clause-values : goal.returns-in-Nomination-clause-values
+returns-in-Nomination-clause-values g c = λ old taken are.
+    let own = c.args.own.name.now in
+    let nodes = c.args.self.now.region.nodes.items in
+    let e = c.args.taken.now.row.now in
+    let kind : kind_of e.body ≡ Nomination = ap kind_of (sym c.body.ensures.value) ∙ sym c.kind.ensures ∙ c.in-Nomination.is in
+    let another = sym c.is_of_another.ensures ∙ c.if-not-is_of_another.false in
+    let before = values_in (rows_of_others own Nomination old nodes) in
+    let after = values_in (rows_of_others own Nomination c.args.table.now nodes) in
+    c.follow_values.ensures.values before after
+    (ap (λ s. all_with (values_by s) before) c.body-in-Nomination.ensures.value ∙ heard_values own nodes old c.args.table.now e _ (heard_kind Nomination own nodes e kind refl another) taken)
+    are

@@ -1,11 +1,11 @@
 use Rattle.std.proofs.Common.{Bor, None, Option, option_map}
 use Rattle.types.specs.Statements.{Sent}
-use Rattle.view.proofs.Keeping.{row_gathered}
+use Rattle.view.proofs.Keeping.{places_of_all, row_gathered}
 use Rattle.view.proofs.reached.ReachedRows.gather.Goals as goal
 
 pub invariant_of-result : goal.invariant_of-result
 invariant_of-result g c =
     let sent = λ (o : Option (Bor Sent)). option_map (λ (r : Bor Sent). r.now) o in (
-      c.requires,
+      places_of_all c.args.kind c.args.table.now c.args.nodes.now c.args.places.now c.requires,
       row_gathered c.args.kind c.args.table.now c.args.nodes.now sent c.in_ok-gathered.gathered.items None c.args.places.now c.in_ok-gathered.ensures c.requires,
     )

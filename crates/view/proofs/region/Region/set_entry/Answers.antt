@@ -19,7 +19,7 @@ returns-in-Ballot-clause-region c = λ own configured table e entry is.
     ∙ (c.set_at.ensures (omega (arith, within, many)) ∙ ap (λ (cs : List (Option Numbered)). set cs x.place (Some x.slices)) c.deref_mut.ensures.value))
     (with_items w rows) (λ within.
     with_items_is w rows (omega (arith, c.set_row.auto.rows, c.deref_mut-in-Ballot.ensures.len, few))
-    ∙ (c.set_row.ensures (omega (arith, within, few)) ∙ ap (λ (os : List (Option ℕ)). set os x.place (Some x.row)) c.deref_mut-in-Ballot.ensures.value))
+    ∙ (c.set_row.ensures (omega (arith, within, few)) ∙ ap (λ (os : List (Option ℕ)). set os x.place x.row) c.deref_mut-in-Ballot.ensures.value))
 
 pub returns-in-Nomination-clause-region : goal.returns-in-Nomination-clause-region
 returns-in-Nomination-clause-region c = λ own configured table e entry is.
@@ -35,4 +35,4 @@ returns-in-Nomination-clause-region c = λ own configured table e entry is.
     ∙ (c.set_at-in-Nomination.ensures (omega (arith, within, many)) ∙ ap (λ (cs : List (Option Numbered)). set cs x.place (Some x.slices)) c.deref_mut-in-Nomination.ensures.value))
     (with_items w rows) (λ within.
     with_items_is w rows (omega (arith, c.set_row-in-Nomination.auto.rows, c.deref_mut-in-Nomination-2.ensures.len, few))
-    ∙ (c.set_row-in-Nomination.ensures (omega (arith, within, few)) ∙ ap (λ (os : List (Option ℕ)). set os x.place (Some x.row)) c.deref_mut-in-Nomination-2.ensures.value))
+    ∙ (c.set_row-in-Nomination.ensures (omega (arith, within, few)) ∙ ap (λ (os : List (Option ℕ)). set os x.place x.row) c.deref_mut-in-Nomination-2.ensures.value))

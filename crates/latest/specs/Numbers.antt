@@ -1,0 +1,11 @@
+-- A place, or none, as one number.
+use Rattle.std.specs.Prelude.{ℕ, zero, suc, Option, Some, None}
+
+-- none as 0, and a place as one more than it
+abbrev pub numbered : ℕ → Option ℕ
+numbered zero = None
+numbered (suc n) = Some n
+
+abbrev pub number_of : Option ℕ → ℕ
+number_of None = 0
+number_of (Some n) = suc n
