@@ -12,8 +12,8 @@ use std::alloc::{AllocError, Global};
 use std::marker::Model;
 use types::{Envelope, Kind, NodeId, Statement};
 
-/// Of so many nodes the rows are read where they stand, whenever one is asked for: to gather them would cost more.
-const FEW_NODES: usize = 64;
+/// Of at most so many nodes the rows are read where they stand, whenever one is asked for: to gather them would cost more.
+const MOST_IN_PLACE: usize = 64;
 
 /// The rows of one kind that the reached nodes have in a table.
 ///
@@ -97,7 +97,7 @@ impl<'a, S: Places> ReachedRows<'a, S> {
         requires { places.now ≡ row_places table.now kind nodes.now }
         ensures { IfOk result (λ r. r ≡ record { nodes = nodes.now; table = table.now; kind = kind }) }
     {
-        if nodes.len() <= FEW_NODES {
+        if nodes.len() <= MOST_IN_PLACE {
             return Ok(ReachedRows::in_place(alloc, nodes, places, table, kind));
         }
         let gathered = rows_where(alloc, places, table)?;
