@@ -14,14 +14,14 @@ use Rattle.fedvote.specs.Searching.{is_under, next_under}
 use Rattle.ballot.proofs.SearchLaws.{next_in, next_above}
 
 -- ---- what is lowest is one number
-not_over : (test : ℕ → Bool) (x : List ℕ) (lo : ℕ) (ts : List Ballot) (m n : ℕ) → IsLowest test x lo ts m → IsLowest test x lo ts n → m ≤ n
-not_over test x lo ts m n a b = elim b.from [
+not_over : (test : ℕ → Bool) (x : List ℕ) (low : ℕ) (ts : List Ballot) (m n : ℕ) → IsLowest test x low ts m → IsLowest test x low ts n → m ≤ n
+not_over test x low ts m n a b = elim b.from [
   | inl e ↦ subst (λ k. m ≤ k) (sym e) a.upto
   | inr r ↦ subst (λ k. m ≤ k) r.1.1.1.1 (a.below r.0 r.1.0 r.1.1.0 r.1.1.1.0)
 ]
 
-pub lowest_is_alone : (test : ℕ → Bool) (x : List ℕ) (lo : ℕ) (ts : List Ballot) (m n : ℕ) → IsLowest test x lo ts m → IsLowest test x lo ts n → m ≡ n
-lowest_is_alone test x lo ts m n a b = let h = not_over test x lo ts m n a b in let k = not_over test x lo ts n m b a in omega (arith, h, k)
+pub lowest_is_alone : (test : ℕ → Bool) (x : List ℕ) (low : ℕ) (ts : List Ballot) (m n : ℕ) → IsLowest test x low ts m → IsLowest test x low ts n → m ≡ n
+lowest_is_alone test x low ts m n a b = let h = not_over test x low ts m n a b in let k = not_over test x low ts n m b a in omega (arith, h, k)
 
 -- ---- the least so far
 module _ (listed : List Ballot) (holds : Ballot → Bool) (end : Ballot) where

@@ -7,9 +7,9 @@ use Rattle.protocol.specs.States.{ballot_at}
 
 -- the interval goes from lo to the counter of the end, and neither the ballot nor the highest accepted one stays below the end
 abbrev pub moved_to : ℕ → Ballot → Ballot → Votes → Votes
-moved_to lo end b w = record w {
+moved_to low end b w = record w {
   ballot = Some (ballot_at (max b.counter end.counter) end.value);
   prepared = greatest w.prepared (end ∷ []);
-  lo = lo;
-  hi = end.counter;
+  low = low;
+  high = end.counter;
 }

@@ -74,7 +74,7 @@ fn next_committed<S: Sight>(
         sight,
         own: &own,
         value: &ballot.value,
-        hi: votes.hi,
+        high: votes.high,
     };
     greatest_of(alloc, &candidates, &test)
 }
@@ -111,10 +111,10 @@ fn enter_commit<S: Sight>(alloc: Global, sight: &S, draft: &mut Draft<'_>) -> Re
     let Some(first) = first_committed(alloc, sight, draft.votes())? else {
         return Ok(());
     };
-    let lo = accepted_from(alloc, sight, draft.votes(), &first)?;
-    move_interval(draft, &first, lo)?;
-    let high = greater(&draft.votes().high, &first)?;
-    draft.set_high(high)?;
+    let low = accepted_from(alloc, sight, draft.votes(), &first)?;
+    move_interval(draft, &first, low)?;
+    let confirmed_prepared = greater(&draft.votes().confirmed_prepared, &first)?;
+    draft.set_confirmed_prepared(confirmed_prepared)?;
     draft.set_phase(Phase::Committing)
 }
 
@@ -131,14 +131,14 @@ fn widen_commit<S: Sight>(alloc: Global, sight: &S, draft: &mut Draft<'_>) -> Re
     let Some(next) = next_committed(alloc, sight, ballot, votes)? else {
         return Ok(());
     };
-    let lo = accepted_from(alloc, sight, votes, &next)?;
-    move_interval(draft, &next, lo)
+    let low = accepted_from(alloc, sight, votes, &next)?;
+    move_interval(draft, &next, low)
 }
 
 /// The interval that is accepted as committed goes from this counter to this ballot's. The node's ballot has the
 /// end's value and is not below it, nor is the highest accepted ballot.
-fn move_interval(draft: &mut Draft<'_>, end: &Ballot, lo: u32) -> Result<(), AllocError>
-    ensures { OnOk result (draft.new ≡ after (on_ballot (λ b w. moved_to lo end.now b w)) draft.old) }
+fn move_interval(draft: &mut Draft<'_>, end: &Ballot, low: u32) -> Result<(), AllocError>
+    ensures { OnOk result (draft.new ≡ after (on_ballot (λ b w. moved_to low end.now b w)) draft.old) }
 {
     let votes = draft.votes();
     let Some(ballot) = &votes.ballot else {
@@ -148,7 +148,7 @@ fn move_interval(draft: &mut Draft<'_>, end: &Ballot, lo: u32) -> Result<(), All
     let prepared = greater(&votes.prepared, end)?;
     draft.set_ballot(ballot)?;
     draft.set_prepared(prepared)?;
-    draft.set_interval(lo, end.counter)
+    draft.set_interval(low, end.counter)
 }
 
 /// The ballot that is there, or this one where that is below it or where there is none.
@@ -216,9 +216,9 @@ fn externalize<S: Sight>(alloc: Global, sight: &S, draft: &mut Draft<'_>) -> Res
     let Some(last) = confirmed_commit(alloc, sight, ballot, votes)? else {
         return Ok(());
     };
-    let lo = confirmed_from(alloc, sight, votes, &last)?;
+    let low = confirmed_from(alloc, sight, votes, &last)?;
     draft.set_phase(Phase::Externalized)?;
-    draft.set_interval(lo, last.counter)
+    draft.set_interval(low, last.counter)
 }
 
 /// The least commit counter of the value from which on the interval up to this ballot's counter is confirmed.
@@ -229,7 +229,7 @@ fn confirmed_from<S: Sight>(
     votes: &Votes,
     end: &Ballot,
 ) -> Result<u32, AllocError>
-    ensures { IfOk result (λ n. n ≡ lowest (λ lo. commit_confirmed (S.seen sight.now) votes.now end.now.value lo end.now.counter) end.now.value end.now.counter (commits (S.seen sight.now) votes.now)) }
+    ensures { IfOk result (λ n. n ≡ lowest (λ low. commit_confirmed (S.seen sight.now) votes.now end.now.value low end.now.counter) end.now.value end.now.counter (commits (S.seen sight.now) votes.now)) }
 {
     let own = own_position(votes)?;
     let candidates = Committed { sight, own: &own };

@@ -14,7 +14,7 @@ use drafts::Draft;
 use fedvote::{Position, Question, Sight, counter_by, lesser};
 use std::alloc::{AllocError, Global};
 use timers::cap;
-use types::{Ballot, Given, LentBallot, Phase, SharedValues, Statement, Value, Votes};
+use types::{Ballot, Inputs, LentBallot, Phase, SharedValues, Statement, Value, Votes};
 
 /// Raises the ballot to the lowest counter, from its own on, at which those with greater counters do
 /// not block; the cap is the greatest to which it is raised, and a counter above the cap stays. The
@@ -24,16 +24,16 @@ use types::{Ballot, Given, LentBallot, Phase, SharedValues, Statement, Value, Vo
 pub fn raise<S: Sight>(
     alloc: Global,
     sight: &S,
-    given: &Given,
+    inputs: &Inputs,
     draft: &mut Draft<'_>,
 ) -> Result<(), AllocError>
-    ensures { OnOk result (draft.new ≡ after (on_ballot (raise (S.seen sight.now) given.now)) draft.old) }
+    ensures { OnOk result (draft.new ≡ after (on_ballot (raise (S.seen sight.now) inputs.now)) draft.old) }
 {
     let votes = draft.votes();
     let Some(ballot) = &votes.ballot else {
         return Ok(());
     };
-    let counter = counter_after_raise(alloc, sight, given, votes, ballot)?;
+    let counter = counter_after_raise(alloc, sight, inputs, votes, ballot)?;
     if counter == ballot.counter {
         return Ok(());
     }
@@ -46,14 +46,14 @@ pub fn raise<S: Sight>(
 fn counter_after_raise<S: Sight>(
     alloc: Global,
     sight: &S,
-    given: &Given,
+    inputs: &Inputs,
     votes: &Votes,
     ballot: &Ballot,
 ) -> Result<u32, AllocError>
-    ensures { IfOk result (λ n. n ≡ raised_counter (S.seen sight.now) given.now ballot.now votes.now) }
+    ensures { IfOk result (λ n. n ≡ raised_counter (S.seen sight.now) inputs.now ballot.now votes.now) }
 {
     let position = own_position(votes)?;
-    let most = cap(given.fired);
+    let most = cap(inputs.ballot_timeouts);
     let counter = counter_to_raise_to(alloc, sight, &position, ballot.counter, most)?;
     Ok(counter)
 }
@@ -176,7 +176,7 @@ fn value_once_raised<'a>(votes: &'a Votes, value: &'a Value) -> &'a Value
 {
     match votes.phase {
         Phase::Preparing => value_or(
-            &votes.high,
+            &votes.confirmed_prepared,
             known_or(combine(&votes.confirms), value_or(&votes.prepared, value)),
         ),
         Phase::Committing | Phase::Externalized => value,

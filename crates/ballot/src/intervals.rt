@@ -118,15 +118,15 @@ pub(crate) struct WidensCommit<'a, S> {
     pub sight: &'a S,
     pub own: &'a Option<Statement>,
     pub value: &'a Value,
-    pub hi: u32,
+    pub high: u32,
 }
 
 impl<'a, S: Sight> Check for WidensCommit<'a, S> {
-    ghost holds = { λ s t. same_value t.value s.value.now && nat_lt s.hi t.counter && interval_accepted (S.seen s.sight.now) s.own.now t.value t.counter t.counter };
+    ghost holds = { λ s t. same_value t.value s.value.now && nat_lt s.high t.counter && interval_accepted (S.seen s.sight.now) s.own.now t.value t.counter t.counter };
 
     fn check(&self, alloc: Global, candidate: &LentBallot) -> Result<bool, AllocError> {
         let end = candidate.counter();
-        if *candidate.value() == *self.value && self.hi < end {
+        if *candidate.value() == *self.value && self.high < end {
             is_interval_accepted(alloc, self.sight, self.own, candidate, end)
         } else {
             Ok(false)

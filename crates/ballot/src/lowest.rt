@@ -21,7 +21,7 @@ pub(crate) fn lowest_of<'a, C: Candidates, T: Check>(
 {
     let mut least = end.counter;
     let mut bound = LentBallot::of(end);
-    while let Some(next) = candidates.next(&Some(bound.again())) {
+    while let Some(next) = candidates.next(&Some(bound.reborrow())) {
         if *next.value() == end.value && test.check(alloc, &next)? {
             least = next.counter();
         }

@@ -28,10 +28,10 @@ pub fn position<'a>(votes: &'a Votes) -> Option<LentStatement<'a>>
         }
         Phase::Committing => {
             let prepared = counter_of(&votes.prepared);
-            LentStatement::commit(lent, (prepared, votes.hi, votes.lo))
+            LentStatement::commit(lent, (prepared, votes.high, votes.low))
         }
         Phase::Externalized => {
-            LentStatement::externalize(LentBallot::at(votes.lo, &ballot.value), votes.hi)
+            LentStatement::externalize(LentBallot::at(votes.low, &ballot.value), votes.high)
         }
     })
 }
@@ -59,11 +59,11 @@ fn lent_of<'a>(ballot: &'a Option<Ballot>) -> Option<LentBallot<'a>>
 pub(crate) fn high_counter(votes: &Votes, ballot: &Ballot) -> u32
     ensures { result ≡ high_counter votes.now ballot.now }
 {
-    match &votes.high {
+    match &votes.confirmed_prepared {
         None => 0,
-        Some(high) => {
-            if high.value == ballot.value {
-                high.counter
+        Some(confirmed_prepared) => {
+            if confirmed_prepared.value == ballot.value {
+                confirmed_prepared.counter
             } else {
                 0
             }

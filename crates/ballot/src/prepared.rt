@@ -8,7 +8,7 @@ ghost use Rattle.types.specs.Votes.{same_value};
 ghost use Rattle.drafts.specs.Drafted.{after};
 ghost use Rattle.protocol.specs.Candidates.{greatest, named};
 ghost use Rattle.protocol.specs.States.{Under, below};
-ghost use Rattle.protocol.specs.Balloting.{aborted_by, accept_prepared, chosen, cleared, confirm_prepared, follow_high, is_aborted, is_accepted, is_confirmed, is_overtaken, may_be_prepared, raise_high, set_commit};
+ghost use Rattle.protocol.specs.Balloting.{aborted_by, accept_prepared, chosen, cleared, confirm_prepared, follow_confirmed_prepared, is_aborted, is_accepted, is_confirmed, is_overtaken, may_be_prepared, raise_confirmed_prepared, set_commit};
 ghost use Rattle.protocol.specs.Passes.{in_prepare, on_ballot};
 
 use crate::checks::{MayBePrepared, PrepareAccepted, PrepareConfirmed};
@@ -97,7 +97,7 @@ fn first_kept(old: &Ballot, new: &Ballot) -> u32
 /// whose commit is voted for, in this order; for [`types::Phase::Preparing`] (after the Stellar
 /// Consensus Protocol draft; that the ballot follows is this host's profile). Without a ballot nothing
 /// changes.
-#[tactic(auto, unfolding(protocol::specs::Balloting::confirm_prepared, protocol::specs::Balloting::raise_high))]
+#[tactic(auto, unfolding(protocol::specs::Balloting::confirm_prepared, protocol::specs::Balloting::raise_confirmed_prepared))]
 pub fn confirm_prepared<S: Sight>(
     alloc: Global,
     sight: &S,
@@ -112,7 +112,7 @@ pub fn confirm_prepared<S: Sight>(
 }
 
 /// The same in [`types::Phase::Preparing`].
-#[tactic(auto, unfolding(protocol::specs::Balloting::confirm_prepared, protocol::specs::Balloting::raise_high))]
+#[tactic(auto, unfolding(protocol::specs::Balloting::confirm_prepared, protocol::specs::Balloting::raise_confirmed_prepared))]
 fn confirm_on_ballot<S: Sight>(
     alloc: Global,
     sight: &S,
@@ -123,20 +123,24 @@ fn confirm_on_ballot<S: Sight>(
     let Some(_) = &draft.votes().ballot else {
         return Ok(());
     };
-    raise_high(alloc, sight, draft)?;
-    follow_high(draft)?;
+    raise_confirmed_prepared(alloc, sight, draft)?;
+    follow_confirmed_prepared(draft)?;
     set_commit(draft)
 }
 
 /// The highest confirmed ballot becomes the greatest of itself and the named ballots whose prepare is
 /// confirmed.
-#[tactic(auto, unfolding(protocol::specs::Balloting::raise_high))]
-fn raise_high<S: Sight>(alloc: Global, sight: &S, draft: &mut Draft<'_>) -> Result<(), AllocError>
-    ensures { OnOk result (draft.new ≡ after (raise_high (S.seen sight.now)) draft.old) }
+#[tactic(auto, unfolding(protocol::specs::Balloting::raise_confirmed_prepared))]
+fn raise_confirmed_prepared<S: Sight>(
+    alloc: Global,
+    sight: &S,
+    draft: &mut Draft<'_>,
+) -> Result<(), AllocError>
+    ensures { OnOk result (draft.new ≡ after (raise_confirmed_prepared (S.seen sight.now)) draft.old) }
 {
     match higher_confirmed(alloc, sight, draft.votes())? {
         None => Ok(()),
-        Some(high) => draft.set_high(high),
+        Some(confirmed_prepared) => draft.set_confirmed_prepared(confirmed_prepared),
     }
 }
 
@@ -146,31 +150,33 @@ fn higher_confirmed<'a, S: Sight>(
     sight: &'a S,
     votes: &'a Votes,
 ) -> Result<Option<Ballot>, AllocError>
-    ensures { IfOk result (λ o. option_or o votes.now.high ≡ greatest votes.now.high (filter (is_confirmed (S.seen sight.now) votes.now) (named (S.seen sight.now) votes.now))) }
+    ensures { IfOk result (λ o. option_or o votes.now.confirmed_prepared ≡ greatest votes.now.confirmed_prepared (filter (is_confirmed (S.seen sight.now) votes.now) (named (S.seen sight.now) votes.now))) }
 {
     let own = own_position(votes)?;
     let named = Named { sight, own: &own };
     let check = PrepareConfirmed { sight, own: &own };
-    greatest_above(alloc, &named, &check, &votes.high)
+    greatest_above(alloc, &named, &check, &votes.confirmed_prepared)
 }
 
 /// The ballot becomes the highest confirmed one where that is above it.
-fn follow_high(draft: &mut Draft<'_>) -> Result<(), AllocError>
-    ensures { OnOk result (draft.new ≡ after (on_ballot follow_high) draft.old) }
+fn follow_confirmed_prepared(draft: &mut Draft<'_>) -> Result<(), AllocError>
+    ensures { OnOk result (draft.new ≡ after (on_ballot follow_confirmed_prepared) draft.old) }
 {
     match high_above_ballot(draft.votes())? {
         None => Ok(()),
-        Some(high) => draft.set_ballot(high),
+        Some(confirmed_prepared) => draft.set_ballot(confirmed_prepared),
     }
 }
 
 /// The highest confirmed ballot, where it is above the ballot.
-#[tactic(auto, unfolding(protocol::specs::Balloting::follow_high))]
+#[tactic(auto, unfolding(protocol::specs::Balloting::follow_confirmed_prepared))]
 fn high_above_ballot(votes: &Votes) -> Result<Option<Ballot>, AllocError>
-    ensures { IfOk result (λ o. record votes.now { ballot = option_or o votes.now.ballot } ≡ on_ballot follow_high votes.now) }
+    ensures { IfOk result (λ o. record votes.now { ballot = option_or o votes.now.ballot } ≡ on_ballot follow_confirmed_prepared votes.now) }
 {
-    match (&votes.ballot, &votes.high) {
-        (Some(ballot), Some(high)) if *ballot < *high => Ok(Some(high.try_copy()?)),
+    match (&votes.ballot, &votes.confirmed_prepared) {
+        (Some(ballot), Some(confirmed_prepared)) if *ballot < *confirmed_prepared => Ok(Some(
+            confirmed_prepared.try_copy()?,
+        )),
         _ => Ok(None),
     }
 }

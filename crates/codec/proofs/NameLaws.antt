@@ -2,6 +2,7 @@
 use Rattle.std.proofs.Common.{◌≡◌, ℕ, append_assoc, ◌+◌, ◌*◌, ◌/◌, ◌%◌, ◌^◌, ◌<◌, List, ◌++◌, refl, ap, sym, ◌∙◌, subst, arith}
 use Rattle.std.specs.Int.{w64, to_be_bytes}
 use Rattle.types.specs.Trees.{IsName}
+use Rattle.types.proofs.NameWords.{first_word, second_word, third_word, fourth_word}
 use Rattle.codec.specs.Formats.{NoFault, ValidThen}
 use Rattle.codec.specs.Steps.{number_at}
 use Rattle.codec.specs.Spelling.{name}
@@ -12,18 +13,6 @@ use Rattle.codec.proofs.FormatLaws.{ValidAs, Laws, Laws-quiet, Laws-as, Laws-whe
 
 pub Laws-long : Laws (number_at w64) (to_be_bytes w64) IsLong NoFault
 Laws-long = Laws-number w64 (2 ^ 64) wide64
-
-first_word : (a b c d : ℕ) → b < 2 ^ 64 → c < 2 ^ 64 → d < 2 ^ 64 → (a * 2 ^ 192 + b * 2 ^ 128 + c * 2 ^ 64 + d) / 2 ^ 192 ≡ a
-first_word a b c d g h k = omega arith
-
-second_word : (a b c d : ℕ) → b < 2 ^ 64 → c < 2 ^ 64 → d < 2 ^ 64 → (a * 2 ^ 192 + b * 2 ^ 128 + c * 2 ^ 64 + d) / 2 ^ 128 % 2 ^ 64 ≡ b
-second_word a b c d g h k = omega arith
-
-third_word : (a b c d : ℕ) → b < 2 ^ 64 → c < 2 ^ 64 → d < 2 ^ 64 → (a * 2 ^ 192 + b * 2 ^ 128 + c * 2 ^ 64 + d) / 2 ^ 64 % 2 ^ 64 ≡ c
-third_word a b c d g h k = omega arith
-
-fourth_word : (a b c d : ℕ) → b < 2 ^ 64 → c < 2 ^ 64 → d < 2 ^ 64 → (a * 2 ^ 192 + b * 2 ^ 128 + c * 2 ^ 64 + d) % 2 ^ 64 ≡ d
-fourth_word a b c d g h k = omega arith
 
 -- the bytes of a name that is made of four words are those of the words
 pub name_text : (a b c d : ℕ) → b < 2 ^ 64 → c < 2 ^ 64 → d < 2 ^ 64 → name (a * 2 ^ 192 + b * 2 ^ 128 + c * 2 ^ 64 + d) ≡ to_be_bytes w64 a ++ (to_be_bytes w64 b ++ (to_be_bytes w64 c ++ to_be_bytes w64 d))

@@ -141,13 +141,13 @@ impl<'a> Draft<'a> {
     }
 
     /// This is the highest ballot that the node confirms as prepared.
-    pub fn set_high(&mut self, high: Ballot) -> Result<(), AllocError>
-        ensures ok { OnOk result (self.new ≡ after (λ w. record w { high = Some high }) self.old) }
+    pub fn set_confirmed_prepared(&mut self, confirmed_prepared: Ballot) -> Result<(), AllocError>
+        ensures ok { OnOk result (self.new ≡ after (λ w. record w { confirmed_prepared = Some confirmed_prepared }) self.old) }
         ensures err { OnErr result (self.new ≡ self.old) }
     {
         copy_once(&mut self.own, self.lent)?;
         if let Some(own) = &mut self.own {
-            own.high = Some(high);
+            own.confirmed_prepared = Some(confirmed_prepared);
         }
         Ok(())
     }
@@ -166,14 +166,14 @@ impl<'a> Draft<'a> {
 
     /// This is the interval of counters that is accepted, or confirmed, as committed: its least and its
     /// greatest counter.
-    pub fn set_interval(&mut self, lo: u32, hi: u32) -> Result<(), AllocError>
-        ensures ok { OnOk result (self.new ≡ after (λ w. record w { lo = lo; hi = hi }) self.old) }
+    pub fn set_interval(&mut self, low: u32, high: u32) -> Result<(), AllocError>
+        ensures ok { OnOk result (self.new ≡ after (λ w. record w { low = low; high = high }) self.old) }
         ensures err { OnErr result (self.new ≡ self.old) }
     {
         copy_once(&mut self.own, self.lent)?;
         if let Some(own) = &mut self.own {
-            own.lo = lo;
-            own.hi = hi;
+            own.low = low;
+            own.high = high;
         }
         Ok(())
     }

@@ -59,7 +59,7 @@ impl<S: Places> Archive<S> {
     }
 
     /// The same once more, as for another table. It takes no memory.
-    pub fn again(&self, filed: &Filed) -> Filed
+    pub fn copy_of(&self, filed: &Filed) -> Filed
         requires { IsFiled self.now filed.now }
         ensures { result ≡ filed.now }
     {

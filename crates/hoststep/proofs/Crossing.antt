@@ -3,7 +3,7 @@ use denote.RattleType.{RattleType}
 use denote.Param.Send.{IsSend, IsSync, sendable}
 use Rattle.std.proofs.Crossing.{crosses}
 use Rattle.std.proofs.MapsCrossing.{crosses as maps}
-use Rattle.types.proofs.state.Given.TheSendSync as given
+use Rattle.types.proofs.state.Inputs.TheSendSync as given
 use Rattle.types.proofs.state.Votes.TheSendSync as votes
 use Rattle.types.proofs.bytes.Bytes.TheSendSync as bytes
 use Rattle.types.proofs.value.Value.TheSendSync as value

@@ -341,7 +341,7 @@ fn copy_of_rows<S: envstore::Places>(
 {
     let mut copies = Vec::new(alloc);
     for row in rows {
-        copies.push(archive.again(row))?;
+        copies.push(archive.copy_of(row))?;
     }
     Ok(copies)
 }

@@ -31,7 +31,7 @@ pub fn leader(slot: u64, round: u32, node: &NodeId, slices: &Nested) -> NodeId
 {
     let draw = Draw { slot, round };
     let own = Candidate::new(draw, node);
-    best_in(draw, slices.set(), Weight::whole(), own).node
+    best_in(draw, slices.set(), Weight::one(), own).node
 }
 
 /// The best of a candidate and of the neighbours among the names of a set that weighs so much.

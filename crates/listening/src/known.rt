@@ -112,13 +112,13 @@ pub(crate) fn put_row<S: Places>(
     // What memory the region wants, it wants before the table changes.
     let effect = effect_of(alloc, configured, known, table, &row);
     let FiledRow { archive, envelope } = row;
-    let again = archive.again(&envelope);
+    let copy = archive.copy_of(&envelope);
     let put = table.put(archive, envelope);
     if is_put(&put) {
         apply(known, effect);
         let heard = HeardRow {
             archive,
-            envelope: &again,
+            envelope: &copy,
             put: &put,
         };
         hear(alloc, known, configured, table, heard);

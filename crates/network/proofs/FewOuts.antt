@@ -60,14 +60,14 @@ few-given old new =
     (joined 3 1 1 1 ((round ++ armed) ++ nominated) voted
     (joined 2 0 1 1 (round ++ armed) nominated
     (joined 1 0 1 0 round armed
-    (few-round (not (new.given.round == old.given.round) && is_none new.votes.high) new.given.round)
+    (few-round (not (new.inputs.round == old.inputs.round) && is_none new.votes.confirmed_prepared) new.inputs.round)
     (few-armed (not (new.votes.armed == old.votes.armed) && (new.votes.armed == counter_of new.votes.ballot) && not (is_externalized new.votes.phase)) new.votes.armed))
     (few-sent new (sent_nomination old.votes) (sent_nomination new.votes)))
     (few-sent new (sent_vote old.votes) (sent_vote new.votes)))
     (few-decided (is_externalized new.votes.phase && not (is_externalized old.votes.phase)) new.votes.ballot)
   where
     round : List Out
-    round = when (not (new.given.round == old.given.round) && is_none new.votes.high) (ArmNomination new.given.round)
+    round = when (not (new.inputs.round == old.inputs.round) && is_none new.votes.confirmed_prepared) (ArmNomination new.inputs.round)
 
     armed : List Out
     armed = when (not (new.votes.armed == old.votes.armed) && (new.votes.armed == counter_of new.votes.ballot) && not (is_externalized new.votes.phase)) (ArmBallot new.votes.armed)

@@ -237,7 +237,7 @@ fn hand<S: Shelf>(
     ensures kept { Keeps archive.old archive.new }
 {
     let delivered = archive.put(envelope)?;
-    let event = FiledEvent::Take(archive.again(&delivered));
+    let event = FiledEvent::Take(archive.copy_of(&delivered));
     let applied = act(archive, slots, spot, event, terms)?;
     Ok(Applied {
         outs: applied.outs,

@@ -88,7 +88,7 @@ impl<S: Shelf> Network<S> {
             deed: Deed::Act {
                 slot_at,
                 host_at,
-                event: FiledEvent::Take(self.archive.again(emitted)),
+                event: FiledEvent::Take(self.archive.copy_of(emitted)),
             },
             drawn,
             size: 0,

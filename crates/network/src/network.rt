@@ -78,11 +78,11 @@ impl<S: Shelf> Network<S> {
     }
 
     /// The same place of the archive once more. It takes no memory.
-    pub fn again(&self, filed: &Filed) -> Filed
+    pub fn copy_of(&self, filed: &Filed) -> Filed
         requires { IsFiled self.now.archive filed.now }
         ensures { result ≡ filed.now }
     {
-        self.archive.again(filed)
+        self.archive.copy_of(filed)
     }
 
     /// The slices of a hosted node at an open slot, as they are now; `None` where the slot is not open, and

@@ -3,7 +3,7 @@
 ghost use Rattle.std.specs.Prelude.{◌≡◌, ◌++◌, [], IfOk, IfSome, List, OnErr, OnOk, Some, option_map};
 ghost use Rattle.types.specs.Statements.{Sent};
 ghost use Rattle.envstore.specs.Archives.{AreFiled, IsFiled, Keeps, sent_of, sents_of};
-ghost use Rattle.protocol.specs.Networks.{emissions, has_input, moved};
+ghost use Rattle.protocol.specs.Networks.{emissions, has_proposal, moved};
 ghost use Rattle.protocol.specs.Nodes.{fresh, step};
 ghost use Rattle.network.specs.Marks.{numbered};
 ghost use Rattle.slot.specs.Filings.{AreFiledOuts, IsFiledEvent, event_of};
@@ -59,10 +59,10 @@ impl Place {
     }
 
     /// Whether the node has been told to propose a value.
-    pub(crate) fn has_input(&self) -> bool
-        ensures { result ≡ has_input (Some (place_in self.now)) }
+    pub(crate) fn has_proposal(&self) -> bool
+        ensures { result ≡ has_proposal (Some (place_in self.now)) }
     {
-        self.node.given().input.is_some()
+        self.node.inputs().proposal.is_some()
     }
 
     /// The slices of the node, as they are now.

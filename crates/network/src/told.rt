@@ -232,7 +232,7 @@ fn tell_emission<S: Shelf>(
     let kind = archive.read(filed).body().kind();
     let place = emitted.len();
     let mark = note(places, kind, place);
-    emitted.push_reserved(archive.again(filed));
+    emitted.push_reserved(archive.copy_of(filed));
     marks.push_reserved(mark);
 }
 

@@ -8,14 +8,14 @@ ghost use Rattle.types.specs.Nominations.{most_nominated};
 ghost use Rattle.types.specs.declared.kind.Kind.{Kind};
 ghost use Rattle.protocol.specs.Candidates.{all_with, as_set, values_by};
 ghost use Rattle.protocol.specs.Sets.{among};
-ghost use Rattle.protocol.specs.Nominating.{accept_values, confirm_values, echo, nominate, own_input};
+ghost use Rattle.protocol.specs.Nominating.{accept_values, confirm_values, echo, nominate, own_proposal};
 
 use crate::choosing::{IsNew, choose, larger_set, with_all};
 use crate::voting::{IsConfirmed, IsNewlyAccepted};
 use drafts::Draft;
 use fedvote::Sight;
 use std::alloc::{AllocError, Global};
-use types::{Given, MAX_NOMINATED, NodeId, SharedValues, Value, Values, Votes};
+use types::{Inputs, MAX_NOMINATED, NodeId, SharedValues, Value, Values, Votes};
 
 /// The rules of nomination, in order, each with what the one before it made; while no ballot is
 /// confirmed as prepared (after the Stellar Consensus Protocol draft). An error says that memory is
@@ -25,15 +25,15 @@ pub fn nominate<S: Sight>(
     alloc: Global,
     own: &NodeId,
     sight: &S,
-    given: &Given,
+    inputs: &Inputs,
     draft: &mut Draft<'_>,
 ) -> Result<(), AllocError>
-    ensures { OnOk result (draft.new ≡ after (nominate own.now (S.seen sight.now) given.now) draft.old) }
+    ensures { OnOk result (draft.new ≡ after (nominate own.now (S.seen sight.now) inputs.now) draft.old) }
 {
-    if draft.votes().high.is_some() {
+    if draft.votes().confirmed_prepared.is_some() {
         return Ok(());
     }
-    echo(alloc, own, sight, given, draft)?;
+    echo(alloc, own, sight, inputs, draft)?;
     accept_values(alloc, sight, draft)?;
     confirm_values(alloc, sight, draft)
 }
@@ -44,12 +44,12 @@ fn echo<S: Sight>(
     alloc: Global,
     own: &NodeId,
     sight: &S,
-    given: &Given,
+    inputs: &Inputs,
     draft: &mut Draft<'_>,
 ) -> Result<(), AllocError>
-    ensures { OnOk result (draft.new ≡ after (echo own.now (S.seen sight.now) given.now) draft.old) }
+    ensures { OnOk result (draft.new ≡ after (echo own.now (S.seen sight.now) inputs.now) draft.old) }
 {
-    match values_to_vote_for(alloc, own, sight, given, draft.votes())? {
+    match values_to_vote_for(alloc, own, sight, inputs, draft.votes())? {
         None => Ok(()),
         Some(voted) => draft.set_voted(voted),
     }
@@ -61,15 +61,15 @@ fn values_to_vote_for<S: Sight>(
     alloc: Global,
     own: &NodeId,
     sight: &S,
-    given: &Given,
+    inputs: &Inputs,
     votes: &Votes,
 ) -> Result<Option<SharedValues>, AllocError>
-    ensures { IfOk result (λ o. record votes.now { voted = unwrap_or o votes.now.voted } ≡ echo own.now (S.seen sight.now) given.now votes.now) }
+    ensures { IfOk result (λ o. record votes.now { voted = unwrap_or o votes.now.voted } ≡ echo own.now (S.seen sight.now) inputs.now votes.now) }
 {
-    if given.round == 0 || !votes.confirms.as_slice().is_empty() {
+    if inputs.round == 0 || !votes.confirms.as_slice().is_empty() {
         return Ok(None);
     }
-    let proposed = proposed_values(alloc, own, sight, given)?;
+    let proposed = proposed_values(alloc, own, sight, inputs)?;
     let is_new = IsNew { set: &votes.voted };
     let new = choose(alloc, proposed.as_slice(), room_in(&votes.voted), &is_new)?;
     let larger = larger_set(alloc, &votes.voted, new.as_slice())?;
@@ -153,33 +153,33 @@ fn proposed_values<S: Sight>(
     alloc: Global,
     own: &NodeId,
     sight: &S,
-    given: &Given,
+    inputs: &Inputs,
 ) -> Result<Values, AllocError>
-    ensures { IfOk result (λ v. v ≡ as_set (flat_map values_by (S.seen sight.now).led ++ own_input own.now given.now)) }
+    ensures { IfOk result (λ v. v ≡ as_set (flat_map values_by (S.seen sight.now).led ++ own_proposal own.now inputs.now)) }
 {
     let mut proposed = sight.led_values(alloc)?;
-    if let Some(input) = own_input(own, given) {
-        proposed.insert(input.try_copy()?)?;
+    if let Some(proposal) = own_proposal(own, inputs) {
+        proposed.insert(proposal.try_copy()?)?;
     }
     Ok(proposed)
 }
 
 /// The node's own input, where it is a leader.
-fn own_input<'a>(own: &NodeId, given: &'a Given) -> Option<&'a Value>
-    ensures { option_to_list (option_map (λ v. v.now) result) ≡ own_input own.now given.now }
+fn own_proposal<'a>(own: &NodeId, inputs: &'a Inputs) -> Option<&'a Value>
+    ensures { option_to_list (option_map (λ v. v.now) result) ≡ own_proposal own.now inputs.now }
 {
-    if leads(own, given) {
-        given.input.as_ref()
+    if leads(own, inputs) {
+        inputs.proposal.as_ref()
     } else {
         None
     }
 }
 
 /// Whether a node is among the leaders of the rounds so far. It takes no memory.
-pub fn leads(node: &NodeId, given: &Given) -> bool
-    ensures { result ≡ among given.now.leaders node.now }
+pub fn leads(node: &NodeId, inputs: &Inputs) -> bool
+    ensures { result ≡ among inputs.now.leaders node.now }
 {
-    given
+    inputs
         .leaders
         .as_slice()
         .iter()

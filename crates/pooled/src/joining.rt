@@ -86,12 +86,12 @@ pub fn open_by<R: Threads + Wait + Sync + Send + Copy + Drop>(
         ensures { IfOk result (λ opened. AreReady high.seats high.opens.items high.configs.items opened.items) }
     { open_by(rt, alloc, high, more) };
     let (first, others) = thread::join(rt, open_low, open_high);
-    let all = both(first?, others?)?;
+    let all = concat(first?, others?)?;
     Ok(all)
 }
 
 /// Some networks, and then others.
-fn both<R: Wait + Drop>(
+fn concat<R: Wait + Drop>(
     mut first: Vec<Opened<R>>,
     mut others: Vec<Opened<R>>,
 ) -> Result<Vec<Opened<R>>, AllocError>

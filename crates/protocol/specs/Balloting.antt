@@ -25,12 +25,12 @@ prepare_confirmed seen own t = confirmed seen Kind.Ballot own (λ s. accepts_pre
 
 -- commit of the value on the whole interval is accepted
 abbrev pub interval_accepted : Seen → Option Statement → List ℕ → ℕ → ℕ → Bool
-interval_accepted seen own x lo hi =
-    accepted seen Kind.Ballot own (λ s. votes_or_accepts_ends s x lo hi) (λ s. accepts_ends s x lo hi)
+interval_accepted seen own x low high =
+    accepted seen Kind.Ballot own (λ s. votes_or_accepts_ends s x low high) (λ s. accepts_ends s x low high)
 
 -- commit of the value on the whole interval is confirmed
 abbrev pub interval_confirmed : Seen → Option Statement → List ℕ → ℕ → ℕ → Bool
-interval_confirmed seen own x lo hi = confirmed seen Kind.Ballot own (λ s. accepts_ends s x lo hi)
+interval_confirmed seen own x low high = confirmed seen Kind.Ballot own (λ s. accepts_ends s x low high)
 
 -- ---- the same by a node with these votes, at this moment
 -- prepare of the ballot is accepted
@@ -43,11 +43,11 @@ is_confirmed seen w t = prepare_confirmed seen (position w) t
 
 -- commit of the value on the whole interval is accepted
 abbrev pub commit_accepted : Seen → Votes → List ℕ → ℕ → ℕ → Bool
-commit_accepted seen w x lo hi = interval_accepted seen (position w) x lo hi
+commit_accepted seen w x low high = interval_accepted seen (position w) x low high
 
 -- commit of the value on the whole interval is confirmed
 abbrev pub commit_confirmed : Seen → Votes → List ℕ → ℕ → ℕ → Bool
-commit_confirmed seen w x lo hi = interval_confirmed seen (position w) x lo hi
+commit_confirmed seen w x low high = interval_confirmed seen (position w) x low high
 
 -- ---- the first ballot
 -- Start, without a ballot: counter 1 with the combined confirmed value; where nothing is confirmed, the greatest named
@@ -90,8 +90,8 @@ accept_prepared seen b w =
 
 -- ---- confirmed as prepared, in PREPARE
 -- the greatest of the highest confirmed ballot and the named ballots whose prepare is confirmed
-unfoldable pub raise_high : Seen → Votes → Votes
-raise_high seen w = record w { high = greatest w.high (filter (is_confirmed seen w) (named seen w)) }
+unfoldable pub raise_confirmed_prepared : Seen → Votes → Votes
+raise_confirmed_prepared seen w = record w { confirmed_prepared = greatest w.confirmed_prepared (filter (is_confirmed seen w) (named seen w)) }
 
 -- the ballot is never below the highest confirmed one
 abbrev pub at_least : Option Ballot → Ballot → Ballot
@@ -99,8 +99,8 @@ at_least None b = b
 at_least (Some h) b = if below b h then h else b
 
 -- the ballot becomes the highest confirmed one where that is above it
-unfoldable pub follow_high : Ballot → Votes → Votes
-follow_high b w = record w { ballot = Some (at_least w.high b) }
+unfoldable pub follow_confirmed_prepared : Ballot → Votes → Votes
+follow_confirmed_prepared b w = record w { ballot = Some (at_least w.confirmed_prepared b) }
 
 -- the highest accepted ballot is above this one and of another value
 abbrev pub is_overtaken : Option Ballot → Ballot → Bool
@@ -128,12 +128,12 @@ set_commit w = record w { commit = chosen w w.ballot (cleared w w.commit) }
 
 -- Confirm prepared: the highest confirmed ballot, the ballot, and the ballot whose commit is voted for, in this order.
 unfoldable pub confirm_prepared : Seen → Ballot → Votes → Votes
-confirm_prepared seen b w = set_commit (follow_high b (raise_high seen w))
+confirm_prepared seen b w = set_commit (follow_confirmed_prepared b (raise_confirmed_prepared seen w))
 
 -- ---- accepted as committed
 -- the least commit counter of the value from which on the interval up to hi is accepted
 unfoldable pub accepted_from : Seen → Votes → Ballot → ℕ
-accepted_from seen w t = lowest (λ lo. commit_accepted seen w t.value lo t.counter) t.value t.counter (commits seen w)
+accepted_from seen w t = lowest (λ low. commit_accepted seen w t.value low t.counter) t.value t.counter (commits seen w)
 
 -- in PREPARE: the greatest counter, over all values, that is accepted as committed, confirmed as prepared and not
 -- aborted
@@ -147,7 +147,7 @@ first_committed seen w =
 unfoldable pub next_committed : Seen → Ballot → Votes → Option Ballot
 next_committed seen b w =
     greatest None
-    (filter (λ t. same_value t.value b.value && nat_lt w.hi t.counter
+    (filter (λ t. same_value t.value b.value && nat_lt w.high t.counter
     && commit_accepted seen w t.value t.counter t.counter) (commits seen w))
 
 -- the phase becomes COMMIT, with the interval, and nothing stays below its end
@@ -157,9 +157,9 @@ enter_commit seen b w (Some t) = record w {
   phase = Committing;
   ballot = Some (ballot_at (max b.counter t.counter) t.value);
   prepared = greatest w.prepared (t ∷ []);
-  high = greatest w.high (t ∷ []);
-  lo = accepted_from seen w t;
-  hi = t.counter;
+  confirmed_prepared = greatest w.confirmed_prepared (t ∷ []);
+  low = accepted_from seen w t;
+  high = t.counter;
 }
 
 -- in COMMIT a greater end moves the interval, the ballot's counter and the highest accepted ballot
@@ -168,8 +168,8 @@ widen_commit seen b w None = w
 widen_commit seen b w (Some t) = record w {
   ballot = Some (ballot_at (max b.counter t.counter) t.value);
   prepared = greatest w.prepared (t ∷ []);
-  lo = accepted_from seen w t;
-  hi = t.counter;
+  low = accepted_from seen w t;
+  high = t.counter;
 }
 
 -- Accept commit, by the phase in which the rule begins.
@@ -190,8 +190,8 @@ unfoldable pub externalize : Seen → Votes → Option Ballot → Votes
 externalize seen w None = w
 externalize seen w (Some t) = record w {
   phase = Externalized;
-  lo = lowest (λ lo. commit_confirmed seen w t.value lo t.counter) t.value t.counter (commits seen w);
-  hi = t.counter;
+  low = lowest (λ low. commit_confirmed seen w t.value low t.counter) t.value t.counter (commits seen w);
+  high = t.counter;
 }
 
 -- Confirm commit, in COMMIT.

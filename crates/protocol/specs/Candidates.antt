@@ -63,9 +63,9 @@ greatest (Some a) (b ∷ bs) = greatest (Some (if below a b then b else a)) bs
 
 -- the least counter of this value from which the test holds; lo itself, where none below it does
 unfoldable pub lowest : (ℕ → Bool) → List ℕ → ℕ → List Ballot → ℕ
-lowest test x lo [] = lo
-lowest test x lo (t ∷ ts) =
-    lowest test x (if same_value t.value x && nat_lt t.counter lo && test t.counter then t.counter else lo) ts
+lowest test x low [] = low
+lowest test x low (t ∷ ts) =
+    lowest test x (if same_value t.value x && nat_lt t.counter low && test t.counter then t.counter else low) ts
 
 -- the least number from n on that passes, or n + fuel where none before it does
 unfoldable pub least_from : ℕ → ℕ → (ℕ → Bool) → ℕ

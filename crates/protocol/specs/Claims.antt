@@ -21,13 +21,13 @@ use Rattle.protocol.specs.Isolation.{closure}
 pub record IsClosedFor (R : Names) (n : Node) : Type 0 where
   pub has : IsTrue (R n.name)
   pub own : IsTrue (within (names n.slices) R)
-  pub leaders : IsTrue (within n.given.leaders R)
+  pub leaders : IsTrue (within n.inputs.leaders R)
   pub rows : IsTrue (list_all (λ e. not (R e.sender) || within (names e.slices) R) n.table)
 
 -- after an event a node gave nothing out, and all is as it was but for rows of senders outside the set
 pub record IsQuiet (R : Names) (old new : Node) (os : List Out) : Type 0 where
   pub outs : os ≡ []
-  pub given : new.given ≡ old.given
+  pub inputs : new.inputs ≡ old.inputs
   pub votes : new.votes ≡ old.votes
   pub rows : (u : ℕ) (k : Kind) → IsTrue (R u) → row new.table u k ≡ row old.table u k
 

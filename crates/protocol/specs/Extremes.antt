@@ -30,15 +30,15 @@ abbrev pub GreatestIsUnique : Type 0
 GreatestIsUnique = (ts : List Ballot) (g h : Ballot) → IsGreatest ts g → IsGreatest ts h → g ≡ h
 
 -- not above lo nor above any candidate of the value that passes; and lo itself or the counter of one
-pub record IsLowest (test : ℕ → Bool) (x : List ℕ) (lo : ℕ) (ts : List Ballot) (n : ℕ) : Type 0 where
-  pub upto : n ≤ lo
+pub record IsLowest (test : ℕ → Bool) (x : List ℕ) (low : ℕ) (ts : List Ballot) (n : ℕ) : Type 0 where
+  pub upto : n ≤ low
   pub below : (t : Ballot) → IsIn t ts → same_value t.value x ≡ true → test t.counter ≡ true → n ≤ t.counter
-  pub from : (n ≡ lo)
+  pub from : (n ≡ low)
       ⊎ ((t : Ballot) × (IsIn t ts × ((same_value t.value x ≡ true) × ((test t.counter ≡ true) × (t.counter ≡ n)))))
 
 -- what the rules call the lowest counter is that
 abbrev pub LowestIsExact : Type 0
-LowestIsExact = (test : ℕ → Bool) (x : List ℕ) (lo : ℕ) (ts : List Ballot) → IsLowest test x lo ts (lowest test x lo ts)
+LowestIsExact = (test : ℕ → Bool) (x : List ℕ) (low : ℕ) (ts : List Ballot) → IsLowest test x low ts (lowest test x low ts)
 
 -- from n on the first number that passes, or n + fuel where none before it does
 pub record IsLeastFrom (test : ℕ → Bool) (fuel n found : ℕ) : Type 0 where

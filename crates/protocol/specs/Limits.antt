@@ -43,7 +43,7 @@ ReachedAreCalm = (n : Node) → Reached n → Calm n
 
 -- of a reached node no more ballot timers have fired than its ballot's counter says
 abbrev pub TimersAreCounted : Type 0
-TimersAreCounted = (n : Node) → Reached n → n.given.fired ≤ counter_of n.votes.ballot
+TimersAreCounted = (n : Node) → Reached n → n.inputs.ballot_timeouts ≤ counter_of n.votes.ballot
 
 -- the nomination and the ballot statement that a reached node sends are well formed
 abbrev pub SendsWellFormed : Type 0

@@ -206,9 +206,9 @@ abbrev pub is_open : Net → ℕ → Bool
 is_open net i = is_some (places_at net.slots i)
 
 -- the node has been told to propose a value
-abbrev pub has_input : Option Place → Bool
-has_input None = false
-has_input (Some p) = is_some p.node.given.input
+abbrev pub has_proposal : Option Place → Bool
+has_proposal None = false
+has_proposal (Some p) = is_some p.node.inputs.proposal
 
 -- a value has 1 to 256 bytes
 abbrev pub is_bad_value : List ℕ → Bool
@@ -245,7 +245,7 @@ tests_on net s (Opens i) =
 tests_on net s (Closes i) = is_open_not net i ∷ is_full net s ∷ []
 tests_on net s (Asks i u x) =
     is_hosted_not net u ∷ is_open_not net i ∷ (is_bad_value x, BadValue) ∷ (
-      has_input (known (places_at net.slots i) u),
+      has_proposal (known (places_at net.slots i) u),
       ProposedAlready,
     ) ∷ is_full net s ∷ []
 tests_on net s (Delivers u size (Fault n)) = is_hosted_not net u ∷ (true, BadEnvelope n) ∷ []

@@ -11,7 +11,7 @@ use Rattle.types.specs.Statements.{Sent}
 use Rattle.protocol.specs.Rows.{with_row, is_taken}
 use Rattle.protocol.specs.Views.{seen}
 use Rattle.types.specs.declared.state.Phase.{Phase}
-use Rattle.types.specs.declared.state.Given.{Given}
+use Rattle.types.specs.declared.state.Inputs.{Inputs}
 use Rattle.types.specs.declared.state.Votes.{Votes}
 use Rattle.protocol.specs.States.{no_votes, counter_of, sent_vote, sent_nomination}
 use Rattle.types.specs.declared.state.Phase.TheVariants.{Preparing, Committing, Externalized}
@@ -26,7 +26,7 @@ pub record Node : Type 0 where
   pub slot : ℕ
   -- those that are configured at this moment
   pub slices : Slices
-  pub given : Given
+  pub inputs : Inputs
   pub votes : Votes
   -- the newest envelope of each sender and kind
   pub table : List Sent
@@ -37,7 +37,7 @@ fresh slot name configured = record {
   name = name;
   slot = slot;
   slices = configured;
-  given = record { input = None; round = 0; leaders = []; fired = 0 };
+  inputs = record { proposal = None; round = 0; leaders = []; ballot_timeouts = 0 };
   votes = no_votes;
   table = [];
 }
@@ -45,7 +45,7 @@ fresh slot name configured = record {
 -- ---- settling
 -- one more pass; its table, and so what it sees, is the same in all passes after one event
 abbrev pub passed : Node → Votes → Votes
-passed n w = pass n.name (seen n.name n.slices n.given.leaders n.table) n.given w
+passed n w = pass n.name (seen n.name n.slices n.inputs.leaders n.table) n.inputs w
 
 -- passes until one changes nothing; none, where each of so many changes something
 unfoldable pub settle : ℕ → (Votes → Votes) → Votes → Option Votes
@@ -65,15 +65,15 @@ is_externalized Externalized = true
 -- the next round begins with its leader; earlier leaders stay
 abbrev pub in_round : Node → ℕ → Node
 in_round n r =
-    record n { given = record n.given { round = r; leaders = n.given.leaders ++ leader n.slot r n.name n.slices ∷ [] } }
+    record n { inputs = record n.inputs { round = r; leaders = n.inputs.leaders ++ leader n.slot r n.name n.slices ∷ [] } }
 
 -- the input is set, and round 1 begins
 abbrev pub proposed : Node → List ℕ → Node
-proposed n x = in_round (record n { given = record n.given { input = Some x } }) 1
+proposed n x = in_round (record n { inputs = record n.inputs { proposal = Some x } }) 1
 
 -- the nomination timer of this number is live
 abbrev pub is_round_live : Node → ℕ → Bool
-is_round_live n r = is_nomination_timer_live r n.given.round (is_some n.votes.high)
+is_round_live n r = is_nomination_timer_live r n.inputs.round (is_some n.votes.confirmed_prepared)
 
 -- the ballot timer of this number is live
 abbrev pub is_counter_live : Node → ℕ → Bool
@@ -87,7 +87,7 @@ bumped w (Some b) = record w { ballot = Some (raised w b (b.counter + 1)) }
 
 -- one more ballot timer has fired, and the ballot is one counter up
 abbrev pub timed_out : Node → Node
-timed_out n = record n { given = record n.given { fired = n.given.fired + 1 }; votes = bumped n.votes n.votes.ballot }
+timed_out n = record n { inputs = record n.inputs { ballot_timeouts = n.inputs.ballot_timeouts + 1 }; votes = bumped n.votes n.votes.ballot }
 
 -- from now on these are the configured slices; all else is as it was, its leaders too
 abbrev pub resliced : Node → Slices → Node
@@ -121,7 +121,7 @@ decided (Some b) = Decided b.value ∷ []
 -- from the node before the event and the node after it, in order
 unfoldable pub outs : Node → Node → List Out
 outs old new =
-    when (not (new.given.round == old.given.round) && is_none new.votes.high) (ArmNomination new.given.round)
+    when (not (new.inputs.round == old.inputs.round) && is_none new.votes.confirmed_prepared) (ArmNomination new.inputs.round)
     ++ when (not (new.votes.armed == old.votes.armed) && (new.votes.armed == counter_of new.votes.ballot)
     && not (is_externalized new.votes.phase)) (ArmBallot new.votes.armed)
     ++ emitted new (sent_nomination old.votes) (sent_nomination new.votes)

@@ -4,21 +4,21 @@ use Rattle.types.specs.declared.kind.Kind.TheVariants.{Nomination}
 use Rattle.types.specs.Votes.{accepts_nominate, votes_or_accepts_nominate}
 use Rattle.protocol.specs.Sets.{among}
 use Rattle.protocol.specs.Views.{Seen, accepted, confirmed}
-use Rattle.types.specs.declared.state.Given.{Given}
+use Rattle.types.specs.declared.state.Inputs.{Inputs}
 use Rattle.types.specs.declared.state.Votes.{Votes}
 use Rattle.protocol.specs.States.{nominated}
 use Rattle.protocol.specs.Candidates.{values_by, all_with, filled}
 
 -- what a leader proposes counts for itself too
-abbrev pub own_input : ℕ → Given → List (List ℕ)
-own_input own g = if among g.leaders own then option_to_list g.input else []
+abbrev pub own_proposal : ℕ → Inputs → List (List ℕ)
+own_proposal own g = if among g.leaders own then option_to_list g.proposal else []
 
 -- Echo: from round 1 on, while nothing is confirmed, the node votes for each value of its leaders' nominations, and for
 -- its own input where it is a leader.
-unfoldable pub echo : ℕ → Seen → Given → Votes → Votes
+unfoldable pub echo : ℕ → Seen → Inputs → Votes → Votes
 echo own seen g w =
     if nat_lt 0 g.round && not (nat_lt 0 (length w.confirms))
-    then record w { voted = filled w.voted (flat_map values_by seen.led ++ own_input own g) }
+    then record w { voted = filled w.voted (flat_map values_by seen.led ++ own_proposal own g) }
     else w
 
 -- nominating the value is accepted
@@ -44,5 +44,5 @@ unfoldable pub confirm_values : Seen → Votes → Votes
 confirm_values seen w = record w { confirms = all_with (filter (is_value_confirmed seen w) w.accepts) w.confirms }
 
 -- The rules of nomination, in order, each with what the one before it made; while no ballot is confirmed as prepared.
-unfoldable pub nominate : ℕ → Seen → Given → Votes → Votes
-nominate own seen g w = if is_none w.high then confirm_values seen (accept_values seen (echo own seen g w)) else w
+unfoldable pub nominate : ℕ → Seen → Inputs → Votes → Votes
+nominate own seen g w = if is_none w.confirmed_prepared then confirm_values seen (accept_values seen (echo own seen g w)) else w

@@ -6,7 +6,7 @@ use Rattle.types.specs.declared.statement.Statement.{Statement}
 use Rattle.types.specs.declared.statement.Statement.TheVariants.{Nominate, Prepare, Commit, Externalize}
 use Rattle.protocol.specs.Views.{Seen, passes}
 use Rattle.types.specs.declared.state.Phase.{Phase}
-use Rattle.types.specs.declared.state.Given.{Given}
+use Rattle.types.specs.declared.state.Inputs.{Inputs}
 use Rattle.types.specs.declared.state.Votes.{Votes}
 use Rattle.protocol.specs.States.{ballot_at, position}
 use Rattle.types.specs.declared.state.Phase.TheVariants.{Preparing, Committing, Externalized}
@@ -36,7 +36,7 @@ known_or (Some y) x = y
 -- the value of a raised ballot in PREPARE: that of the highest confirmed ballot, else the combined confirmed value,
 -- else that of the highest accepted ballot, else its own; in the other phases it stays
 abbrev pub raised_value : Phase → Votes → List ℕ → List ℕ
-raised_value Preparing w x = value_or w.high (known_or (combine w.confirms) (value_or w.prepared x))
+raised_value Preparing w x = value_or w.confirmed_prepared (known_or (combine w.confirms) (value_or w.prepared x))
 raised_value Committing w x = x
 raised_value Externalized w x = x
 
@@ -46,13 +46,13 @@ raised w b n = if n == b.counter then b else ballot_at n (raised_value w.phase w
 
 -- the lowest counter, from the ballot's on, at which those with greater counters do not block, at most the cap, or the
 -- ballot's own where that is above the cap
-unfoldable pub raised_counter : Seen → Given → Ballot → Votes → ℕ
+unfoldable pub raised_counter : Seen → Inputs → Ballot → Votes → ℕ
 raised_counter seen g b w =
-    least_from (cap g.fired - b.counter) b.counter
+    least_from (cap g.ballot_timeouts - b.counter) b.counter
     (λ n. not (seen.blocking Kind.Ballot (passes (counts (n + 1)) (position w)) (counts (n + 1))))
 
 -- Raise: the ballot goes to that counter.
-unfoldable pub raise : Seen → Given → Ballot → Votes → Votes
+unfoldable pub raise : Seen → Inputs → Ballot → Votes → Votes
 raise seen g b w = record w { ballot = Some (raised w b (raised_counter seen g b w)) }
 
 -- Arm: where all members of some quorum that contains the node have counters of at least the ballot's.
@@ -100,25 +100,25 @@ voting seen w1 =
     on_ballot (λ b w. confirm_commit w.phase seen b w) w4
 
 -- the counters: raised first, then armed
-unfoldable pub counting : Seen → Given → Votes → Votes
+unfoldable pub counting : Seen → Inputs → Votes → Votes
 counting seen g w = on_ballot (arm seen) (on_ballot (raise seen g) w)
 
 -- the rules of balloting: the first ballot, voting, and counters unless a value was externalized by then
-abbrev pub balloting : Seen → Given → Votes → Votes
+abbrev pub balloting : Seen → Inputs → Votes → Votes
 balloting seen g w = unless_over (counting seen g) (voting seen (start seen w))
 
 -- all rules: nomination, and then balloting
-unfoldable pub pass_rules : ℕ → Seen → Given → Votes → Votes
+unfoldable pub pass_rules : ℕ → Seen → Inputs → Votes → Votes
 pass_rules own seen g w = balloting seen g (nominate own seen g w)
 
 -- One pass. After EXTERNALIZE none changes anything.
-unfoldable pub pass : ℕ → Seen → Given → Votes → Votes
+unfoldable pub pass : ℕ → Seen → Inputs → Votes → Votes
 pass own seen g w = unless_over (pass_rules own seen g) w
 
 -- The part of a pass that is nomination.
-unfoldable pub nominated_in : ℕ → Seen → Given → Votes → Votes
+unfoldable pub nominated_in : ℕ → Seen → Inputs → Votes → Votes
 nominated_in own seen g w = unless_over (nominate own seen g) w
 
 -- The part of a pass that is balloting.
-unfoldable pub balloted_in : Seen → Given → Votes → Votes
+unfoldable pub balloted_in : Seen → Inputs → Votes → Votes
 balloted_in seen g w = unless_over (balloting seen g) w

@@ -27,7 +27,7 @@ SlicesFollowEvents = (n : Node) → Reached n → (e : NodeEvent) → (step n e)
 pub record IsElseSame (old new : Node) : Type 0 where
   pub name : new.name ≡ old.name
   pub slot : new.slot ≡ old.slot
-  pub given : new.given ≡ old.given
+  pub inputs : new.inputs ≡ old.inputs
   pub table : new.table ≡ old.table
 
 -- beside the slices, new ones change the votes alone

@@ -53,5 +53,5 @@ same_votes u w =
     && same_phase u.phase w.phase
     && same_option same_ballot u.ballot w.ballot && same_option same_ballot u.prepared w.prepared
     && (u.aborted == w.aborted)
-    && same_option same_ballot u.high w.high && same_option same_ballot u.commit w.commit
-    && (u.lo == w.lo) && (u.hi == w.hi) && (u.armed == w.armed)
+    && same_option same_ballot u.confirmed_prepared w.confirmed_prepared && same_option same_ballot u.commit w.commit
+    && (u.low == w.low) && (u.high == w.high) && (u.armed == w.armed)

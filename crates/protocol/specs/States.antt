@@ -20,10 +20,10 @@ no_votes = record {
   ballot = None;
   prepared = None;
   aborted = 0;
-  high = None;
+  confirmed_prepared = None;
   commit = None;
-  lo = 0;
-  hi = 0;
+  low = 0;
+  high = 0;
   armed = 0;
 }
 
@@ -58,7 +58,7 @@ counter_for b (Some h) = if same_value h.value b.value then h.counter else 0
 
 -- the high counter of the ballot
 unfoldable pub high_counter : Votes → Ballot → ℕ
-high_counter w b = counter_for b w.high
+high_counter w b = counter_for b w.confirmed_prepared
 
 -- the counter from which on commit is voted for, where that has the ballot's value and is not above the high counter;
 -- else 0
@@ -73,8 +73,8 @@ commit_counter w b = counter_up_to (high_counter w b) b w.commit
 -- the ballot statement of the state as it is
 unfoldable pub position_in : Phase → Votes → Ballot → Statement
 position_in Preparing w b = Prepare b w.prepared w.aborted (high_counter w b) (commit_counter w b)
-position_in Committing w b = Commit b (counter_of w.prepared) w.hi w.lo
-position_in Externalized w b = Externalize (ballot_at w.lo b.value) w.hi
+position_in Committing w b = Commit b (counter_of w.prepared) w.high w.low
+position_in Externalized w b = Externalize (ballot_at w.low b.value) w.high
 
 -- a node without a ballot has no position
 unfoldable pub position : Votes → Option Statement
@@ -86,8 +86,8 @@ nominated w = Some (Nominate w.voted w.accepts)
 
 -- ---- what is sent
 -- the highest accepted ballot as it is sent: where it is above the ballot, the greatest of its value that is not
-unfoldable pub lowered : Ballot → Ballot → Ballot
-lowered b p =
+unfoldable pub clamped : Ballot → Ballot → Ballot
+clamped b p =
     if below b p
     then (if not (is_gt (bytes_cmp p.value b.value)) then ballot_at b.counter p.value else ballot_at
     (b.counter - 1) p.value)
@@ -96,9 +96,9 @@ lowered b p =
 -- the ballot statement that is sent: in PREPARE nothing in it is above the ballot
 unfoldable pub sent_in : Phase → Votes → Ballot → Statement
 sent_in Preparing w b =
-    Prepare b (option_map (lowered b) w.prepared) (min w.aborted b.counter) (high_counter w b) (commit_counter w b)
-sent_in Committing w b = Commit b (counter_of w.prepared) w.hi w.lo
-sent_in Externalized w b = Externalize (ballot_at w.lo b.value) w.hi
+    Prepare b (option_map (clamped b) w.prepared) (min w.aborted b.counter) (high_counter w b) (commit_counter w b)
+sent_in Committing w b = Commit b (counter_of w.prepared) w.high w.low
+sent_in Externalized w b = Externalize (ballot_at w.low b.value) w.high
 
 -- nothing is sent without a ballot
 unfoldable pub sent_vote : Votes → Option Statement

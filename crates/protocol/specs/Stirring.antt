@@ -6,7 +6,7 @@ use Rattle.types.specs.Statements.{Sent, kind_of}
 use Rattle.types.specs.declared.event.NodeEvent.{NodeEvent}
 use Rattle.types.specs.declared.kind.Kind.{Kind}
 use Rattle.types.specs.declared.kind.Kind.TheVariants.{Nomination}
-use Rattle.types.specs.declared.state.Given.{Given}
+use Rattle.types.specs.declared.state.Inputs.{Inputs}
 use Rattle.types.specs.declared.state.Votes.{Votes}
 use Rattle.protocol.specs.Limits.{Reached}
 use Rattle.protocol.specs.Nodes.{Node, change, most_passes, passed, settle}
@@ -22,19 +22,19 @@ KeepsReach own configured old new = (u : ℕ) → reached own configured new u �
 
 -- the votes after a first pass that made these of those: where it changed something, balloting alone goes on until it
 -- changes nothing
-unfoldable pub settle_after : Seen → Given → Votes → Votes → Option Votes
+unfoldable pub settle_after : Seen → Inputs → Votes → Votes → Option Votes
 settle_after seen g before after = if same_votes after before then Some after else settle 63 (balloted_in seen g) after
 
 -- nomination has its say in the first pass alone
-unfoldable pub settle_all : ℕ → Seen → Given → Votes → Option Votes
+unfoldable pub settle_all : ℕ → Seen → Inputs → Votes → Option Votes
 settle_all own seen g w = settle_after seen g w (pass own seen g w)
 
 -- balloting alone
-unfoldable pub settle_ballots : Seen → Given → Votes → Option Votes
+unfoldable pub settle_ballots : Seen → Inputs → Votes → Option Votes
 settle_ballots seen g w = settle_after seen g w (balloted_in seen g w)
 
 -- balloting only where nomination confirms a value
-unfoldable pub settle_nominations : ℕ → Seen → Given → Votes → Option Votes
+unfoldable pub settle_nominations : ℕ → Seen → Inputs → Votes → Option Votes
 settle_nominations own seen g w =
     let nominated = nominated_in own seen g w in
     if same_values nominated.confirms w.confirms then Some nominated else settle_after seen g w
@@ -42,12 +42,12 @@ settle_nominations own seen g w =
 
 -- what a node sees
 abbrev pub seen_by : Node → Seen
-seen_by n = seen n.name n.slices n.given.leaders n.table
+seen_by n = seen n.name n.slices n.inputs.leaders n.table
 
 -- after every event of a node that events lead to, nomination has its say in the first pass alone
 abbrev pub NominationRestsAfterAPass : Type 0
 NominationRestsAfterAPass = (n : Node) → Reached n → (e : NodeEvent) (m : Node) → change n e ≡ Some m
-    → settle_all m.name (seen_by m) m.given m.votes ≡ settle most_passes (passed m) m.votes
+    → settle_all m.name (seen_by m) m.inputs m.votes ≡ settle most_passes (passed m) m.votes
 
 -- a ballot row by which the node reaches no other nodes stirs balloting alone
 abbrev pub BallotRowsStirBallots : Type 0
@@ -55,7 +55,7 @@ BallotRowsStirBallots =
     (n : Node) → Reached n → (e : Sent) → kind_of e.body ≡ Kind.Ballot
     → KeepsReach n.name n.slices n.table (with_row e n.table)
     → let m = record n { table = with_row e n.table } in
-    settle_ballots (seen_by m) m.given m.votes ≡ settle most_passes (passed m) m.votes
+    settle_ballots (seen_by m) m.inputs m.votes ≡ settle most_passes (passed m) m.votes
 
 -- a nomination row by which the node reaches no other nodes stirs nomination once, and balloting only where that
 -- confirms a value
@@ -64,4 +64,4 @@ NominationRowsStirNomination =
     (n : Node) → Reached n → (e : Sent) → kind_of e.body ≡ Nomination
     → KeepsReach n.name n.slices n.table (with_row e n.table)
     → let m = record n { table = with_row e n.table } in
-    settle_nominations m.name (seen_by m) m.given m.votes ≡ settle most_passes (passed m) m.votes
+    settle_nominations m.name (seen_by m) m.inputs m.votes ≡ settle most_passes (passed m) m.votes

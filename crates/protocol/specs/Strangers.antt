@@ -29,7 +29,7 @@ pub data HasNamed (R : Names) : Node → Type 0 where
 -- the leaders that events gave to a node are in each set that has its name and the names of all slices that it has had;
 -- the names of its slices of the moment would not do, since leaders stay
 abbrev pub LeadersAreNear : Type 0
-LeadersAreNear = (R : Names) (n : Node) → HasNamed R n → IsTrue (within n.given.leaders R)
+LeadersAreNear = (R : Names) (n : Node) → HasNamed R n → IsTrue (within n.inputs.leaders R)
 
 -- such a set, with the names that the rows of senders in the set give, is closed for the node
 abbrev pub HeldIsClosed : Type 0
@@ -40,18 +40,18 @@ HeldIsClosed = (R : Names) (n : Node) → HasNamed R n → HoldsReach n.name n.s
 -- takes an envelope from outside the set, and not from a leader, its table has the row, and nothing else happens.
 abbrev pub OutsidersAddRows : Type 0
 OutsidersAddRows = (R : Names) (n : Node) (e : Sent) → Reached n → HoldsReach n.name n.slices n.table R
-    → IsFalse (R e.sender) → IsFalse (among n.given.leaders e.sender) → IsTrue (is_taken n.table e)
+    → IsFalse (R e.sender) → IsFalse (among n.inputs.leaders e.sender) → IsTrue (is_taken n.table e)
     → step n (Take e) ≡ (record n { table = with_row e n.table }, [])
 
 -- taken or stale, such an envelope makes the node give nothing out, and changes nothing of it but rows of senders
 -- outside the set
 abbrev pub OutsidersAreQuiet : Type 0
 OutsidersAreQuiet = (R : Names) (n : Node) (e : Sent) → Reached n → HoldsReach n.name n.slices n.table R
-    → IsFalse (R e.sender) → IsFalse (among n.given.leaders e.sender)
+    → IsFalse (R e.sender) → IsFalse (among n.inputs.leaders e.sender)
     → IsQuiet R n (step n (Take e)).0 (step n (Take e)).1
 
 -- and so it is where the node does not reach the sender, and the sender is no leader of its
 abbrev pub StrangersAddRows : Type 0
 StrangersAddRows = (n : Node) (reach : List ℕ) (e : Sent) → Reached n → IsReach n.name n.slices n.table reach
-    → IsFalse (among reach e.sender) → IsFalse (among n.given.leaders e.sender) → IsTrue (is_taken n.table e)
+    → IsFalse (among reach e.sender) → IsFalse (among n.inputs.leaders e.sender) → IsTrue (is_taken n.table e)
     → step n (Take e) ≡ (record n { table = with_row e n.table }, [])

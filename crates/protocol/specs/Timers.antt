@@ -24,5 +24,5 @@ is_ballot_timer_live timer armed counter externalized =
 
 -- the counters of others raise a ballot's to at most a thousand more than the ballot timers that have fired, and at
 -- most 4,294,967,295; a ballot timer's own step and the other rules may pass that
-abbrev pub cap : (fired : ℕ) → ℕ
-cap fired = min (1000 + fired) most_counter
+abbrev pub cap : (ballot_timeouts : ℕ) → ℕ
+cap ballot_timeouts = min (1000 + ballot_timeouts) most_counter

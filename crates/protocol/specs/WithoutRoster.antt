@@ -3,7 +3,7 @@
 use Rattle.types.specs.declared.event.Refusal.{Refusal}
 use Rattle.types.specs.declared.event.Refusal.TheVariants.{NoSuchNode, SlotOpenAlready, TooManySlots, BadEnvelope, HostedSender, NotEmitted, JournalFull, BytesFull, BadValue, ProposedAlready}
 use Rattle.std.specs.Prelude.{◌≡◌, Bool, true, not, ◌||◌, ◌+◌, ◌==◌, nat_lt, length, List, [], ◌∷◌, Option, Some, None, is_none}
-use Rattle.protocol.specs.Networks.{Net, Step, Reply, places_at, known, emission, effect, is_hosted, is_open, has_input, is_bad_value, is_hosted_not, is_open_not, first_that, size_of, net_step}
+use Rattle.protocol.specs.Networks.{Net, Step, Reply, places_at, known, emission, effect, is_hosted, is_open, has_proposal, is_bad_value, is_hosted_not, is_open_not, first_that, size_of, net_step}
 use Rattle.protocol.specs.Networks.Reading.{Read, Fault}
 use Rattle.protocol.specs.Networks.Step.{Opens, Closes, Asks, Delivers, Hears, NominationTimes, BallotTimes, Reslices}
 use Rattle.protocol.specs.Networks.Reply.{Done, Refused}
@@ -24,7 +24,7 @@ tests_without net (Opens i) =
 tests_without net (Closes i) = is_open_not net i ∷ is_journal_full net ∷ []
 tests_without net (Asks i u x) =
     is_hosted_not net u ∷ is_open_not net i ∷ (is_bad_value x, BadValue) ∷ (
-      has_input (known (places_at net.slots i) u),
+      has_proposal (known (places_at net.slots i) u),
       ProposedAlready,
     ) ∷ is_journal_full net ∷ []
 tests_without net (Delivers u size (Fault n)) = is_hosted_not net u ∷ (true, BadEnvelope n) ∷ []

@@ -39,8 +39,8 @@ abbrev pub IsGivenAt : Option (ℕ × ℕ) → List Out → Type 0
 IsGivenAt None os = os ≡ []
 IsGivenAt (Some at) os = IsGivenBy at.0 at.1 os
 
-nothing-given : (i u : ℕ) → IsGivenBy i u []
-nothing-given i u = record { from = tt; beside = λ e. refl }
+nothing-inputs : (i u : ℕ) → IsGivenBy i u []
+nothing-inputs i u = record { from = tt; beside = λ e. refl }
 
 -- ---- a node
 
@@ -99,10 +99,10 @@ emits-decision n old new h = go new.phase old.phase new.ballot old.ballot h
     go phase.Externalized phase.Committing (Some b) None h = absurd (cc)
     go phase.Externalized phase.Committing (Some b) (Some c) h = absurd (cc)
 
-outs-given-by : (old new : Node) → IsGivenBy new.slot new.name (outs old new)
+outs-inputs-by : (old new : Node) → IsGivenBy new.slot new.name (outs old new)
 unfolding outs
-outs-given-by old new =
-    let a = when (not (new.given.round == old.given.round) && is_none new.votes.high) (ArmNomination new.given.round) in
+outs-inputs-by old new =
+    let a = when (not (new.inputs.round == old.inputs.round) && is_none new.votes.high) (ArmNomination new.inputs.round) in
     let b = when (not (new.votes.armed == old.votes.armed) && (new.votes.armed == counter_of new.votes.ballot) && not (is_externalized new.votes.phase)) (ArmBallot new.votes.armed) in
     let c = emitted new (sent_nomination old.votes) (sent_nomination new.votes) in
     let d = emitted new (sent_vote old.votes) (sent_vote new.votes) in
@@ -112,7 +112,7 @@ outs-given-by old new =
       from = from-both new.slot new.name (((a ++ b) ++ c) ++ d) e
           (from-both new.slot new.name ((a ++ b) ++ c) d
           (from-both new.slot new.name (a ++ b) c
-          (from-both new.slot new.name a b (from-timer new.slot new.name _ (ArmNomination new.given.round) tt) (from-timer new.slot new.name _ (ArmBallot new.votes.armed) tt))
+          (from-both new.slot new.name a b (from-timer new.slot new.name _ (ArmNomination new.inputs.round) tt) (from-timer new.slot new.name _ (ArmBallot new.votes.armed) tt))
           (from-emitted new (sent_nomination old.votes) (sent_nomination new.votes)))
           (from-emitted new (sent_vote old.votes) (sent_vote new.votes)))
           (from-decided new.slot new.name now new.votes.ballot);
@@ -122,7 +122,7 @@ outs-given-by old new =
           no-values (((a ++ b) ++ c) ++ d) e
           (no-values ((a ++ b) ++ c) d
           (no-values (a ++ b) c
-          (no-values a b (no-values-timer _ (ArmNomination new.given.round) refl) (no-values-timer _ (ArmBallot new.votes.armed) refl))
+          (no-values a b (no-values-timer _ (ArmNomination new.inputs.round) refl) (no-values-timer _ (ArmBallot new.votes.armed) refl))
           (no-values-emitted new (sent_nomination old.votes) (sent_nomination new.votes)))
           (no-values-emitted new (sent_vote old.votes) (sent_vote new.votes)))
           (emits-decision new old.votes new.votes last.1);
@@ -134,21 +134,21 @@ outs-given-by old new =
 pub record StaysAt (i u : ℕ) (r : Node × List Out) : Type 0 where
   pub name : r.0.name ≡ u
   pub slot : r.0.slot ≡ i
-  pub given : IsGivenBy i u r.1
+  pub inputs : IsGivenBy i u r.1
 
 settled-stays : (n m : Node) (o : Option Votes) → m.name ≡ n.name → m.slot ≡ n.slot → StaysAt n.slot n.name (answered n (settled m o))
-settled-stays n m None name slot = record { name = refl; slot = refl; given = nothing-given n.slot n.name }
+settled-stays n m None name slot = record { name = refl; slot = refl; inputs = nothing-inputs n.slot n.name }
 settled-stays n m (Some w) name slot =
     let new : Node = record m { votes = w } in
-    record { name = name; slot = slot; given = subst (λ i. IsGivenBy i n.name (outs n new)) slot (subst (λ u. IsGivenBy m.slot u (outs n new)) name (outs-given-by n new)) }
+    record { name = name; slot = slot; inputs = subst (λ i. IsGivenBy i n.name (outs n new)) slot (subst (λ u. IsGivenBy m.slot u (outs n new)) name (outs-inputs-by n new)) }
 
 stays : (n : Node) (b : Bool) (m : Node) → m.name ≡ n.name → m.slot ≡ n.slot → StaysAt n.slot n.name (answered n (after_change (if b then Some m else None)))
-stays n false m name slot = record { name = refl; slot = refl; given = nothing-given n.slot n.name }
+stays n false m name slot = record { name = refl; slot = refl; inputs = nothing-inputs n.slot n.name }
 stays n true m name slot = settled-stays n m (settle most_passes (passed m) m.votes) name slot
 
 step-stays : (n : Node) (e : NodeEvent) → StaysAt n.slot n.name (step n e)
 unfolding step change
-step-stays n (Propose x) = stays n true (in_round (record n { given = record n.given { input = Some x } }) 1) refl refl
+step-stays n (Propose x) = stays n true (in_round (record n { inputs = record n.inputs { proposal = Some x } }) 1) refl refl
 step-stays n (Take e) = stays n (is_taken n.table e) (record n { table = with_row e n.table }) refl refl
 step-stays n (NominationTimer k) = stays n (is_round_live n k) (in_round n (k + 1)) refl refl
 step-stays n (BallotTimer c) = stays n (is_counter_live n c) (timed_out n) refl refl
@@ -251,28 +251,28 @@ known-so (s ∷ ss) i u p at h = go (s.number == i) refl at (λ k. known-so ss i
     go true e k rest = let so = named-so s.places u p s.number k h.0 in (so.0, so.1 ∙ eqb-true s.number i e)
     go false e k rest = rest k
 
-pub act-given : (net : Net) (i u : ℕ) (e : NodeEvent) → AreInPlace net.slots → IsGivenBy i u (act net i u e).1
+pub act-inputs : (net : Net) (i u : ℕ) (e : NodeEvent) → AreInPlace net.slots → IsGivenBy i u (act net i u e).1
 unfolding act
-act-given net i u e h = go (known (places_at net.slots i) u) refl
+act-inputs net i u e h = go (known (places_at net.slots i) u) refl
   where
     go : (o : Option Place) → known (places_at net.slots i) u ≡ o → IsGivenBy i u (outs_at e o)
-    go None k = nothing-given i u
+    go None k = nothing-inputs i u
     go (Some p) k =
         let so = known-so net.slots i u p k h in
-        subst (λ j. IsGivenBy j u (step p.node e).1) so.1 (subst (λ w. IsGivenBy p.node.slot w (step p.node e).1) so.0 ((step-stays p.node e).given))
+        subst (λ j. IsGivenBy j u (step p.node e).1) so.1 (subst (λ w. IsGivenBy p.node.slot w (step p.node e).1) so.0 ((step-stays p.node e).inputs))
 
-heard-given : (net : Net) (i u : ℕ) (o : Option Sent) → AreInPlace net.slots → IsGivenBy i u (act_known net i u o).1
-heard-given net i u None h = nothing-given i u
-heard-given net i u (Some e) h = act-given net i u (Take e) h
+heard-inputs : (net : Net) (i u : ℕ) (o : Option Sent) → AreInPlace net.slots → IsGivenBy i u (act_known net i u o).1
+heard-inputs net i u None h = nothing-inputs i u
+heard-inputs net i u (Some e) h = act-inputs net i u (Take e) h
 
-pub effect-given : (net : Net) (e : Step) → AreInPlace net.slots → IsGivenAt (place_named e) (effect net e).1
+pub effect-inputs : (net : Net) (e : Step) → AreInPlace net.slots → IsGivenAt (place_named e) (effect net e).1
 unfolding effect
-effect-given net (Opens i) h = refl
-effect-given net (Closes i) h = refl
-effect-given net (Asks i u x) h = act-given net i u (Propose x) h
-effect-given net (Delivers u size (Read e)) h = act-given net e.slot u (Take e) h
-effect-given net (Delivers u size (Fault n)) h = refl
-effect-given net (Hears i u from kind k) h = heard-given net i u (emission (known (places_at net.slots i) from) kind k) h
-effect-given net (NominationTimes i u r) h = act-given net i u (NominationTimer r) h
-effect-given net (BallotTimes i u n) h = act-given net i u (BallotTimer n) h
-effect-given net (Reslices i u q) h = act-given net i u (Reslice q) h
+effect-inputs net (Opens i) h = refl
+effect-inputs net (Closes i) h = refl
+effect-inputs net (Asks i u x) h = act-inputs net i u (Propose x) h
+effect-inputs net (Delivers u size (Read e)) h = act-inputs net e.slot u (Take e) h
+effect-inputs net (Delivers u size (Fault n)) h = refl
+effect-inputs net (Hears i u from kind k) h = heard-inputs net i u (emission (known (places_at net.slots i) from) kind k) h
+effect-inputs net (NominationTimes i u r) h = act-inputs net i u (NominationTimer r) h
+effect-inputs net (BallotTimes i u n) h = act-inputs net i u (BallotTimer n) h
+effect-inputs net (Reslices i u q) h = act-inputs net i u (Reslice q) h

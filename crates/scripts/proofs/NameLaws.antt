@@ -4,6 +4,7 @@ use Rattle.std.specs.Prelude.{◌==◌, replicate}
 use Rattle.std.specs.Int.{w64, to_be_bytes}
 use Rattle.std.proofs.lemmas.List.{drop-replicate}
 use borrow.Rule.Slice.PartMut.{put_mid}
+use Rattle.types.proofs.NameWords.{first_word, second_word, third_word, fourth_word}
 use Rattle.scripts.proofs.StreamLaws.{in_two}
 use Rattle.scripts.specs.Script.{Bytes}
 use Rattle.scripts.specs.Names.{short, padded, bytes_of_name}
@@ -38,18 +39,6 @@ pub zeros_behind : (front copied : Bytes) → copied ≡ front → copied ++ dro
 zeros_behind front copied e = rw (e, drop-replicate {X = ℕ} (length front) 32 0) refl
 
 -- ---- the bytes of a name
-
-first_word : (a b c d : ℕ) → b < 2 ^ 64 → c < 2 ^ 64 → d < 2 ^ 64 → (a * 2 ^ 192 + b * 2 ^ 128 + c * 2 ^ 64 + d) / 2 ^ 192 ≡ a
-first_word a b c d g h k = omega arith
-
-second_word : (a b c d : ℕ) → b < 2 ^ 64 → c < 2 ^ 64 → d < 2 ^ 64 → (a * 2 ^ 192 + b * 2 ^ 128 + c * 2 ^ 64 + d) / 2 ^ 128 % 2 ^ 64 ≡ b
-second_word a b c d g h k = omega arith
-
-third_word : (a b c d : ℕ) → b < 2 ^ 64 → c < 2 ^ 64 → d < 2 ^ 64 → (a * 2 ^ 192 + b * 2 ^ 128 + c * 2 ^ 64 + d) / 2 ^ 64 % 2 ^ 64 ≡ c
-third_word a b c d g h k = omega arith
-
-fourth_word : (a b c d : ℕ) → b < 2 ^ 64 → c < 2 ^ 64 → d < 2 ^ 64 → (a * 2 ^ 192 + b * 2 ^ 128 + c * 2 ^ 64 + d) % 2 ^ 64 ≡ d
-fourth_word a b c d g h k = omega arith
 
 -- the bytes of a name of four words are those of the words
 name_text : (a b c d : ℕ) → b < 2 ^ 64 → c < 2 ^ 64 → d < 2 ^ 64

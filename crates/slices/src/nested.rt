@@ -129,7 +129,7 @@ fn own_weight(member: &NodeId, node: &NodeId) -> Option<Weight>
     ensures fits { IfSome result (λ w. (w.numerator ≤ 64 ^ 9) × (w.denominator ≤ 64 ^ 9)) }
 {
     if *member == *node {
-        Some(Weight::whole())
+        Some(Weight::one())
     } else {
         None
     }

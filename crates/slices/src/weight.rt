@@ -28,7 +28,7 @@ impl Model for Weight {
 
 impl Weight {
     /// All of it: 1/1.
-    pub fn whole() -> Weight
+    pub fn one() -> Weight
         ensures { result ≡ whole }
     {
         Weight {

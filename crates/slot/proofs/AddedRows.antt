@@ -4,7 +4,7 @@ use Rattle.std.proofs.lemmas.Bool.{cases_Bool, false≢true}
 use Rattle.types.specs.Statements.{Sent}
 use Rattle.types.specs.declared.event.NodeEvent.TheVariants.{Take}
 use Rattle.types.specs.declared.event.Out.{Out}
-use Rattle.types.specs.declared.state.Given.{Given}
+use Rattle.types.specs.declared.state.Inputs.{Inputs}
 use Rattle.types.specs.declared.state.Phase.{Phase}
 use Rattle.types.specs.declared.state.Phase.TheVariants.{Preparing, Committing, Externalized}
 use Rattle.types.specs.declared.state.Votes.{Votes}
@@ -32,18 +32,18 @@ untrue true h = sym h
 untrue false h = refl
 
 -- ---- a stranger's
-stranger-there : (h : Heard) (given : Given) (votes : Votes) (u : ℕ) → IsStranger h u → IsFalse (among given.leaders u) → Reached (node_of h given votes) → AddsRowAlone (node_of h given votes) u
-stranger-there h given votes u s l r = λ e from.
-    let n : Node = node_of h given votes in
+stranger-there : (h : Heard) (inputs : Inputs) (votes : Votes) (u : ℕ) → IsStranger h u → IsFalse (among inputs.leaders u) → Reached (node_of h inputs votes) → AddsRowAlone (node_of h inputs votes) u
+stranger-there h inputs votes u s l r = λ e from.
+    let n : Node = node_of h inputs votes in
     let outside : IsFalse (among s.reach e.sender) = subst (λ w. IsFalse (among s.reach w)) (sym from) s.outside in
-    let led : IsFalse (among given.leaders e.sender) = subst (λ w. IsFalse (among given.leaders w)) (sym from) l in
+    let led : IsFalse (among inputs.leaders e.sender) = subst (λ w. IsFalse (among inputs.leaders w)) (sym from) l in
     elim (cases_Bool (is_taken n.table e)) [
       | inl t ↦ strangers_add_rows n s.reach e r s.is outside led t ∙ ap {B = Node × List Out} (λ (rows : List Sent). (record n { table = rows }, [])) (sym (offered-taken n.table e t))
       | inr f ↦ step-stale n e f ∙ ap {B = Node × List Out} (λ (rows : List Sent). (record n { table = rows }, [])) (sym (offered-stale n.table e f))
     ]
 
-pub stranger-row : (n : Node) (h : Heard) (given : Given) (votes : Votes) (u : ℕ) → n ≡ node_of h given votes → IsStranger h u → IsFalse (among given.leaders u) → Reached (node_of h given votes) → AddsRowAlone n u
-stranger-row n h given votes u is s l r = subst (λ (m : Node). AddsRowAlone m u) (sym is) (stranger-there h given votes u s l r)
+pub stranger-row : (n : Node) (h : Heard) (inputs : Inputs) (votes : Votes) (u : ℕ) → n ≡ node_of h inputs votes → IsStranger h u → IsFalse (among inputs.leaders u) → Reached (node_of h inputs votes) → AddsRowAlone n u
+stranger-row n h inputs votes u is s l r = subst (λ (m : Node). AddsRowAlone m u) (sym is) (stranger-there h inputs votes u s l r)
 
 -- ---- after a value was externalized
 open-no_more : (p : Phase) (f : Votes → Votes) (w : Votes) → is_externalized p ≡ true → while_open p f w ≡ w
@@ -51,7 +51,7 @@ open-no_more Preparing f w h = absurd (false≢true h)
 open-no_more Committing f w h = absurd (false≢true h)
 open-no_more Externalized f w h = refl
 
-over-pass : (own : ℕ) (seen : Seen) (g : Given) (w : Votes) → is_externalized w.phase ≡ true → pass own seen g w ≡ w
+over-pass : (own : ℕ) (seen : Seen) (g : Inputs) (w : Votes) → is_externalized w.phase ≡ true → pass own seen g w ≡ w
 unfolding pass
 over-pass own seen g w h = open-no_more w.phase (pass_rules own seen g) w h
 
@@ -66,7 +66,7 @@ over-taken n e over t =
     m = record n { table = with_row e n.table }
 
     still : passed m n.votes ≡ n.votes
-    still = over-pass n.name (seen n.name n.slices n.given.leaders m.table) n.given n.votes over
+    still = over-pass n.name (seen n.name n.slices n.inputs.leaders m.table) n.inputs n.votes over
 
     at_once : settle most_passes (passed m) n.votes ≡ Some n.votes
     at_once = ap (λ b. if b then Some n.votes else settle (most_passes - 1) (passed m) (passed m n.votes)) (ap (λ w. same_votes w n.votes) still ∙ same_votes-refl n.votes)
@@ -80,16 +80,16 @@ over-row n u over = λ e from.
 
 -- ---- the step
 -- the listener after an offer
-offered-to : (h k : Heard) (given : Given) (votes : Votes) (x : Sent) → k.configured ≡ h.configured → sents_of k.table ≡ offered (sents_of h.table) x → whole h.configured given votes (offered (sents_of h.table) x) ≡ node_of k given votes
-offered-to h k given votes x c t = λ i. whole (sym c i) given votes (sym t i)
+offered-to : (h k : Heard) (inputs : Inputs) (votes : Votes) (x : Sent) → k.configured ≡ h.configured → sents_of k.table ≡ offered (sents_of h.table) x → whole h.configured inputs votes (offered (sents_of h.table) x) ≡ node_of k inputs votes
+offered-to h k inputs votes x c t = λ i. whole (sym c i) inputs votes (sym t i)
 
 -- the step offers the envelope, and gives nothing out
-pub row-step : (n : Node) (h k : Heard) (given : Given) (votes : Votes) (x : Sent) → n ≡ node_of h given votes → AddsRowAlone n x.sender → k.configured ≡ h.configured → sents_of k.table ≡ offered (sents_of h.table) x
-    → step n (Take x) ≡ (node_of k given votes, [])
-row-step n h k given votes x is alone c t =
-    alone x refl ∙ ap {B = Node × List Out} (λ (m : Node). (record m { table = offered m.table x }, [])) is ∙ ap {B = Node × List Out} (λ (m : Node). (m, [])) (offered-to h k given votes x c t)
+pub row-step : (n : Node) (h k : Heard) (inputs : Inputs) (votes : Votes) (x : Sent) → n ≡ node_of h inputs votes → AddsRowAlone n x.sender → k.configured ≡ h.configured → sents_of k.table ≡ offered (sents_of h.table) x
+    → step n (Take x) ≡ (node_of k inputs votes, [])
+row-step n h k inputs votes x is alone c t =
+    alone x refl ∙ ap {B = Node × List Out} (λ (m : Node). (record m { table = offered m.table x }, [])) is ∙ ap {B = Node × List Out} (λ (m : Node). (m, [])) (offered-to h k inputs votes x c t)
 
 -- and events led to the node after it
-pub row-reached : (n : Node) (h k : Heard) (given : Given) (votes : Votes) (x : Sent) → n ≡ node_of h given votes → AddsRowAlone n x.sender → Reached (node_of h given votes) → k.configured ≡ h.configured → sents_of k.table ≡ offered (sents_of h.table) x
-    → Reached (node_of k given votes)
-row-reached n h k given votes x is alone r c t = subst (λ (p : Node × List Out). Reached p.0) (row-step n h k given votes x is alone c t) (next (subst Reached (sym is) r) (Take x))
+pub row-reached : (n : Node) (h k : Heard) (inputs : Inputs) (votes : Votes) (x : Sent) → n ≡ node_of h inputs votes → AddsRowAlone n x.sender → Reached (node_of h inputs votes) → k.configured ≡ h.configured → sents_of k.table ≡ offered (sents_of h.table) x
+    → Reached (node_of k inputs votes)
+row-reached n h k inputs votes x is alone r c t = subst (λ (p : Node × List Out). Reached p.0) (row-step n h k inputs votes x is alone c t) (next (subst Reached (sym is) r) (Take x))

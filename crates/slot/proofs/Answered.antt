@@ -9,7 +9,7 @@ use Rattle.types.specs.declared.ballot.Ballot.{Ballot}
 use Rattle.types.specs.declared.event.NodeEvent.{NodeEvent}
 use Rattle.types.specs.declared.event.NodeEvent.TheVariants.{Propose, Take, NominationTimer, BallotTimer, Reslice}
 use Rattle.types.specs.declared.event.Out.{Out}
-use Rattle.types.specs.declared.state.Given.{Given}
+use Rattle.types.specs.declared.state.Inputs.{Inputs}
 use Rattle.types.specs.declared.state.Votes.{Votes}
 use Rattle.protocol.specs.Rows.{is_taken, row, with_row}
 use Rattle.protocol.specs.States.{counter_of}
@@ -60,56 +60,56 @@ step-is n e o h = ap (λ (o : Option Node). answered n (after_change o)) h
 
 -- ---- the changes, part by part
 -- a round begins with the same leader where the same is configured
-pub led-by : (k c : Configured) (g given : Given) (round : ℕ) → k ≡ c → g ≡ led k given round → g ≡ led c given round
-led-by k c g given round e is = is ∙ ap (λ (x : Configured). led x given round) e
+pub led-by : (k c : Configured) (g inputs : Inputs) (round : ℕ) → k ≡ c → g ≡ led k inputs round → g ≡ led c inputs round
+led-by k c g inputs round e is = is ∙ ap (λ (x : Configured). led x inputs round) e
 
-pub change-propose : (c : Configured) (given g : Given) (votes w : Votes) (table : List Sent) (n : Node) (x : List ℕ) → n ≡ whole c given votes table
-    → g ≡ led c (record given { input = Some x }) 1 → w ≡ votes → change n (Propose x) ≡ Some (record n { given = g; votes = w })
+pub change-propose : (c : Configured) (inputs g : Inputs) (votes w : Votes) (table : List Sent) (n : Node) (x : List ℕ) → n ≡ whole c inputs votes table
+    → g ≡ led c (record inputs { proposal = Some x }) 1 → w ≡ votes → change n (Propose x) ≡ Some (record n { inputs = g; votes = w })
 unfolding change
-change-propose c given g votes w table n x e eg ew = ap (λ m. change m (Propose x)) e ∙ (λ i. Some (record (sym e i) { given = sym eg i; votes = sym ew i }))
+change-propose c inputs g votes w table n x e eg ew = ap (λ m. change m (Propose x)) e ∙ (λ i. Some (record (sym e i) { inputs = sym eg i; votes = sym ew i }))
 
-pub change-round : (c : Configured) (given g : Given) (votes w : Votes) (table : List Sent) (n : Node) (r : ℕ) → n ≡ whole c given votes table
-    → is_nomination_timer_live r given.round (is_some votes.high) ≡ true → g ≡ led c given (r + 1) → w ≡ votes → change n (NominationTimer r) ≡ Some (record n { given = g; votes = w })
+pub change-round : (c : Configured) (inputs g : Inputs) (votes w : Votes) (table : List Sent) (n : Node) (r : ℕ) → n ≡ whole c inputs votes table
+    → is_nomination_timer_live r inputs.round (is_some votes.confirmed_prepared) ≡ true → g ≡ led c inputs (r + 1) → w ≡ votes → change n (NominationTimer r) ≡ Some (record n { inputs = g; votes = w })
 unfolding change
-change-round c given g votes w table n r e live eg ew =
+change-round c inputs g votes w table n r e live eg ew =
     ap (λ m. change m (NominationTimer r)) e
-    ∙ ap (λ b. if b then Some (in_round (whole c given votes table) (r + 1)) else None) live
-    ∙ (λ i. Some (record (sym e i) { given = sym eg i; votes = sym ew i }))
+    ∙ ap (λ b. if b then Some (in_round (whole c inputs votes table) (r + 1)) else None) live
+    ∙ (λ i. Some (record (sym e i) { inputs = sym eg i; votes = sym ew i }))
 
-pub change-no_round : (c : Configured) (given : Given) (votes : Votes) (table : List Sent) (n : Node) (r : ℕ) → n ≡ whole c given votes table
-    → is_nomination_timer_live r given.round (is_some votes.high) ≡ false → change n (NominationTimer r) ≡ None
+pub change-no_round : (c : Configured) (inputs : Inputs) (votes : Votes) (table : List Sent) (n : Node) (r : ℕ) → n ≡ whole c inputs votes table
+    → is_nomination_timer_live r inputs.round (is_some votes.confirmed_prepared) ≡ false → change n (NominationTimer r) ≡ None
 unfolding change
-change-no_round c given votes table n r e dead = ap (λ m. change m (NominationTimer r)) e ∙ ap (λ b. if b then Some (in_round (whole c given votes table) (r + 1)) else None) dead
+change-no_round c inputs votes table n r e dead = ap (λ m. change m (NominationTimer r)) e ∙ ap (λ b. if b then Some (in_round (whole c inputs votes table) (r + 1)) else None) dead
 
-pub change-take : (c : Configured) (given : Given) (votes w : Votes) (table t : List Sent) (n : Node) (x : Sent) → n ≡ whole c given votes table
-    → is_taken table x ≡ true → t ≡ with_row x table → w ≡ votes → change n (Take x) ≡ Some (whole c given w t)
+pub change-take : (c : Configured) (inputs : Inputs) (votes w : Votes) (table t : List Sent) (n : Node) (x : Sent) → n ≡ whole c inputs votes table
+    → is_taken table x ≡ true → t ≡ with_row x table → w ≡ votes → change n (Take x) ≡ Some (whole c inputs w t)
 unfolding change
-change-take c given votes w table t n x e taken et ew =
+change-take c inputs votes w table t n x e taken et ew =
     ap (λ m. change m (Take x)) e
-    ∙ ap (λ b. if b then Some (whole c given votes (with_row x table)) else None) taken
-    ∙ (λ i. Some (whole c given (sym ew i) (sym et i)))
+    ∙ ap (λ b. if b then Some (whole c inputs votes (with_row x table)) else None) taken
+    ∙ (λ i. Some (whole c inputs (sym ew i) (sym et i)))
 
-pub change-stale : (c : Configured) (given : Given) (votes : Votes) (table : List Sent) (n : Node) (x : Sent) → n ≡ whole c given votes table → is_taken table x ≡ false → change n (Take x) ≡ None
+pub change-stale : (c : Configured) (inputs : Inputs) (votes : Votes) (table : List Sent) (n : Node) (x : Sent) → n ≡ whole c inputs votes table → is_taken table x ≡ false → change n (Take x) ≡ None
 unfolding change
-change-stale c given votes table n x e stale = ap (λ m. change m (Take x)) e ∙ ap (λ b. if b then Some (whole c given votes (with_row x table)) else None) stale
+change-stale c inputs votes table n x e stale = ap (λ m. change m (Take x)) e ∙ ap (λ b. if b then Some (whole c inputs votes (with_row x table)) else None) stale
 
 -- the counter of a ballot, where there is one
 abbrev pub counter_in : Option Ballot → Option ℕ
 counter_in o = option_map (λ (b : Ballot). b.counter) o
 
-pub change-counter : (c : Configured) (given g : Given) (votes w : Votes) (table : List Sent) (n : Node) (k : ℕ) → n ≡ whole c given votes table
-    → is_ballot_timer_live k votes.armed (counter_in votes.ballot) (is_externalized votes.phase) ≡ true → g ≡ record given { fired = given.fired + 1 } → w ≡ bumped votes votes.ballot
-    → change n (BallotTimer k) ≡ Some (record n { given = g; votes = w })
+pub change-counter : (c : Configured) (inputs g : Inputs) (votes w : Votes) (table : List Sent) (n : Node) (k : ℕ) → n ≡ whole c inputs votes table
+    → is_ballot_timer_live k votes.armed (counter_in votes.ballot) (is_externalized votes.phase) ≡ true → g ≡ record inputs { ballot_timeouts = inputs.ballot_timeouts + 1 } → w ≡ bumped votes votes.ballot
+    → change n (BallotTimer k) ≡ Some (record n { inputs = g; votes = w })
 unfolding change
-change-counter c given g votes w table n k e live eg ew =
+change-counter c inputs g votes w table n k e live eg ew =
     ap (λ m. change m (BallotTimer k)) e
-    ∙ ap (λ b. if b then Some (timed_out (whole c given votes table)) else None) live
-    ∙ (λ i. Some (record (sym e i) { given = sym eg i; votes = sym ew i }))
+    ∙ ap (λ b. if b then Some (timed_out (whole c inputs votes table)) else None) live
+    ∙ (λ i. Some (record (sym e i) { inputs = sym eg i; votes = sym ew i }))
 
-pub change-no_counter : (c : Configured) (given : Given) (votes : Votes) (table : List Sent) (n : Node) (k : ℕ) → n ≡ whole c given votes table
+pub change-no_counter : (c : Configured) (inputs : Inputs) (votes : Votes) (table : List Sent) (n : Node) (k : ℕ) → n ≡ whole c inputs votes table
     → is_ballot_timer_live k votes.armed (counter_in votes.ballot) (is_externalized votes.phase) ≡ false → change n (BallotTimer k) ≡ None
 unfolding change
-change-no_counter c given votes table n k e dead = ap (λ m. change m (BallotTimer k)) e ∙ ap (λ b. if b then Some (timed_out (whole c given votes table)) else None) dead
+change-no_counter c inputs votes table n k e dead = ap (λ m. change m (BallotTimer k)) e ∙ ap (λ b. if b then Some (timed_out (whole c inputs votes table)) else None) dead
 
 -- a ballot timer is live below the last counter alone
 pub live-below : (k armed : ℕ) (o : Option Ballot) (over : Bool) → is_ballot_timer_live k armed (counter_in o) over ≡ true → counter_of o < 4294967295
@@ -123,11 +123,11 @@ live-below k armed (Some b) over h =
     under m e = grind (arith, nat_tests)
 
 -- ---- envelopes
-pub change-put : (h k : Heard) (given : Given) (votes w : Votes) (n : Node) (x : Sent) (p : Put) → n ≡ node_of h given votes
-    → IsPut h.table x p k.table → k.configured ≡ h.configured → (p ≡ Added) ⊎ ((y : Filed) × (p ≡ Replaced y)) → w ≡ votes → change n (Take x) ≡ Some (node_of k given w)
-change-put h k given votes w n x p e put same is ew =
+pub change-put : (h k : Heard) (inputs : Inputs) (votes w : Votes) (n : Node) (x : Sent) (p : Put) → n ≡ node_of h inputs votes
+    → IsPut h.table x p k.table → k.configured ≡ h.configured → (p ≡ Added) ⊎ ((y : Filed) × (p ≡ Replaced y)) → w ≡ votes → change n (Take x) ≡ Some (node_of k inputs w)
+change-put h k inputs votes w n x p e put same is ew =
     let taken = put-takes h.table k.table x p put is in
-    change-take h.configured given votes w (sents_of h.table) (sents_of k.table) n x e taken.0 taken.1 ew ∙ ap (λ (c : Configured). Some (whole c given w (sents_of k.table))) (sym same)
+    change-take h.configured inputs votes w (sents_of h.table) (sents_of k.table) n x e taken.0 taken.1 ew ∙ ap (λ (c : Configured). Some (whole c inputs w (sents_of k.table))) (sym same)
 
 -- two listeners with the same parts
 pub heard-same : (h k : Heard) → k.configured ≡ h.configured → k.table ≡ h.table → k ≡ h
@@ -138,15 +138,15 @@ heard-same h k c t = λ i. record { configured = c i; table = t i }
 abbrev pub with_slices : Heard → Slices → Heard
 with_slices h q = record h { configured = record h.configured { slices = q } }
 
-pub change-slices : (h k : Heard) (given : Given) (votes w : Votes) (n : Node) (q : Slices) → n ≡ node_of h given votes → k ≡ with_slices h q → w ≡ votes
-    → change n (Reslice q) ≡ Some (node_of k given w)
+pub change-slices : (h k : Heard) (inputs : Inputs) (votes w : Votes) (n : Node) (q : Slices) → n ≡ node_of h inputs votes → k ≡ with_slices h q → w ≡ votes
+    → change n (Reslice q) ≡ Some (node_of k inputs w)
 unfolding change
-change-slices h k given votes w n q e ek ew = ap (λ m. change m (Reslice q)) e ∙ (λ i. Some (node_of (sym ek i) given (sym ew i)))
+change-slices h k inputs votes w n q e ek ew = ap (λ m. change m (Reslice q)) e ∙ (λ i. Some (node_of (sym ek i) inputs (sym ew i)))
 
 -- what is given out does not depend on the slices before the event
-pub outs-by_new : (c d : Configured) (given : Given) (votes : Votes) (before table : List Sent) (new : Node) → outs (whole c given votes before) new ≡ outs (whole d given votes table) new
+pub outs-by_new : (c d : Configured) (inputs : Inputs) (votes : Votes) (before table : List Sent) (new : Node) → outs (whole c inputs votes before) new ≡ outs (whole d inputs votes table) new
 unfolding outs
-outs-by_new c d given votes before table new = refl
+outs-by_new c d inputs votes before table new = refl
 
 -- ---- whole steps
 -- the votes settle
@@ -159,14 +159,14 @@ reached-some n m e w r h s = subst (λ (p : Node × List Out). Reached p.0) (ste
 -- ---- quiet
 -- an envelope from outside of a set that holds the node's reach, and not from a leader
 pub quiet-after : {E : Type 0} (n new : Node) (event : NodeEvent) (r : Result GivenOut E) → Reached n → OnOk r (new ≡ (step n event).0) → IfOk r (λ v. outs_of v.outs.items ≡ (step n event).1)
-    → (R : Names) (x : Sent) → event ≡ Take x → HoldsReach n.name n.slices n.table R → IsFalse (R x.sender) → IsFalse (among n.given.leaders x.sender) → IfOk r (λ v. IsQuiet R n new (outs_of v.outs.items))
+    → (R : Names) (x : Sent) → event ≡ Take x → HoldsReach n.name n.slices n.table R → IsFalse (R x.sender) → IsFalse (among n.inputs.leaders x.sender) → IfOk r (λ v. IsQuiet R n new (outs_of v.outs.items))
 quiet-after n new event (Ok v) h node outs R x is held out led =
     let q = outsiders_are_quiet R n x h held out led in
     let same : new ≡ (step n (Take x)).0 = node ∙ ap (λ (e : NodeEvent). (step n e).0) is in
     let items : outs_of v.outs.items ≡ (step n (Take x)).1 = outs ∙ ap (λ (e : NodeEvent). (step n e).1) is in
     record {
       outs = items ∙ q.outs;
-      given = ap (λ (m : Node). m.given) same ∙ q.given;
+      inputs = ap (λ (m : Node). m.inputs) same ∙ q.inputs;
       votes = ap (λ (m : Node). m.votes) same ∙ q.votes;
       rows = λ u k i. ap (λ (m : Node). row m.table u k) same ∙ q.rows u k i;
     }

@@ -4,7 +4,7 @@ use Rattle.std.proofs.lemmas.Bool.{false≢true}
 use Rattle.types.specs.Trees.{Slices}
 use Rattle.types.specs.Statements.{Sent}
 use Rattle.types.specs.declared.event.NodeEvent.TheVariants.{Propose, Take, NominationTimer, BallotTimer, Reslice}
-use Rattle.types.specs.declared.state.Given.{Given}
+use Rattle.types.specs.declared.state.Inputs.{Inputs}
 use Rattle.types.specs.declared.state.Votes.{Votes}
 use Rattle.protocol.specs.Nodes.{Node, change, is_counter_live, is_round_live}
 use Rattle.protocol.specs.Rows.{is_taken}
@@ -29,9 +29,9 @@ unfolding change
 reslice-changes n q e = false≢true (sym (ap is_some e))
 
 -- an envelope is stale, and a timer not live
-pub idle-stale : (c : Configured) (given : Given) (votes : Votes) (table : List Sent) (n : Node) (x : Sent) → n ≡ whole c given votes table → change n (Take x) ≡ None → is_taken table x ≡ false
+pub idle-stale : (c : Configured) (inputs : Inputs) (votes : Votes) (table : List Sent) (n : Node) (x : Sent) → n ≡ whole c inputs votes table → change n (Take x) ≡ None → is_taken table x ≡ false
 unfolding change
-idle-stale c given votes table n x e idle = guarded _ _ (sym (ap (λ m. change m (Take x)) e) ∙ idle)
+idle-stale c inputs votes table n x e idle = guarded _ _ (sym (ap (λ m. change m (Take x)) e) ∙ idle)
 
 pub idle-round : (n : Node) (r : ℕ) → change n (NominationTimer r) ≡ None → is_round_live n r ≡ false
 unfolding change

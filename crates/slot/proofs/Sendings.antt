@@ -70,7 +70,7 @@ outs-own : (old new : Node) → Own new (outs old new)
 unfolding outs emits
 outs-own old new =
     both new (both new (both new (both new
-    (armed (not (new.given.round == old.given.round) && is_none new.votes.high) (ArmNomination new.given.round) refl)
+    (armed (not (new.inputs.round == old.inputs.round) && is_none new.votes.confirmed_prepared) (ArmNomination new.inputs.round) refl)
     (armed (not (new.votes.armed == old.votes.armed) && (new.votes.armed == counter_of new.votes.ballot) && not (is_externalized new.votes.phase)) (ArmBallot new.votes.armed) refl))
     (sent (sent_nomination old.votes) (sent_nomination new.votes)))
     (sent (sent_vote old.votes) (sent_vote new.votes)))

@@ -3,7 +3,7 @@ use Rattle.std.proofs.Common.{◌≡◌, ℕ, suc, ◌+◌, ◌-◌, ◌<◌, tr
 use Rattle.std.proofs.lemmas.Bool.{cases_Bool}
 use Rattle.types.specs.declared.state.Phase.{Phase}
 use Rattle.types.specs.declared.state.Phase.TheVariants.{Externalized}
-use Rattle.types.specs.declared.state.Given.{Given}
+use Rattle.types.specs.declared.state.Inputs.{Inputs}
 use Rattle.types.specs.declared.state.Votes.{Votes}
 use Rattle.protocol.specs.Nodes.{settle, most_passes}
 use Rattle.protocol.specs.Passes.{pass, pass_rules, while_open}
@@ -35,9 +35,9 @@ unfolding settle
 settle-end f w = refl
 
 -- after EXTERNALIZE none changes anything
-over-stays : (own : ℕ) (seen : Seen) (given : Given) (w : Votes) → w.phase ≡ Externalized → pass own seen given w ≡ w
+over-stays : (own : ℕ) (seen : Seen) (inputs : Inputs) (w : Votes) → w.phase ≡ Externalized → pass own seen inputs w ≡ w
 unfolding pass
-over-stays own seen given w over = ap (λ (p : Phase). while_open p (pass_rules own seen given) w) over
+over-stays own seen inputs w over = ap (λ (p : Phase). while_open p (pass_rules own seen inputs) w) over
 
-pub over_settles : (w : Votes) → w.phase ≡ Externalized → (own : ℕ) (seen : Seen) (given : Given) → settle most_passes (pass own seen given) w ≡ Some w
-over_settles w over own seen given = settle-same 0 (pass own seen given) w (omega arith) (over-stays own seen given w over)
+pub over_settles : (w : Votes) → w.phase ≡ Externalized → (own : ℕ) (seen : Seen) (inputs : Inputs) → settle most_passes (pass own seen inputs) w ≡ Some w
+over_settles w over own seen inputs = settle-same 0 (pass own seen inputs) w (omega arith) (over-stays own seen inputs w over)

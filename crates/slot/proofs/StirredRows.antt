@@ -3,7 +3,7 @@ use Rattle.std.proofs.Common.{◌≡◌, List, Some, sym, subst}
 use Rattle.types.specs.Statements.{Sent}
 use Rattle.types.specs.declared.event.NodeEvent.{NodeEvent}
 use Rattle.types.specs.declared.event.NodeEvent.TheVariants.{Take}
-use Rattle.types.specs.declared.state.Given.{Given}
+use Rattle.types.specs.declared.state.Inputs.{Inputs}
 use Rattle.types.specs.declared.state.Votes.{Votes}
 use Rattle.protocol.specs.Limits.{Reached}
 use Rattle.protocol.specs.Nodes.{Node, change}
@@ -24,15 +24,15 @@ pub stirs-all : (n m : Node) (e : NodeEvent) → Reached n → change n e ≡ So
 stirs-all n m e r made = nomination_rests_after_a_pass n r e m made
 
 -- the listener after a row
-row-in : (h k : Heard) (given : Given) (votes : Votes) (x : Sent) → k.configured ≡ h.configured → sents_of k.table ≡ with_row x (sents_of h.table) → whole h.configured given votes (with_row x (sents_of h.table)) ≡ node_of k given votes
-row-in h k given votes x c t = λ i. whole (sym c i) given votes (sym t i)
+row-in : (h k : Heard) (inputs : Inputs) (votes : Votes) (x : Sent) → k.configured ≡ h.configured → sents_of k.table ≡ with_row x (sents_of h.table) → whole h.configured inputs votes (with_row x (sents_of h.table)) ≡ node_of k inputs votes
+row-in h k inputs votes x c t = λ i. whole (sym c i) inputs votes (sym t i)
 
 kept-row : (h k : Heard) (x : Sent) → sents_of k.table ≡ with_row x (sents_of h.table) → KeepsReach h.configured.name h.configured.slices (sents_of h.table) (sents_of k.table) → KeepsReach h.configured.name h.configured.slices (sents_of h.table) (with_row x (sents_of h.table))
 kept-row h k x t kept = subst (λ (table : List Sent). KeepsReach h.configured.name h.configured.slices (sents_of h.table) table) t kept
 
 -- a node after a row
-pub stirs-row : (h k : Heard) (given : Given) (votes : Votes) (x : Sent) (stirred : Stirred) → Reached (node_of h given votes) → k.configured ≡ h.configured → sents_of k.table ≡ with_row x (sents_of h.table)
-    → change (node_of h given votes) (Take x) ≡ Some (node_of k given votes) → IsStirred stirred h.configured (sents_of h.table) x (sents_of k.table) → StirsIn stirred (node_of k given votes)
-stirs-row h k given votes x All r c t made is = stirs-all (node_of h given votes) (node_of k given votes) (Take x) r made
-stirs-row h k given votes x Ballots r c t made is = subst (StirsIn Ballots) (row-in h k given votes x c t) (ballot_rows_stir_ballots (node_of h given votes) r x is.0 (kept-row h k x t is.1))
-stirs-row h k given votes x Nominations r c t made is = subst (StirsIn Nominations) (row-in h k given votes x c t) (nomination_rows_stir_nomination (node_of h given votes) r x is.0 (kept-row h k x t is.1))
+pub stirs-row : (h k : Heard) (inputs : Inputs) (votes : Votes) (x : Sent) (stirred : Stirred) → Reached (node_of h inputs votes) → k.configured ≡ h.configured → sents_of k.table ≡ with_row x (sents_of h.table)
+    → change (node_of h inputs votes) (Take x) ≡ Some (node_of k inputs votes) → IsStirred stirred h.configured (sents_of h.table) x (sents_of k.table) → StirsIn stirred (node_of k inputs votes)
+stirs-row h k inputs votes x All r c t made is = stirs-all (node_of h inputs votes) (node_of k inputs votes) (Take x) r made
+stirs-row h k inputs votes x Ballots r c t made is = subst (StirsIn Ballots) (row-in h k inputs votes x c t) (ballot_rows_stir_ballots (node_of h inputs votes) r x is.0 (kept-row h k x t is.1))
+stirs-row h k inputs votes x Nominations r c t made is = subst (StirsIn Nominations) (row-in h k inputs votes x c t) (nomination_rows_stir_nomination (node_of h inputs votes) r x is.0 (kept-row h k x t is.1))

@@ -2,7 +2,7 @@
 use Rattle.std.specs.Prelude.{◌≡◌, ℕ, List, []}
 use Rattle.types.specs.Statements.{Sent}
 use Rattle.types.specs.declared.event.NodeEvent.TheVariants.{Take}
-use Rattle.types.specs.declared.state.Given.{Given}
+use Rattle.types.specs.declared.state.Inputs.{Inputs}
 use Rattle.types.specs.declared.state.Votes.{Votes}
 use Rattle.protocol.specs.Nodes.{Node, step}
 use Rattle.protocol.specs.Rows.{offered}
@@ -17,8 +17,8 @@ pub record Held : Type 0 where
   pub rows : List Filed
 
 -- what a listener has, with what events gave and what the rules made
-abbrev pub node_of : Heard → Given → Votes → Node
-node_of h given votes = whole h.configured given votes (sents_of h.table)
+abbrev pub node_of : Heard → Inputs → Votes → Node
+node_of h inputs votes = whole h.configured inputs votes (sents_of h.table)
 
 -- an envelope of this sender is no more than a row: where it is newer than that which stands it takes its place, and nothing else happens
 abbrev pub AddsRowAlone : Node → ℕ → Type 0

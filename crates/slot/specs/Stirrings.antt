@@ -3,7 +3,7 @@ use Rattle.std.specs.Prelude.{◌≡◌, ℕ, Bool, ◌&&◌, List, Option, is_s
 use Rattle.types.specs.Statements.{Sent, kind_of}
 use Rattle.types.specs.declared.kind.Kind.{Kind}
 use Rattle.types.specs.declared.kind.Kind.TheVariants.{Nomination}
-use Rattle.types.specs.declared.state.Given.{Given}
+use Rattle.types.specs.declared.state.Inputs.{Inputs}
 use Rattle.types.specs.declared.state.Votes.{Votes}
 use Rattle.protocol.specs.Nodes.{Node, settle, most_passes}
 use Rattle.protocol.specs.Passes.{balloted_in, nominated_in, pass}
@@ -20,24 +20,24 @@ stirred_by Kind.Ballot = Ballots
 stirred_by Nomination = Nominations
 
 -- the part of a pass that applies these rules
-abbrev pub part : Stirred → ℕ → Seen → Given → Votes → Votes
+abbrev pub part : Stirred → ℕ → Seen → Inputs → Votes → Votes
 part All own seen g = pass own seen g
 part Ballots own seen g = balloted_in seen g
 part Nominations own seen g = nominated_in own seen g
 
 -- the votes after passes that begin with these rules
-abbrev pub settled_by : Stirred → ℕ → Seen → Given → Votes → Option Votes
+abbrev pub settled_by : Stirred → ℕ → Seen → Inputs → Votes → Option Votes
 settled_by All own seen g w = settle_all own seen g w
 settled_by Ballots own seen g w = settle_ballots seen g w
 settled_by Nominations own seen g w = settle_nominations own seen g w
 
 -- the other rules have nothing to do: these passes lead where whole ones lead
-abbrev pub Stirs : Stirred → ℕ → Seen → Given → Votes → Type 0
+abbrev pub Stirs : Stirred → ℕ → Seen → Inputs → Votes → Type 0
 Stirs stirred own seen g w = settled_by stirred own seen g w ≡ settle most_passes (pass own seen g) w
 
 -- of a node that an event changed
 abbrev pub StirsIn : Stirred → Node → Type 0
-StirsIn stirred n = Stirs stirred n.name (seen_by n) n.given n.votes
+StirsIn stirred n = Stirs stirred n.name (seen_by n) n.inputs n.votes
 
 -- a table that took an envelope: the envelope is of one kind, and the nodes that are reached stay
 abbrev pub IsStirred : Stirred → Configured → List Sent → Sent → List Sent → Type 0

@@ -4,7 +4,7 @@ use Rattle.types.specs.Statements.{Sent, IsEnvelope, IsWellFormed}
 use Rattle.types.specs.declared.event.NodeEvent.{NodeEvent}
 use Rattle.types.specs.declared.event.Out.{Out}
 use Rattle.types.specs.declared.event.Out.TheVariants.{Emit}
-use Rattle.types.specs.declared.state.Given.{Given}
+use Rattle.types.specs.declared.state.Inputs.{Inputs}
 use Rattle.types.specs.declared.state.Votes.{Votes}
 use Rattle.types.specs.declared.statement.Statement.{Statement}
 use Rattle.protocol.specs.Leaders.{leader}
@@ -14,12 +14,12 @@ use Rattle.protocol.specs.Nodes.{Node, change}
 use Rattle.listening.specs.declared.configured.Configured.{Configured}
 
 -- who it is with its slices, what events gave, what the rules made, and the table
-abbrev pub whole : Configured → Given → Votes → List Sent → Node
-whole c given votes table = record { name = c.name; slot = c.slot; slices = c.slices; given = given; votes = votes; table = table }
+abbrev pub whole : Configured → Inputs → Votes → List Sent → Node
+whole c inputs votes table = record { name = c.name; slot = c.slot; slices = c.slices; inputs = inputs; votes = votes; table = table }
 
 -- what is given as a round begins with its leader
-abbrev pub led : Configured → Given → ℕ → Given
-led c given round = record given { round = round; leaders = given.leaders ++ leader c.slot round c.name c.slices ∷ [] }
+abbrev pub led : Configured → Inputs → ℕ → Inputs
+led c inputs round = record inputs { round = round; leaders = inputs.leaders ++ leader c.slot round c.name c.slices ∷ [] }
 
 -- a statement as the node sends it
 abbrev pub sent_by : Configured → Statement → Sent

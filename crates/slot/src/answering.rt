@@ -5,22 +5,22 @@ ghost use Rattle.protocol.specs.Nodes.{settle, most_passes};
 ghost use Rattle.protocol.specs.Passes.{pass};
 ghost use Rattle.protocol.specs.Views.{Seen};
 ghost use Rattle.slot.specs.Stirrings.{Stirs};
-ghost use Rattle.types.specs.declared.state.Given.{Given};
+ghost use Rattle.types.specs.declared.state.Inputs.{Inputs};
 ghost use Rattle.types.specs.declared.state.Phase.TheVariants.{Externalized};
 
 use crate::filed::GivenOut;
-use crate::settling::{Inputs, settle_from};
+use crate::settling::{PassContext, settle_from};
 use crate::stirring::Stirred;
 use fedvote::Sight;
 use listening::Configured;
 use std::alloc::{AllocError, Global};
-use types::{Given, Out, Votes};
+use types::{Inputs, Out, Votes};
 
 /// What a node has at one moment beside its rows.
 #[derive(Clone, Copy)]
 pub(crate) struct State<'a> {
     /// What events gave it.
-    pub given: &'a Given,
+    pub inputs: &'a Inputs,
     /// What its rules made of that.
     pub votes: &'a Votes,
 }
@@ -29,7 +29,7 @@ pub(crate) struct State<'a> {
 #[derive(Clone, Copy)]
 pub(crate) struct Start<'a> {
     /// What is given now.
-    pub given: &'a Given,
+    pub inputs: &'a Inputs,
     /// The votes, before any pass.
     pub votes: &'a Votes,
     /// The rules that the event stirs.
@@ -55,7 +55,7 @@ pub(crate) struct FiledAnswer {
 #[tactic(auto, using(crate::proofs::Settles::over_settles))]
 pub(crate) fn rests(start: &Start<'_>)
     requires { start.now.votes.now.phase ≡ Externalized }
-    ensures { (own : ℕ) (seen : Seen) (given : Given) → settle most_passes (pass own seen given) start.now.votes.now ≡ Some start.now.votes.now }
+    ensures { (own : ℕ) (seen : Seen) (inputs : Inputs) → settle most_passes (pass own seen inputs) start.now.votes.now ≡ Some start.now.votes.now }
 {
     let _phase = start.votes.phase;
 }
@@ -68,16 +68,16 @@ pub(crate) fn settled_votes<'a, S: Sight>(
     sight: &'a S,
     start: &'a Start<'a>,
 ) -> Result<Option<Votes>, AllocError>
-    requires stirs { Stirs start.now.stirred configured.now.name (S.seen sight.now) start.now.given.now start.now.votes.now }
-    requires settles { IsTrue (is_some (settle most_passes (pass configured.now.name (S.seen sight.now) start.now.given.now) start.now.votes.now)) }
-    ensures { IfOk result (λ o. settle most_passes (pass configured.now.name (S.seen sight.now) start.now.given.now) start.now.votes.now ≡ Some (unwrap_or o start.now.votes.now)) }
+    requires stirs { Stirs start.now.stirred configured.now.name (S.seen sight.now) start.now.inputs.now start.now.votes.now }
+    requires settles { IsTrue (is_some (settle most_passes (pass configured.now.name (S.seen sight.now) start.now.inputs.now) start.now.votes.now)) }
+    ensures { IfOk result (λ o. settle most_passes (pass configured.now.name (S.seen sight.now) start.now.inputs.now) start.now.votes.now ≡ Some (unwrap_or o start.now.votes.now)) }
 {
-    let inputs = Inputs {
+    let context = PassContext {
         own: &configured.name,
         sight,
-        given: start.given,
+        inputs: start.inputs,
     };
-    settle_from(alloc, &inputs, start.votes, start.stirred)
+    settle_from(alloc, &context, start.votes, start.stirred)
 }
 
 /// The votes that settled, a copy of those before where they stay. An error says that they have too many owners.

@@ -30,17 +30,17 @@ pub(crate) fn answer<S: Places>(
     start: &Start<'_>,
 ) -> Result<Answer, AllocError>
     requires rows { AreFiled archive.now listener.old.table }
-    requires stirs { StirsIn start.now.stirred (node_of listener.old start.now.given.now start.now.votes.now) }
-    requires settles { IsTrue (is_some (settle most_passes (passed (node_of listener.old start.now.given.now start.now.votes.now)) start.now.votes.now)) }
-    requires sends { IfSome (settle most_passes (passed (node_of listener.old start.now.given.now start.now.votes.now)) start.now.votes.now) SendWellFormed }
-    ensures votes { IfOk result (λ a. settle most_passes (passed (node_of listener.old start.now.given.now start.now.votes.now)) start.now.votes.now ≡ Some a.votes) }
-    ensures outs { IfOk result (λ a. (before after : List Sent) → a.outs.items ≡ outs (whole listener.old.configured old.now.given.now old.now.votes.now before) (whole listener.old.configured start.now.given.now a.votes after)) }
+    requires stirs { StirsIn start.now.stirred (node_of listener.old start.now.inputs.now start.now.votes.now) }
+    requires settles { IsTrue (is_some (settle most_passes (passed (node_of listener.old start.now.inputs.now start.now.votes.now)) start.now.votes.now)) }
+    requires sends { IfSome (settle most_passes (passed (node_of listener.old start.now.inputs.now start.now.votes.now)) start.now.votes.now) SendWellFormed }
+    ensures votes { IfOk result (λ a. settle most_passes (passed (node_of listener.old start.now.inputs.now start.now.votes.now)) start.now.votes.now ≡ Some a.votes) }
+    ensures outs { IfOk result (λ a. (before after : List Sent) → a.outs.items ≡ outs (whole listener.old.configured old.now.inputs.now old.now.votes.now before) (whole listener.old.configured start.now.inputs.now a.votes after)) }
     ensures same { listener.new ≡ listener.old }
 {
     let settled = votes_after(alloc, archive, listener, start)?;
     let votes = votes_or(settled, start.votes)?;
     let new = State {
-        given: start.given,
+        inputs: start.inputs,
         votes: &votes,
     };
     let outs = outs(alloc, listener.configuration(), old, &new)?;
@@ -56,9 +56,9 @@ pub(crate) fn votes_after<S: Places>(
     start: &Start<'_>,
 ) -> Result<Option<Votes>, AllocError>
     requires rows { AreFiled archive.now listener.old.table }
-    requires stirs { StirsIn start.now.stirred (node_of listener.old start.now.given.now start.now.votes.now) }
-    requires settles { IsTrue (is_some (settle most_passes (passed (node_of listener.old start.now.given.now start.now.votes.now)) start.now.votes.now)) }
-    ensures votes { IfOk result (λ o. settle most_passes (passed (node_of listener.old start.now.given.now start.now.votes.now)) start.now.votes.now ≡ Some (unwrap_or o start.now.votes.now)) }
+    requires stirs { StirsIn start.now.stirred (node_of listener.old start.now.inputs.now start.now.votes.now) }
+    requires settles { IsTrue (is_some (settle most_passes (passed (node_of listener.old start.now.inputs.now start.now.votes.now)) start.now.votes.now)) }
+    ensures votes { IfOk result (λ o. settle most_passes (passed (node_of listener.old start.now.inputs.now start.now.votes.now)) start.now.votes.now ≡ Some (unwrap_or o start.now.votes.now)) }
     ensures same { listener.new ≡ listener.old }
 {
     if let Phase::Externalized = start.votes.phase {
@@ -129,14 +129,14 @@ fn votes_within<S: Places>(
 ) -> Result<Option<Votes>, AllocError>
     requires rows { AreFiled archive.now listener.now.table }
     requires reach { IsKnownOf listener.now reach.now }
-    requires stirs { StirsIn start.now.stirred (node_of listener.now start.now.given.now start.now.votes.now) }
-    requires settles { IsTrue (is_some (settle most_passes (passed (node_of listener.now start.now.given.now start.now.votes.now)) start.now.votes.now)) }
-    ensures { IfOk result (λ o. settle most_passes (passed (node_of listener.now start.now.given.now start.now.votes.now)) start.now.votes.now ≡ Some (unwrap_or o start.now.votes.now)) }
+    requires stirs { StirsIn start.now.stirred (node_of listener.now start.now.inputs.now start.now.votes.now) }
+    requires settles { IsTrue (is_some (settle most_passes (passed (node_of listener.now start.now.inputs.now start.now.votes.now)) start.now.votes.now)) }
+    ensures { IfOk result (λ o. settle most_passes (passed (node_of listener.now start.now.inputs.now start.now.votes.now)) start.now.votes.now ≡ Some (unwrap_or o start.now.votes.now)) }
 {
     let configured = listener.configuration();
     let rows = Rows::of(listener.table(), archive);
     let own = configured.own();
-    let leaders = &start.given.leaders;
+    let leaders = &start.inputs.leaders;
     match start.stirred {
         Stirred::Nominations => {
             let view = View::in_place(alloc, own, leaders, &rows, reach);

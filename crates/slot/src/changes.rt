@@ -12,20 +12,20 @@ use leaders::leader;
 use listening::Configured;
 use std::alloc::{AllocError, Global};
 use timers::{ballot_is_live, nomination_is_live};
-use types::{Given, Value, Votes};
+use types::{Inputs, Value, Votes};
 
 /// What an event's own change makes of what is given and of the votes.
 #[derive(Drop)]
 pub(crate) struct Changed {
-    pub given: Given,
+    pub inputs: Inputs,
     pub votes: Votes,
 }
 
 /// Whether the nomination timer of this round acts.
-pub(crate) fn is_round_live(given: &Given, votes: &Votes, round: u32) -> bool
-    ensures { result ≡ is_nomination_timer_live round given.now.round (is_some votes.now.high) }
+pub(crate) fn is_round_live(inputs: &Inputs, votes: &Votes, round: u32) -> bool
+    ensures { result ≡ is_nomination_timer_live round inputs.now.round (is_some votes.now.confirmed_prepared) }
 {
-    nomination_is_live(round, given.round, votes.high.is_some())
+    nomination_is_live(round, inputs.round, votes.confirmed_prepared.is_some())
 }
 
 /// Whether the ballot timer that was armed for this counter acts.
@@ -41,19 +41,19 @@ pub(crate) fn is_counter_live(votes: &Votes, counter: u32) -> bool
 
 /// What is given once the node is to propose a value: round 1 begins with its leader. An error says
 /// that memory is short.
-pub(crate) fn given_input(
+pub(crate) fn with_proposal(
     alloc: Global,
     configured: &Configured,
-    given: &Given,
+    inputs: &Inputs,
     value: Value,
-) -> Result<Given, AllocError>
-    ensures { IfOk result (λ g. g ≡ led configured.now (record given.now { input = Some value }) 1) }
+) -> Result<Inputs, AllocError>
+    ensures { IfOk result (λ g. g ≡ led configured.now (record inputs.now { proposal = Some value }) 1) }
 {
-    let copy = given.try_copy(alloc)?;
+    let copy = inputs.try_copy(alloc)?;
     in_round(
         configured,
-        Given {
-            input: Some(value),
+        Inputs {
+            proposal: Some(value),
             ..copy
         },
         1,
@@ -65,34 +65,34 @@ pub(crate) fn given_input(
 pub(crate) fn in_next_round(
     alloc: Global,
     configured: &Configured,
-    given: &Given,
+    inputs: &Inputs,
     round: u32,
-) -> Result<Given, AllocError>
+) -> Result<Inputs, AllocError>
     requires { round < 4294967295 }
-    ensures { IfOk result (λ g. g ≡ led configured.now given.now (round + 1)) }
+    ensures { IfOk result (λ g. g ≡ led configured.now inputs.now (round + 1)) }
 {
-    in_round(configured, given.try_copy(alloc)?, round + 1)
+    in_round(configured, inputs.try_copy(alloc)?, round + 1)
 }
 
 /// The round begins with its leader; earlier leaders stay.
-fn in_round(configured: &Configured, given: Given, round: u32) -> Result<Given, AllocError>
-    ensures { IfOk result (λ g. g ≡ led configured.now given round) }
+fn in_round(configured: &Configured, inputs: Inputs, round: u32) -> Result<Inputs, AllocError>
+    ensures { IfOk result (λ g. g ≡ led configured.now inputs round) }
 {
-    let mut given = given;
+    let mut inputs = inputs;
     let leader = leader(configured.slot, round, &configured.name, &configured.slices);
-    given.leaders.push(leader)?;
-    given.round = round;
-    Ok(given)
+    inputs.leaders.push(leader)?;
+    inputs.round = round;
+    Ok(inputs)
 }
 
 /// What is given once one more ballot timer has fired. An error says that memory is short.
-pub(crate) fn given_timeout(alloc: Global, given: &Given) -> Result<Given, AllocError>
-    requires { given.now.fired < 4294967295 }
-    ensures { IfOk result (λ g. g ≡ record given.now { fired = given.now.fired + 1 }) }
+pub(crate) fn with_timeout(alloc: Global, inputs: &Inputs) -> Result<Inputs, AllocError>
+    requires { inputs.now.ballot_timeouts < 4294967295 }
+    ensures { IfOk result (λ g. g ≡ record inputs.now { ballot_timeouts = inputs.now.ballot_timeouts + 1 }) }
 {
-    let mut given = given.try_copy(alloc)?;
-    given.fired += 1;
-    Ok(given)
+    let mut inputs = inputs.try_copy(alloc)?;
+    inputs.ballot_timeouts += 1;
+    Ok(inputs)
 }
 
 /// The votes with the ballot one counter up, its value chosen as after a raise. It takes no memory; an error

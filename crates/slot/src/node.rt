@@ -19,8 +19,8 @@ ghost use Rattle.types.specs.declared.event.Out.TheVariants.{Emit};
 use crate::answering::{FiledAnswer, Start, State, set_settled};
 use crate::by_region::{answer, votes_after};
 use crate::changes::{
-    Changed, given_input, given_timeout, in_next_round, is_counter_live, is_round_live,
-    votes_at_next_counter,
+    Changed, in_next_round, is_counter_live, is_round_live, votes_at_next_counter, with_proposal,
+    with_timeout,
 };
 use crate::filed::{FiledEvent, FiledOut, GivenOut};
 use crate::filing::{file_copied, nothing};
@@ -32,7 +32,7 @@ use listening::{Configured, Listener};
 use nomination::leads;
 use std::alloc::{AllocError, Global};
 use std::marker::Model;
-use types::{Given, Nested, NodeId, Value, Votes};
+use types::{Inputs, Nested, NodeId, Value, Votes};
 
 /// One node at one slot, and all that it knows there.
 ///
@@ -44,7 +44,7 @@ use types::{Given, Nested, NodeId, Value, Votes};
 #[derive(Drop)]
 pub struct Node {
     listener: Listener,
-    given: Given,
+    inputs: Inputs,
     votes: Votes,
 }
 
@@ -58,9 +58,9 @@ impl Model for Node {
 
     ghost coded = { Prim.hlevel (codes, members_code) };
 
-    ghost view = { λ n. record { node = node_of n.listener n.given n.votes; rows = n.listener.table } };
+    ghost view = { λ n. record { node = node_of n.listener n.inputs n.votes; rows = n.listener.table } };
 
-    ghost invariant = { λ n. Reached (node_of n.listener n.given n.votes) };
+    ghost invariant = { λ n. Reached (node_of n.listener n.inputs n.votes) };
 }
 
 impl Node {
@@ -71,7 +71,7 @@ impl Node {
     {
         Node {
             listener: Listener::new(alloc, Configured { name, slot, slices }),
-            given: Given::nothing(alloc),
+            inputs: Inputs::nothing(alloc),
             votes: Votes::none(),
         }
     }
@@ -87,7 +87,7 @@ impl Node {
     {
         Ok(Node {
             listener: self.listener.try_copy(alloc, archive)?,
-            given: self.given.try_copy(alloc)?,
+            inputs: self.inputs.try_copy(alloc)?,
             votes: self.votes.try_copy()?,
         })
     }
@@ -114,10 +114,10 @@ impl Node {
     }
 
     /// What events alone set.
-    pub fn given(&self) -> &Given
-        ensures { result.now ≡ self.now.node.given }
+    pub fn inputs(&self) -> &Inputs
+        ensures { result.now ≡ self.now.node.inputs }
     {
-        &self.given
+        &self.inputs
     }
 
     /// What it has voted for, accepted and confirmed.
@@ -138,7 +138,7 @@ impl Node {
     pub fn calm(&self)
         ensures { Calm self.now.node }
     {
-        let _given = &self.given;
+        let _inputs = &self.inputs;
     }
 
     /// One event: its own change, then passes until one changes nothing, then what is given out, in
@@ -176,7 +176,7 @@ impl Node {
         ensures outs { IfOk result (λ v. outs_of v.outs.items ≡ (step self.old.node (event_of event)).1) }
         ensures err { OnErr result (self.new ≡ self.old) }
         ensures idle { change self.old.node (event_of event) ≡ None → IsTrue (is_ok result) }
-        ensures quiet { (R : Names) (e : Sent) → event_of event ≡ NodeEvent.Take e → HoldsReach self.old.node.name self.old.node.slices self.old.node.table R → IsFalse (R e.sender) → IsFalse (among self.old.node.given.leaders e.sender) → IfOk result (λ v. IsQuiet R self.old.node self.new.node (outs_of v.outs.items)) }
+        ensures quiet { (R : Names) (e : Sent) → event_of event ≡ NodeEvent.Take e → HoldsReach self.old.node.name self.old.node.slices self.old.node.table R → IsFalse (R e.sender) → IsFalse (among self.old.node.inputs.leaders e.sender) → IfOk result (λ v. IsQuiet R self.old.node self.new.node (outs_of v.outs.items)) }
         ensures emitted { IfOk result (λ v. (e : Sent) → Contains (outs_of v.outs.items) (Emit e) → IsSentBy self.new.node e) }
         ensures rows { AreFiled archive.new self.new.rows }
         ensures filed { IfOk result (λ v. AreFiledOuts archive.new v.outs.items) }
@@ -220,7 +220,7 @@ impl Node {
     fn comes_of_events(&self)
         ensures { Reached self.now.node }
     {
-        let _given = &self.given;
+        let _inputs = &self.inputs;
     }
 
     /// The input is set, and round 1 begins.
@@ -240,9 +240,9 @@ impl Node {
         ensures copies { IfOk result (HasCopies copies) }
         ensures kept { Keeps archive.old archive.new }
     {
-        let given = given_input(alloc, self.listener.configuration(), &self.given, value)?;
+        let inputs = with_proposal(alloc, self.listener.configuration(), &self.inputs, value)?;
         let votes = self.votes.try_copy()?;
-        self.settle(alloc, archive, Changed { given, votes }, copies)
+        self.settle(alloc, archive, Changed { inputs, votes }, copies)
     }
 
     /// A nomination timer fires: the next round begins where it is live.
@@ -263,12 +263,12 @@ impl Node {
         ensures copies { IfOk result (HasCopies copies) }
         ensures kept { Keeps archive.old archive.new }
     {
-        if !is_round_live(&self.given, &self.votes, round) {
+        if !is_round_live(&self.inputs, &self.votes, round) {
             return Ok(nothing(alloc));
         }
-        let given = in_next_round(alloc, self.listener.configuration(), &self.given, round)?;
+        let inputs = in_next_round(alloc, self.listener.configuration(), &self.inputs, round)?;
         let votes = self.votes.try_copy()?;
-        self.settle(alloc, archive, Changed { given, votes }, copies)
+        self.settle(alloc, archive, Changed { inputs, votes }, copies)
     }
 
     /// A ballot timer fires: the ballot goes one counter up where it is live.
@@ -292,9 +292,9 @@ impl Node {
         if !is_counter_live(&self.votes, counter) {
             return Ok(nothing(alloc));
         }
-        let given = given_timeout(alloc, &self.given)?;
+        let inputs = with_timeout(alloc, &self.inputs)?;
         let votes = votes_at_next_counter(&self.votes)?;
-        self.settle(alloc, archive, Changed { given, votes }, copies)
+        self.settle(alloc, archive, Changed { inputs, votes }, copies)
     }
 
     /// The configured slices are these from now on, and passes follow. Those that were are put back where
@@ -317,7 +317,7 @@ impl Node {
     {
         let old_slices = self.listener.exchange_slices(slices);
         let start = Start {
-            given: &self.given,
+            inputs: &self.inputs,
             votes: &self.votes,
             stirred: Stirred::All,
         };
@@ -341,7 +341,7 @@ impl Node {
         if is_externalized(self.votes.phase) {
             return true;
         }
-        self.listener.is_stranger(sender) && !leads(sender, &self.given)
+        self.listener.is_stranger(sender) && !leads(sender, &self.inputs)
     }
 
     /// An envelope reaches the node. One that is no more than a row is offered to the table.
@@ -397,7 +397,7 @@ impl Node {
             Put::NoMemory => Err(AllocError),
             Put::Added | Put::Replaced(_) => {
                 let start = Start {
-                    given: &self.given,
+                    inputs: &self.inputs,
                     votes: &self.votes,
                     stirred,
                 };
@@ -427,22 +427,22 @@ impl Node {
         copies: usize,
     ) -> Result<GivenOut, AllocError>
         requires rows { AreFiled archive.old self.old.rows }
-        requires change { IsChange self.old.node (record self.old.node { given = changed.given; votes = changed.votes }) }
-        ensures node { OnOk result (self.new.node ≡ (answered self.old.node (after_change (Some (record self.old.node { given = changed.given; votes = changed.votes })))).0) }
-        ensures outs { IfOk result (λ v. outs_of v.outs.items ≡ (answered self.old.node (after_change (Some (record self.old.node { given = changed.given; votes = changed.votes })))).1) }
+        requires change { IsChange self.old.node (record self.old.node { inputs = changed.inputs; votes = changed.votes }) }
+        ensures node { OnOk result (self.new.node ≡ (answered self.old.node (after_change (Some (record self.old.node { inputs = changed.inputs; votes = changed.votes })))).0) }
+        ensures outs { IfOk result (λ v. outs_of v.outs.items ≡ (answered self.old.node (after_change (Some (record self.old.node { inputs = changed.inputs; votes = changed.votes })))).1) }
         ensures err { OnErr result (self.new ≡ self.old) }
         ensures rows { AreFiled archive.new self.new.rows }
         ensures filed { IfOk result (λ v. AreFiledOuts archive.new v.outs.items) }
         ensures copies { IfOk result (HasCopies copies) }
         ensures kept { Keeps archive.old archive.new }
     {
-        let Changed { given, votes } = changed;
+        let Changed { inputs, votes } = changed;
         let old = State {
-            given: &self.given,
+            inputs: &self.inputs,
             votes: &self.votes,
         };
         let start = Start {
-            given: &given,
+            inputs: &inputs,
             votes: &votes,
             stirred: Stirred::All,
         };
@@ -450,7 +450,7 @@ impl Node {
         drop(votes);
         let answer = answered?;
         let given_out = file_copied(alloc, archive, answer.outs, copies)?;
-        self.given = given;
+        self.inputs = inputs;
         self.votes = answer.votes;
         Ok(given_out)
     }
@@ -467,11 +467,11 @@ fn answer_anew<S: Shelf>(
     copies: usize,
 ) -> Result<FiledAnswer, AllocError>
     requires rows { AreFiled archive.old listener.old.table }
-    requires stirs { StirsIn start.now.stirred (node_of listener.old start.now.given.now start.now.votes.now) }
-    requires settles { IsTrue (is_some (settle most_passes (passed (node_of listener.old start.now.given.now start.now.votes.now)) start.now.votes.now)) }
-    requires sends { IfSome (settle most_passes (passed (node_of listener.old start.now.given.now start.now.votes.now)) start.now.votes.now) SendWellFormed }
-    ensures votes { IfOk result (λ a. settle most_passes (passed (node_of listener.old start.now.given.now start.now.votes.now)) start.now.votes.now ≡ Some (unwrap_or a.votes start.now.votes.now)) }
-    ensures outs { IfOk result (λ a. (before after : List Sent) → outs_of a.given_out.outs.items ≡ outs (whole listener.old.configured start.now.given.now start.now.votes.now before) (whole listener.old.configured start.now.given.now (unwrap_or a.votes start.now.votes.now) after)) }
+    requires stirs { StirsIn start.now.stirred (node_of listener.old start.now.inputs.now start.now.votes.now) }
+    requires settles { IsTrue (is_some (settle most_passes (passed (node_of listener.old start.now.inputs.now start.now.votes.now)) start.now.votes.now)) }
+    requires sends { IfSome (settle most_passes (passed (node_of listener.old start.now.inputs.now start.now.votes.now)) start.now.votes.now) SendWellFormed }
+    ensures votes { IfOk result (λ a. settle most_passes (passed (node_of listener.old start.now.inputs.now start.now.votes.now)) start.now.votes.now ≡ Some (unwrap_or a.votes start.now.votes.now)) }
+    ensures outs { IfOk result (λ a. (before after : List Sent) → outs_of a.given_out.outs.items ≡ outs (whole listener.old.configured start.now.inputs.now start.now.votes.now before) (whole listener.old.configured start.now.inputs.now (unwrap_or a.votes start.now.votes.now) after)) }
     ensures same { listener.new ≡ listener.old }
     ensures filed { IfOk result (λ a. AreFiledOuts archive.new a.given_out.outs.items) }
     ensures copies { IfOk result (λ a. HasCopies copies a.given_out) }
@@ -485,11 +485,11 @@ fn answer_anew<S: Shelf>(
         });
     };
     let old = State {
-        given: start.given,
+        inputs: start.inputs,
         votes: start.votes,
     };
     let new = State {
-        given: start.given,
+        inputs: start.inputs,
         votes: &votes,
     };
     let outs = outs(alloc, listener.configuration(), &old, &new)?;

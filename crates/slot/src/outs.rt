@@ -27,11 +27,11 @@ pub(crate) fn outs(
     new: &State<'_>,
 ) -> Result<Vec<Out>, AllocError>
     requires { SendWellFormed new.now.votes.now }
-    ensures { IfOk result (λ v. (before after : List Sent) → v.items ≡ outs (whole configured.now old.now.given.now old.now.votes.now before) (whole configured.now new.now.given.now new.now.votes.now after)) }
+    ensures { IfOk result (λ v. (before after : List Sent) → v.items ≡ outs (whole configured.now old.now.inputs.now old.now.votes.now before) (whole configured.now new.now.inputs.now new.now.votes.now after)) }
 {
     let mut given_out = Vec::new(alloc);
-    let round = new.given.round;
-    let is_round = round != old.given.round && new.votes.high.is_none();
+    let round = new.inputs.round;
+    let is_round = round != old.inputs.round && new.votes.confirmed_prepared.is_none();
     push_when(&mut given_out, is_round, Out::ArmNomination(round))?;
     let armed = new.votes.armed;
     let is_armed = armed != old.votes.armed

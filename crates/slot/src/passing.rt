@@ -11,7 +11,7 @@ use drafts::Draft;
 use fedvote::Sight;
 use nomination::nominate;
 use std::alloc::{AllocError, Global};
-use types::{Given, NodeId, Phase};
+use types::{Inputs, NodeId, Phase};
 
 /// One pass: all rules in their order, each with what the one before it made. In
 /// [`Phase::Externalized`] nothing changes (the Stellar Consensus Protocol draft; the order is this
@@ -21,14 +21,14 @@ pub(crate) fn pass<S: Sight>(
     alloc: Global,
     own: &NodeId,
     sight: &S,
-    given: &Given,
+    inputs: &Inputs,
     draft: &mut Draft<'_>,
 ) -> Result<(), AllocError>
-    ensures { OnOk result (draft.new ≡ after (pass own.now (S.seen sight.now) given.now) draft.old) }
+    ensures { OnOk result (draft.new ≡ after (pass own.now (S.seen sight.now) inputs.now) draft.old) }
 {
     match draft.votes().phase {
         Phase::Externalized => Ok(()),
-        Phase::Preparing | Phase::Committing => pass_rules(alloc, own, sight, given, draft),
+        Phase::Preparing | Phase::Committing => pass_rules(alloc, own, sight, inputs, draft),
     }
 }
 
@@ -38,14 +38,14 @@ pub(crate) fn nominate_unless_over<S: Sight>(
     alloc: Global,
     own: &NodeId,
     sight: &S,
-    given: &Given,
+    inputs: &Inputs,
     draft: &mut Draft<'_>,
 ) -> Result<(), AllocError>
-    ensures { OnOk result (draft.new ≡ after (nominated_in own.now (S.seen sight.now) given.now) draft.old) }
+    ensures { OnOk result (draft.new ≡ after (nominated_in own.now (S.seen sight.now) inputs.now) draft.old) }
 {
     match draft.votes().phase {
         Phase::Externalized => Ok(()),
-        Phase::Preparing | Phase::Committing => nominate(alloc, own, sight, given, draft),
+        Phase::Preparing | Phase::Committing => nominate(alloc, own, sight, inputs, draft),
     }
 }
 
@@ -54,14 +54,14 @@ pub(crate) fn nominate_unless_over<S: Sight>(
 pub(crate) fn ballot_unless_over<S: Sight>(
     alloc: Global,
     sight: &S,
-    given: &Given,
+    inputs: &Inputs,
     draft: &mut Draft<'_>,
 ) -> Result<(), AllocError>
-    ensures { OnOk result (draft.new ≡ after (balloted_in (S.seen sight.now) given.now) draft.old) }
+    ensures { OnOk result (draft.new ≡ after (balloted_in (S.seen sight.now) inputs.now) draft.old) }
 {
     match draft.votes().phase {
         Phase::Externalized => Ok(()),
-        Phase::Preparing | Phase::Committing => balloting(alloc, sight, given, draft),
+        Phase::Preparing | Phase::Committing => balloting(alloc, sight, inputs, draft),
     }
 }
 
@@ -71,29 +71,29 @@ fn pass_rules<S: Sight>(
     alloc: Global,
     own: &NodeId,
     sight: &S,
-    given: &Given,
+    inputs: &Inputs,
     draft: &mut Draft<'_>,
 ) -> Result<(), AllocError>
-    ensures { OnOk result (draft.new ≡ after (pass_rules own.now (S.seen sight.now) given.now) draft.old) }
+    ensures { OnOk result (draft.new ≡ after (pass_rules own.now (S.seen sight.now) inputs.now) draft.old) }
 {
-    nominate(alloc, own, sight, given, draft)?;
-    balloting(alloc, sight, given, draft)
+    nominate(alloc, own, sight, inputs, draft)?;
+    balloting(alloc, sight, inputs, draft)
 }
 
 /// The first ballot, voting, and counters unless a value was externalized by then.
 fn balloting<S: Sight>(
     alloc: Global,
     sight: &S,
-    given: &Given,
+    inputs: &Inputs,
     draft: &mut Draft<'_>,
 ) -> Result<(), AllocError>
-    ensures { OnOk result (draft.new ≡ after (balloting (S.seen sight.now) given.now) draft.old) }
+    ensures { OnOk result (draft.new ≡ after (balloting (S.seen sight.now) inputs.now) draft.old) }
 {
     start(alloc, sight, draft)?;
     voting(alloc, sight, draft)?;
     match draft.votes().phase {
         Phase::Externalized => Ok(()),
-        Phase::Preparing | Phase::Committing => counting(alloc, sight, given, draft),
+        Phase::Preparing | Phase::Committing => counting(alloc, sight, inputs, draft),
     }
 }
 
@@ -113,11 +113,11 @@ fn voting<S: Sight>(alloc: Global, sight: &S, draft: &mut Draft<'_>) -> Result<(
 fn counting<S: Sight>(
     alloc: Global,
     sight: &S,
-    given: &Given,
+    inputs: &Inputs,
     draft: &mut Draft<'_>,
 ) -> Result<(), AllocError>
-    ensures { OnOk result (draft.new ≡ after (counting (S.seen sight.now) given.now) draft.old) }
+    ensures { OnOk result (draft.new ≡ after (counting (S.seen sight.now) inputs.now) draft.old) }
 {
-    raise(alloc, sight, given, draft)?;
+    raise(alloc, sight, inputs, draft)?;
     arm(alloc, sight, draft)
 }

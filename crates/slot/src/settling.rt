@@ -15,20 +15,20 @@ use crate::stirring::Stirred;
 use drafts::Draft;
 use fedvote::Sight;
 use std::alloc::{AllocError, Global};
-use types::{Given, NodeId, Votes};
+use types::{Inputs, NodeId, Votes};
 
 /// How many passes are tried after an event, `most_passes` of the definitions; none needs more than four.
 const MOST_PASSES: u32 = 64;
 
 /// What the rules of a pass read beside the votes.
 #[derive(Drop)]
-pub(crate) struct Inputs<'a, S> {
+pub(crate) struct PassContext<'a, S> {
     /// The node's own name.
     pub own: &'a NodeId,
     /// What it sees of its table.
     pub sight: &'a S,
     /// What events alone set.
-    pub given: &'a Given,
+    pub inputs: &'a Inputs,
 }
 
 /// The votes after passes, from votes that stay, until one changes nothing; the event before them stirs these
@@ -36,18 +36,18 @@ pub(crate) struct Inputs<'a, S> {
 /// once for each pass that changes some.
 pub(crate) fn settle_from<S: Sight>(
     alloc: Global,
-    inputs: &Inputs<'_, S>,
+    context: &PassContext<'_, S>,
     votes: &Votes,
     stirred: Stirred,
 ) -> Result<Option<Votes>, AllocError>
-    requires stirs { Stirs stirred inputs.now.own.now (S.seen inputs.now.sight.now) inputs.now.given.now votes.now }
-    requires settles { IsTrue (is_some (settle most_passes (pass inputs.now.own.now (S.seen inputs.now.sight.now) inputs.now.given.now) votes.now)) }
-    ensures { IfOk result (λ o. settle most_passes (pass inputs.now.own.now (S.seen inputs.now.sight.now) inputs.now.given.now) votes.now ≡ Some (unwrap_or o votes.now)) }
+    requires stirs { Stirs stirred context.now.own.now (S.seen context.now.sight.now) context.now.inputs.now votes.now }
+    requires settles { IsTrue (is_some (settle most_passes (pass context.now.own.now (S.seen context.now.sight.now) context.now.inputs.now) votes.now)) }
+    ensures { IfOk result (λ o. settle most_passes (pass context.now.own.now (S.seen context.now.sight.now) context.now.inputs.now) votes.now ≡ Some (unwrap_or o votes.now)) }
 {
-    let Some(next) = difference_by(alloc, inputs, votes, stirred)? else {
+    let Some(next) = difference_by(alloc, context, votes, stirred)? else {
         return Ok(None);
     };
-    let settled = settle_next(alloc, inputs, votes, next, stirred)?;
+    let settled = settle_next(alloc, context, votes, next, stirred)?;
     let Some(settled) = settled else {
         unreachable!()
     };
@@ -58,19 +58,19 @@ pub(crate) fn settle_from<S: Sight>(
 /// something, which no event of a node makes (the limit is this host's profile).
 fn settle_next<S: Sight>(
     alloc: Global,
-    inputs: &Inputs<'_, S>,
+    context: &PassContext<'_, S>,
     before: &Votes,
     next: Votes,
     stirred: Stirred,
 ) -> Result<Option<Votes>, AllocError>
-    requires stirs { Stirs stirred inputs.now.own.now (S.seen inputs.now.sight.now) inputs.now.given.now before.now }
-    requires next { IsDifference before.now (part stirred inputs.now.own.now (S.seen inputs.now.sight.now) inputs.now.given.now before.now) (Some next) }
-    ensures { IfOk result (λ o. o ≡ settle most_passes (pass inputs.now.own.now (S.seen inputs.now.sight.now) inputs.now.given.now) before.now) }
+    requires stirs { Stirs stirred context.now.own.now (S.seen context.now.sight.now) context.now.inputs.now before.now }
+    requires next { IsDifference before.now (part stirred context.now.own.now (S.seen context.now.sight.now) context.now.inputs.now before.now) (Some next) }
+    ensures { IfOk result (λ o. o ≡ settle most_passes (pass context.now.own.now (S.seen context.now.sight.now) context.now.inputs.now) before.now) }
 {
     match stirred {
-        Stirred::All => settle_on(alloc, inputs, next),
-        Stirred::Ballots => settle_on(alloc, inputs, next),
-        Stirred::Nominations => settle_nominated(alloc, inputs, before, next),
+        Stirred::All => settle_on(alloc, context, next),
+        Stirred::Ballots => settle_on(alloc, context, next),
+        Stirred::Nominations => settle_nominated(alloc, context, before, next),
     }
 }
 
@@ -78,29 +78,29 @@ fn settle_next<S: Sight>(
 /// rest, and balloting still is.
 fn settle_nominated<S: Sight>(
     alloc: Global,
-    inputs: &Inputs<'_, S>,
+    context: &PassContext<'_, S>,
     before: &Votes,
     nominated: Votes,
 ) -> Result<Option<Votes>, AllocError>
-    requires { nominated ≡ nominated_in inputs.now.own.now (S.seen inputs.now.sight.now) inputs.now.given.now before.now }
-    ensures { IfOk result (λ o. o ≡ settle_nominations inputs.now.own.now (S.seen inputs.now.sight.now) inputs.now.given.now before.now) }
+    requires { nominated ≡ nominated_in context.now.own.now (S.seen context.now.sight.now) context.now.inputs.now before.now }
+    ensures { IfOk result (λ o. o ≡ settle_nominations context.now.own.now (S.seen context.now.sight.now) context.now.inputs.now before.now) }
 {
     if nominated.confirms.is_same(&before.confirms) {
         return Ok(Some(nominated));
     }
-    let next = ballot_from(alloc, inputs, nominated)?;
-    settle_after(alloc, inputs, before, next)
+    let next = ballot_from(alloc, context, nominated)?;
+    settle_after(alloc, context, before, next)
 }
 
 /// The votes after the part of a pass that is balloting.
 fn ballot_from<S: Sight>(
     alloc: Global,
-    inputs: &Inputs<'_, S>,
+    context: &PassContext<'_, S>,
     votes: Votes,
 ) -> Result<Votes, AllocError>
-    ensures { IfOk result (λ w. w ≡ balloted_in (S.seen inputs.now.sight.now) inputs.now.given.now votes) }
+    ensures { IfOk result (λ w. w ≡ balloted_in (S.seen context.now.sight.now) context.now.inputs.now votes) }
 {
-    match difference_by(alloc, inputs, &votes, Stirred::Ballots)? {
+    match difference_by(alloc, context, &votes, Stirred::Ballots)? {
         None => Ok(votes),
         Some(next) => Ok(next),
     }
@@ -109,30 +109,30 @@ fn ballot_from<S: Sight>(
 /// The votes after the passes that follow on a first one: in these nomination changes nothing.
 fn settle_after<S: Sight>(
     alloc: Global,
-    inputs: &Inputs<'_, S>,
+    context: &PassContext<'_, S>,
     before: &Votes,
     after: Votes,
 ) -> Result<Option<Votes>, AllocError>
-    ensures { IfOk result (λ o. o ≡ settle_after (S.seen inputs.now.sight.now) inputs.now.given.now before.now after) }
+    ensures { IfOk result (λ o. o ≡ settle_after (S.seen context.now.sight.now) context.now.inputs.now before.now after) }
 {
     if after.is_same(before) {
         return Ok(Some(after));
     }
-    settle_on(alloc, inputs, after)
+    settle_on(alloc, context, after)
 }
 
 /// The votes after the passes that are left once a first one has changed something: in these nomination changes
 /// nothing.
 fn settle_on<S: Sight>(
     alloc: Global,
-    inputs: &Inputs<'_, S>,
+    context: &PassContext<'_, S>,
     votes: Votes,
 ) -> Result<Option<Votes>, AllocError>
-    ensures { IfOk result (λ o. o ≡ settle (most_passes - 1) (balloted_in (S.seen inputs.now.sight.now) inputs.now.given.now) votes) }
+    ensures { IfOk result (λ o. o ≡ settle (most_passes - 1) (balloted_in (S.seen context.now.sight.now) context.now.inputs.now) votes) }
 {
     let mut settled = votes;
     for number in 1..MOST_PASSES {
-        let Some(next) = difference_by(alloc, inputs, &settled, Stirred::Ballots)? else {
+        let Some(next) = difference_by(alloc, context, &settled, Stirred::Ballots)? else {
             return Ok(Some(settled));
         };
         settled = next;
@@ -143,14 +143,14 @@ fn settle_on<S: Sight>(
 /// What the part of a pass with these rules makes of votes that stay; `None` where that is the same votes.
 fn difference_by<S: Sight>(
     alloc: Global,
-    inputs: &Inputs<'_, S>,
+    context: &PassContext<'_, S>,
     votes: &Votes,
     rules: Stirred,
 ) -> Result<Option<Votes>, AllocError>
-    ensures { IfOk result (IsDifference votes.now (part rules inputs.now.own.now (S.seen inputs.now.sight.now) inputs.now.given.now votes.now)) }
+    ensures { IfOk result (IsDifference votes.now (part rules context.now.own.now (S.seen context.now.sight.now) context.now.inputs.now votes.now)) }
 {
     let mut draft = Draft::of(votes);
-    apply_part(alloc, inputs, rules, &mut draft)?;
+    apply_part(alloc, context, rules, &mut draft)?;
     let changed = draft.into_changed();
     let difference = unless_same(changed, votes);
     Ok(difference)
@@ -159,20 +159,20 @@ fn difference_by<S: Sight>(
 /// The part of a pass with these rules.
 fn apply_part<S: Sight>(
     alloc: Global,
-    inputs: &Inputs<'_, S>,
+    context: &PassContext<'_, S>,
     rules: Stirred,
     draft: &mut Draft<'_>,
 ) -> Result<(), AllocError>
-    ensures { OnOk result (draft.new ≡ after (part rules inputs.now.own.now (S.seen inputs.now.sight.now) inputs.now.given.now) draft.old) }
+    ensures { OnOk result (draft.new ≡ after (part rules context.now.own.now (S.seen context.now.sight.now) context.now.inputs.now) draft.old) }
 {
     match rules {
-        Stirred::All => pass(alloc, inputs.own, inputs.sight, inputs.given, draft),
-        Stirred::Ballots => ballot_unless_over(alloc, inputs.sight, inputs.given, draft),
+        Stirred::All => pass(alloc, context.own, context.sight, context.inputs, draft),
+        Stirred::Ballots => ballot_unless_over(alloc, context.sight, context.inputs, draft),
         Stirred::Nominations => nominate_unless_over(
             alloc,
-            inputs.own,
-            inputs.sight,
-            inputs.given,
+            context.own,
+            context.sight,
+            context.inputs,
             draft,
         ),
     }

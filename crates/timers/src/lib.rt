@@ -33,8 +33,8 @@ pub fn ballot_is_live(timer: u32, armed: u32, counter: Option<u32>, externalized
 
 /// The greatest counter to which the ballots of other nodes may raise a node's own: 1,000 more than
 /// its ballot timers that have fired, and at most 4,294,967,295 (this host's profile).
-pub fn cap(fired: u32) -> u32
-    ensures { result ≡ cap fired }
+pub fn cap(ballot_timeouts: u32) -> u32
+    ensures { result ≡ cap ballot_timeouts }
 {
-    fired.saturating_add(FREE_RAISE)
+    ballot_timeouts.saturating_add(FREE_RAISE)
 }

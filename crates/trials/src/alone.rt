@@ -298,15 +298,19 @@ fn push_out(
 
 /// The state of a node in words, with no more of its table than the number of rows.
 fn push_state(text: &mut String, node: &Node) -> Result<(), AllocError> {
-    let given = node.given();
+    let inputs = node.inputs();
     write!(text, "rows {} ", node.table().len())?;
     push_slices(text, node.slices())?;
-    write!(text, " round {} fired {} leaders", given.round, given.fired)?;
-    for leader in given.leaders.as_slice() {
+    write!(
+        text,
+        " round {} timeouts {} leaders",
+        inputs.round, inputs.ballot_timeouts
+    )?;
+    for leader in inputs.leaders.as_slice() {
         text.push(' ')?;
         push_name(text, leader)?;
     }
-    if let Some(input) = &given.input {
+    if let Some(input) = &inputs.proposal {
         text.push_str(" input ")?;
         push_value(text, input)?;
     }
@@ -324,12 +328,12 @@ fn push_votes(text: &mut String, votes: &Votes) -> Result<(), AllocError> {
     })?;
     push_known(text, " ballot ", &votes.ballot)?;
     push_known(text, " prepared ", &votes.prepared)?;
-    push_known(text, " high ", &votes.high)?;
+    push_known(text, " confirmed_prepared ", &votes.confirmed_prepared)?;
     push_known(text, " commit ", &votes.commit)?;
     write!(
         text,
-        " aborted {} lo {} hi {} armed {}",
-        votes.aborted, votes.lo, votes.hi, votes.armed
+        " aborted {} low {} high {} armed {}",
+        votes.aborted, votes.low, votes.high, votes.armed
     )
 }
 

@@ -9,7 +9,7 @@ use std::alloc::AllocError;
 pub struct Moment {
     pub votes: Votes,
     pub round: u32,
-    pub fired: u32,
+    pub ballot_timeouts: u32,
     pub trust: Trust,
     /// Some leader is not reached: its row is no candidate, and is echoed all the same.
     pub has_far_leader: bool,
@@ -60,7 +60,10 @@ impl Counts {
         count(&mut self.aborted, new.votes.aborted > old.votes.aborted);
         count(&mut self.raised, is_raised(old, new));
         count(&mut self.rounds, is_next_round(old, new));
-        count(&mut self.counters, new.fired > old.fired);
+        count(
+            &mut self.counters,
+            new.ballot_timeouts > old.ballot_timeouts,
+        );
         count(&mut self.not_newer, is_not_newer(old.sent, new.sent));
         count(&mut self.externalized, externalizes(old, new));
         count(&mut self.moved, moves_by_slices(old, new));
@@ -115,7 +118,7 @@ fn enters_commit(old: Moment, new: Moment) -> bool {
 fn widens_commit(old: Moment, new: Moment) -> bool {
     old.votes.phase == Phase::Committing
         && new.votes.phase == Phase::Committing
-        && new.votes.hi > old.votes.hi
+        && new.votes.high > old.votes.high
 }
 
 /// While PREPARE goes on a counter rises by a timer, to that of the ballot confirmed as prepared, or since
@@ -123,9 +126,9 @@ fn widens_commit(old: Moment, new: Moment) -> bool {
 fn is_raised(old: Moment, new: Moment) -> bool {
     new.votes.phase == Phase::Preparing
         && old.votes.ballot.is_some()
-        && new.fired == old.fired
+        && new.ballot_timeouts == old.ballot_timeouts
         && counter(new.votes.ballot) > counter(old.votes.ballot)
-        && counter(new.votes.ballot) > counter(new.votes.high)
+        && counter(new.votes.ballot) > counter(new.votes.confirmed_prepared)
 }
 
 fn is_next_round(old: Moment, new: Moment) -> bool {

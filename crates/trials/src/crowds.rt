@@ -54,7 +54,7 @@ impl Crowd {
     fn happening(&mut self, turn: u32) -> Happening {
         let round = self.twin.slow.round;
         let armed = self.twin.slow.votes.armed;
-        let proposed = self.twin.slow.input.is_some();
+        let proposed = self.twin.slow.proposal.is_some();
         match self.dice.below(20) {
             0 if !proposed => Happening::Proposed(self.dice.value()),
             1 => Happening::NominationTimer(round),

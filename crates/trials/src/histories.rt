@@ -82,7 +82,7 @@ impl History {
         };
         let round = twin.slow.round;
         let armed = twin.slow.votes.armed;
-        let proposed = twin.slow.input.is_some();
+        let proposed = twin.slow.proposal.is_some();
         match self.dice.below(12) {
             0 | 1 if !proposed => Happening::Proposed(self.dice.value()),
             2 => Happening::NominationTimer(round),

@@ -11,7 +11,7 @@ use envstore::{Archive, VecShelf};
 use latest::Rows;
 use slot::{FiledOut, Node};
 use std::alloc::{AllocError, Global};
-use types::{Given, Kind, NodeId};
+use types::{Inputs, Kind, NodeId};
 
 /// The name of the node.
 const NAME: &str = "A";
@@ -174,7 +174,7 @@ fn is_as(archive: &Archive<VecShelf>, node: &Node, other: &Node) -> bool
 {
     node.slices().is_same(other.slices())
         && node.votes().is_same(other.votes())
-        && has_same_given(node.given(), other.given())
+        && has_same_inputs(node.inputs(), other.inputs())
         && has_same_rows(
             &Rows::of(node.table(), archive),
             &Rows::of(other.table(), archive),
@@ -182,11 +182,11 @@ fn is_as(archive: &Archive<VecShelf>, node: &Node, other: &Node) -> bool
 }
 
 /// Whether two nodes were given the same.
-fn has_same_given(given: &Given, other: &Given) -> bool {
-    given.round == other.round
-        && given.fired == other.fired
-        && given.input == other.input
-        && given.leaders.as_slice() == other.leaders.as_slice()
+fn has_same_inputs(inputs: &Inputs, other: &Inputs) -> bool {
+    inputs.round == other.round
+        && inputs.ballot_timeouts == other.ballot_timeouts
+        && inputs.proposal == other.proposal
+        && inputs.leaders.as_slice() == other.leaders.as_slice()
 }
 
 /// Whether two tables have the same statements and slices.

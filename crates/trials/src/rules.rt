@@ -24,8 +24,9 @@ pub enum Topic {
 
 impl State {
     pub fn high_counter(votes: Votes, ballot: Ballot) -> u32 {
-        match votes.high {
-            Some(high) if high.value == ballot.value => high.counter,
+        match votes.confirmed_prepared {
+            Some(confirmed_prepared) if confirmed_prepared.value == ballot.value =>
+                confirmed_prepared.counter,
             _ => 0,
         }
     }
@@ -57,12 +58,12 @@ impl State {
                     Some(p) => p.counter,
                     None => 0,
                 },
-                high: votes.hi,
-                commit: votes.lo,
+                high: votes.high,
+                commit: votes.low,
             },
             Phase::Externalized => Statement::Externalize {
-                commit: at(votes.lo, ballot.value),
-                high: votes.hi,
+                commit: at(votes.low, ballot.value),
+                high: votes.high,
             },
         })
     }
@@ -111,7 +112,7 @@ impl State {
                 }
             }
             if *leader == self.own {
-                if let Some(input) = self.input {
+                if let Some(input) = self.proposal {
                     voted |= bit(input);
                 }
             }
@@ -166,7 +167,7 @@ impl State {
     }
 
     pub fn nominate(&self, votes: Votes) -> Votes {
-        if votes.high.is_some() {
+        if votes.confirmed_prepared.is_some() {
             return votes;
         }
         self.confirm_values(self.accept_values(self.echo(votes)))
@@ -246,16 +247,16 @@ impl State {
 
     /// The least counter of these from which on that is so, up to this end.
     pub fn commit_start(&self, votes: Votes, claim: Claim, commits: &[Ballot], end: Ballot) -> u32 {
-        let mut lo = end.counter;
+        let mut low = end.counter;
         for t in commits {
             if t.value == end.value
-                && t.counter < lo
+                && t.counter < low
                 && self.has_commit(votes, claim, from_to(*t, end.counter))
             {
-                lo = t.counter;
+                low = t.counter;
             }
         }
-        lo
+        low
     }
 
     pub fn start(&self, alloc: Global, votes: Votes) -> Result<Votes, AllocError> {
@@ -323,18 +324,18 @@ impl State {
         if votes.phase != Phase::Preparing {
             return Ok(votes);
         }
-        let mut high = votes.high;
+        let mut confirmed_prepared = votes.confirmed_prepared;
         for t in self.candidates(alloc, votes, Topic::Prepare)?.as_slice() {
             if self.is_confirmed(votes, *t) {
-                high = greater(high, *t);
+                confirmed_prepared = greater(confirmed_prepared, *t);
             }
         }
-        let ballot = match high {
+        let ballot = match confirmed_prepared {
             Some(h) if h > old_ballot => h,
             _ => old_ballot,
         };
         let votes = Votes {
-            high,
+            confirmed_prepared,
             ballot: Some(ballot),
             ..votes
         };
@@ -358,7 +359,7 @@ impl State {
             let counts = if votes.phase == Phase::Preparing {
                 self.is_confirmed(votes, *t) && !State::is_aborted(votes, *t)
             } else {
-                t.value == ballot.value && t.counter > votes.hi
+                t.value == ballot.value && t.counter > votes.high
             };
             if counts && self.has_commit(votes, Claim::Accepted, from_to(*t, t.counter)) {
                 end = greater(end, *t);
@@ -387,13 +388,13 @@ impl State {
             phase: Phase::Committing,
             ballot: Some(at(counter, end.value)),
             prepared: greater(votes.prepared, end),
-            high: if votes.phase == Phase::Preparing {
-                greater(votes.high, end)
+            confirmed_prepared: if votes.phase == Phase::Preparing {
+                greater(votes.confirmed_prepared, end)
             } else {
-                votes.high
+                votes.confirmed_prepared
             },
-            lo: self.commit_start(votes, Claim::Accepted, &commits, end),
-            hi: end.counter,
+            low: self.commit_start(votes, Claim::Accepted, &commits, end),
+            high: end.counter,
             ..votes
         })
     }
@@ -429,8 +430,8 @@ impl State {
         };
         Ok(Votes {
             phase: Phase::Externalized,
-            lo: self.commit_start(votes, Claim::Confirmed, &commits, end),
-            hi: end.counter,
+            low: self.commit_start(votes, Claim::Confirmed, &commits, end),
+            high: end.counter,
             ..votes
         })
     }
@@ -438,7 +439,7 @@ impl State {
     // ---- counters
 
     pub fn cap(&self) -> u32 {
-        self.fired.saturating_add(1000)
+        self.ballot_timeouts.saturating_add(1000)
     }
 
     pub fn raise_to(votes: Votes, ballot: Ballot, counter: u32) -> Ballot {
@@ -447,8 +448,8 @@ impl State {
         }
         let value = if votes.phase != Phase::Preparing {
             ballot.value
-        } else if let Some(high) = votes.high {
-            high.value
+        } else if let Some(confirmed_prepared) = votes.confirmed_prepared {
+            confirmed_prepared.value
         } else if let Some(value) = greatest_of(votes.confirms) {
             value
         } else if let Some(prepared) = votes.prepared {

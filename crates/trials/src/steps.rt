@@ -58,7 +58,7 @@ impl State {
         };
         let over = new.phase == Phase::Externalized;
         let mut outs = Vec::new(alloc);
-        if self.round != old_round && new.high.is_none() {
+        if self.round != old_round && new.confirmed_prepared.is_none() {
             outs.push(Out::ArmNomination(self.round))?;
         }
         if new.armed != old.armed && new.armed == counter && !over {
@@ -89,7 +89,7 @@ impl State {
         leader: u8,
     ) -> Result<Vec<Out>, AllocError> {
         let old_round = self.round;
-        self.input = Some(value);
+        self.proposal = Some(value);
         self.round = 1;
         self.leaders.push(leader)?;
         self.settle(alloc, old_round, self.votes)
@@ -125,7 +125,11 @@ impl State {
         round: u32,
         leader: u8,
     ) -> Result<Vec<Out>, AllocError> {
-        if round == 0 || round != self.round || self.votes.high.is_some() || round == u32::MAX {
+        if round == 0
+            || round != self.round
+            || self.votes.confirmed_prepared.is_some()
+            || round == u32::MAX
+        {
             return Ok(Vec::new(alloc));
         }
         self.round = round.saturating_add(1);
@@ -146,7 +150,7 @@ impl State {
         {
             return Ok(Vec::new(alloc));
         }
-        self.fired = self.fired.saturating_add(1);
+        self.ballot_timeouts = self.ballot_timeouts.saturating_add(1);
         self.votes.ballot = Some(State::raise_to(old, ballot, counter.saturating_add(1)));
         self.settle(alloc, self.round, old)
     }

@@ -48,7 +48,7 @@ fn a_row_of_its_own_names_no_candidates(alloc: Global) -> Result<(), Halt> {
             answers("say C 1[C] prep(8:k,8:k,6,0,0)", "ok\n"),
             answers("say A 1[A] prep(5:q,-,0,0,0)", "ok\n"),
         ],
-        "rows 3 2[B,C,D] round 0 fired 0 leaders voted",
+        "rows 3 2[B,C,D] round 0 timeouts 0 leaders voted",
     )
 }
 
@@ -61,6 +61,6 @@ fn a_second_proposal_begins_the_first_round_again(alloc: Global) -> Result<(), H
             answers("ntimer 1", "ok arm-nomination 2\n"),
             answers("propose y", "ok arm-nomination 1\n"),
         ],
-        "rows 0 2[B,C,D] round 1 fired 0 leaders C C C input y voted",
+        "rows 0 2[B,C,D] round 1 timeouts 0 leaders C C C input y voted",
     )
 }

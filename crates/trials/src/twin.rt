@@ -94,7 +94,7 @@ impl Twin {
         Moment {
             votes: self.slow.votes,
             round: self.slow.round,
-            fired: self.slow.fired,
+            ballot_timeouts: self.slow.ballot_timeouts,
             trust: self.slow.trust,
             has_far_leader: self.has_far_leader(),
             sent: said_in(self.balloted),

@@ -188,12 +188,16 @@ fn push_row(text: &mut String, node: u8, row: Option<Row>) -> Result<(), AllocEr
 fn push_state(text: &mut String, state: &State) -> Result<(), AllocError> {
     write!(text, "rows {} ", state.row_count())?;
     push_trust(text, state.trust)?;
-    write!(text, " round {} fired {} leaders", state.round, state.fired)?;
+    write!(
+        text,
+        " round {} timeouts {} leaders",
+        state.round, state.ballot_timeouts
+    )?;
     for leader in state.leaders.as_slice() {
         text.push(' ')?;
         text.push_str(letter(*leader))?;
     }
-    if let Some(input) = state.input {
+    if let Some(input) = state.proposal {
         text.push_str(" input ")?;
         text.push_str(word(input))?;
     }
@@ -211,12 +215,12 @@ fn push_votes(text: &mut String, votes: Votes) -> Result<(), AllocError> {
     })?;
     push_named(text, " ballot ", votes.ballot)?;
     push_named(text, " prepared ", votes.prepared)?;
-    push_named(text, " high ", votes.high)?;
+    push_named(text, " confirmed_prepared ", votes.confirmed_prepared)?;
     push_named(text, " commit ", votes.commit)?;
     write!(
         text,
-        " aborted {} lo {} hi {} armed {}",
-        votes.aborted, votes.lo, votes.hi, votes.armed
+        " aborted {} low {} high {} armed {}",
+        votes.aborted, votes.low, votes.high, votes.armed
     )
 }
 

@@ -4,6 +4,7 @@ pub mod Weights
 pub mod NestedRules
 pub mod VoteLaws
 pub mod NameOrder
+pub mod NameWords
 pub mod RisingNames
 pub mod Insertions
 pub mod Fronts

@@ -43,7 +43,7 @@ impl<'a> LentBallot<'a> {
     }
 
     /// The same ballot.
-    pub fn again(&self) -> LentBallot<'a>
+    pub fn reborrow(&self) -> LentBallot<'a>
         ensures { result ≡ self.now }
     {
         LentBallot {

@@ -32,7 +32,7 @@ pub use nested::{
 };
 pub use node_id::NodeId;
 pub use shared_values::SharedValues;
-pub use state::{Given, Leaders, Phase, Votes};
+pub use state::{Inputs, Leaders, Phase, Votes};
 pub use statement::Statement;
 pub use subject::Subject;
 pub use value::{MAX_VALUE_LENGTH, Value};

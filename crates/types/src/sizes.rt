@@ -1,6 +1,6 @@
 //! How much room values take: a host keeps many of them, and moves them with each event.
 
-use crate::{Ballot, Envelope, Given, Out, Statement, Value, Votes};
+use crate::{Ballot, Envelope, Inputs, Out, Statement, Value, Votes};
 
 const _: () = prove!(size_of::<Value>() <= 16);
 
@@ -14,4 +14,4 @@ const _: () = prove!(size_of::<Votes>() <= 176);
 
 const _: () = prove!(size_of::<Out>() <= 160);
 
-const _: () = prove!(size_of::<Given>() <= 64);
+const _: () = prove!(size_of::<Inputs>() <= 64);

@@ -73,43 +73,43 @@ impl Leaders {
 
 /// What events alone set.
 #[derive(Debug, Drop)]
-pub struct Given {
+pub struct Inputs {
     /// What the node is to propose.
-    pub input: Option<Value>,
+    pub proposal: Option<Value>,
     /// The round of nomination, from 1 on; 0 before the first.
     pub round: u32,
     /// The leaders of the rounds so far.
     pub leaders: Leaders,
     /// How many ballot timers have fired.
-    pub fired: u32,
+    pub ballot_timeouts: u32,
 }
 
-impl Given {
+impl Inputs {
     /// Nothing has happened yet. It takes no memory.
-    pub fn nothing(alloc: Global) -> Given
-        ensures { result ≡ record { input = None; round = 0; leaders = []; fired = 0 } }
+    pub fn nothing(alloc: Global) -> Inputs
+        ensures { result ≡ record { proposal = None; round = 0; leaders = []; ballot_timeouts = 0 } }
     {
-        Given {
-            input: None,
+        Inputs {
+            proposal: None,
             round: 0,
             leaders: Leaders::none(alloc),
-            fired: 0,
+            ballot_timeouts: 0,
         }
     }
 
     /// A copy, which shares the bytes of each value. An error says that memory is short, or that a value
     /// has too many owners.
-    pub fn try_copy(&self, alloc: Global) -> Result<Given, AllocError>
+    pub fn try_copy(&self, alloc: Global) -> Result<Inputs, AllocError>
         ensures { IfOk result (λ g. g ≡ self.now) }
     {
-        Ok(Given {
-            input: match &self.input {
+        Ok(Inputs {
+            proposal: match &self.proposal {
                 None => None,
-                Some(input) => Some(input.try_copy()?),
+                Some(proposal) => Some(proposal.try_copy()?),
             },
             round: self.round,
             leaders: self.leaders.try_copy(alloc)?,
-            fired: self.fired,
+            ballot_timeouts: self.ballot_timeouts,
         })
     }
 }
@@ -132,15 +132,15 @@ pub struct Votes {
     /// It accepts all ballots with a counter below this one as aborted.
     pub aborted: u32,
     /// The highest ballot that it confirms as prepared.
-    pub high: Option<Ballot>,
+    pub confirmed_prepared: Option<Ballot>,
     /// The ballot from whose counter on it votes to commit, while its ballot has the same value and the
     /// high counter is not below it.
     pub commit: Option<Ballot>,
     /// The least counter of the interval: accepted as committed in [`Phase::Committing`], confirmed as
     /// committed in [`Phase::Externalized`], and 0 before.
-    pub lo: u32,
+    pub low: u32,
     /// The greatest counter of the interval.
-    pub hi: u32,
+    pub high: u32,
     /// The counter for which the ballot timer was last armed.
     pub armed: u32,
 }
@@ -148,7 +148,7 @@ pub struct Votes {
 impl Votes {
     /// No votes. It takes no memory.
     pub fn none() -> Votes
-        ensures { result ≡ record { voted = []; accepts = []; confirms = []; phase = Phase.Preparing; ballot = None; prepared = None; aborted = 0; high = None; commit = None; lo = 0; hi = 0; armed = 0 } }
+        ensures { result ≡ record { voted = []; accepts = []; confirms = []; phase = Phase.Preparing; ballot = None; prepared = None; aborted = 0; confirmed_prepared = None; commit = None; low = 0; high = 0; armed = 0 } }
     {
         Votes {
             voted: SharedValues::empty(),
@@ -158,10 +158,10 @@ impl Votes {
             ballot: None,
             prepared: None,
             aborted: 0,
-            high: None,
+            confirmed_prepared: None,
             commit: None,
-            lo: 0,
-            hi: 0,
+            low: 0,
+            high: 0,
             armed: 0,
         }
     }
@@ -179,10 +179,10 @@ impl Votes {
             ballot: copy_of(&self.ballot)?,
             prepared: copy_of(&self.prepared)?,
             aborted: self.aborted,
-            high: copy_of(&self.high)?,
+            confirmed_prepared: copy_of(&self.confirmed_prepared)?,
             commit: copy_of(&self.commit)?,
-            lo: self.lo,
-            hi: self.hi,
+            low: self.low,
+            high: self.high,
             armed: self.armed,
         })
     }
@@ -203,21 +203,21 @@ impl Votes {
     }
 
     fn has_same_ballots(&self, other: &Votes) -> bool
-        ensures { IsTrue result ↔ (self.now.ballot ≡ other.now.ballot) × (self.now.prepared ≡ other.now.prepared) × (self.now.high ≡ other.now.high) × (self.now.commit ≡ other.now.commit) }
+        ensures { IsTrue result ↔ (self.now.ballot ≡ other.now.ballot) × (self.now.prepared ≡ other.now.prepared) × (self.now.confirmed_prepared ≡ other.now.confirmed_prepared) × (self.now.commit ≡ other.now.commit) }
     {
         is_same(&self.ballot, &other.ballot)
             && is_same(&self.prepared, &other.prepared)
-            && is_same(&self.high, &other.high)
+            && is_same(&self.confirmed_prepared, &other.confirmed_prepared)
             && is_same(&self.commit, &other.commit)
     }
 
     fn has_same_counters(&self, other: &Votes) -> bool
-        ensures { IsTrue result ↔ (self.now.phase ≡ other.now.phase) × (self.now.aborted ≡ other.now.aborted) × (self.now.lo ≡ other.now.lo) × (self.now.hi ≡ other.now.hi) × (self.now.armed ≡ other.now.armed) }
+        ensures { IsTrue result ↔ (self.now.phase ≡ other.now.phase) × (self.now.aborted ≡ other.now.aborted) × (self.now.low ≡ other.now.low) × (self.now.high ≡ other.now.high) × (self.now.armed ≡ other.now.armed) }
     {
         self.phase == other.phase
             && self.aborted == other.aborted
-            && self.lo == other.lo
-            && self.hi == other.hi
+            && self.low == other.low
+            && self.high == other.high
             && self.armed == other.armed
     }
 }

@@ -8,7 +8,7 @@ use latest::{Rows, Table};
 use nomination::nominate;
 use std::alloc::Global;
 use std::test::Fail;
-use types::{Given, Member, Nested, NodeId, SliceSet, Value, Votes};
+use types::{Inputs, Member, Nested, NodeId, SliceSet, Value, Votes};
 use view::{KnownReach, Own, View};
 
 /// The slices of a node that trusts itself alone.
@@ -19,12 +19,12 @@ fn itself(alloc: Global, own: NodeId) -> Result<Nested, Fail> {
 }
 
 /// The node's input is i, and it leads round 1.
-fn given(alloc: Global, own: NodeId) -> Result<Given, Fail> {
-    let mut given = Given::nothing(alloc);
-    given.input = Some(Value::of(alloc, b"i")?);
-    given.round = 1;
-    given.leaders.push(own)?;
-    Ok(given)
+fn inputs(alloc: Global, own: NodeId) -> Result<Inputs, Fail> {
+    let mut inputs = Inputs::nothing(alloc);
+    inputs.proposal = Some(Value::of(alloc, b"i")?);
+    inputs.round = 1;
+    inputs.leaders.push(own)?;
+    Ok(inputs)
 }
 
 /// The votes of a node that had none.
@@ -32,11 +32,11 @@ fn first_votes<S: Sight>(
     alloc: Global,
     own: &NodeId,
     sight: &S,
-    given: &Given,
+    inputs: &Inputs,
 ) -> Result<Votes, Fail> {
     let none = Votes::none();
     let mut draft = Draft::of(&none);
-    nominate(alloc, own, sight, given, &mut draft)?;
+    nominate(alloc, own, sight, inputs, &mut draft)?;
     Ok(draft.into_changed().ok_or("nothing is nominated")?)
 }
 
@@ -45,38 +45,38 @@ fn votes_by(
     alloc: Global,
     own: &NodeId,
     slices: &Nested,
-    given: &Given,
+    inputs: &Inputs,
     rows: &Rows<'_, VecShelf>,
 ) -> Result<Votes, Fail> {
     let reach = KnownReach::of(alloc, Own { name: own, slices }, rows)?;
     let view = View::of(
         alloc,
         Own { name: own, slices },
-        &given.leaders,
+        &inputs.leaders,
         rows,
         &reach,
     )?;
-    first_votes(alloc, own, &view, given)
+    first_votes(alloc, own, &view, inputs)
 }
 
 /// The votes of a node that trusts itself alone and has heard nothing.
-fn lone_votes(alloc: Global, own: &NodeId, given: &Given) -> Result<Votes, Fail> {
+fn lone_votes(alloc: Global, own: &NodeId, inputs: &Inputs) -> Result<Votes, Fail> {
     let slices = itself(alloc, *own)?;
     let archive = Archive::new(alloc, VecShelf::new(alloc));
     let table = Table::new(alloc);
     let rows = Rows::of(&table, &archive);
-    votes_by(alloc, own, &slices, given, &rows)
+    votes_by(alloc, own, &slices, inputs, &rows)
 }
 
 #[test]
 fn nominates_where_there_is_memory(rt: HostRuntime) -> Result<(), Fail> {
     let alloc = rt.alloc();
     let own = NodeId::from_words(1, 0, 0, 0);
-    let given = given(alloc, own)?;
-    let votes = lone_votes(alloc, &own, &given)?;
-    let input = Value::of(alloc, b"i")?;
-    assert!(rt; votes.voted.has(&input));
-    assert!(rt; votes.accepts.has(&input));
-    assert!(rt; votes.confirms.has(&input));
+    let inputs = inputs(alloc, own)?;
+    let votes = lone_votes(alloc, &own, &inputs)?;
+    let proposal = Value::of(alloc, b"i")?;
+    assert!(rt; votes.voted.has(&proposal));
+    assert!(rt; votes.accepts.has(&proposal));
+    assert!(rt; votes.confirms.has(&proposal));
     Ok(())
 }

@@ -29,45 +29,45 @@ use Rattle.protocol.proofs.Sets.Numbers.{through, up_to, not_both}
 
 -- the ballots that widen the interval, for a position
 abbrev pub widening : Seen → Option Statement → Ballot → ℕ → List Ballot
-widening s o b hi =
-    filter (λ t. (same_value t.value b.value) && nat_lt hi t.counter
+widening s o b high =
+    filter (λ t. (same_value t.value b.value) && nat_lt high t.counter
     && accepted s Kind.Ballot o (backs_commit t.value t.counter t.counter) (takes_commit t.value t.counter t.counter))
     (filter (λ b. nat_lt 0 b.counter) (flat_map committed_by (s.rows Kind.Ballot ++ option_to_list o)))
 
-pub widen_not : (s : Seen) (b : Ballot) (w : Votes) → greatest None (widening s (position w) b w.hi) ≡ None
+pub widen_not : (s : Seen) (b : Ballot) (w : Votes) → greatest None (widening s (position w) b w.high) ≡ None
     → accept_commit Committing s b w ≡ w
 unfolding accept_commit widen_commit next_committed accepted_from commits
 widen_not s b w e = rw e refl
 
 none-widens : (s : Seen) (b : Ballot) (w : Votes)
-    → ((t : Ballot) → IsIn t (commits s w) → (same_value t.value b.value) ≡ true → nat_lt w.hi t.counter ≡ true
+    → ((t : Ballot) → IsIn t (commits s w) → (same_value t.value b.value) ≡ true → nat_lt w.high t.counter ≡ true
     → commit_accepted s w t.value t.counter t.counter ≡ true → ⊥)
-    → greatest None (widening s (position w) b w.hi) ≡ None
+    → greatest None (widening s (position w) b w.high) ≡ None
 unfolding commits
 none-widens s b w f = go (greatest None (filter test (commits s w))) refl
   where
     test : Ballot → Bool
-    test = λ t. (same_value t.value b.value) && nat_lt w.hi t.counter && commit_accepted s w t.value t.counter t.counter
+    test = λ t. (same_value t.value b.value) && nat_lt w.high t.counter && commit_accepted s w t.value t.counter t.counter
 
     go : (o : Option Ballot) → greatest None (filter test (commits s w)) ≡ o
-        → greatest None (widening s (position w) b w.hi) ≡ None
+        → greatest None (widening s (position w) b w.high) ≡ None
     go None e = e
     go (Some t) e = elim (greatest-from None (filter test (commits s w)) t e) [
       | inl k ↦ cc
       | inr i ↦
           let r = from-filter test t (commits s w) i in
-          let ok = and_parts ((same_value t.value b.value) && nat_lt w.hi t.counter)
+          let ok = and_parts ((same_value t.value b.value) && nat_lt w.high t.counter)
           (commit_accepted s w t.value t.counter t.counter) r.1 in
-          let parts = and_parts (same_value t.value b.value) (nat_lt w.hi t.counter) ok.0 in
+          let parts = and_parts (same_value t.value b.value) (nat_lt w.high t.counter) ok.0 in
           absurd (f t r.0 parts.0 parts.1 ok.1)
     ]
 
 own-in : (w : Votes) (b t : Ballot) → w.phase ≡ Committing → w.ballot ≡ Some b → IsIn t (own_named w)
-    → (t ≡ b) ⊎ ((t ≡ ballot_at (counter_of w.prepared) b.value) ⊎ (t ≡ ballot_at w.hi b.value))
+    → (t ≡ b) ⊎ ((t ≡ ballot_at (counter_of w.prepared) b.value) ⊎ (t ≡ ballot_at w.high b.value))
 own-in w b t p e i = go (rw (position-committing w b p e) at i)
   where
-    go : IsIn t ((b ∷ ballot_at (counter_of w.prepared) b.value ∷ ballot_at w.hi b.value ∷ []) ++ [])
-        → (t ≡ b) ⊎ ((t ≡ ballot_at (counter_of w.prepared) b.value) ⊎ (t ≡ ballot_at w.hi b.value))
+    go : IsIn t ((b ∷ ballot_at (counter_of w.prepared) b.value ∷ ballot_at w.high b.value ∷ []) ++ [])
+        → (t ≡ b) ⊎ ((t ≡ ballot_at (counter_of w.prepared) b.value) ⊎ (t ≡ ballot_at w.high b.value))
     go (inl q) = inl q
     go (inr (inl q)) = inr (inl q)
     go (inr (inr (inl q))) = inr (inr q)
@@ -76,13 +76,13 @@ own-in w b t p e i = go (rw (position-committing w b p e) at i)
 own-has : (w : Votes) (b : Ballot) → w.phase ≡ Committing → w.ballot ≡ Some b → IsIn b (own_named w)
 own-has w b p e = rw (position-committing w b p e) (inl refl)
 
-own-counters : (w : Votes) (b t : Ballot) → w.phase ≡ Committing → w.ballot ≡ Some b → w.lo ≤ w.hi
-    → IsIn t (own_commits w) → t.counter ≤ w.hi
+own-counters : (w : Votes) (b t : Ballot) → w.phase ≡ Committing → w.ballot ≡ Some b → w.low ≤ w.high
+    → IsIn t (own_commits w) → t.counter ≤ w.high
 own-counters w b t p e l i = go (rw (position-committing w b p e) at i)
   where
-    go : IsIn t ((ballot_at w.lo b.value ∷ ballot_at w.hi b.value ∷ []) ++ []) → t.counter ≤ w.hi
-    go (inl q) = subst (λ (x : Ballot). x.counter ≤ w.hi) (sym q) l
-    go (inr (inl q)) = let k : w.hi ≤ w.hi = omega arith in subst (λ (x : Ballot). x.counter ≤ w.hi) (sym q) k
+    go : IsIn t ((ballot_at w.low b.value ∷ ballot_at w.high b.value ∷ []) ++ []) → t.counter ≤ w.high
+    go (inl q) = subst (λ (x : Ballot). x.counter ≤ w.high) (sym q) l
+    go (inr (inl q)) = let k : w.high ≤ w.high = omega arith in subst (λ (x : Ballot). x.counter ≤ w.high) (sym q) k
     go (inr (inr q)) = absurd q
 
 pub record Steady (s : Seen) (b : Ballot) (w : Votes) : Type 0 where
@@ -96,9 +96,9 @@ pub record Steady (s : Seen) (b : Ballot) (w : Votes) : Type 0 where
   pub voted : u.voted ≡ w.voted
   pub accepts : u.accepts ≡ w.accepts
   pub confirms : u.confirms ≡ w.confirms
-  pub high : u.high ≡ w.high
+  pub confirmed_prepared : u.confirmed_prepared ≡ w.confirmed_prepared
   pub still_p : accept_prepared s n u ≡ u
-  pub still_c : greatest None (widening s (position u) n u.hi) ≡ None
+  pub still_c : greatest None (widening s (position u) n u.high) ≡ None
 
 -- p2, the new p in COMMIT
 new_p : (b p : Ballot) (o : Option Ballot) → p.value ≡ b.value → Under (Some p) o
@@ -111,7 +111,7 @@ new_p b p (Some q) v u f = elim (f q refl) [
 ]
 
 module _ (s : Seen) (f : Fair s) (w : Votes) (b p : Ballot) (phase : w.phase ≡ Committing) (ballot : w.ballot ≡ Some b)
-    (prepared : w.prepared ≡ Some p) (value : p.value ≡ b.value) (hi : w.hi ≤ p.counter) (lo : w.lo ≤ w.hi)
+    (prepared : w.prepared ≡ Some p) (value : p.value ≡ b.value) (high : w.high ≤ p.counter) (low : w.low ≤ w.high)
     (sound : Sound w) where
   pub steady : Steady s b w
   steady =
@@ -123,18 +123,18 @@ module _ (s : Seen) (f : Fair s) (w : Votes) (b p : Ballot) (phase : w.phase ≡
         | inr k ↦ inr (same_value-true t.value b.value (valued w.phase b.value t phase k))
       ]) in
       let I = widens s b p2.0 w2 ballot p2.1 p2.2
-      (through w.hi p.counter p2.0.counter hi (not_below-counter p2.0 p p2.3)) lo in
+      (through w.high p.counter p2.0.counter high (not_below-counter p2.0 p p2.3)) low in
       let u = I.u in
       let phase' : u.phase ≡ Committing = I.phase ∙ phase in
       let low2 : A ≤ counter_of N.p = aborted-by w.prepared N.p w.aborted sound.aborted N.grows in
       let over : Under N.p (Some I.q) = subst (λ o. Under o (Some I.q)) (sym p2.1) I.over in
-      let at_u : position u ≡ Some (Commit I.n (counter_of u.prepared) u.hi u.lo) =
+      let at_u : position u ≡ Some (Commit I.n (counter_of u.prepared) u.high u.low) =
       position-committing u I.n phase' I.ballot in
-      let at_q : position u ≡ Some (Commit I.n I.q.counter u.hi u.lo) =
-      subst (λ o. position u ≡ Some (Commit I.n (counter_of o) u.hi u.lo)) I.prepared at_u in
-      let at_w : position w ≡ Some (Commit b (counter_of w.prepared) w.hi w.lo) =
+      let at_q : position u ≡ Some (Commit I.n I.q.counter u.high u.low) =
+      subst (λ o. position u ≡ Some (Commit I.n (counter_of o) u.high u.low)) I.prepared at_u in
+      let at_w : position w ≡ Some (Commit b (counter_of w.prepared) w.high w.low) =
       position-committing w b phase ballot in
-      let at_2 : position w2 ≡ Some (Commit b (counter_of N.p) w.hi w.lo) = position-committing w2 b phase ballot in
+      let at_2 : position w2 ≡ Some (Commit b (counter_of N.p) w.high w.low) = position-committing w2 b phase ballot in
       record {
         u = u;
         is = ap (λ x. accept_commit Committing s b x) N.is ∙ I.is;
@@ -148,9 +148,9 @@ module _ (s : Seen) (f : Fair s) (w : Votes) (b p : Ballot) (phase : w.phase ≡
               (subst (λ o. A ≤ counter_of o) (sym I.prepared)
               (through A (counter_of N.p) I.q.counter low2
               (subst (λ o. counter_of o ≤ I.q.counter) (sym p2.1) (not_below-counter I.q p2.0 I.over))));
-          high = subst (λ o. Under o u.prepared) (sym I.high)
-              (subst (λ o. Under w.high o) (sym I.prepared)
-              (under-trans w.high N.p (Some I.q) (under-trans w.high w.prepared N.p sound.high N.grows) over));
+          confirmed_prepared = subst (λ o. Under o u.prepared) (sym I.confirmed_prepared)
+              (subst (λ o. Under w.confirmed_prepared o) (sym I.prepared)
+              (under-trans w.confirmed_prepared N.p (Some I.q) (under-trans w.confirmed_prepared w.prepared N.p sound.confirmed_prepared N.grows) over));
           committing =
               λ c. record {
                 b = I.n;
@@ -158,14 +158,14 @@ module _ (s : Seen) (f : Fair s) (w : Votes) (b p : Ballot) (phase : w.phase ≡
                 ballot = I.ballot;
                 prepared = I.prepared;
                 value = I.value;
-                hi = I.hi;
-                lo = I.lo;
+                high = I.high;
+                low = I.low;
               };
         };
         voted = I.voted;
         accepts = I.accepts;
         confirms = I.confirms;
-        high = I.high;
+        confirmed_prepared = I.confirmed_prepared;
         still_p =
             accept_prepared-still s I.n u
             (λ t i v acc. subst (λ o. above o t ≡ false) (sym I.prepared) (elim (cases_Bool (below I.q t)) [
@@ -197,24 +197,24 @@ module _ (s : Seen) (f : Fair s) (w : Votes) (b p : Ballot) (phase : w.phase ≡
                           (subst (λ o. below I.q (ballot_at (counter_of o) I.n.value) ≡ false) (sym I.prepared)
                           (not_above-value I.q (ballot_at I.q.counter I.n.value) (omega arith) I.value))
                       | inr (inr e) ↦ subst (λ x. below I.q x ≡ false) (sym e)
-                          (not_above-value I.q (ballot_at u.hi I.n.value) I.hi I.value)
+                          (not_above-value I.q (ballot_at u.high I.n.value) I.high I.value)
                     ]
                   ]
             ]));
         still_c = none-widens s I.n u (λ t i v c acc.
             let tb : (same_value t.value b.value) ≡ true = subst (λ x. same_value t.value x ≡ true) I.kept v in
             let own : passes (takes_commit t.value t.counter t.counter) (position u) ≡ false =
-            rw at_q (past (same_value I.n.value t.value) u.lo u.hi t.counter c) in
+            rw at_q (past (same_value I.n.value t.value) u.low u.high t.counter c) in
             let backs : passes (backs_commit t.value t.counter t.counter) (position w2) ≡ true =
-            rw at_2 (and_from (same_value b.value t.value) (nat_le w.lo t.counter) (swapped t.value b.value tb)
-            (between w.lo w.hi u.hi t.counter lo I.hi_grows c)) in
+            rw at_2 (and_from (same_value b.value t.value) (nat_le w.low t.counter) (swapped t.value b.value tb)
+            (between w.low w.high u.high t.counter low I.hi_grows c)) in
             let acc2 : commit_accepted s w2 t.value t.counter t.counter ≡ true =
             accepted-from s f (position u) (position w2) (backs_commit t.value t.counter t.counter)
             (takes_commit t.value t.counter t.counter) (λ h. backs) own acc in
             let parts = commits-parts s u t i in
             elim parts.1 [
               | inl r ↦ I.greatest_hi t (commits-row s w2 t parts.0 r) tb c acc2
-              | inr o ↦ not_both u.hi t.counter (own-counters u I.n t phase' I.ballot I.lo o) c
+              | inr o ↦ not_both u.high t.counter (own-counters u I.n t phase' I.ballot I.low o) c
             ]);
       }
     where

@@ -6,14 +6,14 @@ use Rattle.types.specs.declared.kind.Kind.{Kind}
 use Rattle.types.specs.declared.statement.Statement.{Statement}
 use Rattle.types.specs.declared.state.Phase.{Phase}
 use Rattle.types.specs.declared.state.Phase.TheVariants.{Preparing, Committing, Externalized}
-use Rattle.types.specs.declared.state.Given.{Given}
+use Rattle.types.specs.declared.state.Inputs.{Inputs}
 use Rattle.types.specs.declared.state.Votes.{Votes}
 use Rattle.types.specs.Votes.{same_value}
 use Rattle.protocol.specs.Views.{Seen, passes}
 use Rattle.protocol.specs.States.{ballot_at, high_counter, commit_counter, position, position_in}
 use Rattle.protocol.specs.Timers.{cap}
 use Rattle.protocol.specs.Candidates.{combine, commits, committed_in, greatest, least_from, lowest, named, named_in}
-use Rattle.protocol.specs.Balloting.{prepare_accepted, prepare_confirmed, interval_accepted, interval_confirmed, started, start_from, start, aborted_by, may_be_prepared, accept_prepared, raise_high, follow_high, is_aborted, cleared, chosen, set_commit, confirm_prepared, accepted_from, first_committed, next_committed, enter_commit, widen_commit, accept_commit, confirmed_commit, externalize, confirm_commit}
+use Rattle.protocol.specs.Balloting.{prepare_accepted, prepare_confirmed, interval_accepted, interval_confirmed, started, start_from, start, aborted_by, may_be_prepared, accept_prepared, raise_confirmed_prepared, follow_confirmed_prepared, is_aborted, cleared, chosen, set_commit, confirm_prepared, accepted_from, first_committed, next_committed, enter_commit, widen_commit, accept_commit, confirmed_commit, externalize, confirm_commit}
 use Rattle.protocol.specs.Passes.{counts, raised_value, raised, raised_counter, raise, arm, with_ballot, on_ballot, while_preparing, in_prepare, while_open, balloting, voting, counting, balloted_in}
 
 module _ (vo ac : List (List ℕ)) where
@@ -59,13 +59,13 @@ module _ (vo ac : List (List ℕ)) where
       record w { voted = vo; accepts = ac; prepared = p; aborted = aborted_by w.prepared p w.aborted })
       (position-sets w)
 
-  high-sets : (s : Seen) (w : Votes) → raise_high s (with_sets w) ≡ with_sets (raise_high s w)
-  unfolding raise_high named
+  high-sets : (s : Seen) (w : Votes) → raise_confirmed_prepared s (with_sets w) ≡ with_sets (raise_confirmed_prepared s w)
+  unfolding raise_confirmed_prepared named
   high-sets s w = ap {B = Votes} (λ (o : Option Statement).
       record w {
         voted = vo;
         accepts = ac;
-        high = greatest w.high (filter (prepare_confirmed s o) (named_in (s.rows Kind.Ballot ++ option_to_list o)));
+        confirmed_prepared = greatest w.confirmed_prepared (filter (prepare_confirmed s o) (named_in (s.rows Kind.Ballot ++ option_to_list o)));
       }) (position-sets w)
 
   commit-sets : (w : Votes) → set_commit (with_sets w) ≡ with_sets (set_commit w)
@@ -85,42 +85,42 @@ module _ (vo ac : List (List ℕ)) where
 
   confirmed-sets : (s : Seen) (b : Ballot) (w : Votes)
       → confirm_prepared s b (with_sets w) ≡ with_sets (confirm_prepared s b w)
-  unfolding confirm_prepared follow_high
+  unfolding confirm_prepared follow_confirmed_prepared
   confirmed-sets s b w =
-      ap (λ (x : Votes). set_commit (follow_high b x)) (high-sets s w) ∙ commit-sets (follow_high b (raise_high s w))
+      ap (λ (x : Votes). set_commit (follow_confirmed_prepared b x)) (high-sets s w) ∙ commit-sets (follow_confirmed_prepared b (raise_confirmed_prepared s w))
 
   from-sets : (s : Seen) (w : Votes) (t : Ballot) → accepted_from s (with_sets w) t ≡ accepted_from s w t
   unfolding accepted_from commits
   from-sets s w t =
-      ap (λ (o : Option Statement). lowest (λ lo. interval_accepted s o t.value lo t.counter) t.value t.counter
+      ap (λ (o : Option Statement). lowest (λ low. interval_accepted s o t.value low t.counter) t.value t.counter
       (committed_in (s.rows Kind.Ballot ++ option_to_list o))) (position-sets w)
 
   enter-sets : (s : Seen) (b : Ballot) (w : Votes) (o : Option Ballot)
       → enter_commit s b (with_sets w) o ≡ with_sets (enter_commit s b w o)
   unfolding enter_commit
   enter-sets s b w None = refl
-  enter-sets s b w (Some t) = ap {B = Votes} (λ (lo : ℕ). record w {
+  enter-sets s b w (Some t) = ap {B = Votes} (λ (low : ℕ). record w {
     voted = vo;
     accepts = ac;
     phase = Committing;
     ballot = Some (ballot_at (max b.counter t.counter) t.value);
     prepared = greatest w.prepared (t ∷ []);
-    high = greatest w.high (t ∷ []);
-    lo = lo;
-    hi = t.counter;
+    confirmed_prepared = greatest w.confirmed_prepared (t ∷ []);
+    low = low;
+    high = t.counter;
   }) (from-sets s w t)
 
   widen-sets : (s : Seen) (b : Ballot) (w : Votes) (o : Option Ballot)
       → widen_commit s b (with_sets w) o ≡ with_sets (widen_commit s b w o)
   unfolding widen_commit
   widen-sets s b w None = refl
-  widen-sets s b w (Some t) = ap {B = Votes} (λ (lo : ℕ). record w {
+  widen-sets s b w (Some t) = ap {B = Votes} (λ (low : ℕ). record w {
     voted = vo;
     accepts = ac;
     ballot = Some (ballot_at (max b.counter t.counter) t.value);
     prepared = greatest w.prepared (t ∷ []);
-    lo = lo;
-    hi = t.counter;
+    low = low;
+    high = t.counter;
   }) (from-sets s w t)
 
   first-sets : (s : Seen) (w : Votes) → first_committed s (with_sets w) ≡ first_committed s w
@@ -134,7 +134,7 @@ module _ (vo ac : List (List ℕ)) where
   unfolding next_committed commits
   next-sets s b w =
       ap (λ (o : Option Statement). greatest None
-      (filter (λ t. same_value t.value b.value && nat_lt w.hi t.counter
+      (filter (λ t. same_value t.value b.value && nat_lt w.high t.counter
       && interval_accepted s o t.value t.counter t.counter) (committed_in (s.rows Kind.Ballot ++ option_to_list o))))
       (position-sets w)
 
@@ -162,9 +162,9 @@ module _ (vo ac : List (List ℕ)) where
     voted = vo;
     accepts = ac;
     phase = Externalized;
-    lo = lowest (λ lo. interval_confirmed s o t.value lo t.counter) t.value t.counter
+    low = lowest (λ low. interval_confirmed s o t.value low t.counter) t.value t.counter
         (committed_in (s.rows Kind.Ballot ++ option_to_list o));
-    hi = t.counter;
+    high = t.counter;
   }) (position-sets w)
 
   confirm-sets : (p : Phase) (s : Seen) (b : Ballot) (w : Votes)
@@ -183,14 +183,14 @@ module _ (vo ac : List (List ℕ)) where
       go Committing = refl
       go Externalized = refl
 
-  raise-sets : (s : Seen) (g : Given) (b : Ballot) (w : Votes) → raise s g b (with_sets w) ≡ with_sets (raise s g b w)
+  raise-sets : (s : Seen) (g : Inputs) (b : Ballot) (w : Votes) → raise s g b (with_sets w) ≡ with_sets (raise s g b w)
   unfolding raise raised_counter
   raise-sets s g b w =
       ap {B = Votes} (λ (o : Option Statement). record w {
         voted = vo;
         accepts = ac;
         ballot = Some (raised (with_sets w) b
-            (least_from (cap g.fired - b.counter) b.counter
+            (least_from (cap g.ballot_timeouts - b.counter) b.counter
             (λ n. not (s.blocking Kind.Ballot (passes (counts (n + 1)) o) (counts (n + 1))))));
       }) (position-sets w)
       ∙ ap {B = Votes} (λ (x : Ballot). record w { voted = vo; accepts = ac; ballot = Some x })
@@ -248,19 +248,19 @@ module _ (vo ac : List (List ℕ)) where
       ∙ on-sets (λ b w. accept_commit w.phase s b w) (λ b w. accepted-sets w.phase s b w) (f3 (f2 w)) in
       ap f5 e4 ∙ on-sets (λ b w. confirm_commit w.phase s b w) (λ b w. confirm-sets w.phase s b w) (f4 (f3 (f2 w)))
 
-  counting-sets : (s : Seen) (g : Given) (w : Votes) → counting s g (with_sets w) ≡ with_sets (counting s g w)
+  counting-sets : (s : Seen) (g : Inputs) (w : Votes) → counting s g (with_sets w) ≡ with_sets (counting s g w)
   unfolding counting
   counting-sets s g w =
       ap (on_ballot (arm s)) (on-sets (raise s g) (raise-sets s g) w)
       ∙ on-sets (arm s) (arm-sets s) (on_ballot (raise s g) w)
 
-  balloting-sets : (s : Seen) (g : Given) (w : Votes) → balloting s g (with_sets w) ≡ with_sets (balloting s g w)
+  balloting-sets : (s : Seen) (g : Inputs) (w : Votes) → balloting s g (with_sets w) ≡ with_sets (balloting s g w)
   balloting-sets s g w =
       let same : voting s (start s (with_sets w)) ≡ with_sets (voting s (start s w)) = ap (voting s) (start-sets s w)
       ∙ voting-sets s (start s w) in
       ap (λ (x : Votes). while_open x.phase (counting s g) x) same
       ∙ open-sets (counting s g) (counting-sets s g) (voting s (start s w)).phase (voting s (start s w))
 
-  pub balloted-sets : (s : Seen) (g : Given) (w : Votes) → balloted_in s g (with_sets w) ≡ with_sets (balloted_in s g w)
+  pub balloted-sets : (s : Seen) (g : Inputs) (w : Votes) → balloted_in s g (with_sets w) ≡ with_sets (balloted_in s g w)
   unfolding balloted_in
   balloted-sets s g w = open-sets (balloting s g) (balloting-sets s g) w.phase w

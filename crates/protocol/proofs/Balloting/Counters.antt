@@ -11,7 +11,7 @@ use Rattle.types.specs.declared.statement.Statement.TheVariants.{Nominate, Prepa
 use Rattle.types.specs.declared.kind.Kind.{Kind}
 use Rattle.protocol.specs.Views.{Seen, passes}
 use Rattle.types.specs.declared.state.Phase.{Phase}
-use Rattle.types.specs.declared.state.Given.{Given}
+use Rattle.types.specs.declared.state.Inputs.{Inputs}
 use Rattle.types.specs.declared.state.Votes.{Votes}
 use Rattle.protocol.specs.States.{high_counter, commit_counter, position_in, position}
 use Rattle.protocol.specs.Candidates.{least_from}
@@ -19,8 +19,8 @@ use Rattle.types.specs.declared.state.Phase.TheVariants.{Preparing, Committing, 
 use Rattle.protocol.proofs.Ballots.Above.{least_from-low, least_from-ends, least_from-still}
 
 -- Counters: from n on nothing is to be raised
-abbrev pub Risen : Seen → Given → ℕ → Type 0
-Risen s g n = (cap g.fired ≤ n) ⊎ (s.blocking Kind.Ballot false (counts (n + 1)) ≡ false)
+abbrev pub Risen : Seen → Inputs → ℕ → Type 0
+Risen s g n = (cap g.ballot_timeouts ≤ n) ⊎ (s.blocking Kind.Ballot false (counts (n + 1)) ≡ false)
 
 counts-less : (m n : ℕ) (x : Statement) → m ≤ n → counts n x ≡ true → counts m x ≡ true
 counts-less m n (Nominate v a) h k = k
@@ -28,7 +28,7 @@ counts-less m n (Prepare b p a c d) h k = grind (arith, nat_tests)
 counts-less m n (Commit b p c d) h k = grind (arith, nat_tests)
 counts-less m n (Externalize b d) h k = refl
 
-pub risen-up : (s : Seen) → Fair s → (g : Given) (m n : ℕ) → m ≤ n → Risen s g m → Risen s g n
+pub risen-up : (s : Seen) → Fair s → (g : Inputs) (m n : ℕ) → m ≤ n → Risen s g m → Risen s g n
 risen-up s f g m n h (inl r) = inl (omega (arith, h, r))
 risen-up s f g m n h (inr r) =
     inr (false_from_ne_true _ (λ b. true≢false
@@ -36,39 +36,39 @@ risen-up s f g m n h (inr r) =
     (λ x i. counts-less (m + 1) (n + 1) x (omega (arith, h)) i) (λ i. i) b) ∙ r)))
 
 -- a raise ends where no more is needed
-pub raise-moves : (s : Seen) → Fair s → (g : Given) (b : Ballot) (w : Votes)
+pub raise-moves : (s : Seen) → Fair s → (g : Inputs) (b : Ballot) (w : Votes)
     → (n : ℕ) × (raise s g b w ≡ record w { ballot = Some (raised w b n) }) × (b.counter ≤ n) × Risen s g n
 unfolding raise raised_counter
 raise-moves s f g b w =
     let test : ℕ → Bool = λ n. not (s.blocking Kind.Ballot (passes (counts (n + 1)) (position w)) (counts (n + 1))) in
-    let n = least_from (cap g.fired - b.counter) b.counter test in
-    let low = least_from-low (cap g.fired - b.counter) b.counter test in (
+    let n = least_from (cap g.ballot_timeouts - b.counter) b.counter test in
+    let low = least_from-low (cap g.ballot_timeouts - b.counter) b.counter test in (
       n,
       refl,
       low,
-      elim (least_from-ends (cap g.fired - b.counter) b.counter test) [
+      elim (least_from-ends (cap g.ballot_timeouts - b.counter) b.counter test) [
         | inl e ↦ inr
             (false_from_ne_true _ (λ k. true≢false
             (sym (blocking_more s f Kind.Ballot None (position w) (counts (n + 1)) (counts (n + 1)) (λ x i. i)
             (λ i. absurd (false≢true i)) k) ∙ not-true _ e)))
-        | inr e ↦ inl (cap_over (cap g.fired) b.counter n e)
+        | inr e ↦ inl (cap_over (cap g.ballot_timeouts) b.counter n e)
       ],
     )
   where
     cap_over : (c b n : ℕ) → b + (c - b) ≤ n → c ≤ n
     cap_over c b n h = omega (arith, h)
 
-pub raise-still : (s : Seen) → Fair s → (g : Given) (b : Ballot) (w : Votes) → w.ballot ≡ Some b
+pub raise-still : (s : Seen) → Fair s → (g : Inputs) (b : Ballot) (w : Votes) → w.ballot ≡ Some b
     → passes (counts (b.counter + 1)) (position w) ≡ false → Risen s g b.counter → raise s g b w ≡ w
 unfolding raise raised_counter
 raise-still s f g b w e c r =
     let test : ℕ → Bool = λ n. not (s.blocking Kind.Ballot (passes (counts (n + 1)) (position w)) (counts (n + 1))) in
-    let q : least_from (cap g.fired - b.counter) b.counter test ≡ b.counter =
-    least_from-still (cap g.fired - b.counter) b.counter test (ends r) in
+    let q : least_from (cap g.ballot_timeouts - b.counter) b.counter test ≡ b.counter =
+    least_from-still (cap g.ballot_timeouts - b.counter) b.counter test (ends r) in
     rw (q, eq-eqb b.counter b.counter refl) (λ i. record w { ballot = sym e i })
   where
     ends : Risen s g b.counter
-        → (cap g.fired - b.counter ≡ 0)
+        → (cap g.ballot_timeouts - b.counter ≡ 0)
         ⊎ (not (s.blocking Kind.Ballot (passes (counts (b.counter + 1)) (position w)) (counts (b.counter + 1))) ≡ true)
     ends (inl h) = inl (omega (arith, h))
     ends (inr h) =
@@ -86,9 +86,9 @@ arm-moves s b w = elim (cases_Bool (s.quorum Kind.Ballot (passes (counts b.count
 -- the position does not tell what is armed
 pub position-armed : (w : Votes) (n : ℕ) → position (record w { armed = n }) ≡ position w
 unfolding position position_in high_counter commit_counter
-position-armed w n = go w.phase w.ballot w.high w.commit refl refl refl refl
+position-armed w n = go w.phase w.ballot w.confirmed_prepared w.commit refl refl refl refl
   where
-    go : (p : Phase) (b h c : Option Ballot) → w.phase ≡ p → w.ballot ≡ b → w.high ≡ h → w.commit ≡ c
+    go : (p : Phase) (b h c : Option Ballot) → w.phase ≡ p → w.ballot ≡ b → w.confirmed_prepared ≡ h → w.commit ≡ c
         → position (record w { armed = n }) ≡ position w
     go p None h c i j k l = rw j refl
     go Preparing (Some b) None None i j k l = rw (i, j, k, l) refl

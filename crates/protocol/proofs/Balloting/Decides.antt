@@ -33,7 +33,7 @@ pub record Decided (s : Seen) (b : Ballot) (w : Votes) : Type 0 where
   pub voted : u.voted ≡ w.voted
   pub accepts : u.accepts ≡ w.accepts
   pub confirms : u.confirms ≡ w.confirms
-  pub high : u.high ≡ w.high
+  pub confirmed_prepared : u.confirmed_prepared ≡ w.confirmed_prepared
 
 pub decides : (s : Seen) (b : Ballot) (w : Votes) → Sound w
     → (greatest None (deciding s (position w) b) ≡ None) ⊎ Decided s b w
@@ -49,14 +49,14 @@ decides s b w sound = go (greatest None (filter test (commits s w))) refl
     go (Some t) e = inr (record {
       u = record w {
         phase = Externalized;
-        hi = t.counter;
-        lo = lowest (λ lo. commit_confirmed s w t.value lo t.counter) t.value t.counter (commits s w);
+        high = t.counter;
+        low = lowest (λ low. commit_confirmed s w t.value low t.counter) t.value t.counter (commits s w);
       };
       is = rw e refl;
       phase = refl;
-      sound = record { aborted = sound.aborted; high = sound.high; committing = λ (c : Externalized ≡ Committing). cc };
+      sound = record { aborted = sound.aborted; confirmed_prepared = sound.confirmed_prepared; committing = λ (c : Externalized ≡ Committing). cc };
       voted = refl;
       accepts = refl;
       confirms = refl;
-      high = refl;
+      confirmed_prepared = refl;
     })

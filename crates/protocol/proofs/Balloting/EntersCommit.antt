@@ -56,7 +56,7 @@ pub record Entered (s : Seen) (b : Ballot) (w : Votes) : Type 0 where
   pub voted : u.voted ≡ w.voted
   pub accepts : u.accepts ≡ w.accepts
   pub confirms : u.confirms ≡ w.confirms
-  pub stays : is_none u.high ≡ false
+  pub stays : is_none u.confirmed_prepared ≡ false
 
 under-both : (h p : Option Ballot) (t a c : Ballot) → Under h p → greatest h (t ∷ []) ≡ Some a
     → greatest p (t ∷ []) ≡ Some c → Under (Some a) (Some c)
@@ -102,17 +102,17 @@ enters s b w sound = go (greatest None (filter test (commits s w))) refl
         (and_parts (commit_accepted s w t.value t.counter t.counter && is_confirmed s w t)
         (not (is_aborted w t)) ok).1 in
         let p = greatest-one w.prepared t in
-        let h = greatest-one w.high t in
-        let lo = lowest (λ lo. commit_accepted s w t.value lo t.counter) t.value t.counter (commits s w) in
+        let h = greatest-one w.confirmed_prepared t in
+        let low = lowest (λ low. commit_accepted s w t.value low t.counter) t.value t.counter (commits s w) in
         let n = ballot_at (max b.counter t.counter) t.value in
         inr (record {
           u = record w {
             phase = Committing;
             ballot = Some n;
             prepared = greatest w.prepared (t ∷ []);
-            high = greatest w.high (t ∷ []);
-            hi = t.counter;
-            lo = lo;
+            confirmed_prepared = greatest w.confirmed_prepared (t ∷ []);
+            high = t.counter;
+            low = low;
           };
           is = rw e refl;
           phase = refl;
@@ -124,16 +124,16 @@ enters s b w sound = go (greatest None (filter test (commits s w))) refl
                 subst (λ o. w.aborted ≤ counter_of o) (sym p.1)
                 (through w.aborted (counter_of w.prepared) p.0.counter sound.aborted
                 (under-counters w.prepared p.0 p.3));
-            high = subst (λ o. Under o (greatest w.prepared (t ∷ []))) (sym h.1)
-                (subst (λ o. Under (Some h.0) o) (sym p.1) (under-both w.high w.prepared t h.0 p.0 sound.high h.1 p.1));
+            confirmed_prepared = subst (λ o. Under o (greatest w.prepared (t ∷ []))) (sym h.1)
+                (subst (λ o. Under (Some h.0) o) (sym p.1) (under-both w.confirmed_prepared w.prepared t h.0 p.0 sound.confirmed_prepared h.1 p.1));
             committing = λ c. record {
               b = n;
               p = p.0;
               ballot = refl;
               prepared = p.1;
               value = same-value w t p.0 free p.1;
-              hi = not_below-counter p.0 t p.2;
-              lo = lowest-low (λ lo. commit_accepted s w t.value lo t.counter) t.value t.counter (commits s w);
+              high = not_below-counter p.0 t p.2;
+              low = lowest-low (λ low. commit_accepted s w t.value low t.counter) t.value t.counter (commits s w);
             };
           };
           voted = refl;

@@ -7,7 +7,7 @@ use Rattle.protocol.specs.Views.{Seen}
 use Rattle.types.specs.declared.state.Votes.{Votes}
 use Rattle.protocol.specs.States.{below, high_counter}
 use Rattle.protocol.specs.Candidates.{greatest, named}
-use Rattle.protocol.specs.Balloting.{aborted_by, is_accepted, is_confirmed, may_be_prepared, accept_prepared, raise_high, follow_high, is_aborted, set_commit}
+use Rattle.protocol.specs.Balloting.{aborted_by, is_accepted, is_confirmed, may_be_prepared, accept_prepared, raise_confirmed_prepared, follow_confirmed_prepared, is_aborted, set_commit}
 use Rattle.protocol.specs.Extremes.{IsIn}
 use Rattle.protocol.proofs.Ballots.Order.{below-self, below-counter}
 use Rattle.protocol.proofs.Ballots.Above.{above, Under, greatest-keeps, greatest-above, greatest-still, greatest-from, in-filter, from-filter, aborted-same}
@@ -54,64 +54,64 @@ accept_prepared-moves s b w =
     }
 
 -- h
-pub raise_high-still : (s : Seen) (w : Votes)
-    → ((t : Ballot) → IsIn t (named s w) → is_confirmed s w t ≡ true → above w.high t ≡ false) → raise_high s w ≡ w
-unfolding raise_high
-raise_high-still s w f =
-    let e : greatest w.high (filter (is_confirmed s w) (named s w)) ≡ w.high =
-    greatest-still w.high (filter (is_confirmed s w) (named s w))
+pub raise_confirmed_prepared-still : (s : Seen) (w : Votes)
+    → ((t : Ballot) → IsIn t (named s w) → is_confirmed s w t ≡ true → above w.confirmed_prepared t ≡ false) → raise_confirmed_prepared s w ≡ w
+unfolding raise_confirmed_prepared
+raise_confirmed_prepared-still s w f =
+    let e : greatest w.confirmed_prepared (filter (is_confirmed s w) (named s w)) ≡ w.confirmed_prepared =
+    greatest-still w.confirmed_prepared (filter (is_confirmed s w) (named s w))
     (λ t i. let r = from-filter (is_confirmed s w) t (named s w) i in f t r.0 r.1) in
-    λ i. record w { high = e i }
+    λ i. record w { confirmed_prepared = e i }
 
 pub record NewHigh (s : Seen) (w : Votes) : Type 0 where
   pub h : Option Ballot
-  pub is : raise_high s w ≡ record w { high = h }
+  pub is : raise_confirmed_prepared s w ≡ record w { confirmed_prepared = h }
   pub above : (t : Ballot) → IsIn t (named s w) → is_confirmed s w t ≡ true → above h t ≡ false
-  pub from : (t : Ballot) → h ≡ Some t → (w.high ≡ Some t) ⊎ (is_confirmed s w t ≡ true)
-  pub stays : is_none w.high ≡ false → is_none h ≡ false
+  pub from : (t : Ballot) → h ≡ Some t → (w.confirmed_prepared ≡ Some t) ⊎ (is_confirmed s w t ≡ true)
+  pub stays : is_none w.confirmed_prepared ≡ false → is_none h ≡ false
 
 high-stays : (o p : Option Ballot) → Under o p → is_none o ≡ false → is_none p ≡ false
 high-stays None p u n = absurd (true≢false n)
 high-stays (Some x) None u n = absurd (true≢false u)
 high-stays (Some x) (Some y) u n = refl
 
-pub raise_high-moves : (s : Seen) (w : Votes) → NewHigh s w
-unfolding raise_high
-raise_high-moves s w = record {
-  h = greatest w.high (filter (is_confirmed s w) (named s w));
+pub raise_confirmed_prepared-moves : (s : Seen) (w : Votes) → NewHigh s w
+unfolding raise_confirmed_prepared
+raise_confirmed_prepared-moves s w = record {
+  h = greatest w.confirmed_prepared (filter (is_confirmed s w) (named s w));
   is = refl;
-  above = λ t i c. greatest-above w.high (filter (is_confirmed s w) (named s w)) t
+  above = λ t i c. greatest-above w.confirmed_prepared (filter (is_confirmed s w) (named s w)) t
       (in-filter (is_confirmed s w) t (named s w) i c);
-  from = λ t e. elim (greatest-from w.high (filter (is_confirmed s w) (named s w)) t e) [
+  from = λ t e. elim (greatest-from w.confirmed_prepared (filter (is_confirmed s w) (named s w)) t e) [
     | inl k ↦ inl k
     | inr k ↦ inr (from-filter (is_confirmed s w) t (named s w) k).1
   ];
-  stays = high-stays w.high (greatest w.high (filter (is_confirmed s w) (named s w)))
-      (greatest-keeps w.high (filter (is_confirmed s w) (named s w)));
+  stays = high-stays w.confirmed_prepared (greatest w.confirmed_prepared (filter (is_confirmed s w) (named s w)))
+      (greatest-keeps w.confirmed_prepared (filter (is_confirmed s w) (named s w)));
 }
 
 -- b becomes h
-pub follow_high-still : (b : Ballot) (w : Votes) → w.ballot ≡ Some b
-    → ((h : Ballot) → w.high ≡ Some h → below b h ≡ false) → follow_high b w ≡ w
-unfolding follow_high
-follow_high-still b w e f = go w.high refl
+pub follow_confirmed_prepared-still : (b : Ballot) (w : Votes) → w.ballot ≡ Some b
+    → ((h : Ballot) → w.confirmed_prepared ≡ Some h → below b h ≡ false) → follow_confirmed_prepared b w ≡ w
+unfolding follow_confirmed_prepared
+follow_confirmed_prepared-still b w e f = go w.confirmed_prepared refl
   where
-    go : (o : Option Ballot) → w.high ≡ o → follow_high b w ≡ w
+    go : (o : Option Ballot) → w.confirmed_prepared ≡ o → follow_confirmed_prepared b w ≡ w
     go None k = rw (k, e) refl
     go (Some h) k = let q : below b h ≡ false = f h k in rw (k, q, e) refl
 
 pub record NewBallot (b : Ballot) (w : Votes) : Type 0 where
   pub n : Ballot
-  pub is : follow_high b w ≡ record w { ballot = Some n }
-  pub from : (n ≡ b) ⊎ (w.high ≡ Some n)
-  pub above : (h : Ballot) → w.high ≡ Some h → below n h ≡ false
+  pub is : follow_confirmed_prepared b w ≡ record w { ballot = Some n }
+  pub from : (n ≡ b) ⊎ (w.confirmed_prepared ≡ Some n)
+  pub above : (h : Ballot) → w.confirmed_prepared ≡ Some h → below n h ≡ false
   pub grows : b.counter ≤ n.counter
 
-pub follow_high-moves : (b : Ballot) (w : Votes) → NewBallot b w
-unfolding follow_high
-follow_high-moves b w = go w.high refl
+pub follow_confirmed_prepared-moves : (b : Ballot) (w : Votes) → NewBallot b w
+unfolding follow_confirmed_prepared
+follow_confirmed_prepared-moves b w = go w.confirmed_prepared refl
   where
-    at : (h : Ballot) (c : Bool) → w.high ≡ Some h → below b h ≡ c → NewBallot b w
+    at : (h : Ballot) (c : Bool) → w.confirmed_prepared ≡ Some h → below b h ≡ c → NewBallot b w
     at h true k q =
         record {
           n = h;
@@ -129,7 +129,7 @@ follow_high-moves b w = go w.high refl
           grows = omega arith;
         }
 
-    go : (o : Option Ballot) → w.high ≡ o → NewBallot b w
+    go : (o : Option Ballot) → w.confirmed_prepared ≡ o → NewBallot b w
     go None k = record { n = b; is = rw k refl; from = inl refl; above = λ h e. cc; grows = omega arith }
     go (Some h) k = at h (below b h) k refl
 

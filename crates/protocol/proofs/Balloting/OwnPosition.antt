@@ -26,7 +26,7 @@ unfolding position position_in
 position-preparing w b p e = rw (p, e) refl
 
 pub position-committing : (w : Votes) (b : Ballot) → w.phase ≡ Committing → w.ballot ≡ Some b
-    → position w ≡ Some (Commit b (counter_of w.prepared) w.hi w.lo)
+    → position w ≡ Some (Commit b (counter_of w.prepared) w.high w.low)
 unfolding position position_in
 position-committing w b p e = rw (p, e) refl
 

@@ -9,14 +9,14 @@ use Rattle.protocol.specs.Views.{Seen, passes}
 use Rattle.types.specs.declared.state.Phase.{Phase}
 use Rattle.types.specs.declared.state.Votes.{Votes}
 use Rattle.protocol.specs.States.{below, counter_of, high_counter, commit_counter, position}
-use Rattle.protocol.specs.Balloting.{aborted_by, is_accepted, is_confirmed, may_be_prepared, accept_prepared, raise_high, follow_high, is_aborted, set_commit}
+use Rattle.protocol.specs.Balloting.{aborted_by, is_accepted, is_confirmed, may_be_prepared, accept_prepared, raise_confirmed_prepared, follow_confirmed_prepared, is_aborted, set_commit}
 use Rattle.types.specs.declared.state.Phase.TheVariants.{Preparing, Committing}
 use Rattle.protocol.specs.Extremes.{IsIn}
 use Rattle.protocol.proofs.Ballots.Order.{below-self, not_above-value}
 use Rattle.protocol.proofs.Ballots.Above.{above, Under, above-trans, under-trans, aborted-by}
 use Rattle.protocol.proofs.Balloting.Named.{own_named, named-parts, named-row, named-own}
 use Rattle.protocol.proofs.Balloting.OwnPosition.{position-preparing, own-preparing, accepted-from, not_own, own_under}
-use Rattle.protocol.proofs.Balloting.Moves.{accept_prepared-still, accept_prepared-moves, raise_high-still, raise_high-moves, follow_high-moves, Fixed, set_commit-moves}
+use Rattle.protocol.proofs.Balloting.Moves.{accept_prepared-still, accept_prepared-moves, raise_confirmed_prepared-still, raise_confirmed_prepared-moves, follow_confirmed_prepared-moves, Fixed, set_commit-moves}
 use Rattle.protocol.proofs.Equality.Sameness.{same_value-true}
 use Rattle.types.specs.Votes.{same_value}
 use Rattle.protocol.proofs.Sets.Numbers.{up_to}
@@ -29,13 +29,13 @@ pub record Held (w : Votes) : Type 0 where
   pub ballot : w.ballot ≡ Some b
   pub prepared : w.prepared ≡ Some p
   pub value : p.value ≡ b.value
-  pub hi : w.hi ≤ p.counter
-  pub lo : w.lo ≤ w.hi
+  pub high : w.high ≤ p.counter
+  pub low : w.low ≤ w.high
 
 -- what a fresh node's votes have, and each rule keeps
 pub record Sound (w : Votes) : Type 0 where
   pub aborted : w.aborted ≤ counter_of w.prepared
-  pub high : Under w.high w.prepared
+  pub confirmed_prepared : Under w.confirmed_prepared w.prepared
   pub committing : w.phase ≡ Committing → Held w
 
 implies-under : (b t : Ballot) → implies b t ≡ true → below b t ≡ false
@@ -56,12 +56,12 @@ preparing≢committing p a b = cc
 -- what is aborted, and h's counter, do not look at c
 fixed-commit : (w : Votes) (c d : Option Ballot) → Fixed w c → Fixed (record w { commit = d }) c
 unfolding is_aborted high_counter
-fixed-commit w None d h = go w.high w.prepared refl refl
+fixed-commit w None d h = go w.confirmed_prepared w.prepared refl refl
   where
-    go : (a p : Option Ballot) → w.high ≡ a → w.prepared ≡ p → Fixed (record w { commit = d }) None
+    go : (a p : Option Ballot) → w.confirmed_prepared ≡ a → w.prepared ≡ p → Fixed (record w { commit = d }) None
     go a p i j = λ x e. same x a p i j (h x e)
       where
-        same : (x : Ballot) (a p : Option Ballot) → w.high ≡ a → w.prepared ≡ p
+        same : (x : Ballot) (a p : Option Ballot) → w.confirmed_prepared ≡ a → w.prepared ≡ p
             → ((high_counter w x == x.counter) && not (is_aborted w x)) ≡ false
             → ((high_counter (record w { commit = d }) x == x.counter)
             && not (is_aborted (record w { commit = d }) x)) ≡ false
@@ -70,7 +70,7 @@ fixed-commit w (Some c) d h = h
 
 pub record Ready (s : Seen) (b : Ballot) (w : Votes) : Type 0 where
   pub u : Votes
-  pub is : set_commit (follow_high b (raise_high s (accept_prepared s b w))) ≡ u
+  pub is : set_commit (follow_confirmed_prepared b (raise_confirmed_prepared s (accept_prepared s b w))) ≡ u
   pub n : Ballot
   pub ballot : u.ballot ≡ Some n
   pub phase : u.phase ≡ Preparing
@@ -79,10 +79,10 @@ pub record Ready (s : Seen) (b : Ballot) (w : Votes) : Type 0 where
   pub voted : u.voted ≡ w.voted
   pub accepts : u.accepts ≡ w.accepts
   pub confirms : u.confirms ≡ w.confirms
-  pub stays : is_none w.high ≡ false → is_none u.high ≡ false
+  pub stays : is_none w.confirmed_prepared ≡ false → is_none u.confirmed_prepared ≡ false
   pub still_p : accept_prepared s n u ≡ u
-  pub still_h : raise_high s u ≡ u
-  pub above_h : (h : Ballot) → u.high ≡ Some h → below n h ≡ false
+  pub still_h : raise_confirmed_prepared s u ≡ u
+  pub above_h : (h : Ballot) → u.confirmed_prepared ≡ Some h → below n h ≡ false
   pub fixed : Fixed u u.commit
 
 module _ (s : Seen) (f : Fair s) (b : Ballot) (w : Votes) (phase : w.phase ≡ Preparing) (ballot : w.ballot ≡ Some b)
@@ -92,9 +92,9 @@ module _ (s : Seen) (f : Fair s) (b : Ballot) (w : Votes) (phase : w.phase ≡ P
       let N = accept_prepared-moves s b w in
       let A = aborted_by w.prepared N.p w.aborted in
       let w2 : Votes = record w { prepared = N.p; aborted = A } in
-      let M = raise_high-moves s w2 in
-      let w3 : Votes = record w2 { high = M.h } in
-      let F = follow_high-moves b w3 in
+      let M = raise_confirmed_prepared-moves s w2 in
+      let w3 : Votes = record w2 { confirmed_prepared = M.h } in
+      let F = follow_confirmed_prepared-moves b w3 in
       let w4 : Votes = record w3 { ballot = Some F.n } in
       let C = set_commit-moves w4 in
       let u : Votes = record w4 { commit = C.c } in
@@ -103,7 +103,7 @@ module _ (s : Seen) (f : Fair s) (b : Ballot) (w : Votes) (phase : w.phase ≡ P
       let at4 = position-preparing u F.n phase refl in
       let at1 = position-preparing w b phase ballot in
       let high_at : (t : Ballot) → M.h ≡ Some t → above N.p t ≡ false = λ t e. elim (M.from t e) [
-        | inl k ↦ let z : Under (Some t) w.prepared = rw k at sound.high in
+        | inl k ↦ let z : Under (Some t) w.prepared = rw k at sound.confirmed_prepared in
             under-trans (Some t) w.prepared N.p z N.grows
         | inr k ↦ own_under b N.p A (high_counter w2 b) (commit_counter w2 b) t low
             (subst (λ o. passes (takes_prepare t) o ≡ true) at2
@@ -116,13 +116,13 @@ module _ (s : Seen) (f : Fair s) (b : Ballot) (w : Votes) (phase : w.phase ≡ P
       ] in
       record {
         u = u;
-        is = ap (λ x. set_commit (follow_high b (raise_high s x))) N.is
-            ∙ (ap (λ x. set_commit (follow_high b x)) M.is ∙ (ap set_commit F.is ∙ C.is));
+        is = ap (λ x. set_commit (follow_confirmed_prepared b (raise_confirmed_prepared s x))) N.is
+            ∙ (ap (λ x. set_commit (follow_confirmed_prepared b x)) M.is ∙ (ap set_commit F.is ∙ C.is));
         n = F.n;
         ballot = refl;
         phase = phase;
         grows = F.grows;
-        sound = record { aborted = low; high = high_under; committing = λ e. preparing≢committing w.phase phase e };
+        sound = record { aborted = low; confirmed_prepared = high_under; committing = λ e. preparing≢committing w.phase phase e };
         voted = refl;
         accepts = refl;
         confirms = refl;
@@ -159,7 +159,7 @@ module _ (s : Seen) (f : Fair s) (b : Ballot) (w : Votes) (phase : w.phase ≡ P
                 ]
               ]
         ]);
-        still_h = raise_high-still s u (λ t i con.
+        still_h = raise_confirmed_prepared-still s u (λ t i con.
             let own : passes (takes_prepare t) (position u) ≡ true =
             quorum_own s f Kind.Ballot (position u) (takes_prepare t) con in
             let own2 : passes (takes_prepare t) (position w2) ≡ true = rw at2 (rw at4 at own) in

@@ -17,10 +17,10 @@ abbrev pub takes_prepare : Ballot → Statement → Bool
 takes_prepare t = λ s. accepts_prepare s t
 
 abbrev pub backs_commit : List ℕ → ℕ → ℕ → Statement → Bool
-backs_commit x lo hi = λ s. votes_or_accepts_ends s x lo hi
+backs_commit x low high = λ s. votes_or_accepts_ends s x low high
 
 abbrev pub takes_commit : List ℕ → ℕ → ℕ → Statement → Bool
-takes_commit x lo hi = λ s. accepts_ends s x lo hi
+takes_commit x low high = λ s. accepts_ends s x low high
 
 abbrev pub backs_value : List ℕ → Statement → Bool
 backs_value x = λ s. votes_or_accepts_nominate s x

@@ -30,27 +30,27 @@ pub record NewInterval (s : Seen) (b p : Ballot) (w : Votes) : Type 0 where
   pub prepared : u.prepared ≡ Some q
   pub value : q.value ≡ n.value
   pub kept : n.value ≡ b.value
-  pub hi : u.hi ≤ q.counter
-  pub lo : u.lo ≤ u.hi
-  pub hi_grows : w.hi ≤ u.hi
+  pub high : u.high ≤ q.counter
+  pub low : u.low ≤ u.high
+  pub hi_grows : w.high ≤ u.high
   pub grows : b.counter ≤ n.counter
   pub new_under : (n ≡ b) ⊎ (below q n ≡ false)
   pub over : below q p ≡ false
   pub aborted : u.aborted ≡ w.aborted
-  pub high : u.high ≡ w.high
+  pub confirmed_prepared : u.confirmed_prepared ≡ w.confirmed_prepared
   pub voted : u.voted ≡ w.voted
   pub accepts : u.accepts ≡ w.accepts
   pub confirms : u.confirms ≡ w.confirms
   pub greatest_hi : (t : Ballot) → IsIn t (commits s w) → (same_value t.value b.value) ≡ true
-      → nat_lt u.hi t.counter ≡ true → commit_accepted s w t.value t.counter t.counter ≡ true → ⊥
+      → nat_lt u.high t.counter ≡ true → commit_accepted s w t.value t.counter t.counter ≡ true → ⊥
 
 pub widens : (s : Seen) (b p : Ballot) (w : Votes) → w.ballot ≡ Some b → w.prepared ≡ Some p → p.value ≡ b.value
-    → w.hi ≤ p.counter → w.lo ≤ w.hi → NewInterval s b p w
+    → w.high ≤ p.counter → w.low ≤ w.high → NewInterval s b p w
 unfolding accept_commit widen_commit next_committed accepted_from
-widens s b p w ballot prepared value hi lo = go (greatest None (filter test (commits s w))) refl
+widens s b p w ballot prepared value high low = go (greatest None (filter test (commits s w))) refl
   where
     test : Ballot → Bool
-    test = λ t. (same_value t.value b.value) && nat_lt w.hi t.counter && commit_accepted s w t.value t.counter t.counter
+    test = λ t. (same_value t.value b.value) && nat_lt w.high t.counter && commit_accepted s w t.value t.counter t.counter
 
     under_top : (g t : Ballot) → below g t ≡ false → nat_lt g.counter t.counter ≡ true → ⊥
     under_top g t h k = not_both g.counter t.counter (not_below-counter g t h) k
@@ -66,14 +66,14 @@ widens s b p w ballot prepared value hi lo = go (greatest None (filter test (com
       prepared = prepared;
       value = value;
       kept = refl;
-      hi = hi;
-      lo = lo;
+      high = high;
+      low = low;
       hi_grows = omega arith;
       grows = omega arith;
       new_under = inl refl;
       over = below-self p;
       aborted = refl;
-      high = refl;
+      confirmed_prepared = refl;
       voted = refl;
       accepts = refl;
       confirms = refl;
@@ -81,9 +81,9 @@ widens s b p w ballot prepared value hi lo = go (greatest None (filter test (com
           subst (λ o. above o t ≡ false) e
           (greatest-above None (filter test (commits s w)) t
           (in-filter test t (commits s w) i
-          (and_from ((same_value t.value b.value) && nat_lt w.hi t.counter)
+          (and_from ((same_value t.value b.value) && nat_lt w.high t.counter)
           (commit_accepted s w t.value t.counter t.counter)
-          (and_from (same_value t.value b.value) (nat_lt w.hi t.counter) v c) a))) in true≢false k;
+          (and_from (same_value t.value b.value) (nat_lt w.high t.counter) v c) a))) in true≢false k;
     }
     go (Some t) e =
         let ok : test t ≡ true = elim (greatest-from None (filter test (commits s w)) t e) [
@@ -91,19 +91,19 @@ widens s b p w ballot prepared value hi lo = go (greatest None (filter test (com
           | inr i ↦ (from-filter test t (commits s w) i).1
         ] in
         let parts =
-        and_parts (same_value t.value b.value) (nat_lt w.hi t.counter)
-        (and_parts ((same_value t.value b.value) && nat_lt w.hi t.counter)
+        and_parts (same_value t.value b.value) (nat_lt w.high t.counter)
+        (and_parts ((same_value t.value b.value) && nat_lt w.high t.counter)
         (commit_accepted s w t.value t.counter t.counter) ok).0 in
         let v : t.value ≡ b.value = same_value-true t.value b.value parts.0 in
         let r = greatest-one w.prepared t in
         let n = ballot_at (max b.counter t.counter) t.value in
-        let up : w.hi ≤ t.counter = less w.hi t.counter parts.1 in
+        let up : w.high ≤ t.counter = less w.high t.counter parts.1 in
         record {
           u = record w {
             ballot = Some n;
             prepared = greatest w.prepared (t ∷ []);
-            hi = t.counter;
-            lo = lowest (λ lo. commit_accepted s w t.value lo t.counter) t.value t.counter (commits s w);
+            high = t.counter;
+            low = lowest (λ low. commit_accepted s w t.value low t.counter) t.value t.counter (commits s w);
           };
           is = rw e refl;
           phase = refl;
@@ -117,14 +117,14 @@ widens s b p w ballot prepared value hi lo = go (greatest None (filter test (com
             | inr k ↦ ap (λ (x : Ballot). x.value) k
           ];
           kept = v;
-          hi = not_below-counter r.0 t r.2;
-          lo = lowest-low (λ lo. commit_accepted s w t.value lo t.counter) t.value t.counter (commits s w);
+          high = not_below-counter r.0 t r.2;
+          low = lowest-low (λ low. commit_accepted s w t.value low t.counter) t.value t.counter (commits s w);
           hi_grows = up;
           grows = le-max_left b.counter t.counter;
           new_under = newer b t r.0 v r.2;
           over = let z : Under (Some p) (Some r.0) = subst (λ o. Under o (Some r.0)) prepared r.3 in z;
           aborted = refl;
-          high = refl;
+          confirmed_prepared = refl;
           voted = refl;
           accepts = refl;
           confirms = refl;
@@ -133,10 +133,10 @@ widens s b p w ballot prepared value hi lo = go (greatest None (filter test (com
               subst (λ o. above o x ≡ false) e
               (greatest-above None (filter test (commits s w)) x
               (in-filter test x (commits s w) i
-              (and_from ((same_value x.value b.value) && nat_lt w.hi x.counter)
+              (and_from ((same_value x.value b.value) && nat_lt w.high x.counter)
               (commit_accepted s w x.value x.counter x.counter)
-              (and_from (same_value x.value b.value) (nat_lt w.hi x.counter) y
-              (less_less w.hi t.counter x.counter up c)) a))) in
+              (and_from (same_value x.value b.value) (nat_lt w.high x.counter) y
+              (less_less w.high t.counter x.counter up c)) a))) in
               under_top t x k c;
         }
       where

@@ -197,16 +197,16 @@ least_from-still zero n test h = refl
 least_from-still (suc fuel) n test (inl h) = omega (arith, h)
 least_from-still (suc fuel) n test (inr h) = rw h refl
 
-pub lowest-low : (test : ℕ → Bool) (x : List ℕ) (lo : ℕ) (ts : List Ballot) → lowest test x lo ts ≤ lo
+pub lowest-low : (test : ℕ → Bool) (x : List ℕ) (low : ℕ) (ts : List Ballot) → lowest test x low ts ≤ low
 unfolding lowest
-lowest-low test x lo [] = omega arith
-lowest-low test x lo (t ∷ ts) = elim (cases_Bool ((same_value t.value x) && nat_lt t.counter lo && test t.counter)) [
+lowest-low test x low [] = omega arith
+lowest-low test x low (t ∷ ts) = elim (cases_Bool ((same_value t.value x) && nat_lt t.counter low && test t.counter)) [
   | inl e ↦ rw e
       (let k = lowest-low test x t.counter ts in
-      let q = and_parts ((same_value t.value x) && nat_lt t.counter lo) (test t.counter) e in let r =
-      and_parts (same_value t.value x) (nat_lt t.counter lo) q.0 in
-      below_le _ t.counter lo k r.1)
-  | inr e ↦ rw e (lowest-low test x lo ts)
+      let q = and_parts ((same_value t.value x) && nat_lt t.counter low) (test t.counter) e in let r =
+      and_parts (same_value t.value x) (nat_lt t.counter low) q.0 in
+      below_le _ t.counter low k r.1)
+  | inr e ↦ rw e (lowest-low test x low ts)
 ]
   where
     below_le : (a b c : ℕ) → a ≤ b → nat_lt b c ≡ true → a ≤ c

@@ -11,53 +11,53 @@ use Rattle.protocol.proofs.Ballots.Above.{least_from-low, lowest-low}
 
 -- ---- the lowest commit counter
 module _ (test : ℕ → Bool) (x : List ℕ) where
-  lowest-below : (lo : ℕ) (ts : List Ballot) (t : Ballot) → IsIn t ts → same_value t.value x ≡ true
-      → test t.counter ≡ true → lowest test x lo ts ≤ t.counter
+  lowest-below : (low : ℕ) (ts : List Ballot) (t : Ballot) → IsIn t ts → same_value t.value x ≡ true
+      → test t.counter ≡ true → lowest test x low ts ≤ t.counter
   unfolding lowest
-  lowest-below lo [] t i v h = absurd i
-  lowest-below lo (s ∷ ts) t (inr i) v h =
-      lowest-below (if same_value s.value x && nat_lt s.counter lo && test s.counter then s.counter else lo) ts t i v h
-  lowest-below lo (s ∷ ts) t (inl e) v h =
+  lowest-below low [] t i v h = absurd i
+  lowest-below low (s ∷ ts) t (inr i) v h =
+      lowest-below (if same_value s.value x && nat_lt s.counter low && test s.counter then s.counter else low) ts t i v h
+  lowest-below low (s ∷ ts) t (inl e) v h =
       let sv : same_value s.value x ≡ true = subst (λ (b : Ballot). same_value b.value x ≡ true) e v in
       let sh : test s.counter ≡ true = subst (λ (b : Ballot). test b.counter ≡ true) e h in
       subst (λ (b : Ballot). lowest test x
-      (if same_value s.value x && nat_lt s.counter lo && test s.counter then s.counter else lo) ts ≤ b.counter)
-      (sym e) (elim (cases_Bool (nat_lt s.counter lo)) [
+      (if same_value s.value x && nat_lt s.counter low && test s.counter then s.counter else low) ts ≤ b.counter)
+      (sym e) (elim (cases_Bool (nat_lt s.counter low)) [
         | inl l ↦ let a =
-            and_from (same_value s.value x && nat_lt s.counter lo) (test s.counter)
-            (and_from (same_value s.value x) (nat_lt s.counter lo) sv l) sh in rw a (lowest-low test x s.counter ts)
-        | inr l ↦ elim (cases_Bool (same_value s.value x && nat_lt s.counter lo && test s.counter)) [
+            and_from (same_value s.value x && nat_lt s.counter low) (test s.counter)
+            (and_from (same_value s.value x) (nat_lt s.counter low) sv l) sh in rw a (lowest-low test x s.counter ts)
+        | inr l ↦ elim (cases_Bool (same_value s.value x && nat_lt s.counter low && test s.counter)) [
           | inl a ↦ rw a (lowest-low test x s.counter ts)
-          | inr a ↦ rw a (through _ lo s.counter (lowest-low test x lo ts) l)
+          | inr a ↦ rw a (through _ low s.counter (lowest-low test x low ts) l)
         ]
       ])
     where
       through : (a b c : ℕ) → a ≤ b → nat_lt c b ≡ false → a ≤ c
       through a b c h k = grind (arith, nat_tests)
 
-  lowest-from : (lo : ℕ) (ts : List Ballot)
-      → (lowest test x lo ts ≡ lo)
+  lowest-from : (low : ℕ) (ts : List Ballot)
+      → (lowest test x low ts ≡ low)
       ⊎ ((t : Ballot) × (IsIn t ts × ((same_value t.value x ≡ true)
-      × ((test t.counter ≡ true) × (t.counter ≡ lowest test x lo ts)))))
+      × ((test t.counter ≡ true) × (t.counter ≡ lowest test x low ts)))))
   unfolding lowest
-  lowest-from lo [] = inl refl
-  lowest-from lo (s ∷ ts) = elim (cases_Bool (same_value s.value x && nat_lt s.counter lo && test s.counter)) [
+  lowest-from low [] = inl refl
+  lowest-from low (s ∷ ts) = elim (cases_Bool (same_value s.value x && nat_lt s.counter low && test s.counter)) [
     | inl a ↦
-        let p = and_parts (same_value s.value x && nat_lt s.counter lo) (test s.counter) a in
-        let q = and_parts (same_value s.value x) (nat_lt s.counter lo) p.0 in
+        let p = and_parts (same_value s.value x && nat_lt s.counter low) (test s.counter) a in
+        let q = and_parts (same_value s.value x) (nat_lt s.counter low) p.0 in
         elim (lowest-from s.counter ts) [
           | inl e ↦ inr (s, (inl refl, (q.0, (p.1, rw a (sym e)))))
           | inr r ↦ inr (r.0, (inr r.1.0, (r.1.1.0, (r.1.1.1.0, rw a r.1.1.1.1))))
         ]
-    | inr a ↦ elim (lowest-from lo ts) [
+    | inr a ↦ elim (lowest-from low ts) [
       | inl e ↦ inl (rw a e)
       | inr r ↦ inr (r.0, (inr r.1.0, (r.1.1.0, (r.1.1.1.0, rw a r.1.1.1.1))))
     ]
   ]
 
 pub lowest_is_exact : LowestIsExact
-lowest_is_exact test x lo ts =
-    record { upto = lowest-low test x lo ts; below = lowest-below test x lo ts; from = lowest-from test x lo ts }
+lowest_is_exact test x low ts =
+    record { upto = lowest-low test x low ts; below = lowest-below test x low ts; from = lowest-from test x low ts }
 
 -- ---- the least number that passes
 least-high : (test : ℕ → Bool) (fuel n : ℕ) → least_from fuel n test ≤ n + fuel

@@ -8,7 +8,7 @@ use Rattle.protocol.specs.Sets.{Names, among}
 use Rattle.protocol.specs.Rosters.{Shares, Roster, Share, Draw, is_on, reserved, events_of}
 use Rattle.protocol.specs.Rosters.Share.{Own, Pair}
 use Rattle.protocol.specs.Rosters.Source.{OfBudgets, OfOpens, OfShare}
-use Rattle.protocol.specs.Networks.{Place, Slot, Net, Step, slices_of, places_at, known, emission, has_input, is_hosted, is_bad_value, source, is_full, is_full_of_bytes, tests, tests_on, size_of, on_shares}
+use Rattle.protocol.specs.Networks.{Place, Slot, Net, Step, slices_of, places_at, known, emission, has_proposal, is_hosted, is_bad_value, source, is_full, is_full_of_bytes, tests, tests_on, size_of, on_shares}
 use Rattle.protocol.specs.Networks.Reading.{Read, Fault}
 use Rattle.protocol.specs.Networks.Step.{Opens, Closes, Asks, Delivers, Hears, NominationTimes, BallotTimes, Reslices}
 use Rattle.protocol.specs.Isolation.{Kept, when_kept}
@@ -32,9 +32,9 @@ pub length-numbers : (ss : List Slot) → length ss ≡ length (numbers ss)
 length-numbers [] = refl
 length-numbers (s ∷ ss) = ap (λ n. suc n) (length-numbers ss)
 
-input-cut : (R : Names) (o : Option Place) → has_input o ≡ has_input (option_map (cut_place R) o)
-input-cut R None = refl
-input-cut R (Some p) = refl
+proposal-cut : (R : Names) (o : Option Place) → has_proposal o ≡ has_proposal (option_map (cut_place R) o)
+proposal-cut R None = refl
+proposal-cut R (Some p) = refl
 
 emission-cut : (R : Names) (o : Option Place) (kind : Kind) (k : ℕ)
     → emission o kind k ≡ emission (option_map (cut_place R) o) kind k
@@ -51,9 +51,9 @@ module _ (R : Names) (i : ℕ) (net : Net) where
   seen_at j u e r = ap (λ b. if b then option_map (cut_place R) (known (places_at net.slots i) u) else None) r
       ∙ ap (λ x. option_map (cut_place R) (known (places_at net.slots x) u)) (sym (eqb-true j i e))
 
-  input : (j u : ℕ) → (j == i) ≡ true → R u ≡ true
-      → has_input (known (places_at net.slots j) u) ≡ has_input (sight R i net u)
-  input j u e r = input-cut R (known (places_at net.slots j) u) ∙ ap has_input (sym (seen_at j u e r))
+  proposal : (j u : ℕ) → (j == i) ≡ true → R u ≡ true
+      → has_proposal (known (places_at net.slots j) u) ≡ has_proposal (sight R i net u)
+  proposal j u e r = proposal-cut R (known (places_at net.slots j) u) ∙ ap has_proposal (sym (seen_at j u e r))
 
   emitted : (j u : ℕ) (kind : Kind) (k : ℕ) → (j == i) ≡ true → R u ≡ true
       → emission (known (places_at net.slots j) u) kind k ≡ emission (sight R i net u) kind k
@@ -132,7 +132,7 @@ module _ (R : Names) (i : ℕ) (r : Roster) (on : (u : ℕ) → R u ≡ true →
         draws = d;
         tested = ap (λ s. tests_on net s (Asks j u x)) d
             ∙ (λ k. (not (hosted R i net u m.1 k), NoSuchNode) ∷ (not (open-same net.slots j k), SlotNotOpen) ∷
-            (is_bad_value x, BadValue) ∷ (input R i net j u m.0 m.1 k, ProposedAlready) ∷ full R i net r.shares j
+            (is_bad_value x, BadValue) ∷ (proposal R i net j u m.0 m.1 k, ProposedAlready) ∷ full R i net r.shares j
             (Own u) m.0 m.1 k ∷ []);
       }
   as_concerned net h (Delivers u size (Fault n)) c = absurd (false≢true c)

@@ -9,7 +9,7 @@ use Rattle.protocol.specs.Sets.{Names, among}
 use Rattle.protocol.specs.Rosters.{Shares, Roster, Share, Source, Draw, same_share, drawn_on, events_drawn, bytes_drawn, events_of}
 use Rattle.protocol.specs.Rosters.Share.{Own, Pair}
 use Rattle.protocol.specs.Rosters.Source.{OfBudgets, OfOpens, OfShare}
-use Rattle.protocol.specs.Networks.{Net, Step, Reply, emission, has_input, is_bad_value, first_that, size_of, on_shares, on_opens}
+use Rattle.protocol.specs.Networks.{Net, Step, Reply, emission, has_proposal, is_bad_value, first_that, size_of, on_shares, on_opens}
 use Rattle.protocol.specs.Networks.Reading.{Read, Fault}
 use Rattle.protocol.specs.Networks.Step.{Opens, Closes, Asks, Delivers, Hears, NominationTimes, BallotTimes, Reslices}
 use Rattle.protocol.specs.Networks.Reply.{Done, Refused}
@@ -98,7 +98,7 @@ tests_in f w (Opens j) =
 tests_in f w (Closes j) = (not (among w.numbers j), SlotNotOpen) ∷ full_in w (share_of f.shares (Closes j)) ∷ []
 tests_in f w (Asks j u x) =
     (not (is_some (f.cast u)), NoSuchNode) ∷ (not (among w.numbers j), SlotNotOpen) ∷ (is_bad_value x, BadValue) ∷
-    (has_input (w.sight u), ProposedAlready) ∷ full_in w (share_of f.shares (Asks j u x)) ∷ []
+    (has_proposal (w.sight u), ProposedAlready) ∷ full_in w (share_of f.shares (Asks j u x)) ∷ []
 tests_in f w (Delivers u size (Fault n)) = []
 tests_in f w (Delivers u size (Read e)) =
     (not (is_some (f.cast u)), NoSuchNode) ∷ (is_some (f.cast e.sender), HostedSender) ∷ (

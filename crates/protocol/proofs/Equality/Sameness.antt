@@ -130,17 +130,17 @@ same_votes-refl w =
     (same_values-refl w.voted) (same_values-refl w.accepts)) (same_values-refl w.confirms)) (same_phase-refl w.phase))
     (same_option-refl same_ballot same_ballot-refl w.ballot))
     (same_option-refl same_ballot same_ballot-refl w.prepared)) (eqb-refl w.aborted))
-    (same_option-refl same_ballot same_ballot-refl w.high)) (same_option-refl same_ballot same_ballot-refl w.commit))
-    (eqb-refl w.lo)) (eqb-refl w.hi)) (eqb-refl w.armed)
+    (same_option-refl same_ballot same_ballot-refl w.confirmed_prepared)) (same_option-refl same_ballot same_ballot-refl w.commit))
+    (eqb-refl w.low)) (eqb-refl w.high)) (eqb-refl w.armed)
 
 pub same_votes-true : (u w : Votes) → same_votes u w ≡ true → u ≡ w
 unfolding same_votes
 same_votes-true u w h =
     let p11 = and_parts _ (u.armed == w.armed) h in
-    let p10 = and_parts _ (u.hi == w.hi) p11.0 in
-    let p9 = and_parts _ (u.lo == w.lo) p10.0 in
+    let p10 = and_parts _ (u.high == w.high) p11.0 in
+    let p9 = and_parts _ (u.low == w.low) p10.0 in
     let p8 = and_parts _ (same_option same_ballot u.commit w.commit) p9.0 in
-    let p7 = and_parts _ (same_option same_ballot u.high w.high) p8.0 in
+    let p7 = and_parts _ (same_option same_ballot u.confirmed_prepared w.confirmed_prepared) p8.0 in
     let p6 = and_parts _ (u.aborted == w.aborted) p7.0 in
     let p5 = and_parts _ (same_option same_ballot u.prepared w.prepared) p6.0 in
     let p4 = and_parts _ (same_option same_ballot u.ballot w.ballot) p5.0 in
@@ -155,9 +155,9 @@ same_votes-true u w h =
       ballot = (same_option-true same_ballot same_ballot-true u.ballot w.ballot p4.1) i;
       prepared = (same_option-true same_ballot same_ballot-true u.prepared w.prepared p5.1) i;
       aborted = (eqb-true u.aborted w.aborted p6.1) i;
-      high = (same_option-true same_ballot same_ballot-true u.high w.high p7.1) i;
+      confirmed_prepared = (same_option-true same_ballot same_ballot-true u.confirmed_prepared w.confirmed_prepared p7.1) i;
       commit = (same_option-true same_ballot same_ballot-true u.commit w.commit p8.1) i;
-      lo = (eqb-true u.lo w.lo p9.1) i;
-      hi = (eqb-true u.hi w.hi p10.1) i;
+      low = (eqb-true u.low w.low p9.1) i;
+      high = (eqb-true u.high w.high p10.1) i;
       armed = (eqb-true u.armed w.armed p11.1) i;
     }

@@ -32,8 +32,8 @@ IsKept R (Reslice q) = Unit {0}
 -- a pass sees the rows of R alone
 passed-cut : (R : Names) (n : Node) → Good R n → passed n ≡ passed (cut_node R n)
 passed-cut R n g =
-    ap {B = Votes → Votes} (λ (s : Seen) (w : Votes). pass n.name s n.given w)
-    (seen-cut R n.name n.slices n.given.leaders n.table g.closed g.leaders)
+    ap {B = Votes → Votes} (λ (s : Seen) (w : Votes). pass n.name s n.inputs w)
+    (seen-cut R n.name n.slices n.inputs.leaders n.table g.closed g.leaders)
 
 option_map-if : {A B : Type 0} (f : A → B) (b : Bool) (a : A)
     → (if b then Some (f a) else None) ≡ option_map f (if b then Some a else None)

@@ -20,7 +20,7 @@ use Rattle.protocol.proofs.Nodes.Made.{answered-node, if_node, if_node-if}
 -- R is closed for the node: it has its name, the names of its slices, its leaders, and what its senders in R announced
 pub record Good (R : Names) (n : Node) : Type 0 where
   pub closed : Closed R n.name n.slices n.table
-  pub leaders : within n.given.leaders R ≡ true
+  pub leaders : within n.inputs.leaders R ≡ true
 
 pub all-with : (P : Sent → Bool) (e : Sent) (table : List Sent) → list_all P table ≡ true → P e ≡ true
     → list_all P (with_row e table) ≡ true
@@ -83,7 +83,7 @@ good-change R n (Propose x) g k =
     record {
       closed = record { has = g.closed.has; own = g.closed.own; rows = g.closed.rows };
       leaders =
-          all-push R n.given.leaders (leader n.slot 1 n.name n.slices) g.leaders
+          all-push R n.inputs.leaders (leader n.slot 1 n.name n.slices) g.leaders
           (leader-in R n.slot 1 n.name n.slices g.closed.has g.closed.own);
     }
 good-change R n (Take e) g k = go (is_taken n.table e)
@@ -103,7 +103,7 @@ good-change R n (NominationTimer r) g k = if_node-if (Good R) _ (in_round n (r +
     (record {
       closed = record { has = g.closed.has; own = g.closed.own; rows = g.closed.rows };
       leaders =
-          all-push R n.given.leaders (leader n.slot (r + 1) n.name n.slices) g.leaders
+          all-push R n.inputs.leaders (leader n.slot (r + 1) n.name n.slices) g.leaders
           (leader-in R n.slot (r + 1) n.name n.slices g.closed.has g.closed.own);
     })
 good-change R n (BallotTimer c) g k = if_node-if (Good R) _ (timed_out n)

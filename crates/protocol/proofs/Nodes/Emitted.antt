@@ -70,7 +70,7 @@ outs-emit : (P : Sent → Bool) (old new : Node)
 unfolding outs
 outs-emit P old new f =
     both_emit P (both_emit P (both_emit P (both_emit P
-    (armed (not (new.given.round == old.given.round) && is_none new.votes.high) (ArmNomination new.given.round) refl)
+    (armed (not (new.inputs.round == old.inputs.round) && is_none new.votes.confirmed_prepared) (ArmNomination new.inputs.round) refl)
     (armed (not (new.votes.armed == old.votes.armed) && (new.votes.armed == counter_of new.votes.ballot)
     && not (is_externalized new.votes.phase)) (ArmBallot new.votes.armed) refl))
     (sent (sent_nomination old.votes) (sent_nomination new.votes)))

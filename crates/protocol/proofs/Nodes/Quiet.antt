@@ -57,7 +57,7 @@ pub outs-none : (n : Node) (taken : List Sent) → outs n (record n { table = ta
 unfolding outs
 outs-none n taken =
     let m : Node = record n { table = taken } in
-    let r : (n.given.round == n.given.round) ≡ true = eqb-refl n.given.round in
+    let r : (n.inputs.round == n.inputs.round) ≡ true = eqb-refl n.inputs.round in
     let a : (n.votes.armed == n.votes.armed) ≡ true = eqb-refl n.votes.armed in
     rw (
       r,
@@ -113,7 +113,7 @@ seen-outside R v q leaders table e c o l =
 -- an envelope that the table takes is a row more where its sender is neither in R nor a leader: nothing else changes,
 -- and nothing is given out
 pub step-outside : (R : Names) (n : Node) (e : Sent) → Closed R n.name n.slices n.table → Calm n → R e.sender ≡ false
-    → among n.given.leaders e.sender ≡ false → is_taken n.table e ≡ true
+    → among n.inputs.leaders e.sender ≡ false → is_taken n.table e ≡ true
     → step n (Take e) ≡ (record n { table = with_row e n.table }, [])
 unfolding step change settle
 step-outside R n e h c o l t =
@@ -125,8 +125,8 @@ step-outside R n e h c o l t =
     m = record n { table = with_row e n.table }
 
     still : passed m n.votes ≡ n.votes
-    still = ap {B = Votes} (λ (s : Seen). pass n.name s n.given n.votes)
-        (seen-outside R n.name n.slices n.given.leaders n.table e h o l) ∙ c
+    still = ap {B = Votes} (λ (s : Seen). pass n.name s n.inputs n.votes)
+        (seen-outside R n.name n.slices n.inputs.leaders n.table e h o l) ∙ c
 
     at_once : settle most_passes (passed m) n.votes ≡ Some n.votes
     at_once =
@@ -148,7 +148,7 @@ pub step-quiet : (R : Names) (n : Node) (e : Sent) → Good R n → Calm n → R
     → (cut_node R (step n (Take e)).0 ≡ cut_node R n) × ((step n (Take e)).1 ≡ [])
 step-quiet R n e g c o = elim (cases_Bool (is_taken n.table e)) [
   | inl t ↦ subst (λ (p : Node × List Out). (cut_node R p.0 ≡ cut_node R n) × (p.1 ≡ []))
-      (sym (step-outside R n e g.closed c o (no_leader R n.given.leaders e.sender g.leaders o) t))
+      (sym (step-outside R n e g.closed c o (no_leader R n.inputs.leaders e.sender g.leaders o) t))
       (ap {B = Node} (λ t. record n { table = t }) (cut-push_other R e n.table o), refl)
   | inr f ↦ subst (λ (p : Node × List Out). (cut_node R p.0 ≡ cut_node R n) × (p.1 ≡ []))
       (sym (step-stale n e f)) (refl, refl)

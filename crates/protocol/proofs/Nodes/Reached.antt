@@ -33,7 +33,7 @@ reached-calm (next {n} r e) = calm-step n e (reached-calm r)
 
 -- ---- what is sent, and the timers
 abbrev pub IsLawful : Node → Type 0
-IsLawful n = IsSendable n.given.fired n.votes
+IsLawful n = IsSendable n.inputs.ballot_timeouts n.votes
 
 fresh-lawful : (slot v : ℕ) (q : Slices) → IsLawful (fresh slot v q)
 unfolding fresh
@@ -43,11 +43,11 @@ fresh-lawful slot v q = record { voted = none; accepts = none; timers = omega ar
     none = record { few = omega arith; ascending = tt }
 
 timed_out-lawful : (n : Node) (o : Option Ballot) → n.votes.ballot ≡ o → is_some o ≡ true → IsLawful n
-    → IsSendable (n.given.fired + 1) (bumped n.votes o)
+    → IsSendable (n.inputs.ballot_timeouts + 1) (bumped n.votes o)
 timed_out-lawful n None e s h = absurd (false≢true s)
 timed_out-lawful n (Some b) e s h =
-    raised-keeps n.given.fired (n.given.fired + 1) n.votes b (b.counter + 1) e (omega arith)
-    (up n.given.fired b.counter (subst (λ o. n.given.fired ≤ counter_of o) e h.timers)) h
+    raised-keeps n.inputs.ballot_timeouts (n.inputs.ballot_timeouts + 1) n.votes b (b.counter + 1) e (omega arith)
+    (up n.inputs.ballot_timeouts b.counter (subst (λ o. n.inputs.ballot_timeouts ≤ counter_of o) e h.timers)) h
   where
     up : (m n : ℕ) → m ≤ n → m + 1 ≤ n + 1
     up m n k = omega (arith, k)
@@ -92,8 +92,8 @@ settled-lawful (Some n) h = go (settle most_passes (passed n) n.votes) refl
     go : (o : Option Votes) → settle most_passes (passed n) n.votes ≡ o → if_node IsLawful (settled n o)
     go None e = tt
     go (Some w) e =
-        settle-keeps (IsSendable n.given.fired) most_passes (passed n)
-        (pass-keeps n.given.fired n.name (seen n.name n.slices n.given.leaders n.table) n.given) n.votes w h e
+        settle-keeps (IsSendable n.inputs.ballot_timeouts) most_passes (passed n)
+        (pass-keeps n.inputs.ballot_timeouts n.name (seen n.name n.slices n.inputs.leaders n.table) n.inputs) n.votes w h e
 
 step-lawful : (n : Node) (e : NodeEvent) → IsLawful n → IsLawful (step n e).0
 unfolding step
@@ -104,20 +104,20 @@ pub reached-lawful : {n : Node} → Reached n → IsLawful n
 reached-lawful (begin slot v q) = fresh-lawful slot v q
 reached-lawful (next {n} r e) = step-lawful n e (reached-lawful r)
 
-pub reached-fired : {n : Node} → Reached n → n.given.fired ≤ counter_of n.votes.ballot
-reached-fired r = (reached-lawful r).timers
+pub reached-timeouts : {n : Node} → Reached n → n.inputs.ballot_timeouts ≤ counter_of n.votes.ballot
+reached-timeouts r = (reached-lawful r).timers
 
 pub reached-sends : {n : Node} → Reached n
     → IfSome (sent_nomination n.votes) IsWellFormed × IfSome (sent_vote n.votes) IsWellFormed
 reached-sends {n} r =
-    let h = reached-lawful r in (nomination-sends n.given.fired n.votes h, vote-sends n.given.fired n.votes h)
+    let h = reached-lawful r in (nomination-sends n.inputs.ballot_timeouts n.votes h, vote-sends n.inputs.ballot_timeouts n.votes h)
 
 -- ---- the laws
 pub reached_are_calm : ReachedAreCalm
 reached_are_calm n r = reached-calm r
 
 pub timers_are_counted : TimersAreCounted
-timers_are_counted n r = reached-fired r
+timers_are_counted n r = reached-timeouts r
 
 pub sends_well_formed : SendsWellFormed
 sends_well_formed n r = reached-sends r

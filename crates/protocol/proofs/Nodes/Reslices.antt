@@ -33,7 +33,7 @@ stays n true m e = go (settle most_passes (passed m) m.votes)
 pub slices_follow_events : SlicesFollowEvents
 unfolding step change
 slices_follow_events n r (Propose x) =
-    stays n true (in_round (record n { given = record n.given { input = Some x } }) 1) refl
+    stays n true (in_round (record n { inputs = record n.inputs { proposal = Some x } }) 1) refl
 slices_follow_events n r (Take e) = stays n (is_taken n.table e) (record n { table = with_row e n.table }) refl
 slices_follow_events n r (NominationTimer k) = stays n _ (in_round n (k + 1)) refl
 slices_follow_events n r (BallotTimer c) = stays n _ (timed_out n) refl
@@ -47,8 +47,8 @@ unfolding step change
 reslices_change_votes n q = go (settle most_passes (passed (resliced n q)) n.votes)
   where
     go : (o : Option Votes) → IsElseSame n (answered n (settled (resliced n q) o)).0
-    go None = record { name = refl; slot = refl; given = refl; table = refl }
-    go (Some w) = record { name = refl; slot = refl; given = refl; table = refl }
+    go None = record { name = refl; slot = refl; inputs = refl; table = refl }
+    go (Some w) = record { name = refl; slot = refl; inputs = refl; table = refl }
 
 pub same_slices_are_quiet : SameSlicesAreQuiet
 unfolding step change settle

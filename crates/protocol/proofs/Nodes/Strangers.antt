@@ -32,12 +32,12 @@ use Rattle.protocol.proofs.Nodes.Reached.{reached-calm}
 record IsNear (R : Names) (n : Node) : Type 0 where
   has : R n.name ≡ true
   own : within (names n.slices) R ≡ true
-  leaders : within n.given.leaders R ≡ true
+  leaders : within n.inputs.leaders R ≡ true
 
 module _ (R : Names) where
-  in_next : (n : Node) (round : ℕ) → IsNear R n → within (in_round n round).given.leaders R ≡ true
+  in_next : (n : Node) (round : ℕ) → IsNear R n → within (in_round n round).inputs.leaders R ≡ true
   in_next n round h =
-      all-push R n.given.leaders (leader n.slot round n.name n.slices) h.leaders
+      all-push R n.inputs.leaders (leader n.slot round n.name n.slices) h.leaders
       (leader-in R n.slot round n.name n.slices h.has h.own)
 
   near-change : (n : Node) (e : NodeEvent) → GivesWithin R e → IsNear R n → if_node (IsNear R) (change n e)
@@ -109,11 +109,11 @@ pub outsiders_are_quiet : OutsidersAreQuiet
 outsiders_are_quiet R n e r held o l = elim (cases_Bool (is_taken n.table e)) [
   | inl t ↦ subst (λ (p : Node × List Out). IsQuiet R n p.0 p.1) (sym (outsiders_add_rows R n e r held o l t)) (record {
     outs = refl;
-    given = refl;
+    inputs = refl;
     votes = refl;
     rows = λ u k i. sym (row-cut R (with_row e n.table) u k i)
         ∙ (ap (λ (t : List Sent). row t u k) (cut-push_other R e n.table o) ∙ row-cut R n.table u k i);
   })
   | inr f ↦ subst (λ (p : Node × List Out). IsQuiet R n p.0 p.1) (sym (step-stale n e f))
-      (record { outs = refl; given = refl; votes = refl; rows = λ u k i. refl })
+      (record { outs = refl; inputs = refl; votes = refl; rows = λ u k i. refl })
 ]

@@ -7,7 +7,7 @@ use Rattle.protocol.proofs.Balloting.Tests.{backs_value, takes_value, Fair, quor
 use Rattle.types.specs.declared.statement.Statement.TheVariants.{Nominate}
 use Rattle.types.specs.declared.kind.Kind.TheVariants.{Nomination}
 use Rattle.protocol.specs.Views.{Seen, accepted, confirmed, passes}
-use Rattle.types.specs.declared.state.Given.{Given}
+use Rattle.types.specs.declared.state.Inputs.{Inputs}
 use Rattle.types.specs.Nominations.{Ascending, with_value}
 use Rattle.protocol.specs.Candidates.{as_set, all_with, filled, values_by}
 use Rattle.protocol.proofs.Nominating.Ascending.{ascends_on, ascends_from, first_least, with-has, with-kept, with-from, all-ascending, all-has, all-same, value-true}
@@ -232,7 +232,7 @@ accepts-still s f V ac = filled-still A (cands A) (elim (filled-full ac (cands a
         ]) (value-from s f V A ac z e p.1))
 
 -- one pass over the three sets, and they rest
-pub sets-rest : (v : ℕ) (s : Seen) → Fair s → (g : Given) (vo ac co : List (List ℕ)) → Ascending co
+pub sets-rest : (v : ℕ) (s : Seen) → Fair s → (g : Inputs) (vo ac co : List (List ℕ)) → Ascending co
     → let V = new_voted v s g vo co in let A = new_accepts s V ac in let C = new_confirms s V A co in
     Ascending C × QuietAt v s g V A C
 sets-rest v s f g vo ac co h =

@@ -6,20 +6,20 @@ use Rattle.protocol.proofs.Balloting.Tests.{backs_value, takes_value}
 use Rattle.types.specs.declared.statement.Statement.TheVariants.{Nominate}
 use Rattle.types.specs.declared.kind.Kind.TheVariants.{Nomination}
 use Rattle.protocol.specs.Views.{Seen, accepted, confirmed}
-use Rattle.types.specs.declared.state.Given.{Given}
+use Rattle.types.specs.declared.state.Inputs.{Inputs}
 use Rattle.types.specs.declared.state.Votes.{Votes}
 use Rattle.protocol.specs.States.{nominated}
 use Rattle.protocol.specs.Candidates.{all_with, filled, values_by}
 use Rattle.protocol.specs.Nominating.{echo, accept_values, confirm_values, nominate}
 
 -- the three sets after a pass
-abbrev pub sources : ℕ → Seen → Given → List (List ℕ)
-sources v s g = flat_map values_by s.led ++ (if among g.leaders v then option_to_list g.input else [])
+abbrev pub sources : ℕ → Seen → Inputs → List (List ℕ)
+sources v s g = flat_map values_by s.led ++ (if among g.leaders v then option_to_list g.proposal else [])
 
-abbrev pub echoes : Given → List (List ℕ) → Bool
+abbrev pub echoes : Inputs → List (List ℕ) → Bool
 echoes g co = nat_lt 0 g.round && not (nat_lt 0 (length co))
 
-abbrev pub new_voted : ℕ → Seen → Given → List (List ℕ) → List (List ℕ) → List (List ℕ)
+abbrev pub new_voted : ℕ → Seen → Inputs → List (List ℕ) → List (List ℕ) → List (List ℕ)
 new_voted v s g vo co = if echoes g co then filled vo (sources v s g) else vo
 
 abbrev pub new_accepts : Seen → List (List ℕ) → List (List ℕ) → List (List ℕ)
@@ -31,7 +31,7 @@ new_accepts s vo ac =
 abbrev pub new_confirms : Seen → List (List ℕ) → List (List ℕ) → List (List ℕ) → List (List ℕ)
 new_confirms s vo ac co = all_with (filter (λ x. confirmed s Nomination (Some (Nominate vo ac)) (takes_value x)) ac) co
 
-echo-is : (v : ℕ) (s : Seen) (g : Given) (w : Votes)
+echo-is : (v : ℕ) (s : Seen) (g : Inputs) (w : Votes)
     → echo v s g w ≡ record w { voted = new_voted v s g w.voted w.confirms }
 unfolding echo
 echo-is v s g w = go (echoes g w.confirms)
@@ -50,7 +50,7 @@ rest-is : (s : Seen) (w : Votes)
 unfolding confirm_values accept_values nominated
 rest-is s w = refl
 
-pub nominate-is : (v : ℕ) (s : Seen) (g : Given) (w : Votes) → is_none w.high ≡ true
+pub nominate-is : (v : ℕ) (s : Seen) (g : Inputs) (w : Votes) → is_none w.confirmed_prepared ≡ true
     → let vo = new_voted v s g w.voted w.confirms in let ac = new_accepts s vo w.accepts in
     nominate v s g w ≡ record w { voted = vo; accepts = ac; confirms = new_confirms s vo ac w.confirms }
 unfolding nominate
@@ -59,17 +59,17 @@ nominate-is v s g w e =
     ∙ (ap (λ x. confirm_values s (accept_values s x)) (echo-is v s g w)
     ∙ rest-is s (record w { voted = new_voted v s g w.voted w.confirms }))
 
-pub nominate-not : (v : ℕ) (s : Seen) (g : Given) (w : Votes) → is_none w.high ≡ false → nominate v s g w ≡ w
+pub nominate-not : (v : ℕ) (s : Seen) (g : Inputs) (w : Votes) → is_none w.confirmed_prepared ≡ false → nominate v s g w ≡ w
 unfolding nominate
 nominate-not v s g w e = ap (λ b. if b then confirm_values s (accept_values s (echo v s g w)) else w) e
 
 -- nomination changes nothing at these sets
-abbrev pub QuietAt : ℕ → Seen → Given → List (List ℕ) → List (List ℕ) → List (List ℕ) → Type 0
+abbrev pub QuietAt : ℕ → Seen → Inputs → List (List ℕ) → List (List ℕ) → List (List ℕ) → Type 0
 QuietAt v s g vo ac co = (u : Votes) → u.voted ≡ vo → u.accepts ≡ ac → u.confirms ≡ co → nominate v s g u ≡ u
 
-pub quiet-from : (v : ℕ) (s : Seen) (g : Given) (vo ac co : List (List ℕ)) → new_voted v s g vo co ≡ vo
+pub quiet-from : (v : ℕ) (s : Seen) (g : Inputs) (vo ac co : List (List ℕ)) → new_voted v s g vo co ≡ vo
     → new_accepts s vo ac ≡ ac → new_confirms s vo ac co ≡ co → QuietAt v s g vo ac co
-quiet-from v s g vo ac co a b c u i j k = elim (cases_Bool (is_none u.high)) [
+quiet-from v s g vo ac co a b c u i j k = elim (cases_Bool (is_none u.confirmed_prepared)) [
   | inr e ↦ nominate-not v s g u e
   | inl e ↦ nominate-is v s g u e
       ∙ (λ t. record u { voted = (x ∙ sym i) t; accepts = (y ∙ sym j) t; confirms = (z ∙ sym k) t })

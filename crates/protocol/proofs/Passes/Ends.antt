@@ -2,38 +2,38 @@
 use Rattle.std.proofs.Common.{◌≡◌, ℕ, false, Some, None, is_none, refl, sym, ◌∙◌, ap, subst, inl, inr, ◌⊎◌}
 use Rattle.types.specs.declared.ballot.Ballot.{Ballot}
 use Rattle.protocol.specs.Views.{Seen}
-use Rattle.types.specs.declared.state.Given.{Given}
+use Rattle.types.specs.declared.state.Inputs.{Inputs}
 use Rattle.types.specs.declared.state.Votes.{Votes}
 use Rattle.protocol.specs.States.{position}
 use Rattle.protocol.specs.Candidates.{greatest}
 use Rattle.protocol.specs.Nominating.{nominate}
-use Rattle.protocol.specs.Balloting.{start, accept_prepared, raise_high, follow_high, set_commit, accept_commit, confirm_commit, started}
+use Rattle.protocol.specs.Balloting.{start, accept_prepared, raise_confirmed_prepared, follow_confirmed_prepared, set_commit, accept_commit, confirm_commit, started}
 use Rattle.protocol.specs.Passes.{arm, pass, while_open}
 use Rattle.types.specs.declared.state.Phase.TheVariants.{Preparing, Committing, Externalized}
 use Rattle.protocol.proofs.Balloting.Tests.{Fair}
 use Rattle.protocol.proofs.Balloting.Counters.{position-armed, Risen, risen-up, arm-moves, arm-still}
-use Rattle.protocol.proofs.Balloting.Moves.{follow_high-still, set_commit-still}
+use Rattle.protocol.proofs.Balloting.Moves.{follow_confirmed_prepared-still, set_commit-still}
 use Rattle.protocol.proofs.Balloting.PreparedStays.{Sound, Ready, ready}
 use Rattle.protocol.proofs.Balloting.EntersCommit.{entering, enter_not, enters}
 use Rattle.protocol.proofs.Balloting.Decides.{deciding, decide_not, decides}
 use Rattle.protocol.proofs.Balloting.CommittedStays.{widening, widen_not, Steady, steady}
-use Rattle.protocol.proofs.Passes.RuleByRule.{r2, r3, r4, r5, ruled, tail, begun, finish, pass-preparing, pass-committing, r4-at, r5-at, r23-preparing, r234-committing, counts-on, counts-still, own-counts, accept_prepared-armed, raise_high-armed, fixed-armed, entering-armed}
+use Rattle.protocol.proofs.Passes.RuleByRule.{r2, r3, r4, r5, ruled, tail, begun, finish, pass-preparing, pass-committing, r4-at, r5-at, r23-preparing, r234-committing, counts-on, counts-still, own-counts, accept_prepared-armed, raise_confirmed_prepared-armed, fixed-armed, entering-armed}
 use Rattle.std.proofs.lemmas.Option.{same_Some}
 
 -- one more pass changes nothing, if nomination does not
-abbrev pub Rests : ℕ → Seen → Given → Votes → Type 0
+abbrev pub Rests : ℕ → Seen → Inputs → Votes → Type 0
 Rests v s g w = nominate v s g w ≡ w → pass v s g w ≡ w
 
-abbrev pub Ends : Seen → Given → Votes → Type 0
+abbrev pub Ends : Seen → Inputs → Votes → Type 0
 Ends s g y = (y.phase ≡ Externalized) ⊎ ((n : Ballot) × (y.ballot ≡ Some n) × Risen s g n.counter)
 
 -- from where a pass begins (b is there) to its end
-pub record Went (s : Seen) (g : Given) (w y : Votes) : Type 0 where
+pub record Went (s : Seen) (g : Inputs) (w y : Votes) : Type 0 where
   pub sound : Sound y
   pub voted : y.voted ≡ w.voted
   pub accepts : y.accepts ≡ w.accepts
   pub confirms : y.confirms ≡ w.confirms
-  pub stays : is_none w.high ≡ false → is_none y.high ≡ false
+  pub stays : is_none w.confirmed_prepared ≡ false → is_none y.confirmed_prepared ≡ false
   pub ends : Ends s g y
 
 pub start-some : (s : Seen) (w : Votes) (b : Ballot) → w.ballot ≡ Some b → start s w ≡ w
@@ -44,21 +44,21 @@ confirm-none : (s : Seen) (b : Ballot) (w : Votes) → confirm_commit Preparing 
 unfolding confirm_commit
 confirm-none s b w = refl
 
-finish-preparing : (s : Seen) (g : Given) (w : Votes) → w.phase ≡ Preparing → finish s g w ≡ tail s g w
+finish-preparing : (s : Seen) (g : Inputs) (w : Votes) → w.phase ≡ Preparing → finish s g w ≡ tail s g w
 finish-preparing s g w p = ap (λ q. while_open q (tail s g) w) p
 
-finish-committing : (s : Seen) (g : Given) (w : Votes) → w.phase ≡ Committing → finish s g w ≡ tail s g w
+finish-committing : (s : Seen) (g : Inputs) (w : Votes) → w.phase ≡ Committing → finish s g w ≡ tail s g w
 finish-committing s g w p = ap (λ q. while_open q (tail s g) w) p
 
-finish-externalized : (s : Seen) (g : Given) (w : Votes) → w.phase ≡ Externalized → finish s g w ≡ w
+finish-externalized : (s : Seen) (g : Inputs) (w : Votes) → w.phase ≡ Externalized → finish s g w ≡ w
 finish-externalized s g w p = ap (λ q. while_open q (tail s g) w) p
 
-pub begins : (v : ℕ) (s : Seen) (g : Given) (w : Votes) (b : Ballot) → w.ballot ≡ Some b → nominate v s g w ≡ w
+pub begins : (v : ℕ) (s : Seen) (g : Inputs) (w : Votes) (b : Ballot) → w.ballot ≡ Some b → nominate v s g w ≡ w
     → begun v s g w ≡ w
 begins v s g w b e n = ap (start s) n ∙ start-some s w b e
 
 -- the state after the rules in PREPARE rests, once it is armed
-rests-preparing : (v : ℕ) (s : Seen) → Fair s → (g : Given) (b : Ballot) (w : Votes) (R : Ready s b w)
+rests-preparing : (v : ℕ) (s : Seen) → Fair s → (g : Inputs) (b : Ballot) (w : Votes) (R : Ready s b w)
     → greatest None (entering s (position R.u) R.u) ≡ None → Risen s g R.n.counter → Rests v s g (arm s R.n R.u)
 rests-preparing v s f g b w R none risen =
     let a = arm-moves s R.n R.u in
@@ -67,9 +67,9 @@ rests-preparing v s f g b w R none risen =
     let ph : y.phase ≡ Preparing = R.phase in
     let e2 : accept_prepared s R.n y ≡ y = accept_prepared-armed s R.n R.u a.0
     ∙ ap {B = Votes} (λ (x : Votes). record x { armed = a.0 }) R.still_p in
-    let e3 : raise_high s y ≡ y = raise_high-armed s R.u a.0
+    let e3 : raise_confirmed_prepared s y ≡ y = raise_confirmed_prepared-armed s R.u a.0
     ∙ ap {B = Votes} (λ (x : Votes). record x { armed = a.0 }) R.still_h in
-    let e4 : follow_high R.n y ≡ y = follow_high-still R.n y ball R.above_h in
+    let e4 : follow_confirmed_prepared R.n y ≡ y = follow_confirmed_prepared-still R.n y ball R.above_h in
     let e5 : set_commit y ≡ y = set_commit-still y R.u.commit refl (fixed-armed R.u R.u.commit a.0 R.fixed) in
     let e6 : r4 s y ≡ y = r4-at s y R.n Preparing ph ball
     ∙ enter_not s R.n y (ap (greatest None) (entering-armed s R.u a.0) ∙ none) in
@@ -78,14 +78,14 @@ rests-preparing v s f g b w R none risen =
     let e9 : finish s g y ≡ y = finish-preparing s g y ph
     ∙ (counts-still s f g y R.n ball (own-counts y R.n (inl ph) ball) risen ∙ e8) in
     let e23 : r3 s (r2 s y) ≡ y = r23-preparing s y R.n ph ball
-    ∙ (ap (λ x. set_commit (follow_high R.n (raise_high s x))) e2
-    ∙ (ap (λ x. set_commit (follow_high R.n x)) e3 ∙ (ap set_commit e4 ∙ e5))) in
+    ∙ (ap (λ x. set_commit (follow_confirmed_prepared R.n (raise_confirmed_prepared s x))) e2
+    ∙ (ap (λ x. set_commit (follow_confirmed_prepared R.n x)) e3 ∙ (ap set_commit e4 ∙ e5))) in
     let all : ruled s y ≡ y = ap (λ x. r5 s (r4 s x)) e23 ∙ (ap (r5 s) e6 ∙ e7) in
     subst (λ (x : Votes). Rests v s g x) (sym a.1)
     (λ n. pass-preparing v s g y ph ∙
     (ap (λ x. finish s g (ruled s x)) (begins v s g y R.n ball n) ∙ (ap (finish s g) all ∙ e9)))
 
-rests-committing : (v : ℕ) (s : Seen) → Fair s → (g : Given) (b : Ballot) (w : Votes) (R : Steady s b w)
+rests-committing : (v : ℕ) (s : Seen) → Fair s → (g : Inputs) (b : Ballot) (w : Votes) (R : Steady s b w)
     → greatest None (deciding s (position R.u) R.n) ≡ None → Risen s g R.n.counter → Rests v s g (arm s R.n R.u)
 rests-committing v s f g b w R none risen =
     let a = arm-moves s R.n R.u in
@@ -95,7 +95,7 @@ rests-committing v s f g b w R none risen =
     let e2 : accept_prepared s R.n y ≡ y = accept_prepared-armed s R.n R.u a.0
     ∙ ap {B = Votes} (λ (x : Votes). record x { armed = a.0 }) R.still_p in
     let e6 : accept_commit Committing s R.n y ≡ y =
-    widen_not s R.n y (ap (λ o. greatest None (widening s o R.n R.u.hi)) (position-armed R.u a.0) ∙ R.still_c) in
+    widen_not s R.n y (ap (λ o. greatest None (widening s o R.n R.u.high)) (position-armed R.u a.0) ∙ R.still_c) in
     let e7 : r5 s y ≡ y = r5-at s y R.n Committing ph ball
     ∙ decide_not s R.n y (ap (λ o. greatest None (deciding s o R.n)) (position-armed R.u a.0) ∙ none) in
     let e8 : arm s R.n y ≡ y = subst (λ (x : Votes). arm s R.n x ≡ x) a.1 (arm-still s R.n R.u) in
@@ -108,7 +108,7 @@ rests-committing v s f g b w R none risen =
     ∙ (ap (λ x. finish s g (ruled s x)) (begins v s g y R.n ball n) ∙ (ap (finish s g) all ∙ e9)))
 
 -- the end of a pass in COMMIT
-closes : (s : Seen) → Fair s → (g : Given) (x : Votes) (n : Ballot) → x.phase ≡ Committing → x.ballot ≡ Some n → Sound x
+closes : (s : Seen) → Fair s → (g : Inputs) (x : Votes) (n : Ballot) → x.phase ≡ Committing → x.ballot ≡ Some n → Sound x
     → Went s g x (finish s g (r5 s x))
     × (((finish s g (r5 s x)).phase ≡ Externalized)
     ⊎ (((finish s g (r5 s x)).phase ≡ Committing) × (greatest None (deciding s (position x) n) ≡ None)
@@ -125,7 +125,7 @@ closes s f g x n ph ball sound = elim (decides s n x sound) [
               voted = C.voted;
               accepts = C.accepts;
               confirms = C.confirms;
-              stays = λ h. ap is_none C.high ∙ h;
+              stays = λ h. ap is_none C.confirmed_prepared ∙ h;
               ends = inr (C.n, C.ballot, C.risen);
             }),
         inr (ap (λ (y : Votes). y.phase) (sym q) ∙ (C.phase ∙ ph), e, fin),
@@ -139,15 +139,15 @@ closes s f g x n ph ball sound = elim (decides s n x sound) [
               voted = D.voted;
               accepts = D.accepts;
               confirms = D.confirms;
-              stays = λ h. ap is_none D.high ∙ h;
+              stays = λ h. ap is_none D.confirmed_prepared ∙ h;
               ends = inl D.phase;
             }),
         inl (ap (λ (y : Votes). y.phase) (sym q) ∙ D.phase),
       )
 ]
 
-went-on : (s : Seen) (g : Given) (w x y : Votes) → x.voted ≡ w.voted → x.accepts ≡ w.accepts → x.confirms ≡ w.confirms
-    → (is_none w.high ≡ false → is_none x.high ≡ false) → Went s g x y → Went s g w y
+went-on : (s : Seen) (g : Inputs) (w x y : Votes) → x.voted ≡ w.voted → x.accepts ≡ w.accepts → x.confirms ≡ w.confirms
+    → (is_none w.confirmed_prepared ≡ false → is_none x.confirmed_prepared ≡ false) → Went s g x y → Went s g w y
 went-on s g w x y a b c d r =
     record {
       sound = r.sound;
@@ -159,19 +159,19 @@ went-on s g w x y a b c d r =
     }
 
 -- the rest of a pass in COMMIT: where nothing is to be raised, it then rests
-pub from-committing : (v : ℕ) (s : Seen) → Fair s → (g : Given) (w : Votes) (b : Ballot) → w.phase ≡ Committing
+pub from-committing : (v : ℕ) (s : Seen) → Fair s → (g : Inputs) (w : Votes) (b : Ballot) → w.phase ≡ Committing
     → w.ballot ≡ Some b → Sound w
     → (y : Votes) × (finish s g (ruled s w) ≡ y) × Went s g w y
     × (Risen s g b.counter → Rests v s g y ⊎ (y.phase ≡ Externalized))
 from-committing v s f g w b ph ball sound =
     let h = sound.committing ph in
     let hb : h.b ≡ b = same_Some h.b b (sym h.ballot ∙ ball) in
-    let R = steady s f w b h.p ph ball h.prepared (h.value ∙ ap (λ (x : Ballot). x.value) hb) h.hi h.lo sound in
+    let R = steady s f w b h.p ph ball h.prepared (h.value ∙ ap (λ (x : Ballot). x.value) hb) h.high h.low sound in
     let e : ruled s w ≡ r5 s R.u = ap (r5 s) (r234-committing s w b ph ball ∙ R.is) in
     let c = closes s f g R.u R.n R.phase R.ballot R.sound in (
       finish s g (r5 s R.u),
       ap (finish s g) e,
-      went-on s g w R.u (finish s g (r5 s R.u)) R.voted R.accepts R.confirms (λ k. ap is_none R.high ∙ k) c.0,
+      went-on s g w R.u (finish s g (r5 s R.u)) R.voted R.accepts R.confirms (λ k. ap is_none R.confirmed_prepared ∙ k) c.0,
       λ risen. let up = risen-up s f g b.counter R.n.counter R.grows risen in elim c.1 [
         | inl k ↦ inr k
         | inr k ↦ inl
@@ -182,7 +182,7 @@ from-committing v s f g w b ph ball sound =
     )
 
 -- the same in PREPARE, where it may go on to COMMIT
-pub from-preparing : (v : ℕ) (s : Seen) → Fair s → (g : Given) (w : Votes) (b : Ballot) → w.phase ≡ Preparing
+pub from-preparing : (v : ℕ) (s : Seen) → Fair s → (g : Inputs) (w : Votes) (b : Ballot) → w.phase ≡ Preparing
     → w.ballot ≡ Some b → Sound w
     → (y : Votes) × (finish s g (ruled s w) ≡ y) × Went s g w y
     × (Risen s g b.counter → Rests v s g y ⊎ ((y.phase ≡ Externalized) ⊎ (y.phase ≡ Committing)))
@@ -203,7 +203,7 @@ from-preparing v s f g w b ph ball sound =
               voted = C.voted ∙ R.voted;
               accepts = C.accepts ∙ R.accepts;
               confirms = C.confirms ∙ R.confirms;
-              stays = λ h. ap is_none C.high ∙ R.stays h;
+              stays = λ h. ap is_none C.confirmed_prepared ∙ R.stays h;
               ends = inr (C.n, C.ballot, C.risen);
             },
             λ risen. let up = risen-up s f g b.counter R.n.counter R.grows risen in

@@ -5,7 +5,7 @@ use Rattle.std.proofs.lemmas.Bool.{cases_Bool}
 use Rattle.types.specs.declared.ballot.Ballot.{Ballot}
 use Rattle.protocol.specs.Views.{Seen}
 use Rattle.types.specs.declared.state.Phase.{Phase}
-use Rattle.types.specs.declared.state.Given.{Given}
+use Rattle.types.specs.declared.state.Inputs.{Inputs}
 use Rattle.types.specs.declared.state.Votes.{Votes}
 use Rattle.protocol.specs.Passes.{pass}
 use Rattle.protocol.specs.Nominating.{nominate}
@@ -39,15 +39,15 @@ settle-more n f w h = elim (cases_Bool (same_votes (f w) w)) [
 ]
 
 -- nomination is at rest
-abbrev pub Quiet : ℕ → Seen → Given → Votes → Type 0
-Quiet v s g w = QuietAt v s g w.voted w.accepts w.confirms ⊎ (is_none w.high ≡ false)
+abbrev pub Quiet : ℕ → Seen → Inputs → Votes → Type 0
+Quiet v s g w = QuietAt v s g w.voted w.accepts w.confirms ⊎ (is_none w.confirmed_prepared ≡ false)
 
-pub quiet-same : (v : ℕ) (s : Seen) (g : Given) (w : Votes) → Quiet v s g w → nominate v s g w ≡ w
+pub quiet-same : (v : ℕ) (s : Seen) (g : Inputs) (w : Votes) → Quiet v s g w → nominate v s g w ≡ w
 quiet-same v s g w (inl q) = q w refl refl refl
 quiet-same v s g w (inr h) = nominate-not v s g w h
 
-quiet-on : (v : ℕ) (s : Seen) (g : Given) (w y : Votes) → y.voted ≡ w.voted → y.accepts ≡ w.accepts
-    → y.confirms ≡ w.confirms → (is_none w.high ≡ false → is_none y.high ≡ false) → Quiet v s g w → Quiet v s g y
+quiet-on : (v : ℕ) (s : Seen) (g : Inputs) (w y : Votes) → y.voted ≡ w.voted → y.accepts ≡ w.accepts
+    → y.confirms ≡ w.confirms → (is_none w.confirmed_prepared ≡ false → is_none y.confirmed_prepared ≡ false) → Quiet v s g w → Quiet v s g y
 quiet-on v s g w y a b c d (inl q) = inl (λ u i j k. q u (i ∙ a) (j ∙ b) (k ∙ c))
 quiet-on v s g w y a b c d (inr h) = inr (d h)
 
@@ -59,7 +59,7 @@ phases Externalized = inl refl
 settle-at : (n : ℕ) (f : Votes → Votes) (w y : Votes) → f w ≡ y → IsSome (settle n f y) → IsSome (settle (suc n) f w)
 settle-at n f w y e h = settle-more n f w (subst (λ (x : Votes). IsSome (settle n f x)) (sym e) h)
 
-module _ (v : ℕ) (s : Seen) (f : Fair s) (g : Given) where
+module _ (v : ℕ) (s : Seen) (f : Fair s) (g : Inputs) where
   -- in COMMIT, where nothing is to be raised: one pass
   one-left : (n : ℕ) (w : Votes) (b : Ballot) → Sound w → Quiet v s g w → w.phase ≡ Committing → w.ballot ≡ Some b
       → Risen s g b.counter → IsSome (settle (suc (suc n)) (pass v s g) w)
@@ -96,16 +96,16 @@ pub record Fit (w : Votes) : Type 0 where
   pub ascending : Ascending w.confirms
 
 -- one pass: it stays fit, and nomination is at rest
-pub record Once (v : ℕ) (s : Seen) (g : Given) (w y : Votes) : Type 0 where
+pub record Once (v : ℕ) (s : Seen) (g : Inputs) (w y : Votes) : Type 0 where
   pub fit : Fit y
   pub quiet : Quiet v s g y
   pub ends : Ends s g y ⊎ ((y.phase ≡ Preparing) × (y.ballot ≡ None) × (start s y ≡ y))
 
-module _ (v : ℕ) (s : Seen) (f : Fair s) (g : Given) where
+module _ (v : ℕ) (s : Seen) (f : Fair s) (g : Inputs) where
   pub once : (w : Votes) → Fit w → (w.phase ≡ Preparing) ⊎ (w.phase ≡ Committing) → Once v s g w (pass v s g w)
   once w fit ph =
       let S = stepped v s f g w fit.sound ph in
-      elim (cases_Bool (is_none w.high)) [
+      elim (cases_Bool (is_none w.confirmed_prepared)) [
         | inr h ↦ record {
           fit = record {
             sound = S.sound;

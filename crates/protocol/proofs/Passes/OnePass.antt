@@ -3,7 +3,7 @@ use Rattle.std.proofs.Common.{◌≡◌, ℕ, false, List, Option, Some, None, i
 use Rattle.std.proofs.lemmas.Bool.{cases_Bool}
 use Rattle.types.specs.declared.ballot.Ballot.{Ballot}
 use Rattle.protocol.specs.Views.{Seen}
-use Rattle.types.specs.declared.state.Given.{Given}
+use Rattle.types.specs.declared.state.Inputs.{Inputs}
 use Rattle.types.specs.declared.state.Votes.{Votes}
 use Rattle.protocol.specs.Candidates.{combine}
 use Rattle.protocol.specs.Passes.{pass}
@@ -41,29 +41,29 @@ start-none s w e = elim (cases_Option w.ballot) [
     not_none : {A : Type 0} (b : Ballot) → Some b ≡ None → A
     not_none b e = cc
 
-pub nominate-frame : (v : ℕ) (s : Seen) (g : Given) (w : Votes)
+pub nominate-frame : (v : ℕ) (s : Seen) (g : Inputs) (w : Votes)
     → nominate v s g w ≡ record w {
       voted = (nominate v s g w).voted;
       accepts = (nominate v s g w).accepts;
       confirms = (nominate v s g w).confirms;
     }
-nominate-frame v s g w = elim (cases_Bool (is_none w.high)) [
+nominate-frame v s g w = elim (cases_Bool (is_none w.confirmed_prepared)) [
   | inl e ↦ let p = nominate-is v s g w e in p
       ∙ (λ i. record w { voted = (sym p i).voted; accepts = (sym p i).accepts; confirms = (sym p i).confirms })
   | inr e ↦ let p = nominate-not v s g w e in p
       ∙ (λ i. record w { voted = (sym p i).voted; accepts = (sym p i).accepts; confirms = (sym p i).confirms })
 ]
 
-record Begun (v : ℕ) (s : Seen) (g : Given) (w x : Votes) : Type 0 where
+record Begun (v : ℕ) (s : Seen) (g : Inputs) (w x : Votes) : Type 0 where
   sound : Sound x
   phase : x.phase ≡ w.phase
-  high : x.high ≡ w.high
+  confirmed_prepared : x.confirmed_prepared ≡ w.confirmed_prepared
   voted : x.voted ≡ (nominate v s g w).voted
   accepts : x.accepts ≡ (nominate v s g w).accepts
   confirms : x.confirms ≡ (nominate v s g w).confirms
   ballot : (b : Ballot) → w.ballot ≡ Some b → x.ballot ≡ Some b
 
-begun-facts : (v : ℕ) (s : Seen) (g : Given) (w : Votes) → Sound w → Begun v s g w (begun v s g w)
+begun-facts : (v : ℕ) (s : Seen) (g : Inputs) (w : Votes) → Sound w → Begun v s g w (begun v s g w)
 begun-facts v s g w sound =
     let x = nominate v s g w in
     let f = nominate-frame v s g w in
@@ -79,7 +79,7 @@ begun-facts v s g w sound =
     subst (λ (y : Votes). Begun v s g w y) (sym whole) (record {
       sound = record {
         aborted = sound.aborted;
-        high = sound.high;
+        confirmed_prepared = sound.confirmed_prepared;
         committing = λ c. let h = sound.committing c in
             record {
               b = h.b;
@@ -87,12 +87,12 @@ begun-facts v s g w sound =
               ballot = ball h.b h.ballot;
               prepared = h.prepared;
               value = h.value;
-              hi = h.hi;
-              lo = h.lo;
+              high = h.high;
+              low = h.low;
             };
       };
       phase = refl;
-      high = refl;
+      confirmed_prepared = refl;
       voted = refl;
       accepts = refl;
       confirms = refl;
@@ -100,26 +100,26 @@ begun-facts v s g w sound =
     })
 
 -- One pass of a sound state
-pub record Passed (v : ℕ) (s : Seen) (g : Given) (w y : Votes) : Type 0 where
+pub record Passed (v : ℕ) (s : Seen) (g : Inputs) (w y : Votes) : Type 0 where
   pub sound : Sound y
   pub voted : y.voted ≡ (nominate v s g w).voted
   pub accepts : y.accepts ≡ (nominate v s g w).accepts
   pub confirms : y.confirms ≡ (nominate v s g w).confirms
-  pub stays : is_none w.high ≡ false → is_none y.high ≡ false
+  pub stays : is_none w.confirmed_prepared ≡ false → is_none y.confirmed_prepared ≡ false
   pub ends : Ends s g y ⊎ ((y.phase ≡ Preparing) × (y.ballot ≡ None) × (start s y ≡ y))
 
-went-step : (v : ℕ) (s : Seen) (g : Given) (w x y : Votes) → Begun v s g w x → Went s g x y → Passed v s g w y
+went-step : (v : ℕ) (s : Seen) (g : Inputs) (w x y : Votes) → Begun v s g w x → Went s g x y → Passed v s g w y
 went-step v s g w x y B W =
     record {
       sound = W.sound;
       voted = W.voted ∙ B.voted;
       accepts = W.accepts ∙ B.accepts;
       confirms = W.confirms ∙ B.confirms;
-      stays = λ h. W.stays (ap is_none B.high ∙ h);
+      stays = λ h. W.stays (ap is_none B.confirmed_prepared ∙ h);
       ends = inl W.ends;
     }
 
-pub stepped : (v : ℕ) (s : Seen) → Fair s → (g : Given) (w : Votes) → Sound w
+pub stepped : (v : ℕ) (s : Seen) → Fair s → (g : Inputs) (w : Votes) → Sound w
     → (w.phase ≡ Preparing) ⊎ (w.phase ≡ Committing) → Passed v s g w (pass v s g w)
 stepped v s f g w sound (inr ph) =
     let B = begun-facts v s g w sound in
@@ -143,7 +143,7 @@ stepped v s f g w sound (inl ph) =
             voted = B.voted;
             accepts = B.accepts;
             confirms = B.confirms;
-            stays = λ h. ap is_none B.high ∙ h;
+            stays = λ h. ap is_none B.confirmed_prepared ∙ h;
             ends = inr (
               B.phase ∙ ph,
               k,

@@ -9,11 +9,11 @@ use Rattle.protocol.specs.Passes.{counts, raised_value, raised, raise, arm, on_b
 use Rattle.types.specs.declared.kind.Kind.{Kind}
 use Rattle.protocol.specs.Views.{Seen, passes, accepted, confirmed}
 use Rattle.types.specs.declared.state.Phase.{Phase}
-use Rattle.types.specs.declared.state.Given.{Given}
+use Rattle.types.specs.declared.state.Inputs.{Inputs}
 use Rattle.types.specs.declared.state.Votes.{Votes}
 use Rattle.protocol.specs.States.{ballot_at, high_counter, position}
 use Rattle.protocol.specs.Candidates.{greatest, named_by, named}
-use Rattle.protocol.specs.Balloting.{aborted_by, may_be_prepared, start, accept_prepared, raise_high, follow_high, is_aborted, set_commit, accept_commit, confirm_commit, confirm_prepared}
+use Rattle.protocol.specs.Balloting.{aborted_by, may_be_prepared, start, accept_prepared, raise_confirmed_prepared, follow_confirmed_prepared, is_aborted, set_commit, accept_commit, confirm_commit, confirm_prepared}
 use Rattle.protocol.specs.Nominating.{nominate}
 use Rattle.types.specs.declared.state.Phase.TheVariants.{Preparing, Committing, Externalized}
 use Rattle.protocol.proofs.Balloting.Counters.{position-armed, Risen, raise-moves, raise-still, arm-moves}
@@ -27,7 +27,7 @@ abbrev pub r2 : Seen → Votes → Votes
 r2 s w = on_ballot (accept_prepared s) w
 
 abbrev pub r3 : Seen → Votes → Votes
-r3 s w = in_prepare (on_ballot (λ b w. set_commit (follow_high b (raise_high s w)))) w
+r3 s w = in_prepare (on_ballot (λ b w. set_commit (follow_confirmed_prepared b (raise_confirmed_prepared s w)))) w
 
 abbrev pub r4 : Seen → Votes → Votes
 r4 s w = on_ballot (λ b w. accept_commit w.phase s b w) w
@@ -38,26 +38,26 @@ r5 s w = on_ballot (λ b w. confirm_commit w.phase s b w) w
 abbrev pub ruled : Seen → Votes → Votes
 ruled s w = r5 s (r4 s (r3 s (r2 s w)))
 
-abbrev pub tail : Seen → Given → Votes → Votes
+abbrev pub tail : Seen → Inputs → Votes → Votes
 tail s g w = on_ballot (arm s) (on_ballot (raise s g) w)
 
-abbrev pub begun : ℕ → Seen → Given → Votes → Votes
+abbrev pub begun : ℕ → Seen → Inputs → Votes → Votes
 begun v s g w = start s (nominate v s g w)
 
-abbrev pub finish : Seen → Given → Votes → Votes
+abbrev pub finish : Seen → Inputs → Votes → Votes
 finish s g w = while_open w.phase (tail s g) w
 
-pub pass-preparing : (v : ℕ) (s : Seen) (g : Given) (w : Votes) → w.phase ≡ Preparing
+pub pass-preparing : (v : ℕ) (s : Seen) (g : Inputs) (w : Votes) → w.phase ≡ Preparing
     → pass v s g w ≡ finish s g (ruled s (begun v s g w))
 unfolding pass pass_rules voting counting confirm_prepared
 pass-preparing v s g w e = ap (λ p. while_open p (pass_rules v s g) w) e
 
-pub pass-committing : (v : ℕ) (s : Seen) (g : Given) (w : Votes) → w.phase ≡ Committing
+pub pass-committing : (v : ℕ) (s : Seen) (g : Inputs) (w : Votes) → w.phase ≡ Committing
     → pass v s g w ≡ finish s g (ruled s (begun v s g w))
 unfolding pass pass_rules voting counting confirm_prepared
 pass-committing v s g w e = ap (λ p. while_open p (pass_rules v s g) w) e
 
-pub pass-externalized : (v : ℕ) (s : Seen) (g : Given) (w : Votes) → w.phase ≡ Externalized → pass v s g w ≡ w
+pub pass-externalized : (v : ℕ) (s : Seen) (g : Inputs) (w : Votes) → w.phase ≡ Externalized → pass v s g w ≡ w
 unfolding pass pass_rules voting counting confirm_prepared
 pass-externalized v s g w e = ap (λ p. while_open p (pass_rules v s g) w) e
 
@@ -83,12 +83,12 @@ in_prepare-not : (F : Votes → Votes) (w : Votes) → w.phase ≡ Committing �
 in_prepare-not F w e = rw e refl
 
 r3-at : (s : Seen) (w : Votes) (b : Ballot) → w.phase ≡ Preparing → w.ballot ≡ Some b
-    → r3 s w ≡ set_commit (follow_high b (raise_high s w))
-r3-at s w b p e = in_prepare-at (on_ballot (λ b w. set_commit (follow_high b (raise_high s w)))) w p
-    ∙ on_ballot-at (λ b w. set_commit (follow_high b (raise_high s w))) w b e
+    → r3 s w ≡ set_commit (follow_confirmed_prepared b (raise_confirmed_prepared s w))
+r3-at s w b p e = in_prepare-at (on_ballot (λ b w. set_commit (follow_confirmed_prepared b (raise_confirmed_prepared s w)))) w p
+    ∙ on_ballot-at (λ b w. set_commit (follow_confirmed_prepared b (raise_confirmed_prepared s w))) w b e
 
 r3-not : (s : Seen) (w : Votes) → w.phase ≡ Committing → r3 s w ≡ w
-r3-not s w p = in_prepare-not (on_ballot (λ b w. set_commit (follow_high b (raise_high s w)))) w p
+r3-not s w p = in_prepare-not (on_ballot (λ b w. set_commit (follow_confirmed_prepared b (raise_confirmed_prepared s w)))) w p
 
 pub r4-at : (s : Seen) (w : Votes) (b : Ballot) (p : Phase) → w.phase ≡ p → w.ballot ≡ Some b
     → r4 s w ≡ accept_commit p s b w
@@ -99,7 +99,7 @@ pub r5-at : (s : Seen) (w : Votes) (b : Ballot) (p : Phase) → w.phase ≡ p �
 r5-at s w b p e k = on_ballot-at (λ b w. confirm_commit w.phase s b w) w b k ∙ ap (λ q. confirm_commit q s b w) e
 
 pub r23-preparing : (s : Seen) (w : Votes) (b : Ballot) → w.phase ≡ Preparing → w.ballot ≡ Some b
-    → r3 s (r2 s w) ≡ set_commit (follow_high b (raise_high s (accept_prepared s b w)))
+    → r3 s (r2 s w) ≡ set_commit (follow_confirmed_prepared b (raise_confirmed_prepared s (accept_prepared s b w)))
 r23-preparing s w b p e =
     ap (r3 s) (r2-at s w b e)
     ∙ r3-at s (accept_prepared s b w) b ((prepared-keeps s b w).1 ∙ p) ((prepared-keeps s b w).0 ∙ e)
@@ -115,13 +115,13 @@ r234-committing s w b p e =
 pub ruled-none : (s : Seen) (w : Votes) → w.phase ≡ Preparing → w.ballot ≡ None → ruled s w ≡ w
 ruled-none s w p e =
     let a : r2 s w ≡ w = on_ballot-none (accept_prepared s) w e in
-    let b : r3 s w ≡ w = in_prepare-at (on_ballot (λ b w. set_commit (follow_high b (raise_high s w)))) w p
-    ∙ on_ballot-none (λ b w. set_commit (follow_high b (raise_high s w))) w e in
+    let b : r3 s w ≡ w = in_prepare-at (on_ballot (λ b w. set_commit (follow_confirmed_prepared b (raise_confirmed_prepared s w)))) w p
+    ∙ on_ballot-none (λ b w. set_commit (follow_confirmed_prepared b (raise_confirmed_prepared s w))) w e in
     let c : r4 s w ≡ w = on_ballot-none (λ b w. accept_commit w.phase s b w) w e in
     let d : r5 s w ≡ w = on_ballot-none (λ b w. confirm_commit w.phase s b w) w e in
     ap (λ y. r5 s (r4 s (r3 s y))) a ∙ (ap (λ y. r5 s (r4 s y)) b ∙ (ap (λ y. r5 s y) c ∙ d))
 
-pub finish-none : (s : Seen) (g : Given) (w : Votes) → w.ballot ≡ None → finish s g w ≡ w
+pub finish-none : (s : Seen) (g : Inputs) (w : Votes) → w.ballot ≡ None → finish s g w ≡ w
 finish-none s g w e = go w.phase
   where
     both : tail s g w ≡ w
@@ -133,7 +133,7 @@ finish-none s g w e = go w.phase
     go Externalized = refl
 
 -- the counters
-pub record Counted (s : Seen) (g : Given) (w : Votes) (b : Ballot) : Type 0 where
+pub record Counted (s : Seen) (g : Inputs) (w : Votes) (b : Ballot) : Type 0 where
   pub u : Votes
   pub is : tail s g w ≡ u
   pub n : Ballot
@@ -144,7 +144,7 @@ pub record Counted (s : Seen) (g : Given) (w : Votes) (b : Ballot) : Type 0 wher
   pub voted : u.voted ≡ w.voted
   pub accepts : u.accepts ≡ w.accepts
   pub confirms : u.confirms ≡ w.confirms
-  pub high : u.high ≡ w.high
+  pub confirmed_prepared : u.confirmed_prepared ≡ w.confirmed_prepared
 
 pub raised-counter : (w : Votes) (b : Ballot) (n : ℕ) → (raised w b n).counter ≡ n
 raised-counter w b n = go (n == b.counter) refl
@@ -160,7 +160,7 @@ raised-stays w b n p = go (n == b.counter)
     go true = refl
     go false = ap (λ q. raised_value q w b.value) p
 
-pub counts-on : (s : Seen) → Fair s → (g : Given) (w : Votes) (b : Ballot) → w.ballot ≡ Some b → Sound w
+pub counts-on : (s : Seen) → Fair s → (g : Inputs) (w : Votes) (b : Ballot) → w.ballot ≡ Some b → Sound w
     → Counted s g w b
 counts-on s f g w b e sound =
     let r = raise-moves s f g b w in
@@ -176,7 +176,7 @@ counts-on s f g w b e sound =
       risen = subst (λ n. Risen s g n) (sym (raised-counter w b r.0)) r.3;
       sound = record {
         aborted = sound.aborted;
-        high = sound.high;
+        confirmed_prepared = sound.confirmed_prepared;
         committing = λ c. let h = sound.committing c in let z : h.b ≡ b = same_Some h.b b (sym h.ballot ∙ e) in
             record {
               b = raised w b r.0;
@@ -184,18 +184,18 @@ counts-on s f g w b e sound =
               ballot = refl;
               prepared = h.prepared;
               value = h.value ∙ (ap (λ (x : Ballot). x.value) z ∙ sym (raised-stays w b r.0 c));
-              hi = h.hi;
-              lo = h.lo;
+              high = h.high;
+              low = h.low;
             };
       };
       voted = refl;
       accepts = refl;
       confirms = refl;
-      high = refl;
+      confirmed_prepared = refl;
     }
 
 -- where nothing is to be raised
-pub counts-still : (s : Seen) → Fair s → (g : Given) (w : Votes) (b : Ballot) → w.ballot ≡ Some b
+pub counts-still : (s : Seen) → Fair s → (g : Inputs) (w : Votes) (b : Ballot) → w.ballot ≡ Some b
     → passes (counts (b.counter + 1)) (position w) ≡ false → Risen s g b.counter → tail s g w ≡ arm s b w
 counts-still s f g w b e c r =
     ap (on_ballot (arm s)) (on_ballot-at (raise s g) w b e ∙ raise-still s f g b w e c r) ∙ on_ballot-at (arm s) w b e
@@ -221,12 +221,12 @@ accept_prepared-armed s b w k = ap {B = Votes} (λ (o : Option Statement).
     (filter (λ b. nat_lt 0 b.counter) (flat_map named_by (s.rows Kind.Ballot ++ option_to_list o)))) in
     record w { prepared = p; aborted = aborted_by w.prepared p w.aborted; armed = k }) (position-armed w k)
 
-pub raise_high-armed : (s : Seen) (w : Votes) (k : ℕ)
-    → raise_high s (record w { armed = k }) ≡ record (raise_high s w) { armed = k }
-unfolding raise_high named
-raise_high-armed s w k = ap {B = Votes} (λ (o : Option Statement).
+pub raise_confirmed_prepared-armed : (s : Seen) (w : Votes) (k : ℕ)
+    → raise_confirmed_prepared s (record w { armed = k }) ≡ record (raise_confirmed_prepared s w) { armed = k }
+unfolding raise_confirmed_prepared named
+raise_confirmed_prepared-armed s w k = ap {B = Votes} (λ (o : Option Statement).
     record w {
-      high = greatest w.high (filter (λ t. confirmed s Kind.Ballot o (takes_prepare t))
+      confirmed_prepared = greatest w.confirmed_prepared (filter (λ t. confirmed s Kind.Ballot o (takes_prepare t))
           (filter (λ b. nat_lt 0 b.counter) (flat_map named_by (s.rows Kind.Ballot ++ option_to_list o))));
       armed = k;
     })
@@ -234,7 +234,7 @@ raise_high-armed s w k = ap {B = Votes} (λ (o : Option Statement).
 
 pub fixed-armed : (w : Votes) (c : Option Ballot) (k : ℕ) → Fixed w c → Fixed (record w { armed = k }) c
 unfolding is_aborted high_counter
-fixed-armed w None k h = go w.high w.prepared
+fixed-armed w None k h = go w.confirmed_prepared w.prepared
   where
     go : (a p : Option Ballot) → Fixed (record w { armed = k }) None
     go a p = λ x e. same x (h x e)

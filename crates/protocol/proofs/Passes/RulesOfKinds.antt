@@ -3,16 +3,16 @@ use Rattle.std.proofs.Common.{◌≡◌, ℕ, List, Option, Some, None, refl, �
 use Rattle.types.specs.declared.ballot.Ballot.{Ballot}
 use Rattle.types.specs.declared.state.Phase.{Phase}
 use Rattle.types.specs.declared.state.Phase.TheVariants.{Preparing, Committing, Externalized}
-use Rattle.types.specs.declared.state.Given.{Given}
+use Rattle.types.specs.declared.state.Inputs.{Inputs}
 use Rattle.types.specs.declared.state.Votes.{Votes}
 use Rattle.protocol.specs.Views.{Seen}
 use Rattle.protocol.specs.Candidates.{named, commits, combine}
 use Rattle.protocol.specs.Nominating.{echo, accept_values, confirm_values, nominate}
-use Rattle.protocol.specs.Balloting.{started, start_from, start, accept_prepared, raise_high, confirm_prepared, accepted_from, first_committed, next_committed, enter_commit, widen_commit, accept_commit, confirmed_commit, externalize, confirm_commit}
+use Rattle.protocol.specs.Balloting.{started, start_from, start, accept_prepared, raise_confirmed_prepared, confirm_prepared, accepted_from, first_committed, next_committed, enter_commit, widen_commit, accept_commit, confirmed_commit, externalize, confirm_commit}
 use Rattle.protocol.specs.Passes.{raised_counter, raise, arm, with_ballot, on_ballot, in_prepare, while_preparing, while_open, balloting, voting, counting, balloted_in}
 use Rattle.protocol.proofs.Passes.RowsOfKinds.{nominations_of, ballots_of}
 
-pub nominate-reads : (v : ℕ) (s : Seen) (g : Given) (w : Votes) → nominate v s g w ≡ nominate v (nominations_of s) g w
+pub nominate-reads : (v : ℕ) (s : Seen) (g : Inputs) (w : Votes) → nominate v s g w ≡ nominate v (nominations_of s) g w
 unfolding nominate echo accept_values confirm_values
 nominate-reads v s g w = refl
 
@@ -34,7 +34,7 @@ unfolding accept_prepared named
 prepared-reads s b w = refl
 
 confirmed-reads : (s : Seen) (b : Ballot) (w : Votes) → confirm_prepared s b w ≡ confirm_prepared (ballots_of s) b w
-unfolding confirm_prepared raise_high named
+unfolding confirm_prepared raise_confirmed_prepared named
 confirmed-reads s b w = refl
 
 enter-reads : (s : Seen) (b : Ballot) (w : Votes) (o : Option Ballot)
@@ -83,7 +83,7 @@ confirm-reads Committing s b w =
     externalize-reads s w (confirmed_commit s b w) ∙ ap (externalize (ballots_of s) w) (decided-reads s b w)
 confirm-reads Externalized s b w = refl
 
-raise-reads : (s : Seen) (g : Given) (b : Ballot) (w : Votes) → raise s g b w ≡ raise (ballots_of s) g b w
+raise-reads : (s : Seen) (g : Inputs) (b : Ballot) (w : Votes) → raise s g b w ≡ raise (ballots_of s) g b w
 unfolding raise raised_counter
 raise-reads s g b w = refl
 
@@ -134,13 +134,13 @@ voting-reads s w =
     on-reads (λ b w. confirm_commit w.phase s b w) (λ b w. confirm_commit w.phase t b w)
     (λ b w. confirm-reads w.phase s b w) w4 ∙ ap (on_ballot (λ b w. confirm_commit w.phase t b w)) e4
 
-counting-reads : (s : Seen) (g : Given) (w : Votes) → counting s g w ≡ counting (ballots_of s) g w
+counting-reads : (s : Seen) (g : Inputs) (w : Votes) → counting s g w ≡ counting (ballots_of s) g w
 unfolding counting
 counting-reads s g w =
     on-reads (arm s) (arm (ballots_of s)) (arm-reads s) (on_ballot (raise s g) w)
     ∙ ap (on_ballot (arm (ballots_of s))) (on-reads (raise s g) (raise (ballots_of s) g) (raise-reads s g) w)
 
-balloting-reads : (s : Seen) (g : Given) (w : Votes) → balloting s g w ≡ balloting (ballots_of s) g w
+balloting-reads : (s : Seen) (g : Inputs) (w : Votes) → balloting s g w ≡ balloting (ballots_of s) g w
 balloting-reads s g w =
     let t = ballots_of s in
     let same : voting s (start s w) ≡ voting t (start t w) = voting-reads s (start s w)
@@ -148,6 +148,6 @@ balloting-reads s g w =
     open-reads (counting s g) (counting t g) (counting-reads s g) (voting s (start s w)).phase (voting s (start s w))
     ∙ ap (λ (x : Votes). while_open x.phase (counting t g) x) same
 
-pub balloted-reads : (s : Seen) (g : Given) (w : Votes) → balloted_in s g w ≡ balloted_in (ballots_of s) g w
+pub balloted-reads : (s : Seen) (g : Inputs) (w : Votes) → balloted_in s g w ≡ balloted_in (ballots_of s) g w
 unfolding balloted_in
 balloted-reads s g w = open-reads (balloting s g) (balloting (ballots_of s) g) (balloting-reads s g) w.phase w

@@ -34,7 +34,7 @@ pub fresh-fit : (slot v : ℕ) (q : Slices) → Fit (fresh slot v q).votes
 unfolding fresh
 fresh-fit slot v q =
     record {
-      sound = record { aborted = omega arith; high = tt; committing = λ (c : Preparing ≡ Committing). cc };
+      sound = record { aborted = omega arith; confirmed_prepared = tt; committing = λ (c : Preparing ≡ Committing). cc };
       ascending = tt;
     }
 
@@ -43,7 +43,7 @@ bumped-fit w None e h = h
 bumped-fit w (Some b) e h = record {
   sound = record {
     aborted = h.sound.aborted;
-    high = h.sound.high;
+    confirmed_prepared = h.sound.confirmed_prepared;
     committing = λ c. let k = h.sound.committing c in let z : k.b ≡ b = same_Some k.b b (sym k.ballot ∙ e) in
         record {
           b = raised w b (b.counter + 1);
@@ -51,8 +51,8 @@ bumped-fit w (Some b) e h = record {
           ballot = refl;
           prepared = k.prepared;
           value = k.value ∙ (ap (λ (x : Ballot). x.value) z ∙ sym (raised-stays w b (b.counter + 1) c));
-          hi = k.hi;
-          lo = k.lo;
+          high = k.high;
+          low = k.low;
         };
   };
   ascending = h.ascending;
@@ -86,8 +86,8 @@ settled-fit (Some n) h = go (settle most_passes (passed n) n.votes) refl
     go None e = tt
     go (Some w) e =
         settle-fit most_passes (passed n)
-        (pass-fit n.name (seen n.name n.slices n.given.leaders n.table)
-        (seen-fair n.name n.slices n.given.leaders n.table) n.given) n.votes w h e
+        (pass-fit n.name (seen n.name n.slices n.inputs.leaders n.table)
+        (seen-fair n.name n.slices n.inputs.leaders n.table) n.inputs) n.votes w h e
 
 pub step-fit : (n : Node) (e : NodeEvent) → Fit n.votes → Fit (step n e).0.votes
 unfolding step
@@ -109,8 +109,8 @@ changed-fit n e m h c = subst if_fit c (change-fit n e h)
 pub fit-four : (n : Node) (e : NodeEvent) (m : Node) (k : ℕ) → Fit n.votes → change n e ≡ Some m
     → IsSome (settle (suc (suc (suc (suc k)))) (passed m) m.votes)
 fit-four n e m k h c =
-    four m.name (seen m.name m.slices m.given.leaders m.table)
-    (seen-fair m.name m.slices m.given.leaders m.table) m.given k m.votes (changed-fit n e m h c)
+    four m.name (seen m.name m.slices m.inputs.leaders m.table)
+    (seen-fair m.name m.slices m.inputs.leaders m.table) m.inputs k m.votes (changed-fit n e m h c)
 
 pub never_limited : NeverLimited
 never_limited n r e m c = fit-four n e m 60 (reached-fit r) c

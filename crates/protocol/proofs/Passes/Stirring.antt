@@ -4,7 +4,7 @@
 use Rattle.std.proofs.Common.{◌≡◌, ℕ, zero, suc, Option, Some, if◌then◌else◌, is_none, refl, sym, ◌∙◌, ap, subst, inl, inr, ◌⊎◌}
 use Rattle.std.proofs.lemmas.Bool.{cases_Bool}
 use Rattle.types.specs.declared.state.Phase.TheVariants.{Preparing, Committing, Externalized}
-use Rattle.types.specs.declared.state.Given.{Given}
+use Rattle.types.specs.declared.state.Inputs.{Inputs}
 use Rattle.types.specs.declared.state.Votes.{Votes}
 use Rattle.protocol.specs.Views.{Seen}
 use Rattle.protocol.specs.Rows.{with_row}
@@ -31,8 +31,8 @@ abbrev IsOpen : Votes → Type 0
 IsOpen w = (w.phase ≡ Preparing) ⊎ (w.phase ≡ Committing)
 
 -- where nomination changes nothing it is at rest
-quiet-of : (v : ℕ) (s : Seen) (g : Given) (w : Votes) → nominate v s g w ≡ w → Quiet v s g w
-quiet-of v s g w same = elim (cases_Bool (is_none w.high)) [
+quiet-of : (v : ℕ) (s : Seen) (g : Inputs) (w : Votes) → nominate v s g w ≡ w → Quiet v s g w
+quiet-of v s g w same = elim (cases_Bool (is_none w.confirmed_prepared)) [
   | inr e ↦ inr e
   | inl e ↦
       let p = sym (nominate-is v s g w e) ∙ same in
@@ -51,39 +51,39 @@ quiet-of v s g w same = elim (cases_Bool (is_none w.high)) [
 ]
 
 -- a pass is nomination and then balloting
-pass-open : (v : ℕ) (s : Seen) (g : Given) (w : Votes) → IsOpen w → pass v s g w ≡ balloting s g (nominate v s g w)
+pass-open : (v : ℕ) (s : Seen) (g : Inputs) (w : Votes) → IsOpen w → pass v s g w ≡ balloting s g (nominate v s g w)
 unfolding pass pass_rules
 pass-open v s g w (inl e) = ap (λ p. while_open p (pass_rules v s g) w) e
 pass-open v s g w (inr e) = ap (λ p. while_open p (pass_rules v s g) w) e
 
-balloted-open : (s : Seen) (g : Given) (w : Votes) → IsOpen w → balloted_in s g w ≡ balloting s g w
+balloted-open : (s : Seen) (g : Inputs) (w : Votes) → IsOpen w → balloted_in s g w ≡ balloting s g w
 unfolding balloted_in
 balloted-open s g w (inl e) = ap (λ p. while_open p (balloting s g) w) e
 balloted-open s g w (inr e) = ap (λ p. while_open p (balloting s g) w) e
 
-balloted-over : (s : Seen) (g : Given) (w : Votes) → w.phase ≡ Externalized → balloted_in s g w ≡ w
+balloted-over : (s : Seen) (g : Inputs) (w : Votes) → w.phase ≡ Externalized → balloted_in s g w ≡ w
 unfolding balloted_in
 balloted-over s g w e = ap (λ p. while_open p (balloting s g) w) e
 
-nominated-open : (v : ℕ) (s : Seen) (g : Given) (w : Votes) → IsOpen w → nominated_in v s g w ≡ nominate v s g w
+nominated-open : (v : ℕ) (s : Seen) (g : Inputs) (w : Votes) → IsOpen w → nominated_in v s g w ≡ nominate v s g w
 unfolding nominated_in
 nominated-open v s g w (inl e) = ap (λ p. while_open p (nominate v s g) w) e
 nominated-open v s g w (inr e) = ap (λ p. while_open p (nominate v s g) w) e
 
-nominated-over : (v : ℕ) (s : Seen) (g : Given) (w : Votes) → w.phase ≡ Externalized → nominated_in v s g w ≡ w
+nominated-over : (v : ℕ) (s : Seen) (g : Inputs) (w : Votes) → w.phase ≡ Externalized → nominated_in v s g w ≡ w
 unfolding nominated_in
 nominated-over v s g w e = ap (λ p. while_open p (nominate v s g) w) e
 
 -- nomination leaves the phase
-nominate-phase : (v : ℕ) (s : Seen) (g : Given) (w : Votes) → (nominate v s g w).phase ≡ w.phase
+nominate-phase : (v : ℕ) (s : Seen) (g : Inputs) (w : Votes) → (nominate v s g w).phase ≡ w.phase
 nominate-phase v s g w = ap (λ (x : Votes). x.phase) (nominate-frame v s g w)
 
-open-nominated : (v : ℕ) (s : Seen) (g : Given) (w : Votes) → IsOpen w → IsOpen (nominate v s g w)
+open-nominated : (v : ℕ) (s : Seen) (g : Inputs) (w : Votes) → IsOpen w → IsOpen (nominate v s g w)
 open-nominated v s g w (inl e) = inl (nominate-phase v s g w ∙ e)
 open-nominated v s g w (inr e) = inr (nominate-phase v s g w ∙ e)
 
 -- it changes the three sets of values alone
-nominated-frame : (v : ℕ) (s : Seen) (g : Given) (w : Votes)
+nominated-frame : (v : ℕ) (s : Seen) (g : Inputs) (w : Votes)
     → nominated_in v s g w ≡ record w {
       voted = (nominated_in v s g w).voted;
       accepts = (nominated_in v s g w).accepts;
@@ -97,7 +97,7 @@ nominated-frame v s g w =
     ]
 
 -- so a pass is its two parts
-pass-parts : (v : ℕ) (s : Seen) (g : Given) (w : Votes) → pass v s g w ≡ balloted_in s g (nominated_in v s g w)
+pass-parts : (v : ℕ) (s : Seen) (g : Inputs) (w : Votes) → pass v s g w ≡ balloted_in s g (nominated_in v s g w)
 pass-parts v s g w = elim (phases w.phase) [
   | inl e ↦ pass-externalized v s g w e ∙ sym (ap (balloted_in s g) (nominated-over v s g w e) ∙ balloted-over s g w e)
   | inr o ↦ pass-open v s g w o
@@ -106,16 +106,16 @@ pass-parts v s g w = elim (phases w.phase) [
 ]
 
 -- a pass where nomination is at rest is balloting
-pass-rested : (v : ℕ) (s : Seen) (g : Given) (w : Votes) → nominated_in v s g w ≡ w → pass v s g w ≡ balloted_in s g w
+pass-rested : (v : ℕ) (s : Seen) (g : Inputs) (w : Votes) → nominated_in v s g w ≡ w → pass v s g w ≡ balloted_in s g w
 pass-rested v s g w same = pass-parts v s g w ∙ ap (balloted_in s g) same
 
-quiet-nominated : (v : ℕ) (s : Seen) (g : Given) (w : Votes) → Quiet v s g w → nominated_in v s g w ≡ w
+quiet-nominated : (v : ℕ) (s : Seen) (g : Inputs) (w : Votes) → Quiet v s g w → nominated_in v s g w ≡ w
 quiet-nominated v s g w q = elim (phases w.phase) [
   | inl e ↦ nominated-over v s g w e
   | inr o ↦ nominated-open v s g w o ∙ quiet-same v s g w q
 ]
 
-module _ (v : ℕ) (s : Seen) (f : Fair s) (g : Given) where
+module _ (v : ℕ) (s : Seen) (f : Fair s) (g : Inputs) where
   -- a calm state is so by its parts
   calm-nominated : (w : Votes) → Sound w → pass v s g w ≡ w → nominated_in v s g w ≡ w
   calm-nominated w sound calm = elim (phases w.phase) [
@@ -244,39 +244,39 @@ module _ (v : ℕ) (s : Seen) (f : Fair s) (g : Given) where
 -- ---- nodes that events lead to
 pub nomination_rests_after_a_pass : NominationRestsAfterAPass
 nomination_rests_after_a_pass n r e m c =
-    all-settle m.name (seen_by m) (seen-fair m.name m.slices m.given.leaders m.table) m.given m.votes
+    all-settle m.name (seen_by m) (seen-fair m.name m.slices m.inputs.leaders m.table) m.inputs m.votes
     (changed-fit n e m (reached-fit r) c)
 
 pub ballot_rows_stir_ballots : BallotRowsStirBallots
 ballot_rows_stir_ballots n r e kind reach =
     let m : Node = record n { table = with_row e n.table } in
     let fit = reached-fit r in
-    let fair = seen-fair m.name m.slices m.given.leaders m.table in
+    let fair = seen-fair m.name m.slices m.inputs.leaders m.table in
     let old =
-    calm-nominated n.name (seen_by n) (seen-fair n.name n.slices n.given.leaders n.table) n.given n.votes fit.sound
+    calm-nominated n.name (seen_by n) (seen-fair n.name n.slices n.inputs.leaders n.table) n.inputs n.votes fit.sound
     (reached-calm r) in
     elim (phases n.votes.phase) [
-      | inl over ↦ over-ballots m.name (seen_by m) fair m.given m.votes over
+      | inl over ↦ over-ballots m.name (seen_by m) fair m.inputs m.votes over
       | inr o ↦
-          let still : nominate m.name (seen_by m) m.given m.votes ≡ m.votes =
-          nominate-reads m.name (seen_by m) m.given m.votes
-          ∙ (ap (λ s. nominate m.name s m.given m.votes)
-          (nominations-still n.name n.slices n.given.leaders n.table e kind reach)
-          ∙ (sym (nominate-reads n.name (seen_by n) n.given n.votes)
-          ∙ (sym (nominated-open n.name (seen_by n) n.given n.votes o) ∙ old))) in
-          ballots-settle m.name (seen_by m) fair m.given m.votes fit (quiet-of m.name (seen_by m) m.given m.votes still)
+          let still : nominate m.name (seen_by m) m.inputs m.votes ≡ m.votes =
+          nominate-reads m.name (seen_by m) m.inputs m.votes
+          ∙ (ap (λ s. nominate m.name s m.inputs m.votes)
+          (nominations-still n.name n.slices n.inputs.leaders n.table e kind reach)
+          ∙ (sym (nominate-reads n.name (seen_by n) n.inputs n.votes)
+          ∙ (sym (nominated-open n.name (seen_by n) n.inputs n.votes o) ∙ old))) in
+          ballots-settle m.name (seen_by m) fair m.inputs m.votes fit (quiet-of m.name (seen_by m) m.inputs m.votes still)
     ]
 
 pub nomination_rows_stir_nomination : NominationRowsStirNomination
 nomination_rows_stir_nomination n r e kind reach =
     let m : Node = record n { table = with_row e n.table } in
     let fit = reached-fit r in
-    let fair = seen-fair m.name m.slices m.given.leaders m.table in
+    let fair = seen-fair m.name m.slices m.inputs.leaders m.table in
     let old =
-    calm-balloted n.name (seen_by n) (seen-fair n.name n.slices n.given.leaders n.table) n.given n.votes fit.sound
+    calm-balloted n.name (seen_by n) (seen-fair n.name n.slices n.inputs.leaders n.table) n.inputs n.votes fit.sound
     (reached-calm r) in
-    let still : balloted_in (seen_by m) m.given m.votes ≡ m.votes =
-    balloted-reads (seen_by m) m.given m.votes
-    ∙ (ap (λ s. balloted_in s m.given m.votes) (ballots-still n.name n.slices n.given.leaders n.table e kind reach)
-    ∙ (sym (balloted-reads (seen_by n) n.given n.votes) ∙ old)) in
-    nominations-settle m.name (seen_by m) fair m.given m.votes fit still
+    let still : balloted_in (seen_by m) m.inputs m.votes ≡ m.votes =
+    balloted-reads (seen_by m) m.inputs m.votes
+    ∙ (ap (λ s. balloted_in s m.inputs m.votes) (ballots-still n.name n.slices n.inputs.leaders n.table e kind reach)
+    ∙ (sym (balloted-reads (seen_by n) n.inputs n.votes) ∙ old)) in
+    nominations-settle m.name (seen_by m) fair m.inputs m.votes fit still

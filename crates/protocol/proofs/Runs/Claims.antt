@@ -29,7 +29,7 @@ quiet_claim R n e c calm o =
     let q = step-quiet R n e (good R n c) calm o in
     record {
       outs = q.1;
-      given = ap (λ (m : Node). m.given) q.0;
+      inputs = ap (λ (m : Node). m.inputs) q.0;
       votes = ap (λ (m : Node). m.votes) q.0;
       rows = λ u k r. sym (row-cut R (step n (Take e)).0.table u k r)
           ∙ (ap (λ (m : Node). row m.table u k) q.0 ∙ row-cut R n.table u k r);

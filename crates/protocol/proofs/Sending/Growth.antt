@@ -6,14 +6,14 @@ use Rattle.types.specs.declared.event.NodeEvent.{NodeEvent}
 use Rattle.types.specs.declared.event.NodeEvent.TheVariants.{Propose, Take, NominationTimer, BallotTimer, Reslice}
 use Rattle.types.specs.declared.state.Phase.{Phase}
 use Rattle.types.specs.declared.state.Phase.TheVariants.{Preparing, Committing, Externalized}
-use Rattle.types.specs.declared.state.Given.{Given}
+use Rattle.types.specs.declared.state.Inputs.{Inputs}
 use Rattle.types.specs.declared.state.Votes.{Votes}
 use Rattle.types.specs.Votes.{has_value}
 use Rattle.protocol.specs.Rows.{with_row, is_taken}
 use Rattle.protocol.specs.Views.{Seen, seen}
 use Rattle.protocol.specs.Candidates.{combine, as_set, filled}
 use Rattle.protocol.specs.Nominating.{nominate}
-use Rattle.protocol.specs.Balloting.{started, start_from, start, accept_prepared, raise_high, follow_high, set_commit, confirm_prepared, enter_commit, widen_commit, first_committed, next_committed, accept_commit, externalize, confirmed_commit, confirm_commit}
+use Rattle.protocol.specs.Balloting.{started, start_from, start, accept_prepared, raise_confirmed_prepared, follow_confirmed_prepared, set_commit, confirm_prepared, enter_commit, widen_commit, first_committed, next_committed, accept_commit, externalize, confirmed_commit, confirm_commit}
 use Rattle.protocol.specs.Passes.{raise, arm, on_ballot, in_prepare, voting, counting, pass_rules, pass}
 use Rattle.protocol.specs.Nodes.{Node, passed, settle, change, settled, after_change, bumped, in_round, timed_out, most_passes}
 use Rattle.protocol.proofs.Nodes.Made.{if_node, if_node-if}
@@ -39,8 +39,8 @@ filled-longer old new = (all-longer (take (16 - length old) (filter (λ x. not (
 
 -- each rule keeps that
 module _ (old : Votes) where
-  nominate-grows : (v : ℕ) (s : Seen) (g : Given) (w : Votes) → Grows old w → Grows old (nominate v s g w)
-  nominate-grows v s g w h = elim (cases_Bool (is_none w.high)) [
+  nominate-grows : (v : ℕ) (s : Seen) (g : Inputs) (w : Votes) → Grows old w → Grows old (nominate v s g w)
+  nominate-grows v s g w h = elim (cases_Bool (is_none w.confirmed_prepared)) [
     | inr e ↦ subst (Grows old) (sym (nominate-not v s g w e)) h
     | inl e ↦ subst (Grows old) (sym (nominate-is v s g w e)) (record {
       voted = through (length old.voted) (length w.voted) _ h.voted (longer (echoes g w.confirms));
@@ -75,7 +75,7 @@ module _ (old : Votes) where
   prepared-grows s b w h = record { voted = h.voted; accepts = h.accepts; ballot = h.ballot }
 
   confirmed-grows : (s : Seen) (b : Ballot) (w : Votes) → Grows old w → Grows old (confirm_prepared s b w)
-  unfolding confirm_prepared set_commit follow_high raise_high
+  unfolding confirm_prepared set_commit follow_confirmed_prepared raise_confirmed_prepared
   confirmed-grows s b w h = record { voted = h.voted; accepts = h.accepts; ballot = λ k. refl }
 
   accept-grows : (p : Phase) (s : Seen) (b : Ballot) (w : Votes) → Grows old w → Grows old (accept_commit p s b w)
@@ -102,7 +102,7 @@ module _ (old : Votes) where
       go (Some t) = record { voted = h.voted; accepts = h.accepts; ballot = h.ballot }
   confirm-grows Externalized s b w h = h
 
-  raise-grows : (s : Seen) (g : Given) (b : Ballot) (w : Votes) → Grows old w → Grows old (raise s g b w)
+  raise-grows : (s : Seen) (g : Inputs) (b : Ballot) (w : Votes) → Grows old w → Grows old (raise s g b w)
   unfolding raise
   raise-grows s g b w h = record { voted = h.voted; accepts = h.accepts; ballot = λ k. refl }
 
@@ -124,7 +124,7 @@ module _ (old : Votes) where
       let h4 : P w4 = on-keeps P (λ b x. accept_commit x.phase s b x) w3 h3 (λ b e. accept-grows w3.phase s b w3 h3) in
       on-keeps P (λ b x. confirm_commit x.phase s b x) w4 h4 (λ b e. confirm-grows w4.phase s b w4 h4)
 
-  counting-grows : (s : Seen) (g : Given) (w : Votes) → Grows old w → Grows old (counting s g w)
+  counting-grows : (s : Seen) (g : Inputs) (w : Votes) → Grows old w → Grows old (counting s g w)
   unfolding counting
   counting-grows s g w h =
       let P : Votes → Type 0 = Grows old in
@@ -132,7 +132,7 @@ module _ (old : Votes) where
       let h2 : P w2 = on-keeps P (raise s g) w h (λ b e. raise-grows s g b w h) in
       on-keeps P (arm s) w2 h2 (λ b e. arm-grows s b w2 h2)
 
-  pass-grows : (v : ℕ) (s : Seen) (g : Given) (w : Votes) → Grows old w → Grows old (pass v s g w)
+  pass-grows : (v : ℕ) (s : Seen) (g : Inputs) (w : Votes) → Grows old w → Grows old (pass v s g w)
   unfolding pass pass_rules
   pass-grows v s g w h =
       let P : Votes → Type 0 = Grows old in
@@ -165,7 +165,7 @@ module _ (old : Votes) where
       go None e = tt
       go (Some w) e =
           settle-keeps (Grows old) most_passes (passed n)
-          (pass-grows n.name (seen n.name n.slices n.given.leaders n.table) n.given) n.votes w h e
+          (pass-grows n.name (seen n.name n.slices n.inputs.leaders n.table) n.inputs) n.votes w h e
 
 pub event-grows : (n : Node) (e : NodeEvent) → if_node (λ m. Grows n.votes m.votes) (after_change (change n e))
 event-grows n e = settled-grows n.votes (change n e) (change-grows n.votes n e (grows-self n.votes))

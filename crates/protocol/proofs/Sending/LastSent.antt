@@ -105,8 +105,8 @@ module _ (kind : Kind) where
       (emitted new (sent_vote old.votes) (sent_vote new.votes))
   unfolding outs
   outs-after o old new =
-      let a = when (not (new.given.round == old.given.round) && is_none new.votes.high)
-      (ArmNomination new.given.round) in
+      let a = when (not (new.inputs.round == old.inputs.round) && is_none new.votes.confirmed_prepared)
+      (ArmNomination new.inputs.round) in
       let b = when (not (new.votes.armed == old.votes.armed) && (new.votes.armed == counter_of new.votes.ballot)
       && not (is_externalized new.votes.phase)) (ArmBallot new.votes.armed) in
       let c = emitted new (sent_nomination old.votes) (sent_nomination new.votes) in
@@ -122,8 +122,8 @@ module _ (kind : Kind) where
       ∙ (armed (after kind o a) (not (new.votes.armed == old.votes.armed)
       && (new.votes.armed == counter_of new.votes.ballot) && not (is_externalized new.votes.phase))
       (ArmBallot new.votes.armed) refl
-      ∙ armed o (not (new.given.round == old.given.round) && is_none new.votes.high)
-      (ArmNomination new.given.round) refl)))))
+      ∙ armed o (not (new.inputs.round == old.inputs.round) && is_none new.votes.confirmed_prepared)
+      (ArmNomination new.inputs.round) refl)))))
 
 -- ---- the two statements
 nomination-kind : (w : Votes) (s : Statement) → sent_nomination w ≡ Some s → kind_of s ≡ Nomination

@@ -13,14 +13,14 @@ use Rattle.protocol.proofs.Ballots.Above.{Under}
 -- in PREPARE the highest confirmed ballot is not above the ballot, and there is none without a ballot; later the
 -- interval is ordered, and in COMMIT it is up to the ballot
 abbrev pub IsPlaced : Phase → Option Ballot → Option Ballot → ℕ → ℕ → Type 0
-IsPlaced Preparing ballot high lo hi = Under high ballot
-IsPlaced Committing ballot high lo hi = (1 ≤ lo) × ((lo ≤ hi) × (hi ≤ counter_of ballot))
-IsPlaced Externalized ballot high lo hi = (1 ≤ lo) × (lo ≤ hi)
+IsPlaced Preparing ballot confirmed_prepared low high = Under confirmed_prepared ballot
+IsPlaced Committing ballot confirmed_prepared low high = (1 ≤ low) × ((low ≤ high) × (high ≤ counter_of ballot))
+IsPlaced Externalized ballot confirmed_prepared low high = (1 ≤ low) × (low ≤ high)
 
 -- what is kept, where so many ballot timers have fired
-pub record IsSendable (fired : ℕ) (w : Votes) : Type 0 where
+pub record IsSendable (timeouts : ℕ) (w : Votes) : Type 0 where
   pub voted : IsNominationSet w.voted
   pub accepts : IsNominationSet w.accepts
-  pub timers : fired ≤ counter_of w.ballot
+  pub timers : timeouts ≤ counter_of w.ballot
   pub counted : IfSome w.ballot (λ b. 1 ≤ b.counter)
-  pub placed : IsPlaced w.phase w.ballot w.high w.lo w.hi
+  pub placed : IsPlaced w.phase w.ballot w.confirmed_prepared w.low w.high

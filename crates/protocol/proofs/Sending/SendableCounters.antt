@@ -5,7 +5,7 @@ use Rattle.std.proofs.lemmas.Bool.Decides.{nat_tests}
 use Rattle.types.specs.declared.ballot.Ballot.{Ballot}
 use Rattle.types.specs.declared.state.Phase.{Phase}
 use Rattle.types.specs.declared.state.Phase.TheVariants.{Preparing, Committing, Externalized}
-use Rattle.types.specs.declared.state.Given.{Given}
+use Rattle.types.specs.declared.state.Inputs.{Inputs}
 use Rattle.types.specs.declared.state.Votes.{Votes}
 use Rattle.protocol.specs.Views.{Seen, passes}
 use Rattle.protocol.specs.States.{below, ballot_at, counter_of, position}
@@ -27,10 +27,10 @@ past-counter a b h = below-parts a b ∙ over a.counter b.counter (less a.value 
     over m n false h = grind (arith, nat_tests)
 
 -- a counter that is not lowered keeps what is placed
-raised-placed : (p : Phase) (w : Votes) (b : Ballot) (high : Option Ballot) (n lo hi : ℕ) → b.counter ≤ n
-    → IsPlaced p (Some b) high lo hi → IsPlaced p (Some (raised w b n)) high lo hi
-raised-placed Preparing w b None n lo hi k h = tt
-raised-placed Preparing w b (Some x) n lo hi k h = go (n == b.counter) refl
+raised-placed : (p : Phase) (w : Votes) (b : Ballot) (confirmed_prepared : Option Ballot) (n low high : ℕ) → b.counter ≤ n
+    → IsPlaced p (Some b) confirmed_prepared low high → IsPlaced p (Some (raised w b n)) confirmed_prepared low high
+raised-placed Preparing w b None n low high k h = tt
+raised-placed Preparing w b (Some x) n low high k h = go (n == b.counter) refl
   where
     over : (x m n : ℕ) → x ≤ m → m ≤ n → (n == m) ≡ false → x < n
     over x m n h k e = grind (arith, nat_tests)
@@ -41,34 +41,34 @@ raised-placed Preparing w b (Some x) n lo hi k h = go (n == b.counter) refl
     go false e =
         past-counter (ballot_at n (raised_value w.phase w b.value)) x
         (over x.counter b.counter n (not_below-counter b x h) k e)
-raised-placed Committing w b high n lo hi k h =
-    (h.0, (h.1.0, subst (λ m. hi ≤ m) (sym (raised-counter w b n)) (through hi b.counter n h.1.1 k)))
-raised-placed Externalized w b high n lo hi k h = h
+raised-placed Committing w b confirmed_prepared n low high k h =
+    (h.0, (h.1.0, subst (λ m. high ≤ m) (sym (raised-counter w b n)) (through high b.counter n h.1.1 k)))
+raised-placed Externalized w b confirmed_prepared n low high k h = h
 
 -- so does a raise, to a counter that is not below the timers
-pub raised-keeps : (fired more : ℕ) (w : Votes) (b : Ballot) (n : ℕ) → w.ballot ≡ Some b → b.counter ≤ n → more ≤ n
-    → IsSendable fired w → IsSendable more (record w { ballot = Some (raised w b n) })
-raised-keeps fired more w b n e k l h = record {
+pub raised-keeps : (timeouts more : ℕ) (w : Votes) (b : Ballot) (n : ℕ) → w.ballot ≡ Some b → b.counter ≤ n → more ≤ n
+    → IsSendable timeouts w → IsSendable more (record w { ballot = Some (raised w b n) })
+raised-keeps timeouts more w b n e k l h = record {
   voted = h.voted;
   accepts = h.accepts;
   timers = subst (λ m. more ≤ m) (sym (raised-counter w b n)) l;
   counted =
       subst (λ m. 1 ≤ m) (sym (raised-counter w b n))
       (through 1 b.counter n (subst (λ o. IfSome o (λ b. 1 ≤ b.counter)) e h.counted) k);
-  placed = raised-placed w.phase w b w.high n w.lo w.hi k (subst (λ o. IsPlaced w.phase o w.high w.lo w.hi) e h.placed);
+  placed = raised-placed w.phase w b w.confirmed_prepared n w.low w.high k (subst (λ o. IsPlaced w.phase o w.confirmed_prepared w.low w.high) e h.placed);
 }
 
-module _ (fired : ℕ) where
-  pub raise-keeps : (s : Seen) (g : Given) (b : Ballot) (w : Votes) → w.ballot ≡ Some b → IsSendable fired w
-      → IsSendable fired (raise s g b w)
+module _ (timeouts : ℕ) where
+  pub raise-keeps : (s : Seen) (g : Inputs) (b : Ballot) (w : Votes) → w.ballot ≡ Some b → IsSendable timeouts w
+      → IsSendable timeouts (raise s g b w)
   unfolding raise raised_counter
   raise-keeps s g b w e h =
-      let up = least_from-low (cap g.fired - b.counter) b.counter
+      let up = least_from-low (cap g.ballot_timeouts - b.counter) b.counter
       (λ n. not (s.blocking _ (passes (counts (n + 1)) (position w)) (counts (n + 1)))) in
-      raised-keeps fired fired w b _ e up
-      (through fired b.counter _ (subst (λ o. fired ≤ counter_of o) e h.timers) up) h
+      raised-keeps timeouts timeouts w b _ e up
+      (through timeouts b.counter _ (subst (λ o. timeouts ≤ counter_of o) e h.timers) up) h
 
-  pub arm-keeps : (s : Seen) (b : Ballot) (w : Votes) → IsSendable fired w → IsSendable fired (arm s b w)
+  pub arm-keeps : (s : Seen) (b : Ballot) (w : Votes) → IsSendable timeouts w → IsSendable timeouts (arm s b w)
   arm-keeps s b w h = let a = arm-moves s b w in
-      subst (IsSendable fired) (sym a.1)
+      subst (IsSendable timeouts) (sym a.1)
       (record { voted = h.voted; accepts = h.accepts; timers = h.timers; counted = h.counted; placed = h.placed })

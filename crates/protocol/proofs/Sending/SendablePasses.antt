@@ -3,7 +3,7 @@ use Rattle.std.proofs.Common.{◌≡◌, ℕ, Option, Some, None, refl}
 use Rattle.types.specs.declared.ballot.Ballot.{Ballot}
 use Rattle.types.specs.declared.state.Phase.{Phase}
 use Rattle.types.specs.declared.state.Phase.TheVariants.{Preparing, Committing, Externalized}
-use Rattle.types.specs.declared.state.Given.{Given}
+use Rattle.types.specs.declared.state.Inputs.{Inputs}
 use Rattle.types.specs.declared.state.Votes.{Votes}
 use Rattle.protocol.specs.Views.{Seen}
 use Rattle.protocol.specs.Nominating.{nominate}
@@ -38,35 +38,35 @@ unless-keeps P f w h g = go w.phase
     go Committing = g
     go Externalized = h
 
-voting-keeps : (fired : ℕ) (s : Seen) (w : Votes) → IsSendable fired w → IsSendable fired (voting s w)
+voting-keeps : (timeouts : ℕ) (s : Seen) (w : Votes) → IsSendable timeouts w → IsSendable timeouts (voting s w)
 unfolding voting
-voting-keeps fired s w h =
-    let P : Votes → Type 0 = IsSendable fired in
+voting-keeps timeouts s w h =
+    let P : Votes → Type 0 = IsSendable timeouts in
     let w2 = on_ballot (accept_prepared s) w in
     let w3 = in_prepare (on_ballot (confirm_prepared s)) w2 in
     let w4 = on_ballot (λ b x. accept_commit x.phase s b x) w3 in
-    let h2 : P w2 = on-keeps P (accept_prepared s) w h (λ b e. prepared-keeps fired s b w h) in
+    let h2 : P w2 = on-keeps P (accept_prepared s) w h (λ b e. prepared-keeps timeouts s b w h) in
     let h3 : P w3 =
     prepare-keeps P (on_ballot (confirm_prepared s)) w2 h2
-    (λ p. on-keeps P (confirm_prepared s) w2 h2 (λ b e. confirmed-keeps fired s b w2 p e h2)) in
+    (λ p. on-keeps P (confirm_prepared s) w2 h2 (λ b e. confirmed-keeps timeouts s b w2 p e h2)) in
     let h4 : P w4 =
-    on-keeps P (λ b x. accept_commit x.phase s b x) w3 h3 (λ b e. accept-keeps fired w3.phase s b w3 refl e h3) in
-    on-keeps P (λ b x. confirm_commit x.phase s b x) w4 h4 (λ b e. confirm-keeps fired w4.phase s b w4 h4)
+    on-keeps P (λ b x. accept_commit x.phase s b x) w3 h3 (λ b e. accept-keeps timeouts w3.phase s b w3 refl e h3) in
+    on-keeps P (λ b x. confirm_commit x.phase s b x) w4 h4 (λ b e. confirm-keeps timeouts w4.phase s b w4 h4)
 
-counting-keeps : (fired : ℕ) (s : Seen) (g : Given) (w : Votes) → IsSendable fired w → IsSendable fired (counting s g w)
+counting-keeps : (timeouts : ℕ) (s : Seen) (g : Inputs) (w : Votes) → IsSendable timeouts w → IsSendable timeouts (counting s g w)
 unfolding counting
-counting-keeps fired s g w h =
-    let P : Votes → Type 0 = IsSendable fired in
+counting-keeps timeouts s g w h =
+    let P : Votes → Type 0 = IsSendable timeouts in
     let w2 = on_ballot (raise s g) w in
-    let h2 : P w2 = on-keeps P (raise s g) w h (λ b e. raise-keeps fired s g b w e h) in
-    on-keeps P (arm s) w2 h2 (λ b e. arm-keeps fired s b w2 h2)
+    let h2 : P w2 = on-keeps P (raise s g) w h (λ b e. raise-keeps timeouts s g b w e h) in
+    on-keeps P (arm s) w2 h2 (λ b e. arm-keeps timeouts s b w2 h2)
 
-pub pass-keeps : (fired v : ℕ) (s : Seen) (g : Given) (w : Votes) → IsSendable fired w → IsSendable fired (pass v s g w)
+pub pass-keeps : (timeouts v : ℕ) (s : Seen) (g : Inputs) (w : Votes) → IsSendable timeouts w → IsSendable timeouts (pass v s g w)
 unfolding pass pass_rules
-pass-keeps fired v s g w h =
-    let P : Votes → Type 0 = IsSendable fired in
+pass-keeps timeouts v s g w h =
+    let P : Votes → Type 0 = IsSendable timeouts in
     let x = voting s (start s (nominate v s g w)) in
     let hx : P x =
-    voting-keeps fired s (start s (nominate v s g w))
-    (start-keeps fired s (nominate v s g w) (nominate-keeps fired v s g w h)) in
-    unless-keeps P (pass_rules v s g) w h (unless-keeps P (counting s g) x hx (counting-keeps fired s g x hx))
+    voting-keeps timeouts s (start s (nominate v s g w))
+    (start-keeps timeouts s (nominate v s g w) (nominate-keeps timeouts v s g w h)) in
+    unless-keeps P (pass_rules v s g) w h (unless-keeps P (counting s g) x hx (counting-keeps timeouts s g x hx))

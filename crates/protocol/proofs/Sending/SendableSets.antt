@@ -1,6 +1,6 @@
 -- Nomination keeps sets that a nomination may have. `SendableBallots` stands on it.
 use Rattle.std.proofs.Common.{ℕ, zero, suc, ◌+◌, ◌-◌, ◌≤◌, Bool, true, false, not, length, take, List, [], ◌∷◌, if◌then◌else◌, filter, arith}
-use Rattle.types.specs.declared.state.Given.{Given}
+use Rattle.types.specs.declared.state.Inputs.{Inputs}
 use Rattle.types.specs.Nominations.{IsNominationSet}
 use Rattle.types.specs.Votes.{has_value}
 use Rattle.protocol.specs.Views.{Seen}
@@ -27,7 +27,7 @@ filled-set old new h =
     upto : (n old more : ℕ) → n ≤ old + more → more ≤ 16 - old → old ≤ 16 → n ≤ 16
     upto n old more h k l = omega (arith, h, k, l)
 
-pub voted-set : (v : ℕ) (s : Seen) (g : Given) (vo co : List (List ℕ)) → IsNominationSet vo
+pub voted-set : (v : ℕ) (s : Seen) (g : Inputs) (vo co : List (List ℕ)) → IsNominationSet vo
     → IsNominationSet (new_voted v s g vo co)
 voted-set v s g vo co h = go (echoes g co)
   where

@@ -14,16 +14,16 @@ use Rattle.types.specs.declared.state.Votes.{Votes}
 use Rattle.types.specs.Orders.{bytes_cmp, ballot_cmp}
 use Rattle.types.specs.Statements.{IsUpTo, IsWellFormed}
 use Rattle.types.specs.Votes.{same_value}
-use Rattle.protocol.specs.States.{below, ballot_at, counter_for, counter_up_to, high_counter, commit_counter, lowered, sent_in, sent_vote, sent_nomination}
+use Rattle.protocol.specs.States.{below, ballot_at, counter_for, counter_up_to, high_counter, commit_counter, clamped, sent_in, sent_vote, sent_nomination}
 use Rattle.protocol.proofs.Ballots.Above.{Under}
 use Rattle.protocol.proofs.Ballots.Order.{ballots_ordered, not_below-counter}
 use Rattle.protocol.proofs.Sending.Sendable.{IsPlaced, IsSendable}
 use Rattle.protocol.proofs.Sets.Numbers.{up_to}
 
 -- ---- nominations
-pub nomination-sends : (fired : ℕ) (w : Votes) → IsSendable fired w → IfSome (sent_nomination w) IsWellFormed
+pub nomination-sends : (timeouts : ℕ) (w : Votes) → IsSendable timeouts w → IfSome (sent_nomination w) IsWellFormed
 unfolding sent_nomination
-nomination-sends fired w h = go (nat_lt 0 (length w.voted) || nat_lt 0 (length w.accepts)) refl
+nomination-sends timeouts w h = go (nat_lt 0 (length w.voted) || nat_lt 0 (length w.accepts)) refl
   where
     go : (b : Bool) → (nat_lt 0 (length w.voted) || nat_lt 0 (length w.accepts)) ≡ b
         → IfSome (if b then Some (Nominate w.voted w.accepts) else None) IsWellFormed
@@ -44,9 +44,9 @@ up-to a b h = ap is_gt (ballots_ordered.antisymm a b) ∙ turned (ballot_cmp b a
     turned Equal h = refl
     turned Greater h = refl
 
-lowered-up-to : (b p : Ballot) → 1 ≤ b.counter → IsUpTo (lowered b p) b
-unfolding lowered
-lowered-up-to b p c = go (below b p) refl
+clamped-up-to : (b p : Ballot) → 1 ≤ b.counter → IsUpTo (clamped b p) b
+unfolding clamped
+clamped-up-to b p c = go (below b p) refl
   where
     same_counter : (n : ℕ) (o : Ordering) → is_gt o ≡ false → is_gt (ordering_then (nat_cmp n n) o) ≡ false
     same_counter n o h = grind (arith, nat_tests)
@@ -65,7 +65,7 @@ lowered-up-to b p c = go (below b p) refl
     go true e = at (not (is_gt (bytes_cmp p.value b.value))) refl
     go false e = up-to p b e
 
-high-up-to : (b : Ballot) (high : Option Ballot) → Under high (Some b) → counter_for b high ≤ b.counter
+high-up-to : (b : Ballot) (confirmed_prepared : Option Ballot) → Under confirmed_prepared (Some b) → counter_for b confirmed_prepared ≤ b.counter
 high-up-to b None h = omega arith
 high-up-to b (Some x) h = go (same_value x.value b.value) (not_below-counter b x h)
   where
@@ -82,7 +82,7 @@ commit-up-to most b (Some c) = go (same_value c.value b.value) (nat_le c.counter
     go true false e = omega arith
     go false k e = omega arith
 
-vote-sends-in : (w : Votes) (b : Ballot) (p : Phase) → 1 ≤ b.counter → IsPlaced p (Some b) w.high w.lo w.hi
+vote-sends-in : (w : Votes) (b : Ballot) (p : Phase) → 1 ≤ b.counter → IsPlaced p (Some b) w.confirmed_prepared w.low w.high
     → IsWellFormed (sent_in p w b)
 unfolding sent_in high_counter commit_counter
 vote-sends-in w b Preparing c h = record {
@@ -90,23 +90,23 @@ vote-sends-in w b Preparing c h = record {
   prepared_below = each w.prepared;
   aborted_below = least w.aborted b.counter;
   ordered = commit-up-to (high_counter w b) b w.commit;
-  high_below = high-up-to b w.high h;
+  high_below = high-up-to b w.confirmed_prepared h;
 }
   where
-    each : (o : Option Ballot) → IfSome (option_map (lowered b) o) (λ p. IsUpTo p b)
+    each : (o : Option Ballot) → IfSome (option_map (clamped b) o) (λ p. IsUpTo p b)
     each None = tt
-    each (Some p) = lowered-up-to b p c
+    each (Some p) = clamped-up-to b p c
 
     least : (a n : ℕ) → min a n ≤ n
     least a n = omega arith
 vote-sends-in w b Committing c h = record { counted = h.0; ordered = h.1.0; high_below = h.1.1 }
 vote-sends-in w b Externalized c h = record { counted = h.0; ordered = h.1 }
 
-pub vote-sends : (fired : ℕ) (w : Votes) → IsSendable fired w → IfSome (sent_vote w) IsWellFormed
+pub vote-sends : (timeouts : ℕ) (w : Votes) → IsSendable timeouts w → IfSome (sent_vote w) IsWellFormed
 unfolding sent_vote
-vote-sends fired w h = go w.ballot h.counted h.placed
+vote-sends timeouts w h = go w.ballot h.counted h.placed
   where
-    go : (o : Option Ballot) → IfSome o (λ b. 1 ≤ b.counter) → IsPlaced w.phase o w.high w.lo w.hi
+    go : (o : Option Ballot) → IfSome o (λ b. 1 ≤ b.counter) → IsPlaced w.phase o w.confirmed_prepared w.low w.high
         → IfSome (option_map (sent_in w.phase w) o) IsWellFormed
     go None c k = tt
     go (Some b) c k = vote-sends-in w b w.phase c k

@@ -152,7 +152,7 @@ heard_with_the_old_slices = refl
 -- ---- leaders stay
 -- B led the first round, and is named no more
 abbrev led_by_B : Node
-led_by_B = record (fresh 1 A (just C)) { given = record { input = None; round = 1; leaders = B ∷ []; fired = 0 } }
+led_by_B = record (fresh 1 A (just C)) { inputs = record { proposal = None; round = 1; leaders = B ∷ []; ballot_timeouts = 0 } }
 
 -- what it nominates is voted for all the same
 pub old_leader_is_echoed : (step led_by_B (Take (by B (just B) (Nominate (x ∷ []) [])))).1

@@ -13,7 +13,7 @@ use Rattle.leaders.proofs.walk.leader.Goals as goal
 pub best_in-requires-clause-room : goal.best_in-requires-clause-room
 best_in-requires-clause-room c =
     let levels = ap (λ (q : Slices). depth_of q.members) c.set.ensures.value in
-    subst (λ (f : Fraction). HasRoom f (depth_of c.set.result.now.members)) (sym c.whole.ensures)
+    subst (λ (f : Fraction). HasRoom f (depth_of c.set.result.now.members)) (sym c.one.ensures)
     (whole_has_room (depth_of c.set.result.now.members) (omega (arith, levels, c.set.ensures.rules.levels)))
 
 pub returns-clause-best : goal.returns-clause-best
@@ -22,8 +22,8 @@ returns-clause-best c =
     let round = c.args.round in
     let best = λ (q : Slices) (f : Fraction) (v : ℕ). best_among (is_drawn slot round) (beats slot round) (part_of q.threshold (member_count q.members) f) q.members v in
     let value : c.best_in.result.node ≡ best c.args.slices.now whole c.args.node.now =
-    c.best_in.ensures.node ∙ ap (λ (q : Slices). best q c.whole.result c.new-own.result.node) c.set.ensures.value
-    ∙ ap (λ (f : Fraction). best c.args.slices.now f c.new-own.result.node) c.whole.ensures
+    c.best_in.ensures.node ∙ ap (λ (q : Slices). best q c.one.result c.new-own.result.node) c.set.ensures.value
+    ∙ ap (λ (f : Fraction). best c.args.slices.now f c.new-own.result.node) c.one.ensures
     ∙ ap (λ (v : ℕ). best c.args.slices.now whole v) c.new-own.ensures.node in
     subst (IsLeader slot round c.args.node.now c.args.slices.now) (sym value)
     (leads slot round c.args.node.now c.args.slices.now c.set.ensures.rules.names_differ)

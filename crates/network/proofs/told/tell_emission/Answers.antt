@@ -6,7 +6,7 @@ pub returns-clause-places : goal.returns-clause-places
 returns-clause-places g c =
     let kind = kind-read c.kind-kind.result c.body.result.now c.read.result.now c.args.filed.now c.kind-kind.ensures c.body.ensures.value c.read.ensures in
     let place : c.len-place.result ≡ length c.args.emitted.now.items = search rules in
-    let all : c.push_reserved.new.self.items ≡ c.args.emitted.now.items ++ c.args.filed.now ∷ [] = c.push_reserved.ensures.items ∙ ap (λ f. c.args.emitted.now.items ++ f ∷ []) c.again.ensures in
+    let all : c.push_reserved.new.self.items ≡ c.args.emitted.now.items ++ c.args.filed.now ∷ [] = c.push_reserved.ensures.items ∙ ap (λ f. c.args.emitted.now.items ++ f ∷ []) c.copy_of.ensures in
     by-kind c.args.places.now c.note-mark.new.places c.kind-kind.result c.args.emitted.now.items c.push_reserved.new.self.items c.args.filed.now c.len-place.result
     kind place all c.requires.places c.note-mark.ensures.nominations c.note-mark.ensures.ballots
 

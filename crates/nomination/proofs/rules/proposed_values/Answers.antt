@@ -12,7 +12,7 @@ returns g c =
     let gathered = c.in_ok-proposed.ensures in
     let and_input = λ (xs : List (List ℕ)). as_set (led ++ xs) in
     let values_of = λ (o : Option (Bor (List ℕ))). option_to_list (option_map (λ v. v.now) o) in
-    elim c.match-own_input.branch [
-      | in-Some+in_ok-try_copy+in_ok-insert w ↦ w.proposed-is ∙ (simp w.in_ok-try_copy.ensures at w.in_ok-insert.ensures.ok) ∙ ap (with_value w.in-Some.input.now) gathered ∙ set_and_one w.in-Some.input.now led ∙ ap and_input (ap values_of (sym w.in-Some.is) ∙ c.own_input.ensures)
-      | in_default w ↦ w.proposed-is ∙ gathered ∙ ap as_set (sym (append-nil led)) ∙ ap and_input (ap values_of (sym w.in_default.is) ∙ c.own_input.ensures)
+    elim c.match-own_proposal.branch [
+      | in-Some+in_ok-try_copy+in_ok-insert w ↦ w.proposed-is ∙ (simp w.in_ok-try_copy.ensures at w.in_ok-insert.ensures.ok) ∙ ap (with_value w.in-Some.proposal.now) gathered ∙ set_and_one w.in-Some.proposal.now led ∙ ap and_input (ap values_of (sym w.in-Some.is) ∙ c.own_proposal.ensures)
+      | in_default w ↦ w.proposed-is ∙ gathered ∙ ap as_set (sym (append-nil led)) ∙ ap and_input (ap values_of (sym w.in_default.is) ∙ c.own_proposal.ensures)
     ]

@@ -6,4 +6,4 @@ use Rattle.slot.proofs.node.answer_anew.Goals as goal
 
 pub returns-in_default-clause-outs : goal.returns-in_default-clause-outs
 returns-in_default-clause-outs g c = λ before after.
-    ap outs_of c.nothing.ensures.outs ∙ sym (outs-none (whole c.args.listener.now.configured c.args.start.now.given.now c.args.start.now.votes.now before) after)
+    ap outs_of c.nothing.ensures.outs ∙ sym (outs-none (whole c.args.listener.now.configured c.args.start.now.inputs.now c.args.start.now.votes.now before) after)

@@ -8,7 +8,7 @@ use Rattle.slot.proofs.settling.difference_by.Goals as goal
 pub returns : goal.returns
 returns g c =
     let w = c.args.votes.now in
-    let f = part c.args.rules c.args.inputs.now.own.now (g.S.Sight.seen c.args.inputs.now.sight.now) c.args.inputs.now.given.now in
+    let f = part c.args.rules c.args.context.now.own.now (g.S.Sight.seen c.args.context.now.sight.now) c.args.context.now.inputs.now in
     let done = c.in_ok-apply_part.ensures ∙ ap (after f) c.of-draft.ensures in
     let P : Drafted → Type 0 = λ d. unwrap_or c.into_changed-changed.result d.before ≡ d.now in
     let now : unwrap_or c.into_changed-changed.result w ≡ f w = subst P done c.into_changed-changed.ensures in

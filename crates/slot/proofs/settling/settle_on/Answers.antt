@@ -8,21 +8,21 @@ use Rattle.slot.proofs.settling.settle_on.Goals as goal
 
 pub returns-in_default : goal.returns-in_default
 returns-in_default g c =
-    let f = balloted_in (g.S.Sight.seen c.args.inputs.now.sight.now) c.args.inputs.now.given.now in
+    let f = balloted_in (g.S.Sight.seen c.args.context.now.sight.now) c.args.context.now.inputs.now in
     let w = c.loop-number.settled in
     let same = subst (IsDifference w (f w)) c.in_default.is c.in_ok-next.ensures in
     sym (settle-same c.loop-number.number f w (omega arith) same) ∙ c.loop-number.invariant
 
 pub loop-number-preserved : goal.loop-number-preserved
 loop-number-preserved g c =
-    let f = balloted_in (g.S.Sight.seen c.args.inputs.now.sight.now) c.args.inputs.now.given.now in
+    let f = balloted_in (g.S.Sight.seen c.args.context.now.sight.now) c.args.context.now.inputs.now in
     let w = c.loop-number.settled in
     let made = subst (IsDifference w (f w)) c.in-Some.is c.in_ok-next.ensures in
     ap (λ (u : Votes). settle (most_passes - (c.loop-number.number + 1)) f u) made.0 ∙ sym (settle-other c.loop-number.number f w (omega arith) made.1) ∙ c.loop-number.invariant
 
 pub returns : goal.returns
 returns g c =
-    let f = balloted_in (g.S.Sight.seen c.args.inputs.now.sight.now) c.args.inputs.now.given.now in
+    let f = balloted_in (g.S.Sight.seen c.args.context.now.sight.now) c.args.context.now.inputs.now in
     let w = c.loop-number.settled in
     let at : c.loop-number.number ≡ most_passes = omega arith in
     sym (settle-end f w) ∙ ap (λ (n : ℕ). settle (most_passes - n) f w) (sym at) ∙ c.loop-number.invariant

@@ -6,5 +6,5 @@ use Rattle.slot.proofs.settling.settle_on.Given as goal
 -- the passes that are left lead where all of them do
 abbrev pub invariant-loop-number : goal.invariant-loop-number
 invariant-loop-number g l =
-    let f = balloted_in (g.S.Sight.seen l.inputs.sight.now) l.inputs.given.now in
+    let f = balloted_in (g.S.Sight.seen l.context.sight.now) l.context.inputs.now in
     settle (most_passes - l.number) f l.settled ≡ settle (most_passes - 1) f l.fn.votes

@@ -11,4 +11,4 @@ returns-then-is_externalized c = λ h.
 pub returns-then-is_stranger : goal.returns-then-is_stranger
 returns-then-is_stranger c = λ h.
     let i = c.self.inside in
-    stranger-row c.args.self.now.node i.listener i.given i.votes c.args.sender.now (sym (ap node_in c.self.view_is)) (c.is_stranger.ensures c.if-is_stranger.true) (sym c.leads.ensures ∙ untrue c.leads.result h) c.self.invariant
+    stranger-row c.args.self.now.node i.listener i.inputs i.votes c.args.sender.now (sym (ap node_in c.self.view_is)) (c.is_stranger.ensures c.if-is_stranger.true) (sym c.leads.ensures ∙ untrue c.leads.result h) c.self.invariant
