@@ -1,6 +1,7 @@
 -- What a node knows of the nodes that it reaches, from one event to the next.
 use Rattle.std.specs.Prelude.{◌≡◌, ℕ, Bool, not, ◌&&◌, List, Option, IfSome, IsTrue, ◌==◌, option_map}
 use Rattle.types.specs.Trees.{Slices}
+use Rattle.types.specs.declared.ballot.Ballot.{Ballot}
 use Rattle.types.specs.Statements.{Sent, kind_of}
 use Rattle.types.specs.declared.kind.Kind.{Kind}
 use Rattle.types.specs.declared.kind.Kind.TheVariants.{Nomination}
@@ -12,6 +13,8 @@ use Rattle.view.specs.Listing.{AreListed, StandsFor}
 use Rattle.view.specs.Regions.{IsRegion}
 use Rattle.view.specs.Watching.{rows_of_others, values_in}
 use Rattle.view.specs.declared.known_reach.KnownReach.{KnownReach}
+use Rattle.view.specs.declared.mentions.Mention.{Mention}
+use Rattle.view.specs.declared.mentions.Mention.TheVariants.{Committed, Named}
 use Rattle.view.specs.declared.reached_ballots.ReachedBallots.{ReachedBallots}
 
 -- listed are the ballots that the ballot rows of the others of these nodes name, and those at whose counters these rows speak of commit
@@ -22,6 +25,11 @@ pub record AreBallotsOf (own : ℕ) (table : List Sent) (nodes : List ℕ) (b : 
 -- these are the values that the nomination rows of the others of these nodes vote for or accept, as a set
 abbrev pub AreValuesOf : ℕ → List Sent → List ℕ → List (List ℕ) → Type 0
 AreValuesOf own table nodes values = values ≡ values_in (rows_of_others own Nomination table nodes)
+
+-- the ballots of which rows speak in this way
+abbrev pub listed_as : Mention → ReachedBallots → List Ballot
+listed_as Named b = b.named
+listed_as Committed b = b.committed
 
 -- each search among listed ballots finds what it would find among those that the rows of a kind speak of
 abbrev pub AreSearched : ℕ → Kind → List Sent → List ℕ → ReachedBallots → Type 0

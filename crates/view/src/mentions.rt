@@ -1,9 +1,10 @@
-//! Whether some row speaks of a ballot.
+//! How rows speak of a ballot, and whether some row does.
 
 ghost use Rattle.std.specs.Prelude.{◌≡◌, flat_map};
-ghost use Rattle.protocol.specs.Candidates.{committed_by, committed_in, named_by, named_in};
+ghost use Rattle.protocol.specs.Candidates.{committed_by, named_by};
 ghost use Rattle.protocol.specs.Sameness.{same_ballot};
 ghost use Rattle.view.specs.Listing.{is_one_of};
+ghost use Rattle.view.specs.Mentions.{mentioned_by, mentioned_in};
 ghost use Rattle.view.specs.Watching.{rows_of_others};
 
 use crate::listed::committed_by;
@@ -11,62 +12,56 @@ use crate::reached::ReachedRows;
 use envstore::Places;
 use types::{LentBallot, NodeId, Statement};
 
-/// Whether a row of another than this node names the ballot, and its counter is from 1 on.
+/// A way in which a row speaks of a ballot.
+#[derive(Clone, Copy)]
+pub(crate) enum Mention {
+    /// It names the ballot.
+    Named,
+    /// It speaks of commit at the ballot's counter.
+    Committed,
+}
+
+/// Whether a row of another than this node speaks of the ballot in this way, and its counter is from 1 on.
 #[tactic(auto, using(crate::proofs::Leaving::counted_one))]
-pub(crate) fn is_named<S: Places>(
+pub(crate) fn is_mentioned<S: Places>(
+    mention: Mention,
     own: &NodeId,
     rows: &ReachedRows<'_, S>,
     ballot: &LentBallot,
 ) -> bool
-    ensures { result ≡ is_one_of (named_in (rows_of_others own.now rows.now.kind rows.now.table rows.now.nodes)) ballot.now }
+    ensures { result ≡ is_one_of (mentioned_in mention (rows_of_others own.now rows.now.kind rows.now.table rows.now.nodes)) ballot.now }
 {
-    ballot.counter() > 0 && is_named_by_one(own, rows, ballot)
+    ballot.counter() > 0 && is_mentioned_by_one(mention, own, rows, ballot)
 }
 
 /// The same for any counter.
-fn is_named_by_one<S: Places>(own: &NodeId, rows: &ReachedRows<'_, S>, ballot: &LentBallot) -> bool
-    ensures { result ≡ is_one_of (flat_map named_by (rows_of_others own.now rows.now.kind rows.now.table rows.now.nodes)) ballot.now }
+fn is_mentioned_by_one<S: Places>(
+    mention: Mention,
+    own: &NodeId,
+    rows: &ReachedRows<'_, S>,
+    ballot: &LentBallot,
+) -> bool
+    ensures { result ≡ is_one_of (flat_map (mentioned_by mention) (rows_of_others own.now rows.now.kind rows.now.table rows.now.nodes)) ballot.now }
 {
     for place in 0..rows.nodes().len() {
         let Some(statement) = rows.said_by_another(own, place) else {
             continue;
         };
-        if names(statement, ballot) {
+        if mentions(mention, statement, ballot) {
             return true;
         }
     }
     false
 }
 
-/// Whether a row of another than this node speaks of commit at the ballot's counter, which is from 1 on.
-#[tactic(auto, using(crate::proofs::Leaving::counted_one))]
-pub(crate) fn is_committed<S: Places>(
-    own: &NodeId,
-    rows: &ReachedRows<'_, S>,
-    ballot: &LentBallot,
-) -> bool
-    ensures { result ≡ is_one_of (committed_in (rows_of_others own.now rows.now.kind rows.now.table rows.now.nodes)) ballot.now }
+/// Whether the statement speaks of the ballot in this way.
+fn mentions(mention: Mention, statement: &Statement, ballot: &LentBallot) -> bool
+    ensures { result ≡ is_one_of (mentioned_by mention statement.now) ballot.now }
 {
-    ballot.counter() > 0 && is_committed_by_one(own, rows, ballot)
-}
-
-/// The same for any counter.
-fn is_committed_by_one<S: Places>(
-    own: &NodeId,
-    rows: &ReachedRows<'_, S>,
-    ballot: &LentBallot,
-) -> bool
-    ensures { result ≡ is_one_of (flat_map committed_by (rows_of_others own.now rows.now.kind rows.now.table rows.now.nodes)) ballot.now }
-{
-    for place in 0..rows.nodes().len() {
-        let Some(statement) = rows.said_by_another(own, place) else {
-            continue;
-        };
-        if commits(statement, ballot) {
-            return true;
-        }
+    match mention {
+        Mention::Named => names(statement, ballot),
+        Mention::Committed => commits(statement, ballot),
     }
-    false
 }
 
 /// Whether the statement names the ballot.

@@ -4,12 +4,13 @@ ghost use Rattle.std.specs.Prelude.{◌≡◌, ◌∷◌, [], List, IfOk, IsTrue
 ghost use Rattle.protocol.specs.Candidates.{committed_by, committed_in, named_by, named_in};
 ghost use Rattle.types.specs.Statements.{Sent};
 ghost use Rattle.types.specs.declared.kind.Kind.{Kind};
-ghost use Rattle.view.specs.Knowing.{AreBallotsOf, IsHeard};
+ghost use Rattle.view.specs.Knowing.{AreBallotsOf, IsHeard, listed_as};
 ghost use Rattle.view.specs.Listing.{AreLeft};
+ghost use Rattle.view.specs.Mentions.{mentioned_in};
 ghost use Rattle.view.specs.Watching.{rows_of_others};
 
 use crate::listed::{ListedBallots, committed_by};
-use crate::mentions::{is_committed, is_named};
+use crate::mentions::{Mention, is_mentioned};
 use crate::reached::ReachedRows;
 use envstore::Places;
 use std::alloc::{AllocError, Global};
@@ -26,6 +27,16 @@ pub struct ReachedBallots {
 }
 
 impl ReachedBallots {
+    /// The ballots of which rows speak in this way.
+    pub(crate) fn of(&self, mention: Mention) -> &ListedBallots
+        ensures { result.now ≡ listed_as mention self.now }
+    {
+        match mention {
+            Mention::Named => &self.named,
+            Mention::Committed => &self.committed,
+        }
+    }
+
     /// Those of these rows. An error says that memory is short.
     pub(crate) fn of_rows<S: Places>(
         alloc: Global,
@@ -91,9 +102,9 @@ fn leave_named<S: Places>(
             prepared,
             ..
         } => {
-            unless_named(listed, own, rows, &LentBallot::of(ballot));
+            unless_mentioned(listed, Mention::Named, own, rows, &LentBallot::of(ballot));
             if let Some(prepared) = prepared {
-                unless_named(listed, own, rows, &LentBallot::of(prepared));
+                unless_mentioned(listed, Mention::Named, own, rows, &LentBallot::of(prepared));
             }
         }
         Statement::Commit {
@@ -102,15 +113,17 @@ fn leave_named<S: Places>(
             high_counter,
             ..
         } => {
-            unless_named(listed, own, rows, &LentBallot::of(ballot));
-            unless_named(
+            unless_mentioned(listed, Mention::Named, own, rows, &LentBallot::of(ballot));
+            unless_mentioned(
                 listed,
+                Mention::Named,
                 own,
                 rows,
                 &LentBallot::at(*prepared_counter, &ballot.value),
             );
-            unless_named(
+            unless_mentioned(
                 listed,
+                Mention::Named,
                 own,
                 rows,
                 &LentBallot::at(*high_counter, &ballot.value),
@@ -120,9 +133,10 @@ fn leave_named<S: Places>(
             commit,
             high_counter,
         } => {
-            unless_named(listed, own, rows, &LentBallot::of(commit));
-            unless_named(
+            unless_mentioned(listed, Mention::Named, own, rows, &LentBallot::of(commit));
+            unless_mentioned(
                 listed,
+                Mention::Named,
                 own,
                 rows,
                 &LentBallot::at(*high_counter, &commit.value),
@@ -141,36 +155,22 @@ fn leave_committed<S: Places>(
     ensures { AreLeft (committed_in (rows_of_others own.now rows.now.kind rows.now.table rows.now.nodes)) (committed_by before.now) listed.old listed.new }
 {
     if let Some((low, high)) = committed_by(before) {
-        unless_committed(listed, own, rows, &low);
-        unless_committed(listed, own, rows, &high);
+        unless_mentioned(listed, Mention::Committed, own, rows, &low);
+        unless_mentioned(listed, Mention::Committed, own, rows, &high);
     }
 }
 
-/// A ballot is listed no longer, unless some row names it.
-fn unless_named<S: Places>(
+/// A ballot is listed no longer, unless some row speaks of it in this way.
+fn unless_mentioned<S: Places>(
     listed: &mut ListedBallots,
+    mention: Mention,
     own: &NodeId,
     rows: &ReachedRows<'_, S>,
     ballot: &LentBallot,
 )
-    ensures { AreLeft (named_in (rows_of_others own.now rows.now.kind rows.now.table rows.now.nodes)) (ballot.now ∷ []) listed.old listed.new }
+    ensures { AreLeft (mentioned_in mention (rows_of_others own.now rows.now.kind rows.now.table rows.now.nodes)) (ballot.now ∷ []) listed.old listed.new }
 {
-    if is_named(own, rows, ballot) {
-        return;
-    }
-    listed.remove(ballot);
-}
-
-/// A ballot is listed no longer, unless some row speaks of commit at its counter.
-fn unless_committed<S: Places>(
-    listed: &mut ListedBallots,
-    own: &NodeId,
-    rows: &ReachedRows<'_, S>,
-    ballot: &LentBallot,
-)
-    ensures { AreLeft (committed_in (rows_of_others own.now rows.now.kind rows.now.table rows.now.nodes)) (ballot.now ∷ []) listed.old listed.new }
-{
-    if is_committed(own, rows, ballot) {
+    if is_mentioned(mention, own, rows, ballot) {
         return;
     }
     listed.remove(ballot);

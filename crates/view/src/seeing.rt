@@ -16,6 +16,7 @@ ghost use Rattle.view.specs.Watching.{rows_of_others, values_in};
 ghost use Rattle.view.specs.Words.{IsEmptySet};
 
 use crate::known_reach::KnownReach;
+use crate::mentions::Mention;
 use crate::own::Own;
 use crate::passing::{OwnAnswer, Supporters, add_supporters};
 use crate::reached::ReachedRows;
@@ -23,7 +24,7 @@ use crate::reached_ballots::ReachedBallots;
 use crate::region::Region;
 use crate::rows::values_of;
 use crate::searching::next_counter;
-use crate::unlisted::{next_committed, next_named, nominated_values};
+use crate::unlisted::{next_mentioned, nominated_values};
 use compiled::{Form, in_quorum, is_met_by, no_places};
 use envstore::Places;
 use fedvote::{Question, Sight};
@@ -260,11 +261,17 @@ impl<'a, S: Places> Sight for View<'a, S> {
     }
 
     fn next_named<'b>(&'b self, bound: &Option<LentBallot>) -> Option<LentBallot<'b>> {
-        next_named(self.listed, self.own, &self.ballots, bound)
+        next_mentioned(self.listed, Mention::Named, self.own, &self.ballots, bound)
     }
 
     fn next_committed<'b>(&'b self, bound: &Option<LentBallot>) -> Option<LentBallot<'b>> {
-        next_committed(self.listed, self.own, &self.ballots, bound)
+        next_mentioned(
+            self.listed,
+            Mention::Committed,
+            self.own,
+            &self.ballots,
+            bound,
+        )
     }
 
     fn next_counter(&self, above: u32) -> Option<u32> {

@@ -2,11 +2,12 @@
 //! nominations speak of, likewise.
 
 ghost use Rattle.std.specs.Prelude.{◌≡◌, IfOk, IfSome, flat_map, option_map, option_to_list};
-ghost use Rattle.protocol.specs.Candidates.{committed_by, committed_in, named_by, named_in};
 ghost use Rattle.fedvote.specs.Searching.{bettered, next_under};
 ghost use Rattle.view.specs.Knowing.{AreSearched};
+ghost use Rattle.view.specs.Mentions.{mentioned_by, mentioned_in};
 ghost use Rattle.view.specs.Watching.{rows_of_others, values_in};
 
+use crate::mentions::Mention;
 use crate::reached::ReachedRows;
 use crate::reached_ballots::ReachedBallots;
 use crate::rows::values_of_others;
@@ -32,94 +33,67 @@ pub(crate) fn nominated_values<S: Places>(
     }
 }
 
-/// The greatest ballot below the bound that the rows of others than this node name: by their list, or else by each row.
-pub(crate) fn next_named<'a, S: Places>(
+/// The greatest ballot below the bound of which the rows of others than this node speak in this way: by their list, or
+/// else by each row.
+pub(crate) fn next_mentioned<'a, S: Places>(
     listed: &'a Option<ReachedBallots>,
+    mention: Mention,
     own: &NodeId,
     rows: &ReachedRows<'a, S>,
     bound: &Option<LentBallot>,
 ) -> Option<LentBallot<'a>>
     requires { IfSome listed.now (λ l. AreSearched own.now rows.now.kind rows.now.table rows.now.nodes l) }
-    ensures { result ≡ next_under bound.now (named_in (rows_of_others own.now rows.now.kind rows.now.table rows.now.nodes)) }
+    ensures { result ≡ next_under bound.now (mentioned_in mention (rows_of_others own.now rows.now.kind rows.now.table rows.now.nodes)) }
 {
     match listed {
-        Some(listed) => listed.named.next(bound),
-        None => named_in_rows(own, rows, bound),
+        Some(listed) => listed.of(mention).next(bound),
+        None => mentioned_in_rows(mention, own, rows, bound),
     }
 }
 
-/// The same of the ballots at whose counters the rows speak of commit.
-pub(crate) fn next_committed<'a, S: Places>(
-    listed: &'a Option<ReachedBallots>,
+/// The same by each row.
+fn mentioned_in_rows<'a, S: Places>(
+    mention: Mention,
     own: &NodeId,
     rows: &ReachedRows<'a, S>,
     bound: &Option<LentBallot>,
 ) -> Option<LentBallot<'a>>
-    requires { IfSome listed.now (λ l. AreSearched own.now rows.now.kind rows.now.table rows.now.nodes l) }
-    ensures { result ≡ next_under bound.now (committed_in (rows_of_others own.now rows.now.kind rows.now.table rows.now.nodes)) }
-{
-    match listed {
-        Some(listed) => listed.committed.next(bound),
-        None => committed_in_rows(own, rows, bound),
-    }
-}
-
-/// The greatest ballot below the bound that the rows of others name, by each row.
-fn named_in_rows<'a, S: Places>(
-    own: &NodeId,
-    rows: &ReachedRows<'a, S>,
-    bound: &Option<LentBallot>,
-) -> Option<LentBallot<'a>>
-    ensures { result ≡ next_under bound.now (named_in (rows_of_others own.now rows.now.kind rows.now.table rows.now.nodes)) }
+    ensures { result ≡ next_under bound.now (mentioned_in mention (rows_of_others own.now rows.now.kind rows.now.table rows.now.nodes)) }
 {
     let mut best = None;
     for place in 0..rows.nodes().len() {
-        best = named_with(best, bound, rows.said_by_another(own, place));
+        best = mentioned_with(mention, best, bound, rows.said_by_another(own, place));
     }
     best
 }
 
-/// The greatest ballot below the bound at whose counter the rows of others speak of commit, by each row.
-fn committed_in_rows<'a, S: Places>(
-    own: &NodeId,
-    rows: &ReachedRows<'a, S>,
-    bound: &Option<LentBallot>,
-) -> Option<LentBallot<'a>>
-    ensures { result ≡ next_under bound.now (committed_in (rows_of_others own.now rows.now.kind rows.now.table rows.now.nodes)) }
-{
-    let mut best = None;
-    for place in 0..rows.nodes().len() {
-        best = committed_with(best, bound, rows.said_by_another(own, place));
-    }
-    best
-}
-
-/// The greatest of the best ballot so far and of those that what is said names, if something is said.
+/// The greatest of the best ballot so far and of those of which what is said speaks in this way, if something is said.
 #[tactic(auto, using(crate::proofs::Searches::one_named, crate::proofs::Searches::nothing_said))]
-fn named_with<'a>(
+fn mentioned_with<'a>(
+    mention: Mention,
     best: Option<LentBallot<'a>>,
     bound: &Option<LentBallot>,
     said: Option<&'a Statement>,
 ) -> Option<LentBallot<'a>>
-    ensures { result ≡ bettered best.entry bound.now (flat_map named_by (option_to_list (option_map (λ s. s.now) said.entry))) }
+    ensures { result ≡ bettered best.entry bound.now (flat_map (mentioned_by mention) (option_to_list (option_map (λ s. s.now) said.entry))) }
 {
     match said {
         None => best,
-        Some(statement) => better_named(best, bound, statement),
+        Some(statement) => better_mentioned(mention, best, bound, statement),
     }
 }
 
-/// The same of those at whose counters it speaks of commit.
-#[tactic(auto, using(crate::proofs::Searches::one_named, crate::proofs::Searches::nothing_said))]
-fn committed_with<'a>(
+/// The greatest of the best ballot so far and of those of which the statement speaks in this way.
+fn better_mentioned<'a>(
+    mention: Mention,
     best: Option<LentBallot<'a>>,
     bound: &Option<LentBallot>,
-    said: Option<&'a Statement>,
+    statement: &'a Statement,
 ) -> Option<LentBallot<'a>>
-    ensures { result ≡ bettered best.entry bound.now (flat_map committed_by (option_to_list (option_map (λ s. s.now) said.entry))) }
+    ensures { result ≡ bettered best.entry bound.now (mentioned_by mention statement.now) }
 {
-    match said {
-        None => best,
-        Some(statement) => better_committed(best, bound, statement),
+    match mention {
+        Mention::Named => better_named(best, bound, statement),
+        Mention::Committed => better_committed(best, bound, statement),
     }
 }

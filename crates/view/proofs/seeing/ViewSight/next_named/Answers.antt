@@ -13,7 +13,7 @@ returns g c =
     let view = c.args.self.now in
     let own = view.own.now in
     let search = λ (ss : List Statement). next_under c.args.bound.now (named_in ss) in
-    c.next_named.ensures
+    c.next_mentioned.ensures
     ∙ ap (λ (k : Kept). search (rows_of_others own k.kind k.table k.nodes)) view.ballots_kept
     ∙ named_found own view.slices.now view.table.now view.region.now.nodes.items view.known.reach.exactly view.single c.args.bound.now
     ∙ ap search (sym (seen_rows own view.slices.now view.leaders.now view.table.now Kind.Ballot))

@@ -1,0 +1,16 @@
+-- The ways in which a statement speaks of a ballot: it names it, or it speaks of commit at its counter.
+use Rattle.std.specs.Prelude.{List, filter, flat_map}
+use Rattle.types.specs.declared.ballot.Ballot.{Ballot}
+use Rattle.types.specs.declared.statement.Statement.{Statement}
+use Rattle.protocol.specs.Candidates.{committed_by, is_counted, named_by}
+use Rattle.view.specs.declared.mentions.Mention.{Mention}
+use Rattle.view.specs.declared.mentions.Mention.TheVariants.{Committed, Named}
+
+-- the ballots of which a statement speaks in this way
+abbrev pub mentioned_by : Mention → Statement → List Ballot
+mentioned_by Named = named_by
+mentioned_by Committed = committed_by
+
+-- those of several statements, with counters from 1 on
+abbrev pub mentioned_in : Mention → List Statement → List Ballot
+mentioned_in mention statements = filter is_counted (flat_map (mentioned_by mention) statements)
