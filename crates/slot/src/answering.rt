@@ -28,7 +28,7 @@ pub(crate) struct State<'a> {
 /// Where passes start after an event's own change.
 #[derive(Clone, Copy)]
 pub(crate) struct Start<'a> {
-    /// What is given now.
+    /// The inputs as they are now.
     pub inputs: &'a Inputs,
     /// The votes, before any pass.
     pub votes: &'a Votes,

@@ -1,4 +1,4 @@
-//! An event's own change of what is given and of the votes, before any pass.
+//! An event's own change of a node's inputs and votes, before any pass.
 
 ghost use Rattle.std.specs.Prelude.{◌≡◌, ◌<◌, ◌+◌, IfOk, Some, is_some, option_map};
 ghost use Rattle.protocol.specs.Nodes.{bumped, is_externalized};
@@ -14,7 +14,7 @@ use std::alloc::{AllocError, Global};
 use timers::{ballot_is_live, nomination_is_live};
 use types::{Inputs, Value, Votes};
 
-/// What an event's own change makes of what is given and of the votes.
+/// What an event's own change makes of the inputs and of the votes.
 #[derive(Drop)]
 pub(crate) struct Changed {
     pub inputs: Inputs,
@@ -39,7 +39,7 @@ pub(crate) fn is_counter_live(votes: &Votes, counter: u32) -> bool
     ballot_is_live(counter, votes.armed, current, is_externalized(votes.phase))
 }
 
-/// What is given once the node is to propose a value: round 1 begins with its leader. An error says
+/// The inputs once the node is to propose a value: round 1 begins with its leader. An error says
 /// that memory is short.
 pub(crate) fn with_proposal(
     alloc: Global,
@@ -60,7 +60,7 @@ pub(crate) fn with_proposal(
     )
 }
 
-/// What is given once the timer of this round has fired: the next round begins with its leader. An
+/// The inputs once the timer of this round has fired: the next round begins with its leader. An
 /// error says that memory is short.
 pub(crate) fn in_next_round(
     alloc: Global,
@@ -85,7 +85,7 @@ fn in_round(configured: &Configured, inputs: Inputs, round: u32) -> Result<Input
     Ok(inputs)
 }
 
-/// What is given once one more ballot timer has fired. An error says that memory is short.
+/// The inputs once one more ballot timer has fired. An error says that memory is short.
 pub(crate) fn with_timeout(alloc: Global, inputs: &Inputs) -> Result<Inputs, AllocError>
     requires { inputs.now.ballot_timeouts < 4294967295 }
     ensures { IfOk result (λ g. g ≡ record inputs.now { ballot_timeouts = inputs.now.ballot_timeouts + 1 }) }

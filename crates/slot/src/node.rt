@@ -223,7 +223,7 @@ impl Node {
         let _inputs = &self.inputs;
     }
 
-    /// The input is set, and round 1 begins.
+    /// The proposal is set, and round 1 begins.
     fn propose<S: Shelf>(
         &mut self,
         alloc: Global,
