@@ -3,7 +3,7 @@
 use closure::Announcements;
 use codec::encode;
 use envstore::VecShelf;
-use hoststep::{Budgets, Host, Journal, LentEvent, NetConfig, NetMachine, Reservation, Shares};
+use hoststep::{Budgets, Host, Journal, LentEvent, NetConfig, NetMachine};
 use std::alloc::Global;
 use std::test::Fail;
 use types::{
@@ -29,18 +29,13 @@ fn config(alloc: Global, events: u64) -> Option<NetConfig> {
 
 /// The bytes by which node 2 votes for a value at slot 5.
 fn vote(alloc: Global) -> Option<Bytes> {
-    vote_of(alloc, 2)
-}
-
-/// The bytes by which a node votes for a value at slot 5.
-fn vote_of(alloc: Global, sender: u64) -> Option<Bytes> {
     let mut voted = Values::empty(alloc);
     voted.push(Value::of(alloc, &[b'a']).ok()?).ok()?;
     let body = Statement::Nominate {
         voted,
         accepted: Values::empty(alloc),
     };
-    let envelope = Envelope::new(name(sender), 5, slices(alloc, 2)?, body)?;
+    let envelope = Envelope::new(name(2), 5, slices(alloc, 2)?, body)?;
     Some(Bytes::new(encode(alloc, &envelope).ok()?))
 }
 
@@ -166,20 +161,6 @@ fn append_twice(alloc: Global) -> Option<(usize, usize)> {
 }
 
 #[test]
-fn what_is_refused_is_not_journalled(rt: HostRuntime) -> Result<(), Fail> {
-    let alloc = rt.alloc();
-    let mut journal = open_journal(alloc, 2).ok_or("memory")?;
-    let empty = delivery(Bytes::new(Vec::new(alloc)));
-    assert!(rt; is_refused(&mut journal, empty, Refusal::BadEnvelope(1)));
-    let close = Event::CloseSlot { slot: 6 };
-    assert!(rt; is_refused(&mut journal, close, Refusal::SlotNotOpen));
-    let again = Event::OpenSlot { slot: 5 };
-    assert!(rt; is_refused(&mut journal, again, Refusal::SlotOpenAlready));
-    assert!(rt; journal.len() == 1 && !journal.is_empty());
-    Ok(())
-}
-
-#[test]
 fn a_delivery_is_recorded_and_read_back(rt: HostRuntime) -> Result<(), Fail> {
     let alloc = rt.alloc();
     let mut journal = open_journal(alloc, 2).ok_or("memory")?;
@@ -253,19 +234,6 @@ fn slices_hold_at_their_slot(rt: HostRuntime) -> Result<(), Fail> {
     Ok(())
 }
 
-#[test]
-fn new_slices_end_with_their_slot(rt: HostRuntime) -> Result<(), Fail> {
-    let alloc = rt.alloc();
-    let configured = slices(alloc, 2).ok_or("memory")?;
-    let journal = resliced_journal(alloc).ok_or("memory")?;
-    let closed = with_event(journal, Event::CloseSlot { slot: 5 }).ok_or("refused")?;
-    assert!(rt; are_slices(closed.slices_then(&name(1), 5), &configured));
-    let reopened = with_event(closed, Event::OpenSlot { slot: 5 }).ok_or("refused")?;
-    assert!(rt; are_slices(reopened.slices_then(&name(1), 5), &configured));
-    assert!(rt; reopened.slices_then(&name(3), 5).is_none());
-    Ok(())
-}
-
 /// A journal where node 1, which needs itself alone, was told to propose a value at slot 5.
 fn journal_of_a_decision(alloc: Global) -> Option<Journal<VecShelf>> {
     let hosts = vec![in alloc; Host::new(name(1), slices(alloc, 1)?)].ok()?;
@@ -297,110 +265,5 @@ fn decisions_are_read_in_place(rt: HostRuntime) -> Result<(), Fail> {
     let journal = journal_of_a_decision(rt.alloc()).ok_or("memory")?;
     assert!(rt; decides_in_place(&journal, 1, b"x") && !decides_in_place(&journal, 1, b"y"));
     assert!(rt; journal.decision(0).is_none() && journal.decision(2).is_none());
-    Ok(())
-}
-
-/// Names 1 to 8.
-fn eight_names(alloc: Global) -> Option<Vec<NodeId>> {
-    let mut names = Vec::new(alloc);
-    for number in 1..9 {
-        names.push(name(number)).ok()?;
-    }
-    Some(names)
-}
-
-/// Node 1 is hosted, and names 1 to 8 are on the roster, with two events and so many bytes from each to it.
-fn shared_config(alloc: Global, bytes: u64) -> Option<NetConfig> {
-    let hosts = vec![in alloc; Host::new(name(1), slices(alloc, 2)?)].ok()?;
-    let shares = Shares {
-        own: 1,
-        pair: 2,
-        bytes,
-        opens: 1,
-    };
-    let roster = Reservation {
-        names: eight_names(alloc)?,
-        shares,
-    };
-    NetConfig::with_roster(alloc, 7, hosts, Budgets::new(1, 1, 1)?, roster).ok()
-}
-
-/// A journal of that network, with its slot open.
-fn shared_journal(alloc: Global, bytes: u64) -> Option<Journal<VecShelf>> {
-    let config = shared_config(alloc, bytes)?;
-    let journal = Journal::new(alloc, config, VecShelf::new(alloc));
-    with_event(journal, Event::OpenSlot { slot: 5 })
-}
-
-/// Why a node's vote is refused, or nothing where it is taken. Where memory is short it is told once more.
-fn told_vote(
-    alloc: Global,
-    journal: &mut Journal<VecShelf>,
-    sender: u64,
-) -> Option<Option<Refusal>> {
-    let vote = delivery(vote_of(alloc, sender)?);
-    let again = delivery(vote_of(alloc, sender)?);
-    match journal.apply(vote) {
-        Ok(_) => Some(None),
-        Err(Refusal::NoMemory) => Some(journal.apply(again).err()),
-        Err(refusal) => Some(Some(refusal)),
-    }
-}
-
-/// Whether a vote of each of these nodes is answered so, in this order.
-fn are_answered(
-    alloc: Global,
-    journal: &mut Journal<VecShelf>,
-    senders: &[u64],
-    wanted: Option<Refusal>,
-) -> Option<bool> {
-    for sender in senders {
-        let answer = told_vote(alloc, journal, *sender)?;
-        if answer != wanted {
-            return Some(false);
-        }
-    }
-    Some(true)
-}
-
-/// Whether each of these nodes has two events taken, told in two orders, and a third refused.
-fn counts_events(alloc: Global, one: &[u64], other: &[u64]) -> Option<bool> {
-    let mut journal = shared_journal(alloc, 1000)?;
-    let first = are_answered(alloc, &mut journal, one, None)?;
-    let second = are_answered(alloc, &mut journal, other, None)?;
-    let third = are_answered(alloc, &mut journal, one, Some(Refusal::ShareFull))?;
-    Some(first && second && third && journal.len() == 15)
-}
-
-/// Whether each of these nodes has the bytes of one vote taken, and those of a second refused.
-fn counts_bytes(alloc: Global, senders: &[u64]) -> Option<bool> {
-    let size = vote(alloc)?.as_slice().len() as u64;
-    let mut journal = shared_journal(alloc, size)?;
-    let first = are_answered(alloc, &mut journal, senders, None)?;
-    let second = are_answered(alloc, &mut journal, senders, Some(Refusal::ShareBytesFull))?;
-    Some(first && second && journal.len() == 8)
-}
-
-const ASCENDING: [u64; 7] = [2, 3, 4, 5, 6, 7, 8];
-
-const DESCENDING: [u64; 7] = [8, 7, 6, 5, 4, 3, 2];
-
-const MIXED: [u64; 7] = [5, 2, 8, 3, 7, 4, 6];
-
-#[test]
-fn events_of_each_name_count_in_any_order(rt: HostRuntime) -> Result<(), Fail> {
-    let alloc = rt.alloc();
-    assert!(rt; counts_events(alloc, &ASCENDING, &MIXED).ok_or("memory")?);
-    assert!(rt; counts_events(alloc, &DESCENDING, &ASCENDING).ok_or("memory")?);
-    assert!(rt; counts_events(alloc, &MIXED, &DESCENDING).ok_or("memory")?);
-    Ok(())
-}
-
-#[test]
-fn bytes_of_each_name_count_in_any_order(rt: HostRuntime) -> Result<(), Fail> {
-    let alloc = rt.alloc();
-    assert!(rt; counts_bytes(alloc, &ASCENDING).ok_or("memory")?);
-    assert!(rt; counts_bytes(alloc, &DESCENDING).ok_or("memory")?);
-    assert!(rt; counts_bytes(alloc, &MIXED).ok_or("memory")?);
     Ok(())
 }
