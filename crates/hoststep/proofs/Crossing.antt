@@ -3,7 +3,7 @@ use denote.RattleType.{RattleType}
 use denote.Param.Send.{IsSend, IsSync, sendable}
 use Rattle.std.proofs.Crossing.{crosses}
 use Rattle.std.proofs.MapsCrossing.{crosses as maps}
-use Rattle.types.proofs.state.Inputs.TheSendSync as given
+use Rattle.types.proofs.state.Inputs.TheSendSync as inputs
 use Rattle.types.proofs.state.Votes.TheSendSync as votes
 use Rattle.types.proofs.bytes.Bytes.TheSendSync as bytes
 use Rattle.types.proofs.value.Value.TheSendSync as value
@@ -125,10 +125,10 @@ listener_send : IsSend (Listener.the_row)
 listener_send = search (sendable, crosses, configured_send, table_send, known_send) depth 40
 
 node_sync : IsSync (Node.the_row)
-node_sync = search (sendable, crosses, listener_sync, given.the_field_sync, votes.the_field_sync) depth 40
+node_sync = search (sendable, crosses, listener_sync, inputs.the_field_sync, votes.the_field_sync) depth 40
 
 node_send : IsSend (Node.the_row)
-node_send = search (sendable, crosses, listener_send, given.the_field_send, votes.the_field_send) depth 40
+node_send = search (sendable, crosses, listener_send, inputs.the_field_send, votes.the_field_send) depth 40
 
 host_sync : IsSync (Host.the_row)
 host_sync = search (sendable, crosses, name.the_sync, nested_sync) depth 40

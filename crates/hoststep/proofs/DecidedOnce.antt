@@ -69,12 +69,12 @@ unfolding outs
 by-node old None = none-there
 by-node old (Some new) =
     let is_armed = not (new.votes.armed == old.votes.armed) && (new.votes.armed == counter_of new.votes.ballot) && not (is_externalized new.votes.phase) in
-    let is_round = not (new.given.round == old.given.round) && is_none new.votes.high in
+    let is_round = not (new.inputs.round == old.inputs.round) && is_none new.votes.confirmed_prepared in
     let is_now = is_externalized new.votes.phase && not (is_externalized old.votes.phase) in
-    after-sent (when is_round (ArmNomination new.given.round)) (when is_armed (ArmBallot new.votes.armed))
+    after-sent (when is_round (ArmNomination new.inputs.round)) (when is_armed (ArmBallot new.votes.armed))
     (emitted new (sent_nomination old.votes) (sent_nomination new.votes)) (emitted new (sent_vote old.votes) (sent_vote new.votes))
     (if is_now then decided new.votes.ballot else [])
-    (round-timer is_round new.given.round) (ballot-timer is_armed new.votes.armed)
+    (round-timer is_round new.inputs.round) (ballot-timer is_armed new.votes.armed)
     (no-values-emitted new (sent_nomination old.votes) (sent_nomination new.votes)) (no-values-emitted new (sent_vote old.votes) (sent_vote new.votes))
     (value is_now new.votes.ballot)
 

@@ -102,7 +102,7 @@ emits-decision n old new h = go new.phase old.phase new.ballot old.ballot h
 outs-inputs-by : (old new : Node) → IsGivenBy new.slot new.name (outs old new)
 unfolding outs
 outs-inputs-by old new =
-    let a = when (not (new.inputs.round == old.inputs.round) && is_none new.votes.high) (ArmNomination new.inputs.round) in
+    let a = when (not (new.inputs.round == old.inputs.round) && is_none new.votes.confirmed_prepared) (ArmNomination new.inputs.round) in
     let b = when (not (new.votes.armed == old.votes.armed) && (new.votes.armed == counter_of new.votes.ballot) && not (is_externalized new.votes.phase)) (ArmBallot new.votes.armed) in
     let c = emitted new (sent_nomination old.votes) (sent_nomination new.votes) in
     let d = emitted new (sent_vote old.votes) (sent_vote new.votes) in

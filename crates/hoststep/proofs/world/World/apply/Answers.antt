@@ -4,7 +4,7 @@ use Rattle.hoststep.specs.Logs.{Log}
 use Rattle.hoststep.specs.Worlds.{IsAnswered, IsPlaceOf, numbers_of}
 use Rattle.hoststep.proofs.ByNumber.{Changed, changed, missing}
 use Rattle.hoststep.proofs.Histories.{told-answered}
-use Rattle.hoststep.proofs.world.World.apply.Inputs.{Over}
+use Rattle.hoststep.proofs.world.World.apply.Given.{Over}
 use Rattle.hoststep.proofs.world.World.apply.Goals as goal
 
 all-of : (g : Over) (c : goal.After-self-1 g) → Changed c.self.inside.numbers.items c.self.inside.journals.items c.args.number c.in-Ok.at c.apply.new.self c.args.event c.apply.result
