@@ -10,7 +10,7 @@ AreNoted n old now = (i : ℕ) → bit_of now i ≡ 1 → (bit_of old i ≡ 1) �
 
 -- and it is noted where this answer was given
 abbrev pub AreAnswers : ℕ → Type 0 → List ℕ → List ℕ → Type 0
-AreAnswers n inputs old now = (i : ℕ) → bit_of now i ≡ 1 → (bit_of old i ≡ 1) ⊎ ((n ≡ i) × inputs)
+AreAnswers n given old now = (i : ℕ) → bit_of now i ≡ 1 → (bit_of old i ≡ 1) ⊎ ((n ≡ i) × given)
 
 -- no answer is kept
 abbrev pub IsNothing : Answers → Type 0

@@ -30,7 +30,7 @@ use Rattle.runs.specs.Emissions.{OpenSlot, OpenSlots, at_number}
 use Rattle.runs.specs.ByJournals.{KeptAreFound, count_among, numbered_behind, sent_at, AreSlotsAt, AreSlotsBy}
 use Rattle.runs.proofs.NumberedRows.{equal-flip, equal-self}
 use Rattle.runs.proofs.SlotsByEntries.{AreFrom, sent-elsewhere, sent-more, sent-there}
-use Rattle.runs.proofs.OutsAtPlaces.{AreInPlace, act-inputs, effect-in-place}
+use Rattle.runs.proofs.OutsAtPlaces.{AreInPlace, act-given, effect-in-place}
 use Rattle.runs.proofs.NetsByEntries.{is-none, passes-first, since-more}
 
 -- ---- what a node has emitted is what the entries emitted, since its slot was opened
@@ -81,32 +81,32 @@ act-outs net j u e = refl
 
 -- a step of a node
 module _ (before : List Entry) (e : Step) (net : Net) (j u : ℕ) (x : NodeEvent) (placed : AreInPlace net.slots) (told : IsTold before net) (not_opening : (i : ℕ) → is_opening i e ≡ false) where
-  abbrev inputs : List Out
-  inputs = (act net j u x).1
+  abbrev given : List Out
+  given = (act net j u x).1
 
   abbrev more : Entry
-  more = record { event = e; outs = inputs }
+  more = record { event = e; outs = given }
 
-  all_from : AreFrom j u (emissions inputs)
-  all_from = (act-inputs net j u x placed).from
+  all_from : AreFrom j u (emissions given)
+  all_from = (act-given net j u x placed).from
 
   act-elsewhere : (i w : ℕ) → is_open net i ≡ true → (j == i) ≡ false → told_at (known (places_at (act net j u x).0.slots i) w) ≡ by_node w (sent_at i (since_opened i (before ++ more ∷ [])))
   act-elsewhere i w opened_there other =
       ap told_at (known-elsewhere net j i u w x other)
-      ∙ (told i w opened_there ∙ told-same before e inputs i w (not_opening i) (ap (by_node w) (sent-elsewhere i j u (emissions inputs) all_from other)))
+      ∙ (told i w opened_there ∙ told-same before e given i w (not_opening i) (ap (by_node w) (sent-elsewhere i j u (emissions given) all_from other)))
 
   act-other : (w : ℕ) → is_open net j ≡ true → (w == u) ≡ false → told_at (known (places_at (act net j u x).0.slots j) w) ≡ by_node w (sent_at j (since_opened j (before ++ more ∷ [])))
   act-other w opened_there other =
       ap told_at (known-other net j u w x other)
-      ∙ (told j w opened_there ∙ told-same before e inputs j w (not_opening j) (ap (by_node w) (sent-there j u (emissions inputs) all_from) ∙ by-nobody j u w (emissions inputs) all_from other))
+      ∙ (told j w opened_there ∙ told-same before e given j w (not_opening j) (ap (by_node w) (sent-there j u (emissions given) all_from) ∙ by-nobody j u w (emissions given) all_from other))
 
   act-itself : is_open net j ≡ true → told_at (known (places_at (act net j u x).0.slots j) u) ≡ by_node u (sent_at j (since_opened j (before ++ more ∷ [])))
   act-itself opened_there =
       ap told_at (known-same net j u x)
       ∙ (moved-tells x (known (places_at net.slots j) u)
       ∙ (ap₂ (λ (a b : List Sent). a ++ b) (told j u opened_there) (ap (λ (os : List Out). emissions os) (sym (act-outs net j u x))
-      ∙ sym (ap (by_node u) (sent-there j u (emissions inputs) all_from) ∙ by-itself j u (emissions inputs) all_from))
-      ∙ sym (told-more before e inputs j u (not_opening j))))
+      ∙ sym (ap (by_node u) (sent-there j u (emissions given) all_from) ∙ by-itself j u (emissions given) all_from))
+      ∙ sym (told-more before e given j u (not_opening j))))
 
   act-tells : ((i : ℕ) → is_open (act net j u x).0 i ≡ is_open net i) → IsTold (before ++ more ∷ []) (act net j u x).0
   act-tells same i w opened_there = go (j == i) refl (w == u) refl

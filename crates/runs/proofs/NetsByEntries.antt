@@ -27,7 +27,7 @@ use Rattle.runs.specs.Followed.{turned}
 use Rattle.runs.specs.ByJournals.{AreSlotsBy, IsSlotBy, values_at}
 use Rattle.runs.proofs.NumberedRows.{at-changed, at-inserted, at-removed, equal-flip, once-changed, once-inserted, once-removed, or-swapped}
 use Rattle.runs.proofs.SlotsByEntries.{AreFrom, slot-next, slot-still, sent-elsewhere, values-by, values-at}
-use Rattle.runs.proofs.OutsAtPlaces.{IsGivenAt, IsGivenBy, effect-inputs, run-in-place}
+use Rattle.runs.proofs.OutsAtPlaces.{IsGivenAt, IsGivenBy, effect-given, run-in-place}
 
 -- ---- runs
 
@@ -322,8 +322,8 @@ module _ (config : Config) (entries : List Entry) (m : OpenSlots) (s : AreSlotsB
   -- what is given out, as the step names its slot and its node
   within-next : (e : Step) → refusal_of config entries e ≡ None → ((i : ℕ) → is_opening i e ≡ false) → opened_after e (numbers (state_of config entries).slots) ≡ numbers (state_of config entries).slots
       → (at : Option (ℕ × ℕ)) → place_named e ≡ at → IsGivenAt at os → AreSlotsBy config (entries ++ record { event = e; outs = os } ∷ []) (noted_outs os m)
-  within-next e free not_opening same_slots None named inputs = silent-next e free not_opening same_slots named inputs
-  within-next e free not_opening same_slots (Some at) named inputs = node-next e free not_opening same_slots at.0 at.1 named inputs
+  within-next e free not_opening same_slots None named given = silent-next e free not_opening same_slots named given
+  within-next e free not_opening same_slots (Some at) named given = node-next e free not_opening same_slots at.0 at.1 named given
 
 -- what a step does to the slots that are open
 abbrev pub turn_in : Step → Turn
@@ -333,7 +333,7 @@ turn_in _ = turn.Within
 
 pub slots-next : (config : Config) (entries : List Entry) (m : OpenSlots) (e : Step) (os : List Out) → AreSlotsBy config entries m → refusal_of config entries e ≡ None → os ≡ outs_given config entries e
     → AreSlotsBy config (entries ++ record { event = e; outs = os } ∷ []) (turned (turn_in e) os m)
-slots-next config entries m e os s free inputs = by e free (subst (IsGivenAt (place_named e)) (sym inputs) (effect-inputs (state_of config entries) e (run-in-place (new_net config) entries tt)))
+slots-next config entries m e os s free given = by e free (subst (IsGivenAt (place_named e)) (sym given) (effect-given (state_of config entries) e (run-in-place (new_net config) entries tt)))
   where
     by : (x : Step) → refusal_of config entries x ≡ None → IsGivenAt (place_named x) os → AreSlotsBy config (entries ++ record { event = x; outs = os } ∷ []) (turned (turn_in x) os m)
     by (Opens j) f g = opens-next config entries m s os j f g

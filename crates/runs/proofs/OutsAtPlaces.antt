@@ -39,8 +39,8 @@ abbrev pub IsGivenAt : Option (ℕ × ℕ) → List Out → Type 0
 IsGivenAt None os = os ≡ []
 IsGivenAt (Some at) os = IsGivenBy at.0 at.1 os
 
-nothing-inputs : (i u : ℕ) → IsGivenBy i u []
-nothing-inputs i u = record { from = tt; beside = λ e. refl }
+nothing-given : (i u : ℕ) → IsGivenBy i u []
+nothing-given i u = record { from = tt; beside = λ e. refl }
 
 -- ---- a node
 
@@ -99,9 +99,9 @@ emits-decision n old new h = go new.phase old.phase new.ballot old.ballot h
     go phase.Externalized phase.Committing (Some b) None h = absurd (cc)
     go phase.Externalized phase.Committing (Some b) (Some c) h = absurd (cc)
 
-outs-inputs-by : (old new : Node) → IsGivenBy new.slot new.name (outs old new)
+outs-given-by : (old new : Node) → IsGivenBy new.slot new.name (outs old new)
 unfolding outs
-outs-inputs-by old new =
+outs-given-by old new =
     let a = when (not (new.inputs.round == old.inputs.round) && is_none new.votes.confirmed_prepared) (ArmNomination new.inputs.round) in
     let b = when (not (new.votes.armed == old.votes.armed) && (new.votes.armed == counter_of new.votes.ballot) && not (is_externalized new.votes.phase)) (ArmBallot new.votes.armed) in
     let c = emitted new (sent_nomination old.votes) (sent_nomination new.votes) in
@@ -134,16 +134,16 @@ outs-inputs-by old new =
 pub record StaysAt (i u : ℕ) (r : Node × List Out) : Type 0 where
   pub name : r.0.name ≡ u
   pub slot : r.0.slot ≡ i
-  pub inputs : IsGivenBy i u r.1
+  pub given : IsGivenBy i u r.1
 
 settled-stays : (n m : Node) (o : Option Votes) → m.name ≡ n.name → m.slot ≡ n.slot → StaysAt n.slot n.name (answered n (settled m o))
-settled-stays n m None name slot = record { name = refl; slot = refl; inputs = nothing-inputs n.slot n.name }
+settled-stays n m None name slot = record { name = refl; slot = refl; given = nothing-given n.slot n.name }
 settled-stays n m (Some w) name slot =
     let new : Node = record m { votes = w } in
-    record { name = name; slot = slot; inputs = subst (λ i. IsGivenBy i n.name (outs n new)) slot (subst (λ u. IsGivenBy m.slot u (outs n new)) name (outs-inputs-by n new)) }
+    record { name = name; slot = slot; given = subst (λ i. IsGivenBy i n.name (outs n new)) slot (subst (λ u. IsGivenBy m.slot u (outs n new)) name (outs-given-by n new)) }
 
 stays : (n : Node) (b : Bool) (m : Node) → m.name ≡ n.name → m.slot ≡ n.slot → StaysAt n.slot n.name (answered n (after_change (if b then Some m else None)))
-stays n false m name slot = record { name = refl; slot = refl; inputs = nothing-inputs n.slot n.name }
+stays n false m name slot = record { name = refl; slot = refl; given = nothing-given n.slot n.name }
 stays n true m name slot = settled-stays n m (settle most_passes (passed m) m.votes) name slot
 
 step-stays : (n : Node) (e : NodeEvent) → StaysAt n.slot n.name (step n e)
@@ -251,28 +251,28 @@ known-so (s ∷ ss) i u p at h = go (s.number == i) refl at (λ k. known-so ss i
     go true e k rest = let so = named-so s.places u p s.number k h.0 in (so.0, so.1 ∙ eqb-true s.number i e)
     go false e k rest = rest k
 
-pub act-inputs : (net : Net) (i u : ℕ) (e : NodeEvent) → AreInPlace net.slots → IsGivenBy i u (act net i u e).1
+pub act-given : (net : Net) (i u : ℕ) (e : NodeEvent) → AreInPlace net.slots → IsGivenBy i u (act net i u e).1
 unfolding act
-act-inputs net i u e h = go (known (places_at net.slots i) u) refl
+act-given net i u e h = go (known (places_at net.slots i) u) refl
   where
     go : (o : Option Place) → known (places_at net.slots i) u ≡ o → IsGivenBy i u (outs_at e o)
-    go None k = nothing-inputs i u
+    go None k = nothing-given i u
     go (Some p) k =
         let so = known-so net.slots i u p k h in
-        subst (λ j. IsGivenBy j u (step p.node e).1) so.1 (subst (λ w. IsGivenBy p.node.slot w (step p.node e).1) so.0 ((step-stays p.node e).inputs))
+        subst (λ j. IsGivenBy j u (step p.node e).1) so.1 (subst (λ w. IsGivenBy p.node.slot w (step p.node e).1) so.0 ((step-stays p.node e).given))
 
-heard-inputs : (net : Net) (i u : ℕ) (o : Option Sent) → AreInPlace net.slots → IsGivenBy i u (act_known net i u o).1
-heard-inputs net i u None h = nothing-inputs i u
-heard-inputs net i u (Some e) h = act-inputs net i u (Take e) h
+heard-given : (net : Net) (i u : ℕ) (o : Option Sent) → AreInPlace net.slots → IsGivenBy i u (act_known net i u o).1
+heard-given net i u None h = nothing-given i u
+heard-given net i u (Some e) h = act-given net i u (Take e) h
 
-pub effect-inputs : (net : Net) (e : Step) → AreInPlace net.slots → IsGivenAt (place_named e) (effect net e).1
+pub effect-given : (net : Net) (e : Step) → AreInPlace net.slots → IsGivenAt (place_named e) (effect net e).1
 unfolding effect
-effect-inputs net (Opens i) h = refl
-effect-inputs net (Closes i) h = refl
-effect-inputs net (Asks i u x) h = act-inputs net i u (Propose x) h
-effect-inputs net (Delivers u size (Read e)) h = act-inputs net e.slot u (Take e) h
-effect-inputs net (Delivers u size (Fault n)) h = refl
-effect-inputs net (Hears i u from kind k) h = heard-inputs net i u (emission (known (places_at net.slots i) from) kind k) h
-effect-inputs net (NominationTimes i u r) h = act-inputs net i u (NominationTimer r) h
-effect-inputs net (BallotTimes i u n) h = act-inputs net i u (BallotTimer n) h
-effect-inputs net (Reslices i u q) h = act-inputs net i u (Reslice q) h
+effect-given net (Opens i) h = refl
+effect-given net (Closes i) h = refl
+effect-given net (Asks i u x) h = act-given net i u (Propose x) h
+effect-given net (Delivers u size (Read e)) h = act-given net e.slot u (Take e) h
+effect-given net (Delivers u size (Fault n)) h = refl
+effect-given net (Hears i u from kind k) h = heard-given net i u (emission (known (places_at net.slots i) from) kind k) h
+effect-given net (NominationTimes i u r) h = act-given net i u (NominationTimer r) h
+effect-given net (BallotTimes i u n) h = act-given net i u (BallotTimer n) h
+effect-given net (Reslices i u q) h = act-given net i u (Reslice q) h
