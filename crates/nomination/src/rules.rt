@@ -147,7 +147,7 @@ fn values_to_confirm<'a, S: Sight>(
     Ok(larger)
 }
 
-/// What the node's leaders propose, ascending: the values of their nominations, and the node's own input
+/// What the node's leaders propose, ascending: the values of their nominations, and the node's own proposal
 /// where it is a leader.
 fn proposed_values<S: Sight>(
     alloc: Global,
@@ -164,7 +164,7 @@ fn proposed_values<S: Sight>(
     Ok(proposed)
 }
 
-/// The node's own input, where it is a leader.
+/// The node's own proposal, where it is a leader.
 fn own_proposal<'a>(own: &NodeId, inputs: &'a Inputs) -> Option<&'a Value>
     ensures { option_to_list (option_map (λ v. v.now) result) ≡ own_proposal own.now inputs.now }
 {

@@ -67,7 +67,7 @@ abbrev pub in_round : Node → ℕ → Node
 in_round n r =
     record n { inputs = record n.inputs { round = r; leaders = n.inputs.leaders ++ leader n.slot r n.name n.slices ∷ [] } }
 
--- the input is set, and round 1 begins
+-- the proposal is set, and round 1 begins
 abbrev pub proposed : Node → List ℕ → Node
 proposed n x = in_round (record n { inputs = record n.inputs { proposal = Some x } }) 1
 

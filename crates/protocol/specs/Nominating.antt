@@ -14,7 +14,7 @@ abbrev pub own_proposal : ℕ → Inputs → List (List ℕ)
 own_proposal own g = if among g.leaders own then option_to_list g.proposal else []
 
 -- Echo: from round 1 on, while nothing is confirmed, the node votes for each value of its leaders' nominations, and for
--- its own input where it is a leader.
+-- its own proposal where it is a leader.
 unfoldable pub echo : ℕ → Seen → Inputs → Votes → Votes
 echo own seen g w =
     if nat_lt 0 g.round && not (nat_lt 0 (length w.confirms))

@@ -81,7 +81,7 @@ impl State {
         Ok(outs)
     }
 
-    /// The input is set, and round 1 begins with its leader.
+    /// The proposal is set, and round 1 begins with its leader.
     pub fn propose(
         &mut self,
         alloc: Global,

@@ -18,7 +18,7 @@ fn itself(alloc: Global, own: NodeId) -> Result<Nested, Fail> {
     Ok(Nested::new(alloc, SliceSet::new(1, members))?.ok_or("slices")?)
 }
 
-/// The node's input is i, and it leads round 1.
+/// The node's proposal is i, and it leads round 1.
 fn inputs(alloc: Global, own: NodeId) -> Result<Inputs, Fail> {
     let mut inputs = Inputs::nothing(alloc);
     inputs.proposal = Some(Value::of(alloc, b"i")?);
