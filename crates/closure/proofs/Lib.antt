@@ -2,6 +2,8 @@ pub mod Noted
 mod Underway
 mod ReachKept
 mod Dropped
+mod Widening
+mod Finding
 mod NameLookups
 mod Indexing
 mod ClosureSteps

@@ -1,4 +1,6 @@
 pub mod Sweeps
 pub mod Keeping
+pub mod Widening
+pub mod Searching
 pub mod Announcing
 pub mod Turns

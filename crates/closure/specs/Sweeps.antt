@@ -44,3 +44,7 @@ named_in (Some e) = among (names e.slices)
 -- the names in the rows of a node, of either kind
 abbrev pub named_by : List Sent → ℕ → Names
 named_by table u w = named_in (row table u Kind.Ballot) w || named_in (row table u Nomination) w
+
+-- the names of a set that are not known yet
+abbrev pub unknown : List ℕ → Names → Names
+unknown known set u = not (among known u) && set u

@@ -9,6 +9,7 @@ ghost use Rattle.protocol.specs.Rows.{with_row};
 ghost use Rattle.protocol.specs.Satisfaction.{names};
 ghost use Rattle.protocol.specs.Sets.{AreWithin, IsAscending, also, among, within};
 ghost use Rattle.closure.specs.Keeping.{DropsNone, KeepsReach, kept_names};
+ghost use Rattle.closure.specs.Widening.{IsNarrow};
 
 use envstore::Places;
 use latest::Rows;
@@ -45,7 +46,7 @@ fn has_slices(row: Option<&Envelope>, slices: &Nested) -> bool
 /// slices. So it is where there is no such row.
 ///
 /// An envelope that drops none and names reached nodes alone leaves the reach as it is where the table takes
-/// it. It costs some searches by name, however many rows there are.
+/// it; one that drops none and is of a reached node adds to it whom it leads to. It costs some searches by name, however many rows there are.
 #[tactic(auto, using(crate::proofs::Dropped::none_dropped, crate::proofs::Dropped::dropped_found, crate::proofs::Dropped::reach_stays))]
 pub fn drops_none<S: Places>(
     alloc: Global,
@@ -55,6 +56,7 @@ pub fn drops_none<S: Places>(
     envelope: &Envelope,
 ) -> Result<bool, AllocError>
     ensures exactly { IfOk result (λ b. IsTrue b ↔ DropsNone node.now slices.now table.now envelope.now) }
+    ensures narrow { IfOk result (λ b. IsTrue b → (reach : List ℕ) → IsTrue (among reach envelope.now.sender) → IsReach node.now slices.now table.now reach → IsNarrow node.now slices.now (with_row envelope.now table.now) envelope.now.sender reach) }
     ensures stays { IfOk result (λ b. IsTrue b → (reach : List ℕ) → AreWithin (among (names envelope.now.slices)) (among reach) → IsReach node.now slices.now table.now reach → IsReach node.now slices.now (with_row envelope.now table.now) reach) }
 {
     match table.row(envelope.sender(), envelope.body().kind()) {

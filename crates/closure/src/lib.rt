@@ -12,6 +12,7 @@ mod keeping;
 mod of_journal;
 mod of_table;
 mod ready;
+mod search;
 mod sweep;
 mod turns;
 
@@ -19,4 +20,5 @@ pub use announcing::{Announcement, Announcements};
 pub use closure_list::ClosureList;
 pub use keeping::{drops_none, keeps_reach};
 pub use of_journal::closure;
-pub use of_table::reach;
+pub use of_table::{reach, reach_among, wider_reach};
+pub use search::KnownNodes;

@@ -2,8 +2,9 @@
 
 ghost use Rattle.std.specs.Prelude.{◌≡◌, [], IfOk, OnOk, MatchOption};
 ghost use Rattle.protocol.specs.Sets.{among, IsAscending};
-ghost use Rattle.closure.specs.Sweeps.{AreNoted, IsTaken, just};
+ghost use Rattle.closure.specs.Sweeps.{AreNoted, IsTaken, just, unknown};
 
+use slices::is_among;
 use std::alloc::{AllocError, Global};
 use std::collections::BTreeSet;
 use std::marker::Model;
@@ -51,15 +52,28 @@ impl Sweep {
         Ok(())
     }
 
-    /// Notes each of the nodes.
-    pub fn note_all(&mut self, nodes: &[NodeId]) -> Result<(), AllocError>
-        requires { IsAscending self.old.found }
-        ensures { OnOk result (AreNoted self.old self.new (among nodes.now)) }
+    /// Notes each of the nodes that is not known already. Those that are known ascend.
+    pub fn note_all(&mut self, nodes: &[NodeId], known: &[NodeId]) -> Result<(), AllocError>
+        requires found { IsAscending self.old.found }
+        requires known { IsAscending known.now }
+        ensures { OnOk result (AreNoted self.old self.new (unknown known.now (among nodes.now))) }
     {
         for node in nodes {
-            self.note(node)?;
+            self.note_unknown(node, known)?;
         }
         Ok(())
+    }
+
+    /// Notes a node that is not known already.
+    fn note_unknown(&mut self, node: &NodeId, known: &[NodeId]) -> Result<(), AllocError>
+        requires found { IsAscending self.old.found }
+        requires known { IsAscending known.now }
+        ensures { OnOk result (AreNoted self.old self.new (unknown known.now (just node.now))) }
+    {
+        if is_among(known, node) {
+            return Ok(());
+        }
+        self.note(node)
     }
 
     /// Takes a pending node, if there is one.

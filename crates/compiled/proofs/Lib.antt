@@ -5,4 +5,5 @@ pub mod Weights
 pub mod Sweeps
 pub mod Clearing
 pub mod Tallies
+pub mod Moves
 pub mod PassingWords

@@ -63,7 +63,7 @@ same_counts a b m n old now e f = subst (λ (q : ℕ × ℕ). IsAsked q.0 q.1 ol
 abbrev pub word_from : List ℕ → ℕ → ℕ → ℕ
 word_from ws index bit = get_or ws index 0 / 2 ^ bit
 
-next_word : (ws : List ℕ) (index bit : ℕ) → word_from ws index (bit + 1) ≡ word_from ws index bit / 2
+pub next_word : (ws : List ℕ) (index bit : ℕ) → word_from ws index (bit + 1) ≡ word_from ws index bit / 2
 next_word ws index bit = sym (shr-shr (get_or ws index 0) bit 1)
 
 bit_there : (p : ℕ → Bool) (ws : List ℕ) → ArePassing p ws → (index bit first : ℕ) → first ≡ index * 64 → bit < 64 → word_from ws index bit % 2 ≡ one_where (p (first + bit))
@@ -160,7 +160,7 @@ pub few_places : (ms : List Mask) (ws : List ℕ) → places_in ms ws ≤ count_
 few_places [] ws = omega arith
 few_places (m ∷ ms) ws = omega (arith, few_at m ws, few_places ms ws)
 
-places_at : (ms : List Mask) (i : ℕ) (d : Mask) (ws : List ℕ) → i < length ms → places_in (drop i ms) ws ≡ ones_at (get_or ms i d) ws + places_in (drop (i + 1) ms) ws
+pub places_at : (ms : List Mask) (i : ℕ) (d : Mask) (ws : List ℕ) → i < length ms → places_in (drop i ms) ws ≡ ones_at (get_or ms i d) ws + places_in (drop (i + 1) ms) ws
 places_at ms i d ws h =
     let next : suc i ≡ i + 1 = omega arith in
     go ms i h ∙ ap (λ j. ones_at (get_or ms i d) ws + places_in (drop j ms) ws) next
@@ -191,7 +191,7 @@ few_sets : (cs : List Compiled) (ws : List ℕ) → sets_met (sets_of cs) ws ≤
 few_sets [] ws = omega arith
 few_sets (c ∷ cs) ws = omega (arith, one_at_most (met c ws), few_sets cs ws)
 
-sets_at : (cs : List Compiled) (i : ℕ) (d : Compiled) (ws : List ℕ) → i < length cs → sets_met (sets_of (drop i cs)) ws ≡ one_where (met (get_or cs i d) ws) + sets_met (sets_of (drop (i + 1) cs)) ws
+pub sets_at : (cs : List Compiled) (i : ℕ) (d : Compiled) (ws : List ℕ) → i < length cs → sets_met (sets_of (drop i cs)) ws ≡ one_where (met (get_or cs i d) ws) + sets_met (sets_of (drop (i + 1) cs)) ws
 sets_at cs i d ws h =
     let next : suc i ≡ i + 1 = omega arith in
     go cs i h ∙ ap (λ j. one_where (met (get_or cs i d) ws) + sets_met (sets_of (drop j cs)) ws) next

@@ -1,5 +1,6 @@
 pub mod Places
 pub mod Met
+pub mod Moving
 pub mod Searching
 pub mod Answering
 pub mod Asking

@@ -93,3 +93,18 @@ pub fn place_of(nodes: &[NodeId], node: &NodeId) -> Option<usize>
 {
     nodes.binary_search(node).ok()
 }
+
+/// The place of a node, if it has one: this one, if the node stands there, or else it is searched for. So nodes in
+/// order cost a search only where others stand between.
+pub fn place_near(nodes: &[NodeId], first: usize, node: &NodeId) -> Option<usize>
+    requires { IsAscending nodes.now }
+    ensures exactly { is_some result ≡ among nodes.now node.now }
+    ensures place { IfSome result (λ i. (i < length nodes.now) × (get_or nodes.now i 0 ≡ node.now)) }
+{
+    if let Some(there) = nodes.get(first) {
+        if *there == *node {
+            return Some(first);
+        }
+    }
+    place_of(nodes, node)
+}

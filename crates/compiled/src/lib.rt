@@ -7,13 +7,15 @@ mod asking;
 mod compiling;
 mod form;
 mod mask;
+mod moving;
 mod places;
 mod search;
 mod set;
 
 pub use asking::{Passing, is_met_by};
-pub use compiling::{compile, has_places, place_of};
+pub use compiling::{compile, has_places, place_near, place_of};
 pub use form::Form;
+pub use moving::relocate;
 pub use places::{add_place, has_place, no_places};
 pub use search::in_quorum;
 pub use set::{CompiledSet, is_met};

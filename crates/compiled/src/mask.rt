@@ -1,6 +1,6 @@
 //! Places in one word.
 
-ghost use Rattle.std.specs.Prelude.{◌≡◌, ◌+◌, ◌-◌, ◌<◌, ◌≤◌, ℕ, List, IfOk, IfSome, OnOk, get_or, length, bit_and};
+ghost use Rattle.std.specs.Prelude.{◌≡◌, ◌%◌, ◌*◌, ◌+◌, ◌-◌, ◌/◌, ◌<◌, ◌^◌, ◌≤◌, ℕ, List, IfOk, IfSome, OnOk, get_or, length, bit_and};
 ghost use Rattle.compiled.specs.Places.{bit_of, count_in, ones_at, places_in, is_free};
 
 use std::alloc::AllocError;
@@ -38,9 +38,28 @@ pub(crate) fn add_place(masks: &mut Vec<Mask>, place: usize) -> Result<(), Alloc
     ensures places { OnOk result ((ws : List ℕ) → places_in masks.new.items ws ≡ places_in masks.old.items ws + bit_of ws place) }
     ensures count { OnOk result (count_in masks.new.items ≤ count_in masks.old.items + 1) }
 {
+    let found = mask_without(masks, place / 64, 1u64 << (place % 64));
+    put_place(masks, place, found)
+}
+
+/// The same for places that mostly come in order: the last mask alone is looked at.
+pub(crate) fn add_place_behind(masks: &mut Vec<Mask>, place: usize) -> Result<(), AllocError>
+    ensures places { OnOk result ((ws : List ℕ) → places_in masks.new.items ws ≡ places_in masks.old.items ws + bit_of ws place) }
+    ensures count { OnOk result (count_in masks.new.items ≤ count_in masks.old.items + 1) }
+{
+    let found = last_without(masks, place / 64, 1u64 << (place % 64));
+    put_place(masks, place, found)
+}
+
+/// Adds a place: to this mask, which is of its word and has not got it, or else as a mask of its own.
+fn put_place(masks: &mut Vec<Mask>, place: usize, found: Option<usize>) -> Result<(), AllocError>
+    requires { IfSome found (λ i. (i < length masks.old.items) × is_free (place / 64) ((1 * 2 ^ (place % 64)) % 2 ^ 64) (get_or masks.old.items i (record { index = 0; bits = 0 }))) }
+    ensures places { OnOk result ((ws : List ℕ) → places_in masks.new.items ws ≡ places_in masks.old.items ws + bit_of ws place) }
+    ensures count { OnOk result (count_in masks.new.items ≤ count_in masks.old.items + 1) }
+{
     let index = place / 64;
     let bit = 1u64 << (place % 64);
-    match mask_without(masks, index, bit) {
+    match found {
         None => {
             masks.push(Mask { index, bits: bit })?;
             Ok(())
@@ -50,6 +69,21 @@ pub(crate) fn add_place(masks: &mut Vec<Mask>, place: usize) -> Result<(), Alloc
             masks[found] = Mask { index, bits };
             Ok(())
         }
+    }
+}
+
+/// The last mask, if it is of this word and has not got the bit.
+fn last_without(masks: &[Mask], index: usize, bit: u64) -> Option<usize>
+    ensures { IfSome result (λ i. (i < length masks.now) × is_free index bit (get_or masks.now i (record { index = 0; bits = 0 }))) }
+{
+    let Some(last) = masks.len().checked_sub(1) else {
+        return None;
+    };
+    let mask = &masks[last];
+    if mask.bits & bit == 0 && mask.index == index {
+        Some(last)
+    } else {
+        None
     }
 }
 

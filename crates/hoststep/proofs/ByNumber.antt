@@ -6,7 +6,7 @@ use Rattle.std.specs.List.Sorted.{IsBinarySearchResult}
 use Rattle.std.specs.Ordering.{nat_cmp}
 use Rattle.std.proofs.lemmas.Bool.Decides.{nat_tests}
 use Rattle.protocol.specs.Sets.{IsAscending}
-use Rattle.closure.proofs.Noted.{IsPlace, ascending_insert, is_place}
+use Rattle.hoststep.proofs.Inserting.{IsPlace, ascending_insert, is_place}
 use Rattle.configuration.specs.Configs.{index_in}
 use Rattle.configuration.proofs.Names.{place-found, place-nowhere}
 use Rattle.std.specs.Global.{Global}

@@ -3,6 +3,7 @@ mod Listing
 pub mod Growing
 mod Spelled
 pub mod Histories
+mod Inserting
 mod ByNumber
 mod OutsAt
 mod Configured

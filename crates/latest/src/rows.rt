@@ -105,8 +105,8 @@ impl<'a, S: envstore::Places> Rows<'a, S> {
         }
     }
 
-    /// The row at the place of a sender's row of a kind, if it has one.
-    fn row_where(&self, place: RowPlace) -> Option<&'a Envelope>
+    /// The row at the place of a sender's row of a kind, if it has one. It takes no memory.
+    pub fn row_where(&self, place: RowPlace) -> Option<&'a Envelope>
         ensures { (u : ℕ) (kind : Kind) → place ≡ place_of self.now u kind → option_map (λ r. r.now) result ≡ row self.now u kind }
     {
         match place.get() {

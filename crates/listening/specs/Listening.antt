@@ -7,7 +7,7 @@ use Rattle.protocol.specs.Rows.{with_row}
 use Rattle.view.specs.declared.known_reach.KnownReach.{KnownReach}
 use Rattle.view.specs.declared.region.Region.{Region}
 use Rattle.view.specs.Knowing.{AreBallotsOf, AreValuesOf, IsKnown}
-use Rattle.view.specs.Regions.{IsEntry, IsRegion}
+use Rattle.view.specs.Regions.{IsEntry, IsKeptRegion, IsOfExtent, IsRegion}
 use Rattle.protocol.specs.Sets.{among}
 use Rattle.latest.specs.declared.table.Put.{Put}
 use Rattle.envstore.specs.declared.filed.Filed.{Filed}
@@ -15,7 +15,7 @@ use Rattle.envstore.specs.Archives.{sent_of, sents_of}
 use Rattle.latest.specs.declared.table.Put.TheVariants.{Stale, NoMemory, Added, Replaced}
 use Rattle.listening.specs.declared.configured.Configured.{Configured}
 use Rattle.listening.specs.declared.known.Effect.{Effect}
-use Rattle.listening.specs.declared.known.Effect.TheVariants.{Nothing, Sets, Forgets}
+use Rattle.listening.specs.declared.known.Effect.TheVariants.{Nothing, Sets, Reach, Forgets}
 
 -- a node, and the table of the envelopes that it took, as they were filed
 pub record Heard : Type 0 where
@@ -47,10 +47,12 @@ abbrev pub KnowsLists : Configured → List Sent → Option KnownReach → Type 
 KnowsLists c table known =
     IfSome known (λ k. IfSome k.ballots (λ b. AreBallotsOf c.name table k.region.nodes.items b) × IfSome k.values (λ v. AreValuesOf c.name table k.region.nodes.items v))
 
--- what an envelope does to the region that such a node knows where the table takes it: nothing, one entry is set, or it is not known any more
+-- what an envelope does to the region that such a node knows where the table takes it: nothing, one entry is set, the reach is of some extent then and the region one of before, or it is not known any more
 abbrev pub IsEffect : Configured → List Sent → Sent → Option Region → Effect → Type 0
 IsEffect c table e region Nothing = KnowsRegion c table region → KnowsRegion c (with_row e table) region
 IsEffect c table e region (Sets x) = IfSome region (λ r. IsEntry c.name c.slices table e r x)
+IsEffect c table e region (Reach extent) =
+    IfSome region (λ r. IsRegion c.name c.slices table r → IsKeptRegion c.name c.slices (with_row e table) e.sender r × IsOfExtent c.name c.slices (with_row e table) e.sender r.nodes.items extent)
 IsEffect c table e region Forgets = ⊤
 
 -- a node that is not among those that are reached

@@ -2,7 +2,7 @@
 //! comes leaves its region, changes one entry of it, or makes it unknown. Where it stays known, the ballots and the
 //! nominated values that are listed follow the row.
 
-ghost use Rattle.std.specs.Prelude.{◌≡◌, IfOk, IsTrue, List, None, Some, is_some, box_value, option_map};
+ghost use Rattle.std.specs.Prelude.{◌≡◌, IfOk, IfSome, IsTrue, List, None, Some, is_some, box_value, option_map};
 ghost use Rattle.envstore.specs.Archives.{AreFiled, IsFiled, sent_of, sents_of};
 ghost use Rattle.latest.specs.Puts.{IsFiledPut, IsPut, undone};
 ghost use Rattle.protocol.specs.Rows.{with_row};
@@ -12,13 +12,14 @@ ghost use Rattle.listening.specs.declared.configured.Configured.{Configured};
 ghost use Rattle.listening.specs.Listening.{IsEffect, KnowsLists, KnowsReach, KnowsRegion, is_put, reach_in, region_of, replaced};
 ghost use Rattle.types.specs.Statements.{Sent};
 ghost use Rattle.view.specs.Knowing.{IsKnown, IsTaken};
+ghost use Rattle.view.specs.Regions.{IsKeptRegion, IsOfExtent};
 
 use crate::configured::Configured;
 use envstore::{Archive, Filed, Places};
 use latest::{Put, Rows, Table};
 use std::alloc::{AllocError, Global};
 use types::Envelope;
-use view::{Entry, KnownReach, Region, Taken};
+use view::{Change, Entry, Extent, KnownReach, NewReach, Region, Taken};
 
 /// What a row does to the region that is known.
 #[derive(Drop)]
@@ -27,6 +28,8 @@ pub(crate) enum Effect {
     Nothing,
     /// This entry is set.
     Sets(Entry),
+    /// Whom the node reaches is of this extent.
+    Reach(Extent),
     /// It is not known any more.
     Forgets,
 }
@@ -89,41 +92,50 @@ pub(crate) fn copy_of_known(
     }
 }
 
-/// Puts the row into the table. What is known is afterwards as the row wants it; where memory is
-/// short for that, nothing is known, and the put goes on. Where something is known still, the node reaches
-/// whom it reached before.
+/// Puts the row into the table, and says whether the node surely reaches whom it reached before. What is known is
+/// afterwards as the row wants it; where memory is short for that, nothing is known, and the put goes on.
 pub(crate) fn put_row<S: Places>(
     alloc: Global,
     configured: &Configured,
     table: &mut Table,
     known: &mut Option<Box<KnownReach>>,
     row: FiledRow<'_, S>,
-) -> Put
+) -> (Put, bool)
     requires rows { AreFiled row.archive.now table.old }
     requires envelope { IsFiled row.archive.now row.envelope }
     requires known { KnowsReach configured.now (sents_of table.old) (reach_in known.old) }
-    ensures put { IsPut table.old (sent_of row.entry.envelope) result table.new }
-    ensures back { undone result table.new ≡ table.old }
+    ensures put { IsPut table.old (sent_of row.entry.envelope) result.0 table.new }
+    ensures back { undone result.0 table.new ≡ table.old }
     ensures known { KnowsReach configured.now (sents_of table.new) (reach_in known.new) }
-    ensures reach { IsTrue (is_some known.new) → KeepsReach configured.now.name configured.now.slices (sents_of table.old) (sents_of table.new) }
+    ensures reach { IsTrue result.1 → KeepsReach configured.now.name configured.now.slices (sents_of table.old) (sents_of table.new) }
     ensures filed { AreFiled row.entry.archive.now table.new }
-    ensures replaced { IsFiledPut row.entry.archive.now result }
+    ensures replaced { IsFiledPut row.entry.archive.now result.0 }
 {
-    // What memory the region wants, it wants before the table changes.
+    // What memory an entry wants, it wants before the table changes.
     let effect = effect_of(alloc, configured, known, table, &row);
     let FiledRow { archive, envelope } = row;
     let copy = archive.copy_of(&envelope);
     let put = table.put(archive, envelope);
-    if is_put(&put) {
-        apply(known, effect);
-        let heard = HeardRow {
-            archive,
-            envelope: &copy,
-            put: &put,
-        };
-        hear(alloc, known, configured, table, heard);
+    if !is_put(&put) {
+        return (put, false);
     }
-    put
+    let heard = HeardRow {
+        archive,
+        envelope: &copy,
+        put: &put,
+    };
+    match effect {
+        Effect::Reach(extent) => {
+            change(alloc, known, configured, table, (heard, extent));
+            (put, false)
+        }
+        effect => {
+            apply(known, effect);
+            hear(alloc, known, configured, table, heard);
+            // A region that is known still is of the nodes that were reached before.
+            (put, known.is_some())
+        }
+    }
 }
 
 /// What the row does to the region that is known where the table takes it.
@@ -163,14 +175,14 @@ fn effect_on<S: Places>(
     if region.stays(rows, envelope) {
         return Effect::Nothing;
     }
-    match region.entry_for(alloc, configured.own(), rows, envelope) {
-        Ok(Some(entry)) => Effect::Sets(entry),
-        Ok(None) => Effect::Forgets,
+    match region.change_by(alloc, configured.own(), rows, envelope) {
+        Ok(Change::Sets(entry)) => Effect::Sets(entry),
+        Ok(Change::Reach(extent)) => Effect::Reach(extent),
         Err(_) => Effect::Forgets,
     }
 }
 
-/// Does it. The ballots and values that are listed stay as they are.
+/// Does it where the nodes that are reached stay. The ballots and values that are listed stay as they are.
 fn apply(known: &mut Option<Box<KnownReach>>, effect: Effect)
     ensures known { (c : Configured) (table : List Sent) (e : Sent) → IsEffect c table e (region_of (reach_in known.old)) effect → KnowsRegion c table (region_of (reach_in known.old)) → KnowsRegion c (with_row e table) (region_of (reach_in known.new)) }
     ensures reach { IsTrue (is_some known.new) → (c : Configured) (table : List Sent) (e : Sent) → IsEffect c table e (region_of (reach_in known.old)) effect → KnowsRegion c table (region_of (reach_in known.old)) → KeepsReach c.name c.slices table (with_row e table) }
@@ -183,7 +195,7 @@ fn apply(known: &mut Option<Box<KnownReach>>, effect: Effect)
                 known.region.set_entry(entry);
             }
         }
-        Effect::Forgets => *known = None,
+        Effect::Reach(_) | Effect::Forgets => *known = None,
     }
 }
 
@@ -193,6 +205,36 @@ struct HeardRow<'a, S: Places> {
     archive: &'a Archive<S>,
     envelope: &'a Filed,
     put: &'a Put,
+}
+
+/// Has the region follow a row that the table has now, and by which the node reaches others, if it was asked for since it
+/// followed another one. Else, and where memory is short, nothing is known.
+fn change<S: Places>(
+    alloc: Global,
+    known: &mut Option<Box<KnownReach>>,
+    configured: &Configured,
+    table: &Table,
+    heard: (HeardRow<'_, S>, Extent),
+)
+    requires rows { AreFiled heard.0.archive.now table.now }
+    requires envelope { IsFiled heard.0.archive.now heard.0.envelope.now }
+    requires kept { IfSome (region_of (reach_in known.old)) (IsKeptRegion configured.now.name configured.now.slices (sents_of table.now) (sent_of heard.0.envelope.now).sender) }
+    requires extent { IfSome (region_of (reach_in known.old)) (λ r. IsOfExtent configured.now.name configured.now.slices (sents_of table.now) (sent_of heard.0.envelope.now).sender r.nodes.items heard.1) }
+    ensures { KnowsReach configured.now (sents_of table.now) (reach_in known.new) }
+{
+    let Some(mut reach) = known.take() else {
+        return;
+    };
+    if !reach.is_asked {
+        return;
+    }
+    let (row, extent) = heard;
+    let rows = Rows::of(table, row.archive);
+    let sender = row.archive.read(row.envelope).sender();
+    let by = NewReach { sender, extent };
+    if let Ok(()) = reach.change(alloc, configured.own(), &rows, by) {
+        *known = Some(reach);
+    }
 }
 
 /// Has the ballots and values that are listed follow a row that the table has now, where the region does already.

@@ -20,9 +20,10 @@ use view::KnownReach;
 
 /// Who a node is, and the rows that it has.
 ///
-/// The nodes that it reaches and their slices, compiled, are kept from one event to the next, until a row
-/// or slices come that may change the reach. A reached node's row that surely leaves it, and has slices that
-/// are new there, changes one entry. With them the ballots are kept that rows of reached nodes speak of, in order, and the
+/// The nodes that it reaches and their slices, compiled, are kept from one event to the next. A reached node's row that
+/// surely leaves the reach, and has slices that are new there, changes one entry; after one by which the node reaches
+/// others they are what the table gives then, if they were asked for since the last such row, and else they are forgotten, as
+/// where the node's own slices change. With them the ballots are kept that rows of reached nodes speak of, in order, and the
 /// values that their nominations do, once the owner has listed them: such a row adds its own, and takes away the ballots
 /// that the row before it alone spoke of.
 ///
@@ -142,15 +143,13 @@ impl Listener {
         ensures filed { AreFiled archive.now self.new.table }
         ensures known { IsFiledPut archive.now result.0 }
     {
-        let put = put_row(
+        put_row(
             alloc,
             &self.configured,
             &mut self.table,
             &mut self.known,
             FiledRow { archive, envelope },
-        );
-        // Slices that are known still are those of the nodes that were reached before.
-        (put, self.known.is_some())
+        )
     }
 
     /// Undoes a put, as [`Table::undo`] does.
@@ -194,11 +193,12 @@ impl Listener {
         Ok(known)
     }
 
-    /// Keeps what is known of the node's reach, until a row or slices come that may change it.
-    pub fn keep_reach(&mut self, known: Box<KnownReach>)
+    /// Keeps what is known of the node's reach, for whoever asks next.
+    pub fn keep_reach(&mut self, mut known: Box<KnownReach>)
         requires { IsKnownOf self.old (box_value known) }
         ensures { self.new ≡ self.old }
     {
+        known.is_asked = true;
         self.known = Some(known);
     }
 }

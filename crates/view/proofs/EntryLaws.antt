@@ -49,7 +49,7 @@ other_kind k e u h = go (e.sender == u)
     go false = refl
 
 -- they are a node's own, or another's that the row is not of
-slices_same : (own : ℕ) (configured : Slices) (table : List Sent) (e : Sent) (k : Kind) (u : ℕ) → ((own == u) ≡ true) ⊎ (is_row_of u k e ≡ false)
+pub slices_same : (own : ℕ) (configured : Slices) (table : List Sent) (e : Sent) (k : Kind) (u : ℕ) → ((own == u) ≡ true) ⊎ (is_row_of u k e ≡ false)
     → slices_by own configured table k u ≡ slices_by own configured (with_row e table) k u
 slices_same own configured table e k u (inl h) =
     ap (λ b. if b then Some configured else option_map (λ (x : Sent). x.slices) (row table u k)) h

@@ -1,16 +1,17 @@
 -- A form of slices is one of a list, or new; and so a list of forms grows, and changes at a place.
-use Rattle.std.proofs.Common.{◌≡◌, ◌⊎◌, ℕ, suc, zero, ◌<◌, ◌≤◌, false, ◌==◌, List, [], ◌∷◌, ◌++◌, get_or, set, length, Option, Some, None, unwrap_or, sym, subst, ◌∙◌, ap, arith, inl, inr}
+use Rattle.std.proofs.Common.{◌≡◌, ◌≢◌, ◌⊎◌, ℕ, suc, zero, ◌<◌, ◌≤◌, true, false, ◌==◌, List, [], ◌∷◌, ◌++◌, get_or, set, length, Option, Some, None, unwrap_or, sym, subst, ◌∙◌, ap, arith, inl, inr}
 use Rattle.std.proofs.lemmas.Bool.{cases_Bool, cases_lt, eq-eqb, eqb-true, true≢false}
 use Rattle.std.proofs.lemmas.List.{get_or-set_same, get_or-set_other, get_or_append_left, length-append}
+use Rattle.std.proofs.lemmas.List.Folds.{list_any_at}
 use Rattle.std.proofs.Math.Seq.{get_or-append_seam}
 use Rattle.types.specs.Trees.{Slices}
-use Rattle.protocol.specs.Sets.{among}
-use Rattle.protocol.specs.Satisfaction.{sat}
+use Rattle.protocol.specs.Sets.{AreWithin, among}
+use Rattle.protocol.specs.Satisfaction.{names, sat}
 use Rattle.protocol.specs.Quorums.{is_satisfied}
 use Rattle.compiled.specs.Places.{Numbered}
 use Rattle.compiled.specs.Met.{IsCompiled, picked}
 use Rattle.compiled.specs.Searching.{AreAgreed, AreCompiled, met_at}
-use Rattle.view.specs.Forms.{AreBelow, ArePart, Fits, IsFound, IsFoundWithin, IsTwin, MayJoin}
+use Rattle.view.specs.Forms.{AreBelow, ArePart, Fits, IsFormer, IsFound, IsFoundWithin, IsTwin, MayJoin}
 
 same_form : (f g : Numbered) → Some f ≡ Some g → f ≡ g
 same_form f g h = ap (λ (o : Option Numbered). unwrap_or o f) h
@@ -130,3 +131,16 @@ below_set fs p f n m room more small below i g at = elim (at_set fs p f room i g
 
 pub below_more : (fs : List (Option Numbered)) (n m : ℕ) → n < m → AreBelow n fs → AreBelow m fs
 below_more fs n m more below i g at = omega (arith, more, below i g at)
+
+-- ---- forms of a region of other nodes
+-- what it has of a node whose rows are the same is the form of the slices that the node has, which name nodes alone that are in both
+pub form_again : (all us places : List ℕ) (slices_at : ℕ → Option Slices) (fs : List (Option Numbered)) (sender : ℕ) → IsFormer all slices_at us fs places sender
+    → (u : ℕ) (q : Slices) (i : ℕ) (f : Numbered) → i < length us → get_or us i 0 ≡ u → u ≢ sender → get_or fs i None ≡ Some f → slices_at u ≡ Some q → among all u ≡ true
+    → IsCompiled false us q f.set × AreWithin (among (names q)) (among us) × AreWithin (among (names q)) (among all)
+form_again all us places slices_at fs sender former u q i f inside node other there its listed = (
+  λ ws. ap (λ (o : Option Numbered). met_at o ws) (sym there)
+      ∙ (former.forms i inside (λ same. other (sym node ∙ same)) ws
+      ∙ ap (λ (o : Option Slices). is_satisfied sat o (among (picked us ws))) (ap slices_at node ∙ its)),
+  former.within u q (list_any_at (λ y. y == u) us i 0 inside (eq-eqb (get_or us i 0) u node)) other its,
+  former.closed u q listed its,
+)

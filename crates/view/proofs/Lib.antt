@@ -14,3 +14,4 @@ pub mod Leaving
 pub mod Following
 pub mod Knowing
 pub mod QuorumLaws
+pub mod KeptLaws

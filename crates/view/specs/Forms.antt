@@ -1,12 +1,14 @@
 -- Forms of slices that a list keeps, told by their numbers.
-use Rattle.std.specs.Prelude.{◌≡◌, ◌⊎◌, ℕ, ◌<◌, List, false, IsTrue, Option, Some, None, get_or, length}
+use Rattle.std.specs.Prelude.{◌≡◌, ◌≢◌, ◌⊎◌, ℕ, ◌<◌, List, false, IsTrue, Option, Some, None, get_or, length}
 use Rattle.types.specs.Trees.{Slices}
-use Rattle.protocol.specs.Sets.{among, within}
+use Rattle.protocol.specs.Sets.{AreWithin, among, within}
 use Rattle.protocol.specs.Satisfaction.{names, sat}
-use Rattle.protocol.specs.Quorums.{is_satisfied}
+use Rattle.protocol.specs.Quorums.{NamesWithin, is_satisfied}
 use Rattle.compiled.specs.Places.{Numbered}
 use Rattle.compiled.specs.Met.{IsCompiled, picked}
+use Rattle.compiled.specs.Moving.{AreMoved}
 use Rattle.compiled.specs.Searching.{AreAgreed, met_at}
+use Rattle.view.specs.declared.forms.Former.{Former}
 
 -- the numbers of all forms are below this one
 abbrev pub AreBelow : ℕ → List (Option Numbered) → Type 0
@@ -43,3 +45,32 @@ pub record MayJoin (us : List ℕ) (fs : List (Option Numbered)) (n : ℕ) (q : 
   pub compiled : IsCompiled false us q f.set
   pub fits : Fits f fs
   pub below : f.number < n
+
+-- ---- forms of a region of other nodes
+-- these nodes, but for one of them, have these forms, of their slices
+abbrev pub AreFormsBut : ℕ → List ℕ → (ℕ → Option Slices) → List (Option Numbered) → Type 0
+AreFormsBut sender us slices_at fs =
+    (i : ℕ) → i < length us → get_or us i 0 ≢ sender → (ws : List ℕ) → met_at (get_or fs i None) ws ≡ is_satisfied sat (slices_at (get_or us i 0)) (among (picked us ws))
+
+-- the slices of these nodes, but for one of them, name no others
+abbrev pub NameWithinBut : ℕ → List ℕ → (ℕ → Option Slices) → Type 0
+NameWithinBut sender us slices_at = (u : ℕ) (q : Slices) → IsTrue (among us u) → u ≢ sender → slices_at u ≡ Some q → AreWithin (among (names q)) (among us)
+
+-- nodes with the forms of their slices, which name no others, but for those of one node; where they stand among all; and the slices of all name none but these
+pub record IsFormer (all : List ℕ) (slices_at : ℕ → Option Slices) (us : List ℕ) (fs : List (Option Numbered)) (places : List ℕ) (sender : ℕ) : Type 0 where
+  pub moved : AreMoved us all places
+  pub forms : AreFormsBut sender us slices_at fs
+  pub within : NameWithinBut sender us slices_at
+  pub closed : NamesWithin names slices_at (among all)
+
+-- so it is with these
+abbrev pub IsFormerOf : List ℕ → (ℕ → Option Slices) → Former → Type 0
+IsFormerOf all slices_at f = IsFormer all slices_at f.nodes.now f.forms.now f.places.now f.sender.now
+
+-- the form is that of a node, another than that one
+pub record IsFormOf (f : Former) (u : ℕ) (form : Numbered) : Type 0 where
+  pub place : ℕ
+  pub inside : place < length f.nodes.now
+  pub node : get_or f.nodes.now place 0 ≡ u
+  pub another : u ≢ f.sender.now
+  pub there : get_or f.forms.now place None ≡ Some form

@@ -1,5 +1,5 @@
 -- The nodes that a node reaches, and slices compiled against them.
-use Rattle.std.specs.Prelude.{◌≡◌, ◌≢◌, ℕ, ◌<◌, List, Option, get_or, length, map, true}
+use Rattle.std.specs.Prelude.{◌≡◌, ◌≢◌, ℕ, ◌<◌, List, Option, get_or, length, map, true, ⊤}
 use Rattle.types.specs.Trees.{Slices}
 use Rattle.types.specs.Statements.{Sent, kind_of}
 use Rattle.types.specs.declared.kind.Kind.{Kind}
@@ -7,12 +7,20 @@ use Rattle.types.specs.declared.kind.Kind.TheVariants.{Nomination}
 use Rattle.protocol.specs.Backing.{slices_by}
 use Rattle.protocol.specs.Reach.{IsReach}
 use Rattle.protocol.specs.Rows.{with_row}
+use Rattle.protocol.specs.Sets.{IsAscending}
+use Rattle.closure.specs.Searching.{ArePlacesBut}
+use Rattle.closure.specs.Widening.{IsNarrow}
 use Rattle.compiled.specs.Met.{IsCompiled}
 use Rattle.compiled.specs.Places.{Numbered}
 use Rattle.compiled.specs.Searching.{AreCompiled}
-use Rattle.view.specs.Forms.{AreBelow, MayJoin}
+use Rattle.view.specs.Forms.{AreBelow, AreFormsBut, IsFormer, MayJoin, NameWithinBut}
 use Rattle.latest.specs.Places.{place_of}
+use Rattle.view.specs.declared.changing.Extent.{Extent}
+use Rattle.view.specs.declared.changing.Extent.TheVariants.{Wider, Other}
+use Rattle.view.specs.declared.region.Change.{Change}
+use Rattle.view.specs.declared.region.Change.TheVariants.{Sets, Reach}
 use Rattle.view.specs.declared.region.Entry.{Entry}
+use Rattle.view.specs.declared.region.FormerRegion.{FormerRegion}
 use Rattle.view.specs.declared.region.Region.{Region}
 
 -- where the rows of a kind that these nodes have stand in a table, in the order of the nodes
@@ -59,3 +67,29 @@ pub record IsEntry (own : ℕ) (configured : Slices) (table : List Sent) (e : Se
   pub form : AreCompiled r.nodes.items (slices_by own configured table (kind_of e.body)) (forms_of (kind_of e.body) r) → AreBelow r.numbers (forms_of (kind_of e.body) r)
       → MayJoin r.nodes.items (forms_of (kind_of e.body) r) x.numbers e.slices x.slices
   pub row : place_of (with_row e table) e.sender (kind_of e.body) ≡ x.row
+
+-- The region of an earlier table, of which the rows of one reached node may be others since: the slices of the other nodes are compiled, and name no other nodes, and the places of their rows are kept.
+pub record IsKeptRegion (own : ℕ) (configured : Slices) (table : List Sent) (sender : ℕ) (r : Region) : Type 0 where
+  pub ascending : IsAscending r.nodes.items
+  pub ballots : AreFormsBut sender r.nodes.items (slices_by own configured table Kind.Ballot) r.ballots.items
+  pub nominations : AreFormsBut sender r.nodes.items (slices_by own configured table Nomination) r.nominations.items
+  pub ballot_names : NameWithinBut sender r.nodes.items (slices_by own configured table Kind.Ballot)
+  pub nomination_names : NameWithinBut sender r.nodes.items (slices_by own configured table Nomination)
+  pub ballot_rows : ArePlacesBut sender table Kind.Ballot r.nodes.items r.ballot_rows.items
+  pub nomination_rows : ArePlacesBut sender table Nomination r.nodes.items r.nomination_rows.items
+
+-- a wider reach is that of these nodes, and of those to whom the sender's rows lead
+abbrev pub IsOfExtent : ℕ → Slices → List Sent → ℕ → List ℕ → Extent → Type 0
+IsOfExtent own configured table sender nodes Wider = IsNarrow own configured table sender nodes
+IsOfExtent own configured table sender nodes Other = ⊤
+
+-- a region of other nodes: where its nodes stand among all, and their slices, compiled, which name none but these; but for one of them
+pub record IsFormerRegion (own : ℕ) (configured : Slices) (table : List Sent) (nodes : List ℕ) (f : FormerRegion) : Type 0 where
+  pub ballots : IsFormer nodes (slices_by own configured table Kind.Ballot) f.region.now.nodes.items f.region.now.ballots.items f.places.now f.sender.now
+  pub nominations : IsFormer nodes (slices_by own configured table Nomination) f.region.now.nodes.items f.region.now.nominations.items f.places.now f.sender.now
+
+-- what an envelope of another reached node changes in a region where the table takes it: an entry is set, or the reach is of this extent, and the region one of before
+abbrev pub IsChange : ℕ → Slices → List Sent → Sent → Region → Change → Type 0
+IsChange own configured table e r (Sets x) = IsEntry own configured table e r x
+IsChange own configured table e r (Reach extent) =
+    IsRegion own configured table r → IsKeptRegion own configured (with_row e table) e.sender r × IsOfExtent own configured (with_row e table) e.sender r.nodes.items extent

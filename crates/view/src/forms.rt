@@ -6,11 +6,11 @@ ghost use Rattle.protocol.specs.Satisfaction.{names};
 ghost use Rattle.protocol.specs.Sets.{IsAscending, among, within};
 ghost use Rattle.compiled.specs.Met.{IsCompiled};
 ghost use Rattle.compiled.specs.Searching.{AreCompiled};
-ghost use Rattle.view.specs.Forms.{ArePart, AreBelow, IsFound, IsFoundWithin, IsTwin};
+ghost use Rattle.view.specs.Forms.{ArePart, AreBelow, IsFormOf, IsFormerOf, IsFound, IsFoundWithin, IsTwin};
 
 use crate::own::Own;
 use crate::reached::ReachedRows;
-use compiled::{Form, compile, has_places};
+use compiled::{Form, compile, has_places, place_of, relocate};
 use envstore::Places;
 use std::alloc::{AllocError, Global};
 use types::{Nested, NodeId};
@@ -22,30 +22,64 @@ pub(crate) struct Candidates<'a> {
     pub places: (usize, usize),
 }
 
-/// A node's name and slices, the nodes that it reaches, and their rows of one kind.
+/// The forms of one kind in a region of other nodes, where these stand among all, and the one node whose rows may be
+/// others since.
+#[derive(Clone, Copy)]
+pub(crate) struct Former<'a> {
+    pub nodes: &'a [NodeId],
+    pub forms: &'a [Option<Form>],
+    pub places: &'a [usize],
+    pub sender: &'a NodeId,
+}
+
+impl<'a> Former<'a> {
+    /// The form of a node whose rows are the same still, if it has one there.
+    fn form_of(&self, node: &NodeId) -> Option<&'a Form>
+        requires { IsAscending self.now.nodes.now }
+        ensures { IfSome result (λ f. IsFormOf self.now node.now f.now) }
+    {
+        if *node == *self.sender {
+            return None;
+        }
+        match place_of(self.nodes, node) {
+            None => None,
+            Some(place) => form_in(self.forms, place),
+        }
+    }
+}
+
+/// A node's name and slices, the nodes that it reaches, and their rows of one kind; and the forms of a region of other
+/// nodes, where there is one.
 #[derive(Drop)]
 pub(crate) struct SlicesInReach<'a, S: Places> {
     own: &'a NodeId,
     slices: &'a Nested,
     rows: ReachedRows<'a, S>,
+    former: Option<Former<'a>>,
 }
 
 impl<'a, S: Places> SlicesInReach<'a, S> {
     /// The nodes that the node with this name and these slices reaches, by their rows.
-    pub(crate) fn new(own: Own<'a>, rows: ReachedRows<'a, S>) -> SlicesInReach<'a, S>
-        ensures { (result.own.now ≡ own.entry.name.now) × (result.slices.now ≡ own.entry.slices.now) × (result.rows ≡ rows.entry) }
+    pub(crate) fn new(
+        own: Own<'a>,
+        rows: ReachedRows<'a, S>,
+        former: Option<Former<'a>>,
+    ) -> SlicesInReach<'a, S>
+        ensures { (result.own.now ≡ own.entry.name.now) × (result.slices.now ≡ own.entry.slices.now) × (result.rows ≡ rows.entry) × (result.former ≡ former.entry) }
     {
         SlicesInReach {
             own: own.name,
             slices: own.slices,
             rows,
+            former,
         }
     }
 
     /// The slices of all, compiled, in the order of the nodes. An error says that memory is short.
     #[tactic(auto, using(crate::proofs::FormLaws::part_empty, crate::proofs::FormLaws::part_whole))]
     pub(crate) fn forms(&self, alloc: Global) -> Result<Vec<Option<Form>>, AllocError>
-        requires { IsAscending self.now.rows.nodes }
+        requires ascending { IsAscending self.now.rows.nodes }
+        requires former { IfSome self.now.former (IsFormerOf self.now.rows.nodes (slices_by self.now.own.now self.now.slices.now self.now.rows.table self.now.rows.kind)) }
         ensures compiled { IfOk result (λ v. AreCompiled self.now.rows.nodes (slices_by self.now.own.now self.now.slices.now self.now.rows.table self.now.rows.kind) v.items) }
         ensures below { IfOk result (λ v. AreBelow (length self.now.rows.nodes) v.items) }
     {
@@ -73,6 +107,7 @@ impl<'a, S: Places> SlicesInReach<'a, S> {
         candidates: (usize, usize),
     ) -> Result<Option<Form>, AllocError>
         requires ascending { IsAscending self.now.rows.nodes }
+        requires former { IfSome self.now.former (IsFormerOf self.now.rows.nodes (slices_by self.now.own.now self.now.slices.now self.now.rows.table self.now.rows.kind)) }
         requires inside { place < length self.now.rows.nodes }
         requires before { length forms.now ≡ place }
         requires part { ArePart self.now.rows.nodes (slices_by self.now.own.now self.now.slices.now self.now.rows.table self.now.rows.kind) forms.now }
@@ -91,8 +126,8 @@ impl<'a, S: Places> SlicesInReach<'a, S> {
         }
     }
 
-    /// The form of slices, for a list of forms of the first nodes: that at one of two places whose nodes have the same
-    /// slices, or else a new one of this number. An error says that memory is short.
+    /// The form of the slices of the node at a place, for a list of forms of the first nodes: that at one of two places
+    /// whose nodes have the same slices, or else a new one, whose number is the place. An error says that memory is short.
     fn form_of(
         &self,
         alloc: Global,
@@ -100,12 +135,38 @@ impl<'a, S: Places> SlicesInReach<'a, S> {
         there: Candidates<'_>,
         number: usize,
     ) -> Result<Form, AllocError>
-        requires { IsAscending self.now.rows.nodes }
+        requires ascending { IsAscending self.now.rows.nodes }
+        requires former { IfSome self.now.former (IsFormerOf self.now.rows.nodes (slices_by self.now.own.now self.now.slices.now self.now.rows.table self.now.rows.kind)) }
+        requires inside { number < length self.now.rows.nodes }
+        requires its { slices_by self.now.own.now self.now.slices.now self.now.rows.table self.now.rows.kind (get_or self.now.rows.nodes number 0) ≡ Some slices.now }
         ensures { IfOk result (IsFound self.now.rows.nodes (slices_by self.now.own.now self.now.slices.now self.now.rows.table self.now.rows.kind) there.entry.forms.now number slices.now) }
     {
         match self.twin_among(slices, there) {
             Some(form) => form.try_copy(),
-            None => new_form(alloc, slices, self.rows.nodes(), number),
+            None => self.new_form_at(alloc, slices, number),
+        }
+    }
+
+    /// A new form of the slices of the node at a place, whose number is the place: what a region of other nodes has of the
+    /// node, with its places moved, or else compiled. An error says that memory is short.
+    fn new_form_at(&self, alloc: Global, slices: &Nested, place: usize) -> Result<Form, AllocError>
+        requires ascending { IsAscending self.now.rows.nodes }
+        requires former { IfSome self.now.former (IsFormerOf self.now.rows.nodes (slices_by self.now.own.now self.now.slices.now self.now.rows.table self.now.rows.kind)) }
+        requires inside { place < length self.now.rows.nodes }
+        requires its { slices_by self.now.own.now self.now.slices.now self.now.rows.table self.now.rows.kind (get_or self.now.rows.nodes place 0) ≡ Some slices.now }
+        ensures { IfOk result (λ f. (f.number ≡ place) × IsCompiled false self.now.rows.nodes slices.now f.set) }
+    {
+        let nodes = self.rows.nodes();
+        let Some(former) = &self.former else {
+            return new_form(alloc, slices, nodes, place);
+        };
+        match former.form_of(&nodes[place]) {
+            None => new_form(alloc, slices, nodes, place),
+            Some(form) => {
+                let set = relocate(alloc, form.set(), former.places)?;
+                let again = Form::new(alloc, place, set)?;
+                Ok(again)
+            }
         }
     }
 

@@ -8,8 +8,9 @@ ghost use Rattle.types.specs.declared.kind.Kind.TheVariants.{Nomination};
 ghost use Rattle.protocol.specs.Candidates.{all_with, values_by};
 ghost use Rattle.protocol.specs.Sets.{IsAscending};
 ghost use Rattle.view.specs.Knowing.{AreBallotsOf, AreValuesOf, IsKnown, IsTaken, is_heard, is_of_another};
-ghost use Rattle.view.specs.Regions.{IsRegion};
+ghost use Rattle.view.specs.Regions.{IsKeptRegion, IsOfExtent, IsRegion};
 
+use crate::changing::NewReach;
 use crate::own::Own;
 use crate::reached::ReachedRows;
 use crate::reached_ballots::ReachedBallots;
@@ -30,6 +31,8 @@ pub struct KnownReach {
     pub region: Region,
     pub ballots: Option<ReachedBallots>,
     pub values: Option<Values>,
+    /// Whether it was asked for since it was found or changed: so rows that change the reach cost no more than questions do.
+    pub is_asked: bool,
 }
 
 /// A row that a table took, and the row that stood in its place.
@@ -54,6 +57,7 @@ impl KnownReach {
             region,
             ballots: None,
             values: None,
+            is_asked: false,
         })
     }
 
@@ -66,7 +70,29 @@ impl KnownReach {
             region,
             ballots: None,
             values: None,
+            is_asked: false,
         })
+    }
+
+    /// The same where the node reaches others than the nodes of the region by a new row; no ballots and no values are
+    /// listed afterwards. An error says that memory is short, and nothing changed.
+    pub fn change<S: Places>(
+        &mut self,
+        alloc: Global,
+        own: Own<'_>,
+        table: &Rows<'_, S>,
+        by: NewReach<'_>,
+    ) -> Result<(), AllocError>
+        requires kept { IsKeptRegion own.name.now own.slices.now table.now by.sender.now self.old.region }
+        requires extent { IsOfExtent own.name.now own.slices.now table.now by.sender.now self.old.region.nodes.items by.extent }
+        ensures known { OnOk result (IsKnown own.entry.name.now own.entry.slices.now table.now self.new) }
+        ensures err { OnErr result (self.new ≡ self.old) }
+    {
+        self.region = self.region.after_row(alloc, own, table, by)?;
+        self.ballots = None;
+        self.values = None;
+        self.is_asked = false;
+        Ok(())
     }
 
     /// Lists the ballots, where they are not listed yet. An error says that memory is short, and nothing changed.

@@ -5,6 +5,7 @@
 //! both stay as they are meanwhile.
 #![tactic(auto)]
 
+mod changing;
 mod forms;
 mod known_reach;
 mod listed;
@@ -19,8 +20,9 @@ mod searching;
 mod seeing;
 mod unlisted;
 
+pub use changing::{Extent, NewReach};
 pub use known_reach::{KnownReach, Taken};
 pub use own::Own;
 pub use reached_ballots::ReachedBallots;
-pub use region::{Entry, Region};
+pub use region::{Change, Entry, Region};
 pub use seeing::View;

@@ -6,14 +6,16 @@ ghost use Rattle.types.specs.Trees.{Slices};
 ghost use Rattle.types.specs.declared.kind.Kind.{Kind};
 ghost use Rattle.types.specs.declared.kind.Kind.TheVariants.{Nomination};
 ghost use Rattle.protocol.specs.Backing.{slices_by};
+ghost use Rattle.protocol.specs.Reach.{IsReach};
 ghost use Rattle.protocol.specs.Rows.{with_row};
 ghost use Rattle.protocol.specs.Sets.{IsAscending, among};
 ghost use Rattle.compiled.specs.Searching.{AreCompiled};
 ghost use Rattle.latest.specs.Places.{place_of};
-ghost use Rattle.view.specs.Forms.{AreBelow, IsFoundWithin};
-ghost use Rattle.view.specs.Regions.{IsCopy, IsEntry, IsRegion, forms_of, row_places};
+ghost use Rattle.view.specs.Forms.{AreBelow, IsFormerOf, IsFoundWithin};
+ghost use Rattle.view.specs.Regions.{IsChange, IsCopy, IsEntry, IsFormerRegion, IsRegion, forms_of, row_places};
 
-use crate::forms::{Candidates, SlicesInReach};
+use crate::changing::Extent;
+use crate::forms::{Candidates, Former, SlicesInReach};
 use crate::own::Own;
 use crate::reached::ReachedRows;
 use closure::{drops_none, keeps_reach, reach};
@@ -54,6 +56,15 @@ pub struct Entry {
     numbers: usize,
 }
 
+/// What a row of another reached node changes in a region.
+#[derive(Drop)]
+pub enum Change {
+    /// This entry; whom the node reaches stays.
+    Sets(Entry),
+    /// Whom the node reaches.
+    Reach(Extent),
+}
+
 impl Region {
     /// The region of a node by a table. An error says that memory is short.
     pub fn of<'a, S: Places>(
@@ -65,16 +76,44 @@ impl Region {
         ensures { IfOk result (λ r. IsRegion own.now slices.now table.now r) }
     {
         let nodes = reach(alloc, &*table, own, slices)?;
-        let place = place_in(&nodes, own);
-        let blocking = compile(alloc, slices.set(), &nodes, true)?;
-        let itself = Own { name: own, slices };
-        let numbers = nodes.len();
         let KindPlaces {
+            ballots,
+            nominations,
+        } = row_places(alloc, &*table, &nodes)?;
+        let placed = Placed {
+            nodes,
+            ballots,
+            nominations,
+        };
+        let itself = Own { name: own, slices };
+        Region::over(alloc, itself, table, placed, None)
+    }
+
+    /// The same where the nodes that are reached are known, and where their rows stand. Forms are taken from a region of
+    /// other nodes, where there is one. An error says that memory is short.
+    pub(crate) fn over<'a, S: Places>(
+        alloc: Global,
+        own: Own<'a>,
+        table: &'a Rows<'a, S>,
+        placed: Placed,
+        former: Option<FormerRegion<'a>>,
+    ) -> Result<Region, AllocError>
+        requires reach { IsReach own.name.now own.slices.now table.now placed.nodes.items }
+        requires ballots { placed.ballots.items ≡ row_places table.now Kind.Ballot placed.nodes.items }
+        requires nominations { placed.nominations.items ≡ row_places table.now Nomination placed.nodes.items }
+        requires former { IfSome former (IsFormerRegion own.name.now own.slices.now table.now placed.nodes.items) }
+        ensures { IfOk result (λ r. IsRegion own.entry.name.now own.entry.slices.now table.now r) }
+    {
+        let Placed {
+            nodes,
             ballots: ballot_rows,
             nominations: nomination_rows,
-        } = row_places(alloc, &*table, &nodes)?;
+        } = placed;
+        let place = place_in(&nodes, own.name);
+        let blocking = compile(alloc, own.slices.set(), &nodes, true)?;
+        let numbers = nodes.len();
         let rows = ReachedRows::in_place(alloc, &nodes, &ballot_rows, &*table, Kind::Ballot);
-        let ballots = forms_by(alloc, itself, rows)?;
+        let ballots = forms_by(alloc, own, rows, forms_of(&former, Kind::Ballot))?;
         let rows = ReachedRows::in_place(
             alloc,
             &nodes,
@@ -82,7 +121,7 @@ impl Region {
             &*table,
             Kind::Nomination,
         );
-        let nominations = forms_by(alloc, itself, rows)?;
+        let nominations = forms_by(alloc, own, rows, forms_of(&former, Kind::Nomination))?;
         Ok(Region {
             nodes,
             place,
@@ -123,42 +162,42 @@ impl Region {
         keeps_reach(&self.nodes, table, envelope)
     }
 
-    /// What the region has to have for the envelope where the table takes it, if that is all that changes: a
-    /// reached node's first row of its kind, or one with other slices than the row that it replaces. It names
-    /// reached nodes alone, and what it does not name any more of that row is this node or a name of its own
-    /// slices, and so is reached anyhow. An error says that memory is short.
+    /// What the envelope changes in the region where the table takes it: an entry for a reached node's first row of its
+    /// kind, or for one with other slices than the row that it replaces, where it names reached nodes alone, and drops
+    /// none but this node or a name of its own slices, which is reached anyhow; a wider reach, where it drops none but
+    /// such a one and names others; and else another reach. An error says that memory is short.
     ///
     /// It costs some searches by name and, where its slices are neither the node's own nor those of the row that was
     /// set last, a search for each name and the compiling of one set of slices, however many rows there are. After the
-    /// last number of a form there is no such entry, and the region is to be found anew.
-    pub fn entry_for<S: Places>(
+    /// last number of a form there is no such entry, and the reach is another.
+    pub fn change_by<S: Places>(
         &self,
         alloc: Global,
         own: Own<'_>,
         table: &Rows<'_, S>,
         envelope: &Envelope,
-    ) -> Result<Option<Entry>, AllocError>
+    ) -> Result<Change, AllocError>
         requires { IsAscending self.now.nodes.items }
-        ensures { IfOk result (λ o. IfSome o (λ x. IsEntry own.entry.name.now own.entry.slices.now table.now envelope.now self.now x)) }
+        ensures { IfOk result (IsChange own.entry.name.now own.entry.slices.now table.now envelope.now self.now) }
     {
         let Some(place) = place_of(&self.nodes, envelope.sender()) else {
-            return Ok(None);
+            return Ok(Change::Reach(Extent::Other));
         };
         if place == self.place {
-            return Ok(None);
+            return Ok(Change::Reach(Extent::Other));
         }
-        let stays = drops_none(alloc, own.name, own.slices, table, envelope)?;
-        if !stays {
-            return Ok(None);
+        let drops_none = drops_none(alloc, own.name, own.slices, table, envelope)?;
+        if !drops_none {
+            return Ok(Change::Reach(Extent::Other));
         }
         let Some(numbers) = self.numbers.checked_add(1) else {
-            return Ok(None);
+            return Ok(Change::Reach(Extent::Other));
         };
         let found = self.form_for(alloc, own, table, envelope)?;
         let Some(form) = found else {
-            return Ok(None);
+            return Ok(Change::Reach(Extent::Wider));
         };
-        Ok(Some(Entry {
+        Ok(Change::Sets(Entry {
             kind: envelope.body().kind(),
             place,
             slices: form,
@@ -183,7 +222,7 @@ impl Region {
     {
         let kind = envelope.body().kind();
         let rows = ReachedRows::looked_up(alloc, &self.nodes, table, kind);
-        let reached = SlicesInReach::new(own, rows);
+        let reached = SlicesInReach::new(own, rows, None);
         let there = Candidates {
             forms: self.forms(kind),
             places: (self.place, self.latest),
@@ -201,7 +240,7 @@ impl Region {
         }
     }
 
-    /// Sets what [`Region::entry_for`] found. The region is then that of the table with the row, of the same nodes. It
+    /// Sets what [`Region::change_by`] found. The region is then that of the table with the row, of the same nodes. It
     /// takes no memory.
     pub fn set_entry(&mut self, entry: Entry)
         ensures nodes { self.new.nodes.items ≡ self.old.nodes.items }
@@ -293,20 +332,53 @@ fn forms_by<S: Places>(
     alloc: Global,
     own: Own<'_>,
     rows: ReachedRows<'_, S>,
+    former: Option<Former<'_>>,
 ) -> Result<Vec<Option<Form>>, AllocError>
-    requires { IsAscending rows.nodes }
+    requires ascending { IsAscending rows.nodes }
+    requires former { IfSome former (IsFormerOf rows.nodes (slices_by own.name.now own.slices.now rows.table rows.kind)) }
     ensures compiled { IfOk result (λ v. AreCompiled rows.entry.nodes (slices_by own.entry.name.now own.entry.slices.now rows.entry.table rows.entry.kind) v.items) }
     ensures below { IfOk result (λ v. AreBelow (length rows.entry.nodes) v.items) }
 {
-    let reached = SlicesInReach::new(own, rows);
+    let reached = SlicesInReach::new(own, rows, former);
     reached.forms(alloc)
 }
 
-/// Where the rows of the nodes stand in the table, in the order of the nodes, kind by kind.
+/// Nodes, and where their rows stand in the table, in the order of the nodes, kind by kind.
 #[derive(Drop)]
-struct KindPlaces {
-    ballots: Vec<RowPlace>,
-    nominations: Vec<RowPlace>,
+pub(crate) struct Placed {
+    pub nodes: Vec<NodeId>,
+    pub ballots: Vec<RowPlace>,
+    pub nominations: Vec<RowPlace>,
+}
+
+/// A region of other nodes, where its nodes stand among all, and the one node whose rows may be others since.
+#[derive(Clone, Copy)]
+pub(crate) struct FormerRegion<'a> {
+    pub region: &'a Region,
+    pub places: &'a [usize],
+    pub sender: &'a NodeId,
+}
+
+/// The forms of a kind in it, if there is one.
+fn forms_of<'a>(former: &Option<FormerRegion<'a>>, kind: Kind) -> Option<Former<'a>>
+    ensures { (own : ℕ) (configured : Slices) (table : List Sent) (nodes : List ℕ) → IfSome former.now (IsFormerRegion own configured table nodes) → IfSome result (IsFormerOf nodes (slices_by own configured table kind)) }
+{
+    match former {
+        None => None,
+        Some(former) => Some(Former {
+            nodes: &former.region.nodes,
+            forms: former.region.forms(kind),
+            places: former.places,
+            sender: former.sender,
+        }),
+    }
+}
+
+/// Where the rows of nodes stand in the table, in the order of the nodes, kind by kind.
+#[derive(Drop)]
+pub(crate) struct KindPlaces {
+    pub ballots: Vec<RowPlace>,
+    pub nominations: Vec<RowPlace>,
 }
 
 /// Where the rows that the nodes have stand in the table: each node is looked up once. An error says that memory is short.

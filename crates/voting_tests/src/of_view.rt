@@ -9,7 +9,7 @@ use latest::{Offer, RowPlace, Rows, Table};
 use std::alloc::Global;
 use std::test::Fail;
 use types::{Ballot, Envelope, Member, Nested, NodeId, SliceSet, Statement, Value};
-use view::{Own, Region};
+use view::{Change, Entry, Extent, Own, Region};
 
 /// The name of a number.
 fn name(number: u64) -> NodeId {
@@ -71,9 +71,25 @@ fn set_row(
         name: &own,
         slices: &slices,
     };
-    let found = region.entry_for(alloc, own, table, row)?;
-    region.set_entry(found.ok_or("an entry")?);
+    let change = region.change_by(alloc, own, table, row)?;
+    region.set_entry(entry_in(change).ok_or("an entry")?);
     Ok(())
+}
+
+/// The entry that is the change, if it is one.
+fn entry_in(change: Change) -> Option<Entry> {
+    match change {
+        Change::Sets(entry) => Some(entry),
+        Change::Reach(_) => None,
+    }
+}
+
+/// Whom the node reaches by the change, if it is not an entry.
+fn extent_in(change: Change) -> Option<Extent> {
+    match change {
+        Change::Sets(_) => None,
+        Change::Reach(extent) => Some(extent),
+    }
 }
 
 #[test]
@@ -103,6 +119,50 @@ fn a_row_with_other_slices_is_an_entry(rt: HostRuntime) -> Result<(), Fail> {
     let newer = statement_of(alloc, 2, slices)?;
     set_row(alloc, &rows, &mut region, &newer)?;
     assert!(rt; region.ballot_rows.as_slice() == [RowPlace::none(), RowPlace::at(0)].as_slice());
+    Ok(())
+}
+
+/// What a statement of node 2, with slices of which this node is needed, changes in the region of node 1.
+fn extent_by(
+    alloc: Global,
+    table: &Rows<'_, VecShelf>,
+    named: u64,
+) -> Result<Option<Extent>, Fail> {
+    let region = region_of(alloc, table)?;
+    let slices = both(alloc)?;
+    let own = name(1);
+    let own = Own {
+        name: &own,
+        slices: &slices,
+    };
+    let others = only(alloc, named)?;
+    let row = statement_of(alloc, 2, others)?;
+    let change = region.change_by(alloc, own, table, &row)?;
+    Ok(extent_in(change))
+}
+
+#[test]
+fn a_first_row_that_names_another_node_widens(rt: HostRuntime) -> Result<(), Fail> {
+    let alloc = rt.alloc();
+    let archive = Archive::new(alloc, VecShelf::new(alloc));
+    let table = Table::new(alloc);
+    let rows = Rows::of(&table, &archive);
+    assert!(rt; extent_by(alloc, &rows, 3)? == Some(Extent::Wider));
+    assert!(rt; extent_by(alloc, &rows, 1)? == None);
+    Ok(())
+}
+
+// Node 2 named node 3 and names node 4 in its place.
+#[test]
+fn a_row_that_drops_a_node_may_do_any(rt: HostRuntime) -> Result<(), Fail> {
+    let alloc = rt.alloc();
+    let mut archive = Archive::new(alloc, VecShelf::new(alloc));
+    let before = only(alloc, 3)?;
+    let row = archive.put(statement_of(alloc, 2, before)?)?;
+    let mut table = Table::new(alloc);
+    assert_eq!(rt; table.offer(&archive, row), Offer::Replaced);
+    let rows = Rows::of(&table, &archive);
+    assert!(rt; extent_by(alloc, &rows, 4)? == Some(Extent::Other));
     Ok(())
 }
 

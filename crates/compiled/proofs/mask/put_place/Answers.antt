@@ -1,10 +1,10 @@
-use Rattle.std.proofs.Common.{◌<◌, ◌%◌, ◌*◌, ◌^◌, ◌/◌, List, length, get_or, ap, subst, ◌∙◌}
+use Rattle.std.proofs.Common.{◌<◌, ◌%◌, ◌*◌, ◌^◌, ◌/◌, ℕ, IfSome, Option, length, get_or, ap, subst, ◌∙◌}
 use Rattle.std.specs.Prelude.{bit_or}
 use Rattle.std.proofs.lemmas.List.{get_or_default}
 use Rattle.compiled.specs.declared.mask.Mask.{Mask}
 use Rattle.compiled.specs.Places.{is_free}
 use Rattle.compiled.proofs.Words.{added_alone, added_to, counted_alone, counted_to}
-use Rattle.compiled.proofs.mask.add_place.Goals as goal
+use Rattle.compiled.proofs.mask.put_place.Goals as goal
 
 pub returns-in_ok-push-in-None-clause-places : goal.returns-in_ok-push-in-None-clause-places
 returns-in_ok-push-in-None-clause-places c = added_alone c.args.masks.now.items c.push.new.self.items c.args.place c.in_ok-push-in-None.ensures.items
@@ -15,7 +15,7 @@ returns-in-Some-clause-places c =
     let place = c.args.place in
     let none : Mask = record { index = 0; bits = 0 } in
     let bit = (1 * 2 ^ (place % 64)) % 2 ^ 64 in
-    let found = subst (λ (xs : List Mask). (c.in-Some.found < length xs) × is_free (place / 64) bit (get_or xs c.in-Some.found none)) c.deref.ensures.value c.in-Some.ensures in
+    let found = subst (λ (o : Option ℕ). IfSome o (λ i. (i < length ms) × is_free (place / 64) bit (get_or ms i none))) c.in-Some.is c.requires in
     added_to ms c.in-Some.found place none found.0 found.1 (bit_or c.index.result.now.bits bit)
     (ap (λ (m : Mask). bit_or m.bits bit) (c.index.ensures ∙ get_or_default ms c.in-Some.found c.index.result.now none found.0))
 
@@ -28,6 +28,6 @@ returns-in-Some-clause-count c =
     let place = c.args.place in
     let none : Mask = record { index = 0; bits = 0 } in
     let bit = (1 * 2 ^ (place % 64)) % 2 ^ 64 in
-    let found = subst (λ (xs : List Mask). (c.in-Some.found < length xs) × is_free (place / 64) bit (get_or xs c.in-Some.found none)) c.deref.ensures.value c.in-Some.ensures in
+    let found = subst (λ (o : Option ℕ). IfSome o (λ i. (i < length ms) × is_free (place / 64) bit (get_or ms i none))) c.in-Some.is c.requires in
     counted_to ms c.in-Some.found place none found.0 found.1 (bit_or c.index.result.now.bits bit)
     (ap (λ (m : Mask). bit_or m.bits bit) (c.index.ensures ∙ get_or_default ms c.in-Some.found c.index.result.now none found.0))

@@ -1,0 +1,189 @@
+//! A region whose node reaches others than it did.
+
+ghost use Rattle.std.specs.Prelude.{◌≡◌, ◌<◌, IfOk, IfSome, get_or, is_some, length};
+ghost use Rattle.types.specs.declared.kind.Kind.{Kind};
+ghost use Rattle.types.specs.declared.kind.Kind.TheVariants.{Nomination};
+ghost use Rattle.protocol.specs.Reach.{IsReach};
+ghost use Rattle.protocol.specs.Sets.{IsAscending, among};
+ghost use Rattle.compiled.specs.Moving.{AreMoved};
+ghost use Rattle.closure.specs.Searching.{ArePlacesBut};
+ghost use Rattle.latest.specs.Places.{place_of};
+ghost use Rattle.view.specs.Regions.{IsKeptRegion, IsOfExtent, IsRegion, row_places};
+
+use crate::own::Own;
+use crate::region::{FormerRegion, KindPlaces, Placed, Region};
+use closure::{KnownNodes, reach_among, wider_reach};
+use compiled::place_near;
+use envstore::Places;
+use latest::{RowPlaces, Rows};
+use std::alloc::{AllocError, Global};
+use types::NodeId;
+
+/// Whom a node reaches by a new row of a reached node.
+#[derive(Clone, Copy, Debug, PartialEq, Eq)]
+pub enum Extent {
+    /// All whom it reached, and maybe more.
+    Wider,
+    /// Maybe not all whom it reached.
+    Other,
+}
+
+/// A reached node of which a row is new, and what that means for whom the node reaches.
+#[derive(Clone, Copy)]
+pub struct NewReach<'a> {
+    pub sender: &'a NodeId,
+    pub extent: Extent,
+}
+
+impl Region {
+    /// The region of a node that reaches others than the nodes of this one by a new row of the sender. An error says
+    /// that memory is short.
+    ///
+    /// Where the reach is wider, rows of those alone who are reached besides are looked at, and the sender's; else it is
+    /// searched for from the node on, among the nodes of this region. In both cases the other rows stand where they
+    /// stood, and their slices stay compiled, with their places moved.
+    pub fn after_row<'a, S: Places>(
+        &self,
+        alloc: Global,
+        own: Own<'a>,
+        table: &'a Rows<'a, S>,
+        by: NewReach<'_>,
+    ) -> Result<Region, AllocError>
+        requires kept { IsKeptRegion own.name.now own.slices.now table.now by.sender.now self.now }
+        requires extent { IsOfExtent own.name.now own.slices.now table.now by.sender.now self.now.nodes.items by.extent }
+        ensures { IfOk result (λ r. IsRegion own.entry.name.now own.entry.slices.now table.now r) }
+    {
+        let nodes = self.new_reach(alloc, own, &*table, by)?;
+        let places = moved_places(alloc, &self.nodes, &nodes)?;
+        let KindPlaces {
+            ballots,
+            nominations,
+        } = kept_row_places(alloc, &*table, &nodes, self, by.sender)?;
+        let placed = Placed {
+            nodes,
+            ballots,
+            nominations,
+        };
+        let former = FormerRegion {
+            region: self,
+            places: &places,
+            sender: by.sender,
+        };
+        Region::over(alloc, own, table, placed, Some(former))
+    }
+
+    /// Whom the node reaches. An error says that memory is short.
+    fn new_reach<S: Places>(
+        &self,
+        alloc: Global,
+        own: Own<'_>,
+        table: &Rows<'_, S>,
+        by: NewReach<'_>,
+    ) -> Result<Vec<NodeId>, AllocError>
+        requires kept { IsKeptRegion own.name.now own.slices.now table.now by.sender.now self.now }
+        requires extent { IsOfExtent own.name.now own.slices.now table.now by.sender.now self.now.nodes.items by.extent }
+        ensures { IfOk result (λ v. IsReach own.entry.name.now own.entry.slices.now table.now v.items) }
+    {
+        match by.extent {
+            Extent::Wider => {
+                let nodes = wider_reach(alloc, table, &self.nodes, by.sender)?;
+                Ok(nodes)
+            }
+            Extent::Other => {
+                let known = KnownNodes {
+                    nodes: &self.nodes,
+                    ballots: &self.ballot_rows,
+                    nominations: &self.nomination_rows,
+                    sender: by.sender,
+                };
+                reach_among(alloc, table, own.name, own.slices, known)
+            }
+        }
+    }
+}
+
+/// Where nodes stand in another list, as far as they are in it. An error says that memory is short.
+fn moved_places(alloc: Global, nodes: &[NodeId], all: &[NodeId]) -> Result<Vec<usize>, AllocError>
+    requires before { IsAscending nodes.now }
+    requires now { IsAscending all.now }
+    ensures { IfOk result (λ v. AreMoved nodes.now all.now v.items) }
+{
+    let mut places = Vec::with_capacity(alloc, nodes.len())?;
+    let mut next = 0;
+    for node in nodes {
+        match place_near(all, next, node) {
+            None => places.push(next)?,
+            Some(place) => {
+                places.push(place)?;
+                next = place + 1;
+            }
+        }
+    }
+    Ok(places)
+}
+
+/// Where the rows that the nodes have stand in the table: as the region has it of those that are in it, save for the
+/// sender, and the others are looked up. An error says that memory is short.
+fn kept_row_places<S: Places>(
+    alloc: Global,
+    table: &Rows<'_, S>,
+    nodes: &[NodeId],
+    region: &Region,
+    sender: &NodeId,
+) -> Result<KindPlaces, AllocError>
+    requires ascending { IsAscending region.now.nodes.items }
+    requires known_ballots { ArePlacesBut sender.now table.now Kind.Ballot region.now.nodes.items region.now.ballot_rows.items }
+    requires known_nominations { ArePlacesBut sender.now table.now Nomination region.now.nodes.items region.now.nomination_rows.items }
+    ensures ballots { IfOk result (λ p. p.ballots.items ≡ row_places table.now Kind.Ballot nodes.now) }
+    ensures nominations { IfOk result (λ p. p.nominations.items ≡ row_places table.now Nomination nodes.now) }
+{
+    let mut ballots = Vec::with_capacity(alloc, nodes.len())?;
+    let mut nominations = Vec::with_capacity(alloc, nodes.len())?;
+    let mut next = 0;
+    for node in nodes {
+        let place = place_near(&region.nodes, next, node);
+        if let Some(place) = place {
+            next = place + 1;
+        }
+        let places = places_of(table, node, region, place, sender);
+        ballots.push(places.ballot)?;
+        nominations.push(places.nomination)?;
+    }
+    Ok(KindPlaces {
+        ballots,
+        nominations,
+    })
+}
+
+/// Where the rows of a node stand in the table: as the region has it of the node at its place, if it has one and is not
+/// the sender, or else it is looked up. It takes no memory.
+fn places_of<S: Places>(
+    table: &Rows<'_, S>,
+    node: &NodeId,
+    region: &Region,
+    place: Option<usize>,
+    sender: &NodeId,
+) -> RowPlaces
+    requires known_ballots { ArePlacesBut sender.now table.now Kind.Ballot region.now.nodes.items region.now.ballot_rows.items }
+    requires known_nominations { ArePlacesBut sender.now table.now Nomination region.now.nodes.items region.now.nomination_rows.items }
+    requires place { IfSome place (λ i. (i < length region.now.nodes.items) × (get_or region.now.nodes.items i 0 ≡ node.now)) }
+    ensures ballot { result.ballot ≡ place_of table.now node.now Kind.Ballot }
+    ensures nomination { result.nomination ≡ place_of table.now node.now Nomination }
+{
+    let Some(place) = place else {
+        return table.places(node);
+    };
+    if *node == *sender {
+        return table.places(node);
+    }
+    match (
+        region.ballot_rows.get(place),
+        region.nomination_rows.get(place),
+    ) {
+        (Some(ballot), Some(nomination)) => RowPlaces {
+            nomination: *nomination,
+            ballot: *ballot,
+        },
+        _ => table.places(node),
+    }
+}
