@@ -1,11 +1,12 @@
--- A node is calm where one more pass changes nothing: a fresh one is, and each step keeps it so. `Runs` stands on it.
+-- A node is calm where one more pass changes nothing: a fresh one is, and each step keeps it so. `Passes`, `Runs` and
+-- other files of `Nodes` stand on it.
 use Rattle.types.specs.declared.event.NodeEvent.{NodeEvent}
-use Rattle.std.proofs.Common.{◌≡◌, ℕ, zero, suc, Bool, true, false, Option, Some, None, if◌then◌else◌, refl, subst}
+use Rattle.std.proofs.Common.{◌≡◌, ℕ, zero, suc, Bool, true, false, Option, Some, None, if◌then◌else◌, refl, ◌∙◌, ap, subst}
 use Rattle.types.specs.declared.state.Votes.{Votes}
 use Rattle.protocol.specs.Passes.{pass, pass_rules, voting, counting}
 use Rattle.protocol.specs.Sameness.{same_votes}
 use Rattle.protocol.specs.Nodes.{Node, passed, settle, change, settled, after_change, step, Calm, fresh, most_passes}
-use Rattle.protocol.proofs.Equality.Sameness.{same_votes-true}
+use Rattle.protocol.proofs.Equality.Sameness.{same_votes-refl, same_votes-true}
 use Rattle.protocol.proofs.Nodes.Made.{answered-node, if_node}
 use Rattle.types.specs.Trees.{Slices}
 use Rattle.protocol.specs.Views.{seen, rows_seen, led_by}
@@ -18,6 +19,12 @@ use Rattle.protocol.specs.Balloting.{started, start}
 pub fresh-calm : (slot v : ℕ) (q : Slices) → Calm (fresh slot v q)
 unfolding fresh pass pass_rules voting counting nominate confirm_values accept_values echo filled started start combine greatest named position seen rows_seen led_by
 fresh-calm slot v q = refl
+
+-- votes that a pass leaves as they are settle at once
+pub settle-still : (k : ℕ) (f : Votes → Votes) (w : Votes) → f w ≡ w → settle (suc k) f w ≡ Some w
+unfolding settle
+settle-still k f w e =
+    ap (λ b. if b then Some w else settle k f (f w)) (ap (λ x. same_votes x w) e ∙ same_votes-refl w)
 
 -- settling ends where one more pass changes nothing
 settle-calm : (k : ℕ) (f : Votes → Votes) (w : Votes) (u : Votes) → settle k f w ≡ Some u → f u ≡ u

@@ -15,7 +15,7 @@ use Rattle.protocol.specs.Leaders.{leader, best, neighbours, is_near, hash, beat
 use Rattle.protocol.specs.Nodes.{Node, passed, settle, change, settled, after_change, step, in_round, timed_out, most_passes}
 use Rattle.types.specs.declared.event.NodeEvent.TheVariants.{Propose, Take, NominationTimer, BallotTimer, Reslice}
 use Rattle.protocol.proofs.Nodes.Views.{announces_in, Closed}
-use Rattle.protocol.proofs.Nodes.Made.{answered-node, if_node, if_node-if}
+use Rattle.protocol.proofs.Nodes.Made.{if_node, if_node-if, step-keeps}
 
 -- R is closed for the node: it has its name, the names of its slices, its leaders, and what its senders in R announced
 pub record Good (R : Names) (n : Node) : Type 0 where
@@ -86,19 +86,15 @@ good-change R n (Propose x) g k =
           all-push R n.inputs.leaders (leader n.slot 1 n.name n.slices) g.leaders
           (leader-in R n.slot 1 n.name n.slices g.closed.has g.closed.own);
     }
-good-change R n (Take e) g k = go (is_taken n.table e)
-  where
-    go : (b : Bool) → if_node (Good R) (if b then Some (record n { table = with_row e n.table }) else None)
-    go false = tt
-    go true =
-        record {
-          closed = record {
-            has = g.closed.has;
-            own = g.closed.own;
-            rows = all-with (announces_in R) e n.table g.closed.rows k;
-          };
-          leaders = g.leaders;
-        }
+good-change R n (Take e) g k = if_node-if (Good R) (is_taken n.table e) (record n { table = with_row e n.table })
+    (record {
+      closed = record {
+        has = g.closed.has;
+        own = g.closed.own;
+        rows = all-with (announces_in R) e n.table g.closed.rows k;
+      };
+      leaders = g.leaders;
+    })
 good-change R n (NominationTimer r) g k = if_node-if (Good R) _ (in_round n (r + 1))
     (record {
       closed = record { has = g.closed.has; own = g.closed.own; rows = g.closed.rows };
@@ -111,17 +107,11 @@ good-change R n (BallotTimer c) g k = if_node-if (Good R) _ (timed_out n)
 good-change R n (Reslice q) g k =
     record { closed = record { has = g.closed.has; own = k; rows = g.closed.rows }; leaders = g.leaders }
 
-good-settled : (R : Names) (o : Option Node) → if_node (Good R) o → if_node (Good R) (after_change o)
-good-settled R None g = tt
-good-settled R (Some n) g = go (settle most_passes (passed n) n.votes)
-  where
-    go : (o : Option Votes) → if_node (Good R) (settled n o)
-    go None = tt
-    go (Some w) =
-        record { closed = record { has = g.closed.has; own = g.closed.own; rows = g.closed.rows }; leaders = g.leaders }
-
 -- R stays closed for the node
 pub good-step : (R : Names) (n : Node) (e : NodeEvent) → Good R n → IsFit R e → Good R (step n e).0
-unfolding step
 good-step R n e g k =
-    answered-node (Good R) n (after_change (change n e)) g (good-settled R (change n e) (good-change R n e g k))
+    step-keeps (Good R)
+    (λ m h. record {
+      closed = record { has = h.closed.has; own = h.closed.own; rows = h.closed.rows };
+      leaders = h.leaders;
+    }) n e g (good-change R n e g k)

@@ -16,7 +16,7 @@ use Rattle.protocol.specs.Nodes.{Node, passed, settle, change, when, emitted, de
 use Rattle.types.specs.declared.event.NodeEvent.TheVariants.{Propose, Take, NominationTimer, BallotTimer, Reslice}
 use Rattle.types.specs.declared.event.Out.TheVariants.{ArmNomination, ArmBallot, Emit, Externalized as Decided}
 use Rattle.protocol.specs.Networks.{emissions}
-use Rattle.protocol.proofs.Nodes.Made.{answered-node, if_node, if_node-if}
+use Rattle.protocol.proofs.Nodes.Made.{if_node, if_node-if, settled-keeps, step-keeps}
 
 -- a step keeps the name
 abbrev pub IsSelf : Node → Node → Type 0
@@ -25,27 +25,13 @@ IsSelf n m = m.name ≡ n.name
 self-change : (n : Node) (e : NodeEvent) → if_node (IsSelf n) (change n e)
 unfolding change
 self-change n (Propose x) = refl
-self-change n (Take e) = go (is_taken n.table e)
-  where
-    go : (b : Bool) → if_node (IsSelf n) (if b then Some (record n { table = with_row e n.table }) else None)
-    go false = tt
-    go true = refl
+self-change n (Take e) = if_node-if (IsSelf n) (is_taken n.table e) (record n { table = with_row e n.table }) refl
 self-change n (NominationTimer r) = if_node-if (IsSelf n) _ (in_round n (r + 1)) refl
 self-change n (BallotTimer c) = if_node-if (IsSelf n) _ (timed_out n) refl
 self-change n (Reslice q) = refl
 
-self-settled : (n : Node) (o : Option Node) → if_node (IsSelf n) o → if_node (IsSelf n) (after_change o)
-self-settled n None h = tt
-self-settled n (Some m) h = go (settle most_passes (passed m) m.votes)
-  where
-    go : (o : Option Votes) → if_node (IsSelf n) (settled m o)
-    go None = tt
-    go (Some w) = h
-
 pub step-self : (n : Node) (e : NodeEvent) → IsSelf n (step n e).0
-unfolding step
-step-self n e =
-    answered-node (IsSelf n) n (after_change (change n e)) refl (self-settled n (change n e) (self-change n e))
+step-self n e = step-keeps (IsSelf n) (λ m h. h) n e refl (self-change n e)
 
 -- what is emitted carries the node's name, and the slices that it has after the event
 emits-append : (P : Sent → Bool) (xs ys : List Out) → list_all P (emissions xs) ≡ true
@@ -108,7 +94,7 @@ pub step-emit : (P : Sent → Bool) (n : Node) (e : NodeEvent)
     → ((slot : ℕ) (s : Statement) → P (record { sender = n.name; slot = slot; slices = (step n e).0.slices; body = s })
     ≡ true) → list_all P (emissions (step n e).1) ≡ true
 unfolding step
-step-emit P n e f = go (after_change (change n e)) (self-settled n (change n e) (self-change n e)) f
+step-emit P n e f = go (after_change (change n e)) (settled-keeps (IsSelf n) (λ m h. h) (change n e) (self-change n e)) f
   where
     go : (o : Option Node) → if_node (IsSelf n) o
         → ((slot : ℕ) (s : Statement) → P

@@ -25,6 +25,7 @@ use Rattle.protocol.proofs.Statements.Offers.{row-with}
 use Rattle.protocol.proofs.Nodes.Views.{cut, announces_in, Closed, seen-cut}
 use Rattle.protocol.proofs.Nodes.Agreement.{cut_node}
 use Rattle.protocol.proofs.Nodes.Closed.{Good, all-with}
+use Rattle.protocol.proofs.Nodes.Calm.{settle-still}
 
 pub cut-push_other : (R : Names) (e : Sent) (table : List Sent) → R e.sender ≡ false
     → cut R (with_row e table) ≡ cut R table
@@ -66,6 +67,16 @@ outs-none n taken =
       emitted-same m (sent_vote n.votes),
       never (is_externalized n.votes.phase) (decided n.votes.ballot),
     )
+
+-- an envelope that the table takes is a row more, and gives nothing out, where one more pass changes nothing behind it
+pub row-alone : (n : Node) (e : Sent) → is_taken n.table e ≡ true → Calm (record n { table = with_row e n.table })
+    → step n (Take e) ≡ (record n { table = with_row e n.table }, [])
+unfolding step change
+row-alone n e t c =
+    let m : Node = record n { table = with_row e n.table } in
+    ap (λ b. answered n (after_change (if b then Some m else None))) t
+    ∙ (ap (λ (w : Option Votes). answered n (settled m w)) (settle-still 63 (passed m) n.votes c)
+    ∙ ap {B = Node × List Out} (λ (os : List Out). (m, os)) (outs-none n (with_row e n.table)))
 
 -- ---- envelopes from outside
 -- the rows of leaders are as they were where the sender of a new one is none
@@ -115,23 +126,9 @@ seen-outside R v q leaders table e c o l =
 pub step-outside : (R : Names) (n : Node) (e : Sent) → Closed R n.name n.slices n.table → Calm n → R e.sender ≡ false
     → among n.inputs.leaders e.sender ≡ false → is_taken n.table e ≡ true
     → step n (Take e) ≡ (record n { table = with_row e n.table }, [])
-unfolding step change settle
 step-outside R n e h c o l t =
-    ap (λ b. answered n (after_change (if b then Some m else None))) t
-    ∙ (ap (λ (w : Option Votes). answered n (settled m w)) at_once
-    ∙ ap {B = Node × List Out} (λ (os : List Out). (m, os)) (outs-none n (with_row e n.table)))
-  where
-    m : Node
-    m = record n { table = with_row e n.table }
-
-    still : passed m n.votes ≡ n.votes
-    still = ap {B = Votes} (λ (s : Seen). pass n.name s n.inputs n.votes)
-        (seen-outside R n.name n.slices n.inputs.leaders n.table e h o l) ∙ c
-
-    at_once : settle most_passes (passed m) n.votes ≡ Some n.votes
-    at_once =
-        ap (λ b. if b then Some n.votes else settle 63 (passed m) (passed m n.votes))
-        (ap (λ w. same_votes w n.votes) still ∙ same_votes-refl n.votes)
+    row-alone n e t (ap {B = Votes} (λ (s : Seen). pass n.name s n.inputs n.votes)
+    (seen-outside R n.name n.slices n.inputs.leaders n.table e h o l) ∙ c)
 
 -- leaders in R are not outside of it
 no_leader : (R : Names) (leaders : List ℕ) (u : ℕ) → within leaders R ≡ true → R u ≡ false → among leaders u ≡ false

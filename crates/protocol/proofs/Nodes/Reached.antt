@@ -18,7 +18,7 @@ use Rattle.protocol.specs.Nodes.{Node, fresh, passed, settle, change, settled, a
 use Rattle.protocol.specs.Limits.{Reached, ReachedAreCalm, TimersAreCounted, SendsWellFormed}
 use Rattle.protocol.specs.Limits.Reached.{begin, next}
 use Rattle.protocol.proofs.Nodes.Calm.{fresh-calm}
-use Rattle.protocol.proofs.Nodes.Made.{if_node, if_node-if, answered-node}
+use Rattle.protocol.proofs.Nodes.Made.{if_node, if_node-if, step-keeps}
 use Rattle.protocol.proofs.Nodes.Calm.{calm-step}
 use Rattle.types.specs.Nominations.{IsNominationSet}
 use Rattle.protocol.proofs.Sending.Sendable.{IsSendable}
@@ -75,30 +75,9 @@ change-lawful n (BallotTimer c) h = go (is_counter_live n c) refl
     go true live = timed_out-lawful n n.votes.ballot refl (has_ballot live) h
     go false live = tt
 
-pub settle-keeps : (P : Votes → Type 0) (k : ℕ) (f : Votes → Votes) → ((w : Votes) → P w → P (f w)) → (w u : Votes)
-    → P w → settle k f w ≡ Some u → P u
-unfolding settle
-settle-keeps P zero f p w u h e = cc
-settle-keeps P (suc k) f p w u h e = go (same_votes (f w) w) e (λ j. settle-keeps P k f p (f w) u (p w h) j)
-  where
-    go : (b : Bool) → (if b then Some w else settle k f (f w)) ≡ Some u → (settle k f (f w) ≡ Some u → P u) → P u
-    go true j ih = let z : w ≡ u = cc in subst P z h
-    go false j ih = ih j
-
-settled-lawful : (o : Option Node) → if_node IsLawful o → if_node IsLawful (after_change o)
-settled-lawful None h = tt
-settled-lawful (Some n) h = go (settle most_passes (passed n) n.votes) refl
-  where
-    go : (o : Option Votes) → settle most_passes (passed n) n.votes ≡ o → if_node IsLawful (settled n o)
-    go None e = tt
-    go (Some w) e =
-        settle-keeps (IsSendable n.inputs.ballot_timeouts) most_passes (passed n)
-        (pass-keeps n.inputs.ballot_timeouts n.name (seen n.name n.slices n.inputs.leaders n.table) n.inputs) n.votes w h e
-
 step-lawful : (n : Node) (e : NodeEvent) → IsLawful n → IsLawful (step n e).0
-unfolding step
-step-lawful n e h =
-    answered-node IsLawful n (after_change (change n e)) h (settled-lawful (change n e) (change-lawful n e h))
+step-lawful n e h = step-keeps IsLawful (λ m. pass-keeps m.inputs.ballot_timeouts m.name
+    (seen m.name m.slices m.inputs.leaders m.table) m.inputs m.votes) n e h (change-lawful n e h)
 
 pub reached-lawful : {n : Node} → Reached n → IsLawful n
 reached-lawful (begin slot v q) = fresh-lawful slot v q

@@ -10,6 +10,7 @@ use Rattle.protocol.specs.Sameness.{same_votes}
 use Rattle.protocol.specs.Nodes.{Node, passed, settle, change, settled, after_change, answered, step, in_round, timed_out, resliced, Calm, most_passes}
 use Rattle.protocol.specs.Reslices.{SlicesFollowEvents, IsElseSame, ReslicesChangeVotes, SameSlicesAreQuiet}
 use Rattle.protocol.proofs.Equality.Sameness.{same_votes-refl}
+use Rattle.protocol.proofs.Nodes.Calm.{settle-still}
 use Rattle.protocol.proofs.Nodes.Quiet.{outs-none}
 use Rattle.protocol.proofs.Nodes.Reached.{reached-calm}
 use Rattle.protocol.proofs.Passes.Settling.{never_limited}
@@ -51,12 +52,7 @@ reslices_change_votes n q = go (settle most_passes (passed (resliced n q)) n.vot
     go (Some w) = record { name = refl; slot = refl; inputs = refl; table = refl }
 
 pub same_slices_are_quiet : SameSlicesAreQuiet
-unfolding step change settle
+unfolding step change
 same_slices_are_quiet n r =
-    ap (λ (w : Option Votes). answered n (settled n w)) (at_once (reached-calm r))
+    ap (λ (w : Option Votes). answered n (settled n w)) (settle-still 63 (passed n) n.votes (reached-calm r))
     ∙ ap {B = Node × List Out} (λ (os : List Out). (n, os)) (outs-none n n.table)
-  where
-    at_once : Calm n → settle most_passes (passed n) n.votes ≡ Some n.votes
-    at_once c =
-        ap (λ b. if b then Some n.votes else settle 63 (passed n) (passed n n.votes))
-        (ap (λ w. same_votes w n.votes) c ∙ same_votes-refl n.votes)

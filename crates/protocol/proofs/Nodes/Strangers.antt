@@ -23,7 +23,7 @@ use Rattle.protocol.proofs.Sets.Contained.{all_from_contained}
 use Rattle.protocol.proofs.Reach.Chains.{reached-holds}
 use Rattle.protocol.proofs.Nodes.Views.{Closed, announces_in, row-cut}
 use Rattle.protocol.proofs.Nodes.Quiet.{cut-push_other, step-outside, step-stale}
-use Rattle.protocol.proofs.Nodes.Made.{if_node, if_node-if, answered-node}
+use Rattle.protocol.proofs.Nodes.Made.{if_node, if_node-if, step-keeps}
 use Rattle.protocol.proofs.Nodes.Closed.{all-push, leader-in}
 use Rattle.protocol.proofs.Nodes.Reached.{reached-calm}
 
@@ -52,18 +52,9 @@ module _ (R : Names) where
       if_node-if (IsNear R) _ (timed_out n) (record { has = h.has; own = h.own; leaders = h.leaders })
   near-change n (Reslice q) g h = record { has = h.has; own = g; leaders = h.leaders }
 
-  near-settled : (o : Option Node) → if_node (IsNear R) o → if_node (IsNear R) (after_change o)
-  near-settled None h = tt
-  near-settled (Some n) h = go (settle most_passes (passed n) n.votes)
-    where
-      go : (o : Option Votes) → if_node (IsNear R) (settled n o)
-      go None = tt
-      go (Some w) = record { has = h.has; own = h.own; leaders = h.leaders }
-
   near-step : (n : Node) (e : NodeEvent) → GivesWithin R e → IsNear R n → IsNear R (step n e).0
-  unfolding step
   near-step n e g h =
-      answered-node (IsNear R) n (after_change (change n e)) h (near-settled (change n e) (near-change n e g h))
+      step-keeps (IsNear R) (λ m k. record { has = k.has; own = k.own; leaders = k.leaders }) n e h (near-change n e g h)
 
   near-fresh : (slot v : ℕ) (q : Slices) → R v ≡ true → within (names q) R ≡ true → IsNear R (fresh slot v q)
   unfolding fresh

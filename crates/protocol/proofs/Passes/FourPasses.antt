@@ -14,6 +14,7 @@ use Rattle.types.specs.declared.state.Phase.TheVariants.{Preparing, Committing, 
 use Rattle.protocol.specs.Sameness.{same_votes}
 use Rattle.protocol.specs.Nodes.{settle}
 use Rattle.protocol.proofs.Equality.Sameness.{same_votes-refl}
+use Rattle.protocol.proofs.Nodes.Calm.{settle-still}
 use Rattle.protocol.proofs.Balloting.Tests.{Fair}
 use Rattle.protocol.proofs.Balloting.Counters.{Risen}
 use Rattle.protocol.proofs.Balloting.PreparedStays.{Sound}
@@ -27,9 +28,8 @@ use Rattle.protocol.proofs.Passes.OnePass.{stepped}
 abbrev pub IsSome : Option Votes → Type 0
 IsSome o = is_some o ≡ true
 
-settle-still : (n : ℕ) (f : Votes → Votes) (w : Votes) → f w ≡ w → IsSome (settle (suc n) f w)
-unfolding settle
-settle-still n f w e = let k : same_votes (f w) w ≡ true = ap (λ x. same_votes x w) e ∙ same_votes-refl w in rw k refl
+settle-ends : (n : ℕ) (f : Votes → Votes) (w : Votes) → f w ≡ w → IsSome (settle (suc n) f w)
+settle-ends n f w e = ap is_some (settle-still n f w e)
 
 settle-more : (n : ℕ) (f : Votes → Votes) (w : Votes) → IsSome (settle n f (f w)) → IsSome (settle (suc n) f w)
 unfolding settle
@@ -68,7 +68,7 @@ module _ (v : ℕ) (s : Seen) (f : Fair s) (g : Inputs) where
       let same : pass v s g w ≡ r.0 = pass-committing v s g w ph
       ∙ (ap (λ x. finish s g (ruled s x)) (begins v s g w b ball (quiet-same v s g w q)) ∙ r.1) in
       let q1 : Quiet v s g r.0 = quiet-on v s g w r.0 r.2.voted r.2.accepts r.2.confirms r.2.stays q in
-      settle-at (suc n) (pass v s g) w r.0 same (settle-still n (pass v s g) r.0 (elim (r.3 risen) [
+      settle-at (suc n) (pass v s g) w r.0 same (settle-ends n (pass v s g) r.0 (elim (r.3 risen) [
         | inl k ↦ k (quiet-same v s g r.0 q1)
         | inr k ↦ pass-externalized v s g r.0 k
       ]))
@@ -82,10 +82,10 @@ module _ (v : ℕ) (s : Seen) (f : Fair s) (g : Inputs) where
       ∙ (ap (λ x. finish s g (ruled s x)) (begins v s g w b ball (quiet-same v s g w q)) ∙ r.1) in
       let q1 : Quiet v s g r.0 = quiet-on v s g w r.0 r.2.voted r.2.accepts r.2.confirms r.2.stays q in
       settle-at (suc (suc n)) (pass v s g) w r.0 same (elim (r.3 risen) [
-        | inl k ↦ settle-still (suc n) (pass v s g) r.0 (k (quiet-same v s g r.0 q1))
-        | inr (inl k) ↦ settle-still (suc n) (pass v s g) r.0 (pass-externalized v s g r.0 k)
+        | inl k ↦ settle-ends (suc n) (pass v s g) r.0 (k (quiet-same v s g r.0 q1))
+        | inr (inl k) ↦ settle-ends (suc n) (pass v s g) r.0 (pass-externalized v s g r.0 k)
         | inr (inr k) ↦ elim r.2.ends [
-          | inl e ↦ settle-still (suc n) (pass v s g) r.0 (pass-externalized v s g r.0 e)
+          | inl e ↦ settle-ends (suc n) (pass v s g) r.0 (pass-externalized v s g r.0 e)
           | inr e ↦ one-left n r.0 e.0 r.2.sound q1 k e.1 e.2
         ]
       ])
@@ -138,19 +138,19 @@ module _ (v : ℕ) (s : Seen) (f : Fair s) (g : Inputs) where
   -- four passes, of which the last changes nothing
   pub four : (n : ℕ) (w : Votes) → Fit w → IsSome (settle (suc (suc (suc (suc n)))) (pass v s g) w)
   four n w fit = elim (phases w.phase) [
-    | inl e ↦ settle-still (suc (suc (suc n))) (pass v s g) w (pass-externalized v s g w e)
+    | inl e ↦ settle-ends (suc (suc (suc n))) (pass v s g) w (pass-externalized v s g w e)
     | inr ph ↦
         let O = once w fit ph in
         let y = pass v s g w in
         settle-more (suc (suc (suc n))) (pass v s g) w (elim O.ends [
-          | inr k ↦ settle-still (suc (suc n)) (pass v s g) y
+          | inr k ↦ settle-ends (suc (suc n)) (pass v s g) y
               (pass-preparing v s g y k.0
               ∙ (ap (λ x. finish s g (ruled s (start s x))) (quiet-same v s g y O.quiet)
               ∙ (ap (λ x. finish s g (ruled s x)) k.2
               ∙ (ap (finish s g) (ruled-none s y k.0 k.1) ∙ finish-none s g y k.1))))
-          | inl (inl e) ↦ settle-still (suc (suc n)) (pass v s g) y (pass-externalized v s g y e)
+          | inl (inl e) ↦ settle-ends (suc (suc n)) (pass v s g) y (pass-externalized v s g y e)
           | inl (inr e) ↦ elim (phases y.phase) [
-            | inl k ↦ settle-still (suc (suc n)) (pass v s g) y (pass-externalized v s g y k)
+            | inl k ↦ settle-ends (suc (suc n)) (pass v s g) y (pass-externalized v s g y k)
             | inr (inl k) ↦ two-left v s f g n y e.0 O.fit.sound O.quiet k e.1 e.2
             | inr (inr k) ↦ one-left v s f g (suc n) y e.0 O.fit.sound O.quiet k e.1 e.2
           ]

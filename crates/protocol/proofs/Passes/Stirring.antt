@@ -18,6 +18,7 @@ use Rattle.protocol.proofs.Balloting.FairSight.{seen-fair}
 use Rattle.protocol.proofs.Nominating.Sets.{new_voted, new_accepts, new_confirms, nominate-is, quiet-from}
 use Rattle.protocol.proofs.Passes.RuleByRule.{pass-externalized}
 use Rattle.protocol.proofs.Balloting.PreparedStays.{Sound}
+use Rattle.protocol.proofs.Nodes.Calm.{settle-still}
 use Rattle.protocol.proofs.Nodes.Reached.{reached-calm}
 use Rattle.protocol.proofs.Passes.RowsOfKinds.{nominations-still, ballots-still}
 use Rattle.protocol.proofs.Passes.RulesOfKinds.{nominate-reads, balloted-reads}
@@ -50,16 +51,18 @@ quiet-of v s g w same = elim (cases_Bool (is_none w.confirmed_prepared)) [
       inl (quiet-from v s g w.voted w.accepts w.confirms a b2 c2)
 ]
 
+open-runs : (f : Votes → Votes) (w : Votes) → IsOpen w → while_open w.phase f w ≡ f w
+open-runs f w (inl e) = ap (λ p. while_open p f w) e
+open-runs f w (inr e) = ap (λ p. while_open p f w) e
+
 -- a pass is nomination and then balloting
 pass-open : (v : ℕ) (s : Seen) (g : Inputs) (w : Votes) → IsOpen w → pass v s g w ≡ balloting s g (nominate v s g w)
 unfolding pass pass_rules
-pass-open v s g w (inl e) = ap (λ p. while_open p (pass_rules v s g) w) e
-pass-open v s g w (inr e) = ap (λ p. while_open p (pass_rules v s g) w) e
+pass-open v s g w o = open-runs (pass_rules v s g) w o
 
 balloted-open : (s : Seen) (g : Inputs) (w : Votes) → IsOpen w → balloted_in s g w ≡ balloting s g w
 unfolding balloted_in
-balloted-open s g w (inl e) = ap (λ p. while_open p (balloting s g) w) e
-balloted-open s g w (inr e) = ap (λ p. while_open p (balloting s g) w) e
+balloted-open s g w o = open-runs (balloting s g) w o
 
 balloted-over : (s : Seen) (g : Inputs) (w : Votes) → w.phase ≡ Externalized → balloted_in s g w ≡ w
 unfolding balloted_in
@@ -67,8 +70,7 @@ balloted-over s g w e = ap (λ p. while_open p (balloting s g) w) e
 
 nominated-open : (v : ℕ) (s : Seen) (g : Inputs) (w : Votes) → IsOpen w → nominated_in v s g w ≡ nominate v s g w
 unfolding nominated_in
-nominated-open v s g w (inl e) = ap (λ p. while_open p (nominate v s g) w) e
-nominated-open v s g w (inr e) = ap (λ p. while_open p (nominate v s g) w) e
+nominated-open v s g w o = open-runs (nominate v s g) w o
 
 nominated-over : (v : ℕ) (s : Seen) (g : Inputs) (w : Votes) → w.phase ≡ Externalized → nominated_in v s g w ≡ w
 unfolding nominated_in
@@ -160,10 +162,7 @@ module _ (v : ℕ) (s : Seen) (f : Fair s) (g : Inputs) where
       same-or w (balloted_in s g w) (settle 63 (balloted_in s g) (balloted_in s g w)) ∙ sym (rested-settles 64 w fit q)
 
   over-settles : (w : Votes) → w.phase ≡ Externalized → settle most_passes (pass v s g) w ≡ Some w
-  unfolding settle
-  over-settles w e =
-      ap (λ (y : Votes). if same_votes y w then Some w else settle 63 (pass v s g) y) (pass-externalized v s g w e)
-      ∙ ap (λ b. if b then Some w else settle 63 (pass v s g) w) (same_votes-refl w)
+  over-settles w e = settle-still 63 (pass v s g) w (pass-externalized v s g w e)
 
   still-settles : (w y : Votes) → y ≡ w → settle_after s g w y ≡ Some w
   unfolding settle_after
@@ -188,11 +187,6 @@ module _ (v : ℕ) (s : Seen) (f : Fair s) (g : Inputs) where
   over-ballots : (w : Votes) → w.phase ≡ Externalized → settle_ballots s g w ≡ settle most_passes (pass v s g) w
   unfolding settle_ballots
   over-ballots w over = still-settles w (balloted_in s g w) (balloted-over s g w over) ∙ sym (over-settles w over)
-
-  ends-at : (n : ℕ) (x : Votes) → pass v s g x ≡ x → settle (suc n) (pass v s g) x ≡ Some x
-  unfolding settle
-  ends-at n x calm = ap (λ (y : Votes). if same_votes y x then Some x else settle n (pass v s g) y) calm
-      ∙ ap (λ b. if b then Some x else settle n (pass v s g) x) (same_votes-refl x)
 
   goes-to : (w x : Votes) → pass v s g w ≡ x → settle 63 (pass v s g) x ≡ Some x
       → settle most_passes (pass v s g) w ≡ Some x
@@ -223,7 +217,7 @@ module _ (v : ℕ) (s : Seen) (f : Fair s) (g : Inputs) where
       elim (phases w.phase) [
         | inl e ↦ over-settles w e ∙ ap {B = Option Votes} Some (sym (nominated-over v s g w e))
         | inr o ↦ goes-to w x made
-            (ends-at 62 x (pass-rested v s g x
+            (settle-still 62 (pass v s g) x (pass-rested v s g x
             (quiet-nominated v s g x (subst (λ (y : Votes). Quiet v s g y) made (once v s f g w fit o).quiet)) ∙ still))
       ]
 

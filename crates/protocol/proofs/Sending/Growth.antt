@@ -16,12 +16,11 @@ use Rattle.protocol.specs.Nominating.{nominate}
 use Rattle.protocol.specs.Balloting.{started, start_from, start, accept_prepared, raise_confirmed_prepared, follow_confirmed_prepared, set_commit, confirm_prepared, enter_commit, widen_commit, first_committed, next_committed, accept_commit, externalize, confirmed_commit, confirm_commit}
 use Rattle.protocol.specs.Passes.{raise, arm, on_ballot, in_prepare, voting, counting, pass_rules, pass}
 use Rattle.protocol.specs.Nodes.{Node, passed, settle, change, settled, after_change, bumped, in_round, timed_out, most_passes}
-use Rattle.protocol.proofs.Nodes.Made.{if_node, if_node-if}
+use Rattle.protocol.proofs.Nodes.Made.{if_node, if_node-if, settled-keeps}
 use Rattle.protocol.proofs.Balloting.Counters.{arm-moves}
 use Rattle.protocol.proofs.Nominating.Lengths.{all-longer}
 use Rattle.protocol.proofs.Nominating.Sets.{nominate-is, nominate-not, echoes, sources}
 use Rattle.protocol.proofs.Sending.SendablePasses.{on-keeps, prepare-keeps, unless-keeps}
-use Rattle.protocol.proofs.Nodes.Reached.{settle-keeps}
 use Rattle.protocol.proofs.Sets.Numbers.{through}
 
 -- no set of nominations is shorter than it was, and there is a ballot where there was one
@@ -141,7 +140,7 @@ module _ (old : Votes) where
       voting-grows s (start s (nominate v s g w)) (start-grows s (nominate v s g w) (nominate-grows v s g w h)) in
       unless-keeps P (pass_rules v s g) w h (unless-keeps P (counting s g) x hx (counting-grows s g x hx))
 
-  -- so does an event's own change, and settling
+  -- so does an event's own change
   abbrev NodeGrows : Node → Type 0
   NodeGrows m = Grows old m.votes
 
@@ -157,15 +156,7 @@ module _ (old : Votes) where
   change-grows n (BallotTimer c) h = if_node-if NodeGrows _ (timed_out n) (bumped-grows n.votes n.votes.ballot h)
   change-grows n (Reslice q) h = h
 
-  settled-grows : (o : Option Node) → if_node NodeGrows o → if_node NodeGrows (after_change o)
-  settled-grows None h = tt
-  settled-grows (Some n) h = go (settle most_passes (passed n) n.votes) refl
-    where
-      go : (o : Option Votes) → settle most_passes (passed n) n.votes ≡ o → if_node NodeGrows (settled n o)
-      go None e = tt
-      go (Some w) e =
-          settle-keeps (Grows old) most_passes (passed n)
-          (pass-grows n.name (seen n.name n.slices n.inputs.leaders n.table) n.inputs) n.votes w h e
-
 pub event-grows : (n : Node) (e : NodeEvent) → if_node (λ m. Grows n.votes m.votes) (after_change (change n e))
-event-grows n e = settled-grows n.votes (change n e) (change-grows n.votes n e (grows-self n.votes))
+event-grows n e = settled-keeps (NodeGrows n.votes) (λ m. pass-grows n.votes m.name
+    (seen m.name m.slices m.inputs.leaders m.table) m.inputs m.votes) (change n e)
+    (change-grows n.votes n e (grows-self n.votes))
