@@ -17,55 +17,41 @@ use Rattle.protocol.proofs.Sets.Lists.{filter_filter}
 use Rattle.protocol.proofs.Equality.Sameness.{eqb-refl}
 use Rattle.protocol.proofs.Networks.Effects.{effect-keeps, left}
 
--- ---- one entry more
-more : {A : Type 0} (p : A → Bool) (xs : List A) (x : A)
-    → length (filter p (xs ++ x ∷ [])) ≡ length (filter p xs) + length (filter p (x ∷ []))
-more p xs x = ap length (filter-append p xs (x ∷ [])) ∙ length-append (filter p xs) (filter p (x ∷ []))
+-- ---- sums
+-- a sum over lists: how many there are, or how many bytes they have
+pub record IsSum {A : Type 0} (sum : List A → ℕ) (each : A → ℕ) : Type 0 where
+  none : sum [] ≡ 0
+  one : (x : A) → sum (x ∷ []) ≡ each x
+  joined : (xs ys : List A) → sum (xs ++ ys) ≡ sum xs + sum ys
 
-more_bytes : {A : Type 0} (f : A → ℕ) (p : A → Bool) (xs : List A) (x : A)
-    → sum_by f (filter p (xs ++ x ∷ [])) ≡ sum_by f (filter p xs) + sum_by f (filter p (x ∷ []))
-more_bytes f p xs x = ap (sum_by f) (filter-append p xs (x ∷ [])) ∙ sum_by-append f (filter p xs) (filter p (x ∷ []))
+pub sum-length : {A : Type 0} → IsSum (length {A = A}) (λ x. 1)
+sum-length = record { none = refl; one = λ x. refl; joined = λ xs ys. length-append xs ys }
 
-module _ (x : Entry) where
-  on_budgets-events : (s : Source) → on_budgets s 1 ≡ length (cond (is_of_budgets s) (x ∷ []) [])
-  on_budgets-events OfBudgets = refl
-  on_budgets-events (OfOpens shares) = refl
-  on_budgets-events (OfShare shares i t) = refl
+pub sum-each : {A : Type 0} (f : A → ℕ) → IsSum (sum_by f) f
+sum-each f = record { none = refl; one = λ x. omega arith; joined = λ xs ys. sum_by-append f xs ys }
 
-  on_budgets-bytes : (s : Source) → on_budgets s (size_of x.event) ≡ bytes_in (cond (is_of_budgets s) (x ∷ []) [])
-  on_budgets-bytes OfBudgets = omega arith
-  on_budgets-bytes (OfOpens shares) = refl
-  on_budgets-bytes (OfShare shares i t) = refl
+module _ {A : Type 0} (sum : List A → ℕ) (each : A → ℕ) (is : IsSum sum each) where
+  sum-if : (b : Bool) (x : A) → sum (cond b (x ∷ []) []) ≡ (if b then each x else 0)
+  sum-if true x = is.one x
+  sum-if false x = is.none
 
-  on_opens-events : (s : Source) → on_opens s ≡ length (cond (is_of_opens s) (x ∷ []) [])
-  on_opens-events OfBudgets = refl
-  on_opens-events (OfOpens shares) = refl
-  on_opens-events (OfShare shares i t) = refl
+  -- with one more
+  sum-more : (p : A → Bool) (xs : List A) (x : A)
+      → sum (filter p (xs ++ x ∷ [])) ≡ sum (filter p xs) + (if p x then each x else 0)
+  sum-more p xs x =
+      ap sum (filter-append p xs (x ∷ []))
+      ∙ (is.joined (filter p xs) (filter p (x ∷ [])) ∙ ap (λ n. sum (filter p xs) + n) (sum-if (p x) x))
 
-  on_shares-events : (i : ℕ) (t : Share) (s : Source)
-      → length (drawn_on i t (on_shares s (size_of x.event))) ≡ length (cond (is_of_share i t s) (x ∷ []) [])
-  on_shares-events i t OfBudgets = refl
-  on_shares-events i t (OfOpens shares) = refl
-  on_shares-events i t (OfShare shares j u) = go ((j == i) && same_share u t)
-    where
-      go : (b : Bool)
-          → length {A = Draw} (cond b (record { slot = j; share = u; size = size_of x.event } ∷ []) [])
-          ≡ length (cond b (x ∷ []) [])
-      go true = refl
-      go false = refl
+-- ---- what a source draws
+on_budgets-is : (s : Source) (n : ℕ) → on_budgets s n ≡ (if is_of_budgets s then n else 0)
+on_budgets-is OfBudgets n = refl
+on_budgets-is (OfOpens shares) n = refl
+on_budgets-is (OfShare shares i t) n = refl
 
-  on_shares-bytes : (i : ℕ) (t : Share) (s : Source)
-      → sum_by (λ d. d.size) (drawn_on i t (on_shares s (size_of x.event)))
-      ≡ bytes_in (cond (is_of_share i t s) (x ∷ []) [])
-  on_shares-bytes i t OfBudgets = refl
-  on_shares-bytes i t (OfOpens shares) = refl
-  on_shares-bytes i t (OfShare shares j u) = go ((j == i) && same_share u t)
-    where
-      go : (b : Bool)
-          → sum_by {X = Draw} (λ d. d.size) (cond b (record { slot = j; share = u; size = size_of x.event } ∷ []) [])
-          ≡ bytes_in (cond b (x ∷ []) [])
-      go true = refl
-      go false = refl
+on_opens-is : (s : Source) → on_opens s ≡ (if is_of_opens s then 1 else 0)
+on_opens-is OfBudgets = refl
+on_opens-is (OfOpens shares) = refl
+on_opens-is (OfShare shares i t) = refl
 
 -- ---- what an opening leaves of the draws
 module _ (i : ℕ) (t : Share) where
@@ -152,29 +138,28 @@ module _ (net : Net) (e : Step) (i : ℕ) (t : Share) where
       ∙ ap (λ (ds : List Draw). drawn_on i t (on_shares (source net.roster e) (size_of e)) ++ ds)
       (drawn-left i t e net.draws o))
 
-  pub events-more : is_opening i e ≡ false
-      → events_drawn i t (next net e).draws
-      ≡ events_drawn i t net.draws + length (drawn_on i t (on_shares (source net.roster e) (size_of e)))
-  events-more o =
-      ap length (drawn-more o)
-      ∙ (length-append (drawn_on i t (on_shares (source net.roster e) (size_of e))) (drawn_on i t net.draws)
-      ∙ swap (length (drawn_on i t (on_shares (source net.roster e) (size_of e)))) (events_drawn i t net.draws))
+  -- a sum over them, of which each draw has its part by its size
+  module _ (f : ℕ → ℕ) (sum : List Draw → ℕ) (is : IsSum sum (λ d. f d.size)) where
+    sum-drawn : (s : Source) (size : ℕ)
+        → sum (drawn_on i t (on_shares s size)) ≡ (if is_of_share i t s then f size else 0)
+    sum-drawn OfBudgets size = is.none
+    sum-drawn (OfOpens shares) size = is.none
+    sum-drawn (OfShare shares j u) size =
+        sum-if sum (λ d. f d.size) is ((j == i) && same_share u t) (record { slot = j; share = u; size = size })
 
-  pub bytes-more : is_opening i e ≡ false
-      → bytes_drawn i t (next net e).draws
-      ≡ bytes_drawn i t net.draws + bytes_drawn i t (on_shares (source net.roster e) (size_of e))
-  bytes-more o =
-      ap (sum_by (λ d. d.size)) (drawn-more o)
-      ∙ (sum_by-append (λ d. d.size) (drawn_on i t (on_shares (source net.roster e) (size_of e)))
-      (drawn_on i t net.draws)
-      ∙ swap (bytes_drawn i t (on_shares (source net.roster e) (size_of e))) (bytes_drawn i t net.draws))
+    pub drawn-next : is_opening i e ≡ false
+        → sum (drawn_on i t (next net e).draws)
+        ≡ sum (drawn_on i t net.draws) + (if is_of_share i t (source net.roster e) then f (size_of e) else 0)
+    drawn-next o =
+        let new = drawn_on i t (on_shares (source net.roster e) (size_of e)) in
+        ap sum (drawn-more o)
+        ∙ (is.joined new (drawn_on i t net.draws)
+        ∙ (swap (sum new) (sum (drawn_on i t net.draws))
+        ∙ ap (λ n. sum (drawn_on i t net.draws) + n) (sum-drawn (source net.roster e) (size_of e))))
 
 module _ (config : Config) (before : List Entry) (net : Net) (x : Entry) (h : net.roster ≡ config.roster)
     (c : IsCountOf config before net) where
-  abbrev drawn : Source
-  drawn = source config.roster x.event
-
-  there : source net.roster x.event ≡ drawn
+  there : source net.roster x.event ≡ source config.roster x.event
   there = ap (λ o. source o x.event) h
 
   -- the entries since its opening
@@ -185,54 +170,50 @@ module _ (config : Config) (before : List Entry) (net : Net) (x : Entry) (h : ne
       → since_opened i (before ++ x ∷ []) ≡ since_opened i before ++ x ∷ []
   since-next i o = since-more i before x ∙ ap (λ b. if b then [] else since_opened i before ++ x ∷ []) o
 
-  share-events : (i : ℕ) (t : Share)
-      → events_drawn i t (next net x.event).draws
-      ≡ length (drawing config (is_of_share i t) (since_opened i (before ++ x ∷ [])))
-  share-events i t = go (is_opening i x.event) refl
-    where
-      go : (b : Bool) → is_opening i x.event ≡ b
-          → events_drawn i t (next net x.event).draws
-          ≡ length (drawing config (is_of_share i t) (since_opened i (before ++ x ∷ [])))
-      go true o = ap length (drawn-anew net x.event i t o)
-          ∙ sym (ap (λ xs. length (drawing config (is_of_share i t) xs)) (since-anew i o))
-      go false o =
-          events-more net x.event i t o
-          ∙ (ap₂ (λ a b. a + b) (c.share_events i t)
-          (ap (λ z. length (drawn_on i t (on_shares z (size_of x.event)))) there ∙ on_shares-events x i t drawn)
-          ∙ (sym (more (λ y. is_of_share i t (source config.roster y.event)) (since_opened i before) x)
-          ∙ sym (ap (λ xs. length (drawing config (is_of_share i t) xs)) (since-next i o))))
+  -- a sum over the entries that draw on something, with one more
+  sum-drawing : (sum : List Entry → ℕ) (each : Entry → ℕ) → IsSum sum each → (test : Source → Bool) (xs : List Entry)
+      → sum (drawing config test xs) + (if test (source net.roster x.event) then each x else 0)
+      ≡ sum (drawing config test (xs ++ x ∷ []))
+  sum-drawing sum each is test xs =
+      ap (λ s. sum (drawing config test xs) + (if test s then each x else 0)) there
+      ∙ sym (sum-more sum each is (λ y. test (source config.roster y.event)) xs x)
 
-  share-bytes : (i : ℕ) (t : Share)
-      → bytes_drawn i t (next net x.event).draws
-      ≡ bytes_in (drawing config (is_of_share i t) (since_opened i (before ++ x ∷ [])))
-  share-bytes i t = go (is_opening i x.event) refl
+  -- over those on a share, where the draws on it have the same sum
+  share-next : (f : ℕ → ℕ) (of_draws : List Draw → ℕ) (of_entries : List Entry → ℕ)
+      → IsSum of_draws (λ d. f d.size) → IsSum of_entries (λ y. f (size_of y.event)) → (i : ℕ) (t : Share)
+      → of_draws (drawn_on i t net.draws) ≡ of_entries (drawing config (is_of_share i t) (since_opened i before))
+      → of_draws (drawn_on i t (next net x.event).draws)
+      ≡ of_entries (drawing config (is_of_share i t) (since_opened i (before ++ x ∷ [])))
+  share-next f of_draws of_entries draws entries i t same = go (is_opening i x.event) refl
     where
+      of_share : List Entry → ℕ
+      of_share xs = of_entries (drawing config (is_of_share i t) xs)
+
       go : (b : Bool) → is_opening i x.event ≡ b
-          → bytes_drawn i t (next net x.event).draws
-          ≡ bytes_in (drawing config (is_of_share i t) (since_opened i (before ++ x ∷ [])))
-      go true o = ap (sum_by (λ d. d.size)) (drawn-anew net x.event i t o)
-          ∙ sym (ap (λ xs. bytes_in (drawing config (is_of_share i t) xs)) (since-anew i o))
+          → of_draws (drawn_on i t (next net x.event).draws) ≡ of_share (since_opened i (before ++ x ∷ []))
+      go true o = ap of_draws (drawn-anew net x.event i t o)
+          ∙ (draws.none ∙ (sym entries.none ∙ sym (ap of_share (since-anew i o))))
       go false o =
-          bytes-more net x.event i t o
-          ∙ (ap₂ (λ a b. a + b) (c.share_bytes i t)
-          (ap (λ z. bytes_drawn i t (on_shares z (size_of x.event))) there ∙ on_shares-bytes x i t drawn)
-          ∙ (sym (more_bytes (λ y. size_of y.event) (λ y. is_of_share i t (source config.roster y.event))
-          (since_opened i before) x)
-          ∙ sym (ap (λ xs. bytes_in (drawing config (is_of_share i t) xs)) (since-next i o))))
+          drawn-next net x.event i t f of_draws draws o
+          ∙ (ap (λ n. n + (if is_of_share i t (source net.roster x.event) then f (size_of x.event) else 0)) same
+          ∙ (sum-drawing of_entries (λ y. f (size_of y.event)) entries (is_of_share i t) (since_opened i before)
+          ∙ sym (ap of_share (since-next i o))))
 
   count-next : IsCountOf config (before ++ x ∷ []) (next net x.event)
   count-next =
       let k = effect-keeps net x.event in
+      let s : Source = source net.roster x.event in
+      let bytes : IsSum bytes_in (λ y. size_of y.event) = sum-each (λ y. size_of y.event) in
       record {
-        events = ap₂ (λ a b. a + b) (k.events ∙ c.events) (ap (λ z. on_budgets z 1) there ∙ on_budgets-events x drawn)
-            ∙ sym (more (λ y. is_of_budgets (source config.roster y.event)) before x);
-        bytes = ap₂ (λ a b. a + b) (k.bytes ∙ c.bytes)
-            (ap (λ z. on_budgets z (size_of x.event)) there ∙ on_budgets-bytes x drawn)
-            ∙ sym (more_bytes (λ y. size_of y.event) (λ y. is_of_budgets (source config.roster y.event)) before x);
-        opens = ap₂ (λ a b. a + b) (k.opens ∙ c.opens) (ap on_opens there ∙ on_opens-events x drawn)
-            ∙ sym (more (λ y. is_of_opens (source config.roster y.event)) before x);
-        share_events = share-events;
-        share_bytes = share-bytes;
+        events = ap₂ (λ a b. a + b) (k.events ∙ c.events) (on_budgets-is s 1)
+            ∙ sum-drawing length (λ y. 1) sum-length is_of_budgets before;
+        bytes = ap₂ (λ a b. a + b) (k.bytes ∙ c.bytes) (on_budgets-is s (size_of x.event))
+            ∙ sum-drawing bytes_in (λ y. size_of y.event) bytes is_of_budgets before;
+        opens = ap₂ (λ a b. a + b) (k.opens ∙ c.opens) (on_opens-is s)
+            ∙ sum-drawing length (λ y. 1) sum-length is_of_opens before;
+        share_events = λ i t. share-next (λ n. 1) length length sum-length sum-length i t (c.share_events i t);
+        share_bytes = λ i t. share-next (λ n. n) (sum_by (λ d. d.size)) bytes_in (sum-each (λ d. d.size)) bytes i t
+            (c.share_bytes i t);
       }
 
 -- ---- a whole run

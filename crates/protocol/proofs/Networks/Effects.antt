@@ -74,9 +74,9 @@ numbers-drop i (s ∷ ss) = go (not (s.number == i)) (numbers-drop i ss)
     go true e = ap (λ ns. s.number ∷ ns) e
     go false e = e
 
-keeps-act : (net : Net) (i u : ℕ) (e : NodeEvent) → Keeps net (numbers net.slots) net.draws (act net i u e).0
-unfolding act
-keeps-act net i u e =
+keeps-slots : (net : Net) (next : List Slot) (ds : List Draw) (ns : List ℕ) → numbers next ≡ ns
+    → Keeps net ns ds (record net { slots = next; draws = ds })
+keeps-slots net next ds ns e =
     record {
       number = refl;
       hosts = refl;
@@ -86,50 +86,21 @@ keeps-act net i u e =
       bytes = refl;
       opens = refl;
       draws = refl;
-      slots = numbers-act (act_in u e) i net.slots;
+      slots = e;
     }
 
+keeps-act : (net : Net) (i u : ℕ) (e : NodeEvent) → Keeps net (numbers net.slots) net.draws (act net i u e).0
+unfolding act
+keeps-act net i u e = keeps-slots net _ net.draws _ (numbers-act (act_in u e) i net.slots)
+
 keeps-self : (net : Net) → Keeps net (numbers net.slots) net.draws net
-keeps-self net =
-    record {
-      number = refl;
-      hosts = refl;
-      budgets = refl;
-      roster = refl;
-      events = refl;
-      bytes = refl;
-      opens = refl;
-      draws = refl;
-      slots = refl;
-    }
+keeps-self net = keeps-slots net net.slots net.draws _ refl
 
 pub effect-keeps : (net : Net) (e : Step)
     → Keeps net (opened_after e (numbers net.slots)) (left e net.draws) (effect net e).0
 unfolding effect
-effect-keeps net (Opens j) =
-    record {
-      number = refl;
-      hosts = refl;
-      budgets = refl;
-      roster = refl;
-      events = refl;
-      bytes = refl;
-      opens = refl;
-      draws = refl;
-      slots = numbers-push net.slots _;
-    }
-effect-keeps net (Closes j) =
-    record {
-      number = refl;
-      hosts = refl;
-      budgets = refl;
-      roster = refl;
-      events = refl;
-      bytes = refl;
-      opens = refl;
-      draws = refl;
-      slots = numbers-drop j net.slots;
-    }
+effect-keeps net (Opens j) = keeps-slots net _ (renewed j net.draws) _ (numbers-push net.slots _)
+effect-keeps net (Closes j) = keeps-slots net _ net.draws _ (numbers-drop j net.slots)
 effect-keeps net (Asks j u x) = keeps-act net j u _
 effect-keeps net (Delivers u size (Read e)) = keeps-act net e.slot u _
 effect-keeps net (Delivers u size (Fault n)) = keeps-self net
