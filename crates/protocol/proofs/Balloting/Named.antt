@@ -1,11 +1,12 @@
 -- The ballots that rows and the own position name: which are candidates. `Sending` stands on it.
-use Rattle.std.proofs.Common.{◌≡◌, true, nat_lt, List, ◌++◌, flat_map, option_to_list, ◌⊎◌}
+use Rattle.std.proofs.Common.{◌≡◌, true, nat_lt, List, ◌++◌, filter, flat_map, option_to_list, ◌⊎◌}
 use Rattle.types.specs.declared.ballot.Ballot.{Ballot}
 use Rattle.types.specs.declared.kind.Kind.{Kind}
+use Rattle.types.specs.declared.statement.Statement.{Statement}
 use Rattle.protocol.specs.Views.{Seen}
 use Rattle.types.specs.declared.state.Votes.{Votes}
 use Rattle.protocol.specs.States.{position}
-use Rattle.protocol.specs.Candidates.{named_by, committed_by, named, commits}
+use Rattle.protocol.specs.Candidates.{is_counted, named_by, committed_by, named, commits}
 use Rattle.protocol.specs.Extremes.{IsIn}
 use Rattle.protocol.proofs.Ballots.Above.{in-filter, from-filter, flat_map-append, flat_map-left, flat_map-right}
 
@@ -22,38 +23,38 @@ own_named w = flat_map named_by (option_to_list (position w))
 abbrev pub own_commits : Votes → List Ballot
 own_commits w = flat_map committed_by (option_to_list (position w))
 
-pub named-parts : (s : Seen) (w : Votes) (t : Ballot) → IsIn t (named s w)
-    → (nat_lt 0 t.counter ≡ true) × (IsIn t (row_named s) ⊎ IsIn t (own_named w))
-unfolding named
-named-parts s w t i = let r =
-    from-filter (λ b. nat_lt 0 b.counter) t (flat_map named_by (s.rows Kind.Ballot ++ option_to_list (position w))) i in
-    (r.1, flat_map-append named_by (s.rows Kind.Ballot) (option_to_list (position w)) t r.0)
+-- what some statements name by rows and position, from counter 1 on, a row or the own position names
+module _ (by : Statement → List Ballot) (rows own : List Statement) (t : Ballot) where
+  parts : IsIn t (filter is_counted (flat_map by (rows ++ own)))
+      → (nat_lt 0 t.counter ≡ true) × (IsIn t (flat_map by rows) ⊎ IsIn t (flat_map by own))
+  parts i = let r = from-filter is_counted t (flat_map by (rows ++ own)) i in (r.1, flat_map-append by rows own t r.0)
 
-pub named-row : (s : Seen) (w : Votes) (t : Ballot) → nat_lt 0 t.counter ≡ true → IsIn t (row_named s)
-    → IsIn t (named s w)
-unfolding named
-named-row s w t c i =
-    in-filter (λ b. nat_lt 0 b.counter) t (flat_map named_by (s.rows Kind.Ballot ++ option_to_list (position w)))
-    (flat_map-left named_by (s.rows Kind.Ballot) (option_to_list (position w)) t i) c
+  of_row : nat_lt 0 t.counter ≡ true → IsIn t (flat_map by rows)
+      → IsIn t (filter is_counted (flat_map by (rows ++ own)))
+  of_row c i = in-filter is_counted t (flat_map by (rows ++ own)) (flat_map-left by rows own t i) c
 
-pub named-own : (s : Seen) (w : Votes) (t : Ballot) → nat_lt 0 t.counter ≡ true → IsIn t (own_named w)
-    → IsIn t (named s w)
-unfolding named
-named-own s w t c i =
-    in-filter (λ b. nat_lt 0 b.counter) t (flat_map named_by (s.rows Kind.Ballot ++ option_to_list (position w)))
-    (flat_map-right named_by (s.rows Kind.Ballot) (option_to_list (position w)) t i) c
+  of_own : nat_lt 0 t.counter ≡ true → IsIn t (flat_map by own)
+      → IsIn t (filter is_counted (flat_map by (rows ++ own)))
+  of_own c i = in-filter is_counted t (flat_map by (rows ++ own)) (flat_map-right by rows own t i) c
 
-pub commits-parts : (s : Seen) (w : Votes) (t : Ballot) → IsIn t (commits s w)
-    → (nat_lt 0 t.counter ≡ true) × (IsIn t (row_commits s) ⊎ IsIn t (own_commits w))
-unfolding commits
-commits-parts s w t i =
-    let r = from-filter (λ b. nat_lt 0 b.counter) t
-    (flat_map committed_by (s.rows Kind.Ballot ++ option_to_list (position w))) i in
-    (r.1, flat_map-append committed_by (s.rows Kind.Ballot) (option_to_list (position w)) t r.0)
+module _ (s : Seen) (w : Votes) (t : Ballot) where
+  pub named-parts : IsIn t (named s w) → (nat_lt 0 t.counter ≡ true) × (IsIn t (row_named s) ⊎ IsIn t (own_named w))
+  unfolding named
+  named-parts i = parts named_by (s.rows Kind.Ballot) (option_to_list (position w)) t i
 
-pub commits-row : (s : Seen) (w : Votes) (t : Ballot) → nat_lt 0 t.counter ≡ true → IsIn t (row_commits s)
-    → IsIn t (commits s w)
-unfolding commits
-commits-row s w t c i =
-    in-filter (λ b. nat_lt 0 b.counter) t (flat_map committed_by (s.rows Kind.Ballot ++ option_to_list (position w)))
-    (flat_map-left committed_by (s.rows Kind.Ballot) (option_to_list (position w)) t i) c
+  pub named-row : nat_lt 0 t.counter ≡ true → IsIn t (row_named s) → IsIn t (named s w)
+  unfolding named
+  named-row c i = of_row named_by (s.rows Kind.Ballot) (option_to_list (position w)) t c i
+
+  pub named-own : nat_lt 0 t.counter ≡ true → IsIn t (own_named w) → IsIn t (named s w)
+  unfolding named
+  named-own c i = of_own named_by (s.rows Kind.Ballot) (option_to_list (position w)) t c i
+
+  pub commits-parts : IsIn t (commits s w)
+      → (nat_lt 0 t.counter ≡ true) × (IsIn t (row_commits s) ⊎ IsIn t (own_commits w))
+  unfolding commits
+  commits-parts i = parts committed_by (s.rows Kind.Ballot) (option_to_list (position w)) t i
+
+  pub commits-row : nat_lt 0 t.counter ≡ true → IsIn t (row_commits s) → IsIn t (commits s w)
+  unfolding commits
+  commits-row c i = of_row committed_by (s.rows Kind.Ballot) (option_to_list (position w)) t c i

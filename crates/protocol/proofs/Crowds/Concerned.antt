@@ -5,10 +5,10 @@ use Rattle.std.proofs.lemmas.Bool.{and_parts, and_from, eqb-true, false≢true, 
 use Rattle.types.specs.declared.kind.Kind.{Kind}
 use Rattle.types.specs.declared.event.Refusal.TheVariants.{NoSuchNode, SlotNotOpen, SlotOpenAlready, TooManySlots, HostedSender, NotEmitted, BadValue, ProposedAlready, ShareFull, ShareBytesFull}
 use Rattle.protocol.specs.Sets.{Names, among}
-use Rattle.protocol.specs.Rosters.{Shares, Roster, Share, Draw, is_on, reserved, events_of}
+use Rattle.protocol.specs.Rosters.{Shares, Roster, Share, Source, Draw, is_on, reserved, events_of}
 use Rattle.protocol.specs.Rosters.Share.{Own, Pair}
 use Rattle.protocol.specs.Rosters.Source.{OfBudgets, OfOpens, OfShare}
-use Rattle.protocol.specs.Networks.{Place, Slot, Net, Step, slices_of, places_at, known, emission, has_proposal, is_hosted, is_bad_value, source, is_full, is_full_of_bytes, tests, tests_on, size_of, on_shares}
+use Rattle.protocol.specs.Networks.{Place, Slot, Net, Step, slices_of, places_at, known, emission, has_proposal, is_hosted, is_bad_value, source, source_by, is_hosted_not, is_open_not, is_full, is_full_of_bytes, tests, tests_on, size_of, on_shares}
 use Rattle.protocol.specs.Networks.Reading.{Read, Fault}
 use Rattle.protocol.specs.Networks.Step.{Opens, Closes, Asks, Delivers, Hears, NominationTimes, BallotTimes, Reslices}
 use Rattle.protocol.specs.Isolation.{Kept, when_kept}
@@ -104,6 +104,21 @@ kept-false true k h = absurd (true≢false h)
 kept-false false k h = refl
 
 module _ (R : Names) (i : ℕ) (r : Roster) (on : (u : ℕ) → R u ≡ true → among r.names u ≡ true) where
+  -- it draws on a member's share
+  draws-ours : (net : Net) → net.roster ≡ Some r → (e : Step) (j : ℕ) (s : Share) → source_by r e ≡ reserved r j s
+      → of_members R s ≡ true → source net.roster e ≡ OfShare r.shares j s
+  draws-ours net h e j s is m = ap (λ o. source o e) h ∙ (is ∙ reserved-ours R i r on j s m)
+
+  -- a member's own step is tested for no more than the member, the slot and the share
+  own-tested : (net : Net) (j u : ℕ) → (j == i) ≡ true → R u ≡ true → (s : Source) → s ≡ OfShare r.shares j (Own u)
+      → is_hosted_not net u ∷ is_open_not net j ∷ is_full net s ∷ []
+      ≡ (not (is_some (cast_of R net.hosts u)), NoSuchNode) ∷ (not (among (numbers net.slots) j), SlotNotOpen)
+      ∷ full_in (view R i net) (OfShare r.shares j (Own u)) ∷ []
+  own-tested net j u e m s d =
+      ap (λ z. is_hosted_not net u ∷ is_open_not net j ∷ is_full net z ∷ []) d
+      ∙ (λ k. (not (hosted R i net u m k), NoSuchNode) ∷ (not (open-same net.slots j k), SlotNotOpen)
+      ∷ full R i net r.shares j (Own u) e m k ∷ [])
+
   pub as_concerned : (net : Net) → net.roster ≡ Some r → (e : Step) → concerns R i e ≡ true → Concerned R i r on net e
   as_concerned net h (Opens j) c =
       let d : source net.roster (Opens j) ≡ OfOpens r.shares = ap (λ o. source o (Opens j)) h in
@@ -126,8 +141,7 @@ module _ (R : Names) (i : ℕ) (r : Roster) (on : (u : ℕ) → R u ≡ true →
       }
   as_concerned net h (Asks j u x) c =
       let m = and_parts (j == i) (R u) (kept-true ((j == i) && R u) _ c) in
-      let d : source net.roster (Asks j u x) ≡ OfShare r.shares j (Own u) = ap (λ o. source o (Asks j u x)) h
-      ∙ reserved-ours R i r on j (Own u) m.1 in
+      let d = draws-ours net h (Asks j u x) j (Own u) refl m.1 in
       record {
         draws = d;
         tested = ap (λ s. tests_on net s (Asks j u x)) d
@@ -140,8 +154,7 @@ module _ (R : Names) (i : ℕ) (r : Roster) (on : (u : ℕ) → R u ≡ true →
       let p = and_parts ((e.slot == i) && R u) (R e.sender) (kept-true ((e.slot == i) && R u && R e.sender) _ c) in
       let m = and_parts (e.slot == i) (R u) p.0 in
       let both : (R u && R e.sender) ≡ true = and_from (R u) (R e.sender) m.1 p.1 in
-      let d : source net.roster (Delivers u size (Read e)) ≡ OfShare r.shares e.slot (Pair u e.sender) =
-      ap (λ o. source o (Delivers u size (Read e))) h ∙ reserved-ours R i r on e.slot (Pair u e.sender) both in
+      let d = draws-ours net h (Delivers u size (Read e)) e.slot (Pair u e.sender) refl both in
       record {
         draws = d;
         tested = ap (λ s. tests_on net s (Delivers u size (Read e))) d
@@ -154,8 +167,7 @@ module _ (R : Names) (i : ℕ) (r : Roster) (on : (u : ℕ) → R u ≡ true →
       let p = and_parts ((j == i) && R u) (R from) (kept-true ((j == i) && R u && R from) _ c) in
       let m = and_parts (j == i) (R u) p.0 in
       let both : (R u && R from) ≡ true = and_from (R u) (R from) m.1 p.1 in
-      let d : source net.roster (Hears j u from kind n) ≡ OfShare r.shares j (Pair u from) =
-      ap (λ o. source o (Hears j u from kind n)) h ∙ reserved-ours R i r on j (Pair u from) both in
+      let d = draws-ours net h (Hears j u from kind n) j (Pair u from) refl both in
       record {
         draws = d;
         tested = ap (λ s. tests_on net s (Hears j u from kind n)) d
@@ -166,40 +178,16 @@ module _ (R : Names) (i : ℕ) (r : Roster) (on : (u : ℕ) → R u ≡ true →
       }
   as_concerned net h (NominationTimes j u n) c =
       let m = and_parts (j == i) (R u) (kept-true ((j == i) && R u) _ c) in
-      let d : source net.roster (NominationTimes j u n) ≡ OfShare r.shares j (Own u) =
-      ap (λ o. source o (NominationTimes j u n)) h ∙ reserved-ours R i r on j (Own u) m.1 in
-      record {
-        draws = d;
-        tested = ap (λ s. tests_on net s (NominationTimes j u n)) d
-            ∙ (λ k. (not (hosted R i net u m.1 k), NoSuchNode) ∷ (
-              not (open-same net.slots j k),
-              SlotNotOpen,
-            ) ∷ full R i net r.shares j (Own u) m.0 m.1 k ∷ []);
-      }
+      let d = draws-ours net h (NominationTimes j u n) j (Own u) refl m.1 in
+      record { draws = d; tested = own-tested net j u m.0 m.1 (source net.roster (NominationTimes j u n)) d }
   as_concerned net h (BallotTimes j u n) c =
       let m = and_parts (j == i) (R u) (kept-true ((j == i) && R u) _ c) in
-      let d : source net.roster (BallotTimes j u n) ≡ OfShare r.shares j (Own u) =
-      ap (λ o. source o (BallotTimes j u n)) h ∙ reserved-ours R i r on j (Own u) m.1 in
-      record {
-        draws = d;
-        tested = ap (λ s. tests_on net s (BallotTimes j u n)) d
-            ∙ (λ k. (not (hosted R i net u m.1 k), NoSuchNode) ∷ (
-              not (open-same net.slots j k),
-              SlotNotOpen,
-            ) ∷ full R i net r.shares j (Own u) m.0 m.1 k ∷ []);
-      }
+      let d = draws-ours net h (BallotTimes j u n) j (Own u) refl m.1 in
+      record { draws = d; tested = own-tested net j u m.0 m.1 (source net.roster (BallotTimes j u n)) d }
   as_concerned net h (Reslices j u q) c =
       let m = and_parts (j == i) (R u) (kept-true ((j == i) && R u) _ c) in
-      let d : source net.roster (Reslices j u q) ≡ OfShare r.shares j (Own u) = ap (λ o. source o (Reslices j u q)) h
-      ∙ reserved-ours R i r on j (Own u) m.1 in
-      record {
-        draws = d;
-        tested = ap (λ s. tests_on net s (Reslices j u q)) d
-            ∙ (λ k. (not (hosted R i net u m.1 k), NoSuchNode) ∷ (
-              not (open-same net.slots j k),
-              SlotNotOpen,
-            ) ∷ full R i net r.shares j (Own u) m.0 m.1 k ∷ []);
-      }
+      let d = draws-ours net h (Reslices j u q) j (Own u) refl m.1 in
+      record { draws = d; tested = own-tested net j u m.0 m.1 (source net.roster (Reslices j u q)) d }
 
   -- ---- what an applied step that concerns R draws
   pub ours-left : (e : Step) → concerns R i e ≡ true → (ds : List Draw)

@@ -1,5 +1,5 @@
 -- What the worked examples are told in: letters for names and values, small slices, envelopes and networks.
-use Rattle.std.proofs.Common.{ℕ, None, List, [], ◌∷◌, map}
+use Rattle.std.proofs.Common.{ℕ, Bool, None, List, [], ◌∷◌, map}
 use Rattle.types.specs.Trees.{Slices, node, none}
 use Rattle.types.specs.Statements.{Sent}
 use Rattle.types.specs.declared.ballot.Ballot.{Ballot}
@@ -7,7 +7,8 @@ use Rattle.types.specs.declared.statement.Statement.{Statement}
 use Rattle.protocol.specs.Networks.Step.{Delivers}
 use Rattle.protocol.specs.Networks.{Step, Host, Budgets, Reply}
 use Rattle.protocol.specs.Networks.Reading.{Read}
-use Rattle.protocol.specs.Hosts.{Config, nets, host_run}
+use Rattle.protocol.specs.Hosts.{Config, Entry, new_net, nets, journal, host_run}
+use Rattle.protocol.specs.Isolation.{closure}
 
 -- ---- names
 abbrev pub A : ℕ
@@ -80,6 +81,23 @@ host u slices = record { name = u; slices = slices }
 -- a network that hosts A alone
 abbrev pub net_of_A : Slices → List Config
 net_of_A slices = one_net (host A slices ∷ []) (record { events = 100; bytes = 100000; slots = 1 })
+
+-- the one host of such a network, and the journal of its steps
+abbrev pub hosts_A : List Host
+hosts_A = host A two_of_bcd ∷ []
+
+abbrev pub run_A : List Step → List Entry
+run_A steps =
+    journal (new_net (record {
+      number = 1;
+      hosts = hosts_A;
+      budgets = record { events = 100; bytes = 100000; slots = 1 };
+      roster = None;
+    })) steps
+
+-- which of A, B, C, D, Z and E are in its closure
+abbrev pub members : List Entry → List Bool
+members entries = map (closure hosts_A 1 A entries) (A ∷ B ∷ C ∷ D ∷ Z ∷ E ∷ [])
 
 -- steps of network 1
 abbrev pub in_one : List Step → List (ℕ × Step)

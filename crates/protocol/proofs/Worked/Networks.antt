@@ -13,7 +13,7 @@ use Rattle.protocol.specs.Networks.Reply.{Done, Refused}
 use Rattle.protocol.specs.Hosts.{Config, Entry, new_net, nets, journal, host_run}
 use Rattle.protocol.specs.Isolation.{closure, kept_of, outs_of}
 use Rattle.protocol.proofs.Worked.Everything.{everything}
-use Rattle.protocol.proofs.Worked.Letters.{A, B, C, D, E, Z, k, m, q, x, y, at, just, two_of_bcd, three_of_abcd, by, to_A, one_net, host, in_one, replies}
+use Rattle.protocol.proofs.Worked.Letters.{A, B, C, D, E, Z, k, m, q, x, y, at, just, two_of_bcd, three_of_abcd, by, to_A, one_net, host, in_one, replies, hosts_A, run_A, members}
 
 -- ---- refusals
 abbrev two_hosts : List Config
@@ -68,18 +68,6 @@ unfolding everything
 strangers_use_up_bytes = refl
 
 -- ---- closures and kept steps
-abbrev hosts : List Host
-hosts = host A two_of_bcd ∷ []
-
-abbrev run : List Step → List Entry
-run steps =
-    journal (new_net (record {
-      number = 1;
-      hosts = hosts;
-      budgets = record { events = 100; bytes = 100000; slots = 1 };
-      roster = None;
-    })) steps
-
 abbrev from_C : Step
 from_C = to_A C (just C) (Prepare (at 8 k) (Some (at 8 k)) 6 0 0)
 
@@ -89,33 +77,30 @@ from_Z = to_A Z (just Z) (Prepare (at 5 q) None 0 0 0)
 abbrev from_D : ℕ → Step
 from_D u = to_A D (just u) (Prepare (at 1 k) None 0 0 0)
 
-abbrev members : List Entry → List Bool
-members entries = map (closure hosts 1 A entries) (A ∷ B ∷ C ∷ D ∷ Z ∷ E ∷ [])
-
 -- who is named later is in the closure of the whole run, wherever its own envelope came
-pub named_later_is_in : members (run (Opens 1 ∷ from_B ∷ from_C ∷ from_Z ∷ from_D Z ∷ []))
+pub named_later_is_in : members (run_A (Opens 1 ∷ from_B ∷ from_C ∷ from_Z ∷ from_D Z ∷ []))
     ≡ true ∷ true ∷ true ∷ true ∷ true ∷ false ∷ []
 unfolding everything closure
 named_later_is_in = refl
 
-pub named_later_is_in_from_the_beginning : members (run (Opens 1 ∷ from_Z ∷ from_B ∷ from_C ∷ from_D Z ∷ []))
+pub named_later_is_in_from_the_beginning : members (run_A (Opens 1 ∷ from_Z ∷ from_B ∷ from_C ∷ from_D Z ∷ []))
     ≡ true ∷ true ∷ true ∷ true ∷ true ∷ false ∷ []
 unfolding everything closure
 named_later_is_in_from_the_beginning = refl
 
 abbrev without : List Entry
-without = run (Opens 1 ∷ from_B ∷ from_C ∷ from_D D ∷ [])
+without = run_A (Opens 1 ∷ from_B ∷ from_C ∷ from_D D ∷ [])
 
 abbrev with_stranger : List Entry
-with_stranger = run (Opens 1 ∷ from_B ∷ from_C ∷ from_Z ∷ from_D D ∷ [])
+with_stranger = run_A (Opens 1 ∷ from_B ∷ from_C ∷ from_Z ∷ from_D D ∷ [])
 
 pub stranger_is_out : members without ≡ true ∷ true ∷ true ∷ true ∷ false ∷ false ∷ []
 unfolding everything closure
 stranger_is_out = refl
 
 -- with and without the stranger the same steps are kept, and A gives out the same
-pub stranger_is_not_kept : kept_of (closure hosts 1 A without) 1 without
-    ≡ kept_of (closure hosts 1 A without) 1 with_stranger
+pub stranger_is_not_kept : kept_of (closure hosts_A 1 A without) 1 without
+    ≡ kept_of (closure hosts_A 1 A without) 1 with_stranger
 unfolding everything closure kept_of
 stranger_is_not_kept = refl
 

@@ -14,7 +14,7 @@ use Rattle.protocol.specs.Hosts.{Config, Entry, new_net, nets, journal, host_run
 use Rattle.protocol.specs.Isolation.{Kept, closure, kept_of}
 use Rattle.protocol.specs.Isolation.Kept.{Opened, Told}
 use Rattle.protocol.proofs.Worked.Everything.{everything}
-use Rattle.protocol.proofs.Worked.Letters.{A, B, C, D, E, Z, k, m, q, x, at, just, two_of_bcd, by, to_A, net_of_A, one_net, host, in_one, replies}
+use Rattle.protocol.proofs.Worked.Letters.{A, B, C, D, E, Z, k, m, q, x, at, just, two_of_bcd, by, to_A, net_of_A, one_net, host, in_one, replies, hosts_A, run_A, members}
 
 abbrev two_of_bcz : Slices
 two_of_bcz = record { threshold = 2; members = node B (node C (node Z none)) }
@@ -34,41 +34,26 @@ unfolding everything
 named_by_new_slices = refl
 
 -- ---- closures and kept steps
-abbrev hosts : List Host
-hosts = host A two_of_bcd ∷ []
-
-abbrev run : List Step → List Entry
-run steps =
-    journal (new_net (record {
-      number = 1;
-      hosts = hosts;
-      budgets = record { events = 100; bytes = 100000; slots = 1 };
-      roster = None;
-    })) steps
-
-abbrev members : List Entry → List Bool
-members entries = map (closure hosts 1 A entries) (A ∷ B ∷ C ∷ D ∷ Z ∷ E ∷ [])
-
 -- the closure has the names of the configured slices and of the new ones
-pub new_names_are_in : members (run (unnamed ++ Reslices 1 A two_of_bcz ∷ []))
+pub new_names_are_in : members (run_A (unnamed ++ Reslices 1 A two_of_bcz ∷ []))
     ≡ true ∷ true ∷ true ∷ true ∷ true ∷ false ∷ []
 unfolding everything closure
 new_names_are_in = refl
 
 -- names that are named no more stay in
-pub old_names_stay_in : members (run (unnamed ++ Reslices 1 A (just B) ∷ []))
+pub old_names_stay_in : members (run_A (unnamed ++ Reslices 1 A (just B) ∷ []))
     ≡ true ∷ true ∷ true ∷ true ∷ false ∷ false ∷ []
 unfolding everything closure
 old_names_stay_in = refl
 
 -- slices of another slot name nobody here
-pub other_slots_name_nobody : members (run (Opens 2 ∷ Reslices 2 A two_of_bcz ∷ []))
+pub other_slots_name_nobody : members (run_A (Opens 2 ∷ Reslices 2 A two_of_bcz ∷ []))
     ≡ true ∷ true ∷ true ∷ true ∷ false ∷ false ∷ []
 unfolding everything closure
 other_slots_name_nobody = refl
 
 abbrev with_new : List Entry
-with_new = run (unnamed ++ Reslices 1 A two_of_bcz ∷ [])
+with_new = run_A (unnamed ++ Reslices 1 A two_of_bcz ∷ [])
 
 abbrev four_kept : List Kept
 four_kept =
@@ -77,12 +62,12 @@ four_kept =
     (Take (by Z (just Z) (Prepare (at 5 q) None 0 0 0))) ∷ []
 
 -- new slices are a kept step: a run with them agrees with the run before them at four places, and at no fifth
-pub new_slices_are_kept : kept_of (closure hosts 1 A with_new) 1 with_new ≡ four_kept
+pub new_slices_are_kept : kept_of (closure hosts_A 1 A with_new) 1 with_new ≡ four_kept
     ++ Told A (Reslice two_of_bcz) ∷ []
 unfolding everything closure kept_of
 new_slices_are_kept = refl
 
-pub four_places_agree : kept_of (closure hosts 1 A with_new) 1 (run unnamed) ≡ four_kept
+pub four_places_agree : kept_of (closure hosts_A 1 A with_new) 1 (run_A unnamed) ≡ four_kept
 unfolding everything closure kept_of
 four_places_agree = refl
 
