@@ -1,4 +1,3 @@
 -- Slices: what satisfies them and what blocks them, and the quorums that they make.
 pub mod Satisfaction
 pub mod Quorums
-pub mod Blocking

@@ -1,6 +1,6 @@
 -- What each rule of PREPARE does to the votes, and where it does nothing: p, h, b that becomes h, and c. `Passes`
 -- stands on it.
-use Rattle.std.proofs.Common.{◌≡◌, ◌≤◌, Bool, true, false, not, ◌&&◌, ◌==◌, Option, Some, None, if◌then◌else◌, filter, is_none, refl, sym, ◌∙◌, ap, subst, inl, inr, ◌⊎◌, arith}
+use Rattle.std.proofs.Common.{◌≡◌, ℕ, ◌≤◌, Bool, true, false, not, ◌&&◌, ◌==◌, Option, Some, None, if◌then◌else◌, filter, is_none, refl, sym, ◌∙◌, ap, subst, inl, inr, ◌⊎◌, arith}
 use Rattle.std.proofs.lemmas.Bool.{cases_Bool, and_parts, and_from, true≢false, not-true}
 use Rattle.types.specs.declared.ballot.Ballot.{Ballot}
 use Rattle.protocol.specs.Views.{Seen}
@@ -137,6 +137,12 @@ follow_confirmed_prepared-moves b w = go w.confirmed_prepared refl
 abbrev pub Fixed : Votes → Option Ballot → Type 0
 Fixed w None = (b : Ballot) → w.ballot ≡ Some b → ((high_counter w b == b.counter) && not (is_aborted w b)) ≡ false
 Fixed w (Some c) = is_aborted w c ≡ false
+
+-- which does not look at c, nor at what is armed
+pub fixed-unread : (w : Votes) (c d : Option Ballot) (k : ℕ) → Fixed w c → Fixed (record w { commit = d; armed = k }) c
+unfolding is_aborted high_counter
+fixed-unread w None d k h = h
+fixed-unread w (Some c) d k h = h
 
 pub set_commit-still : (w : Votes) (c : Option Ballot) → w.commit ≡ c → Fixed w c → set_commit w ≡ w
 unfolding set_commit is_aborted high_counter

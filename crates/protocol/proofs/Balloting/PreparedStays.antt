@@ -16,7 +16,7 @@ use Rattle.protocol.proofs.Ballots.Order.{below-self, not_above-value}
 use Rattle.protocol.proofs.Ballots.Above.{above, Under, above-trans, under-trans, aborted-by}
 use Rattle.protocol.proofs.Balloting.Named.{own_named, named-parts, named-row, named-own}
 use Rattle.protocol.proofs.Balloting.OwnPosition.{position-preparing, own-preparing, accepted-from, not_own, own_under}
-use Rattle.protocol.proofs.Balloting.Moves.{accept_prepared-still, accept_prepared-moves, raise_confirmed_prepared-still, raise_confirmed_prepared-moves, follow_confirmed_prepared-moves, Fixed, set_commit-moves}
+use Rattle.protocol.proofs.Balloting.Moves.{fixed-unread, accept_prepared-still, accept_prepared-moves, raise_confirmed_prepared-still, raise_confirmed_prepared-moves, follow_confirmed_prepared-moves, Fixed, set_commit-moves}
 use Rattle.protocol.proofs.Equality.Sameness.{same_value-true}
 use Rattle.types.specs.Votes.{same_value}
 use Rattle.protocol.proofs.Sets.Numbers.{up_to}
@@ -52,21 +52,6 @@ own-prepared w b t p e k = rw (position-preparing w b p e) (rw k (inr (inl refl)
 
 preparing≢committing : {A : Type 0} (p : Phase) → p ≡ Preparing → p ≡ Committing → A
 preparing≢committing p a b = cc
-
--- what is aborted, and h's counter, do not look at c
-fixed-commit : (w : Votes) (c d : Option Ballot) → Fixed w c → Fixed (record w { commit = d }) c
-unfolding is_aborted high_counter
-fixed-commit w None d h = go w.confirmed_prepared w.prepared refl refl
-  where
-    go : (a p : Option Ballot) → w.confirmed_prepared ≡ a → w.prepared ≡ p → Fixed (record w { commit = d }) None
-    go a p i j = λ x e. same x a p i j (h x e)
-      where
-        same : (x : Ballot) (a p : Option Ballot) → w.confirmed_prepared ≡ a → w.prepared ≡ p
-            → ((high_counter w x == x.counter) && not (is_aborted w x)) ≡ false
-            → ((high_counter (record w { commit = d }) x == x.counter)
-            && not (is_aborted (record w { commit = d }) x)) ≡ false
-        same x a p i j k = k
-fixed-commit w (Some c) d h = h
 
 pub record Ready (s : Seen) (b : Ballot) (w : Votes) : Type 0 where
   pub u : Votes
@@ -181,7 +166,7 @@ module _ (s : Seen) (f : Fair s) (b : Ballot) (w : Votes) (phase : w.phase ≡ P
               ]
             ]);
         above_h = F.above;
-        fixed = fixed-commit w4 C.c C.c C.fixed;
+        fixed = fixed-unread w4 C.c C.c w4.armed C.fixed;
       }
     where
       under_each : (h p : Option Ballot) → ((t : Ballot) → h ≡ Some t → above p t ≡ false) → Under h p

@@ -12,12 +12,12 @@ use Rattle.protocol.specs.Passes.{arm, pass, while_open}
 use Rattle.types.specs.declared.state.Phase.TheVariants.{Preparing, Committing, Externalized}
 use Rattle.protocol.proofs.Balloting.Tests.{Fair}
 use Rattle.protocol.proofs.Balloting.Counters.{position-armed, Risen, risen-up, arm-moves, arm-still}
-use Rattle.protocol.proofs.Balloting.Moves.{follow_confirmed_prepared-still, set_commit-still}
+use Rattle.protocol.proofs.Balloting.Moves.{fixed-unread, follow_confirmed_prepared-still, set_commit-still}
 use Rattle.protocol.proofs.Balloting.PreparedStays.{Sound, Ready, ready}
 use Rattle.protocol.proofs.Balloting.EntersCommit.{entering, enter_not, enters}
 use Rattle.protocol.proofs.Balloting.Decides.{deciding, decide_not, decides}
 use Rattle.protocol.proofs.Balloting.CommittedStays.{widening, widen_not, Steady, steady}
-use Rattle.protocol.proofs.Passes.RuleByRule.{r2, r3, r4, r5, ruled, tail, begun, finish, pass-preparing, pass-committing, r4-at, r5-at, r23-preparing, r234-committing, counts-on, counts-still, own-counts, accept_prepared-armed, raise_confirmed_prepared-armed, fixed-armed, entering-armed}
+use Rattle.protocol.proofs.Passes.RuleByRule.{r2, r3, r4, r5, ruled, tail, begun, finish, IsOpen, open-runs, pass-ruled, r4-at, r5-at, r23-preparing, r234-committing, counts-on, counts-still, own-counts, accept_prepared-armed, raise_confirmed_prepared-armed, entering-armed}
 use Rattle.std.proofs.lemmas.Option.{same_Some}
 
 -- one more pass changes nothing, if nomination does not
@@ -44,11 +44,8 @@ confirm-none : (s : Seen) (b : Ballot) (w : Votes) → confirm_commit Preparing 
 unfolding confirm_commit
 confirm-none s b w = refl
 
-finish-preparing : (s : Seen) (g : Inputs) (w : Votes) → w.phase ≡ Preparing → finish s g w ≡ tail s g w
-finish-preparing s g w p = ap (λ q. while_open q (tail s g) w) p
-
-finish-committing : (s : Seen) (g : Inputs) (w : Votes) → w.phase ≡ Committing → finish s g w ≡ tail s g w
-finish-committing s g w p = ap (λ q. while_open q (tail s g) w) p
+finish-open : (s : Seen) (g : Inputs) (w : Votes) → IsOpen w → finish s g w ≡ tail s g w
+finish-open s g w o = open-runs (tail s g) w o
 
 finish-externalized : (s : Seen) (g : Inputs) (w : Votes) → w.phase ≡ Externalized → finish s g w ≡ w
 finish-externalized s g w p = ap (λ q. while_open q (tail s g) w) p
@@ -70,19 +67,19 @@ rests-preparing v s f g b w R none risen =
     let e3 : raise_confirmed_prepared s y ≡ y = raise_confirmed_prepared-armed s R.u a.0
     ∙ ap {B = Votes} (λ (x : Votes). record x { armed = a.0 }) R.still_h in
     let e4 : follow_confirmed_prepared R.n y ≡ y = follow_confirmed_prepared-still R.n y ball R.above_h in
-    let e5 : set_commit y ≡ y = set_commit-still y R.u.commit refl (fixed-armed R.u R.u.commit a.0 R.fixed) in
+    let e5 : set_commit y ≡ y = set_commit-still y R.u.commit refl (fixed-unread R.u R.u.commit R.u.commit a.0 R.fixed) in
     let e6 : r4 s y ≡ y = r4-at s y R.n Preparing ph ball
     ∙ enter_not s R.n y (ap (greatest None) (entering-armed s R.u a.0) ∙ none) in
     let e7 : r5 s y ≡ y = r5-at s y R.n Preparing ph ball ∙ confirm-none s R.n y in
     let e8 : arm s R.n y ≡ y = subst (λ (x : Votes). arm s R.n x ≡ x) a.1 (arm-still s R.n R.u) in
-    let e9 : finish s g y ≡ y = finish-preparing s g y ph
+    let e9 : finish s g y ≡ y = finish-open s g y (inl ph)
     ∙ (counts-still s f g y R.n ball (own-counts y R.n (inl ph) ball) risen ∙ e8) in
     let e23 : r3 s (r2 s y) ≡ y = r23-preparing s y R.n ph ball
     ∙ (ap (λ x. set_commit (follow_confirmed_prepared R.n (raise_confirmed_prepared s x))) e2
     ∙ (ap (λ x. set_commit (follow_confirmed_prepared R.n x)) e3 ∙ (ap set_commit e4 ∙ e5))) in
     let all : ruled s y ≡ y = ap (λ x. r5 s (r4 s x)) e23 ∙ (ap (r5 s) e6 ∙ e7) in
     subst (λ (x : Votes). Rests v s g x) (sym a.1)
-    (λ n. pass-preparing v s g y ph ∙
+    (λ n. pass-ruled v s g y (inl ph) ∙
     (ap (λ x. finish s g (ruled s x)) (begins v s g y R.n ball n) ∙ (ap (finish s g) all ∙ e9)))
 
 rests-committing : (v : ℕ) (s : Seen) → Fair s → (g : Inputs) (b : Ballot) (w : Votes) (R : Steady s b w)
@@ -99,13 +96,27 @@ rests-committing v s f g b w R none risen =
     let e7 : r5 s y ≡ y = r5-at s y R.n Committing ph ball
     ∙ decide_not s R.n y (ap (λ o. greatest None (deciding s o R.n)) (position-armed R.u a.0) ∙ none) in
     let e8 : arm s R.n y ≡ y = subst (λ (x : Votes). arm s R.n x ≡ x) a.1 (arm-still s R.n R.u) in
-    let e9 : finish s g y ≡ y = finish-committing s g y ph
+    let e9 : finish s g y ≡ y = finish-open s g y (inr ph)
     ∙ (counts-still s f g y R.n ball (own-counts y R.n (inr ph) ball) risen ∙ e8) in
     let all : ruled s y ≡ y =
     ap (r5 s) (r234-committing s y R.n ph ball ∙ (ap (λ x. accept_commit Committing s R.n x) e2 ∙ e6)) ∙ e7 in
     subst (λ (x : Votes). Rests v s g x) (sym a.1)
-    (λ n. pass-committing v s g y ph
+    (λ n. pass-ruled v s g y (inr ph)
     ∙ (ap (λ x. finish s g (ruled s x)) (begins v s g y R.n ball n) ∙ (ap (finish s g) all ∙ e9)))
+
+-- to where the counters are counted
+went-counted : (s : Seen) (f : Fair s) (g : Inputs) (w : Votes) (b : Ballot) (e : w.ballot ≡ Some b) (sound : Sound w)
+    → Went s g w (counts-on s f g w b e sound).u
+went-counted s f g w b e sound =
+    let C = counts-on s f g w b e sound in
+    record {
+      sound = C.sound;
+      voted = C.voted;
+      accepts = C.accepts;
+      confirms = C.confirms;
+      stays = λ h. ap is_none C.confirmed_prepared ∙ h;
+      ends = inr (C.n, C.ballot, C.risen);
+    }
 
 -- the end of a pass in COMMIT
 closes : (s : Seen) → Fair s → (g : Inputs) (x : Votes) (n : Ballot) → x.phase ≡ Committing → x.ballot ≡ Some n → Sound x
@@ -116,18 +127,11 @@ closes : (s : Seen) → Fair s → (g : Inputs) (x : Votes) (n : Ballot) → x.p
 closes s f g x n ph ball sound = elim (decides s n x sound) [
   | inl e ↦
       let same : r5 s x ≡ x = r5-at s x n Committing ph ball ∙ decide_not s n x e in
-      let fin : finish s g (r5 s x) ≡ tail s g x = ap (finish s g) same ∙ finish-committing s g x ph in
+      let fin : finish s g (r5 s x) ≡ tail s g x = ap (finish s g) same ∙ finish-open s g x (inr ph) in
       let C = counts-on s f g x n ball sound in
       let q : C.u ≡ finish s g (r5 s x) = sym (fin ∙ C.is) in (
         subst (λ (y : Votes). Went s g x y) q
-            (record {
-              sound = C.sound;
-              voted = C.voted;
-              accepts = C.accepts;
-              confirms = C.confirms;
-              stays = λ h. ap is_none C.confirmed_prepared ∙ h;
-              ends = inr (C.n, C.ballot, C.risen);
-            }),
+            (went-counted s f g x n ball sound),
         inr (ap (λ (y : Votes). y.phase) (sym q) ∙ (C.phase ∙ ph), e, fin),
       )
   | inr D ↦
@@ -194,18 +198,11 @@ from-preparing v s f g w b ph ball sound =
           let e4 : r4 s R.u ≡ R.u = r4-at s R.u R.n Preparing R.phase R.ballot ∙ enter_not s R.n R.u none in
           let e5 : r5 s R.u ≡ R.u = r5-at s R.u R.n Preparing R.phase R.ballot ∙ confirm-none s R.n R.u in
           let fin : finish s g (ruled s w) ≡ tail s g R.u = ap (finish s g) (e ∙ (ap (r5 s) e4 ∙ e5))
-          ∙ finish-preparing s g R.u R.phase in
+          ∙ finish-open s g R.u (inl R.phase) in
           let C = counts-on s f g R.u R.n R.ballot R.sound in (
             C.u,
             fin ∙ C.is,
-            record {
-              sound = C.sound;
-              voted = C.voted ∙ R.voted;
-              accepts = C.accepts ∙ R.accepts;
-              confirms = C.confirms ∙ R.confirms;
-              stays = λ h. ap is_none C.confirmed_prepared ∙ R.stays h;
-              ends = inr (C.n, C.ballot, C.risen);
-            },
+            went-on s g w R.u C.u R.voted R.accepts R.confirms R.stays (went-counted s f g R.u R.n R.ballot R.sound),
             λ risen. let up = risen-up s f g b.counter R.n.counter R.grows risen in
                 inl (subst (λ (x : Votes). Rests v s g x)
                 (sym (counts-still s f g R.u R.n R.ballot (own-counts R.u R.n (inl R.phase) R.ballot) up) ∙ C.is)

@@ -18,7 +18,7 @@ use Rattle.protocol.proofs.Nodes.Calm.{settle-still}
 use Rattle.protocol.proofs.Balloting.Tests.{Fair}
 use Rattle.protocol.proofs.Balloting.Counters.{Risen}
 use Rattle.protocol.proofs.Balloting.PreparedStays.{Sound}
-use Rattle.protocol.proofs.Passes.RuleByRule.{ruled, finish, pass-preparing, pass-committing, pass-externalized, ruled-none, finish-none}
+use Rattle.protocol.proofs.Passes.RuleByRule.{ruled, finish, IsOpen, pass-ruled, pass-externalized, ruled-none, finish-none}
 use Rattle.protocol.proofs.Passes.Ends.{Ends, begins, from-committing, from-preparing}
 use Rattle.types.specs.Nominations.{Ascending}
 use Rattle.protocol.proofs.Nominating.Sets.{nominate-is, nominate-not, QuietAt}
@@ -65,7 +65,7 @@ module _ (v : ℕ) (s : Seen) (f : Fair s) (g : Inputs) where
       → Risen s g b.counter → IsSome (settle (suc (suc n)) (pass v s g) w)
   one-left n w b sound q ph ball risen =
       let r = from-committing v s f g w b ph ball sound in
-      let same : pass v s g w ≡ r.0 = pass-committing v s g w ph
+      let same : pass v s g w ≡ r.0 = pass-ruled v s g w (inr ph)
       ∙ (ap (λ x. finish s g (ruled s x)) (begins v s g w b ball (quiet-same v s g w q)) ∙ r.1) in
       let q1 : Quiet v s g r.0 = quiet-on v s g w r.0 r.2.voted r.2.accepts r.2.confirms r.2.stays q in
       settle-at (suc n) (pass v s g) w r.0 same (settle-ends n (pass v s g) r.0 (elim (r.3 risen) [
@@ -78,7 +78,7 @@ module _ (v : ℕ) (s : Seen) (f : Fair s) (g : Inputs) where
       → Risen s g b.counter → IsSome (settle (suc (suc (suc n))) (pass v s g) w)
   two-left n w b sound q ph ball risen =
       let r = from-preparing v s f g w b ph ball sound in
-      let same : pass v s g w ≡ r.0 = pass-preparing v s g w ph
+      let same : pass v s g w ≡ r.0 = pass-ruled v s g w (inl ph)
       ∙ (ap (λ x. finish s g (ruled s x)) (begins v s g w b ball (quiet-same v s g w q)) ∙ r.1) in
       let q1 : Quiet v s g r.0 = quiet-on v s g w r.0 r.2.voted r.2.accepts r.2.confirms r.2.stays q in
       settle-at (suc (suc n)) (pass v s g) w r.0 same (elim (r.3 risen) [
@@ -102,7 +102,7 @@ pub record Once (v : ℕ) (s : Seen) (g : Inputs) (w y : Votes) : Type 0 where
   pub ends : Ends s g y ⊎ ((y.phase ≡ Preparing) × (y.ballot ≡ None) × (start s y ≡ y))
 
 module _ (v : ℕ) (s : Seen) (f : Fair s) (g : Inputs) where
-  pub once : (w : Votes) → Fit w → (w.phase ≡ Preparing) ⊎ (w.phase ≡ Committing) → Once v s g w (pass v s g w)
+  pub once : (w : Votes) → Fit w → IsOpen w → Once v s g w (pass v s g w)
   once w fit ph =
       let S = stepped v s f g w fit.sound ph in
       elim (cases_Bool (is_none w.confirmed_prepared)) [
@@ -144,7 +144,7 @@ module _ (v : ℕ) (s : Seen) (f : Fair s) (g : Inputs) where
         let y = pass v s g w in
         settle-more (suc (suc (suc n))) (pass v s g) w (elim O.ends [
           | inr k ↦ settle-ends (suc (suc n)) (pass v s g) y
-              (pass-preparing v s g y k.0
+              (pass-ruled v s g y (inl k.0)
               ∙ (ap (λ x. finish s g (ruled s (start s x))) (quiet-same v s g y O.quiet)
               ∙ (ap (λ x. finish s g (ruled s x)) k.2
               ∙ (ap (finish s g) (ruled-none s y k.0 k.1) ∙ finish-none s g y k.1))))

@@ -12,7 +12,7 @@ use Rattle.protocol.specs.Balloting.{started, start}
 use Rattle.types.specs.declared.state.Phase.TheVariants.{Preparing, Committing}
 use Rattle.protocol.proofs.Balloting.Tests.{Fair}
 use Rattle.protocol.proofs.Balloting.PreparedStays.{Sound}
-use Rattle.protocol.proofs.Passes.RuleByRule.{begun, finish, pass-preparing, pass-committing, ruled-none, finish-none}
+use Rattle.protocol.proofs.Passes.RuleByRule.{begun, finish, IsOpen, pass-ruled, ruled-none, finish-none}
 use Rattle.protocol.proofs.Passes.Ends.{Ends, Went, start-some, from-committing, from-preparing}
 use Rattle.protocol.proofs.Nominating.Sets.{nominate-is, nominate-not}
 
@@ -41,6 +41,13 @@ start-none s w e = elim (cases_Option w.ballot) [
     not_none : {A : Type 0} (b : Ballot) → Some b ≡ None → A
     not_none b e = cc
 
+-- votes that differ from others in the three sets of values alone
+pub framed : (w x : Votes) (voted accepts confirms : List (List ℕ))
+    → x ≡ record w { voted = voted; accepts = accepts; confirms = confirms }
+    → x ≡ record w { voted = x.voted; accepts = x.accepts; confirms = x.confirms }
+framed w x voted accepts confirms p =
+    p ∙ ap (λ (y : Votes). record w { voted = y.voted; accepts = y.accepts; confirms = y.confirms }) (sym p)
+
 pub nominate-frame : (v : ℕ) (s : Seen) (g : Inputs) (w : Votes)
     → nominate v s g w ≡ record w {
       voted = (nominate v s g w).voted;
@@ -48,10 +55,8 @@ pub nominate-frame : (v : ℕ) (s : Seen) (g : Inputs) (w : Votes)
       confirms = (nominate v s g w).confirms;
     }
 nominate-frame v s g w = elim (cases_Bool (is_none w.confirmed_prepared)) [
-  | inl e ↦ let p = nominate-is v s g w e in p
-      ∙ (λ i. record w { voted = (sym p i).voted; accepts = (sym p i).accepts; confirms = (sym p i).confirms })
-  | inr e ↦ let p = nominate-not v s g w e in p
-      ∙ (λ i. record w { voted = (sym p i).voted; accepts = (sym p i).accepts; confirms = (sym p i).confirms })
+  | inl e ↦ framed w (nominate v s g w) _ _ _ (nominate-is v s g w e)
+  | inr e ↦ framed w (nominate v s g w) w.voted w.accepts w.confirms (nominate-not v s g w e)
 ]
 
 record Begun (v : ℕ) (s : Seen) (g : Inputs) (w x : Votes) : Type 0 where
@@ -120,22 +125,22 @@ went-step v s g w x y B W =
     }
 
 pub stepped : (v : ℕ) (s : Seen) → Fair s → (g : Inputs) (w : Votes) → Sound w
-    → (w.phase ≡ Preparing) ⊎ (w.phase ≡ Committing) → Passed v s g w (pass v s g w)
+    → IsOpen w → Passed v s g w (pass v s g w)
 stepped v s f g w sound (inr ph) =
     let B = begun-facts v s g w sound in
     let h = sound.committing ph in
     let r = from-committing v s f g (begun v s g w) h.b (B.phase ∙ ph) (B.ballot h.b h.ballot) B.sound in
-    subst (λ (y : Votes). Passed v s g w y) (sym (pass-committing v s g w ph ∙ r.1))
+    subst (λ (y : Votes). Passed v s g w y) (sym (pass-ruled v s g w (inr ph) ∙ r.1))
     (went-step v s g w (begun v s g w) r.0 B r.2)
 stepped v s f g w sound (inl ph) =
     let B = begun-facts v s g w sound in
     let x = begun v s g w in
     elim (cases_Option x.ballot) [
       | inr k ↦ let r = from-preparing v s f g x k.0 (B.phase ∙ ph) k.1 B.sound in
-          subst (λ (y : Votes). Passed v s g w y) (sym (pass-preparing v s g w ph ∙ r.1))
+          subst (λ (y : Votes). Passed v s g w y) (sym (pass-ruled v s g w (inl ph) ∙ r.1))
           (went-step v s g w x r.0 B r.2)
       | inl k ↦
-          let same : pass v s g w ≡ x = pass-preparing v s g w ph
+          let same : pass v s g w ≡ x = pass-ruled v s g w (inl ph)
           ∙ (ap (finish s g) (ruled-none s x (B.phase ∙ ph) k) ∙ finish-none s g x k) in
           subst (λ (y : Votes). Passed v s g w y) (sym same)
           (record {

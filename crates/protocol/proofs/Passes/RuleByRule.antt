@@ -47,15 +47,18 @@ begun v s g w = start s (nominate v s g w)
 abbrev pub finish : Seen → Inputs → Votes → Votes
 finish s g w = while_open w.phase (tail s g) w
 
-pub pass-preparing : (v : ℕ) (s : Seen) (g : Inputs) (w : Votes) → w.phase ≡ Preparing
-    → pass v s g w ≡ finish s g (ruled s (begun v s g w))
-unfolding pass pass_rules voting counting confirm_prepared
-pass-preparing v s g w e = ap (λ p. while_open p (pass_rules v s g) w) e
+-- no value was externalized
+abbrev pub IsOpen : Votes → Type 0
+IsOpen w = (w.phase ≡ Preparing) ⊎ (w.phase ≡ Committing)
 
-pub pass-committing : (v : ℕ) (s : Seen) (g : Inputs) (w : Votes) → w.phase ≡ Committing
+pub open-runs : (f : Votes → Votes) (w : Votes) → IsOpen w → while_open w.phase f w ≡ f w
+open-runs f w (inl e) = ap (λ p. while_open p f w) e
+open-runs f w (inr e) = ap (λ p. while_open p f w) e
+
+pub pass-ruled : (v : ℕ) (s : Seen) (g : Inputs) (w : Votes) → IsOpen w
     → pass v s g w ≡ finish s g (ruled s (begun v s g w))
 unfolding pass pass_rules voting counting confirm_prepared
-pass-committing v s g w e = ap (λ p. while_open p (pass_rules v s g) w) e
+pass-ruled v s g w o = open-runs (pass_rules v s g) w o
 
 pub pass-externalized : (v : ℕ) (s : Seen) (g : Inputs) (w : Votes) → w.phase ≡ Externalized → pass v s g w ≡ w
 unfolding pass pass_rules voting counting confirm_prepared
@@ -200,16 +203,13 @@ pub counts-still : (s : Seen) → Fair s → (g : Inputs) (w : Votes) (b : Ballo
 counts-still s f g w b e c r =
     ap (on_ballot (arm s)) (on_ballot-at (raise s g) w b e ∙ raise-still s f g b w e c r) ∙ on_ballot-at (arm s) w b e
 
-pub own-counts : (w : Votes) (b : Ballot) → (w.phase ≡ Preparing) ⊎ (w.phase ≡ Committing) → w.ballot ≡ Some b
+above : (n : ℕ) → nat_le (n + 1) n ≡ false
+above n = grind (arith, nat_tests)
+
+pub own-counts : (w : Votes) (b : Ballot) → IsOpen w → w.ballot ≡ Some b
     → passes (counts (b.counter + 1)) (position w) ≡ false
-own-counts w b (inl p) e = rw (position-preparing w b p e) (over b.counter)
-  where
-    over : (n : ℕ) → nat_le (n + 1) n ≡ false
-    over n = grind (arith, nat_tests)
-own-counts w b (inr p) e = rw (position-committing w b p e) (over b.counter)
-  where
-    over : (n : ℕ) → nat_le (n + 1) n ≡ false
-    over n = grind (arith, nat_tests)
+own-counts w b (inl p) e = rw (position-preparing w b p e) (above b.counter)
+own-counts w b (inr p) e = rw (position-committing w b p e) (above b.counter)
 
 -- what is armed is not read
 pub accept_prepared-armed : (s : Seen) (b : Ballot) (w : Votes) (k : ℕ)
@@ -231,19 +231,6 @@ raise_confirmed_prepared-armed s w k = ap {B = Votes} (λ (o : Option Statement)
       armed = k;
     })
     (position-armed w k)
-
-pub fixed-armed : (w : Votes) (c : Option Ballot) (k : ℕ) → Fixed w c → Fixed (record w { armed = k }) c
-unfolding is_aborted high_counter
-fixed-armed w None k h = go w.confirmed_prepared w.prepared
-  where
-    go : (a p : Option Ballot) → Fixed (record w { armed = k }) None
-    go a p = λ x e. same x (h x e)
-      where
-        same : (x : Ballot) → ((high_counter w x == x.counter) && not (is_aborted w x)) ≡ false
-            → ((high_counter (record w { armed = k }) x == x.counter)
-            && not (is_aborted (record w { armed = k }) x)) ≡ false
-        same x j = j
-fixed-armed w (Some c) k h = h
 
 pub entering-armed : (s : Seen) (w : Votes) (k : ℕ)
     → entering s (position (record w { armed = k })) (record w { armed = k }) ≡ entering s (position w) w

@@ -16,7 +16,7 @@ use Rattle.protocol.specs.Stirring.{settle_after, settle_all, settle_ballots, se
 use Rattle.protocol.proofs.Balloting.ConfirmedAlone.{with_sets, balloted-sets}
 use Rattle.protocol.proofs.Balloting.FairSight.{seen-fair}
 use Rattle.protocol.proofs.Nominating.Sets.{new_voted, new_accepts, new_confirms, nominate-is, quiet-from}
-use Rattle.protocol.proofs.Passes.RuleByRule.{pass-externalized}
+use Rattle.protocol.proofs.Passes.RuleByRule.{IsOpen, open-runs, pass-externalized}
 use Rattle.protocol.proofs.Balloting.PreparedStays.{Sound}
 use Rattle.protocol.proofs.Nodes.Calm.{settle-still}
 use Rattle.protocol.proofs.Nodes.Reached.{reached-calm}
@@ -25,11 +25,8 @@ use Rattle.protocol.proofs.Passes.RulesOfKinds.{nominate-reads, balloted-reads}
 use Rattle.protocol.proofs.Equality.Sameness.{same_values-true, same_votes-refl, same_votes-true}
 use Rattle.protocol.proofs.Passes.FourPasses.{Fit, Quiet, once, pass-fit, phases, quiet-same}
 use Rattle.protocol.proofs.Passes.Settling.{changed-fit, reached-fit}
-use Rattle.protocol.proofs.Passes.OnePass.{nominate-frame, stepped}
+use Rattle.protocol.proofs.Passes.OnePass.{framed, nominate-frame, stepped}
 use Rattle.protocol.proofs.Balloting.Tests.{Fair}
-
-abbrev IsOpen : Votes → Type 0
-IsOpen w = (w.phase ≡ Preparing) ⊎ (w.phase ≡ Committing)
 
 -- where nomination changes nothing it is at rest
 quiet-of : (v : ℕ) (s : Seen) (g : Inputs) (w : Votes) → nominate v s g w ≡ w → Quiet v s g w
@@ -50,10 +47,6 @@ quiet-of v s g w same = elim (cases_Bool (is_none w.confirmed_prepared)) [
       subst (λ m. new_confirms s w.voted m w.confirms ≡ w.confirms) b2 c1 in
       inl (quiet-from v s g w.voted w.accepts w.confirms a b2 c2)
 ]
-
-open-runs : (f : Votes → Votes) (w : Votes) → IsOpen w → while_open w.phase f w ≡ f w
-open-runs f w (inl e) = ap (λ p. while_open p f w) e
-open-runs f w (inr e) = ap (λ p. while_open p f w) e
 
 -- a pass is nomination and then balloting
 pass-open : (v : ℕ) (s : Seen) (g : Inputs) (w : Votes) → IsOpen w → pass v s g w ≡ balloting s g (nominate v s g w)
@@ -91,12 +84,10 @@ nominated-frame : (v : ℕ) (s : Seen) (g : Inputs) (w : Votes)
       accepts = (nominated_in v s g w).accepts;
       confirms = (nominated_in v s g w).confirms;
     }
-nominated-frame v s g w =
-    let sets : Votes → Votes = λ x. record w { voted = x.voted; accepts = x.accepts; confirms = x.confirms } in
-    elim (phases w.phase) [
-      | inl e ↦ let p = nominated-over v s g w e in p ∙ ap sets (sym p)
-      | inr o ↦ let p = nominated-open v s g w o in p ∙ (nominate-frame v s g w ∙ ap sets (sym p))
-    ]
+nominated-frame v s g w = elim (phases w.phase) [
+  | inl e ↦ framed w (nominated_in v s g w) w.voted w.accepts w.confirms (nominated-over v s g w e)
+  | inr o ↦ framed w (nominated_in v s g w) _ _ _ (nominated-open v s g w o ∙ nominate-frame v s g w)
+]
 
 -- so a pass is its two parts
 pass-parts : (v : ℕ) (s : Seen) (g : Inputs) (w : Votes) → pass v s g w ≡ balloted_in s g (nominated_in v s g w)
