@@ -16,6 +16,7 @@ use Rattle.protocol.specs.Submissions.{concerns}
 use Rattle.protocol.proofs.Sets.Lists.{filter_swap}
 use Rattle.protocol.proofs.Runs.Sights.{sight, cut_place}
 use Rattle.protocol.proofs.Runs.Openings.{cast_of}
+use Rattle.protocol.proofs.Runs.Hearings.{emission-cut}
 use Rattle.protocol.proofs.Networks.Effects.{numbers, left}
 use Rattle.protocol.proofs.Crowds.Views.{bytes_full_in, drawn-ours, frame, full_in, is_ours, of_members, share_of, tests_in, view}
 
@@ -36,12 +37,6 @@ proposal-cut : (R : Names) (o : Option Place) → has_proposal o ≡ has_proposa
 proposal-cut R None = refl
 proposal-cut R (Some p) = refl
 
-emission-cut : (R : Names) (o : Option Place) (kind : Kind) (k : ℕ)
-    → emission o kind k ≡ emission (option_map (cut_place R) o) kind k
-emission-cut R None kind k = refl
-emission-cut R (Some p) kind zero = refl
-emission-cut R (Some p) kind (suc k) = refl
-
 module _ (R : Names) (i : ℕ) (net : Net) where
   hosted : (u : ℕ) → R u ≡ true → is_hosted net u ≡ is_some (cast_of R net.hosts u)
   hosted u r = ap (λ b. is_some (if b then slices_of net.hosts u else None)) (sym r)
@@ -58,7 +53,7 @@ module _ (R : Names) (i : ℕ) (net : Net) where
   emitted : (j u : ℕ) (kind : Kind) (k : ℕ) → (j == i) ≡ true → R u ≡ true
       → emission (known (places_at net.slots j) u) kind k ≡ emission (sight R i net u) kind k
   emitted j u kind k e r =
-      emission-cut R (known (places_at net.slots j) u) kind k ∙ ap (λ o. emission o kind k) (sym (seen_at j u e r))
+      sym (emission-cut R (known (places_at net.slots j) u) kind k) ∙ ap (λ o. emission o kind k) (sym (seen_at j u e r))
 
   full : (shares : Shares) (j : ℕ) (s : Share) → (j == i) ≡ true → of_members R s ≡ true
       → is_full net (OfShare shares j s) ≡ full_in (view R i net) (OfShare shares j s)

@@ -15,24 +15,12 @@ use Rattle.protocol.specs.Submissions.{Answer, answers_of, concerns, concerning,
 
 -- a delivery that concerns the set is what some bytes are read as
 abbrev IsRead : (List ℕ → Reading) → Step → Type 0
-IsRead decode (Opens j) = Unit {0}
-IsRead decode (Closes j) = Unit {0}
-IsRead decode (Asks j u x) = Unit {0}
 IsRead decode (Delivers u size d) = (bytes : List ℕ) × ((size ≡ length bytes) × (decode bytes ≡ d))
-IsRead decode (Hears j u from kind k) = Unit {0}
-IsRead decode (NominationTimes j u r) = Unit {0}
-IsRead decode (BallotTimes j u n) = Unit {0}
-IsRead decode (Reslices j u q) = Unit {0}
+IsRead decode _ = Unit {0}
 
 is_read : (decode : List ℕ → Reading) (e : Event) → IsRead decode (read decode e)
-is_read decode (OpenSlot j) = tt
-is_read decode (CloseSlot j) = tt
-is_read decode (Ask j u x) = tt
 is_read decode (Deliver u bytes) = (bytes, (refl, refl))
-is_read decode (Hear j u from kind k) = tt
-is_read decode (NominationTimeout j u r) = tt
-is_read decode (BallotTimeout j u n) = tt
-is_read decode (ChangeSlices j u q) = tt
+is_read decode _ = tt
 
 -- so it is for all that concerns it
 abbrev AreRead : (List ℕ → Reading) → Names → ℕ → List Answer → Type 0
@@ -62,49 +50,23 @@ are_read decode R i g (c ∷ cs) (r ∷ rs) = go (c.0 == g) (are_read decode R i
 
 -- ---- a step is what it is without its length, and its length
 resized : ℕ → Step → Step
-resized n (Opens j) = Opens j
-resized n (Closes j) = Closes j
-resized n (Asks j u x) = Asks j u x
 resized n (Delivers u size d) = Delivers u n d
-resized n (Hears j u from kind k) = Hears j u from kind k
-resized n (NominationTimes j u r) = NominationTimes j u r
-resized n (BallotTimes j u r) = BallotTimes j u r
-resized n (Reslices j u q) = Reslices j u q
+resized n e = e
 
 resized-back : (e : Step) → resized (size_of e) (unsized e) ≡ e
 unfolding resized
-resized-back (Opens j) = refl
-resized-back (Closes j) = refl
-resized-back (Asks j u x) = refl
 resized-back (Delivers u size d) = refl
-resized-back (Hears j u from kind k) = refl
-resized-back (NominationTimes j u r) = refl
-resized-back (BallotTimes j u r) = refl
-resized-back (Reslices j u q) = refl
+resized-back _ = refl
 
 -- the envelope that it delivers
 envelope_of : Step → Option Sent
-envelope_of (Opens j) = None
-envelope_of (Closes j) = None
-envelope_of (Asks j u x) = None
 envelope_of (Delivers u size (Read e)) = Some e
-envelope_of (Delivers u size (Fault n)) = None
-envelope_of (Hears j u from kind k) = None
-envelope_of (NominationTimes j u r) = None
-envelope_of (BallotTimes j u r) = None
-envelope_of (Reslices j u q) = None
+envelope_of _ = None
 
 envelope-unsized : (e : Step) → envelope_of (unsized e) ≡ envelope_of e
 unfolding envelope_of
-envelope-unsized (Opens j) = refl
-envelope-unsized (Closes j) = refl
-envelope-unsized (Asks j u x) = refl
 envelope-unsized (Delivers u size (Read e)) = refl
-envelope-unsized (Delivers u size (Fault n)) = refl
-envelope-unsized (Hears j u from kind k) = refl
-envelope-unsized (NominationTimes j u r) = refl
-envelope-unsized (BallotTimes j u r) = refl
-envelope-unsized (Reslices j u q) = refl
+envelope-unsized _ = refl
 
 module _ (decode : List ℕ → Reading) (R : Names) (i : ℕ) where
   abbrev Known : Step → Type 0
@@ -114,28 +76,15 @@ module _ (decode : List ℕ → Reading) (R : Names) (i : ℕ) where
   length_known : (e : Step) → Known e → (x : Sent) → envelope_of e ≡ Some x
       → (bytes : List ℕ) × ((size_of e ≡ length bytes) × (decode bytes ≡ Read x))
   unfolding envelope_of
-  length_known (Opens j) h x q = cc
-  length_known (Closes j) h x q = cc
-  length_known (Asks j u y) h x q = cc
   length_known (Delivers u size (Read e)) h x q =
       let m : e ≡ x = cc in (h.0.0, (h.0.1.0, h.0.1.1 ∙ ap {B = Reading} Read m))
-  length_known (Delivers u size (Fault n)) h x q = cc
-  length_known (Hears j u from kind k) h x q = cc
-  length_known (NominationTimes j u r) h x q = cc
-  length_known (BallotTimes j u r) h x q = cc
-  length_known (Reslices j u new) h x q = cc
+  length_known _ h x q = cc
 
   no_length : (e : Step) → Known e → envelope_of e ≡ None → size_of e ≡ 0
   unfolding envelope_of
-  no_length (Opens j) h q = refl
-  no_length (Closes j) h q = refl
-  no_length (Asks j u y) h q = refl
   no_length (Delivers u size (Read e)) h q = cc
   no_length (Delivers u size (Fault n)) h q = absurd (false≢true h.1)
-  no_length (Hears j u from kind k) h q = refl
-  no_length (NominationTimes j u r) h q = refl
-  no_length (BallotTimes j u r) h q = refl
-  no_length (Reslices j u new) h q = refl
+  no_length _ h q = refl
 
   module _ (lengths : HasOneLength decode) where
     one_step : (e f : Step) → Known e → Known f → unsized e ≡ unsized f → e ≡ f

@@ -14,15 +14,8 @@ use Rattle.protocol.proofs.Networks.Effects.{effect-keeps, left}
 use Rattle.protocol.proofs.Crowds.Runs.{plus_nothing}
 
 tested : (net : Net) (e : Step) → tests_on net OfBudgets e ≡ tests_without net e
-tested net (Opens i) = refl
-tested net (Closes i) = refl
-tested net (Asks i u x) = refl
-tested net (Delivers u size (Read e)) = refl
 tested net (Delivers u size (Fault n)) = refl
-tested net (Hears i u from kind k) = refl
-tested net (NominationTimes i u r) = refl
-tested net (BallotTimes i u n) = refl
-tested net (Reslices i u q) = refl
+tested net _ = refl
 
 counts : (net : Net) (e : Step) → counted OfBudgets (size_of e) net ≡ counted_without e net
 counts net e = λ j. record (counted_without e net) { opens = plus_nothing net.opens j }
@@ -41,13 +34,7 @@ steps_without net e h =
 
 none_left : (e : Step) (ds : List Draw) → ds ≡ [] → left e ds ≡ []
 none_left (Opens i) ds h = ap (left (Opens i)) h
-none_left (Closes i) ds h = h
-none_left (Asks i u x) ds h = h
-none_left (Delivers u size d) ds h = h
-none_left (Hears i u from kind k) ds h = h
-none_left (NominationTimes i u r) ds h = h
-none_left (BallotTimes i u n) ds h = h
-none_left (Reslices i u q) ds h = h
+none_left _ ds h = h
 
 stays-step : (net : Net) (e : Step) → HasNoShares net → HasNoShares (net_step net e).0
 unfolding net_step

@@ -62,14 +62,9 @@ same_phase-refl Externalized = refl
 
 same_phase-true : (p q : Phase) → same_phase p q ≡ true → p ≡ q
 same_phase-true Preparing Preparing h = refl
-same_phase-true Preparing Committing h = absurd (false≢true h)
-same_phase-true Preparing Externalized h = absurd (false≢true h)
-same_phase-true Committing Preparing h = absurd (false≢true h)
 same_phase-true Committing Committing h = refl
-same_phase-true Committing Externalized h = absurd (false≢true h)
-same_phase-true Externalized Preparing h = absurd (false≢true h)
-same_phase-true Externalized Committing h = absurd (false≢true h)
 same_phase-true Externalized Externalized h = refl
+same_phase-true _ _ h = absurd (false≢true h)
 
 pub same_statement-refl : (s : Statement) → same_statement s s ≡ true
 same_statement-refl (Nominate v a) =
@@ -89,10 +84,6 @@ pub same_statement-true : (s t : Statement) → same_statement s t ≡ true → 
 same_statement-true (Nominate xs ys) (Nominate xs' ys') e =
     let p = and_parts (same_values xs xs') (same_values ys ys') e in
     λ i. Nominate ((same_values-true xs xs' p.0) i) ((same_values-true ys ys' p.1) i)
-same_statement-true (Nominate xs ys) (Prepare b' p' a' h' c') e = absurd (false≢true e)
-same_statement-true (Nominate xs ys) (Commit b' p' h' c') e = absurd (false≢true e)
-same_statement-true (Nominate xs ys) (Externalize b' h') e = absurd (false≢true e)
-same_statement-true (Prepare b p a h c) (Nominate xs' ys') e = absurd (false≢true e)
 same_statement-true (Prepare b p a h c) (Prepare b' p' a' h' c') e =
     let p4 = and_parts _ (c == c') e in
     let p3 = and_parts _ (h == h') p4.0 in
@@ -100,23 +91,16 @@ same_statement-true (Prepare b p a h c) (Prepare b' p' a' h' c') e =
     let p1 = and_parts (same_ballot b b') (same_option same_ballot p p') p2.0 in
     λ i. Prepare ((same_ballot-true b b' p1.0) i) ((same_option-true same_ballot same_ballot-true p p' p1.1) i)
     ((eqb-true a a' p2.1) i) ((eqb-true h h' p3.1) i) ((eqb-true c c' p4.1) i)
-same_statement-true (Prepare b p a h c) (Commit b' p' h' c') e = absurd (false≢true e)
-same_statement-true (Prepare b p a h c) (Externalize b' h') e = absurd (false≢true e)
-same_statement-true (Commit b p h c) (Nominate xs' ys') e = absurd (false≢true e)
-same_statement-true (Commit b p h c) (Prepare b' p' a' h' c') e = absurd (false≢true e)
 same_statement-true (Commit b p h c) (Commit b' p' h' c') e =
     let p3 = and_parts _ (c == c') e in
     let p2 = and_parts _ (h == h') p3.0 in
     let p1 = and_parts (same_ballot b b') (p == p') p2.0 in
     λ i. Commit ((same_ballot-true b b' p1.0) i) ((eqb-true p p' p1.1) i) ((eqb-true h h' p2.1) i)
     ((eqb-true c c' p3.1) i)
-same_statement-true (Commit b p h c) (Externalize b' h') e = absurd (false≢true e)
-same_statement-true (Externalize b h) (Nominate xs' ys') e = absurd (false≢true e)
-same_statement-true (Externalize b h) (Prepare b' p' a' h' c') e = absurd (false≢true e)
-same_statement-true (Externalize b h) (Commit b' p' h' c') e = absurd (false≢true e)
 same_statement-true (Externalize b h) (Externalize b' h') e =
     let p = and_parts (same_ballot b b') (h == h') e in
     λ i. Externalize ((same_ballot-true b b' p.0) i) ((eqb-true h h' p.1) i)
+same_statement-true _ _ e = absurd (false≢true e)
 
 pub same_sent-true : (o p : Option Statement) → same_sent o p ≡ true → o ≡ p
 same_sent-true o p h = same_option-true same_statement same_statement-true o p h

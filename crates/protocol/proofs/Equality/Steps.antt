@@ -33,10 +33,7 @@ node_event (inr (inr (inr q))) = Reslice q
 node_back : (e : NodeEvent) → node_event (node_parts e) ≡ e
 unfolding node_parts node_event
 node_back (Propose x) = refl
-node_back (Take e) = refl
-node_back (NominationTimer r) = refl
-node_back (BallotTimer n) = refl
-node_back (Reslice q) = refl
+node_back _ = refl
 
 decided_event : IsDecided NodeEvent
 decided_event =
@@ -61,9 +58,7 @@ kept_from (inr (inr p)) = Heard p.0.0 p.0.1 p.1.0 p.1.1
 kept_back : (k : Kept) → kept_from (kept_parts k) ≡ k
 unfolding kept_parts kept_from
 kept_back Opened = refl
-kept_back Closed = refl
-kept_back (Told u e) = refl
-kept_back (Heard u from kind k) = refl
+kept_back _ = refl
 
 pub decided_bool : IsDecided Bool
 decided_bool true true = inl refl
@@ -112,15 +107,8 @@ step_from (inr (inr (inr (inr p)))) = Reslices p.0.0 p.0.1 p.1
 
 step_back : (e : Step) → step_from (step_parts e) ≡ e
 unfolding reading_parts reading_from step_parts step_from
-step_back (Opens j) = refl
-step_back (Closes j) = refl
-step_back (Asks j u x) = refl
-step_back (Delivers u size (Read e)) = refl
 step_back (Delivers u size (Fault n)) = refl
-step_back (Hears j u from kind k) = refl
-step_back (NominationTimes j u r) = refl
-step_back (BallotTimes j u n) = refl
-step_back (Reslices j u q) = refl
+step_back _ = refl
 
 pub decided_step : IsDecided Step
 decided_step =

@@ -66,25 +66,13 @@ module _ (i : ℕ) (t : Share) where
 
   drawn-opened : (e : Step) (ds : List Draw) → is_opening i e ≡ true → drawn_on i t (left e ds) ≡ []
   drawn-opened (Opens j) ds o = subst (λ k. drawn_on i t (renewed k ds) ≡ []) (sym (eqb-true j i o)) (none-drawn ds)
-  drawn-opened (Closes j) ds o = absurd (false≢true o)
-  drawn-opened (Asks j u x) ds o = absurd (false≢true o)
-  drawn-opened (Delivers u size d) ds o = absurd (false≢true o)
-  drawn-opened (Hears j u from kind k) ds o = absurd (false≢true o)
-  drawn-opened (NominationTimes j u r) ds o = absurd (false≢true o)
-  drawn-opened (BallotTimes j u n) ds o = absurd (false≢true o)
-  drawn-opened (Reslices j u q) ds o = absurd (false≢true o)
+  drawn-opened _ ds o = absurd (false≢true o)
 
   nothing-opened : (roster : Option Roster) (e : Step) (size : ℕ) → is_opening i e ≡ true
       → on_shares (source roster e) size ≡ []
   nothing-opened None (Opens j) size o = refl
   nothing-opened (Some r) (Opens j) size o = refl
-  nothing-opened roster (Closes j) size o = absurd (false≢true o)
-  nothing-opened roster (Asks j u x) size o = absurd (false≢true o)
-  nothing-opened roster (Delivers u n d) size o = absurd (false≢true o)
-  nothing-opened roster (Hears j u from kind k) size o = absurd (false≢true o)
-  nothing-opened roster (NominationTimes j u r) size o = absurd (false≢true o)
-  nothing-opened roster (BallotTimes j u n) size o = absurd (false≢true o)
-  nothing-opened roster (Reslices j u q) size o = absurd (false≢true o)
+  nothing-opened roster _ size o = absurd (false≢true o)
 
   drawn-left : (e : Step) (ds : List Draw) → is_opening i e ≡ false → drawn_on i t (left e ds) ≡ drawn_on i t ds
   drawn-left (Opens j) ds o =
@@ -98,13 +86,7 @@ module _ (i : ℕ) (t : Share) where
           go : (c : Bool) → (a == b) ≡ c → c ≡ false
           go true e = absurd (true≢false (sym (ap (λ z. b == z) (eqb-true a b e) ∙ eqb-refl b) ∙ h))
           go false e = refl
-  drawn-left (Closes j) ds o = refl
-  drawn-left (Asks j u x) ds o = refl
-  drawn-left (Delivers u size d) ds o = refl
-  drawn-left (Hears j u from kind k) ds o = refl
-  drawn-left (NominationTimes j u r) ds o = refl
-  drawn-left (BallotTimes j u n) ds o = refl
-  drawn-left (Reslices j u q) ds o = refl
+  drawn-left _ ds o = refl
 
 -- the entries since an opening, with one more
 since-more : (i : ℕ) (xs : List Entry) (x : Entry)

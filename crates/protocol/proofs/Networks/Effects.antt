@@ -11,24 +11,13 @@ use Rattle.protocol.specs.Networks.Step.{Opens, Closes, Asks, Delivers, Hears, N
 -- what an event leaves of the draws
 abbrev pub left : Step → List Draw → List Draw
 left (Opens j) ds = renewed j ds
-left (Closes j) ds = ds
-left (Asks j u x) ds = ds
-left (Delivers u size d) ds = ds
-left (Hears j u from kind k) ds = ds
-left (NominationTimes j u r) ds = ds
-left (BallotTimes j u n) ds = ds
-left (Reslices j u q) ds = ds
+left _ ds = ds
 
 -- the open slots after an event
 abbrev pub opened_after : Step → List ℕ → List ℕ
 opened_after (Opens j) ns = ns ++ j ∷ []
 opened_after (Closes j) ns = filter (λ n. not (n == j)) ns
-opened_after (Asks j u x) ns = ns
-opened_after (Delivers u size d) ns = ns
-opened_after (Hears j u from kind k) ns = ns
-opened_after (NominationTimes j u r) ns = ns
-opened_after (BallotTimes j u n) ns = ns
-opened_after (Reslices j u q) ns = ns
+opened_after _ ns = ns
 
 abbrev pub numbers : List Slot → List ℕ
 numbers ss = map (λ s. s.number) ss

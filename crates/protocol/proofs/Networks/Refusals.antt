@@ -55,9 +55,7 @@ tests-say net s (Delivers u size (Fault n)) = (λ h. tt, (λ h. tt, tt))
 tests-say net s (Delivers u size (Read e)) =
     (λ h. tt, (λ h. tt, (λ h. tt, (full-says net s size, (bytes-says net s size, tt)))))
 tests-say net s (Hears i u from kind k) = (λ h. tt, (λ h. tt, (λ h. tt, (full-says net s 0, tt))))
-tests-say net s (NominationTimes i u r) = (λ h. tt, (λ h. tt, (full-says net s 0, tt)))
-tests-say net s (BallotTimes i u n) = (λ h. tt, (λ h. tt, (full-says net s 0, tt)))
-tests-say net s (Reslices i u q) = (λ h. tt, (λ h. tt, (full-says net s 0, tt)))
+tests-say net s _ = (λ h. tt, (λ h. tt, (full-says net s 0, tt)))
 
 pub refused_where_met : RefusedWhereMet
 refused_where_met net e n h =
@@ -107,11 +105,5 @@ applied_where_room net (Delivers u size (Read e)) h =
 applied_where_room net (Hears i u from kind k) h =
     let a = none-holds (tests net (Hears i u from kind k)) h in
     has-events net (source net.roster (Hears i u from kind k)) a.1.1.1.0
-applied_where_room net (NominationTimes i u r) h =
-    let a = none-holds (tests net (NominationTimes i u r)) h in
-    has-events net (source net.roster (NominationTimes i u r)) a.1.1.0
-applied_where_room net (BallotTimes i u n) h =
-    let a = none-holds (tests net (BallotTimes i u n)) h in
-    has-events net (source net.roster (BallotTimes i u n)) a.1.1.0
-applied_where_room net (Reslices i u q) h =
-    let a = none-holds (tests net (Reslices i u q)) h in has-events net (source net.roster (Reslices i u q)) a.1.1.0
+applied_where_room net e h =
+    let a = none-holds (tests net e) h in has-events net (source net.roster e) a.1.1.0

@@ -21,27 +21,16 @@ use Rattle.protocol.proofs.Networks.Drawn.{counted-next}
 
 pub room-events : (net : Net) (e : Step) → HasRoom net e → HasEvents net (source net.roster e)
 room-events net (Opens i) h = h.1
-room-events net (Closes i) h = h
-room-events net (Asks i u x) h = h
 room-events net (Delivers u size d) h = h.0
-room-events net (Hears i u from kind k) h = h
-room-events net (NominationTimes i u r) h = h
-room-events net (BallotTimes i u n) h = h
-room-events net (Reslices i u q) h = h
+room-events net _ h = h
 
 -- bytes that fit, or none
 abbrev pub FitsOr : Net → Step → Type 0
 FitsOr net e = HasBytes net (source net.roster e) (size_of e) ⊎ (size_of e ≡ 0)
 
 pub room-bytes : (net : Net) (e : Step) → HasRoom net e → FitsOr net e
-room-bytes net (Opens i) h = inr refl
-room-bytes net (Closes i) h = inr refl
-room-bytes net (Asks i u x) h = inr refl
 room-bytes net (Delivers u size d) h = inl h.1
-room-bytes net (Hears i u from kind k) h = inr refl
-room-bytes net (NominationTimes i u r) h = inr refl
-room-bytes net (BallotTimes i u n) h = inr refl
-room-bytes net (Reslices i u q) h = inr refl
+room-bytes net _ h = inr refl
 
 -- the shares of a source are those of the roster
 abbrev HasSharesOf : Roster → Source → Type 0
@@ -85,12 +74,7 @@ slots-fit net (Opens i) most l b h =
 slots-fit net (Closes i) most l b h =
     let n = length-numbers net.slots in let f = filter-shorter (λ n. not (n == i)) (numbers net.slots) in
     omega (arith, l, n, f)
-slots-fit net (Asks i u x) most l b h = let n = length-numbers net.slots in omega (arith, l, n)
-slots-fit net (Delivers u size d) most l b h = let n = length-numbers net.slots in omega (arith, l, n)
-slots-fit net (Hears i u from kind k) most l b h = let n = length-numbers net.slots in omega (arith, l, n)
-slots-fit net (NominationTimes i u r) most l b h = let n = length-numbers net.slots in omega (arith, l, n)
-slots-fit net (BallotTimes i u r) most l b h = let n = length-numbers net.slots in omega (arith, l, n)
-slots-fit net (Reslices i u q) most l b h = let n = length-numbers net.slots in omega (arith, l, n)
+slots-fit net _ most l b h = let n = length-numbers net.slots in omega (arith, l, n)
 
 module _ (config : Config) (net : Net) (e : Step) (h : net.roster ≡ config.roster) (g : net.budgets ≡ config.budgets)
     (in_room : IsInRoom config net) (room : HasRoom net e) where

@@ -16,11 +16,12 @@ use Rattle.protocol.specs.Networks.Step.{Opens, Closes, Asks, Delivers, Hears, N
 use Rattle.protocol.specs.Hosts.{Entry, entered, journal, new_net}
 use Rattle.protocol.specs.Runs.{net_after}
 use Rattle.protocol.specs.Reslices.{slices_after, slices_next, slices_since, SlicesFollowRuns}
+use Rattle.protocol.proofs.Networks.Effects.{effect-keeps}
 use Rattle.protocol.proofs.Runs.Sights.{known-same, known-other, known-elsewhere}
 use Rattle.protocol.proofs.Runs.Events.{IsNew}
 use Rattle.protocol.proofs.Networks.OpenSlots.{places_at-push, places_at-push_other, places_at-drop, places_at-drop_other}
 use Rattle.protocol.proofs.Runs.Openings.{place_of-opened}
-use Rattle.protocol.proofs.Runs.KeptSteps.{is_new, effect-hosts}
+use Rattle.protocol.proofs.Runs.KeptSteps.{is_new}
 use Rattle.protocol.proofs.Networks.Journals.{runs_are_journals}
 use Rattle.protocol.proofs.Nodes.Reslices.{slices_follow_events}
 
@@ -158,7 +159,7 @@ module _ (i u : ℕ) (q : Slices) where
           let now_then = slices_next i u q now e in
           subst (λ (n : Net). Has (slices_since i u q now_then run) n)
           (ap (λ o. net_after (replied net e o).0 run) (sym z))
-          (ih after now_then (ap (λ hs. slices_of hs u) (effect-hosts net e) ∙ hosted)
+          (ih after now_then (ap (λ hs. slices_of hs u) (effect-keeps net e).hosts ∙ hosted)
           (has-effect now net e hosted (is_new net e z) h))
 
 pub slices_follow_runs : SlicesFollowRuns

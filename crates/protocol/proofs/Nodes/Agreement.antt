@@ -23,11 +23,8 @@ cut_node R n = record n { table = cut R n.table }
 
 -- the event is of a sender in R, whose slices lie in R
 abbrev pub IsKept : Names → NodeEvent → Type 0
-IsKept R (Propose x) = Unit {0}
 IsKept R (Take e) = (R e.sender ≡ true) × (within (names e.slices) R ≡ true)
-IsKept R (NominationTimer r) = Unit {0}
-IsKept R (BallotTimer c) = Unit {0}
-IsKept R (Reslice q) = Unit {0}
+IsKept R _ = Unit {0}
 
 -- a pass sees the rows of R alone
 passed-cut : (R : Names) (n : Node) → Good R n → passed n ≡ passed (cut_node R n)

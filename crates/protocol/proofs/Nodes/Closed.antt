@@ -71,11 +71,9 @@ leader-in R slot round v q i w = pick v (neighbours slot round v q) i (and_from 
 
 -- of what a node in R is told, a sender in R announces what lies in R, and so do the names of new slices
 abbrev pub IsFit : Names → NodeEvent → Type 0
-IsFit R (Propose x) = Unit {0}
 IsFit R (Take e) = announces_in R e ≡ true
-IsFit R (NominationTimer r) = Unit {0}
-IsFit R (BallotTimer c) = Unit {0}
 IsFit R (Reslice q) = within (names q) R ≡ true
+IsFit R _ = Unit {0}
 
 pub good-change : (R : Names) (n : Node) (e : NodeEvent) → Good R n → IsFit R e → if_node (Good R) (change n e)
 unfolding change

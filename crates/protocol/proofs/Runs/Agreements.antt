@@ -15,13 +15,14 @@ use Rattle.protocol.specs.Runs.{state_of}
 use Rattle.protocol.specs.Isolation.{Kept, kept, is_of, closure}
 use Rattle.protocol.specs.Isolation.Kept.{Opened, Closed, Told, Heard}
 use Rattle.protocol.specs.Agreeing.{place_in, IsClosedIn, ArePlacesAlike, AgreeIn, IsKeptOfMembers, given_by, NewNetworksAgree, RunsStayClosedIn, StepsAgree, OtherStepsLeave, StaysClosedIn}
+use Rattle.protocol.proofs.Networks.Effects.{effect-keeps}
 use Rattle.protocol.proofs.Runs.Claims.{good}
 use Rattle.protocol.proofs.Runs.Prefixes.{closed_for, holds-after}
 use Rattle.protocol.proofs.Runs.Sights.{cut_place, Sight, sight, play, reply, AllPlaces}
 use Rattle.protocol.proofs.Runs.Follows.{Follows}
 use Rattle.protocol.proofs.Runs.Events.{IsNew, follows}
 use Rattle.protocol.proofs.Runs.Openings.{HostsIn, cast_of}
-use Rattle.protocol.proofs.Runs.KeptSteps.{effect-hosts, is_new}
+use Rattle.protocol.proofs.Runs.KeptSteps.{is_new}
 use Rattle.protocol.proofs.Runs.KeptWithin.{if_kept, IsKeptIn, kept-to}
 
 -- ---- what a set sees, and agreement
@@ -97,14 +98,9 @@ module _ (R : Names) (i : ℕ) where
 
   -- what is kept lies in the set
   kept_in : (k : Kept) → IsKeptOfMembers R k → IsKeptIn R k
-  kept_in Opened h = tt
-  kept_in Closed h = tt
-  kept_in (Told u (Propose x)) h = tt
   kept_in (Told u (Take e)) h = λ r s. h.1
-  kept_in (Told u (NominationTimer r)) h = tt
-  kept_in (Told u (BallotTimer c)) h = tt
   kept_in (Told u (Reslice q)) h = λ r. h
-  kept_in (Heard u from kind k) h = tt
+  kept_in _ h = tt
 
   some_kept-in : (o : Option Kept) → IfSome o (IsKeptOfMembers R) → if_kept R o
   some_kept-in None h = tt
@@ -128,7 +124,7 @@ module _ (R : Names) (i : ℕ) where
       go None q d = record {
         after = counted (source net.roster e) (size_of e) (effect net e).0;
         is = ap (λ o. (replied net e o).0) q;
-        hosts = effect-hosts net e;
+        hosts = (effect-keeps net e).hosts;
         slots = refl;
         outs = cc;
         fresh = is_new net e q;

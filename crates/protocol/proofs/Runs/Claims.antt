@@ -36,18 +36,13 @@ quiet_claim R n e c calm o =
     }
 
 fits : (R : Names) (e : NodeEvent) → IsOfMembers R e → IsFit R e
-fits R (Propose x) h = tt
 fits R (Take e) h = or_right (not (R e.sender)) (within (names e.slices) R) h.1
-fits R (NominationTimer r) h = tt
-fits R (BallotTimer c) h = tt
 fits R (Reslice q) h = h
+fits R _ h = tt
 
 keeps_to : (R : Names) (e : NodeEvent) → IsOfMembers R e → IsKept R e
-keeps_to R (Propose x) h = tt
 keeps_to R (Take e) h = h
-keeps_to R (NominationTimer r) h = tt
-keeps_to R (BallotTimer c) h = tt
-keeps_to R (Reslice q) h = tt
+keeps_to R _ h = tt
 
 pub agree_claim : Agree
 agree_claim R n m e c d k h =

@@ -39,14 +39,8 @@ asked R cast i net j u e h f k = elim (cases_Bool ((j == i) && R u)) [
 abbrev pub IsWithin : Names → ℕ → Step → Type 0
 IsWithin R i (Delivers u size (Read e)) =
     (e.slot == i) ≡ true → R u ≡ true → R e.sender ≡ true → within (names e.slices) R ≡ true
-IsWithin R i (Delivers u size (Fault n)) = Unit {0}
-IsWithin R i (Opens j) = Unit {0}
-IsWithin R i (Closes j) = Unit {0}
-IsWithin R i (Asks j u x) = Unit {0}
-IsWithin R i (Hears j u from kind k) = Unit {0}
-IsWithin R i (NominationTimes j u r) = Unit {0}
-IsWithin R i (BallotTimes j u n) = Unit {0}
 IsWithin R i (Reslices j u q) = (j == i) ≡ true → R u ≡ true → within (names q) R ≡ true
+IsWithin R i _ = Unit {0}
 
 delivered : (R : Names) (cast : ℕ → Option Slices) (i : ℕ) (net : Net) (u : ℕ) (e : Sent) → AllPlaces R i net
     → ((e.slot == i) ≡ true → R u ≡ true → R e.sender ≡ true → within (names e.slices) R ≡ true)
@@ -83,13 +77,7 @@ delivered R cast i net u e h f = elim (cases_Bool ((e.slot == i) && R u)) [
 -- a slot that is opened was not open
 abbrev pub IsNew : Net → Step → Type 0
 IsNew net (Opens j) = places_at net.slots j ≡ None
-IsNew net (Closes j) = Unit {0}
-IsNew net (Asks j u x) = Unit {0}
-IsNew net (Delivers u size d) = Unit {0}
-IsNew net (Hears j u from kind k) = Unit {0}
-IsNew net (NominationTimes j u r) = Unit {0}
-IsNew net (BallotTimes j u n) = Unit {0}
-IsNew net (Reslices j u q) = Unit {0}
+IsNew net _ = Unit {0}
 
 -- Each applied event is followed.
 pub follows : (R : Names) (i : ℕ) (net : Net) (e : Step) → AllPlaces R i net → HostsIn R net.hosts → IsNew net e

@@ -34,7 +34,7 @@ emission-all R u (Some p) kind (suc k) h =
     (all_filter (λ e. (e.sender == u) && announces_in R e) (λ e. (e.sender == u) && announces_in R e)
     (λ e. is_kind kind (kind_of e.body)) (λ e a b. a) p.told (h p refl).told)
 
-emission-cut : (R : Names) (o : Option Place) (kind : Kind) (k : ℕ)
+pub emission-cut : (R : Names) (o : Option Place) (kind : Kind) (k : ℕ)
     → emission (option_map (cut_place R) o) kind k ≡ emission o kind k
 emission-cut R None kind k = refl
 emission-cut R (Some p) kind zero = refl

@@ -11,34 +11,15 @@ use Rattle.protocol.specs.Networks.Step.{Opens, Closes, Asks, Delivers, Hears, N
 use Rattle.protocol.specs.Hosts.{Entry, Config, entered, journal, net_at, reply_at, host_run, applied, nets, new_net, hosts_of, steps_of, entries}
 use Rattle.protocol.specs.Submissions.{Answer, net_run, answers_of, config_of}
 use Rattle.protocol.specs.Isolation.{closure, kept_of, outs_of, SameCast, Isolation}
+use Rattle.protocol.proofs.Networks.Effects.{effect-keeps}
 use Rattle.protocol.proofs.Runs.SameSteps.{journals-agree}
-
-act-number : (net : Net) (i u : ℕ) (e : NodeEvent) → (act net i u e).0.number ≡ net.number
-unfolding act
-act-number net i u e = refl
-
-effect-number : (net : Net) (e : Step) → (effect net e).0.number ≡ net.number
-unfolding effect
-effect-number net (Opens j) = refl
-effect-number net (Closes j) = refl
-effect-number net (Asks j u x) = act-number net j u _
-effect-number net (Delivers u size (Read e)) = act-number net e.slot u _
-effect-number net (Delivers u size (Fault n)) = refl
-effect-number net (Hears j u from kind k) = go (emission (known (places_at net.slots j) from) kind k)
-  where
-    go : (o : Option Sent) → (act_known net j u o).0.number ≡ net.number
-    go None = refl
-    go (Some e) = act-number net j u _
-effect-number net (NominationTimes j u r) = act-number net j u _
-effect-number net (BallotTimes j u n) = act-number net j u _
-effect-number net (Reslices j u q) = act-number net j u _
 
 step-number : (net : Net) (e : Step) → (net_step net e).0.number ≡ net.number
 unfolding net_step
 step-number net e = go (first_that (tests net e))
   where
     go : (o : Option Refusal) → (replied net e o).0.number ≡ net.number
-    go None = effect-number net e
+    go None = (effect-keeps net e).number
     go (Some n) = refl
 
 abbrev after : List Net → ℕ → Step → List Net

@@ -14,6 +14,7 @@ use Rattle.types.specs.declared.event.Refusal.TheVariants.{SlotOpenAlready, TooM
 use Rattle.protocol.specs.Networks.Step.{Opens, Closes, Asks, Delivers, Hears, NominationTimes, BallotTimes, Reslices}
 use Rattle.protocol.specs.Hosts.{Entry, entered, journal}
 use Rattle.protocol.specs.Isolation.{Kept, kept, is_of, kept_of, outs_of}
+use Rattle.protocol.proofs.Networks.Effects.{effect-keeps}
 use Rattle.protocol.proofs.Runs.Sights.{Sight, sight, play, reply, AllPlaces}
 use Rattle.protocol.proofs.Runs.Follows.{Follows}
 use Rattle.protocol.proofs.Runs.Events.{IsWithin, IsNew, follows}
@@ -29,26 +30,6 @@ answers-option : (cast : ℕ → Option Slices) (i : ℕ) (s : Sight) (u : ℕ) 
 answers-option cast i s u None ks = refl
 answers-option cast i s u (Some k) ks = refl
 
-act-hosts : (net : Net) (i u : ℕ) (e : NodeEvent) → (act net i u e).0.hosts ≡ net.hosts
-unfolding act
-act-hosts net i u e = refl
-
-pub effect-hosts : (net : Net) (e : Step) → (effect net e).0.hosts ≡ net.hosts
-unfolding effect
-effect-hosts net (Opens j) = refl
-effect-hosts net (Closes j) = refl
-effect-hosts net (Asks j u x) = act-hosts net j u (Propose x)
-effect-hosts net (Delivers u size (Read e)) = act-hosts net e.slot u (Take e)
-effect-hosts net (Delivers u size (Fault n)) = refl
-effect-hosts net (Hears j u from kind k) = go (emission (known (places_at net.slots j) from) kind k)
-  where
-    go : (o : Option Sent) → (act_known net j u o).0.hosts ≡ net.hosts
-    go None = refl
-    go (Some e) = act-hosts net j u (Take e)
-effect-hosts net (NominationTimes j u r) = act-hosts net j u (NominationTimer r)
-effect-hosts net (BallotTimes j u n) = act-hosts net j u (BallotTimer n)
-effect-hosts net (Reslices j u q) = act-hosts net j u (Reslice q)
-
 pub is_new : (net : Net) (e : Step) → first_that (tests net e) ≡ None → IsNew net e
 is_new net (Opens j) h =
     go ((not (nat_lt (length net.slots) net.budgets.slots), TooManySlots) ∷ is_full net
@@ -58,13 +39,7 @@ is_new net (Opens j) h =
         → first_that ((is_some o, SlotOpenAlready) ∷ ts) ≡ None → o ≡ None
     go ts None h = refl
     go ts (Some x) h = cc
-is_new net (Closes j) h = tt
-is_new net (Asks j u x) h = tt
-is_new net (Delivers u size d) h = tt
-is_new net (Hears j u from kind k) h = tt
-is_new net (NominationTimes j u r) h = tt
-is_new net (BallotTimes j u n) h = tt
-is_new net (Reslices j u q) h = tt
+is_new net _ h = tt
 
 abbrev pub AllIn : Names → ℕ → List Entry → Type 0
 AllIn R i entries = AllByRecursion (λ x. IsWithin R i x.event) entries
@@ -91,7 +66,7 @@ run-sight R i u r (e ∷ es) net h hosts f = go (first_that (tests net e)) refl 
         let next : Net = counted (source net.roster e) (size_of e) (effect net e).0 in
         let step : Follows R (cast_of R net.hosts) i net (effect net e) (λ w. is_of i w e) (kept R i e) =
         follows R i net e h hosts (is_new net e q) f.0 in
-        let same : next.hosts ≡ net.hosts = effect-hosts net e in
+        let same : next.hosts ≡ net.hosts = (effect-keeps net e).hosts in
         let rest = ih next step.places (subst (HostsIn R) (sym same) hosts) f.1 in
         ap₂ (λ (xs ys : List Out). xs ++ ys) (step.replies u r)
         (rest ∙ ap₂ (λ (hs : List Host) (s : Sight). answers (cast_of R hs) i s u

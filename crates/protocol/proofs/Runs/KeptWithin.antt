@@ -57,13 +57,6 @@ events-in R i (x ∷ xs) h = (
             (and_parts (keeps R (record { sources = u ∷ e.sender ∷ []; gives = names e.slices })) true k).0
             (and_from (R u) (R e.sender && true) r (and_from (R e.sender) true s refl))
         go false y k r s = absurd (false≢true y)
-    one (Delivers u size (Fault n)) k = tt
-    one (Opens j) k = tt
-    one (Closes j) k = tt
-    one (Asks j u x) k = tt
-    one (Hears j u from kind n) k = tt
-    one (NominationTimes j u r) k = tt
-    one (BallotTimes j u n) k = tt
     one (Reslices j u q) k = λ y r. go (j == i) y k r
       where
         go : (b : Bool) → b ≡ true
@@ -73,17 +66,13 @@ events-in R i (x ∷ xs) h = (
             keeps-at R (record { sources = u ∷ []; gives = names q })
             (and_parts (keeps R (record { sources = u ∷ []; gives = names q })) true k).0 (and_from (R u) true r refl)
         go false y k r = absurd (false≢true y)
+    one _ k = tt
 
 -- what was delivered to members of a set by members, and which slices were given to them, as the kept steps have it
 abbrev pub IsKeptIn : Names → Kept → Type 0
-IsKeptIn S Opened = Unit {0}
-IsKeptIn S Closed = Unit {0}
-IsKeptIn S (Told u (Propose x)) = Unit {0}
 IsKeptIn S (Told u (Take e)) = S u ≡ true → S e.sender ≡ true → within (names e.slices) S ≡ true
-IsKeptIn S (Told u (NominationTimer r)) = Unit {0}
-IsKeptIn S (Told u (BallotTimer n)) = Unit {0}
 IsKeptIn S (Told u (Reslice q)) = S u ≡ true → within (names q) S ≡ true
-IsKeptIn S (Heard u from kind k) = Unit {0}
+IsKeptIn S _ = Unit {0}
 
 abbrev pub if_kept : Names → Option Kept → Type 0
 if_kept S None = Unit {0}
@@ -126,18 +115,12 @@ kept-from R S i (Reslices j u q) h = go ((j == i) && R u) refl
 
 -- and back, where the other lies in the one
 pub kept-to : (R S : Names) (i : ℕ) (e : Step) → AreWithin S R → if_kept S (kept R i e) → IsWithin S i e
-kept-to R S i (Opens j) w h = tt
-kept-to R S i (Closes j) w h = tt
-kept-to R S i (Asks j u x) w h = tt
 kept-to R S i (Delivers u size (Read e)) w h = λ y r s.
     (subst (λ b. if_kept S (when_kept b (Told u (Take e))))
     (and_from ((e.slot == i) && R u) (R e.sender) (and_from (e.slot == i) (R u) y (w u r)) (w e.sender s)) h) r s
-kept-to R S i (Delivers u size (Fault n)) w h = tt
-kept-to R S i (Hears j u from kind k) w h = tt
-kept-to R S i (NominationTimes j u r) w h = tt
-kept-to R S i (BallotTimes j u n) w h = tt
 kept-to R S i (Reslices j u q) w h =
     λ y r. (subst (λ b. if_kept S (when_kept b (Told u (Reslice q)))) (and_from (j == i) (R u) y (w u r)) h) r
+kept-to R S i _ w h = tt
 
 pub all_kept-from : (R S : Names) (i : ℕ) (entries : List Entry) → AllIn S i entries
     → AllByRecursion (IsKeptIn S) (kept_of R i entries)

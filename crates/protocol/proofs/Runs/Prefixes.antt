@@ -9,12 +9,13 @@ use Rattle.protocol.specs.Hosts.{Entry, Config, entered, journal, new_net}
 use Rattle.protocol.specs.Isolation.{closure}
 use Rattle.protocol.specs.Runs.{net_after, state_of, IsRun}
 use Rattle.protocol.specs.Claims.{IsClosedFor, PrefixOfWholeRun}
+use Rattle.protocol.proofs.Networks.Effects.{effect-keeps}
 use Rattle.protocol.proofs.Nodes.Views.{reached-in}
 use Rattle.protocol.proofs.Nodes.Closed.{Good}
 use Rattle.protocol.proofs.Runs.Sights.{AllPlaces}
 use Rattle.protocol.proofs.Runs.Openings.{HostsIn}
 use Rattle.protocol.proofs.Runs.Events.{follows}
-use Rattle.protocol.proofs.Runs.KeptSteps.{AllIn, effect-hosts, is_new}
+use Rattle.protocol.proofs.Runs.KeptSteps.{AllIn, is_new}
 use Rattle.protocol.proofs.Runs.SameSteps.{no-places}
 use Rattle.protocol.proofs.Runs.KeptWithin.{hosts-closed, events-closed}
 use Rattle.protocol.proofs.Networks.Journals.{runs_are_journals}
@@ -47,7 +48,7 @@ places-after R i (e ∷ es) net h f n = go (first_that (tests net e)) refl f (λ
         subst (λ o. Holds R i (net_after (replied net e o).0 (take n (journal after es)))) (sym q)
         (ih after (
           (follows R i net e h.0 h.1 (is_new net e q) f.0).places,
-          subst (HostsIn R) (sym (effect-hosts net e)) h.1,
+          subst (HostsIn R) (sym (effect-keeps net e).hosts) h.1,
         ) f.1 n)
 
 pub holds-after : (config : Config) (run : List Entry) (i v n : ℕ) → IsRun config run

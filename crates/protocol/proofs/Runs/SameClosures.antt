@@ -41,16 +41,10 @@ module _ (R : Names) where
       one_rule (e.slot == i) (record { sources = u ∷ e.sender ∷ []; gives = names e.slices })
       (λ y. keeps-from R (record { sources = u ∷ e.sender ∷ []; gives = names e.slices })
       (λ w. let p = and_parts (R u) (within (e.sender ∷ []) R) w in h y p.0 (and_parts (R e.sender) true p.1).0))
-  keeps-event i (Delivers u size (Fault n)) h = refl
-  keeps-event i (Opens j) h = refl
-  keeps-event i (Closes j) h = refl
-  keeps-event i (Asks j u x) h = refl
-  keeps-event i (Hears j u from kind n) h = refl
-  keeps-event i (NominationTimes j u r) h = refl
-  keeps-event i (BallotTimes j u n) h = refl
   keeps-event i (Reslices j u q) h =
       one_rule (j == i) (record { sources = u ∷ []; gives = names q })
       (λ y. keeps-from R (record { sources = u ∷ []; gives = names q }) (λ w. h y (and_parts (R u) true w).0))
+  keeps-event i _ h = refl
 
   keeps-events : (i : ℕ) (entries : List Entry) → AllIn R i entries
       → list_all (keeps R) (flat_map (λ x. announced i x.event) entries) ≡ true

@@ -160,13 +160,11 @@ is_external e = is_externalize e.body
 -- an EXTERNALIZE is newer than every other ballot statement
 externalize-newer : (s t : Statement) → is_kind Kind.Ballot (kind_of t) ≡ true → is_externalize t ≡ false
     → is_externalize s ≡ true → is_newer s t ≡ true
-externalize-newer (Nominate v a) t k n e = absurd (false≢true e)
-externalize-newer (Prepare b p a h c) t k n e = absurd (false≢true e)
-externalize-newer (Commit b p h c) t k n e = absurd (false≢true e)
 externalize-newer (Externalize b h) (Nominate v a) k n e = absurd (false≢true k)
 externalize-newer (Externalize b h) (Prepare b' p' a' h' c') k n e = refl
 externalize-newer (Externalize b h) (Commit b' p' h' c') k n e = refl
 externalize-newer (Externalize b h) (Externalize b' h') k n e = absurd (true≢false n)
+externalize-newer _ t k n e = absurd (false≢true e)
 
 -- newer than another ballot statement is above it
 newer-above : (s t : Statement) → is_kind Kind.Ballot (kind_of t) ≡ true → is_externalize t ≡ false

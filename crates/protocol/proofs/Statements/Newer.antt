@@ -80,25 +80,16 @@ abbrev counter : Rank → ℕ → ℕ
 counter r n = get_or r.counters n 0
 
 pub ties_are_one : (s t : Statement) → kind_of s ≡ Kind.Ballot → statement_cmp s t ≡ Equal → s ≡ t
-ties_are_one (Nominate v a) t k e = cc
-ties_are_one (Prepare b p a h c) (Nominate v w) k e = cc
 ties_are_one (Prepare b p a h c) (Prepare b' p' a' h' c') k e =
     ap (λ (r : Rank). Prepare r.ballot r.prepared (counter r 0) (counter r 1) (counter r 2))
     (same_rank (rank_in b p 1 (a ∷ h ∷ c ∷ [])) (rank_in b' p' 1 (a' ∷ h' ∷ c' ∷ [])) e)
-ties_are_one (Prepare b p a h c) (Commit b' p' h' c') k e = cc
-ties_are_one (Prepare b p a h c) (Externalize b' h') k e = cc
-ties_are_one (Commit b p h c) (Nominate v w) k e = cc
-ties_are_one (Commit b p h c) (Prepare b' p' a' h' c') k e = cc
 ties_are_one (Commit b p h c) (Commit b' p' h' c') k e =
     ap (λ (r : Rank). Commit r.ballot (counter r 0) (counter r 1) (counter r 2))
     (same_rank (rank_in b None 2 (p ∷ h ∷ c ∷ [])) (rank_in b' None 2 (p' ∷ h' ∷ c' ∷ [])) e)
-ties_are_one (Commit b p h c) (Externalize b' h') k e = cc
-ties_are_one (Externalize b h) (Nominate v w) k e = cc
-ties_are_one (Externalize b h) (Prepare b' p' a' h' c') k e = cc
-ties_are_one (Externalize b h) (Commit b' p' h' c') k e = cc
 ties_are_one (Externalize b h) (Externalize b' h') k e =
     ap (λ (r : Rank). Externalize r.ballot (counter r 0))
     (same_rank (rank_in b None 3 (h ∷ [])) (rank_in b' None 3 (h' ∷ [])) e)
+ties_are_one _ _ k e = cc
 
 -- ---- what an order gives of "above"
 greater_not_less : (o p : Ordering) → o ≡ ordering_reverse p → is_gt o ≡ true → is_gt p ≡ false

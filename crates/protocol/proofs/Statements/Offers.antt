@@ -114,10 +114,8 @@ own_row-offered table e =
 
 -- nothing is newer than an EXTERNALIZE
 pub newer-externalize : (s t : Statement) → is_externalize t ≡ true → is_newer s t ≡ false
-newer-externalize s (Nominate v a) h = absurd (false≢true h)
-newer-externalize s (Prepare b p a k c) h = absurd (false≢true h)
-newer-externalize s (Commit b p k c) h = absurd (false≢true h)
 newer-externalize s (Externalize b k) h = refl
+newer-externalize s _ h = absurd (false≢true h)
 
 pub externalize_row-stays : (offers table : List Sent) (u : ℕ) (k : Kind) (x : Sent) → is_externalize x.body ≡ true
     → row table u k ≡ Some x → row (offered_all table offers) u k ≡ Some x
