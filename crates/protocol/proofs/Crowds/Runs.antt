@@ -20,6 +20,7 @@ use Rattle.protocol.proofs.Runs.Follows.{Follows}
 use Rattle.protocol.proofs.Runs.Events.{IsWithin, follows}
 use Rattle.protocol.proofs.Runs.Openings.{HostsIn, cast_of}
 use Rattle.protocol.proofs.Networks.Effects.{effect-keeps, left}
+use Rattle.protocol.proofs.Networks.Counts.{next}
 use Rattle.protocol.proofs.Runs.KeptSteps.{AllIn, is_new}
 use Rattle.protocol.proofs.Runs.KeptWithin.{kept-to, if_kept}
 use Rattle.protocol.proofs.Crowds.Views.{View, view, Frame, frame, share_of, node_of, tests_in, next_in, replied_in, step_in, replies_in, is_ours}
@@ -81,9 +82,6 @@ module _ (R : Names) (i : ℕ) (r : Roster) (on : (u : ℕ) → R u ≡ true →
     pub places : AllPlaces R i net
     pub hosts : HostsIn R net.hosts
     pub roster : net.roster ≡ Some r
-
-  abbrev next : Net → Step → Net
-  next net e = counted (source net.roster e) (size_of e) (effect net e).0
 
   follows-here : (net : Net) (e : Step) → Stands net → first_that (tests net e) ≡ None → IsWithin R i e
       → Follows R (cast_of R net.hosts) i net (effect net e) (λ w. is_of i w e) (kept R i e)

@@ -14,6 +14,7 @@ use Rattle.protocol.specs.Hosts.{Config, Entry, new_net}
 use Rattle.protocol.specs.Runs.{net_after}
 use Rattle.protocol.specs.Counts.{is_of_budgets, is_of_opens, is_of_share, drawing, bytes_in, is_opening, since_opened, IsCountOf, RunsAreCounted}
 use Rattle.protocol.proofs.Sets.Lists.{filter_filter}
+use Rattle.protocol.proofs.Sets.Numbers.{turned}
 use Rattle.protocol.proofs.Equality.Sameness.{eqb-refl}
 use Rattle.protocol.proofs.Networks.Effects.{effect-keeps, left}
 
@@ -78,14 +79,7 @@ module _ (i : ℕ) (t : Share) where
   drawn-left (Opens j) ds o =
       filter_filter (λ d. not (d.slot == j)) (λ d. (d.slot == i) && same_share d.share t) (λ d h.
       let p = and_parts (d.slot == i) (same_share d.share t) h in
-      let q : d.slot ≡ i = eqb-true d.slot i p.0 in ap (λ k. not (k == j)) q ∙ ap not (flipped i j o)) ds
-    where
-      flipped : (a b : ℕ) → (b == a) ≡ false → (a == b) ≡ false
-      flipped a b h = go (a == b) refl
-        where
-          go : (c : Bool) → (a == b) ≡ c → c ≡ false
-          go true e = absurd (true≢false (sym (ap (λ z. b == z) (eqb-true a b e) ∙ eqb-refl b) ∙ h))
-          go false e = refl
+      let q : d.slot ≡ i = eqb-true d.slot i p.0 in ap (λ k. not (k == j)) q ∙ ap not (turned j i o)) ds
   drawn-left _ ds o = refl
 
 -- the entries since an opening, with one more

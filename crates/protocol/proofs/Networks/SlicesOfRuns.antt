@@ -7,6 +7,7 @@ use Rattle.std.proofs.Common.{◌≡◌, ℕ, Bool, true, false, not, ◌&&◌, 
 use Rattle.std.proofs.lemmas.Bool.{cases_Bool, and_parts, and_from, true≢false, eqb-true, eq-eqb}
 use Rattle.types.specs.Trees.{Slices}
 use Rattle.types.specs.Statements.{Sent}
+use Rattle.std.proofs.lemmas.Option.{none-some}
 use Rattle.protocol.specs.Nodes.{fresh}
 use Rattle.protocol.specs.Limits.{Reached}
 use Rattle.protocol.specs.Limits.Reached.{begin, next}
@@ -168,7 +169,4 @@ slices_follow_runs config run i u q p is hosted k =
     let events = map (λ (x : Entry). x.event) run in
     let same : run ≡ journal net events = runs_are_journals config run is in
     (subst (λ (es : List Entry). Has i u q (slices_since i u q q es) (net_after net es)) (sym same)
-    (has-run i u q events net q hosted (λ p k. absurd (none p k))) p k).0
-  where
-    none : (p : Place) → None ≡ Some p → ⊥
-    none p e = cc
+    (has-run i u q events net q hosted (λ p k. absurd (none-some p k))) p k).0

@@ -37,12 +37,10 @@ step-self n e = step-keeps (IsSelf n) (λ m h. h) n e refl (self-change n e)
 emits-append : (P : Sent → Bool) (xs ys : List Out) → list_all P (emissions xs) ≡ true
     → list_all P (emissions ys) ≡ true → list_all P (emissions (xs ++ ys)) ≡ true
 emits-append P [] ys h k = k
-emits-append P (ArmNomination r ∷ xs) ys h k = emits-append P xs ys h k
-emits-append P (ArmBallot n ∷ xs) ys h k = emits-append P xs ys h k
 emits-append P (Emit e ∷ xs) ys h k =
     let p = and_parts (P e) (list_all P (emissions xs)) h in
     and_from (P e) (list_all P (emissions (xs ++ ys))) p.0 (emits-append P xs ys p.1 k)
-emits-append P (Decided x ∷ xs) ys h k = emits-append P xs ys h k
+emits-append P (_ ∷ xs) ys h k = emits-append P xs ys h k
 
 record Emits (P : Sent → Bool) (os : List Out) : Type 0 where
   all : list_all P (emissions os) ≡ true

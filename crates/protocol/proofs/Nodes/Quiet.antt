@@ -21,6 +21,7 @@ use Rattle.types.specs.declared.event.NodeEvent.TheVariants.{Take}
 use Rattle.types.specs.declared.event.Out.TheVariants.{Emit}
 use Rattle.protocol.proofs.Equality.Sameness.{eqb-refl, same_sent-refl, same_votes-refl}
 use Rattle.protocol.proofs.Sets.Finite.{within-at}
+use Rattle.protocol.proofs.Sets.Numbers.{turned}
 use Rattle.protocol.proofs.Statements.Offers.{row-with}
 use Rattle.protocol.proofs.Nodes.Views.{cut, announces_in, Closed, seen-cut}
 use Rattle.protocol.proofs.Nodes.Agreement.{cut_node}
@@ -88,13 +89,10 @@ led_by-other (u ∷ us) table e l = elim (cases_Bool (u == e.sender)) [
   | inl y ↦ absurd (true≢false (sym (or_left (u == e.sender) (among us e.sender) y) ∙ l))
   | inr o ↦ ap₂ (λ (r : Option Sent) (ys : List Statement). cons_option (option_map (λ (x : Sent). x.body) r) ys)
       (row-with e table u Nomination ∙ ap (λ b. if b then Some e else row table u Nomination)
-      (and_left (e.sender == u) (is_kind Nomination (kind_of e.body)) (other o)))
+      (and_left (e.sender == u) (is_kind Nomination (kind_of e.body)) (turned u e.sender o)))
       (led_by-other us table e (false_from_ne_true _
       (λ i. true≢false (sym (or_right (u == e.sender) (among us e.sender) i) ∙ l))))
 ]
-  where
-    other : (u == e.sender) ≡ false → (e.sender == u) ≡ false
-    other o = false_from_ne_true _ (λ i. true≢false (sym (eq-eqb u e.sender (sym (eqb-true e.sender u i))) ∙ o))
 
 -- a row of a sender that is neither in R nor a leader is not seen
 seen-outside : (R : Names) (v : ℕ) (q : Slices) (leaders : List ℕ) (table : List Sent) (e : Sent) → Closed R v q table

@@ -1,6 +1,6 @@
 -- How long a list is after values are put into it. `Sending` stands on it.
 use Rattle.std.proofs.Common.{◌≡◌, ℕ, suc, ◌+◌, ◌≤◌, ◌<◌, Bool, true, false, ◌||◌, length, List, [], ◌∷◌, if◌then◌else◌, refl, sym, ◌∙◌, arith}
-use Rattle.std.proofs.lemmas.Bool.{true≢false}
+use Rattle.std.proofs.lemmas.Bool.{or_parts, true≢false}
 use Rattle.types.specs.Nominations.{with_value}
 use Rattle.protocol.specs.Candidates.{all_with}
 use Rattle.protocol.proofs.Ballots.Order.{less}
@@ -26,16 +26,12 @@ unfolding with_value
 with-new x [] h = omega arith
 with-new x (y ∷ ys) h = go (less x y) (same_value y x) refl (λ k. with-new x ys k)
   where
-    right_false : (a b : Bool) → (a || b) ≡ false → (a ≡ false) × (b ≡ false)
-    right_false true b k = absurd (true≢false k)
-    right_false false b k = (refl, k)
-
     go : (a b : Bool) → (same_value y x) ≡ b → (has_value ys x ≡ false → length ys < length (with_value x ys))
         → length (y ∷ ys) < length (if a then x ∷ y ∷ ys else (if b then y ∷ ys else y ∷ with_value x ys))
     go true b e ih = omega arith
-    go false true e ih = absurd (true≢false (sym e ∙ (right_false (same_value y x) (has_value ys x) h).0))
+    go false true e ih = absurd (true≢false (sym e ∙ (or_parts (same_value y x) (has_value ys x) h).0))
     go false false e ih =
-        let k : length ys < length (with_value x ys) = ih (right_false (same_value y x) (has_value ys x) h).1 in
+        let k : length ys < length (with_value x ys) = ih (or_parts (same_value y x) (has_value ys x) h).1 in
         omega (arith, k)
 
 pub all-longer : (ys xs : List (List ℕ))

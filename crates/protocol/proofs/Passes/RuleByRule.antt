@@ -163,6 +163,25 @@ raised-stays w b n p = go (n == b.counter)
     go true = refl
     go false = ap (λ q. raised_value q w b.value) p
 
+-- a raised ballot, whatever is armed
+pub raised-sound : (w : Votes) (b : Ballot) (n armed : ℕ) → w.ballot ≡ Some b → Sound w
+    → Sound (record w { ballot = Some (raised w b n); armed = armed })
+raised-sound w b n armed e sound =
+    record {
+      aborted = sound.aborted;
+      confirmed_prepared = sound.confirmed_prepared;
+      committing = λ c. let h = sound.committing c in let z : h.b ≡ b = same_Some h.b b (sym h.ballot ∙ e) in
+          record {
+            b = raised w b n;
+            p = h.p;
+            ballot = refl;
+            prepared = h.prepared;
+            value = h.value ∙ (ap (λ (x : Ballot). x.value) z ∙ sym (raised-stays w b n c));
+            high = h.high;
+            low = h.low;
+          };
+    }
+
 pub counts-on : (s : Seen) → Fair s → (g : Inputs) (w : Votes) (b : Ballot) → w.ballot ≡ Some b → Sound w
     → Counted s g w b
 counts-on s f g w b e sound =
@@ -177,20 +196,7 @@ counts-on s f g w b e sound =
       ballot = refl;
       phase = refl;
       risen = subst (λ n. Risen s g n) (sym (raised-counter w b r.0)) r.3;
-      sound = record {
-        aborted = sound.aborted;
-        confirmed_prepared = sound.confirmed_prepared;
-        committing = λ c. let h = sound.committing c in let z : h.b ≡ b = same_Some h.b b (sym h.ballot ∙ e) in
-            record {
-              b = raised w b r.0;
-              p = h.p;
-              ballot = refl;
-              prepared = h.prepared;
-              value = h.value ∙ (ap (λ (x : Ballot). x.value) z ∙ sym (raised-stays w b r.0 c));
-              high = h.high;
-              low = h.low;
-            };
-      };
+      sound = raised-sound w b r.0 a.0 e sound;
       voted = refl;
       accepts = refl;
       confirms = refl;

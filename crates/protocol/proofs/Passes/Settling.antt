@@ -16,7 +16,7 @@ use Rattle.protocol.specs.Limits.{Reached, NeverLimited, WithinFour}
 use Rattle.protocol.specs.Limits.Reached.{begin, next}
 use Rattle.protocol.proofs.Balloting.FairSight.{seen-fair}
 use Rattle.protocol.proofs.Nodes.Made.{if_node, if_node-if, step-keeps}
-use Rattle.protocol.proofs.Passes.RuleByRule.{raised-stays}
+use Rattle.protocol.proofs.Passes.RuleByRule.{raised-sound}
 use Rattle.protocol.proofs.Passes.FourPasses.{Fit, IsSome, four, pass-fit}
 use Rattle.std.proofs.lemmas.Option.{same_Some}
 
@@ -31,23 +31,8 @@ fresh-fit slot v q =
 
 bumped-fit : (w : Votes) (o : Option Ballot) → w.ballot ≡ o → Fit w → Fit (bumped w o)
 bumped-fit w None e h = h
-bumped-fit w (Some b) e h = record {
-  sound = record {
-    aborted = h.sound.aborted;
-    confirmed_prepared = h.sound.confirmed_prepared;
-    committing = λ c. let k = h.sound.committing c in let z : k.b ≡ b = same_Some k.b b (sym k.ballot ∙ e) in
-        record {
-          b = raised w b (b.counter + 1);
-          p = k.p;
-          ballot = refl;
-          prepared = k.prepared;
-          value = k.value ∙ (ap (λ (x : Ballot). x.value) z ∙ sym (raised-stays w b (b.counter + 1) c));
-          high = k.high;
-          low = k.low;
-        };
-  };
-  ascending = h.ascending;
-}
+bumped-fit w (Some b) e h =
+    record { sound = raised-sound w b (b.counter + 1) w.armed e h.sound; ascending = h.ascending }
 
 abbrev IsFit : Node → Type 0
 IsFit n = Fit n.votes

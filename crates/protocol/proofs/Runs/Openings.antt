@@ -3,6 +3,7 @@ use Rattle.std.proofs.Common.{◌≡◌, ℕ, Bool, true, false, not, ◌==◌, 
 use Rattle.std.proofs.Math.Path.{fun_ext}
 use Rattle.std.proofs.lemmas.Bool.{eqb-true}
 use Rattle.types.specs.Trees.{Slices}
+use Rattle.std.proofs.lemmas.Option.{none-some}
 use Rattle.protocol.specs.Sets.{Names, within}
 use Rattle.protocol.specs.Satisfaction.{names}
 use Rattle.protocol.specs.Nodes.{fresh}
@@ -123,7 +124,7 @@ closes R cast i net j h = go (j == i) refl
     go true y = record {
       sights = fun_ext (λ u. see (R u) (gone u));
       replies = λ w r. refl;
-      places = λ u p k. absurd (none p (sym (gone u) ∙ k));
+      places = λ u p k. absurd (none-some p (sym (gone u) ∙ k));
     }
       where
         gone : (u : ℕ) → known (places_at now.slots i) u ≡ None
@@ -132,6 +133,3 @@ closes R cast i net j h = go (j == i) refl
         see : (b : Bool) {o : Option Place} → o ≡ None → (if b then option_map (cut_place R) o else None) ≡ None
         see true e = ap (option_map (cut_place R)) e
         see false e = refl
-
-        none : (p : Place) → None ≡ Some p → ⊥
-        none p e = cc

@@ -1,5 +1,5 @@
 -- Orders of numbers, and tests of them, one after the other: the rules of balloting and what is sent stand on it.
-use Rattle.std.proofs.Common.{◌≡◌, ℕ, ◌≤◌, true, nat_le, nat_lt, arith}
+use Rattle.std.proofs.Common.{◌≡◌, ℕ, ◌≤◌, true, false, ◌==◌, nat_le, nat_lt, arith}
 use Rattle.std.proofs.lemmas.Bool.Decides.{nat_tests}
 
 pub through : (a b c : ℕ) → a ≤ b → b ≤ c → a ≤ c
@@ -10,3 +10,6 @@ up_to m n h = grind (arith, nat_tests)
 
 pub not_both : (m n : ℕ) → n ≤ m → nat_lt m n ≡ true → ⊥
 not_both m n h k = grind (arith, nat_tests)
+
+pub turned : (m n : ℕ) → (m == n) ≡ false → (n == m) ≡ false
+turned m n h = grind (arith, nat_tests)

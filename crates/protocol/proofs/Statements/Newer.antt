@@ -175,15 +175,7 @@ widens-along v a v' a' w x g h =
 
 pub newer-along : (s t r : Statement) → is_newer s t ≡ true → is_newer t r ≡ true → is_newer s r ≡ true
 newer-along (Nominate v a) (Nominate v' a') (Nominate w x) g h = widens-along v a v' a' w x g h
-newer-along (Prepare b p a k c) (Nominate v' a') (Nominate w x) g h = absurd (false≢true g)
-newer-along (Commit b p k c) (Nominate v' a') (Nominate w x) g h = absurd (false≢true g)
-newer-along (Externalize b k) (Nominate v' a') (Nominate w x) g h = absurd (false≢true g)
-newer-along s (Prepare b p a k c) (Nominate w x) g h = absurd (false≢true h)
-newer-along s (Commit b p k c) (Nominate w x) g h = absurd (false≢true h)
-newer-along s (Externalize b k) (Nominate w x) g h = absurd (false≢true h)
-newer-along s t (Externalize b k) g h = absurd (false≢true h)
-newer-along s (Nominate v a) (Prepare b p k h' c) g h = absurd (false≢true h)
-newer-along s (Nominate v a) (Commit b p h' c) g h = absurd (false≢true h)
+newer-along _ (Nominate v a) (Nominate w x) g h = absurd (false≢true g)
 newer-along s (Prepare b p a k c) (Prepare b' p' a' k' c') g h =
     above-along s (Prepare b p a k c) (Prepare b' p' a' k' c') g h
 newer-along s (Prepare b p a k c) (Commit b' p' k' c') g h = above-along s (Prepare b p a k c) (Commit b' p' k' c') g h
@@ -192,3 +184,4 @@ newer-along s (Commit b p k c) (Prepare b' p' a' k' c') g h =
 newer-along s (Commit b p k c) (Commit b' p' k' c') g h = above-along s (Commit b p k c) (Commit b' p' k' c') g h
 newer-along s (Externalize b k) (Prepare b' p' a' k' c') g h = absurd (false≢true g)
 newer-along s (Externalize b k) (Commit b' p' k' c') g h = absurd (false≢true g)
+newer-along _ _ _ g h = absurd (false≢true h)

@@ -130,10 +130,8 @@ talk = Opens 1 ∷ Asks 1 A x ∷ Asks 1 B x ∷ Asks 1 C x ∷ Asks 1 D x ∷ [
 
 abbrev decided_in : List Out → List (List ℕ)
 decided_in [] = []
-decided_in (ArmNomination r ∷ os) = decided_in os
-decided_in (ArmBallot n ∷ os) = decided_in os
-decided_in (Emit e ∷ os) = decided_in os
 decided_in (Decided v ∷ os) = v ∷ decided_in os
+decided_in (_ ∷ os) = decided_in os
 
 abbrev values_of : List Reply → List (List ℕ)
 values_of [] = []
