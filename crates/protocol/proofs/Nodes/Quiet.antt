@@ -3,7 +3,7 @@
 use Rattle.types.specs.declared.event.Out.{Out}
 use Rattle.std.proofs.Common.{◌≡◌, ℕ, Bool, true, false, not, cond, ◌&&◌, ◌==◌, Option, Some, None, List, [], ◌∷◌, option_map, if◌then◌else◌, refl, sym, ◌∙◌, ap, ap₂, subst, inl, inr}
 use Rattle.std.specs.List.{cons_option}
-use Rattle.std.proofs.lemmas.Bool.{and_left, and_parts, cases_Bool, eq-eqb, eqb-true, false_from_ne_true, not_from_false, or_left, or_right, true≢false}
+use Rattle.std.proofs.lemmas.Bool.{and_left, and_parts, cases_Bool, eq-eqb, eqb-true, false_from_ne_true, not_from_false, or_left, or_parts, or_right, true≢false}
 use Rattle.types.specs.Trees.{Slices}
 use Rattle.types.specs.Statements.{Sent, kind_of}
 use Rattle.types.specs.declared.statement.Statement.{Statement}
@@ -85,14 +85,12 @@ led_by-other : (leaders : List ℕ) (table : List Sent) (e : Sent) → among lea
     → led_by leaders (with_row e table) ≡ led_by leaders table
 unfolding led_by
 led_by-other [] table e l = refl
-led_by-other (u ∷ us) table e l = elim (cases_Bool (u == e.sender)) [
-  | inl y ↦ absurd (true≢false (sym (or_left (u == e.sender) (among us e.sender) y) ∙ l))
-  | inr o ↦ ap₂ (λ (r : Option Sent) (ys : List Statement). cons_option (option_map (λ (x : Sent). x.body) r) ys)
-      (row-with e table u Nomination ∙ ap (λ b. if b then Some e else row table u Nomination)
-      (and_left (e.sender == u) (is_kind Nomination (kind_of e.body)) (turned u e.sender o)))
-      (led_by-other us table e (false_from_ne_true _
-      (λ i. true≢false (sym (or_right (u == e.sender) (among us e.sender) i) ∙ l))))
-]
+led_by-other (u ∷ us) table e l =
+    let p = or_parts (u == e.sender) (among us e.sender) l in
+    ap₂ (λ (r : Option Sent) (ys : List Statement). cons_option (option_map (λ (x : Sent). x.body) r) ys)
+    (row-with e table u Nomination ∙ ap (λ b. if b then Some e else row table u Nomination)
+    (and_left (e.sender == u) (is_kind Nomination (kind_of e.body)) (turned u e.sender p.0)))
+    (led_by-other us table e p.1)
 
 -- a row of a sender that is neither in R nor a leader is not seen
 seen-outside : (R : Names) (v : ℕ) (q : Slices) (leaders : List ℕ) (table : List Sent) (e : Sent) → Closed R v q table
