@@ -53,48 +53,48 @@ unfoldable pub steps_to : ℕ → List (ℕ × Step) → List Step
 steps_to g [] = []
 steps_to g (c ∷ cs) = if c.0 == g then c.1 ∷ steps_to g cs else steps_to g cs
 
+-- what is gathered of a host's calls to one network, each with its reply, is what that network gives by itself
+module _ {X : Type 0} (g : ℕ) (more : Step → Reply → List X → List X) (of_host : List (ℕ × Step) → List Reply → List X)
+    (of_net : Net → List Step → List X) (none : (n : Net) → of_host [] [] ≡ of_net n [])
+    (call : (c : ℕ × Step) (cs : List (ℕ × Step)) (r : Reply) (rs : List Reply)
+    → of_host (c ∷ cs) (r ∷ rs) ≡ (if c.0 == g then more c.1 r (of_host cs rs) else of_host cs rs))
+    (next : (n : Net) (e : Step) (es : List Step)
+    → of_net n (e ∷ es) ≡ more e (net_step n e).1 (of_net (net_step n e).0 es)) where
+  gathered : (calls : List (ℕ × Step)) (ns : List Net) (n : Net) → net_at ns g ≡ Some n
+      → of_host calls (host_run ns calls) ≡ of_net n (steps_to g calls)
+  unfolding host_run steps_to
+  gathered [] ns n h = none n
+  gathered (c ∷ cs) ns n h =
+      call c cs (reply_at (net_at ns c.0) c.1) (host_run (after ns c.0 c.1) cs)
+      ∙ go (c.0 == g) refl (λ ns n. gathered cs ns n)
+    where
+      rest : ℕ → List X
+      rest x = of_host cs (host_run (after ns x c.1) cs)
+
+      go : (b : Bool) → (c.0 == g) ≡ b
+          → ((ns : List Net) (n : Net) → net_at ns g ≡ Some n → of_host cs (host_run ns cs) ≡ of_net n (steps_to g cs))
+          → (if b then more c.1 (reply_at (net_at ns c.0) c.1) (rest c.0) else rest c.0)
+          ≡ of_net n (if b then c.1 ∷ steps_to g cs else steps_to g cs)
+      go true y ih =
+          let cg : c.0 ≡ g = eqb-true c.0 g y in
+          ap₂ (more c.1) (ap (λ o. reply_at o c.1) (ap (net_at ns) cg ∙ h))
+          (ap rest cg ∙ ih (after ns g c.1) (net_step n c.1).0 (net_at-same ns g c.1 n h))
+          ∙ sym (next n c.1 (steps_to g cs))
+      go false y ih = ih (after ns c.0 c.1) n (net_at-other ns g c.0 c.1 y ∙ h)
+
 -- a history holds the journal of each of its networks
 pub applied-journal : (g : ℕ) (calls : List (ℕ × Step)) (ns : List Net) (n : Net) → net_at ns g ≡ Some n
     → applied g calls (host_run ns calls) ≡ journal n (steps_to g calls)
-unfolding applied host_run journal steps_to
-applied-journal g [] ns n h = refl
-applied-journal g (c ∷ cs) ns n h = go (c.0 == g) refl (λ ns n. applied-journal g cs ns n)
-  where
-    go : (b : Bool) → (c.0 == g) ≡ b
-        → ((ns : List Net) (n : Net) → net_at ns g ≡ Some n → applied g cs (host_run ns cs) ≡ journal n (steps_to g cs))
-        → (if b then entered c.1 (reply_at (net_at ns c.0) c.1)
-        (applied g cs (host_run (after ns c.0 c.1) cs)) else applied g cs (host_run (after ns c.0 c.1) cs))
-        ≡ journal n (if b then c.1 ∷ steps_to g cs else steps_to g cs)
-    go true y ih =
-        let cg : c.0 ≡ g = eqb-true c.0 g y in
-        ap₂ (λ (r : Reply) (xs : List Entry). entered c.1 r xs)
-        (ap (λ o. reply_at o c.1) (ap (net_at ns) cg ∙ h))
-        (ap (λ x. applied g cs (host_run (after ns x c.1) cs)) cg
-        ∙ ih (after ns g c.1) (net_step n c.1).0 (net_at-same ns g c.1 n h))
-    go false y ih = ih (after ns c.0 c.1) n (net_at-other ns g c.0 c.1 y ∙ h)
+unfolding applied journal
+applied-journal g = gathered g entered (applied g) journal (λ n. refl) (λ c cs r rs. refl) (λ n e es. refl)
 
--- a history holds the answers of each of its networks
+-- and the answers of each of them
 pub answers-run : (g : ℕ) (calls : List (ℕ × Step)) (ns : List Net) (n : Net) → net_at ns g ≡ Some n
     → answers_of g calls (host_run ns calls) ≡ net_run n (steps_to g calls)
-unfolding answers_of host_run net_run steps_to
-answers-run g [] ns n h = refl
-answers-run g (c ∷ cs) ns n h = go (c.0 == g) refl (λ ns n. answers-run g cs ns n)
-  where
-    go : (b : Bool) → (c.0 == g) ≡ b
-        → ((ns : List Net) (n : Net) → net_at ns g ≡ Some n
-        → answers_of g cs (host_run ns cs) ≡ net_run n (steps_to g cs))
-        → (if b then record {
-          step = c.1;
-          reply = reply_at (net_at ns c.0) c.1;
-        } ∷ answers_of g cs (host_run (after ns c.0 c.1) cs) else answers_of g cs
-        (host_run (after ns c.0 c.1) cs)) ≡ net_run n (if b then c.1 ∷ steps_to g cs else steps_to g cs)
-    go true y ih =
-        let cg : c.0 ≡ g = eqb-true c.0 g y in
-        ap₂ {C = List Answer} (λ (r : Reply) (xs : List Answer). record { step = c.1; reply = r } ∷ xs)
-        (ap (λ o. reply_at o c.1) (ap (net_at ns) cg ∙ h))
-        (ap (λ x. answers_of g cs (host_run (after ns x c.1) cs)) cg
-        ∙ ih (after ns g c.1) (net_step n c.1).0 (net_at-same ns g c.1 n h))
-    go false y ih = ih (after ns c.0 c.1) n (net_at-other ns g c.0 c.1 y ∙ h)
+unfolding answers_of net_run
+answers-run g =
+    gathered g (λ e r xs. record { step = e; reply = r } ∷ xs) (answers_of g) net_run (λ n. refl) (λ c cs r rs. refl)
+    (λ n e es. refl)
 
 -- the network g of a configuration
 pub record HasNet (configs : List Config) (g : ℕ) : Type 0 where
