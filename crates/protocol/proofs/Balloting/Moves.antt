@@ -55,7 +55,8 @@ accept_prepared-moves s b w =
 
 -- h
 pub raise_confirmed_prepared-still : (s : Seen) (w : Votes)
-    → ((t : Ballot) → IsIn t (named s w) → is_confirmed s w t ≡ true → above w.confirmed_prepared t ≡ false) → raise_confirmed_prepared s w ≡ w
+    → ((t : Ballot) → IsIn t (named s w) → is_confirmed s w t ≡ true → above w.confirmed_prepared t ≡ false)
+    → raise_confirmed_prepared s w ≡ w
 unfolding raise_confirmed_prepared
 raise_confirmed_prepared-still s w f =
     let e : greatest w.confirmed_prepared (filter (is_confirmed s w) (named s w)) ≡ w.confirmed_prepared =

@@ -1,5 +1,5 @@
 -- In PREPARE: once p, h, b and c were set with one position, they stay as they are. `Passes` stands on it.
-use Rattle.std.proofs.Common.{◌≡◌, ◌≤◌, true, false, not, ◌&&◌, ◌||◌, ◌==◌, nat_le, Option, Some, None, is_none, refl, sym, ◌∙◌, ap, subst, inl, inr, ◌⊎◌}
+use Rattle.std.proofs.Common.{◌≡◌, ◌≤◌, true, false, ◌||◌, nat_le, Option, Some, None, is_none, refl, sym, ◌∙◌, ap, subst, inl, inr, ◌⊎◌}
 use Rattle.std.proofs.lemmas.Bool.{cases_Bool, or_left, and_parts, true≢false}
 use Rattle.types.specs.declared.ballot.Ballot.{Ballot}
 use Rattle.protocol.proofs.Balloting.Tests.{implies, backs_prepare, takes_prepare, Fair, quorum_own, quorum_more}
@@ -9,7 +9,7 @@ use Rattle.protocol.specs.Views.{Seen, passes}
 use Rattle.types.specs.declared.state.Phase.{Phase}
 use Rattle.types.specs.declared.state.Votes.{Votes}
 use Rattle.protocol.specs.States.{below, counter_of, high_counter, commit_counter, position}
-use Rattle.protocol.specs.Balloting.{aborted_by, is_accepted, is_confirmed, may_be_prepared, accept_prepared, raise_confirmed_prepared, follow_confirmed_prepared, is_aborted, set_commit}
+use Rattle.protocol.specs.Balloting.{aborted_by, is_accepted, is_confirmed, may_be_prepared, accept_prepared, raise_confirmed_prepared, follow_confirmed_prepared, set_commit}
 use Rattle.types.specs.declared.state.Phase.TheVariants.{Preparing, Committing}
 use Rattle.protocol.specs.Extremes.{IsIn}
 use Rattle.protocol.proofs.Ballots.Order.{below-self, not_above-value}
@@ -107,7 +107,11 @@ module _ (s : Seen) (f : Fair s) (b : Ballot) (w : Votes) (phase : w.phase ≡ P
         ballot = refl;
         phase = phase;
         grows = F.grows;
-        sound = record { aborted = low; confirmed_prepared = high_under; committing = λ e. preparing≢committing w.phase phase e };
+        sound = record {
+          aborted = low;
+          confirmed_prepared = high_under;
+          committing = λ e. preparing≢committing w.phase phase e;
+        };
         voted = refl;
         accepts = refl;
         confirms = refl;

@@ -1,6 +1,6 @@
 -- A step that concerns R is tested by what R sees, and draws on a member's share. `Networks` stands on it.
 use Rattle.types.specs.declared.event.Refusal.{Refusal}
-use Rattle.std.proofs.Common.{◌≡◌, ℕ, Bool, true, false, not, ◌&&◌, ◌||◌, ◌==◌, ◌+◌, nat_lt, length, Option, Some, None, List, [], ◌∷◌, ◌++◌, filter, option_map, if◌then◌else◌, is_some, is_none, refl, sym, ◌∙◌, ap, zero, suc, sum_by}
+use Rattle.std.proofs.Common.{◌≡◌, ℕ, Bool, true, false, not, ◌&&◌, ◌||◌, ◌==◌, ◌+◌, nat_lt, length, Option, Some, None, List, [], ◌∷◌, ◌++◌, filter, option_map, if◌then◌else◌, is_some, is_none, refl, sym, ◌∙◌, ap, suc, sum_by}
 use Rattle.std.proofs.lemmas.Bool.{and_parts, and_from, eqb-true, false≢true, true≢false}
 use Rattle.types.specs.declared.kind.Kind.{Kind}
 use Rattle.types.specs.declared.event.Refusal.TheVariants.{NoSuchNode, SlotNotOpen, SlotOpenAlready, TooManySlots, HostedSender, NotEmitted, BadValue, ProposedAlready, ShareFull, ShareBytesFull}
@@ -53,7 +53,8 @@ module _ (R : Names) (i : ℕ) (net : Net) where
   emitted : (j u : ℕ) (kind : Kind) (k : ℕ) → (j == i) ≡ true → R u ≡ true
       → emission (known (places_at net.slots j) u) kind k ≡ emission (sight R i net u) kind k
   emitted j u kind k e r =
-      sym (emission-cut R (known (places_at net.slots j) u) kind k) ∙ ap (λ o. emission o kind k) (sym (seen_at j u e r))
+      sym (emission-cut R (known (places_at net.slots j) u) kind k)
+      ∙ ap (λ o. emission o kind k) (sym (seen_at j u e r))
 
   full : (shares : Shares) (j : ℕ) (s : Share) → (j == i) ≡ true → of_members R s ≡ true
       → is_full net (OfShare shares j s) ≡ full_in (view R i net) (OfShare shares j s)

@@ -1,7 +1,7 @@
 -- Where all spellings of an envelope have one length, submitted steps that are the same but for lengths are the same.
 -- The law `lengths_follow_from_envelopes` stands on it.
 use Rattle.types.specs.declared.event.Event.{Event}
-use Rattle.types.specs.declared.event.Event.TheVariants.{OpenSlot, CloseSlot, Propose as Ask, Deliver, Hear, NominationTimer as NominationTimeout, BallotTimer as BallotTimeout, Reslice as ChangeSlices}
+use Rattle.types.specs.declared.event.Event.TheVariants.{Deliver}
 use Rattle.std.proofs.Common.{◌≡◌, ℕ, Bool, true, false, ◌==◌, Option, Some, None, List, [], ◌∷◌, map, length, cond, if◌then◌else◌, refl, sym, ◌∙◌, ap, ap₂}
 use Rattle.std.specs.List.{AllByRecursion}
 use Rattle.std.proofs.lemmas.Bool.{false≢true}
@@ -9,7 +9,7 @@ use Rattle.types.specs.Statements.{Sent}
 use Rattle.protocol.specs.Sets.{Names}
 use Rattle.protocol.specs.Networks.{Reading, Step, Reply, read, size_of}
 use Rattle.protocol.specs.Networks.Reading.{Read, Fault}
-use Rattle.protocol.specs.Networks.Step.{Opens, Closes, Asks, Delivers, Hears, NominationTimes, BallotTimes, Reslices}
+use Rattle.protocol.specs.Networks.Step.{Delivers}
 use Rattle.protocol.specs.Hosts.{nets, host_run, steps_of}
 use Rattle.protocol.specs.Submissions.{Answer, answers_of, concerns, concerning, answers, HasOneLength, unsized, LengthsFollow}
 

@@ -6,7 +6,7 @@ use Rattle.std.proofs.Common.{◌≡◌, ◌⊎◌, ℕ, Bool, true, false, ◌&
 use Rattle.std.proofs.lemmas.Bool.{and_parts, and_from, false≢true}
 use Rattle.protocol.specs.Sets.{Names, among}
 use Rattle.protocol.specs.Rosters.{Roster, Draw}
-use Rattle.protocol.specs.Networks.{Net, Step, Reply, source, size_of, on_shares, on_opens, effect, tests, first_that, counted, replied, net_step}
+use Rattle.protocol.specs.Networks.{Net, Step, Reply, source, size_of, on_shares, on_opens, effect, tests, first_that, replied, net_step}
 use Rattle.protocol.specs.Networks.Reading.{Read, Fault}
 use Rattle.protocol.specs.Networks.Step.{Opens, Closes, Asks, Delivers, Hears, NominationTimes, BallotTimes, Reslices}
 use Rattle.protocol.specs.Networks.Reply.{Done, Refused}

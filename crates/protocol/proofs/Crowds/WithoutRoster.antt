@@ -4,8 +4,8 @@ use Rattle.std.proofs.Common.{◌≡◌, Bool, Option, Some, None, List, [], ◌
 use Rattle.protocol.specs.Rosters.{Draw}
 use Rattle.protocol.specs.Rosters.Source.{OfBudgets}
 use Rattle.protocol.specs.Networks.{Net, Step, Reply, source, size_of, on_shares, on_opens, effect, tests, tests_on, first_that, counted, replied, net_step}
-use Rattle.protocol.specs.Networks.Reading.{Read, Fault}
-use Rattle.protocol.specs.Networks.Step.{Opens, Closes, Asks, Delivers, Hears, NominationTimes, BallotTimes, Reslices}
+use Rattle.protocol.specs.Networks.Reading.{Fault}
+use Rattle.protocol.specs.Networks.Step.{Opens, Delivers}
 use Rattle.protocol.specs.Networks.Reply.{Done}
 use Rattle.protocol.specs.Hosts.{Entry, new_net}
 use Rattle.protocol.specs.Runs.{net_after}

@@ -114,7 +114,8 @@ same_votes-refl w =
     (same_values-refl w.voted) (same_values-refl w.accepts)) (same_values-refl w.confirms)) (same_phase-refl w.phase))
     (same_option-refl same_ballot same_ballot-refl w.ballot))
     (same_option-refl same_ballot same_ballot-refl w.prepared)) (eqb-refl w.aborted))
-    (same_option-refl same_ballot same_ballot-refl w.confirmed_prepared)) (same_option-refl same_ballot same_ballot-refl w.commit))
+    (same_option-refl same_ballot same_ballot-refl w.confirmed_prepared))
+    (same_option-refl same_ballot same_ballot-refl w.commit))
     (eqb-refl w.low)) (eqb-refl w.high)) (eqb-refl w.armed)
 
 pub same_votes-true : (u w : Votes) → same_votes u w ≡ true → u ≡ w
@@ -139,7 +140,8 @@ same_votes-true u w h =
       ballot = (same_option-true same_ballot same_ballot-true u.ballot w.ballot p4.1) i;
       prepared = (same_option-true same_ballot same_ballot-true u.prepared w.prepared p5.1) i;
       aborted = (eqb-true u.aborted w.aborted p6.1) i;
-      confirmed_prepared = (same_option-true same_ballot same_ballot-true u.confirmed_prepared w.confirmed_prepared p7.1) i;
+      confirmed_prepared =
+          (same_option-true same_ballot same_ballot-true u.confirmed_prepared w.confirmed_prepared p7.1) i;
       commit = (same_option-true same_ballot same_ballot-true u.commit w.commit p8.1) i;
       low = (eqb-true u.low w.low p9.1) i;
       high = (eqb-true u.high w.high p10.1) i;

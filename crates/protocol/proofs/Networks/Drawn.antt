@@ -1,9 +1,7 @@
 -- How counts move with each step. The law `room_is_counted`, `Room` and the crate `network` stand on it.
-use Rattle.std.proofs.Common.{◌≡◌, ℕ, Bool, true, false, ◌&&◌, ◌==◌, ◌+◌, length, sum_by, [], ◌∷◌, cond, if◌then◌else◌, refl, sym, ◌∙◌, ap, subst, arith}
-use Rattle.protocol.specs.Rosters.{Share, Source, Draw, same_share, drawn_on, events_drawn, bytes_drawn}
-use Rattle.protocol.specs.Rosters.Source.{OfBudgets, OfOpens, OfShare}
-use Rattle.protocol.specs.Networks.{Net, Step, source, size_of, on_budgets, on_opens, on_shares, replied, net_step}
-use Rattle.protocol.specs.Counts.{is_of_share, IsCountedAfter, StepsAreCounted}
+use Rattle.std.proofs.Common.{◌+◌, length, sum_by, sym, ap, subst}
+use Rattle.protocol.specs.Networks.{Net, Step, source, size_of, on_budgets, on_opens, replied, net_step}
+use Rattle.protocol.specs.Counts.{IsCountedAfter, StepsAreCounted}
 use Rattle.protocol.proofs.Networks.Effects.{effect-keeps}
 use Rattle.protocol.proofs.Networks.Counts.{next, drawn-anew, drawn-next, sum-length, sum-each}
 

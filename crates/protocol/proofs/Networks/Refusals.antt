@@ -8,7 +8,7 @@ use Rattle.protocol.specs.Rosters.{Source, events_drawn, bytes_drawn, events_of}
 use Rattle.protocol.specs.Rosters.Source.{OfBudgets, OfOpens, OfShare}
 use Rattle.protocol.specs.Networks.{Net, Step, source, size_of, is_full, is_full_of_bytes, tests, tests_on, first_that}
 use Rattle.protocol.specs.Networks.Reading.{Read, Fault}
-use Rattle.protocol.specs.Networks.Step.{Opens, Closes, Asks, Delivers, Hears, NominationTimes, BallotTimes, Reslices}
+use Rattle.protocol.specs.Networks.Step.{Opens, Closes, Asks, Delivers, Hears}
 use Rattle.protocol.specs.Counts.{IsMet, RefusedWhereMet, HasEvents, HasBytes, AppliedWhereRoom}
 
 abbrev Says : (Refusal → Type 0) → List (Bool × Refusal) → Type 0

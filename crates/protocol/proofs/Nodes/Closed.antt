@@ -1,7 +1,7 @@
 -- R is closed for a node: it holds the node's name, the names of its slices, its leaders, and what senders in R
 -- announced; each step keeps it closed. `Runs` stands on it.
 use Rattle.types.specs.declared.event.NodeEvent.{NodeEvent}
-use Rattle.std.proofs.Common.{◌≡◌, ℕ, ◌+◌, Bool, true, false, cond, Option, Some, None, List, [], ◌∷◌, ◌++◌, filter, if◌then◌else◌, refl}
+use Rattle.std.proofs.Common.{◌≡◌, ℕ, ◌+◌, Bool, true, false, cond, List, [], ◌∷◌, ◌++◌, filter, if◌then◌else◌, refl}
 use Rattle.std.specs.List.{list_all}
 use Rattle.std.proofs.lemmas.Bool.{and_from, and_parts}
 use Rattle.types.specs.Trees.{Slices}
@@ -10,9 +10,8 @@ use Rattle.protocol.specs.Sets.{Names, within}
 use Rattle.protocol.specs.Satisfaction.{names}
 use Rattle.protocol.specs.Weights.{weight}
 use Rattle.protocol.specs.Rows.{is_row_of, with_row, is_taken}
-use Rattle.types.specs.declared.state.Votes.{Votes}
 use Rattle.protocol.specs.Leaders.{leader, best, neighbours, is_near, hash, beats}
-use Rattle.protocol.specs.Nodes.{Node, passed, settle, change, settled, after_change, step, in_round, timed_out, most_passes}
+use Rattle.protocol.specs.Nodes.{Node, change, step, in_round, timed_out}
 use Rattle.types.specs.declared.event.NodeEvent.TheVariants.{Propose, Take, NominationTimer, BallotTimer, Reslice}
 use Rattle.protocol.proofs.Nodes.Views.{announces_in, Closed}
 use Rattle.protocol.proofs.Nodes.Made.{if_node, if_node-if, step-keeps}

@@ -9,12 +9,11 @@ use Rattle.types.specs.Statements.{Sent}
 use Rattle.types.specs.declared.ballot.Ballot.{Ballot}
 use Rattle.types.specs.declared.statement.Statement.{Statement}
 use Rattle.protocol.specs.Rows.{with_row, is_taken}
-use Rattle.types.specs.declared.state.Votes.{Votes}
 use Rattle.protocol.specs.States.{counter_of, sent_vote, sent_nomination}
 use Rattle.protocol.specs.Sameness.{same_sent}
-use Rattle.protocol.specs.Nodes.{Node, passed, settle, change, when, emitted, decided, outs, settled, after_change, answered, step, is_externalized, in_round, timed_out, most_passes}
+use Rattle.protocol.specs.Nodes.{Node, change, when, emitted, decided, outs, after_change, answered, step, is_externalized, in_round, timed_out}
 use Rattle.types.specs.declared.event.NodeEvent.TheVariants.{Propose, Take, NominationTimer, BallotTimer, Reslice}
-use Rattle.types.specs.declared.event.Out.TheVariants.{ArmNomination, ArmBallot, Emit, Externalized as Decided}
+use Rattle.types.specs.declared.event.Out.TheVariants.{ArmNomination, ArmBallot, Emit}
 use Rattle.protocol.specs.Networks.{emissions}
 use Rattle.protocol.proofs.Nodes.Made.{if_node, if_node-if, settled-keeps, step-keeps}
 
@@ -54,7 +53,8 @@ outs-emit : (P : Sent → Bool) (old new : Node)
 unfolding outs
 outs-emit P old new f =
     both_emit P (both_emit P (both_emit P (both_emit P
-    (armed (not (new.inputs.round == old.inputs.round) && is_none new.votes.confirmed_prepared) (ArmNomination new.inputs.round) refl)
+    (armed (not (new.inputs.round == old.inputs.round) && is_none new.votes.confirmed_prepared)
+    (ArmNomination new.inputs.round) refl)
     (armed (not (new.votes.armed == old.votes.armed) && (new.votes.armed == counter_of new.votes.ballot)
     && not (is_externalized new.votes.phase)) (ArmBallot new.votes.armed) refl))
     (sent (sent_nomination old.votes) (sent_nomination new.votes)))
@@ -92,7 +92,8 @@ pub step-emit : (P : Sent → Bool) (n : Node) (e : NodeEvent)
     → ((slot : ℕ) (s : Statement) → P (record { sender = n.name; slot = slot; slices = (step n e).0.slices; body = s })
     ≡ true) → list_all P (emissions (step n e).1) ≡ true
 unfolding step
-step-emit P n e f = go (after_change (change n e)) (settled-keeps (IsSelf n) (λ m h. h) (change n e) (self-change n e)) f
+step-emit P n e f =
+    go (after_change (change n e)) (settled-keeps (IsSelf n) (λ m h. h) (change n e) (self-change n e)) f
   where
     go : (o : Option Node) → if_node (IsSelf n) o
         → ((slot : ℕ) (s : Statement) → P

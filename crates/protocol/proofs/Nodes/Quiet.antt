@@ -3,7 +3,7 @@
 use Rattle.types.specs.declared.event.Out.{Out}
 use Rattle.std.proofs.Common.{◌≡◌, ℕ, Bool, true, false, not, cond, ◌&&◌, ◌==◌, Option, Some, None, List, [], ◌∷◌, option_map, if◌then◌else◌, refl, sym, ◌∙◌, ap, ap₂, subst, inl, inr}
 use Rattle.std.specs.List.{cons_option}
-use Rattle.std.proofs.lemmas.Bool.{and_left, and_parts, cases_Bool, eq-eqb, eqb-true, false_from_ne_true, not_from_false, or_left, or_parts, or_right, true≢false}
+use Rattle.std.proofs.lemmas.Bool.{and_left, and_parts, cases_Bool, eqb-true, false_from_ne_true, not_from_false, or_left, or_parts, true≢false}
 use Rattle.types.specs.Trees.{Slices}
 use Rattle.types.specs.Statements.{Sent, kind_of}
 use Rattle.types.specs.declared.statement.Statement.{Statement}
@@ -15,11 +15,10 @@ use Rattle.protocol.specs.Views.{Seen, led_by, seen}
 use Rattle.types.specs.declared.state.Votes.{Votes}
 use Rattle.protocol.specs.States.{sent_vote, sent_nomination}
 use Rattle.protocol.specs.Passes.{pass}
-use Rattle.protocol.specs.Sameness.{same_votes}
-use Rattle.protocol.specs.Nodes.{Node, passed, settle, change, emitted, decided, outs, settled, after_change, answered, step, Calm, is_externalized, most_passes}
+use Rattle.protocol.specs.Nodes.{Node, passed, change, emitted, decided, outs, settled, after_change, answered, step, Calm, is_externalized}
 use Rattle.types.specs.declared.event.NodeEvent.TheVariants.{Take}
 use Rattle.types.specs.declared.event.Out.TheVariants.{Emit}
-use Rattle.protocol.proofs.Equality.Sameness.{eqb-refl, same_sent-refl, same_votes-refl}
+use Rattle.protocol.proofs.Equality.Sameness.{eqb-refl, same_sent-refl}
 use Rattle.protocol.proofs.Sets.Finite.{within-at}
 use Rattle.protocol.proofs.Sets.Numbers.{turned}
 use Rattle.protocol.proofs.Statements.Offers.{row-with}

@@ -1,6 +1,6 @@
 -- Nodes that events lead to: calm, with no counter below the timers that have fired, and what they send is well formed.
 -- The law `reached_nodes_send_well_formed`, `Passes`, `Sending` and the crate `slot` stand on it.
-use Rattle.std.proofs.Common.{◌≡◌, ℕ, zero, suc, ◌+◌, ◌≤◌, Bool, true, false, not, ◌&&◌, ◌==◌, nat_lt, [], Option, Some, None, if◌then◌else◌, is_some, option_map, refl, subst, arith}
+use Rattle.std.proofs.Common.{◌≡◌, ℕ, ◌+◌, ◌≤◌, Bool, true, false, not, ◌&&◌, ◌==◌, nat_lt, [], Option, Some, None, if◌then◌else◌, is_some, option_map, refl, subst, arith}
 use Rattle.std.specs.Prelude.{IfSome}
 use Rattle.std.proofs.lemmas.Bool.{and_parts, false≢true}
 use Rattle.types.specs.Trees.{Slices}
@@ -8,13 +8,11 @@ use Rattle.types.specs.Statements.{IsWellFormed}
 use Rattle.types.specs.declared.ballot.Ballot.{Ballot}
 use Rattle.types.specs.declared.event.NodeEvent.{NodeEvent}
 use Rattle.types.specs.declared.event.NodeEvent.TheVariants.{Propose, Take, NominationTimer, BallotTimer, Reslice}
-use Rattle.types.specs.declared.state.Votes.{Votes}
 use Rattle.protocol.specs.Rows.{with_row, is_taken}
 use Rattle.protocol.specs.Views.{seen}
 use Rattle.protocol.specs.States.{counter_of, sent_vote, sent_nomination}
-use Rattle.protocol.specs.Sameness.{same_votes}
 use Rattle.protocol.specs.Timers.{is_counter, most_counter}
-use Rattle.protocol.specs.Nodes.{Node, fresh, passed, settle, change, settled, after_change, step, bumped, in_round, timed_out, is_externalized, is_counter_live, Calm, most_passes}
+use Rattle.protocol.specs.Nodes.{Node, fresh, change, step, bumped, in_round, timed_out, is_externalized, is_counter_live, Calm}
 use Rattle.protocol.specs.Limits.{Reached, ReachedAreCalm, TimersAreCounted, SendsWellFormed}
 use Rattle.protocol.specs.Limits.Reached.{begin, next}
 use Rattle.protocol.proofs.Nodes.Calm.{fresh-calm}
@@ -89,7 +87,8 @@ reached-timeouts r = (reached-lawful r).timers
 pub reached-sends : {n : Node} → Reached n
     → IfSome (sent_nomination n.votes) IsWellFormed × IfSome (sent_vote n.votes) IsWellFormed
 reached-sends {n} r =
-    let h = reached-lawful r in (nomination-sends n.inputs.ballot_timeouts n.votes h, vote-sends n.inputs.ballot_timeouts n.votes h)
+    let h = reached-lawful r in
+    (nomination-sends n.inputs.ballot_timeouts n.votes h, vote-sends n.inputs.ballot_timeouts n.votes h)
 
 -- ---- the laws
 pub reached_are_calm : ReachedAreCalm

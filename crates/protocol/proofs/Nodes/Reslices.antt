@@ -6,10 +6,8 @@ use Rattle.std.proofs.lemmas.Bool.{false≢true}
 use Rattle.types.specs.Trees.{Slices}
 use Rattle.types.specs.declared.state.Votes.{Votes}
 use Rattle.protocol.specs.Rows.{is_taken, with_row}
-use Rattle.protocol.specs.Sameness.{same_votes}
-use Rattle.protocol.specs.Nodes.{Node, passed, settle, change, settled, after_change, answered, step, in_round, timed_out, resliced, Calm, most_passes}
+use Rattle.protocol.specs.Nodes.{Node, passed, settle, change, settled, after_change, answered, step, in_round, timed_out, resliced, most_passes}
 use Rattle.protocol.specs.Reslices.{SlicesFollowEvents, IsElseSame, ReslicesChangeVotes, SameSlicesAreQuiet}
-use Rattle.protocol.proofs.Equality.Sameness.{same_votes-refl}
 use Rattle.protocol.proofs.Nodes.Calm.{settle-still}
 use Rattle.protocol.proofs.Nodes.Quiet.{outs-none}
 use Rattle.protocol.proofs.Nodes.Reached.{reached-calm}

@@ -2,19 +2,18 @@
 -- The law `strangers_add_rows` and the crate `slot` stand on it.
 use Rattle.types.specs.declared.event.NodeEvent.{NodeEvent}
 use Rattle.types.specs.declared.event.NodeEvent.TheVariants.{Propose, Take, NominationTimer, BallotTimer, Reslice}
-use Rattle.std.proofs.Common.{◌≡◌, ℕ, ◌+◌, true, not, List, Option, Some, None, refl, sym, ◌∙◌, ap, subst, inl, inr}
+use Rattle.std.proofs.Common.{◌≡◌, ℕ, ◌+◌, true, not, List, refl, sym, ◌∙◌, ap, subst, inl, inr}
 use Rattle.std.proofs.Math.Path.{fun_ext}
 use Rattle.std.proofs.lemmas.Bool.{cases_Bool, or_left, or_right, not_from_false}
 use Rattle.types.specs.declared.event.Out.{Out}
 use Rattle.types.specs.Trees.{Slices}
 use Rattle.types.specs.Statements.{Sent}
-use Rattle.types.specs.declared.state.Votes.{Votes}
 use Rattle.protocol.specs.Sets.{Names, among, within}
 use Rattle.protocol.specs.Satisfaction.{names}
 use Rattle.protocol.specs.Rows.{row, is_taken, with_row}
 use Rattle.protocol.specs.Reach.{HoldsReach, IsReach}
 use Rattle.protocol.specs.Leaders.{leader}
-use Rattle.protocol.specs.Nodes.{Node, fresh, passed, settle, change, settled, after_change, step, in_round, timed_out, most_passes}
+use Rattle.protocol.specs.Nodes.{Node, fresh, change, step, in_round, timed_out}
 use Rattle.protocol.specs.Claims.{IsQuiet}
 use Rattle.protocol.specs.Strangers.{GivesWithin, HasNamed, LeadersAreNear, HeldIsClosed, OutsidersAddRows, OutsidersAreQuiet, StrangersAddRows}
 use Rattle.protocol.specs.Strangers.HasNamed.{begin, next}
@@ -54,7 +53,8 @@ module _ (R : Names) where
 
   near-step : (n : Node) (e : NodeEvent) → GivesWithin R e → IsNear R n → IsNear R (step n e).0
   near-step n e g h =
-      step-keeps (IsNear R) (λ m k. record { has = k.has; own = k.own; leaders = k.leaders }) n e h (near-change n e g h)
+      step-keeps (IsNear R) (λ m k. record { has = k.has; own = k.own; leaders = k.leaders }) n e h
+      (near-change n e g h)
 
   near-fresh : (slot v : ℕ) (q : Slices) → R v ≡ true → within (names q) R ≡ true → IsNear R (fresh slot v q)
   unfolding fresh

@@ -67,7 +67,8 @@ rests-preparing v s f g b w R none risen =
     let e3 : raise_confirmed_prepared s y ≡ y = raise_confirmed_prepared-armed s R.u a.0
     ∙ ap {B = Votes} (λ (x : Votes). record x { armed = a.0 }) R.still_h in
     let e4 : follow_confirmed_prepared R.n y ≡ y = follow_confirmed_prepared-still R.n y ball R.above_h in
-    let e5 : set_commit y ≡ y = set_commit-still y R.u.commit refl (fixed-unread R.u R.u.commit R.u.commit a.0 R.fixed) in
+    let e5 : set_commit y ≡ y = set_commit-still y R.u.commit refl
+    (fixed-unread R.u R.u.commit R.u.commit a.0 R.fixed) in
     let e6 : r4 s y ≡ y = r4-at s y R.n Preparing ph ball
     ∙ enter_not s R.n y (ap (greatest None) (entering-armed s R.u a.0) ∙ none) in
     let e7 : r5 s y ≡ y = r5-at s y R.n Preparing ph ball ∙ confirm-none s R.n y in
@@ -119,7 +120,8 @@ went-counted s f g w b e sound =
     }
 
 -- the end of a pass in COMMIT
-closes : (s : Seen) → Fair s → (g : Inputs) (x : Votes) (n : Ballot) → x.phase ≡ Committing → x.ballot ≡ Some n → Sound x
+closes : (s : Seen) → Fair s → (g : Inputs) (x : Votes) (n : Ballot) → x.phase ≡ Committing → x.ballot ≡ Some n
+    → Sound x
     → Went s g x (finish s g (r5 s x))
     × (((finish s g (r5 s x)).phase ≡ Externalized)
     ⊎ (((finish s g (r5 s x)).phase ≡ Committing) × (greatest None (deciding s (position x) n) ≡ None)
@@ -175,7 +177,8 @@ from-committing v s f g w b ph ball sound =
     let c = closes s f g R.u R.n R.phase R.ballot R.sound in (
       finish s g (r5 s R.u),
       ap (finish s g) e,
-      went-on s g w R.u (finish s g (r5 s R.u)) R.voted R.accepts R.confirms (λ k. ap is_none R.confirmed_prepared ∙ k) c.0,
+      went-on s g w R.u (finish s g (r5 s R.u)) R.voted R.accepts R.confirms
+          (λ k. ap is_none R.confirmed_prepared ∙ k) c.0,
       λ risen. let up = risen-up s f g b.counter R.n.counter R.grows risen in elim c.1 [
         | inl k ↦ inr k
         | inr k ↦ inl

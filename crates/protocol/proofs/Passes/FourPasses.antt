@@ -13,7 +13,6 @@ use Rattle.protocol.specs.Balloting.{start}
 use Rattle.types.specs.declared.state.Phase.TheVariants.{Preparing, Committing, Externalized}
 use Rattle.protocol.specs.Sameness.{same_votes}
 use Rattle.protocol.specs.Nodes.{settle}
-use Rattle.protocol.proofs.Equality.Sameness.{same_votes-refl}
 use Rattle.protocol.proofs.Nodes.Calm.{settle-still}
 use Rattle.protocol.proofs.Balloting.Tests.{Fair}
 use Rattle.protocol.proofs.Balloting.Counters.{Risen}
@@ -47,7 +46,8 @@ quiet-same v s g w (inl q) = q w refl refl refl
 quiet-same v s g w (inr h) = nominate-not v s g w h
 
 quiet-on : (v : ℕ) (s : Seen) (g : Inputs) (w y : Votes) → y.voted ≡ w.voted → y.accepts ≡ w.accepts
-    → y.confirms ≡ w.confirms → (is_none w.confirmed_prepared ≡ false → is_none y.confirmed_prepared ≡ false) → Quiet v s g w → Quiet v s g y
+    → y.confirms ≡ w.confirms → (is_none w.confirmed_prepared ≡ false → is_none y.confirmed_prepared ≡ false)
+    → Quiet v s g w → Quiet v s g y
 quiet-on v s g w y a b c d (inl q) = inl (λ u i j k. q u (i ∙ a) (j ∙ b) (k ∙ c))
 quiet-on v s g w y a b c d (inr h) = inr (d h)
 

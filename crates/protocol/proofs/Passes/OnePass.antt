@@ -9,7 +9,7 @@ use Rattle.protocol.specs.Candidates.{combine}
 use Rattle.protocol.specs.Passes.{pass}
 use Rattle.protocol.specs.Nominating.{nominate}
 use Rattle.protocol.specs.Balloting.{started, start}
-use Rattle.types.specs.declared.state.Phase.TheVariants.{Preparing, Committing}
+use Rattle.types.specs.declared.state.Phase.TheVariants.{Preparing}
 use Rattle.protocol.proofs.Balloting.Tests.{Fair}
 use Rattle.protocol.proofs.Balloting.PreparedStays.{Sound}
 use Rattle.protocol.proofs.Passes.RuleByRule.{begun, finish, IsOpen, pass-ruled, ruled-none, finish-none}

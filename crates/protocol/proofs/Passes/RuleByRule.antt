@@ -1,5 +1,5 @@
 -- A pass, rule by rule. `Sending` stands on it.
-use Rattle.std.proofs.Common.{◌≡◌, ℕ, ◌+◌, Bool, true, false, not, ◌&&◌, ◌==◌, nat_lt, nat_le, ◌++◌, Option, Some, None, if◌then◌else◌, filter, flat_map, option_to_list, refl, sym, ◌∙◌, ap, subst, inl, inr, ◌⊎◌, arith}
+use Rattle.std.proofs.Common.{◌≡◌, ℕ, ◌+◌, Bool, true, false, ◌&&◌, ◌==◌, nat_lt, nat_le, ◌++◌, Option, Some, None, if◌then◌else◌, filter, flat_map, option_to_list, refl, sym, ◌∙◌, ap, subst, inl, inr, ◌⊎◌, arith}
 use Rattle.std.proofs.lemmas.Bool.{eqb-true}
 use Rattle.std.proofs.lemmas.Bool.Decides.{nat_tests}
 use Rattle.types.specs.declared.ballot.Ballot.{Ballot}
@@ -11,14 +11,13 @@ use Rattle.protocol.specs.Views.{Seen, passes, accepted, confirmed}
 use Rattle.types.specs.declared.state.Phase.{Phase}
 use Rattle.types.specs.declared.state.Inputs.{Inputs}
 use Rattle.types.specs.declared.state.Votes.{Votes}
-use Rattle.protocol.specs.States.{ballot_at, high_counter, position}
+use Rattle.protocol.specs.States.{ballot_at, position}
 use Rattle.protocol.specs.Candidates.{greatest, named_by, named}
 use Rattle.protocol.specs.Balloting.{aborted_by, may_be_prepared, start, accept_prepared, raise_confirmed_prepared, follow_confirmed_prepared, is_aborted, set_commit, accept_commit, confirm_commit, confirm_prepared}
 use Rattle.protocol.specs.Nominating.{nominate}
 use Rattle.types.specs.declared.state.Phase.TheVariants.{Preparing, Committing, Externalized}
 use Rattle.protocol.proofs.Balloting.Counters.{position-armed, Risen, raise-moves, raise-still, arm-moves}
 use Rattle.protocol.proofs.Balloting.OwnPosition.{position-preparing, position-committing}
-use Rattle.protocol.proofs.Balloting.Moves.{Fixed}
 use Rattle.protocol.proofs.Balloting.PreparedStays.{Sound}
 use Rattle.protocol.proofs.Balloting.EntersCommit.{entering}
 use Rattle.std.proofs.lemmas.Option.{same_Some}
@@ -26,8 +25,12 @@ use Rattle.std.proofs.lemmas.Option.{same_Some}
 abbrev pub r2 : Seen → Votes → Votes
 r2 s w = on_ballot (accept_prepared s) w
 
+-- to confirm a ballot as prepared, rule by rule
+abbrev confirms_prepared : Seen → Ballot → Votes → Votes
+confirms_prepared s b w = set_commit (follow_confirmed_prepared b (raise_confirmed_prepared s w))
+
 abbrev pub r3 : Seen → Votes → Votes
-r3 s w = in_prepare (on_ballot (λ b w. set_commit (follow_confirmed_prepared b (raise_confirmed_prepared s w)))) w
+r3 s w = in_prepare (on_ballot (confirms_prepared s)) w
 
 abbrev pub r4 : Seen → Votes → Votes
 r4 s w = on_ballot (λ b w. accept_commit w.phase s b w) w
@@ -87,11 +90,11 @@ in_prepare-not F w e = rw e refl
 
 r3-at : (s : Seen) (w : Votes) (b : Ballot) → w.phase ≡ Preparing → w.ballot ≡ Some b
     → r3 s w ≡ set_commit (follow_confirmed_prepared b (raise_confirmed_prepared s w))
-r3-at s w b p e = in_prepare-at (on_ballot (λ b w. set_commit (follow_confirmed_prepared b (raise_confirmed_prepared s w)))) w p
-    ∙ on_ballot-at (λ b w. set_commit (follow_confirmed_prepared b (raise_confirmed_prepared s w))) w b e
+r3-at s w b p e = in_prepare-at (on_ballot (confirms_prepared s)) w p
+    ∙ on_ballot-at (confirms_prepared s) w b e
 
 r3-not : (s : Seen) (w : Votes) → w.phase ≡ Committing → r3 s w ≡ w
-r3-not s w p = in_prepare-not (on_ballot (λ b w. set_commit (follow_confirmed_prepared b (raise_confirmed_prepared s w)))) w p
+r3-not s w p = in_prepare-not (on_ballot (confirms_prepared s)) w p
 
 pub r4-at : (s : Seen) (w : Votes) (b : Ballot) (p : Phase) → w.phase ≡ p → w.ballot ≡ Some b
     → r4 s w ≡ accept_commit p s b w
@@ -118,8 +121,8 @@ r234-committing s w b p e =
 pub ruled-none : (s : Seen) (w : Votes) → w.phase ≡ Preparing → w.ballot ≡ None → ruled s w ≡ w
 ruled-none s w p e =
     let a : r2 s w ≡ w = on_ballot-none (accept_prepared s) w e in
-    let b : r3 s w ≡ w = in_prepare-at (on_ballot (λ b w. set_commit (follow_confirmed_prepared b (raise_confirmed_prepared s w)))) w p
-    ∙ on_ballot-none (λ b w. set_commit (follow_confirmed_prepared b (raise_confirmed_prepared s w))) w e in
+    let b : r3 s w ≡ w = in_prepare-at (on_ballot (confirms_prepared s)) w p
+    ∙ on_ballot-none (confirms_prepared s) w e in
     let c : r4 s w ≡ w = on_ballot-none (λ b w. accept_commit w.phase s b w) w e in
     let d : r5 s w ≡ w = on_ballot-none (λ b w. confirm_commit w.phase s b w) w e in
     ap (λ y. r5 s (r4 s (r3 s y))) a ∙ (ap (λ y. r5 s (r4 s y)) b ∙ (ap (λ y. r5 s y) c ∙ d))

@@ -1,16 +1,14 @@
 -- No event of a reached node meets the limit of passes: its votes are fit, and each step keeps them so. The law
 -- `four_passes_are_enough`, `Nodes` and the crate `slot` stand on it.
 use Rattle.types.specs.declared.event.NodeEvent.{NodeEvent}
-use Rattle.std.proofs.Common.{◌≡◌, ℕ, zero, suc, ◌+◌, Bool, true, false, Option, Some, None, if◌then◌else◌, refl, sym, ◌∙◌, ap, subst, arith}
+use Rattle.std.proofs.Common.{◌≡◌, ℕ, suc, ◌+◌, Option, Some, None, refl, subst, arith}
 use Rattle.types.specs.Trees.{Slices}
 use Rattle.types.specs.declared.ballot.Ballot.{Ballot}
 use Rattle.protocol.specs.Rows.{with_row, is_taken}
 use Rattle.protocol.specs.Views.{seen}
 use Rattle.types.specs.declared.state.Votes.{Votes}
-use Rattle.protocol.specs.Passes.{raised}
 use Rattle.types.specs.declared.state.Phase.TheVariants.{Preparing, Committing}
-use Rattle.protocol.specs.Sameness.{same_votes}
-use Rattle.protocol.specs.Nodes.{Node, fresh, passed, settle, change, settled, after_change, answered, step, bumped, in_round, timed_out, most_passes}
+use Rattle.protocol.specs.Nodes.{Node, fresh, passed, settle, change, step, bumped, in_round, timed_out}
 use Rattle.types.specs.declared.event.NodeEvent.TheVariants.{Propose, Take, NominationTimer, BallotTimer, Reslice}
 use Rattle.protocol.specs.Limits.{Reached, NeverLimited, WithinFour}
 use Rattle.protocol.specs.Limits.Reached.{begin, next}
@@ -18,14 +16,17 @@ use Rattle.protocol.proofs.Balloting.FairSight.{seen-fair}
 use Rattle.protocol.proofs.Nodes.Made.{if_node, if_node-if, step-keeps}
 use Rattle.protocol.proofs.Passes.RuleByRule.{raised-sound}
 use Rattle.protocol.proofs.Passes.FourPasses.{Fit, IsSome, four, pass-fit}
-use Rattle.std.proofs.lemmas.Option.{same_Some}
 
 -- Nodes
 pub fresh-fit : (slot v : ℕ) (q : Slices) → Fit (fresh slot v q).votes
 unfolding fresh
 fresh-fit slot v q =
     record {
-      sound = record { aborted = omega arith; confirmed_prepared = tt; committing = λ (c : Preparing ≡ Committing). cc };
+      sound = record {
+        aborted = omega arith;
+        confirmed_prepared = tt;
+        committing = λ (c : Preparing ≡ Committing). cc;
+      };
       ascending = tt;
     }
 

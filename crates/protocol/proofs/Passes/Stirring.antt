@@ -1,9 +1,9 @@
 -- Which rules an event stirs: nomination rests after one pass, after a ballot row in the first one too; and after a
 -- nomination row balloting rests where nomination confirms nothing. The law `rows_stir_their_kind` and the crate `slot`
 -- stand on it.
-use Rattle.std.proofs.Common.{◌≡◌, ℕ, zero, suc, Option, Some, if◌then◌else◌, is_none, refl, sym, ◌∙◌, ap, subst, inl, inr, ◌⊎◌}
+use Rattle.std.proofs.Common.{◌≡◌, ℕ, zero, suc, Option, Some, if◌then◌else◌, is_none, refl, sym, ◌∙◌, ap, subst, inl, inr}
 use Rattle.std.proofs.lemmas.Bool.{cases_Bool}
-use Rattle.types.specs.declared.state.Phase.TheVariants.{Preparing, Committing, Externalized}
+use Rattle.types.specs.declared.state.Phase.TheVariants.{Externalized}
 use Rattle.types.specs.declared.state.Inputs.{Inputs}
 use Rattle.types.specs.declared.state.Votes.{Votes}
 use Rattle.protocol.specs.Views.{Seen}
@@ -249,7 +249,8 @@ ballot_rows_stir_ballots n r e kind reach =
           (nominations-still n.name n.slices n.inputs.leaders n.table e kind reach)
           ∙ (sym (nominate-reads n.name (seen_by n) n.inputs n.votes)
           ∙ (sym (nominated-open n.name (seen_by n) n.inputs n.votes o) ∙ old))) in
-          ballots-settle m.name (seen_by m) fair m.inputs m.votes fit (quiet-of m.name (seen_by m) m.inputs m.votes still)
+          ballots-settle m.name (seen_by m) fair m.inputs m.votes fit
+          (quiet-of m.name (seen_by m) m.inputs m.votes still)
     ]
 
 pub nomination_rows_stir_nomination : NominationRowsStirNomination

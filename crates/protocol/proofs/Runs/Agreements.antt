@@ -1,5 +1,5 @@
 -- Agreement of two networks, from what a set sees of each. The law `networks_agree` stands on it.
-use Rattle.types.specs.declared.event.NodeEvent.TheVariants.{Propose, Take, NominationTimer, BallotTimer, Reslice}
+use Rattle.types.specs.declared.event.NodeEvent.TheVariants.{Take, Reslice}
 use Rattle.types.specs.declared.event.Out.{Out}
 use Rattle.types.specs.declared.event.Refusal.{Refusal}
 use Rattle.std.proofs.Common.{◌≡◌, ℕ, Bool, true, false, ◌==◌, Option, Some, None, List, [], ◌∷◌, option_map, take, if◌then◌else◌, refl, sym, ◌∙◌, ap, ap₂, subst}
@@ -13,7 +13,7 @@ use Rattle.protocol.specs.Networks.{Place, Net, Step, slices_of, places_at, plac
 use Rattle.protocol.specs.Networks.Reply.{Done}
 use Rattle.protocol.specs.Runs.{state_of}
 use Rattle.protocol.specs.Isolation.{Kept, kept, is_of, closure}
-use Rattle.protocol.specs.Isolation.Kept.{Opened, Closed, Told, Heard}
+use Rattle.protocol.specs.Isolation.Kept.{Told}
 use Rattle.protocol.specs.Agreeing.{place_in, IsClosedIn, ArePlacesAlike, AgreeIn, IsKeptOfMembers, given_by, NewNetworksAgree, RunsStayClosedIn, StepsAgree, OtherStepsLeave, StaysClosedIn}
 use Rattle.protocol.proofs.Networks.Effects.{effect-keeps}
 use Rattle.protocol.proofs.Runs.Claims.{good}

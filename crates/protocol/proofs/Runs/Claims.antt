@@ -10,7 +10,7 @@ use Rattle.protocol.specs.Satisfaction.{names}
 use Rattle.protocol.specs.Closures.{Rule, keeps, in_least}
 use Rattle.protocol.specs.Rows.{row}
 use Rattle.protocol.specs.Nodes.{Node, step}
-use Rattle.types.specs.declared.event.NodeEvent.TheVariants.{Propose, Take, NominationTimer, BallotTimer, Reslice}
+use Rattle.types.specs.declared.event.NodeEvent.TheVariants.{Take, Reslice}
 use Rattle.protocol.specs.Hosts.{Entry}
 use Rattle.protocol.specs.Isolation.{closure, host_rule, announced}
 use Rattle.protocol.specs.Claims.{IsClosedFor, IsOfMembers, Agree, Quiet, PrefixOfRun, PrefixOfReach}

@@ -1,15 +1,11 @@
 -- Isolation over two whole host histories. The law `isolation`, `Crowds`, and the crates `crowds` and `hoststep` stand
 -- on it.
 use Rattle.types.specs.declared.event.Refusal.{Refusal}
-use Rattle.types.specs.declared.event.NodeEvent.{NodeEvent}
 use Rattle.std.proofs.Common.{◌≡◌, ℕ, Bool, true, false, ◌==◌, Option, Some, None, List, [], ◌∷◌, map, if◌then◌else◌, is_some, refl, sym, ◌∙◌, ap, ap₂, subst, inl, inr, ◌⊎◌}
 use Rattle.std.proofs.lemmas.Bool.{false≢true, eqb-true}
-use Rattle.types.specs.Statements.{Sent}
-use Rattle.protocol.specs.Networks.{Host, Net, Step, Reply, slices_of, effect, act, act_known, emission, known, places_at, tests, first_that, replied, net_step}
-use Rattle.protocol.specs.Networks.Reading.{Read, Fault}
-use Rattle.protocol.specs.Networks.Step.{Opens, Closes, Asks, Delivers, Hears, NominationTimes, BallotTimes, Reslices}
+use Rattle.protocol.specs.Networks.{Host, Net, Step, Reply, slices_of, tests, first_that, replied, net_step}
 use Rattle.protocol.specs.Hosts.{Entry, Config, entered, journal, net_at, reply_at, host_run, applied, nets, new_net, hosts_of, steps_of, entries}
-use Rattle.protocol.specs.Submissions.{Answer, net_run, answers_of, config_of}
+use Rattle.protocol.specs.Submissions.{net_run, answers_of, config_of}
 use Rattle.protocol.specs.Isolation.{closure, kept_of, outs_of, SameCast, Isolation}
 use Rattle.protocol.proofs.Networks.Effects.{effect-keeps}
 use Rattle.protocol.proofs.Runs.SameSteps.{journals-agree}

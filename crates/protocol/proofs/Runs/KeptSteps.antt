@@ -1,17 +1,13 @@
 -- A whole run, as R sees it, is a run of the machine of the kept steps. `Crowds` and `Networks` stand on it.
 use Rattle.types.specs.declared.event.Refusal.{Refusal}
-use Rattle.types.specs.declared.event.NodeEvent.{NodeEvent}
 use Rattle.types.specs.declared.event.Out.{Out}
 use Rattle.std.proofs.Common.{◌≡◌, ℕ, Bool, true, not, Option, Some, None, List, [], ◌∷◌, ◌++◌, length, nat_lt, is_some, refl, sym, ◌∙◌, ap₂, subst}
 use Rattle.std.specs.List.{AllByRecursion, cons_option}
 use Rattle.types.specs.Trees.{Slices}
-use Rattle.types.specs.Statements.{Sent}
 use Rattle.protocol.specs.Sets.{Names}
-use Rattle.types.specs.declared.event.NodeEvent.TheVariants.{Propose, Take, NominationTimer, BallotTimer, Reslice}
-use Rattle.protocol.specs.Networks.{Host, Place, Net, Step, places_at, known, act, act_known, effect, emission, tests, first_that, source, is_full, size_of, counted, replied, net_step}
-use Rattle.protocol.specs.Networks.Reading.{Read, Fault}
+use Rattle.protocol.specs.Networks.{Host, Place, Net, Step, places_at, effect, tests, first_that, source, is_full, size_of, counted, replied, net_step}
 use Rattle.types.specs.declared.event.Refusal.TheVariants.{SlotOpenAlready, TooManySlots}
-use Rattle.protocol.specs.Networks.Step.{Opens, Closes, Asks, Delivers, Hears, NominationTimes, BallotTimes, Reslices}
+use Rattle.protocol.specs.Networks.Step.{Opens}
 use Rattle.protocol.specs.Hosts.{Entry, entered, journal}
 use Rattle.protocol.specs.Isolation.{Kept, kept, is_of, kept_of, outs_of}
 use Rattle.protocol.proofs.Networks.Effects.{effect-keeps}

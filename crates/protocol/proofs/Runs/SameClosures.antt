@@ -7,8 +7,8 @@ use Rattle.protocol.specs.Sets.{Names, AreWithin, within}
 use Rattle.protocol.specs.Satisfaction.{names}
 use Rattle.protocol.specs.Closures.{Rule, keeps}
 use Rattle.protocol.specs.Networks.{Host, Step}
-use Rattle.protocol.specs.Networks.Reading.{Read, Fault}
-use Rattle.protocol.specs.Networks.Step.{Opens, Closes, Asks, Delivers, Hears, NominationTimes, BallotTimes, Reslices}
+use Rattle.protocol.specs.Networks.Reading.{Read}
+use Rattle.protocol.specs.Networks.Step.{Delivers, Reslices}
 use Rattle.protocol.specs.Hosts.{Entry}
 use Rattle.protocol.specs.Isolation.{closure, host_rule, announced, SameClosures}
 use Rattle.protocol.proofs.Sets.Finite.{same_test}

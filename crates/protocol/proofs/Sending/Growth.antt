@@ -15,7 +15,7 @@ use Rattle.protocol.specs.Candidates.{combine, as_set, filled}
 use Rattle.protocol.specs.Nominating.{nominate}
 use Rattle.protocol.specs.Balloting.{started, start_from, start, accept_prepared, raise_confirmed_prepared, follow_confirmed_prepared, set_commit, confirm_prepared, enter_commit, widen_commit, first_committed, next_committed, accept_commit, externalize, confirmed_commit, confirm_commit}
 use Rattle.protocol.specs.Passes.{raise, arm, on_ballot, in_prepare, voting, counting, pass_rules, pass}
-use Rattle.protocol.specs.Nodes.{Node, passed, settle, change, settled, after_change, bumped, in_round, timed_out, most_passes}
+use Rattle.protocol.specs.Nodes.{Node, change, after_change, bumped, in_round, timed_out}
 use Rattle.protocol.proofs.Nodes.Made.{if_node, if_node-if, settled-keeps}
 use Rattle.protocol.proofs.Balloting.Counters.{arm-moves}
 use Rattle.protocol.proofs.Nominating.Lengths.{all-longer}

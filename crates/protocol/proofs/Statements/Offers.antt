@@ -7,7 +7,7 @@ use Rattle.std.proofs.lemmas.List.Sums.{fold-append}
 use Rattle.types.specs.declared.kind.Kind.{Kind}
 use Rattle.types.specs.declared.kind.Kind.TheVariants.{Nomination}
 use Rattle.types.specs.declared.statement.Statement.{Statement}
-use Rattle.types.specs.declared.statement.Statement.TheVariants.{Nominate, Prepare, Commit, Externalize}
+use Rattle.types.specs.declared.statement.Statement.TheVariants.{Externalize}
 use Rattle.types.specs.Statements.{Sent, kind_of}
 use Rattle.protocol.specs.Newer.{is_newer}
 use Rattle.protocol.specs.Rows.{is_kind, is_row_of, row, with_row, replaces, is_taken, offered, offered_all, has_single_rows, table_after}

@@ -1,19 +1,19 @@
 -- Networks and their histories, computed from the definitions.
 use Rattle.types.specs.declared.event.Out.{Out}
-use Rattle.std.proofs.Common.{◌≡◌, ℕ, Bool, true, false, Some, None, List, [], ◌∷◌, ◌++◌, not, ◌==◌, map, filter, flat_map, refl}
+use Rattle.std.proofs.Common.{◌≡◌, ℕ, true, false, Some, None, List, [], ◌∷◌, ◌++◌, not, ◌==◌, map, filter, flat_map, refl}
 use Rattle.types.specs.declared.kind.Kind.{Kind}
 use Rattle.types.specs.declared.kind.Kind.TheVariants.{Nomination}
 use Rattle.types.specs.declared.statement.Statement.TheVariants.{Nominate, Prepare, Externalize}
-use Rattle.types.specs.declared.event.Out.TheVariants.{ArmNomination, ArmBallot, Emit, Externalized as Decided}
-use Rattle.protocol.specs.Networks.{Host, Step, Reply}
+use Rattle.types.specs.declared.event.Out.TheVariants.{ArmBallot, Emit, Externalized as Decided}
+use Rattle.protocol.specs.Networks.{Step, Reply}
 use Rattle.protocol.specs.Networks.Reading.{Read, Fault}
 use Rattle.types.specs.declared.event.Refusal.TheVariants.{NoSuchNetwork, NoSuchNode, SlotNotOpen, SlotOpenAlready, TooManySlots, BadEnvelope, HostedSender, NotEmitted, JournalFull, BytesFull, BadValue, ProposedAlready}
 use Rattle.protocol.specs.Networks.Step.{Opens, Closes, Asks, Delivers, Hears}
 use Rattle.protocol.specs.Networks.Reply.{Done, Refused}
-use Rattle.protocol.specs.Hosts.{Config, Entry, new_net, nets, journal, host_run}
+use Rattle.protocol.specs.Hosts.{Config, Entry, nets, host_run}
 use Rattle.protocol.specs.Isolation.{closure, kept_of, outs_of}
 use Rattle.protocol.proofs.Worked.Everything.{everything}
-use Rattle.protocol.proofs.Worked.Letters.{A, B, C, D, E, Z, k, m, q, x, y, at, just, two_of_bcd, three_of_abcd, by, to_A, one_net, host, in_one, replies, hosts_A, run_A, members}
+use Rattle.protocol.proofs.Worked.Letters.{A, B, C, D, Z, k, m, q, x, y, at, just, two_of_bcd, three_of_abcd, by, to_A, one_net, host, in_one, replies, hosts_A, run_A, members}
 
 -- ---- refusals
 abbrev two_hosts : List Config
@@ -22,11 +22,13 @@ two_hosts = one_net (host A (just A) ∷ host B (just A) ∷ []) (record { event
 -- a Hear hands over what was emitted and nothing else; nobody delivers under a hosted name
 pub hears_what_was_emitted : host_run (nets two_hosts)
     (in_one (Opens 1 ∷ Asks 1 A x ∷ Hears 1 B A Kind.Ballot 2 ∷ Delivers B 88
-    (Read (by A (just A) (Externalize (at 1 x) 1))) ∷ Hears 1 B A Kind.Ballot 1 ∷ Hears 1 B C Kind.Ballot 1 ∷ Hears 1 B A Kind.Ballot 0 ∷ []) ++ (7, Opens 1) ∷ [])
+    (Read (by A (just A) (Externalize (at 1 x) 1))) ∷ Hears 1 B A Kind.Ballot 1 ∷ Hears 1 B C Kind.Ballot 1
+    ∷ Hears 1 B A Kind.Ballot 0 ∷ []) ++ (7, Opens 1) ∷ [])
     ≡ Done [] ∷ Done
     (Emit (by A (just A) (Nominate (x ∷ []) (x ∷ []))) ∷ Emit
     (by A (just A) (Externalize (at 1 x) 1)) ∷ Decided x ∷ []) ∷ Refused NotEmitted ∷ Refused HostedSender
-    ∷ Done (Emit (by B (just A) (Externalize (at 1 x) 1)) ∷ Decided x ∷ []) ∷ Refused NoSuchNode ∷ Refused NotEmitted ∷ Refused NoSuchNetwork ∷ []
+    ∷ Done (Emit (by B (just A) (Externalize (at 1 x) 1)) ∷ Decided x ∷ [])
+    ∷ Refused NoSuchNode ∷ Refused NotEmitted ∷ Refused NoSuchNetwork ∷ []
 unfolding everything
 hears_what_was_emitted = refl
 
@@ -38,7 +40,8 @@ pub reopened_slot_begins_anew : replies (alone 10)
     (Opens 1 ∷ Asks 1 A x ∷ Asks 1 A y ∷ Opens 1 ∷ Opens 2 ∷ Closes 1 ∷ Asks 1 A y ∷ Opens 1 ∷ Asks 1 A y ∷ [])
     ≡ Done [] ∷ Done
     (Emit (by A (just A) (Nominate (x ∷ []) (x ∷ []))) ∷ Emit
-    (by A (just A) (Externalize (at 1 x) 1)) ∷ Decided x ∷ []) ∷ Refused ProposedAlready ∷ Refused SlotOpenAlready ∷ Refused TooManySlots
+    (by A (just A) (Externalize (at 1 x) 1)) ∷ Decided x ∷ [])
+    ∷ Refused ProposedAlready ∷ Refused SlotOpenAlready ∷ Refused TooManySlots
     ∷ Done [] ∷ Refused SlotNotOpen ∷ Done [] ∷ Done
     (Emit (by A (just A) (Nominate (y ∷ []) (y ∷ []))) ∷ Emit
     (by A (just A) (Externalize (at 1 y) 1)) ∷ Decided y ∷ []) ∷ []

@@ -2,7 +2,7 @@
 use Rattle.std.proofs.Common.{◌≡◌, ℕ, Bool, true, false, List, [], ◌∷◌, map, refl}
 use Rattle.types.specs.declared.statement.Statement.TheVariants.{Nominate}
 use Rattle.types.specs.Statements.{Sent}
-use Rattle.types.specs.Trees.{Slices, node, none}
+use Rattle.types.specs.Trees.{Slices}
 use Rattle.protocol.proofs.Worked.Letters.{A, B, C, D, Z, x, just, two_of_bcd, by}
 use Rattle.protocol.specs.Sets.{some_set, every_set}
 use Rattle.protocol.specs.Closures.{in_least}

@@ -1,5 +1,5 @@
 -- Slices that change in the middle of a slot, computed from the definitions.
-use Rattle.std.proofs.Common.{◌≡◌, Bool, true, false, Some, None, List, [], ◌∷◌, ◌++◌, map, refl}
+use Rattle.std.proofs.Common.{◌≡◌, true, false, Some, None, List, [], ◌∷◌, ◌++◌, refl}
 use Rattle.types.specs.Trees.{Slices, node, none}
 use Rattle.types.specs.declared.kind.Kind.{Kind}
 use Rattle.types.specs.declared.statement.Statement.TheVariants.{Nominate, Prepare, Externalize}
@@ -7,14 +7,14 @@ use Rattle.types.specs.declared.event.NodeEvent.TheVariants.{Take, Reslice}
 use Rattle.types.specs.declared.event.Out.TheVariants.{ArmBallot, Emit, Externalized as Decided}
 use Rattle.types.specs.declared.event.Refusal.TheVariants.{NoSuchNode, SlotNotOpen, JournalFull}
 use Rattle.protocol.specs.Nodes.{Node, fresh, step}
-use Rattle.protocol.specs.Networks.{Host, Step}
+use Rattle.protocol.specs.Networks.{Step}
 use Rattle.protocol.specs.Networks.Step.{Opens, Closes, Asks, Hears, Reslices}
 use Rattle.protocol.specs.Networks.Reply.{Done, Refused}
-use Rattle.protocol.specs.Hosts.{Config, Entry, new_net, nets, journal, host_run}
+use Rattle.protocol.specs.Hosts.{Config, Entry, nets, host_run}
 use Rattle.protocol.specs.Isolation.{Kept, closure, kept_of}
 use Rattle.protocol.specs.Isolation.Kept.{Opened, Told}
 use Rattle.protocol.proofs.Worked.Everything.{everything}
-use Rattle.protocol.proofs.Worked.Letters.{A, B, C, D, E, Z, k, m, q, x, at, just, two_of_bcd, by, to_A, net_of_A, one_net, host, in_one, replies, hosts_A, run_A, members}
+use Rattle.protocol.proofs.Worked.Letters.{A, B, C, E, Z, k, m, q, x, at, just, two_of_bcd, by, to_A, net_of_A, one_net, host, in_one, replies, hosts_A, run_A, members}
 
 abbrev two_of_bcz : Slices
 two_of_bcz = record { threshold = 2; members = node B (node C (node Z none)) }
@@ -107,7 +107,8 @@ what_is_confirmed_stays = refl
 pub new_slices_are_refused : replies (one_net (host A (just A) ∷ []) (record { events = 3; bytes = 0; slots = 1 }))
     (Reslices 1 B (just B) ∷ Reslices 1 A (just B) ∷ Opens 1 ∷ Reslices 1 A (just A) ∷ Reslices 1 A
     (just B) ∷ Reslices 1 A (just A) ∷ Reslices 1 B (just B) ∷ [])
-    ≡ Refused NoSuchNode ∷ Refused SlotNotOpen ∷ Done [] ∷ Done [] ∷ Done [] ∷ Refused JournalFull ∷ Refused NoSuchNode ∷ []
+    ≡ Refused NoSuchNode ∷ Refused SlotNotOpen ∷ Done [] ∷ Done [] ∷ Done [] ∷ Refused JournalFull
+    ∷ Refused NoSuchNode ∷ []
 unfolding everything
 new_slices_are_refused = refl
 
@@ -137,7 +138,10 @@ heard_with_the_old_slices = refl
 -- ---- leaders stay
 -- B led the first round, and is named no more
 abbrev led_by_B : Node
-led_by_B = record (fresh 1 A (just C)) { inputs = record { proposal = None; round = 1; leaders = B ∷ []; ballot_timeouts = 0 } }
+led_by_B =
+    record (fresh 1 A (just C)) {
+      inputs = record { proposal = None; round = 1; leaders = B ∷ []; ballot_timeouts = 0 };
+    }
 
 -- what it nominates is voted for all the same
 pub old_leader_is_echoed : (step led_by_B (Take (by B (just B) (Nominate (x ∷ []) [])))).1

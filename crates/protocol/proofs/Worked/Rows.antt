@@ -1,10 +1,8 @@
 -- Offers to an empty table, and which of them it takes.
 use Rattle.std.proofs.Common.{◌≡◌, ℕ, Bool, true, false, List, [], ◌∷◌, Some, None, refl}
-use Rattle.types.specs.declared.ballot.Ballot.{Ballot}
 use Rattle.types.specs.declared.statement.Statement.{Statement}
 use Rattle.types.specs.declared.statement.Statement.TheVariants.{Nominate, Prepare, Externalize}
 use Rattle.types.specs.Statements.{Sent}
-use Rattle.types.specs.Trees.{node, none}
 use Rattle.protocol.proofs.Worked.Letters.{k, m, x, y, at, just, by}
 use Rattle.protocol.specs.Rows.{row, with_row, is_taken, offered}
 
@@ -30,7 +28,8 @@ unfolding row with_row is_taken offered
 other_value_is_stale = refl
 
 -- nothing replaces an EXTERNALIZE, however great its counter
-pub externalize_stands : answers [] (from 2 (Externalize (at 3 x) 3) ∷ from 2 (Prepare (at 4294967294 x) None 0 0 0) ∷ [])
+pub externalize_stands : answers []
+    (from 2 (Externalize (at 3 x) 3) ∷ from 2 (Prepare (at 4294967294 x) None 0 0 0) ∷ [])
     ≡ true ∷ false ∷ []
 unfolding row with_row is_taken offered
 externalize_stands = refl
