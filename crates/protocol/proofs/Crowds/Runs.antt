@@ -19,8 +19,7 @@ use Rattle.protocol.proofs.Runs.Sights.{Sight, sight, AllPlaces, play, reply}
 use Rattle.protocol.proofs.Runs.Follows.{Follows}
 use Rattle.protocol.proofs.Runs.Events.{IsWithin, follows}
 use Rattle.protocol.proofs.Runs.Openings.{HostsIn, cast_of}
-use Rattle.protocol.proofs.Networks.Effects.{effect-keeps, left}
-use Rattle.protocol.proofs.Networks.Counts.{next}
+use Rattle.protocol.proofs.Networks.Effects.{next, effect-keeps, left}
 use Rattle.protocol.proofs.Runs.KeptSteps.{AllIn, is_new}
 use Rattle.protocol.proofs.Runs.KeptWithin.{kept-to, if_kept}
 use Rattle.protocol.proofs.Crowds.Views.{View, view, Frame, frame, share_of, node_of, tests_in, next_in, replied_in, step_in, replies_in, is_ours}

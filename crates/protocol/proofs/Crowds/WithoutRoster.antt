@@ -10,7 +10,7 @@ use Rattle.protocol.specs.Networks.Reply.{Done}
 use Rattle.protocol.specs.Hosts.{Entry, new_net}
 use Rattle.protocol.specs.Runs.{net_after}
 use Rattle.protocol.specs.WithoutRoster.{tests_without, counted_without, replied_without, HasNoShares, StepsWithout, StaysWithout}
-use Rattle.protocol.proofs.Networks.Effects.{effect-keeps, left}
+use Rattle.protocol.proofs.Networks.Effects.{next, effect-keeps, left, run-keeps}
 use Rattle.protocol.proofs.Crowds.Runs.{plus_nothing}
 
 tested : (net : Net) (e : Step) → tests_on net OfBudgets e ≡ tests_without net e
@@ -36,26 +36,17 @@ none_left : (e : Step) (ds : List Draw) → ds ≡ [] → left e ds ≡ []
 none_left (Opens i) ds h = ap (left (Opens i)) h
 none_left _ ds h = h
 
-stays-step : (net : Net) (e : Step) → HasNoShares net → HasNoShares (net_step net e).0
-unfolding net_step
-stays-step net e h = go (first_that (tests net e))
-  where
-    go : (o : Option Refusal) → HasNoShares (replied net e o).0
-    go (Some n) = h
-    go None =
-        let k = effect-keeps net e in
-        let s : source net.roster e ≡ OfBudgets = ap (λ o. source o e) h.roster in
-        record {
-          roster = k.roster ∙ h.roster;
-          opens = ap₂ (λ m n. m + n) (k.opens ∙ h.opens) (ap on_opens s);
-          draws = ap₂ (λ (xs ys : List Draw). xs ++ ys) (ap (λ z. on_shares z (size_of e)) s)
-              (k.draws ∙ none_left e net.draws h.draws);
-        }
-
-stays-after : (net : Net) (xs : List Entry) → HasNoShares net → HasNoShares (net_after net xs)
-unfolding net_after
-stays-after net [] k = k
-stays-after net (x ∷ xs) k = stays-after (net_step net x.event).0 xs (stays-step net x.event k)
+stays-applied : (net : Net) (e : Step) → first_that (tests net e) ≡ None → HasNoShares net → HasNoShares (next net e)
+stays-applied net e q h =
+    let k = effect-keeps net e in
+    let s : source net.roster e ≡ OfBudgets = ap (λ o. source o e) h.roster in
+    record {
+      roster = k.roster ∙ h.roster;
+      opens = ap₂ (λ m n. m + n) (k.opens ∙ h.opens) (ap on_opens s);
+      draws = ap₂ (λ (xs ys : List Draw). xs ++ ys) (ap (λ z. on_shares z (size_of e)) s)
+          (k.draws ∙ none_left e net.draws h.draws);
+    }
 
 pub stays_without : StaysWithout
-stays_without config before h = stays-after (new_net config) before (record { roster = h; opens = refl; draws = refl })
+stays_without config before h =
+    run-keeps HasNoShares stays-applied before (new_net config) (record { roster = h; opens = refl; draws = refl })

@@ -16,6 +16,8 @@ use Rattle.protocol.specs.Counts.{is_of_budgets, is_of_opens, is_of_share, drawi
 use Rattle.protocol.proofs.Sets.Lists.{filter_filter}
 use Rattle.protocol.proofs.Sets.Numbers.{turned}
 use Rattle.protocol.proofs.Networks.Effects.{effect-keeps, left}
+pub use Rattle.protocol.proofs.Networks.Effects.{next}
+use Rattle.protocol.proofs.Networks.Journals.{RunsFrom, run-moves, runs-next}
 
 -- ---- sums
 -- a sum over lists: how many there are, or how many bytes they have
@@ -92,9 +94,6 @@ swap : (a b : ℕ) → a + b ≡ b + a
 swap a b = omega arith
 
 -- ---- one step more
-abbrev pub next : Net → Step → Net
-next net e = counted (source net.roster e) (size_of e) (effect net e).0
-
 module _ (net : Net) (e : Step) (i : ℕ) (t : Share) where
   -- the draws on a share after it
   pub drawn-anew : is_opening i e ≡ true → drawn_on i t (next net e).draws ≡ []
@@ -192,36 +191,18 @@ module _ (config : Config) (before : List Entry) (net : Net) (x : Entry) (h : ne
       }
 
 -- ---- a whole run
-record RunsFrom (net : Net) (xs : List Entry) : Type 0 where
-  applied : (k : ℕ) (x : Entry) → slice_get xs k ≡ Some x
-      → first_that (tests (net_after net (take k xs)) x.event) ≡ None
-
 counted-run : (config : Config) (xs before : List Entry) (net : Net) → net.roster ≡ config.roster
     → IsCountOf config before net → RunsFrom net xs → IsCountOf config (before ++ xs) (net_after net xs)
-unfolding net_after net_step
+unfolding net_after
 counted-run config [] before net h c r = subst (λ ys. IsCountOf config ys net) (sym (append-nil before)) c
 counted-run config (x ∷ xs) before net h c r =
-    go (first_that (tests net x.event)) refl (r.applied zero x refl) (λ n. counted-run config xs (before ++ x ∷ []) n)
-  where
-    go : (o : Option Refusal) → first_that (tests net x.event) ≡ o → o ≡ None
-        → ((n : Net) → n.roster ≡ config.roster → IsCountOf config (before ++ x ∷ []) n → RunsFrom n xs
-        → IsCountOf config ((before ++ x ∷ []) ++ xs) (net_after n xs))
-        → IsCountOf config (before ++ x ∷ xs) (net_after (replied net x.event o).0 xs)
-    go (Some n) q e ih = cc
-    go None q e ih =
-        let n : Net = counted (source net.roster x.event) (size_of x.event) (effect net x.event).0 in
-        let moves : (ys : List Entry) → net_after net (x ∷ ys) ≡ net_after n ys =
-        λ ys. ap (λ o. net_after (replied net x.event o).0 ys) q in
-        let rest : RunsFrom n xs =
-        record {
-          applied = λ k y g. sym (ap (λ m. first_that (tests m y.event)) (moves (take k xs)))
-              ∙ r.applied (suc k) y g;
-        } in
-        subst (λ ys. IsCountOf config ys (net_after n xs)) (append_assoc before (x ∷ []) xs)
-        (ih n ((effect-keeps net x.event).roster ∙ h) (count-next config before net x h c) rest)
+    subst (λ n. IsCountOf config (before ++ x ∷ xs) n) (sym (run-moves net x xs (r.applied zero x refl)))
+    (subst (λ ys. IsCountOf config ys (net_after (next net x.event) xs)) (append_assoc before (x ∷ []) xs)
+    (counted-run config xs (before ++ x ∷ []) (next net x.event) ((effect-keeps net x.event).roster ∙ h)
+    (count-next config before net x h c) (runs-next net x xs r)))
 
 pub runs_are_counted : RunsAreCounted
 runs_are_counted config xs run =
     counted-run config xs [] (new_net config) refl
     (record { events = refl; bytes = refl; opens = refl; share_events = λ i t. refl; share_bytes = λ i t. refl })
-    (record { applied = run.applied })
+    (record { applied = run.applied; outs = run.outs })

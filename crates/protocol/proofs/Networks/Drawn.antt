@@ -2,8 +2,8 @@
 use Rattle.std.proofs.Common.{◌+◌, length, sum_by, sym, ap, subst}
 use Rattle.protocol.specs.Networks.{Net, Step, source, size_of, on_budgets, on_opens, replied, net_step}
 use Rattle.protocol.specs.Counts.{IsCountedAfter, StepsAreCounted}
-use Rattle.protocol.proofs.Networks.Effects.{effect-keeps}
-use Rattle.protocol.proofs.Networks.Counts.{next, drawn-anew, drawn-next, sum-length, sum-each}
+use Rattle.protocol.proofs.Networks.Effects.{next, effect-keeps}
+use Rattle.protocol.proofs.Networks.Counts.{drawn-anew, drawn-next, sum-length, sum-each}
 
 pub counted-next : (net : Net) (e : Step) → IsCountedAfter net e (next net e)
 counted-next net e =

@@ -1,10 +1,13 @@
--- What an event's effect leaves as it is, beside the slots. `Crowds`, and the crates `hoststep`, `network` and `runs`
--- stand on it.
+-- What an event's effect leaves as it is, beside the slots; and what each applied event keeps, a run keeps. `Runs`,
+-- `Crowds`, and the crates `hoststep`, `network` and `runs` stand on it.
 use Rattle.types.specs.declared.event.NodeEvent.{NodeEvent}
 use Rattle.std.proofs.Common.{◌≡◌, ℕ, Bool, true, false, not, ◌==◌, Option, Some, None, List, [], ◌∷◌, ◌++◌, map, filter, if◌then◌else◌, cond, refl, ap}
 use Rattle.types.specs.Statements.{Sent}
 use Rattle.protocol.specs.Rosters.{Draw}
-use Rattle.protocol.specs.Networks.{Slot, Place, Net, Step, effect, act, act_in, act_known, emission, known, places_at, renewed}
+use Rattle.protocol.specs.Networks.{Slot, Place, Net, Step, effect, act, act_in, act_known, emission, known, places_at, renewed, source, size_of, tests, first_that, counted, replied, net_step}
+use Rattle.protocol.specs.Hosts.{Entry}
+use Rattle.protocol.specs.Runs.{net_after}
+use Rattle.types.specs.declared.event.Refusal.{Refusal}
 use Rattle.protocol.specs.Networks.Reading.{Read, Fault}
 use Rattle.protocol.specs.Networks.Step.{Opens, Closes, Asks, Delivers, Hears, NominationTimes, BallotTimes, Reslices}
 
@@ -101,3 +104,23 @@ effect-keeps net (Hears j u from kind k) = go (emission (known (places_at net.sl
 effect-keeps net (NominationTimes j u r) = keeps-act net j u _
 effect-keeps net (BallotTimes j u n) = keeps-act net j u _
 effect-keeps net (Reslices j u q) = keeps-act net j u _
+
+-- the network after an event that is not refused
+abbrev pub next : Net → Step → Net
+next net e = counted (source net.roster e) (size_of e) (effect net e).0
+
+-- what each such event keeps, a step keeps, which may be refused, and so does a run
+module _ (P : Net → Type 0) (keeps : (net : Net) (e : Step) → first_that (tests net e) ≡ None → P net
+    → P (next net e)) where
+  pub net_step-keeps : (net : Net) (e : Step) → P net → P (net_step net e).0
+  unfolding net_step
+  net_step-keeps net e h = go (first_that (tests net e)) refl
+    where
+      go : (o : Option Refusal) → first_that (tests net e) ≡ o → P (replied net e o).0
+      go (Some n) q = h
+      go None q = keeps net e q h
+
+  pub run-keeps : (xs : List Entry) (net : Net) → P net → P (net_after net xs)
+  unfolding net_after
+  run-keeps [] net h = h
+  run-keeps (x ∷ xs) net h = run-keeps xs (net_step net x.event).0 (net_step-keeps net x.event h)

@@ -11,6 +11,7 @@ use Rattle.protocol.specs.Networks.Reading.{Read, Fault}
 use Rattle.protocol.specs.Nodes.{fresh}
 use Rattle.protocol.specs.Limits.{Reached, RunsReach}
 use Rattle.protocol.specs.Limits.Reached.{begin, next}
+use Rattle.protocol.proofs.Networks.Effects.{run-keeps}
 use Rattle.std.specs.List.{AllByRecursion}
 use Rattle.protocol.specs.Runs.{net_after}
 use Rattle.protocol.specs.Hosts.{Entry, new_net}
@@ -79,18 +80,8 @@ module _ (P : Place → Type 0) (new : (i : ℕ) (h : Host) → P (record { node
   effect-all net (BallotTimes i u n) h = act-all net i u (BallotTimer n) h
   effect-all net (Reslices i u q) h = act-all net i u (Reslice q) h
 
-  net_step-all : (net : Net) (e : Step) → AllSlots net.slots → AllSlots (net_step net e).0.slots
-  unfolding net_step
-  net_step-all net e h = go (first_that (tests net e))
-    where
-      go : (o : Option Refusal) → AllSlots (replied net e o).0.slots
-      go None = effect-all net e h
-      go (Some n) = h
-
   pub run-all : (net : Net) (entries : List Entry) → AllSlots net.slots → AllSlots (net_after net entries).slots
-  unfolding net_after
-  run-all net [] h = h
-  run-all net (x ∷ xs) h = run-all (net_step net x.event).0 xs (net_step-all net x.event h)
+  run-all net entries h = run-keeps (λ n. AllSlots n.slots) (λ n e q k. effect-all n e k) entries net h
 
 moved-reached : (e : NodeEvent) (p : Place) → Reached p.node → Reached (moved e p).node
 unfolding moved

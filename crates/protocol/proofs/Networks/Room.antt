@@ -12,10 +12,9 @@ use Rattle.protocol.specs.Networks.Step.{Opens, Closes, Asks, Delivers, Hears, N
 use Rattle.protocol.specs.Hosts.{Config, Entry, new_net}
 use Rattle.protocol.specs.Runs.{net_after}
 use Rattle.protocol.specs.Counts.{is_of_share, is_opening, HasEvents, HasBytes, HasRoom, IsInRoom, StaysInRoom}
-use Rattle.protocol.proofs.Networks.Effects.{numbers, opened_after, effect-keeps}
+use Rattle.protocol.proofs.Networks.Effects.{numbers, opened_after, next, effect-keeps, run-keeps}
 use Rattle.protocol.proofs.Crowds.Views.{same_share-true}
 use Rattle.protocol.proofs.Crowds.Concerned.{length-numbers}
-use Rattle.protocol.proofs.Networks.Counts.{next}
 use Rattle.protocol.proofs.Networks.Refusals.{applied_where_room}
 use Rattle.protocol.proofs.Networks.Drawn.{counted-next}
 
@@ -176,27 +175,18 @@ record StaysOf (config : Config) (net : Net) : Type 0 where
   budgets : net.budgets ≡ config.budgets
   in_room : IsInRoom config net
 
-stays-step : (config : Config) (net : Net) (e : Step) → StaysOf config net → StaysOf config (net_step net e).0
-unfolding net_step
-stays-step config net e s = go (first_that (tests net e)) refl
-  where
-    go : (o : Option Refusal) → first_that (tests net e) ≡ o → StaysOf config (replied net e o).0
-    go (Some n) q = s
-    go None q =
-        let k = effect-keeps net e in
-        record {
-          roster = k.roster ∙ s.roster;
-          budgets = k.budgets ∙ s.budgets;
-          in_room = in_room-next config net e s.roster s.budgets s.in_room (applied_where_room net e q);
-        }
-
-stays-after : (config : Config) (net : Net) (xs : List Entry) → StaysOf config net → StaysOf config (net_after net xs)
-unfolding net_after
-stays-after config net [] s = s
-stays-after config net (x ∷ xs) s = stays-after config (net_step net x.event).0 xs (stays-step config net x.event s)
+stays-applied : (config : Config) (net : Net) (e : Step) → first_that (tests net e) ≡ None → StaysOf config net
+    → StaysOf config (next net e)
+stays-applied config net e q s =
+    let k = effect-keeps net e in
+    record {
+      roster = k.roster ∙ s.roster;
+      budgets = k.budgets ∙ s.budgets;
+      in_room = in_room-next config net e s.roster s.budgets s.in_room (applied_where_room net e q);
+    }
 
 pub stays_in_room : StaysInRoom
-stays_in_room config xs = (stays-after config (new_net config) xs (record {
+stays_in_room config xs = (run-keeps (StaysOf config) (stays-applied config) xs (new_net config) (record {
   roster = refl;
   budgets = refl;
   in_room =

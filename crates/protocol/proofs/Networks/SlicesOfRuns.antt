@@ -115,12 +115,9 @@ module _ (i u : ℕ) (q : Slices) where
           → Has (if b then q else now) (record net { slots = filter (λ s. not (s.number == j)) net.slots })
       go false o p k = h p (ap (λ x. known x u) (sym (places_at-drop_other net.slots j i o)) ∙ k)
       go true y p k =
-          absurd (none (sym (ap (λ x. known x u)
+          absurd (none-some p (sym (ap (λ x. known x u)
           (ap (λ x. places_at (filter (λ s. not (s.number == x)) net.slots) i) (eqb-true j i y)
           ∙ places_at-drop net.slots i)) ∙ k))
-        where
-          none : None ≡ Some p → ⊥
-          none e = cc
 
   -- each applied event
   has-effect : (now : Slices) (net : Net) (e : Step) → slices_of net.hosts u ≡ Some q → IsNew net e → Has now net

@@ -78,7 +78,7 @@ pub good-change : (R : Names) (n : Node) (e : NodeEvent) → Good R n → IsFit 
 unfolding change
 good-change R n (Propose x) g k =
     record {
-      closed = record { has = g.closed.has; own = g.closed.own; rows = g.closed.rows };
+      closed = g.closed;
       leaders =
           all-push R n.inputs.leaders (leader n.slot 1 n.name n.slices) g.leaders
           (leader-in R n.slot 1 n.name n.slices g.closed.has g.closed.own);
@@ -94,13 +94,13 @@ good-change R n (Take e) g k = if_node-if (Good R) (is_taken n.table e) (record 
     })
 good-change R n (NominationTimer r) g k = if_node-if (Good R) _ (in_round n (r + 1))
     (record {
-      closed = record { has = g.closed.has; own = g.closed.own; rows = g.closed.rows };
+      closed = g.closed;
       leaders =
           all-push R n.inputs.leaders (leader n.slot (r + 1) n.name n.slices) g.leaders
           (leader-in R n.slot (r + 1) n.name n.slices g.closed.has g.closed.own);
     })
 good-change R n (BallotTimer c) g k = if_node-if (Good R) _ (timed_out n)
-    (record { closed = record { has = g.closed.has; own = g.closed.own; rows = g.closed.rows }; leaders = g.leaders })
+    (record { closed = g.closed; leaders = g.leaders })
 good-change R n (Reslice q) g k =
     record { closed = record { has = g.closed.has; own = k; rows = g.closed.rows }; leaders = g.leaders }
 
@@ -109,6 +109,6 @@ pub good-step : (R : Names) (n : Node) (e : NodeEvent) → Good R n → IsFit R 
 good-step R n e g k =
     step-keeps (Good R)
     (λ m h. record {
-      closed = record { has = h.closed.has; own = h.closed.own; rows = h.closed.rows };
+      closed = h.closed;
       leaders = h.leaders;
     }) n e g (good-change R n e g k)

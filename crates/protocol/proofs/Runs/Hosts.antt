@@ -7,16 +7,12 @@ use Rattle.protocol.specs.Networks.{Host, Net, Step, Reply, slices_of, tests, fi
 use Rattle.protocol.specs.Hosts.{Entry, Config, entered, journal, net_at, reply_at, host_run, applied, nets, new_net, hosts_of, steps_of, entries}
 use Rattle.protocol.specs.Submissions.{net_run, answers_of, config_of}
 use Rattle.protocol.specs.Isolation.{closure, kept_of, outs_of, SameCast, Isolation}
-use Rattle.protocol.proofs.Networks.Effects.{effect-keeps}
+use Rattle.protocol.proofs.Networks.Effects.{effect-keeps, net_step-keeps}
 use Rattle.protocol.proofs.Runs.SameSteps.{journals-agree}
 
 step-number : (net : Net) (e : Step) → (net_step net e).0.number ≡ net.number
-unfolding net_step
-step-number net e = go (first_that (tests net e))
-  where
-    go : (o : Option Refusal) → (replied net e o).0.number ≡ net.number
-    go None = (effect-keeps net e).number
-    go (Some n) = refl
+step-number net e =
+    net_step-keeps (λ n. n.number ≡ net.number) (λ n x q k. (effect-keeps n x).number ∙ k) net e refl
 
 abbrev after : List Net → ℕ → Step → List Net
 after ns g e = map (λ n. if n.number == g then (net_step n e).0 else n) ns
