@@ -1,14 +1,13 @@
 -- Without a roster nothing changes. The law `without_roster_nothing_changes` stands on it.
 use Rattle.types.specs.declared.event.Refusal.{Refusal}
-use Rattle.std.proofs.Common.{◌≡◌, Bool, Option, Some, None, List, [], ◌∷◌, ◌++◌, ◌+◌, refl, ◌∙◌, ap, ap₂}
+use Rattle.std.proofs.Common.{◌≡◌, Bool, Option, Some, None, List, [], ◌++◌, ◌+◌, refl, ◌∙◌, ap, ap₂}
 use Rattle.protocol.specs.Rosters.{Draw}
 use Rattle.protocol.specs.Rosters.Source.{OfBudgets}
 use Rattle.protocol.specs.Networks.{Net, Step, Reply, source, size_of, on_shares, on_opens, effect, tests, tests_on, first_that, counted, replied, net_step}
 use Rattle.protocol.specs.Networks.Reading.{Fault}
 use Rattle.protocol.specs.Networks.Step.{Opens, Delivers}
 use Rattle.protocol.specs.Networks.Reply.{Done}
-use Rattle.protocol.specs.Hosts.{Entry, new_net}
-use Rattle.protocol.specs.Runs.{net_after}
+use Rattle.protocol.specs.Hosts.{new_net}
 use Rattle.protocol.specs.WithoutRoster.{tests_without, counted_without, replied_without, HasNoShares, StepsWithout, StaysWithout}
 use Rattle.protocol.proofs.Networks.Effects.{next, effect-keeps, left, run-keeps}
 use Rattle.protocol.proofs.Crowds.Runs.{plus_nothing}

@@ -1,14 +1,13 @@
 -- What a network counts follows from its journal. The law `room_is_counted`, `Drawn`, `Room` and the crate `network`
 -- stand on it.
-use Rattle.types.specs.declared.event.Refusal.{Refusal}
-use Rattle.std.proofs.Common.{◌≡◌, ℕ, zero, suc, Bool, true, false, not, ◌&&◌, ◌==◌, ◌+◌, length, take, slice_get, sum_by, Option, Some, None, List, [], ◌∷◌, ◌++◌, filter, cond, if◌then◌else◌, append-nil, append_assoc, refl, sym, ◌∙◌, ap, ap₂, subst, arith}
+use Rattle.std.proofs.Common.{◌≡◌, ℕ, zero, Bool, true, false, not, ◌&&◌, ◌==◌, ◌+◌, length, sum_by, Option, Some, None, List, [], ◌∷◌, ◌++◌, filter, cond, if◌then◌else◌, append-nil, append_assoc, refl, sym, ◌∙◌, ap, ap₂, subst, arith}
 use Rattle.std.proofs.lemmas.Bool.{and_parts, eqb-true, false≢true}
 use Rattle.std.proofs.lemmas.List.{length-append}
 use Rattle.std.proofs.lemmas.List.Elements.{filter-append}
 use Rattle.std.proofs.lemmas.List.Sums.{sum_by-append, fold-append}
 use Rattle.protocol.specs.Rosters.{Share, Source, Draw, same_share, drawn_on, Roster}
 use Rattle.protocol.specs.Rosters.Source.{OfBudgets, OfOpens, OfShare}
-use Rattle.protocol.specs.Networks.{Net, Step, source, size_of, on_budgets, on_opens, on_shares, effect, tests, first_that, counted, replied, net_step, renewed}
+use Rattle.protocol.specs.Networks.{Net, Step, source, size_of, on_budgets, on_opens, on_shares, renewed}
 use Rattle.protocol.specs.Networks.Step.{Opens}
 use Rattle.protocol.specs.Hosts.{Config, Entry, new_net}
 use Rattle.protocol.specs.Runs.{net_after}

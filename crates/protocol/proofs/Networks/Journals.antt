@@ -2,7 +2,7 @@
 -- stand on it.
 use Rattle.types.specs.declared.event.Refusal.{Refusal}
 use Rattle.std.proofs.Common.{◌≡◌, ℕ, zero, suc, List, [], ◌∷◌, map, take, slice_get, Option, Some, None, refl, sym, ◌∙◌, ap, subst}
-use Rattle.protocol.specs.Networks.{Step, Net, tests, first_that, effect, source, size_of, counted, replied, net_step}
+use Rattle.protocol.specs.Networks.{Step, Net, tests, first_that, effect, replied, net_step}
 use Rattle.protocol.specs.Hosts.{Entry, new_net, entered, journal}
 use Rattle.protocol.proofs.Networks.Effects.{next}
 use Rattle.protocol.specs.Runs.{net_after, JournalsAreRuns, RunsAreJournals}

@@ -1,16 +1,14 @@
 -- No more is ever drawn than there is. The law `room_is_counted` and the crate `network` stand on it.
-use Rattle.types.specs.declared.event.Refusal.{Refusal}
-use Rattle.std.proofs.Common.{◌≡◌, ◌⊎◌, ℕ, ◌<◌, ◌≤◌, Bool, true, false, ◌&&◌, ◌==◌, ◌+◌, length, Option, Some, None, List, [], ◌∷◌, filter, not, cond, if◌then◌else◌, refl, sym, ◌∙◌, ap, ap₂, subst, inl, inr, arith}
+use Rattle.std.proofs.Common.{◌≡◌, ◌⊎◌, ℕ, ◌<◌, ◌≤◌, Bool, true, false, ◌&&◌, ◌==◌, ◌+◌, length, Some, None, List, [], ◌∷◌, filter, not, cond, if◌then◌else◌, refl, sym, ◌∙◌, ap, ap₂, subst, inl, inr, arith}
 use Rattle.std.proofs.lemmas.Bool.{cases_Bool, and_parts, eqb-true}
 use Rattle.std.proofs.lemmas.List.{length-append}
 use Rattle.protocol.specs.Rosters.{Shares, Share, Source, Roster, same_share, events_drawn, bytes_drawn, events_of, reserved, is_on}
 use Rattle.protocol.specs.Rosters.Share.{Own, Pair}
 use Rattle.protocol.specs.Rosters.Source.{OfBudgets, OfOpens, OfShare}
-use Rattle.protocol.specs.Networks.{Net, Step, source, source_by, size_of, on_budgets, on_opens, effect, tests, first_that, replied, net_step}
+use Rattle.protocol.specs.Networks.{Net, Step, source, source_by, size_of, on_budgets, on_opens, effect, tests, first_that}
 use Rattle.protocol.specs.Networks.Reading.{Read, Fault}
 use Rattle.protocol.specs.Networks.Step.{Opens, Closes, Asks, Delivers, Hears, NominationTimes, BallotTimes, Reslices}
-use Rattle.protocol.specs.Hosts.{Config, Entry, new_net}
-use Rattle.protocol.specs.Runs.{net_after}
+use Rattle.protocol.specs.Hosts.{Config, new_net}
 use Rattle.protocol.specs.Counts.{is_of_share, is_opening, HasEvents, HasBytes, HasRoom, IsInRoom, StaysInRoom}
 use Rattle.protocol.proofs.Networks.Effects.{numbers, opened_after, next, effect-keeps, run-keeps}
 use Rattle.protocol.proofs.Crowds.Views.{same_share-true}

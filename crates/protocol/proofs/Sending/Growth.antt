@@ -14,13 +14,13 @@ use Rattle.protocol.specs.Views.{Seen, seen}
 use Rattle.protocol.specs.Candidates.{combine, as_set, filled}
 use Rattle.protocol.specs.Nominating.{nominate}
 use Rattle.protocol.specs.Balloting.{started, start_from, start, accept_prepared, raise_confirmed_prepared, follow_confirmed_prepared, set_commit, confirm_prepared, enter_commit, widen_commit, first_committed, next_committed, accept_commit, externalize, confirmed_commit, confirm_commit}
-use Rattle.protocol.specs.Passes.{raise, arm, on_ballot, in_prepare, voting, counting, pass_rules, pass}
+use Rattle.protocol.specs.Passes.{raise, arm, pass}
 use Rattle.protocol.specs.Nodes.{Node, change, after_change, bumped, in_round, timed_out}
 use Rattle.protocol.proofs.Nodes.Made.{if_node, if_node-if, settled-keeps}
 use Rattle.protocol.proofs.Balloting.Counters.{arm-moves}
 use Rattle.protocol.proofs.Nominating.Lengths.{all-longer}
 use Rattle.protocol.proofs.Nominating.Sets.{nominate-is, nominate-not, echoes, sources}
-use Rattle.protocol.proofs.Sending.SendablePasses.{on-keeps, prepare-keeps, unless-keeps}
+use Rattle.protocol.proofs.Passes.Kept.{kept-by_pass}
 use Rattle.protocol.proofs.Sets.Numbers.{through}
 
 -- no set of nominations is shorter than it was, and there is a ballot where there was one
@@ -109,36 +109,18 @@ module _ (old : Votes) where
   arm-grows s b w h =
       subst (Grows old) (sym (arm-moves s b w).1) (record { voted = h.voted; accepts = h.accepts; ballot = h.ballot })
 
-  voting-grows : (s : Seen) (w : Votes) → Grows old w → Grows old (voting s w)
-  unfolding voting
-  voting-grows s w h =
-      let P : Votes → Type 0 = Grows old in
-      let w2 = on_ballot (accept_prepared s) w in
-      let w3 = in_prepare (on_ballot (confirm_prepared s)) w2 in
-      let w4 = on_ballot (λ b x. accept_commit x.phase s b x) w3 in
-      let h2 : P w2 = on-keeps P (accept_prepared s) w h (λ b e. prepared-grows s b w h) in
-      let h3 : P w3 =
-      prepare-keeps P (on_ballot (confirm_prepared s)) w2 h2
-      (λ p. on-keeps P (confirm_prepared s) w2 h2 (λ b e. confirmed-grows s b w2 h2)) in
-      let h4 : P w4 = on-keeps P (λ b x. accept_commit x.phase s b x) w3 h3 (λ b e. accept-grows w3.phase s b w3 h3) in
-      on-keeps P (λ b x. confirm_commit x.phase s b x) w4 h4 (λ b e. confirm-grows w4.phase s b w4 h4)
-
-  counting-grows : (s : Seen) (g : Inputs) (w : Votes) → Grows old w → Grows old (counting s g w)
-  unfolding counting
-  counting-grows s g w h =
-      let P : Votes → Type 0 = Grows old in
-      let w2 = on_ballot (raise s g) w in
-      let h2 : P w2 = on-keeps P (raise s g) w h (λ b e. raise-grows s g b w h) in
-      on-keeps P (arm s) w2 h2 (λ b e. arm-grows s b w2 h2)
-
   pass-grows : (v : ℕ) (s : Seen) (g : Inputs) (w : Votes) → Grows old w → Grows old (pass v s g w)
-  unfolding pass pass_rules
-  pass-grows v s g w h =
-      let P : Votes → Type 0 = Grows old in
-      let x = voting s (start s (nominate v s g w)) in
-      let hx : P x =
-      voting-grows s (start s (nominate v s g w)) (start-grows s (nominate v s g w) (nominate-grows v s g w h)) in
-      unless-keeps P (pass_rules v s g) w h (unless-keeps P (counting s g) x hx (counting-grows s g x hx))
+  pass-grows v s g =
+      kept-by_pass (Grows old) v s g (record {
+        nominates = nominate-grows v s g;
+        starts = start-grows s;
+        prepares = prepared-grows s;
+        confirms_prepared = λ b w p e. confirmed-grows s b w;
+        accepts = λ b w e. accept-grows w.phase s b w;
+        confirms = λ b w. confirm-grows w.phase s b w;
+        raises = λ b w e. raise-grows s g b w;
+        arms = arm-grows s;
+      })
 
   -- so does an event's own change
   abbrev NodeGrows : Node → Type 0
