@@ -15,7 +15,7 @@ use Rattle.protocol.specs.Candidates.{greatest, committed_by, commits}
 use Rattle.protocol.specs.Balloting.{aborted_by, is_accepted, commit_accepted, may_be_prepared, accept_prepared, accept_commit, widen_commit, next_committed, accepted_from}
 use Rattle.types.specs.declared.state.Phase.TheVariants.{Committing}
 use Rattle.protocol.specs.Extremes.{IsIn}
-use Rattle.protocol.proofs.Ballots.Above.{above, Under, under-trans, aborted-by, greatest-from, from-filter}
+use Rattle.protocol.proofs.Ballots.Above.{above, Under, under-trans, aborted-by, greatest-of}
 use Rattle.protocol.proofs.Balloting.Named.{own_named, own_commits, named-parts, named-row, named-own, commits-parts, commits-row}
 use Rattle.protocol.proofs.Balloting.OwnPosition.{position-committing, accepted-from}
 use Rattle.protocol.proofs.Balloting.Moves.{accept_prepared-still, accept_prepared-moves}
@@ -52,15 +52,12 @@ none-widens s b w f = go (greatest None (filter test (commits s w))) refl
     go : (o : Option Ballot) → greatest None (filter test (commits s w)) ≡ o
         → greatest None (widening s (position w) b w.high) ≡ None
     go None e = e
-    go (Some t) e = elim (greatest-from None (filter test (commits s w)) t e) [
-      | inl k ↦ cc
-      | inr i ↦
-          let r = from-filter test t (commits s w) i in
-          let ok = and_parts ((same_value t.value b.value) && nat_lt w.high t.counter)
-          (commit_accepted s w t.value t.counter t.counter) r.1 in
-          let parts = and_parts (same_value t.value b.value) (nat_lt w.high t.counter) ok.0 in
-          absurd (f t r.0 parts.0 parts.1 ok.1)
-    ]
+    go (Some t) e =
+        let r = greatest-of test (commits s w) t e in
+        let ok = and_parts ((same_value t.value b.value) && nat_lt w.high t.counter)
+        (commit_accepted s w t.value t.counter t.counter) r.1 in
+        let parts = and_parts (same_value t.value b.value) (nat_lt w.high t.counter) ok.0 in
+        absurd (f t r.0 parts.0 parts.1 ok.1)
 
 own-in : (w : Votes) (b t : Ballot) → w.phase ≡ Committing → w.ballot ≡ Some b → IsIn t (own_named w)
     → (t ≡ b) ⊎ ((t ≡ ballot_at (counter_of w.prepared) b.value) ⊎ (t ≡ ballot_at w.high b.value))

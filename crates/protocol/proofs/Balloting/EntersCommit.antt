@@ -12,7 +12,7 @@ use Rattle.protocol.specs.Candidates.{greatest, committed_by, commits, lowest}
 use Rattle.protocol.specs.Balloting.{is_confirmed, commit_accepted, is_aborted, accept_commit, enter_commit, first_committed, accepted_from}
 use Rattle.types.specs.declared.state.Phase.TheVariants.{Preparing, Committing}
 use Rattle.protocol.proofs.Ballots.Order.{one_value, not_below-counter}
-use Rattle.protocol.proofs.Ballots.Above.{Under, under-trans, greatest-from, from-filter, lowest-low}
+use Rattle.protocol.proofs.Ballots.Above.{Under, under-trans, greatest-of, lowest-low}
 use Rattle.protocol.proofs.Balloting.PreparedStays.{Sound}
 use Rattle.protocol.proofs.Equality.Sameness.{same_value-true}
 use Rattle.types.specs.Votes.{same_value}
@@ -93,10 +93,7 @@ enters s b w sound = go (greatest None (filter test (commits s w))) refl
         → (greatest None (entering s (position w) w) ≡ None) ⊎ Entered s b w
     go None e = inl e
     go (Some t) e =
-        let ok : test t ≡ true = elim (greatest-from None (filter test (commits s w)) t e) [
-          | inl k ↦ cc
-          | inr i ↦ (from-filter test t (commits s w) i).1
-        ] in
+        let ok : test t ≡ true = (greatest-of test (commits s w) t e).1 in
         let free : is_aborted w t ≡ false =
         not-true _
         (and_parts (commit_accepted s w t.value t.counter t.counter && is_confirmed s w t)

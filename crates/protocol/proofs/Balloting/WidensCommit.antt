@@ -11,7 +11,7 @@ use Rattle.protocol.specs.Balloting.{commit_accepted, accept_commit, accepted_fr
 use Rattle.types.specs.declared.state.Phase.TheVariants.{Committing}
 use Rattle.protocol.specs.Extremes.{IsIn}
 use Rattle.protocol.proofs.Ballots.Order.{below-self, not_below-counter}
-use Rattle.protocol.proofs.Ballots.Above.{above, Under, greatest-above, greatest-from, in-filter, from-filter, lowest-low}
+use Rattle.protocol.proofs.Ballots.Above.{above, Under, greatest-above, greatest-of, in-filter, lowest-low}
 use Rattle.protocol.proofs.Equality.Sameness.{same_value-true}
 use Rattle.types.specs.Votes.{same_value}
 use Rattle.protocol.proofs.Balloting.GreatestOfOne.{greatest-one, one-from}
@@ -86,10 +86,7 @@ widens s b p w ballot prepared value high low = go (greatest None (filter test (
           (and_from (same_value t.value b.value) (nat_lt w.high t.counter) v c) a))) in true≢false k;
     }
     go (Some t) e =
-        let ok : test t ≡ true = elim (greatest-from None (filter test (commits s w)) t e) [
-          | inl k ↦ cc
-          | inr i ↦ (from-filter test t (commits s w) i).1
-        ] in
+        let ok : test t ≡ true = (greatest-of test (commits s w) t e).1 in
         let parts =
         and_parts (same_value t.value b.value) (nat_lt w.high t.counter)
         (and_parts ((same_value t.value b.value) && nat_lt w.high t.counter)

@@ -117,6 +117,14 @@ from-filter p t (x ∷ xs) i = go (p x) refl i (λ j. from-filter p t xs j)
     go true k (inr j) ih = let r = ih j in (inr r.0, r.1)
     go false k j ih = let r = ih j in (inr r.0, r.1)
 
+-- the greatest of those that pass is one of them
+pub greatest-of : (p : Ballot → Bool) (xs : List Ballot) (t : Ballot) → greatest None (filter p xs) ≡ Some t
+    → IsIn t xs × (p t ≡ true)
+greatest-of p xs t e = elim (greatest-from None (filter p xs) t e) [
+  | inl k ↦ cc
+  | inr i ↦ from-filter p t xs i
+]
+
 pub flat_map-append : (f : Statement → List Ballot) (xs ys : List Statement) (t : Ballot)
     → IsIn t (flat_map f (xs ++ ys)) → IsIn t (flat_map f xs) ⊎ IsIn t (flat_map f ys)
 flat_map-append f [] ys t i = inr i

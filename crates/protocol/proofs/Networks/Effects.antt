@@ -37,17 +37,17 @@ pub record Keeps (net : Net) (open_slots : List ℕ) (kept_draws : List Draw) (n
   pub draws : next.draws ≡ kept_draws
   pub slots : numbers next.slots ≡ open_slots
 
-numbers-act : (f : List Place → List Place) (i : ℕ) (ss : List Slot)
-    → numbers
-    (map {B = Slot} (λ (s : Slot). if s.number == i then record s { places = f s.places } else s) ss) ≡ numbers ss
+-- slots, with the places of one changed
+abbrev pub at_slot : (List Place → List Place) → ℕ → List Slot → List Slot
+at_slot f i ss = map {B = Slot} (λ (s : Slot). if s.number == i then record s { places = f s.places } else s) ss
+
+numbers-act : (f : List Place → List Place) (i : ℕ) (ss : List Slot) → numbers (at_slot f i ss) ≡ numbers ss
 numbers-act f i [] = refl
 numbers-act f i (s ∷ ss) = go (s.number == i) (numbers-act f i ss)
   where
-    rest : List Slot
-    rest = map {B = Slot} (λ (s : Slot). if s.number == i then record s { places = f s.places } else s) ss
-
-    go : (b : Bool) → numbers rest ≡ numbers ss
-        → (if b then record s { places = f s.places } else s).number ∷ numbers rest ≡ s.number ∷ numbers ss
+    go : (b : Bool) → numbers (at_slot f i ss) ≡ numbers ss
+        → (if b then record s { places = f s.places } else s).number ∷ numbers (at_slot f i ss)
+        ≡ s.number ∷ numbers ss
     go true e = ap (λ ns. s.number ∷ ns) e
     go false e = ap (λ ns. s.number ∷ ns) e
 

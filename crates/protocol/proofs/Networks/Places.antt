@@ -10,7 +10,7 @@ use Rattle.protocol.specs.Networks.Reading.{Read, Fault}
 use Rattle.protocol.specs.Nodes.{fresh}
 use Rattle.protocol.specs.Limits.{Reached, RunsReach}
 use Rattle.protocol.specs.Limits.Reached.{begin, next}
-use Rattle.protocol.proofs.Networks.Effects.{run-keeps}
+use Rattle.protocol.proofs.Networks.Effects.{at_slot, run-keeps}
 use Rattle.std.specs.List.{AllByRecursion}
 use Rattle.protocol.specs.Runs.{net_after}
 use Rattle.protocol.specs.Hosts.{Entry, new_net}
@@ -40,9 +40,7 @@ module _ (P : Place → Type 0) (new : (i : ℕ) (h : Host) → P (record { node
   unfolding act
   act-all net i u e h = each net.slots h
     where
-      each : (ss : List Slot) → AllSlots ss
-          → AllSlots
-          (map {B = Slot} (λ (s : Slot). if s.number == i then record s { places = act_in u e s.places } else s) ss)
+      each : (ss : List Slot) → AllSlots ss → AllSlots (at_slot (act_in u e) i ss)
       each [] h = tt
       each (s ∷ ss) h = (one (s.number == i), each ss h.1)
         where

@@ -15,7 +15,7 @@ use Rattle.protocol.specs.Nodes.{Node, change, when, emitted, decided, outs, aft
 use Rattle.types.specs.declared.event.NodeEvent.TheVariants.{Propose, Take, NominationTimer, BallotTimer, Reslice}
 use Rattle.types.specs.declared.event.Out.TheVariants.{ArmNomination, ArmBallot, Emit}
 use Rattle.protocol.specs.Networks.{emissions}
-use Rattle.protocol.proofs.Nodes.Made.{if_node, if_node-if, settled-keeps, step-keeps}
+use Rattle.protocol.proofs.Nodes.Made.{said_by, if_node, if_node-if, settled-keeps, step-keeps}
 
 -- a step keeps the name
 abbrev pub IsSelf : Node → Node → Type 0
@@ -48,7 +48,7 @@ both_emit : (P : Sent → Bool) {xs ys : List Out} → Emits P xs → Emits P ys
 both_emit P {xs} {ys} h k = record { all = emits-append P xs ys h.all k.all }
 
 outs-emit : (P : Sent → Bool) (old new : Node)
-    → ((s : Statement) → P (record { sender = new.name; slot = new.slot; slices = new.slices; body = s }) ≡ true)
+    → ((s : Statement) → P (said_by new s) ≡ true)
     → Emits P (outs old new)
 unfolding outs
 outs-emit P old new f =
@@ -71,16 +71,11 @@ outs-emit P old new f =
       where
         go : (b : Bool)
             → Emits P
-            (if b then [] else Emit (record { sender = new.name; slot = new.slot; slices = new.slices; body = s }) ∷ [])
+            (if b then [] else Emit (said_by new s) ∷ [])
         go true = record { all = refl }
         go false =
             record {
-              all = and_from (P (record {
-                sender = new.name;
-                slot = new.slot;
-                slices = new.slices;
-                body = s;
-              })) true (f s) refl;
+              all = and_from (P (said_by new s)) true (f s) refl;
             }
 
     last : (b : Bool) (o : Option Ballot) → Emits P (if b then decided o else [])

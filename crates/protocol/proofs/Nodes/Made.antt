@@ -2,9 +2,15 @@
 -- `Sending` and the other files of `Nodes` stand on it.
 use Rattle.std.proofs.Common.{◌≡◌, ℕ, zero, suc, Bool, true, false, Option, Some, None, if◌then◌else◌, refl, subst}
 use Rattle.types.specs.declared.event.NodeEvent.{NodeEvent}
+use Rattle.types.specs.Statements.{Sent}
+use Rattle.types.specs.declared.statement.Statement.{Statement}
 use Rattle.types.specs.declared.state.Votes.{Votes}
 use Rattle.protocol.specs.Sameness.{same_votes}
 use Rattle.protocol.specs.Nodes.{Node, passed, settle, change, settled, after_change, answered, step, most_passes}
+
+-- the envelope in which a node says something
+abbrev pub said_by : Node → Statement → Sent
+said_by n s = record { sender = n.name; slot = n.slot; slices = n.slices; body = s }
 
 abbrev pub if_node : (Node → Type 0) → Option Node → Type 0
 if_node P None = Unit {0}

@@ -26,6 +26,7 @@ use Rattle.protocol.proofs.Nodes.Views.{cut, announces_in, Closed, seen-cut}
 use Rattle.protocol.proofs.Nodes.Agreement.{cut_node}
 use Rattle.protocol.proofs.Nodes.Closed.{Good, all-with}
 use Rattle.protocol.proofs.Nodes.Calm.{settle-still}
+use Rattle.protocol.proofs.Nodes.Made.{said_by}
 
 pub cut-push_other : (R : Names) (e : Sent) (table : List Sent) → R e.sender ≡ false
     → cut R (with_row e table) ≡ cut R table
@@ -46,7 +47,7 @@ cut-push_other R e (x ∷ xs) o = go (is_row_of e.sender (kind_of e.body) x) ref
 emitted-same : (n : Node) (o : Option Statement) → emitted n o o ≡ []
 emitted-same n None = refl
 emitted-same n (Some s) =
-    ap (λ b. if b then [] else Emit (record { sender = n.name; slot = n.slot; slices = n.slices; body = s }) ∷ [])
+    ap (λ b. if b then [] else Emit (said_by n s) ∷ [])
     (same_sent-refl (Some s))
 
 never : (b : Bool) (os : List Out) → (if b && not b then os else []) ≡ []

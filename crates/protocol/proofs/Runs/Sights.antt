@@ -14,6 +14,7 @@ use Rattle.types.specs.declared.event.NodeEvent.TheVariants.{Take}
 use Rattle.protocol.specs.Networks.{Place, Slot, Net, places_at, place_of, emissions, emission, known, moved, outs_at, act_in, act}
 use Rattle.protocol.specs.Isolation.{Kept}
 use Rattle.protocol.specs.Isolation.Kept.{Opened, Closed, Told, Heard}
+use Rattle.protocol.proofs.Networks.Effects.{at_slot}
 use Rattle.protocol.proofs.Nodes.Views.{announces_in}
 use Rattle.protocol.proofs.Nodes.Agreement.{cut_node}
 use Rattle.protocol.proofs.Nodes.Closed.{Good, IsFit, good-step}
@@ -129,31 +130,23 @@ place_of-other u w e (p ∷ ps) o = go (p.node.name == u) refl (place_of-other u
     go false h ih = ap (λ o. if p.node.name == w then Some p else o) ih
 
 places_at-same : (f : List Place → List Place) (ss : List Slot) (i : ℕ)
-    → places_at (map {B = Slot} (λ (s : Slot). if s.number == i then record s { places = f s.places } else s) ss) i
-    ≡ option_map f (places_at ss i)
+    → places_at (at_slot f i ss) i ≡ option_map f (places_at ss i)
 places_at-same f [] i = refl
 places_at-same f (s ∷ ss) i = go (s.number == i) refl (places_at-same f ss i)
   where
-    rest : List Slot
-    rest = map {B = Slot} (λ (s : Slot). if s.number == i then record s { places = f s.places } else s) ss
-
-    go : (b : Bool) → (s.number == i) ≡ b → places_at rest i ≡ option_map f (places_at ss i)
-        → places_at ((if b then record s { places = f s.places } else s) ∷ rest) i
+    go : (b : Bool) → (s.number == i) ≡ b → places_at (at_slot f i ss) i ≡ option_map f (places_at ss i)
+        → places_at ((if b then record s { places = f s.places } else s) ∷ at_slot f i ss) i
         ≡ option_map f (if b then Some s.places else places_at ss i)
     go true h ih = rw h
     go false h ih = rw h ih
 
 places_at-other : (f : List Place → List Place) (ss : List Slot) (j i : ℕ) → (j == i) ≡ false
-    → places_at (map {B = Slot} (λ (s : Slot). if s.number == j then record s { places = f s.places } else s) ss) i
-    ≡ places_at ss i
+    → places_at (at_slot f j ss) i ≡ places_at ss i
 places_at-other f [] j i o = refl
 places_at-other f (s ∷ ss) j i o = go (s.number == j) refl (places_at-other f ss j i o)
   where
-    rest : List Slot
-    rest = map {B = Slot} (λ (s : Slot). if s.number == j then record s { places = f s.places } else s) ss
-
-    go : (b : Bool) → (s.number == j) ≡ b → places_at rest i ≡ places_at ss i
-        → places_at ((if b then record s { places = f s.places } else s) ∷ rest) i
+    go : (b : Bool) → (s.number == j) ≡ b → places_at (at_slot f j ss) i ≡ places_at ss i
+        → places_at ((if b then record s { places = f s.places } else s) ∷ at_slot f j ss) i
         ≡ (if s.number == i then Some s.places else places_at ss i)
     go true h ih =
         let no : (s.number == i) ≡ false = ap (λ x. x == i) (eqb-true s.number j h) ∙ o in rw no ih

@@ -24,7 +24,7 @@ use Rattle.protocol.specs.Networks.{Host, Place, emission_of, emissions, moved}
 use Rattle.protocol.specs.Hosts.{new_net}
 use Rattle.protocol.specs.LastSent.{last_of, sent_as, SendsItsLast, LastIsSent}
 use Rattle.protocol.proofs.Equality.Sameness.{same_sent-true}
-use Rattle.protocol.proofs.Nodes.Made.{if_node}
+use Rattle.protocol.proofs.Nodes.Made.{if_node, said_by}
 use Rattle.protocol.proofs.Sending.Growth.{Grows, event-grows}
 use Rattle.protocol.proofs.Networks.Places.{run-all}
 
@@ -66,15 +66,10 @@ module _ (kind : Kind) where
     where
       go : (b : Bool)
           → after kind o
-          (if b then [] else Emit (record { sender = n.name; slot = n.slot; slices = n.slices; body = s }) ∷ []) ≡ o
+          (if b then [] else Emit (said_by n s) ∷ []) ≡ o
       go true = refl
       go false =
-          ap (λ b. last_or o (cond b (record {
-            sender = n.name;
-            slot = n.slot;
-            slices = n.slices;
-            body = s;
-          } ∷ []) [])) (f s refl)
+          ap (λ b. last_or o (cond b (said_by n s ∷ []) [])) (f s refl)
 
   -- one of this kind: it is emitted where it is not the one before
   own : (n : Node) (o : Option Sent) (a x : Option Statement) → option_map (λ e. e.body) o ≡ a
@@ -87,16 +82,11 @@ module _ (kind : Kind) where
       go : (b : Bool) → same_sent a (Some s) ≡ b
           → option_map (λ e. e.body)
           (after kind o (if b then [] else Emit
-          (record { sender = n.name; slot = n.slot; slices = n.slices; body = s }) ∷ [])) ≡ Some s
+          (said_by n s) ∷ [])) ≡ Some s
       go true e = h ∙ same_sent-true a (Some s) e
       go false e =
           ap (λ b. option_map (λ (x : Sent). x.body)
-          (last_or o (cond b (record {
-            sender = n.name;
-            slot = n.slot;
-            slices = n.slices;
-            body = s;
-          } ∷ []) []))) (f s refl)
+          (last_or o (cond b (said_by n s ∷ []) []))) (f s refl)
 
   -- of all that is given out, the two statements count
   outs-after : (o : Option Sent) (old new : Node)

@@ -15,7 +15,7 @@ use Rattle.protocol.specs.Candidates.{combine, commits, greatest, lowest, named}
 use Rattle.protocol.specs.Nominating.{nominate}
 use Rattle.protocol.specs.Balloting.{started, start, accept_prepared, at_least, raise_confirmed_prepared, follow_confirmed_prepared, set_commit, confirm_prepared, is_accepted, is_confirmed, is_aborted, commit_accepted, commit_confirmed, accepted_from, first_committed, next_committed, enter_commit, widen_commit, accept_commit, confirmed_commit, externalize, confirm_commit}
 use Rattle.protocol.specs.Extremes.{IsIn}
-use Rattle.protocol.proofs.Ballots.Above.{Under, greatest-from, from-filter, lowest-low}
+use Rattle.protocol.proofs.Ballots.Above.{Under, greatest-of, lowest-low}
 use Rattle.protocol.proofs.Ballots.Order.{below-self, below-counter}
 use Rattle.protocol.proofs.Ballots.LeastCounters.{lowest_is_exact}
 use Rattle.protocol.proofs.Nominating.Sets.{nominate-is, nominate-not}
@@ -75,10 +75,8 @@ module _ (timeouts : ℕ) where
   counted-named : (s : Seen) (w : Votes) (test : Ballot → Bool) (o : Option Ballot)
       → greatest None (filter test (named s w)) ≡ o → IfSome o (λ b. 1 ≤ b.counter)
   counted-named s w test None e = tt
-  counted-named s w test (Some t) e = elim (greatest-from None (filter test (named s w)) t e) [
-    | inl k ↦ cc
-    | inr i ↦ from_one t.counter (named-parts s w t (from-filter test t (named s w) i).0).0
-  ]
+  counted-named s w test (Some t) e =
+      from_one t.counter (named-parts s w t (greatest-of test (named s w) t e).0).0
 
   pub start-keeps : (s : Seen) (w : Votes) → IsSendable timeouts w → IsSendable timeouts (start s w)
   unfolding start started
@@ -144,13 +142,6 @@ module _ (timeouts : ℕ) where
         ),
       )
 
-  chosen-in : (test : Ballot → Bool) (ts : List Ballot) (t : Ballot)
-      → greatest None (filter test ts) ≡ Some t → IsIn t ts
-  chosen-in test ts t e = elim (greatest-from None (filter test ts) t e) [
-    | inl k ↦ cc
-    | inr i ↦ (from-filter test t ts i).0
-  ]
-
   pub accept-keeps : (p : Phase) (s : Seen) (b : Ballot) (w : Votes) → w.phase ≡ p → w.ballot ≡ Some b
       → IsSendable timeouts w → IsSendable timeouts (accept_commit p s b w)
   unfolding accept_commit enter_commit widen_commit accepted_from first_committed next_committed
@@ -160,8 +151,8 @@ module _ (timeouts : ℕ) where
       go None k = h
       go (Some t) k =
           let r = interval (λ low. commit_accepted s w t.value low t.counter) s w t
-          (chosen-in (λ t. commit_accepted s w t.value t.counter t.counter && is_confirmed s w t
-          && not (is_aborted w t)) (commits s w) t k) in
+          (greatest-of (λ t. commit_accepted s w t.value t.counter t.counter && is_confirmed s w t
+          && not (is_aborted w t)) (commits s w) t k).0 in
           record {
             voted = h.voted;
             accepts = h.accepts;
@@ -175,8 +166,8 @@ module _ (timeouts : ℕ) where
       go None k = h
       go (Some t) k =
           let r = interval (λ low. commit_accepted s w t.value low t.counter) s w t
-          (chosen-in (λ t. same_value t.value b.value && nat_lt w.high t.counter
-          && commit_accepted s w t.value t.counter t.counter) (commits s w) t k) in
+          (greatest-of (λ t. same_value t.value b.value && nat_lt w.high t.counter
+          && commit_accepted s w t.value t.counter t.counter) (commits s w) t k).0 in
           let n = ballot_at (max b.counter t.counter) t.value in
           let low = lowest (λ low. commit_accepted s w t.value low t.counter) t.value t.counter (commits s w) in
           let placed : IsPlaced Committing (Some n) w.confirmed_prepared low t.counter =
@@ -200,8 +191,8 @@ module _ (timeouts : ℕ) where
       go None k = h
       go (Some t) k =
           let r = interval (λ low. commit_confirmed s w t.value low t.counter) s w t
-          (chosen-in (λ t. same_value t.value b.value && commit_confirmed s w t.value t.counter t.counter)
-          (commits s w) t k) in
+          (greatest-of (λ t. same_value t.value b.value && commit_confirmed s w t.value t.counter t.counter)
+          (commits s w) t k).0 in
           record {
             voted = h.voted;
             accepts = h.accepts;

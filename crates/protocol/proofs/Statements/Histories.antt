@@ -140,14 +140,14 @@ first_greatest-push es e =
 abbrev taken_row : Option Sent → Sent → Option Sent
 taken_row r e = if replaces e r then Some e else r
 
+some-if : (e r : Sent) (b : Bool) → Some (if b then e else r) ≡ (if b then Some e else Some r)
+some-if e r true = refl
+some-if e r false = refl
+
 last_newer-push : (r : Option Sent) (xs : List Sent) (e : Sent)
     → last_newer r (xs ++ e ∷ []) ≡ taken_row (last_newer r xs) e
 last_newer-push None [] e = refl
-last_newer-push (Some r) [] e = go (is_newer e.body r.body)
-  where
-    go : (b : Bool) → Some (if b then e else r) ≡ (if b then Some e else Some r)
-    go true = refl
-    go false = refl
+last_newer-push (Some r) [] e = some-if e r (is_newer e.body r.body)
 last_newer-push None (x ∷ xs) e = last_newer-push (Some x) xs e
 last_newer-push (Some r) (x ∷ xs) e = last_newer-push (Some (if is_newer x.body r.body then x else r)) xs e
 
@@ -182,12 +182,8 @@ last-external e (Some y) true x f =
     let p = f y refl in ap (λ c. if c then Some e else Some y) (sym (externalize-newer e.body y.body p.0 p.1 x))
 last-external e None false x f = refl
 last-external e (Some y) false x f =
-    let p = f y refl in choose (is_above e.body y.body)
+    let p = f y refl in some-if e y (is_above e.body y.body)
     ∙ ap (λ c. if c then Some e else Some y) (sym (newer-above e.body y.body p.0 p.1))
-  where
-    choose : (c : Bool) → Some (if c then e else y) ≡ (if c then Some e else Some y)
-    choose true = refl
-    choose false = refl
 
 voting-push : (es : List Sent) (e : Sent) → list_all is_voting es ≡ true
     → row_among Kind.Ballot (es ++ e ∷ []) ≡ taken_row (row_among Kind.Ballot es) e
