@@ -2,7 +2,7 @@
 -- and the crate `network` stand on it.
 use Rattle.types.specs.declared.event.NodeEvent.{NodeEvent}
 use Rattle.types.specs.declared.event.Out.{Out}
-use Rattle.std.proofs.Common.{◌≡◌, ℕ, ◌+◌, Bool, true, false, not, ◌&&◌, ◌==◌, Option, Some, None, List, [], ◌∷◌, ◌++◌, if◌then◌else◌, is_none, refl}
+use Rattle.std.proofs.Common.{◌≡◌, ℕ, ◌+◌, Bool, true, false, not, ◌&&◌, ◌==◌, Option, Some, None, List, [], ◌∷◌, ◌++◌, if◌then◌else◌, is_none, refl, ◌∙◌, ap}
 use Rattle.std.specs.List.{list_all}
 use Rattle.std.proofs.lemmas.Bool.{and_from, and_parts}
 use Rattle.types.specs.Statements.{Sent}
@@ -14,7 +14,9 @@ use Rattle.protocol.specs.Sameness.{same_sent}
 use Rattle.protocol.specs.Nodes.{Node, change, when, emitted, decided, outs, after_change, answered, step, is_externalized, in_round, timed_out}
 use Rattle.types.specs.declared.event.NodeEvent.TheVariants.{Propose, Take, NominationTimer, BallotTimer, Reslice}
 use Rattle.types.specs.declared.event.Out.TheVariants.{ArmNomination, ArmBallot, Emit}
-use Rattle.protocol.specs.Networks.{emissions}
+use Rattle.protocol.specs.Networks.{emission_of, emissions}
+use Rattle.std.proofs.lemmas.List.Elements.{filter_map-append}
+use Rattle.protocol.proofs.Sets.Lists.{all-append}
 use Rattle.protocol.proofs.Nodes.Made.{said_by, if_node, if_node-if, settled-keeps, step-keeps}
 
 -- a step keeps the name
@@ -33,23 +35,18 @@ pub step-self : (n : Node) (e : NodeEvent) → IsSelf n (step n e).0
 step-self n e = step-keeps (IsSelf n) (λ m h. h) n e refl (self-change n e)
 
 -- what is emitted carries the node's name, and the slices that it has after the event
-emits-append : (P : Sent → Bool) (xs ys : List Out) → list_all P (emissions xs) ≡ true
-    → list_all P (emissions ys) ≡ true → list_all P (emissions (xs ++ ys)) ≡ true
-emits-append P [] ys h k = k
-emits-append P (Emit e ∷ xs) ys h k =
-    let p = and_parts (P e) (list_all P (emissions xs)) h in
-    and_from (P e) (list_all P (emissions (xs ++ ys))) p.0 (emits-append P xs ys p.1 k)
-emits-append P (_ ∷ xs) ys h k = emits-append P xs ys h k
-
 record Emits (P : Sent → Bool) (os : List Out) : Type 0 where
   all : list_all P (emissions os) ≡ true
 
 both_emit : (P : Sent → Bool) {xs ys : List Out} → Emits P xs → Emits P ys → Emits P (xs ++ ys)
-both_emit P {xs} {ys} h k = record { all = emits-append P xs ys h.all k.all }
+both_emit P {xs} {ys} h k =
+    record {
+      all = ap (list_all P) (filter_map-append emission_of xs ys)
+          ∙ all-append P (emissions xs) (emissions ys) h.all k.all;
+    }
 
 outs-emit : (P : Sent → Bool) (old new : Node)
-    → ((s : Statement) → P (said_by new s) ≡ true)
-    → Emits P (outs old new)
+    → ((s : Statement) → P (said_by new s) ≡ true) → Emits P (outs old new)
 unfolding outs
 outs-emit P old new f =
     both_emit P (both_emit P (both_emit P (both_emit P
@@ -69,14 +66,9 @@ outs-emit P old new f =
     sent a None = record { all = refl }
     sent a (Some s) = go (same_sent a (Some s))
       where
-        go : (b : Bool)
-            → Emits P
-            (if b then [] else Emit (said_by new s) ∷ [])
+        go : (b : Bool) → Emits P (if b then [] else Emit (said_by new s) ∷ [])
         go true = record { all = refl }
-        go false =
-            record {
-              all = and_from (P (said_by new s)) true (f s) refl;
-            }
+        go false = record { all = and_from (P (said_by new s)) true (f s) refl }
 
     last : (b : Bool) (o : Option Ballot) → Emits P (if b then decided o else [])
     last true None = record { all = refl }

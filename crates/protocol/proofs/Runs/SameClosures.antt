@@ -15,7 +15,7 @@ use Rattle.protocol.proofs.Sets.Finite.{same_test}
 use Rattle.protocol.proofs.Sets.Contained.{contains_head, contains_tail}
 use Rattle.protocol.proofs.Sets.Least.{keeps-from}
 use Rattle.protocol.proofs.Sets.RuleLists.{least-in}
-use Rattle.protocol.proofs.Runs.Sights.{all-append}
+use Rattle.protocol.proofs.Sets.Lists.{all-append}
 use Rattle.protocol.proofs.Runs.Events.{IsWithin}
 use Rattle.protocol.proofs.Runs.KeptSteps.{AllIn}
 use Rattle.protocol.proofs.Runs.KeptWithin.{IsKeptIn, all_kept-from, all_kept-to, all_in-other, hosts-closed, events-closed, closure-start}

@@ -14,6 +14,7 @@ use Rattle.types.specs.declared.event.NodeEvent.TheVariants.{Take}
 use Rattle.protocol.specs.Networks.{Place, Slot, Net, places_at, place_of, emissions, emission, known, moved, outs_at, act_in, act}
 use Rattle.protocol.specs.Isolation.{Kept}
 use Rattle.protocol.specs.Isolation.Kept.{Opened, Closed, Told, Heard}
+use Rattle.protocol.proofs.Sets.Lists.{all-append}
 use Rattle.protocol.proofs.Networks.Effects.{at_slot}
 use Rattle.protocol.proofs.Nodes.Views.{announces_in}
 use Rattle.protocol.proofs.Nodes.Agreement.{cut_node}
@@ -68,12 +69,6 @@ pub record IsPlace (R : Names) (u : ℕ) (p : Place) : Type 0 where
 
 abbrev pub AllPlaces : Names → ℕ → Net → Type 0
 AllPlaces R i net = (u : ℕ) (p : Place) → known (places_at net.slots i) u ≡ Some p → IsPlace R u p
-
-pub all-append : {X : Type 0} (P : X → Bool) (xs ys : List X) → list_all P xs ≡ true → list_all P ys ≡ true
-    → list_all P (xs ++ ys) ≡ true
-all-append P [] ys h k = k
-all-append P (x ∷ xs) ys h k =
-    let p = and_parts (P x) (list_all P xs) h in and_from (P x) (list_all P (xs ++ ys)) p.0 (all-append P xs ys p.1 k)
 
 moved-name : (e : NodeEvent) (p : Place) → (moved e p).node.name ≡ p.node.name
 unfolding moved

@@ -64,12 +64,9 @@ module _ (kind : Kind) where
   other n o a None f = refl
   other n o a (Some s) f = go (same_sent a (Some s))
     where
-      go : (b : Bool)
-          → after kind o
-          (if b then [] else Emit (said_by n s) ∷ []) ≡ o
+      go : (b : Bool) → after kind o (if b then [] else Emit (said_by n s) ∷ []) ≡ o
       go true = refl
-      go false =
-          ap (λ b. last_or o (cond b (said_by n s ∷ []) [])) (f s refl)
+      go false = ap (λ b. last_or o (cond b (said_by n s ∷ []) [])) (f s refl)
 
   -- one of this kind: it is emitted where it is not the one before
   own : (n : Node) (o : Option Sent) (a x : Option Statement) → option_map (λ e. e.body) o ≡ a
@@ -80,13 +77,10 @@ module _ (kind : Kind) where
   own n o a (Some s) h f m = go (same_sent a (Some s)) refl
     where
       go : (b : Bool) → same_sent a (Some s) ≡ b
-          → option_map (λ e. e.body)
-          (after kind o (if b then [] else Emit
-          (said_by n s) ∷ [])) ≡ Some s
+          → option_map (λ e. e.body) (after kind o (if b then [] else Emit (said_by n s) ∷ [])) ≡ Some s
       go true e = h ∙ same_sent-true a (Some s) e
       go false e =
-          ap (λ b. option_map (λ (x : Sent). x.body)
-          (last_or o (cond b (said_by n s ∷ []) []))) (f s refl)
+          ap (λ b. option_map (λ (x : Sent). x.body) (last_or o (cond b (said_by n s ∷ []) []))) (f s refl)
 
   -- of all that is given out, the two statements count
   outs-after : (o : Option Sent) (old new : Node)
