@@ -1,6 +1,7 @@
 -- A step that concerns R is tested by what R sees, and draws on a member's share. `Networks` stands on it.
 use Rattle.types.specs.declared.event.Refusal.{Refusal}
 use Rattle.std.proofs.Common.{◌≡◌, ℕ, Bool, true, false, not, ◌&&◌, ◌||◌, ◌==◌, ◌+◌, nat_lt, length, Option, Some, None, List, [], ◌∷◌, ◌++◌, filter, option_map, if◌then◌else◌, is_some, is_none, refl, sym, ◌∙◌, ap, suc, sum_by}
+use Rattle.std.proofs.lemmas.List.{length-map}
 use Rattle.std.proofs.lemmas.Bool.{and_parts, and_from, eqb-true, false≢true, true≢false}
 use Rattle.types.specs.declared.kind.Kind.{Kind}
 use Rattle.types.specs.declared.event.Refusal.TheVariants.{NoSuchNode, SlotNotOpen, SlotOpenAlready, TooManySlots, HostedSender, NotEmitted, BadValue, ProposedAlready, ShareFull, ShareBytesFull}
@@ -20,7 +21,7 @@ use Rattle.protocol.proofs.Runs.Hearings.{emission-cut}
 use Rattle.protocol.proofs.Networks.Effects.{numbers, left}
 use Rattle.protocol.proofs.Crowds.Views.{bytes_full_in, drawn-ours, frame, full_in, is_ours, of_members, share_of, tests_in, view}
 
-open-same : (ss : List Slot) (j : ℕ) → is_some (places_at ss j) ≡ among (numbers ss) j
+pub open-same : (ss : List Slot) (j : ℕ) → is_some (places_at ss j) ≡ among (numbers ss) j
 open-same [] j = refl
 open-same (s ∷ ss) j = go (s.number == j) (open-same ss j)
   where
@@ -30,8 +31,7 @@ open-same (s ∷ ss) j = go (s.number == j) (open-same ss j)
     go false e = e
 
 pub length-numbers : (ss : List Slot) → length ss ≡ length (numbers ss)
-length-numbers [] = refl
-length-numbers (s ∷ ss) = ap (λ n. suc n) (length-numbers ss)
+length-numbers ss = sym (length-map ss (λ s. s.number))
 
 proposal-cut : (R : Names) (o : Option Place) → has_proposal o ≡ has_proposal (option_map (cut_place R) o)
 proposal-cut R None = refl

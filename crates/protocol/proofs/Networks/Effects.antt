@@ -2,6 +2,7 @@
 -- `Crowds`, and the crates `hoststep`, `network` and `runs` stand on it.
 use Rattle.types.specs.declared.event.NodeEvent.{NodeEvent}
 use Rattle.std.proofs.Common.{◌≡◌, ℕ, Bool, true, false, not, ◌==◌, Option, Some, None, List, [], ◌∷◌, ◌++◌, map, filter, if◌then◌else◌, cond, refl, ap}
+use Rattle.std.proofs.lemmas.List.{map-append}
 use Rattle.types.specs.Statements.{Sent}
 use Rattle.protocol.specs.Rosters.{Draw}
 use Rattle.protocol.specs.Networks.{Slot, Place, Net, Step, effect, act, act_in, act_known, emission, known, places_at, renewed, source, size_of, tests, first_that, counted, replied, net_step}
@@ -51,10 +52,6 @@ numbers-act f i (s ∷ ss) = go (s.number == i) (numbers-act f i ss)
     go true e = ap (λ ns. s.number ∷ ns) e
     go false e = ap (λ ns. s.number ∷ ns) e
 
-numbers-push : (ss : List Slot) (s : Slot) → numbers (ss ++ s ∷ []) ≡ numbers ss ++ s.number ∷ []
-numbers-push [] s = refl
-numbers-push (t ∷ ts) s = ap (λ ns. t.number ∷ ns) (numbers-push ts s)
-
 numbers-drop : (i : ℕ) (ss : List Slot)
     → numbers (filter (λ s. not (s.number == i)) ss) ≡ filter (λ n. not (n == i)) (numbers ss)
 numbers-drop i [] = refl
@@ -91,7 +88,7 @@ keeps-self net = keeps-slots net net.slots net.draws _ refl
 pub effect-keeps : (net : Net) (e : Step)
     → Keeps net (opened_after e (numbers net.slots)) (left e net.draws) (effect net e).0
 unfolding effect
-effect-keeps net (Opens j) = keeps-slots net _ (renewed j net.draws) _ (numbers-push net.slots _)
+effect-keeps net (Opens j) = keeps-slots net _ (renewed j net.draws) _ (map-append (λ s. s.number) net.slots (_ ∷ []))
 effect-keeps net (Closes j) = keeps-slots net _ net.draws _ (numbers-drop j net.slots)
 effect-keeps net (Asks j u x) = keeps-act net j u _
 effect-keeps net (Delivers u size (Read e)) = keeps-act net e.slot u _

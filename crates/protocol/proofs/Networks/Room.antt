@@ -2,6 +2,7 @@
 use Rattle.std.proofs.Common.{◌≡◌, ◌⊎◌, ℕ, ◌<◌, ◌≤◌, Bool, true, false, ◌&&◌, ◌==◌, ◌+◌, length, Some, None, List, [], ◌∷◌, filter, not, cond, if◌then◌else◌, refl, sym, ◌∙◌, ap, ap₂, subst, inl, inr, arith}
 use Rattle.std.proofs.lemmas.Bool.{cases_Bool, and_parts, eqb-true}
 use Rattle.std.proofs.lemmas.List.{length-append}
+use Rattle.std.proofs.lemmas.List.Filters.{length-filter_both}
 use Rattle.protocol.specs.Rosters.{Shares, Share, Source, Roster, same_share, events_drawn, bytes_drawn, events_of, reserved, is_on}
 use Rattle.protocol.specs.Rosters.Share.{Own, Pair}
 use Rattle.protocol.specs.Rosters.Source.{OfBudgets, OfOpens, OfShare}
@@ -53,15 +54,6 @@ source-shares r (NominationTimes i u n) = reserved-shares r i (Own u)
 source-shares r (BallotTimes i u n) = reserved-shares r i (Own u)
 source-shares r (Reslices i u q) = reserved-shares r i (Own u)
 
-filter-shorter : {A : Type 0} (p : A → Bool) (xs : List A) → length (filter p xs) ≤ length xs
-filter-shorter p [] = omega arith
-filter-shorter p (x ∷ xs) = go (p x) (filter-shorter p xs)
-  where
-    go : (b : Bool) → length (filter p xs) ≤ length xs
-        → length (cond b (x ∷ filter p xs) (filter p xs)) ≤ length (x ∷ xs)
-    go true l = omega (arith, l)
-    go false l = omega (arith, l)
-
 -- the open slots after a step that found room
 slots-fit : (net : Net) (e : Step) (most : ℕ) → length net.slots ≤ most → net.budgets.slots ≡ most → HasRoom net e
     → length (opened_after e (numbers net.slots)) ≤ most
@@ -69,7 +61,8 @@ slots-fit net (Opens i) most l b h =
     let a = length-append (numbers net.slots) (i ∷ []) in let n = length-numbers net.slots in
     let r : length net.slots < net.budgets.slots = h.0 in omega (arith, a, n, r, b)
 slots-fit net (Closes i) most l b h =
-    let n = length-numbers net.slots in let f = filter-shorter (λ n. not (n == i)) (numbers net.slots) in
+    let n = length-numbers net.slots in
+    let f = length-filter_both (λ n. not (n == i)) (λ n. not (not (n == i))) (λ n. refl) (numbers net.slots) in
     omega (arith, l, n, f)
 slots-fit net _ most l b h = let n = length-numbers net.slots in omega (arith, l, n)
 
