@@ -54,56 +54,60 @@ pub begins : (v : ℕ) (s : Seen) (g : Inputs) (w : Votes) (b : Ballot) → w.ba
     → begun v s g w ≡ w
 begins v s g w b e n = ap (start s) n ∙ start-some s w b e
 
--- the state after the rules in PREPARE rests, once it is armed
+-- a state rests, once it is armed, where whatever is armed the rules leave it and nothing is to be raised
+rests-armed : (v : ℕ) (s : Seen) → Fair s → (g : Inputs) (n : Ballot) (u : Votes) → IsOpen u → u.ballot ≡ Some n
+    → Risen s g n.counter → ((k : ℕ) → ruled s (record u { armed = k }) ≡ record u { armed = k })
+    → Rests v s g (arm s n u)
+rests-armed v s f g n u o ball risen all =
+    let a = arm-moves s n u in
+    let y : Votes = record u { armed = a.0 } in
+    let still : arm s n y ≡ y = subst (λ (x : Votes). arm s n x ≡ x) a.1 (arm-still s n u) in
+    let end : finish s g y ≡ y = finish-open s g y o
+    ∙ (counts-still s f g y n ball (own-counts y n o ball) risen ∙ still) in
+    subst (λ (x : Votes). Rests v s g x) (sym a.1)
+    (λ m. pass-ruled v s g y o
+    ∙ (ap (λ x. finish s g (ruled s x)) (begins v s g y n ball m) ∙ (ap (finish s g) (all a.0) ∙ end)))
+
+-- what a rule that does not read what is armed leaves as it is, it leaves whatever is armed
+armed-still : (f : Votes → Votes) (u : Votes) (k : ℕ) → f (record u { armed = k }) ≡ record (f u) { armed = k }
+    → f u ≡ u → f (record u { armed = k }) ≡ record u { armed = k }
+armed-still f u k e h = e ∙ ap {B = Votes} (λ (x : Votes). record x { armed = k }) h
+
+-- the state after the rules in PREPARE
 rests-preparing : (v : ℕ) (s : Seen) → Fair s → (g : Inputs) (b : Ballot) (w : Votes) (R : Ready s b w)
     → greatest None (entering s (position R.u) R.u) ≡ None → Risen s g R.n.counter → Rests v s g (arm s R.n R.u)
-rests-preparing v s f g b w R none risen =
-    let a = arm-moves s R.n R.u in
-    let y : Votes = record R.u { armed = a.0 } in
-    let ball : y.ballot ≡ Some R.n = R.ballot in
-    let ph : y.phase ≡ Preparing = R.phase in
-    let e2 : accept_prepared s R.n y ≡ y = accept_prepared-armed s R.n R.u a.0
-    ∙ ap {B = Votes} (λ (x : Votes). record x { armed = a.0 }) R.still_p in
-    let e3 : raise_confirmed_prepared s y ≡ y = raise_confirmed_prepared-armed s R.u a.0
-    ∙ ap {B = Votes} (λ (x : Votes). record x { armed = a.0 }) R.still_h in
-    let e4 : follow_confirmed_prepared R.n y ≡ y = follow_confirmed_prepared-still R.n y ball R.above_h in
-    let e5 : set_commit y ≡ y = set_commit-still y R.u.commit refl
-    (fixed-unread R.u R.u.commit R.u.commit a.0 R.fixed) in
-    let e6 : r4 s y ≡ y = r4-at s y R.n Preparing ph ball
-    ∙ enter_not s R.n y (ap (greatest None) (entering-armed s R.u a.0) ∙ none) in
-    let e7 : r5 s y ≡ y = r5-at s y R.n Preparing ph ball ∙ confirm-none s R.n y in
-    let e8 : arm s R.n y ≡ y = subst (λ (x : Votes). arm s R.n x ≡ x) a.1 (arm-still s R.n R.u) in
-    let e9 : finish s g y ≡ y = finish-open s g y (inl ph)
-    ∙ (counts-still s f g y R.n ball (own-counts y R.n (inl ph) ball) risen ∙ e8) in
-    let e23 : r3 s (r2 s y) ≡ y = r23-preparing s y R.n ph ball
-    ∙ (ap (λ x. set_commit (follow_confirmed_prepared R.n (raise_confirmed_prepared s x))) e2
-    ∙ (ap (λ x. set_commit (follow_confirmed_prepared R.n x)) e3 ∙ (ap set_commit e4 ∙ e5))) in
-    let all : ruled s y ≡ y = ap (λ x. r5 s (r4 s x)) e23 ∙ (ap (r5 s) e6 ∙ e7) in
-    subst (λ (x : Votes). Rests v s g x) (sym a.1)
-    (λ n. pass-ruled v s g y (inl ph) ∙
-    (ap (λ x. finish s g (ruled s x)) (begins v s g y R.n ball n) ∙ (ap (finish s g) all ∙ e9)))
+rests-preparing v s f g b w R none risen = rests-armed v s f g R.n R.u (inl R.phase) R.ballot risen all
+  where
+    all : (k : ℕ) → ruled s (record R.u { armed = k }) ≡ record R.u { armed = k }
+    all k =
+        let y : Votes = record R.u { armed = k } in
+        let e2 = armed-still (accept_prepared s R.n) R.u k (accept_prepared-armed s R.n R.u k) R.still_p in
+        let e3 = armed-still (raise_confirmed_prepared s) R.u k (raise_confirmed_prepared-armed s R.u k) R.still_h in
+        let e4 : follow_confirmed_prepared R.n y ≡ y = follow_confirmed_prepared-still R.n y R.ballot R.above_h in
+        let e5 : set_commit y ≡ y = set_commit-still y R.u.commit refl
+        (fixed-unread R.u R.u.commit R.u.commit k R.fixed) in
+        let e6 : r4 s y ≡ y = r4-at s y R.n Preparing R.phase R.ballot
+        ∙ enter_not s R.n y (ap (greatest None) (entering-armed s R.u k) ∙ none) in
+        let e7 : r5 s y ≡ y = r5-at s y R.n Preparing R.phase R.ballot ∙ confirm-none s R.n y in
+        let e23 : r3 s (r2 s y) ≡ y = r23-preparing s y R.n R.phase R.ballot
+        ∙ (ap (λ x. set_commit (follow_confirmed_prepared R.n (raise_confirmed_prepared s x))) e2
+        ∙ (ap (λ x. set_commit (follow_confirmed_prepared R.n x)) e3 ∙ (ap set_commit e4 ∙ e5))) in
+        ap (λ x. r5 s (r4 s x)) e23 ∙ (ap (r5 s) e6 ∙ e7)
 
+-- and in COMMIT
 rests-committing : (v : ℕ) (s : Seen) → Fair s → (g : Inputs) (b : Ballot) (w : Votes) (R : Steady s b w)
     → greatest None (deciding s (position R.u) R.n) ≡ None → Risen s g R.n.counter → Rests v s g (arm s R.n R.u)
-rests-committing v s f g b w R none risen =
-    let a = arm-moves s R.n R.u in
-    let y : Votes = record R.u { armed = a.0 } in
-    let ball : y.ballot ≡ Some R.n = R.ballot in
-    let ph : y.phase ≡ Committing = R.phase in
-    let e2 : accept_prepared s R.n y ≡ y = accept_prepared-armed s R.n R.u a.0
-    ∙ ap {B = Votes} (λ (x : Votes). record x { armed = a.0 }) R.still_p in
-    let e6 : accept_commit Committing s R.n y ≡ y =
-    widen_not s R.n y (ap (λ o. greatest None (widening s o R.n R.u.high)) (position-armed R.u a.0) ∙ R.still_c) in
-    let e7 : r5 s y ≡ y = r5-at s y R.n Committing ph ball
-    ∙ decide_not s R.n y (ap (λ o. greatest None (deciding s o R.n)) (position-armed R.u a.0) ∙ none) in
-    let e8 : arm s R.n y ≡ y = subst (λ (x : Votes). arm s R.n x ≡ x) a.1 (arm-still s R.n R.u) in
-    let e9 : finish s g y ≡ y = finish-open s g y (inr ph)
-    ∙ (counts-still s f g y R.n ball (own-counts y R.n (inr ph) ball) risen ∙ e8) in
-    let all : ruled s y ≡ y =
-    ap (r5 s) (r234-committing s y R.n ph ball ∙ (ap (λ x. accept_commit Committing s R.n x) e2 ∙ e6)) ∙ e7 in
-    subst (λ (x : Votes). Rests v s g x) (sym a.1)
-    (λ n. pass-ruled v s g y (inr ph)
-    ∙ (ap (λ x. finish s g (ruled s x)) (begins v s g y R.n ball n) ∙ (ap (finish s g) all ∙ e9)))
+rests-committing v s f g b w R none risen = rests-armed v s f g R.n R.u (inr R.phase) R.ballot risen all
+  where
+    all : (k : ℕ) → ruled s (record R.u { armed = k }) ≡ record R.u { armed = k }
+    all k =
+        let y : Votes = record R.u { armed = k } in
+        let e2 = armed-still (accept_prepared s R.n) R.u k (accept_prepared-armed s R.n R.u k) R.still_p in
+        let e6 : accept_commit Committing s R.n y ≡ y =
+        widen_not s R.n y (ap (λ o. greatest None (widening s o R.n R.u.high)) (position-armed R.u k) ∙ R.still_c) in
+        let e7 : r5 s y ≡ y = r5-at s y R.n Committing R.phase R.ballot
+        ∙ decide_not s R.n y (ap (λ o. greatest None (deciding s o R.n)) (position-armed R.u k) ∙ none) in
+        ap (r5 s) (r234-committing s y R.n R.phase R.ballot ∙ (ap (λ x. accept_commit Committing s R.n x) e2 ∙ e6)) ∙ e7
 
 -- to where the counters are counted
 went-counted : (s : Seen) (f : Fair s) (g : Inputs) (w : Votes) (b : Ballot) (e : w.ballot ≡ Some b) (sound : Sound w)
