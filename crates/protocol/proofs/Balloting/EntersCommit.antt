@@ -1,6 +1,6 @@
 -- From PREPARE to COMMIT: what entering changes, and where nothing is entered. `Passes` stands on it.
-use Rattle.std.proofs.Common.{◌≡◌, ◌≤◌, max, Bool, true, false, not, ◌&&◌, ◌||◌, nat_lt, List, [], ◌∷◌, ◌++◌, Option, Some, None, if◌then◌else◌, filter, flat_map, option_to_list, is_none, refl, sym, ◌∙◌, ap, subst, inl, inr, ◌⊎◌}
-use Rattle.std.proofs.lemmas.Bool.{and_parts, not-true, not-false}
+use Rattle.std.proofs.Common.{◌≡◌, ◌≤◌, max, Bool, true, false, not, ◌&&◌, nat_lt, List, [], ◌∷◌, ◌++◌, Option, Some, None, if◌then◌else◌, filter, flat_map, option_to_list, is_none, refl, sym, ◌∙◌, ap, subst, inl, inr, ◌⊎◌}
+use Rattle.std.proofs.lemmas.Bool.{or_parts, and_parts, not-true, not-false}
 use Rattle.types.specs.declared.ballot.Ballot.{Ballot}
 use Rattle.types.specs.declared.statement.Statement.{Statement}
 use Rattle.protocol.proofs.Balloting.Tests.{takes_prepare, backs_commit, takes_commit}
@@ -27,10 +27,6 @@ same-value : (w : Votes) (t r : Ballot) → is_aborted w t ≡ false → greates
 unfolding is_aborted greatest
 same-value w t r a e = go w.prepared refl
   where
-    first_false : (x y : Bool) → (x || y) ≡ false → x ≡ false
-    first_false true y h = h
-    first_false false y h = refl
-
     at : (p : Ballot) (c d : Bool) → below p t ≡ c → below t p ≡ d
         → (below t p && not (same_value p.value t.value)) ≡ false → (if below p t then t else p) ≡ r → r.value ≡ t.value
     at p true d h k n q = let z : t ≡ r = rw h at q in ap (λ (x : Ballot). x.value) (sym z)
@@ -42,7 +38,7 @@ same-value w t r a e = go w.prepared refl
 
     go : (o : Option Ballot) → w.prepared ≡ o → r.value ≡ t.value
     go None k = let z : Some t ≡ Some r = rw k at e in let y : t ≡ r = cc in ap (λ (x : Ballot). x.value) (sym y)
-    go (Some p) k = at p (below p t) (below t p) refl refl (first_false _ _ (rw k at a)) (same_Some _ r (rw k at e))
+    go (Some p) k = at p (below p t) (below t p) refl refl (or_parts _ _ (rw k at a)).0 (same_Some _ r (rw k at e))
 
 -- from PREPARE to COMMIT
 pub record Entered (s : Seen) (b : Ballot) (w : Votes) : Type 0 where

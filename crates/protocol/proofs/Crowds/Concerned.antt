@@ -1,6 +1,6 @@
 -- A step that concerns R is tested by what R sees, and draws on a member's share. `Networks` stands on it.
 use Rattle.types.specs.declared.event.Refusal.{Refusal}
-use Rattle.std.proofs.Common.{◌≡◌, ℕ, Bool, true, false, not, ◌&&◌, ◌||◌, ◌==◌, ◌+◌, nat_lt, length, Option, Some, None, List, [], ◌∷◌, ◌++◌, filter, option_map, if◌then◌else◌, is_some, is_none, refl, sym, ◌∙◌, ap, suc, sum_by}
+use Rattle.std.proofs.Common.{◌≡◌, ℕ, Bool, true, false, not, ◌&&◌, ◌||◌, ◌==◌, ◌+◌, nat_lt, length, Option, Some, None, List, [], ◌∷◌, ◌++◌, filter, option_map, if◌then◌else◌, is_some, is_none, refl, sym, ◌∙◌, ap, sum_by}
 use Rattle.std.proofs.lemmas.List.{length-map}
 use Rattle.std.proofs.lemmas.Bool.{and_parts, and_from, eqb-true, false≢true, true≢false}
 use Rattle.types.specs.declared.kind.Kind.{Kind}
@@ -14,6 +14,7 @@ use Rattle.protocol.specs.Networks.Reading.{Read, Fault}
 use Rattle.protocol.specs.Networks.Step.{Opens, Closes, Asks, Delivers, Hears, NominationTimes, BallotTimes, Reslices}
 use Rattle.protocol.specs.Isolation.{Kept, when_kept}
 use Rattle.protocol.specs.Submissions.{concerns}
+use Rattle.protocol.proofs.Sets.Tests.{and_joined}
 use Rattle.protocol.proofs.Sets.Lists.{filter_swap}
 use Rattle.protocol.proofs.Runs.Sights.{sight, cut_place}
 use Rattle.protocol.proofs.Runs.Openings.{cast_of}
@@ -82,14 +83,6 @@ module _ (R : Names) (i : ℕ) (r : Roster) (on : (u : ℕ) → R u ≡ true →
   pub record Concerned (net : Net) (e : Step) : Type 0 where
     pub draws : source net.roster e ≡ share_of r.shares e
     pub tested : tests net e ≡ tests_in (frame R r net) (view R i net) e
-
-joined : (a b c : Bool) → (a && b && c) ≡ true → (a && (b && c)) ≡ true
-joined true b c h = h
-joined false b c h = h
-
-pub parted : (a b c : Bool) → (a && b && c) ≡ false → (a && (b && c)) ≡ false
-parted true b c h = h
-parted false b c h = h
 
 pub kept-true : (b : Bool) (k : Kept) → is_some (when_kept b k) ≡ true → b ≡ true
 kept-true true k h = refl
@@ -194,9 +187,9 @@ module _ (R : Names) (i : ℕ) (r : Roster) (on : (u : ℕ) → R u ≡ true →
   ours-left (Asks j u x) c ds = rw (kept-true ((j == i) && R u) _ c) refl
   ours-left (Delivers u size (Fault n)) c ds = absurd (false≢true c)
   ours-left (Delivers u size (Read e)) c ds =
-      rw (joined (e.slot == i) (R u) (R e.sender) (kept-true ((e.slot == i) && R u && R e.sender) _ c)) refl
+      rw (and_joined (e.slot == i) (R u) (R e.sender) ∙ kept-true ((e.slot == i) && R u && R e.sender) _ c) refl
   ours-left (Hears j u from kind n) c ds =
-      rw (joined (j == i) (R u) (R from) (kept-true ((j == i) && R u && R from) _ c)) refl
+      rw (and_joined (j == i) (R u) (R from) ∙ kept-true ((j == i) && R u && R from) _ c) refl
   ours-left (NominationTimes j u n) c ds = rw (kept-true ((j == i) && R u) _ c) refl
   ours-left (BallotTimes j u n) c ds = rw (kept-true ((j == i) && R u) _ c) refl
   ours-left (Reslices j u q) c ds = rw (kept-true ((j == i) && R u) _ c) refl

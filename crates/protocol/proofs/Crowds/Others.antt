@@ -11,7 +11,8 @@ use Rattle.protocol.specs.Networks.Step.{Opens, Closes, Asks, Delivers, Hears, N
 use Rattle.protocol.specs.Isolation.{Kept, kept}
 use Rattle.protocol.specs.Submissions.{concerns}
 use Rattle.protocol.proofs.Networks.Effects.{opened_after, left}
-use Rattle.protocol.proofs.Crowds.Concerned.{kept-false, parted}
+use Rattle.protocol.proofs.Crowds.Concerned.{kept-false}
+use Rattle.protocol.proofs.Sets.Tests.{and_joined}
 use Rattle.protocol.proofs.Crowds.Views.{is_ours, of_members}
 
 module _ (R : Names) (i : ℕ) where
@@ -38,9 +39,9 @@ module _ (R : Names) (i : ℕ) where
   others-source (Some r) (Delivers u size (Fault n)) c = of_budgets
   others-source (Some r) (Delivers u size (Read e)) c =
       of_others r e.slot (Pair u e.sender)
-      (parted (e.slot == i) (R u) (R e.sender) (kept-false ((e.slot == i) && R u && R e.sender) _ c))
+      (and_joined (e.slot == i) (R u) (R e.sender) ∙ kept-false ((e.slot == i) && R u && R e.sender) _ c)
   others-source (Some r) (Hears j u from kind n) c =
-      of_others r j (Pair u from) (parted (j == i) (R u) (R from) (kept-false ((j == i) && R u && R from) _ c))
+      of_others r j (Pair u from) (and_joined (j == i) (R u) (R from) ∙ kept-false ((j == i) && R u && R from) _ c)
   others-source (Some r) (NominationTimes j u n) c = of_others r j (Own u) (kept-false ((j == i) && R u) _ c)
   others-source (Some r) (BallotTimes j u n) c = of_others r j (Own u) (kept-false ((j == i) && R u) _ c)
   others-source (Some r) (Reslices j u q) c = of_others r j (Own u) (kept-false ((j == i) && R u) _ c)

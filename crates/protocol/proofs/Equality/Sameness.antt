@@ -38,7 +38,7 @@ same_ballot-refl : (b : Ballot) → same_ballot b b ≡ true
 same_ballot-refl b =
     and_from (b.counter == b.counter) (same_value b.value b.value) (eqb-refl b.counter) (same_value-refl b.value)
 
-same_ballot-true : (a b : Ballot) → same_ballot a b ≡ true → a ≡ b
+pub same_ballot-true : (a b : Ballot) → same_ballot a b ≡ true → a ≡ b
 same_ballot-true a b h =
     let p = and_parts (a.counter == b.counter) (same_value a.value b.value) h in
     λ i. record { counter = (eqb-true a.counter b.counter p.0) i; value = (same_value-true a.value b.value p.1) i }

@@ -83,7 +83,7 @@ module _ (i : ℕ) (t : Share) where
   drawn-left _ ds o = refl
 
 -- the entries since an opening, with one more
-since-more : (i : ℕ) (xs : List Entry) (x : Entry)
+pub since-more : (i : ℕ) (xs : List Entry) (x : Entry)
     → since_opened i (xs ++ x ∷ []) ≡ (if is_opening i x.event then [] else since_opened i xs ++ x ∷ [])
 since-more i xs x =
     fold-append

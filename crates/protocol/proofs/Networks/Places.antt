@@ -1,7 +1,7 @@
 -- What a fresh place has and each step keeps, each place in a network's run has; so each node there is reached. The law
 -- `four_passes_are_enough` and `Sending` stand on it.
 use Rattle.types.specs.declared.event.NodeEvent.{NodeEvent}
-use Rattle.std.proofs.Common.{ℕ, Bool, true, false, not, cond, ◌==◌, Option, Some, None, List, [], ◌∷◌, ◌++◌, map, filter, if◌then◌else◌}
+use Rattle.std.proofs.Common.{ℕ, Bool, true, false, not, cond, ◌==◌, Option, Some, None, List, [], ◌∷◌, ◌++◌, filter, if◌then◌else◌}
 use Rattle.types.specs.Statements.{Sent}
 use Rattle.types.specs.declared.event.NodeEvent.TheVariants.{Propose, Take, NominationTimer, BallotTimer, Reslice}
 use Rattle.protocol.specs.Networks.{Net, Slot, Place, Host, Step, moved, act_in, act, act_known, opened, effect, emission, known, places_at}

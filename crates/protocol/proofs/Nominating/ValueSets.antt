@@ -7,6 +7,7 @@ use Rattle.std.proofs.lemmas.Bool.{cases_Bool, or_cases, or_left, and_parts, fal
 use Rattle.std.proofs.lemmas.List.Folds.{list_any-append}
 use Rattle.types.specs.Nominations.{Ascending, same_value, with_value}
 use Rattle.types.specs.Votes.{has_value}
+use Rattle.protocol.proofs.Sets.Tests.{or_joined, or_past}
 use Rattle.protocol.specs.Candidates.{all_with, as_set}
 use Rattle.protocol.proofs.Ballots.Order.{less, less-total, less-asym, less-self}
 use Rattle.protocol.proofs.Equality.Sameness.{same_value-true, same_value-refl}
@@ -22,11 +23,6 @@ has_with x z (y ∷ ys) = go (less x y) (same_value y x) refl (has_with x z ys)
     twice true b = refl
     twice false b = refl
 
-    past : (a b c : Bool) → (a || (b || c)) ≡ (b || (a || c))
-    past true true c = refl
-    past true false c = refl
-    past false b c = refl
-
     go : (a b : Bool) → same_value y x ≡ b → has_value (with_value x ys) z ≡ (same_value x z || has_value ys z)
         → has_value (if a then x ∷ y ∷ ys else (if b then y ∷ ys else y ∷ with_value x ys)) z
         ≡ (same_value x z || (same_value y z || has_value ys z))
@@ -34,17 +30,13 @@ has_with x z (y ∷ ys) = go (less x y) (same_value y x) refl (has_with x z ys)
     go false true e ih =
         twice (same_value y z) (has_value ys z)
         ∙ ap (λ n. same_value n z || (same_value y z || has_value ys z)) (same_value-true y x e)
-    go false false e ih = ap (λ b. same_value y z || b) ih ∙ past (same_value y z) (same_value x z) (has_value ys z)
+    go false false e ih = ap (λ b. same_value y z || b) ih ∙ or_past (same_value y z) (same_value x z) (has_value ys z)
 
 pub has_all : (ys xs : List (List ℕ)) (z : List ℕ) → has_value (all_with ys xs) z ≡ (has_value ys z || has_value xs z)
 has_all [] xs z = refl
 has_all (y ∷ ys) xs z =
     has_with y z (all_with ys xs) ∙ ap (λ b. same_value y z || b) (has_all ys xs z)
-    ∙ over (same_value y z) (has_value ys z) (has_value xs z)
-  where
-    over : (a b c : Bool) → (a || (b || c)) ≡ ((a || b) || c)
-    over true b c = refl
-    over false b c = refl
+    ∙ or_joined (same_value y z) (has_value ys z) (has_value xs z)
 
 pub has_append : (xs ys : List (List ℕ)) (z : List ℕ) → has_value (xs ++ ys) z ≡ (has_value xs z || has_value ys z)
 has_append xs ys z = list_any-append (λ y. same_value y z) xs ys

@@ -67,7 +67,7 @@ pub pass-externalized : (v : ℕ) (s : Seen) (g : Inputs) (w : Votes) → w.phas
 unfolding pass pass_rules voting counting confirm_prepared
 pass-externalized v s g w e = ap (λ p. while_open p (pass_rules v s g) w) e
 
-on_ballot-at : (F : Ballot → Votes → Votes) (w : Votes) (b : Ballot) → w.ballot ≡ Some b → on_ballot F w ≡ F b w
+pub on_ballot-at : (F : Ballot → Votes → Votes) (w : Votes) (b : Ballot) → w.ballot ≡ Some b → on_ballot F w ≡ F b w
 on_ballot-at F w b e = rw e refl
 
 on_ballot-none : (F : Ballot → Votes → Votes) (w : Votes) → w.ballot ≡ None → on_ballot F w ≡ w

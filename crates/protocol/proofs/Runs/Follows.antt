@@ -98,7 +98,7 @@ moved-quiet R u p e h r o =
     ap₂ {C = Place} (λ (n : Node) (os : List Out). record { node = n; told = p.told ++ emissions os }) q.0 q.1
     ∙ ap {B = Place} (λ (es : List Sent). record { node = cut_node R p.node; told = es }) (append-nil p.told)
 
-act-outs : (net : Net) (i u : ℕ) (e : NodeEvent) → (act net i u e).1 ≡ outs_at e (known (places_at net.slots i) u)
+pub act-outs : (net : Net) (i u : ℕ) (e : NodeEvent) → (act net i u e).1 ≡ outs_at e (known (places_at net.slots i) u)
 unfolding act
 act-outs net i u e = refl
 

@@ -2,9 +2,9 @@
 -- it.
 use Rattle.types.specs.declared.event.NodeEvent.{NodeEvent}
 use Rattle.types.specs.declared.event.Out.{Out}
-use Rattle.std.proofs.Common.{◌≡◌, ℕ, Bool, true, false, not, ◌&&◌, ◌||◌, ◌==◌, Option, Some, None, List, [], ◌∷◌, ◌++◌, map, option_map, if◌then◌else◌, refl, sym, ◌∙◌, ap, inl, inr}
+use Rattle.std.proofs.Common.{◌≡◌, ℕ, Bool, true, false, not, ◌&&◌, ◌||◌, ◌==◌, Option, Some, None, List, [], ◌∷◌, option_map, if◌then◌else◌, refl, sym, ◌∙◌, ap, inl, inr}
 use Rattle.std.specs.List.{list_all}
-use Rattle.std.proofs.lemmas.Bool.{cases_Bool, and_parts, and_from, or_left, or_right, true≢false, not_from_false, eqb-true, eq-eqb}
+use Rattle.std.proofs.lemmas.Bool.{cases_Bool, and_from, or_left, or_right, true≢false, not_from_false, eqb-true, eq-eqb}
 use Rattle.types.specs.Trees.{Slices}
 use Rattle.types.specs.Statements.{Sent}
 use Rattle.protocol.specs.Sets.{Names, within}
@@ -70,7 +70,7 @@ pub record IsPlace (R : Names) (u : ℕ) (p : Place) : Type 0 where
 abbrev pub AllPlaces : Names → ℕ → Net → Type 0
 AllPlaces R i net = (u : ℕ) (p : Place) → known (places_at net.slots i) u ≡ Some p → IsPlace R u p
 
-moved-name : (e : NodeEvent) (p : Place) → (moved e p).node.name ≡ p.node.name
+pub moved-name : (e : NodeEvent) (p : Place) → (moved e p).node.name ≡ p.node.name
 unfolding moved
 moved-name e p = step-self p.node e
 

@@ -29,7 +29,7 @@ use Rattle.protocol.proofs.Sending.Growth.{Grows, event-grows}
 use Rattle.protocol.proofs.Networks.Places.{run-all}
 
 -- ---- lists
-last-append : {A : Type 0} (o : Option A) (xs ys : List A) → last_or o (xs ++ ys) ≡ last_or (last_or o xs) ys
+pub last-append : {A : Type 0} (o : Option A) (xs ys : List A) → last_or o (xs ++ ys) ≡ last_or (last_or o xs) ys
 last-append o [] ys = refl
 last-append o (x ∷ xs) ys = last-append (Some x) xs ys
 
