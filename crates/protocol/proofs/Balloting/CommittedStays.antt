@@ -47,7 +47,8 @@ unfolding commits
 none-widens s b w f = go (greatest None (filter test (commits s w))) refl
   where
     test : Ballot → Bool
-    test = λ t. (same_value t.value b.value) && nat_lt w.high t.counter && commit_accepted s w t.value t.counter t.counter
+    test = λ t. (same_value t.value b.value) && nat_lt w.high t.counter
+        && commit_accepted s w t.value t.counter t.counter
 
     go : (o : Option Ballot) → greatest None (filter test (commits s w)) ≡ o
         → greatest None (widening s (position w) b w.high) ≡ None
@@ -147,7 +148,8 @@ module _ (s : Seen) (f : Fair s) (w : Votes) (b p : Ballot) (phase : w.phase ≡
               (subst (λ o. counter_of o ≤ I.q.counter) (sym p2.1) (not_below-counter I.q p2.0 I.over))));
           confirmed_prepared = subst (λ o. Under o u.prepared) (sym I.confirmed_prepared)
               (subst (λ o. Under w.confirmed_prepared o) (sym I.prepared)
-              (under-trans w.confirmed_prepared N.p (Some I.q) (under-trans w.confirmed_prepared w.prepared N.p sound.confirmed_prepared N.grows) over));
+              (under-trans w.confirmed_prepared N.p (Some I.q)
+              (under-trans w.confirmed_prepared w.prepared N.p sound.confirmed_prepared N.grows) over));
           committing =
               λ c. record {
                 b = I.n;
@@ -180,7 +182,8 @@ module _ (s : Seen) (f : Fair s) (w : Votes) (b p : Ballot) (phase : w.phase ≡
                   (λ h. backs) own acc in
                   let parts = named-parts s u t i in
                   let all : may_be_prepared w.phase b.value t ≡ true = rw phase tb in
-                  let up : above N.p t ≡ false → below I.q t ≡ false = λ a. under-trans (Some t) N.p (Some I.q) a over in
+                  let up : above N.p t ≡ false → below I.q t ≡ false =
+                  λ a. under-trans (Some t) N.p (Some I.q) a over in
                   elim parts.1 [
                     | inl r ↦ up (N.above t (named-row s w t parts.0 r) all acc1)
                     | inr o ↦ elim (own-in u I.n t phase' I.ballot o) [

@@ -118,7 +118,8 @@ enters s b w sound = go (greatest None (filter test (commits s w))) refl
                 (through w.aborted (counter_of w.prepared) p.0.counter sound.aborted
                 (under-counters w.prepared p.0 p.3));
             confirmed_prepared = subst (λ o. Under o (greatest w.prepared (t ∷ []))) (sym h.1)
-                (subst (λ o. Under (Some h.0) o) (sym p.1) (under-both w.confirmed_prepared w.prepared t h.0 p.0 sound.confirmed_prepared h.1 p.1));
+                (subst (λ o. Under (Some h.0) o) (sym p.1)
+                (under-both w.confirmed_prepared w.prepared t h.0 p.0 sound.confirmed_prepared h.1 p.1));
             committing = λ c. record {
               b = n;
               p = p.0;

@@ -50,7 +50,8 @@ unfolding accept_commit widen_commit next_committed accepted_from
 widens s b p w ballot prepared value high low = go (greatest None (filter test (commits s w))) refl
   where
     test : Ballot → Bool
-    test = λ t. (same_value t.value b.value) && nat_lt w.high t.counter && commit_accepted s w t.value t.counter t.counter
+    test = λ t. (same_value t.value b.value) && nat_lt w.high t.counter
+        && commit_accepted s w t.value t.counter t.counter
 
     under_top : (g t : Ballot) → below g t ≡ false → nat_lt g.counter t.counter ≡ true → ⊥
     under_top g t h k = not_both g.counter t.counter (not_below-counter g t h) k

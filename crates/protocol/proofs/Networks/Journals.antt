@@ -52,7 +52,8 @@ journal-runs (e ∷ es) net = go (first_that (tests net e)) refl (λ n. journal-
             → first_that (tests (net_after net (take k (first ∷ rest))) x.event) ≡ None
         applies zero x h = let z : first ≡ x = cc in subst (λ (y : Entry). first_that (tests net y.event) ≡ None) z q
         applies (suc k) x h =
-            ap (λ n. first_that (tests n x.event)) (run-moves net first (take k rest) q) ∙ (ih (next net e)).applied k x h
+            ap (λ n. first_that (tests n x.event)) (run-moves net first (take k rest) q)
+            ∙ (ih (next net e)).applied k x h
 
         gives : (k : ℕ) (x : Entry) → slice_get (first ∷ rest) k ≡ Some x
             → x.outs ≡ (effect (net_after net (take k (first ∷ rest))) x.event).1

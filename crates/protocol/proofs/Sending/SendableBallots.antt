@@ -49,7 +49,8 @@ module _ (timeouts : ℕ) where
   ]
 
   -- ---- the first ballot
-  first-placed : (p : Phase) (confirmed_prepared first : Option Ballot) (low high : ℕ) → IsPlaced p None confirmed_prepared low high
+  first-placed : (p : Phase) (confirmed_prepared first : Option Ballot) (low high : ℕ)
+      → IsPlaced p None confirmed_prepared low high
       → IsPlaced p first confirmed_prepared low high
   first-placed Preparing None first low high h = tt
   first-placed Preparing (Some x) first low high h = absurd (true≢false h)
@@ -66,7 +67,8 @@ module _ (timeouts : ℕ) where
     accepts = h.accepts;
     timers = none (counter_of first) (subst (λ o. timeouts ≤ counter_of o) e h.timers);
     counted = c;
-    placed = first-placed w.phase w.confirmed_prepared first w.low w.high (subst (λ o. IsPlaced w.phase o w.confirmed_prepared w.low w.high) e h.placed);
+    placed = first-placed w.phase w.confirmed_prepared first w.low w.high
+        (subst (λ o. IsPlaced w.phase o w.confirmed_prepared w.low w.high) e h.placed);
   }
     where
       none : (n : ℕ) → timeouts ≤ 0 → timeouts ≤ n
@@ -91,7 +93,8 @@ module _ (timeouts : ℕ) where
       go None None e k =
           let first = greatest None (filter (is_accepted s w) (named s w)) in
           let is : start s w ≡ record w { ballot = first } = rw (e, k) refl in
-          subst (IsSendable timeouts) (sym is) (first-keeps w first e (counted-named s w (is_accepted s w) first refl) h)
+          subst (IsSendable timeouts) (sym is)
+          (first-keeps w first e (counted-named s w (is_accepted s w) first refl) h)
 
   -- ---- prepared
   pub prepared-keeps : (s : Seen) (b : Ballot) (w : Votes) → IsSendable timeouts w
@@ -101,7 +104,8 @@ module _ (timeouts : ℕ) where
       record { voted = h.voted; accepts = h.accepts; timers = h.timers; counted = h.counted; placed = h.placed }
 
   followed : (confirmed_prepared : Option Ballot) (b : Ballot)
-      → (b.counter ≤ (at_least confirmed_prepared b).counter) × Under confirmed_prepared (Some (at_least confirmed_prepared b))
+      → (b.counter ≤ (at_least confirmed_prepared b).counter)
+      × Under confirmed_prepared (Some (at_least confirmed_prepared b))
   followed None b = (omega arith, tt)
   followed (Some h) b = go (below b h) refl
     where

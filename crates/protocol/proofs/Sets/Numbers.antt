@@ -1,4 +1,4 @@
--- Orders of numbers, and tests of them, one after the other: the rules of balloting and what is sent stand on it.
+-- Orders of numbers, and tests of them, one after the other. Most folders from `Ballots` on stand on it.
 use Rattle.std.proofs.Common.{◌≡◌, ℕ, ◌≤◌, true, false, ◌==◌, nat_le, nat_lt, arith}
 use Rattle.std.proofs.lemmas.Bool.Decides.{nat_tests}
 
