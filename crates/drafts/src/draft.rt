@@ -1,6 +1,7 @@
 //! Votes that are lent until the first change.
 
 ghost use Rattle.std.specs.Prelude.{◌≡◌, Some, OnErr, OnOk, unwrap_or};
+ghost use Rattle.std.specs.Fn.{FnOnceReturnsAtMut};
 ghost use Rattle.drafts.specs.Drafted.{after};
 
 use std::alloc::AllocError;
@@ -61,11 +62,7 @@ impl<'a> Draft<'a> {
         ensures ok { OnOk result (self.new ≡ after (λ w. record w { voted = voted }) self.old) }
         ensures err { OnErr result (self.new ≡ self.old) }
     {
-        copy_once(&mut self.own, self.lent)?;
-        if let Some(own) = &mut self.own {
-            own.voted = voted;
-        }
-        Ok(())
+        self.change(|votes| votes.voted = voted)
     }
 
     /// The node accepts these values as nominated.
@@ -73,11 +70,7 @@ impl<'a> Draft<'a> {
         ensures ok { OnOk result (self.new ≡ after (λ w. record w { accepts = accepts }) self.old) }
         ensures err { OnErr result (self.new ≡ self.old) }
     {
-        copy_once(&mut self.own, self.lent)?;
-        if let Some(own) = &mut self.own {
-            own.accepts = accepts;
-        }
-        Ok(())
+        self.change(|votes| votes.accepts = accepts)
     }
 
     /// The node confirms these values as nominated.
@@ -85,11 +78,7 @@ impl<'a> Draft<'a> {
         ensures ok { OnOk result (self.new ≡ after (λ w. record w { confirms = confirms }) self.old) }
         ensures err { OnErr result (self.new ≡ self.old) }
     {
-        copy_once(&mut self.own, self.lent)?;
-        if let Some(own) = &mut self.own {
-            own.confirms = confirms;
-        }
-        Ok(())
+        self.change(|votes| votes.confirms = confirms)
     }
 
     /// Balloting is in this phase.
@@ -97,11 +86,7 @@ impl<'a> Draft<'a> {
         ensures ok { OnOk result (self.new ≡ after (λ w. record w { phase = phase }) self.old) }
         ensures err { OnErr result (self.new ≡ self.old) }
     {
-        copy_once(&mut self.own, self.lent)?;
-        if let Some(own) = &mut self.own {
-            own.phase = phase;
-        }
-        Ok(())
+        self.change(|votes| votes.phase = phase)
     }
 
     /// The node tries to prepare and to commit this ballot.
@@ -109,11 +94,7 @@ impl<'a> Draft<'a> {
         ensures ok { OnOk result (self.new ≡ after (λ w. record w { ballot = Some ballot }) self.old) }
         ensures err { OnErr result (self.new ≡ self.old) }
     {
-        copy_once(&mut self.own, self.lent)?;
-        if let Some(own) = &mut self.own {
-            own.ballot = Some(ballot);
-        }
-        Ok(())
+        self.change(|votes| votes.ballot = Some(ballot))
     }
 
     /// This is the highest ballot that the node accepts as prepared.
@@ -121,11 +102,7 @@ impl<'a> Draft<'a> {
         ensures ok { OnOk result (self.new ≡ after (λ w. record w { prepared = Some prepared }) self.old) }
         ensures err { OnErr result (self.new ≡ self.old) }
     {
-        copy_once(&mut self.own, self.lent)?;
-        if let Some(own) = &mut self.own {
-            own.prepared = Some(prepared);
-        }
-        Ok(())
+        self.change(|votes| votes.prepared = Some(prepared))
     }
 
     /// The node accepts all ballots with a counter below this one as aborted.
@@ -133,11 +110,7 @@ impl<'a> Draft<'a> {
         ensures ok { OnOk result (self.new ≡ after (λ w. record w { aborted = aborted }) self.old) }
         ensures err { OnErr result (self.new ≡ self.old) }
     {
-        copy_once(&mut self.own, self.lent)?;
-        if let Some(own) = &mut self.own {
-            own.aborted = aborted;
-        }
-        Ok(())
+        self.change(|votes| votes.aborted = aborted)
     }
 
     /// This is the highest ballot that the node confirms as prepared.
@@ -145,11 +118,7 @@ impl<'a> Draft<'a> {
         ensures ok { OnOk result (self.new ≡ after (λ w. record w { confirmed_prepared = Some confirmed_prepared }) self.old) }
         ensures err { OnErr result (self.new ≡ self.old) }
     {
-        copy_once(&mut self.own, self.lent)?;
-        if let Some(own) = &mut self.own {
-            own.confirmed_prepared = Some(confirmed_prepared);
-        }
-        Ok(())
+        self.change(|votes| votes.confirmed_prepared = Some(confirmed_prepared))
     }
 
     /// The node votes to commit from the counter of this ballot on, or does not where there is none.
@@ -157,11 +126,7 @@ impl<'a> Draft<'a> {
         ensures ok { OnOk result (self.new ≡ after (λ w. record w { commit = commit }) self.old) }
         ensures err { OnErr result (self.new ≡ self.old) }
     {
-        copy_once(&mut self.own, self.lent)?;
-        if let Some(own) = &mut self.own {
-            own.commit = commit;
-        }
-        Ok(())
+        self.change(|votes| votes.commit = commit)
     }
 
     /// This is the interval of counters that is accepted, or confirmed, as committed: its least and its
@@ -170,12 +135,10 @@ impl<'a> Draft<'a> {
         ensures ok { OnOk result (self.new ≡ after (λ w. record w { low = low; high = high }) self.old) }
         ensures err { OnErr result (self.new ≡ self.old) }
     {
-        copy_once(&mut self.own, self.lent)?;
-        if let Some(own) = &mut self.own {
-            own.low = low;
-            own.high = high;
-        }
-        Ok(())
+        self.change(|votes| {
+            votes.low = low;
+            votes.high = high;
+        })
     }
 
     /// The ballot timer was last armed for this counter.
@@ -183,9 +146,19 @@ impl<'a> Draft<'a> {
         ensures ok { OnOk result (self.new ≡ after (λ w. record w { armed = armed }) self.old) }
         ensures err { OnErr result (self.new ≡ self.old) }
     {
+        self.change(|votes| votes.armed = armed)
+    }
+
+    /// Makes one change in the copy, which is made before the first one.
+    fn change<F: FnOnce(&mut Votes)>(&mut self, change: F) -> Result<(), AllocError>
+        requires { F.IsAlwaysCallable change }
+        ensures before { self.new.before ≡ self.old.before }
+        ensures ok { OnOk result (FnOnceReturnsAtMut F.FnOnce change self.old.now tt self.new.now) }
+        ensures err { OnErr result (self.new ≡ self.old) }
+    {
         copy_once(&mut self.own, self.lent)?;
         if let Some(own) = &mut self.own {
-            own.armed = armed;
+            change(own);
         }
         Ok(())
     }
