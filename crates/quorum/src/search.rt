@@ -63,17 +63,22 @@ fn satisfied_among<S: SlicesOf>(
     requires { IsAscending nodes.now }
     ensures { IfOk result (λ v. v.items ≡ filter (λ u. is_satisfied S.Family.sat (S.slices_at slices_of.now u) (among nodes.now)) nodes.now) }
 {
-    let mut satisfied = Vec::new(alloc);
-    for node in nodes {
-        let stays = match slices_of.slices(node) {
-            None => false,
-            Some(slices) => slices.satisfied_by(nodes),
-        };
-        if stays {
-            satisfied.push(*node)?;
-        }
+    nodes
+        .iter()
+        .copied()
+        .filter(|node| stays_among(node, nodes, slices_of))
+        .collect(alloc)
+}
+
+/// Whether the nodes satisfy the slices of this one.
+fn stays_among<S: SlicesOf>(node: &NodeId, nodes: &[NodeId], slices_of: &S) -> bool
+    requires { IsAscending nodes.now }
+    ensures { result ≡ is_satisfied S.Family.sat (S.slices_at slices_of.now node.now) (among nodes.now) }
+{
+    match slices_of.slices(node) {
+        None => false,
+        Some(slices) => slices.satisfied_by(nodes),
     }
-    Ok(satisfied)
 }
 
 /// Those of the nodes that are in the region.
@@ -85,11 +90,9 @@ fn kept_within(
     requires { IsAscending region.now }
     ensures { IfOk result (λ v. v.items ≡ filter (among region.now) nodes.now) }
 {
-    let mut inside = Vec::new(alloc);
-    for node in nodes {
-        if is_among(region, node) {
-            inside.push(*node)?;
-        }
-    }
-    Ok(inside)
+    nodes
+        .iter()
+        .copied()
+        .filter(|node| is_among(region, node))
+        .collect(alloc)
 }
