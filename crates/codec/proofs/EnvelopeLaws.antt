@@ -15,7 +15,7 @@ use Rattle.codec.specs.Formats.{ValidThen, ValidJudged}
 use Rattle.codec.specs.Faults.{version_fault, kind_fault, statement_fault, HasOtherVersion, HasOtherKind}
 use Rattle.codec.specs.Steps.{◌>>=◌}
 use Rattle.codec.specs.Spelling.{byte, name, slices, body, kind, first_levels, version_of, spelling, Spells, HasOneSpelling}
-use Rattle.codec.specs.Reading.{Fields, sent_of, version_at, kind_at, envelope_at, decoded}
+use Rattle.codec.specs.Reading.{Fields, sent_of, version_at, kind_at, parts_at, envelope_at, decoded}
 use Rattle.codec.specs.Grammar.{HasFields, HasKind, IsLong, IsInVersion, levels_in, IsVersion, ShowsVersion, IsKind, ShowsKind, ShowsFault, BreaksOff, IsFault, HasOneAnswer}
 use Rattle.codec.proofs.FieldLaws.{IsBytes, ok_is, bind_ok, done, passed, passed_true, chosen}
 use Rattle.codec.proofs.FormatLaws.{ValidAs, bind_err, err_is, Laws, Laws-then, Laws-judged, Laws-as, Laws-when, Laws-byte}
@@ -71,7 +71,7 @@ spelled x v =
     three a b c d = simp append_assoc
 
 pub Laws-fields : Laws envelope_at spelling (ValidAs IsFields sent_of) ShowsFault
-unfolding envelope_at
+unfolding envelope_at parts_at
 Laws-fields =
     Laws-as (Laws-then Laws-version (λ v h. Laws-then Laws-kind (λ k g. Laws-then Laws-name (λ u p. Laws-then Laws-long (λ n q. Laws-then (Laws-slices v) (λ s r. Laws-statement k g)))))) sent_of spelling spelled
 

@@ -132,9 +132,13 @@ Fields = ℕ × (ℕ × (ℕ × (ℕ × (Slices × Statement))))
 abbrev pub sent_of : Fields → Sent
 sent_of x = record { sender = x.1.1.0; slot = x.1.1.1.0; slices = x.1.1.1.1.0; body = x.1.1.1.1.1 }
 
+-- what stands behind the version and the kind: sender, slot, slices and statement
+unfoldable pub parts_at : ℕ → ℕ → Reads (ℕ × (ℕ × (Slices × Statement)))
+parts_at v k = read_then name_at (λ sender. read_then (number_at w64) (λ slot. read_then (slices_at v) (λ q. statement_at k)))
+
 -- an envelope
 unfoldable pub envelope_at : Reads Sent
-envelope_at = read_as (read_then version_at (λ v. read_then kind_at (λ k. read_then name_at (λ sender. read_then (number_at w64) (λ slot. read_then (slices_at v) (λ q. statement_at k)))))) sent_of
+envelope_at = read_as (read_then version_at (λ v. read_then kind_at (λ k. parts_at v k))) sent_of
 
 -- all of the bytes
 unfoldable pub decoded : List ℕ → Result Sent Fault

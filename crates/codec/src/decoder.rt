@@ -1,9 +1,10 @@
 //! Envelopes that are read from bytes.
 
 ghost use Rattle.std.specs.Prelude.{◌≡◌, ◌<◌, ◌≤◌, ℕ, List, length, IfOk, IfErr, Ok, Err, Some, None};
-ghost use Rattle.codec.specs.Reading.{Gives, Says, IsBytes, version_at, envelope_at, decoded};
+ghost use Rattle.codec.specs.Reading.{Gives, Says, IsBytes, version_at, parts_at, envelope_at, decoded};
 ghost use Rattle.codec.specs.Spelling.{most_bytes, Spells, HasOneSpelling};
 ghost use Rattle.codec.specs.Answers.{Refuses};
+ghost use Rattle.codec.specs.Kinds.{kind_number};
 ghost use Rattle.codec.specs.Grammar.{IsFault, HasOneAnswer};
 ghost use Rattle.codec.specs.declared.error.CodecError.TheVariants as errors;
 ghost use Rattle.codec.specs.declared.error.Fault.{Fault};
@@ -14,7 +15,7 @@ ghost use Rattle.types.specs.Statements.{Sent, IsEnvelope};
 use crate::encoder::encode;
 use crate::error::{CodecError, Fault};
 use crate::reader::Reader;
-use crate::statements::{read_kind, read_statement};
+use crate::statements::{StatementKind, read_kind, read_statement};
 use crate::trees::read_slices;
 use crate::versions::{FIRST_VERSION, SECOND_VERSION};
 use std::alloc::Global;
@@ -99,7 +100,7 @@ fn read_text(alloc: Global, bytes: &[u8]) -> Result<Envelope, CodecError>
     Ok(envelope)
 }
 
-#[tactic(auto, unfolding(crate::specs::Reading::envelope_at, crate::specs::Reading::statement_at), using(crate::proofs::EnvelopeLaws::other_version, crate::proofs::EnvelopeLaws::other_kind, crate::proofs::EnvelopeLaws::no_version_fault))]
+#[tactic(auto, unfolding(crate::specs::Reading::envelope_at), using(crate::proofs::EnvelopeLaws::other_version, crate::proofs::EnvelopeLaws::other_kind, crate::proofs::EnvelopeLaws::no_version_fault))]
 fn read_envelope(alloc: Global, reader: &mut Reader) -> Result<Envelope, CodecError>
     ensures read { Gives (λ x. (x, reader.new)) result (envelope_at reader.old) }
     ensures version { HasOtherVersion reader.old → result ≡ Err (errors.Fault Version) }
@@ -107,6 +108,19 @@ fn read_envelope(alloc: Global, reader: &mut Reader) -> Result<Envelope, CodecEr
 {
     let version = read_version(reader)?;
     let kind = read_kind(reader)?;
+    read_parts(alloc, reader, version, kind)
+}
+
+/// The envelope whose version and kind have been read.
+#[tactic(auto, unfolding(crate::specs::Reading::parts_at, crate::specs::Reading::statement_at))]
+fn read_parts(
+    alloc: Global,
+    reader: &mut Reader,
+    version: u8,
+    kind: StatementKind,
+) -> Result<Envelope, CodecError>
+    ensures { Gives (λ e. ((e.sender, (e.slot, (e.slices, e.body))), reader.new)) result (parts_at version (kind_number kind) reader.old) }
+{
     let sender = reader.name()?;
     let slot = reader.u64()?;
     let slices = read_slices(alloc, reader, version)?;
