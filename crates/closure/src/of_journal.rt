@@ -7,7 +7,6 @@ ghost use Rattle.closure.specs.Announcing.{IsClosureList};
 use crate::announcing::Announcements;
 use crate::closure_list::ClosureList;
 use crate::deliveries::Deliveries;
-use crate::ready::Ready;
 use crate::turns::Turns;
 use std::alloc::{AllocError, Global};
 use types::NodeId;
@@ -39,14 +38,7 @@ pub fn closure<J: Announcements>(
         slot,
         deliveries: &deliveries,
     };
-    let mut members = ClosureList::of(alloc, node)?;
-    let mut ready = Ready::new(alloc);
-    let mut known = 0;
-    while known < members.len() {
-        known = members.len();
-        turns.sweep(alloc, &mut members, &mut ready)?;
-    }
-    Ok(members)
+    turns.closure_of(alloc, node)
 }
 
 /// The names of a journal's hosted nodes ascend: whoever looks a node up has seen all its slices.

@@ -1,9 +1,9 @@
 //! The turns of members: what each of them names joins the closure.
 
-ghost use Rattle.std.specs.Prelude.{◌≡◌, ◌++◌, ◌≤◌, ℕ, Some, length, slice_get, IfOk, OnOk, option_map};
+ghost use Rattle.std.specs.Prelude.{◌≡◌, ◌++◌, ◌≤◌, ℕ, Some, length, slice_get, IfOk, OnOk, map, option_map};
 ghost use Rattle.protocol.specs.Networks.{slices_of};
-ghost use Rattle.protocol.specs.Sets.{among};
-ghost use Rattle.closure.specs.Announcing.{IsChained, announced_at, names_of};
+ghost use Rattle.protocol.specs.Sets.{among, IsAscending};
+ghost use Rattle.closure.specs.Announcing.{IsChained, IsClosureList, announced_at, names_of};
 ghost use Rattle.closure.specs.Turns.{AreIndexed, AreMore, AreSettled, AreWoken, IsFor, IsGiven, IsGrown, IsJoined, IsReady, IsSettled, added_names, all_added, known_names, turned};
 
 use crate::announcing::Announcements;
@@ -29,8 +29,24 @@ struct Turn {
 }
 
 impl<'a, J: Announcements> Turns<'a, J> {
+    /// The closure of a node: sweeps through the members, of whom it is the first, until one adds none.
+    pub fn closure_of(&self, alloc: Global, node: &NodeId) -> Result<ClosureList, AllocError>
+        requires index { AreIndexed self.now.slot (J.entries self.now.journal.now) (length (J.entries self.now.journal.now)) self.now.deliveries.now }
+        requires hosts { IsAscending (map (λ h. h.name) (J.hosts self.now.journal.now)) }
+        ensures { IfOk result (λ c. IsClosureList (J.hosts self.now.journal.now) self.now.slot node.now (J.entries self.now.journal.now) c) }
+    {
+        let mut members = ClosureList::of(alloc, node)?;
+        let mut ready = Ready::new(alloc);
+        let mut known = 0;
+        while known < members.len() {
+            known = members.len();
+            self.sweep(alloc, &mut members, &mut ready)?;
+        }
+        Ok(members)
+    }
+
     /// Goes through the members by place, those that it adds included: each has its turn.
-    pub fn sweep(
+    fn sweep(
         &self,
         alloc: Global,
         members: &mut ClosureList,

@@ -1,0 +1,14 @@
+use Rattle.std.proofs.Common.{suc, ◌-◌, length}
+use Rattle.closure.specs.Announcing.{names_of}
+use Rattle.closure.specs.Turns.{IsReady}
+use Rattle.closure.proofs.ClosureSteps.{all_given}
+use Rattle.closure.proofs.Growing.{IsSwept}
+use Rattle.closure.proofs.turns.Turns.closure_of.Given as goal
+
+abbrev pub invariant-loop-known : goal.invariant-loop-known
+invariant-loop-known g l =
+    IsSwept (g.J.Announcements.hosts l.self.journal.now) l.self.slot l.node (g.J.Announcements.entries l.self.journal.now) l.members l.known
+    × IsReady (g.J.Announcements.hosts l.self.journal.now) l.self.slot (g.J.Announcements.entries l.self.journal.now) (names_of l.members) l.ready
+
+abbrev pub decreases-loop-known : goal.decreases-loop-known
+decreases-loop-known g l = suc (length (all_given (g.J.Announcements.hosts l.self.journal.now) l.self.slot (g.J.Announcements.entries l.self.journal.now))) - l.known
