@@ -339,9 +339,5 @@ fn copy_of_rows<S: envstore::Places>(
     requires { AreFiled archive.now rows.now }
     ensures { IfOk result (λ v. v.items ≡ rows.now) }
 {
-    let mut copies = Vec::new(alloc);
-    for row in rows {
-        copies.push(archive.copy_of(row))?;
-    }
-    Ok(copies)
+    rows.iter().map(|row| archive.copy_of(row)).collect(alloc)
 }
