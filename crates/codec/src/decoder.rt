@@ -95,6 +95,7 @@ fn read_text(alloc: Global, bytes: &[u8]) -> Result<Envelope, CodecError>
     let mut reader = Reader::new(bytes);
     let envelope = read_envelope(alloc, &mut reader)?;
     if !reader.is_empty() {
+        drop(envelope);
         return Err(CodecError::Fault(Fault::TrailingBytes));
     }
     Ok(envelope)

@@ -90,15 +90,14 @@ impl<S: Shelf> Archive<S> {
         ensures is { IfOk result (λ f. sent_of f ≡ envelope) }
         ensures err { OnErr result (self.new ≡ self.old) }
     {
-        self.places.reserve(1)?;
+        if self.places.reserve(1).is_err() {
+            drop(envelope);
+            return Err(AllocError);
+        }
         let put = Snapshot::of(&envelope);
         let number = self.places.len();
-        match self.shelf.put(envelope) {
-            Ok(place) => {
-                self.places.push_reserved(place);
-                Ok(Filed { number, put })
-            }
-            Err(_) => Err(AllocError),
-        }
+        let place = self.shelf.put(envelope).map_err(|_| AllocError)?;
+        self.places.push_reserved(place);
+        Ok(Filed { number, put })
     }
 }
