@@ -82,28 +82,10 @@ impl<'a, S: Places> View<'a, S> {
         requires { IsKnown own.name.now own.slices.now table.now known.now }
         ensures { IfOk result (λ v. ⟦<View<'a, S> as Sight>⟧.seen v ≡ seen own.entry.name.now own.entry.slices.now leaders.now table.now) }
     {
-        table.are_single();
         let region = &known.region;
-        let nodes = &region.nodes;
-        let ballots = ReachedRows::gather(alloc, nodes, &region.ballot_rows, table, Kind::Ballot)?;
-        let nominations = ReachedRows::in_place(
-            alloc,
-            nodes,
-            &region.nomination_rows,
-            table,
-            Kind::Nomination,
-        );
-        Ok(View {
-            own: own.name,
-            slices: own.slices,
-            leaders,
-            table,
-            region,
-            ballots,
-            nominations,
-            listed: &known.ballots,
-            values: &known.values,
-        })
+        let places = &region.ballot_rows;
+        let ballots = ReachedRows::gather(alloc, &region.nodes, places, table, Kind::Ballot)?;
+        Ok(View::by_ballot_rows(alloc, own, leaders, table, known, ballots))
     }
 
     /// The same, where the rules of balloting are hardly asked: ballot rows are read where they stand. It takes no memory.
@@ -117,13 +99,30 @@ impl<'a, S: Places> View<'a, S> {
         requires { IsKnown own.name.now own.slices.now table.now known.now }
         ensures { ⟦<View<'a, S> as Sight>⟧.seen result ≡ seen own.entry.name.now own.entry.slices.now leaders.now table.now }
     {
+        let region = &known.region;
+        let places = &region.ballot_rows;
+        let ballots = ReachedRows::in_place(alloc, &region.nodes, places, table, Kind::Ballot);
+        View::by_ballot_rows(alloc, own, leaders, table, known, ballots)
+    }
+
+    /// The same by the ballot rows of the reached nodes, which are at hand.
+    fn by_ballot_rows(
+        alloc: Global,
+        own: Own<'a>,
+        leaders: &'a Leaders,
+        table: &'a Rows<'a, S>,
+        known: &'a KnownReach,
+        ballots: ReachedRows<'a, S>,
+    ) -> View<'a, S>
+        requires known { IsKnown own.name.now own.slices.now table.now known.now }
+        requires ballots { ballots ≡ record { nodes = known.now.region.nodes.items; table = table.now; kind = Kind.Ballot } }
+        ensures { ⟦<View<'a, S> as Sight>⟧.seen result ≡ seen own.entry.name.now own.entry.slices.now leaders.now table.now }
+    {
         table.are_single();
         let region = &known.region;
-        let nodes = &region.nodes;
-        let ballots = ReachedRows::in_place(alloc, nodes, &region.ballot_rows, table, Kind::Ballot);
         let nominations = ReachedRows::in_place(
             alloc,
-            nodes,
+            &region.nodes,
             &region.nomination_rows,
             table,
             Kind::Nomination,
