@@ -11,7 +11,7 @@ use Rattle.protocol.specs.Quorums.{is_satisfied}
 use Rattle.compiled.specs.Places.{Numbered}
 use Rattle.compiled.specs.Met.{IsCompiled, picked}
 use Rattle.compiled.specs.Searching.{AreAgreed, AreCompiled, met_at}
-use Rattle.view.specs.Forms.{AreBelow, ArePart, Fits, IsFormer, IsFound, IsFoundWithin, IsTwin, MayJoin}
+use Rattle.view.specs.Forms.{AreAllForms, AreBelow, ArePart, Fits, IsFormer, IsFound, IsFoundWithin, IsTwin, MayJoin}
 
 same_form : (f g : Numbered) → Some f ≡ Some g → f ≡ g
 same_form f g h = ap (λ (o : Option Numbered). unwrap_or o f) h
@@ -94,8 +94,11 @@ module _ (us : List ℕ) (slices_at : ℕ → Option Slices) (fs : List (Option 
       subst_joins g is joins = subst (λ (x : Numbered). Fits x fs × (x.number ≤ length fs)) is joins
 
   -- and where all nodes have their forms, they are compiled
-  pub part_whole : length fs ≡ length us → AreCompiled us slices_at fs
-  part_whole many = record { as_many = many; each = λ i h. part.each i (omega (arith, h, many)); agreed = part.agreed }
+  pub part_whole : length fs ≡ length us → AreAllForms us slices_at fs
+  part_whole many = record {
+    compiled = record { as_many = many; each = λ i h. part.each i (omega (arith, h, many)); agreed = part.agreed };
+    below = subst (λ n. AreBelow n fs) many part.below;
+  }
 
 pub part_empty : (us : List ℕ) (slices_at : ℕ → Option Slices) → ArePart us slices_at []
 part_empty us slices_at = record {

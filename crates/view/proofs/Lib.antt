@@ -15,3 +15,5 @@ pub mod Following
 pub mod Knowing
 pub mod QuorumLaws
 pub mod KeptLaws
+pub mod MovedPlaces
+pub mod AddedPlaces

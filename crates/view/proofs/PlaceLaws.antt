@@ -1,7 +1,7 @@
 -- Where the rows of the nodes stand in a table: what is read there, and what an envelope that the table takes leaves of it.
-use Rattle.std.proofs.Common.{◌≡◌, ◌≢◌, ◌⊎◌, ℕ, suc, ◌<◌, ◌==◌, Bool, true, false, cond, List, [], ◌∷◌, get_or, set, length, length-set, map, Option, Some, None, option_map, unwrap_or, if◌then◌else◌, refl, sym, ◌∙◌, ap, ap₂, arith, inl, inr}
+use Rattle.std.proofs.Common.{◌≡◌, ◌≢◌, ◌⊎◌, ℕ, suc, ◌<◌, ◌≤◌, ◌==◌, ◌+◌, ◌++◌, drop, append_assoc, Bool, true, false, cond, List, [], ◌∷◌, get_or, set, length, length-set, map, Option, Some, None, option_map, unwrap_or, if◌then◌else◌, refl, sym, ◌∙◌, ap, ap₂, arith, inl, inr}
 use Rattle.std.proofs.lemmas.Bool.{cases_Bool, eqb-true, eq-eqb, true≢false}
-use Rattle.std.proofs.lemmas.List.{get_or-map, get_or-set_same, get_or-set_other, length-map}
+use Rattle.std.proofs.lemmas.List.{append-nil, drop_all, drop_more, get_or-map, get_or-set_same, get_or-set_other, length-map}
 use Rattle.types.specs.declared.kind.Kind.{Kind}
 use Rattle.types.specs.Statements.{Sent, kind_of}
 use Rattle.protocol.specs.Rows.{is_row_of, row, with_row}
@@ -21,6 +21,21 @@ one_where table u k (Some i) is = row-at_place table u k i is
 pub rows_where_placed : (table : List Sent) (k : Kind) (us : List ℕ) → map (row_where table) (row_places table k us) ≡ rows_at k table us
 rows_where_placed table k [] = refl
 rows_where_placed table k (u ∷ us) = ap₂ (λ x xs. x ∷ xs) (one_where table u k (place_of table u k) refl) (rows_where_placed table k us)
+
+-- the place of one node more
+pub place_more : (f : ℕ → Option ℕ) (us : List ℕ) (i u : ℕ) (o : Option ℕ) (xs ys : List (Option ℕ)) → i < length us → u ≡ get_or us i u → o ≡ f u → ys ≡ xs ++ o ∷ []
+    → xs ++ map f (drop i us) ≡ map f us → ys ++ map f (drop (i + 1) us) ≡ map f us
+place_more f us i u o xs ys within at is pushed so_far =
+    ap (λ ps. ps ++ map f (drop (i + 1) us)) pushed
+    ∙ append_assoc xs (o ∷ []) (map f (drop (i + 1) us))
+    ∙ ap (λ p. xs ++ p ∷ map f (drop (i + 1) us)) (is ∙ ap f at)
+    ∙ ap (λ ws. xs ++ map f ws) (sym (drop_more us i u within))
+    ∙ so_far
+
+-- the places of all, where none is left
+pub places_all : (f : ℕ → Option ℕ) (us : List ℕ) (i : ℕ) (xs : List (Option ℕ)) → length us ≤ i → xs ++ map f (drop i us) ≡ map f us → xs ≡ map f us
+places_all f us i xs done so_far =
+    sym (append-nil xs) ∙ ap (λ ws. xs ++ map f ws) (sym (drop_all i us done)) ∙ so_far
 
 -- lists that are the same place by place
 same_lists : {X : Type 0} (d : X) (xs ys : List X) → length xs ≡ length ys → ((i : ℕ) → i < length xs → get_or xs i d ≡ get_or ys i d) → xs ≡ ys

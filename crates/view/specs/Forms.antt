@@ -7,12 +7,17 @@ use Rattle.protocol.specs.Quorums.{NamesWithin, is_satisfied}
 use Rattle.compiled.specs.Places.{Numbered}
 use Rattle.compiled.specs.Met.{IsCompiled, picked}
 use Rattle.compiled.specs.Moving.{AreMoved}
-use Rattle.compiled.specs.Searching.{AreAgreed, met_at}
+use Rattle.compiled.specs.Searching.{AreAgreed, AreCompiled, met_at}
 use Rattle.view.specs.declared.forms.Former.{Former}
 
 -- the numbers of all forms are below this one
 abbrev pub AreBelow : ℕ → List (Option Numbered) → Type 0
 AreBelow n fs = (i : ℕ) (f : Numbered) → get_or fs i None ≡ Some f → f.number < n
+
+-- all of these nodes have these forms, of their slices, and each number is below how many nodes there are
+pub record AreAllForms (us : List ℕ) (slices_at : ℕ → Option Slices) (fs : List (Option Numbered)) : Type 0 where
+  pub compiled : AreCompiled us slices_at fs
+  pub below : AreBelow (length us) fs
 
 -- forms of its number in the list are of its set
 abbrev pub Fits : Numbered → List (Option Numbered) → Type 0

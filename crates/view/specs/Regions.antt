@@ -21,11 +21,33 @@ use Rattle.view.specs.declared.region.Change.{Change}
 use Rattle.view.specs.declared.region.Change.TheVariants.{Sets, Reach}
 use Rattle.view.specs.declared.region.Entry.{Entry}
 use Rattle.view.specs.declared.region.FormerRegion.{FormerRegion}
+use Rattle.view.specs.declared.region.KindPlaces.{KindPlaces}
+use Rattle.view.specs.declared.region.Placed.{Placed}
 use Rattle.view.specs.declared.region.Region.{Region}
 
 -- where the rows of a kind that these nodes have stand in a table, in the order of the nodes
 abbrev pub row_places : List Sent → Kind → List ℕ → List (Option ℕ)
 row_places table kind nodes = map (λ u. place_of table u kind) nodes
+
+-- the places of a kind
+abbrev pub places_of_kind : Kind → KindPlaces → List (Option ℕ)
+places_of_kind Nomination p = p.nominations.items
+places_of_kind Kind.Ballot p = p.ballots.items
+
+-- the places of both kinds are those of the rows that these nodes have in a table
+pub record AreRowPlaces (table : List Sent) (nodes : List ℕ) (p : KindPlaces) : Type 0 where
+  pub ballots : p.ballots.items ≡ row_places table Kind.Ballot nodes
+  pub nominations : p.nominations.items ≡ row_places table Nomination nodes
+
+-- these are the nodes that the node reaches, and the places of their rows
+pub record IsPlaced (own : ℕ) (configured : Slices) (table : List Sent) (p : Placed) : Type 0 where
+  pub reach : IsReach own configured table p.nodes.items
+  pub rows : AreRowPlaces table p.nodes.items p.rows
+
+-- the places of a kind that a region keeps
+abbrev pub rows_of : Kind → Region → List (Option ℕ)
+rows_of Nomination r = r.nomination_rows.items
+rows_of Kind.Ballot r = r.ballot_rows.items
 
 -- the forms of a kind
 abbrev pub forms_of : Kind → Region → List (Option Numbered)

@@ -8,7 +8,7 @@ ghost use Rattle.protocol.specs.Sets.{IsAscending, among};
 ghost use Rattle.compiled.specs.Moving.{AreMoved};
 ghost use Rattle.closure.specs.Searching.{ArePlacesBut};
 ghost use Rattle.latest.specs.Places.{place_of};
-ghost use Rattle.view.specs.Regions.{IsKeptRegion, IsOfExtent, IsRegion, row_places};
+ghost use Rattle.view.specs.Regions.{AreRowPlaces, IsKeptRegion, IsOfExtent, IsPlaced, IsRegion};
 
 use crate::own::Own;
 use crate::region::{FormerRegion, KindPlaces, Placed, Region};
@@ -53,23 +53,31 @@ impl Region {
         requires extent { IsOfExtent own.name.now own.slices.now table.now by.sender.now self.now.nodes.items by.extent }
         ensures { IfOk result (λ r. IsRegion own.entry.name.now own.entry.slices.now table.now r) }
     {
-        let nodes = self.new_reach(alloc, own, &*table, by)?;
-        let places = moved_places(alloc, &self.nodes, &nodes)?;
-        let KindPlaces {
-            ballots,
-            nominations,
-        } = kept_row_places(alloc, &*table, &nodes, self, by.sender)?;
-        let placed = Placed {
-            nodes,
-            ballots,
-            nominations,
-        };
+        let placed = self.new_placed(alloc, own, &*table, by)?;
+        let places = moved_places(alloc, &self.nodes, &placed.nodes)?;
         let former = FormerRegion {
             region: self,
             places: &places,
             sender: by.sender,
         };
         Region::over(alloc, own, table, placed, Some(former))
+    }
+
+    /// Whom the node reaches, and where their rows stand. An error says that memory is short.
+    fn new_placed<S: Places>(
+        &self,
+        alloc: Global,
+        own: Own<'_>,
+        table: &Rows<'_, S>,
+        by: NewReach<'_>,
+    ) -> Result<Placed, AllocError>
+        requires kept { IsKeptRegion own.name.now own.slices.now table.now by.sender.now self.now }
+        requires extent { IsOfExtent own.name.now own.slices.now table.now by.sender.now self.now.nodes.items by.extent }
+        ensures { IfOk result (IsPlaced own.entry.name.now own.entry.slices.now table.now) }
+    {
+        let nodes = self.new_reach(alloc, own, table, by)?;
+        let rows = kept_row_places(alloc, table, &nodes, self, by.sender)?;
+        Ok(Placed { nodes, rows })
     }
 
     /// Whom the node reaches. An error says that memory is short.
@@ -111,12 +119,10 @@ fn moved_places(alloc: Global, nodes: &[NodeId], all: &[NodeId]) -> Result<Vec<u
     let mut places = Vec::with_capacity(alloc, nodes.len())?;
     let mut next = 0;
     for node in nodes {
-        match place_near(all, next, node) {
-            None => places.push(next)?,
-            Some(place) => {
-                places.push(place)?;
-                next = place + 1;
-            }
+        let place = place_near(all, next, node);
+        places.push(place.unwrap_or(next))?;
+        if let Some(place) = place {
+            next = place + 1;
         }
     }
     Ok(places)
@@ -134,25 +140,18 @@ fn kept_row_places<S: Places>(
     requires ascending { IsAscending region.now.nodes.items }
     requires known_ballots { ArePlacesBut sender.now table.now Kind.Ballot region.now.nodes.items region.now.ballot_rows.items }
     requires known_nominations { ArePlacesBut sender.now table.now Nomination region.now.nodes.items region.now.nomination_rows.items }
-    ensures ballots { IfOk result (λ p. p.ballots.items ≡ row_places table.now Kind.Ballot nodes.now) }
-    ensures nominations { IfOk result (λ p. p.nominations.items ≡ row_places table.now Nomination nodes.now) }
+    ensures { IfOk result (AreRowPlaces table.now nodes.now) }
 {
-    let mut ballots = Vec::with_capacity(alloc, nodes.len())?;
-    let mut nominations = Vec::with_capacity(alloc, nodes.len())?;
+    let mut found = KindPlaces::with_capacity(alloc, nodes.len())?;
     let mut next = 0;
     for node in nodes {
         let place = place_near(&region.nodes, next, node);
         if let Some(place) = place {
             next = place + 1;
         }
-        let places = places_of(table, node, region, place, sender);
-        ballots.push(places.ballot)?;
-        nominations.push(places.nomination)?;
+        found.push(places_of(table, node, region, place, sender))?;
     }
-    Ok(KindPlaces {
-        ballots,
-        nominations,
-    })
+    Ok(found)
 }
 
 /// Where the rows of a node stand in the table: as the region has it of the node at its place, if it has one and is not

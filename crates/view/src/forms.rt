@@ -5,8 +5,7 @@ ghost use Rattle.protocol.specs.Backing.{slices_by};
 ghost use Rattle.protocol.specs.Satisfaction.{names};
 ghost use Rattle.protocol.specs.Sets.{IsAscending, among, within};
 ghost use Rattle.compiled.specs.Met.{IsCompiled};
-ghost use Rattle.compiled.specs.Searching.{AreCompiled};
-ghost use Rattle.view.specs.Forms.{ArePart, AreBelow, IsFormOf, IsFormerOf, IsFound, IsFoundWithin, IsTwin};
+ghost use Rattle.view.specs.Forms.{AreAllForms, ArePart, IsFormOf, IsFormerOf, IsFound, IsFoundWithin, IsTwin};
 
 use crate::own::Own;
 use crate::reached::ReachedRows;
@@ -80,8 +79,7 @@ impl<'a, S: Places> SlicesInReach<'a, S> {
     pub(crate) fn forms(&self, alloc: Global) -> Result<Vec<Option<Form>>, AllocError>
         requires ascending { IsAscending self.now.rows.nodes }
         requires former { IfSome self.now.former (IsFormerOf self.now.rows.nodes (slices_by self.now.own.now self.now.slices.now self.now.rows.table self.now.rows.kind)) }
-        ensures compiled { IfOk result (λ v. AreCompiled self.now.rows.nodes (slices_by self.now.own.now self.now.slices.now self.now.rows.table self.now.rows.kind) v.items) }
-        ensures below { IfOk result (λ v. AreBelow (length self.now.rows.nodes) v.items) }
+        ensures { IfOk result (λ v. AreAllForms self.now.rows.nodes (slices_by self.now.own.now self.now.slices.now self.now.rows.table self.now.rows.kind) v.items) }
     {
         let mut forms = Vec::with_capacity(alloc, self.rows.nodes().len())?;
         let mut latest = 0;

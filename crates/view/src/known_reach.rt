@@ -12,7 +12,6 @@ ghost use Rattle.view.specs.Regions.{IsKeptRegion, IsOfExtent, IsRegion};
 
 use crate::changing::NewReach;
 use crate::own::Own;
-use crate::reached::ReachedRows;
 use crate::reached_ballots::ReachedBallots;
 use crate::region::Region;
 use crate::rows::{insert_values, values_of_others};
@@ -182,8 +181,7 @@ impl KnownReach {
         let Some(mut ballots) = self.ballots.take() else {
             return;
         };
-        let places = &self.region.ballot_rows;
-        let rows = ReachedRows::in_place(alloc, &self.region.nodes, places, table, Kind::Ballot);
+        let rows = self.region.rows(alloc, table, Kind::Ballot);
         let before = body_of(taken.before);
         let replaced = ballots.replace(own.name, &rows, taken.row.body(), before);
         if let Ok(()) = replaced {
@@ -216,8 +214,7 @@ fn ballots_within<S: Places>(
     requires { IsRegion own.name.now own.slices.now table.now region.now }
     ensures { IfOk result (λ b. AreBallotsOf own.entry.name.now table.now region.now.nodes.items b) }
 {
-    let places = &region.ballot_rows;
-    let rows = ReachedRows::in_place(alloc, &region.nodes, places, table, Kind::Ballot);
+    let rows = region.rows(alloc, table, Kind::Ballot);
     ReachedBallots::of_rows(alloc, own.name, &rows)
 }
 
@@ -231,8 +228,7 @@ fn values_within<S: Places>(
     requires { IsRegion own.name.now own.slices.now table.now region.now }
     ensures { IfOk result (λ v. AreValuesOf own.entry.name.now table.now region.now.nodes.items v) }
 {
-    let places = &region.nomination_rows;
-    let rows = ReachedRows::in_place(alloc, &region.nodes, places, table, Kind::Nomination);
+    let rows = region.rows(alloc, table, Kind::Nomination);
     values_of_others(alloc, own.name, &rows)
 }
 

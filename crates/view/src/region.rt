@@ -1,18 +1,17 @@
 //! The nodes that a node reaches, and slices compiled against them.
 
-ghost use Rattle.std.specs.Prelude.{◌≡◌, ◌<◌, ◌≤◌, ℕ, List, IfOk, IfSome, IsTrue, Some, get_or, length, set};
+ghost use Rattle.std.specs.Prelude.{◌≡◌, ◌<◌, ◌≤◌, ◌++◌, ◌∷◌, [], ℕ, List, IfOk, IfSome, IsTrue, OnOk, Some, get_or, length, set};
 ghost use Rattle.types.specs.Statements.{Sent, kind_of};
 ghost use Rattle.types.specs.Trees.{Slices};
 ghost use Rattle.types.specs.declared.kind.Kind.{Kind};
 ghost use Rattle.types.specs.declared.kind.Kind.TheVariants.{Nomination};
 ghost use Rattle.protocol.specs.Backing.{slices_by};
-ghost use Rattle.protocol.specs.Reach.{IsReach};
 ghost use Rattle.protocol.specs.Rows.{with_row};
 ghost use Rattle.protocol.specs.Sets.{IsAscending, among};
 ghost use Rattle.compiled.specs.Searching.{AreCompiled};
 ghost use Rattle.latest.specs.Places.{place_of};
-ghost use Rattle.view.specs.Forms.{AreBelow, IsFormerOf, IsFoundWithin};
-ghost use Rattle.view.specs.Regions.{IsChange, IsCopy, IsEntry, IsFormerRegion, IsRegion, forms_of, row_places};
+ghost use Rattle.view.specs.Forms.{AreAllForms, IsFormerOf, IsFoundWithin};
+ghost use Rattle.view.specs.Regions.{AreRowPlaces, IsChange, IsCopy, IsEntry, IsFormerRegion, IsPlaced, IsRegion, forms_of, places_of_kind, row_places, rows_of};
 
 use crate::changing::Extent;
 use crate::forms::{Candidates, Former, SlicesInReach};
@@ -21,7 +20,7 @@ use crate::reached::ReachedRows;
 use closure::{drops_none, keeps_reach, reach};
 use compiled::{CompiledSet, Form, compile, place_of};
 use envstore::Places;
-use latest::{RowPlace, Rows};
+use latest::{RowPlace, RowPlaces, Rows};
 use std::alloc::{AllocError, Global};
 use types::{Envelope, Kind, Nested, NodeId};
 
@@ -76,15 +75,8 @@ impl Region {
         ensures { IfOk result (λ r. IsRegion own.now slices.now table.now r) }
     {
         let nodes = reach(alloc, &*table, own, slices)?;
-        let KindPlaces {
-            ballots,
-            nominations,
-        } = row_places(alloc, &*table, &nodes)?;
-        let placed = Placed {
-            nodes,
-            ballots,
-            nominations,
-        };
+        let rows = row_places(alloc, &*table, &nodes)?;
+        let placed = Placed { nodes, rows };
         let itself = Own { name: own, slices };
         Region::over(alloc, itself, table, placed, None)
     }
@@ -98,38 +90,23 @@ impl Region {
         placed: Placed,
         former: Option<FormerRegion<'a>>,
     ) -> Result<Region, AllocError>
-        requires reach { IsReach own.name.now own.slices.now table.now placed.nodes.items }
-        requires ballots { placed.ballots.items ≡ row_places table.now Kind.Ballot placed.nodes.items }
-        requires nominations { placed.nominations.items ≡ row_places table.now Nomination placed.nodes.items }
+        requires placed { IsPlaced own.name.now own.slices.now table.now placed }
         requires former { IfSome former (IsFormerRegion own.name.now own.slices.now table.now placed.nodes.items) }
         ensures { IfOk result (λ r. IsRegion own.entry.name.now own.entry.slices.now table.now r) }
     {
-        let Placed {
-            nodes,
-            ballots: ballot_rows,
-            nominations: nomination_rows,
-        } = placed;
-        let place = place_in(&nodes, own.name);
-        let blocking = compile(alloc, own.slices.set(), &nodes, true)?;
+        let place = place_in(&placed.nodes, own.name);
+        let blocking = compile(alloc, own.slices.set(), &placed.nodes, true)?;
+        let forms = kind_forms(alloc, own, &*table, &placed, former)?;
+        let Placed { nodes, rows } = placed;
         let numbers = nodes.len();
-        let rows = ReachedRows::in_place(alloc, &nodes, &ballot_rows, &*table, Kind::Ballot);
-        let ballots = forms_by(alloc, own, rows, forms_of(&former, Kind::Ballot))?;
-        let rows = ReachedRows::in_place(
-            alloc,
-            &nodes,
-            &nomination_rows,
-            &*table,
-            Kind::Nomination,
-        );
-        let nominations = forms_by(alloc, own, rows, forms_of(&former, Kind::Nomination))?;
         Ok(Region {
             nodes,
             place,
             blocking,
-            ballots,
-            nominations,
-            ballot_rows,
-            nomination_rows,
+            ballots: forms.ballots,
+            nominations: forms.nominations,
+            ballot_rows: rows.ballots,
+            nomination_rows: rows.nominations,
             numbers,
             latest: place,
         })
@@ -240,6 +217,23 @@ impl Region {
         }
     }
 
+    /// The rows of a kind that the nodes have in the table. None is gathered, and it takes no memory.
+    pub(crate) fn rows<'a, S: Places>(
+        &'a self,
+        alloc: Global,
+        table: &'a Rows<'a, S>,
+        kind: Kind,
+    ) -> ReachedRows<'a, S>
+        requires { rows_of kind self.now ≡ row_places table.now kind self.now.nodes.items }
+        ensures { result ≡ record { nodes = self.now.nodes.items; table = table.now; kind = kind } }
+    {
+        let places = match kind {
+            Kind::Nomination => &self.nomination_rows,
+            Kind::Ballot => &self.ballot_rows,
+        };
+        ReachedRows::in_place(alloc, &self.nodes, places, table, kind)
+    }
+
     /// Sets what [`Region::change_by`] found. The region is then that of the table with the row, of the same nodes. It
     /// takes no memory.
     pub fn set_entry(&mut self, entry: Entry)
@@ -326,20 +320,52 @@ fn place_in(nodes: &[NodeId], node: &NodeId) -> usize
     place
 }
 
+/// The slices that nodes have, compiled, in the order of the nodes, kind by kind.
+#[derive(Drop)]
+struct KindForms {
+    ballots: Vec<Option<Form>>,
+    nominations: Vec<Option<Form>>,
+}
+
+/// The slices that the nodes have by their rows, compiled, kind by kind. An error says that memory is short.
+fn kind_forms<'a, S: Places>(
+    alloc: Global,
+    own: Own<'a>,
+    table: &'a Rows<'a, S>,
+    placed: &'a Placed,
+    former: Option<FormerRegion<'a>>,
+) -> Result<KindForms, AllocError>
+    requires ascending { IsAscending placed.now.nodes.items }
+    requires rows { AreRowPlaces table.now placed.now.nodes.items placed.now.rows }
+    requires former { IfSome former (IsFormerRegion own.name.now own.slices.now table.now placed.now.nodes.items) }
+    ensures ballots { IfOk result (λ f. AreAllForms placed.now.nodes.items (slices_by own.entry.name.now own.entry.slices.now table.now Kind.Ballot) f.ballots.items) }
+    ensures nominations { IfOk result (λ f. AreAllForms placed.now.nodes.items (slices_by own.entry.name.now own.entry.slices.now table.now Nomination) f.nominations.items) }
+{
+    let ballots = forms_by(alloc, own, table, placed, former, Kind::Ballot)?;
+    let nominations = forms_by(alloc, own, table, placed, former, Kind::Nomination)?;
+    Ok(KindForms {
+        ballots,
+        nominations,
+    })
+}
+
 /// The slices that the nodes have by rows of one kind, compiled, in the order of the nodes; the node's own are
 /// configured. An error says that memory is short.
-fn forms_by<S: Places>(
+fn forms_by<'a, S: Places>(
     alloc: Global,
-    own: Own<'_>,
-    rows: ReachedRows<'_, S>,
-    former: Option<Former<'_>>,
+    own: Own<'a>,
+    table: &'a Rows<'a, S>,
+    placed: &'a Placed,
+    former: Option<FormerRegion<'a>>,
+    kind: Kind,
 ) -> Result<Vec<Option<Form>>, AllocError>
-    requires ascending { IsAscending rows.nodes }
-    requires former { IfSome former (IsFormerOf rows.nodes (slices_by own.name.now own.slices.now rows.table rows.kind)) }
-    ensures compiled { IfOk result (λ v. AreCompiled rows.entry.nodes (slices_by own.entry.name.now own.entry.slices.now rows.entry.table rows.entry.kind) v.items) }
-    ensures below { IfOk result (λ v. AreBelow (length rows.entry.nodes) v.items) }
+    requires ascending { IsAscending placed.now.nodes.items }
+    requires rows { places_of_kind kind placed.now.rows ≡ row_places table.now kind placed.now.nodes.items }
+    requires former { IfSome former (IsFormerRegion own.name.now own.slices.now table.now placed.now.nodes.items) }
+    ensures { IfOk result (λ v. AreAllForms placed.now.nodes.items (slices_by own.entry.name.now own.entry.slices.now table.now kind) v.items) }
 {
-    let reached = SlicesInReach::new(own, rows, former);
+    let rows = ReachedRows::in_place(alloc, &placed.nodes, placed.rows.of(kind), table, kind);
+    let reached = SlicesInReach::new(own, rows, forms_of(&former, kind));
     reached.forms(alloc)
 }
 
@@ -347,8 +373,7 @@ fn forms_by<S: Places>(
 #[derive(Drop)]
 pub(crate) struct Placed {
     pub nodes: Vec<NodeId>,
-    pub ballots: Vec<RowPlace>,
-    pub nominations: Vec<RowPlace>,
+    pub rows: KindPlaces,
 }
 
 /// A region of other nodes, where its nodes stand among all, and the one node whose rows may be others since.
@@ -381,24 +406,52 @@ pub(crate) struct KindPlaces {
     pub nominations: Vec<RowPlace>,
 }
 
+impl KindPlaces {
+    /// Those of no node yet, with room for so many nodes. An error says that memory is short.
+    pub(crate) fn with_capacity(alloc: Global, count: usize) -> Result<KindPlaces, AllocError>
+        ensures ballots { IfOk result (λ p. p.ballots.items ≡ []) }
+        ensures nominations { IfOk result (λ p. p.nominations.items ≡ []) }
+    {
+        let ballots = Vec::with_capacity(alloc, count)?;
+        let nominations = Vec::with_capacity(alloc, count)?;
+        Ok(KindPlaces {
+            ballots,
+            nominations,
+        })
+    }
+
+    /// Adds those of the next node. An error says that memory is short.
+    pub(crate) fn push(&mut self, places: RowPlaces) -> Result<(), AllocError>
+        ensures ballots { OnOk result (self.new.ballots.items ≡ self.old.ballots.items ++ places.ballot ∷ []) }
+        ensures nominations { OnOk result (self.new.nominations.items ≡ self.old.nominations.items ++ places.nomination ∷ []) }
+    {
+        self.ballots.push(places.ballot)?;
+        self.nominations.push(places.nomination)?;
+        Ok(())
+    }
+
+    /// Those of one kind.
+    fn of(&self, kind: Kind) -> &[RowPlace]
+        ensures { result.now ≡ places_of_kind kind self.now }
+    {
+        match kind {
+            Kind::Nomination => &self.nominations,
+            Kind::Ballot => &self.ballots,
+        }
+    }
+}
+
 /// Where the rows that the nodes have stand in the table: each node is looked up once. An error says that memory is short.
 fn row_places<S: Places>(
     alloc: Global,
     table: &Rows<'_, S>,
     nodes: &[NodeId],
 ) -> Result<KindPlaces, AllocError>
-    ensures ballots { IfOk result (λ p. p.ballots.items ≡ row_places table.now Kind.Ballot nodes.now) }
-    ensures nominations { IfOk result (λ p. p.nominations.items ≡ row_places table.now Nomination nodes.now) }
+    ensures { IfOk result (AreRowPlaces table.now nodes.now) }
 {
-    let mut ballots = Vec::with_capacity(alloc, nodes.len())?;
-    let mut nominations = Vec::with_capacity(alloc, nodes.len())?;
+    let mut found = KindPlaces::with_capacity(alloc, nodes.len())?;
     for node in nodes {
-        let places = table.places(node);
-        ballots.push(places.ballot)?;
-        nominations.push(places.nomination)?;
+        found.push(table.places(node))?;
     }
-    Ok(KindPlaces {
-        ballots,
-        nominations,
-    })
+    Ok(found)
 }

@@ -99,9 +99,7 @@ impl<'a, S: Places> View<'a, S> {
         requires { IsKnown own.name.now own.slices.now table.now known.now }
         ensures { ⟦<View<'a, S> as Sight>⟧.seen result ≡ seen own.entry.name.now own.entry.slices.now leaders.now table.now }
     {
-        let region = &known.region;
-        let places = &region.ballot_rows;
-        let ballots = ReachedRows::in_place(alloc, &region.nodes, places, table, Kind::Ballot);
+        let ballots = known.region.rows(alloc, table, Kind::Ballot);
         View::by_ballot_rows(alloc, own, leaders, table, known, ballots)
     }
 
@@ -120,13 +118,7 @@ impl<'a, S: Places> View<'a, S> {
     {
         table.are_single();
         let region = &known.region;
-        let nominations = ReachedRows::in_place(
-            alloc,
-            &region.nodes,
-            &region.nomination_rows,
-            table,
-            Kind::Nomination,
-        );
+        let nominations = region.rows(alloc, table, Kind::Nomination);
         View {
             own: own.name,
             slices: own.slices,

@@ -1,6 +1,5 @@
-use Rattle.std.proofs.Common.{◌∙◌, Bor, IfSome, List, Option, Some, option_map, ap, subst, sym, ℕ}
+use Rattle.std.proofs.Common.{◌∙◌, Bor, IfSome, Option, Some, option_map, subst, sym}
 use Rattle.types.specs.declared.envelope.Envelope.{Envelope}
-use Rattle.types.specs.declared.kind.Kind.{Kind}
 use Rattle.types.specs.declared.statement.Statement.{Statement}
 use Rattle.view.specs.Knowing.{AreBallotsOf, IsHeard}
 use Rattle.view.specs.Watching.{Kept}
@@ -13,8 +12,6 @@ returns-in-Ok-clause-ballots g c = λ old taken are.
     let nodes = c.args.self.now.region.nodes.items in
     let table = c.args.table.now in
     let e = c.args.taken.now.row.now in
-    let at : List ℕ → Kept = λ us. record { nodes = us; table = table; kind = Kind.Ballot } in
-    let rows = c.in_place-rows.ensures ∙ ap at c.deref.ensures.value in
     let before = c.in-Some.ballots in
     let there : IfSome (Some before) (λ b. AreBallotsOf own old nodes b) = subst (λ (o : Option ReachedBallots). IfSome o (λ b. AreBallotsOf own old nodes b)) (sym c.take.ensures.value ∙ c.in-Some.is) are in
     let said : Option Statement = option_map (λ (s : Bor Statement). s.now) c.body_of-before.result in
@@ -26,5 +23,5 @@ returns-in-Ok-clause-ballots g c = λ old taken are.
       says = sym c.body.ensures.value;
       said = sym c.body_of-before.ensures;
     } in
-    subst (λ (k : Kept). IsHeard own k.nodes old k.table c.body.result.now said → AreBallotsOf own old k.nodes before → AreBallotsOf own k.table k.nodes c.replace-replaced.new.self) rows
+    subst (λ (k : Kept). IsHeard own k.nodes old k.table c.body.result.now said → AreBallotsOf own old k.nodes before → AreBallotsOf own k.table k.nodes c.replace-replaced.new.self) c.rows-rows.ensures
     (c.in-Ok.ensures old) heard there

@@ -1,4 +1,4 @@
-use Rattle.std.proofs.Common.{◌≡◌, ◌∙◌, ℕ, IfSome, List, ap, subst, sym}
+use Rattle.std.proofs.Common.{◌≡◌, ℕ, IfSome, List, subst, sym}
 use Rattle.types.specs.declared.kind.Kind.{Kind}
 use Rattle.types.specs.declared.kind.Kind.TheVariants.{Nomination}
 use Rattle.view.specs.Knowing.{AreSearched}
@@ -13,7 +13,7 @@ invariant_of-result g c =
     let known = c.args.known.now in
     let at : List ℕ → Kind → Kept = λ us kind. record { nodes = us; table = table; kind = kind } in
     let kept : c.args.ballots ≡ at known.region.nodes.items Kind.Ballot = c.requires.ballots in
-    let nominated : c.in_place-nominations.result ≡ at known.region.nodes.items Nomination = c.in_place-nominations.ensures ∙ ap (λ (us : List ℕ). at us Nomination) c.deref.ensures.value in
+    let nominated : c.rows-nominations.result ≡ at known.region.nodes.items Nomination = c.rows-nominations.ensures in
     record {
       known = c.requires.known.region;
       single = c.are_single.ensures;
