@@ -93,6 +93,13 @@ module _ (us : List ℕ) (slices_at : ℕ → Option Slices) (fs : List (Option 
       subst_joins : (g : Numbered) → f ≡ g → Fits f fs × (f.number ≤ length fs) → Fits g fs × (g.number ≤ length fs)
       subst_joins g is joins = subst (λ (x : Numbered). Fits x fs × (x.number ≤ length fs)) is joins
 
+  -- and one without has none
+  pub part_none : (n : ℕ) → length fs ≡ n → None ≡ slices_at (get_or us n 0) → ArePart us slices_at (fs ++ None ∷ [])
+  part_none n many none =
+      part_more None
+      (λ ws. ap (λ (o : Option Slices). is_satisfied sat o (among (picked us ws))) (none ∙ ap (λ k. slices_at (get_or us k 0)) (sym many)))
+      (λ f is. cc)
+
   -- and where all nodes have their forms, they are compiled
   pub part_whole : length fs ≡ length us → AreAllForms us slices_at fs
   part_whole many = record {
