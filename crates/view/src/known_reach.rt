@@ -14,7 +14,7 @@ use crate::changing::NewReach;
 use crate::own::Own;
 use crate::reached_ballots::ReachedBallots;
 use crate::region::Region;
-use crate::rows::{insert_values, values_of_others};
+use crate::rows::{insert_values, said_in, values_of_others};
 use envstore::Places;
 use latest::Rows;
 use slices::is_among;
@@ -182,7 +182,7 @@ impl KnownReach {
             return;
         };
         let rows = self.region.rows(alloc, table, Kind::Ballot);
-        let before = body_of(taken.before);
+        let before = said_in(taken.before);
         let replaced = ballots.replace(own.name, &rows, taken.row.body(), before);
         if let Ok(()) = replaced {
             self.ballots = Some(ballots);
@@ -238,14 +238,4 @@ fn is_of_another(region: &Region, own: &NodeId, envelope: &Envelope) -> bool
     ensures { result ≡ is_of_another own.now region.now.nodes.items envelope.now }
 {
     *own != *envelope.sender() && is_among(&region.nodes, envelope.sender())
-}
-
-/// What the row says, if there is one.
-fn body_of<'a>(row: Option<&'a Envelope>) -> Option<&'a Statement>
-    ensures { option_map (λ s. s.now) result ≡ option_map (λ e. e.body) (option_map (λ r. r.now) row.entry) }
-{
-    match row {
-        None => None,
-        Some(row) => Some(row.body()),
-    }
 }

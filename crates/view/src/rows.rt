@@ -74,7 +74,7 @@ pub(crate) fn values_of<S: Places>(
 }
 
 /// What the row says, if there is one.
-fn said_in<'a>(row: Option<&'a Envelope>) -> Option<&'a Statement>
+pub(crate) fn said_in<'a>(row: Option<&'a Envelope>) -> Option<&'a Statement>
     ensures { option_map (λ s. s.now) result ≡ option_map (λ e. e.body) (option_map (λ r. r.now) row.entry) }
 {
     match row {
