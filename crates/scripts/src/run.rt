@@ -2,7 +2,7 @@
 //! written.
 
 ghost use Rattle.std.specs.Prelude.{◌≡◌, ◌≢◌, ◌⊎◌, ◌<◌, ◌≤◌, ◌++◌, ◌∷◌, ℕ, [], length, map, option_map, string_bytes, Err, IfOk, IfSome, OnOk, IsOkUnless};
-ghost use Rattle.std.specs.Io.KnownBytes.{Appends};
+ghost use Rattle.std.specs.Io.KnownBytes.{Appends, Keeps};
 ghost use Rattle.scripts.specs.Runs.{Passes, Fails, HasRunLine, HasRunText, HasRunScript, on_a_line};
 
 use crate::input::{LONGEST_SCRIPT, ReadError, read_whole};
@@ -60,7 +60,8 @@ impl From<ReadError> for Stop {
 }
 
 /// Reads a script whole and runs its lines in order, up to the first that is bad. What they print is
-/// written as it comes: a caller with many short lines hands in a writer that keeps them together.
+/// written as it comes, and handed on (`out` is flushed) at the end: a caller with many short lines hands in a writer
+/// that keeps them together. Where no line was run, or a write failed, nothing is flushed.
 pub fn run_script<S: LineRunner, R: Read, W: Write>(
     alloc: Global,
     runner: &mut S,
@@ -75,8 +76,32 @@ pub fn run_script<S: LineRunner, R: Read, W: Write>(
         (R.remaining script.old) (W.contents out.old) (W.contents out.new) result runner.new }
 {
     match read_whole(alloc, script) {
-        Ok(text) => run_lines(alloc, runner, &text, out),
+        Ok(text) => {
+            let ran = run_lines(alloc, runner, &text, out);
+            hand_on(ran, out)
+        }
         Err(error) => Err(Stop::from(error)),
+    }
+}
+
+/// Hands on what a run printed, and says how it ended. After a write that failed nothing is written.
+fn hand_on<W: Write>(ran: Result<(), Stop>, out: &mut W) -> Result<(), Stop>
+    ensures { (result ≡ Err Stop.CannotWrite) ⊎ ((result ≡ ran) × Keeps (W.contents out.old) (W.contents out.new)) }
+{
+    if ran != Err(Stop::CannotWrite) {
+        flush(out)?;
+    }
+    ran
+}
+
+/// Hands on what was written.
+pub(crate) fn flush<W: Write>(out: &mut W) -> Result<(), Stop>
+    ensures kept { OnOk result (Keeps (W.contents out.old) (W.contents out.new)) }
+    ensures failed { IsOkUnless result Stop.CannotWrite }
+{
+    match out.flush() {
+        Ok(()) => Ok(()),
+        Err(_) => Err(Stop::CannotWrite),
     }
 }
 

@@ -1,13 +1,12 @@
 //! Running a script as it comes: each line is answered before the next one is waited for.
 
-ghost use Rattle.std.specs.Prelude.{◌≡◌, ◌≤◌, vec_len, IfOk, IsOkUnless, OnOk};
+ghost use Rattle.std.specs.Prelude.{◌≡◌, ◌≤◌, vec_len, IfOk};
 ghost use Rattle.std.specs.Io.BufRead.{ends_with_byte, strip_last};
-ghost use Rattle.std.specs.Io.KnownBytes.{Keeps};
 ghost use Rattle.scripts.specs.Runs.{HasRunLine};
 ghost use Rattle.scripts.specs.Streams.{HasRunStream, IsNext};
 
 use crate::input::{LONGEST_SCRIPT, ReadError};
-use crate::run::{LineRunner, Stop, run_line};
+use crate::run::{LineRunner, Stop, flush, run_line};
 use crate::script::Line;
 use std::alloc::Global;
 use std::io::{BufRead, ErrorKind, Read, Write};
@@ -107,15 +106,4 @@ fn answer_line<S: LineRunner, W: Write>(
 {
     run_line(alloc, runner, line, out)?;
     flush(out)
-}
-
-/// Hands on what was written.
-fn flush<W: Write>(out: &mut W) -> Result<(), Stop>
-    ensures kept { OnOk result (Keeps (W.contents out.old) (W.contents out.new)) }
-    ensures failed { IsOkUnless result Stop.CannotWrite }
-{
-    match out.flush() {
-        Ok(()) => Ok(()),
-        Err(_) => Err(Stop::CannotWrite),
-    }
 }
