@@ -36,9 +36,10 @@ use types::{Inputs, Nested, NodeId, Value, Votes};
 
 /// One node at one slot, and all that it knows there.
 ///
-/// The nodes that it reaches are kept from one event to the next, until a row or slices come that may
-/// change them: so a row of a stranger costs no pass, and one with the slices that its sender announced
-/// before costs no search for them.
+/// The nodes that it reaches are kept from one event to the next: so a row of a stranger costs no pass, and
+/// one with the slices that its sender announced before costs no search for them. A row by which others are
+/// reached is followed; where memory is short for that, where two such rows come with no pass between them,
+/// and after new slices of its own, they are found anew.
 ///
 /// Contracts see it as the node of the protocol's definitions. It is made and changed by events alone.
 #[derive(Drop)]
