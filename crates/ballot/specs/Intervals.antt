@@ -5,7 +5,8 @@ use Rattle.types.specs.declared.state.Votes.{Votes}
 use Rattle.protocol.specs.Candidates.{greatest}
 use Rattle.protocol.specs.States.{ballot_at}
 
--- the interval goes from lo to the counter of the end, and neither the ballot nor the highest accepted one stays below the end
+-- the interval goes from low to the counter of the end, and neither the ballot nor the highest accepted one stays
+-- below the end
 abbrev pub moved_to : ℕ → Ballot → Ballot → Votes → Votes
 moved_to low end b w = record w {
   ballot = Some (ballot_at (max b.counter end.counter) end.value);

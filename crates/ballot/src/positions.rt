@@ -6,8 +6,8 @@ ghost use Rattle.protocol.specs.States.{commit_counter, counter_of, high_counter
 use std::alloc::AllocError;
 use types::{Ballot, LentBallot, LentStatement, Phase, Statement, Votes, statement_of};
 
-/// The ballot statement of the votes as they are, before anything in it is held down to what may be
-/// sent; a node without a ballot has none (the Stellar Consensus Protocol draft). It takes no memory.
+/// The ballot statement of the votes as they are, whether or not it may be sent like that; a node without a
+/// ballot has none (the Stellar Consensus Protocol draft). It takes no memory.
 #[tactic(auto, unfolding(protocol::specs::States::position, protocol::specs::States::position_in))]
 pub fn position<'a>(votes: &'a Votes) -> Option<LentStatement<'a>>
     ensures { result ≡ position votes.now }

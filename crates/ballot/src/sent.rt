@@ -7,10 +7,10 @@ ghost use Rattle.protocol.specs.States.{clamped, sent_in, sent_vote};
 use crate::positions::{commit_counter, high_counter, position};
 use types::{Ballot, LentBallot, LentStatement, Phase, Votes};
 
-/// The ballot statement that is sent; a node without a ballot sends none. In [`Phase::Preparing`] the
-/// highest accepted ballot is held down to the ballot, and the aborted counter to the ballot's counter
-/// (after the Stellar Consensus Protocol draft; the aborted counter is this host's profile). It takes no
-/// memory.
+/// The ballot statement that is sent; a node without a ballot sends none. In [`Phase::Preparing`] a
+/// highest accepted ballot above the ballot is sent as the greatest of its value that is not, and an aborted
+/// counter above the ballot's counter as that (after the Stellar Consensus Protocol draft; the aborted counter is
+/// this host's profile). It takes no memory.
 #[tactic(auto, unfolding(protocol::specs::States::sent_vote, protocol::specs::States::sent_in, protocol::specs::States::position, protocol::specs::States::position_in))]
 pub fn sent_vote<'a>(votes: &'a Votes) -> Option<LentStatement<'a>>
     ensures { result ≡ sent_vote votes.now }

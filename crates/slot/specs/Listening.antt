@@ -16,7 +16,7 @@ pub record Held : Type 0 where
   pub node : Node
   pub rows : List Filed
 
--- what a listener has, with what events gave and what the rules made
+-- what a listener has, with inputs and votes
 abbrev pub node_of : Heard → Inputs → Votes → Node
 node_of h inputs votes = whole h.configured inputs votes (sents_of h.table)
 

@@ -13,11 +13,11 @@ use Rattle.protocol.specs.States.{sent_nomination, sent_vote}
 use Rattle.protocol.specs.Nodes.{Node, change}
 use Rattle.listening.specs.declared.configured.Configured.{Configured}
 
--- who it is with its slices, what events gave, what the rules made, and the table
+-- who it is with its slices, its inputs, its votes, and the table
 abbrev pub whole : Configured → Inputs → Votes → List Sent → Node
 whole c inputs votes table = record { name = c.name; slot = c.slot; slices = c.slices; inputs = inputs; votes = votes; table = table }
 
--- what is given as a round begins with its leader
+-- the inputs as a round begins with its leader
 abbrev pub led : Configured → Inputs → ℕ → Inputs
 led c inputs round = record inputs { round = round; leaders = inputs.leaders ++ leader c.slot round c.name c.slices ∷ [] }
 

@@ -19,7 +19,7 @@ use types::{Inputs, Out, Votes};
 /// What a node has at one moment beside its rows.
 #[derive(Clone, Copy)]
 pub(crate) struct State<'a> {
-    /// What events gave it.
+    /// What events alone set.
     pub inputs: &'a Inputs,
     /// What its rules made of that.
     pub votes: &'a Votes,
