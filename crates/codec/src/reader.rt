@@ -13,6 +13,9 @@ use types::{Ballot, MAX_VALUE_LENGTH, NodeId, Value};
 ///
 /// What is read has left the reader. After an error it stands somewhere behind the fault, and is of no
 /// more use.
+///
+/// Each number that is left is a byte: for example, once one byte of 1, 2 and 255 is read, 2 and 255 are left; 256
+/// is never left.
 #[derive(Drop)]
 pub struct Reader<'a> {
     rest: &'a [u8],

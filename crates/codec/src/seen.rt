@@ -11,6 +11,8 @@ use types::NodeId;
 
 /// Names in the order in which they came, none twice, and again in ascending order, in which a binary search finds
 /// one. Contracts see the first list.
+///
+/// For example, where C, A and B came in this order, the lists are C, A, B and A, B, C.
 #[derive(Drop)]
 pub(crate) struct SeenNames {
     in_turn: Vec<NodeId>,

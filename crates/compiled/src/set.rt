@@ -9,6 +9,8 @@ use std::alloc::{AllocError, Global};
 use std::marker::Model;
 
 /// A threshold over places and inner sets, compiled against a list of nodes. It has no more of both than members.
+///
+/// For example, three places and an inner set stand with four members or more, and never with three.
 #[derive(Drop)]
 pub struct CompiledSet {
     needed: usize,

@@ -16,6 +16,8 @@ use std::marker::Model;
 ///
 /// It has the reader that it reads by: a call that lends what is published takes it out, and has put it back
 /// where it ends.
+///
+/// For example, a watch that was lent nothing yet has its reader, and so has one that was lent x and y.
 #[derive(Drop)]
 pub struct Watch {
     reader: Option<BoardReader>,

@@ -29,6 +29,10 @@ use types::{Event, Nested, NodeId, Out, Refusal};
 /// Contracts see it as its configuration and its entries, with whole envelopes: by its type they are a run of
 /// that configuration, each an event that was not refused after the entries before it, with what that event
 /// gives out.
+///
+/// For example, the first entry may open slot 1, and the second be a proposal there; no journal begins with the
+/// proposal, which would be refused. Where the second entry alone gave anything out, one list is kept, that of entry
+/// 1.
 #[derive(Drop)]
 pub struct Journal<S: Shelf> {
     alloc: Global,

@@ -30,6 +30,8 @@ pub enum WorldError {
 ///
 /// The numbers stand in a list of their own, so that a network is found by a binary search in memory that
 /// lies together, and an event costs the same among 4,096 networks. Contracts see the list of the journals.
+///
+/// For example, the journals of networks that were added as 7, 3 and 5 stand as 3, 5, 7, and so do their numbers.
 #[derive(Drop)]
 pub struct World<S: Shelf> {
     alloc: Global,

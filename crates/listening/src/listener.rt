@@ -29,6 +29,9 @@ use view::KnownReach;
 ///
 /// The rows lie in one archive, which is lent to each call that reads one. Contracts see who the node is and its
 /// rows, and nothing of what is known.
+///
+/// What is known is what the configuration and the table give: for example, where A's slices name B alone, and B's
+/// row names C, it is of A, B and C, or nothing is known.
 #[derive(Drop)]
 pub struct Listener {
     configured: Configured,

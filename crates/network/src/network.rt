@@ -20,6 +20,10 @@ use types::{Envelope, Nested, NodeId, Refusal};
 /// its budgets is used up.
 ///
 /// Contracts see all of it, numbers in the archive too; whoever owns it shows it without them.
+///
+/// All envelopes lie in its archive, no slot is open twice, each has the hosted nodes in their order, and the bytes
+/// keep the budget: for example, where A and C are hosted, slot 5, once it is open, has a node A, then a node C; and
+/// of a budget of 100 bytes at most 100 are used up.
 #[derive(Drop)]
 pub struct Network<S: Shelf> {
     pub(crate) alloc: Global,

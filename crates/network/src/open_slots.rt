@@ -16,6 +16,8 @@ use std::marker::Model;
 ///
 /// Contracts see the slots alone. An event of a node is lent them without the places, since it leaves the
 /// numbers as they are.
+///
+/// For example, where slot 7 was opened and then 3, the place of 7 is 0, that of 3 is 1, and no other number has one.
 #[derive(Drop)]
 pub(crate) struct OpenSlots {
     pub(crate) slots: Vec<OpenSlot>,

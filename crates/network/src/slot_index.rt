@@ -15,6 +15,8 @@ pub(crate) struct SlotPlace {
 }
 
 /// The places of open slots, ascending by number, found by a binary search.
+///
+/// For example, where slot 7 was opened and then 3, first comes 3 with the place 1, then 7 with the place 0.
 #[derive(Drop)]
 pub(crate) struct SlotIndex {
     entries: Vec<SlotPlace>,

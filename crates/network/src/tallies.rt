@@ -22,6 +22,8 @@ pub(crate) struct Tally {
 /// by a binary search.
 ///
 /// Contracts see the tallies, and for how many names more there is room.
+///
+/// For example, where a node drew from C and then from A, the tally of A comes first; no name has two.
 #[derive(Drop)]
 pub(crate) struct Tallies {
     entries: Vec<Tally>,

@@ -35,6 +35,9 @@ pub(crate) struct Noted {
 /// What a hosted node has emitted since its slot was opened, in order, with the places of each kind: so the
 /// emission of a kind with a number is found at once, however many there are. Room for the numbers of the next
 /// event's emissions is kept where the last event had none, as most have.
+///
+/// For example, where a nomination, a ballot and again a nomination were emitted, the places of nominations are 0 and
+/// 2, and that of ballots is 1.
 #[derive(Drop)]
 pub(crate) struct Told {
     emitted: Vec<Filed>,

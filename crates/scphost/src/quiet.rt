@@ -13,6 +13,8 @@ use std::io::Read;
 use std::marker::Model;
 
 /// A script of networks that has been run to its end.
+///
+/// Its text is no longer than a script may be: for example, it may have 64 MiB, and not one byte more.
 #[derive(Drop)]
 pub struct FinishedScript {
     run: QuietRun,

@@ -42,6 +42,9 @@ use types::{Inputs, Nested, NodeId, Value, Votes};
 /// and after new slices of its own, they are found anew.
 ///
 /// Contracts see it as the node of the protocol's definitions. It is made and changed by events alone.
+///
+/// For example, a node that has a proposal and is in round 1 is one, since a proposal leads to it; one that has a
+/// proposal and is in no round is none.
 #[derive(Drop)]
 pub struct Node {
     listener: Listener,

@@ -17,6 +17,8 @@ use std::marker::Model;
 use types::{Ballot, Envelope, Kind, Nested, NodeId, Phase, SharedValues, Votes};
 
 /// One node at slot 1, with the archive of its envelopes.
+///
+/// Each row of the node lies in the archive: for example, a node with two rows stands with two envelopes or more.
 #[derive(Drop)]
 pub struct Alone {
     pub archive: Archive<VecShelf>,

@@ -10,6 +10,8 @@ use std::alloc::{AllocError, Global};
 use std::marker::Model;
 
 /// A statement with its sender, its slot and the sender's slices. It is well formed by its type.
+///
+/// For example, it may be a PREPARE of counter 2 with the high counter 1 or 2; one with the high counter 3 it is not.
 #[derive(Drop)]
 pub struct Envelope {
     sender: NodeId,

@@ -199,6 +199,9 @@ fn are_same(members: &[Member], others: &[Member]) -> bool
 #[derive(Drop)]
 pub struct Nested {
     set: Arc<SliceSet, Global>,
+///
+/// For example, 2 of A, B and the inner set 1 of C are such slices; 3 of A and B are none, since the threshold is too
+/// high, nor are 1 of A and the inner set 1 of A, where a name stands twice.
 }
 
 impl Model for Nested {

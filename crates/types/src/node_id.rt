@@ -9,6 +9,9 @@ use std::marker::Model;
 ///
 /// Contracts see a name as the number that its bytes spell, the first byte counting most. The order
 /// of the numbers is the order of the bytes.
+///
+/// The lower half is below 2^128: for example, 31 bytes of 0, then one of 65 are the number 65, with the halves 0 and
+/// 65.
 #[derive(Clone, Copy, Debug, PartialEq, Eq, Hash, PartialOrd, Ord)]
 pub struct NodeId {
     high: u128,

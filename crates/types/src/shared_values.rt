@@ -12,6 +12,9 @@ use std::marker::Model;
 use std::sync::Arc;
 
 /// A list of values that never changes and that copies share, seen by contracts as the list of their bytes.
+///
+/// Each has one to 256 bytes: for example, y, x, x is such a list, and so is one of no values; one with an empty
+/// value is none.
 #[derive(Debug, Drop)]
 pub struct SharedValues {
     values: Option<Arc<Values, Global>>,

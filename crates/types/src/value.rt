@@ -11,6 +11,8 @@ use std::sync::Arc;
 pub const MAX_VALUE_LENGTH: usize = 256;
 
 /// One to 256 opaque bytes, ordered by bytes. Copies share them.
+///
+/// For example, a single byte of 0 is a value; no bytes and 257 of them are none.
 #[derive(Debug, Drop)]
 pub struct Value {
     bytes: Arc<Vec<u8>, Global>,

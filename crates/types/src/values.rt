@@ -12,6 +12,9 @@ use std::marker::Model;
 pub const MAX_NOMINATED: usize = 16;
 
 /// A list of values, seen by contracts as the list of their bytes.
+///
+/// Each has one to 256 bytes, and any order is allowed: for example, y, x, x is such a list; one with an empty
+/// value is none.
 #[derive(Debug, Drop)]
 pub struct Values {
     items: Vec<Value>,

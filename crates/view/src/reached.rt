@@ -20,6 +20,9 @@ const MOST_IN_PLACE: usize = 64;
 /// Each is found by the place that is kept of it, where that is: so it costs the same however many rows of strangers the
 /// table holds. Rows that are gathered are read there once, and later found by their nodes' places among the nodes.
 /// Contracts see the nodes, the table and the kind.
+///
+/// For example, where A and C have rows of the kind and B has none, the places of A, B and C are that of A's row,
+/// nothing, and that of C's; and where they are gathered, A's row, nothing and C's are.
 #[derive(Drop)]
 pub(crate) struct ReachedRows<'a, S: Places> {
     nodes: &'a [NodeId],
