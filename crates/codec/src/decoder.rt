@@ -82,6 +82,7 @@ pub fn one_answer()
     ensures { (text : List ℕ) → IsBytes text → HasOneAnswer text }
 {}
 
+/// The envelope that the text spells, all of it and nothing more.
 #[tactic(auto, unfolding(crate::specs::Reading::decoded))]
 fn read_text(alloc: Global, bytes: &[u8]) -> Result<Envelope, CodecError>
     ensures read { Gives (λ e. e) result (decoded bytes.now) }
@@ -101,6 +102,7 @@ fn read_text(alloc: Global, bytes: &[u8]) -> Result<Envelope, CodecError>
     Ok(envelope)
 }
 
+/// An envelope, from its version on.
 #[tactic(auto, unfolding(crate::specs::Reading::envelope_at), using(crate::proofs::EnvelopeLaws::other_version, crate::proofs::EnvelopeLaws::other_kind, crate::proofs::EnvelopeLaws::no_version_fault))]
 fn read_envelope(alloc: Global, reader: &mut Reader) -> Result<Envelope, CodecError>
     ensures read { Gives (λ x. (x, reader.new)) result (envelope_at reader.old) }
@@ -143,6 +145,7 @@ fn envelope_of(
     Envelope::new(sender, slot, slices, body).ok_or(Fault::BadStatement)
 }
 
+/// The version of the format, one of the two that are read.
 #[tactic(auto, unfolding(crate::specs::Reading::version_at))]
 fn read_version(reader: &mut Reader) -> Result<u8, Fault>
     ensures { Says (λ x. (x, reader.new)) result (version_at reader.old) }

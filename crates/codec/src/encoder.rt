@@ -32,6 +32,7 @@ pub fn encode(alloc: Global, envelope: &Envelope) -> Result<Vec<u8>, AllocError>
     Ok(out)
 }
 
+/// Adds the name of a node: its 32 bytes.
 fn put_name(out: &mut Vec<u8>, node: &NodeId) -> Result<(), AllocError>
     ensures { OnOk result (out.new.items ≡ out.old.items ++ name node.now) }
 {
@@ -43,6 +44,8 @@ fn put_name(out: &mut Vec<u8>, node: &NodeId) -> Result<(), AllocError>
     Ok(())
 }
 
+/// Adds a set of slices: its threshold, the number of its members, and each member behind a byte that says whether it
+/// is a node or again a set.
 fn put_set(out: &mut Vec<u8>, set: &SliceSet) -> Result<(), AllocError>
     requires outer { HasThreshold set.now.threshold set.now.members }
     requires inner { HaveThresholds set.now.members }
@@ -66,6 +69,7 @@ fn put_set(out: &mut Vec<u8>, set: &SliceSet) -> Result<(), AllocError>
     Ok(())
 }
 
+/// Adds the fields of a statement, whose kind stands further in front.
 fn put_statement(out: &mut Vec<u8>, statement: &Statement) -> Result<(), AllocError>
     requires { IsWellFormed statement.now }
     ensures { OnOk result (out.new.items ≡ out.old.items ++ body statement.now) }
@@ -109,6 +113,7 @@ fn put_statement(out: &mut Vec<u8>, statement: &Statement) -> Result<(), AllocEr
     }
 }
 
+/// Adds one set of a nomination: a count, and so many values.
 fn put_nominated(out: &mut Vec<u8>, values: &Values) -> Result<(), AllocError>
     requires { length values.now ≤ most_nominated }
     ensures { OnOk result (out.new.items ≡ out.old.items ++ nominated values.now) }
@@ -121,6 +126,7 @@ fn put_nominated(out: &mut Vec<u8>, values: &Values) -> Result<(), AllocError>
     Ok(())
 }
 
+/// Adds a 0 for no ballot, or a 1 and the ballot.
 fn put_optional(out: &mut Vec<u8>, prepared: &Option<Ballot>) -> Result<(), AllocError>
     ensures { OnOk result (out.new.items ≡ out.old.items ++ optional prepared.now) }
 {
@@ -136,6 +142,7 @@ fn put_optional(out: &mut Vec<u8>, prepared: &Option<Ballot>) -> Result<(), Allo
     }
 }
 
+/// Adds a ballot: its counter in four bytes, and its value.
 fn put_ballot(out: &mut Vec<u8>, item: &Ballot) -> Result<(), AllocError>
     ensures { OnOk result (out.new.items ≡ out.old.items ++ ballot item.now) }
 {
@@ -143,6 +150,7 @@ fn put_ballot(out: &mut Vec<u8>, item: &Ballot) -> Result<(), AllocError>
     put_value(out, &item.value)
 }
 
+/// Adds a value: its length in two bytes, and its bytes.
 fn put_value(out: &mut Vec<u8>, item: &Value) -> Result<(), AllocError>
     ensures { OnOk result (out.new.items ≡ out.old.items ++ value item.now) }
 {
@@ -151,6 +159,7 @@ fn put_value(out: &mut Vec<u8>, item: &Value) -> Result<(), AllocError>
     out.extend_from_slice(bytes)
 }
 
+/// Adds a length of 16 bits, the first byte counting most.
 fn put_length(out: &mut Vec<u8>, length: u16) -> Result<(), AllocError>
     ensures { OnOk result (out.new.items ≡ out.old.items ++ to_be_bytes w16 length) }
 {
@@ -159,6 +168,7 @@ fn put_length(out: &mut Vec<u8>, length: u16) -> Result<(), AllocError>
     out.extend_from_slice(&bytes)
 }
 
+/// Adds a counter of 32 bits, the first byte counting most.
 fn put_counter(out: &mut Vec<u8>, counter: u32) -> Result<(), AllocError>
     ensures { OnOk result (out.new.items ≡ out.old.items ++ to_be_bytes w32 counter) }
 {
@@ -167,6 +177,7 @@ fn put_counter(out: &mut Vec<u8>, counter: u32) -> Result<(), AllocError>
     out.extend_from_slice(&bytes)
 }
 
+/// Adds a number of 64 bits, the first byte counting most.
 fn put_u64(out: &mut Vec<u8>, number: u64) -> Result<(), AllocError>
     ensures { OnOk result (out.new.items ≡ out.old.items ++ to_be_bytes w64 number) }
 {

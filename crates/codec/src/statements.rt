@@ -13,9 +13,13 @@ use types::{MAX_NOMINATED, Statement, Values};
 /// The four kinds of statements, each with the byte that stands for it.
 #[derive(Clone, Copy)]
 pub enum StatementKind {
+    /// NOMINATE, the byte 1.
     Nominate,
+    /// PREPARE, the byte 2.
     Prepare,
+    /// COMMIT, the byte 3.
     Commit,
+    /// EXTERNALIZE, the byte 4.
     Externalize,
 }
 
@@ -76,6 +80,7 @@ pub fn read_statement(
     }
 }
 
+/// A NOMINATE: the set of values that are voted for, and the set of those that are accepted.
 #[tactic(auto, unfolding(crate::specs::Reading::nominate_at))]
 fn read_nominate(alloc: Global, reader: &mut Reader) -> Result<Statement, CodecError>
     ensures { Gives (λ x. (x, reader.new)) result (nominate_at reader.old) }
@@ -97,6 +102,7 @@ fn read_nominated(alloc: Global, reader: &mut Reader) -> Result<Values, CodecErr
     read_values(alloc, reader, count)
 }
 
+/// So many values.
 fn read_values(alloc: Global, reader: &mut Reader, count: u8) -> Result<Values, CodecError>
     ensures { Gives (λ x. (x, reader.new)) result (values_at count reader.old) }
 {
@@ -108,6 +114,7 @@ fn read_values(alloc: Global, reader: &mut Reader, count: u8) -> Result<Values, 
     Ok(values)
 }
 
+/// A PREPARE: a ballot, the prepared one if there is one, and three counters.
 #[tactic(auto, unfolding(crate::specs::Reading::prepare_at))]
 fn read_prepare(alloc: Global, reader: &mut Reader) -> Result<Statement, CodecError>
     ensures { Gives (λ x. (x, reader.new)) result (prepare_at reader.old) }
@@ -126,6 +133,7 @@ fn read_prepare(alloc: Global, reader: &mut Reader) -> Result<Statement, CodecEr
     })
 }
 
+/// A COMMIT: a ballot and three counters.
 #[tactic(auto, unfolding(crate::specs::Reading::commit_at))]
 fn read_commit(alloc: Global, reader: &mut Reader) -> Result<Statement, CodecError>
     ensures { Gives (λ x. (x, reader.new)) result (commit_at reader.old) }
@@ -142,6 +150,7 @@ fn read_commit(alloc: Global, reader: &mut Reader) -> Result<Statement, CodecErr
     })
 }
 
+/// An EXTERNALIZE: a ballot and a counter.
 #[tactic(auto, unfolding(crate::specs::Reading::externalize_at))]
 fn read_externalize(alloc: Global, reader: &mut Reader) -> Result<Statement, CodecError>
     ensures { Gives (λ x. (x, reader.new)) result (externalize_at reader.old) }

@@ -32,9 +32,11 @@ use types::{Bytes, Event, Kind, Out};
 /// lie as they are written here.
 #[derive(Drop)]
 pub(crate) enum KeptEvent {
+    /// The slot was opened.
     OpenSlot {
         slot: u64,
     },
+    /// The slot was closed.
     CloseSlot {
         slot: u64,
     },
@@ -44,6 +46,7 @@ pub(crate) enum KeptEvent {
         size: u32,
         envelope: Filed,
     },
+    /// A hosted node heard from another one its emission of a kind with this number; neither it nor the slot is wide.
     Hear {
         node: HostPlace,
         from: HostPlace,
@@ -51,11 +54,13 @@ pub(crate) enum KeptEvent {
         slot: u32,
         number: u32,
     },
+    /// The nomination timer of this round fired.
     NominationTimer {
         node: HostPlace,
         round: u32,
         slot: u64,
     },
+    /// The ballot timer for this counter fired.
     BallotTimer {
         node: HostPlace,
         counter: u32,

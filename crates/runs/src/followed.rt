@@ -129,8 +129,11 @@ impl Followed {
 /// What an event does to the slots that are open.
 #[derive(Clone, Copy)]
 pub(crate) enum Turn {
+    /// It opens the slot of this number.
     Opens(u64),
+    /// It closes the slot of this number.
     Closes(u64),
+    /// It opens and closes none.
     Within,
 }
 

@@ -7,24 +7,38 @@ ghost use Rattle.runs.specs.Lines.{verb_in};
 /// What kind of line it is.
 #[derive(Clone, Copy, Debug, PartialEq, Eq)]
 pub(crate) enum Verb {
+    /// `net`: a network is declared, with its budgets.
     Net,
+    /// `node`: a network hosts this node.
     Node,
+    /// `roster`: a network reserves shares for these names.
     Roster,
+    /// It asks for an event.
     Event(EventVerb),
+    /// `settle`: a slot is run until all is heard.
     Settle,
 }
 
 /// What kind of line that asks for an event it is.
 #[derive(Clone, Copy, Debug, PartialEq, Eq)]
 pub(crate) enum EventVerb {
+    /// `open`: a slot is opened.
     Open,
+    /// `close`: a slot is closed.
     Close,
+    /// `propose`: a node is to propose a value.
     Propose,
+    /// `deliver`: bytes reach a node.
     Deliver,
+    /// `say`: the bytes of an envelope in words reach a node.
     Say,
+    /// `hear`: a node hears an emission of another one.
     Hear,
+    /// `ntimer`: the nomination timer of a round fires.
     NominationTimer,
+    /// `btimer`: the ballot timer for a counter fires.
     BallotTimer,
+    /// `reslice`: a node has other slices.
     Reslice,
 }
 

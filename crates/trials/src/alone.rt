@@ -78,6 +78,7 @@ impl Alone {
         Ok(answer)
     }
 
+    /// The answer and the state of a step that leaves the node as it is.
     fn step(&mut self, alloc: Global, line: &[u8]) -> Result<String, Halt> {
         let Alone { archive, node } = self;
         let Some(event) = event_of(alloc, archive, line)? else {
@@ -87,6 +88,7 @@ impl Alone {
         answer_of(alloc, archive, &stepped, &outs)
     }
 
+    /// The answer and the state of a step of the node in place.
     fn advance(&mut self, alloc: Global, line: &[u8]) -> Result<String, Halt> {
         let Alone { archive, node } = self;
         let Some(event) = event_of(alloc, archive, line)? else {
@@ -114,6 +116,7 @@ impl Alone {
     }
 }
 
+/// The rows of one sender in words, a line each, its nomination first.
 fn push_rows_of(
     text: &mut String,
     table: &Rows<'_, VecShelf>,
@@ -151,6 +154,7 @@ pub fn event_of(
     }
 }
 
+/// The event that a statement of this sender comes, with its slices, where the words tell one.
 fn take_event(
     alloc: Global,
     archive: &mut Archive<VecShelf>,
@@ -206,6 +210,7 @@ fn other_event(
     })
 }
 
+/// A row in words, as a line: its sender, its slices and what was said.
 fn push_row(text: &mut String, row: &Envelope) -> Result<(), AllocError> {
     push_name(text, row.sender())?;
     text.push(' ')?;
@@ -319,6 +324,7 @@ fn push_state(text: &mut String, node: &Node) -> Result<(), AllocError> {
     push_votes(text, node.votes())
 }
 
+/// The votes in words, each behind its name.
 fn push_votes(text: &mut String, votes: &Votes) -> Result<(), AllocError> {
     push_set(text, " voted", &votes.voted)?;
     push_set(text, " accepts", &votes.accepts)?;
@@ -339,6 +345,7 @@ fn push_votes(text: &mut String, votes: &Votes) -> Result<(), AllocError> {
     )
 }
 
+/// Values behind a word, with a space before each.
 fn push_set(text: &mut String, word: &str, values: &SharedValues) -> Result<(), AllocError> {
     text.push_str(word)?;
     for value in values.as_slice() {
@@ -348,6 +355,7 @@ fn push_set(text: &mut String, word: &str, values: &SharedValues) -> Result<(), 
     Ok(())
 }
 
+/// A ballot behind a word, or `-` for none.
 fn push_known(text: &mut String, word: &str, ballot: &Option<Ballot>) -> Result<(), AllocError> {
     text.push_str(word)?;
     match ballot {

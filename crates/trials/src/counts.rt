@@ -36,6 +36,7 @@ pub struct Counts {
 }
 
 impl Counts {
+    /// Nothing was seen yet.
     pub fn none() -> Counts {
         Counts {
             entered: 0,
@@ -86,6 +87,7 @@ impl Counts {
         self.push_seen_of_votes(text)
     }
 
+    /// The latter half of what was seen, a line each.
     fn push_seen_of_votes(&self, text: &mut String) -> Result<(), AllocError> {
         push_seen(text, "statements not newer", self.not_newer)?;
         push_seen(text, "values externalized", self.externalized)?;
@@ -105,16 +107,19 @@ fn push_seen(text: &mut String, words: &str, count: u32) -> Result<(), AllocErro
     text.push('\n')
 }
 
+/// Adds one to the number where it happened.
 fn count(number: &mut u32, happened: bool) {
     if happened {
         *number = number.saturating_add(1);
     }
 }
 
+/// Whether the node goes from PREPARE to COMMIT.
 fn enters_commit(old: Moment, new: Moment) -> bool {
     old.votes.phase == Phase::Preparing && new.votes.phase == Phase::Committing
 }
 
+/// Whether the interval of a node that stays at COMMIT ends at a greater counter.
 fn widens_commit(old: Moment, new: Moment) -> bool {
     old.votes.phase == Phase::Committing
         && new.votes.phase == Phase::Committing
@@ -131,10 +136,12 @@ fn is_raised(old: Moment, new: Moment) -> bool {
         && counter(new.votes.ballot) > counter(new.votes.confirmed_prepared)
 }
 
+/// Whether a nomination that runs goes on to a later round.
 fn is_next_round(old: Moment, new: Moment) -> bool {
     old.round > 0 && new.round > old.round
 }
 
+/// Whether another ballot statement is sent that is not newer than the one before.
 fn is_not_newer(old: Option<Statement>, new: Option<Statement>) -> bool {
     match (old, new) {
         (Some(old), Some(new)) => new != old && !new.is_newer(old),
@@ -142,18 +149,22 @@ fn is_not_newer(old: Option<Statement>, new: Option<Statement>) -> bool {
     }
 }
 
+/// Whether the node externalizes its value.
 fn externalizes(old: Moment, new: Moment) -> bool {
     old.votes.phase != Phase::Externalized && new.votes.phase == Phase::Externalized
 }
 
+/// Whether other slices bring other votes with them.
 fn moves_by_slices(old: Moment, new: Moment) -> bool {
     new.trust != old.trust && new.votes != old.votes
 }
 
+/// Whether the node votes for other values while some leader is out of its reach.
 fn echoes_from_afar(old: Moment, new: Moment) -> bool {
     old.has_far_leader && new.has_far_leader && new.votes.voted != old.votes.voted
 }
 
+/// The counter of a ballot, 0 for none.
 fn counter(ballot: Option<Ballot>) -> u32 {
     match ballot {
         None => 0,
@@ -177,6 +188,7 @@ pub struct Coming {
 }
 
 impl Coming {
+    /// Whether it comes into the table: nothing stands in its place, or it is newer than what does.
     fn is_put(self) -> bool {
         match self.old {
             None => true,
@@ -184,10 +196,12 @@ impl Coming {
         }
     }
 
+    /// Whether its sender was not reached before.
     fn is_of_stranger(self) -> bool {
         !has(self.before, self.sender)
     }
 
+    /// Whether it comes with other slices than the row in its place.
     fn has_other_slices(self) -> bool {
         match self.old {
             None => false,
@@ -195,6 +209,7 @@ impl Coming {
         }
     }
 
+    /// Whether each node that it names was reached before.
     fn names_reached(self) -> bool {
         self.row.trust.names() & !self.before == 0
     }
@@ -204,10 +219,12 @@ impl Coming {
         self.is_put() && !self.is_of_stranger()
     }
 
+    /// Whether it is heard, and is the first of its sender and kind.
     fn is_heard_first(self) -> bool {
         self.is_heard() && self.old.is_none()
     }
 
+    /// Whether it is heard, with other slices than the row in its place.
     fn is_heard_with_other_slices(self) -> bool {
         self.is_heard() && self.has_other_slices()
     }
@@ -243,6 +260,7 @@ pub struct Reaches {
 }
 
 impl Reaches {
+    /// Nothing was seen yet.
     pub fn none() -> Reaches {
         Reaches {
             strangers: 0,
@@ -288,6 +306,7 @@ impl Reaches {
         }
     }
 
+    /// A row with other slices was heard.
     fn note_others(&mut self, coming: Coming) {
         count(&mut self.others_kept, coming.before == coming.after);
         count(
@@ -326,6 +345,7 @@ impl Reaches {
         )
     }
 
+    /// What was seen of rows, a line each.
     fn push_seen_rows(&self, text: &mut String) -> Result<(), AllocError> {
         push_seen(text, "rows of strangers", self.strangers)?;
         push_seen(text, "stale rows with other slices", self.stale)?;

@@ -9,6 +9,7 @@ use crate::statements::{Kind, Row, Set, Statement, Trust};
 use crate::twin::{Happening, Twin};
 use std::alloc::Global;
 
+/// How many nodes there are, the node itself with them.
 const SENDERS: u32 = 8;
 
 /// One node, and what it was told last.
@@ -31,6 +32,7 @@ struct Bearing {
 }
 
 impl Crowd {
+    /// The crowd of a seed, before its first event.
     fn new(alloc: Global, seed: u64) -> Result<Crowd, Halt> {
         let mut dice = Dice::new(seed);
         let node = dice.number(SENDERS);
@@ -44,6 +46,7 @@ impl Crowd {
         })
     }
 
+    /// What the node reaches and votes for now.
     fn bearing(&self) -> Bearing {
         Bearing {
             reach: self.twin.slow.reach(),
@@ -51,6 +54,7 @@ impl Crowd {
         }
     }
 
+    /// What happens next: mostly that a sender says something.
     fn happening(&mut self, turn: u32) -> Happening {
         let round = self.twin.slow.round;
         let armed = self.twin.slow.votes.armed;
@@ -148,6 +152,7 @@ impl Crowd {
     }
 }
 
+/// Whether the node is given other slices.
 fn is_resliced(happening: Happening) -> bool {
     match happening {
         Happening::Resliced(_) => true,

@@ -15,6 +15,7 @@ pub struct Dice {
 }
 
 impl Dice {
+    /// The source of this seed.
     pub fn new(seed: u64) -> Dice {
         Dice { state: seed }
     }
@@ -29,11 +30,13 @@ impl Dice {
         number
     }
 
+    /// A number from the least to the greatest, each of which may come.
     pub fn from_to(&mut self, least: u32, greatest: u32) -> u32 {
         let more = self.below(greatest.saturating_sub(least).saturating_add(1));
         least.saturating_add(more)
     }
 
+    /// Whether the first of so many sides comes up.
     pub fn is_one_in(&mut self, sides: u32) -> bool {
         self.below(sides) == 0
     }
@@ -49,6 +52,7 @@ impl Dice {
         set
     }
 
+    /// One of so many first numbers.
     pub fn number(&mut self, count: u32) -> u8 {
         let chosen = self.below(count);
         let mut number = 0;
@@ -65,6 +69,7 @@ impl Dice {
         if self.is_one_in(2) { 0 } else { self.number(3) }
     }
 
+    /// A ballot with a counter from 1 to this one.
     fn ballot(&mut self, most: u32) -> Ballot {
         Ballot {
             counter: self.from_to(1, most),
@@ -82,6 +87,7 @@ impl Dice {
         }
     }
 
+    /// A nomination that votes for one value at least.
     pub fn nomination(&mut self) -> Statement {
         Statement::Nominate {
             voted: self.set(4) | bit(self.number(4)),
@@ -89,12 +95,14 @@ impl Dice {
         }
     }
 
+    /// A PREPARE about counters up to 5.
     fn prepare(&mut self) -> Statement {
         let ballot = self.ballot(5);
         let prepared = self.ballot(5);
         self.prepare_of(ballot, prepared)
     }
 
+    /// A PREPARE of this ballot, and of the prepared one unless that is greater.
     fn prepare_of(&mut self, ballot: Ballot, prepared: Ballot) -> Statement {
         let high = self.from_to(0, ballot.counter);
         Statement::Prepare {
@@ -114,11 +122,13 @@ impl Dice {
         }
     }
 
+    /// A COMMIT about counters up to 5.
     fn commit(&mut self) -> Statement {
         let ballot = self.ballot(5);
         self.commit_of(ballot)
     }
 
+    /// A COMMIT of this ballot.
     fn commit_of(&mut self, ballot: Ballot) -> Statement {
         let high = self.from_to(1, ballot.counter);
         Statement::Commit {
@@ -129,6 +139,7 @@ impl Dice {
         }
     }
 
+    /// An EXTERNALIZE of a counter up to 4.
     fn externalize(&mut self) -> Statement {
         let commit = self.ballot(4);
         Statement::Externalize {
@@ -154,11 +165,13 @@ impl Dice {
         }
     }
 
+    /// A COMMIT about counters from this one on.
     pub fn commit_from(&mut self, least: u32) -> Statement {
         let ballot = self.ballot_from(least);
         self.commit_of(ballot)
     }
 
+    /// A PREPARE whose ballot has a counter from this one on.
     fn prepare_from(&mut self, least: u32) -> Statement {
         let ballot = self.ballot_from(least);
         let prepared = self.ballot(ballot.counter);
@@ -215,6 +228,7 @@ impl Dice {
         self.some_of(bit(first) | bit(second))
     }
 
+    /// Slices of so many of these nodes, without inner sets.
     fn some_of(&mut self, members: Set) -> Trust {
         Trust::flat(self.from_to(1, members.count_ones()), members)
     }

@@ -5,6 +5,7 @@ ghost use Rattle.trials.specs.declared.halt.Halt.TheVariants.{NoMemory};
 
 use std::alloc::{AllocError, AllocFailed};
 
+/// Why a comparison ends early.
 #[derive(Clone, Copy)]
 pub enum Halt {
     /// Memory is short.

@@ -27,6 +27,7 @@ struct History {
 }
 
 impl History {
+    /// The nodes of a seed, before their first event: one to six of them.
     fn new(alloc: Global, seed: u64) -> Result<History, Halt> {
         let mut dice = Dice::new(seed);
         let count = dice.from_to(1, 6);
@@ -45,6 +46,7 @@ impl History {
         Ok(History { twins, dice })
     }
 
+    /// How many nodes there are.
     fn count(&self) -> u32 {
         let mut count = 0u32;
         for _ in self.twins.as_slice() {
@@ -76,6 +78,7 @@ impl History {
         Happening::Said { sender, row }
     }
 
+    /// What happens to the node next.
     fn happening(&mut self, node: u8) -> Happening {
         let Some(twin) = self.twins.get(node as usize) else {
             return Happening::NominationTimer(0);

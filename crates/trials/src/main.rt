@@ -47,8 +47,11 @@ use std::rt::Env;
 /// What a run is to do.
 #[derive(Clone, Copy)]
 enum Call {
+    /// To measure a node of these sizes.
     Measure(Sizes),
+    /// To tell the story of a stranger who becomes reached.
     Story,
+    /// To tell it, and to compare the node with the slow program.
     Compare,
 }
 
@@ -61,6 +64,7 @@ const NO_MEMORY: u8 = 3;
 /// The status where the output cannot be written.
 const NOT_WRITTEN: u8 = 4;
 
+/// Prints what the call asks for, and answers the status.
 fn main(rt: HostRuntime) -> ExitCode {
     let mut out = rt.stdout();
     let Some(call) = call_of(&rt) else {
@@ -101,6 +105,7 @@ fn call_of<R: Env + AllocGlobal>(rt: &R) -> Option<Call> {
     }
 }
 
+/// The call of a single word, where there is one.
 fn call_named(word: &str) -> Option<Call> {
     match word {
         "story" => Some(Call::Story),

@@ -173,6 +173,7 @@ fn slices_from(alloc: Global, from: u64, reached: u64) -> Result<Option<Nested>,
     Nested::new(alloc, SliceSet::new(threshold, members))
 }
 
+/// A nomination that votes for `x`.
 fn nomination(alloc: Global) -> Result<Statement, AllocError> {
     let mut voted = Values::empty(alloc);
     voted.push(Value::of(alloc, b"x")?)?;

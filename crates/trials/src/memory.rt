@@ -107,6 +107,7 @@ fn begin_or_retry(alloc: Global) -> Result<Alone, Halt> {
     }
 }
 
+/// The node of the story before its first event.
 fn begin(alloc: Global) -> Result<Alone, Halt> {
     Alone::of_words(alloc, NAME.as_bytes(), SLICES.as_bytes())
 }

@@ -28,6 +28,7 @@ pub fn report_of_comparisons(alloc: Global) -> Result<String, AllocError> {
     Ok(text)
 }
 
+/// The story, or why it ended early.
 fn push_story(alloc: Global, text: &mut String) -> Result<(), AllocError> {
     match memory::push_story(alloc, text) {
         Ok(()) => Ok(()),
@@ -35,6 +36,7 @@ fn push_story(alloc: Global, text: &mut String) -> Result<(), AllocError> {
     }
 }
 
+/// What was met in histories, and how they ended.
 fn push_histories(alloc: Global, text: &mut String) -> Result<(), AllocError> {
     let mut counts = Counts::none();
     let end = histories::run(alloc, HISTORIES, &mut counts);
@@ -42,6 +44,7 @@ fn push_histories(alloc: Global, text: &mut String) -> Result<(), AllocError> {
     push_end(text, end)
 }
 
+/// What was met in crowds, and how they ended.
 fn push_crowds(alloc: Global, text: &mut String) -> Result<(), AllocError> {
     let mut reaches = Reaches::none();
     let end = crowds::run(alloc, CROWDS, &mut reaches);
@@ -49,6 +52,7 @@ fn push_crowds(alloc: Global, text: &mut String) -> Result<(), AllocError> {
     push_end(text, end)
 }
 
+/// How the stories of a node alone ended.
 fn push_stories(alloc: Global, text: &mut String) -> Result<(), AllocError> {
     let end = stories::run(alloc);
     text.push_str("stories of a node alone\n")?;

@@ -9,7 +9,9 @@ use std::alloc::{AllocError, Global};
 /// What is claimed of commit.
 #[derive(Clone, Copy, PartialEq, Eq)]
 pub enum Claim {
+    /// It is accepted.
     Accepted,
+    /// It is confirmed.
     Confirmed,
 }
 
@@ -23,6 +25,7 @@ pub enum Topic {
 }
 
 impl State {
+    /// The counter of the ballot confirmed as prepared, where it has the value of this one, and 0 otherwise.
     pub fn high_counter(votes: Votes, ballot: Ballot) -> u32 {
         match votes.confirmed_prepared {
             Some(confirmed_prepared) if confirmed_prepared.value == ballot.value =>
@@ -31,6 +34,7 @@ impl State {
         }
     }
 
+    /// The counter from which on a PREPARE of this ballot votes to commit, 0 where it does not.
     pub fn commit_counter(votes: Votes, ballot: Ballot) -> u32 {
         match votes.commit {
             Some(commit)
@@ -40,6 +44,8 @@ impl State {
         }
     }
 
+    /// The ballot statement of the votes, with this ballot as prepared and this counter as aborted, once there is a
+    /// ballot.
     pub fn statement(votes: Votes, prepared: Option<Ballot>, aborted: u32) -> Option<Statement> {
         let Some(ballot) = votes.ballot else {
             return None;
@@ -68,10 +74,13 @@ impl State {
         })
     }
 
+    /// The ballot statement that stands for the node in its own tests, which names all that it accepts.
     pub fn position(votes: Votes) -> Option<Statement> {
         State::statement(votes, votes.prepared, votes.aborted)
     }
 
+    /// The ballot statement that is sent: the position, but with no prepared ballot and no aborted counter that are
+    /// above its ballot.
     pub fn sent(votes: Votes) -> Option<Statement> {
         let Some(ballot) = votes.ballot else {
             return None;
@@ -96,6 +105,8 @@ impl State {
 
     // ---- nomination
 
+    /// The votes with what the leaders nominate, and with the proposal where the node is a leader itself, until a
+    /// value is confirmed.
     pub fn echo(&self, votes: Votes) -> Votes {
         if self.round == 0 || votes.confirms != 0 {
             return votes;
@@ -120,6 +131,7 @@ impl State {
         Votes { voted, ..votes }
     }
 
+    /// The votes with each value that is now accepted as nominated.
     pub fn accept_values(&self, votes: Votes) -> Votes {
         let reach = self.reach();
         let position = Some(Statement::Nominate {
@@ -149,6 +161,7 @@ impl State {
         Votes { accepts, ..votes }
     }
 
+    /// The votes with each value that is now confirmed as nominated.
     pub fn confirm_values(&self, votes: Votes) -> Votes {
         let position = Some(Statement::Nominate {
             voted: votes.voted,
@@ -166,6 +179,7 @@ impl State {
         Votes { confirms, ..votes }
     }
 
+    /// The votes after a pass of nomination, which ends once a ballot is confirmed as prepared.
     pub fn nominate(&self, votes: Votes) -> Votes {
         if votes.confirmed_prepared.is_some() {
             return votes;
@@ -214,6 +228,7 @@ impl State {
         }
     }
 
+    /// Whether the ballot is accepted as prepared.
     pub fn is_accepted(&self, votes: Votes, t: Ballot) -> bool {
         let position = State::position(votes);
         self.is_accepted_by(
@@ -224,6 +239,7 @@ impl State {
         )
     }
 
+    /// Whether the ballot is confirmed as prepared.
     pub fn is_confirmed(&self, votes: Votes, t: Ballot) -> bool {
         self.is_confirmed_by(
             Kind::Balloting,
@@ -259,6 +275,8 @@ impl State {
         low
     }
 
+    /// The votes with a first ballot: of the greatest confirmed value, or else the greatest that is accepted as
+    /// prepared.
     pub fn start(&self, alloc: Global, votes: Votes) -> Result<Votes, AllocError> {
         if votes.ballot.is_some() {
             return Ok(votes);
@@ -278,6 +296,7 @@ impl State {
         Ok(Votes { ballot, ..votes })
     }
 
+    /// The votes with the greatest ballot that is accepted as prepared, and with what that aborts.
     pub fn accept_prepared(&self, alloc: Global, votes: Votes) -> Result<Votes, AllocError> {
         let Some(ballot) = votes.ballot else {
             return Ok(votes);
@@ -309,6 +328,7 @@ impl State {
         })
     }
 
+    /// Whether the ballot is accepted as aborted.
     pub fn is_aborted(votes: Votes, t: Ballot) -> bool {
         let overtaken = match votes.prepared {
             None => false,
@@ -317,6 +337,8 @@ impl State {
         overtaken || votes.aborted > t.counter
     }
 
+    /// The votes with the greatest ballot that is confirmed as prepared, and with the ballot and the commit vote that
+    /// follow from it.
     pub fn confirm_prepared(&self, alloc: Global, votes: Votes) -> Result<Votes, AllocError> {
         let Some(old_ballot) = votes.ballot else {
             return Ok(votes);
@@ -368,6 +390,7 @@ impl State {
         end
     }
 
+    /// The votes with the interval that is accepted as committed, if there is one.
     pub fn accept_commit(&self, alloc: Global, votes: Votes) -> Result<Votes, AllocError> {
         let Some(ballot) = votes.ballot else {
             return Ok(votes);
@@ -417,6 +440,7 @@ impl State {
         end
     }
 
+    /// The votes with the interval that is confirmed as committed, if there is one.
     pub fn confirm_commit(&self, alloc: Global, votes: Votes) -> Result<Votes, AllocError> {
         let Some(ballot) = votes.ballot else {
             return Ok(votes);
@@ -438,10 +462,12 @@ impl State {
 
     // ---- counters
 
+    /// The greatest counter to which other nodes may raise that of the node.
     pub fn cap(&self) -> u32 {
         self.ballot_timeouts.saturating_add(1000)
     }
 
+    /// The ballot at this counter, whose value is chosen anew where the counter is another one.
     pub fn raise_to(votes: Votes, ballot: Ballot, counter: u32) -> Ballot {
         if counter == ballot.counter {
             return ballot;
@@ -460,6 +486,7 @@ impl State {
         at(counter, value)
     }
 
+    /// The votes with the ballot raised as far as greater counters block the node.
     pub fn raise(&self, votes: Votes) -> Votes {
         let Some(ballot) = votes.ballot else {
             return votes;
@@ -479,6 +506,7 @@ impl State {
         }
     }
 
+    /// The votes with the timer armed, where a quorum has at least the counter of the ballot.
     pub fn arm(&self, votes: Votes) -> Votes {
         let Some(ballot) = votes.ballot else {
             return votes;
@@ -527,6 +555,7 @@ fn with_counters(alloc: Global, all: &[Ballot]) -> Result<Vec<Ballot>, AllocErro
     Ok(counted)
 }
 
+/// Whether the ballot is among these.
 fn is_in(ballot: Ballot, ballots: &[Ballot]) -> bool {
     for other in ballots {
         if *other == ballot {

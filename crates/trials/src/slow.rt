@@ -49,6 +49,7 @@ pub struct State {
 }
 
 impl State {
+    /// A node to which nothing has happened.
     pub fn new(alloc: Global, own: u8, trust: Trust) -> State {
         let none = Rows {
             nomination: None,
@@ -85,6 +86,7 @@ impl State {
 
     // ---- what is seen
 
+    /// The row of a sender and a kind.
     pub fn row(&self, node: u8, kind: Kind) -> Option<Row> {
         match self.rows.get(node as usize) {
             None => None,
@@ -95,6 +97,7 @@ impl State {
         }
     }
 
+    /// How many rows there are.
     pub fn row_count(&self) -> u32 {
         let mut count = 0u32;
         for node in NODES {
@@ -107,6 +110,7 @@ impl State {
         count
     }
 
+    /// The slices of a node by its row of this kind; the node's own are those that it has now.
     pub fn trust_of(&self, node: u8, kind: Kind) -> Option<Trust> {
         if node == self.own {
             return Some(self.trust);
@@ -117,6 +121,7 @@ impl State {
         }
     }
 
+    /// The nodes that a node names in either of its rows, or, where it is the node itself, in its slices too.
     pub fn names_from(&self, node: u8) -> Set {
         let mut names = if node == self.own {
             self.trust.names()
@@ -131,6 +136,7 @@ impl State {
         names
     }
 
+    /// The set, and the nodes that its members name.
     pub fn with_named(&self, set: Set) -> Set {
         let mut grown = set;
         for node in NODES {
@@ -141,6 +147,7 @@ impl State {
         grown
     }
 
+    /// The nodes that are reached: the node itself, and those that reached ones name.
     pub fn reach(&self) -> Set {
         let mut reach = bit(self.own);
         for _ in NODES {
@@ -170,6 +177,7 @@ impl State {
         nodes
     }
 
+    /// Whether the set satisfies the slices of each of its members.
     pub fn is_quorum(&self, kind: Kind, set: Set) -> bool {
         for node in NODES {
             if has(set, node) && !self.is_satisfied(node, kind, set) {
@@ -179,6 +187,7 @@ impl State {
         true
     }
 
+    /// Whether the set satisfies the slices of a node, which has to have some.
     fn is_satisfied(&self, node: u8, kind: Kind, set: Set) -> bool {
         match self.trust_of(node, kind) {
             None => false,
@@ -234,6 +243,7 @@ impl State {
         true
     }
 
+    /// Whether a quorum backs it, or those that accept it block the node.
     pub fn is_accepted_by(
         &self,
         kind: Kind,
@@ -245,6 +255,7 @@ impl State {
             || self.blocks(self.nodes_that_meet(kind, position, accepts))
     }
 
+    /// Whether a quorum accepts it.
     pub fn is_confirmed_by(&self, kind: Kind, position: Option<Statement>, accepts: Ask) -> bool {
         self.has_quorum(kind, self.nodes_that_meet(kind, position, accepts))
     }

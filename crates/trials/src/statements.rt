@@ -12,6 +12,7 @@ pub const NODES: [u8; 8] = [0, 1, 2, 3, 4, 5, 6, 7];
 /// The values there are, by number, in byte order.
 pub const VALUES: [u8; 4] = [0, 1, 2, 3];
 
+/// The bit of each node or value, by number.
 const BITS: [Set; 8] = [1, 2, 4, 8, 16, 32, 64, 128];
 
 /// The set of a single node or value.
@@ -37,10 +38,12 @@ pub struct Ballot {
 /// What a node says of nomination or of ballots.
 #[derive(Clone, Copy, PartialEq, Eq)]
 pub enum Statement {
+    /// NOMINATE: the values that it votes to nominate, and those that it accepts.
     Nominate {
         voted: Set,
         accepted: Set,
     },
+    /// PREPARE: it votes to prepare the ballot.
     Prepare {
         ballot: Ballot,
         prepared: Option<Ballot>,
@@ -48,12 +51,14 @@ pub enum Statement {
         high: u32,
         commit: u32,
     },
+    /// COMMIT: it accepts the counters from the commit counter to the high one as committed.
     Commit {
         ballot: Ballot,
         prepared: u32,
         high: u32,
         commit: u32,
     },
+    /// EXTERNALIZE: it confirms those from the counter of the commit to the high one.
     Externalize {
         commit: Ballot,
         high: u32,
@@ -63,15 +68,20 @@ pub enum Statement {
 /// What a statement speaks of.
 #[derive(Clone, Copy, PartialEq, Eq)]
 pub enum Kind {
+    /// NOMINATE.
     Nomination,
+    /// PREPARE, COMMIT, EXTERNALIZE.
     Balloting,
 }
 
 /// How far a ballot has come. What is said of a later phase is newer.
 #[derive(Clone, Copy, PartialEq, Eq, PartialOrd, Ord)]
 pub enum Phase {
+    /// It is to be prepared.
     Preparing,
+    /// It is to be committed.
     Committing,
+    /// Its value is decided.
     Externalized,
 }
 
@@ -143,12 +153,19 @@ pub struct Interval {
 /// What is asked of a statement.
 #[derive(Clone, Copy)]
 pub enum Ask {
+    /// To vote to nominate the value, or to accept it as nominated.
     BacksNominate(u8),
+    /// To accept the value as nominated.
     AcceptsNominate(u8),
+    /// To vote to prepare the ballot, or to accept it as prepared.
     BacksPrepare(Ballot),
+    /// To accept the ballot as prepared.
     AcceptsPrepare(Ballot),
+    /// To vote for commit at each counter of the interval, or to accept it there.
     BacksCommit(Interval),
+    /// To accept commit at each counter of the interval.
     AcceptsCommit(Interval),
+    /// To have at least this counter.
     Counts(u32),
 }
 
@@ -158,6 +175,7 @@ fn implies(greater: Ballot, ballot: Ballot) -> bool {
 }
 
 impl Statement {
+    /// Whether it votes to prepare the ballot.
     fn votes_prepare(self, t: Ballot) -> bool {
         match self {
             Statement::Prepare { ballot, .. } => implies(ballot, t),
@@ -166,6 +184,7 @@ impl Statement {
         }
     }
 
+    /// Whether it accepts the ballot as prepared.
     fn accepts_prepare(self, t: Ballot) -> bool {
         match self {
             Statement::Nominate { .. } => false,
@@ -186,6 +205,7 @@ impl Statement {
         }
     }
 
+    /// Whether it votes to commit the value at the counter.
     fn votes_commit_at(self, value: u8, n: u32) -> bool {
         match self {
             Statement::Prepare {
@@ -199,6 +219,7 @@ impl Statement {
         }
     }
 
+    /// Whether it accepts commit of the value at the counter.
     fn accepts_commit_at(self, value: u8, n: u32) -> bool {
         match self {
             Statement::Commit {
@@ -212,6 +233,7 @@ impl Statement {
         }
     }
 
+    /// Whether it has at least this counter, as an EXTERNALIZE always has.
     fn counts(self, n: u32) -> bool {
         match self {
             Statement::Nominate { .. } => false,
@@ -241,6 +263,7 @@ impl Statement {
         accepts
     }
 
+    /// Whether it votes to nominate the value, or accepts it as nominated.
     pub fn nominates(self, value: u8) -> bool {
         match self {
             Statement::Nominate { voted, accepted } => has(voted | accepted, value),
@@ -248,6 +271,7 @@ impl Statement {
         }
     }
 
+    /// Whether it accepts the value as nominated.
     pub fn accepts_nominate(self, value: u8) -> bool {
         match self {
             Statement::Nominate { accepted, .. } => has(accepted, value),
@@ -255,6 +279,7 @@ impl Statement {
         }
     }
 
+    /// What it speaks of.
     pub fn kind(self) -> Kind {
         match self {
             Statement::Nominate { .. } => Kind::Nomination,
@@ -392,11 +417,13 @@ impl Statement {
     }
 }
 
+/// The ballot of a counter and a value.
 pub fn at(counter: u32, value: u8) -> Ballot {
     Ballot { counter, value }
 }
 
 impl Ask {
+    /// Whether the statement meets what is asked.
     pub fn is_met_by(self, said: Statement) -> bool {
         match self {
             Ask::BacksNominate(value) => said.nominates(value),

@@ -7,13 +7,18 @@ use std::alloc::{AllocError, Global};
 /// What one node gives out.
 #[derive(Clone, Copy, PartialEq, Eq)]
 pub enum Out {
+    /// The timer of this round of nomination is to be armed.
     ArmNomination(u32),
+    /// The ballot timer is to be armed for this counter.
     ArmBallot(u32),
+    /// This statement is to be sent.
     Emit(Statement),
+    /// This value is decided.
     Externalized(u8),
 }
 
 impl State {
+    /// The votes after one pass of all rules.
     pub fn pass(&self, alloc: Global, votes: Votes) -> Result<Votes, AllocError> {
         if votes.phase == Phase::Externalized {
             return Ok(votes);
@@ -50,6 +55,7 @@ impl State {
         self.outs(alloc, old_round, old)
     }
 
+    /// What is given out after an event that led from the old round and votes to those of now.
     pub fn outs(&self, alloc: Global, old_round: u32, old: Votes) -> Result<Vec<Out>, AllocError> {
         let new = self.votes;
         let counter = match new.ballot {

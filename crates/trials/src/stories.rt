@@ -38,8 +38,8 @@ pub fn run(alloc: Global) -> Result<(), Halt> {
     a_second_proposal_begins_the_first_round_again(alloc)
 }
 
-// B and C block A, and both accept all ballots below 6 as aborted, so A would accept <5,q> if a reached node
-// named it. A itself names it: its own position stands for it, which names none.
+/// B and C block A, and both accept all ballots below 6 as aborted, so A would accept <5,q> if a reached node
+/// named it. A itself names it: its own position stands for it, which names none.
 fn a_row_of_its_own_names_no_candidates(alloc: Global) -> Result<(), Halt> {
     is_told(
         alloc,
@@ -52,7 +52,7 @@ fn a_row_of_its_own_names_no_candidates(alloc: Global) -> Result<(), Halt> {
     )
 }
 
-// The round is 1 again, and the leaders so far stay.
+/// The round is 1 again, and the leaders so far stay.
 fn a_second_proposal_begins_the_first_round_again(alloc: Global) -> Result<(), Halt> {
     is_told(
         alloc,

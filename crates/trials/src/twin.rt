@@ -24,14 +24,20 @@ pub struct Twin {
 /// What happens to a node.
 #[derive(Clone, Copy)]
 pub enum Happening {
+    /// A sender says something.
     Said { sender: u8, row: Row },
+    /// It is to propose this value.
     Proposed(u8),
+    /// The nomination timer of this round fires.
     NominationTimer(u32),
+    /// The ballot timer for this counter fires.
     BallotTimer(u32),
+    /// It is given these slices.
     Resliced(Trust),
 }
 
 impl Twin {
+    /// One node twice, to which nothing has happened.
     pub fn new(alloc: Global, node: u8, trust: Trust) -> Result<Twin, Halt> {
         let mut words = String::new(alloc);
         push_trust(&mut words, trust)?;
@@ -57,12 +63,14 @@ impl Twin {
         number
     }
 
+    /// The line that tells what happens.
     fn line(alloc: Global, happening: Happening) -> Result<String, AllocError> {
         let mut line = String::new(alloc);
         push_line(&mut line, happening)?;
         Ok(line)
     }
 
+    /// What the slow program gives out.
     fn slow_outs(&mut self, alloc: Global, happening: Happening) -> Result<Vec<Out>, AllocError> {
         match happening {
             Happening::Said { sender, row } => self.slow.take(alloc, sender, row),
@@ -90,6 +98,7 @@ impl Twin {
         false
     }
 
+    /// The node as it is now.
     fn moment(&self) -> Moment {
         Moment {
             votes: self.slow.votes,
@@ -126,6 +135,7 @@ impl Twin {
         agree(answer.as_str() == expected.as_str())
     }
 
+    /// Keeps what it emits as the newest of its kind.
     fn keep(&mut self, outs: &[Out]) {
         for out in outs {
             if let Out::Emit(said) = *out {
@@ -162,6 +172,7 @@ impl Twin {
         agree(rows.as_str() == expected.as_str())
     }
 
+    /// What it emitted last of one kind, mostly of ballots.
     pub fn emission_at_random(&self, dice: &mut Dice) -> Option<Row> {
         if dice.is_one_in(3) {
             self.nominated
@@ -171,6 +182,7 @@ impl Twin {
     }
 }
 
+/// What is said in a row.
 fn said_in(row: Option<Row>) -> Option<Statement> {
     match row {
         None => None,
@@ -178,6 +190,7 @@ fn said_in(row: Option<Row>) -> Option<Statement> {
     }
 }
 
+/// What happens, in the words of scripts.
 fn push_line(line: &mut String, happening: Happening) -> Result<(), AllocError> {
     match happening {
         Happening::Said { sender, row } => {

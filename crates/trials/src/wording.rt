@@ -5,10 +5,13 @@ use crate::statements::{Ballot, InnerTrust, Kind, NODES, Phase, Row, Set, Statem
 use crate::steps::Out;
 use std::alloc::{AllocError, Global};
 
+/// The names of the nodes, by number.
 const LETTERS: [&str; 8] = ["A", "B", "C", "D", "E", "F", "G", "H"];
 
+/// The words of the values, by number.
 const WORDS: [&str; 4] = ["a", "b", "c", "d"];
 
+/// The name of a node.
 pub fn letter(node: u8) -> &'static str {
     match LETTERS.get(node as usize) {
         Some(letter) => letter,
@@ -16,6 +19,7 @@ pub fn letter(node: u8) -> &'static str {
     }
 }
 
+/// The word of a value.
 pub fn word(value: u8) -> &'static str {
     match WORDS.get(value as usize) {
         Some(word) => word,
@@ -23,6 +27,7 @@ pub fn word(value: u8) -> &'static str {
     }
 }
 
+/// The names of nodes, with a comma between them, and whether there are any.
 fn push_members(text: &mut String, members: Set) -> Result<bool, AllocError> {
     let mut some = false;
     for node in NODES {
@@ -37,6 +42,7 @@ fn push_members(text: &mut String, members: Set) -> Result<bool, AllocError> {
     Ok(some)
 }
 
+/// Slices in words: `2[A,B,1[C]]`.
 pub fn push_trust(text: &mut String, trust: Trust) -> Result<(), AllocError> {
     push_threshold(text, trust.threshold)?;
     let some = push_members(text, trust.members)?;
@@ -56,10 +62,12 @@ fn push_inner(text: &mut String, some: bool, inner: InnerTrust) -> Result<(), Al
     text.push(']')
 }
 
+/// The threshold of slices, and the bracket that opens their members.
 fn push_threshold(text: &mut String, threshold: u32) -> Result<(), AllocError> {
     write!(text, "{threshold}[")
 }
 
+/// The words of values, with this text between them.
 fn push_set(text: &mut String, set: Set, between: &str) -> Result<(), AllocError> {
     let mut some = false;
     for value in NODES {
@@ -74,11 +82,13 @@ fn push_set(text: &mut String, set: Set, between: &str) -> Result<(), AllocError
     Ok(())
 }
 
+/// A ballot in words: `3:a`.
 fn push_ballot(text: &mut String, ballot: Ballot) -> Result<(), AllocError> {
     write!(text, "{}:", ballot.counter)?;
     text.push_str(word(ballot.value))
 }
 
+/// A ballot in words, or `-` for none.
 fn push_known(text: &mut String, ballot: Option<Ballot>) -> Result<(), AllocError> {
     match ballot {
         None => text.push('-'),
@@ -86,6 +96,7 @@ fn push_known(text: &mut String, ballot: Option<Ballot>) -> Result<(), AllocErro
     }
 }
 
+/// A statement in words: `prep(3:a,2:a,0,2,1)`.
 pub fn push_statement(text: &mut String, statement: Statement) -> Result<(), AllocError> {
     match statement {
         Statement::Nominate { voted, accepted } => push_nomination(text, voted, accepted),
@@ -117,6 +128,7 @@ pub fn push_statement(text: &mut String, statement: Statement) -> Result<(), All
     }
 }
 
+/// A nomination in words: `nom(a+b|a)`.
 fn push_nomination(text: &mut String, voted: Set, accepted: Set) -> Result<(), AllocError> {
     text.push_str("nom(")?;
     push_set(text, voted, "+")?;
@@ -125,6 +137,7 @@ fn push_nomination(text: &mut String, voted: Set, accepted: Set) -> Result<(), A
     text.push(')')
 }
 
+/// The beginning of a statement: its word, and its ballot.
 fn push_word_and_ballot(text: &mut String, word: &str, ballot: Ballot) -> Result<(), AllocError> {
     text.push_str(word)?;
     push_ballot(text, ballot)
@@ -147,6 +160,7 @@ pub fn answer_of(alloc: Global, state: &State, outs: &[Out]) -> Result<String, A
     Ok(text)
 }
 
+/// One thing that is given out, with a space before it.
 fn push_out(text: &mut String, out: Out) -> Result<(), AllocError> {
     match out {
         Out::ArmNomination(round) => write!(text, " arm-nomination {round}"),
@@ -172,6 +186,7 @@ pub fn rows_of(alloc: Global, state: &State) -> Result<String, AllocError> {
     Ok(text)
 }
 
+/// A row in words, as a line, where there is one.
 fn push_row(text: &mut String, node: u8, row: Option<Row>) -> Result<(), AllocError> {
     let Some(row) = row else {
         return Ok(());
@@ -204,6 +219,7 @@ fn push_state(text: &mut String, state: &State) -> Result<(), AllocError> {
     push_votes(text, state.votes)
 }
 
+/// The votes in words, each behind its name.
 fn push_votes(text: &mut String, votes: Votes) -> Result<(), AllocError> {
     push_named_set(text, " voted", votes.voted)?;
     push_named_set(text, " accepts", votes.accepts)?;
@@ -224,6 +240,7 @@ fn push_votes(text: &mut String, votes: Votes) -> Result<(), AllocError> {
     )
 }
 
+/// Values behind a name, with a space before each.
 fn push_named_set(text: &mut String, name: &str, set: Set) -> Result<(), AllocError> {
     text.push_str(name)?;
     if set != 0 {
@@ -232,6 +249,7 @@ fn push_named_set(text: &mut String, name: &str, set: Set) -> Result<(), AllocEr
     push_set(text, set, " ")
 }
 
+/// A ballot behind a name, or `-` for none.
 fn push_named(text: &mut String, name: &str, ballot: Option<Ballot>) -> Result<(), AllocError> {
     text.push_str(name)?;
     push_known(text, ballot)

@@ -17,6 +17,7 @@ pub struct LentStatement<'a> {
 /// The fields of a ballot statement.
 #[derive(Drop)]
 pub(crate) enum Said<'a> {
+    /// Those of a PREPARE.
     Preparing {
         ballot: LentBallot<'a>,
         prepared: Option<LentBallot<'a>>,
@@ -24,12 +25,14 @@ pub(crate) enum Said<'a> {
         high_counter: u32,
         commit_counter: u32,
     },
+    /// Those of a COMMIT.
     Committing {
         ballot: LentBallot<'a>,
         prepared_counter: u32,
         high_counter: u32,
         commit_counter: u32,
     },
+    /// Those of an EXTERNALIZE.
     Externalized {
         commit: LentBallot<'a>,
         high_counter: u32,

@@ -31,7 +31,9 @@ pub struct SliceSet {
 #[cycle(slices)]
 #[derive(Drop)]
 pub enum Member {
+    /// The node of this name.
     Node(NodeId),
+    /// An inner set, which counts as one member.
     Set(SliceSet),
 }
 
@@ -113,6 +115,7 @@ fn has_levels(set: &SliceSet, levels: usize) -> bool
     true
 }
 
+/// Whether there are at most 64 members, and the threshold is one to all of them.
 #[tactic(auto, using(crate::proofs::NestedRules::counted))]
 fn is_threshold(threshold: u8, members: &[Member]) -> bool
     ensures { result ≡ has_threshold threshold (members_of members.now) }
@@ -196,12 +199,12 @@ fn are_same(members: &[Member], others: &[Member]) -> bool
 /// Slices that keep the rules: at each level at most 64 members and a threshold of one to all of
 /// them, at most eight levels of inner sets, at most 256 names, and no name twice in the tree (this
 /// host's profile of the nested slices of the Stellar Consensus Protocol draft). Copies share them.
-#[derive(Drop)]
-pub struct Nested {
-    set: Arc<SliceSet, Global>,
 ///
 /// For example, 2 of A, B and the inner set 1 of C are such slices; 3 of A and B are none, since the threshold is too
 /// high, nor are 1 of A and the inner set 1 of A, where a name stands twice.
+#[derive(Drop)]
+pub struct Nested {
+    set: Arc<SliceSet, Global>,
 }
 
 impl Model for Nested {

@@ -194,6 +194,7 @@ impl Votes {
         self.has_same_values(other) && self.has_same_ballots(other) && self.has_same_counters(other)
     }
 
+    /// Whether the values voted for, accepted and confirmed are the same.
     fn has_same_values(&self, other: &Votes) -> bool
         ensures { IsTrue result ↔ (self.now.voted ≡ other.now.voted) × (self.now.accepts ≡ other.now.accepts) × (self.now.confirms ≡ other.now.confirms) }
     {
@@ -202,6 +203,7 @@ impl Votes {
             && self.confirms.is_same(&other.confirms)
     }
 
+    /// Whether the ballots are the same.
     fn has_same_ballots(&self, other: &Votes) -> bool
         ensures { IsTrue result ↔ (self.now.ballot ≡ other.now.ballot) × (self.now.prepared ≡ other.now.prepared) × (self.now.confirmed_prepared ≡ other.now.confirmed_prepared) × (self.now.commit ≡ other.now.commit) }
     {
@@ -211,6 +213,7 @@ impl Votes {
             && is_same(&self.commit, &other.commit)
     }
 
+    /// Whether the phase and the counters are the same.
     fn has_same_counters(&self, other: &Votes) -> bool
         ensures { IsTrue result ↔ (self.now.phase ≡ other.now.phase) × (self.now.aborted ≡ other.now.aborted) × (self.now.low ≡ other.now.low) × (self.now.high ≡ other.now.high) × (self.now.armed ≡ other.now.armed) }
     {

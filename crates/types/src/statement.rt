@@ -285,6 +285,7 @@ pub(crate) fn read_widths(statement: &Statement)
     }
 }
 
+/// Whether the prepared ballot, if there is one, is not above the other one.
 fn is_up_to(prepared: &Option<Ballot>, ballot: &Ballot) -> bool
     ensures { result ≡ is_up_to prepared.now ballot.now }
 {

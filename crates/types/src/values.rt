@@ -116,6 +116,7 @@ fn missing_at(items: &[Value], value: &Value) -> Option<usize>
     Some(items.len())
 }
 
+/// Whether each value is below the next one.
 fn is_ascending(items: &[Value]) -> bool
     ensures { result ≡ is_ascending items.now }
 {

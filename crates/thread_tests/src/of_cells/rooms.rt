@@ -143,6 +143,7 @@ impl<S: Shelf + Drop, H: Wait + Drop> Room<S, H> {
     }
 }
 
+/// The slot is to be opened.
 pub(super) fn open(slot: u64) -> Event {
     Event::OpenSlot { slot }
 }
@@ -157,6 +158,7 @@ pub(super) fn proposal(alloc: Global) -> Option<Event> {
     })
 }
 
+/// Whether it is the value `x`.
 pub(super) fn is_x(value: &Value) -> bool {
     value.as_bytes() == [b'x'].as_slice()
 }
