@@ -132,7 +132,7 @@ impl<S: Shelf> Network<S> {
         self.plan_own(slot, node, FiledEvent::BallotTimer(counter))
     }
 
-    /// What is to be done for an event of a node's own that nothing else refuses and that needs no memory.
+    /// What is to be done for an event of a node's own that nothing else refuses.
     fn plan_own(&self, slot: u64, node: &NodeId, event: FiledEvent) -> Result<Plan, Refusal>
         requires { IsFiledEvent self.now.archive event }
         ensures { IsPlannedOwn self.now slot node.now event result }
@@ -147,12 +147,9 @@ impl<S: Shelf> Network<S> {
     fn plan_reslice(&self, slot: u64, node: &NodeId, slices: &Nested) -> Result<Plan, Refusal>
         ensures { IsPlanned self.now (Reslices slot node.now slices.now) result }
     {
-        let _slots = &self.slots;
-        let spot = self.spot(slot, node)?;
-        let drawn = self.own_room(&spot, node)?;
         match slices.try_copy() {
             Err(_) => Err(Refusal::NoMemory),
-            Ok(slices) => Ok(plan_at(&spot, drawn, FiledEvent::Reslice(slices))),
+            Ok(slices) => self.plan_own(slot, node, FiledEvent::Reslice(slices)),
         }
     }
 
