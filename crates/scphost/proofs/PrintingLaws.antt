@@ -1,12 +1,14 @@
 -- What the commands print that run scripts to their ends first.
-use Rattle.std.proofs.Common.{◌≡◌, ℕ, Bool, false, Option, Some, None, inl, subst}
+use Rattle.std.proofs.Common.{◌≡◌, ℕ, Bool, false, Option, Some, None, inl, refl, subst}
 use Rattle.std.specs.Prelude.{IfSome}
 use Rattle.scripts.specs.Script.{Bytes}
 use Rattle.protocol.specs.Hosts.{History}
 use Rattle.runs.specs.Submitting.{Submitting}
 use Rattle.scphost.specs.Comparisons.{IsComparison}
 use Rattle.scphost.specs.Crowding.{TellsCrowd}
-use Rattle.scphost.specs.Printing.{HasAnswered, IsCompared, IsCrowd, IsPerformed, IsPooled, IsPrinted, IsReported}
+use Rattle.runs.specs.Hosting.{unhosted}
+use Rattle.runs.specs.Running
+use Rattle.scphost.specs.Printing.{HasAnswered, HasRunLines, IsCompared, IsCrowd, IsPerformed, IsPooled, IsPrinted, IsReported}
 use Rattle.scphost.specs.Reporting.{IsReport}
 use Rattle.scphost.specs.Scripts.{IsSubmittedBy, IsTold, Story}
 use Rattle.scphost.specs.declared.answer.Answer.{Answer}
@@ -35,8 +37,9 @@ pub has-pooled : (workers : ℕ) (file old new : Option Bytes) (status : ℕ) (a
     → HasAnswered (IsPooled workers file) old new status
 has-pooled workers file old new status a right printed = inl (a, right, printed)
 
--- what is said of a run on workers is all that is said of a run
+-- a run is one of lines or, on workers, of jobs
 pub run-performed : (script : Bytes) (workers : Option ℕ) (first second old new : Option Bytes) (status : ℕ)
+    → (workers ≡ None → HasRunLines Running.Tells Running.RefusesLine unhosted first old new status)
     → IfSome workers (λ n. HasAnswered (IsPooled n first) old new status) → IsPerformed (Run script workers) first second old new status
-run-performed script None first second old new status answered = tt
-run-performed script (Some n) first second old new status answered = answered
+run-performed script None first second old new status ran answered = ran refl
+run-performed script (Some n) first second old new status ran answered = answered

@@ -1,17 +1,26 @@
--- What the commands print that run scripts to their ends first, and the exit status.
-use Rattle.std.specs.Prelude.{◌≡◌, ◌⊎◌, ℕ, Bool, false, Option, Some, ⊤, string_bytes, if◌then◌else◌}
+-- What the commands print, and the exit status.
+use Rattle.std.specs.Prelude.{◌≡◌, ◌⊎◌, ℕ, Bool, false, [], Option, Some, None, Result, string_bytes, if◌then◌else◌}
 use Rattle.std.specs.Io.KnownBytes.{Appends, Keeps}
 use Rattle.scripts.specs.Script.{Bytes}
+use Rattle.scripts.specs.Runs.{HasRunScript, Refusing, Telling}
+use Rattle.scripts.specs.Streams.{HasRunStream}
+use Rattle.scripts.specs.declared.run.Stop.{Stop}
+use Rattle.tables.specs.TableLines
+use Rattle.runs.specs.Hosting.{unhosted}
+use Rattle.runs.specs.Running
 use Rattle.runs.specs.Plans.{Plan}
 use Rattle.runs.specs.Submitting.{Submitting}
 use Rattle.pooled.specs.Pooling.{IsPoolText}
 use Rattle.scphost.specs.Comparisons.{IsComparison}
 use Rattle.scphost.specs.Crowding.{TellsCrowd}
 use Rattle.scphost.specs.Reporting.{IsReport}
-use Rattle.scphost.specs.Scripts.{IsPlannedBy, IsSubmittedBy, IsTold, Story}
+use Rattle.scphost.specs.Scripts.{IsPlannedBy, IsSubmittedBy, IsTold, Story, longest_script}
+use Rattle.scphost.specs.Stops.{IsStatusOf}
 use Rattle.scphost.specs.declared.answer.Answer.{Answer}
 use Rattle.command_line.specs.declared.call.Call.{Call}
-use Rattle.command_line.specs.declared.call.Call.TheVariants.{Run, Closure, Compare, Crowd}
+use Rattle.command_line.specs.declared.call.Call.TheVariants.{Table, Run, Closure, Compare, Crowd}
+use Rattle.command_line.specs.declared.call.Usage.{Usage}
+use Rattle.command_line.specs.declared.call.Usage.TheVariants.{Help, Bad, NoMemory}
 use Rattle.command_line.specs.declared.subject.Format.{Format}
 use Rattle.types.specs.declared.subject.Subject.{Subject}
 
@@ -47,10 +56,37 @@ IsPooled workers script a =
     (plan : Plan) × IsPlannedBy script plan × (a.differs ≡ false)
     × IsPoolText plan.submitted.history.configs plan.submitted.history.calls plan.opens workers (string_bytes a.text)
 
--- what a call does with its files, of which it prints the answer. Of the others this says nothing.
+-- the lines of a script are run in order, from this state on, and what they print is written; the status says how the run ended
+abbrev pub HasRunLines : {S : Type 0} → Telling S → Refusing S → S → Option Bytes → Option Bytes → Option Bytes → ℕ → Type 0
+HasRunLines {S = S} tells refuses start script old new status =
+    (end : Result (Unit {0}) Stop) × (last : S) × IsStatusOf end status × HasRunScript tells refuses start script old new end last
+
+-- what a call does with its files: it runs the lines of one, or prints the answer
 abbrev pub IsPerformed : Call → Option Bytes → Option Bytes → Option Bytes → Option Bytes → ℕ → Type 0
+IsPerformed (Table file) first second old new status = HasRunLines TableLines.Tells TableLines.Refuses None first old new status
+IsPerformed (Run script None) first second old new status = HasRunLines Running.Tells Running.RefusesLine unhosted first old new status
+IsPerformed (Run script (Some workers)) first second old new status = HasAnswered (IsPooled workers first) old new status
 IsPerformed (Closure script subject format) first second old new status = HasAnswered (IsReported format subject first) old new status
 IsPerformed (Compare one other subject explain) first second old new status = HasAnswered (IsCompared explain subject first second) old new status
 IsPerformed (Crowd one other subject) first second old new status = HasAnswered (IsCrowd subject first second) old new status
-IsPerformed (Run script (Some workers)) first second old new status = HasAnswered (IsPooled workers first) old new status
-IsPerformed call first second old new status = ⊤
+
+-- the same of lines each of which is answered before the next one is read
+abbrev pub HasRunAsTheyCome : {S : Type 0} → Telling S → Refusing S → S → Option Bytes → Option Bytes → Option Bytes → ℕ → Type 0
+HasRunAsTheyCome {S = S} tells refuses start input old new status =
+    (end : Result (Unit {0}) Stop) × (last : S) × IsStatusOf end status × HasRunStream longest_script tells refuses start input old new end last
+
+-- what a call does with the standard input: it runs its lines as they come, or is performed on all of it
+abbrev pub IsPerformedAsItComes : Call → Option Bytes → Option Bytes → Option Bytes → ℕ → Type 0
+IsPerformedAsItComes (Table file) input old new status = HasRunAsTheyCome TableLines.Tells TableLines.Refuses None input old new status
+IsPerformedAsItComes (Run script None) input old new status = HasRunAsTheyCome Running.Tells Running.RefusesLine unhosted input old new status
+IsPerformedAsItComes (Run script (Some workers)) input old new status = IsPerformed (Run script (Some workers)) input (Some []) old new status
+IsPerformedAsItComes (Closure script subject format) input old new status = IsPerformed (Closure script subject format) input (Some []) old new status
+IsPerformedAsItComes (Compare one other subject explain) input old new status = IsPerformed (Compare one other subject explain) input (Some []) old new status
+IsPerformedAsItComes (Crowd one other subject) input old new status = IsPerformed (Crowd one other subject) input (Some []) old new status
+
+-- what answers words that are no call: help is printed whole, or a write failed (4); else nothing is printed, and the words are
+-- at fault (2), or there was no memory (3)
+abbrev pub HasAnsweredUsage : Usage → Option Bytes → Option Bytes → ℕ → Type 0
+HasAnsweredUsage (Help text) old new status = ((status ≡ 0) × Appends old new (string_bytes text)) ⊎ (status ≡ 4)
+HasAnsweredUsage (Bad text) old new status = (status ≡ 2) × Keeps old new
+HasAnsweredUsage NoMemory old new status = (status ≡ 3) × Keeps old new

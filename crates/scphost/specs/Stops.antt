@@ -1,8 +1,6 @@
 -- The exit status of each way to end.
 use Rattle.std.specs.Prelude.{◌≡◌, ◌⊎◌, ◌==◌, ℕ, Bool, [], ◌∷◌, IsTrue, Result, MatchResult, if◌then◌else◌}
 use Rattle.std.specs.List.{list_any}
-use Rattle.command_line.specs.declared.call.Usage.{Usage}
-use Rattle.command_line.specs.declared.call.Usage.TheVariants as usage
 use Rattle.scripts.specs.declared.run.Stop.{Stop}
 use Rattle.scripts.specs.declared.run.Stop.TheVariants as stop
 
@@ -25,10 +23,3 @@ IsStatusOfAnswer differs status = (status ≡ (if differs then 1 else 0)) ⊎ (s
 -- the status of a run
 abbrev pub IsStatusOf : Result (Unit {0}) Stop → ℕ → Type 0
 IsStatusOf ran status = MatchResult ran (λ _. status ≡ 0) (λ stop. status ≡ status_of stop)
-
--- the status that answers words that are no call: help was written or not, or the words are at
--- fault, or there was no memory
-abbrev pub IsRefusal : Usage → ℕ → Type 0
-IsRefusal (usage.Help text) status = (status ≡ 0) ⊎ (status ≡ 4)
-IsRefusal (usage.Bad text) status = status ≡ 2
-IsRefusal usage.NoMemory status = status ≡ 3

@@ -17,24 +17,39 @@ use command_line::{Call, Usage, read_call};
 use outputs::Outputs;
 use perform::{perform, perform_stream, print_stop, print_usage};
 use scripts::Stop;
-use std::io::{ErrorKind, Input, Read, Write};
+use std::io::{BufWriter, ErrorKind, Input, Read, Write};
 use std::process::ExitCode;
 use std::rt::{Env, Files};
 use std::sync::Wait;
 use std::thread::Threads;
 use std::{env, fs, io};
 
-/// Reads the command line, carries out its call, and ends with its status.
+/// Reads the command line, carries out its call, and ends with its status. What is printed is kept together, so that
+/// many short lines are few writes.
 fn main(rt: HostRuntime) -> ExitCode {
-    let mut outputs = Outputs {
-        out: rt.stdout(),
-        err: rt.stderr(),
-    };
-    let status = match read_command_line(&rt) {
-        Ok(call) => open_and_perform(&rt, &call, &mut outputs),
-        Err(usage) => print_usage(&usage, &mut outputs),
+    let mut err = rt.stderr();
+    let status = match BufWriter::new(rt.alloc(), rt.stdout()) {
+        Ok(out) => run_command_line(&rt, Outputs { out, err }),
+        Err(_) => print_stop(Stop::NoMemory, "", &mut err),
     };
     ExitCode::from(status)
+}
+
+/// Carries out the call of the command line, and answers its status. What is still kept at the end is given up: a write
+/// failed, and nothing is written after it.
+fn run_command_line<
+    R: Env + Files + Input + AllocGlobal + Threads + Wait + Sync + Send + Copy + Drop,
+    W: Write + Drop,
+    E: Write + Drop,
+>(rt: &R, outputs: Outputs<BufWriter<W>, E>) -> u8 {
+    let mut outputs = outputs;
+    let status = match read_command_line(rt) {
+        Ok(call) => open_and_perform(rt, &call, &mut outputs),
+        Err(usage) => print_usage(&usage, &mut outputs),
+    };
+    let Outputs { out, err: _ } = outputs;
+    let (_, _) = out.into_parts();
+    status
 }
 
 /// Reads the words of the command line. A word that is no text is a bad usage.

@@ -1,8 +1,10 @@
 //! Carrying out a call: its files are run, and the status is answered.
 
-ghost use Rattle.std.specs.Prelude.{◌≡◌, ◌⊎◌, Err, IfSome};
-ghost use Rattle.scphost.specs.Printing.{HasAnswered, IsCompared, IsCrowd, IsPerformed, IsPooled, IsReported};
-ghost use Rattle.scphost.specs.Stops.{IsRefusal, IsStatus, IsStatusOf, status_of};
+ghost use Rattle.std.specs.Prelude.{◌≡◌, IfSome, None};
+ghost use Rattle.runs.specs.Hosting.{unhosted};
+ghost use Rattle.runs.specs.Running.{RefusesLine, Tells};
+ghost use Rattle.scphost.specs.Printing.{HasAnswered, HasAnsweredUsage, HasRunLines, IsCompared, IsCrowd, IsPerformed, IsPerformedAsItComes, IsPooled, IsReported};
+ghost use Rattle.scphost.specs.Stops.{IsStatus, IsStatusOf, status_of};
 
 use crate::comparing::{Side, Sides, answer_compare};
 use crate::crowding::{answer_crowd, read_submission};
@@ -12,10 +14,10 @@ use crate::quiet::FinishedScript;
 use crate::reporting::answer_closure;
 use command_line::{Call, Format, PoolSize, Usage, Word};
 use runs::HostRun;
-use scripts::{LineRunner, Stop, run_script, run_stream};
+use scripts::{Stop, run_script, run_stream};
 use std::alloc::Global;
 use std::io;
-use std::io::{BufRead, BufWriter, Read, Write};
+use std::io::{BufRead, Read, Write};
 use std::sync::Wait;
 use std::thread::Threads;
 use tables::TableRun;
@@ -58,7 +60,7 @@ pub fn perform<
     let alloc = rt.alloc();
     match call {
         Call::Table { file } => {
-            let ran = run_whole(alloc, &mut TableRun::new(), first, &mut outputs.out);
+            let ran = run_script(alloc, &mut TableRun::new(), first, &mut outputs.out);
             print_end(ran, file.as_str(), &mut outputs.err)
         }
         Call::Run { script, workers } => perform_run(rt, *workers, script, first, outputs),
@@ -137,12 +139,13 @@ fn perform_run<
     E: Write,
 >(rt: &A, workers: Option<PoolSize>, file: &Word, script: &mut R, outputs: &mut Outputs<W, E>) -> u8
     ensures status { IsStatus result }
+    ensures ran { workers ≡ None → HasRunLines Tells RefusesLine unhosted (R.remaining script.old) (W.contents outputs.old.out) (W.contents outputs.new.out) result }
     ensures pooled { IfSome workers (λ n. HasAnswered (IsPooled n (R.remaining script.old)) (W.contents outputs.old.out) (W.contents outputs.new.out) result) }
 {
     match workers {
         None => {
             let alloc = rt.alloc();
-            let ran = run_whole(alloc, &mut HostRun::new(alloc), script, &mut outputs.out);
+            let ran = run_script(alloc, &mut HostRun::new(alloc), script, &mut outputs.out);
             print_end(ran, file.as_str(), &mut outputs.err)
         }
         Some(workers) => perform_pool(rt, workers, file, script, outputs),
@@ -259,19 +262,20 @@ pub fn perform_stream<
     W: Write,
     E: Write,
 >(rt: &A, call: &Call, input: &mut R, outputs: &mut Outputs<W, E>) -> u8
-    ensures { IsStatus result }
+    ensures status { IsStatus result }
+    ensures performed { IsPerformedAsItComes call.now (R.remaining input.old) (W.contents outputs.old.out) (W.contents outputs.new.out) result }
 {
     let alloc = rt.alloc();
     match call {
         Call::Table { file } => {
-            let ran = run_line_by_line(alloc, &mut TableRun::new(), input, &mut outputs.out);
+            let ran = run_stream(alloc, &mut TableRun::new(), input, &mut outputs.out);
             print_end(ran, file.as_str(), &mut outputs.err)
         }
         Call::Run {
             script,
             workers: None,
         } => {
-            let ran = run_line_by_line(alloc, &mut HostRun::new(alloc), input, &mut outputs.out);
+            let ran = run_stream(alloc, &mut HostRun::new(alloc), input, &mut outputs.out);
             print_end(ran, script.as_str(), &mut outputs.err)
         }
         Call::Run {
@@ -284,61 +288,9 @@ pub fn perform_stream<
     }
 }
 
-/// Runs a script that is read whole, and hands on what it prints many lines at a time.
-pub fn run_whole<S: LineRunner, R: Read, W: Write>(
-    alloc: Global,
-    runner: &mut S,
-    file: &mut R,
-    out: &mut W,
-) -> Result<(), Stop> {
-    match BufWriter::new(alloc, out) {
-        Ok(mut buffered) => {
-            let ran = run_script(alloc, runner, file, &mut buffered);
-            write_rest(buffered, ran)
-        }
-        Err(_) => Err(Stop::NoMemory),
-    }
-}
-
-/// Runs a script as it comes, and hands on what a line prints in one piece.
-pub fn run_line_by_line<S: LineRunner, R: BufRead, W: Write>(
-    alloc: Global,
-    runner: &mut S,
-    input: &mut R,
-    out: &mut W,
-) -> Result<(), Stop> {
-    match BufWriter::new(alloc, out) {
-        Ok(mut buffered) => {
-            let ran = run_stream(alloc, runner, input, &mut buffered);
-            write_rest(buffered, ran)
-        }
-        Err(_) => Err(Stop::NoMemory),
-    }
-}
-
-/// Writes what is still buffered, where something may be. After a write that failed it is given up, so that
-/// nothing is written after the failure.
-fn write_rest<W: Write + Drop>(buffered: BufWriter<W>, ran: Result<(), Stop>) -> Result<(), Stop>
-    ensures { (result ≡ ran) ⊎ (result ≡ Err Stop.CannotWrite) }
-{
-    let mut buffered = buffered;
-    let flushed = leaves_nothing(&ran) || buffered.flush().is_ok();
-    let (_, _) = buffered.into_parts();
-    if flushed { ran } else { Err(Stop::CannotWrite) }
-}
-
-/// Whether a run that ended so leaves nothing to write: no write follows one that failed, and a script that
-/// could not be read, or was too long, left nothing in the buffer.
-fn leaves_nothing(ran: &Result<(), Stop>) -> bool {
-    match ran {
-        Err(Stop::CannotWrite | Stop::CannotRead | Stop::TooLong) => true,
-        Err(Stop::BadLine(_) | Stop::NoMemory) | Ok(()) => false,
-    }
-}
-
 /// Answers words that are no call: prints the text where it belongs, and gives the exit status.
 pub fn print_usage<W: Write, E: Write>(usage: &Usage, outputs: &mut Outputs<W, E>) -> u8
-    ensures { IsRefusal usage.now result }
+    ensures { HasAnsweredUsage usage.now (W.contents outputs.old.out) (W.contents outputs.new.out) result }
 {
     let out = &mut outputs.out;
     let err = &mut outputs.err;

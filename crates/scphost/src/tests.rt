@@ -1,7 +1,4 @@
 //! Tests over memory: of what no contract says, and that each call can succeed.
 
 mod calls;
-mod fakes;
-mod limits;
-mod pools;
-mod running;
+mod messages;
