@@ -1,5 +1,5 @@
-//! What a network is configured with, as it is read, and faults in words. Which fault is answered is proved, and each
-//! limit is tried through the program.
+//! That a network is configured and copied where there is memory, and faults in words. What a configuration has, and which
+//! fault is answered, is said by contracts; each limit is tried through the program.
 
 use configuration::{Budgets, ConfigError, Host, NetConfig, Reservation, Shares};
 use std::alloc::Global;
@@ -48,42 +48,12 @@ const SHARES: Shares = Shares {
     opens: 4,
 };
 
-/// The names of the hosts, and the place of each, as it is looked up.
-fn is_in_order(config: &NetConfig, numbers: &[u64]) -> bool {
-    let mut place = 0;
-    for host in config.hosts() {
-        let is_here = numbers.get(place) == Some(&host.name().words().3);
-        if !is_here || config.place(host.name()) != Some(place) {
-            return false;
-        }
-        place = place.saturating_add(1);
-    }
-    place == numbers.len()
-}
-
 /// A roster of the names 0 to 2.
 fn three_names(alloc: Global) -> Result<Reservation, Fail> {
     Ok(Reservation {
         names: names(alloc, 3)?,
         shares: SHARES,
     })
-}
-
-#[test]
-fn names_come_out_ascending(rt: HostRuntime) -> Result<(), Fail> {
-    let alloc = rt.alloc();
-    let given = nodes(alloc, &[9, 7, 8])?;
-    let roster = three_names(alloc)?;
-    let config = NetConfig::with_roster(alloc, 6, given, budgets()?, roster)
-        .ok()
-        .ok_or("a network")?;
-    assert!(rt; is_in_order(&config, &[7, 8, 9]));
-    assert_eq!(rt; config.place(&name(6)), None);
-    assert_eq!(rt; config.place(&name(10)), None);
-    let copy = config.try_copy(alloc)?;
-    assert!(rt; is_in_order(&copy, &[7, 8, 9]));
-    assert_eq!(rt; copy.number(), 6);
-    Ok(())
 }
 
 /// Whether the roster has the names 0 to 2 and no other, in order, with these shares.
@@ -103,7 +73,7 @@ fn is_roster_of_three(config: &NetConfig) -> bool {
 #[test]
 fn a_copy_has_the_roster(rt: HostRuntime) -> Result<(), Fail> {
     let alloc = rt.alloc();
-    let given = nodes(alloc, &[9])?;
+    let given = nodes(alloc, &[9, 7])?;
     let roster = three_names(alloc)?;
     let config = NetConfig::with_roster(alloc, 6, given, budgets()?, roster)
         .ok()

@@ -1,9 +1,9 @@
-//! What is printed of small closures.
+//! How a small closure is drawn, as a graph and as a picture. Its text is said by a contract.
 
 ghost use Rattle.std.specs.Prelude.{◌<◌};
 
 use closure::{Announcement, Announcements};
-use explorer::{NoNetwork, push_dot, push_svg, push_text, report_of};
+use explorer::{push_dot, push_svg, report_of};
 use std::alloc::Global;
 use std::test::Fail;
 use types::{Member, Nested, NodeId, SliceSet};
@@ -90,19 +90,6 @@ fn example(alloc: Global) -> Result<Hosts, Fail> {
 }
 
 #[test]
-fn members_and_who_blocks_alone(rt: HostRuntime) -> Result<(), Fail> {
-    let alloc = rt.alloc();
-    let report = report_of(alloc, &example(alloc)?, 1, &name(A))?;
-    let mut text = String::new(alloc);
-    push_text(&mut text, &report)?;
-    assert_eq!(rt;
-        text.as_str(),
-        "0 A -\n1 B 0\n2 C 0\n3 D 0\n4 Z 3\nblocks A\nblocks D Z\n"
-    );
-    Ok(())
-}
-
-#[test]
 fn a_graph_of_two_members(rt: HostRuntime) -> Result<(), Fail> {
     let alloc = rt.alloc();
     let report = report_of(alloc, &example(alloc)?, 1, &name(D))?;
@@ -127,15 +114,5 @@ fn a_picture_has_each_name(rt: HostRuntime) -> Result<(), Fail> {
         let title = format!(in alloc; "<title>{title}</title>")?;
         assert!(rt; text.contains(title.as_str()));
     }
-    Ok(())
-}
-
-#[test]
-fn a_node_of_no_network_is_alone(rt: HostRuntime) -> Result<(), Fail> {
-    let alloc = rt.alloc();
-    let report = report_of(alloc, &NoNetwork, 1, &name(A))?;
-    let mut text = String::new(alloc);
-    push_text(&mut text, &report)?;
-    assert_eq!(rt; text.as_str(), "0 A -\n");
     Ok(())
 }

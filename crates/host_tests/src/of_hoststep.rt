@@ -1,9 +1,8 @@
-//! Machines and journals with ample memory, told by hand.
+//! That machines and journals answer where there is memory: no clause says so. What they answer is said by contracts.
 
-use closure::Announcements;
 use codec::encode;
 use envstore::VecShelf;
-use hoststep::{Budgets, Host, Journal, LentEvent, NetConfig, NetMachine};
+use hoststep::{Budgets, Host, Journal, NetConfig, NetMachine};
 use std::alloc::Global;
 use std::test::Fail;
 use types::{
@@ -62,18 +61,6 @@ fn with_event(mut journal: Journal<VecShelf>, event: Event) -> Option<Journal<Ve
     }
 }
 
-/// A journal where slot 5 was opened, node 2 voted, and node 1 was given slices of node 3, with room for two
-/// more events.
-fn resliced_journal(alloc: Global) -> Option<Journal<VecShelf>> {
-    let journal = with_event(open_journal(alloc, 5)?, delivery(vote(alloc)?))?;
-    let reslice = Event::Reslice {
-        slot: 5,
-        node: name(1),
-        slices: slices(alloc, 3)?,
-    };
-    with_event(journal, reslice)
-}
-
 /// Whether a journal refuses an event by this refusal.
 fn is_refused(journal: &mut Journal<VecShelf>, event: Event, by: Refusal) -> bool {
     match journal.apply(event) {
@@ -102,46 +89,6 @@ fn reads_back(
 ) -> Option<bool> {
     let (event, given) = journal.entry(alloc, number).ok()??;
     Some(delivers(&event, wanted) && given.len() == outs)
-}
-
-/// Whether the entry of this number, read in place, delivers so many bytes of node 2 to node 1.
-fn delivers_in_place(journal: &Journal<VecShelf>, number: usize, count: u64) -> bool {
-    match &journal.event(number) {
-        Some(
-            LentEvent::Deliver {
-                node,
-                size,
-                envelope,
-            },
-        ) => { node.is_same(&name(1)) && *size == count && envelope.sender().is_same(&name(2)) }
-        _ => false,
-    }
-}
-
-/// Whether the entry of this number, read in place, opens this slot.
-fn opens_in_place(journal: &Journal<VecShelf>, number: usize, wanted: u64) -> bool {
-    match &journal.event(number) {
-        Some(LentEvent::OpenSlot { slot }) => *slot == wanted,
-        _ => false,
-    }
-}
-
-/// Whether the entry of this number announces slices of this node to node 1 at slot 5.
-fn announces(journal: &Journal<VecShelf>, number: usize, sender: u64) -> bool {
-    let Some(announcement) = journal.announcement(number) else {
-        return false;
-    };
-    announcement.slot == 5
-        && announcement.receiver.is_same(&name(1))
-        && announcement.sender.is_same(&name(sender))
-}
-
-/// Whether these are the given slices.
-fn are_slices(slices: Option<&Nested>, wanted: &Nested) -> bool {
-    match slices {
-        None => false,
-        Some(slices) => slices.is_same(wanted),
-    }
 }
 
 /// How many outs a proposal gives, and how many stand in a list to which they are appended twice.
@@ -193,77 +140,8 @@ fn a_machine_gives_out_what_its_journal_says(rt: HostRuntime) -> Result<(), Fail
 }
 
 #[test]
-fn events_are_read_in_place(rt: HostRuntime) -> Result<(), Fail> {
-    let alloc = rt.alloc();
-    let journal = resliced_journal(alloc).ok_or("memory")?;
-    let bytes = vote(alloc).ok_or("memory")?;
-    assert!(rt; opens_in_place(&journal, 0, 5) && !opens_in_place(&journal, 0, 6));
-    assert!(rt; delivers_in_place(&journal, 1, bytes.as_slice().len() as u64));
-    assert!(rt; journal.event(3).is_none());
-    Ok(())
-}
-
-#[test]
 fn outs_are_appended(rt: HostRuntime) -> Result<(), Fail> {
     let (given, appended) = append_twice(rt.alloc()).ok_or("memory")?;
     assert!(rt; given > 0 && given < 10 && appended == 2 * given);
-    Ok(())
-}
-
-#[test]
-fn deliveries_and_new_slices_are_announced(rt: HostRuntime) -> Result<(), Fail> {
-    let journal = resliced_journal(rt.alloc()).ok_or("memory")?;
-    assert!(rt; journal.announcement(0).is_none() && journal.announcement(3).is_none());
-    assert!(rt; announces(&journal, 1, 2) && announces(&journal, 2, 1));
-    Ok(())
-}
-
-#[test]
-fn slices_hold_at_their_slot(rt: HostRuntime) -> Result<(), Fail> {
-    let alloc = rt.alloc();
-    let journal = resliced_journal(alloc).ok_or("memory")?;
-    let configured = slices(alloc, 2).ok_or("memory")?;
-    let new = slices(alloc, 3).ok_or("memory")?;
-    assert!(rt; are_slices(journal.slices(&name(1)), &configured));
-    assert!(rt; are_slices(journal.slices_then(&name(1), 5), &new));
-    assert!(rt; are_slices(journal.slices_then(&name(1), 6), &configured));
-    assert!(rt; journal.slices(&name(2)).is_none() && journal.slices_then(&name(3), 5).is_none());
-    assert!(rt;
-        journal.slices_then(&name(2), 5).is_none() && journal.slices_then(&name(3), 6).is_none()
-    );
-    Ok(())
-}
-
-/// A journal where node 1, which needs itself alone, was told to propose a value at slot 5.
-fn journal_of_a_decision(alloc: Global) -> Option<Journal<VecShelf>> {
-    let hosts = vec![in alloc; Host::new(name(1), slices(alloc, 1)?)].ok()?;
-    let config = NetConfig::new(alloc, 7, hosts, Budgets::new(9, 1000, 1)?).ok()?;
-    let journal = Journal::new(alloc, config, VecShelf::new(alloc));
-    let journal = with_event(journal, Event::OpenSlot { slot: 5 })?;
-    let proposal = Event::Propose {
-        slot: 5,
-        node: name(1),
-        value: Bytes::new(Vec::from_slice(alloc, b"x").ok()?),
-    };
-    with_event(journal, proposal)
-}
-
-/// Whether the entry of this number, read in place, has node 1 decide this value for slot 5.
-fn decides_in_place(journal: &Journal<VecShelf>, number: usize, value: &[u8]) -> bool {
-    match &journal.decision(number) {
-        Some(decision) => {
-            decision.slot == 5
-                && decision.node.is_same(&name(1))
-                && decision.value.as_bytes() == value
-        }
-        None => false,
-    }
-}
-
-#[test]
-fn decisions_are_read_in_place(rt: HostRuntime) -> Result<(), Fail> {
-    let journal = journal_of_a_decision(rt.alloc()).ok_or("memory")?;
-    assert!(rt; decides_in_place(&journal, 1, b"x") && !decides_in_place(&journal, 1, b"y"));
-    assert!(rt; journal.decision(0).is_none() && journal.decision(2).is_none());
     Ok(())
 }

@@ -1,5 +1,5 @@
 -- What stays of the passes of a queue when some of them are used.
-use Rattle.std.proofs.Common.{◌≡◌, ℕ, zero, suc, ◌<◌, List, [], ◌∷◌, ◌++◌, length, slice_set, slice_index_or, Result, Ok, Err, MatchResult, Option, Some, None, MatchOption, refl, ap, ◌∙◌, arith}
+use Rattle.std.proofs.Common.{◌≡◌, ℕ, zero, suc, ◌<◌, List, [], ◌∷◌, ◌++◌, length, slice_set, slice_index_or, Result, Ok, Err, MatchResult, refl, ap, ◌∙◌, arith}
 use Rattle.crossbeam_queue.specs.Passes.{Pass, view}
 use Rattle.work.specs.declared.line.Queue.{Queue}
 use Rattle.work.specs.declared.rule.Hand.{Hand}
@@ -11,10 +11,6 @@ put-parts : (v w : Hand) (x : Job) (n : ℕ) (r : Result (Unit {0}) Job)
     → MatchResult r (λ _. w ≡ hand v.parts (v.put ++ x ∷ []) v.taken) (λ y. (y ≡ x) × (w ≡ v) × MayHaveMany n v) → w.parts ≡ v.parts
 put-parts v w x n (Ok u) h = ap (λ (y : Hand). y.parts) h
 put-parts v w x n (Err y) h = ap (λ (z : Hand). z.parts) h.1
-
-take-parts : (v w : Hand) (r : Option Job) → MatchOption r ((w ≡ v) × MayHaveMany 0 v) (λ x. w ≡ hand v.parts v.put (v.taken ++ x ∷ [])) → w.parts ≡ v.parts
-take-parts v w None h = ap (λ (y : Hand). y.parts) h.0
-take-parts v w (Some x) h = ap (λ (y : Hand). y.parts) h
 
 at : (P : Pass Job Hand → Type 0) (l : List (Pass Job Hand)) (k : ℕ) (d : Pass Job Hand) → k < length l → AllPasses P l → P (slice_index_or l k d)
 at P [] k d less all = absurd (omega arith)
@@ -44,12 +40,6 @@ pub put-used : (q : Queue) (l : List (Pass Job Hand)) (k : ℕ) (old p d : Pass 
     → MatchResult r (λ _. view p ≡ hand (view old).parts ((view old).put ++ x ∷ []) (view old).taken) (λ y. (y ≡ x) × (view p ≡ view old) × MayHaveMany n (view old))
     → AllPasses (IsOf q) (slice_set l k p) × (parts_by (slice_set l k p) ≡ 64)
 put-used q l k old p d x n r less all is own h = used q l k p d less all own (put-parts (view old) (view p) x n r h ∙ ap parts is)
-
-pub take-used : (q : Queue) (l : List (Pass Job Hand)) (k : ℕ) (old p d : Pass Job Hand) (r : Option Job) → k < length l → AllPasses (IsOf q) l × (parts_by l ≡ 64)
-    → old ≡ slice_index_or l k d → IsPassOfQueue q p
-    → MatchOption r ((view p ≡ view old) × MayHaveMany 0 (view old)) (λ x. view p ≡ hand (view old).parts (view old).put ((view old).taken ++ x ∷ []))
-    → AllPasses (IsOf q) (slice_set l k p) × (parts_by (slice_set l k p) ≡ 64)
-take-used q l k old p d r less all is own h = used q l k p d less all own (take-parts (view old) (view p) r h ∙ ap parts is)
 
 -- all passes were used
 pub all-used : (q : Queue) (l m : List (Pass Job Hand)) → length m ≡ length l

@@ -35,28 +35,6 @@ fn letters(watch: &mut Watch) -> Option<[u8; 8]> {
 }
 
 #[test]
-fn what_is_published_is_read(rt: HostRuntime) -> Result<(), Fail> {
-    let alloc = rt.alloc();
-    let mut publisher = Publisher::new(alloc, rt, 1)?;
-    let mut watch = publisher.watch()?;
-    assert_eq!(rt;
-        watch.read(|decisions: &[Decision]| decisions.len()),
-        Some(0)
-    );
-    publisher.append(decision(alloc, 1, b'x')?)?;
-    assert_eq!(rt; letters(&mut watch), Some(*b"........"));
-    assert_eq!(rt; publisher.waiting(), 1);
-    let (publisher, answer) = publisher.publish();
-    answer?;
-    assert_eq!(rt; publisher.waiting(), 0);
-    let wanted = decision(alloc, 1, b'x')?;
-    let is_there = watch.read(|decisions: &[Decision]| decisions.len() == 1
-        && decisions[0].is_same(&wanted));
-    assert_eq!(rt; is_there, Some(true));
-    Ok(())
-}
-
-#[test]
 fn what_is_published_stays_in_front(rt: HostRuntime) -> Result<(), Fail> {
     let alloc = rt.alloc();
     let mut publisher = Publisher::new(alloc, rt, 1)?;
@@ -124,21 +102,6 @@ fn there_are_as_many_watches_as_there_is_room_for(rt: HostRuntime) -> Result<(),
     for watch in watches.iter_mut() {
         assert_eq!(rt; letters(watch), Some(*b"........"));
     }
-    Ok(())
-}
-
-#[test]
-fn a_watch_is_told_all(rt: HostRuntime) -> Result<(), Fail> {
-    let alloc = rt.alloc();
-    let mut publisher = Publisher::new(alloc, rt, 2)?;
-    let mut watch = publisher.watch()?;
-    publisher.tell(&rt, &mut watch);
-    publisher.append(decision(alloc, 1, b'x')?)?;
-    let (publisher, answer) = publisher.publish();
-    answer?;
-    publisher.tell(&rt, &mut watch);
-    publisher.tell(&rt, &mut watch);
-    assert_eq!(rt; letters(&mut watch), Some(*b"x......."));
     Ok(())
 }
 

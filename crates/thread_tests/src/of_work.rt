@@ -55,14 +55,6 @@ impl Crew {
         self.queue.put(rt, &mut self.passes[place], job)
     }
 
-    /// Takes a job by the pass at this place.
-    fn take<R: Wait>(&mut self, rt: &R, place: usize) -> Option<Job>
-        requires { place < self.old }
-        ensures { self.new ≡ self.old }
-    {
-        self.queue.take(rt, &mut self.passes[place])
-    }
-
     /// Each pass is used by a thread of its own.
     fn run<R: Threads + Wait + Sync>(self, rt: &R, board: &Board) -> Result<Crew, AllocError>
         ensures { IfOk result (λ c. c ≡ self) }
@@ -201,36 +193,6 @@ fn is_job(job: Option<Job>, number: u64) -> bool {
         Some(job) => number_of(&job) == number,
         None => false,
     }
-}
-
-#[test]
-fn a_queue_of_one_job_hands_back_the_second(rt: HostRuntime) -> Result<(), Fail> {
-    let mut crew = Crew::new(rt.alloc(), 1, 1)?;
-    assert!(rt; crew.take(&rt, 0).is_none());
-    assert!(rt; crew.put(&rt, 0, job(7)).is_ok());
-    assert!(rt; is_job(crew.put(&rt, 0, job(8)).err(), 8));
-    assert!(rt; is_job(crew.take(&rt, 0), 7));
-    assert!(rt; crew.take(&rt, 0).is_none());
-    assert!(rt; crew.close(&rt).is_empty());
-    Ok(())
-}
-
-#[test]
-fn what_is_left_is_handed_over(rt: HostRuntime) -> Result<(), Fail> {
-    let mut crew = Crew::new(rt.alloc(), 3, 2)?;
-    assert!(rt; crew.put(&rt, 0, job(1)).is_ok());
-    assert!(rt; crew.put(&rt, 1, job(2)).is_ok());
-    assert!(rt; crew.put(&rt, 0, job(3)).is_ok());
-    let taken = crew.take(&rt, 1).map(|job| number_of(&job)).unwrap_or(0);
-    let mut left = crew.close(&rt);
-    let last = left.pop().map(|job| number_of(&job)).unwrap_or(0);
-    let first = left.pop().map(|job| number_of(&job)).unwrap_or(0);
-    assert!(rt; left.is_empty());
-    let all = [taken, last, first];
-    for number in 1..4u64 {
-        assert!(rt; all.contains(&number), "{number}");
-    }
-    Ok(())
 }
 
 #[test]

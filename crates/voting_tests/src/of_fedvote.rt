@@ -1,53 +1,34 @@
 //! That with memory what is accepted and confirmed is answered, by a view of a table. No clause says so; what is
 //! answered is federated voting by the rows of the table.
 
+use crate::fixtures::{ballot, name, prepare, said, slices_of};
 use envstore::{Archive, VecShelf};
 use fedvote::{Claim, Sight, is_accepted, is_confirmed};
 use latest::{Offer, Rows, Table};
 use std::alloc::Global;
 use std::test::Fail;
-use types::{Ballot, Envelope, Leaders, Member, Nested, NodeId, SliceSet, Statement, Value};
+use types::{Envelope, Leaders, Nested, NodeId, Statement};
 use view::{KnownReach, Own, View};
-
-/// The name of a number.
-fn name(number: u64) -> NodeId {
-    NodeId::from_words(0, 0, 0, number)
-}
-
-/// The slices of any two of the nodes 1, 2 and 3.
-fn two_of_three(alloc: Global) -> Result<Nested, Fail> {
-    let mut members = Vec::new(alloc);
-    for number in 1..4 {
-        members.push(Member::Node(name(number)))?;
-    }
-    Ok(Nested::new(alloc, SliceSet::new(2, members))?.ok_or("slices")?)
-}
-
-/// The ballot of the value x at counter 1.
-fn ballot(alloc: Global) -> Result<Ballot, Fail> {
-    Ok(Ballot {
-        counter: 1,
-        value: Value::of(alloc, b"x")?,
-    })
-}
 
 /// A vote to prepare the ballot, which accepts it too where that is asked for.
 fn vote(alloc: Global, accepts: bool) -> Result<Statement, Fail> {
-    let prepared = if accepts { Some(ballot(alloc)?) } else { None };
+    if !accepts {
+        return prepare(alloc, 1);
+    }
     Ok(Statement::Prepare {
-        ballot: ballot(alloc)?,
-        prepared,
+        ballot: ballot(alloc, 1)?,
+        prepared: Some(ballot(alloc, 1)?),
         aborted_counter: 0,
         high_counter: 0,
         commit_counter: 0,
     })
 }
 
-/// A vote of this sender.
-fn vote_of(alloc: Global, sender: u64, accepts: bool) -> Result<Envelope, Fail> {
-    let slices = two_of_three(alloc)?;
+/// A vote of this sender, whose slices are any two of the nodes 1, 2 and 3.
+fn row_of(alloc: Global, sender: u64, accepts: bool) -> Result<Envelope, Fail> {
+    let slices = slices_of(alloc, 2, &[1, 2, 3])?;
     let body = vote(alloc, accepts)?;
-    Ok(Envelope::new(name(sender), 1, slices, body).ok_or("statement")?)
+    said(sender, slices, body)
 }
 
 /// Whether the node in this position accepts that the ballot is prepared, and whether it confirms it.
@@ -56,7 +37,7 @@ fn answer<S: Sight>(
     sight: &S,
     position: &Option<Statement>,
 ) -> Result<(bool, bool), Fail> {
-    let claim = Claim::Prepare(ballot(alloc)?);
+    let claim = Claim::Prepare(ballot(alloc, 1)?);
     let accepted = is_accepted(alloc, sight, position, &claim)?;
     let confirmed = is_confirmed(alloc, sight, position, &claim)?;
     Ok((accepted, confirmed))
@@ -99,13 +80,13 @@ fn answers_by(
 fn accepts_and_confirms_where_there_is_memory(rt: HostRuntime) -> Result<(), Fail> {
     let alloc = rt.alloc();
     let mut archive = Archive::new(alloc, VecShelf::new(alloc));
-    let voter = archive.put(vote_of(alloc, 2, false)?)?;
-    let acceptor = archive.put(vote_of(alloc, 3, true)?)?;
+    let voter = archive.put(row_of(alloc, 2, false)?)?;
+    let acceptor = archive.put(row_of(alloc, 3, true)?)?;
     let mut table = Table::new(alloc);
     assert_eq!(rt; table.offer(&archive, voter), Offer::Replaced);
     assert_eq!(rt; table.offer(&archive, acceptor), Offer::Replaced);
     let rows = Rows::of(&table, &archive);
-    let slices = two_of_three(alloc)?;
+    let slices = slices_of(alloc, 2, &[1, 2, 3])?;
     let found = answers_by(alloc, &name(1), &slices, &rows)?;
     assert!(rt; found == [(false, false), (true, false), (true, true)]);
     Ok(())

@@ -1,6 +1,7 @@
 //! That with memory a node nominates. No clause says so; what it votes for, accepts and confirms is the
 //! definition's.
 
+use crate::fixtures::{name, slices_of};
 use drafts::Draft;
 use envstore::{Archive, VecShelf};
 use fedvote::Sight;
@@ -8,15 +9,8 @@ use latest::{Rows, Table};
 use nomination::nominate;
 use std::alloc::Global;
 use std::test::Fail;
-use types::{Inputs, Member, Nested, NodeId, SliceSet, Value, Votes};
+use types::{Inputs, Nested, NodeId, Value, Votes};
 use view::{KnownReach, Own, View};
-
-/// The slices of a node that trusts itself alone.
-fn itself(alloc: Global, own: NodeId) -> Result<Nested, Fail> {
-    let mut members = Vec::new(alloc);
-    members.push(Member::Node(own))?;
-    Ok(Nested::new(alloc, SliceSet::new(1, members))?.ok_or("slices")?)
-}
 
 /// The node's proposal is i, and it leads round 1.
 fn inputs(alloc: Global, own: NodeId) -> Result<Inputs, Fail> {
@@ -61,7 +55,7 @@ fn votes_by(
 
 /// The votes of a node that trusts itself alone and has heard nothing.
 fn lone_votes(alloc: Global, own: &NodeId, inputs: &Inputs) -> Result<Votes, Fail> {
-    let slices = itself(alloc, *own)?;
+    let slices = slices_of(alloc, 1, &[1])?;
     let archive = Archive::new(alloc, VecShelf::new(alloc));
     let table = Table::new(alloc);
     let rows = Rows::of(&table, &archive);
@@ -71,7 +65,7 @@ fn lone_votes(alloc: Global, own: &NodeId, inputs: &Inputs) -> Result<Votes, Fai
 #[test]
 fn nominates_where_there_is_memory(rt: HostRuntime) -> Result<(), Fail> {
     let alloc = rt.alloc();
-    let own = NodeId::from_words(1, 0, 0, 0);
+    let own = name(1);
     let inputs = inputs(alloc, own)?;
     let votes = lone_votes(alloc, &own, &inputs)?;
     let proposal = Value::of(alloc, b"i")?;

@@ -4,47 +4,17 @@
 ghost use Rattle.std.specs.Prelude.{IfOk};
 ghost use Rattle.protocol.specs.Sets.{IsAscending};
 
+use crate::fixtures::{name, slices_of, vote_of};
 use envstore::{Archive, VecShelf};
 use latest::{Offer, RowPlace, Rows, Table};
 use std::alloc::Global;
 use std::test::Fail;
-use types::{Ballot, Envelope, Member, Nested, NodeId, SliceSet, Statement, Value};
+use types::{Envelope, Nested};
 use view::{Change, Entry, Extent, Own, Region};
 
-/// The name of a number.
-fn name(number: u64) -> NodeId {
-    NodeId::from_words(0, 0, 0, number)
-}
-
-/// The slices of which the nodes 1 and 2 are needed.
+/// The slices of node 1, of which both it and node 2 are needed.
 fn both(alloc: Global) -> Result<Nested, Fail> {
-    let mut members = Vec::new(alloc);
-    members.push(Member::Node(name(1)))?;
-    members.push(Member::Node(name(2)))?;
-    Ok(Nested::new(alloc, SliceSet::new(2, members))?.ok_or("slices")?)
-}
-
-/// The slices of which this node is needed.
-fn only(alloc: Global, number: u64) -> Result<Nested, Fail> {
-    let mut members = Vec::new(alloc);
-    members.push(Member::Node(name(number)))?;
-    Ok(Nested::new(alloc, SliceSet::new(1, members))?.ok_or("slices")?)
-}
-
-/// A statement of the sender, with these slices.
-fn statement_of(alloc: Global, sender: u64, slices: Nested) -> Result<Envelope, Fail> {
-    let value = Value::of(alloc, b"x")?;
-    let body = Statement::Externalize {
-        commit: Ballot { counter: 1, value },
-        high_counter: 1,
-    };
-    Ok(Envelope::new(name(sender), 1, slices, body).ok_or("statement")?)
-}
-
-/// A statement of the sender, with the slices of both.
-fn row_of(alloc: Global, sender: u64) -> Result<Envelope, Fail> {
-    let slices = both(alloc)?;
-    statement_of(alloc, sender, slices)
+    slices_of(alloc, 2, &[1, 2])
 }
 
 /// The region of node 1 by a table.
@@ -99,7 +69,7 @@ fn a_first_row_is_an_entry(rt: HostRuntime) -> Result<(), Fail> {
     let table = Table::new(alloc);
     let rows = Rows::of(&table, &archive);
     let mut region = region_of(alloc, &rows)?;
-    let row = row_of(alloc, 2)?;
+    let row = vote_of(alloc, 2, 1, &[1, 2])?;
     set_row(alloc, &rows, &mut region, &row)?;
     assert!(rt; region.ballot_rows.as_slice() == [RowPlace::none(), RowPlace::at(0)].as_slice());
     Ok(())
@@ -110,13 +80,12 @@ fn a_first_row_is_an_entry(rt: HostRuntime) -> Result<(), Fail> {
 fn a_row_with_other_slices_is_an_entry(rt: HostRuntime) -> Result<(), Fail> {
     let alloc = rt.alloc();
     let mut archive = Archive::new(alloc, VecShelf::new(alloc));
-    let row = archive.put(row_of(alloc, 2)?)?;
+    let row = archive.put(vote_of(alloc, 2, 1, &[1, 2])?)?;
     let mut table = Table::new(alloc);
     assert_eq!(rt; table.offer(&archive, row), Offer::Replaced);
     let rows = Rows::of(&table, &archive);
     let mut region = region_of(alloc, &rows)?;
-    let slices = only(alloc, 2)?;
-    let newer = statement_of(alloc, 2, slices)?;
+    let newer = vote_of(alloc, 2, 2, &[2])?;
     set_row(alloc, &rows, &mut region, &newer)?;
     assert!(rt; region.ballot_rows.as_slice() == [RowPlace::none(), RowPlace::at(0)].as_slice());
     Ok(())
@@ -135,8 +104,7 @@ fn extent_by(
         name: &own,
         slices: &slices,
     };
-    let others = only(alloc, named)?;
-    let row = statement_of(alloc, 2, others)?;
+    let row = vote_of(alloc, 2, 2, &[named])?;
     let change = region.change_by(alloc, own, table, &row)?;
     Ok(extent_in(change))
 }
@@ -157,8 +125,7 @@ fn a_first_row_that_names_another_node_widens(rt: HostRuntime) -> Result<(), Fai
 fn a_row_that_drops_a_node_may_do_any(rt: HostRuntime) -> Result<(), Fail> {
     let alloc = rt.alloc();
     let mut archive = Archive::new(alloc, VecShelf::new(alloc));
-    let before = only(alloc, 3)?;
-    let row = archive.put(statement_of(alloc, 2, before)?)?;
+    let row = archive.put(vote_of(alloc, 2, 1, &[3])?)?;
     let mut table = Table::new(alloc);
     assert_eq!(rt; table.offer(&archive, row), Offer::Replaced);
     let rows = Rows::of(&table, &archive);
@@ -173,7 +140,7 @@ fn a_row_of_a_stranger_leaves_a_region_that_is_then_copied(rt: HostRuntime) -> R
     let table = Table::new(alloc);
     let rows = Rows::of(&table, &archive);
     let region = region_of(alloc, &rows)?;
-    let row = row_of(alloc, 9)?;
+    let row = vote_of(alloc, 9, 1, &[1, 2])?;
     assert!(rt; region.stays(&rows, &row));
     let copy = region.try_copy(alloc)?;
     assert!(rt; copy.nodes.as_slice() == region.nodes.as_slice());

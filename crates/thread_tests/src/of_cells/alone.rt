@@ -1,16 +1,13 @@
 //! Cells told by hand, used by one thread.
 
 ghost use Rattle.std.specs.Prelude.{◌≡◌};
-ghost use Rattle.std.specs.List.{All};
-ghost use Rattle.cells.specs.Cells.{IsSeatOf};
 
 use super::rooms::{
     Room, decides, decides_alone, is_x, name, one_seat, open, proposal, two_seats, watched,
 };
-use cells::{Cell, CellRefusal, Seat, SeatsMissing};
+use cells::CellRefusal;
 use decisions::Decision;
-use envstore::{SharedHandle, Shelf};
-use hoststep::Journal;
+use envstore::SharedHandle;
 use std::alloc::Global;
 use std::sync::Wait;
 use std::test::Fail;
@@ -36,33 +33,6 @@ fn a_cell_stands_over_any_shelf(rt: HostRuntime) -> Result<(), Fail> {
     assert_eq!(rt; decides_alone(&rt, alloc, &mut room), Some(true));
     let (journal, _seats) = room.close(&rt).ok_or("not closed")?;
     assert_eq!(rt; journal.len(), 2);
-    Ok(())
-}
-
-/// Whether an answer is this refusal.
-fn is_refused(answer: &Option<Result<Vec<Out>, CellRefusal>>, by: CellRefusal) -> bool {
-    match answer {
-        Some(Err(refusal)) => *refusal == by,
-        _ => false,
-    }
-}
-
-#[test]
-fn a_stopped_cell_is_closed_to_each_seat(rt: HostRuntime) -> Result<(), Fail> {
-    let alloc = rt.alloc();
-    let mut room = two_seats(&rt, alloc).ok_or("memory")?;
-    let opened = room.apply(&rt, 0, open(1));
-    assert!(rt; matches!(opened, Some(Ok(_))));
-    let again = room.apply(&rt, 1, open(1));
-    assert!(rt; is_refused(&again, CellRefusal::Network(Refusal::SlotOpenAlready)));
-    room.stop(&rt, 1);
-    let first = room.apply(&rt, 0, open(1));
-    assert!(rt; is_refused(&first, CellRefusal::Closed));
-    let second = room.apply(&rt, 1, open(2));
-    assert!(rt; is_refused(&second, CellRefusal::Closed));
-    let (journal, seats) = room.close(&rt).ok_or("not closed")?;
-    assert_eq!(rt; journal.len(), 1);
-    assert_eq!(rt; seats.len(), 2);
     Ok(())
 }
 
@@ -97,49 +67,6 @@ fn a_watch_reads_what_is_decided(rt: HostRuntime) -> Result<(), Fail> {
     assert_eq!(rt; journal.len(), 2);
     assert!(rt; is_decision_of_x(board.as_slice()));
     assert_eq!(rt; watch.read(|decisions: &[Decision]| decisions.len()), None);
-    Ok(())
-}
-
-/// The cell that lacked its seats, closed with them.
-fn close_with<S: Shelf + Drop, H: Wait + Drop, R: Wait>(
-    rt: &R,
-    cell: Cell<S, H>,
-    seats: Vec<Seat<S, H>>,
-) -> Option<Journal<S>>
-    requires { All (IsSeatOf cell) seats.items }
-{
-    let (journal, _seats) = cell.close(rt, seats).ok()?;
-    Some(journal)
-}
-
-/// The journal of a cell that is first closed without its seats, and then with them; nothing where the first
-/// succeeds.
-fn close_twice<S: Shelf + Drop, H: Wait + Drop, R: Wait>(
-    rt: &R,
-    alloc: Global,
-    room: Room<S, H>,
-) -> Option<Journal<S>> {
-    let Room { cell, seats } = room;
-    match cell.close(rt, Vec::new(alloc)) {
-        Ok(_) => None,
-        Err(missing) => {
-            let SeatsMissing { cell, seats: none } = missing;
-            if !none.is_empty() {
-                return None;
-            }
-            close_with(rt, cell, seats)
-        }
-    }
-}
-
-#[test]
-fn a_cell_closes_with_its_seat_alone(rt: HostRuntime) -> Result<(), Fail> {
-    let alloc = rt.alloc();
-    let mut room = one_seat(&rt, alloc).ok_or("memory")?;
-    let opened = room.apply(&rt, 0, open(1));
-    assert!(rt; matches!(opened, Some(Ok(_))));
-    let journal = close_twice(&rt, alloc, room).ok_or("not closed")?;
-    assert_eq!(rt; journal.len(), 1);
     Ok(())
 }
 

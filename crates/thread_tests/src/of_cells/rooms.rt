@@ -100,15 +100,6 @@ impl<S: Shelf + Drop, H: Wait + Drop> Room<S, H> {
         Some(self.cell.apply(rt, &mut self.seats[seat], event))
     }
 
-    /// The stop mark by a seat.
-    pub(super) fn stop<R: Wait>(&mut self, rt: &R, seat: usize)
-        ensures { self.new ≡ self.old }
-    {
-        if seat < self.seats.len() {
-            self.cell.stop(rt, &mut self.seats[seat]);
-        }
-    }
-
     /// A watch is told by a seat.
     pub(super) fn tell<R: Wait>(&mut self, rt: &R, seat: usize, watch: &mut Watch) -> Option<usize>
         ensures { self.new ≡ self.old }
