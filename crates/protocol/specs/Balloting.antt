@@ -131,7 +131,7 @@ unfoldable pub confirm_prepared : Seen → Ballot → Votes → Votes
 confirm_prepared seen b w = set_commit (follow_confirmed_prepared b (raise_confirmed_prepared seen w))
 
 -- ---- accepted as committed
--- the least commit counter of the value from which on the interval up to hi is accepted
+-- the least commit counter of the value from which on the interval up to this ballot's counter is accepted
 unfoldable pub accepted_from : Seen → Votes → Ballot → ℕ
 accepted_from seen w t = lowest (λ low. commit_accepted seen w t.value low t.counter) t.value t.counter (commits seen w)
 
@@ -143,7 +143,7 @@ first_committed seen w =
     (filter (λ t. commit_accepted seen w t.value t.counter t.counter && is_confirmed seen w t && not (is_aborted w t))
     (commits seen w))
 
--- in COMMIT: the greatest counter of the ballot's value above hi that is accepted as committed
+-- in COMMIT: the greatest counter of the ballot's value above the high end that is accepted as committed
 unfoldable pub next_committed : Seen → Ballot → Votes → Option Ballot
 next_committed seen b w =
     greatest None

@@ -61,7 +61,7 @@ greatest best [] = best
 greatest None (b ∷ bs) = greatest (Some b) bs
 greatest (Some a) (b ∷ bs) = greatest (Some (if below a b then b else a)) bs
 
--- the least counter of this value from which the test holds; lo itself, where none below it does
+-- the least counter of this value from which the test holds; `low` itself, where none below it does
 unfoldable pub lowest : (ℕ → Bool) → List ℕ → ℕ → List Ballot → ℕ
 lowest test x low [] = low
 lowest test x low (t ∷ ts) =

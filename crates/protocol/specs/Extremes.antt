@@ -29,7 +29,7 @@ GreatestIsExact =
 abbrev pub GreatestIsUnique : Type 0
 GreatestIsUnique = (ts : List Ballot) (g h : Ballot) → IsGreatest ts g → IsGreatest ts h → g ≡ h
 
--- not above lo nor above any candidate of the value that passes; and lo itself or the counter of one
+-- not above `low` nor above any candidate of the value that passes; and `low` itself or the counter of one
 pub record IsLowest (test : ℕ → Bool) (x : List ℕ) (low : ℕ) (ts : List Ballot) (n : ℕ) : Type 0 where
   pub upto : n ≤ low
   pub below : (t : Ballot) → IsIn t ts → same_value t.value x ≡ true → test t.counter ≡ true → n ≤ t.counter

@@ -23,7 +23,7 @@ slices_after (Reslice new) q = new
 abbrev pub SlicesFollowEvents : Type 0
 SlicesFollowEvents = (n : Node) → Reached n → (e : NodeEvent) → (step n e).0.slices ≡ slices_after e n.slices
 
--- name and slot are as they were, and so are the table and what events gave, the leaders with that
+-- name and slot are as they were, and so are the table and the inputs, the leaders among them
 pub record IsElseSame (old new : Node) : Type 0 where
   pub name : new.name ≡ old.name
   pub slot : new.slot ≡ old.slot

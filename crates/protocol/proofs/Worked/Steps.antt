@@ -55,9 +55,8 @@ abbrev prepares : ℕ → ℕ → List ℕ → Step
 prepares u n value = to_A u (just E) (Prepare (at n value) (Some (at n value)) 0 0 0)
 
 -- a value that a blocking set accepts is accepted and confirmed without a proposal; a prepared ballot of another value
--- is lowered
--- to what may stand beside the ballot, and aborts what is below it once the first value comes back
-pub other_value_is_lowered : replies (net_of_A two_of_bcd)
+-- is sent as what may stand beside the ballot, and aborts what is below it once the first value comes back
+pub other_value_is_sent_below : replies (net_of_A two_of_bcd)
     (Opens 1 ∷ nominates B ∷ nominates C ∷ prepares B 1 y ∷ prepares C 1 y ∷ prepares B 2 x ∷ prepares C 2 x ∷ [])
     ≡ Done [] ∷ Done [] ∷ Done
     (Emit (by A two_of_bcd (Nominate [] (x ∷ []))) ∷ Emit
@@ -65,7 +64,7 @@ pub other_value_is_lowered : replies (net_of_A two_of_bcd)
     ∷ Done (Emit (by A two_of_bcd (Prepare (at 1 x) (Some (at 0 y)) 0 0 0)) ∷ []) ∷ Done [] ∷ Done
     (Emit (by A two_of_bcd (Prepare (at 2 x) (Some (at 2 x)) 2 0 0)) ∷ []) ∷ []
 unfolding everything
-other_value_is_lowered = refl
+other_value_is_sent_below = refl
 
 abbrev commits_to : ℕ → ℕ → ℕ → Step
 commits_to u h c = to_A u (just F) (Commit (at 7 x) 7 h c)
