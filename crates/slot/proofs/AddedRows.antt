@@ -1,5 +1,5 @@
 -- Envelopes that are no more than rows: those of strangers, and all that reach a node which has externalized a value.
-use Rattle.std.proofs.Common.{◌≡◌, ℕ, Bool, true, false, not, List, [], Option, Some, None, if◌then◌else◌, refl, sym, ◌∙◌, ap, subst, inl, inr, ◌-◌}
+use Rattle.std.proofs.Common.{◌≡◌, ℕ, Bool, true, false, not, List, [], refl, sym, ◌∙◌, ap, subst, inl, inr}
 use Rattle.std.proofs.lemmas.Bool.{cases_Bool, false≢true}
 use Rattle.types.specs.Statements.{Sent}
 use Rattle.types.specs.declared.event.NodeEvent.TheVariants.{Take}
@@ -8,17 +8,15 @@ use Rattle.types.specs.declared.state.Inputs.{Inputs}
 use Rattle.types.specs.declared.state.Phase.{Phase}
 use Rattle.types.specs.declared.state.Phase.TheVariants.{Preparing, Committing, Externalized}
 use Rattle.types.specs.declared.state.Votes.{Votes}
-use Rattle.protocol.specs.Nodes.{Node, after_change, answered, change, is_externalized, passed, settle, settled, step, most_passes}
+use Rattle.protocol.specs.Nodes.{Node, is_externalized, step}
 use Rattle.protocol.specs.Passes.{pass, pass_rules, while_open}
-use Rattle.protocol.specs.Sameness.{same_votes}
 use Rattle.protocol.specs.Views.{Seen, seen}
 use Rattle.protocol.specs.Limits.{Reached}
 use Rattle.protocol.specs.Limits.Reached.{next}
 use Rattle.std.specs.Prelude.{IsFalse, IsTrue}
 use Rattle.protocol.specs.Sets.{among}
 use Rattle.protocol.specs.Rows.{is_taken, offered, with_row}
-use Rattle.protocol.proofs.Nodes.Quiet.{outs-none, step-stale}
-use Rattle.protocol.proofs.Equality.Sameness.{same_votes-refl}
+use Rattle.protocol.proofs.Nodes.Quiet.{row-alone, step-stale}
 use Rattle.protocol.proofs.Nodes.Strangers.{strangers_add_rows}
 use Rattle.listening.proofs.Offers.{offered-stale, offered-taken}
 use Rattle.listening.specs.Listening.{Heard, IsStranger}
@@ -56,20 +54,7 @@ unfolding pass
 over-pass own seen g w h = open-no_more w.phase (pass_rules own seen g) w h
 
 over-taken : (n : Node) (e : Sent) → is_externalized n.votes.phase ≡ true → is_taken n.table e ≡ true → step n (Take e) ≡ (record n { table = with_row e n.table }, [])
-unfolding step change settle
-over-taken n e over t =
-    ap (λ b. answered n (after_change (if b then Some m else None))) t
-    ∙ (ap (λ (w : Option Votes). answered n (settled m w)) at_once
-    ∙ ap {B = Node × List Out} (λ (os : List Out). (m, os)) (outs-none n (with_row e n.table)))
-  where
-    m : Node
-    m = record n { table = with_row e n.table }
-
-    still : passed m n.votes ≡ n.votes
-    still = over-pass n.name (seen n.name n.slices n.inputs.leaders m.table) n.inputs n.votes over
-
-    at_once : settle most_passes (passed m) n.votes ≡ Some n.votes
-    at_once = ap (λ b. if b then Some n.votes else settle (most_passes - 1) (passed m) (passed m n.votes)) (ap (λ w. same_votes w n.votes) still ∙ same_votes-refl n.votes)
+over-taken n e over t = row-alone n e t (over-pass n.name (seen n.name n.slices n.inputs.leaders (with_row e n.table)) n.inputs n.votes over)
 
 pub over-row : (n : Node) (u : ℕ) → is_externalized n.votes.phase ≡ true → AddsRowAlone n u
 over-row n u over = λ e from.
