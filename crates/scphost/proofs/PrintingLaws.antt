@@ -1,4 +1,4 @@
--- What the commands print that run scripts to their ends first.
+-- What the commands print.
 use Rattle.std.proofs.Common.{◌≡◌, ℕ, Bool, false, Option, Some, None, inl, refl, subst}
 use Rattle.std.specs.Prelude.{IfSome}
 use Rattle.scripts.specs.Script.{Bytes}

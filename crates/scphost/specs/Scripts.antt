@@ -5,7 +5,7 @@ use Rattle.scripts.specs.Script.{AreLines, Bytes, is_no_record}
 use Rattle.scripts.specs.Runs.{Refusing, Runs, Telling}
 use Rattle.protocol.specs.Hosts.{History}
 use Rattle.runs.specs.Hosting.{Hosting, unhosted}
-use Rattle.runs.specs.Quiet.{IsFinishedQuietly, Quiet, RefusesQuietly, TellsQuietly, origin_in}
+use Rattle.runs.specs.Unprinted.{IsFinishedUnprinted, Unprinted, RefusesUnprinted, TellsUnprinted, origin_in}
 use Rattle.runs.specs.Plans.{Plan, unplanned}
 use Rattle.runs.specs.Putting.{IsCompletePlan, Puts, RefusesToPut}
 use Rattle.runs.specs.Submitting.{IsComplete, RefusesToSubmit, Submits, Submitting, unsubmitted}
@@ -29,18 +29,18 @@ longest_script = 67108864
 
 -- the networks after a script, and the script
 pub record Story : Type 0 where
-  pub run : Quiet
+  pub run : Unprinted
   pub text : Bytes
 
 -- before the first line; the trace of the lines is kept where it is asked for
-abbrev pub start_of : Bool → Quiet
+abbrev pub start_of : Bool → Unprinted
 start_of traced = record { hosting = unhosted; trace = if traced then Some [] else None }
 
 -- the lines of a text are run in order, and after the last one the networks that are declared with nodes have joined
-pub record HasEnded (start : Quiet) (text : Bytes) (end : Quiet) : Type 0 where
-  pub last : Quiet
-  pub ran : HaveRun TellsQuietly RefusesQuietly start text last
-  pub finished : IsFinishedQuietly last end
+pub record HasEnded (start : Unprinted) (text : Bytes) (end : Unprinted) : Type 0 where
+  pub last : Unprinted
+  pub ran : HaveRun TellsUnprinted RefusesUnprinted start text last
+  pub finished : IsFinishedUnprinted last end
 
 -- a file is the script, which is run to its end
 abbrev pub IsTold : Bool → Option Bytes → Story → Type 0

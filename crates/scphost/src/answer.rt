@@ -25,18 +25,18 @@ impl Answer {
     pub fn print<W: Write, E: Write>(&self, outputs: &mut Outputs<W, E>) -> u8
         ensures { IsPrinted self.now (W.contents outputs.old.out) (W.contents outputs.new.out) result }
     {
-        if self.write(&mut outputs.out).is_err() {
+        if write_text(&self.text, &mut outputs.out).is_err() {
             return print_stop(Stop::CannotWrite, "", &mut outputs.err);
         }
         if self.differs { DIFFERS } else { DONE }
     }
+}
 
-    /// Writes the whole text, and hands it on.
-    fn write<W: Write>(&self, out: &mut W) -> io::Result<()>
-        ensures { OnOk result (Appends (W.contents out.old) (W.contents out.new) (string_bytes self.now.text)) }
-    {
-        let text = self.text.as_str();
-        write!(out, "{text}")?;
-        out.flush()
-    }
+/// Writes the whole text, and hands it on.
+pub fn write_text<W: Write>(text: &String, out: &mut W) -> io::Result<()>
+    ensures { OnOk result (Appends (W.contents out.old) (W.contents out.new) (string_bytes text.now)) }
+{
+    let text = text.as_str();
+    write!(out, "{text}")?;
+    out.flush()
 }

@@ -6,6 +6,7 @@ ghost use Rattle.runs.specs.Running.{RefusesLine, Tells};
 ghost use Rattle.scphost.specs.Printing.{HasAnswered, HasAnsweredUsage, HasRunLines, IsCompared, IsCrowd, IsPerformed, IsPerformedAsItComes, IsPooled, IsReported};
 ghost use Rattle.scphost.specs.Stops.{IsStatus, IsStatusOf, status_of};
 
+use crate::answer::write_text;
 use crate::comparing::{Side, Sides, answer_compare};
 use crate::crowding::{answer_crowd, read_submission};
 use crate::outputs::Outputs;
@@ -295,7 +296,7 @@ pub fn print_usage<W: Write, E: Write>(usage: &Usage, outputs: &mut Outputs<W, E
     let out = &mut outputs.out;
     let err = &mut outputs.err;
     match usage {
-        Usage::Help(text) => match write!(out, "{text}").and_then(|()| out.flush()) {
+        Usage::Help(text) => match write_text(text, out) {
             Ok(()) => DONE,
             Err(_) => print_stop(Stop::CannotWrite, "", err),
         },

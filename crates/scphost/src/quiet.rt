@@ -1,11 +1,11 @@
 //! Scripts of networks that are run to their end without printing.
 
 ghost use Rattle.std.specs.Prelude.{◌≡◌, ◌≤◌, IfOk, length, option_map};
-ghost use Rattle.runs.specs.Quiet.{origin_in};
+ghost use Rattle.runs.specs.Unprinted.{origin_in};
 ghost use Rattle.scphost.specs.Scripts.{HasEnded, IsLineAt, IsLineOf, IsTold, start_of};
 ghost use Rattle.scripts.specs.Script.{is_no_record as no_record};
 
-use runs::QuietRun;
+use runs::UnprintedRun;
 use scripts::{LONGEST_SCRIPT, Line, Lines, Stop, read_whole, run_script};
 use std::alloc::Global;
 use std::io;
@@ -17,7 +17,7 @@ use std::marker::Model;
 /// Its text is no longer than a script may be: for example, it may have 64 MiB, and not one byte more.
 #[derive(Drop)]
 pub struct FinishedScript {
-    run: QuietRun,
+    run: UnprintedRun,
     text: Vec<u8>,
 }
 
@@ -53,7 +53,7 @@ impl FinishedScript {
     }
 
     /// The run.
-    pub fn run(&self) -> &QuietRun
+    pub fn run(&self) -> &UnprintedRun
         ensures { result.now ≡ self.now.run }
     {
         &self.run
@@ -72,7 +72,7 @@ impl FinishedScript {
 }
 
 /// Runs the lines of a text in order without printing, and ends the run.
-fn run_to_end(alloc: Global, text: &[u8], traced: bool) -> Result<QuietRun, Stop>
+fn run_to_end(alloc: Global, text: &[u8], traced: bool) -> Result<UnprintedRun, Stop>
     ensures { IfOk result (HasEnded (start_of traced) text.now) }
 {
     let mut run = new_run(alloc, traced);
@@ -86,13 +86,13 @@ fn run_to_end(alloc: Global, text: &[u8], traced: bool) -> Result<QuietRun, Stop
 }
 
 /// Before the first line.
-fn new_run(alloc: Global, traced: bool) -> QuietRun
+fn new_run(alloc: Global, traced: bool) -> UnprintedRun
     ensures { result ≡ start_of traced }
 {
     if traced {
-        QuietRun::with_origins(alloc)
+        UnprintedRun::with_origins(alloc)
     } else {
-        QuietRun::new(alloc)
+        UnprintedRun::new(alloc)
     }
 }
 

@@ -21,4 +21,4 @@ returns-in-Crowd-clause-performed g c =
 pub returns-in-Run-clause-performed : goal.returns-in-Run-clause-performed
 returns-in-Run-clause-performed g c =
     subst (λ x. IsPerformed x (g.R.Read.remaining c.args.first.now) (g.T.Read.remaining c.args.second.now) (g.W.Write.contents c.args.outputs.now.out)
-    (g.W.Write.contents c.perform_run.new.outputs.out) c.perform_run.result) (sym c.in-Run.is) (run-performed c.in-Run.script _ _ _ _ _ _ c.perform_run.ensures.pooled)
+    (g.W.Write.contents c.perform_run.new.outputs.out) c.perform_run.result) (sym c.in-Run.is) (run-performed c.in-Run.script _ _ _ _ _ _ c.perform_run.ensures.ran c.perform_run.ensures.pooled)
