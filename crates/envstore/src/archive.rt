@@ -92,10 +92,12 @@ impl<S: Shelf> Archive<S> {
     {
         if self.places.reserve(1).is_err() {
             drop(envelope);
+            // Memory: the list of places has no room.
             return Err(AllocError);
         }
         let put = Snapshot::of(&envelope);
         let number = self.places.len();
+        // Memory: the shelf hands the envelope back.
         let place = self.shelf.put(envelope).map_err(|_| AllocError)?;
         self.places.push_reserved(place);
         Ok(Filed { number, put })

@@ -62,7 +62,8 @@ pub fn said(sender: u64, slices: Nested, body: Statement) -> Result<Envelope, Fa
 /// The vote of the node of this number to prepare the ballot with this counter, with slices of which those of these
 /// numbers are needed.
 pub fn vote_of(alloc: Global, sender: u64, counter: u32, needed: &[u64]) -> Result<Envelope, Fail> {
-    let slices = slices_of(alloc, needed.len() as u8, needed)?;
+    let threshold = u8::try_from(needed.len()).ok().ok_or("slices")?;
+    let slices = slices_of(alloc, threshold, needed)?;
     let body = prepare(alloc, counter)?;
     said(sender, slices, body)
 }

@@ -39,9 +39,9 @@ fn is_first_in_quorum(
     let mut forms = Vec::new(alloc);
     forms.push(Some(form.try_copy()?))?;
     forms.push(Some(form))?;
-    for _ in 2..5 {
-        forms.push(None)?;
-    }
+    forms.push(None)?;
+    forms.push(None)?;
+    forms.push(None)?;
     let mut left = places_of(alloc, numbers)?;
     Ok(in_quorum(&mut left, 0, &forms))
 }
