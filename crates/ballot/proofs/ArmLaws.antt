@@ -5,12 +5,12 @@ use Rattle.types.specs.declared.kind.Kind.{Kind}
 use Rattle.types.specs.declared.state.Votes.{Votes}
 use Rattle.drafts.specs.Drafted.{Drafted, after}
 use Rattle.protocol.specs.Views.{Seen, passes}
-use Rattle.protocol.specs.Passes.{arm, counts, on_ballot}
+use Rattle.protocol.specs.Passes.{arm, has_counter, on_ballot}
 use Rattle.protocol.specs.States.{position}
 use Rattle.ballot.proofs.PreparedLaws.{by-ballot}
 
 -- by the answer whether there is a quorum
-pub arm-by : (seen : Seen) (b : Ballot) (w : Votes) (q : Bool) (d : Drafted) → w ≡ d.now → w.ballot ≡ Some b → q ≡ seen.quorum Kind.Ballot (passes (counts b.counter) (position w)) (counts b.counter)
+pub arm-by : (seen : Seen) (b : Ballot) (w : Votes) (q : Bool) (d : Drafted) → w ≡ d.now → w.ballot ≡ Some b → q ≡ seen.quorum Kind.Ballot (passes (has_counter b.counter) (position w)) (has_counter b.counter)
     → (if q then after (λ v. record v { armed = b.counter }) d else d) ≡ after (on_ballot (arm seen)) d
 unfolding arm
 arm-by seen b w q d now is found =

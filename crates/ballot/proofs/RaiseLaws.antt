@@ -7,7 +7,7 @@ use Rattle.types.specs.declared.kind.Kind.{Kind}
 use Rattle.types.specs.declared.statement.Statement.{Statement}
 use Rattle.types.specs.declared.statement.Statement.TheVariants.{Nominate, Prepare, Commit, Externalize}
 use Rattle.protocol.specs.Views.{Seen, passes}
-use Rattle.protocol.specs.Passes.{counts}
+use Rattle.protocol.specs.Passes.{has_counter}
 use Rattle.protocol.specs.Candidates.{least_from}
 use Rattle.protocol.specs.Extremes.{IsLeastFrom}
 use Rattle.protocol.proofs.Ballots.LeastCounters.{least_from_is_exact}
@@ -50,7 +50,7 @@ split n m j o h = go (nat_lt n j) refl o h
     go false e o h = (λ q. absurd (false≢true q), h)
 
 -- who counts more than n counts more than k, where no counter lies between
-pub counts_alike : (n m k : ℕ) (ss : List Statement) → n ≤ k → k < m → NoneTo n m (next_counter n ss) → AllByRecursion (λ s. counts (n + 1) s ≡ counts (k + 1) s) ss
+pub counts_alike : (n m k : ℕ) (ss : List Statement) → n ≤ k → k < m → NoneTo n m (next_counter n ss) → AllByRecursion (λ s. has_counter (n + 1) s ≡ has_counter (k + 1) s) ss
 unfolding least_above
 counts_alike n m k [] a b h = tt
 counts_alike n m k (Nominate v w ∷ ss) a b h = (refl, counts_alike n m k ss a b h)
@@ -75,7 +75,7 @@ next_above n (j ∷ js) m e = go (nat_lt n j) refl (least_above n js) (λ k q. n
 module _ (seen : Seen) (position : Option Statement) where
   -- those with greater counters block
   abbrev pub blocks : ℕ → Bool
-  blocks k = seen.blocking Kind.Ballot (passes (counts (k + 1)) position) (counts (k + 1))
+  blocks k = seen.blocking Kind.Ballot (passes (has_counter (k + 1)) position) (has_counter (k + 1))
 
   -- the statements with whose counters the answer may change: the node's own and those in the rows
   abbrev pub heard : List Statement
@@ -89,9 +89,9 @@ own_alike (Some s) rows test other h = (h.0, h.1)
 -- while greater counters block, they do so up to the next one
 still_blocking : (seen : Seen) → IsHonest seen → (position : Option Statement) (n m k : ℕ) → n ≤ k → k < m → NoneTo n m (next_counter n (heard seen position)) → blocks seen position n ≡ true → blocks seen position k ≡ true
 still_blocking seen honest position n m k a b h e =
-    let r = own_alike position (seen.rows Kind.Ballot) (counts (n + 1)) (counts (k + 1)) (counts_alike n m k (heard seen position) a b h) in
-    sym (honest.blocking Kind.Ballot (passes (counts (k + 1)) position) (counts (n + 1)) (counts (k + 1)) r.1)
-    ∙ subst (λ own. seen.blocking Kind.Ballot own (counts (n + 1)) ≡ true) r.0 e
+    let r = own_alike position (seen.rows Kind.Ballot) (has_counter (n + 1)) (has_counter (k + 1)) (counts_alike n m k (heard seen position) a b h) in
+    sym (honest.blocking Kind.Ballot (passes (has_counter (k + 1)) position) (has_counter (n + 1)) (has_counter (k + 1)) r.1)
+    ∙ subst (λ own. seen.blocking Kind.Ballot own (has_counter (n + 1)) ≡ true) r.0 e
 
 -- ---- the search
 -- all from the old counter to this one block

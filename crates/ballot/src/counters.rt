@@ -4,7 +4,7 @@ ghost use Rattle.std.specs.Prelude.{◌≡◌, ◌+◌, ◌-◌, ◌++◌, IfOk,
 ghost use Rattle.types.specs.declared.kind.Kind.{Kind};
 ghost use Rattle.protocol.specs.Views.{passes};
 ghost use Rattle.drafts.specs.Drafted.{after};
-ghost use Rattle.protocol.specs.Passes.{arm, counts, known_or, on_ballot, raise, raised, raised_counter, raised_value, value_or};
+ghost use Rattle.protocol.specs.Passes.{arm, has_counter, known_or, on_ballot, raise, ballot_at_counter, counter_after_raise, value_once_raised, value_or};
 ghost use Rattle.protocol.specs.States.{position};
 ghost use Rattle.protocol.specs.Candidates.{combine, greatest_value, least_from};
 ghost use Rattle.fedvote.specs.Searching.{next_counter};
@@ -42,7 +42,7 @@ pub fn raise<S: Sight>(
 }
 
 /// The counter to which the ballot is raised. `ballot` is the node's.
-#[tactic(auto, unfolding(protocol::specs::Passes::raised_counter))]
+#[tactic(auto, unfolding(protocol::specs::Passes::counter_after_raise))]
 fn counter_after_raise<S: Sight>(
     alloc: Global,
     sight: &S,
@@ -50,7 +50,7 @@ fn counter_after_raise<S: Sight>(
     votes: &Votes,
     ballot: &Ballot,
 ) -> Result<u32, AllocError>
-    ensures { IfOk result (λ n. n ≡ raised_counter (S.seen sight.now) inputs.now ballot.now votes.now) }
+    ensures { IfOk result (λ n. n ≡ counter_after_raise (S.seen sight.now) inputs.now ballot.now votes.now) }
 {
     let position = own_position(votes)?;
     let most = cap(inputs.ballot_timeouts);
@@ -68,7 +68,7 @@ fn counter_to_raise_to<S: Sight>(
     from: u32,
     most: u32,
 ) -> Result<u32, AllocError>
-    ensures { IfOk result (λ n. n ≡ least_from (most - from) from (λ k. not ((S.seen sight.now).blocking Kind.Ballot (passes (counts (k + 1)) position.now) (counts (k + 1))))) }
+    ensures { IfOk result (λ n. n ≡ least_from (most - from) from (λ k. not ((S.seen sight.now).blocking Kind.Ballot (passes (has_counter (k + 1)) position.now) (has_counter (k + 1))))) }
 {
     let mut number = from;
     while number < most {
@@ -90,7 +90,7 @@ fn is_blocked_from<S: Sight>(
     position: &Option<Statement>,
     counter: u32,
 ) -> Result<bool, AllocError>
-    ensures { IfOk result (λ b. b ≡ (S.seen sight.now).blocking Kind.Ballot (passes (counts counter) position.now) (counts counter)) }
+    ensures { IfOk result (λ b. b ≡ (S.seen sight.now).blocking Kind.Ballot (passes (has_counter counter) position.now) (has_counter counter)) }
 {
     let question = Question::HasCounter(counter);
     sight.blocking(alloc, position.passes(&question), &question)
@@ -146,7 +146,7 @@ fn is_quorum_at<S: Sight>(
     votes: &Votes,
     least: u32,
 ) -> Result<bool, AllocError>
-    ensures { IfOk result (λ b. b ≡ (S.seen sight.now).quorum Kind.Ballot (passes (counts least) (position votes.now)) (counts least)) }
+    ensures { IfOk result (λ b. b ≡ (S.seen sight.now).quorum Kind.Ballot (passes (has_counter least) (position votes.now)) (has_counter least)) }
 {
     let question = Question::HasCounter(least);
     let own_passes = own_position(votes)?.passes(&question);
@@ -158,9 +158,9 @@ fn is_quorum_at<S: Sight>(
 /// [`types::Phase::Preparing`] that of the highest confirmed ballot, else the combined confirmed value,
 /// else that of the highest accepted ballot, else its own; in the other phases the value stays (after
 /// the Stellar Consensus Protocol draft; the combination is this host's profile). It takes no memory.
-#[tactic(auto, unfolding(protocol::specs::Passes::raised))]
+#[tactic(auto, unfolding(protocol::specs::Passes::ballot_at_counter))]
 pub fn ballot_at_counter<'a>(votes: &'a Votes, ballot: &'a Ballot, counter: u32) -> LentBallot<'a>
-    ensures { result ≡ raised votes.now ballot.now counter }
+    ensures { result ≡ ballot_at_counter votes.now ballot.now counter }
 {
     if counter == ballot.counter {
         LentBallot::of(ballot)
@@ -170,9 +170,9 @@ pub fn ballot_at_counter<'a>(votes: &'a Votes, ballot: &'a Ballot, counter: u32)
 }
 
 /// The value of a raised ballot that has this one.
-#[tactic(auto, unfolding(protocol::specs::Passes::raised_value))]
+#[tactic(auto, unfolding(protocol::specs::Passes::value_once_raised))]
 fn value_once_raised<'a>(votes: &'a Votes, value: &'a Value) -> &'a Value
-    ensures { result.now ≡ raised_value votes.now.phase votes.now value.now }
+    ensures { result.now ≡ value_once_raised votes.now.phase votes.now value.now }
 {
     match votes.phase {
         Phase::Preparing => value_or(

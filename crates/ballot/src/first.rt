@@ -5,7 +5,7 @@
 ghost use Rattle.std.specs.Prelude.{◌≡◌, IfOk, None, OnOk, filter};
 ghost use Rattle.drafts.specs.Drafted.{after};
 ghost use Rattle.protocol.specs.Candidates.{combine, greatest, named};
-ghost use Rattle.protocol.specs.Balloting.{is_accepted, start, started};
+ghost use Rattle.protocol.specs.Balloting.{is_accepted, start, with_first_ballot};
 
 use crate::checks::PrepareAccepted;
 use crate::counters::combine;
@@ -34,13 +34,13 @@ pub fn start<S: Sight>(alloc: Global, sight: &S, draft: &mut Draft<'_>) -> Resul
 }
 
 /// The first ballot, where there may be one.
-#[tactic(auto, unfolding(protocol::specs::Balloting::started))]
+#[tactic(auto, unfolding(protocol::specs::Balloting::with_first_ballot))]
 fn first_ballot<S: Sight>(
     alloc: Global,
     sight: &S,
     votes: &Votes,
 ) -> Result<Option<Ballot>, AllocError>
-    ensures { IfOk result (λ o. record votes.now { ballot = o } ≡ started (S.seen sight.now) votes.now (combine votes.now.confirms)) }
+    ensures { IfOk result (λ o. record votes.now { ballot = o } ≡ with_first_ballot (S.seen sight.now) votes.now (combine votes.now.confirms)) }
 {
     match combine(&votes.confirms) {
         None => greatest_with_prepare_accepted(alloc, sight, votes),

@@ -2,7 +2,7 @@
 
 ghost use Rattle.std.specs.Prelude.{◌≡◌, option_map};
 ghost use Rattle.types.specs.declared.state.Phase.{Phase};
-ghost use Rattle.protocol.specs.States.{clamped, sent_in, sent_vote};
+ghost use Rattle.protocol.specs.States.{prepared_as_sent, sent_in, sent_vote};
 
 use crate::positions::{commit_counter, high_counter, position};
 use types::{Ballot, LentBallot, LentStatement, Phase, Votes};
@@ -42,7 +42,7 @@ fn sent_prepare<'a>(votes: &'a Votes, ballot: &'a Ballot) -> LentStatement<'a>
 
 /// The highest accepted ballot, where there is one, as it is sent.
 fn highest_accepted<'a>(ballot: &Ballot, prepared: &'a Option<Ballot>) -> Option<LentBallot<'a>>
-    ensures { result ≡ option_map (clamped ballot.now) prepared.now }
+    ensures { result ≡ option_map (prepared_as_sent ballot.now) prepared.now }
 {
     match prepared {
         None => None,
@@ -52,9 +52,9 @@ fn highest_accepted<'a>(ballot: &Ballot, prepared: &'a Option<Ballot>) -> Option
 
 /// The highest accepted ballot as it is sent: where it is above the ballot, the greatest of its value
 /// that is not. At counter 0 there may be none, and then it stays above.
-#[tactic(auto, unfolding(protocol::specs::States::clamped))]
+#[tactic(auto, unfolding(protocol::specs::States::prepared_as_sent))]
 fn prepared_as_sent<'a>(ballot: &Ballot, prepared: &'a Ballot) -> LentBallot<'a>
-    ensures { result ≡ clamped ballot.now prepared.now }
+    ensures { result ≡ prepared_as_sent ballot.now prepared.now }
 {
     if *ballot < *prepared {
         let counter = if prepared.value > ballot.value {

@@ -4,7 +4,7 @@ use Rattle.std.proofs.lemmas.List.{length-map}
 use Rattle.protocol.specs.Hosts.{Config, Entry}
 use Rattle.cells.specs.Receipts.{Extract, extract, extract_of, extracts_from, extracts_of}
 use Rattle.cells.specs.Rule.{AllBelow}
-use Rattle.cells.specs.Sights.{Sight}
+use Rattle.cells.specs.Sights.{SeatSight}
 use Rattle.cells.specs.Closing.{AllSeats, HasNumber, receipts_in}
 
 -- ---- each owner below n counts once
@@ -116,12 +116,12 @@ all_of_them f (suc n) xs le here =
     omega arith
 
 -- ---- seats
-number_in : (seats : List Sight) (k i : ℕ) (s : Sight) → slice_get seats i ≡ Some s → s.me.number ≡ k → In k (map (λ t. t.me.number) seats)
+number_in : (seats : List SeatSight) (k i : ℕ) (s : SeatSight) → slice_get seats i ≡ Some s → s.me.number ≡ k → In k (map (λ t. t.me.number) seats)
 number_in [] k i s e is = absurd (cc)
-number_in (x ∷ xs) k zero s e is = let same : x ≡ s = cc in inl (ap (λ (t : Sight). t.me.number) same ∙ is)
+number_in (x ∷ xs) k zero s e is = let same : x ≡ s = cc in inl (ap (λ (t : SeatSight). t.me.number) same ∙ is)
 number_in (x ∷ xs) k (suc i) s e is = inr (number_in xs k i s e is)
 
-receipts_by : (config : Config) (owners : List ℕ) (entries : List Entry) (seats : List Sight) → length owners ≡ length entries
+receipts_by : (config : Config) (owners : List ℕ) (entries : List Entry) (seats : List SeatSight) → length owners ≡ length entries
     → AllSeats (λ s. map extract_of s.me.receipts ≡ extracts_of config s.me.number owners entries) seats → receipts_in seats ≡ sum_of (count owners) (map (λ t. t.me.number) seats)
 receipts_by config owners entries [] len all = refl
 receipts_by config owners entries (s ∷ ss) len all =
@@ -129,12 +129,12 @@ receipts_by config owners entries (s ∷ ss) len all =
     let rest = receipts_by config owners entries ss len all.1 in
     omega arith
 
-pub as_many : (config : Config) (n : ℕ) (owners : List ℕ) (entries : List Entry) (seats : List Sight) → length owners ≡ length entries → AllBelow n owners
+pub as_many : (config : Config) (n : ℕ) (owners : List ℕ) (entries : List Entry) (seats : List SeatSight) → length owners ≡ length entries → AllBelow n owners
     → ((k : ℕ) → k < n → HasNumber seats k) → AllSeats (λ s. map extract_of s.me.receipts ≡ extracts_of config s.me.number owners entries) seats
     → length seats ≤ n → length entries ≡ receipts_in seats
 as_many config n owners entries seats len owned present receipts few =
     let numbers : List ℕ = map (λ t. t.me.number) seats in
     let a = receipts_by config owners entries seats len receipts in
-    let b = all_of_them (count owners) n numbers (omega (arith, length-map seats (λ (t : Sight). t.me.number))) (λ k lt. let p = present k lt in number_in seats k p.0 p.1 p.2 p.3) in
+    let b = all_of_them (count owners) n numbers (omega (arith, length-map seats (λ (t : SeatSight). t.me.number))) (λ k lt. let p = present k lt in number_in seats k p.0 p.1 p.2 p.3) in
     let c = each_once n owners owned in
     omega arith

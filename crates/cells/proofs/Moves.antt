@@ -11,7 +11,7 @@ use Rattle.types.specs.declared.event.Event.{Event}
 use Rattle.protocol.specs.Hosts.{Config, Entry}
 use Rattle.cells.specs.declared.refusal.CellRefusal.{CellRefusal}
 use Rattle.cells.specs.Receipts.{Applied, Extract, entry_of, extract, extract_of, extracts_from, extracts_of}
-use Rattle.cells.specs.Views.{Denial, DeskSight, Known, nobody}
+use Rattle.cells.specs.Views.{Denial, DeskSight, Knowledge, nobody}
 use Rattle.cells.specs.Rule.{opener, opened, one_more, seat_of, fresh, ended, note_of, closer_of, shown, desk_at, AllBelow, History, World, Claims, Has, Fits, AllFit, IsOpen, Holds, IsEmpty, taken, IsTaken, Agrees, added, denial, denied, looked, stopped, HasDesk}
 
 off : {A : Type 0} → false ≡ true → A
@@ -23,30 +23,30 @@ is_or_not b = elim b as (λ v. (v ≡ true) ⊎ (v ≡ false)) [ true ↦ inl re
 pub prefix_more : (a l : List Entry) (e : Entry) → IsPrefix a l → IsPrefix a (l ++ e ∷ [])
 prefix_more a l e p = (p.0 ++ e ∷ [], sym (append_assoc a p.0 (e ∷ [])) ∙ ap (λ (x : List Entry). x ++ e ∷ []) p.1)
 
-all_set : (F : ℕ → Known → Type 0) (views : List Known) (id : ℕ) (w : Known) → F id w → ((j : ℕ) (u : Known) → j ≢ id → get_elem? views j ≡ some u → F j u) → (j : ℕ) (u : Known) → get_elem? (set views id w) j ≡ some u → F j u
+all_set : (F : ℕ → Knowledge → Type 0) (views : List Knowledge) (id : ℕ) (w : Knowledge) → F id w → ((j : ℕ) (u : Knowledge) → j ≢ id → get_elem? views j ≡ some u → F j u) → (j : ℕ) (u : Knowledge) → get_elem? (set views id w) j ≡ some u → F j u
 all_set F views id w mine others j u e =
     ⊎_elim
-    (λ (x : (j ≡ id) × (w ≡ u)). subst (λ (y : ℕ × Known). F y.0 y.1) (λ i. (sym x.0 i, x.1 i)) mine)
+    (λ (x : (j ≡ id) × (w ≡ u)). subst (λ (y : ℕ × Knowledge). F y.0 y.1) (λ i. (sym x.0 i, x.1 i)) mine)
     (λ (x : (j ≢ id) × (get_elem? views j ≡ some u)). others j u x.0 x.1)
     (at_set views id j w u e)
 
 -- what stands in a list one longer
-at_end : (l : List Known) (a b : Known) (j : ℕ) → get_elem? (l ++ a ∷ []) j ≡ some b → (get_elem? l j ≡ some b) ⊎ ((j ≡ length l) × (a ≡ b))
+at_end : (l : List Knowledge) (a b : Knowledge) (j : ℕ) → get_elem? (l ++ a ∷ []) j ≡ some b → (get_elem? l j ≡ some b) ⊎ ((j ≡ length l) × (a ≡ b))
 at_end [] a b zero e = inr (refl, some-injective a b e)
 at_end [] a b (suc j) e = absurd (some-ne-none b (sym e))
 at_end (x ∷ xs) a b zero e = inl e
 at_end (x ∷ xs) a b (suc j) e = ⊎_elim (λ h. inl h) (λ h. inr (ap suc h.0, h.1)) (at_end xs a b j e)
 
 -- the only view before the desk is there
-only : (v : Known) (views : List Known) (id : ℕ) → views ≡ opener ∷ [] → get_elem? views id ≡ some v → (id ≡ 0) × (v ≡ opener)
-only v views id is at = go id (subst (λ (l : List Known). get_elem? l id ≡ some v) is at)
+only : (v : Knowledge) (views : List Knowledge) (id : ℕ) → views ≡ opener ∷ [] → get_elem? views id ≡ some v → (id ≡ 0) × (v ≡ opener)
+only v views id is at = go id (subst (λ (l : List Knowledge). get_elem? l id ≡ some v) is at)
   where
     go : (k : ℕ) → get_elem? (opener ∷ []) k ≡ some v → (k ≡ 0) × (v ≡ opener)
     go zero e = (refl, sym (some-injective opener v e))
     go (suc k) e = absurd (some-ne-none v (sym e))
 
 -- a view that has and claims nothing fits
-fits_idle : (g : World) (id : ℕ) (v : Known) → v.opening ≡ false → v.opens ≡ false → v.live ≡ false → v.claims ≡ false → v.holding ≡ false
+fits_idle : (g : World) (id : ℕ) (v : Knowledge) → v.opening ≡ false → v.opens ≡ false → v.live ≡ false → v.claims ≡ false → v.holding ≡ false
     → (v.known ≡ true → (v.config ≡ g.past.config) × (v.seats ≡ g.past.seats)) → Fits g id v
 fits_idle g id v opening opens live claims holding known = record {
   opening = opening;
@@ -61,23 +61,23 @@ fits_idle g id v opening opens live claims holding known = record {
 abbrev seated : World → ℕ → (ℕ → Bool) → (ℕ → ℕ) → World
 seated g made gone home = record g { past = record g.past { made = made; ended = gone }; home = home }
 
-has_seated : (g : World) (made : ℕ) (gone : ℕ → Bool) (home : ℕ → ℕ) (id : ℕ) (v : Known) → Has g id v → Has (seated g made gone home) id v
+has_seated : (g : World) (made : ℕ) (gone : ℕ → Bool) (home : ℕ → ℕ) (id : ℕ) (v : Knowledge) → Has g id v → Has (seated g made gone home) id v
 has_seated g made gone home id v m = record { free = m.free; holder = m.holder; all = m.all; owners = m.owners; over = m.over; stopper = m.stopper }
 
 -- the desk stays where it is
-open_seated : (g : World) (gone : ℕ → Bool) (items : List DeskSight) (views now : List Known) → IsOpen g items views
+open_seated : (g : World) (gone : ℕ → Bool) (items : List DeskSight) (views now : List Knowledge) → IsOpen g items views
     → AllFit (seated g g.past.made gone g.home) now → IsOpen (seated g g.past.made gone g.home) items now
 open_seated g gone items views now o fit = record { there = o.there; away = o.away; paired = o.paired; owned = o.owned; stopper = o.stopper; made = o.made; fit = fit }
 
 -- past the opening, the world
-past_opening : (items : List DeskSight) (views : List Known) (id : ℕ) (v : Known) → Holds items views → get_elem? views id ≡ some v → v.known ≡ true → (g : World) × IsOpen g items views
+past_opening : (items : List DeskSight) (views : List Knowledge) (id : ℕ) (v : Knowledge) → Holds items views → get_elem? views id ≡ some v → v.known ≡ true → (g : World) × IsOpen g items views
 past_opening items views id v h at known =
-    ⊎_elim (λ (o : (items ≡ []) × (views ≡ opener ∷ [])). off (sym (ap (λ (u : Known). u.known) (only v views id o.1 at).1) ∙ known)) (λ (g : (g : World) × IsOpen g items views). g) h
+    ⊎_elim (λ (o : (items ≡ []) × (views ≡ opener ∷ [])). off (sym (ap (λ (u : Knowledge). u.known) (only v views id o.1 at).1) ∙ known)) (λ (g : (g : World) × IsOpen g items views). g) h
 
 pub begins : Holds [] (opener ∷ [])
 begins = inl (refl, refl)
 
-pub empties : (id : ℕ) (v : Known) → (v.holding ≡ true) ⊎ (v.opening ≡ true) → Learns Holds id v IsEmpty
+pub empties : (id : ℕ) (v : Knowledge) → (v.holding ≡ true) ⊎ (v.opening ≡ true) → Learns Holds id v IsEmpty
 empties id v mine items views h at =
     ⊎_elim (λ (o : (items ≡ []) × (views ≡ opener ∷ [])). o.0)
     (λ (w : (g : World) × IsOpen g items views).
@@ -86,19 +86,19 @@ empties id v mine items views h at =
     h
 
 -- what is put back is the desk that is named, and the view is then the one that is named
-pub pushed_as : (id : ℕ) (v w next : Known) (d desk : DeskSight) → desk ≡ d → next ≡ w → Pushes Holds 1 id v d (λ u. u ≡ w) → Pushes Holds 1 id v desk (λ u. u ≡ next)
-pushed_as id v w next d desk is named h = subst (λ (y : DeskSight × Known). Pushes Holds 1 id v y.0 (λ u. u ≡ y.1)) (λ i. (sym is i, sym named i)) h
+pub pushed_as : (id : ℕ) (v w next : Knowledge) (d desk : DeskSight) → desk ≡ d → next ≡ w → Pushes Holds 1 id v d (λ u. u ≡ w) → Pushes Holds 1 id v desk (λ u. u ≡ next)
+pushed_as id v w next d desk is named h = subst (λ (y : DeskSight × Knowledge). Pushes Holds 1 id v y.0 (λ u. u ≡ y.1)) (λ i. (sym is i, sym named i)) h
 
 -- the opening
 abbrev first_world : Config → ℕ → World
 first_world config seats = record { past = record { config = config; seats = seats; entries = []; owners = []; over = false; stopper = 0; made = 0; ended = λ _. false }; home = λ _. 0; free = true; holder = 0; opener = 0 }
 
-pub opens : (id : ℕ) (v : Known) (config : Config) (seats : ℕ) → v.opening ≡ true → Pushes Holds 1 id v (desk_at config seats [] false) (λ w. w ≡ opened config seats)
+pub opens : (id : ℕ) (v : Knowledge) (config : Config) (seats : ℕ) → v.opening ≡ true → Pushes Holds 1 id v (desk_at config seats [] false) (λ w. w ≡ opened config seats)
 opens id v config seats opening items views room h at =
     ⊎_elim
     (λ (o : (items ≡ []) × (views ≡ opener ∷ [])).
     let is = only v views id o.1 at in
-    let w : Known = opened config seats in (
+    let w : Knowledge = opened config seats in (
       w,
       inr (
         first_world config seats,
@@ -109,7 +109,7 @@ opens id v config seats opening items views room h at =
           owned = tt;
           stopper = λ f. off f;
           made = omega arith;
-          fit = λ j u e. one u j (subst (λ (l : List Known). get_elem? l j ≡ some u) (ap (λ (y : List Known × ℕ). set y.0 y.1 w) (λ i. (o.1 i, is.0 i))) e);
+          fit = λ j u e. one u j (subst (λ (l : List Knowledge). get_elem? l j ≡ some u) (ap (λ (y : List Knowledge × ℕ). set y.0 y.1 w) (λ i. (o.1 i, is.0 i))) e);
         },
       ),
       refl,
@@ -117,7 +117,7 @@ opens id v config seats opening items views room h at =
     (λ (w : (g : World) × IsOpen g items views). off (sym (w.1.fit id v at).opening ∙ opening))
     h
   where
-    one : (u : Known) (j : ℕ) → get_elem? (opened config seats ∷ []) j ≡ some u → Fits (first_world config seats) j u
+    one : (u : Knowledge) (j : ℕ) → get_elem? (opened config seats ∷ []) j ≡ some u → Fits (first_world config seats) j u
     one u zero e = subst (Fits (first_world config seats) 0) (some-injective (opened config seats) u e) (record {
       opening = refl;
       opens = λ _. (refl, refl);
@@ -133,7 +133,7 @@ below_more m n [] le all = tt
 below_more m n (o ∷ os) le all = (omega (arith, all.0), below_more m n os le all.1)
 
 -- what a view claims of a seat stays where that part of it stays
-same_claims : (h : History) (u w : Known) → w.number ≡ u.number → w.seen ≡ u.seen → w.stopped ≡ u.stopped → w.receipts ≡ u.receipts → w.stops ≡ u.stops → w.closed ≡ u.closed → Claims h u → Claims h w
+same_claims : (h : History) (u w : Knowledge) → w.number ≡ u.number → w.seen ≡ u.seen → w.stopped ≡ u.stopped → w.receipts ≡ u.receipts → w.stops ≡ u.stops → w.closed ≡ u.closed → Claims h u → Claims h w
 same_claims h u w number seen stopped receipts stops closed c = record {
   made = subst (λ (n : ℕ). n < h.made) (sym number) c.made;
   seen = subst (λ (l : List Entry). IsPrefix l h.entries) (sym seen) c.seen;
@@ -144,7 +144,7 @@ same_claims h u w number seen stopped receipts stops closed c = record {
 }
 
 -- the desk is taken
-pub takes : (id : ℕ) (v : Known) → v.known ≡ true → v.holding ≡ false → Pops Holds id v (λ x w. IsTaken v x w)
+pub takes : (id : ℕ) (v : Knowledge) → v.known ≡ true → v.holding ≡ false → Pops Holds id v (λ x w. IsTaken v x w)
 takes id v known away x items views h at =
     let world = past_opening (x ∷ items) views id v h at known in
     let g : World = world.0 in
@@ -155,7 +155,7 @@ takes id v known away x items views h at =
     let is : x ≡ desk_at g.past.config g.past.seats g.past.entries g.past.over = cc in
     let none : items ≡ [] = cc in
     let f = o.fit id v at in
-    let w : Known = taken v x.log.entries x.stopped g.past.owners g.past.stopper in
+    let w : Knowledge = taken v x.log.entries x.stopped g.past.owners g.past.stopper in
     let all : x.log.entries ≡ g.past.entries = ap (λ (d : DeskSight). d.log.entries) is in
     let over : x.stopped ≡ g.past.over = ap (λ (d : DeskSight). d.stopped) is in
     let g' : World = record g { free = false; holder = id } in (
@@ -229,7 +229,7 @@ abbrev grown : History → ℕ → Entry → History
 grown h by e = record h { entries = h.entries ++ e ∷ []; owners = h.owners ++ by ∷ [] }
 
 -- what is said of another seat stays
-others_grow : (h : History) (by : ℕ) (e : Entry) (u : Known) → length h.owners ≡ length h.entries → u.number ≢ by → Claims h u → Claims (grown h by e) u
+others_grow : (h : History) (by : ℕ) (e : Entry) (u : Knowledge) → length h.owners ≡ length h.entries → u.number ≢ by → Claims h u → Claims (grown h by e) u
 others_grow h by e u len apart c = record {
   made = c.made;
   seen = prefix_more u.seen h.entries e c.seen;
@@ -240,7 +240,7 @@ others_grow h by e u len apart c = record {
 }
 
 -- another seat that is live or noted has another number
-another : (g : World) (id : ℕ) (v : Known) (j : ℕ) (u : Known) → HasDesk v → Fits g id v → Fits g j u → j ≢ id → (u.live ≡ true) ⊎ (u.claims ≡ true) → u.number ≢ v.number
+another : (g : World) (id : ℕ) (v : Knowledge) (j : ℕ) (u : Knowledge) → HasDesk v → Fits g id v → Fits g j u → j ≢ id → (u.live ≡ true) ⊎ (u.claims ≡ true) → u.number ≢ v.number
 another g id v j u s f k apart is same =
     ⊎_elim
     (λ (l : u.live ≡ true). apart ((k.live l).0 ∙ ap g.home same ∙ sym (f.live s.live).0))
@@ -250,7 +250,7 @@ another g id v j u s f k apart is same =
 -- ---- the desk comes back
 
 -- the view of one who puts it back
-abbrev back : Known → List Entry → Bool → List Applied → List Denial → ℕ → Known
+abbrev back : Knowledge → List Entry → Bool → List Applied → List Denial → ℕ → Knowledge
 back v seen stop receipts denials stops = record v { holding = false; seen = seen; stopped = stop; receipts = receipts; denials = denials; stops = stops }
 
 -- what was done, with another journal or another mark
@@ -258,18 +258,18 @@ abbrev renewed : History → List Entry → List ℕ → Bool → ℕ → Histor
 renewed h entries owners over stopper = record h { entries = entries; owners = owners; over = over; stopper = stopper }
 
 -- the desk with that history fits it, and so does what was claimed
-record IsBack (past : History) (v : Known) (x : DeskSight) (w : Known) (now : History) : Type 0 where
+record IsBack (past : History) (v : Knowledge) (x : DeskSight) (w : Knowledge) (now : History) : Type 0 where
   desk : x ≡ desk_at now.config now.seats now.entries now.over
   paired : length now.owners ≡ length now.entries
   owned : AllBelow now.made now.owners
   stopper : now.over ≡ true → now.stopper < now.made
   mine : Claims now w
-  others : (u : Known) → u.number ≢ v.number → Claims past u → Claims now u
+  others : (u : Knowledge) → u.number ≢ v.number → Claims past u → Claims now u
 
 -- a seat puts the desk back with what this makes of the history, if it fits whatever world is open
-gives : (id : ℕ) (v : Known) (x : DeskSight) (seen : List Entry) (stop : Bool) (receipts : List Applied) (denials : List Denial) (stops : ℕ)
+gives : (id : ℕ) (v : Knowledge) (x : DeskSight) (seen : List Entry) (stop : Bool) (receipts : List Applied) (denials : List Denial) (stops : ℕ)
     (entries : History → List Entry) (owners : History → List ℕ) (over : History → Bool) (stopper : History → ℕ) → HasDesk v
-    → ((g : World) (items : List DeskSight) (views : List Known) → IsOpen g items views → Fits g id v → Has g id v → Claims g.past v
+    → ((g : World) (items : List DeskSight) (views : List Knowledge) → IsOpen g items views → Fits g id v → Has g id v → Claims g.past v
     → IsBack g.past v x (back v seen stop receipts denials stops) (renewed g.past (entries g.past) (owners g.past) (over g.past) (stopper g.past)))
     → Pushes Holds 1 id v x (λ w. w ≡ back v seen stop receipts denials stops)
 gives id v x seen stop receipts denials stops entries owners over stopper s fits items views room h at =
@@ -279,7 +279,7 @@ gives id v x seen stop receipts denials stops entries owners over stopper s fits
     let f = o.fit id v at in
     let has = f.holding s.holding in
     let b = fits g items views o f has (f.live s.live).1 in
-    let w : Known = back v seen stop receipts denials stops in
+    let w : Knowledge = back v seen stop receipts denials stops in
     let g' : World = record g { past = renewed g.past (entries g.past) (owners g.past) (over g.past) (stopper g.past); free = true } in (
       w,
       inr (
@@ -314,7 +314,7 @@ gives id v x seen stop receipts denials stops entries owners over stopper s fits
       refl,
     )
 
-pub adds : (id : ℕ) (v : Known) (r : Applied) → HasDesk v → extract_of r ≡ extract v.config v.all (entry_of r) → Pushes Holds 1 id v (desk_at v.config v.seats (v.all ++ entry_of r ∷ []) v.over) (λ w. w ≡ added v r)
+pub adds : (id : ℕ) (v : Knowledge) (r : Applied) → HasDesk v → extract_of r ≡ extract v.config v.all (entry_of r) → Pushes Holds 1 id v (desk_at v.config v.seats (v.all ++ entry_of r ∷ []) v.over) (λ w. w ≡ added v r)
 adds id v r s is =
     let e : Entry = entry_of r in
     gives id v (desk_at v.config v.seats (v.all ++ e ∷ []) v.over) (v.all ++ e ∷ []) v.over (v.receipts ++ r ∷ []) v.denials v.stops
@@ -339,7 +339,7 @@ adds id v r s is =
     })
 
 -- nothing was added, and the view has what else it wants
-sees : (id : ℕ) (v : Known) (denials : List Denial) → HasDesk v
+sees : (id : ℕ) (v : Knowledge) (denials : List Denial) → HasDesk v
     → Pushes Holds 1 id v (desk_at v.config v.seats v.all v.over) (λ w. w ≡ back v v.all v.over v.receipts denials v.stops)
 sees id v denials s =
     gives id v (desk_at v.config v.seats v.all v.over) v.all v.over v.receipts denials v.stops
@@ -353,15 +353,15 @@ sees id v denials s =
       others = λ u apart k. k;
     })
 
-pub denies : (id : ℕ) (v : Known) (event : Event) (refusal : CellRefusal) → HasDesk v → Pushes Holds 1 id v (desk_at v.config v.seats v.all v.over) (λ w. w ≡ denied v event refusal)
+pub denies : (id : ℕ) (v : Knowledge) (event : Event) (refusal : CellRefusal) → HasDesk v → Pushes Holds 1 id v (desk_at v.config v.seats v.all v.over) (λ w. w ≡ denied v event refusal)
 denies id v event refusal s = sees id v (v.denials ++ denial event refusal (length v.all) ∷ []) s
 
 -- nothing was done
-pub looks : (id : ℕ) (v : Known) → HasDesk v → Pushes Holds 1 id v (desk_at v.config v.seats v.all v.over) (λ w. w ≡ looked v)
+pub looks : (id : ℕ) (v : Knowledge) → HasDesk v → Pushes Holds 1 id v (desk_at v.config v.seats v.all v.over) (λ w. w ≡ looked v)
 looks id v s = sees id v v.denials s
 
 -- the stop mark is set
-pub stops : (id : ℕ) (v : Known) → HasDesk v → Pushes Holds 1 id v (desk_at v.config v.seats v.all true) (λ w. w ≡ stopped v)
+pub stops : (id : ℕ) (v : Knowledge) → HasDesk v → Pushes Holds 1 id v (desk_at v.config v.seats v.all true) (λ w. w ≡ stopped v)
 stops id v s =
     gives id v (desk_at v.config v.seats v.all true) v.all true v.receipts v.denials (suc v.stops)
     (λ past. past.entries) (λ past. past.owners) (λ past. true) (λ past. if past.over then past.stopper else v.number) s
@@ -390,10 +390,10 @@ stops id v s =
     })
 
 -- where a view is set and another added
-all_forked : (F : ℕ → Known → Type 0) (views : List Known) (id : ℕ) (w new : Known) → F id w → F (length (set views id w)) new → ((j : ℕ) (u : Known) → j ≢ id → get_elem? views j ≡ some u → F j u) → (j : ℕ) (u : Known) → get_elem? (set views id w ++ new ∷ []) j ≡ some u → F j u
+all_forked : (F : ℕ → Knowledge → Type 0) (views : List Knowledge) (id : ℕ) (w new : Knowledge) → F id w → F (length (set views id w)) new → ((j : ℕ) (u : Knowledge) → j ≢ id → get_elem? views j ≡ some u → F j u) → (j : ℕ) (u : Knowledge) → get_elem? (set views id w ++ new ∷ []) j ≡ some u → F j u
 all_forked F views id w new mine theirs others j u e =
     ⊎_elim (λ was. all_set F views id w mine others j u was)
-    (λ (x : (j ≡ length (set views id w)) × (new ≡ u)). subst (λ (y : ℕ × Known). F y.0 y.1) (λ i. (sym x.0 i, x.1 i)) theirs)
+    (λ (x : (j ≡ length (set views id w)) × (new ≡ u)). subst (λ (y : ℕ × Knowledge). F y.0 y.1) (λ i. (sym x.0 i, x.1 i)) theirs)
     (at_end (set views id w) new u j e)
 
 home_else : (home : ℕ → ℕ) (n k at : ℕ) → n < k → (if n == k then at else home n) ≡ home n
@@ -406,7 +406,7 @@ none_yet config before n (o ∷ os) (e ∷ es) all =
     ap (λ (b : Bool). (if b then extract config before e ∷ [] else []) ++ extracts_from config (before ++ e ∷ []) n os es) (ne_eqb o n (λ (same : o ≡ n). let a = all.0 in absurd (omega arith)))
     ∙ none_yet config (before ++ e ∷ []) n os es all.1
 
-pub sits : (id : ℕ) (v : Known) → v.opens ≡ true → v.known ≡ true → v.live ≡ false → v.claims ≡ false → v.holding ≡ false → v.made < v.seats → Forks Holds id v (one_more v) (seat_of v)
+pub sits : (id : ℕ) (v : Knowledge) → v.opens ≡ true → v.known ≡ true → v.live ≡ false → v.claims ≡ false → v.holding ≡ false → v.made < v.seats → Forks Holds id v (one_more v) (seat_of v)
 sits id v opens known live claims holding room items views h at =
     let world = past_opening items views id v h at known in
     let g : World = world.0 in
@@ -417,7 +417,7 @@ sits id v opens known live claims holding room items views h at =
     let gone : ℕ → Bool = λ n. if n == g.past.made then false else g.past.ended n in
     let home : ℕ → ℕ = λ n. if n == g.past.made then place else g.home n in
     let g' : World = seated g (suc g.past.made) gone home in
-    let keeps : (u : Known) → Claims g.past u → Claims g'.past u = λ u k. record {
+    let keeps : (u : Knowledge) → Claims g.past u → Claims g'.past u = λ u k. record {
       made = let a = k.made in omega arith;
       seen = k.seen;
       stopped = k.stopped;
@@ -475,7 +475,7 @@ sits id v opens known live claims holding room items views h at =
     )
 
 -- a seat ends, and a note of it is made
-pub ends : (id : ℕ) (v : Known) → v.live ≡ true → v.claims ≡ false → v.holding ≡ false → v.opens ≡ false → v.known ≡ true → Forks Holds id v (ended v) (note_of v)
+pub ends : (id : ℕ) (v : Knowledge) → v.live ≡ true → v.claims ≡ false → v.holding ≡ false → v.opens ≡ false → v.known ≡ true → Forks Holds id v (ended v) (note_of v)
 ends id v live claims holding opens known items views h at =
     let world = past_opening items views id v h at known in
     let g : World = world.0 in
@@ -484,8 +484,8 @@ ends id v live claims holding opens known items views h at =
     let c = (f.live live).1 in
     let gone : ℕ → Bool = λ n. if n == v.number then true else g.past.ended n in
     let g' : World = seated g g.past.made gone g.home in
-    let mine : (w : Known) → w.number ≡ v.number → w.closed ≡ true → w.closed ≡ g'.past.ended w.number = λ w n t. t ∙ sym (ap (λ (b : Bool). if b then true else g.past.ended w.number) (eq-eqb w.number v.number n)) in
-    let other : (u : Known) → u.number ≢ v.number → Claims g.past u → Claims g'.past u = λ u apart k. record {
+    let mine : (w : Knowledge) → w.number ≡ v.number → w.closed ≡ true → w.closed ≡ g'.past.ended w.number = λ w n t. t ∙ sym (ap (λ (b : Bool). if b then true else g.past.ended w.number) (eq-eqb w.number v.number n)) in
+    let other : (u : Knowledge) → u.number ≢ v.number → Claims g.past u → Claims g'.past u = λ u apart k. record {
       made = k.made;
       seen = k.seen;
       stopped = k.stopped;
@@ -493,7 +493,7 @@ ends id v live claims holding opens known items views h at =
       stops = k.stops;
       ended = k.ended ∙ sym (ap (λ (b : Bool). if b then true else g.past.ended u.number) (ne_eqb u.number v.number apart));
     } in
-    let note : (u : Known) → u.closed ≡ true → Claims g.past u → Claims g'.past u = λ u t k. record {
+    let note : (u : Knowledge) → u.closed ≡ true → Claims g.past u → Claims g'.past u = λ u t k. record {
       made = k.made;
       seen = k.seen;
       stopped = k.stopped;
@@ -533,7 +533,7 @@ ends id v live claims holding opens known items views h at =
     )
 
 -- a closer is made
-pub closes : (id : ℕ) (v : Known) → v.known ≡ true → Forks Holds id v v (closer_of v)
+pub closes : (id : ℕ) (v : Knowledge) → v.known ≡ true → Forks Holds id v v (closer_of v)
 closes id v known items views h at =
     let world = past_opening items views id v h at known in
     let g : World = world.0 in
@@ -546,13 +546,13 @@ closes id v known items views h at =
     )
 
 -- the closer takes a note in
-pub shows : (id : ℕ) (v : Known) (other : ℕ) (n : Known) → v.known ≡ true → v.live ≡ false → v.opens ≡ false → n.claims ≡ true → Merges Holds id v other n (shown v n) nobody
+pub shows : (id : ℕ) (v : Knowledge) (other : ℕ) (n : Knowledge) → v.known ≡ true → v.live ≡ false → v.opens ≡ false → n.claims ≡ true → Merges Holds id v other n (shown v n) nobody
 shows id v other n known live opens claims items views h at apart there =
     let world = past_opening items views id v h at known in
     let g : World = world.0 in
     let o : IsOpen g items views = world.1 in
     let f = o.fit id v at in
-    let w : Known = shown v n in
+    let w : Knowledge = shown v n in
     let was : get_elem? views other ≡ some n = ⊎_elim (λ (t : (other ≡ id) × (w ≡ n)). absurd (apart t.0)) (λ (t : (other ≢ id) × (get_elem? views other ≡ some n)). t.1) (at_set views id other w n there) in
     let k = (o.fit other n was).claims claims in
     let with_note : AllFit g (set views id w) = all_set (Fits g) views id w
@@ -572,7 +572,7 @@ shows id v other n known live opens claims items views h at apart there =
     )
 
 -- the desk that the closer has agrees with the note
-pub agrees : (id : ℕ) (v : Known) → v.known ≡ true → v.holding ≡ true → v.claims ≡ true → Learns Holds id v (λ items. Agrees v)
+pub agrees : (id : ℕ) (v : Knowledge) → v.known ≡ true → v.holding ≡ true → v.claims ≡ true → Learns Holds id v (λ items. Agrees v)
 agrees id v known holding claims items views h at =
     let world = past_opening items views id v h at known in
     let g : World = world.0 in

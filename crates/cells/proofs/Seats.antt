@@ -15,9 +15,9 @@ use Rattle.types.specs.declared.event.Out.{Out}
 use Rattle.protocol.specs.Hosts.{Config, Entry}
 use Rattle.cells.specs.declared.refusal.CellRefusal.{CellRefusal}
 use Rattle.cells.specs.Receipts.{Applied, Extract, entry_of, extract, extract_of, receipt}
-use Rattle.cells.specs.Views.{Denial, DeskSight, Known}
+use Rattle.cells.specs.Views.{Denial, DeskSight, Knowledge}
 use Rattle.cells.specs.Rule.{denial, IsTaken, added, denied, looked, stopped, fresh}
-use Rattle.cells.specs.Sights.{Sight}
+use Rattle.cells.specs.Sights.{SeatSight}
 use Rattle.cells.specs.Sounds.{Stands, IsRight, IsWhy, refused_by, AllStand, AllRight, IsRising, IsSound, IsFree, IsSeat}
 use Rattle.cells.specs.Cells.{AllFresh, IsSeatOf}
 use Rattle.cells.specs.Closing.{AllSeats, ended_sight}
@@ -68,12 +68,12 @@ rising_snoc config a n (x ∷ xs) r up all le far =
     (up.0, rising_snoc config a (suc x.number) xs r up.1 all.1 (omega arith) far)
 
 -- what a seat claims is right of all that it sees at the desk
-sound_seen : (v : Known) (x : DeskSight) (w : Known) (over : Bool) (stops : ℕ) → IsFree v → IsSound v → IsTaken v x w → (v.stopped ≡ true → over ≡ true)
+sound_seen : (v : Knowledge) (x : DeskSight) (w : Knowledge) (over : Bool) (stops : ℕ) → IsFree v → IsSound v → IsTaken v x w → (v.stopped ≡ true → over ≡ true)
     → IsSound (record w { holding = false; seen = w.all; stopped = over; stops = stops })
 sound_seen v x w over stops f s t up =
-    let config : w.config ≡ v.config = ap (λ (u : Known). u.config) t.now in
-    let receipts : w.receipts ≡ v.receipts = ap (λ (u : Known). u.receipts) t.now in
-    let denials : w.denials ≡ v.denials = ap (λ (u : Known). u.denials) t.now in
+    let config : w.config ≡ v.config = ap (λ (u : Knowledge). u.config) t.now in
+    let receipts : w.receipts ≡ v.receipts = ap (λ (u : Knowledge). u.receipts) t.now in
+    let denials : w.denials ≡ v.denials = ap (λ (u : Knowledge). u.denials) t.now in
     let p = t.seen f.live in
     record {
       stand = subst (λ (y : Config × List Applied). AllStand y.0 w.all y.1) (λ i. (sym config i, sym receipts i)) (stand_more v.config v.seen w.all v.receipts p s.stand);
@@ -82,18 +82,18 @@ sound_seen v x w over stops f s t up =
     }
 
 -- a refusal
-sound_denied : (v : Known) (x : DeskSight) (w : Known) (event : Event) (refusal : CellRefusal) → IsFree v → IsSound v → IsTaken v x w → IsWhy x.log.config x.log.entries x.stopped event refusal → IsSound (denied w event refusal)
+sound_denied : (v : Knowledge) (x : DeskSight) (w : Knowledge) (event : Event) (refusal : CellRefusal) → IsFree v → IsSound v → IsTaken v x w → IsWhy x.log.config x.log.entries x.stopped event refusal → IsSound (denied w event refusal)
 sound_denied v x w event refusal f s t why =
-    let all : w.all ≡ x.log.entries = ap (λ (u : Known). u.all) t.now in
-    let over : w.over ≡ x.stopped = ap (λ (u : Known). u.over) t.now in
-    let config : w.config ≡ v.config = ap (λ (u : Known). u.config) t.now in
+    let all : w.all ≡ x.log.entries = ap (λ (u : Knowledge). u.all) t.now in
+    let over : w.over ≡ x.stopped = ap (λ (u : Knowledge). u.over) t.now in
+    let config : w.config ≡ v.config = ap (λ (u : Knowledge). u.config) t.now in
     let whole : refused_by w.config (take (length w.all) w.all) event ≡ refused_by x.log.config x.log.entries event = (λ i. refused_by (config i) (take-length w.all i) event) ∙ (λ i. refused_by (sym t.config i) (all i) event) in
     let one : IsRight w.config w.all w.over (denial event refusal (length w.all)) = (omega arith, ⊎_elim (λ m. inl m) (λ m. inr (⊎_elim (λ c. inl (c.0, over ∙ c.1)) (λ c. inr (whole ∙ c)) m)) why) in
     let before = sound_seen v x w w.over w.stops f s t (t.stopped f.live) in
     record { stand = before.stand; rising = before.rising; right = right_snoc w.config w.all w.over w.denials (denial event refusal (length w.all)) before.right one }
 
 -- an application
-sound_added : (v : Known) (x : DeskSight) (w : Known) (r : Applied) → IsFree v → IsSound v → IsTaken v x w → extract_of r ≡ extract w.config w.all (entry_of r) → IsSound (added w r)
+sound_added : (v : Knowledge) (x : DeskSight) (w : Knowledge) (r : Applied) → IsFree v → IsSound v → IsTaken v x w → extract_of r ≡ extract w.config w.all (entry_of r) → IsSound (added w r)
 sound_added v x w r f s t made =
     let e : Entry = entry_of r in
     let number : r.number ≡ length w.all = ap (λ (y : Extract). y.number) made in
@@ -107,118 +107,118 @@ sound_added v x w r f s t made =
     }
 
 -- the view after the desk was put back: the seat is the same and may act
-abbrev IsBack : Known → Known → Type 0
+abbrev IsBack : Knowledge → Knowledge → Type 0
 IsBack w u = (u.number ≡ w.number) × (u.known ≡ w.known) × (u.live ≡ w.live) × (u.claims ≡ w.claims) × (u.opens ≡ w.opens) × (u.holding ≡ false)
 
-seat_back : (p q r : Pass DeskSight Known) (n : ℕ) (rs now : List Applied) (x : DeskSight) (u : Known) → IsSeat p n rs → IsTaken (view p) x (view q) → q.me.1 ≡ p.me.1 → r.me.1 ≡ q.me.1
+seat_back : (p q r : Pass DeskSight Knowledge) (n : ℕ) (rs now : List Applied) (x : DeskSight) (u : Knowledge) → IsSeat p n rs → IsTaken (view p) x (view q) → q.me.1 ≡ p.me.1 → r.me.1 ≡ q.me.1
     → view r ≡ u → IsBack (view q) u → u.receipts ≡ now → IsSound u → IsSeat r n now
 seat_back p q r n rs now x u s t one two is same receipts sound =
     let f = s.free in
     let free : IsFree u = record {
-      known = same.1 ∙ ap (λ (y : Known). y.known) t.now ∙ f.known;
-      live = same.2 ∙ ap (λ (y : Known). y.live) t.now ∙ f.live;
-      claims = same.3 ∙ ap (λ (y : Known). y.claims) t.now ∙ f.claims;
-      opens = same.4 ∙ ap (λ (y : Known). y.opens) t.now ∙ f.opens;
+      known = same.1 ∙ ap (λ (y : Knowledge). y.known) t.now ∙ f.known;
+      live = same.2 ∙ ap (λ (y : Knowledge). y.live) t.now ∙ f.live;
+      claims = same.3 ∙ ap (λ (y : Knowledge). y.claims) t.now ∙ f.claims;
+      opens = same.4 ∙ ap (λ (y : Knowledge). y.opens) t.now ∙ f.opens;
       holding = same.5;
     } in
     record {
       no_slot = two ∙ one ∙ s.no_slot;
-      number = ap (λ (y : Known). y.number) is ∙ same.0 ∙ ap (λ (y : Known). y.number) t.now ∙ s.number;
-      receipts = ap (λ (y : Known). y.receipts) is ∙ receipts;
+      number = ap (λ (y : Knowledge). y.number) is ∙ same.0 ∙ ap (λ (y : Knowledge). y.number) t.now ∙ s.number;
+      receipts = ap (λ (y : Knowledge). y.receipts) is ∙ receipts;
       free = subst IsFree (sym is) free;
       sound = subst IsSound (sym is) sound;
     }
 
 -- the receipts of one that took the desk
-receipts_there : (p q : Pass DeskSight Known) (n : ℕ) (rs : List Applied) (x : DeskSight) → IsSeat p n rs → IsTaken (view p) x (view q) → (view q).receipts ≡ rs
-receipts_there p q n rs x s t = ap (λ (y : Known). y.receipts) t.now ∙ s.receipts
+receipts_there : (p q : Pass DeskSight Knowledge) (n : ℕ) (rs : List Applied) (x : DeskSight) → IsSeat p n rs → IsTaken (view p) x (view q) → (view q).receipts ≡ rs
+receipts_there p q n rs x s t = ap (λ (y : Knowledge). y.receipts) t.now ∙ s.receipts
 
-pub seat_denied : (p q r : Pass DeskSight Known) (n : ℕ) (rs now : List Applied) (x : DeskSight) (event : Event) (refusal : CellRefusal) → IsSeat p n rs → IsTaken (view p) x (view q) → q.me.1 ≡ p.me.1 → r.me.1 ≡ q.me.1
+pub seat_denied : (p q r : Pass DeskSight Knowledge) (n : ℕ) (rs now : List Applied) (x : DeskSight) (event : Event) (refusal : CellRefusal) → IsSeat p n rs → IsTaken (view p) x (view q) → q.me.1 ≡ p.me.1 → r.me.1 ≡ q.me.1
     → view r ≡ denied (view q) event refusal → now ≡ rs → IsWhy x.log.config x.log.entries x.stopped event refusal → IsSeat r n now
 seat_denied p q r n rs now x event refusal s t one two is same why =
     seat_back p q r n rs now x (denied (view q) event refusal) s t one two is (refl, refl, refl, refl, refl, refl) (receipts_there p q n rs x s t ∙ sym same)
     (sound_denied (view p) x (view q) event refusal s.free s.sound t why)
 
-pub seat_added : (p q r : Pass DeskSight Known) (n : ℕ) (rs now : List Applied) (x : DeskSight) (a : Applied) → IsSeat p n rs → IsTaken (view p) x (view q) → q.me.1 ≡ p.me.1 → r.me.1 ≡ q.me.1
+pub seat_added : (p q r : Pass DeskSight Knowledge) (n : ℕ) (rs now : List Applied) (x : DeskSight) (a : Applied) → IsSeat p n rs → IsTaken (view p) x (view q) → q.me.1 ≡ p.me.1 → r.me.1 ≡ q.me.1
     → view r ≡ added (view q) a → now ≡ rs ++ a ∷ [] → extract_of a ≡ extract (view q).config (view q).all (entry_of a) → IsSeat r n now
 seat_added p q r n rs now x a s t one two is same made =
     seat_back p q r n rs now x (added (view q) a) s t one two is (refl, refl, refl, refl, refl, refl)
     (ap (λ (l : List Applied). l ++ a ∷ []) (receipts_there p q n rs x s t) ∙ sym same) (sound_added (view p) x (view q) a s.free s.sound t made)
 
 -- a receipt that was made at the desk
-pub made_at : (v : Known) (x : DeskSight) (w : Known) (event : Event) (outs : List Out) (a : Applied) → IsTaken v x w → a ≡ receipt x.log.config x.log.entries event outs → extract_of a ≡ extract w.config w.all (entry_of a)
+pub made_at : (v : Knowledge) (x : DeskSight) (w : Knowledge) (event : Event) (outs : List Out) (a : Applied) → IsTaken v x w → a ≡ receipt x.log.config x.log.entries event outs → extract_of a ≡ extract w.config w.all (entry_of a)
 made_at v x w event outs a t is =
-    let all : x.log.entries ≡ w.all = sym (ap (λ (u : Known). u.all) t.now) in
-    let config : x.log.config ≡ w.config = t.config ∙ sym (ap (λ (u : Known). u.config) t.now) in
+    let all : x.log.entries ≡ w.all = sym (ap (λ (u : Knowledge). u.all) t.now) in
+    let config : x.log.config ≡ w.config = t.config ∙ sym (ap (λ (u : Knowledge). u.config) t.now) in
     ap extract_of is ∙ (λ i. extract (config i) (all i) (entry_of (sym is i)))
 
 -- what was seen before is a beginning of what is seen after an application
-pub seen_added : (v : Known) (x : DeskSight) (w u : Known) (r : Applied) → IsFree v → IsTaken v x w → u ≡ added w r → IsPrefix v.seen u.seen
+pub seen_added : (v : Knowledge) (x : DeskSight) (w u : Knowledge) (r : Applied) → IsFree v → IsTaken v x w → u ≡ added w r → IsPrefix v.seen u.seen
 seen_added v x w u r f t is = let p = t.seen f.live in
-    (p.0 ++ entry_of r ∷ [], sym (append_assoc v.seen p.0 (entry_of r ∷ [])) ∙ ap (λ (l : List Entry). l ++ entry_of r ∷ []) p.1 ∙ sym (ap (λ (y : Known). y.seen) is))
+    (p.0 ++ entry_of r ∷ [], sym (append_assoc v.seen p.0 (entry_of r ∷ [])) ∙ ap (λ (l : List Entry). l ++ entry_of r ∷ []) p.1 ∙ sym (ap (λ (y : Knowledge). y.seen) is))
 
-pub seat_stopped : (p q r : Pass DeskSight Known) (n : ℕ) (rs : List Applied) (x : DeskSight) → IsSeat p n rs → IsTaken (view p) x (view q) → q.me.1 ≡ p.me.1 → r.me.1 ≡ q.me.1
+pub seat_stopped : (p q r : Pass DeskSight Knowledge) (n : ℕ) (rs : List Applied) (x : DeskSight) → IsSeat p n rs → IsTaken (view p) x (view q) → q.me.1 ≡ p.me.1 → r.me.1 ≡ q.me.1
     → view r ≡ stopped (view q) → IsSeat r n rs
 seat_stopped p q r n rs x s t one two is =
     seat_back p q r n rs rs x (stopped (view q)) s t one two is (refl, refl, refl, refl, refl, refl) (receipts_there p q n rs x s t)
     (sound_seen (view p) x (view q) true (suc (view q).stops) s.free s.sound t (λ _. refl))
 
 -- one that looked
-pub seat_looked : (p q r : Pass DeskSight Known) (n : ℕ) (rs : List Applied) (x : DeskSight) → IsSeat p n rs → IsTaken (view p) x (view q) → q.me.1 ≡ p.me.1 → r.me.1 ≡ q.me.1
+pub seat_looked : (p q r : Pass DeskSight Knowledge) (n : ℕ) (rs : List Applied) (x : DeskSight) → IsSeat p n rs → IsTaken (view p) x (view q) → q.me.1 ≡ p.me.1 → r.me.1 ≡ q.me.1
     → view r ≡ looked (view q) → IsSeat r n rs
 seat_looked p q r n rs x s t one two is =
     seat_back p q r n rs rs x (looked (view q)) s t one two is (refl, refl, refl, refl, refl, refl) (receipts_there p q n rs x s t)
     (sound_seen (view p) x (view q) (view q).over (view q).stops s.free s.sound t (t.stopped s.free.live))
 
 -- a seat that was made just now
-pub seat_fresh : (p : Pass DeskSight Known) (config : Config) (seats n : ℕ) → p.me.1 ≡ [] → view p ≡ fresh config seats n → IsSeat p n []
+pub seat_fresh : (p : Pass DeskSight Knowledge) (config : Config) (seats n : ℕ) → p.me.1 ≡ [] → view p ≡ fresh config seats n → IsSeat p n []
 seat_fresh p config seats n slot is = record {
   no_slot = slot;
-  number = ap (λ (y : Known). y.number) is;
-  receipts = ap (λ (y : Known). y.receipts) is;
+  number = ap (λ (y : Knowledge). y.number) is;
+  receipts = ap (λ (y : Knowledge). y.receipts) is;
   free = subst IsFree (sym is) (record { known = refl; live = refl; claims = refl; opens = refl; holding = refl });
   sound = subst IsSound (sym is) (record { stand = tt; rising = tt; right = tt });
 }
 
-pub seat_same : (p q : Pass DeskSight Known) (n : ℕ) (rs : List Applied) → IsSeat p n rs → q.me.1 ≡ p.me.1 → view q ≡ view p → IsSeat q n rs
+pub seat_same : (p q : Pass DeskSight Knowledge) (n : ℕ) (rs : List Applied) → IsSeat p n rs → q.me.1 ≡ p.me.1 → view q ≡ view p → IsSeat q n rs
 seat_same p q n rs s slot is = record {
   no_slot = slot ∙ s.no_slot;
-  number = ap (λ (y : Known). y.number) is ∙ s.number;
-  receipts = ap (λ (y : Known). y.receipts) is ∙ s.receipts;
+  number = ap (λ (y : Knowledge). y.number) is ∙ s.number;
+  receipts = ap (λ (y : Knowledge). y.receipts) is ∙ s.receipts;
   free = subst IsFree (sym is) s.free;
   sound = subst IsSound (sym is) s.sound;
 }
 
 -- one seat more
-pub seats_more : (cell : TableId) (config : Config) (seats : ℕ) (all : List Sight) (n : ℕ) (new : Sight) → length all ≡ n → new.cell ≡ cell → new.me ≡ fresh config seats n
-    → ((k : ℕ) (s : Sight) → slice_get all k ≡ Some s → (s.cell ≡ cell) × (s.me ≡ fresh config seats k))
-    → (k : ℕ) (s : Sight) → slice_get (all ++ new ∷ []) k ≡ Some s → (s.cell ≡ cell) × (s.me ≡ fresh config seats k)
+pub seats_more : (cell : TableId) (config : Config) (seats : ℕ) (all : List SeatSight) (n : ℕ) (new : SeatSight) → length all ≡ n → new.cell ≡ cell → new.me ≡ fresh config seats n
+    → ((k : ℕ) (s : SeatSight) → slice_get all k ≡ Some s → (s.cell ≡ cell) × (s.me ≡ fresh config seats k))
+    → (k : ℕ) (s : SeatSight) → slice_get (all ++ new ∷ []) k ≡ Some s → (s.cell ≡ cell) × (s.me ≡ fresh config seats k)
 seats_more cell config seats all n new len at me old k s e =
     ⊎_elim (λ h. old k s h)
-    (λ (h : (k ≡ length all) × (new ≡ s)). (sym (ap (λ (t : Sight). t.cell) h.1) ∙ at, sym (ap (λ (t : Sight). t.me) h.1) ∙ me ∙ ap (fresh config seats) (sym len ∙ sym h.0)))
+    (λ (h : (k ≡ length all) × (new ≡ s)). (sym (ap (λ (t : SeatSight). t.cell) h.1) ∙ at, sym (ap (λ (t : SeatSight). t.me) h.1) ∙ me ∙ ap (fresh config seats) (sym len ∙ sym h.0)))
     (slice_get-snoc all new s k e)
 
 -- seats that were made just now are open seats
-pub fresh_seats : (cell : TableId) (config kept : Config) (seats : ℕ) (all : List Sight) → kept ≡ config → AllFresh cell config seats all → All (IsSeatOf (record { cell = cell; config = kept; seats = seats })) all
-fresh_seats cell config kept seats all same new = each all (λ k s e. let h = new k s e in record { cell = h.0; config = ap (λ (v : Known). v.config) h.1 ∙ sym same; seats = ap (λ (v : Known). v.seats) h.1; open_yet = ap (λ (v : Known). v.closed) h.1 })
+pub fresh_seats : (cell : TableId) (config kept : Config) (seats : ℕ) (all : List SeatSight) → kept ≡ config → AllFresh cell config seats all → All (IsSeatOf (record { cell = cell; config = kept; seats = seats })) all
+fresh_seats cell config kept seats all same new = each all (λ k s e. let h = new k s e in record { cell = h.0; config = ap (λ (v : Knowledge). v.config) h.1 ∙ sym same; seats = ap (λ (v : Knowledge). v.seats) h.1; open_yet = ap (λ (v : Knowledge). v.closed) h.1 })
   where
-    each : (l : List Sight) → ((k : ℕ) (s : Sight) → slice_get l k ≡ Some s → IsSeatOf (record { cell = cell; config = kept; seats = seats }) s) → All (IsSeatOf (record { cell = cell; config = kept; seats = seats })) l
+    each : (l : List SeatSight) → ((k : ℕ) (s : SeatSight) → slice_get l k ≡ Some s → IsSeatOf (record { cell = cell; config = kept; seats = seats }) s) → All (IsSeatOf (record { cell = cell; config = kept; seats = seats })) l
     each [] f = All-nil (IsSeatOf (record { cell = cell; config = kept; seats = seats }))
     each (s ∷ ss) f = All-cons (IsSeatOf (record { cell = cell; config = kept; seats = seats })) s ss (f 0 s refl) (each ss (λ k u e. f (suc k) u e))
 
-pub seats_from_all : (P : Sight → Type 0) (seats : List Sight) → All P seats → AllSeats P seats
+pub seats_from_all : (P : SeatSight → Type 0) (seats : List SeatSight) → All P seats → AllSeats P seats
 seats_from_all P [] all = tt
 seats_from_all P (s ∷ ss) all = (All-head P s ss all, seats_from_all P ss (All-tail P s ss all))
 
-all_seats_snoc : (P : Sight → Type 0) (l : List Sight) (s : Sight) → AllSeats P l → P s → AllSeats P (l ++ s ∷ [])
+all_seats_snoc : (P : SeatSight → Type 0) (l : List SeatSight) (s : SeatSight) → AllSeats P l → P s → AllSeats P (l ++ s ∷ [])
 all_seats_snoc P [] s all one = (one, tt)
 all_seats_snoc P (x ∷ xs) s all one = (all.0, all_seats_snoc P xs s all.1 one)
 
-pub all_seats_more : (P : Sight → Type 0) (xs : List Sight) (i : ℕ) (x : Sight) → i < length xs → x ≡ get_or xs i x → AllSeats P (map ended_sight (take i xs)) → P (ended_sight x) → AllSeats P (map ended_sight (take (i + 1) xs))
+pub all_seats_more : (P : SeatSight → Type 0) (xs : List SeatSight) (i : ℕ) (x : SeatSight) → i < length xs → x ≡ get_or xs i x → AllSeats P (map ended_sight (take i xs)) → P (ended_sight x) → AllSeats P (map ended_sight (take (i + 1) xs))
 all_seats_more P xs i x lt is all one =
-    subst (AllSeats P) (sym (ap (map ended_sight) (take_more xs i x lt ∙ ap (λ (y : Sight). take i xs ++ y ∷ []) (sym is)) ∙ map-append ended_sight (take i xs) (x ∷ []))) (all_seats_snoc P (map ended_sight (take i xs)) (ended_sight x) all one)
+    subst (AllSeats P) (sym (ap (map ended_sight) (take_more xs i x lt ∙ ap (λ (y : SeatSight). take i xs ++ y ∷ []) (sym is)) ∙ map-append ended_sight (take i xs) (x ∷ []))) (all_seats_snoc P (map ended_sight (take i xs)) (ended_sight x) all one)
 
-pub all_seats_get : (P : Sight → Type 0) (xs : List Sight) (i : ℕ) (s : Sight) → AllSeats P xs → slice_get xs i ≡ Some s → P s
+pub all_seats_get : (P : SeatSight → Type 0) (xs : List SeatSight) (i : ℕ) (s : SeatSight) → AllSeats P xs → slice_get xs i ≡ Some s → P s
 all_seats_get P [] i s all e = absurd (cc)
 all_seats_get P (x ∷ xs) zero s all e = let is : x ≡ s = cc in subst P is all.0
 all_seats_get P (x ∷ xs) (suc i) s all e = all_seats_get P xs i s all.1 e

@@ -13,20 +13,20 @@ use Rattle.cells.specs.declared.refusal.CellRefusal.TheVariants.{Closed}
 use Rattle.cells.specs.declared.desk.Entered.{Entered}
 use Rattle.cells.specs.Receipts.{entry_of, receipt}
 use Rattle.cells.specs.Rule.{denial, fresh}
-use Rattle.cells.specs.Sights.{CellSight, Sight}
+use Rattle.cells.specs.Sights.{CellSight, SeatSight}
 use Rattle.cells.specs.Sounds.{IsWhy}
 use Rattle.cells.specs.Views.{DeskSight}
 
 -- an open seat of this cell
-pub record IsSeatOf (c : CellSight) (s : Sight) : Type 0 where
+pub record IsSeatOf (c : CellSight) (s : SeatSight) : Type 0 where
   pub cell : s.cell ≡ c.cell
   pub config : s.me.config ≡ c.config
   pub seats : s.me.seats ≡ c.seats
   pub open_yet : s.me.closed ≡ false
 
 -- seats of this cell, made just now and numbered from 0 on
-abbrev pub AllFresh : TableId → Config → ℕ → List Sight → Type 0
-AllFresh cell config seats all = (k : ℕ) (s : Sight) → slice_get all k ≡ Some s → (s.cell ≡ cell) × (s.me ≡ fresh config seats k)
+abbrev pub AllFresh : TableId → Config → ℕ → List SeatSight → Type 0
+AllFresh cell config seats all = (k : ℕ) (s : SeatSight) → slice_get all k ≡ Some s → (s.cell ≡ cell) × (s.me ≡ fresh config seats k)
 
 -- an event was entered in the journal that lies under the lock, and its receipt made
 pub record IsEnteredAt (old : DeskSight) (event : Event) (m : Entered) (new : DeskSight) : Type 0 where
@@ -41,7 +41,7 @@ IsDenied d event r = IsWhy d.log.config d.log.entries d.stopped event r × ((r �
 
 -- The seat gained one receipt, of this event with these outs, and nothing else but what it saw. They are what the event gives out after the
 -- entries before it, after which it is not refused.
-pub record IsApplied (c : CellSight) (event : Event) (given : List Out) (old new : Sight) : Type 0 where
+pub record IsApplied (c : CellSight) (event : Event) (given : List Out) (old new : SeatSight) : Type 0 where
   pub before : List Entry
   pub seen_before : IsPrefix old.me.seen before
   pub free : refusal_of c.config before (step_of event) ≡ None
@@ -52,20 +52,20 @@ pub record IsApplied (c : CellSight) (event : Event) (given : List Out) (old new
   pub stops : new.me.stops ≡ old.me.stops
 
 -- The seat gained one denial, and nothing else but what it saw.
-pub record IsDenial (event : Event) (r : CellRefusal) (old new : Sight) : Type 0 where
+pub record IsDenial (event : Event) (r : CellRefusal) (old new : SeatSight) : Type 0 where
   pub receipts : new.me.receipts ≡ old.me.receipts
   pub denials : new.me.denials ≡ old.me.denials ++ denial event r (length new.me.seen) ∷ []
   pub stops : new.me.stops ≡ old.me.stops
 
 -- The seat set the mark once more, and gained nothing but what it saw.
-pub record IsStopped (old new : Sight) : Type 0 where
+pub record IsStopped (old new : SeatSight) : Type 0 where
   pub stopped : new.me.stopped ≡ true
   pub stops : new.me.stops ≡ old.me.stops + 1
   pub receipts : new.me.receipts ≡ old.me.receipts
   pub denials : new.me.denials ≡ old.me.denials
 
 -- The seat gained nothing but what it saw.
-pub record IsSameButSeen (old new : Sight) : Type 0 where
+pub record IsSameButSeen (old new : SeatSight) : Type 0 where
   pub receipts : new.me.receipts ≡ old.me.receipts
   pub denials : new.me.denials ≡ old.me.denials
   pub stops : new.me.stops ≡ old.me.stops

@@ -5,28 +5,28 @@ use Rattle.protocol.specs.Hosts.{Config}
 use Rattle.hoststep.specs.Logs.{Log}
 use Rattle.cells.specs.Receipts.{extract_of, extracts_of}
 use Rattle.cells.specs.Rule.{Told, AllBelow, ended}
-use Rattle.cells.specs.Sights.{Sight}
+use Rattle.cells.specs.Sights.{SeatSight}
 use Rattle.cells.specs.Sounds.{IsSound, AllStand, AllRight}
-use Rattle.cells.specs.Views.{DeskSight, Known}
+use Rattle.cells.specs.Views.{DeskSight, Knowledge}
 
-abbrev pub AllSeats : (Sight → Type 0) → List Sight → Type 0
+abbrev pub AllSeats : (SeatSight → Type 0) → List SeatSight → Type 0
 AllSeats P [] = Unit {0}
 AllSeats P (s ∷ ss) = P s × AllSeats P ss
 
-abbrev pub HasNumber : List Sight → ℕ → Type 0
-HasNumber seats k = (i : ℕ) × (s : Sight) × (slice_get seats i ≡ Some s) × (s.me.number ≡ k)
+abbrev pub HasNumber : List SeatSight → ℕ → Type 0
+HasNumber seats k = (i : ℕ) × (s : SeatSight) × (slice_get seats i ≡ Some s) × (s.me.number ≡ k)
 
 -- how many receipts they have
-abbrev pub receipts_in : List Sight → ℕ
+abbrev pub receipts_in : List SeatSight → ℕ
 receipts_in [] = 0
 receipts_in (s ∷ ss) = length s.me.receipts + receipts_in ss
 
 -- the seat has ended, and is as it was
-abbrev pub ended_sight : Sight → Sight
+abbrev pub ended_sight : SeatSight → SeatSight
 ended_sight s = record s { me = ended s.me }
 
 -- the desk, and what is known of each seat by it
-pub record Gathered (c : Config) (n : ℕ) (d : DeskSight) (seats : List Sight) : Type 0 where
+pub record Gathered (c : Config) (n : ℕ) (d : DeskSight) (seats : List SeatSight) : Type 0 where
   pub owners : List ℕ
   pub stopper : ℕ
   pub config : d.log.config ≡ c
@@ -37,7 +37,7 @@ pub record Gathered (c : Config) (n : ℕ) (d : DeskSight) (seats : List Sight) 
 
 -- Each entry is one seat's, and each seat's receipts are its entries. What each seat saw is a beginning. Each denial was right. A mark was
 -- set by some seat. Where no more seats are there than the cell has, there are as many entries as receipts.
-pub record IsOneHistory (n : ℕ) (j : Log) (seats : List Sight) : Type 0 where
+pub record IsOneHistory (n : ℕ) (j : Log) (seats : List SeatSight) : Type 0 where
   pub owners : List ℕ
   pub paired : length owners ≡ length j.entries
   pub owned : AllBelow n owners
@@ -47,10 +47,10 @@ pub record IsOneHistory (n : ℕ) (j : Log) (seats : List Sight) : Type 0 where
   pub seen : AllSeats (λ s. IsPrefix s.me.seen j.entries) seats
   pub stand : AllSeats (λ s. AllStand j.config j.entries s.me.receipts) seats
   pub right : AllSeats (λ s. AllRight j.config j.entries s.me.stopped s.me.denials) seats
-  pub stops : AllSeats (λ s. s.me.stopped ≡ true → (i : ℕ) × (t : Sight) × (slice_get seats i ≡ Some t) × (0 < t.me.stops)) seats
+  pub stops : AllSeats (λ s. s.me.stopped ≡ true → (i : ℕ) × (t : SeatSight) × (slice_get seats i ≡ Some t) × (0 < t.me.stops)) seats
 
 -- the closer has the desk still
-pub record Keeps (before after : Known) : Type 0 where
+pub record Keeps (before after : Knowledge) : Type 0 where
   pub holding : after.holding ≡ true
   pub live : after.live ≡ false
   pub known : after.known ≡ true

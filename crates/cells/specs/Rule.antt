@@ -7,36 +7,36 @@ use Rattle.types.specs.declared.event.Event.{Event}
 use Rattle.protocol.specs.Hosts.{Config, Entry}
 use Rattle.cells.specs.declared.refusal.CellRefusal.{CellRefusal}
 use Rattle.cells.specs.Receipts.{Applied, entry_of, extract_of, extracts_of}
-use Rattle.cells.specs.Views.{Denial, DeskSight, Known, nobody}
+use Rattle.cells.specs.Views.{Denial, DeskSight, Knowledge, nobody}
 
 -- the pass with which a lock begins
-abbrev pub opener : Known
+abbrev pub opener : Knowledge
 opener = record nobody { opening = true }
 
 -- once the desk is there, it makes the seats
-abbrev pub opened : Config → ℕ → Known
+abbrev pub opened : Config → ℕ → Knowledge
 opened config seats = record nobody { opens = true; known = true; config = config; seats = seats }
 
-abbrev pub one_more : Known → Known
+abbrev pub one_more : Knowledge → Knowledge
 one_more v = record v { made = suc v.made }
 
-abbrev pub fresh : Config → ℕ → ℕ → Known
+abbrev pub fresh : Config → ℕ → ℕ → Knowledge
 fresh config seats number = record nobody { known = true; live = true; config = config; seats = seats; number = number }
 
-abbrev pub seat_of : Known → Known
+abbrev pub seat_of : Knowledge → Knowledge
 seat_of v = fresh v.config v.seats v.made
 
-abbrev pub ended : Known → Known
+abbrev pub ended : Knowledge → Knowledge
 ended v = record v { closed = true }
 
-abbrev pub note_of : Known → Known
+abbrev pub note_of : Knowledge → Knowledge
 note_of v = record v { live = false; claims = true; closed = true }
 
-abbrev pub closer_of : Known → Known
+abbrev pub closer_of : Knowledge → Knowledge
 closer_of v = record nobody { known = true; config = v.config; seats = v.seats }
 
 -- the closer with a note
-abbrev pub shown : Known → Known → Known
+abbrev pub shown : Knowledge → Knowledge → Knowledge
 shown v w = record v { claims = w.claims; closed = w.closed; number = w.number; seen = w.seen; stopped = w.stopped; receipts = w.receipts; denials = w.denials; stops = w.stops }
 
 abbrev pub desk_at : Config → ℕ → List Entry → Bool → DeskSight
@@ -66,7 +66,7 @@ pub record World : Type 0 where
   pub opener : ℕ
 
 -- what a seat's own view, or a note of it, says of the seat
-pub record Claims (h : History) (v : Known) : Type 0 where
+pub record Claims (h : History) (v : Knowledge) : Type 0 where
   pub made : v.number < h.made
   pub seen : IsPrefix v.seen h.entries
   pub stopped : v.stopped ≡ true → h.over ≡ true
@@ -75,7 +75,7 @@ pub record Claims (h : History) (v : Known) : Type 0 where
   pub ended : v.closed ≡ h.ended v.number
 
 -- what the one who has the desk knows
-pub record Has (g : World) (id : ℕ) (v : Known) : Type 0 where
+pub record Has (g : World) (id : ℕ) (v : Knowledge) : Type 0 where
   pub free : g.free ≡ false
   pub holder : id ≡ g.holder
   pub all : v.all ≡ g.past.entries
@@ -83,7 +83,7 @@ pub record Has (g : World) (id : ℕ) (v : Known) : Type 0 where
   pub over : v.over ≡ g.past.over
   pub stopper : v.stopper ≡ g.past.stopper
 
-pub record Fits (g : World) (id : ℕ) (v : Known) : Type 0 where
+pub record Fits (g : World) (id : ℕ) (v : Knowledge) : Type 0 where
   pub opening : v.opening ≡ false
   pub opens : v.opens ≡ true → (id ≡ g.opener) × (v.made ≡ g.past.made)
   pub known : v.known ≡ true → (v.config ≡ g.past.config) × (v.seats ≡ g.past.seats)
@@ -91,10 +91,10 @@ pub record Fits (g : World) (id : ℕ) (v : Known) : Type 0 where
   pub claims : v.claims ≡ true → (v.closed ≡ true) × Claims g.past v
   pub holding : v.holding ≡ true → Has g id v
 
-abbrev pub AllFit : World → List Known → Type 0
-AllFit g views = (id : ℕ) (v : Known) → get_elem? views id ≡ some v → Fits g id v
+abbrev pub AllFit : World → List Knowledge → Type 0
+AllFit g views = (id : ℕ) (v : Knowledge) → get_elem? views id ≡ some v → Fits g id v
 
-pub record IsOpen (g : World) (items : List DeskSight) (views : List Known) : Type 0 where
+pub record IsOpen (g : World) (items : List DeskSight) (views : List Knowledge) : Type 0 where
   pub there : g.free ≡ true → items ≡ desk_at g.past.config g.past.seats g.past.entries g.past.over ∷ []
   pub away : g.free ≡ false → items ≡ []
   pub paired : length g.past.owners ≡ length g.past.entries
@@ -104,17 +104,17 @@ pub record IsOpen (g : World) (items : List DeskSight) (views : List Known) : Ty
   pub fit : AllFit g views
 
 -- before the desk is there, or after
-abbrev pub Holds : List DeskSight → List Known → Type 0
+abbrev pub Holds : List DeskSight → List Knowledge → Type 0
 Holds items views = ((items ≡ []) × (views ≡ opener ∷ [])) ⊎ ((g : World) × IsOpen g items views)
 
 abbrev pub IsEmpty : List DeskSight → Type 0
 IsEmpty items = items ≡ []
 
 -- what the one who took the desk knows from now on
-abbrev pub taken : Known → List Entry → Bool → List ℕ → ℕ → Known
+abbrev pub taken : Knowledge → List Entry → Bool → List ℕ → ℕ → Knowledge
 taken v all over owners stopper = record v { holding = true; all = all; over = over; owners = owners; stopper = stopper }
 
-pub record IsTaken (v : Known) (x : DeskSight) (w : Known) : Type 0 where
+pub record IsTaken (v : Knowledge) (x : DeskSight) (w : Knowledge) : Type 0 where
   pub config : x.log.config ≡ v.config
   pub seats : x.seats ≡ v.seats
   pub now : w ≡ taken v x.log.entries x.stopped w.owners w.stopper
@@ -125,35 +125,35 @@ pub record IsTaken (v : Known) (x : DeskSight) (w : Known) : Type 0 where
   pub stopped : v.live ≡ true → v.stopped ≡ true → w.over ≡ true
 
 -- what is known of a seat at the end, by the desk
-pub record Told (config : Config) (entries : List Entry) (owners : List ℕ) (over : Bool) (stopper : ℕ) (v : Known) : Type 0 where
+pub record Told (config : Config) (entries : List Entry) (owners : List ℕ) (over : Bool) (stopper : ℕ) (v : Knowledge) : Type 0 where
   pub seen : IsPrefix v.seen entries
   pub stopped : v.stopped ≡ true → over ≡ true
   pub receipts : map extract_of v.receipts ≡ extracts_of config v.number owners entries
   pub stops : over ≡ true → v.number ≡ stopper → 0 < v.stops
 
 -- the desk that the closer has agrees with the note
-abbrev pub Agrees : Known → Type 0
+abbrev pub Agrees : Knowledge → Type 0
 Agrees v = Told v.config v.all v.owners v.over v.stopper v
 
 -- the view after an application, a refusal, a look and a stop
-abbrev pub added : Known → Applied → Known
+abbrev pub added : Knowledge → Applied → Knowledge
 added v r = record v { holding = false; seen = v.all ++ entry_of r ∷ []; stopped = v.over; receipts = v.receipts ++ r ∷ [] }
 
 abbrev pub denial : Event → CellRefusal → ℕ → Denial
 denial event refusal n = record { event = event; refusal = refusal; length = n }
 
-abbrev pub denied : Known → Event → CellRefusal → Known
+abbrev pub denied : Knowledge → Event → CellRefusal → Knowledge
 denied v event refusal = record v { holding = false; seen = v.all; stopped = v.over; denials = v.denials ++ denial event refusal (length v.all) ∷ [] }
 
 -- nothing is done, and all is seen
-abbrev pub looked : Known → Known
+abbrev pub looked : Knowledge → Knowledge
 looked v = record v { holding = false; seen = v.all; stopped = v.over }
 
-abbrev pub stopped : Known → Known
+abbrev pub stopped : Knowledge → Knowledge
 stopped v = record v { holding = false; seen = v.all; stopped = true; stops = suc v.stops }
 
 -- a seat with the desk
-pub record HasDesk (v : Known) : Type 0 where
+pub record HasDesk (v : Knowledge) : Type 0 where
   pub known : v.known ≡ true
   pub live : v.live ≡ true
   pub claims : v.claims ≡ false

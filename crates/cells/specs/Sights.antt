@@ -3,7 +3,7 @@ use Rattle.std.specs.Prelude.{ℕ}
 use Rattle.atomic_table.specs.Seated.{TableId}
 use Rattle.crossbeam_queue.specs.Passes.{Pass, view}
 use Rattle.protocol.specs.Hosts.{Config}
-use Rattle.cells.specs.Views.{DeskSight, Known}
+use Rattle.cells.specs.Views.{DeskSight, Knowledge}
 
 -- which cell it is, the configuration of its network, and how many seats it has
 pub record CellSight : Type 0 where
@@ -12,9 +12,9 @@ pub record CellSight : Type 0 where
   pub seats : ℕ
 
 -- the cell that it is of, and what it knows
-pub record Sight : Type 0 where
+pub record SeatSight : Type 0 where
   pub cell : TableId
-  pub me : Known
+  pub me : Knowledge
 
-abbrev pub sight_of : Pass DeskSight Known → Sight
+abbrev pub sight_of : Pass DeskSight Knowledge → SeatSight
 sight_of p = record { cell = p.table_id; me = view p }

@@ -9,7 +9,7 @@ use Rattle.protocol.specs.Runs.{refusal_of}
 use Rattle.cells.specs.declared.refusal.CellRefusal.{CellRefusal}
 use Rattle.cells.specs.declared.refusal.CellRefusal.TheVariants.{Closed, Network}
 use Rattle.cells.specs.Receipts.{Applied, extract, extract_of}
-use Rattle.cells.specs.Views.{Denial, DeskSight, Known}
+use Rattle.cells.specs.Views.{Denial, DeskSight, Knowledge}
 
 -- the receipt is that of the entry at its number
 abbrev pub Stands : Config → List Entry → Applied → Type 0
@@ -41,13 +41,13 @@ IsRising n [] = Unit {0}
 IsRising n (r ∷ rs) = (n ≤ r.number) × IsRising (suc r.number) rs
 
 -- receipts stand in what was seen, at rising numbers, and denials were right
-pub record IsSound (v : Known) : Type 0 where
+pub record IsSound (v : Knowledge) : Type 0 where
   pub stand : AllStand v.config v.seen v.receipts
   pub rising : IsRising 0 v.receipts
   pub right : AllRight v.config v.seen v.stopped v.denials
 
 -- a seat that may act
-pub record IsFree (v : Known) : Type 0 where
+pub record IsFree (v : Knowledge) : Type 0 where
   pub known : v.known ≡ true
   pub live : v.live ≡ true
   pub claims : v.claims ≡ false
@@ -55,7 +55,7 @@ pub record IsFree (v : Known) : Type 0 where
   pub holding : v.holding ≡ false
 
 -- a pass, a number and receipts that make a seat
-pub record IsSeat (p : Pass DeskSight Known) (n : ℕ) (rs : List Applied) : Type 0 where
+pub record IsSeat (p : Pass DeskSight Knowledge) (n : ℕ) (rs : List Applied) : Type 0 where
   pub no_slot : p.me.1 ≡ []
   pub number : (view p).number ≡ n
   pub receipts : (view p).receipts ≡ rs

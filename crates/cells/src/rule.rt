@@ -10,14 +10,14 @@ use std::marker::{Brand, Model};
 use std::sync::Wait;
 
 /// What a pass knows. No value of it is made; contracts see what its specification has.
-pub struct View;
+pub struct PassKnowledge;
 
-impl Model for View {
+impl Model for PassKnowledge {
     ghost use Rattle.std.specs.Coded.{codes};
     ghost use Rattle.types.specs.Trees.{members_code};
-    ghost use Rattle.cells.specs.Views.{Known, nobody};
+    ghost use Rattle.cells.specs.Views.{Knowledge, nobody};
 
-    ghost Value = { Known };
+    ghost Value = { Knowledge };
 
     ghost coded = { Prim.hlevel (codes, members_code) };
 
@@ -27,7 +27,7 @@ impl Model for View {
 /// The rule of the lock.
 pub struct OneHistory;
 
-impl<S: Shelf, H: Wait + Drop> Protocol<Desk<S, H>, View> for OneHistory {
+impl<S: Shelf, H: Wait + Drop> Protocol<Desk<S, H>, PassKnowledge> for OneHistory {
     ghost use Rattle.cells.specs.Rule.{opener, Holds};
 
     ghost holds = { Holds };
@@ -37,9 +37,9 @@ impl<S: Shelf, H: Wait + Drop> Protocol<Desk<S, H>, View> for OneHistory {
 
 /// A view that a step leads to.
 pub trait Next {
-    ghost use Rattle.cells.specs.Views.{Known};
+    ghost use Rattle.cells.specs.Views.{Knowledge};
 
-    ghost next: { Known };
+    ghost next: { Knowledge };
 }
 
 impl Next for Brand {
@@ -53,13 +53,13 @@ pub struct Gives<N> {
     of: std::marker::PhantomData<N>,
 }
 
-impl<N: Next, S: Shelf, H: Wait + Drop> Outcome<Desk<S, H>, View> for Gives<N> {
+impl<N: Next, S: Shelf, H: Wait + Drop> Outcome<Desk<S, H>, PassKnowledge> for Gives<N> {
     ghost use Rattle.std.specs.Prelude.{◌≡◌};
 
     ghost then = { λ v x w. w ≡ N.next };
 }
 
-impl<N: Next, S: Shelf, H: Wait + Drop> Lesson<Desk<S, H>, View> for Gives<N> {
+impl<N: Next, S: Shelf, H: Wait + Drop> Lesson<Desk<S, H>, PassKnowledge> for Gives<N> {
     ghost use Rattle.cells.specs.Rule.{IsEmpty};
 
     ghost fact = { λ v items. IsEmpty items };
@@ -68,20 +68,20 @@ impl<N: Next, S: Shelf, H: Wait + Drop> Lesson<Desk<S, H>, View> for Gives<N> {
 /// The desk is taken.
 pub struct Takes;
 
-impl<S: Shelf, H: Wait + Drop> Outcome<Desk<S, H>, View> for Takes {
+impl<S: Shelf, H: Wait + Drop> Outcome<Desk<S, H>, PassKnowledge> for Takes {
     ghost use Rattle.cells.specs.Rule.{IsTaken};
 
     ghost then = { IsTaken };
 }
 
-impl<S: Shelf, H: Wait + Drop> Lesson<Desk<S, H>, View> for Takes {
+impl<S: Shelf, H: Wait + Drop> Lesson<Desk<S, H>, PassKnowledge> for Takes {
     ghost fact = { λ v items. Unit {0} };
 }
 
 /// A seat is made.
 pub struct Sits;
 
-impl Split<View> for Sits {
+impl Split<PassKnowledge> for Sits {
     ghost use Rattle.cells.specs.Rule.{one_more, seat_of};
 
     ghost left = { one_more };
@@ -92,7 +92,7 @@ impl Split<View> for Sits {
 /// A seat ends, and a note of it is made.
 pub struct Ends;
 
-impl Split<View> for Ends {
+impl Split<PassKnowledge> for Ends {
     ghost use Rattle.cells.specs.Rule.{ended, note_of};
 
     ghost left = { ended };
@@ -103,7 +103,7 @@ impl Split<View> for Ends {
 /// A pass that is to take the desk for good.
 pub struct Closes;
 
-impl Split<View> for Closes {
+impl Split<PassKnowledge> for Closes {
     ghost use Rattle.cells.specs.Rule.{closer_of};
 
     ghost left = { λ v. v };
@@ -114,7 +114,7 @@ impl Split<View> for Closes {
 /// The closer takes a note in.
 pub struct Shows;
 
-impl Join<View> for Shows {
+impl Join<PassKnowledge> for Shows {
     ghost use Rattle.cells.specs.Rule.{shown};
     ghost use Rattle.cells.specs.Views.{nobody};
 
@@ -126,14 +126,14 @@ impl Join<View> for Shows {
 /// The closer compares the note with the desk that it has.
 pub struct Checks;
 
-impl<S: Shelf, H: Wait + Drop> Lesson<Desk<S, H>, View> for Checks {
+impl<S: Shelf, H: Wait + Drop> Lesson<Desk<S, H>, PassKnowledge> for Checks {
     ghost use Rattle.cells.specs.Rule.{Agrees};
 
     ghost fact = { λ v items. Agrees v };
 }
 
 /// The lock of a cell.
-pub type Lock<S, H> = RuledArrayQueue<Desk<S, H>, View, OneHistory>;
+pub type Lock<S, H> = RuledArrayQueue<Desk<S, H>, PassKnowledge, OneHistory>;
 
 /// What a thread uses a lock by.
-pub type SeatPass<S, H> = Pass<Desk<S, H>, View>;
+pub type SeatPass<S, H> = Pass<Desk<S, H>, PassKnowledge>;

@@ -26,10 +26,10 @@ pub struct Seat<S: Shelf, H: Wait + Drop> {
 impl<S: Shelf, H: Wait + Drop> Model for Seat<S, H> {
     ghost use Rattle.std.specs.Coded.{codes};
     ghost use Rattle.types.specs.Trees.{members_code};
-    ghost use Rattle.cells.specs.Sights.{Sight, sight_of};
+    ghost use Rattle.cells.specs.Sights.{SeatSight, sight_of};
     ghost use Rattle.cells.specs.Sounds.{IsSeat};
 
-    ghost Value = { Sight };
+    ghost Value = { SeatSight };
 
     ghost coded = { Prim.hlevel (codes, members_code) };
 

@@ -93,7 +93,7 @@ fn append_all<S: Shelf, H: Wait + Drop>(
 fn publish_waiting<H: Wait + Drop>(publisher: Publisher<H>) -> Publisher<H>
     ensures { result.0 ++ result.1 ≡ publisher.0 ++ publisher.1 }
 {
-    if publisher.waiting() == 0 {
+    if publisher.pending_count() == 0 {
         return publisher;
     }
     let (publisher, _answer) = publisher.publish();
@@ -179,7 +179,7 @@ impl<S: Shelf, H: Wait + Drop> WatchedJournal<S, H> {
     {
         self.publisher.tell(rt, watch);
         self.journal.replays();
-        count_decisions(&self.journal, self.appended, self.publisher.waiting())
+        count_decisions(&self.journal, self.appended, self.publisher.pending_count())
     }
 
     /// The journal, and what was published of its decisions. It waits for watches that read.

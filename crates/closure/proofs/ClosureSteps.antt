@@ -9,15 +9,15 @@ use Rattle.protocol.specs.Closures.{Rule, Derived, IsClosed}
 use Rattle.protocol.specs.Closures.Derived.{start, given}
 use Rattle.protocol.specs.Networks.{Host, Step, slices_of}
 use Rattle.protocol.specs.Networks.Reading.{Read, Fault}
-use Rattle.protocol.specs.Networks.Step.{Opens, Closes, Asks, Delivers, Hears, NominationTimes, BallotTimes, Reslices}
+use Rattle.protocol.specs.Networks.Step.{Opens, Closes, Proposes, Delivers, Hears, NominationTimerFires, BallotTimerFires, Reslices}
 use Rattle.protocol.specs.Hosts.{Entry}
-use Rattle.protocol.specs.Isolation.{host_rule, announced, closure}
+use Rattle.protocol.specs.Isolation.{host_rule, announcement_rules, closure}
 use Rattle.protocol.proofs.Sets.Finite.{among_head, among_tail}
 use Rattle.protocol.proofs.Sets.Contained.{contains_head, contains_tail, contained_cases}
 use Rattle.protocol.proofs.Sets.Derived.{least_is}
 use Rattle.closure.specs.Announcing.{Announced, announced_by, announced_in, announced_at, IsNamedBy, Listed, names_of, IsChained, IsClosureList}
 use Rattle.closure.specs.Announcing.IsNamedBy.{configured, learnt}
-use Rattle.closure.specs.Turns.{AreSettled}
+use Rattle.closure.specs.Turns.{AllNamesAreMembers}
 use Rattle.protocol.proofs.Sets.Mapped.{mapped_to, mapped_from}
 
 -- ---- lists
@@ -149,7 +149,7 @@ only_one false r x c = absurd (let l = c.1 in omega arith)
 -- what an event announces has a rule of the closure
 record HasRule (i : ℕ) (s : Step) (a : Announced) : Type 0 where
   rule : Rule
-  there : Contains {X = Rule} (announced i s) rule
+  there : Contains {X = Rule} (announcement_rules i s) rule
   is : IsRuleOf a rule
 
 announced_rule : (i : ℕ) (s : Step) (a : Announced) → announced_by s ≡ Some a → a.slot ≡ i → HasRule i s a
@@ -164,10 +164,10 @@ announced_rule i (Delivers u size (Read e)) a h k =
 announced_rule i (Delivers u size (Fault n)) a h k = cc
 announced_rule i (Opens j) a h k = cc
 announced_rule i (Closes j) a h k = cc
-announced_rule i (Asks j u x) a h k = cc
+announced_rule i (Proposes j u x) a h k = cc
 announced_rule i (Hears j u f kind n) a h k = cc
-announced_rule i (NominationTimes j u r) a h k = cc
-announced_rule i (BallotTimes j u n) a h k = cc
+announced_rule i (NominationTimerFires j u r) a h k = cc
+announced_rule i (BallotTimerFires j u n) a h k = cc
 announced_rule i (Reslices j u new) a h k =
     let now : Announced = record { slot = j; receiver = u; sender = u; slices = new } in
     let same : now ≡ a = cc in
@@ -184,7 +184,7 @@ record IsAnnounced (i : ℕ) (s : Step) (r : Rule) : Type 0 where
   at : announcement.slot ≡ i
   is : IsRuleOf announcement r
 
-rule_announced : (i : ℕ) (s : Step) (r : Rule) → Contains (announced i s) r → IsAnnounced i s r
+rule_announced : (i : ℕ) (s : Step) (r : Rule) → Contains (announcement_rules i s) r → IsAnnounced i s r
 rule_announced i (Delivers u size (Read e)) r c =
     let now : Announced = record { slot = e.slot; receiver = u; sender = e.sender; slices = e.slices } in
     let o = only_one (e.slot == i) (record { sources = u ∷ e.sender ∷ []; gives = names e.slices }) r c in
@@ -192,10 +192,10 @@ rule_announced i (Delivers u size (Read e)) r c =
 rule_announced i (Delivers u size (Fault n)) r c = absurd (let l = c.1 in omega arith)
 rule_announced i (Opens j) r c = absurd (let l = c.1 in omega arith)
 rule_announced i (Closes j) r c = absurd (let l = c.1 in omega arith)
-rule_announced i (Asks j u x) r c = absurd (let l = c.1 in omega arith)
+rule_announced i (Proposes j u x) r c = absurd (let l = c.1 in omega arith)
 rule_announced i (Hears j u f kind n) r c = absurd (let l = c.1 in omega arith)
-rule_announced i (NominationTimes j u x) r c = absurd (let l = c.1 in omega arith)
-rule_announced i (BallotTimes j u n) r c = absurd (let l = c.1 in omega arith)
+rule_announced i (NominationTimerFires j u x) r c = absurd (let l = c.1 in omega arith)
+rule_announced i (BallotTimerFires j u n) r c = absurd (let l = c.1 in omega arith)
 rule_announced i (Reslices j u new) r c =
     let now : Announced = record { slot = j; receiver = u; sender = u; slices = new } in
     let o = only_one (j == i) (record { sources = u ∷ []; gives = names new }) r c in
@@ -211,7 +211,7 @@ entry_at run n a e = go (slice_get run n) refl e
 
 module _ (hosts : List Host) (i : ℕ) (run : List Entry) where
   abbrev pub rules : List Rule
-  rules = map host_rule hosts ++ flat_map (λ x. announced i x.event) run
+  rules = map host_rule hosts ++ flat_map (λ x. announcement_rules i x.event) run
 
   -- all names that are given by any rule
   abbrev pub all_given : List ℕ
@@ -229,7 +229,7 @@ module _ (hosts : List Host) (i : ℕ) (run : List Entry) where
       let h = host_found hosts w q e in
       record {
         rule = host_rule h.0;
-        known = contained_left (host_rule h.0) (map host_rule hosts) (flat_map (λ x. announced i x.event) run) (mapped_to host_rule hosts h.0 h.1);
+        known = contained_left (host_rule h.0) (map host_rule hosts) (flat_map (λ x. announcement_rules i x.event) run) (mapped_to host_rule hosts h.0 h.1);
         sources = λ x m. elim (or_cases (h.0.name == x) false m) [ inl k ↦ inl (sym (eqb-true h.0.name x k) ∙ h.2) | inr k ↦ absurd (false≢true k) ];
         gives = subst (λ (s : Slices). IsTrue (among (names s) u)) (sym h.3) g;
       }
@@ -238,8 +238,8 @@ module _ (hosts : List Host) (i : ℕ) (run : List Entry) where
       let has = announced_rule i x.0.event a x.2 s in
       record {
         rule = has.rule;
-        known = contained_right has.rule (map host_rule hosts) (flat_map (λ y. announced i y.event) run)
-            (contained_flat (λ y. announced i y.event) run n x.0 has.rule x.1 has.there);
+        known = contained_right has.rule (map host_rule hosts) (flat_map (λ y. announcement_rules i y.event) run)
+            (contained_flat (λ y. announcement_rules i y.event) run n x.0 has.rule x.1 has.there);
         sources = λ y m. elim (has.is.sources y m) [
           | inl k ↦ inr (subst (λ z. IsTrue (set z)) k r)
           | inr k ↦ inl (sym k ∙ t)
@@ -282,10 +282,10 @@ module _ (hosts : List Host) (i : ℕ) (run : List Entry) where
     all_derived u h = let p = place_among (names_of list) u h in derived_below (suc p.0) p.0 u (omega arith) p.1
 
   -- ---- where all is settled, the list is closed
-  all_closed : (v : ℕ) (list : Listed) → IsAscending (host_names hosts) → IsChained hosts i v run list → AreSettled hosts i run (names_of list) (names_of list) → IsClosed rules v (among (names_of list))
+  all_closed : (v : ℕ) (list : Listed) → IsAscending (host_names hosts) → IsChained hosts i v run list → AllNamesAreMembers hosts i run (names_of list) (names_of list) → IsClosed rules v (among (names_of list))
   all_closed v list up chained settled = record {
     start = first_in list chained.first;
-    each = λ r c within u g. elim (contained_either r (map host_rule hosts) (flat_map (λ x. announced i x.event) run) c) [
+    each = λ r c within u g. elim (contained_either r (map host_rule hosts) (flat_map (λ x. announcement_rules i x.event) run) c) [
       | inl k ↦ by_host r k within u g
       | inr k ↦ by_announcement r k within u g
     ];
@@ -302,9 +302,9 @@ module _ (hosts : List Host) (i : ℕ) (run : List Entry) where
           let place = place_among (names_of list) h.0.name member in
           settled place.0 h.0.name place.1 u (configured h.0.slices (found_host hosts h.0 up h.1) (subst (λ (x : Rule). IsTrue (among x.gives u)) (sym h.2) g))
 
-      by_announcement : (r : Rule) → Contains (flat_map (λ x. announced i x.event) run) r → AreWithin (among r.sources) (among (names_of list)) → (u : ℕ) → IsTrue (among r.gives u) → among (names_of list) u ≡ true
+      by_announcement : (r : Rule) → Contains (flat_map (λ x. announcement_rules i x.event) run) r → AreWithin (among r.sources) (among (names_of list)) → (u : ℕ) → IsTrue (among r.gives u) → among (names_of list) u ≡ true
       by_announcement r k within u g =
-          let x = from_flat (λ (y : Entry). announced i y.event) run r k in
+          let x = from_flat (λ (y : Entry). announcement_rules i y.event) run r k in
           let told_by = rule_announced i x.1.event r x.3 in
           let a = told_by.announcement in
           let receiver : among (names_of list) a.receiver ≡ true = within a.receiver told_by.is.receiver in
@@ -314,7 +314,7 @@ module _ (hosts : List Host) (i : ℕ) (run : List Entry) where
           settled place.0 a.sender place.1 u (learnt x.0 a at told_by.at refl receiver (subst (λ (ns : List ℕ). IsTrue (among ns u)) told_by.is.gives g))
 
   -- a chained list in which all is settled is the closure
-  pub is_closure : (v : ℕ) (list : Listed) → IsAscending (host_names hosts) → IsChained hosts i v run list → AreSettled hosts i run (names_of list) (names_of list) → IsDistinct (λ x y. x == y) (names_of list) → IsClosureList hosts i v run list
+  pub is_closure : (v : ℕ) (list : Listed) → IsAscending (host_names hosts) → IsChained hosts i v run list → AllNamesAreMembers hosts i run (names_of list) (names_of list) → IsDistinct (λ x y. x == y) (names_of list) → IsClosureList hosts i v run list
   unfolding closure
   is_closure v list up chained settled once = record {
     chained = chained;

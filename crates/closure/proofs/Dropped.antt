@@ -17,7 +17,7 @@ use Rattle.protocol.proofs.Statements.Found.{row_contained}
 use Rattle.protocol.proofs.Statements.Offers.{row-with}
 use Rattle.protocol.proofs.Reach.Stays.{stays_where, went}
 use Rattle.closure.specs.Keeping.{DropsNone, kept_names}
-use Rattle.closure.specs.Sweeps.{named_by, named_in}
+use Rattle.closure.specs.Sweeps.{names_in_rows_of, names_in_row}
 use Rattle.closure.specs.Widening.{HoldsRows, IsNarrow}
 
 -- ---- rows of the new table
@@ -62,12 +62,12 @@ other_row table e u k other =
     row-with e table u k ∙ ap (λ b. if b && is_kind k (kind_of e.body) then Some e else row table u k) (ne_eqb e.sender u (λ same. other (sym same)))
 
 -- what the rows of a node name is in each set that has the node and holds what rows name
-named_in_holding : (table : List Sent) (u w : ℕ) (k : Kind) (o : Option Sent) (set : Names) → HoldsRows table set → IsTrue (set u) → row table u k ≡ o → IsTrue (named_in o w) → IsTrue (set w)
+named_in_holding : (table : List Sent) (u w : ℕ) (k : Kind) (o : Option Sent) (set : Names) → HoldsRows table set → IsTrue (set u) → row table u k ≡ o → IsTrue (names_in_row o w) → IsTrue (set w)
 named_in_holding table u w k None set holds s e h = absurd (false≢true h)
 named_in_holding table u w k (Some x) set holds s e h = let r = row_contained table u k x e in holds x r.0 (subst (λ v. IsTrue (set v)) (sym r.1) s) w h
 
-pub named_held : (table : List Sent) (u w : ℕ) (set : Names) → HoldsRows table set → IsTrue (set u) → IsTrue (named_by table u w) → IsTrue (set w)
-named_held table u w set holds s h = elim (or_cases (named_in (row table u Kind.Ballot) w) (named_in (row table u Nomination) w) h) [
+pub named_held : (table : List Sent) (u w : ℕ) (set : Names) → HoldsRows table set → IsTrue (set u) → IsTrue (names_in_rows_of table u w) → IsTrue (set w)
+named_held table u w set holds s h = elim (or_cases (names_in_row (row table u Kind.Ballot) w) (names_in_row (row table u Nomination) w) h) [
   | inl i ↦ named_in_holding table u w Kind.Ballot (row table u Kind.Ballot) set holds s refl i
   | inr i ↦ named_in_holding table u w Nomination (row table u Nomination) set holds s refl i
 ]
@@ -86,7 +86,7 @@ narrow_now own configured table us e drops sender is =
           (record { itself = now.itself; configuration = now.configuration; rows = rows_held own configured table e drops }) u (sym (is.exactly u) ∙ h);
       there = sender;
       rows = λ u h other w named. is.exactly w ∙ named_held table u w old was.rows (sym (is.exactly u) ∙ h)
-          (sym (ap₂ (λ (a b : Option Sent). named_in a w || named_in b w) (other_row table e u Kind.Ballot other) (other_row table e u Nomination other)) ∙ named);
+          (sym (ap₂ (λ (a b : Option Sent). names_in_row a w || names_in_row b w) (other_row table e u Kind.Ballot other) (other_row table e u Nomination other)) ∙ named);
     }
 
 -- ---- the test

@@ -15,7 +15,7 @@ use Rattle.protocol.proofs.Sets.Least.{given_by_rule}
 use Rattle.protocol.proofs.Sets.Derived.{derived-in}
 use Rattle.closure.specs.Announcing.{IsNamedBy, Listed, names_of, IsNamedBefore, IsChained}
 use Rattle.closure.specs.Announcing.IsNamedBy.{configured, learnt}
-use Rattle.closure.specs.Turns.{IsSettled, AreSettled, IsGrown, IsGiven, with_member}
+use Rattle.closure.specs.Turns.{NamesAreMembers, AllNamesAreMembers, IsGrown, IsGiven, with_member}
 use Rattle.closure.proofs.Noted.{among_append}
 use Rattle.closure.proofs.NameLookups.{member_is}
 use Rattle.closure.proofs.ClosureSteps.{rules, all_given, all_derived, among_at}
@@ -164,7 +164,7 @@ module _ (hosts : List Host) (i : ℕ) (run : List Entry) where
   pub all_held : (given : List ℕ) (initial now : Listed) → IsJoining given initial now (length given) → AreWithin (among given) (among (names_of now))
   all_held given initial now way u k = way.held u (ap (λ (xs : List ℕ). among xs u) (take_all (length given) given (omega arith)) ∙ k)
 
-  pub turn_settles : (given : List ℕ) (initial now : Listed) (w : ℕ) → IsJoining given initial now (length given) → IsGiven hosts i run (names_of initial) w given → IsSettled hosts i run (names_of now) (names_of initial) w
+  pub turn_settles : (given : List ℕ) (initial now : Listed) (w : ℕ) → IsJoining given initial now (length given) → IsGiven hosts i run (names_of initial) w given → NamesAreMembers hosts i run (names_of now) (names_of initial) w
   turn_settles given initial now w way sound u h = elim (sound.complete u h) [
     | inl k ↦ front_among initial now way.kept u k
     | inr k ↦ all_held given initial now way u k
@@ -176,14 +176,14 @@ module _ (hosts : List Host) (i : ℕ) (run : List Entry) where
     pub kept : take (length initial) now ≡ initial
     pub longer : length initial ≤ length now
     pub chained : (v : ℕ) → IsChained hosts i v run initial → IsChained hosts i v run now
-    pub settled : (j w : ℕ) → j < place → slice_get (names_of now) j ≡ Some w → IsSettled hosts i run (names_of now) (names_of initial) w
+    pub settled : (j w : ℕ) → j < place → slice_get (names_of now) j ≡ Some w → NamesAreMembers hosts i run (names_of now) (names_of initial) w
 
   pub sweeping_begins : (list : Listed) → IsSweeping list list 0
   sweeping_begins list = record { kept = take_all (length list) list (omega arith); longer = omega arith; chained = λ v c. c; settled = λ j w l. absurd (omega arith) }
 
   pub sweeping_goes_on : (initial now new : Listed) (place v : ℕ) → IsSweeping initial now place → place < length now → IsChained hosts i v run initial
       → ((x : ℕ) → IsChained hosts i x run now → IsGrown hosts i x run now new)
-      → ((w : ℕ) → slice_get (names_of now) place ≡ Some w → IsSettled hosts i run (names_of new) (names_of now) w)
+      → ((w : ℕ) → slice_get (names_of now) place ≡ Some w → NamesAreMembers hosts i run (names_of new) (names_of now) w)
       → IsSweeping initial new (place + 1)
   sweeping_goes_on initial now new place v way inside chain grown turn =
       let g = grown v (way.chained v chain) in
@@ -202,11 +202,11 @@ module _ (hosts : List Host) (i : ℕ) (run : List Entry) where
             ];
       }
 
-  pub sweep_settles : (initial now : Listed) (place : ℕ) → IsSweeping initial now place → length now ≤ place → AreSettled hosts i run (names_of now) (names_of initial)
+  pub sweep_settles : (initial now : Listed) (place : ℕ) → IsSweeping initial now place → length now ≤ place → AllNamesAreMembers hosts i run (names_of now) (names_of initial)
   sweep_settles initial now place way over j w e = way.settled j w (let l = slice_get_within (names_of now) j w e in omega (arith, l, over, names_length now)) e
 
   -- after a sweep, what the members name of the old ones is there
-  pub settled_of_front : (old new : Listed) → take (length old) new ≡ old → AreSettled hosts i run (names_of new) (names_of old) → AreSettled hosts i run (names_of new) (take (length old) (names_of new))
+  pub settled_of_front : (old new : Listed) → take (length old) new ≡ old → AllNamesAreMembers hosts i run (names_of new) (names_of old) → AllNamesAreMembers hosts i run (names_of new) (take (length old) (names_of new))
   settled_of_front old new kept settled j w e u h = settled j w e u (subst (λ (xs : List ℕ). IsNamedBy hosts i run (among xs) w u) (front_names old new kept) h)
 
   -- ---- how many members there can be
@@ -232,7 +232,7 @@ one_name xs k u w e h = same (sym e ∙ h)
 pub record IsSwept (hosts : List Host) (i v : ℕ) (run : List Entry) (list : Listed) (known : ℕ) : Type 0 where
   pub chained : IsChained hosts i v run list
   pub within : known ≤ length list
-  pub settled : 0 < known → AreSettled hosts i run (names_of list) (take known (names_of list))
+  pub settled : 0 < known → AllNamesAreMembers hosts i run (names_of list) (take known (names_of list))
 
 first_chained : (hosts : List Host) (i v : ℕ) (run : List Entry) → IsChained hosts i v run ((v, 0) ∷ [])
 first_chained hosts i v run = record { first = refl; later = λ k m e. cc }
@@ -240,7 +240,7 @@ first_chained hosts i v run = record { first = refl; later = λ k m e. cc }
 pub swept_at_first : (hosts : List Host) (i v : ℕ) (run : List Entry) → IsSwept hosts i v run ((v, 0) ∷ []) 0
 swept_at_first hosts i v run = record { chained = first_chained hosts i v run; within = omega arith; settled = λ some. absurd (omega arith) }
 
-pub swept_again : (hosts : List Host) (i v : ℕ) (run : List Entry) (old new : Listed) → IsGrown hosts i v run old new → AreSettled hosts i run (names_of new) (names_of old) → IsSwept hosts i v run new (length old)
+pub swept_again : (hosts : List Host) (i v : ℕ) (run : List Entry) (old new : Listed) → IsGrown hosts i v run old new → AllNamesAreMembers hosts i run (names_of new) (names_of old) → IsSwept hosts i v run new (length old)
 swept_again hosts i v run old new grown settled = record {
   chained = grown.chained;
   within = length_of_front old new grown.kept;
@@ -253,8 +253,8 @@ some_member v [] e = cc
 some_member v (x ∷ xs) e = omega arith
 
 -- where a sweep added none, all is settled
-pub swept_whole : (hosts : List Host) (i v : ℕ) (run : List Entry) (list : Listed) (known : ℕ) → IsSwept hosts i v run list known → length list ≤ known → AreSettled hosts i run (names_of list) (names_of list)
+pub swept_whole : (hosts : List Host) (i v : ℕ) (run : List Entry) (list : Listed) (known : ℕ) → IsSwept hosts i v run list known → length list ≤ known → AllNamesAreMembers hosts i run (names_of list) (names_of list)
 swept_whole hosts i v run list known swept over =
     let all : take known (names_of list) ≡ names_of list = take_all known (names_of list) (omega (arith, over, names_length list)) in
     let some = some_member v list swept.chained.first in
-    subst (λ (xs : List ℕ). AreSettled hosts i run (names_of list) xs) all (swept.settled (omega (arith, some, over)))
+    subst (λ (xs : List ℕ). AllNamesAreMembers hosts i run (names_of list) xs) all (swept.settled (omega (arith, some, over)))

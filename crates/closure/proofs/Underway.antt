@@ -24,7 +24,7 @@ use Rattle.protocol.proofs.Reach.Chains.{derived_chain, reach_is, names_held}
 use Rattle.protocol.proofs.Statements.Found.{row_contained, row_found}
 use Rattle.closure.specs.declared.search.Search.{Search}
 use Rattle.closure.specs.Searching.{Finds, IsSearch, IsTakenFrom, done_in, found_in, has_mark, pending_in}
-use Rattle.closure.specs.Sweeps.{just, named_in, named_by}
+use Rattle.closure.specs.Sweeps.{just, names_in_row, names_in_rows_of}
 use Rattle.closure.proofs.NameLookups.{member_is}
 
 -- between two steps: what was looked at names nothing that is not found, and a chain leads to all that is found
@@ -32,7 +32,7 @@ pub record IsUnderway (own : ℕ) (configured : Slices) (table : List Sent) (s :
   pub within : AreWithin (pending_in s) (found_in s)
   pub itself : IsTrue (found_in s own)
   pub configuration : AreWithin (among (names configured)) (found_in s)
-  pub rows : (u : ℕ) → IsTrue (done_in s u) → AreWithin (named_by table u) (found_in s)
+  pub rows : (u : ℕ) → IsTrue (done_in s u) → AreWithin (names_in_rows_of table u) (found_in s)
   pub chains : (u : ℕ) → IsTrue (found_in s u) → Chain own configured table u
 
 module _ (own : ℕ) (configured : Slices) (table : List Sent) where
@@ -69,37 +69,37 @@ module _ (own : ℕ) (configured : Slices) (table : List Sent) where
       }
 
   -- ---- one step: a pending node is taken, and the names in its rows are found
-  in_some_row : (u w : ℕ) (kind : Kind) (o : Option Sent) → row table u kind ≡ o → IsTrue (named_in o w) → Chain own configured table u → Chain own configured table w
+  in_some_row : (u w : ℕ) (kind : Kind) (o : Option Sent) → row table u kind ≡ o → IsTrue (names_in_row o w) → Chain own configured table u → Chain own configured table w
   in_some_row u w kind None e h c = absurd (false≢true h)
   in_some_row u w kind (Some x) e h c = let r = row_contained table u kind x e in next c (in_row x r.0 r.1 h)
 
-  follows : (u w : ℕ) → IsTrue (named_by table u w) → Chain own configured table u → Chain own configured table w
-  follows u w h c = elim (or_cases (named_in (row table u Kind.Ballot) w) (named_in (row table u Nomination) w) h) [
+  follows : (u w : ℕ) → IsTrue (names_in_rows_of table u w) → Chain own configured table u → Chain own configured table w
+  follows u w h c = elim (or_cases (names_in_row (row table u Kind.Ballot) w) (names_in_row (row table u Nomination) w) h) [
     | inl i ↦ in_some_row u w Kind.Ballot (row table u Kind.Ballot) refl i c
     | inr i ↦ in_some_row u w Nomination (row table u Nomination) refl i c
   ]
 
-  pub goes_on : (s t r : Search) (u : ℕ) → IsUnderway own configured table s → IsTakenFrom s t u → Finds t r (named_by table u) → IsUnderway own configured table r
+  pub goes_on : (s t r : Search) (u : ℕ) → IsUnderway own configured table s → IsTakenFrom s t u → Finds t r (names_in_rows_of table u) → IsUnderway own configured table r
   goes_on s t r u way taken noted =
-      let still : AreWithin (found_in s) (found_in r) = λ w h. still_found t r (named_by table u) noted w (taken.found w ∙ h) in
+      let still : AreWithin (found_in s) (found_in r) = λ w h. still_found t r (names_in_rows_of table u) noted w (taken.found w ∙ h) in
       record {
-        within = pending_found t r (named_by table u) noted (λ w h. taken.found w ∙ way.within w (taken.others w h));
+        within = pending_found t r (names_in_rows_of table u) noted (λ w h. taken.found w ∙ way.within w (taken.others w h));
         itself = still own way.itself;
         configuration = λ w h. still w (way.configuration w h);
         rows = λ w h. elim (or_cases (u == w) (done_in s w) (taken.done w (noted.done w h))) [
-          | inl e ↦ λ x i. now_found t r (named_by table u) noted x (subst (λ v. IsTrue (named_by table v x)) (sym (eqb-true u w e)) i)
+          | inl e ↦ λ x i. now_found t r (names_in_rows_of table u) noted x (subst (λ v. IsTrue (names_in_rows_of table v x)) (sym (eqb-true u w e)) i)
           | inr d ↦ λ x i. still x (way.rows w d x i)
         ];
-        chains = λ w h. elim (or_cases (named_by table u w) (found_in t w) (sym (noted.found w) ∙ h)) [
+        chains = λ w h. elim (or_cases (names_in_rows_of table u w) (found_in t w) (sym (noted.found w) ∙ h)) [
           | inl i ↦ follows u w i (way.chains u (way.within u taken.pending))
           | inr i ↦ way.chains w (sym (taken.found w) ∙ i)
         ];
       }
 
   -- ---- the end: nothing is pending
-  pub in_one_row : (e : Sent) (kind : Kind) (w : ℕ) → row table e.sender kind ≡ Some e → IsTrue (among (names e.slices) w) → IsTrue (named_by table e.sender w)
-  in_one_row e Nomination w h i = or_right (named_in (row table e.sender Kind.Ballot) w) (named_in (row table e.sender Nomination) w) (rw h i)
-  in_one_row e Kind.Ballot w h i = or_left (named_in (row table e.sender Kind.Ballot) w) (named_in (row table e.sender Nomination) w) (rw h i)
+  pub in_one_row : (e : Sent) (kind : Kind) (w : ℕ) → row table e.sender kind ≡ Some e → IsTrue (among (names e.slices) w) → IsTrue (names_in_rows_of table e.sender w)
+  in_one_row e Nomination w h i = or_right (names_in_row (row table e.sender Kind.Ballot) w) (names_in_row (row table e.sender Nomination) w) (rw h i)
+  in_one_row e Kind.Ballot w h i = or_left (names_in_row (row table e.sender Kind.Ballot) w) (names_in_row (row table e.sender Nomination) w) (rw h i)
 
   holds_all : (s : Search) → IsUnderway own configured table s → ((u : ℕ) → pending_in s u ≡ false) → has_single_rows table ≡ true → HoldsReach own configured table (found_in s)
   holds_all s way over single = record {

@@ -10,7 +10,7 @@ use Rattle.protocol.specs.Networks.{Host}
 use Rattle.protocol.specs.Hosts.{Entry}
 use Rattle.closure.specs.Announcing.{Announced, announced_at, IsNamedBy, Listed, names_of}
 use Rattle.closure.specs.Announcing.IsNamedBy.{configured, learnt}
-use Rattle.closure.specs.Turns.{Linked, AreMore, AreWoken, IsDue, IsFor, IsGiven, IsIndex, IsJoined, IsKept, IsReady, last_below, ready_at, receiver_at, turned, with_member, with_ready}
+use Rattle.closure.specs.Turns.{Linked, AreMore, AreWoken, IsDue, IsFor, IsGiven, IsIndex, IsJoined, AreCovered, IsReady, last_below, ready_at, receiver_at, turned, with_member, with_ready}
 use Rattle.closure.proofs.Noted.{among_append}
 use Rattle.closure.proofs.ClosureSteps.{among_at}
 use Rattle.closure.proofs.Growing.{get_appended, one_name}
@@ -112,7 +112,7 @@ module _ (hosts : List Host) (i : ℕ) (run : List Entry) where
 
   -- a turn begins with what the member gives
   pub kept_begins : (members : List ℕ) (ready : List (List ℕ)) (place w : ℕ) (given : List ℕ) → IsReady hosts i run members ready → slice_get members place ≡ Some w → place ≤ length ready
-      → IsGiven hosts i run members w given → IsKept hosts i run members (turned ready place) place given
+      → IsGiven hosts i run members w given → AreCovered hosts i run members (turned ready place) place given
   kept_begins members ready place w given is there next gives = record {
     within = turned_bound ready place (length members) is.within next (slice_get_within members place w there);
     covered = λ j x u l at named. elim (turned_others ready place j next l) [
@@ -130,7 +130,7 @@ module _ (hosts : List Host) (i : ℕ) (run : List Entry) where
   }
 
   -- and goes on with each name that joins
-  module _ (old new : Listed) (before after : List (List ℕ)) (place : ℕ) (given : List ℕ) (x namer : ℕ) (kept : IsKept hosts i run (names_of old) before place given) (joined : IsJoined i run old new before after x namer) where
+  module _ (old new : Listed) (before after : List (List ℕ)) (place : ℕ) (given : List ℕ) (x namer : ℕ) (kept : AreCovered hosts i run (names_of old) before place given) (joined : IsJoined i run old new before after x namer) where
     longer : IsLonger (names_of old) (names_of new) x
     longer = subst (λ (list : Listed). IsLonger (names_of old) (names_of list) x) (sym joined.members) (longer_member old x namer)
 
@@ -152,7 +152,7 @@ module _ (hosts : List Host) (i : ℕ) (run : List Entry) where
       })
     ]
 
-    pub kept_goes_on : IsKept hosts i run (names_of new) after place given
+    pub kept_goes_on : AreCovered hosts i run (names_of new) after place given
     unfolding longer
     kept_goes_on = record {
       within = omega (arith, kept.within, joined.more.counted, longer.longer);
@@ -178,7 +178,7 @@ module _ (hosts : List Host) (i : ℕ) (run : List Entry) where
     }
 
   -- where all that was given is there, no turn is underway
-  pub kept_ends : (members : List ℕ) (ready : List (List ℕ)) (place : ℕ) (given : List ℕ) → IsKept hosts i run members ready place given → AreWithin (among given) (among members) → IsReady hosts i run members ready
+  pub kept_ends : (members : List ℕ) (ready : List (List ℕ)) (place : ℕ) (given : List ℕ) → AreCovered hosts i run members ready place given → AreWithin (among given) (among members) → IsReady hosts i run members ready
   kept_ends members ready place given kept all = record {
     within = kept.within;
     covered = λ j w u l at named. elim (kept.covered j w u l at named) [

@@ -18,7 +18,7 @@ use Rattle.protocol.proofs.Sets.Least.{given_by_rule}
 use Rattle.protocol.proofs.Sets.Mapped.{mapped_to}
 use Rattle.protocol.proofs.Reach.Chains.{reached-holds, reached-in, reach_names}
 use Rattle.protocol.proofs.Statements.Found.{row_found}
-use Rattle.closure.specs.Sweeps.{Swept, is_done, AreNoted, IsTaken, named_by, unknown}
+use Rattle.closure.specs.Sweeps.{Swept, is_done, AreNoted, IsTaken, names_in_rows_of, unknown}
 use Rattle.closure.specs.Widening.{AreLedTo, HoldsRows, IsNarrow, in_either}
 use Rattle.closure.proofs.Dropped.{named_held}
 use Rattle.closure.proofs.Underway.{in_one_row, no_longer}
@@ -29,8 +29,8 @@ module _ (table : List Sent) (known : List ℕ) (sender : ℕ) where
     pub ascending : IsAscending s.found
     pub within : AreWithin (among s.pending) (among s.found)
     pub others : AreApart (among s.found) (among known)
-    pub first : AreWithin (named_by table sender) (in_either known s.found)
-    pub rows : (u : ℕ) → IsTrue (is_done s u) → AreWithin (named_by table u) (in_either known s.found)
+    pub first : AreWithin (names_in_rows_of table sender) (in_either known s.found)
+    pub rows : (u : ℕ) → IsTrue (is_done s u) → AreWithin (names_in_rows_of table u) (in_either known s.found)
     pub least : (u : ℕ) → IsTrue (among s.found u) → (set : Names) → HoldsRows table set → IsTrue (set sender) → IsTrue (set u)
 
   -- what is named is known, or is noted
@@ -54,47 +54,47 @@ module _ (table : List Sent) (known : List ℕ) (sender : ℕ) where
       off true e = absurd (false≢true e)
       off false e = refl
 
-  pub begins : (t : Swept) → AreNoted (record { found = []; pending = [] }) t (unknown known (named_by table sender)) → IsWidening t
+  pub begins : (t : Swept) → AreNoted (record { found = []; pending = [] }) t (unknown known (names_in_rows_of table sender)) → IsWidening t
   begins t a =
       let nothing : Swept = record { found = []; pending = [] } in
-      let new : (u : ℕ) → IsTrue (among t.found u) → unknown known (named_by table sender) u ≡ true = λ u h. elim (or_cases (unknown known (named_by table sender) u) false (sym (a.found u) ∙ h)) [
+      let new : (u : ℕ) → IsTrue (among t.found u) → unknown known (names_in_rows_of table sender) u ≡ true = λ u h. elim (or_cases (unknown known (names_in_rows_of table sender) u) false (sym (a.found u) ∙ h)) [
         | inl i ↦ i
         | inr i ↦ absurd (false≢true i)
       ] in
       record {
         ascending = a.ascending;
-        within = λ u h. elim (or_cases (unknown known (named_by table sender) u) false (a.pending u h)) [
-          | inl i ↦ a.found u ∙ or_left (unknown known (named_by table sender) u) false i
+        within = λ u h. elim (or_cases (unknown known (names_in_rows_of table sender) u) false (a.pending u h)) [
+          | inl i ↦ a.found u ∙ or_left (unknown known (names_in_rows_of table sender) u) false i
           | inr i ↦ absurd (false≢true i)
         ];
-        others = λ u h. (parts_of (named_by table sender) u (new u h)).0;
-        first = now_there nothing t (named_by table sender) a;
+        others = λ u h. (parts_of (names_in_rows_of table sender) u (new u h)).0;
+        first = now_there nothing t (names_in_rows_of table sender) a;
         rows = λ u h. absurd (false≢true (a.done u h));
-        least = λ u h set holds s. named_held table sender u set holds s (parts_of (named_by table sender) u (new u h)).1;
+        least = λ u h set holds s. named_held table sender u set holds s (parts_of (names_in_rows_of table sender) u (new u h)).1;
       }
 
-  pub goes_on : (s t r : Swept) (u : ℕ) → IsWidening s → IsTaken s t u → AreNoted t r (unknown known (named_by table u)) → IsWidening r
+  pub goes_on : (s t r : Swept) (u : ℕ) → IsWidening s → IsTaken s t u → AreNoted t r (unknown known (names_in_rows_of table u)) → IsWidening r
   goes_on s t r u way taken noted =
       let was : (w : ℕ) → among t.found w ≡ among s.found w = λ w. ap (λ (xs : List ℕ). among xs w) taken.found in
-      let still : AreWithin (in_either known s.found) (in_either known r.found) = λ w h. still_there t r (unknown known (named_by table u)) noted w (ap (λ b. among known w || b) (was w) ∙ h) in
+      let still : AreWithin (in_either known s.found) (in_either known r.found) = λ w h. still_there t r (unknown known (names_in_rows_of table u)) noted w (ap (λ b. among known w || b) (was w) ∙ h) in
       let here = way.within u taken.pending in
       record {
         ascending = noted.ascending;
-        within = λ w h. noted.found w ∙ elim (or_cases (unknown known (named_by table u) w) (among t.pending w) (noted.pending w h)) [
-          | inl i ↦ or_left (unknown known (named_by table u) w) (among t.found w) i
-          | inr i ↦ or_right (unknown known (named_by table u) w) (among t.found w) (was w ∙ way.within w (taken.others w i))
+        within = λ w h. noted.found w ∙ elim (or_cases (unknown known (names_in_rows_of table u) w) (among t.pending w) (noted.pending w h)) [
+          | inl i ↦ or_left (unknown known (names_in_rows_of table u) w) (among t.found w) i
+          | inr i ↦ or_right (unknown known (names_in_rows_of table u) w) (among t.found w) (was w ∙ way.within w (taken.others w i))
         ];
-        others = λ w h. elim (or_cases (unknown known (named_by table u) w) (among t.found w) (sym (noted.found w) ∙ h)) [
-          | inl i ↦ (parts_of (named_by table u) w i).0
+        others = λ w h. elim (or_cases (unknown known (names_in_rows_of table u) w) (among t.found w) (sym (noted.found w) ∙ h)) [
+          | inl i ↦ (parts_of (names_in_rows_of table u) w i).0
           | inr i ↦ way.others w (sym (was w) ∙ i)
         ];
         first = λ w h. still w (way.first w h);
         rows = λ w h. elim (or_cases (u == w) (is_done s w) (taken.done w (noted.done w h))) [
-          | inl e ↦ λ x i. now_there t r (named_by table u) noted x (subst (λ v. IsTrue (named_by table v x)) (sym (eqb-true u w e)) i)
+          | inl e ↦ λ x i. now_there t r (names_in_rows_of table u) noted x (subst (λ v. IsTrue (names_in_rows_of table v x)) (sym (eqb-true u w e)) i)
           | inr d ↦ λ x i. still x (way.rows w d x i)
         ];
-        least = λ w h set holds s. elim (or_cases (unknown known (named_by table u) w) (among t.found w) (sym (noted.found w) ∙ h)) [
-          | inl i ↦ named_held table u w set holds (way.least u here set holds s) (parts_of (named_by table u) w i).1
+        least = λ w h set holds s. elim (or_cases (unknown known (names_in_rows_of table u) w) (among t.found w) (sym (noted.found w) ∙ h)) [
+          | inl i ↦ named_held table u w set holds (way.least u here set holds s) (parts_of (names_in_rows_of table u) w i).1
           | inr i ↦ way.least w (sym (was w) ∙ i) set holds s
         ];
       }
@@ -130,7 +130,7 @@ module _ (own : ℕ) (configured : Slices) (table : List Sent) (sender : ℕ) (k
         let named = in_one_row own configured table e (kind_of e.body) w (row_found table e single c) i in
         elim (or_cases (among known e.sender) (among found e.sender) h) [
           | inl k ↦ elim (cases_Bool (e.sender == sender)) [
-            | inl its ↦ led.first w (subst (λ v. IsTrue (named_by table v w)) (eqb-true e.sender sender its) named)
+            | inl its ↦ led.first w (subst (λ v. IsTrue (names_in_rows_of table v w)) (eqb-true e.sender sender its) named)
             | inr other ↦ or_left (among known w) (among found w) (narrow.rows e.sender k (λ same. true≢false (sym (eq-eqb e.sender sender same) ∙ other)) w named)
           ]
           | inr f ↦ led.rows e.sender f w named

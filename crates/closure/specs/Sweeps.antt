@@ -37,13 +37,13 @@ pub record IsTaken (old new : Swept) (u : ℕ) : Type 0 where
   pub counted : length new.pending + 1 ≡ length old.pending
 
 -- the names in a row, if there is one
-abbrev pub named_in : Option Sent → Names
-named_in None = among []
-named_in (Some e) = among (names e.slices)
+abbrev pub names_in_row : Option Sent → Names
+names_in_row None = among []
+names_in_row (Some e) = among (names e.slices)
 
 -- the names in the rows of a node, of either kind
-abbrev pub named_by : List Sent → ℕ → Names
-named_by table u w = named_in (row table u Kind.Ballot) w || named_in (row table u Nomination) w
+abbrev pub names_in_rows_of : List Sent → ℕ → Names
+names_in_rows_of table u w = names_in_row (row table u Kind.Ballot) w || names_in_row (row table u Nomination) w
 
 -- the names of a set that are not known yet
 abbrev pub unknown : List ℕ → Names → Names

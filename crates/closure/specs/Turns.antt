@@ -93,12 +93,12 @@ abbrev pub all_added : ℕ → List Entry → List ℕ → ℕ → List ℕ → 
 all_added i run members w numbers = flat_map (λ n. added_names i members w (announced_at run n)) numbers
 
 -- all that w names, announcements counting to the receivers, is among the members
-abbrev pub IsSettled : List Host → ℕ → List Entry → List ℕ → List ℕ → ℕ → Type 0
-IsSettled hosts i run members receivers w = (u : ℕ) → IsNamedBy hosts i run (among receivers) w u → IsTrue (among members u)
+abbrev pub NamesAreMembers : List Host → ℕ → List Entry → List ℕ → List ℕ → ℕ → Type 0
+NamesAreMembers hosts i run members receivers w = (u : ℕ) → IsNamedBy hosts i run (among receivers) w u → IsTrue (among members u)
 
 -- all that the members name is among them, announcements counting to the receivers
-abbrev pub AreSettled : List Host → ℕ → List Entry → List ℕ → List ℕ → Type 0
-AreSettled hosts i run members receivers = (j w : ℕ) → slice_get members j ≡ Some w → IsSettled hosts i run members receivers w
+abbrev pub AllNamesAreMembers : List Host → ℕ → List Entry → List ℕ → List ℕ → Type 0
+AllNamesAreMembers hosts i run members receivers = (j w : ℕ) → slice_get members j ≡ Some w → NamesAreMembers hosts i run members receivers w
 
 -- one of the numbers is that of an announcement at the slot from w to a member, of slices that name u
 pub record IsDue (i : ℕ) (run : List Entry) (members : Names) (numbers : List ℕ) (w u : ℕ) : Type 0 where
@@ -113,14 +113,14 @@ pub record IsDue (i : ℕ) (run : List Entry) (members : Names) (numbers : List 
 
 -- Each member that had a turn has a list of numbers. All that such a member names is a member, or its list has the announcement
 -- of it, or it is one of the names that are given in a turn that is underway.
-pub record IsKept (hosts : List Host) (i : ℕ) (run : List Entry) (members : List ℕ) (ready : List (List ℕ)) (place : ℕ) (given : List ℕ) : Type 0 where
+pub record AreCovered (hosts : List Host) (i : ℕ) (run : List Entry) (members : List ℕ) (ready : List (List ℕ)) (place : ℕ) (given : List ℕ) : Type 0 where
   pub within : length ready ≤ length members
   pub covered : (j w u : ℕ) → j < length ready → slice_get members j ≡ Some w → IsNamedBy hosts i run (among members) w u
       → IsTrue (among members u) ⊎ (IsDue i run (among members) (ready_at ready j) w u ⊎ ((j ≡ place) × IsTrue (among given u)))
 
 -- and no turn is underway
 abbrev pub IsReady : List Host → ℕ → List Entry → List ℕ → List (List ℕ) → Type 0
-IsReady hosts i run members ready = IsKept hosts i run members ready 0 []
+IsReady hosts i run members ready = AreCovered hosts i run members ready 0 []
 
 -- the names that w gives in its turn: nothing but what it names, and all of that, save what is a member already
 pub record IsGiven (hosts : List Host) (i : ℕ) (run : List Entry) (members : List ℕ) (w : ℕ) (given : List ℕ) : Type 0 where

@@ -6,7 +6,7 @@ use Rattle.types.specs.Statements.{Sent}
 use Rattle.protocol.specs.Reach.{reached}
 use Rattle.protocol.specs.Satisfaction.{names}
 use Rattle.protocol.specs.Sets.{Names, among, AreApart, AreWithin, IsAscending}
-use Rattle.closure.specs.Sweeps.{named_by}
+use Rattle.closure.specs.Sweeps.{names_in_rows_of}
 
 -- The node itself and the names of its configured slices are among these nodes, all of which it reaches. So is the sender; and the rows of none but the sender name others.
 pub record IsNarrow (own : ℕ) (configured : Slices) (table : List Sent) (sender : ℕ) (nodes : List ℕ) : Type 0 where
@@ -14,7 +14,7 @@ pub record IsNarrow (own : ℕ) (configured : Slices) (table : List Sent) (sende
   pub configuration : AreWithin (among (names configured)) (among nodes)
   pub sound : AreWithin (among nodes) (reached own configured table)
   pub there : IsTrue (among nodes sender)
-  pub rows : (u : ℕ) → IsTrue (among nodes u) → u ≢ sender → AreWithin (named_by table u) (among nodes)
+  pub rows : (u : ℕ) → IsTrue (among nodes u) → u ≢ sender → AreWithin (names_in_rows_of table u) (among nodes)
 
 -- a set holds the names of each row whose sender is in it
 abbrev pub HoldsRows : List Sent → Names → Type 0
@@ -28,6 +28,6 @@ in_either xs ys u = among xs u || among ys u
 pub record AreLedTo (table : List Sent) (known : List ℕ) (sender : ℕ) (nodes : List ℕ) : Type 0 where
   pub ascending : IsAscending nodes
   pub others : AreApart (among nodes) (among known)
-  pub first : AreWithin (named_by table sender) (in_either known nodes)
-  pub rows : (u : ℕ) → IsTrue (among nodes u) → AreWithin (named_by table u) (in_either known nodes)
+  pub first : AreWithin (names_in_rows_of table sender) (in_either known nodes)
+  pub rows : (u : ℕ) → IsTrue (among nodes u) → AreWithin (names_in_rows_of table u) (in_either known nodes)
   pub least : (u : ℕ) → IsTrue (among nodes u) → (set : Names) → HoldsRows table set → IsTrue (set sender) → IsTrue (set u)

@@ -83,17 +83,17 @@ fn keeps_names(
     push_names(old.set(), &mut old_names)?;
     let new_names = new.names(alloc)?;
     let own_names = own.names(alloc)?;
-    Ok(are_kept(&old_names, &new_names, node, &own_names))
+    Ok(are_in_either(&old_names, &new_names, node, &own_names))
 }
 
 /// Whether each of the names is in one of the two sets, or is the node.
-fn are_kept(names: &[NodeId], new: &[NodeId], node: &NodeId, own: &[NodeId]) -> bool
+fn are_in_either(names: &[NodeId], new: &[NodeId], node: &NodeId, own: &[NodeId]) -> bool
     requires new { IsAscending new.now }
     requires own { IsAscending own.now }
     ensures { result ≡ within names.now (λ u. among new.now u || also node.now (among own.now) u) }
 {
     for name in names {
-        if !is_kept(name, new, node, own) {
+        if !is_in_either(name, new, node, own) {
             return false;
         }
     }
@@ -101,7 +101,7 @@ fn are_kept(names: &[NodeId], new: &[NodeId], node: &NodeId, own: &[NodeId]) -> 
 }
 
 /// Whether a name is in one of the two sets, or is the node.
-fn is_kept(name: &NodeId, new: &[NodeId], node: &NodeId, own: &[NodeId]) -> bool
+fn is_in_either(name: &NodeId, new: &[NodeId], node: &NodeId, own: &[NodeId]) -> bool
     requires new { IsAscending new.now }
     requires own { IsAscending own.now }
     ensures { result ≡ (among new.now name.now || also node.now (among own.now) name.now) }

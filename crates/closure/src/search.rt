@@ -7,7 +7,7 @@ ghost use Rattle.types.specs.declared.kind.Kind.{Kind};
 ghost use Rattle.types.specs.declared.kind.Kind.TheVariants.{Nomination};
 ghost use Rattle.protocol.specs.Sets.{AreApart, IsAscending, among};
 ghost use Rattle.closure.specs.Searching.{AreKnown, AreRowsOf, Finds, IsOver, IsSearch, IsTakenWith, found_in, pending_in, with_marks};
-ghost use Rattle.closure.specs.Sweeps.{just, named_in};
+ghost use Rattle.closure.specs.Sweeps.{just, names_in_row};
 ghost use Rattle.closure.specs.Widening.{in_either};
 
 use crate::sweep::Sweep;
@@ -101,7 +101,7 @@ impl<'a> Search<'a> {
     /// Finds the names in the rows of a node.
     pub fn note_rows(&mut self, alloc: Global, rows: &SenderRows<'_>) -> Result<(), AllocError>
         requires { IsSearch self.old }
-        ensures { OnOk result (Finds self.old self.new (λ u. named_in (option_map (λ r. r.now) rows.now.ballot) u || named_in (option_map (λ r. r.now) rows.now.nomination) u)) }
+        ensures { OnOk result (Finds self.old self.new (λ u. names_in_row (option_map (λ r. r.now) rows.now.ballot) u || names_in_row (option_map (λ r. r.now) rows.now.nomination) u)) }
     {
         self.note_row(alloc, rows.nomination)?;
         self.note_row(alloc, rows.ballot)
@@ -110,7 +110,7 @@ impl<'a> Search<'a> {
     /// Finds the names in a row, if there is one.
     fn note_row(&mut self, alloc: Global, row: Option<&Envelope>) -> Result<(), AllocError>
         requires { IsSearch self.old }
-        ensures { OnOk result (Finds self.old self.new (named_in (option_map (λ r. r.now) row.entry))) }
+        ensures { OnOk result (Finds self.old self.new (names_in_row (option_map (λ r. r.now) row.entry))) }
     {
         match row {
             None => Ok(()),

@@ -4,7 +4,7 @@ ghost use Rattle.std.specs.Prelude.{◌≡◌, ◌++◌, ◌≤◌, ℕ, Some, l
 ghost use Rattle.protocol.specs.Networks.{slices_of};
 ghost use Rattle.protocol.specs.Sets.{among, IsAscending};
 ghost use Rattle.closure.specs.Announcing.{IsChained, IsClosureList, announced_at, names_of};
-ghost use Rattle.closure.specs.Turns.{AreIndexed, AreMore, AreSettled, AreWoken, IsFor, IsGiven, IsGrown, IsJoined, IsReady, IsSettled, added_names, all_added, known_names, turned};
+ghost use Rattle.closure.specs.Turns.{AreIndexed, AreMore, AllNamesAreMembers, AreWoken, IsFor, IsGiven, IsGrown, IsJoined, IsReady, NamesAreMembers, added_names, all_added, known_names, turned};
 
 use crate::announcing::Announcements;
 use crate::closure_list::ClosureList;
@@ -56,7 +56,7 @@ impl<'a, J: Announcements> Turns<'a, J> {
         requires chained { (v : ℕ) × IsChained (J.hosts self.now.journal.now) self.now.slot v (J.entries self.now.journal.now) members.old }
         requires ready { IsReady (J.hosts self.now.journal.now) self.now.slot (J.entries self.now.journal.now) (names_of members.old) ready.old }
         ensures grown { OnOk result ((v : ℕ) → IsChained (J.hosts self.now.journal.now) self.now.slot v (J.entries self.now.journal.now) members.old → IsGrown (J.hosts self.now.journal.now) self.now.slot v (J.entries self.now.journal.now) members.old members.new) }
-        ensures settled { OnOk result (AreSettled (J.hosts self.now.journal.now) self.now.slot (J.entries self.now.journal.now) (names_of members.new) (names_of members.old)) }
+        ensures settled { OnOk result (AllNamesAreMembers (J.hosts self.now.journal.now) self.now.slot (J.entries self.now.journal.now) (names_of members.new) (names_of members.old)) }
         ensures ready { OnOk result (IsReady (J.hosts self.now.journal.now) self.now.slot (J.entries self.now.journal.now) (names_of members.new) ready.new) }
     {
         let mut place = 0;
@@ -81,7 +81,7 @@ impl<'a, J: Announcements> Turns<'a, J> {
         requires ready { IsReady (J.hosts self.now.journal.now) self.now.slot (J.entries self.now.journal.now) (names_of members.old) ready.old }
         requires next { place ≤ length ready.old }
         ensures grown { OnOk result ((v : ℕ) → IsChained (J.hosts self.now.journal.now) self.now.slot v (J.entries self.now.journal.now) members.old → IsGrown (J.hosts self.now.journal.now) self.now.slot v (J.entries self.now.journal.now) members.old members.new) }
-        ensures settled { OnOk result ((w : ℕ) → slice_get (names_of members.old) place ≡ Some w → IsSettled (J.hosts self.now.journal.now) self.now.slot (J.entries self.now.journal.now) (names_of members.new) (names_of members.old) w) }
+        ensures settled { OnOk result ((w : ℕ) → slice_get (names_of members.old) place ≡ Some w → NamesAreMembers (J.hosts self.now.journal.now) self.now.slot (J.entries self.now.journal.now) (names_of members.new) (names_of members.old) w) }
         ensures ready { OnOk result (IsReady (J.hosts self.now.journal.now) self.now.slot (J.entries self.now.journal.now) (names_of members.new) ready.new) }
         ensures counted { OnOk result ((w : ℕ) → slice_get (names_of members.old) place ≡ Some w → length ready.new ≡ length (turned ready.old place)) }
     {

@@ -55,7 +55,7 @@ pub fn is_met_by<P: Passing>(set: &CompiledSet, who: &P) -> bool
     ensures { (ws : List ℕ) → ArePassing (P.passing who.now) ws → result ≡ met set.now ws }
 {
     let start = Tally {
-        missing: set.needed(),
+        missing: set.needed_count(),
         left: set.members(),
     };
     let mut tally = after_masks(start, set.masks(), who);

@@ -42,7 +42,7 @@ fn relocate_set(
     for each in sets {
         inner.push(relocate_set(alloc, each, places)?)?;
     }
-    Ok(CompiledSet::new(set.needed(), set.members(), masks, inner))
+    Ok(CompiledSet::new(set.needed_count(), set.members(), masks, inner))
 }
 
 /// The masks of places that moved. They have no more places than these.

@@ -85,7 +85,7 @@ impl CompiledSet {
     }
 
     /// How many of both are needed.
-    pub(crate) fn needed(&self) -> usize
+    pub(crate) fn needed_count(&self) -> usize
         ensures { result ≡ self.now.needed }
     {
         self.needed
@@ -102,14 +102,14 @@ fn copy_of_set(alloc: Global, set: &CompiledSet) -> Result<CompiledSet, AllocErr
     for each in sets {
         inner.push(copy_of_set(alloc, each)?)?;
     }
-    Ok(CompiledSet::new(set.needed(), set.members(), masks, inner))
+    Ok(CompiledSet::new(set.needed_count(), set.members(), masks, inner))
 }
 
 /// Whether as many places and inner sets as are needed are in the set of nodes. It takes no memory.
 pub fn is_met(set: &CompiledSet, places: &[u64]) -> bool
     ensures { result ≡ met set.now places.now }
 {
-    let mut missing = missing_after(set.needed(), set.masks(), places);
+    let mut missing = missing_after(set.needed_count(), set.masks(), places);
     let sets = set.inner();
     for inner in sets {
         if is_met(inner, places) {

@@ -7,12 +7,12 @@ use Rattle.protocol.specs.Networks.{Host, slices_of}
 use Rattle.protocol.specs.Rosters.{Roster}
 use Rattle.protocol.specs.Hosts.{Config, History, entries, hosts_of}
 use Rattle.protocol.specs.Isolation.{closure, SameCast}
-use Rattle.protocol.specs.Submissions.{answers, concerned, config_of, names_on, roster_names, SameReserves}
+use Rattle.protocol.specs.Submissions.{answers, concerning_steps, config_of, names_on, roster_names, SameReserves}
 use Rattle.differences.specs.Hosting.{AreAlike}
 use Rattle.differences.specs.Least.{AreAll}
 use Rattle.network.specs.Decoding.{reading}
 use Rattle.crowds.specs.Listing.{IsOn}
-use Rattle.crowds.specs.Submitted.{is_asked, marked}
+use Rattle.crowds.specs.Submitted.{concerns_members, marked}
 use Rattle.crowds.proofs.MarkedSteps.{marked_asked}
 use Rattle.crowds.proofs.RunsOf.{concerned_asked}
 
@@ -20,12 +20,12 @@ use Rattle.crowds.proofs.RunsOf.{concerned_asked}
 module _ (g i : ℕ) (R : Names) (members : List ℕ) (exactly : (u : ℕ) → among members u ≡ R u) (h : History) (c : Config) (is : config_of h.configs g ≡ Some c) where
   -- what was submitted, the marks beside it, and both as they are read
   pub record AreInputs (calls : List (ℕ × Event)) (marks : List Bool) : Type 0 where
-    pub marks_are : marks ≡ map (is_asked R i g) h.calls
-    pub steps_are : marked marks calls ≡ concerned R i (answers reading h g)
+    pub marks_are : marks ≡ map (concerns_members R i g) h.calls
+    pub steps_are : marked marks calls ≡ concerning_steps R i (answers reading h g)
 
-  pub are_inputs : (calls again : List (ℕ × Event)) (marks made : List Bool) → again ≡ h.calls → made ≡ map (is_asked (among members) i g) again → calls ≡ h.calls → marks ≡ made → AreInputs calls marks
+  pub are_inputs : (calls again : List (ℕ × Event)) (marks made : List Bool) → again ≡ h.calls → made ≡ map (concerns_members (among members) i g) again → calls ≡ h.calls → marks ≡ made → AreInputs calls marks
   are_inputs calls again marks made e f p q =
-      let ms : marks ≡ map (is_asked R i g) h.calls = q ∙ f ∙ ap (map (is_asked (among members) i g)) e ∙ ap (λ (S : Names). map (is_asked S i g) h.calls) (fun_ext exactly) in
+      let ms : marks ≡ map (concerns_members R i g) h.calls = q ∙ f ∙ ap (map (concerns_members (among members) i g)) e ∙ ap (λ (S : Names). map (concerns_members S i g) h.calls) (fun_ext exactly) in
       record { marks_are = ms; steps_are = ap₂ marked ms p ∙ marked_asked R i g h.calls ∙ sym (concerned_asked h c g is R i) }
 
 -- ---- the members are hosted alike, the same is reserved, and for all of them

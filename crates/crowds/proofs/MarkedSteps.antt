@@ -6,13 +6,13 @@ use Rattle.types.specs.declared.event.Event.{Event}
 use Rattle.protocol.specs.Sets.{Names}
 use Rattle.protocol.specs.Networks.{Step}
 use Rattle.protocol.specs.Networks.Reading.{Read, Fault}
-use Rattle.protocol.specs.Networks.Step.{Opens, Closes, Asks, Delivers, Hears, NominationTimes, BallotTimes, Reslices}
+use Rattle.protocol.specs.Networks.Step.{Opens, Closes, Proposes, Delivers, Hears, NominationTimerFires, BallotTimerFires, Reslices}
 use Rattle.protocol.specs.Submissions.{concerns}
 use Rattle.protocol.specs.Verdicts.{IsFirstDifference}
 use Rattle.network.specs.Decoding.{step_of}
 use Rattle.differences.proofs.Places.{rest_at, there_is}
 use Rattle.differences.proofs.SideBySide.{IsAgreed, agreed_at_first, agreed_more, agreed_whole, parts_at_end, parts_at_other_end, parts_unlike}
-use Rattle.crowds.specs.Submitted.{AreReadable, AreUnmarked, IsNextMarked, IsReadable, asked, is_asked, marked}
+use Rattle.crowds.specs.Submitted.{AreReadable, AreUnmarked, IsNextMarked, IsReadable, concerning_steps_in, concerns_members, marked}
 
 abbrev Calls : Type 0
 Calls = List (ℕ × Event)
@@ -95,23 +95,23 @@ module _ (ms : List Bool) (one : Calls) (ns : List Bool) (other : Calls) where
 
 -- ---- marks of what concerns a set
 module _ (R : Names) (i g : ℕ) where
-  pub marked_asked : (calls : Calls) → marked (map (is_asked R i g) calls) calls ≡ asked R i g calls
-  unfolding marked asked
+  pub marked_asked : (calls : Calls) → marked (map (concerns_members R i g) calls) calls ≡ concerning_steps_in R i g calls
+  unfolding marked concerning_steps_in
   marked_asked [] = refl
-  marked_asked (c ∷ cs) = go (is_asked R i g c) (marked_asked cs)
+  marked_asked (c ∷ cs) = go (concerns_members R i g c) (marked_asked cs)
     where
-      go : (b : Bool) → marked (map (is_asked R i g) cs) cs ≡ asked R i g cs
-          → (if b then step_of c.1 ∷ marked (map (is_asked R i g) cs) cs else marked (map (is_asked R i g) cs) cs) ≡ map (λ (x : ℕ × Event). step_of x.1) (if b then c ∷ filter (is_asked R i g) cs else filter (is_asked R i g) cs)
+      go : (b : Bool) → marked (map (concerns_members R i g) cs) cs ≡ concerning_steps_in R i g cs
+          → (if b then step_of c.1 ∷ marked (map (concerns_members R i g) cs) cs else marked (map (concerns_members R i g) cs) cs) ≡ map (λ (x : ℕ × Event). step_of x.1) (if b then c ∷ filter (concerns_members R i g) cs else filter (concerns_members R i g) cs)
       go true ih = ap (λ (xs : List Step). step_of c.1 ∷ xs) ih
       go false ih = ih
 
   readable : (s : Step) → concerns R i s ≡ true → IsReadable s
   readable (Opens j) h = tt
   readable (Closes j) h = tt
-  readable (Asks j u x) h = tt
+  readable (Proposes j u x) h = tt
   readable (Delivers u size (Read e)) h = tt
   readable (Delivers u size (Fault n)) h = cc
   readable (Hears j u from kind k) h = tt
-  readable (NominationTimes j u r) h = tt
-  readable (BallotTimes j u n) h = tt
+  readable (NominationTimerFires j u r) h = tt
+  readable (BallotTimerFires j u n) h = tt
   readable (Reslices j u q) h = tt

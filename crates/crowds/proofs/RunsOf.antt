@@ -7,18 +7,18 @@ use Rattle.std.specs.Prelude.{IfOk}
 use Rattle.types.specs.declared.event.Refusal.{Refusal}
 use Rattle.types.specs.declared.event.Refusal.TheVariants.{NoMemory}
 use Rattle.protocol.specs.Sets.{Names}
-use Rattle.protocol.specs.Networks.{Net, Reply, Step, effect, first_that, net_step, replied, slices_of, tests}
+use Rattle.protocol.specs.Networks.{Net, Reply, Step, effect, first_that, net_step, state_and_reply, slices_of, tests}
 use Rattle.protocol.specs.Networks.Reply.{Done, Refused}
-use Rattle.protocol.specs.Hosts.{Config, Entry, History, applied, hosts_of, entered, entries, journal, net_at, nets, new_net, steps_of}
+use Rattle.protocol.specs.Hosts.{Config, Entry, History, applied, hosts_of, journal_with, entries, journal, net_at, nets, new_net, steps_of}
 use Rattle.protocol.specs.Runs.{net_after, refusal_of, state_of}
-use Rattle.protocol.specs.Submissions.{Answer, answers, answers_of, concerned, concerning, concerns, config_of, net_run, replied_to}
+use Rattle.protocol.specs.Submissions.{Answer, answers, answers_of, concerning_steps, concerning, concerns, config_of, net_run, replied_to}
 use Rattle.protocol.proofs.Runs.Hosts.{answers-run, applied-journal, steps_to}
 use Rattle.differences.proofs.Places.{front_at}
 use Rattle.network.specs.Decoding.{reading, step_of}
 use Rattle.hoststep.specs.Logs.{IsEntered, IsRefused, Log, extended}
 use Rattle.hoststep.proofs.Histories.{journal-snoc, steps-snoc}
 use Rattle.crowds.specs.Replies.{IsAnswer}
-use Rattle.crowds.specs.Submitted.{asked, is_asked}
+use Rattle.crowds.specs.Submitted.{concerning_steps_in, concerns_members}
 
 -- ---- the network
 declared-net : (cs : List Config) (g : ℕ) (c : Config) → config_of cs g ≡ Some c → net_at (nets cs) g ≡ Some (new_net c)
@@ -37,20 +37,20 @@ run-snoc (x ∷ xs) net e = go (first_that (tests net x)) refl (λ n. run-snoc x
   where
     go : (o : Option Refusal) → first_that (tests net x) ≡ o
         → ((n : Net) → net_run n (xs ++ e ∷ []) ≡ net_run n xs ++ record { step = e; reply = (net_step (net_after n (journal n xs)) e).1 } ∷ [])
-        → record { step = x; reply = (replied net x o).1 } ∷ net_run (replied net x o).0 (xs ++ e ∷ [])
-        ≡ record { step = x; reply = (replied net x o).1 } ∷ net_run (replied net x o).0 xs ++ record { step = e; reply = (net_step (net_after net (entered x (replied net x o).1 (journal (replied net x o).0 xs))) e).1 } ∷ []
+        → record { step = x; reply = (state_and_reply net x o).1 } ∷ net_run (state_and_reply net x o).0 (xs ++ e ∷ [])
+        ≡ record { step = x; reply = (state_and_reply net x o).1 } ∷ net_run (state_and_reply net x o).0 xs ++ record { step = e; reply = (net_step (net_after net (journal_with x (state_and_reply net x o).1 (journal (state_and_reply net x o).0 xs))) e).1 } ∷ []
     go (Some r) q ih = ap {B = List Answer} (λ (ys : List Answer). record { step = x; reply = Refused r } ∷ ys) (ih net)
     go None q ih =
-        let next : Net = (replied net x None).0 in
+        let next : Net = (state_and_reply net x None).0 in
         ap {B = List Answer} (λ (ys : List Answer). record { step = x; reply = Done (effect net x).1 } ∷ ys)
-        (ih next ∙ ap {B = List Answer} (λ (p : Option Refusal). net_run next xs ++ record { step = e; reply = (net_step (net_after (replied net x p).0 (journal next xs)) e).1 } ∷ []) (sym q))
+        (ih next ∙ ap {B = List Answer} (λ (p : Option Refusal). net_run next xs ++ record { step = e; reply = (net_step (net_after (state_and_reply net x p).0 (journal next xs)) e).1 } ∷ []) (sym q))
 
 -- ---- what a journal answers
 pub is_done : (old new : Log) (e : Step) (os : List _) → IsEntered old e os → new ≡ extended old e os → IsAnswer old e (Done os) new
 unfolding net_step
 is_done old new e os h n = record {
   config = ap (λ (l : Log). l.config) n;
-  reply = sym (ap (λ o. (replied (state_of old.config old.entries) e o).1) h.0 ∙ ap Done (sym h.1));
+  reply = sym (ap (λ o. (state_and_reply (state_of old.config old.entries) e o).1) h.0 ∙ ap Done (sym h.1));
   entries = ap (λ (l : Log). l.entries) n;
 }
 
@@ -58,7 +58,7 @@ pub is_refused : (old new : Log) (e : Step) (r : Refusal) → refusal_of old.con
 unfolding net_step
 is_refused old new e r h n = record {
   config = ap (λ (l : Log). l.config) n;
-  reply = sym (ap (λ o. (replied (state_of old.config old.entries) e o).1) h);
+  reply = sym (ap (λ o. (state_and_reply (state_of old.config old.entries) e o).1) h);
   entries = ap (λ (l : Log). l.entries) n ∙ sym (append-nil old.entries);
 }
 
@@ -118,8 +118,8 @@ module _ (h : History) (c : Config) (g : ℕ) (is : config_of h.configs g ≡ So
       where
         grown : new.entries ≡ entries reading (so_far h (k + 1)) g
         grown =
-            a.entries ∙ ap (λ (x : Reply). entries reading (so_far h k) g ++ entered (step_of call.1) x []) a.reply
-            ∙ ap (λ (es : List Entry). es ++ entered (step_of call.1) (net_step (net_after (new_net c) es) (step_of call.1)).1 []) (entries_are k)
+            a.entries ∙ ap (λ (x : Reply). entries reading (so_far h k) g ++ journal_with (step_of call.1) x []) a.reply
+            ∙ ap (λ (es : List Entry). es ++ journal_with (step_of call.1) (net_step (net_after (new_net c) es) (step_of call.1)).1 []) (entries_are k)
             ∙ sym (journal-snoc (steps (take k h.calls)) (new_net c) (step_of call.1))
             ∙ ap (journal (new_net c)) (sym (new_step o)) ∙ sym (entries_are (k + 1))
 
@@ -145,7 +145,7 @@ module _ (h : History) (c : Config) (g : ℕ) (is : config_of h.configs g ≡ So
         last false = refl
 
     -- the replies that are kept
-    pub replies_next : (call.0 == g) ≡ true → (before : Log) {r : Reply} {new : Log} → before ≡ log_so_far h c g k → IsAnswer before (step_of call.1) r new → (R : Names) (i : ℕ) (b : Bool) → b ≡ is_asked R i g call → (old now : List Reply)
+    pub replies_next : (call.0 == g) ≡ true → (before : Log) {r : Reply} {new : Log} → before ≡ log_so_far h c g k → IsAnswer before (step_of call.1) r new → (R : Names) (i : ℕ) (b : Bool) → b ≡ concerns_members R i g call → (old now : List Reply)
         → old ≡ replied_to R i (answers reading (so_far h k) g) → now ≡ old ++ (if b then r ∷ [] else []) → now ≡ replied_to R i (answers reading (so_far h (k + 1)) g)
     replies_next o before {r} {new} start a R i b m old now e f =
         f ∙ ap (λ (x : Bool). old ++ (if x then r ∷ [] else [])) (m ∙ ap (λ (x : Bool). x && concerns R i (step_of call.1)) o)
@@ -178,33 +178,33 @@ mark_at f marks calls k call b e there is = one (sym is ∙ ap (λ (ms : List Bo
     at f (y ∷ ys) (suc n) x e = at f ys n x e
 
 -- ---- what is submitted
-concerned-run : (R : Names) (i : ℕ) (es : List Step) (net : Net) → concerned R i (net_run net es) ≡ filter (concerns R i) es
+concerning_steps-run : (R : Names) (i : ℕ) (es : List Step) (net : Net) → concerning_steps R i (net_run net es) ≡ filter (concerns R i) es
 unfolding net_run
-concerned-run R i [] net = refl
-concerned-run R i (e ∷ es) net = go (concerns R i e) (concerned-run R i es (net_step net e).0)
+concerning_steps-run R i [] net = refl
+concerning_steps-run R i (e ∷ es) net = go (concerns R i e) (concerning_steps-run R i es (net_step net e).0)
   where
-    go : (b : Bool) → concerned R i (net_run (net_step net e).0 es) ≡ filter (concerns R i) es
+    go : (b : Bool) → concerning_steps R i (net_run (net_step net e).0 es) ≡ filter (concerns R i) es
         → map (λ (x : Answer). x.step) (if b then record { step = e; reply = (net_step net e).1 } ∷ concerning R i (net_run (net_step net e).0 es) else concerning R i (net_run (net_step net e).0 es))
         ≡ (if b then e ∷ filter (concerns R i) es else filter (concerns R i) es)
     go true ih = ap (λ (xs : List Step). e ∷ xs) ih
     go false ih = ih
 
-steps-asked : (R : Names) (i g : ℕ) (calls : List (ℕ × Event)) → filter (concerns R i) (steps_to g (steps_of reading calls)) ≡ asked R i g calls
-unfolding steps_to asked
+steps-asked : (R : Names) (i g : ℕ) (calls : List (ℕ × Event)) → filter (concerns R i) (steps_to g (steps_of reading calls)) ≡ concerning_steps_in R i g calls
+unfolding steps_to concerning_steps_in
 steps-asked R i g [] = refl
 steps-asked R i g (c ∷ cs) = go (c.0 == g) (concerns R i (step_of c.1)) refl (steps-asked R i g cs)
   where
-    go : (a b : Bool) → concerns R i (step_of c.1) ≡ b → filter (concerns R i) (steps_to g (steps_of reading cs)) ≡ asked R i g cs
+    go : (a b : Bool) → concerns R i (step_of c.1) ≡ b → filter (concerns R i) (steps_to g (steps_of reading cs)) ≡ concerning_steps_in R i g cs
         → filter (concerns R i) (if a then step_of c.1 ∷ steps_to g (steps_of reading cs) else steps_to g (steps_of reading cs))
-        ≡ map (λ (x : ℕ × Event). step_of x.1) (if a && concerns R i (step_of c.1) then c ∷ filter (is_asked R i g) cs else filter (is_asked R i g) cs)
+        ≡ map (λ (x : ℕ × Event). step_of x.1) (if a && concerns R i (step_of c.1) then c ∷ filter (concerns_members R i g) cs else filter (concerns_members R i g) cs)
     go true true e ih = rw e (ap (λ (xs : List Step). step_of c.1 ∷ xs) ih)
     go true false e ih = rw e ih
     go false b e ih = ih
 
-pub concerned_asked : (h : History) (c : Config) (g : ℕ) → config_of h.configs g ≡ Some c → (R : Names) (i : ℕ) → concerned R i (answers reading h g) ≡ asked R i g h.calls
+pub concerned_asked : (h : History) (c : Config) (g : ℕ) → config_of h.configs g ≡ Some c → (R : Names) (i : ℕ) → concerning_steps R i (answers reading h g) ≡ concerning_steps_in R i g h.calls
 concerned_asked h c g is R i =
-    ap (concerned R i) (answers-run g (steps_of reading h.calls) (nets h.configs) (new_net c) (declared-net h.configs g c is))
-    ∙ concerned-run R i (steps_to g (steps_of reading h.calls)) (new_net c) ∙ steps-asked R i g h.calls
+    ap (concerning_steps R i) (answers-run g (steps_of reading h.calls) (nets h.configs) (new_net c) (declared-net h.configs g c is))
+    ∙ concerning_steps-run R i (steps_to g (steps_of reading h.calls)) (new_net c) ∙ steps-asked R i g h.calls
 
 -- ---- a network that is not declared hosts nobody
 pub nobody : (cs : List Config) (g u : ℕ) → config_of cs g ≡ None → is_some (slices_of (hosts_of cs g) u) ≡ false

@@ -6,7 +6,7 @@ use Rattle.codec.specs.Spelling.{spelling}
 use Rattle.codec.specs.Steps.{IsBytes}
 use Rattle.protocol.specs.Networks.{Reading, Step}
 use Rattle.protocol.specs.Networks.Reading.{Read, Fault}
-use Rattle.protocol.specs.Networks.Step.{Opens, Closes, Asks, Delivers, Hears, NominationTimes, BallotTimes, Reslices}
+use Rattle.protocol.specs.Networks.Step.{Opens, Closes, Proposes, Delivers, Hears, NominationTimerFires, BallotTimerFires, Reslices}
 use Rattle.network.specs.Decoding.{reading, step_of}
 use Rattle.network.proofs.Readings.{readings_are_exact}
 use Rattle.crowds.specs.Submitted.{HasBytes, IsReadable}
@@ -20,11 +20,11 @@ bytes_of (Fault n) = []
 back : Step → Event
 back (Opens j) = OpenSlot j
 back (Closes j) = CloseSlot j
-back (Asks j u x) = Propose j u x
+back (Proposes j u x) = Propose j u x
 back (Delivers u size d) = Deliver u (bytes_of d)
 back (Hears j u from kind k) = Hear j u from kind k
-back (NominationTimes j u r) = NominationTimer j u r
-back (BallotTimes j u n) = BallotTimer j u n
+back (NominationTimerFires j u r) = NominationTimer j u r
+back (BallotTimerFires j u n) = BallotTimer j u n
 back (Reslices j u q) = Reslice j u q
 
 read_back : (bytes : List ℕ) (r : Reading) (u size : ℕ) → IsBytes bytes → reading bytes ≡ r → IsReadable (Delivers u size r) → bytes_of r ≡ bytes

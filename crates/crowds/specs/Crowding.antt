@@ -4,7 +4,7 @@ use Rattle.protocol.specs.Sets.{among, AreWithin}
 use Rattle.protocol.specs.Networks.{slices_of}
 use Rattle.protocol.specs.Hosts.{History, hosts_of, entries}
 use Rattle.protocol.specs.Isolation.{closure, outs_of, SameCast}
-use Rattle.protocol.specs.Submissions.{answers, concerned, replied_to, config_of, SameReserves, roster_names}
+use Rattle.protocol.specs.Submissions.{answers, concerning_steps, replied_to, config_of, SameReserves, roster_names}
 use Rattle.protocol.specs.Crowds.{Crowd, IsCrowd}
 use Rattle.protocol.specs.Crowds.Crowd.{CastDiffers, RosterDiffers, OutsideRoster, InputsDiffer, Same}
 use Rattle.network.specs.Decoding.{reading}
@@ -31,6 +31,6 @@ AreNeverCrowdedOut one other g i v =
     SameCast R v (hosts_of one.configs g) (hosts_of other.configs g)
     → SameReserves (config_of one.configs g) (config_of other.configs g)
     → AreWithin R (among (roster_names (config_of one.configs g)))
-    → concerned R i (answers reading one g) ≡ concerned R i (answers reading other g)
+    → concerning_steps R i (answers reading one g) ≡ concerning_steps R i (answers reading other g)
     → (replied_to R i (answers reading one g) ≡ replied_to R i (answers reading other g))
     × ((u : ℕ) → IsTrue (R u) → IsTrue (is_some (slices_of (hosts_of one.configs g) u)) → outs_of i u (entries reading one g) ≡ outs_of i u (entries reading other g))

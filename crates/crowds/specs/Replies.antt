@@ -1,6 +1,6 @@
 -- Replies of a network, as the definitions have them.
 use Rattle.std.specs.Prelude.{◌≡◌, [], ◌++◌}
-use Rattle.protocol.specs.Hosts.{entered}
+use Rattle.protocol.specs.Hosts.{journal_with}
 use Rattle.protocol.specs.Networks.{Step, Reply, net_step}
 use Rattle.protocol.specs.Networks.Reply.{Done, Refused}
 use Rattle.protocol.specs.Runs.{state_of}
@@ -16,4 +16,4 @@ reply_of (answers.Refused r) = Refused r
 pub record IsAnswer (old : Log) (e : Step) (r : Reply) (new : Log) : Type 0 where
   pub config : new.config ≡ old.config
   pub reply : r ≡ (net_step (state_of old.config old.entries) e).1
-  pub entries : new.entries ≡ old.entries ++ entered e r []
+  pub entries : new.entries ≡ old.entries ++ journal_with e r []

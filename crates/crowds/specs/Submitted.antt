@@ -28,12 +28,12 @@ IsNotDeclared configs g NetTwice = IsTrue (is_some (config_of configs g))
 IsNotDeclared configs g NoMemory = config_of configs g ≡ None
 
 -- an event of the network whose step concerns the set at the slot
-abbrev pub is_asked : Names → ℕ → ℕ → ℕ × Event → Bool
-is_asked R i g c = (c.0 == g) && concerns R i (step_of c.1)
+abbrev pub concerns_members : Names → ℕ → ℕ → ℕ × Event → Bool
+concerns_members R i g c = (c.0 == g) && concerns R i (step_of c.1)
 
 -- the steps of these events, in order
-unfoldable pub asked : Names → ℕ → ℕ → List (ℕ × Event) → List Step
-asked R i g calls = map (λ c. step_of c.1) (filter (is_asked R i g) calls)
+unfoldable pub concerning_steps_in : Names → ℕ → ℕ → List (ℕ × Event) → List Step
+concerning_steps_in R i g calls = map (λ c. step_of c.1) (filter (concerns_members R i g) calls)
 
 -- bytes that are read are an envelope
 abbrev pub IsReadable : Step → Type 0

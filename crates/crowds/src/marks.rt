@@ -3,7 +3,7 @@
 ghost use Rattle.std.specs.Prelude.{◌≡◌, ◌≤◌, IfOk, MatchOption, length, map};
 ghost use Rattle.protocol.specs.Sets.{among};
 ghost use Rattle.closure.specs.Announcing.{names_of};
-ghost use Rattle.crowds.specs.Submitted.{AreUnmarked, IsNextMarked, is_asked};
+ghost use Rattle.crowds.specs.Submitted.{AreUnmarked, IsNextMarked, concerns_members};
 
 use crate::concerning::concerns;
 use closure::ClosureList;
@@ -19,24 +19,24 @@ pub(crate) fn marks(
     members: &ClosureList,
     slot: u64,
 ) -> Result<Vec<bool>, AllocError>
-    ensures { IfOk result (λ v. v.items ≡ map (is_asked (among (names_of members.now)) slot net) calls.now) }
+    ensures { IfOk result (λ v. v.items ≡ map (concerns_members (among (names_of members.now)) slot net) calls.now) }
 {
     let mut marks = Vec::with_capacity(alloc, calls.len())?;
     for call in calls {
-        marks.push(is_asked(alloc, call, net, members, slot)?)?;
+        marks.push(concerns_members(alloc, call, net, members, slot)?)?;
     }
     Ok(marks)
 }
 
 /// Whether an event is one of the network that concerns the members at the slot.
-fn is_asked(
+fn concerns_members(
     alloc: Global,
     call: &(u32, Event),
     net: u32,
     members: &ClosureList,
     slot: u64,
 ) -> Result<bool, AllocError>
-    ensures { IfOk result (λ b. b ≡ is_asked (among (names_of members.now)) slot net call.now) }
+    ensures { IfOk result (λ b. b ≡ concerns_members (among (names_of members.now)) slot net call.now) }
 {
     let (number, event) = call;
     if *number != net {

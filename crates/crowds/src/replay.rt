@@ -8,7 +8,7 @@ ghost use Rattle.types.specs.declared.event.Refusal.TheVariants.{NoMemory};
 ghost use Rattle.protocol.specs.Submissions.{answers, config_of, replied_to};
 ghost use Rattle.network.specs.Decoding.{reading, step_of};
 ghost use Rattle.crowds.specs.Replies.{IsAnswer, reply_of};
-ghost use Rattle.crowds.specs.Submitted.{is_asked};
+ghost use Rattle.crowds.specs.Submitted.{concerns_members};
 
 use crate::reply::Reply;
 use crate::submission::Submission;
@@ -50,7 +50,7 @@ pub(crate) fn replies_to(
 ) -> Result<Vec<Reply>, AllocError>
     requires declared { config_of submission.now.configs net ≡ Some config.now }
     requires marked { length marks.now ≡ length submission.now.calls }
-    ensures { (R : Names) (i : ℕ) → marks.now ≡ map (is_asked R i net) submission.now.calls → IfOk result (λ v. map reply_of v.items ≡ replied_to R i (answers reading submission.now net)) }
+    ensures { (R : Names) (i : ℕ) → marks.now ≡ map (concerns_members R i net) submission.now.calls → IfOk result (λ v. map reply_of v.items ≡ replied_to R i (answers reading submission.now net)) }
 {
     let mut journal = Journal::new(alloc, config.try_copy(alloc)?, VecShelf::new(alloc));
     let mut replies = Vec::new(alloc);
@@ -59,8 +59,8 @@ pub(crate) fn replies_to(
         let (number, event) = &calls[place];
         if *number == net {
             let reply = answer(alloc, &mut journal, event)?;
-            let is_asked = is_marked(marks, place);
-            keep(&mut replies, reply, is_asked)?;
+            let concerns_members = is_marked(marks, place);
+            keep(&mut replies, reply, concerns_members)?;
         }
     }
     Ok(replies)
@@ -109,10 +109,10 @@ fn is_marked(marks: &[bool], place: usize) -> bool
 }
 
 /// A reply is kept where it is asked for.
-fn keep(replies: &mut Vec<Reply>, reply: Reply, is_asked: bool) -> Result<(), AllocError>
-    ensures { OnOk result (map reply_of replies.new.items ≡ map reply_of replies.old.items ++ (if is_asked then reply_of reply ∷ [] else [])) }
+fn keep(replies: &mut Vec<Reply>, reply: Reply, concerns_members: bool) -> Result<(), AllocError>
+    ensures { OnOk result (map reply_of replies.new.items ≡ map reply_of replies.old.items ++ (if concerns_members then reply_of reply ∷ [] else [])) }
 {
-    if is_asked {
+    if concerns_members {
         return match replies.push(reply) {
             Ok(()) => Ok(()),
             // Memory: the list has no room.

@@ -68,12 +68,12 @@ impl Absorb<Decision> for Board {
 }
 
 /// What a watch or the writer has seen. No value of it is made.
-pub(crate) type Seen = LinkedList<Decision>;
+pub(crate) type BoardView = LinkedList<Decision>;
 
 /// The rule: what is published begins with what each has seen.
 pub(crate) struct Published;
 
-impl Protocol<Board, Seen> for Published {
+impl Protocol<Board, BoardView> for Published {
     ghost use Rattle.std.specs.Prelude.{[]};
     ghost use Rattle.decisions.specs.Beginnings.{BeginsWithSeen};
 
@@ -85,14 +85,14 @@ impl Protocol<Board, Seen> for Published {
 /// One sees the whole list that is published.
 pub(crate) struct Sees;
 
-impl Outcome<Board, Seen> for Sees {
+impl Outcome<Board, BoardView> for Sees {
     ghost use Rattle.decisions.specs.Beginnings.{SeesWhole};
 
     ghost then = { SeesWhole };
 }
 
 /// A reader of the list.
-pub(crate) type BoardReader = Reader<Board, Seen, Published>;
+pub(crate) type BoardReader = Reader<Board, BoardView, Published>;
 
 /// The one writer of the list.
-pub(crate) type BoardWriter = Writer<Board, Decision, Seen, Published>;
+pub(crate) type BoardWriter = Writer<Board, Decision, BoardView, Published>;

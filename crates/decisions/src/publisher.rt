@@ -63,14 +63,14 @@ impl<R: Wait + Drop> Publisher<R> {
     }
 
     /// What is published.
-    pub fn shown(&self) -> &[Decision]
+    pub fn published_list(&self) -> &[Decision]
         ensures { result.now ≡ self.now.0 }
     {
         self.writer.published().as_slice()
     }
 
     /// How many wait to be published.
-    pub fn waiting(&self) -> usize
+    pub fn pending_count(&self) -> usize
         ensures { result ≡ length self.now.1 }
     {
         self.waiting
@@ -145,7 +145,7 @@ impl<R: Wait + Drop> Publisher<R> {
         ensures told { watch.new ≡ self.now.0 }
         ensures grows { IsPrefix watch.old watch.new }
     {
-        let shown = self.shown();
+        let shown = self.published_list();
         for _ in rt.forever() {
             let is_told = watch.read(
                 |decisions: &[Decision]| -> bool

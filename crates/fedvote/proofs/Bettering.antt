@@ -1,7 +1,7 @@
 -- Ballots that better what is there, one after another, and all at once.
 use Rattle.std.proofs.Common.{◌≡◌, Bool, true, false, cond, List, [], ◌∷◌, ◌++◌, Option, Some, None, filter, refl, sym, ◌∙◌, ap}
 use Rattle.types.specs.declared.ballot.Ballot.{Ballot}
-use Rattle.protocol.specs.Candidates.{greatest, is_counted}
+use Rattle.protocol.specs.Candidates.{greatest, has_positive_counter}
 use Rattle.fedvote.specs.Searching.{is_under, bettered}
 
 -- one ballot more
@@ -17,16 +17,16 @@ greatest_none (Some a) = refl
 
 -- one ballot bettered first
 pub bettered_then : (best bound : Option Ballot) (t : Ballot) (ts : List Ballot) → bettered (bettered best bound (t ∷ [])) bound ts ≡ bettered best bound (t ∷ ts)
-bettered_then best bound t ts = counted (is_counted t)
+bettered_then best bound t ts = counted (has_positive_counter t)
   where
     rest : List Ballot
-    rest = filter (is_under bound) (filter is_counted ts)
+    rest = filter (is_under bound) (filter has_positive_counter ts)
 
     under : (b : Bool) → greatest (greatest best (cond b (t ∷ []) [])) rest ≡ greatest best (cond b (t ∷ rest) rest)
     under true = greatest_then best t rest
     under false = ap (λ o. greatest o rest) (greatest_none best)
 
-    counted : (b : Bool) → greatest (greatest best (filter (is_under bound) (cond b (t ∷ []) []))) rest ≡ greatest best (filter (is_under bound) (cond b (t ∷ filter is_counted ts) (filter is_counted ts)))
+    counted : (b : Bool) → greatest (greatest best (filter (is_under bound) (cond b (t ∷ []) []))) rest ≡ greatest best (filter (is_under bound) (cond b (t ∷ filter has_positive_counter ts) (filter has_positive_counter ts)))
     counted true = under (is_under bound t)
     counted false = ap (λ o. greatest o rest) (greatest_none best)
 

@@ -4,7 +4,7 @@ use Rattle.types.specs.declared.kind.Kind.{Kind}
 use Rattle.types.specs.declared.kind.Kind.TheVariants.{Nomination}
 use Rattle.types.specs.declared.statement.Statement.{Statement}
 use Rattle.types.specs.Votes.{accepts_prepare, votes_or_accepts_prepare, accepts_ends, votes_or_accepts_ends, accepts_nominate, votes_or_accepts_nominate}
-use Rattle.protocol.specs.Passes.{counts}
+use Rattle.protocol.specs.Passes.{has_counter}
 use Rattle.fedvote.specs.declared.claim.Claim.{Claim}
 use Rattle.fedvote.specs.declared.claim.Claim.TheVariants.{Prepare, Commit, Nominate}
 use Rattle.fedvote.specs.declared.question.Question.{Question}
@@ -32,7 +32,7 @@ accepts (Nominate x) = λ s. accepts_nominate s x
 abbrev pub asks : Question → Statement → Bool
 asks (Backs claim) = backs claim.now
 asks (Accepts claim) = accepts claim.now
-asks (HasCounter n) = counts n
+asks (HasCounter n) = has_counter n
 
 -- the kind of the statements that are asked
 abbrev pub kind_asked : Question → Kind

@@ -6,7 +6,7 @@ use Rattle.types.specs.declared.kind.Kind.{Kind}
 use Rattle.types.specs.declared.statement.Statement.{Statement}
 use Rattle.types.specs.declared.statement.Statement.TheVariants.{Nominate, Prepare, Commit, Externalize}
 use Rattle.protocol.specs.States.{below}
-use Rattle.protocol.specs.Candidates.{greatest, is_counted}
+use Rattle.protocol.specs.Candidates.{greatest, has_positive_counter}
 use Rattle.protocol.specs.Views.{Seen}
 
 -- below the bound, where there is one
@@ -20,7 +20,7 @@ next_under bound ts = greatest None (filter (is_under bound) ts)
 
 -- the greatest of what is there and of those of these ballots that are below the bound, with a counter from 1 on
 abbrev pub bettered : Option Ballot → Option Ballot → List Ballot → Option Ballot
-bettered best bound ts = greatest best (filter (is_under bound) (filter is_counted ts))
+bettered best bound ts = greatest best (filter (is_under bound) (filter has_positive_counter ts))
 
 -- the counter of a ballot statement; that of an EXTERNALIZE counts as infinite
 abbrev pub counter_by : Statement → Option ℕ

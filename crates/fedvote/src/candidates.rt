@@ -1,7 +1,7 @@
 //! The ballots that one statement adds to a search.
 
 ghost use Rattle.std.specs.Prelude.{◌≡◌, ◌∷◌, []};
-ghost use Rattle.protocol.specs.Candidates.{committed_by, greatest, is_counted, named_by};
+ghost use Rattle.protocol.specs.Candidates.{committed_by, greatest, has_positive_counter, named_by};
 ghost use Rattle.protocol.specs.States.{ballot_at};
 ghost use Rattle.fedvote.specs.Searching.{bettered, is_under};
 

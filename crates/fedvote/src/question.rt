@@ -2,7 +2,7 @@
 
 ghost use Rattle.std.specs.Prelude.{◌≡◌};
 ghost use Rattle.fedvote.specs.Questions.{asks, kind_asked};
-ghost use Rattle.protocol.specs.Passes.{counts};
+ghost use Rattle.protocol.specs.Passes.{has_counter};
 
 use crate::claim::Claim;
 use types::{Kind, Statement};
@@ -45,7 +45,7 @@ impl<'a> Question<'a> {
 
 /// Whether the ballot counter is at least this one.
 fn has_counter(statement: &Statement, counter: u32) -> bool
-    ensures { result ≡ counts counter statement.now }
+    ensures { result ≡ has_counter counter statement.now }
 {
     match statement {
         Statement::Nominate { .. } => false,

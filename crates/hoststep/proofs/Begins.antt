@@ -4,7 +4,7 @@ use Rattle.std.proofs.lemmas.List.Elements.{All-nil}
 use Rattle.protocol.specs.Hosts.{Config}
 use Rattle.protocol.specs.Runs.{net_after}
 use Rattle.slot.specs.Filings.{AreFiledOuts}
-use Rattle.hoststep.specs.declared.kept.Kept.{Kept}
+use Rattle.hoststep.specs.declared.kept.StoredEntry.{StoredEntry}
 use Rattle.hoststep.specs.declared.outs_list.EntryOuts.{EntryOuts}
 use Rattle.hoststep.specs.Giving.{kept_outs}
 use Rattle.hoststep.specs.Keeping.{AreKept, IsKeptEvent, entry_of}
@@ -21,7 +21,7 @@ begins config = (
     state = record { is = refl; tallied = All-nil (λ (s : Seats). All (IsTallied s.number []) s.seats) };
   },
   (
-    All-nil (λ (x : Kept). IsKeptEvent config.hosts [] x.event × AreFiledOuts [] (kept_outs x.outs)),
+    All-nil (λ (x : StoredEntry). IsKeptEvent config.hosts [] x.event × AreFiledOuts [] (kept_outs x.outs)),
     record {
       ascending = λ i j d l m. absurd (omega (arith, m));
       earlier = All-nil (λ (x : EntryOuts). x.entry < 0);
@@ -30,8 +30,8 @@ begins config = (
   ),
 )
 
-pub fresh-journal : (config : Config) (m : Standing) (lists : List EntryOuts) (xs : List Kept) → m ≡ record { config = config; archive = []; slots = []; events = 0; bytes = 0; opens = 0 } → lists ≡ [] → xs ≡ []
+pub fresh-journal : (config : Config) (m : Standing) (lists : List EntryOuts) (xs : List StoredEntry) → m ≡ record { config = config; archive = []; slots = []; events = 0; bytes = 0; opens = 0 } → lists ≡ [] → xs ≡ []
     → IsJournal (machine_of m) (map entry_of xs) × AreKept m.config.hosts m.archive lists xs
 fresh-journal config m lists xs is fresh none =
     subst (λ (s : Standing). IsJournal (machine_of s) (map entry_of xs) × AreKept s.config.hosts s.archive lists xs) (sym is)
-    (subst (λ (l : List EntryOuts × List Kept). IsJournal (machine_of (record { config = config; archive = []; slots = []; events = 0; bytes = 0; opens = 0 })) (map entry_of l.1) × AreKept config.hosts [] l.0 l.1) (λ i. (sym fresh i, sym none i)) (begins config))
+    (subst (λ (l : List EntryOuts × List StoredEntry). IsJournal (machine_of (record { config = config; archive = []; slots = []; events = 0; bytes = 0; opens = 0 })) (map entry_of l.1) × AreKept config.hosts [] l.0 l.1) (λ i. (sym fresh i, sym none i)) (begins config))

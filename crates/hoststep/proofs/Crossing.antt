@@ -44,7 +44,7 @@ use Rattle.network.specs.contracts.open_slots.OpenSlots as OpenSlots
 use Rattle.network.specs.contracts.network.Network as Network
 use Rattle.hoststep.specs.contracts.event_room.EventRoom as EventRoom
 use Rattle.hoststep.specs.contracts.kept.KeptEvent as KeptEvent
-use Rattle.hoststep.specs.contracts.kept.Kept as Kept
+use Rattle.hoststep.specs.contracts.kept.StoredEntry as StoredEntry
 use Rattle.hoststep.specs.contracts.outs_list.EntryOuts as EntryOuts
 use Rattle.hoststep.specs.contracts.journal.Journal as Journal
 use Rattle.hoststep.specs.contracts.world.World as World
@@ -202,10 +202,10 @@ kept_event_sync = search (sendable, crosses, event_sync, kind.the_field_sync) de
 kept_event_send : IsSend (KeptEvent.the_field.row)
 kept_event_send = search (sendable, crosses, event_send, kind.the_field_send) depth 40
 
-kept_sync : IsSync (Kept.the_row)
+kept_sync : IsSync (StoredEntry.the_row)
 kept_sync = search (sendable, crosses, kept_event_sync) depth 40
 
-kept_send : IsSend (Kept.the_row)
+kept_send : IsSend (StoredEntry.the_row)
 kept_send = search (sendable, crosses, kept_event_send) depth 40
 
 room_sync : IsSync (EventRoom.the_field.row)

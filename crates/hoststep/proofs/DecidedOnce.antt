@@ -8,14 +8,14 @@ use Rattle.types.specs.declared.event.Out.{Out}
 use Rattle.types.specs.declared.event.Out.TheVariants.{ArmNomination, ArmBallot, Emit, Externalized}
 use Rattle.types.specs.Statements.{Sent}
 use Rattle.protocol.specs.Hosts.{Config, Entry}
-use Rattle.protocol.specs.Networks.{Net, Place, Step, act, act_known, effect, emission, known, outs_at, places_at}
+use Rattle.protocol.specs.Networks.{Net, Place, Step, act, act_known, effect, emission, node_where_open, outs_at, places_at}
 use Rattle.protocol.specs.Networks.Reading.{Read, Fault}
-use Rattle.protocol.specs.Networks.Step.{Opens, Closes, Asks, Delivers, Hears, NominationTimes, BallotTimes, Reslices}
-use Rattle.protocol.specs.Nodes.{Node, after_change, answered, change, decided, emitted, is_externalized, outs, step, when}
+use Rattle.protocol.specs.Networks.Step.{Opens, Closes, Proposes, Delivers, Hears, NominationTimerFires, BallotTimerFires, Reslices}
+use Rattle.protocol.specs.Nodes.{Node, after_change, node_and_outs, change, externalization, emission_between, is_externalized, outs, step, when}
 use Rattle.protocol.specs.Runs.{IsRun, state_of}
 use Rattle.protocol.specs.Sameness.{same_sent}
 use Rattle.protocol.specs.States.{counter_of, sent_nomination, sent_vote}
-use Rattle.network.specs.Marks.{place_named}
+use Rattle.network.specs.Marks.{slot_and_node_of}
 use Rattle.hoststep.specs.Deciding.{decided_at, decisions_by, decisions_in, values_in}
 
 abbrev AtMostOne : List Out → Type 0
@@ -46,7 +46,7 @@ ballot-timer : (b : Bool) (n : ℕ) → values_in (when b (ArmBallot n)) ≡ []
 ballot-timer true n = refl
 ballot-timer false n = refl
 
-pub no-values-emitted : (n : Node) (old new : Option Statement) → values_in (emitted n old new) ≡ []
+pub no-values-emitted : (n : Node) (old new : Option Statement) → values_in (emission_between n old new) ≡ []
 no-values-emitted n old None = refl
 no-values-emitted n old (Some s) = go (same_sent old (Some s))
   where
@@ -54,7 +54,7 @@ no-values-emitted n old (Some s) = go (same_sent old (Some s))
     go true = refl
     go false = refl
 
-value : (b : Bool) (x : Option Ballot) → AtMostOne (if b then decided x else [])
+value : (b : Bool) (x : Option Ballot) → AtMostOne (if b then externalization x else [])
 value true None = none-there
 value true (Some x) = one-there
 value false x = none-there
@@ -64,7 +64,7 @@ after-sent a b c d e ha hb hc hd he =
     subst (λ (vs : List (List ℕ)). length vs ≤ 1)
     (sym (after-none (a ++ b ++ c ++ d) e (after-none (a ++ b ++ c) d (after-none (a ++ b) c (after-none a b ha ∙ hb) ∙ hc) ∙ hd))) he
 
-by-node : (old : Node) (new : Option Node) → AtMostOne (answered old new).1
+by-node : (old : Node) (new : Option Node) → AtMostOne (node_and_outs old new).1
 unfolding outs
 by-node old None = none-there
 by-node old (Some new) =
@@ -72,8 +72,8 @@ by-node old (Some new) =
     let is_round = not (new.inputs.round == old.inputs.round) && is_none new.votes.confirmed_prepared in
     let is_now = is_externalized new.votes.phase && not (is_externalized old.votes.phase) in
     after-sent (when is_round (ArmNomination new.inputs.round)) (when is_armed (ArmBallot new.votes.armed))
-    (emitted new (sent_nomination old.votes) (sent_nomination new.votes)) (emitted new (sent_vote old.votes) (sent_vote new.votes))
-    (if is_now then decided new.votes.ballot else [])
+    (emission_between new (sent_nomination old.votes) (sent_nomination new.votes)) (emission_between new (sent_vote old.votes) (sent_vote new.votes))
+    (if is_now then externalization new.votes.ballot else [])
     (round-timer is_round new.inputs.round) (ballot-timer is_armed new.votes.armed)
     (no-values-emitted new (sent_nomination old.votes) (sent_nomination new.votes)) (no-values-emitted new (sent_vote old.votes) (sent_vote new.votes))
     (value is_now new.votes.ballot)
@@ -85,7 +85,7 @@ at-place e (Some p) = by-node p.node (after_change (change p.node e))
 
 by-act : (net : Net) (i u : ℕ) (e : NodeEvent) → AtMostOne (act net i u e).1
 unfolding act
-by-act net i u e = at-place e (known (places_at net.slots i) u)
+by-act net i u e = at-place e (node_where_open (places_at net.slots i) u)
 
 by-hearing : (net : Net) (i u : ℕ) (e : Option Sent) → AtMostOne (act_known net i u e).1
 by-hearing net i u None = none-there
@@ -95,12 +95,12 @@ by-event : (net : Net) (e : Step) → AtMostOne (effect net e).1
 unfolding effect
 by-event net (Opens i) = none-there
 by-event net (Closes i) = none-there
-by-event net (Asks i u x) = by-act net i u (Propose x)
+by-event net (Proposes i u x) = by-act net i u (Propose x)
 by-event net (Delivers u size (Read e)) = by-act net e.slot u (Take e)
 by-event net (Delivers u size (Fault n)) = none-there
-by-event net (Hears i u from kind k) = by-hearing net i u (emission (known (places_at net.slots i) from) kind k)
-by-event net (NominationTimes i u r) = by-act net i u (NominationTimer r)
-by-event net (BallotTimes i u n) = by-act net i u (BallotTimer n)
+by-event net (Hears i u from kind k) = by-hearing net i u (emission (node_where_open (places_at net.slots i) from) kind k)
+by-event net (NominationTimerFires i u r) = by-act net i u (NominationTimer r)
+by-event net (BallotTimerFires i u n) = by-act net i u (BallotTimer n)
 by-event net (Reslices i u q) = by-act net i u (Reslice q)
 
 -- of an entry in a run
@@ -124,7 +124,7 @@ few-each : (entries : List Entry) → ((k : ℕ) (x : Entry) → slice_get entri
 few-each [] each = omega (arith)
 few-each (x ∷ xs) each =
     let rest = few-each xs (λ k y at. each (suc k) y at) in
-    let mine = by-place (place_named x.event) (values_in x.outs) (each 0 x refl) in
+    let mine = by-place (slot_and_node_of x.event) (values_in x.outs) (each 0 x refl) in
     let both = length-append (decisions_in x) (decisions_by xs) in
     omega (arith, rest, mine, both)
 

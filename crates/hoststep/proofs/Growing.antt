@@ -13,10 +13,10 @@ use Rattle.types.specs.declared.event.Out.{Out}
 use Rattle.types.specs.declared.event.Refusal.{Refusal}
 use Rattle.types.specs.declared.event.Refusal.TheVariants.{NoSuchNode, BadEnvelope}
 use Rattle.envstore.specs.Archives.{Keeps}
-use Rattle.protocol.specs.Networks.{Host, Net, Step, effect, first_that, is_hosted, net_step, replied, tests}
+use Rattle.protocol.specs.Networks.{Host, Net, Step, effect, first_that, is_hosted, net_step, state_and_reply, tests}
 use Rattle.protocol.specs.Networks.Reading.{Read, Fault}
 use Rattle.protocol.specs.Networks.Reply.{Done}
-use Rattle.protocol.specs.Networks.Step.{Opens, Closes, Asks, Delivers, Hears, NominationTimes, BallotTimes, Reslices}
+use Rattle.protocol.specs.Networks.Step.{Opens, Closes, Proposes, Delivers, Hears, NominationTimerFires, BallotTimerFires, Reslices}
 use Rattle.protocol.specs.Hosts.{Config, Entry, new_net}
 use Rattle.protocol.specs.Runs.{IsRun, net_after, outs_given, refusal_of, state_of}
 use Rattle.slot.specs.Filings.{AreFiledOuts, IsFiledOut, copies_of, outs_of}
@@ -24,7 +24,7 @@ use Rattle.slot.specs.declared.filed.FiledOut.{FiledOut}
 use Rattle.network.specs.Answers.{IsApplied}
 use Rattle.network.specs.declared.applied.Applied.{Applied}
 use Rattle.network.specs.Standing.{IsStep, Standing, StandsFor, machine_of}
-use Rattle.hoststep.specs.declared.kept.Kept.{Kept}
+use Rattle.hoststep.specs.declared.kept.StoredEntry.{StoredEntry}
 use Rattle.hoststep.specs.declared.outs_list.EntryOuts.{EntryOuts}
 use Rattle.hoststep.specs.Giving.{kept_outs, listed_at, with_outs}
 use Rattle.hoststep.specs.declared.kept.KeptEvent.{KeptEvent}
@@ -68,7 +68,7 @@ pub step-done : (net : Net) (e : Step) (os : List Out) → (net_step net e).1 �
 unfolding net_step
 step-done net e os h = go (first_that (tests net e)) refl h
   where
-    go : (o : Option Refusal) → first_that (tests net e) ≡ o → (replied net e o).1 ≡ Done os → (first_that (tests net e) ≡ None) × (os ≡ (effect net e).1)
+    go : (o : Option Refusal) → first_that (tests net e) ≡ o → (state_and_reply net e o).1 ≡ Done os → (first_that (tests net e) ≡ None) × (os ≡ (effect net e).1)
     go None q k = (q, let z : (effect net e).1 ≡ os = cc in sym z)
     go (Some r) q k = absurd (cc)
 
@@ -76,7 +76,7 @@ step-done net e os h = go (first_that (tests net e)) refl h
 pub readable : (net : Net) (e : Step) → first_that (tests net e) ≡ None → IsReadable e
 readable net (Opens i) h = tt
 readable net (Closes i) h = tt
-readable net (Asks i u x) h = tt
+readable net (Proposes i u x) h = tt
 readable net (Delivers u size (Read e)) h = tt
 readable net (Delivers u size (Fault n)) h = absurd (go (not (is_hosted net u)) h)
   where
@@ -84,8 +84,8 @@ readable net (Delivers u size (Fault n)) h = absurd (go (not (is_hosted net u)) 
     go true k = absurd (cc)
     go false k = absurd (cc)
 readable net (Hears i u from kind k) h = tt
-readable net (NominationTimes i u r) h = tt
-readable net (BallotTimes i u n) h = tt
+readable net (NominationTimerFires i u r) h = tt
+readable net (BallotTimerFires i u n) h = tt
 readable net (Reslices i u q) h = tt
 
 -- of nodes that are not hosted the test of names holds
@@ -101,12 +101,12 @@ passed-both false b c o h = absurd (cc)
 all-hosted : (net : Net) (e : Step) → first_that (tests net e) ≡ None → NamesHosts net.hosts e
 all-hosted net (Opens i) h = tt
 all-hosted net (Closes i) h = tt
-all-hosted net (Asks i u x) h = passed (is_hosted net u) _ h
+all-hosted net (Proposes i u x) h = passed (is_hosted net u) _ h
 all-hosted net (Delivers u size (Read e)) h = passed (is_hosted net u) _ h
 all-hosted net (Delivers u size (Fault n)) h = passed (is_hosted net u) _ h
 all-hosted net (Hears i u from kind k) h = passed-both (is_hosted net u) (is_hosted net from) (u == from) _ h
-all-hosted net (NominationTimes i u r) h = passed (is_hosted net u) _ h
-all-hosted net (BallotTimes i u n) h = passed (is_hosted net u) _ h
+all-hosted net (NominationTimerFires i u r) h = passed (is_hosted net u) _ h
+all-hosted net (BallotTimerFires i u n) h = passed (is_hosted net u) _ h
 all-hosted net (Reslices i u q) h = passed (is_hosted net u) _ h
 
 -- ---- journals
@@ -146,10 +146,10 @@ out-stays old new (FiledOut.ArmBallot n) kept h = tt
 out-stays old new (FiledOut.Emit f) kept h = (kept f h.0, h.1)
 out-stays old new (FiledOut.Externalized x) kept h = tt
 
-abbrev pub IsKeptIn : List Host → List Sent → Kept → Type 0
+abbrev pub IsKeptIn : List Host → List Sent → StoredEntry → Type 0
 IsKeptIn hosts archive x = IsKeptEvent hosts archive x.event × AreFiledOuts archive (kept_outs x.outs)
 
-kept-still : (hosts : List Host) (old new : List Sent) (xs : List Kept) → Keeps old new → All (IsKeptIn hosts old) xs → All (IsKeptIn hosts new) xs
+kept-still : (hosts : List Host) (old new : List Sent) (xs : List StoredEntry) → Keeps old new → All (IsKeptIn hosts old) xs → All (IsKeptIn hosts new) xs
 kept-still hosts old new xs kept all =
     λ k d l. (event-stays hosts old new (get_or xs k d).event kept (all k d l).0, λ j c m. out-stays old new (get_or (kept_outs (get_or xs k d).outs) j c) kept ((all k d l).1 j c m))
 
@@ -160,7 +160,7 @@ below_or_last k n l = elim (cases_Bool (nat_lt k n)) [
 ]
 
 -- what was given out by an entry more is listed by its number
-listed-more : (before : OutsLists) (xs : List Kept) (x : Kept) (outs : Vec FiledOut Global) → AreListed before xs → kept_outs x.outs ≡ outs.items → AreListed (with_outs (length xs) outs before) (xs ++ x ∷ [])
+listed-more : (before : OutsLists) (xs : List StoredEntry) (x : StoredEntry) (outs : Vec FiledOut Global) → AreListed before xs → kept_outs x.outs ≡ outs.items → AreListed (with_outs (length xs) outs before) (xs ++ x ∷ [])
 listed-more before xs x outs h gave =
     let put = put-behind before (length xs) outs h.ascending h.earlier in
     let longer : length (xs ++ x ∷ []) ≡ suc (length xs) = omega (arith, length_push xs x) in
@@ -170,12 +170,12 @@ listed-more before xs x outs h gave =
       listed = λ k d l.
           let within : k < suc (length xs) = subst (λ n. k < n) longer l in
           ⊎_elim
-          (λ (less : k < length xs). put.others k less ∙ h.listed k d less ∙ ap (λ (y : Kept). kept_outs y.outs) (sym (get_or_append_left xs (x ∷ []) d k less)))
-          (λ (last : k ≡ length xs). ap (listed_at (with_outs (length xs) outs before)) last ∙ put.here ∙ sym gave ∙ ap (λ (y : Kept). kept_outs y.outs) (sym (ap (λ n. get_or (xs ++ x ∷ []) n d) last ∙ get_or_push xs x d (length xs) refl)))
+          (λ (less : k < length xs). put.others k less ∙ h.listed k d less ∙ ap (λ (y : StoredEntry). kept_outs y.outs) (sym (get_or_append_left xs (x ∷ []) d k less)))
+          (λ (last : k ≡ length xs). ap (listed_at (with_outs (length xs) outs before)) last ∙ put.here ∙ sym gave ∙ ap (λ (y : StoredEntry). kept_outs y.outs) (sym (ap (λ n. get_or (xs ++ x ∷ []) n d) last ∙ get_or_push xs x d (length xs) refl)))
           (below_or_last k (length xs) within);
     }
 
-pub kept-more : (hosts : List Host) (old new : List Sent) (before : OutsLists) (xs : List Kept) (x : Kept) (outs : Vec FiledOut Global) → Keeps old new → AreKept hosts old before xs
+pub kept-more : (hosts : List Host) (old new : List Sent) (before : OutsLists) (xs : List StoredEntry) (x : StoredEntry) (outs : Vec FiledOut Global) → Keeps old new → AreKept hosts old before xs
     → IsKeptEvent hosts new x.event → kept_outs x.outs ≡ outs.items → AreFiledOuts new (kept_outs x.outs) → AreKept hosts new (with_outs (length xs) outs before) (xs ++ x ∷ [])
 kept-more hosts old new before xs x outs kept all event gave filed = (
   All-append (IsKeptIn hosts new) xs (x ∷ []) (kept-still hosts old new xs kept all.0) (All-cons (IsKeptIn hosts new) x [] (event, filed) (All-nil (IsKeptIn hosts new))),
@@ -184,41 +184,41 @@ kept-more hosts old new before xs x outs kept all event gave filed = (
 
 -- ---- an event that is entered
 -- the entries are a run that leads to the machine, and the hosts, the archive and the lists have what they keep
-abbrev pub Stands : Standing → OutsLists → List Kept → Type 0
+abbrev pub Stands : Standing → OutsLists → List StoredEntry → Type 0
 Stands m lists xs = IsJournal (machine_of m) (map entry_of xs) × AreKept m.config.hosts m.archive lists xs
 
-abbrev pub log_of : Standing → List Kept → Log
+abbrev pub log_of : Standing → List StoredEntry → Log
 log_of m xs = record { config = m.config; entries = map entry_of xs }
 
-next-of : (old new : Standing) (lists : OutsLists) (xs : List Kept) (e : Step) (count : ℕ) (a : Applied) → Stands old lists xs → IsApplied old e count new a → IsNext old.config (map entry_of xs) (record { event = e; outs = outs_of a.outs.items })
+next-of : (old new : Standing) (lists : OutsLists) (xs : List StoredEntry) (e : Step) (count : ℕ) (a : Applied) → Stands old lists xs → IsApplied old e count new a → IsNext old.config (map entry_of xs) (record { event = e; outs = outs_of a.outs.items })
 next-of old new lists xs e count a h d = applied-next old new (map entry_of xs) e (outs_of a.outs.items) h.0 d.step
 
-pub is-readable : (old new : Standing) (lists : OutsLists) (xs : List Kept) (e : Step) (count : ℕ) (a : Applied) → Stands old lists xs → IsApplied old e count new a → IsReadable e
+pub is-readable : (old new : Standing) (lists : OutsLists) (xs : List StoredEntry) (e : Step) (count : ℕ) (a : Applied) → Stands old lists xs → IsApplied old e count new a → IsReadable e
 is-readable old new lists xs e count a h d = readable (state_of old.config (map entry_of xs)) e (next-of old new lists xs e count a h d).0
 
-pub names-hosts : (old new : Standing) (config : Config) (lists : OutsLists) (xs : List Kept) (e : Step) (count : ℕ) (a : Applied) → Stands old lists xs → IsApplied old e count new a → config ≡ new.config → new.config ≡ old.config → NamesHosts config.hosts e
+pub names-hosts : (old new : Standing) (config : Config) (lists : OutsLists) (xs : List StoredEntry) (e : Step) (count : ℕ) (a : Applied) → Stands old lists xs → IsApplied old e count new a → config ≡ new.config → new.config ≡ old.config → NamesHosts config.hosts e
 names-hosts old new config lists xs e count a h d is same =
     let net = state_of old.config (map entry_of xs) in
     subst (λ (k : Config). NamesHosts k.hosts e) (sym (is ∙ same)) (subst (λ (n : Net). NamesHosts n.hosts e) h.0.state.is (all-hosted net e (next-of old new lists xs e count a h d).0))
 
-pub entered-with : (l : Log) (old new : Standing) (lists : OutsLists) (xs : List Kept) (e : Step) (count : ℕ) (a : Applied) → log_of old xs ≡ l → Stands old lists xs → IsApplied old e count new a → IsEnteredWith l e count (record { marks = a.marks; copies = a.copies })
+pub entered-with : (l : Log) (old new : Standing) (lists : OutsLists) (xs : List StoredEntry) (e : Step) (count : ℕ) (a : Applied) → log_of old xs ≡ l → Stands old lists xs → IsApplied old e count new a → IsEnteredWith l e count (record { marks = a.marks; copies = a.copies })
 entered-with l old new lists xs e count a is h d =
     let next = next-of old new lists xs e count a h d in
     subst (λ (k : Log). IsEnteredWith k e count (record { marks = a.marks; copies = a.copies })) is
     (record { free = next.0; marks = d.marks (state_of old.config (map entry_of xs)) h.0.state; copies = d.copies ∙ ap (λ (os : List Out). copies_of count os) next.1 })
 
 -- what an entry more is made of: the event, and what was given out
-pub record IsEntryFor (e : Step) (outs : List FiledOut) (x : Kept) : Type 0 where
+pub record IsEntryFor (e : Step) (outs : List FiledOut) (x : StoredEntry) : Type 0 where
   pub step : step_in x.event ≡ e
   pub gave : kept_outs x.outs ≡ outs
 
-more : (xs ys zs : List Kept) (x : Kept) (e : Step) (os : List FiledOut) → ys ≡ xs → zs ≡ ys ++ x ∷ [] → IsEntryFor e os x → map entry_of zs ≡ map entry_of xs ++ record { event = e; outs = outs_of os } ∷ []
+more : (xs ys zs : List StoredEntry) (x : StoredEntry) (e : Step) (os : List FiledOut) → ys ≡ xs → zs ≡ ys ++ x ∷ [] → IsEntryFor e os x → map entry_of zs ≡ map entry_of xs ++ record { event = e; outs = outs_of os } ∷ []
 more xs ys zs x e os same is entry =
-    ap (map entry_of) (is ∙ ap (λ (l : List Kept). l ++ x ∷ []) same) ∙ map-append entry_of xs (x ∷ [])
+    ap (map entry_of) (is ∙ ap (λ (l : List StoredEntry). l ++ x ∷ []) same) ∙ map-append entry_of xs (x ∷ [])
     ∙ ap (λ (s : Step). map entry_of xs ++ record { event = s; outs = outs_of (kept_outs x.outs) } ∷ []) entry.step
     ∙ ap (λ (l : List FiledOut). map entry_of xs ++ record { event = e; outs = outs_of l } ∷ []) entry.gave
 
-pub stands-more : (old new : Standing) (hosting : Config) (before middle after : OutsLists) (n : ℕ) (xs ys zs : List Kept) (x : Kept) (e : Step) (count : ℕ) (a : Applied) → Stands old before xs → IsApplied old e count new a → hosting ≡ new.config → new.config ≡ old.config
+pub stands-more : (old new : Standing) (hosting : Config) (before middle after : OutsLists) (n : ℕ) (xs ys zs : List StoredEntry) (x : StoredEntry) (e : Step) (count : ℕ) (a : Applied) → Stands old before xs → IsApplied old e count new a → hosting ≡ new.config → new.config ≡ old.config
     → Keeps old.archive new.archive → middle ≡ before → n ≡ length ys → after ≡ with_outs n a.outs middle → ys ≡ xs → zs ≡ ys ++ x ∷ [] → IsEntryFor e a.outs.items x → IsKeptEvent hosting.hosts new.archive x.event → Stands new after zs
 stands-more old new hosting before middle after n xs ys zs x e count a h d there config kept stays counted put same is entry filed =
     let earlier : AreKept new.config.hosts old.archive before xs = subst (λ (k : Config). AreKept k.hosts old.archive before xs) (sym config) h.1 in
@@ -226,10 +226,10 @@ stands-more old new hosting before middle after n xs ys zs x e count a h d there
     let outs : AreFiledOuts new.archive (kept_outs x.outs) = subst (λ (os : List FiledOut). AreFiledOuts new.archive os) (sym entry.gave) d.outs in
     let lists : after ≡ with_outs (length xs) a.outs before = put ∙ ap₂ (λ (i : ℕ) (l : OutsLists). with_outs i a.outs l) (counted ∙ ap length same) stays in (
       subst (λ (es : List Entry). IsJournal (machine_of new) es) (sym (more xs ys zs x e a.outs.items same is entry)) (journal-grows old new (map entry_of xs) e (outs_of a.outs.items) h.0 d.step config),
-      subst (λ (l : OutsLists × List Kept). AreKept new.config.hosts new.archive l.0 l.1) (λ i. (sym lists i, sym (is ∙ ap (λ (l : List Kept). l ++ x ∷ []) same) i)) (kept-more new.config.hosts old.archive new.archive before xs x a.outs kept earlier mine entry.gave outs),
+      subst (λ (l : OutsLists × List StoredEntry). AreKept new.config.hosts new.archive l.0 l.1) (λ i. (sym lists i, sym (is ∙ ap (λ (l : List StoredEntry). l ++ x ∷ []) same) i)) (kept-more new.config.hosts old.archive new.archive before xs x a.outs kept earlier mine entry.gave outs),
     )
 
-pub log-grows : (l : Log) (old new : Standing) (before : OutsLists) (xs ys zs : List Kept) (x : Kept) (e : Step) (count : ℕ) (a : Applied) → log_of old xs ≡ l → Stands old before xs → IsApplied old e count new a → new.config ≡ old.config
+pub log-grows : (l : Log) (old new : Standing) (before : OutsLists) (xs ys zs : List StoredEntry) (x : StoredEntry) (e : Step) (count : ℕ) (a : Applied) → log_of old xs ≡ l → Stands old before xs → IsApplied old e count new a → new.config ≡ old.config
     → ys ≡ xs → zs ≡ ys ++ x ∷ [] → IsEntryFor e a.outs.items x → log_of new zs ≡ extended l e (outs_after l e)
 log-grows l old new before xs ys zs x e count a of h d config same is entry =
     let next = next-of old new before xs e count a h d in

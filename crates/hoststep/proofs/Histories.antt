@@ -8,9 +8,9 @@ use Rattle.types.specs.declared.event.Event.{Event}
 use Rattle.types.specs.declared.event.Out.{Out}
 use Rattle.types.specs.declared.event.Refusal.{Refusal}
 use Rattle.types.specs.declared.event.Refusal.TheVariants.{NoMemory}
-use Rattle.protocol.specs.Networks.{Net, Reply, Step, effect, first_that, net_step, replied, tests}
+use Rattle.protocol.specs.Networks.{Net, Reply, Step, effect, first_that, net_step, state_and_reply, tests}
 use Rattle.protocol.specs.Networks.Reply.{Done, Refused}
-use Rattle.protocol.specs.Hosts.{Config, Entry, History, entered, entries, journal, net_at, nets, new_net, steps_of}
+use Rattle.protocol.specs.Hosts.{Config, Entry, History, journal_with, entries, journal, net_at, nets, new_net, steps_of}
 use Rattle.protocol.specs.Runs.{net_after, refusal_of, state_of}
 use Rattle.protocol.proofs.Runs.Hosts.{applied-journal, steps_to}
 use Rattle.network.specs.Decoding.{reading, step_of}
@@ -53,17 +53,17 @@ steps-snoc g (c ∷ cs) j e = go (c.0 == g) (steps-snoc g cs j e)
     go true ih = ap (λ xs. c.1 ∷ xs) ih
     go false ih = ih
 
-pub journal-snoc : (es : List Step) (net : Net) (e : Step) → journal net (es ++ e ∷ []) ≡ journal net es ++ entered e (net_step (net_after net (journal net es)) e).1 []
+pub journal-snoc : (es : List Step) (net : Net) (e : Step) → journal net (es ++ e ∷ []) ≡ journal net es ++ journal_with e (net_step (net_after net (journal net es)) e).1 []
 unfolding journal net_after net_step
 journal-snoc [] net e = refl
 journal-snoc (x ∷ xs) net e = go (first_that (tests net x)) refl (λ n. journal-snoc xs n e)
   where
-    go : (o : Option Refusal) → first_that (tests net x) ≡ o → ((n : Net) → journal n (xs ++ e ∷ []) ≡ journal n xs ++ entered e (net_step (net_after n (journal n xs)) e).1 [])
-        → entered x (replied net x o).1 (journal (replied net x o).0 (xs ++ e ∷ [])) ≡ entered x (replied net x o).1 (journal (replied net x o).0 xs) ++ entered e (net_step (net_after net (entered x (replied net x o).1 (journal (replied net x o).0 xs))) e).1 []
+    go : (o : Option Refusal) → first_that (tests net x) ≡ o → ((n : Net) → journal n (xs ++ e ∷ []) ≡ journal n xs ++ journal_with e (net_step (net_after n (journal n xs)) e).1 [])
+        → journal_with x (state_and_reply net x o).1 (journal (state_and_reply net x o).0 (xs ++ e ∷ [])) ≡ journal_with x (state_and_reply net x o).1 (journal (state_and_reply net x o).0 xs) ++ journal_with e (net_step (net_after net (journal_with x (state_and_reply net x o).1 (journal (state_and_reply net x o).0 xs))) e).1 []
     go (Some r) q ih = ih net
     go None q ih =
-        let next : Net = (replied net x None).0 in
-        ap (λ ys. record { event = x; outs = (effect net x).1 } ∷ ys) (ih next ∙ ap (λ (p : Option Refusal). journal next xs ++ entered e (net_step (net_after (replied net x p).0 (journal next xs)) e).1 []) (sym q))
+        let next : Net = (state_and_reply net x None).0 in
+        ap (λ ys. record { event = x; outs = (effect net x).1 } ∷ ys) (ih next ∙ ap (λ (p : Option Refusal). journal next xs ++ journal_with e (net_step (net_after (state_and_reply net x p).0 (journal next xs)) e).1 []) (sym q))
 
 -- what is answered is the network's reply
 abbrev replies : Log → Step → Reply
@@ -71,11 +71,11 @@ replies l e = (net_step (state_of l.config l.entries) e).1
 
 done : (l : Log) (e : Step) (os : List Out) → IsEntered l e os → replies l e ≡ Done os
 unfolding net_step
-done l e os h = ap (λ o. (replied (state_of l.config l.entries) e o).1) h.0 ∙ ap Done (sym h.1)
+done l e os h = ap (λ o. (state_and_reply (state_of l.config l.entries) e o).1) h.0 ∙ ap Done (sym h.1)
 
 refused : (l : Log) (e : Step) (r : Refusal) → refusal_of l.config l.entries e ≡ Some r → replies l e ≡ Refused r
 unfolding net_step
-refused l e r h = ap (λ o. (replied (state_of l.config l.entries) e o).1) h
+refused l e r h = ap (λ o. (state_and_reply (state_of l.config l.entries) e o).1) h
 
 -- ---- journals after an event
 set-configs : (ls : List Log) (g : ℕ) (l m : Log) → log_at ls g ≡ Some l → m.config ≡ l.config → map (λ k. k.config) (logs_set m ls) ≡ map (λ k. k.config) ls
@@ -128,14 +128,14 @@ stays h ls g event j l told at other =
 
 -- what the network of the event has then
 goes-on : (h : History) (ls : List Log) (g : ℕ) (event : Event) (l : Log) → IsToldBy h ls → log_at ls g ≡ Some l
-    → l.entries ++ entered (step_of event) (replies l (step_of event)) [] ≡ entries reading (and_then h g event) g
+    → l.entries ++ journal_with (step_of event) (replies l (step_of event)) [] ≡ entries reading (and_then h g event) g
 goes-on h ls g event l told at =
     let e = step_of event in
     let net = new_net l.config in
     let steps = steps_to g (steps_of reading h.calls) in
     let is : l.entries ≡ journal net steps = told.entries g l at ∙ history-journal h ls g l told.configs at in
     let self : (g == g) ≡ true = equal g g refl in
-    ap (λ (xs : List Entry). xs ++ entered e (net_step (net_after net xs) e).1 []) is
+    ap (λ (xs : List Entry). xs ++ journal_with e (net_step (net_after net xs) e).1 []) is
     ∙ sym (journal-snoc steps net e)
     ∙ ap (λ b. journal net (steps ++ (if b then e ∷ [] else []))) (sym self)
     ∙ sym (entries-then h ls g event g l told.configs at)
@@ -162,7 +162,7 @@ told-then h ls new g event r told answer memory = go (log_at ls g) refl r memory
     })
       where
         own : (extended l e os).entries ≡ entries reading (and_then h g event) g
-        own = ap (λ (p : Reply). l.entries ++ entered e p []) (sym (done l e os entered_is)) ∙ goes-on h ls g event l told at
+        own = ap (λ (p : Reply). l.entries ++ journal_with e p []) (sym (done l e os entered_is)) ∙ goes-on h ls g event l told at
 
         each : (j : ℕ) (m : Log) → log_at (logs_set (extended l e os) ls) j ≡ Some m → (b : Bool) → (g == j) ≡ b → m.entries ≡ entries reading (and_then h g event) j
         each j m found true y =
@@ -180,7 +180,7 @@ told-then h ls new g event r told answer memory = go (log_at ls g) refl r memory
 
             by : IsRefused l e x → m.entries ≡ entries reading (and_then h g event) g
             by (inl none) = absurd (memory (ap (λ (z : Refusal). Err z) none))
-            by (inr first) = sym (ap (λ (z : Log). z.entries) q) ∙ sym (append-nil l.entries) ∙ ap (λ (p : Reply). l.entries ++ entered e p []) (sym (refused l e x first)) ∙ goes-on h ls g event l told at
+            by (inr first) = sym (ap (λ (z : Log). z.entries) q) ∙ sym (append-nil l.entries) ∙ ap (λ (p : Reply). l.entries ++ journal_with e p []) (sym (refused l e x first)) ∙ goes-on h ls g event l told at
 
 pub told-answered : (h : History) (ls new : List Log) (g : ℕ) (event : Event) (r : Result (Vec Out Global) Refusal) → IsToldBy h ls → IsAnswered ls g event r new → r ≢ Err NoMemory → IsToldBy (and_then h g event) new
 told-answered h ls new g event r told answer memory = told-then h ls new g event (items_of r) told answer (go r memory)

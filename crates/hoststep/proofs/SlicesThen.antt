@@ -5,9 +5,9 @@ use Rattle.std.proofs.lemmas.Bool.{and_parts, eqb-true, false≢true}
 use Rattle.types.specs.Trees.{Slices}
 use Rattle.types.specs.declared.event.Refusal.{Refusal}
 use Rattle.types.specs.declared.event.Refusal.TheVariants.{NoSuchNode, SlotNotOpen}
-use Rattle.protocol.specs.Networks.{Net, Place, Slot, Step, counted, effect, first_that, is_full, is_hosted, is_open, known, net_step, opened, places_at, replied, size_of, slices_of, source, tests}
-use Rattle.protocol.specs.Networks.Step.{Opens, Closes, Asks, Delivers, Hears, NominationTimes, BallotTimes, Reslices}
-use Rattle.protocol.specs.Hosts.{Config, Entry, entered, journal, new_net}
+use Rattle.protocol.specs.Networks.{Net, Place, Slot, Step, with_draw, effect, first_that, room_test, is_hosted, is_open, node_where_open, net_step, nodes_of_new_slot, places_at, state_and_reply, size_of, slices_of, source, tests}
+use Rattle.protocol.specs.Networks.Step.{Opens, Closes, Proposes, Delivers, Hears, NominationTimerFires, BallotTimerFires, Reslices}
+use Rattle.protocol.specs.Hosts.{Config, Entry, journal_with, journal, new_net}
 use Rattle.protocol.specs.Runs.{IsRun, net_after, state_of}
 use Rattle.protocol.specs.Reslices.{slices_at_end, slices_next, slices_since}
 use Rattle.protocol.proofs.Networks.Effects.{effect-keeps, numbers, opened_after}
@@ -33,7 +33,7 @@ still-open net e i same = open-numbers (effect net e).0.slots i ∙ ap (list_any
 
 -- new slices that nothing refuses come to an open slot
 open-there : (net : Net) (j w : ℕ) (new : Slices) → first_that (tests net (Reslices j w new)) ≡ None → is_open net j ≡ true
-open-there net j w new h = go (is_hosted net w) (is_open net j) (first_that (is_full net (source net.roster (Reslices j w new)) ∷ [])) h
+open-there net j w new h = go (is_hosted net w) (is_open net j) (first_that (room_test net (source net.roster (Reslices j w new)) ∷ [])) h
   where
     go : (a b : Bool) (o : Option Refusal) → (if not a then Some NoSuchNode else if not b then Some SlotNotOpen else o) ≡ None → b ≡ true
     go true true o k = refl
@@ -51,7 +51,7 @@ module _ (i u : ℕ) (q : Slices) where
   rests-effect now net (Opens j) free h = go (j == i) refl
     where
       slot : Slot
-      slot = record { number = j; places = opened net.hosts j }
+      slot = record { number = j; places = nodes_of_new_slot net.hosts j }
 
       go : (b : Bool) → (j == i) ≡ b → is_some (places_at (net.slots ++ slot ∷ []) i) ≡ false → (if b then q else now) ≡ q
       go true y k = refl
@@ -61,11 +61,11 @@ module _ (i u : ℕ) (q : Slices) where
       go : (b : Bool) → (j == i) ≡ b → is_some (places_at (filter (λ s. not (s.number == j)) net.slots) i) ≡ false → (if b then q else now) ≡ q
       go true y k = refl
       go false o k = h (ap is_some (sym (places_at-drop_other net.slots j i o)) ∙ k)
-  rests-effect now net (Asks j w x) free h = λ k. h (sym (still-open net (Asks j w x) i refl) ∙ k)
+  rests-effect now net (Proposes j w x) free h = λ k. h (sym (still-open net (Proposes j w x) i refl) ∙ k)
   rests-effect now net (Delivers w size d) free h = λ k. h (sym (still-open net (Delivers w size d) i refl) ∙ k)
   rests-effect now net (Hears j w from kind n) free h = λ k. h (sym (still-open net (Hears j w from kind n) i refl) ∙ k)
-  rests-effect now net (NominationTimes j w r) free h = λ k. h (sym (still-open net (NominationTimes j w r) i refl) ∙ k)
-  rests-effect now net (BallotTimes j w n) free h = λ k. h (sym (still-open net (BallotTimes j w n) i refl) ∙ k)
+  rests-effect now net (NominationTimerFires j w r) free h = λ k. h (sym (still-open net (NominationTimerFires j w r) i refl) ∙ k)
+  rests-effect now net (BallotTimerFires j w n) free h = λ k. h (sym (still-open net (BallotTimerFires j w n) i refl) ∙ k)
   rests-effect now net (Reslices j w new) free h = λ k. go ((j == i) && (w == u)) refl (sym (still-open net (Reslices j w new) i refl) ∙ k)
     where
       go : (b : Bool) → ((j == i) && (w == u)) ≡ b → is_open net i ≡ false → (if b then new else now) ≡ q
@@ -83,13 +83,13 @@ module _ (i u : ℕ) (q : Slices) where
       Claim : Net → Slices → List Entry → Type 0
       Claim n x run = Rests (slices_since i u q x run) (net_after n run)
 
-      go : (o : Option Refusal) → first_that (tests net e) ≡ o → ((n : Net) (x : Slices) → Rests x n → Claim n x (journal n es)) → Claim net now (entered e (replied net e o).1 (journal (replied net e o).0 es))
+      go : (o : Option Refusal) → first_that (tests net e) ≡ o → ((n : Net) (x : Slices) → Rests x n → Claim n x (journal n es)) → Claim net now (journal_with e (state_and_reply net e o).1 (journal (state_and_reply net e o).0 es))
       go (Some r) z ih = ih net now h
       go None z ih =
-          let after : Net = counted (source net.roster e) (size_of e) (effect net e).0 in
+          let after : Net = with_draw (source net.roster e) (size_of e) (effect net e).0 in
           let run = journal after es in
           let now_then = slices_next i u q now e in
-          subst (λ (n : Net). Rests (slices_since i u q now_then run) n) (ap (λ o. net_after (replied net e o).0 run) (sym z)) (ih after now_then (rests-effect now net e z h))
+          subst (λ (n : Net). Rests (slices_since i u q now_then run) n) (ap (λ o. net_after (state_and_reply net e o).0 run) (sym z)) (ih after now_then (rests-effect now net e z h))
 
 -- after a run that leaves the slot closed, the slices are the configured ones
 closed-then : (config : Config) (run : List Entry) (i u : ℕ) (q : Slices) → IsRun config run → is_open (state_of config run) i ≡ false → slices_at_end i u q run ≡ q
@@ -102,9 +102,9 @@ closed-then config run i u q is closed =
 -- ---- as they are looked up
 -- those of the node at an open slot are its slices then
 pub open_then : (config : Config) (run : List Entry) (i u : ℕ) (now : Slices) → IsRun config run → Some now ≡ slices_at (state_of config run) i u → true ≡ (is_open (state_of config run) i && is_some (slices_of config.hosts u)) → Some now ≡ slices_then config.hosts i run u
-open_then config run i u now is there hosted = go (slices_of config.hosts u) (known (places_at (state_of config run).slots i) u) refl refl there hosted
+open_then config run i u now is there hosted = go (slices_of config.hosts u) (node_where_open (places_at (state_of config run).slots i) u) refl refl there hosted
   where
-    go : (o : Option Slices) (p : Option Place) → slices_of config.hosts u ≡ o → known (places_at (state_of config run).slots i) u ≡ p → Some now ≡ option_map (λ x. x.node.slices) p → true ≡ (is_open (state_of config run) i && is_some o) → Some now ≡ option_map (λ q. slices_at_end i u q run) o
+    go : (o : Option Slices) (p : Option Place) → slices_of config.hosts u ≡ o → node_where_open (places_at (state_of config run).slots i) u ≡ p → Some now ≡ option_map (λ x. x.node.slices) p → true ≡ (is_open (state_of config run) i && is_some o) → Some now ≡ option_map (λ q. slices_at_end i u q run) o
     go None p a b c d = absurd (false≢true (and_parts (is_open (state_of config run) i) false (sym d)).1)
     go (Some q) None a b c d = absurd (cc)
     go (Some q) (Some p) a b c d = c ∙ ap (λ (s : Slices). Some s) (slices_follow_runs config run i u q p is a b)

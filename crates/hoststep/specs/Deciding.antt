@@ -3,7 +3,7 @@ use Rattle.std.specs.Prelude.{ℕ, List, [], ◌∷◌, ◌++◌, drop, map, sli
 use Rattle.types.specs.declared.event.Out.{Out}
 use Rattle.types.specs.declared.event.Out.TheVariants.{ArmNomination, ArmBallot, Emit, Externalized}
 use Rattle.protocol.specs.Hosts.{Entry}
-use Rattle.network.specs.Marks.{place_named}
+use Rattle.network.specs.Marks.{slot_and_node_of}
 use Rattle.hoststep.specs.declared.lent_decision.LentDecision.{LentDecision}
 
 -- a node externalized a value for a slot
@@ -27,7 +27,7 @@ decided_at (Some at) xs = map (λ x. record { slot = at.0; node = at.1; value = 
 
 -- all that an entry decided: each value that it gives out, at the slot and by the node of its event
 abbrev pub decisions_in : Entry → List Decided
-decisions_in x = decided_at (place_named x.event) (values_in x.outs)
+decisions_in x = decided_at (slot_and_node_of x.event) (values_in x.outs)
 
 -- nothing where there is no entry
 abbrev pub decisions_in_any : Option Entry → List Decided

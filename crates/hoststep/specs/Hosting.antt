@@ -1,7 +1,7 @@
 -- Hosted nodes by their places.
 use Rattle.std.specs.Prelude.{◌≡◌, ℕ, true, List, Some, is_some, option_map, slice_get, ⊤}
 use Rattle.protocol.specs.Networks.{Host, Step, slices_of}
-use Rattle.protocol.specs.Networks.Step.{Opens, Closes, Asks, Delivers, Hears, NominationTimes, BallotTimes, Reslices}
+use Rattle.protocol.specs.Networks.Step.{Opens, Closes, Proposes, Delivers, Hears, NominationTimerFires, BallotTimerFires, Reslices}
 use Rattle.hoststep.specs.declared.host_place.HostPlace.{HostPlace}
 
 -- the name of the node that stands there
@@ -20,9 +20,9 @@ IsHostName hosts u = is_some (slices_of hosts u) ≡ true
 abbrev pub NamesHosts : List Host → Step → Type 0
 NamesHosts hosts (Opens i) = ⊤
 NamesHosts hosts (Closes i) = ⊤
-NamesHosts hosts (Asks i u x) = IsHostName hosts u
+NamesHosts hosts (Proposes i u x) = IsHostName hosts u
 NamesHosts hosts (Delivers u size d) = IsHostName hosts u
 NamesHosts hosts (Hears i u from kind k) = IsHostName hosts u × IsHostName hosts from
-NamesHosts hosts (NominationTimes i u r) = IsHostName hosts u
-NamesHosts hosts (BallotTimes i u n) = IsHostName hosts u
+NamesHosts hosts (NominationTimerFires i u r) = IsHostName hosts u
+NamesHosts hosts (BallotTimerFires i u n) = IsHostName hosts u
 NamesHosts hosts (Reslices i u q) = IsHostName hosts u

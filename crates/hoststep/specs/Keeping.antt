@@ -6,7 +6,7 @@ use Rattle.codec.specs.Spelling.{spelling}
 use Rattle.protocol.specs.Hosts.{Entry}
 use Rattle.protocol.specs.Networks.{Host, Step}
 use Rattle.protocol.specs.Networks.Reading.{Read, Fault}
-use Rattle.protocol.specs.Networks.Step.{Opens, Closes, Delivers, Hears, NominationTimes, BallotTimes}
+use Rattle.protocol.specs.Networks.Step.{Opens, Closes, Delivers, Hears, NominationTimerFires, BallotTimerFires}
 use Rattle.envstore.specs.Archives.{IsFiled, sent_of}
 use Rattle.slot.specs.Filings.{AreFiledOuts, outs_of}
 use Rattle.protocol.specs.Sets.{IsAscending}
@@ -14,7 +14,7 @@ use Rattle.network.specs.Decoding.{step_of}
 use Rattle.hoststep.specs.Hosting.{IsHostAt, host_name}
 use Rattle.hoststep.specs.Boxing.{is_large}
 use Rattle.hoststep.specs.Giving.{entry_number, kept_outs, listed_at}
-use Rattle.hoststep.specs.declared.kept.Kept.{Kept}
+use Rattle.hoststep.specs.declared.kept.StoredEntry.{StoredEntry}
 use Rattle.hoststep.specs.declared.kept.LentEntry.{LentEntry}
 use Rattle.hoststep.specs.declared.outs_list.EntryOuts.{EntryOuts}
 use Rattle.hoststep.specs.declared.kept.KeptEvent.{KeptEvent}
@@ -26,11 +26,11 @@ step_in (OpenSlot i) = Opens i
 step_in (CloseSlot i) = Closes i
 step_in (Deliver u size f) = Delivers (host_name u) size (Read (sent_of f))
 step_in (Hear u from kind i k) = Hears i (host_name u) (host_name from) kind k
-step_in (NominationTimer u r i) = NominationTimes i (host_name u) r
-step_in (BallotTimer u n i) = BallotTimes i (host_name u) n
+step_in (NominationTimer u r i) = NominationTimerFires i (host_name u) r
+step_in (BallotTimer u n i) = BallotTimerFires i (host_name u) n
 step_in (Large b) = step_of (box_value b)
 
-abbrev pub entry_of : Kept → Entry
+abbrev pub entry_of : StoredEntry → Entry
 entry_of x = record { event = step_in x.event; outs = outs_of (kept_outs x.outs) }
 
 -- a delivery's bytes are an envelope
@@ -54,13 +54,13 @@ IsKeptEvent hosts archive (BallotTimer u n i) = IsHostAt hosts u
 IsKeptEvent hosts archive (Large b) = is_large (box_value b) ≡ true
 
 -- what each entry gave out is listed by its number: the lists ascend, and are of these entries
-pub record AreListed (lists : List EntryOuts) (xs : List Kept) : Type 0 where
+pub record AreListed (lists : List EntryOuts) (xs : List StoredEntry) : Type 0 where
   pub ascending : IsAscending (map entry_number lists)
   pub earlier : All (λ x. x.entry < length xs) lists
-  pub listed : (k : ℕ) (d : Kept) → k < length xs → listed_at lists k ≡ kept_outs (get_or xs k d).outs
+  pub listed : (k : ℕ) (d : StoredEntry) → k < length xs → listed_at lists k ≡ kept_outs (get_or xs k d).outs
 
 -- that of each entry; the archive has what was emitted, and what was given out is listed
-abbrev pub AreKept : List Host → List Sent → List EntryOuts → List Kept → Type 0
+abbrev pub AreKept : List Host → List Sent → List EntryOuts → List StoredEntry → Type 0
 AreKept hosts archive lists xs = All (λ x. IsKeptEvent hosts archive x.event × AreFiledOuts archive (kept_outs x.outs)) xs × AreListed lists xs
 
 -- an entry that is read in place

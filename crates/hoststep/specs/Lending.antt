@@ -4,7 +4,7 @@ use Rattle.types.specs.declared.event.Out.{Out}
 use Rattle.protocol.specs.Hosts.{Entry}
 use Rattle.protocol.specs.Networks.{Step}
 use Rattle.protocol.specs.Networks.Reading.{Read}
-use Rattle.protocol.specs.Networks.Step.{Opens, Closes, Asks, Delivers, Hears, NominationTimes, BallotTimes, Reslices}
+use Rattle.protocol.specs.Networks.Step.{Opens, Closes, Proposes, Delivers, Hears, NominationTimerFires, BallotTimerFires, Reslices}
 use Rattle.hoststep.specs.declared.lent_event.LentEvent.{LentEvent}
 use Rattle.hoststep.specs.declared.lent_event.LentEvent.TheVariants.{OpenSlot, CloseSlot, Propose, Deliver, Hear, NominationTimer, BallotTimer, Reslice}
 
@@ -12,11 +12,11 @@ use Rattle.hoststep.specs.declared.lent_event.LentEvent.TheVariants.{OpenSlot, C
 abbrev pub lent_step : LentEvent → Step
 lent_step (OpenSlot i) = Opens i
 lent_step (CloseSlot i) = Closes i
-lent_step (Propose i u x) = Asks i u x.now
+lent_step (Propose i u x) = Proposes i u x.now
 lent_step (Deliver u size e) = Delivers u size (Read e.now)
 lent_step (Hear i u from kind k) = Hears i u from kind k
-lent_step (NominationTimer i u r) = NominationTimes i u r
-lent_step (BallotTimer i u n) = BallotTimes i u n
+lent_step (NominationTimer i u r) = NominationTimerFires i u r
+lent_step (BallotTimer i u n) = BallotTimerFires i u n
 lent_step (Reslice i u q) = Reslices i u q.now
 
 -- what an entry gave out; nothing where there is none

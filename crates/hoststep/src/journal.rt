@@ -12,7 +12,7 @@ ghost use Rattle.hoststep.specs.Deciding.{decided_by, decisions_at};
 
 use crate::entered::{Entered, both_copies, only_copy};
 use crate::event_room::EventRoom;
-use crate::kept::{Kept, entry_at, kept_event, push_whole_outs, whole_event};
+use crate::kept::{StoredEntry, entry_at, kept_event, push_whole_outs, whole_event};
 use crate::lent_decision::{LentDecision, lent_decision};
 use crate::lent_event::{LentEvent, lent_event};
 use crate::outs_list::{EntryOuts, KeptOuts};
@@ -37,7 +37,7 @@ use types::{Event, Nested, NodeId, Out, Refusal};
 pub struct Journal<S: Shelf> {
     alloc: Global,
     network: Network<S>,
-    entries: Vec<Kept>,
+    entries: Vec<StoredEntry>,
     /// What was given out, a list for each entry that gave anything out, ascending by entry.
     given: Vec<EntryOuts>,
     room: EventRoom,
@@ -173,7 +173,7 @@ impl<S: Shelf> Journal<S> {
         } = applied;
         let event = kept_event(self.network.config(), &mut self.room, event, delivered);
         let outs = KeptOuts::put(&mut self.given, self.entries.len(), outs);
-        self.entries.push_reserved(Kept { event, outs });
+        self.entries.push_reserved(StoredEntry { event, outs });
         Ok(Entered { marks, copies })
     }
 

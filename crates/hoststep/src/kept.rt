@@ -72,7 +72,7 @@ pub(crate) enum KeptEvent {
 
 /// An applied event, and in contracts what it gave out.
 #[derive(Drop)]
-pub(crate) struct Kept {
+pub(crate) struct StoredEntry {
     pub event: KeptEvent,
     pub outs: KeptOuts,
 }
@@ -88,7 +88,7 @@ pub(crate) struct LentEntry<'a> {
 pub(crate) fn entry_at<'a, S: Shelf>(
     network: &Network<S>,
     lists: &'a Vec<EntryOuts>,
-    entries: &'a Vec<Kept>,
+    entries: &'a Vec<StoredEntry>,
     number: usize,
 ) -> Option<LentEntry<'a>>
     requires { AreKept network.now.config.hosts network.now.archive lists.now.items entries.now.items }

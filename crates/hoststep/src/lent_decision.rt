@@ -2,7 +2,7 @@
 
 ghost use Rattle.std.specs.Prelude.{◌≡◌, ◌≤◌, length, option_map, option_to_list, slice_get, true};
 ghost use Rattle.network.specs.Decoding.{step_of};
-ghost use Rattle.network.specs.Marks.{place_named};
+ghost use Rattle.network.specs.Marks.{slot_and_node_of};
 ghost use Rattle.slot.specs.Filings.{outs_of};
 ghost use Rattle.hoststep.specs.Deciding.{decided_at, decided_by, values_in};
 ghost use Rattle.hoststep.specs.Boxing.{is_large};
@@ -30,9 +30,9 @@ pub(crate) fn lent_decision<'a, S: Shelf>(
 ) -> Option<LentDecision<'a>>
     requires filed { IsKeptEvent network.now.config.hosts network.now.archive event.now }
     requires once { length (values_in (outs_of outs.now)) ≤ 1 }
-    ensures { option_to_list (option_map decided_by result) ≡ decided_at (place_named (step_in event.now)) (values_in (outs_of outs.now)) }
+    ensures { option_to_list (option_map decided_by result) ≡ decided_at (slot_and_node_of (step_in event.now)) (values_in (outs_of outs.now)) }
 {
-    decision_at(place_named(network, event), first_value(outs))
+    decision_at(slot_and_node_of(network, event), first_value(outs))
 }
 
 /// The value, decided at this slot by this node.
@@ -60,9 +60,9 @@ fn first_value(outs: &[FiledOut]) -> Option<&Value>
 }
 
 /// The slot and the node of an event, where it is one of a node.
-fn place_named<S: Shelf>(network: &Network<S>, event: &KeptEvent) -> Option<(u64, NodeId)>
+fn slot_and_node_of<S: Shelf>(network: &Network<S>, event: &KeptEvent) -> Option<(u64, NodeId)>
     requires { IsKeptEvent network.now.config.hosts network.now.archive event.now }
-    ensures { result ≡ place_named (step_in event.now) }
+    ensures { result ≡ slot_and_node_of (step_in event.now) }
 {
     let config = network.config();
     match event {
@@ -80,7 +80,7 @@ fn place_named<S: Shelf>(network: &Network<S>, event: &KeptEvent) -> Option<(u64
 /// The slot and the node of a large event.
 fn place_of_large(event: &Event) -> Option<(u64, NodeId)>
     requires { is_large event.now ≡ true }
-    ensures { result ≡ place_named (step_of event.now) }
+    ensures { result ≡ slot_and_node_of (step_of event.now) }
 {
     match event {
         Event::Propose { slot, node, .. }

@@ -2,9 +2,9 @@
 //! buffer is seen here, and not only as memory of long journals. This is a bound of this host's profile and
 //! nothing that contracts speak of.
 
-use crate::kept::{Kept, KeptEvent};
+use crate::kept::{KeptEvent, StoredEntry};
 use std::mem::size_of;
 
 const _: () = prove!(size_of::<KeptEvent>() <= 16);
 
-const _: () = prove!(size_of::<Kept>() <= 16);
+const _: () = prove!(size_of::<StoredEntry>() <= 16);

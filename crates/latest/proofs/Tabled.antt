@@ -8,7 +8,7 @@ use Rattle.types.specs.Statements.{Sent, kind_of}
 use Rattle.envstore.specs.declared.filed.Filed.{Filed}
 use Rattle.envstore.specs.Archives.{sents_of}
 use Rattle.protocol.specs.Newer.{is_newer}
-use Rattle.protocol.specs.Rows.{has_single_rows, is_row_of, row, with_row, replaces, is_taken, offered, table_after}
+use Rattle.protocol.specs.Rows.{has_single_rows, is_row_of, row, with_row, replaces, is_taken, table_with_offer, table_after}
 use Rattle.protocol.proofs.Statements.Offers.{single-with, table_after-push}
 use Rattle.latest.specs.declared.table.Offer.{Offer}
 use Rattle.latest.specs.declared.table.Offer.TheVariants.{Replaced, Stale, NoMemory}
@@ -62,13 +62,13 @@ pub taken-nowhere : (rows : List Sent) (e : Sent) → place_of rows e.sender (ki
 unfolding is_taken
 taken-nowhere rows e h = ap (replaces e) (row-nowhere rows e.sender (kind_of e.body) h)
 
-pub offered-taken : (rows : List Sent) (e : Sent) → is_taken rows e ≡ true → offered rows e ≡ with_row e rows
-unfolding offered
-offered-taken rows e h = ap (λ b. if b then with_row e rows else rows) h
+pub table_with_offer-taken : (rows : List Sent) (e : Sent) → is_taken rows e ≡ true → table_with_offer rows e ≡ with_row e rows
+unfolding table_with_offer
+table_with_offer-taken rows e h = ap (λ b. if b then with_row e rows else rows) h
 
-pub offered-stale : (rows : List Sent) (e : Sent) → is_taken rows e ≡ false → offered rows e ≡ rows
-unfolding offered
-offered-stale rows e h = ap (λ b. if b then with_row e rows else rows) h
+pub table_with_offer-stale : (rows : List Sent) (e : Sent) → is_taken rows e ≡ false → table_with_offer rows e ≡ rows
+unfolding table_with_offer
+table_with_offer-stale rows e h = ap (λ b. if b then with_row e rows else rows) h
 
 -- ---- what a row more, and a row replaced, leave indexed
 pub indexed-set : (rows : List Sent) (index : List Places) (e : Sent) (i : ℕ) → IsIndexed rows index → place_of rows e.sender (kind_of e.body) ≡ Some i → IsIndexed (set rows i e) index
@@ -125,13 +125,13 @@ answer-stale old e Replaced new h = (λ s. cc, λ f. absurd (true≢false (sym h
 answer-stale old e Stale new h = (λ s. h.0, λ f. refl)
 answer-stale old e NoMemory new h = (λ s. cc, λ f. absurd (true≢false (sym (taken-first old e h.0) ∙ f)))
 
-pub answer-table : (old : List Sent) (e : Sent) (o : Offer) (new : List Sent) → IsAnswer old e o new → o ≢ NoMemory → new ≡ offered old e
-answer-table old e Replaced new h n = h.1 ∙ sym (offered-taken old e h.0)
-answer-table old e Stale new h n = h.1 ∙ sym (offered-stale old e h.0)
+pub answer-table : (old : List Sent) (e : Sent) (o : Offer) (new : List Sent) → IsAnswer old e o new → o ≢ NoMemory → new ≡ table_with_offer old e
+answer-table old e Replaced new h n = h.1 ∙ sym (table_with_offer-taken old e h.0)
+answer-table old e Stale new h n = h.1 ∙ sym (table_with_offer-stale old e h.0)
 answer-table old e NoMemory new h n = absurd (n refl)
 
 pub answer-whole : (old : List Sent) (e : Sent) (o : Offer) (new : List Sent) → IsAnswer old e o new → (taken : List Sent) → old ≡ table_after taken → o ≢ NoMemory → new ≡ table_after (taken ++ e ∷ [])
-answer-whole old e o new h taken t n = answer-table old e o new h n ∙ (ap (λ es. offered es e) t ∙ sym (table_after-push taken e))
+answer-whole old e o new h taken t n = answer-table old e o new h n ∙ (ap (λ es. table_with_offer es e) t ∙ sym (table_after-push taken e))
 
 pub senders-counted : (rows now : List Sent) (index : List Places) → IsIndexed rows index → rows ≡ now → length index ≡ length (senders now)
 unfolding index_of

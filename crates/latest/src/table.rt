@@ -5,7 +5,7 @@ ghost use Rattle.envstore.specs.Archives.{AreFiled, IsFiled, sent_of, sents_of};
 ghost use Rattle.latest.specs.Places.{ascends, forgotten, place_of};
 ghost use Rattle.latest.specs.Puts.{IsFiledPut, IsPut, offer_of, undone, with_known_row, without_last};
 ghost use Rattle.latest.specs.Senders.{senders};
-ghost use Rattle.protocol.specs.Rows.{has_single_rows, is_taken, offered, row, table_after};
+ghost use Rattle.protocol.specs.Rows.{has_single_rows, is_taken, table_with_offer, row, table_after};
 ghost use Rattle.types.specs.Statements.{Sent, kind_of};
 ghost use Rattle.types.specs.declared.kind.Kind.{Kind};
 ghost use Rattle.types.specs.declared.kind.Kind.TheVariants.{Nomination};
@@ -110,7 +110,7 @@ impl Table {
         requires rows { AreFiled archive.now self.old }
         requires envelope { IsFiled archive.now envelope }
         ensures stale { result ≡ Offer.Stale ↔ is_taken (sents_of self.old) (sent_of envelope) ≡ false }
-        ensures table { result ≢ Offer.NoMemory → sents_of self.new ≡ offered (sents_of self.old) (sent_of envelope) }
+        ensures table { result ≢ Offer.NoMemory → sents_of self.new ≡ table_with_offer (sents_of self.old) (sent_of envelope) }
         ensures unchanged { result ≢ Offer.Replaced → self.new ≡ self.old }
         ensures memory { result ≡ Offer.NoMemory → row (sents_of self.old) (sent_of envelope).sender (kind_of (sent_of envelope).body) ≡ None }
         ensures whole { (taken : List Sent) → sents_of self.old ≡ table_after taken → result ≢ Offer.NoMemory → sents_of self.new ≡ table_after (taken ++ sent_of envelope ∷ []) }

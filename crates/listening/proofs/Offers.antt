@@ -2,7 +2,7 @@
 use Rattle.std.proofs.Common.{◌≡◌, true, false, List, None, refl, ap, inl, inr, ◌⊎◌}
 use Rattle.std.proofs.lemmas.Bool.{false≢true}
 use Rattle.types.specs.Statements.{Sent, kind_of}
-use Rattle.protocol.specs.Rows.{is_taken, offered, replaces, row, with_row}
+use Rattle.protocol.specs.Rows.{is_taken, table_with_offer, replaces, row, with_row}
 use Rattle.envstore.specs.declared.filed.Filed.{Filed}
 use Rattle.envstore.specs.Archives.{sents_of}
 use Rattle.latest.specs.declared.table.Put.{Put}
@@ -10,13 +10,13 @@ use Rattle.latest.specs.declared.table.Put.TheVariants.{Stale, NoMemory, Added, 
 use Rattle.latest.specs.Puts.{IsPut}
 use Rattle.listening.specs.Listening.{is_put}
 
-pub offered-taken : (table : List Sent) (x : Sent) → is_taken table x ≡ true → offered table x ≡ with_row x table
-unfolding offered
-offered-taken table x e = rw e refl
+pub table_with_offer-taken : (table : List Sent) (x : Sent) → is_taken table x ≡ true → table_with_offer table x ≡ with_row x table
+unfolding table_with_offer
+table_with_offer-taken table x e = rw e refl
 
-pub offered-stale : (table : List Sent) (x : Sent) → is_taken table x ≡ false → offered table x ≡ table
-unfolding offered
-offered-stale table x e = rw e refl
+pub table_with_offer-stale : (table : List Sent) (x : Sent) → is_taken table x ≡ false → table_with_offer table x ≡ table
+unfolding table_with_offer
+table_with_offer-stale table x e = rw e refl
 
 -- a put that the table has is what an offer makes of it
 pub put-takes : (old new : List Filed) (x : Sent) (p : Put) → IsPut old x p new → (p ≡ Added) ⊎ ((y : Filed) × (p ≡ Replaced y)) → (is_taken (sents_of old) x ≡ true) × (sents_of new ≡ with_row x (sents_of old))

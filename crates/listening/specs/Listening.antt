@@ -69,8 +69,8 @@ is_put Added = true
 is_put (Replaced r) = true
 
 -- the row that a put replaced
-abbrev pub replaced : Put → Option Sent
-replaced Stale = None
-replaced NoMemory = None
-replaced Added = None
-replaced (Replaced r) = Some (sent_of r)
+abbrev pub row_before : Put → Option Sent
+row_before Stale = None
+row_before NoMemory = None
+row_before Added = None
+row_before (Replaced r) = Some (sent_of r)

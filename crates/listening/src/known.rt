@@ -7,9 +7,9 @@ ghost use Rattle.envstore.specs.Archives.{AreFiled, IsFiled, sent_of, sents_of};
 ghost use Rattle.latest.specs.Puts.{IsFiledPut, IsPut, undone};
 ghost use Rattle.protocol.specs.Rows.{with_row};
 ghost use Rattle.protocol.specs.Sets.{IsAscending};
-ghost use Rattle.protocol.specs.Stirring.{KeepsReach};
+ghost use Rattle.protocol.specs.Stirring.{ReachesSame};
 ghost use Rattle.listening.specs.declared.configured.Configured.{Configured};
-ghost use Rattle.listening.specs.Listening.{IsEffect, KnowsLists, KnowsReach, KnowsRegion, is_put, reach_in, region_of, replaced};
+ghost use Rattle.listening.specs.Listening.{IsEffect, KnowsLists, KnowsReach, KnowsRegion, is_put, reach_in, region_of, row_before};
 ghost use Rattle.types.specs.Statements.{Sent};
 ghost use Rattle.view.specs.Knowing.{IsKnown, IsTaken};
 ghost use Rattle.view.specs.Regions.{IsKeptRegion, IsOfExtent};
@@ -107,7 +107,7 @@ pub(crate) fn put_row<S: Places>(
     ensures put { IsPut table.old (sent_of row.entry.envelope) result.0 table.new }
     ensures back { undone result.0 table.new ≡ table.old }
     ensures known { KnowsReach configured.now (sents_of table.new) (reach_in known.new) }
-    ensures reach { IsTrue result.1 → KeepsReach configured.now.name configured.now.slices (sents_of table.old) (sents_of table.new) }
+    ensures reach { IsTrue result.1 → ReachesSame configured.now.name configured.now.slices (sents_of table.old) (sents_of table.new) }
     ensures filed { AreFiled row.entry.archive.now table.new }
     ensures replaced { IsFiledPut row.entry.archive.now result.0 }
 {
@@ -185,7 +185,7 @@ fn effect_on<S: Places>(
 /// Does it where the nodes that are reached stay. The ballots and values that are listed stay as they are.
 fn apply(known: &mut Option<Box<KnownReach>>, effect: Effect)
     ensures known { (c : Configured) (table : List Sent) (e : Sent) → IsEffect c table e (region_of (reach_in known.old)) effect → KnowsRegion c table (region_of (reach_in known.old)) → KnowsRegion c (with_row e table) (region_of (reach_in known.new)) }
-    ensures reach { IsTrue (is_some known.new) → (c : Configured) (table : List Sent) (e : Sent) → IsEffect c table e (region_of (reach_in known.old)) effect → KnowsRegion c table (region_of (reach_in known.old)) → KeepsReach c.name c.slices table (with_row e table) }
+    ensures reach { IsTrue (is_some known.new) → (c : Configured) (table : List Sent) (e : Sent) → IsEffect c table e (region_of (reach_in known.old)) effect → KnowsRegion c table (region_of (reach_in known.old)) → ReachesSame c.name c.slices table (with_row e table) }
     ensures lists { (c : Configured) (table : List Sent) → KnowsLists c table (reach_in known.old) → KnowsLists c table (reach_in known.new) }
 {
     match effect {
@@ -250,22 +250,22 @@ fn hear<S: Places>(
     requires put { IsFiledPut heard.archive.now heard.put.now }
     requires region { KnowsRegion configured.now (sents_of table.now) (region_of (reach_in known.old)) }
     ensures some { IsTrue (is_some known.new) → IsTrue (is_some known.old) }
-    ensures known { (old : List Sent) → IsTaken old (sents_of table.now) (sent_of heard.entry.envelope.now) (replaced heard.entry.put.now) → KnowsLists configured.now old (reach_in known.old) → KnowsReach configured.now (sents_of table.now) (reach_in known.new) }
+    ensures known { (old : List Sent) → IsTaken old (sents_of table.now) (sent_of heard.entry.envelope.now) (row_before heard.entry.put.now) → KnowsLists configured.now old (reach_in known.old) → KnowsReach configured.now (sents_of table.now) (reach_in known.new) }
 {
     if let Some(known) = known {
         let rows = Rows::of(table, heard.archive);
         let taken = Taken {
             row: heard.archive.read(heard.envelope),
-            before: replaced(heard.archive, heard.put),
+            before: row_before(heard.archive, heard.put),
         };
         known.hear(alloc, configured.own(), &rows, &taken);
     }
 }
 
 /// The row that the put replaced, if there was one.
-fn replaced<'a, S: Places>(archive: &'a Archive<S>, put: &Put) -> Option<&'a Envelope>
+fn row_before<'a, S: Places>(archive: &'a Archive<S>, put: &Put) -> Option<&'a Envelope>
     requires { IsFiledPut archive.now put.now }
-    ensures { option_map (λ r. r.now) result ≡ replaced put.now }
+    ensures { option_map (λ r. r.now) result ≡ row_before put.now }
 {
     match put {
         Put::Stale | Put::NoMemory | Put::Added => None,

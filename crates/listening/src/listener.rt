@@ -4,8 +4,8 @@ ghost use Rattle.std.specs.Prelude.{◌≡◌, IfOk, IsTrue, List, OnErr, OnOk, 
 ghost use Rattle.envstore.specs.Archives.{AreFiled, IsFiled, sent_of, sents_of};
 ghost use Rattle.latest.specs.Puts.{IsFiledPut, IsPut, undone};
 ghost use Rattle.listening.specs.Listening.{IsKnownOf, IsStranger};
-ghost use Rattle.protocol.specs.Rows.{is_taken, offered};
-ghost use Rattle.protocol.specs.Stirring.{KeepsReach};
+ghost use Rattle.protocol.specs.Rows.{is_taken, table_with_offer};
+ghost use Rattle.protocol.specs.Stirring.{ReachesSame};
 
 use crate::configured::Configured;
 use crate::known::{FiledRow, copy_of_known, put_row, take_known};
@@ -115,7 +115,7 @@ impl Listener {
     ) -> Result<(), AllocError>
         requires rows { AreFiled archive.now self.old.table }
         requires envelope { IsFiled archive.now envelope }
-        ensures offered { OnOk result (sents_of self.new.table ≡ offered (sents_of self.old.table) (sent_of envelope)) }
+        ensures offered { OnOk result (sents_of self.new.table ≡ table_with_offer (sents_of self.old.table) (sent_of envelope)) }
         ensures same { self.new.configured ≡ self.old.configured }
         ensures err { OnErr result (self.new ≡ self.old) }
         ensures idle { is_taken (sents_of self.old.table) (sent_of envelope) ≡ false → IsTrue (is_ok result) }
@@ -141,7 +141,7 @@ impl Listener {
         requires envelope { IsFiled archive.now envelope }
         ensures put { IsPut self.old.table (sent_of envelope) result.0 self.new.table }
         ensures back { undone result.0 self.new.table ≡ self.old.table }
-        ensures reach { IsTrue result.1 → KeepsReach self.old.configured.name self.old.configured.slices (sents_of self.old.table) (sents_of self.new.table) }
+        ensures reach { IsTrue result.1 → ReachesSame self.old.configured.name self.old.configured.slices (sents_of self.old.table) (sents_of self.new.table) }
         ensures same { self.new.configured ≡ self.old.configured }
         ensures filed { AreFiled archive.now self.new.table }
         ensures known { IsFiledPut archive.now result.0 }

@@ -2,7 +2,7 @@
 use Rattle.std.proofs.Common.{◌≡◌, ℕ, zero, suc, ◌<◌, Bool, true, false, not, List, [], ◌∷◌, map, Some, None, is_some, option_map, slice_get, if◌then◌else◌, refl, ◌∙◌, ap, subst, arith, length}
 use Rattle.types.specs.declared.event.Refusal.{Refusal}
 use Rattle.types.specs.declared.event.Refusal.TheVariants.{NoSuchNode, SlotNotOpen}
-use Rattle.protocol.specs.Networks.{Host, Net, Slot, is_hosted, is_hosted_not, is_open, is_open_not, first_that}
+use Rattle.protocol.specs.Networks.{Host, Net, Slot, is_hosted, hosted_test, is_open, open_test, first_that}
 use Rattle.configuration.specs.Configs.{index_in, index_of_name, names_of}
 use Rattle.network.specs.Deeds.{IsSlotThere, index_of_slot}
 use Rattle.network.specs.Lodgings.{slot_of}
@@ -50,16 +50,16 @@ pub slot-in : (m : Standing) (net : Net) (i : ℕ) → StandsFor (machine_of m) 
 slot-in m net i s = ap (λ (n : Net). index_of_slot n.slots i) s.is
 
 -- ---- the tests that many events share
-pub no_host : (m : Standing) (net : Net) (u : ℕ) (ts : List (Bool × Refusal)) → StandsFor (machine_of m) net → index_of_name m.config.hosts u ≡ None → first_that (is_hosted_not net u ∷ ts) ≡ Some NoSuchNode
+pub no_host : (m : Standing) (net : Net) (u : ℕ) (ts : List (Bool × Refusal)) → StandsFor (machine_of m) net → index_of_name m.config.hosts u ≡ None → first_that (hosted_test net u ∷ ts) ≡ Some NoSuchNode
 no_host m net u ts s h = refuses (not (is_hosted net u)) NoSuchNode ts (ap not (hosted-not net u (host-in m net u s ∙ h)))
 
-pub host_then : (m : Standing) (net : Net) (u h : ℕ) (ts : List (Bool × Refusal)) → StandsFor (machine_of m) net → index_of_name m.config.hosts u ≡ Some h → first_that (is_hosted_not net u ∷ ts) ≡ first_that ts
-host_then m net u h ts s q = passes (is_hosted_not net u) ts (ap not (hosted net u h (host-in m net u s ∙ q)))
+pub host_then : (m : Standing) (net : Net) (u h : ℕ) (ts : List (Bool × Refusal)) → StandsFor (machine_of m) net → index_of_name m.config.hosts u ≡ Some h → first_that (hosted_test net u ∷ ts) ≡ first_that ts
+host_then m net u h ts s q = passes (hosted_test net u) ts (ap not (hosted net u h (host-in m net u s ∙ q)))
 
-pub not_open : (m : Standing) (net : Net) (i : ℕ) (ts : List (Bool × Refusal)) → StandsFor (machine_of m) net → index_of_slot (map slot_of (machine_of m).slots) i ≡ None → first_that (is_open_not net i ∷ ts) ≡ Some SlotNotOpen
+pub not_open : (m : Standing) (net : Net) (i : ℕ) (ts : List (Bool × Refusal)) → StandsFor (machine_of m) net → index_of_slot (map slot_of (machine_of m).slots) i ≡ None → first_that (open_test net i ∷ ts) ≡ Some SlotNotOpen
 not_open m net i ts s h = refuses (not (is_open net i)) SlotNotOpen ts (ap not (opened_not net i (slot-in m net i s ∙ h)))
 
-pub open_then : (m : Standing) (net : Net) (i k : ℕ) (ts : List (Bool × Refusal)) → StandsFor (machine_of m) net → IsSlotThere m i k → first_that (is_open_not net i ∷ ts) ≡ first_that ts
-open_then m net i k ts s q = passes (is_open_not net i) ts (ap not (opened_at net i k (slot-in m net i s ∙ q)))
+pub open_then : (m : Standing) (net : Net) (i k : ℕ) (ts : List (Bool × Refusal)) → StandsFor (machine_of m) net → IsSlotThere m i k → first_that (open_test net i ∷ ts) ≡ first_that ts
+open_then m net i k ts s q = passes (open_test net i) ts (ap not (opened_at net i k (slot-in m net i s ∙ q)))
 
 -- ---- limits

@@ -8,12 +8,12 @@ use Rattle.types.specs.Statements.{Sent}
 use Rattle.types.specs.Trees.{all_differ}
 use Rattle.types.specs.declared.event.NodeEvent.{NodeEvent}
 use Rattle.types.specs.declared.event.Out.{Out}
-use Rattle.protocol.specs.Networks.{Net, Place, Reply, Slot, Step, effect, emissions, first_that, is_open, known, moved, net_step, on_budgets, on_opens, place_of, places_at, replied, size_of, source, tests}
+use Rattle.protocol.specs.Networks.{Net, Place, Reply, Slot, Step, effect, emissions, first_that, is_open, node_where_open, after_event, net_step, on_budgets, on_opens, node_named, places_at, state_and_reply, size_of, source, tests}
 use Rattle.protocol.specs.Networks.Reply.{Done}
-use Rattle.protocol.specs.Networks.Step.{Opens, Closes, Asks, Delivers, Hears, NominationTimes, BallotTimes, Reslices}
+use Rattle.protocol.specs.Networks.Step.{Opens, Closes, Proposes, Delivers, Hears, NominationTimerFires, BallotTimerFires, Reslices}
 use Rattle.protocol.specs.Rosters.{Draw, Roster, Share, Source, bytes_drawn, events_drawn}
 use Rattle.protocol.specs.Rosters.Share.{Own, Pair}
-use Rattle.protocol.specs.Counts.{HasBytes, HasEvents, HasRoom, IsCountedAfter, is_of_share, is_opening}
+use Rattle.protocol.specs.Counts.{HasRoomForBytes, HasRoomForEvents, HasRoom, IsCountedAfter, is_of_share, is_opening}
 use Rattle.protocol.proofs.Networks.Refusals.{applied_where_room}
 use Rattle.protocol.proofs.Networks.Counts.{next}
 use Rattle.protocol.proofs.Networks.Effects.{effect-keeps}
@@ -25,10 +25,10 @@ use Rattle.configuration.specs.Budgets.{AreShares}
 use Rattle.network.specs.Answers.{IsApplied}
 use Rattle.network.specs.Changes.{IsChangedAt, changed_at}
 use Rattle.network.specs.Charges.{HasRoomInCounts, HasRoomOnNetwork, IsActed, IsReady, IsSlotActed, on_budgets_of, on_opens_of}
-use Rattle.network.specs.Deeds.{IsDrawn, IsNamed, IsNodeOf, IsPlan, IsThere, acted, handed, node_at, outs_after, slots_after}
+use Rattle.network.specs.Deeds.{IsDrawn, IsEventOf, IsNodeOf, IsPlan, IsThere, acted, handed, node_at, outs_after, slots_after}
 use Rattle.network.specs.Doings.{IsAnswer, IsDoable, IsDone, marks_after, slots_of}
 use Rattle.network.specs.Lodgings.{AreTallied, IsLodged, IsTallied, IsUncounted, Lodging, Lodgings, Seat, Seats, bytes_from, events_from, place_in, seat_of, seats_of, slot_of}
-use Rattle.network.specs.Marks.{marks_in, numbered, place_named, told_at, told_before}
+use Rattle.network.specs.Marks.{marks_in, numbered, slot_and_node_of, told_at, told_before}
 use Rattle.network.specs.Standing.{IsStanding, IsStep, IsTidy, Machine, Standing, StandsFor, machine_of, net_of}
 use Rattle.network.specs.declared.applied.Applied.{Applied}
 use Rattle.network.specs.declared.plan.Charge.{Charge}
@@ -41,9 +41,9 @@ use Rattle.network.proofs.Counting.{Agrees, IsSourceOf, agrees, moves, pair_of, 
 use Rattle.network.proofs.Indexes.{at-index, mapped-length}
 use Rattle.network.proofs.KeyPlaces.{map-remove}
 use Rattle.network.proofs.SlotPlaceLaws.{numbers-are}
-use Rattle.network.proofs.Tidiness.{IsFresh, Neat, absent, fresh-of, moved-name, names_at, neat, same-test, slot_numbers}
+use Rattle.network.proofs.Tidiness.{IsFresh, Neat, absent, fresh-of, after_event-name, names_at, neat, same-test, slot_numbers}
 use Rattle.types.proofs.Bools.{not_is}
-use Rattle.network.proofs.Plans.{at-place, place_of-is, places_at-is, same-option}
+use Rattle.network.proofs.Plans.{at-place, node_named-is, places_at-is, same-option}
 use Rattle.network.proofs.Emitted.{all-at}
 use Rattle.protocol.proofs.Equality.Sameness.{eqb-refl}
 
@@ -113,7 +113,7 @@ seat-numbers : (ss : List Lodgings) → map (λ (s : Seats). s.number) (map seat
 seat-numbers [] = refl
 seat-numbers (s ∷ ss) = ap (λ (ns : List ℕ). s.number ∷ ns) (seat-numbers ss)
 
-acted-places : (c : Charge) (e : NodeEvent) (h : ℕ) (old new : List Lodging) → IsChangedAt (IsActed c e) h old new → map node_of (map seat_of new) ≡ changed_at h (moved e) (map node_of (map seat_of old))
+acted-places : (c : Charge) (e : NodeEvent) (h : ℕ) (old new : List Lodging) → IsChangedAt (IsActed c e) h old new → map node_of (map seat_of new) ≡ changed_at h (after_event e) (map node_of (map seat_of old))
 acted-places c e h [] new r = absurd r
 acted-places c e h (x ∷ xs) [] r = absurd r
 acted-places c e zero (x ∷ xs) (y ∷ ys) r = ap₂ (λ (p : Place) (ps : List Place). p ∷ ps) r.0.place (sym (ap (λ (zs : List Lodging). map node_of (map seat_of zs)) r.1))
@@ -187,7 +187,7 @@ module _ (net after : Net) (e : Step) (c : IsCountedAfter net e after) (i u : �
         (λ l d t. stays net after e x.number (seat_of l) c (o x.number) (spared-name i u x.number l.held.node.name (source net.roster e) q d) t)
         (λ l k w acted t. moves net after e x.number g l k c (o x.number)
         (subst (λ m. Agrees m l.held.node.name g.drawn (source net.roster e)) (sym same) (subst (λ m. Agrees i m g.drawn (source net.roster e)) (sym w) agree))
-        size (ap (λ (p : Place). p.node.name) acted.place ∙ moved-name ev (place_in l)) acted.charged t)
+        size (ap (λ (p : Place). p.node.name) acted.place ∙ after_event-name ev (place_in l)) acted.charged t)
         a)
 
     counted-act : (ns : List ℕ) (h k : ℕ) (old new : List Lodgings) → IsOnlyAt i k (map number_at old) → IsOnlyAt u h ns → All (λ (s : Lodgings). map name_at s.places ≡ ns) old → IsChangedAt (IsSlotActed g h ev) k old new
@@ -233,24 +233,24 @@ counted-close net after i k old c a =
     All-append (AreCounted after.draws) (take k old) (drop (suc k) old) (All-take (AreCounted after.draws) k old b) (All-drop (AreCounted after.draws) (suc k) old b)
 
 -- an event of a node opens no slot
-opens-none : (e : Step) (at : ℕ × ℕ) → place_named e ≡ Some at → (n : ℕ) → is_opening n e ≡ false
+opens-none : (e : Step) (at : ℕ × ℕ) → slot_and_node_of e ≡ Some at → (n : ℕ) → is_opening n e ≡ false
 opens-none (Opens i) at h n = absurd (cc)
 opens-none (Closes i) at h n = refl
-opens-none (Asks i u x) at h n = refl
+opens-none (Proposes i u x) at h n = refl
 opens-none (Delivers u size d) at h n = refl
 opens-none (Hears i u from kind k) at h n = refl
-opens-none (NominationTimes i u r) at h n = refl
-opens-none (BallotTimes i u r) at h n = refl
+opens-none (NominationTimerFires i u r) at h n = refl
+opens-none (BallotTimerFires i u r) at h n = refl
 opens-none (Reslices i u q) at h n = refl
 
 -- the node that an event names
 abbrev pub IsAtNode : Machine → Step → ℕ → ℕ → Type 0
-IsAtNode m e k h = (i : ℕ) × (u : ℕ) × (place_named e ≡ Some (pair_of i u)) × (index_in (map (λ (s : Slot). s.number) (map slot_of m.slots)) i ≡ Some k) × (index_in (names_of m.config.hosts) u ≡ Some h)
+IsAtNode m e k h = (i : ℕ) × (u : ℕ) × (slot_and_node_of e ≡ Some (pair_of i u)) × (index_in (map (λ (s : Slot). s.number) (map slot_of m.slots)) i ≡ Some k) × (index_in (names_of m.config.hosts) u ≡ Some h)
 
-pub node-named : (m : Machine) (e : Step) (k h : ℕ) → IsNodeOf m (place_named e) k h → IsAtNode m e k h
-node-named m e k h n = go (place_named e) refl n
+pub node-named : (m : Machine) (e : Step) (k h : ℕ) → IsNodeOf m (slot_and_node_of e) k h → IsAtNode m e k h
+node-named m e k h n = go (slot_and_node_of e) refl n
   where
-    go : (o : Option (ℕ × ℕ)) → place_named e ≡ o → IsNodeOf m o k h → IsAtNode m e k h
+    go : (o : Option (ℕ × ℕ)) → slot_and_node_of e ≡ o → IsNodeOf m o k h → IsAtNode m e k h
     go None q n = absurd n
     go (Some at) q n = (at.0, at.1, q, n.0, n.1)
 
@@ -284,13 +284,13 @@ nodes_of s = s.places
 abbrev name_of : Place → ℕ
 name_of p = p.node.name
 
-known-place : (ns : List ℕ) (ps : List Place) (u h : ℕ) → names_at ps ≡ ns → index_in ns u ≡ Some h → place_of ps u ≡ slice_get ps h
-known-place ns ps u h e q = place_of-is ps u ∙ at-index name_of (λ p. p) ps u h (ap (λ ms. index_in ms u) e ∙ q) ∙ same-option (slice_get ps h)
+known-place : (ns : List ℕ) (ps : List Place) (u h : ℕ) → names_at ps ≡ ns → index_in ns u ≡ Some h → node_named ps u ≡ slice_get ps h
+known-place ns ps u h e q = node_named-is ps u ∙ at-index name_of (λ p. p) ps u h (ap (λ ms. index_in ms u) e ∙ q) ∙ same-option (slice_get ps h)
 
-known-at : (ns : List ℕ) (slots : List Slot) (i u k h : ℕ) → AllByRecursion (λ (s : Slot). names_at s.places ≡ ns) slots → index_in (slot_numbers slots) i ≡ Some k → index_in ns u ≡ Some h → known (places_at slots i) u ≡ node_at (slice_get slots k) h
-known-at ns slots i u k h names q r = ap (λ o. known o u) (places_at-is slots i ∙ at-index number_of nodes_of slots i k q) ∙ go (slice_get slots k) refl
+node_where_open-at : (ns : List ℕ) (slots : List Slot) (i u k h : ℕ) → AllByRecursion (λ (s : Slot). names_at s.places ≡ ns) slots → index_in (slot_numbers slots) i ≡ Some k → index_in ns u ≡ Some h → node_where_open (places_at slots i) u ≡ node_at (slice_get slots k) h
+node_where_open-at ns slots i u k h names q r = ap (λ o. node_where_open o u) (places_at-is slots i ∙ at-index number_of nodes_of slots i k q) ∙ go (slice_get slots k) refl
   where
-    go : (o : Option Slot) → slice_get slots k ≡ o → known (option_map nodes_of o) u ≡ node_at o h
+    go : (o : Option Slot) → slice_get slots k ≡ o → node_where_open (option_map nodes_of o) u ≡ node_at o h
     go None e = refl
     go (Some s) e = known-place ns s.places u h (at-place (λ (s : Slot). names_at s.places ≡ ns) slots k s names e) r
 
@@ -306,7 +306,7 @@ reply_of net e = (next net e, Done (effect net e).1)
 
 stepped : (net : Net) (e : Step) → first_that (tests net e) ≡ None → net_step net e ≡ reply_of net e
 unfolding net_step
-stepped net e h = ap (replied net e) h
+stepped net e h = ap (state_and_reply net e) h
 
 open-marks : (net : Net) (i : ℕ) → [] ≡ marks_in net (Opens i)
 unfolding effect numbered
@@ -338,7 +338,7 @@ module _ (m : Standing) (e : Step) (p : Plan) (t : IsStanding m) (plan : IsPlan 
       none-any (map number_at m.slots) i (ap (λ ns. list_any (λ w. w == i) ns) (sym (numbers-are m.slots)) ∙ absent (slots_of m.slots) i f)
 
   module _ (new : List Lodgings) where
-    by-deed : (d : Deed) → IsDone (charge_of p) d m.slots new → IsNamed (machine_of m) e d → IsThere m.archive (slots_of m.slots) d → All (AreCounted (net_step net e).0.draws) new
+    by-deed : (d : Deed) → IsDone (charge_of p) d m.slots new → IsEventOf (machine_of m) e d → IsThere m.archive (slots_of m.slots) d → All (AreCounted (net_step net e).0.draws) new
     by-deed (Open s) dn nm th =
         subst (λ (ss : List Lodgings). All (AreCounted (net_step net e).0.draws) ss) (sym dn)
         (counted-open net (net_step net e).0 s m.slots (subst (λ z. IsCountedAfter net z (net_step net e).0) nm counted-after) (out-of s.number nm) th.1 (counted-from draws m.slots tallied))
@@ -394,18 +394,18 @@ module _ (m : Standing) (e : Step) (p : Plan) (t : IsStanding m) (plan : IsPlan 
       neat-after : Neat m.config.hosts (map slot_of (map seats_of new))
       neat-after = subst (λ ss. Neat m.config.hosts ss) slots-are (neat net e (fresh-of net e allowed) (neat-of (machine_of m) t.tidy))
 
-  marks-by : (d : Deed) → IsNamed (machine_of m) e d → outs_after (slots_of m.slots) d ≡ (effect net e).1 → marks_after (slots_of m.slots) d ≡ marks_in net e
+  marks-by : (d : Deed) → IsEventOf (machine_of m) e d → outs_after (slots_of m.slots) d ≡ (effect net e).1 → marks_after (slots_of m.slots) d ≡ marks_in net e
   marks-by (Open s) nm os = open-marks net s.number ∙ ap (marks_in net) (sym nm)
   marks-by (Close k) nm os = close-marks net nm.0 ∙ ap (marks_in net) (sym nm.1)
   marks-by (Act k h x) nm os =
       let a = node-named (machine_of m) e k h nm in
       let n = neat-of (machine_of m) t.tidy in
-      let told = ap (told_before net) a.2 ∙ ap told_at (known-at (names_of m.config.hosts) (slots_of m.slots) a.0 a.1 k h n.names a.3 a.4) in
+      let told = ap (told_before net) a.2 ∙ ap told_at (node_where_open-at (names_of m.config.hosts) (slots_of m.slots) a.0 a.1 k h n.names a.3 a.4) in
       ap₂ (λ (ts : List Sent) (ys : List Out). numbered ts (emissions ys)) (sym told) os
   marks-by (Hand k h x) nm os =
       let a = node-named (machine_of m) e k h nm in
       let n = neat-of (machine_of m) t.tidy in
-      let told = ap (told_before net) a.2 ∙ ap told_at (known-at (names_of m.config.hosts) (slots_of m.slots) a.0 a.1 k h n.names a.3 a.4) in
+      let told = ap (told_before net) a.2 ∙ ap told_at (node_where_open-at (names_of m.config.hosts) (slots_of m.slots) a.0 a.1 k h n.names a.3 a.4) in
       ap₂ (λ (ts : List Sent) (ys : List Out). numbered ts (emissions ys)) (sym told) os
 
   pub marks-after : marks_after (slots_of m.slots) p.deed ≡ marks_in net e
@@ -474,7 +474,7 @@ module _ {m : Standing} {e : Step} {p : Plan} (known : IsCarriable m e p) where
 
   bytes-kept : (d : Drawn) → IsDrawn (machine_of m) d its → m.bytes + on_budgets_of d p.size ≤ m.config.budgets.bytes
   bytes-kept ByBudgets q = elim (room-bytes stood e room) [
-    | inl f ↦ let l : m.bytes + size_of e ≤ m.config.budgets.bytes = subst (λ z. HasBytes stood z (size_of e)) q f in let z = known.plan.size in omega (arith, l, z)
+    | inl f ↦ let l : m.bytes + size_of e ≤ m.config.budgets.bytes = subst (λ z. HasRoomForBytes stood z (size_of e)) q f in let z = known.plan.size in omega (arith, l, z)
     | inr z ↦ let l = known.standing.tidy.bytes in let s = known.plan.size in omega (arith, l, z, s)
   ]
   bytes-kept ByOpens q = let l = known.standing.tidy.bytes in omega (arith, l)
@@ -483,13 +483,13 @@ module _ {m : Standing} {e : Step} {p : Plan} (known : IsCarriable m e p) where
 
   network-room : (d : Drawn) → IsDrawn (machine_of m) d its → HasRoomOnNetwork d p.size m.events m.bytes m.opens
   network-room ByBudgets q =
-      let l : m.events < m.config.budgets.events = subst (HasEvents stood) q (room-events stood e room) in
+      let l : m.events < m.config.budgets.events = subst (HasRoomForEvents stood) q (room-events stood e room) in
       let b : m.bytes + p.size ≤ m.config.budgets.bytes = bytes-kept ByBudgets q in
       let few_events = known.events in
       let few_bytes = known.bytes in
       (omega (arith, l, few_events), omega (arith, b, few_bytes))
   network-room ByOpens q =
-      let l : m.opens < q.0.shares.opens = subst (HasEvents stood) q.2 (room-events stood e room) in
+      let l : m.opens < q.0.shares.opens = subst (HasRoomForEvents stood) q.2 (room-events stood e room) in
       let s = (known.shares q.0 q.1).few_opens in
       omega (arith, l, s)
   network-room (ByOwn k h) q = tt
@@ -503,14 +503,14 @@ module _ {m : Standing} {e : Step} {p : Plan} (known : IsCarriable m e p) where
   node-room ByOpens i u x y q s xn yn tl = tt
   node-room (ByOwn k h) i u x y q s xn yn tl =
       let f = subst (IsSourceOf i u) q.6 s in
-      let l : events_drawn q.1.number (Own q.2.place.node.name) known.standing.stood.0 < q.0.shares.own = subst (HasEvents stood) q.6 (room-events stood e room) in
+      let l : events_drawn q.1.number (Own q.2.place.node.name) known.standing.stood.0 < q.0.shares.own = subst (HasRoomForEvents stood) q.6 (room-events stood e room) in
       let same = ap₂ (λ a b. events_drawn a (Own b) known.standing.stood.0) (f.0 ∙ sym xn) (f.1 ∙ sym yn) in
       let o = tl.own in
       let b = (known.shares q.0 q.3).few_own in
       omega (arith, l, same, o, b)
   node-room (ByPair k h w) i u x y q s xn yn tl =
       let f = subst (IsSourceOf i u) q.6 s in
-      let l : events_drawn q.1.number (Pair q.2.place.node.name w) known.standing.stood.0 < q.0.shares.pair = subst (HasEvents stood) q.6 (room-events stood e room) in
+      let l : events_drawn q.1.number (Pair q.2.place.node.name w) known.standing.stood.0 < q.0.shares.pair = subst (HasRoomForEvents stood) q.6 (room-events stood e room) in
       let same = ap₂ (λ a b. events_drawn a (Pair b w) known.standing.stood.0) (f.0 ∙ sym xn) (f.1 ∙ sym yn) in
       let size-same = ap₂ (λ a b. bytes_drawn a (Pair b w) known.standing.stood.0) (f.0 ∙ sym xn) (f.1 ∙ sym yn) in
       let o = tl.events w in
@@ -520,12 +520,12 @@ module _ {m : Standing} {e : Step} {p : Plan} (known : IsCarriable m e p) where
       let z = known.plan.size in (
         omega (arith, l, same, o, b),
         elim (room-bytes stood e room) [
-          | inl g ↦ inl (let k : bytes_drawn q.1.number (Pair q.2.place.node.name w) known.standing.stood.0 + size_of e ≤ q.0.shares.bytes = subst (λ a. HasBytes stood a (size_of e)) q.6 g in omega (arith, k, size-same, r, c, z))
+          | inl g ↦ inl (let k : bytes_drawn q.1.number (Pair q.2.place.node.name w) known.standing.stood.0 + size_of e ≤ q.0.shares.bytes = subst (λ a. HasRoomForBytes stood a (size_of e)) q.6 g in omega (arith, k, size-same, r, c, z))
           | inr g ↦ inr (z ∙ g)
         ],
       )
 
-  ready : (k h : ℕ) → IsNodeOf (machine_of m) (place_named e) k h → IsReady (charge_of p) m.slots k h
+  ready : (k h : ℕ) → IsNodeOf (machine_of m) (slot_and_node_of e) k h → IsReady (charge_of p) m.slots k h
   ready k h nm =
       let a = node-named (machine_of m) e k h nm in
       let x = keyed number_at m.slots k a.0 (index-gives (map number_at m.slots) a.0 k (ap (λ ns. index_in ns a.0) (sym (numbers-are m.slots)) ∙ a.3)) in
@@ -534,7 +534,7 @@ module _ {m : Standing} {e : Step} {p : Plan} (known : IsCarriable m e p) where
       let tl = all-at (λ (l : Lodging). IsTallied x.it.number known.standing.stood.0 (seat_of l)) x.it.places h y.it (all-at (AreCounted known.standing.stood.0) m.slots k x.it (counted-from known.standing.stood.0 m.slots known.standing.stood.1) x.is) y.is in
       record { slot = x.it; place = y.it; slot_is = x.is; place_is = y.is; room = node-room p.drawn a.0 a.1 x.it y.it known.plan.drawn (source-of m.config.roster e a.0 a.1 a.2) x.named y.named tl }
 
-  doable-by : (d : Deed) → IsNamed (machine_of m) e d → IsThere m.archive (slots_of m.slots) d → IsDoable m.archive (charge_of p) m.slots d
+  doable-by : (d : Deed) → IsEventOf (machine_of m) e d → IsThere m.archive (slots_of m.slots) d → IsDoable m.archive (charge_of p) m.slots d
   doable-by (Open s) nm th = (th.0, none-index (map number_at m.slots) s.number (out-of m e p known.standing known.plan known.standing.stood.0 known.standing.stood.1 s.number nm))
   doable-by (Close k) nm th =
       let a = mapped-length slot_of (map seats_of m.slots) in

@@ -2,16 +2,16 @@
 use Rattle.std.proofs.Common.{◌≡◌, ℕ, ◌+◌, Bool, true, false, ◌&&◌, ◌==◌, Option, Some, None, if◌then◌else◌, refl, sym, ◌∙◌, ap, ap₂, subst, arith}
 use Rattle.std.proofs.lemmas.Bool.Decides.{nat_tests}
 use Rattle.protocol.specs.Networks.{Net, Step, size_of, source}
-use Rattle.protocol.specs.Rosters.{Roster, Share, Shares, Source, events_drawn, bytes_drawn, is_on, reserved, same_share}
+use Rattle.protocol.specs.Rosters.{Roster, Share, Shares, Source, events_drawn, bytes_drawn, is_on, share_or_budgets, same_share}
 use Rattle.protocol.specs.Rosters.Share.{Own, Pair}
 use Rattle.protocol.specs.Rosters.Source.{OfBudgets, OfOpens, OfShare}
 use Rattle.protocol.specs.Counts.{IsCountedAfter, is_of_share, is_opening}
 use Rattle.protocol.specs.Networks.Reading.{Read, Fault}
-use Rattle.protocol.specs.Networks.Step.{Opens, Closes, Asks, Delivers, Hears, NominationTimes, BallotTimes, Reslices}
+use Rattle.protocol.specs.Networks.Step.{Opens, Closes, Proposes, Delivers, Hears, NominationTimerFires, BallotTimerFires, Reslices}
 use Rattle.network.specs.Charges.{IsCharged, on_own, on_pair}
 use Rattle.network.specs.Deeds.{IsDrawn}
 use Rattle.network.specs.Lodgings.{IsTallied, Lodging, Seat, bytes_from, events_from, seat_of}
-use Rattle.network.specs.Marks.{place_named}
+use Rattle.network.specs.Marks.{slot_and_node_of}
 use Rattle.network.specs.Standing.{Machine}
 use Rattle.network.specs.declared.plan.Charge.{Charge}
 use Rattle.network.specs.declared.plan.Drawn.{Drawn}
@@ -38,8 +38,8 @@ IsSourceOf i u OfBudgets = Unit {0}
 IsSourceOf i u (OfOpens shares) = Unit {0}
 IsSourceOf i u (OfShare shares j t) = (j ≡ i) × IsShareOf u t
 
-reserved-of : (r : Roster) (j i u : ℕ) (t : Share) → j ≡ i → IsShareOf u t → IsSourceOf i u (reserved r j t)
-reserved-of r j i u t p q = go (is_on r.names t)
+share_or_budgets-of : (r : Roster) (j i u : ℕ) (t : Share) → j ≡ i → IsShareOf u t → IsSourceOf i u (share_or_budgets r j t)
+share_or_budgets-of r j i u t p q = go (is_on r.names t)
   where
     go : (b : Bool) → IsSourceOf i u (if b then OfShare r.shares j t else OfBudgets)
     go true = (p, q)
@@ -54,17 +54,17 @@ first-is a b c d h = let q : pair_of a b ≡ pair_of c d = cc in ap (λ (z : ℕ
 second-is : (a b c d : ℕ) → Some (pair_of a b) ≡ Some (pair_of c d) → b ≡ d
 second-is a b c d h = let q : pair_of a b ≡ pair_of c d = cc in ap (λ (z : ℕ × ℕ). z.1) q
 
-pub source-of : (o : Option Roster) (e : Step) (i u : ℕ) → place_named e ≡ Some (pair_of i u) → IsSourceOf i u (source o e)
+pub source-of : (o : Option Roster) (e : Step) (i u : ℕ) → slot_and_node_of e ≡ Some (pair_of i u) → IsSourceOf i u (source o e)
 source-of None e i u h = tt
 source-of (Some r) (Opens j) i u h = absurd (cc)
 source-of (Some r) (Closes j) i u h = absurd (cc)
-source-of (Some r) (Asks j w x) i u h = reserved-of r j i u (Own w) (first-is j w i u h) (second-is j w i u h)
-source-of (Some r) (Delivers w size (Read e)) i u h = reserved-of r e.slot i u (Pair w e.sender) (first-is e.slot w i u h) (second-is e.slot w i u h)
+source-of (Some r) (Proposes j w x) i u h = share_or_budgets-of r j i u (Own w) (first-is j w i u h) (second-is j w i u h)
+source-of (Some r) (Delivers w size (Read e)) i u h = share_or_budgets-of r e.slot i u (Pair w e.sender) (first-is e.slot w i u h) (second-is e.slot w i u h)
 source-of (Some r) (Delivers w size (Fault n)) i u h = absurd (cc)
-source-of (Some r) (Hears j w from kind k) i u h = reserved-of r j i u (Pair w from) (first-is j w i u h) (second-is j w i u h)
-source-of (Some r) (NominationTimes j w n) i u h = reserved-of r j i u (Own w) (first-is j w i u h) (second-is j w i u h)
-source-of (Some r) (BallotTimes j w n) i u h = reserved-of r j i u (Own w) (first-is j w i u h) (second-is j w i u h)
-source-of (Some r) (Reslices j w q) i u h = reserved-of r j i u (Own w) (first-is j w i u h) (second-is j w i u h)
+source-of (Some r) (Hears j w from kind k) i u h = share_or_budgets-of r j i u (Pair w from) (first-is j w i u h) (second-is j w i u h)
+source-of (Some r) (NominationTimerFires j w n) i u h = share_or_budgets-of r j i u (Own w) (first-is j w i u h) (second-is j w i u h)
+source-of (Some r) (BallotTimerFires j w n) i u h = share_or_budgets-of r j i u (Own w) (first-is j w i u h) (second-is j w i u h)
+source-of (Some r) (Reslices j w q) i u h = share_or_budgets-of r j i u (Own w) (first-is j w i u h) (second-is j w i u h)
 
 turned : (j n i : ℕ) → j ≡ i → (n == i) ≡ false → (j == n) ≡ false
 turned j n i p h = grind (nat_tests, arith, p, h)

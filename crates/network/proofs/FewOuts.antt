@@ -6,7 +6,7 @@ use Rattle.types.specs.declared.event.Out.TheVariants.{ArmNomination, ArmBallot,
 use Rattle.types.specs.declared.ballot.Ballot.{Ballot}
 use Rattle.types.specs.declared.statement.Statement.{Statement}
 use Rattle.protocol.specs.Networks.{emissions}
-use Rattle.protocol.specs.Nodes.{Node, after_change, answered, change, decided, emitted, is_externalized, outs, step, when}
+use Rattle.protocol.specs.Nodes.{Node, after_change, node_and_outs, change, externalization, emission_between, is_externalized, outs, step, when}
 use Rattle.protocol.specs.Sameness.{same_sent}
 use Rattle.protocol.specs.States.{counter_of, sent_nomination, sent_vote}
 
@@ -40,7 +40,7 @@ few-armed : (b : Bool) (n : ℕ) → AreFew 1 0 (when b (ArmBallot n))
 few-armed true n = record { outs = omega arith; emitted = omega arith }
 few-armed false n = record { outs = omega arith; emitted = omega arith }
 
-few-sent : (n : Node) (old new : Option Statement) → AreFew 1 1 (emitted n old new)
+few-sent : (n : Node) (old new : Option Statement) → AreFew 1 1 (emission_between n old new)
 few-sent n old None = record { outs = omega arith; emitted = omega arith }
 few-sent n old (Some s) = go (same_sent old (Some s))
   where
@@ -48,7 +48,7 @@ few-sent n old (Some s) = go (same_sent old (Some s))
     go true = record { outs = omega arith; emitted = omega arith }
     go false = record { outs = omega arith; emitted = omega arith }
 
-few-decided : (b : Bool) (o : Option Ballot) → AreFew 1 0 (if b then decided o else [])
+few-decided : (b : Bool) (o : Option Ballot) → AreFew 1 0 (if b then externalization o else [])
 few-decided true None = record { outs = omega arith; emitted = omega arith }
 few-decided true (Some x) = record { outs = omega arith; emitted = omega arith }
 few-decided false o = record { outs = omega arith; emitted = omega arith }
@@ -73,15 +73,15 @@ few-given old new =
     armed = when (not (new.votes.armed == old.votes.armed) && (new.votes.armed == counter_of new.votes.ballot) && not (is_externalized new.votes.phase)) (ArmBallot new.votes.armed)
 
     nominated : List Out
-    nominated = emitted new (sent_nomination old.votes) (sent_nomination new.votes)
+    nominated = emission_between new (sent_nomination old.votes) (sent_nomination new.votes)
 
     voted : List Out
-    voted = emitted new (sent_vote old.votes) (sent_vote new.votes)
+    voted = emission_between new (sent_vote old.votes) (sent_vote new.votes)
 
     last : List Out
-    last = if is_externalized new.votes.phase && not (is_externalized old.votes.phase) then decided new.votes.ballot else []
+    last = if is_externalized new.votes.phase && not (is_externalized old.votes.phase) then externalization new.votes.ballot else []
 
-few-answered : (old : Node) (o : Option Node) → AreFew 5 2 (answered old o).1
+few-answered : (old : Node) (o : Option Node) → AreFew 5 2 (node_and_outs old o).1
 few-answered old None = record { outs = omega arith; emitted = omega arith }
 few-answered old (Some new) = few-given old new
 

@@ -5,7 +5,7 @@ use Rattle.types.specs.Statements.{Sent}
 use Rattle.types.specs.declared.kind.Kind.{Kind}
 use Rattle.types.specs.declared.event.Refusal.{Refusal}
 use Rattle.types.specs.declared.event.Refusal.TheVariants.{BadEnvelope, HostedSender, NoSuchNode, NotEmitted, SlotNotOpen}
-use Rattle.protocol.specs.Networks.{Net, Place, Reading, act_known, effect, emission, first_that, is_full, is_full_of_bytes, is_hosted, is_hosted_not, is_open_not, known, places_at, source, tests}
+use Rattle.protocol.specs.Networks.{Net, Place, Reading, act_known, effect, emission, first_that, room_test, bytes_test, is_hosted, hosted_test, open_test, node_where_open, places_at, source, tests}
 use Rattle.protocol.specs.Networks.Reading.{Read, Fault}
 use Rattle.protocol.specs.Networks.Step.{Delivers, Hears}
 use Rattle.protocol.specs.Rosters.{Roster, Source}
@@ -13,7 +13,7 @@ use Rattle.configuration.specs.Configs.{index_of_name}
 use Rattle.envstore.specs.Archives.{IsFiled, sent_of}
 use Rattle.envstore.specs.declared.filed.Filed.{Filed}
 use Rattle.slot.specs.declared.filed.FiledEvent.TheVariants as events
-use Rattle.network.specs.Deeds.{HasBytes, HasNoBytes, IsDrawn, IsPlan, IsRoom, IsSeat, IsSlotThere, index_of_slot, pair_source}
+use Rattle.network.specs.Deeds.{HasRoomForBytes, HasNoRoomForBytes, IsDrawn, IsPlan, IsRoom, IsSeat, IsSlotThere, index_of_slot, pair_source}
 use Rattle.network.specs.Lodgings.{Seat, slot_of}
 use Rattle.network.specs.Standing.{IsRefusal, IsStanding, Standing, StandsFor, machine_of}
 use Rattle.network.specs.Tellings.{nth_of}
@@ -21,14 +21,14 @@ use Rattle.network.specs.declared.plan.Deed.TheVariants.{Act, Hand}
 use Rattle.network.specs.declared.plan.Drawn.{Drawn}
 use Rattle.network.proofs.Allowed.{host_then, host-in, hosted, hosted-not, no_host, not_open, open_then, passes, refuses, stops}
 use Rattle.network.proofs.Openings.{none-so}
-use Rattle.network.proofs.Planned.{act-plan, hand-plan, known-seat, roster-in}
+use Rattle.network.proofs.Planned.{act-plan, hand-plan, node_where_open-seat, roster-in}
 
 -- ---- bytes
 pub bytes-nowhere : (m : Standing) (u size : ℕ) (d : Reading) → index_of_name m.config.hosts u ≡ None → IsRefusal (machine_of m) (Delivers u size d) NoSuchNode
 bytes-nowhere m u size (Read e) q =
     inr (λ net s.
     let src = source net.roster (Delivers u size (Read e)) in
-    no_host m net u ((is_hosted net e.sender, HostedSender) ∷ is_open_not net e.slot ∷ is_full net src ∷ is_full_of_bytes net src size ∷ []) s q)
+    no_host m net u ((is_hosted net e.sender, HostedSender) ∷ open_test net e.slot ∷ room_test net src ∷ bytes_test net src size ∷ []) s q)
 bytes-nowhere m u size (Fault n) q = inr (λ net s. no_host m net u ((true, BadEnvelope n) ∷ []) s q)
 
 pub bytes-bad : (m : Standing) (u h size n : ℕ) → index_of_name m.config.hosts u ≡ Some h → IsRefusal (machine_of m) (Delivers u size (Fault n)) (BadEnvelope n)
@@ -40,13 +40,13 @@ delivers-source None u size e = refl
 delivers-source (Some r) u size e = refl
 
 abbrev after_sender : Net → ℕ → Sent → Source → List (Bool × Refusal)
-after_sender net size e src = is_open_not net e.slot ∷ is_full net src ∷ is_full_of_bytes net src size ∷ []
+after_sender net size e src = open_test net e.slot ∷ room_test net src ∷ bytes_test net src size ∷ []
 
 -- what is tested once the node is there
 envelope-there : (m : Standing) (net : Net) (u h size : ℕ) (e : Sent) → index_of_name m.config.hosts u ≡ Some h → StandsFor (machine_of m) net
     → first_that (tests net (Delivers u size (Read e))) ≡ first_that ((is_hosted net e.sender, HostedSender) ∷ after_sender net size e (pair_source net.roster e.slot u e.sender))
 envelope-there m net u h size e q s =
-    ap (λ src. first_that (is_hosted_not net u ∷ (is_hosted net e.sender, HostedSender) ∷ after_sender net size e src)) (delivers-source net.roster u size e)
+    ap (λ src. first_that (hosted_test net u ∷ (is_hosted net e.sender, HostedSender) ∷ after_sender net size e src)) (delivers-source net.roster u size e)
     ∙ host_then m net u h ((is_hosted net e.sender, HostedSender) ∷ after_sender net size e (pair_source net.roster e.slot u e.sender)) s q
 
 pub sender-hosted : (m : Standing) (u h j size : ℕ) (e : Sent) → index_of_name m.config.hosts u ≡ Some h → index_of_name m.config.hosts e.sender ≡ Some j → IsRefusal (machine_of m) (Delivers u size (Read e)) HostedSender
@@ -70,7 +70,7 @@ pub envelope-closed : (m : Standing) (u h size : ℕ) (e : Sent) → index_of_na
 envelope-closed m u h size e q r c =
     inr (λ net s.
     let src = pair_source net.roster e.slot u e.sender in
-    from-stranger m net u h size e q r s ∙ not_open m net e.slot (is_full net src ∷ is_full_of_bytes net src size ∷ []) s c)
+    from-stranger m net u h size e q r s ∙ not_open m net e.slot (room_test net src ∷ bytes_test net src size ∷ []) s c)
 
 -- and the slot is open
 pub record IsReaching (m : Standing) (u h k : ℕ) (e : Sent) : Type 0 where
@@ -86,38 +86,38 @@ pub sender-room : {m : Standing} {u h k w : ℕ} {e : Sent} → IsReaching m u h
 sender-room {m} {u} {h} {k} {w} {e} x r same room = subst (λ v. IsRoom m (λ o. pair_source o e.slot u v) r) same (room e.slot x.slot)
 
 at-slot : (m : Standing) (net : Net) (u h k size : ℕ) (e : Sent) → IsReaching m u h k e → StandsFor (machine_of m) net
-    → first_that (tests net (Delivers u size (Read e))) ≡ first_that (is_full net (pair_source net.roster e.slot u e.sender) ∷ is_full_of_bytes net (pair_source net.roster e.slot u e.sender) size ∷ [])
+    → first_that (tests net (Delivers u size (Read e))) ≡ first_that (room_test net (pair_source net.roster e.slot u e.sender) ∷ bytes_test net (pair_source net.roster e.slot u e.sender) size ∷ [])
 at-slot m net u h k size e r s =
     let src = pair_source net.roster e.slot u e.sender in
-    from-stranger m net u h size e r.host r.stranger s ∙ open_then m net e.slot k (is_full net src ∷ is_full_of_bytes net src size ∷ []) s r.slot
+    from-stranger m net u h size e r.host r.stranger s ∙ open_then m net e.slot k (room_test net src ∷ bytes_test net src size ∷ []) s r.slot
 
 pub envelope-full : {m : Standing} {u h k : ℕ} {e : Sent} (size : ℕ) (x : Refusal) → IsReaching m u h k e → IsRoom m (λ o. pair_source o e.slot u e.sender) (Err x) → IsRefusal (machine_of m) (Delivers u size (Read e)) x
 envelope-full {m} {u} {h} {k} {e} size x r full =
     inr (λ net s.
     let src = pair_source net.roster e.slot u e.sender in
-    at-slot m net u h k size e r s ∙ stops (is_full net src) x (is_full_of_bytes net src size ∷ []) (full net s))
+    at-slot m net u h k size e r s ∙ stops (room_test net src) x (bytes_test net src size ∷ []) (full net s))
 
 -- and there is room for an event
 drawn-in : (m : Standing) (net : Net) (i u w : ℕ) (d : Drawn) → StandsFor (machine_of m) net → IsDrawn (machine_of m) d (pair_source m.config.roster i u w) → IsDrawn (machine_of m) d (pair_source net.roster i u w)
 drawn-in m net i u w d s h = subst (λ o. IsDrawn (machine_of m) d (pair_source o i u w)) (sym (roster-in m net s)) h
 
-pub envelope-large : {m : Standing} {u h k : ℕ} {e : Sent} (size : ℕ) (d : Drawn) (x : Refusal) → IsReaching m u h k e → IsRoom m (λ o. pair_source o e.slot u e.sender) (Ok d) → HasNoBytes (machine_of m) d size x
+pub envelope-large : {m : Standing} {u h k : ℕ} {e : Sent} (size : ℕ) (d : Drawn) (x : Refusal) → IsReaching m u h k e → IsRoom m (λ o. pair_source o e.slot u e.sender) (Ok d) → HasNoRoomForBytes (machine_of m) d size x
     → IsRefusal (machine_of m) (Delivers u size (Read e)) x
 envelope-large {m} {u} {h} {k} {e} size d x r room full =
     inr (λ net s.
     let src = pair_source net.roster e.slot u e.sender in
-    at-slot m net u h k size e r s ∙ passes (is_full net src) (is_full_of_bytes net src size ∷ []) (room.1 net s)
-    ∙ stops (is_full_of_bytes net src size) x [] (full src net (drawn-in m net e.slot u e.sender d s room.0) s))
+    at-slot m net u h k size e r s ∙ passes (room_test net src) (bytes_test net src size ∷ []) (room.1 net s)
+    ∙ stops (bytes_test net src size) x [] (full src net (drawn-in m net e.slot u e.sender d s room.0) s))
 
-pub envelope-plan : {m : Standing} {u h k : ℕ} {e : Sent} (size : ℕ) (d : Drawn) → IsStanding m → IsReaching m u h k e → IsRoom m (λ o. pair_source o e.slot u e.sender) (Ok d) → HasBytes (machine_of m) d size
+pub envelope-plan : {m : Standing} {u h k : ℕ} {e : Sent} (size : ℕ) (d : Drawn) → IsStanding m → IsReaching m u h k e → IsRoom m (λ o. pair_source o e.slot u e.sender) (Ok d) → HasRoomForBytes (machine_of m) d size
     → IsPlan m (Delivers u size (Read e)) (record { deed = Hand k h e; drawn = d; size = size })
 unfolding effect
 envelope-plan {m} {u} {h} {k} {e} size d st r room fits =
     hand-plan m (Delivers u size (Read e)) e.slot u k h size e d st r.slot r.host (subst (IsDrawn (machine_of m) d) (sym (delivers-source m.config.roster u size e)) room.0) refl refl refl (λ net. refl)
     (λ net s.
     let src = pair_source net.roster e.slot u e.sender in
-    at-slot m net u h k size e r s ∙ passes (is_full net src) (is_full_of_bytes net src size ∷ []) (room.1 net s)
-    ∙ passes (is_full_of_bytes net src size) [] (fits src net (drawn-in m net e.slot u e.sender d s room.0) s))
+    at-slot m net u h k size e r s ∙ passes (room_test net src) (bytes_test net src size ∷ []) (room.1 net s)
+    ∙ passes (bytes_test net src size) [] (fits src net (drawn-in m net e.slot u e.sender d s room.0) s))
 
 -- ---- what another node has emitted
 hears-source : (o : Option Roster) (i u w : ℕ) (kind : Kind) (n : ℕ) → source o (Hears i u w kind n) ≡ pair_source o i u w
@@ -129,7 +129,7 @@ abbrev apart : Net → ℕ → ℕ → Bool
 apart net u w = not (is_hosted net u) || not (is_hosted net w) || (u == w)
 
 abbrev after_nodes : Net → ℕ → ℕ → Kind → ℕ → Source → List (Bool × Refusal)
-after_nodes net i w kind n src = is_open_not net i ∷ (is_none (emission (known (places_at net.slots i) w) kind n), NotEmitted) ∷ is_full net src ∷ []
+after_nodes net i w kind n src = open_test net i ∷ (is_none (emission (node_where_open (places_at net.slots i) w) kind n), NotEmitted) ∷ room_test net src ∷ []
 
 hears-are : (net : Net) (i u w : ℕ) (kind : Kind) (n : ℕ) → first_that (tests net (Hears i u w kind n)) ≡ first_that ((apart net u w, NoSuchNode) ∷ after_nodes net i w kind n (pair_source net.roster i u w))
 hears-are net i u w kind n = ap (λ src. first_that ((apart net u w, NoSuchNode) ∷ after_nodes net i w kind n src)) (hears-source net.roster i u w kind n)
@@ -170,7 +170,7 @@ two-there m net i u h w j kind n two s =
 
 pub hears-closed : (m : Standing) (i u h w j : ℕ) (kind : Kind) (n : ℕ) → AreTwo m u h w j → index_of_slot (map slot_of (machine_of m).slots) i ≡ None → IsRefusal (machine_of m) (Hears i u w kind n) SlotNotOpen
 hears-closed m i u h w j kind n two c =
-    inr (λ net s. two-there m net i u h w j kind n two s ∙ not_open m net i ((is_none (emission (known (places_at net.slots i) w) kind n), NotEmitted) ∷ is_full net (pair_source net.roster i u w) ∷ []) s c)
+    inr (λ net s. two-there m net i u h w j kind n two s ∙ not_open m net i ((is_none (emission (node_where_open (places_at net.slots i) w) kind n), NotEmitted) ∷ room_test net (pair_source net.roster i u w) ∷ []) s c)
 
 -- what it has emitted
 told-nth : (p : Place) (kind : Kind) (n : ℕ) → emission (Some p) kind n ≡ nth_of kind n p.told
@@ -178,8 +178,8 @@ told-nth p kind zero = refl
 told-nth p kind (suc n) = refl
 
 emission-is : (m : Standing) (net : Net) (i w k j : ℕ) (kind : Kind) (n : ℕ) (y : Seat) (o : Option (Bor Filed)) → IsStanding m → StandsFor (machine_of m) net → IsSlotThere m i k → index_of_name m.config.hosts w ≡ Some j → IsSeat (machine_of m) k j y
-    → option_map (λ f. sent_of f.now) o ≡ nth_of kind n y.place.told → emission (known (places_at net.slots i) w) kind n ≡ option_map (λ f. sent_of f.now) o
-emission-is m net i w k j kind n y o st s q r is e = ap (λ x. emission x kind n) (known-seat m net i w k j y st s q r is) ∙ told-nth y.place kind n ∙ sym e
+    → option_map (λ f. sent_of f.now) o ≡ nth_of kind n y.place.told → emission (node_where_open (places_at net.slots i) w) kind n ≡ option_map (λ f. sent_of f.now) o
+emission-is m net i w k j kind n y o st s q r is e = ap (λ x. emission x kind n) (node_where_open-seat m net i w k j y st s q r is) ∙ told-nth y.place kind n ∙ sym e
 
 -- and the slot is open
 pub record IsHearing (m : Standing) (i u h w j k : ℕ) (kind : Kind) (n : ℕ) (y : Seat) (o : Option (Bor Filed)) : Type 0 where
@@ -194,27 +194,27 @@ pub hearing : {s : Standing} (m : Standing) (i u h w j k : ℕ) (kind : Kind) (n
 hearing m i u h w j k kind n y o seen st q r differ c is e = record { standing = subst IsStanding seen st; two = record { node = q; from = r; differ = differ }; slot = c; seat = is; sent = e }
 
 heard-at : (m : Standing) (net : Net) (i u h w j k : ℕ) (kind : Kind) (n : ℕ) (y : Seat) (o : Option (Bor Filed)) → IsHearing m i u h w j k kind n y o → StandsFor (machine_of m) net
-    → first_that (tests net (Hears i u w kind n)) ≡ first_that ((is_none (option_map (λ f. sent_of f.now) o), NotEmitted) ∷ is_full net (pair_source net.roster i u w) ∷ [])
+    → first_that (tests net (Hears i u w kind n)) ≡ first_that ((is_none (option_map (λ f. sent_of f.now) o), NotEmitted) ∷ room_test net (pair_source net.roster i u w) ∷ [])
 heard-at m net i u h w j k kind n y o x s =
-    let ts : List (Bool × Refusal) = is_full net (pair_source net.roster i u w) ∷ [] in
-    two-there m net i u h w j kind n x.two s ∙ open_then m net i k ((is_none (emission (known (places_at net.slots i) w) kind n), NotEmitted) ∷ ts) s x.slot
+    let ts : List (Bool × Refusal) = room_test net (pair_source net.roster i u w) ∷ [] in
+    two-there m net i u h w j kind n x.two s ∙ open_then m net i k ((is_none (emission (node_where_open (places_at net.slots i) w) kind n), NotEmitted) ∷ ts) s x.slot
     ∙ ap (λ z. first_that ((is_none z, NotEmitted) ∷ ts)) (emission-is m net i w k j kind n y o x.standing s x.slot x.two.from x.seat x.sent)
 
 pub hears-nothing : {m : Standing} {i u h w j k : ℕ} {kind : Kind} {n : ℕ} {y : Seat} {o : Option (Bor Filed)} → IsHearing m i u h w j k kind n y o → o ≡ None
     → IsRefusal (machine_of m) (Hears i u w kind n) NotEmitted
 hears-nothing {m} {i} {u} {h} {w} {j} {k} {kind} {n} {y} {o} x none =
-    inr (λ net s. heard-at m net i u h w j k kind n y o x s ∙ ap (λ z. first_that ((is_none (option_map (λ f. sent_of f.now) z), NotEmitted) ∷ is_full net (pair_source net.roster i u w) ∷ [])) none)
+    inr (λ net s. heard-at m net i u h w j k kind n y o x s ∙ ap (λ z. first_that ((is_none (option_map (λ f. sent_of f.now) z), NotEmitted) ∷ room_test net (pair_source net.roster i u w) ∷ [])) none)
 
 -- and there is such an emission
 heard-it : (m : Standing) (net : Net) (i u h w j k : ℕ) (kind : Kind) (n : ℕ) (y : Seat) (o : Option (Bor Filed)) (f : Bor Filed) → IsHearing m i u h w j k kind n y o → o ≡ Some f → StandsFor (machine_of m) net
-    → first_that (tests net (Hears i u w kind n)) ≡ first_that (is_full net (pair_source net.roster i u w) ∷ [])
+    → first_that (tests net (Hears i u w kind n)) ≡ first_that (room_test net (pair_source net.roster i u w) ∷ [])
 heard-it m net i u h w j k kind n y o f x some s =
-    heard-at m net i u h w j k kind n y o x s ∙ ap (λ z. first_that ((is_none (option_map (λ f. sent_of f.now) z), NotEmitted) ∷ is_full net (pair_source net.roster i u w) ∷ [])) some
+    heard-at m net i u h w j k kind n y o x s ∙ ap (λ z. first_that ((is_none (option_map (λ f. sent_of f.now) z), NotEmitted) ∷ room_test net (pair_source net.roster i u w) ∷ [])) some
 
 pub hears-full : {m : Standing} {i u h w j k : ℕ} {kind : Kind} {n : ℕ} {y : Seat} {o : Option (Bor Filed)} (f : Bor Filed) (e : Refusal) → IsHearing m i u h w j k kind n y o → o ≡ Some f
     → IsRoom m (λ o. pair_source o i u w) (Err e) → IsRefusal (machine_of m) (Hears i u w kind n) e
 hears-full {m} {i} {u} {h} {w} {j} {k} {kind} {n} {y} {o} f e x some full =
-    inr (λ net s. heard-it m net i u h w j k kind n y o f x some s ∙ stops (is_full net (pair_source net.roster i u w)) e [] (full net s))
+    inr (λ net s. heard-it m net i u h w j k kind n y o f x some s ∙ stops (room_test net (pair_source net.roster i u w)) e [] (full net s))
 
 pub hears-plan : {m : Standing} {i u h w j k : ℕ} {kind : Kind} {n : ℕ} {y : Seat} {o : Option (Bor Filed)} (f : Bor Filed) (d : Drawn) → IsHearing m i u h w j k kind n y o → o ≡ Some f
     → IsFiled m.archive f.now → IsRoom m (λ o. pair_source o i u w) (Ok d) → IsPlan m (Hears i u w kind n) (record { deed = Act k h (events.Take f.now); drawn = d; size = 0 })
@@ -222,4 +222,4 @@ unfolding effect
 hears-plan {m} {i} {u} {h} {w} {j} {k} {kind} {n} {y} {o} f d x some filed room =
     act-plan m (Hears i u w kind n) i u k h (events.Take f.now) d x.standing x.slot x.two.node filed (subst (IsDrawn (machine_of m) d) (sym (hears-source m.config.roster i u w kind n)) room.0) refl refl refl
     (λ net s. ap (act_known net i u) (emission-is m net i w k j kind n y o x.standing s x.slot x.two.from x.seat x.sent ∙ ap (option_map (λ f. sent_of f.now)) some))
-    (λ net s. heard-it m net i u h w j k kind n y o f x some s ∙ passes (is_full net (pair_source net.roster i u w)) [] (room.1 net s))
+    (λ net s. heard-it m net i u h w j k kind n y o f x some s ∙ passes (room_test net (pair_source net.roster i u w)) [] (room.1 net s))

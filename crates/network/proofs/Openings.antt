@@ -4,7 +4,7 @@ use Rattle.std.specs.List.{All}
 use Rattle.types.specs.Statements.{Sent}
 use Rattle.types.specs.declared.event.Refusal.{Refusal}
 use Rattle.types.specs.declared.event.Refusal.TheVariants.{SlotNotOpen, SlotOpenAlready, TooManySlots}
-use Rattle.protocol.specs.Networks.{Net, Place, Slot, effect, first_that, is_full, is_open, opened, source, tests}
+use Rattle.protocol.specs.Networks.{Net, Place, Slot, effect, first_that, room_test, is_open, nodes_of_new_slot, source, tests}
 use Rattle.protocol.specs.Networks.Step.{Opens, Closes}
 use Rattle.network.specs.Deeds.{IsPlan, IsRoom, IsSlotThere, index_of_slot}
 use Rattle.network.specs.Lodgings.{IsLodged, IsUncounted, Lodging, Lodgings, place_in, seat_of, seats_of, slot_of}
@@ -30,7 +30,7 @@ many-is m net s = (λ j. not (nat_lt (slots-in m net s j) (budget-in m net s j))
 
 pub opens-again : (m : Standing) (i k : ℕ) → IsSlotThere m i k → IsRefusal (machine_of m) (Opens i) SlotOpenAlready
 opens-again m i k q =
-    inr (λ net s. refuses (is_open net i) SlotOpenAlready ((too_many net, TooManySlots) ∷ is_full net (source net.roster (Opens i)) ∷ []) (opened_at net i k (slot-in m net i s ∙ q)))
+    inr (λ net s. refuses (is_open net i) SlotOpenAlready ((too_many net, TooManySlots) ∷ room_test net (source net.roster (Opens i)) ∷ []) (opened_at net i k (slot-in m net i s ∙ q)))
 
 pub opens-again-so : (m : Standing) (i : ℕ) → is_some (index_of_slot (map slot_of (machine_of m).slots) i) ≡ true → IsRefusal (machine_of m) (Opens i) SlotOpenAlready
 opens-again-so m i t = go (index_of_slot (map slot_of (machine_of m).slots) i) refl t
@@ -43,30 +43,30 @@ pub none-so : {X : Type 0} (o : Option X) → is_some o ≡ false → o ≡ None
 none-so None t = refl
 none-so (Some x) t = absurd (cc)
 
-opens-new : (m : Standing) (net : Net) (i : ℕ) → index_of_slot (map slot_of (machine_of m).slots) i ≡ None → StandsFor (machine_of m) net → first_that (tests net (Opens i)) ≡ first_that ((too_many net, TooManySlots) ∷ is_full net (source net.roster (Opens i)) ∷ [])
-opens-new m net i q s = passes (is_open net i, SlotOpenAlready) ((too_many net, TooManySlots) ∷ is_full net (source net.roster (Opens i)) ∷ []) (opened_not net i (slot-in m net i s ∙ q))
+opens-new : (m : Standing) (net : Net) (i : ℕ) → index_of_slot (map slot_of (machine_of m).slots) i ≡ None → StandsFor (machine_of m) net → first_that (tests net (Opens i)) ≡ first_that ((too_many net, TooManySlots) ∷ room_test net (source net.roster (Opens i)) ∷ [])
+opens-new m net i q s = passes (is_open net i, SlotOpenAlready) ((too_many net, TooManySlots) ∷ room_test net (source net.roster (Opens i)) ∷ []) (opened_not net i (slot-in m net i s ∙ q))
 
 pub opens-many : (m : Standing) (i : ℕ) → index_of_slot (map slot_of (machine_of m).slots) i ≡ None → not (nat_lt (length m.slots) m.config.budgets.slots) ≡ true → IsRefusal (machine_of m) (Opens i) TooManySlots
 opens-many m i q l =
-    inr (λ net s. opens-new m net i q s ∙ refuses (too_many net) TooManySlots (is_full net (source net.roster (Opens i)) ∷ []) (many-is m net s ∙ l))
+    inr (λ net s. opens-new m net i q s ∙ refuses (too_many net) TooManySlots (room_test net (source net.roster (Opens i)) ∷ []) (many-is m net s ∙ l))
 
-opens-few : (m : Standing) (net : Net) (i : ℕ) → index_of_slot (map slot_of (machine_of m).slots) i ≡ None → not (nat_lt (length m.slots) m.config.budgets.slots) ≡ false → StandsFor (machine_of m) net → first_that (tests net (Opens i)) ≡ first_that (is_full net (source net.roster (Opens i)) ∷ [])
-opens-few m net i q l s = opens-new m net i q s ∙ passes (too_many net, TooManySlots) (is_full net (source net.roster (Opens i)) ∷ []) (many-is m net s ∙ l)
+opens-few : (m : Standing) (net : Net) (i : ℕ) → index_of_slot (map slot_of (machine_of m).slots) i ≡ None → not (nat_lt (length m.slots) m.config.budgets.slots) ≡ false → StandsFor (machine_of m) net → first_that (tests net (Opens i)) ≡ first_that (room_test net (source net.roster (Opens i)) ∷ [])
+opens-few m net i q l s = opens-new m net i q s ∙ passes (too_many net, TooManySlots) (room_test net (source net.roster (Opens i)) ∷ []) (many-is m net s ∙ l)
 
 pub opens-full : (m : Standing) (i : ℕ) (r : Refusal) → index_of_slot (map slot_of (machine_of m).slots) i ≡ None → not (nat_lt (length m.slots) m.config.budgets.slots) ≡ false → IsRoom m (λ o. source o (Opens i)) (Err r) → IsRefusal (machine_of m) (Opens i) r
-opens-full m i r q l full = inr (λ net s. opens-few m net i q l s ∙ stops (is_full net (source net.roster (Opens i))) r [] (full net s))
+opens-full m i r q l full = inr (λ net s. opens-few m net i q l s ∙ stops (room_test net (source net.roster (Opens i))) r [] (full net s))
 
 seats-places : (ls : List Lodging) → map (λ x. x.place) (map seat_of ls) ≡ map place_in ls
 seats-places [] = refl
 seats-places (l ∷ ls) = ap (λ (ps : List Place). place_in l ∷ ps) (seats-places ls)
 
 pub opens-plan : (m : Standing) (i : ℕ) (d : Drawn) (x : Lodgings) → index_of_slot (map slot_of (machine_of m).slots) i ≡ None → not (nat_lt (length m.slots) m.config.budgets.slots) ≡ false → IsRoom m (λ o. source o (Opens i)) (Ok d)
-    → x.number ≡ i → map place_in x.places ≡ opened m.config.hosts i → ((archive : List Sent) → All (IsLodged archive) x.places) → All IsUncounted x.places → IsPlan m (Opens i) (record { deed = Open x; drawn = d; size = 0 })
+    → x.number ≡ i → map place_in x.places ≡ nodes_of_new_slot m.config.hosts i → ((archive : List Sent) → All (IsLodged archive) x.places) → All IsUncounted x.places → IsPlan m (Opens i) (record { deed = Open x; drawn = d; size = 0 })
 unfolding effect
 opens-plan m i d x q l room number places lodged counts = record {
-  allowed = λ net s. opens-few m net i q l s ∙ passes (is_full net (source net.roster (Opens i))) [] (room.1 net s);
+  allowed = λ net s. opens-few m net i q l s ∙ passes (room_test net (source net.roster (Opens i))) [] (room.1 net s);
   slots = λ net s.
-      let is : map (λ y. y.place) (map seat_of x.places) ≡ opened net.hosts i = seats-places x.places ∙ places ∙ ap (λ (n : Net). opened n.hosts i) (sym s.is) in
+      let is : map (λ y. y.place) (map seat_of x.places) ≡ nodes_of_new_slot net.hosts i = seats-places x.places ∙ places ∙ ap (λ (n : Net). nodes_of_new_slot n.hosts i) (sym s.is) in
       (λ j. net.slots ++ record { number = number j; places = is j } ∷ []);
   outs = λ net s. refl;
   named = ap Opens (sym number);
@@ -78,15 +78,15 @@ opens-plan m i d x q l room number places lodged counts = record {
 
 -- ---- closing
 pub closes-nowhere : (m : Standing) (i : ℕ) → index_of_slot (map slot_of (machine_of m).slots) i ≡ None → IsRefusal (machine_of m) (Closes i) SlotNotOpen
-closes-nowhere m i q = inr (λ net s. not_open m net i (is_full net (source net.roster (Closes i)) ∷ []) s q)
+closes-nowhere m i q = inr (λ net s. not_open m net i (room_test net (source net.roster (Closes i)) ∷ []) s q)
 
 pub closes-full : (m : Standing) (i k : ℕ) (r : Refusal) → IsSlotThere m i k → IsRoom m (λ o. source o (Closes i)) (Err r) → IsRefusal (machine_of m) (Closes i) r
-closes-full m i k r q full = inr (λ net s. open_then m net i k (is_full net (source net.roster (Closes i)) ∷ []) s q ∙ stops (is_full net (source net.roster (Closes i))) r [] (full net s))
+closes-full m i k r q full = inr (λ net s. open_then m net i k (room_test net (source net.roster (Closes i)) ∷ []) s q ∙ stops (room_test net (source net.roster (Closes i))) r [] (full net s))
 
 pub closes-plan : (m : Standing) (i k : ℕ) (d : Drawn) → IsStanding m → IsSlotThere m i k → IsRoom m (λ o. source o (Closes i)) (Ok d) → IsPlan m (Closes i) (record { deed = Close k; drawn = d; size = 0 })
 unfolding effect
 closes-plan m i k d st q room = record {
-  allowed = λ net s. open_then m net i k (is_full net (source net.roster (Closes i)) ∷ []) s q ∙ passes (is_full net (source net.roster (Closes i))) [] (room.1 net s);
+  allowed = λ net s. open_then m net i k (room_test net (source net.roster (Closes i)) ∷ []) s q ∙ passes (room_test net (source net.roster (Closes i))) [] (room.1 net s);
   slots = λ net s. removed-is (λ (x : Slot). x.number) net.slots i k (slot-in m net i s ∙ q) (neat-net (machine_of m) net st.tidy s).apart;
   outs = λ net s. refl;
   named = (i, refl);

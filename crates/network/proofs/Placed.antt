@@ -9,7 +9,7 @@ use Rattle.types.specs.declared.event.NodeEvent.{NodeEvent}
 use Rattle.std.proofs.Math.Seq.{drop-cons}
 use Rattle.std.proofs.lemmas.List.{map-append}
 use Rattle.protocol.specs.Nodes.{fresh}
-use Rattle.protocol.specs.Networks.{Host, Place, opened}
+use Rattle.protocol.specs.Networks.{Host, Place, nodes_of_new_slot}
 use Rattle.envstore.specs.declared.filed.Filed.{Filed}
 use Rattle.envstore.specs.Archives.{AreFiled, IsFiled, Keeps}
 use Rattle.protocol.specs.Hosts.{Config}
@@ -66,13 +66,13 @@ one-more-uncounted xs ys x is own heard all =
     subst (λ (zs : List Lodging). All IsUncounted zs) (sym is) (All-append IsUncounted xs (x ∷ []) all (All-cons IsUncounted x [] one (All-nil IsUncounted)))
 
 -- one host more
-pub opened-more : (old new : List Lodging) (start : List Place) (hosts : List Host) (i n : ℕ) (h : Host) (x : Lodging) → i < length hosts → h ≡ get_or hosts i h → new ≡ old ++ x ∷ []
-    → place_in x ≡ record { node = fresh n h.name h.slices; told = [] } → map place_in old ++ opened (drop i hosts) n ≡ start → map place_in new ++ opened (drop (i + 1) hosts) n ≡ start
-unfolding opened
-opened-more old new start hosts i n h x l is more made before =
+pub nodes_of_new_slot-more : (old new : List Lodging) (start : List Place) (hosts : List Host) (i n : ℕ) (h : Host) (x : Lodging) → i < length hosts → h ≡ get_or hosts i h → new ≡ old ++ x ∷ []
+    → place_in x ≡ record { node = fresh n h.name h.slices; told = [] } → map place_in old ++ nodes_of_new_slot (drop i hosts) n ≡ start → map place_in new ++ nodes_of_new_slot (drop (i + 1) hosts) n ≡ start
+unfolding nodes_of_new_slot
+nodes_of_new_slot-more old new start hosts i n h x l is more made before =
     let z : suc i ≡ i + 1 = omega arith in
-    let rest = opened (drop (i + 1) hosts) n in
-    let next : opened (drop i hosts) n ≡ place_in x ∷ rest = ap (λ (hs : List Host). opened hs n) (drop-cons hosts i h l ∙ (λ j. sym is j ∷ drop (z j) hosts)) ∙ ap (λ (q : Place). q ∷ rest) (sym made) in
+    let rest = nodes_of_new_slot (drop (i + 1) hosts) n in
+    let next : nodes_of_new_slot (drop i hosts) n ≡ place_in x ∷ rest = ap (λ (hs : List Host). nodes_of_new_slot hs n) (drop-cons hosts i h l ∙ (λ j. sym is j ∷ drop (z j) hosts)) ∙ ap (λ (q : Place). q ∷ rest) (sym made) in
     ap (λ (ls : List Lodging). map place_in ls ++ rest) more ∙ ap (λ (ps : List Place). ps ++ rest) (map-append place_in old (x ∷ [])) ∙ append_assoc (map place_in old) (place_in x ∷ []) rest
     ∙ sym (ap (λ (ps : List Place). map place_in old ++ ps) next) ∙ before
 

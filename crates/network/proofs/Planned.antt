@@ -5,24 +5,24 @@ use Rattle.types.specs.declared.event.NodeEvent.{NodeEvent}
 use Rattle.types.specs.declared.event.Out.{Out}
 use Rattle.types.specs.declared.event.Refusal.{Refusal}
 use Rattle.types.specs.declared.event.Refusal.TheVariants.{BadValue, ProposedAlready}
-use Rattle.protocol.specs.Networks.{Net, Step, act, effect, first_that, has_proposal, is_bad_value, is_full, is_hosted_not, is_open_not, known, outs_at, places_at, size_of, source, tests}
+use Rattle.protocol.specs.Networks.{Net, Step, act, effect, first_that, has_proposal, is_bad_value, room_test, hosted_test, open_test, node_where_open, outs_at, places_at, size_of, source, tests}
 use Rattle.protocol.specs.Rosters.{Roster, Source}
 use Rattle.slot.specs.Filings.{IsFiledEvent, event_of}
 use Rattle.slot.specs.declared.filed.FiledEvent.{FiledEvent}
 use Rattle.slot.specs.declared.filed.FiledEvent.TheVariants as events
 use Rattle.types.specs.Trees.{Slices}
-use Rattle.protocol.specs.Networks.Step.{Asks, NominationTimes, BallotTimes, Reslices}
+use Rattle.protocol.specs.Networks.Step.{Proposes, NominationTimerFires, BallotTimerFires, Reslices}
 use Rattle.configuration.specs.Configs.{index_of_name}
 use Rattle.network.specs.Deeds.{HasNoRoom, HasRoom, IsDrawn, IsNodeOf, IsNodeThere, IsOwnEvent, IsPlan, IsRoom, IsSeat, IsSlotThere, IsSpot, IsSpotRefused, acted, node_at, own_source}
 use Rattle.network.specs.Answers.{delivered_of}
 use Rattle.network.specs.Lodgings.{Seat, slot_of}
-use Rattle.network.specs.Marks.{place_named}
+use Rattle.network.specs.Marks.{slot_and_node_of}
 use Rattle.network.specs.Standing.{IsRefusal, IsStanding, Standing, StandsFor, machine_of}
 use Rattle.network.specs.declared.plan.Deed.TheVariants.{Act, Hand}
 use Rattle.network.specs.declared.plan.Drawn.{Drawn}
 use Rattle.network.specs.declared.plan.Spot.{Spot}
 use Rattle.network.proofs.Allowed.{host_then, host-in, open_then, passes, refuses, slot-in, stops}
-use Rattle.network.proofs.Plans.{acted-is, known-node, neat-net, node-there, outs-are, seat-place, seat-there}
+use Rattle.network.proofs.Plans.{acted-is, node_where_open-node, neat-net, node-there, outs-are, seat-place, seat-there}
 
 -- ---- one event of one node
 -- what is done by places is what the event does, in each network for which the machine stands
@@ -39,7 +39,7 @@ places-there m i u k h st q r =
     node-there (machine_of m) k h y.1 (y.0, y.2, y.3)
 
 -- an event that is filed
-pub act-plan : (m : Standing) (e : Step) (i u k h : ℕ) (x : FiledEvent) (d : Drawn) → IsStanding m → IsSlotThere m i k → index_of_name m.config.hosts u ≡ Some h → IsFiledEvent m.archive x → IsDrawn (machine_of m) d (source m.config.roster e) → size_of e ≡ 0 → place_named e ≡ Some (i, u) → delivered_of e ≡ None
+pub act-plan : (m : Standing) (e : Step) (i u k h : ℕ) (x : FiledEvent) (d : Drawn) → IsStanding m → IsSlotThere m i k → index_of_name m.config.hosts u ≡ Some h → IsFiledEvent m.archive x → IsDrawn (machine_of m) d (source m.config.roster e) → size_of e ≡ 0 → slot_and_node_of e ≡ Some (i, u) → delivered_of e ≡ None
     → ((net : Net) → StandsFor (machine_of m) net → effect net e ≡ act net i u (event_of x)) → ((net : Net) → StandsFor (machine_of m) net → first_that (tests net e) ≡ None)
     → IsPlan m e (record { deed = Act k h x; drawn = d; size = 0 })
 act-plan m e i u k h x d st q r filed drawn sized named none is allowed = record {
@@ -54,7 +54,7 @@ act-plan m e i u k h x d st q r filed drawn sized named none is allowed = record
 }
 
 -- an envelope that no archive has yet
-pub hand-plan : (m : Standing) (e : Step) (i u k h size : ℕ) (x : Sent) (d : Drawn) → IsStanding m → IsSlotThere m i k → index_of_name m.config.hosts u ≡ Some h → IsDrawn (machine_of m) d (source m.config.roster e) → size ≡ size_of e → place_named e ≡ Some (i, u) → delivered_of e ≡ Some x
+pub hand-plan : (m : Standing) (e : Step) (i u k h size : ℕ) (x : Sent) (d : Drawn) → IsStanding m → IsSlotThere m i k → index_of_name m.config.hosts u ≡ Some h → IsDrawn (machine_of m) d (source m.config.roster e) → size ≡ size_of e → slot_and_node_of e ≡ Some (i, u) → delivered_of e ≡ Some x
     → ((net : Net) → effect net e ≡ act net i u (NodeEvent.Take x)) → ((net : Net) → StandsFor (machine_of m) net → first_that (tests net e) ≡ None)
     → IsPlan m e (record { deed = Hand k h x; drawn = d; size = size })
 hand-plan m e i u k h size x d st q r drawn sized named taken is allowed = record {
@@ -71,28 +71,28 @@ hand-plan m e i u k h size x d st q r drawn sized named taken is allowed = recor
 -- ---- events of a node's own
 -- their tests, on what they draw
 abbrev own_tests_on : Net → ℕ → ℕ → Source → List (Bool × Refusal)
-own_tests_on net i u s = is_hosted_not net u ∷ is_open_not net i ∷ is_full net s ∷ []
+own_tests_on net i u s = hosted_test net u ∷ open_test net i ∷ room_test net s ∷ []
 
 pub own-plan : (m : Standing) (i u : ℕ) (sp : Spot) (x : FiledEvent) (d : Drawn) (e : Step) → IsStanding m → IsSpot m i u sp → IsFiledEvent m.archive x → IsRoom m (λ o. own_source o i u) (Ok d) → IsOwnEvent i u x e
     → IsPlan m e (record { deed = Act sp.slot_at sp.host_at x; drawn = d; size = 0 })
 own-plan m i u sp x d e st at filed room own =
     act-plan m e i u sp.slot_at sp.host_at x d st at.slot at.host filed (subst (IsDrawn (machine_of m) d) (sym (own.source_is m.config.roster)) room.0) own.size_is own.named_is own.none_is (λ net s. own.effect_is net)
-    (λ net s. ap first_that (own.tests_are net) ∙ host_then m net u sp.host_at (is_open_not net i ∷ is_full net (own_source net.roster i u) ∷ []) s at.host
-    ∙ open_then m net i sp.slot_at (is_full net (own_source net.roster i u) ∷ []) s at.slot ∙ passes (is_full net (own_source net.roster i u)) [] (room.1 net s))
+    (λ net s. ap first_that (own.tests_are net) ∙ host_then m net u sp.host_at (open_test net i ∷ room_test net (own_source net.roster i u) ∷ []) s at.host
+    ∙ open_then m net i sp.slot_at (room_test net (own_source net.roster i u) ∷ []) s at.slot ∙ passes (room_test net (own_source net.roster i u)) [] (room.1 net s))
 
 -- no such node, or no such slot
 pub own-nowhere : (m : Standing) (i u : ℕ) (x : FiledEvent) (e : Step) (r : Refusal) → IsSpotRefused m i u r → IsOwnEvent i u x e → IsRefusal (machine_of m) e r
-own-nowhere m i u x e r nowhere own = inr (λ net s. ap first_that (own.tests_are net) ∙ nowhere net s (is_full net (own_source net.roster i u) ∷ []))
+own-nowhere m i u x e r nowhere own = inr (λ net s. ap first_that (own.tests_are net) ∙ nowhere net s (room_test net (own_source net.roster i u) ∷ []))
 
 -- no room
 pub own-full : (m : Standing) (i u : ℕ) (sp : Spot) (x : FiledEvent) (e : Step) (r : Refusal) → IsSpot m i u sp → IsRoom m (λ o. own_source o i u) (Err r) → IsOwnEvent i u x e → IsRefusal (machine_of m) e r
 own-full m i u sp x e r at full own =
-    inr (λ net s. ap first_that (own.tests_are net) ∙ host_then m net u sp.host_at (is_open_not net i ∷ is_full net (own_source net.roster i u) ∷ []) s at.host
-    ∙ open_then m net i sp.slot_at (is_full net (own_source net.roster i u) ∷ []) s at.slot ∙ stops (is_full net (own_source net.roster i u)) r [] (full net s))
+    inr (λ net s. ap first_that (own.tests_are net) ∙ host_then m net u sp.host_at (open_test net i ∷ room_test net (own_source net.roster i u) ∷ []) s at.host
+    ∙ open_then m net i sp.slot_at (room_test net (own_source net.roster i u) ∷ []) s at.slot ∙ stops (room_test net (own_source net.roster i u)) r [] (full net s))
 
 -- an event whose tests and effect are those of a node's own, by what it draws on where there is a roster
 own-by : (i u : ℕ) (x : FiledEvent) (e : Step) → ((net : Net) → tests net e ≡ own_tests_on net i u (source net.roster e)) → ((net : Net) → effect net e ≡ act net i u (event_of x)) → ((r : Roster) → source (Some r) e ≡ own_source (Some r) i u)
-    → size_of e ≡ 0 → place_named e ≡ Some (i, u) → delivered_of e ≡ None → IsOwnEvent i u x e
+    → size_of e ≡ 0 → slot_and_node_of e ≡ Some (i, u) → delivered_of e ≡ None → IsOwnEvent i u x e
 own-by i u x e own does drawn sized named none = record { tests_are = λ net. own net ∙ ap (own_tests_on net i u) (at net.roster); effect_is = does; source_is = at; size_is = sized; named_is = named; none_is = none }
   where
     at : (o : Option Roster) → source o e ≡ own_source o i u
@@ -100,13 +100,13 @@ own-by i u x e own does drawn sized named none = record { tests_are = λ net. ow
     at (Some r) = drawn r
 
 -- timers and slices
-pub nomination-own : (i u r : ℕ) → IsOwnEvent i u (events.NominationTimer r) (NominationTimes i u r)
+pub nomination-own : (i u r : ℕ) → IsOwnEvent i u (events.NominationTimer r) (NominationTimerFires i u r)
 unfolding effect
-nomination-own i u r = own-by i u (events.NominationTimer r) (NominationTimes i u r) (λ net. refl) (λ net. refl) (λ x. refl) refl refl refl
+nomination-own i u r = own-by i u (events.NominationTimer r) (NominationTimerFires i u r) (λ net. refl) (λ net. refl) (λ x. refl) refl refl refl
 
-pub ballot-own : (i u n : ℕ) → IsOwnEvent i u (events.BallotTimer n) (BallotTimes i u n)
+pub ballot-own : (i u n : ℕ) → IsOwnEvent i u (events.BallotTimer n) (BallotTimerFires i u n)
 unfolding effect
-ballot-own i u n = own-by i u (events.BallotTimer n) (BallotTimes i u n) (λ net. refl) (λ net. refl) (λ x. refl) refl refl refl
+ballot-own i u n = own-by i u (events.BallotTimer n) (BallotTimerFires i u n) (λ net. refl) (λ net. refl) (λ x. refl) refl refl refl
 
 pub reslice-own : (i u : ℕ) (q : Slices) → IsOwnEvent i u (events.Reslice q) (Reslices i u q)
 unfolding effect
@@ -125,52 +125,52 @@ room-err m of d r drawn full = λ net s. full (of net.roster) net (subst (λ o. 
 -- ---- a proposal
 -- its tests, on what they draw
 abbrev asks_tests : Net → ℕ → ℕ → List ℕ → Source → List (Bool × Refusal)
-asks_tests net i u x s = is_hosted_not net u ∷ is_open_not net i ∷ (is_bad_value x, BadValue) ∷ (has_proposal (known (places_at net.slots i) u), ProposedAlready) ∷ is_full net s ∷ []
+asks_tests net i u x s = hosted_test net u ∷ open_test net i ∷ (is_bad_value x, BadValue) ∷ (has_proposal (node_where_open (places_at net.slots i) u), ProposedAlready) ∷ room_test net s ∷ []
 
-asks-source : (o : Option Roster) (i u : ℕ) (x : List ℕ) → source o (Asks i u x) ≡ own_source o i u
+asks-source : (o : Option Roster) (i u : ℕ) (x : List ℕ) → source o (Proposes i u x) ≡ own_source o i u
 asks-source None i u x = refl
 asks-source (Some r) i u x = refl
 
-asks-are : (net : Net) (i u : ℕ) (x : List ℕ) → first_that (tests net (Asks i u x)) ≡ first_that (asks_tests net i u x (own_source net.roster i u))
+asks-are : (net : Net) (i u : ℕ) (x : List ℕ) → first_that (tests net (Proposes i u x)) ≡ first_that (asks_tests net i u x (own_source net.roster i u))
 asks-are net i u x = ap (λ s. first_that (asks_tests net i u x s)) (asks-source net.roster i u x)
 
 -- what is tested once the node is there
 asks-there : (m : Standing) (net : Net) (i u : ℕ) (x : List ℕ) (sp : Spot) → IsSpot m i u sp → StandsFor (machine_of m) net
-    → first_that (tests net (Asks i u x)) ≡ first_that ((is_bad_value x, BadValue) ∷ (has_proposal (known (places_at net.slots i) u), ProposedAlready) ∷ is_full net (own_source net.roster i u) ∷ [])
+    → first_that (tests net (Proposes i u x)) ≡ first_that ((is_bad_value x, BadValue) ∷ (has_proposal (node_where_open (places_at net.slots i) u), ProposedAlready) ∷ room_test net (own_source net.roster i u) ∷ [])
 asks-there m net i u x sp at s =
-    let ts : List (Bool × Refusal) = (is_bad_value x, BadValue) ∷ (has_proposal (known (places_at net.slots i) u), ProposedAlready) ∷ is_full net (own_source net.roster i u) ∷ [] in
-    asks-are net i u x ∙ host_then m net u sp.host_at (is_open_not net i ∷ ts) s at.host ∙ open_then m net i sp.slot_at ts s at.slot
+    let ts : List (Bool × Refusal) = (is_bad_value x, BadValue) ∷ (has_proposal (node_where_open (places_at net.slots i) u), ProposedAlready) ∷ room_test net (own_source net.roster i u) ∷ [] in
+    asks-are net i u x ∙ host_then m net u sp.host_at (open_test net i ∷ ts) s at.host ∙ open_then m net i sp.slot_at ts s at.slot
 
-pub asks-nowhere : (m : Standing) (i u : ℕ) (x : List ℕ) (r : Refusal) → IsSpotRefused m i u r → IsRefusal (machine_of m) (Asks i u x) r
-asks-nowhere m i u x r nowhere = inr (λ net s. asks-are net i u x ∙ nowhere net s ((is_bad_value x, BadValue) ∷ (has_proposal (known (places_at net.slots i) u), ProposedAlready) ∷ is_full net (own_source net.roster i u) ∷ []))
+pub asks-nowhere : (m : Standing) (i u : ℕ) (x : List ℕ) (r : Refusal) → IsSpotRefused m i u r → IsRefusal (machine_of m) (Proposes i u x) r
+asks-nowhere m i u x r nowhere = inr (λ net s. asks-are net i u x ∙ nowhere net s ((is_bad_value x, BadValue) ∷ (has_proposal (node_where_open (places_at net.slots i) u), ProposedAlready) ∷ room_test net (own_source net.roster i u) ∷ []))
 
-pub asks-bad : (m : Standing) (i u : ℕ) (x : List ℕ) (sp : Spot) → IsSpot m i u sp → is_bad_value x ≡ true → IsRefusal (machine_of m) (Asks i u x) BadValue
-asks-bad m i u x sp at bad = inr (λ net s. asks-there m net i u x sp at s ∙ refuses (is_bad_value x) BadValue ((has_proposal (known (places_at net.slots i) u), ProposedAlready) ∷ is_full net (own_source net.roster i u) ∷ []) bad)
+pub asks-bad : (m : Standing) (i u : ℕ) (x : List ℕ) (sp : Spot) → IsSpot m i u sp → is_bad_value x ≡ true → IsRefusal (machine_of m) (Proposes i u x) BadValue
+asks-bad m i u x sp at bad = inr (λ net s. asks-there m net i u x sp at s ∙ refuses (is_bad_value x) BadValue ((has_proposal (node_where_open (places_at net.slots i) u), ProposedAlready) ∷ room_test net (own_source net.roster i u) ∷ []) bad)
 
 -- the node at the place of a name and an open slot
-pub known-seat : (m : Standing) (net : Net) (i u k h : ℕ) (y : Seat) → IsStanding m → StandsFor (machine_of m) net → IsSlotThere m i k → index_of_name m.config.hosts u ≡ Some h → IsSeat (machine_of m) k h y → known (places_at net.slots i) u ≡ Some y.place
-known-seat m net i u k h y st s q r is =
-    known-node net.hosts net.slots i u k h (neat-net (machine_of m) net st.tidy s) (slot-in m net i s ∙ q) (host-in m net u s ∙ r)
+pub node_where_open-seat : (m : Standing) (net : Net) (i u k h : ℕ) (y : Seat) → IsStanding m → StandsFor (machine_of m) net → IsSlotThere m i k → index_of_name m.config.hosts u ≡ Some h → IsSeat (machine_of m) k h y → node_where_open (places_at net.slots i) u ≡ Some y.place
+node_where_open-seat m net i u k h y st s q r is =
+    node_where_open-node net.hosts net.slots i u k h (neat-net (machine_of m) net st.tidy s) (slot-in m net i s ∙ q) (host-in m net u s ∙ r)
     ∙ ap (λ (n : Net). node_at (slice_get n.slots k) h) s.is ∙ seat-place (machine_of m) k h y is
 
 asks-good : (m : Standing) (net : Net) (i u : ℕ) (x : List ℕ) (sp : Spot) (y : Seat) (b : Bool) → IsStanding m → IsSpot m i u sp → IsSeat (machine_of m) sp.slot_at sp.host_at y → is_bad_value x ≡ false → b ≡ has_proposal (Some y.place) → StandsFor (machine_of m) net
-    → first_that (tests net (Asks i u x)) ≡ first_that ((b, ProposedAlready) ∷ is_full net (own_source net.roster i u) ∷ [])
+    → first_that (tests net (Proposes i u x)) ≡ first_that ((b, ProposedAlready) ∷ room_test net (own_source net.roster i u) ∷ [])
 asks-good m net i u x sp y b st at is good given s =
-    let ts : List (Bool × Refusal) = is_full net (own_source net.roster i u) ∷ [] in
-    asks-there m net i u x sp at s ∙ passes (is_bad_value x, BadValue) ((has_proposal (known (places_at net.slots i) u), ProposedAlready) ∷ ts) good
-    ∙ ap (λ (c : Bool). first_that ((c, ProposedAlready) ∷ ts)) (ap has_proposal (known-seat m net i u sp.slot_at sp.host_at y st s at.slot at.host is) ∙ sym given)
+    let ts : List (Bool × Refusal) = room_test net (own_source net.roster i u) ∷ [] in
+    asks-there m net i u x sp at s ∙ passes (is_bad_value x, BadValue) ((has_proposal (node_where_open (places_at net.slots i) u), ProposedAlready) ∷ ts) good
+    ∙ ap (λ (c : Bool). first_that ((c, ProposedAlready) ∷ ts)) (ap has_proposal (node_where_open-seat m net i u sp.slot_at sp.host_at y st s at.slot at.host is) ∙ sym given)
 
-pub asks-again : (m : Standing) (i u : ℕ) (x : List ℕ) (sp : Spot) (y : Seat) (b : Bool) → IsStanding m → IsSpot m i u sp → IsSeat (machine_of m) sp.slot_at sp.host_at y → is_bad_value x ≡ false → b ≡ has_proposal (Some y.place) → b ≡ true → IsRefusal (machine_of m) (Asks i u x) ProposedAlready
-asks-again m i u x sp y b st at is good given has = inr (λ net s. asks-good m net i u x sp y b st at is good given s ∙ refuses b ProposedAlready (is_full net (own_source net.roster i u) ∷ []) has)
+pub asks-again : (m : Standing) (i u : ℕ) (x : List ℕ) (sp : Spot) (y : Seat) (b : Bool) → IsStanding m → IsSpot m i u sp → IsSeat (machine_of m) sp.slot_at sp.host_at y → is_bad_value x ≡ false → b ≡ has_proposal (Some y.place) → b ≡ true → IsRefusal (machine_of m) (Proposes i u x) ProposedAlready
+asks-again m i u x sp y b st at is good given has = inr (λ net s. asks-good m net i u x sp y b st at is good given s ∙ refuses b ProposedAlready (room_test net (own_source net.roster i u) ∷ []) has)
 
 pub asks-full : (m : Standing) (i u : ℕ) (x : List ℕ) (sp : Spot) (y : Seat) (b : Bool) (r : Refusal) → IsStanding m → IsSpot m i u sp → IsSeat (machine_of m) sp.slot_at sp.host_at y → is_bad_value x ≡ false → b ≡ has_proposal (Some y.place) → b ≡ false → IsRoom m (λ o. own_source o i u) (Err r)
-    → IsRefusal (machine_of m) (Asks i u x) r
+    → IsRefusal (machine_of m) (Proposes i u x) r
 asks-full m i u x sp y b r st at is good given has full =
-    inr (λ net s. asks-good m net i u x sp y b st at is good given s ∙ passes (b, ProposedAlready) (is_full net (own_source net.roster i u) ∷ []) has ∙ stops (is_full net (own_source net.roster i u)) r [] (full net s))
+    inr (λ net s. asks-good m net i u x sp y b st at is good given s ∙ passes (b, ProposedAlready) (room_test net (own_source net.roster i u) ∷ []) has ∙ stops (room_test net (own_source net.roster i u)) r [] (full net s))
 
 pub asks-plan : (m : Standing) (i u : ℕ) (x : List ℕ) (sp : Spot) (y : Seat) (b : Bool) (d : Drawn) → IsStanding m → IsSpot m i u sp → IsSeat (machine_of m) sp.slot_at sp.host_at y → is_bad_value x ≡ false → b ≡ has_proposal (Some y.place) → b ≡ false → IsRoom m (λ o. own_source o i u) (Ok d)
-    → IsPlan m (Asks i u x) (record { deed = Act sp.slot_at sp.host_at (events.Propose x); drawn = d; size = 0 })
+    → IsPlan m (Proposes i u x) (record { deed = Act sp.slot_at sp.host_at (events.Propose x); drawn = d; size = 0 })
 unfolding effect
 asks-plan m i u x sp y b d st at is good given has room =
-    act-plan m (Asks i u x) i u sp.slot_at sp.host_at (events.Propose x) d st at.slot at.host tt (subst (IsDrawn (machine_of m) d) (sym (asks-source m.config.roster i u x)) room.0) refl refl refl (λ net s. refl)
-    (λ net s. asks-good m net i u x sp y b st at is good given s ∙ passes (b, ProposedAlready) (is_full net (own_source net.roster i u) ∷ []) has ∙ passes (is_full net (own_source net.roster i u)) [] (room.1 net s))
+    act-plan m (Proposes i u x) i u sp.slot_at sp.host_at (events.Propose x) d st at.slot at.host tt (subst (IsDrawn (machine_of m) d) (sym (asks-source m.config.roster i u x)) room.0) refl refl refl (λ net s. refl)
+    (λ net s. asks-good m net i u x sp y b st at is good given s ∙ passes (b, ProposedAlready) (room_test net (own_source net.roster i u) ∷ []) has ∙ passes (room_test net (own_source net.roster i u)) [] (room.1 net s))

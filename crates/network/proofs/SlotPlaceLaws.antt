@@ -14,7 +14,7 @@ use Rattle.network.specs.Changes.{IsChangedAt}
 use Rattle.network.specs.Charges.{IsSlotActed}
 use Rattle.network.specs.Doings.{slots_of}
 use Rattle.network.specs.Lodgings.{Lodgings}
-use Rattle.network.specs.SlotPlaces.{AreIndexed, all_closed_up, closed_up, kept_for, kept_with, kept_without, number_kept, numbers_of}
+use Rattle.network.specs.SlotPlaces.{AreIndexed, slot_places_without, place_without, kept_for, kept_with, kept_without, number_kept, numbers_of}
 use Rattle.network.specs.declared.plan.Charge.{Charge}
 use Rattle.network.specs.declared.slot_index.SlotPlace.{SlotPlace}
 use Rattle.network.proofs.Indexes.{another, at-index, at-none}
@@ -77,28 +77,28 @@ index-at (m ∷ ms) (suc k) n d l is =
     go false e q = ap (option_map suc) q
 
 -- ---- without one of them
-closed-first : (n : ℕ) → closed_up 0 (suc n) ≡ n
+closed-first : (n : ℕ) → place_without 0 (suc n) ≡ n
 closed-first n = grind (arith, nat_tests)
 
-closed-none : (k : ℕ) → closed_up (suc k) 0 ≡ 0
+closed-none : (k : ℕ) → place_without (suc k) 0 ≡ 0
 closed-none k = grind (arith, nat_tests)
 
-closed-more : (k n : ℕ) → closed_up (suc k) (suc n) ≡ suc (closed_up k n)
+closed-more : (k n : ℕ) → place_without (suc k) (suc n) ≡ suc (place_without k n)
 closed-more k n = grind (arith, nat_tests)
 
 pub index-removed : (ns : List ℕ) (n k i : ℕ) → all_differ ns ≡ true → index_in ns n ≡ Some k
-    → index_in (remove ns k) i ≡ (if n == i then None else option_map (closed_up k) (index_in ns i))
+    → index_in (remove ns k) i ≡ (if n == i then None else option_map (place_without k) (index_in ns i))
 index-removed [] n k i d h = absurd (cc)
 index-removed (m ∷ ms) n zero i d h =
     let same = eqb-true m n (at-first (m == n) (index_in ms n) h) in
-    subst (λ x. index_in ms i ≡ (if x == i then None else option_map (closed_up 0) (if m == i then Some 0 else option_map suc (index_in ms i)))) same (go (m == i) refl)
+    subst (λ x. index_in ms i ≡ (if x == i then None else option_map (place_without 0) (if m == i then Some 0 else option_map suc (index_in ms i)))) same (go (m == i) refl)
   where
-    back : (o : Option ℕ) → o ≡ option_map (closed_up 0) (option_map suc o)
+    back : (o : Option ℕ) → o ≡ option_map (place_without 0) (option_map suc o)
     back None = refl
     back (Some j) = ap Some (sym (closed-first j))
 
     go : (b : Bool) → (m == i) ≡ b
-        → index_in ms i ≡ (if b then None else option_map (closed_up 0) (if b then Some 0 else option_map suc (index_in ms i)))
+        → index_in ms i ≡ (if b then None else option_map (place_without 0) (if b then Some 0 else option_map suc (index_in ms i)))
     go true e = ap (index_in ms) (sym (eqb-true m i e)) ∙ (apart m ms d).first
     go false e = back (index_in ms i)
 index-removed (m ∷ ms) n (suc k) i d h =
@@ -106,14 +106,14 @@ index-removed (m ∷ ms) n (suc k) i d h =
     go (m == i) (n == i) (another m n i p.0) refl refl (index-removed ms n k i (apart m ms d).rest p.1)
   where
     more : (c : Bool) (o : Option ℕ)
-        → option_map suc (if c then None else option_map (closed_up k) o) ≡ (if c then None else option_map (closed_up (suc k)) (option_map suc o))
+        → option_map suc (if c then None else option_map (place_without k) o) ≡ (if c then None else option_map (place_without (suc k)) (option_map suc o))
     more true o = refl
     more false None = refl
     more false (Some j) = ap Some (sym (closed-more k j))
 
     go : (b c : Bool) → ((m == i) ≡ true → (n == i) ≡ false) → (m == i) ≡ b → (n == i) ≡ c
-        → index_in (remove ms k) i ≡ (if c then None else option_map (closed_up k) (index_in ms i))
-        → (if b then Some 0 else option_map suc (index_in (remove ms k) i)) ≡ (if c then None else option_map (closed_up (suc k)) (if b then Some 0 else option_map suc (index_in ms i)))
+        → index_in (remove ms k) i ≡ (if c then None else option_map (place_without k) (index_in ms i))
+        → (if b then Some 0 else option_map suc (index_in (remove ms k) i)) ≡ (if c then None else option_map (place_without (suc k)) (if b then Some 0 else option_map suc (index_in ms i)))
     go true true other e f ih = absurd (false≢true (sym (other e) ∙ f))
     go true false other e f ih = ap Some (sym (closed-none k))
     go false c other e f ih = ap (option_map suc) ih ∙ more c (index_in ms i)
@@ -141,35 +141,35 @@ kept-removed (e ∷ es) n (suc k) i d h =
     go false c other q f ih = ih
 
 kept-closed : (es : List SlotPlace) (k i : ℕ)
-    → kept_for (all_closed_up k es) i ≡ option_map (closed_up k) (kept_for es i)
+    → kept_for (slot_places_without k es) i ≡ option_map (place_without k) (kept_for es i)
 kept-closed [] k i = refl
 kept-closed (e ∷ es) k i = go (e.number == i) (kept-closed es k i)
   where
-    go : (b : Bool) → kept_for (all_closed_up k es) i ≡ option_map (closed_up k) (kept_for es i)
-        → (if b then Some (closed_up k e.place) else kept_for (all_closed_up k es) i) ≡ option_map (closed_up k) (if b then Some e.place else kept_for es i)
+    go : (b : Bool) → kept_for (slot_places_without k es) i ≡ option_map (place_without k) (kept_for es i)
+        → (if b then Some (place_without k e.place) else kept_for (slot_places_without k es) i) ≡ option_map (place_without k) (if b then Some e.place else kept_for es i)
     go true ih = refl
     go false ih = ih
 
 pub kept-gone : (es : List SlotPlace) (n k place i : ℕ) → all_differ (map number_kept es) ≡ true
     → index_in (map number_kept es) n ≡ Some k
-    → kept_for (all_closed_up place (remove es k)) i ≡ kept_without n place es i
-kept-gone es n k place i d h = kept-closed (remove es k) place i ∙ ap (option_map (closed_up place)) (kept-removed es n k i d h) ∙ go (n == i)
+    → kept_for (slot_places_without place (remove es k)) i ≡ kept_without n place es i
+kept-gone es n k place i d h = kept-closed (remove es k) place i ∙ ap (option_map (place_without place)) (kept-removed es n k i d h) ∙ go (n == i)
   where
     go : (b : Bool)
-        → option_map (closed_up place) (if b then None else kept_for es i) ≡ (if b then None else option_map (closed_up place) (kept_for es i))
+        → option_map (place_without place) (if b then None else kept_for es i) ≡ (if b then None else option_map (place_without place) (kept_for es i))
     go true = refl
     go false = refl
 
 -- what is written back into a list whose length stays
 pub written-back : (es rest lent new : List SlotPlace) (n k at : ℕ) → rest ≡ remove es at → lent ≡ rest
-    → new ≡ all_closed_up k lent → n ≡ length rest
-    → take n (new ++ drop (length new) rest) ≡ all_closed_up k (remove es at)
+    → new ≡ slot_places_without k lent → n ≡ length rest
+    → take n (new ++ drop (length new) rest) ≡ slot_places_without k (remove es at)
 written-back es rest lent new n k at r l c m =
-    let same : length new ≡ length rest = ap length c ∙ length-map lent (λ (e : SlotPlace). record { number = e.number; place = closed_up k e.place }) ∙ ap length l in
+    let same : length new ≡ length rest = ap length c ∙ length-map lent (λ (e : SlotPlace). record { number = e.number; place = place_without k e.place }) ∙ ap length l in
     ap (λ (j : ℕ). take j (new ++ drop (length new) rest)) (m ∙ sym same)
-    ∙ take-append_seam new (drop (length new) rest) ∙ c ∙ ap (all_closed_up k) (l ∙ r)
+    ∙ take-append_seam new (drop (length new) rest) ∙ c ∙ ap (slot_places_without k) (l ∙ r)
 
-pub closed-keys : (k : ℕ) (es : List SlotPlace) → map number_kept (all_closed_up k es) ≡ map number_kept es
+pub closed-keys : (k : ℕ) (es : List SlotPlace) → map number_kept (slot_places_without k es) ≡ map number_kept es
 closed-keys k [] = refl
 closed-keys k (e ∷ es) = ap (λ (ns : List ℕ). e.number ∷ ns) (closed-keys k es)
 
@@ -254,7 +254,7 @@ pub indexed-less : (slots : List Lodgings) (k : ℕ) (x : Lodgings) (old new : L
     → AreIndexed (remove slots k) new
 indexed-less slots k x old new d l is indexed forgotten = record {
   finds = λ i. forgotten i
-      ∙ ap (λ (o : Option ℕ). if x.number == i then None else option_map (closed_up k) o) (indexed.finds i)
+      ∙ ap (λ (o : Option ℕ). if x.number == i then None else option_map (place_without k) o) (indexed.finds i)
       ∙ sym (index-removed (numbers_of slots) x.number k i d (stands-at slots k x d l is))
       ∙ ap (λ ns. index_in ns i) (sym (map-remove number_at slots k));
 }

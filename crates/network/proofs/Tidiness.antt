@@ -8,10 +8,10 @@ use Rattle.types.specs.Statements.{Sent}
 use Rattle.types.specs.declared.event.NodeEvent.{NodeEvent}
 use Rattle.types.specs.declared.event.NodeEvent.TheVariants.{Propose, Take, NominationTimer, BallotTimer, Reslice}
 use Rattle.protocol.specs.Nodes.{fresh}
-use Rattle.protocol.specs.Networks.{Host, Net, Place, Slot, Step, act, act_in, act_known, effect, emission, first_that, is_full, is_open, known, moved, opened, places_at, source, tests}
+use Rattle.protocol.specs.Networks.{Host, Net, Place, Slot, Step, act, act_in, act_known, effect, emission, first_that, room_test, is_open, node_where_open, after_event, nodes_of_new_slot, places_at, source, tests}
 use Rattle.types.specs.declared.event.Refusal.TheVariants.{SlotOpenAlready, TooManySlots}
 use Rattle.protocol.specs.Networks.Reading.{Read, Fault}
-use Rattle.protocol.specs.Networks.Step.{Opens, Closes, Asks, Delivers, Hears, NominationTimes, BallotTimes, Reslices}
+use Rattle.protocol.specs.Networks.Step.{Opens, Closes, Proposes, Delivers, Hears, NominationTimerFires, BallotTimerFires, Reslices}
 use Rattle.protocol.proofs.Nodes.Emitted.{step-self}
 use Rattle.configuration.specs.Configs.{names_of}
 
@@ -27,16 +27,16 @@ pub record Neat (hosts : List Host) (slots : List Slot) : Type 0 where
   pub apart : all_differ (slot_numbers slots) ≡ true
 
 -- ---- an event of one node
-pub moved-name : (e : NodeEvent) (p : Place) → (moved e p).node.name ≡ p.node.name
-unfolding moved
-moved-name e p = step-self p.node e
+pub after_event-name : (e : NodeEvent) (p : Place) → (after_event e p).node.name ≡ p.node.name
+unfolding after_event
+after_event-name e p = step-self p.node e
 
 act-names : (u : ℕ) (e : NodeEvent) (ps : List Place) → names_at (act_in u e ps) ≡ names_at ps
 act-names u e [] = refl
 act-names u e (p ∷ ps) = ap₂ (λ (n : ℕ) (ns : List ℕ). n ∷ ns) (one (p.node.name == u)) (act-names u e ps)
   where
-    one : (b : Bool) → (if b then moved e p else p).node.name ≡ p.node.name
-    one true = moved-name e p
+    one : (b : Bool) → (if b then after_event e p else p).node.name ≡ p.node.name
+    one true = after_event-name e p
     one false = refl
 
 abbrev acted : ℕ → ℕ → NodeEvent → List Slot → List Slot
@@ -67,8 +67,8 @@ neat-known net i u None n = n
 neat-known net i u (Some e) n = neat-act net i u (Take e) n
 
 -- ---- opening
-fresh-names : (hosts : List Host) (i : ℕ) → names_at (opened hosts i) ≡ names_of hosts
-unfolding opened fresh
+fresh-names : (hosts : List Host) (i : ℕ) → names_at (nodes_of_new_slot hosts i) ≡ names_of hosts
+unfolding nodes_of_new_slot fresh
 fresh-names [] i = refl
 fresh-names (h ∷ hs) i = ap (λ (ns : List ℕ). h.name ∷ ns) (fresh-names hs i)
 
@@ -121,9 +121,9 @@ push-numbers : (ss : List Slot) (s : Slot) → slot_numbers (ss ++ s ∷ []) ≡
 push-numbers [] s = refl
 push-numbers (x ∷ xs) s = ap (λ (ns : List ℕ). x.number ∷ ns) (push-numbers xs s)
 
-neat-open : (net : Net) (i : ℕ) → is_open net i ≡ false → Neat net.hosts net.slots → Neat net.hosts (net.slots ++ record { number = i; places = opened net.hosts i } ∷ [])
+neat-open : (net : Net) (i : ℕ) → is_open net i ≡ false → Neat net.hosts net.slots → Neat net.hosts (net.slots ++ record { number = i; places = nodes_of_new_slot net.hosts i } ∷ [])
 neat-open net i out n =
-    let s : Slot = record { number = i; places = opened net.hosts i } in
+    let s : Slot = record { number = i; places = nodes_of_new_slot net.hosts i } in
     record {
       names = push-names (λ s. names_at s.places ≡ names_of net.hosts) net.slots s n.names (fresh-names net.hosts i);
       apart = ap all_differ (push-numbers net.slots s) ∙ push-apart (slot_numbers net.slots) i n.apart (absent net.slots i out);
@@ -172,25 +172,25 @@ pub neat : (net : Net) (e : Step) → IsFresh net e → Neat net.hosts net.slots
 unfolding effect
 neat net (Opens i) f n = neat-open net i f n
 neat net (Closes i) f n = neat-close net i n
-neat net (Asks i u x) f n = neat-act net i u (Propose x) n
+neat net (Proposes i u x) f n = neat-act net i u (Propose x) n
 neat net (Delivers u size (Read e)) f n = neat-act net e.slot u (Take e) n
 neat net (Delivers u size (Fault m)) f n = n
-neat net (Hears i u from kind k) f n = neat-known net i u (emission (known (places_at net.slots i) from) kind k) n
-neat net (NominationTimes i u r) f n = neat-act net i u (NominationTimer r) n
-neat net (BallotTimes i u c) f n = neat-act net i u (BallotTimer c) n
+neat net (Hears i u from kind k) f n = neat-known net i u (emission (node_where_open (places_at net.slots i) from) kind k) n
+neat net (NominationTimerFires i u r) f n = neat-act net i u (NominationTimer r) n
+neat net (BallotTimerFires i u c) f n = neat-act net i u (BallotTimer c) n
 neat net (Reslices i u q) f n = neat-act net i u (Reslice q) n
 
 -- an event that nothing refuses opens no slot that is open
 pub fresh-of : (net : Net) (e : Step) → first_that (tests net e) ≡ None → IsFresh net e
 fresh-of net (Opens i) h = go (is_open net i) h
   where
-    go : (b : Bool) → first_that ((b, SlotOpenAlready) ∷ (not (nat_lt (length net.slots) net.budgets.slots), TooManySlots) ∷ is_full net (source net.roster (Opens i)) ∷ []) ≡ None → b ≡ false
+    go : (b : Bool) → first_that ((b, SlotOpenAlready) ∷ (not (nat_lt (length net.slots) net.budgets.slots), TooManySlots) ∷ room_test net (source net.roster (Opens i)) ∷ []) ≡ None → b ≡ false
     go true h = absurd (cc)
     go false h = refl
 fresh-of net (Closes i) h = tt
-fresh-of net (Asks i u x) h = tt
+fresh-of net (Proposes i u x) h = tt
 fresh-of net (Delivers u size d) h = tt
 fresh-of net (Hears i u from kind k) h = tt
-fresh-of net (NominationTimes i u r) h = tt
-fresh-of net (BallotTimes i u c) h = tt
+fresh-of net (NominationTimerFires i u r) h = tt
+fresh-of net (BallotTimerFires i u c) h = tt
 fresh-of net (Reslices i u q) h = tt

@@ -1,7 +1,7 @@
 -- What an event adds to the counts of its node, and what that leaves of the nodes of a network.
 use Rattle.std.specs.Prelude.{◌≡◌, ◌⊎◌, ℕ, ◌<◌, ◌≤◌, ◌+◌, ◌^◌, ◌==◌, List, Some, slice_get, if◌then◌else◌, ⊤}
 use Rattle.types.specs.declared.event.NodeEvent.{NodeEvent}
-use Rattle.protocol.specs.Networks.{moved}
+use Rattle.protocol.specs.Networks.{after_event}
 use Rattle.network.specs.Changes.{IsChangedAt}
 use Rattle.network.specs.Lodgings.{Lodging, Lodgings, bytes_from, events_from, place_in}
 use Rattle.network.specs.TallyBooks.{TallyBook}
@@ -64,7 +64,7 @@ HasRoomToTally _ b = ⊤
 
 -- one event of the node, which is counted
 pub record IsActed (c : Charge) (e : NodeEvent) (old new : Lodging) : Type 0 where
-  pub place : place_in new ≡ moved e (place_in old)
+  pub place : place_in new ≡ after_event e (place_in old)
   pub charged : IsCharged c old new
 
 -- ---- at the open slots

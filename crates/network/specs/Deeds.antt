@@ -5,10 +5,10 @@ use Rattle.types.specs.Statements.{Sent}
 use Rattle.types.specs.declared.event.NodeEvent.{NodeEvent}
 use Rattle.types.specs.declared.event.Out.{Out}
 use Rattle.types.specs.declared.event.Refusal.{Refusal}
-use Rattle.protocol.specs.Networks.{Net, Place, Slot, Step, act, is_full, is_full_of_bytes, is_hosted_not, is_open_not, effect, first_that, moved, outs_at, size_of, source, tests}
+use Rattle.protocol.specs.Networks.{Net, Place, Slot, Step, act, room_test, bytes_test, hosted_test, open_test, effect, first_that, after_event, outs_at, size_of, source, tests}
 use Rattle.protocol.specs.Networks.Step.{Opens as StepOpens, Closes as StepCloses}
 use Rattle.slot.specs.declared.filed.FiledEvent.{FiledEvent}
-use Rattle.protocol.specs.Rosters.{Roster, Source, reserved}
+use Rattle.protocol.specs.Rosters.{Roster, Source, share_or_budgets}
 use Rattle.protocol.specs.Rosters.Share.{Own as OwnShare, Pair as PairShare}
 use Rattle.protocol.specs.Rosters.Source.{OfBudgets, OfOpens, OfShare}
 use Rattle.slot.specs.Filings.{IsFiledEvent, event_of}
@@ -16,7 +16,7 @@ use Rattle.network.specs.Changes.{changed_at}
 use Rattle.configuration.specs.Configs.{index_in, index_of_name}
 use Rattle.network.specs.Lodgings.{IsLodged, IsUncounted, Seat, Seats, seats_of, slot_of}
 use Rattle.network.specs.Answers.{delivered_of}
-use Rattle.network.specs.Marks.{place_named}
+use Rattle.network.specs.Marks.{slot_and_node_of}
 use Rattle.network.specs.Standing.{IsRefusal, Machine, Standing, StandsFor, machine_of}
 use Rattle.network.specs.declared.plan.Deed.{Deed}
 use Rattle.network.specs.declared.plan.Deed.TheVariants.{Open, Close, Act, Hand}
@@ -36,7 +36,7 @@ node_at (Some s) n = slice_get s.places n
 
 -- ---- what is done, by places
 abbrev pub acted : List Slot → ℕ → ℕ → NodeEvent → List Slot
-acted slots k h e = changed_at {X = Slot} k (λ (s : Slot). record s { places = changed_at h (moved e) s.places }) slots
+acted slots k h e = changed_at {X = Slot} k (λ (s : Slot). record s { places = changed_at h (after_event e) s.places }) slots
 
 abbrev pub slots_after : List Slot → Deed → List Slot
 slots_after slots (Open s) = slots ++ slot_of (seats_of s) ∷ []
@@ -68,11 +68,11 @@ IsNodeOf m None k h = ⊥
 IsNodeOf m (Some at) k h = (index_of_slot (map slot_of m.slots) at.0 ≡ Some k) × (index_of_name m.config.hosts at.1 ≡ Some h)
 
 -- the event opens this slot, closes one, or is one of the node at these places
-abbrev pub IsNamed : Machine → Step → Deed → Type 0
-IsNamed m e (Open s) = e ≡ StepOpens s.number
-IsNamed m e (Close k) = (i : ℕ) × (e ≡ StepCloses i)
-IsNamed m e (Act k h x) = IsNodeOf m (place_named e) k h
-IsNamed m e (Hand k h x) = IsNodeOf m (place_named e) k h
+abbrev pub IsEventOf : Machine → Step → Deed → Type 0
+IsEventOf m e (Open s) = e ≡ StepOpens s.number
+IsEventOf m e (Close k) = (i : ℕ) × (e ≡ StepCloses i)
+IsEventOf m e (Act k h x) = IsNodeOf m (slot_and_node_of e) k h
+IsEventOf m e (Hand k h x) = IsNodeOf m (slot_and_node_of e) k h
 
 -- the envelope that is filed when it is handed over
 abbrev pub handed : Deed → Option Sent
@@ -101,7 +101,7 @@ pub record IsPlan (m : Standing) (e : Step) (plan : Plan) : Type 0 where
   pub allowed : (net : Net) → StandsFor (machine_of m) net → first_that (tests net e) ≡ None
   pub slots : (net : Net) → StandsFor (machine_of m) net → slots_after net.slots plan.deed ≡ (effect net e).0.slots
   pub outs : (net : Net) → StandsFor (machine_of m) net → outs_after net.slots plan.deed ≡ (effect net e).1
-  pub named : IsNamed (machine_of m) e plan.deed
+  pub named : IsEventOf (machine_of m) e plan.deed
   pub handed : handed plan.deed ≡ delivered_of e
   pub drawn : IsDrawn (machine_of m) plan.drawn (source m.config.roster e)
   pub size : plan.size ≡ size_of e
@@ -118,17 +118,17 @@ IsDrawnThere m d = (s : Source) × IsDrawn m d s
 
 -- there is room on it for one more event, or there is none and this is the refusal, whatever network the machine stands for
 abbrev pub HasRoom : Machine → Drawn → Type 0
-HasRoom m d = (s : Source) (net : Net) → IsDrawn m d s → StandsFor m net → (is_full net s).0 ≡ false
+HasRoom m d = (s : Source) (net : Net) → IsDrawn m d s → StandsFor m net → (room_test net s).0 ≡ false
 
 abbrev pub HasNoRoom : Machine → Drawn → Refusal → Type 0
-HasNoRoom m d r = (s : Source) (net : Net) → IsDrawn m d s → StandsFor m net → is_full net s ≡ (true, r)
+HasNoRoom m d r = (s : Source) (net : Net) → IsDrawn m d s → StandsFor m net → room_test net s ≡ (true, r)
 
 -- the same of so many bytes more
-abbrev pub HasBytes : Machine → Drawn → ℕ → Type 0
-HasBytes m d size = (s : Source) (net : Net) → IsDrawn m d s → StandsFor m net → (is_full_of_bytes net s size).0 ≡ false
+abbrev pub HasRoomForBytes : Machine → Drawn → ℕ → Type 0
+HasRoomForBytes m d size = (s : Source) (net : Net) → IsDrawn m d s → StandsFor m net → (bytes_test net s size).0 ≡ false
 
-abbrev pub HasNoBytes : Machine → Drawn → ℕ → Refusal → Type 0
-HasNoBytes m d size r = (s : Source) (net : Net) → IsDrawn m d s → StandsFor m net → is_full_of_bytes net s size ≡ (true, r)
+abbrev pub HasNoRoomForBytes : Machine → Drawn → ℕ → Refusal → Type 0
+HasNoRoomForBytes m d size r = (s : Source) (net : Net) → IsDrawn m d s → StandsFor m net → bytes_test net s size ≡ (true, r)
 
 -- what comes to a node draws on the budgets or on what it gets from a name
 abbrev pub IsPaired : Drawn → Type 0
@@ -141,17 +141,17 @@ IsPaired (Pair k h u) = ⊤
 -- one of its own
 abbrev pub own_source : Option Roster → ℕ → ℕ → Source
 own_source None i u = OfBudgets
-own_source (Some r) i u = reserved r i (OwnShare u)
+own_source (Some r) i u = share_or_budgets r i (OwnShare u)
 
 -- what comes to it from a name
 abbrev pub pair_source : Option Roster → ℕ → ℕ → ℕ → Source
 pair_source None i u from = OfBudgets
-pair_source (Some r) i u from = reserved r i (PairShare u from)
+pair_source (Some r) i u from = share_or_budgets r i (PairShare u from)
 
 -- on what is drawn, where there is room on it for one more event, or the refusal where there is none
 abbrev pub IsRoom : Standing → (Option Roster → Source) → Result Drawn Refusal → Type 0
-IsRoom m of (Ok d) = IsDrawn (machine_of m) d (of m.config.roster) × ((net : Net) → StandsFor (machine_of m) net → (is_full net (of net.roster)).0 ≡ false)
-IsRoom m of (Err r) = (net : Net) → StandsFor (machine_of m) net → is_full net (of net.roster) ≡ (true, r)
+IsRoom m of (Ok d) = IsDrawn (machine_of m) d (of m.config.roster) × ((net : Net) → StandsFor (machine_of m) net → (room_test net (of net.roster)).0 ≡ false)
+IsRoom m of (Err r) = (net : Net) → StandsFor (machine_of m) net → room_test net (of net.roster) ≡ (true, r)
 
 -- the slot stands there
 abbrev pub IsSlotThere : Standing → ℕ → ℕ → Type 0
@@ -171,11 +171,11 @@ pub record IsSpot (m : Standing) (i u : ℕ) (s : Spot) : Type 0 where
 
 -- the node is not hosted, or the slot is not open
 abbrev pub IsSpotRefused : Standing → ℕ → ℕ → Refusal → Type 0
-IsSpotRefused m i u r = (net : Net) → StandsFor (machine_of m) net → (ts : List (Bool × Refusal)) → first_that (is_hosted_not net u ∷ is_open_not net i ∷ ts) ≡ Some r
+IsSpotRefused m i u r = (net : Net) → StandsFor (machine_of m) net → (ts : List (Bool × Refusal)) → first_that (hosted_test net u ∷ open_test net i ∷ ts) ≡ Some r
 
 -- all of them, in their order
 abbrev pub own_tests : Net → ℕ → ℕ → List (Bool × Refusal)
-own_tests net i u = is_hosted_not net u ∷ is_open_not net i ∷ is_full net (own_source net.roster i u) ∷ []
+own_tests net i u = hosted_test net u ∷ open_test net i ∷ room_test net (own_source net.roster i u) ∷ []
 
 -- an event of a node's own that nothing else refuses
 pub record IsOwnEvent (i u : ℕ) (x : FiledEvent) (e : Step) : Type 0 where
@@ -183,7 +183,7 @@ pub record IsOwnEvent (i u : ℕ) (x : FiledEvent) (e : Step) : Type 0 where
   pub effect_is : (net : Net) → effect net e ≡ act net i u (event_of x)
   pub source_is : (o : Option Roster) → source o e ≡ own_source o i u
   pub size_is : size_of e ≡ 0
-  pub named_is : place_named e ≡ Some (i, u)
+  pub named_is : slot_and_node_of e ≡ Some (i, u)
   pub none_is : delivered_of e ≡ None
 
 -- a plan for it, or a refusal

@@ -2,21 +2,21 @@
 use Rattle.std.specs.Prelude.{ℕ, suc, List, [], ◌∷◌, ◌++◌, length, filter, Option, Some, None}
 use Rattle.types.specs.Statements.{Sent, kind_of}
 use Rattle.protocol.specs.Rows.{is_kind}
-use Rattle.protocol.specs.Networks.{Net, Place, Step, effect, emissions, known, places_at}
+use Rattle.protocol.specs.Networks.{Net, Place, Step, effect, emissions, node_where_open, places_at}
 use Rattle.protocol.specs.Networks.Reading.{Read, Fault}
-use Rattle.protocol.specs.Networks.Step.{Opens, Closes, Asks, Delivers, Hears, NominationTimes, BallotTimes, Reslices}
+use Rattle.protocol.specs.Networks.Step.{Opens, Closes, Proposes, Delivers, Hears, NominationTimerFires, BallotTimerFires, Reslices}
 
 -- the slot and the node of an event that is one of a node
-abbrev pub place_named : Step → Option (ℕ × ℕ)
-place_named (Opens i) = None
-place_named (Closes i) = None
-place_named (Asks i u x) = Some (i, u)
-place_named (Delivers u size (Read e)) = Some (e.slot, u)
-place_named (Delivers u size (Fault n)) = None
-place_named (Hears i u from kind k) = Some (i, u)
-place_named (NominationTimes i u r) = Some (i, u)
-place_named (BallotTimes i u n) = Some (i, u)
-place_named (Reslices i u q) = Some (i, u)
+abbrev pub slot_and_node_of : Step → Option (ℕ × ℕ)
+slot_and_node_of (Opens i) = None
+slot_and_node_of (Closes i) = None
+slot_and_node_of (Proposes i u x) = Some (i, u)
+slot_and_node_of (Delivers u size (Read e)) = Some (e.slot, u)
+slot_and_node_of (Delivers u size (Fault n)) = None
+slot_and_node_of (Hears i u from kind k) = Some (i, u)
+slot_and_node_of (NominationTimerFires i u r) = Some (i, u)
+slot_and_node_of (BallotTimerFires i u n) = Some (i, u)
+slot_and_node_of (Reslices i u q) = Some (i, u)
 
 -- what a node has emitted
 abbrev pub told_at : Option Place → List Sent
@@ -26,7 +26,7 @@ told_at (Some p) = p.told
 -- what the node of an event has emitted before it, since its slot was opened
 abbrev pub told_before : Net → Option (ℕ × ℕ) → List Sent
 told_before net None = []
-told_before net (Some at) = told_at (known (places_at net.slots at.0) at.1)
+told_before net (Some at) = told_at (node_where_open (places_at net.slots at.0) at.1)
 
 -- the number of each emission among those of its kind, after these
 unfoldable pub numbered : List Sent → List Sent → List ℕ
@@ -35,4 +35,4 @@ numbered told (e ∷ es) = suc (length (filter (λ x. is_kind (kind_of e.body) (
 
 -- the marks of an event that is not refused: by which number a Hear names each of its emissions
 abbrev pub marks_in : Net → Step → List ℕ
-marks_in net e = numbered (told_before net (place_named e)) (emissions (effect net e).1)
+marks_in net e = numbered (told_before net (slot_and_node_of e)) (emissions (effect net e).1)

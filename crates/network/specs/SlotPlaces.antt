@@ -14,12 +14,12 @@ abbrev pub kept_for : List SlotPlace → ℕ → Option ℕ
 kept_for es i = at_key number_kept (λ e. e.place) es i
 
 -- a place, once what stood at another one is gone: one less where it lay behind that
-abbrev pub closed_up : ℕ → ℕ → ℕ
-closed_up k n = if nat_lt k n then n - 1 else n
+abbrev pub place_without : ℕ → ℕ → ℕ
+place_without k n = if nat_lt k n then n - 1 else n
 
 -- the same of each place that is kept
-abbrev pub all_closed_up : ℕ → List SlotPlace → List SlotPlace
-all_closed_up k es = map (λ e. record { number = e.number; place = closed_up k e.place }) es
+abbrev pub slot_places_without : ℕ → List SlotPlace → List SlotPlace
+slot_places_without k es = map (λ e. record { number = e.number; place = place_without k e.place }) es
 
 -- what is kept for a number, once a place is kept for another one too
 abbrev pub kept_with : ℕ → ℕ → List SlotPlace → ℕ → Option ℕ
@@ -27,7 +27,7 @@ kept_with number place es i = if number == i then Some place else kept_for es i
 
 -- what is kept for a number, once the slot of another one is gone from this place
 abbrev pub kept_without : ℕ → ℕ → List SlotPlace → ℕ → Option ℕ
-kept_without number place es i = if number == i then None else option_map (closed_up place) (kept_for es i)
+kept_without number place es i = if number == i then None else option_map (place_without place) (kept_for es i)
 
 -- ---- the open slots
 abbrev pub numbers_of : List Lodgings → List ℕ

@@ -7,7 +7,7 @@ use Rattle.types.specs.declared.event.Out.{Out}
 use Rattle.types.specs.declared.event.Refusal.{Refusal}
 use Rattle.types.specs.declared.event.Refusal.TheVariants.{NoMemory}
 use Rattle.protocol.specs.Hosts.{Config}
-use Rattle.protocol.specs.Networks.{Net, Step, first_that, known, net_step, places_at, tests}
+use Rattle.protocol.specs.Networks.{Net, Step, first_that, node_where_open, net_step, places_at, tests}
 use Rattle.protocol.specs.Networks.Reply.{Done}
 use Rattle.protocol.specs.Rosters.{Draw}
 use Rattle.configuration.specs.Configs.{names_of}
@@ -73,7 +73,7 @@ pub record IsStanding (m : Standing) : Type 0 where
 -- ---- what is read of a node
 -- the slices of a node at a slot of a network, as they are now; there are none where the slot is not open, and where the node is not hosted
 abbrev pub slices_at : Net → ℕ → ℕ → Option Slices
-slices_at net i u = option_map (λ p. p.node.slices) (known (places_at net.slots i) u)
+slices_at net i u = option_map (λ p. p.node.slices) (node_where_open (places_at net.slots i) u)
 
 -- ---- what an event is answered
 -- it is the network's step, for each network for which the machine stands

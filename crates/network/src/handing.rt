@@ -48,7 +48,7 @@ impl<S: Shelf> Network<S> {
         let slot_at = self.open_slot(envelope.slot())?;
         let spot = Spot { slot_at, host_at };
         let drawn = self.pair_room(&spot, node, envelope.sender())?;
-        self.has_bytes(&drawn, size)?;
+        self.has_room_for_bytes(&drawn, size)?;
         Ok(Plan {
             deed: Deed::Hand {
                 slot_at,

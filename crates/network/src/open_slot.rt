@@ -3,7 +3,7 @@
 ghost use Rattle.std.specs.Prelude.{◌≡◌, ◌<◌, IfOk, IfSome, List, OnErr, OnOk, length, map, slice_get};
 ghost use Rattle.std.specs.List.{All};
 ghost use Rattle.envstore.specs.Archives.{Keeps};
-ghost use Rattle.protocol.specs.Networks.{emissions, opened, outs_at};
+ghost use Rattle.protocol.specs.Networks.{emissions, nodes_of_new_slot, outs_at};
 ghost use Rattle.network.specs.Marks.{numbered, told_at};
 ghost use Rattle.slot.specs.Filings.{AreFiledOuts, IsFiledEvent, event_of};
 ghost use Rattle.network.specs.Changes.{IsChangedAt};
@@ -48,7 +48,7 @@ impl OpenSlot {
         config: &NetConfig,
     ) -> Result<OpenSlot, AllocError>
         ensures number { IfOk result (λ s. s.number ≡ number) }
-        ensures places { IfOk result (λ s. map place_in s.places ≡ opened config.now.hosts number) }
+        ensures places { IfOk result (λ s. map place_in s.places ≡ nodes_of_new_slot config.now.hosts number) }
         ensures lodged { IfOk result (λ s. (archive : List Sent) → All (IsLodged archive) s.places) }
         ensures counts { IfOk result (λ s. All IsUncounted s.places) }
     {
@@ -95,9 +95,9 @@ impl OpenSlot {
 }
 
 /// A fresh node for each host. An error says that memory is short.
-#[tactic(auto, unfolding(protocol::specs::Networks::opened))]
+#[tactic(auto, unfolding(protocol::specs::Networks::nodes_of_new_slot))]
 fn fresh_places(alloc: Global, number: u64, hosts: &[Host]) -> Result<Vec<Place>, AllocError>
-    ensures places { IfOk result (λ v. map place_in v.items ≡ opened hosts.now number) }
+    ensures places { IfOk result (λ v. map place_in v.items ≡ nodes_of_new_slot hosts.now number) }
     ensures lodged { IfOk result (λ v. (archive : List Sent) → All (IsLodged archive) v.items) }
     ensures counts { IfOk result (λ v. All IsUncounted v.items) }
 {

@@ -3,7 +3,7 @@
 ghost use Rattle.std.specs.Prelude.{◌≡◌, ◌++◌, [], IfOk, IfSome, List, OnErr, OnOk, Some, option_map};
 ghost use Rattle.types.specs.Statements.{Sent};
 ghost use Rattle.envstore.specs.Archives.{AreFiled, IsFiled, Keeps, sent_of, sents_of};
-ghost use Rattle.protocol.specs.Networks.{emissions, has_proposal, moved};
+ghost use Rattle.protocol.specs.Networks.{emissions, has_proposal, after_event};
 ghost use Rattle.protocol.specs.Nodes.{fresh, step};
 ghost use Rattle.network.specs.Marks.{numbered};
 ghost use Rattle.slot.specs.Filings.{AreFiledOuts, IsFiledEvent, event_of};
@@ -103,7 +103,7 @@ impl Place {
 
     /// One event of the node; what it emits is kept, and the event is counted where it draws on a share of the
     /// node. An error says that memory is short; then nothing happened but that the archive may have more.
-    #[tactic(auto, unfolding(protocol::specs::Networks::moved))]
+    #[tactic(auto, unfolding(protocol::specs::Networks::after_event))]
     pub(crate) fn act<S: Shelf>(
         &mut self,
         archive: &mut Archive<S>,

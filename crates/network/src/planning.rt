@@ -2,7 +2,7 @@
 
 ghost use Rattle.std.specs.Prelude.{◌≡◌, MatchResult, Some, length, nat_lt, not, ℕ};
 ghost use Rattle.protocol.specs.Networks.{is_bad_value};
-ghost use Rattle.protocol.specs.Networks.Step.{Opens, Closes, Asks, NominationTimes, BallotTimes, Reslices};
+ghost use Rattle.protocol.specs.Networks.Step.{Opens, Closes, Proposes, NominationTimerFires, BallotTimerFires, Reslices};
 ghost use Rattle.configuration.specs.Configs.{index_of_name};
 ghost use Rattle.network.specs.Decoding.{step_of};
 ghost use Rattle.network.specs.Deeds.{IsOwnRoom, IsPlanned, IsPlannedOwn, IsSlotThere, IsSpot, IsSpotRefused};
@@ -101,7 +101,7 @@ impl<S: Shelf> Network<S> {
 
     /// What is to be done where a node is to propose a value: 1 to 256 bytes.
     fn plan_propose(&self, slot: u64, node: &NodeId, value: &[u8]) -> Result<Plan, Refusal>
-        ensures { IsPlanned self.now (Asks slot node.now value.now) result }
+        ensures { IsPlanned self.now (Proposes slot node.now value.now) result }
     {
         let _slots = &self.slots;
         let spot = self.spot(slot, node)?;
@@ -120,14 +120,14 @@ impl<S: Shelf> Network<S> {
 
     /// What is to be done where a node's nomination timer fires.
     fn plan_nomination_timer(&self, slot: u64, node: &NodeId, round: u32) -> Result<Plan, Refusal>
-        ensures { IsPlanned self.now (NominationTimes slot node.now round) result }
+        ensures { IsPlanned self.now (NominationTimerFires slot node.now round) result }
     {
         self.plan_own(slot, node, FiledEvent::NominationTimer(round))
     }
 
     /// What is to be done where a node's ballot timer fires.
     fn plan_ballot_timer(&self, slot: u64, node: &NodeId, counter: u32) -> Result<Plan, Refusal>
-        ensures { IsPlanned self.now (BallotTimes slot node.now counter) result }
+        ensures { IsPlanned self.now (BallotTimerFires slot node.now counter) result }
     {
         self.plan_own(slot, node, FiledEvent::BallotTimer(counter))
     }

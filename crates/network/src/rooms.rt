@@ -4,7 +4,7 @@ ghost use Rattle.std.specs.Prelude.{◌≡◌, ◌≤◌, ◌<◌, ◌+◌, ℕ,
 ghost use Rattle.protocol.specs.Networks.{source};
 ghost use Rattle.protocol.specs.Networks.Step.{Opens, Closes};
 ghost use Rattle.configuration.specs.Configs.{index_of_name};
-ghost use Rattle.network.specs.Deeds.{HasNoBytes, HasNoRoom, HasBytes, HasRoom, IsDrawn, IsDrawnThere, IsNodeThere, IsPaired, index_of_slot, own_source, pair_source};
+ghost use Rattle.network.specs.Deeds.{HasNoRoomForBytes, HasNoRoom, HasRoomForBytes, HasRoom, IsDrawn, IsDrawnThere, IsNodeThere, IsPaired, index_of_slot, own_source, pair_source};
 ghost use Rattle.network.specs.Lodgings.{slot_of};
 ghost use Rattle.network.specs.Standing.{machine_of};
 ghost use Rattle.network.specs.declared.plan.Drawn.TheVariants.{Own, Pair};
@@ -109,10 +109,10 @@ impl<S: Shelf> Network<S> {
     }
 
     /// Whether there is room for so many bytes more on what is drawn by what comes to a node.
-    pub(crate) fn has_bytes(&self, drawn: &Drawn, size: u64) -> Result<(), Refusal>
+    pub(crate) fn has_room_for_bytes(&self, drawn: &Drawn, size: u64) -> Result<(), Refusal>
         requires drawn { IsDrawnThere (machine_of self.now) drawn.now }
         requires paired { IsPaired drawn.now }
-        ensures { MatchResult result (λ _. HasBytes (machine_of self.now) drawn.now size) (λ r. HasNoBytes (machine_of self.now) drawn.now size r) }
+        ensures { MatchResult result (λ _. HasRoomForBytes (machine_of self.now) drawn.now size) (λ r. HasNoRoomForBytes (machine_of self.now) drawn.now size r) }
     {
         match drawn {
             Drawn::Budgets => {
@@ -127,13 +127,13 @@ impl<S: Shelf> Network<S> {
                 slot_at,
                 host_at,
                 from,
-            } => self.has_pair_bytes(*slot_at, *host_at, from, size),
+            } => self.has_pair_room_for_bytes(*slot_at, *host_at, from, size),
             Drawn::Opens | Drawn::Own { .. } => unreachable!(),
         }
     }
 
     /// Whether there is room for so many bytes more on what the node at these places gets from a name.
-    fn has_pair_bytes(
+    fn has_pair_room_for_bytes(
         &self,
         slot_at: usize,
         host_at: usize,
@@ -141,7 +141,7 @@ impl<S: Shelf> Network<S> {
         size: u64,
     ) -> Result<(), Refusal>
         requires { IsDrawnThere (machine_of self.now) (Pair slot_at host_at from.now) }
-        ensures { MatchResult result (λ _. HasBytes (machine_of self.now) (Pair slot_at host_at from.now) size) (λ r. HasNoBytes (machine_of self.now) (Pair slot_at host_at from.now) size r) }
+        ensures { MatchResult result (λ _. HasRoomForBytes (machine_of self.now) (Pair slot_at host_at from.now) size) (λ r. HasNoRoomForBytes (machine_of self.now) (Pair slot_at host_at from.now) size r) }
     {
         let used = self.place(slot_at, host_at).bytes_from(from);
         keeps_within(used, size, self.shares().bytes(), Refusal::ShareBytesFull)

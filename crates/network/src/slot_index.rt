@@ -2,7 +2,7 @@
 
 ghost use Rattle.std.specs.Prelude.{◌≡◌, [], None, OnErr, OnOk, Some, ℕ};
 ghost use Rattle.network.specs.Keyed.{IsKeyPlace};
-ghost use Rattle.network.specs.SlotPlaces.{all_closed_up, closed_up, kept_for, kept_with, kept_without, number_kept};
+ghost use Rattle.network.specs.SlotPlaces.{slot_places_without, place_without, kept_for, kept_with, kept_without, number_kept};
 
 use std::alloc::{AllocError, Global};
 use std::marker::Model;
@@ -95,19 +95,19 @@ impl SlotIndex {
 
 /// Each place that lies behind this one is one less.
 fn close_up(entries: &mut [SlotPlace], gone: usize)
-    ensures { entries.new ≡ all_closed_up gone entries.old }
+    ensures { entries.new ≡ slot_places_without gone entries.old }
 {
     for entry in entries.iter_mut() {
         *entry = SlotPlace {
             number: entry.number,
-            place: closed_up(gone, entry.place),
+            place: place_without(gone, entry.place),
         };
     }
 }
 
 /// A place, once what stood at another one is gone.
-fn closed_up(gone: usize, place: usize) -> usize
-    ensures { result ≡ closed_up gone place }
+fn place_without(gone: usize, place: usize) -> usize
+    ensures { result ≡ place_without gone place }
 {
     if gone < place { place - 1 } else { place }
 }

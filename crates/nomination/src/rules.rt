@@ -56,7 +56,7 @@ fn echo<S: Sight>(
 }
 
 /// The values that the node votes for by its leaders, with those that it voted for; `None` where these are all.
-#[tactic(auto, unfolding(protocol::specs::Nominating::echo, protocol::specs::Candidates::filled))]
+#[tactic(auto, unfolding(protocol::specs::Nominating::echo, protocol::specs::Candidates::with_up_to_sixteen))]
 fn values_to_vote_for<S: Sight>(
     alloc: Global,
     own: &NodeId,
@@ -92,7 +92,7 @@ fn accept_values<S: Sight>(
 }
 
 /// The values that are accepted, with those that were; `None` where these are all.
-#[tactic(auto, unfolding(protocol::specs::Nominating::accept_values, protocol::specs::Candidates::filled))]
+#[tactic(auto, unfolding(protocol::specs::Nominating::accept_values, protocol::specs::Candidates::with_up_to_sixteen))]
 fn values_to_accept<'a, S: Sight>(
     alloc: Global,
     sight: &'a S,

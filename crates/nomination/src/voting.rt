@@ -6,7 +6,7 @@ ghost use Rattle.std.specs.Prelude.{◌≡◌, IfOk, not, ◌&&◌};
 ghost use Rattle.types.specs.declared.statement.Statement.TheVariants.{Nominate};
 ghost use Rattle.types.specs.Votes.{has_value};
 ghost use Rattle.protocol.specs.Nominating.{is_value_accepted, is_value_confirmed};
-ghost use Rattle.protocol.specs.States.{nominated};
+ghost use Rattle.protocol.specs.States.{nomination_position};
 ghost use Rattle.fedvote.specs.Questions.{accepts, backs};
 
 use crate::choosing::ValueTest;
@@ -21,9 +21,9 @@ pub struct NominationPosition<'a> {
 }
 
 impl<'a> Position for NominationPosition<'a> {
-    ghost position = { λ p. nominated p.votes.now };
+    ghost position = { λ p. nomination_position p.votes.now };
 
-    #[tactic(auto, unfolding(protocol::specs::States::nominated))]
+    #[tactic(auto, unfolding(protocol::specs::States::nomination_position))]
     fn passes(&self, question: &Question<'_>) -> bool {
         match question {
             Question::Backs(claim) => is_backed_by(self.votes, claim),

@@ -2,14 +2,14 @@
 use Rattle.std.proofs.Common.{◌≡◌, ◌∙◌, ◌==◌, filter, map, ℕ, List, [], ◌∷◌, length, get_or, slice_get, slice_set, Some, refl, ap, subst}
 use Rattle.protocol.specs.Hosts.{Config}
 use Rattle.cells.specs.Cells.{AllFresh}
-use Rattle.cells.specs.Sights.{CellSight, Sight}
+use Rattle.cells.specs.Sights.{CellSight, SeatSight}
 use Rattle.pooled.specs.Opening.{HaveAsked, IsReady, slots_of}
 
-pub first_is : (old : List Sight) (x d : Sight) → x ≡ get_or old 0 x → slice_get old 0 ≡ Some d → x ≡ d
+pub first_is : (old : List SeatSight) (x d : SeatSight) → x ≡ get_or old 0 x → slice_get old 0 ≡ Some d → x ≡ d
 first_is [] x d is e = cc
 first_is (a ∷ rest) x d is e = let a_is : a ≡ d = cc in is ∙ a_is
 
-pub ready : (config : Config) (n g : ℕ) (c : CellSight) (old : List Sight) (x s : Sight) (opens own : List (ℕ × ℕ)) → c.config ≡ config → c.seats ≡ n → length old ≡ n
+pub ready : (config : Config) (n g : ℕ) (c : CellSight) (old : List SeatSight) (x s : SeatSight) (opens own : List (ℕ × ℕ)) → c.config ≡ config → c.seats ≡ n → length old ≡ n
     → AllFresh c.cell config n old → x ≡ get_or old 0 x → HaveAsked c (map (λ o. o.1) own) x s → own ≡ filter (λ o. o.0 == g) opens → g ≡ config.number
     → IsReady config n (slots_of config.number opens) (record { cell = c; seats = slice_set old 0 s })
 ready config n g c old x s opens own given seats many fresh is asked own_is g_is =

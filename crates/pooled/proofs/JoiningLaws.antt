@@ -2,7 +2,7 @@
 use Rattle.std.proofs.Common.{◌≡◌, ◌∙◌, ◌<◌, ◌≤◌, ◌+◌, ℕ, zero, suc, List, [], ◌∷◌, ◌++◌, drop, get_or, length, map, refl, sym, ap, subst, arith}
 use Rattle.std.proofs.lemmas.List.{append-nil, append_assoc}
 use Rattle.protocol.specs.Hosts.{Config}
-use Rattle.cells.specs.Sights.{CellSight, Sight}
+use Rattle.cells.specs.Sights.{CellSight, SeatSight}
 use Rattle.workers.specs.NetSights.{Net}
 use Rattle.workers.specs.Nets.{NoNet, nets_with}
 use Rattle.pooled.specs.Opening.{AreHosted, AreReady, HasAsked, HaveAsked, JoinInTurn, IsReady, slots_of}
@@ -15,9 +15,9 @@ next_is (o ∷ os) zero d l = refl
 next_is (o ∷ os) (suc i) d l = next_is os i d (omega (arith, l))
 
 -- one slot more
-pub asked_on : (c : CellSight) (opens : List (ℕ × ℕ)) (i : ℕ) (d : ℕ × ℕ) (old seat next : Sight) → i < length opens → HasAsked c (get_or opens i d).1 seat next
-    → ((u : Sight) → HaveAsked c (map (λ o. o.1) (drop i opens)) seat u → HaveAsked c (map (λ o. o.1) opens) old u)
-    → (u : Sight) → HaveAsked c (map (λ o. o.1) (drop (i + 1) opens)) next u → HaveAsked c (map (λ o. o.1) opens) old u
+pub asked_on : (c : CellSight) (opens : List (ℕ × ℕ)) (i : ℕ) (d : ℕ × ℕ) (old seat next : SeatSight) → i < length opens → HasAsked c (get_or opens i d).1 seat next
+    → ((u : SeatSight) → HaveAsked c (map (λ o. o.1) (drop i opens)) seat u → HaveAsked c (map (λ o. o.1) opens) old u)
+    → (u : SeatSight) → HaveAsked c (map (λ o. o.1) (drop (i + 1) opens)) next u → HaveAsked c (map (λ o. o.1) opens) old u
 asked_on c opens i d old seat next l one rest u later =
     let at : i + 1 ≡ suc i = omega arith in
     let tail = subst (λ k. HaveAsked c (map (λ o. o.1) (drop k opens)) next u) at later in
@@ -30,8 +30,8 @@ drop_past (o ∷ os) zero l = absurd (omega (arith, l))
 drop_past (o ∷ os) (suc i) l = drop_past os i (omega (arith, l))
 
 -- no slot is left
-pub asked_all : (c : CellSight) (opens : List (ℕ × ℕ)) (i : ℕ) (old seat : Sight) → length opens ≤ i
-    → ((u : Sight) → HaveAsked c (map (λ o. o.1) (drop i opens)) seat u → HaveAsked c (map (λ o. o.1) opens) old u) → HaveAsked c (map (λ o. o.1) opens) old seat
+pub asked_all : (c : CellSight) (opens : List (ℕ × ℕ)) (i : ℕ) (old seat : SeatSight) → length opens ≤ i
+    → ((u : SeatSight) → HaveAsked c (map (λ o. o.1) (drop i opens)) seat u → HaveAsked c (map (λ o. o.1) opens) old u) → HaveAsked c (map (λ o. o.1) opens) old seat
 asked_all c opens i old seat l rest = rest seat (subst (λ os. HaveAsked c (map (λ o. o.1) os) seat seat) (sym (drop_past opens i l)) asked_none)
 
 -- ---- networks that are opened, one after the other

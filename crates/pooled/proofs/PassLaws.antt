@@ -8,7 +8,7 @@ use Rattle.work.specs.declared.line.Queue.{Queue}
 use Rattle.work.specs.declared.rule.Hand.{Hand}
 use Rattle.work.specs.declared.rule.Job.{Job}
 use Rattle.workers.specs.NetSights.{Net}
-use Rattle.workers.specs.Nets.{AllGrownNets, IsRun}
+use Rattle.workers.specs.Nets.{AllGrownNets, IsAllOrNothing}
 use Rattle.workers.specs.declared.running.Report.{Report}
 use Rattle.pooled.specs.Pooling.{AreDone}
 
@@ -23,8 +23,8 @@ fresh_taken q (p ∷ ps) all h = ap₂ (λ a b. a + b) (ap (weigh h) all.0.taken
 -- what one thread did by fresh passes, and then workers
 pub done : (q : Queue) (ps rs : List (Pass Job Hand)) (jobs : List Job) (ready offered ended : List Net) (one other : Report) → AllPasses (IsFresh q) ps
     → AllGrownNets ready offered
-    → IsRun ready offered (λ h. weigh h jobs + put_by h ps + taken_by h rs) (λ h. put_by h rs + taken_by h ps) one
-    → AllGrownNets offered ended → IsRun offered ended (λ h. put_by h rs) (λ h. taken_by h rs) other → AreDone jobs ready ended one other
+    → IsAllOrNothing ready offered (λ h. weigh h jobs + put_by h ps + taken_by h rs) (λ h. put_by h rs + taken_by h ps) one
+    → AllGrownNets offered ended → IsAllOrNothing offered ended (λ h. put_by h rs) (λ h. taken_by h rs) other → AreDone jobs ready ended one other
 done q ps rs jobs ready offered ended one other fresh kept offers grown runs =
     let came : (λ h. weigh h jobs + put_by h ps + taken_by h rs) ≡ (λ h. weigh h jobs + taken_by h rs) = fun_ext (λ h. omega (arith, fresh_put q ps fresh h)) in
     let went : (λ h. put_by h rs + taken_by h ps) ≡ (λ h. put_by h rs) = fun_ext (λ h. omega (arith, fresh_taken q ps fresh h)) in
@@ -33,7 +33,7 @@ done q ps rs jobs ready offered ended one other fresh kept offers grown runs =
       put = λ h. put_by h rs;
       taken = λ h. taken_by h rs;
       kept = kept;
-      offers = subst (λ w. IsRun ready offered (λ h. weigh h jobs + taken_by h rs) w one) went (subst (λ c. IsRun ready offered c (λ h. put_by h rs + taken_by h ps) one) came offers);
+      offers = subst (λ w. IsAllOrNothing ready offered (λ h. weigh h jobs + taken_by h rs) w one) went (subst (λ c. IsAllOrNothing ready offered c (λ h. put_by h rs + taken_by h ps) one) came offers);
       grown = grown;
       runs = runs;
     }

@@ -5,7 +5,7 @@ use Rattle.std.proofs.lemmas.List.{append-nil, append_assoc, reverse-append, tak
 use Rattle.protocol.specs.Runs.{IsRun as Replays}
 use Rattle.scripts.specs.Script.{Bytes}
 use Rattle.hoststep.specs.Logs.{Log}
-use Rattle.cells.specs.Sights.{Sight}
+use Rattle.cells.specs.Sights.{SeatSight}
 use Rattle.workers.specs.NetSights.{Net}
 use Rattle.workers.specs.Nets.{IsClosedNet}
 use Rattle.pooled.specs.Pooling.{AreClosed, AreJournals, AreTold, IsToldMore}
@@ -13,7 +13,7 @@ use Rattle.pooled.specs.PoolLines.{AreAllDecidedLines, AreDecidedLines, length_l
 use Rattle.pooled.specs.PoolLines.AreAllDecidedLines.{none, more}
 
 -- ---- networks close, the last first
-closed_more : (ns : List Net) (ls : List Log) (n : Net) (l : Log) (seats : List Sight) → AreClosed ns ls → IsClosedNet n l seats → AreClosed (ns ++ n ∷ []) (ls ++ l ∷ [])
+closed_more : (ns : List Net) (ls : List Log) (n : Net) (l : Log) (seats : List SeatSight) → AreClosed ns ls → IsClosedNet n l seats → AreClosed (ns ++ n ∷ []) (ls ++ l ∷ [])
 closed_more [] [] n l seats all one = ((seats, one), tt)
 closed_more [] (k ∷ ks) n l seats all one = absurd all
 closed_more (m ∷ ms) [] n l seats all one = absurd all
@@ -29,7 +29,7 @@ Closes all left js = (ls : List Log) → AreClosed left ls → AreClosed all (ls
 pub closes_none : (all : List Net) (js : List Log) → js ≡ [] → Closes all all js
 closes_none all js e ls h = subst (AreClosed all) (sym (ap (λ ks. ls ++ reverse ks) e ∙ append-nil ls)) h
 
-pub closes_more : (all left rest : List Net) (js now : List Log) (n : Net) (l : Log) (seats : List Sight) → left ≡ rest ++ n ∷ [] → IsClosedNet n l seats → now ≡ js ++ l ∷ [] → Closes all left js → Closes all rest now
+pub closes_more : (all left rest : List Net) (js now : List Log) (n : Net) (l : Log) (seats : List SeatSight) → left ≡ rest ++ n ∷ [] → IsClosedNet n l seats → now ≡ js ++ l ∷ [] → Closes all left js → Closes all rest now
 closes_more all left rest js now n l seats is done grown whole ls h =
     let old : AreClosed all ((ls ++ l ∷ []) ++ reverse js) = whole (ls ++ l ∷ []) (subst (λ ns. AreClosed ns (ls ++ l ∷ [])) (sym is) (closed_more rest ls n l seats h done)) in
     subst (AreClosed all) (append_assoc ls (l ∷ []) (reverse js) ∙ ap (λ ks. ls ++ ks) (sym (ap (λ ks. reverse ks) grown ∙ reversed_more js l))) old

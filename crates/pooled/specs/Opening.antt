@@ -5,7 +5,7 @@ use Rattle.types.specs.declared.event.Out.{Out}
 use Rattle.protocol.specs.Hosts.{Config}
 use Rattle.cells.specs.declared.refusal.CellRefusal.{CellRefusal}
 use Rattle.cells.specs.Cells.{AllFresh, IsApplied, IsDenial}
-use Rattle.cells.specs.Sights.{CellSight, Sight}
+use Rattle.cells.specs.Sights.{CellSight, SeatSight}
 use Rattle.cells.specs.Sounds.{IsWhy}
 use Rattle.workers.specs.NetSights.{Net}
 use Rattle.workers.specs.Nets.{NoNet, nets_with}
@@ -15,25 +15,25 @@ abbrev pub slots_of : ℕ → List (ℕ × ℕ) → List ℕ
 slots_of g opens = map (λ o. o.1) (filter (λ o. o.0 == g) opens)
 
 -- a seat has asked to open a slot: this was applied, or it was refused
-abbrev pub HasAsked : CellSight → ℕ → Sight → Sight → Type 0
+abbrev pub HasAsked : CellSight → ℕ → SeatSight → SeatSight → Type 0
 HasAsked c slot old new =
     ((outs : List Out) × IsApplied c (OpenSlot slot) outs old new)
     ⊎ ((r : CellRefusal) × IsDenial (OpenSlot slot) r old new × IsWhy c.config new.me.seen new.me.stopped (OpenSlot slot) r)
 
 -- a seat has asked to open slots, one after the other
-pub data HaveAsked (c : CellSight) : List ℕ → Sight → Sight → Type 0 where
-  none : {s : Sight} → HaveAsked c [] s s
-  more : {slot : ℕ} {slots : List ℕ} {s t u : Sight} → HasAsked c slot s t → HaveAsked c slots t u → HaveAsked c (slot ∷ slots) s u
+pub data HaveAsked (c : CellSight) : List ℕ → SeatSight → SeatSight → Type 0 where
+  none : {s : SeatSight} → HaveAsked c [] s s
+  more : {slot : ℕ} {slots : List ℕ} {s t u : SeatSight} → HasAsked c slot s t → HaveAsked c slots t u → HaveAsked c (slot ∷ slots) s u
 
 -- a network of this configuration with so many seats, of which none has done anything, save that the first has asked to open these slots
 pub record IsReady (given : Config) (many : ℕ) (slots : List ℕ) (n : Net) : Type 0 where
   pub config : n.cell.config ≡ given
   pub count : n.cell.seats ≡ many
-  pub made : List Sight
+  pub made : List SeatSight
   pub all : length made ≡ many
   pub fresh : AllFresh n.cell.cell given many made
-  pub first : Sight
-  pub asked : (s : Sight) → slice_get made 0 ≡ Some s → HaveAsked n.cell slots s first
+  pub first : SeatSight
+  pub asked : (s : SeatSight) → slice_get made 0 ≡ Some s → HaveAsked n.cell slots s first
   pub seats : n.seats ≡ slice_set made 0 first
 
 -- networks of these configurations have joined those that are hosted, one after the other, each with its first slots

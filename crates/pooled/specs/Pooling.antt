@@ -7,9 +7,9 @@ use Rattle.scripts.specs.Script.{Bytes}
 use Rattle.hoststep.specs.Logs.{Log}
 use Rattle.work.specs.Hands.{weigh}
 use Rattle.work.specs.declared.rule.Job.{Job}
-use Rattle.cells.specs.Sights.{Sight}
+use Rattle.cells.specs.Sights.{SeatSight}
 use Rattle.workers.specs.NetSights.{Net}
-use Rattle.workers.specs.Nets.{AllGrownNets, IsClosedNet, IsRun}
+use Rattle.workers.specs.Nets.{AllGrownNets, IsClosedNet, IsAllOrNothing}
 use Rattle.workers.specs.declared.running.Report.{Report}
 use Rattle.pooled.specs.Opening.{AreHosted}
 use Rattle.pooled.specs.PoolLines.{AreAllDecidedLines, AreDecidedLines, length_line, length_lines, report_line}
@@ -27,14 +27,14 @@ abbrev pub AreClosed : List Net → List Log → Type 0
 AreClosed [] [] = Unit {0}
 AreClosed [] (l ∷ ls) = ⊥
 AreClosed (n ∷ ns) [] = ⊥
-AreClosed (n ∷ ns) (l ∷ ls) = ((seats : List Sight) × IsClosedNet n l seats) × AreClosed ns ls
+AreClosed (n ∷ ns) (l ∷ ls) = ((seats : List SeatSight) × IsClosedNet n l seats) × AreClosed ns ls
 
 -- the same, and a run
 abbrev pub AreJournals : List Net → List Log → Type 0
 AreJournals [] [] = Unit {0}
 AreJournals [] (l ∷ ls) = ⊥
 AreJournals (n ∷ ns) [] = ⊥
-AreJournals (n ∷ ns) (l ∷ ls) = (((seats : List Sight) × IsClosedNet n l seats) × Replays l.config l.entries) × AreJournals ns ls
+AreJournals (n ∷ ns) (l ∷ ls) = (((seats : List SeatSight) × IsClosedNet n l seats) × Replays l.config l.entries) × AreJournals ns ls
 
 -- of one journal more it was told what its nodes have externalized, and how long it is
 abbrev pub IsToldMore : Log → Bytes → Bytes → Bytes → Bytes → Type 0
@@ -63,9 +63,9 @@ pub record AreDone (jobs : List Job) (ready ended : List Net) (one other : Repor
   pub put : (Job → ℕ) → ℕ
   pub taken : (Job → ℕ) → ℕ
   pub kept : AllGrownNets ready offered
-  pub offers : IsRun ready offered (λ h. weigh h jobs + taken h) put one
+  pub offers : IsAllOrNothing ready offered (λ h. weigh h jobs + taken h) put one
   pub grown : AllGrownNets offered ended
-  pub runs : IsRun offered ended put taken other
+  pub runs : IsAllOrNothing offered ended put taken other
 
 -- networks of these configurations join, each with so many seats and its first slots; the events are jobs; and what becomes of them is told
 pub record IsPoolText (configs : List Config) (calls : List (ℕ × Event)) (opens : List (ℕ × ℕ)) (workers : ℕ) (text : Bytes) : Type 0 where

@@ -1,6 +1,6 @@
 -- One node: what it sees, what a step makes of it, and what events lead to.
 pub mod Views
-pub mod Reached
+pub mod Lawful
 pub mod Reslices
 pub mod Strangers
 pub mod Made

@@ -6,17 +6,17 @@ use Rattle.types.specs.Trees.{Slices}
 use Rattle.protocol.specs.Sets.{Names, within}
 use Rattle.protocol.specs.Satisfaction.{names}
 use Rattle.protocol.specs.Nodes.{Calm}
-use Rattle.protocol.specs.Networks.{Step, Place, Net, slices_of, places_at, known, net_step}
+use Rattle.protocol.specs.Networks.{Step, Place, Net, slices_of, places_at, node_where_open, net_step}
 use Rattle.protocol.specs.Networks.Reply.{Done}
 use Rattle.protocol.specs.Hosts.{Entry, Config, new_net}
 use Rattle.protocol.specs.Runs.{IsRun, state_of}
-use Rattle.protocol.specs.Isolation.{Kept, kept, is_of, closure}
+use Rattle.protocol.specs.Isolation.{Kept, kept_step, is_of, closure}
 use Rattle.protocol.specs.Isolation.Kept.{Opened, Closed, Told, Heard}
 use Rattle.protocol.specs.Claims.{IsClosedFor, IsOfMembers, AgreeOn}
 
 -- the node at an open slot, where the network hosts it and the slot is open
 abbrev pub place_in : Net → ℕ → ℕ → Option Place
-place_in net i u = known (places_at net.slots i) u
+place_in net i u = node_where_open (places_at net.slots i) u
 
 -- A set is closed for a network at a slot: its members' configured slices name members alone, it is closed for their
 -- nodes, which are at rest, and each node has told of itself alone, the members naming members.
@@ -69,8 +69,8 @@ RunsStayClosedIn = (config : Config) (run : List Entry) (i v n : ℕ) → IsRun 
 abbrev pub StepsAgree : Type 0
 StepsAgree = (R : Names) (i : ℕ) (one other : Net) (e d : Step) (os ps : List Out) → IsClosedIn R i one
     → IsClosedIn R i other → AgreeIn R i one other
-    → (net_step one e).1 ≡ Done os → (net_step other d).1 ≡ Done ps → kept R i e ≡ kept R i d
-    → IfSome (kept R i e) (IsKeptOfMembers R)
+    → (net_step one e).1 ≡ Done os → (net_step other d).1 ≡ Done ps → kept_step R i e ≡ kept_step R i d
+    → IfSome (kept_step R i e) (IsKeptOfMembers R)
     → AgreeIn R i (net_step one e).0 (net_step other d).0
     × ((u : ℕ) → IsTrue (R u) → given_by i u e os ≡ given_by i u d ps)
 
@@ -78,11 +78,11 @@ StepsAgree = (R : Names) (i : ℕ) (one other : Net) (e d : Step) (os ps : List 
 abbrev pub OtherStepsLeave : Type 0
 OtherStepsLeave =
     (R : Names) (i : ℕ) (one other : Net) (e : Step) (os : List Out) → IsClosedIn R i one → AgreeIn R i one other
-    → (net_step one e).1 ≡ Done os → kept R i e ≡ None
+    → (net_step one e).1 ≡ Done os → kept_step R i e ≡ None
     → AgreeIn R i (net_step one e).0 other × ((u : ℕ) → IsTrue (R u) → given_by i u e os ≡ [])
 
 -- and the set stays closed for the network
 abbrev pub StaysClosedIn : Type 0
 StaysClosedIn = (R : Names) (i : ℕ) (net : Net) (e : Step) (os : List Out) → IsClosedIn R i net
-    → (net_step net e).1 ≡ Done os → IfSome (kept R i e) (IsKeptOfMembers R)
+    → (net_step net e).1 ≡ Done os → IfSome (kept_step R i e) (IsKeptOfMembers R)
     → IsClosedIn R i (net_step net e).0

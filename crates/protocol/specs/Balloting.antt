@@ -52,14 +52,14 @@ commit_confirmed seen w x low high = interval_confirmed seen (position w) x low 
 -- ---- the first ballot
 -- Start, without a ballot: counter 1 with the combined confirmed value; where nothing is confirmed, the greatest named
 -- ballot whose prepare is accepted.
-unfoldable pub started : Seen → Votes → Option (List ℕ) → Votes
-started seen w (Some x) = record w { ballot = Some (ballot_at 1 x) }
-started seen w None = record w { ballot = greatest None (filter (is_accepted seen w) (named seen w)) }
+unfoldable pub with_first_ballot : Seen → Votes → Option (List ℕ) → Votes
+with_first_ballot seen w (Some x) = record w { ballot = Some (ballot_at 1 x) }
+with_first_ballot seen w None = record w { ballot = greatest None (filter (is_accepted seen w) (named seen w)) }
 
 -- a ballot that is there stays
 abbrev pub start_from : Seen → Votes → Option Ballot → Votes
 start_from seen w (Some b) = w
-start_from seen w None = started seen w (combine w.confirms)
+start_from seen w None = with_first_ballot seen w (combine w.confirms)
 
 -- the first ballot is set where there is none
 unfoldable pub start : Seen → Votes → Votes

@@ -28,16 +28,16 @@ committed_by (Commit b p h c) = ballot_at c b.value ∷ ballot_at h b.value ∷ 
 committed_by (Externalize b h) = b ∷ ballot_at h b.value ∷ []
 
 -- the counter is from 1 on
-abbrev pub is_counted : Ballot → Bool
-is_counted b = nat_lt 0 b.counter
+abbrev pub has_positive_counter : Ballot → Bool
+has_positive_counter b = nat_lt 0 b.counter
 
 -- of these statements the named ballots with a counter from 1 on
 abbrev pub named_in : List Statement → List Ballot
-named_in statements = filter is_counted (flat_map named_by statements)
+named_in statements = filter has_positive_counter (flat_map named_by statements)
 
 -- and the commit counters from 1 on
 abbrev pub committed_in : List Statement → List Ballot
-committed_in statements = filter is_counted (flat_map committed_by statements)
+committed_in statements = filter has_positive_counter (flat_map committed_by statements)
 
 -- named are the ballots in the ballot rows of reached senders and in the node's own position, and no others
 unfoldable pub named : Seen → Votes → List Ballot
@@ -93,5 +93,6 @@ abbrev pub as_set : List (List ℕ) → List (List ℕ)
 as_set xs = all_with xs []
 
 -- new values are added in byte order until there are sixteen
-unfoldable pub filled : List (List ℕ) → List (List ℕ) → List (List ℕ)
-filled old new = all_with (take (most_nominated - length old) (filter (λ x. not (has_value old x)) (as_set new))) old
+unfoldable pub with_up_to_sixteen : List (List ℕ) → List (List ℕ) → List (List ℕ)
+with_up_to_sixteen old new =
+    all_with (take (most_nominated - length old) (filter (λ x. not (has_value old x)) (as_set new))) old

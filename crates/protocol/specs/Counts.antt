@@ -6,7 +6,7 @@ use Rattle.std.specs.Prelude.{◌≡◌, ℕ, ◌<◌, ◌≤◌, ◌+◌, Bool,
 use Rattle.protocol.specs.Rosters.{Roster, Share, Source, same_share, events_drawn, bytes_drawn, events_of}
 use Rattle.protocol.specs.Rosters.Source.{OfBudgets, OfOpens, OfShare}
 use Rattle.protocol.specs.Networks.{Net, Step, source, size_of, on_budgets, on_opens, first_that, tests, net_step}
-use Rattle.protocol.specs.Networks.Step.{Opens, Closes, Asks, Delivers, Hears, NominationTimes, BallotTimes, Reslices}
+use Rattle.protocol.specs.Networks.Step.{Opens, Closes, Proposes, Delivers, Hears, NominationTimerFires, BallotTimerFires, Reslices}
 use Rattle.protocol.specs.Hosts.{Config, Entry}
 use Rattle.protocol.specs.Runs.{IsRun, state_of}
 
@@ -85,26 +85,27 @@ RefusedWhereMet = (net : Net) (e : Step) (n : Refusal) → first_that (tests net
     → IsMet net (source net.roster e) (size_of e) n
 
 -- the step finds room: for one more event, for its bytes and for the slot that it opens
-abbrev pub HasEvents : Net → Source → Type 0
-HasEvents net OfBudgets = net.events < net.budgets.events
-HasEvents net (OfOpens shares) = net.opens < shares.opens
-HasEvents net (OfShare shares i s) = events_drawn i s net.draws < events_of shares s
+abbrev pub HasRoomForEvents : Net → Source → Type 0
+HasRoomForEvents net OfBudgets = net.events < net.budgets.events
+HasRoomForEvents net (OfOpens shares) = net.opens < shares.opens
+HasRoomForEvents net (OfShare shares i s) = events_drawn i s net.draws < events_of shares s
 
-abbrev pub HasBytes : Net → Source → ℕ → Type 0
-HasBytes net OfBudgets size = net.bytes + size ≤ net.budgets.bytes
-HasBytes net (OfOpens shares) size = Unit {0}
-HasBytes net (OfShare shares i s) size = bytes_drawn i s net.draws + size ≤ shares.bytes
+abbrev pub HasRoomForBytes : Net → Source → ℕ → Type 0
+HasRoomForBytes net OfBudgets size = net.bytes + size ≤ net.budgets.bytes
+HasRoomForBytes net (OfOpens shares) size = Unit {0}
+HasRoomForBytes net (OfShare shares i s) size = bytes_drawn i s net.draws + size ≤ shares.bytes
 
 abbrev pub HasRoom : Net → Step → Type 0
-HasRoom net (Opens i) = (length net.slots < net.budgets.slots) × HasEvents net (source net.roster (Opens i))
-HasRoom net (Closes i) = HasEvents net (source net.roster (Closes i))
-HasRoom net (Asks i u x) = HasEvents net (source net.roster (Asks i u x))
+HasRoom net (Opens i) = (length net.slots < net.budgets.slots) × HasRoomForEvents net (source net.roster (Opens i))
+HasRoom net (Closes i) = HasRoomForEvents net (source net.roster (Closes i))
+HasRoom net (Proposes i u x) = HasRoomForEvents net (source net.roster (Proposes i u x))
 HasRoom net (Delivers u size d) =
-    HasEvents net (source net.roster (Delivers u size d)) × HasBytes net (source net.roster (Delivers u size d)) size
-HasRoom net (Hears i u from kind k) = HasEvents net (source net.roster (Hears i u from kind k))
-HasRoom net (NominationTimes i u r) = HasEvents net (source net.roster (NominationTimes i u r))
-HasRoom net (BallotTimes i u n) = HasEvents net (source net.roster (BallotTimes i u n))
-HasRoom net (Reslices i u q) = HasEvents net (source net.roster (Reslices i u q))
+    HasRoomForEvents net (source net.roster (Delivers u size d))
+    × HasRoomForBytes net (source net.roster (Delivers u size d)) size
+HasRoom net (Hears i u from kind k) = HasRoomForEvents net (source net.roster (Hears i u from kind k))
+HasRoom net (NominationTimerFires i u r) = HasRoomForEvents net (source net.roster (NominationTimerFires i u r))
+HasRoom net (BallotTimerFires i u n) = HasRoomForEvents net (source net.roster (BallotTimerFires i u n))
+HasRoom net (Reslices i u q) = HasRoomForEvents net (source net.roster (Reslices i u q))
 
 abbrev pub AppliedWhereRoom : Type 0
 AppliedWhereRoom = (net : Net) (e : Step) → first_that (tests net e) ≡ None → HasRoom net e

@@ -5,7 +5,7 @@ use Rattle.protocol.specs.Networks.{Host, Reading, Reply}
 use Rattle.protocol.specs.Hosts.{Config, Entry, History, hosts_of, entries}
 use Rattle.protocol.specs.Isolation.{closure, SameCast}
 use Rattle.protocol.specs.Verdicts.{IsFirstUnlike, IsFirstDifference}
-use Rattle.protocol.specs.Submissions.{Answer, answers, concerned, replied_to, config_of, SameReserves, roster_names}
+use Rattle.protocol.specs.Submissions.{Answer, answers, concerning_steps, replied_to, config_of, SameReserves, roster_names}
 
 -- the casts differ at a node, the rosters or what they reserve differ, the closure leaves the roster at a node, the
 -- submitted steps that
@@ -37,13 +37,14 @@ IsCrowdOf one other config configs run xs ys i v (InputsDiffer place) =
     let R = closure one i v run in
     SameCast R v one other
     × (SameReserves config configs ×
-    (AreWithin R (among (roster_names config)) × IsFirstDifference (concerned R i xs) (concerned R i ys) place))
+    (AreWithin R (among (roster_names config))
+    × IsFirstDifference (concerning_steps R i xs) (concerning_steps R i ys) place))
 IsCrowdOf one other config configs run xs ys i v (Same replies) =
     let R = closure one i v run in
     SameCast R v one other
     × (SameReserves config configs
     × (AreWithin R (among (roster_names config))
-    × ((concerned R i xs ≡ concerned R i ys)
+    × ((concerning_steps R i xs ≡ concerning_steps R i ys)
     × ((replies ≡ replied_to R i xs) × (replies ≡ replied_to R i ys)))))
 
 -- the same of one network in two histories

@@ -13,14 +13,14 @@ pub record Entry : Type 0 where
   pub outs : List Out
 
 -- a refused event is not journalled; every other one is
-abbrev pub entered : Step → Reply → List Entry → List Entry
-entered e (Refused n) es = es
-entered e (Done os) es = record { event = e; outs = os } ∷ es
+abbrev pub journal_with : Step → Reply → List Entry → List Entry
+journal_with e (Refused n) es = es
+journal_with e (Done os) es = record { event = e; outs = os } ∷ es
 
 -- the journal of a network
 unfoldable pub journal : Net → List Step → List Entry
 journal net [] = []
-journal net (e ∷ es) = entered e (net_step net e).1 (journal (net_step net e).0 es)
+journal net (e ∷ es) = journal_with e (net_step net e).1 (journal (net_step net e).0 es)
 
 -- ---- a host: networks by number
 abbrev pub net_at : List Net → ℕ → Option Net
@@ -42,7 +42,7 @@ host_run nets (c ∷ cs) =
 unfoldable pub applied : ℕ → List (ℕ × Step) → List Reply → List Entry
 applied g [] rs = []
 applied g (c ∷ cs) [] = []
-applied g (c ∷ cs) (r ∷ rs) = if c.0 == g then entered c.1 r (applied g cs rs) else applied g cs rs
+applied g (c ∷ cs) (r ∷ rs) = if c.0 == g then journal_with c.1 r (applied g cs rs) else applied g cs rs
 
 -- ---- configurations and histories
 -- a network as it is configured

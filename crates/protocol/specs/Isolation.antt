@@ -10,7 +10,7 @@ use Rattle.protocol.specs.Closures.{Rule, in_least}
 use Rattle.types.specs.declared.event.NodeEvent.TheVariants.{Propose, Take, NominationTimer, BallotTimer, Reslice}
 use Rattle.protocol.specs.Networks.{Host, Reading, Step, slices_of}
 use Rattle.protocol.specs.Networks.Reading.{Read, Fault}
-use Rattle.protocol.specs.Networks.Step.{Opens, Closes, Asks, Delivers, Hears, NominationTimes, BallotTimes, Reslices}
+use Rattle.protocol.specs.Networks.Step.{Opens, Closes, Proposes, Delivers, Hears, NominationTimerFires, BallotTimerFires, Reslices}
 use Rattle.protocol.specs.Hosts.{Entry, History, hosts_of, entries}
 
 -- ---- the closure of a run
@@ -20,16 +20,16 @@ host_rule h = record { sources = h.name ∷ []; gives = names h.slices }
 
 -- where receiver and sender of a delivery at the slot are in, so are the names that it announces; where a hosted node
 -- is in, so are the names of all slices that it was given at the slot; a Hear announces nothing new
-abbrev pub announced : ℕ → Step → List Rule
-announced i (Delivers u size (Read e)) =
+abbrev pub announcement_rules : ℕ → Step → List Rule
+announcement_rules i (Delivers u size (Read e)) =
     if e.slot == i then record { sources = u ∷ e.sender ∷ []; gives = names e.slices } ∷ [] else []
-announced i (Reslices j u q) = if j == i then record { sources = u ∷ []; gives = names q } ∷ [] else []
-announced i _ = []
+announcement_rules i (Reslices j u q) = if j == i then record { sources = u ∷ []; gives = names q } ∷ [] else []
+announcement_rules i _ = []
 
 -- the least set that contains v and keeps the rules of the hosted nodes, and of all deliveries and changes of slices of
 -- the whole run
 unfoldable pub closure : List Host → ℕ → ℕ → List Entry → Names
-closure hosts i v run = in_least (map host_rule hosts ++ flat_map (λ x. announced i x.event) run) v
+closure hosts i v run = in_least (map host_rule hosts ++ flat_map (λ x. announcement_rules i x.event) run) v
 
 -- ---- kept steps
 -- what is kept of a run: of a Hear not what it hands over
@@ -46,32 +46,32 @@ when_kept false k = None
 
 -- at the slot: its opening and closing, what happens to members, new slices of members with them, and what members send
 -- to members
-abbrev pub kept : Names → ℕ → Step → Option Kept
-kept R i (Opens j) = when_kept (j == i) Opened
-kept R i (Closes j) = when_kept (j == i) Closed
-kept R i (Asks j u x) = when_kept ((j == i) && R u) (Told u (Propose x))
-kept R i (Delivers u size (Read e)) = when_kept ((e.slot == i) && R u && R e.sender) (Told u (Take e))
-kept R i (Delivers u size (Fault n)) = None
-kept R i (Hears j u from kind k) = when_kept ((j == i) && R u && R from) (Heard u from kind k)
-kept R i (NominationTimes j u r) = when_kept ((j == i) && R u) (Told u (NominationTimer r))
-kept R i (BallotTimes j u n) = when_kept ((j == i) && R u) (Told u (BallotTimer n))
-kept R i (Reslices j u q) = when_kept ((j == i) && R u) (Told u (Reslice q))
+abbrev pub kept_step : Names → ℕ → Step → Option Kept
+kept_step R i (Opens j) = when_kept (j == i) Opened
+kept_step R i (Closes j) = when_kept (j == i) Closed
+kept_step R i (Proposes j u x) = when_kept ((j == i) && R u) (Told u (Propose x))
+kept_step R i (Delivers u size (Read e)) = when_kept ((e.slot == i) && R u && R e.sender) (Told u (Take e))
+kept_step R i (Delivers u size (Fault n)) = None
+kept_step R i (Hears j u from kind k) = when_kept ((j == i) && R u && R from) (Heard u from kind k)
+kept_step R i (NominationTimerFires j u r) = when_kept ((j == i) && R u) (Told u (NominationTimer r))
+kept_step R i (BallotTimerFires j u n) = when_kept ((j == i) && R u) (Told u (BallotTimer n))
+kept_step R i (Reslices j u q) = when_kept ((j == i) && R u) (Told u (Reslice q))
 
 -- the kept steps of a run, in order
 unfoldable pub kept_of : Names → ℕ → List Entry → List Kept
-kept_of R i run = filter_map (λ x. kept R i x.event) run
+kept_of R i run = filter_map (λ x. kept_step R i x.event) run
 
 -- ---- what a node gave out
 -- the event is one of this node at this slot
 abbrev pub is_of : ℕ → ℕ → Step → Bool
 is_of i u (Opens j) = false
 is_of i u (Closes j) = false
-is_of i u (Asks j w x) = (j == i) && (w == u)
+is_of i u (Proposes j w x) = (j == i) && (w == u)
 is_of i u (Delivers w size (Read e)) = (e.slot == i) && (w == u)
 is_of i u (Delivers w size (Fault n)) = false
 is_of i u (Hears j w from kind k) = (j == i) && (w == u)
-is_of i u (NominationTimes j w r) = (j == i) && (w == u)
-is_of i u (BallotTimes j w n) = (j == i) && (w == u)
+is_of i u (NominationTimerFires j w r) = (j == i) && (w == u)
+is_of i u (BallotTimerFires j w n) = (j == i) && (w == u)
 is_of i u (Reslices j w q) = (j == i) && (w == u)
 
 -- all that a node gave out at a slot, in order, over all openings of the slot

@@ -5,13 +5,13 @@ use Rattle.std.specs.Prelude.{ℕ, zero, suc, ◌+◌, Bool, true, false, not, �
 use Rattle.types.specs.Trees.{Slices}
 use Rattle.types.specs.declared.kind.Kind.{Kind}
 use Rattle.types.specs.declared.event.Event.{Event}
-use Rattle.types.specs.declared.event.Event.TheVariants.{OpenSlot, CloseSlot, Propose as Ask, Deliver, Hear, NominationTimer as NominationTimeout, BallotTimer as BallotTimeout, Reslice as ChangeSlices}
+use Rattle.types.specs.declared.event.Event.TheVariants as event
 use Rattle.types.specs.declared.event.Refusal.{Refusal}
 use Rattle.types.specs.declared.event.Refusal.TheVariants.{NoSuchNode, SlotNotOpen, SlotOpenAlready, TooManySlots, BadEnvelope, HostedSender, NotEmitted, JournalFull, BytesFull, BadValue, ProposedAlready, ShareFull, ShareBytesFull}
 use Rattle.types.specs.Statements.{Sent, kind_of}
 use Rattle.protocol.specs.Rows.{is_kind}
 use Rattle.protocol.specs.Nodes.{Node, fresh, step}
-use Rattle.protocol.specs.Rosters.{Roster, Source, Draw, reserved, events_drawn, bytes_drawn, events_of}
+use Rattle.protocol.specs.Rosters.{Roster, Source, Draw, share_or_budgets, events_drawn, bytes_drawn, events_of}
 use Rattle.protocol.specs.Rosters.Share.{Own, Pair}
 use Rattle.protocol.specs.Rosters.Source.{OfBudgets, OfOpens, OfShare}
 use Rattle.types.specs.declared.event.NodeEvent.TheVariants.{Propose, Take, NominationTimer, BallotTimer, Reslice}
@@ -27,23 +27,23 @@ pub data Reading : Type 0 where
 pub data Step : Type 0 where
   Opens : ℕ → Step
   Closes : ℕ → Step
-  Asks : ℕ → ℕ → List ℕ → Step
+  Proposes : ℕ → ℕ → List ℕ → Step
   Delivers : ℕ → ℕ → Reading → Step
   Hears : ℕ → ℕ → ℕ → Kind → ℕ → Step
-  NominationTimes : ℕ → ℕ → ℕ → Step
-  BallotTimes : ℕ → ℕ → ℕ → Step
+  NominationTimerFires : ℕ → ℕ → ℕ → Step
+  BallotTimerFires : ℕ → ℕ → ℕ → Step
   Reslices : ℕ → ℕ → Slices → Step
 
 -- what an event is, by a decoder of envelopes
 abbrev pub read : (List ℕ → Reading) → Event → Step
-read decode (OpenSlot i) = Opens i
-read decode (CloseSlot i) = Closes i
-read decode (Ask i u x) = Asks i u x
-read decode (Deliver u bytes) = Delivers u (length bytes) (decode bytes)
-read decode (Hear i u from kind k) = Hears i u from kind k
-read decode (NominationTimeout i u r) = NominationTimes i u r
-read decode (BallotTimeout i u n) = BallotTimes i u n
-read decode (ChangeSlices i u q) = Reslices i u q
+read decode (event.OpenSlot i) = Opens i
+read decode (event.CloseSlot i) = Closes i
+read decode (event.Propose i u x) = Proposes i u x
+read decode (event.Deliver u bytes) = Delivers u (length bytes) (decode bytes)
+read decode (event.Hear i u from kind k) = Hears i u from kind k
+read decode (event.NominationTimer i u r) = NominationTimerFires i u r
+read decode (event.BallotTimer i u n) = BallotTimerFires i u n
+read decode (event.Reslice i u q) = Reslices i u q
 
 -- ---- networks
 -- a hosted node, as it is configured
@@ -92,14 +92,14 @@ places_at [] i = None
 places_at (s ∷ ss) i = if s.number == i then Some s.places else places_at ss i
 
 -- the node of a name among them
-abbrev pub place_of : List Place → ℕ → Option Place
-place_of [] u = None
-place_of (p ∷ ps) u = if p.node.name == u then Some p else place_of ps u
+abbrev pub node_named : List Place → ℕ → Option Place
+node_named [] u = None
+node_named (p ∷ ps) u = if p.node.name == u then Some p else node_named ps u
 
 -- the node of a name, where the slot is open
-abbrev pub known : Option (List Place) → ℕ → Option Place
-known None u = None
-known (Some ps) u = place_of ps u
+abbrev pub node_where_open : Option (List Place) → ℕ → Option Place
+node_where_open None u = None
+node_where_open (Some ps) u = node_named ps u
 
 -- what is emitted, of all that is given out
 abbrev pub emission_of : Out → Option Sent
@@ -120,8 +120,8 @@ emission (Some p) kind (suc k) = slice_get (filter (λ e. is_kind kind (kind_of 
 
 -- ---- what an event does
 -- the node's step at its place
-unfoldable pub moved : NodeEvent → Place → Place
-moved e p = record { node = (step p.node e).0; told = p.told ++ emissions (step p.node e).1 }
+unfoldable pub after_event : NodeEvent → Place → Place
+after_event e p = record { node = (step p.node e).0; told = p.told ++ emissions (step p.node e).1 }
 
 -- what the node's step gives out
 abbrev pub outs_at : NodeEvent → Option Place → List Out
@@ -130,7 +130,7 @@ outs_at e (Some p) = (step p.node e).1
 
 -- the step of one node among those of a slot
 abbrev pub act_in : ℕ → NodeEvent → List Place → List Place
-act_in u e ps = map (λ p. if p.node.name == u then moved e p else p) ps
+act_in u e ps = map (λ p. if p.node.name == u then after_event e p else p) ps
 
 -- a step of one node at one slot
 unfoldable pub act : Net → ℕ → ℕ → NodeEvent → Net × List Out
@@ -141,7 +141,7 @@ act net i u e = (
           act_in u e s.places;
     } else s) net.slots;
   },
-  outs_at e (known (places_at net.slots i) u),
+  outs_at e (node_where_open (places_at net.slots i) u),
 )
 
 -- nothing happens where there is nothing to hand over
@@ -150,8 +150,8 @@ act_known net i u None = (net, [])
 act_known net i u (Some e) = act net i u (Take e)
 
 -- opening a slot makes each hosted node anew, with the slices of its configuration
-unfoldable pub opened : List Host → ℕ → List Place
-opened hosts i = map (λ h. record { node = fresh i h.name h.slices; told = [] }) hosts
+unfoldable pub nodes_of_new_slot : List Host → ℕ → List Place
+nodes_of_new_slot hosts i = map (λ h. record { node = fresh i h.name h.slices; told = [] }) hosts
 
 -- nothing is drawn yet on the shares of a slot that is opened
 abbrev pub renewed : ℕ → List Draw → List Draw
@@ -161,18 +161,18 @@ renewed i draws = filter (λ d. not (d.slot == i)) draws
 unfoldable pub effect : Net → Step → Net × List Out
 effect net (Opens i) = (
   record net {
-    slots = net.slots ++ record { number = i; places = opened net.hosts i } ∷ [];
+    slots = net.slots ++ record { number = i; places = nodes_of_new_slot net.hosts i } ∷ [];
     draws = renewed i net.draws;
   },
   [],
 )
 effect net (Closes i) = (record net { slots = filter (λ s. not (s.number == i)) net.slots }, [])
-effect net (Asks i u x) = act net i u (Propose x)
+effect net (Proposes i u x) = act net i u (Propose x)
 effect net (Delivers u size (Read e)) = act net e.slot u (Take e)
 effect net (Delivers u size (Fault n)) = (net, [])
-effect net (Hears i u from kind k) = act_known net i u (emission (known (places_at net.slots i) from) kind k)
-effect net (NominationTimes i u r) = act net i u (NominationTimer r)
-effect net (BallotTimes i u n) = act net i u (BallotTimer n)
+effect net (Hears i u from kind k) = act_known net i u (emission (node_where_open (places_at net.slots i) from) kind k)
+effect net (NominationTimerFires i u r) = act net i u (NominationTimer r)
+effect net (BallotTimerFires i u n) = act net i u (BallotTimer n)
 effect net (Reslices i u q) = act net i u (Reslice q)
 
 -- ---- what a step draws on
@@ -183,13 +183,13 @@ effect net (Reslices i u q) = act net i u (Reslice q)
 abbrev pub source_by : Roster → Step → Source
 source_by r (Opens i) = OfOpens r.shares
 source_by r (Closes i) = OfOpens r.shares
-source_by r (Asks i u x) = reserved r i (Own u)
-source_by r (Delivers u size (Read e)) = reserved r e.slot (Pair u e.sender)
+source_by r (Proposes i u x) = share_or_budgets r i (Own u)
+source_by r (Delivers u size (Read e)) = share_or_budgets r e.slot (Pair u e.sender)
 source_by r (Delivers u size (Fault n)) = OfBudgets
-source_by r (Hears i u from kind k) = reserved r i (Pair u from)
-source_by r (NominationTimes i u n) = reserved r i (Own u)
-source_by r (BallotTimes i u n) = reserved r i (Own u)
-source_by r (Reslices i u q) = reserved r i (Own u)
+source_by r (Hears i u from kind k) = share_or_budgets r i (Pair u from)
+source_by r (NominationTimerFires i u n) = share_or_budgets r i (Own u)
+source_by r (BallotTimerFires i u n) = share_or_budgets r i (Own u)
+source_by r (Reslices i u q) = share_or_budgets r i (Own u)
 
 -- without a roster, all on the budgets
 abbrev pub source : Option Roster → Step → Source
@@ -215,24 +215,24 @@ abbrev pub is_bad_value : List ℕ → Bool
 is_bad_value x = (length x == 0) || nat_lt 256 (length x)
 
 -- the name is not hosted
-abbrev pub is_hosted_not : Net → ℕ → Bool × Refusal
-is_hosted_not net u = (not (is_hosted net u), NoSuchNode)
+abbrev pub hosted_test : Net → ℕ → Bool × Refusal
+hosted_test net u = (not (is_hosted net u), NoSuchNode)
 
 -- the slot is not open
-abbrev pub is_open_not : Net → ℕ → Bool × Refusal
-is_open_not net i = (not (is_open net i), SlotNotOpen)
+abbrev pub open_test : Net → ℕ → Bool × Refusal
+open_test net i = (not (is_open net i), SlotNotOpen)
 
 -- the events that it draws on are used up
-abbrev pub is_full : Net → Source → Bool × Refusal
-is_full net OfBudgets = (not (nat_lt net.events net.budgets.events), JournalFull)
-is_full net (OfOpens shares) = (not (nat_lt net.opens shares.opens), ShareFull)
-is_full net (OfShare shares i s) = (not (nat_lt (events_drawn i s net.draws) (events_of shares s)), ShareFull)
+abbrev pub room_test : Net → Source → Bool × Refusal
+room_test net OfBudgets = (not (nat_lt net.events net.budgets.events), JournalFull)
+room_test net (OfOpens shares) = (not (nat_lt net.opens shares.opens), ShareFull)
+room_test net (OfShare shares i s) = (not (nat_lt (events_drawn i s net.draws) (events_of shares s)), ShareFull)
 
 -- so many bytes more would exceed those that it draws on; openings and closings have none
-abbrev pub is_full_of_bytes : Net → Source → ℕ → Bool × Refusal
-is_full_of_bytes net OfBudgets size = (nat_lt net.budgets.bytes (net.bytes + size), BytesFull)
-is_full_of_bytes net (OfOpens shares) size = (false, ShareBytesFull)
-is_full_of_bytes net (OfShare shares i s) size =
+abbrev pub bytes_test : Net → Source → ℕ → Bool × Refusal
+bytes_test net OfBudgets size = (nat_lt net.budgets.bytes (net.bytes + size), BytesFull)
+bytes_test net (OfOpens shares) size = (false, ShareBytesFull)
+bytes_test net (OfShare shares i s) size =
     (nat_lt shares.bytes (bytes_drawn i s net.draws + size), ShareBytesFull)
 
 -- what is tested of an event that draws on a source, in this order, each with the refusal where it holds
@@ -241,25 +241,25 @@ tests_on net s (Opens i) =
     (is_open net i, SlotOpenAlready) ∷ (
       not (nat_lt (length net.slots) net.budgets.slots),
       TooManySlots,
-    ) ∷ is_full net s ∷ []
-tests_on net s (Closes i) = is_open_not net i ∷ is_full net s ∷ []
-tests_on net s (Asks i u x) =
-    is_hosted_not net u ∷ is_open_not net i ∷ (is_bad_value x, BadValue) ∷ (
-      has_proposal (known (places_at net.slots i) u),
+    ) ∷ room_test net s ∷ []
+tests_on net s (Closes i) = open_test net i ∷ room_test net s ∷ []
+tests_on net s (Proposes i u x) =
+    hosted_test net u ∷ open_test net i ∷ (is_bad_value x, BadValue) ∷ (
+      has_proposal (node_where_open (places_at net.slots i) u),
       ProposedAlready,
-    ) ∷ is_full net s ∷ []
-tests_on net s (Delivers u size (Fault n)) = is_hosted_not net u ∷ (true, BadEnvelope n) ∷ []
+    ) ∷ room_test net s ∷ []
+tests_on net s (Delivers u size (Fault n)) = hosted_test net u ∷ (true, BadEnvelope n) ∷ []
 tests_on net s (Delivers u size (Read e)) =
-    is_hosted_not net u ∷ (
+    hosted_test net u ∷ (
       is_hosted net e.sender,
       HostedSender,
-    ) ∷ is_open_not net e.slot ∷ is_full net s ∷ is_full_of_bytes net s size ∷ []
+    ) ∷ open_test net e.slot ∷ room_test net s ∷ bytes_test net s size ∷ []
 tests_on net s (Hears i u from kind k) =
-    (not (is_hosted net u) || not (is_hosted net from) || (u == from), NoSuchNode) ∷ is_open_not net i ∷
-    (is_none (emission (known (places_at net.slots i) from) kind k), NotEmitted) ∷ is_full net s ∷ []
-tests_on net s (NominationTimes i u r) = is_hosted_not net u ∷ is_open_not net i ∷ is_full net s ∷ []
-tests_on net s (BallotTimes i u n) = is_hosted_not net u ∷ is_open_not net i ∷ is_full net s ∷ []
-tests_on net s (Reslices i u q) = is_hosted_not net u ∷ is_open_not net i ∷ is_full net s ∷ []
+    (not (is_hosted net u) || not (is_hosted net from) || (u == from), NoSuchNode) ∷ open_test net i ∷
+    (is_none (emission (node_where_open (places_at net.slots i) from) kind k), NotEmitted) ∷ room_test net s ∷ []
+tests_on net s (NominationTimerFires i u r) = hosted_test net u ∷ open_test net i ∷ room_test net s ∷ []
+tests_on net s (BallotTimerFires i u n) = hosted_test net u ∷ open_test net i ∷ room_test net s ∷ []
+tests_on net s (Reslices i u q) = hosted_test net u ∷ open_test net i ∷ room_test net s ∷ []
 
 -- what is tested of an event
 abbrev pub tests : Net → Step → List (Bool × Refusal)
@@ -299,8 +299,8 @@ on_shares (OfOpens shares) size = []
 on_shares (OfShare shares i s) size = record { slot = i; share = s; size = size } ∷ []
 
 -- counted where it draws, and nowhere else
-abbrev pub counted : Source → ℕ → Net → Net
-counted s size net = record net {
+abbrev pub with_draw : Source → ℕ → Net → Net
+with_draw s size net = record net {
   events = net.events + on_budgets s 1;
   bytes = net.bytes + on_budgets s size;
   opens = net.opens + on_opens s;
@@ -308,10 +308,10 @@ counted s size net = record net {
 }
 
 -- a refused event changes nothing; another one is counted and does what it does
-abbrev pub replied : Net → Step → Option Refusal → Net × Reply
-replied net e (Some n) = (net, Refused n)
-replied net e None = (counted (source net.roster e) (size_of e) (effect net e).0, Done (effect net e).1)
+abbrev pub state_and_reply : Net → Step → Option Refusal → Net × Reply
+state_and_reply net e (Some n) = (net, Refused n)
+state_and_reply net e None = (with_draw (source net.roster e) (size_of e) (effect net e).0, Done (effect net e).1)
 
 -- the first refusal that applies, with the state unchanged; else what the event does
 unfoldable pub net_step : Net → Step → Net × Reply
-net_step net e = replied net e (first_that (tests net e))
+net_step net e = state_and_reply net e (first_that (tests net e))

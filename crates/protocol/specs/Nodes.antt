@@ -16,7 +16,7 @@ use Rattle.types.specs.declared.state.Votes.{Votes}
 use Rattle.protocol.specs.States.{no_votes, counter_of, sent_vote, sent_nomination}
 use Rattle.types.specs.declared.state.Phase.TheVariants.{Preparing, Committing, Externalized}
 use Rattle.protocol.specs.Leaders.{leader}
-use Rattle.protocol.specs.Passes.{pass, raised}
+use Rattle.protocol.specs.Passes.{pass, ballot_at_counter}
 use Rattle.protocol.specs.Timers.{is_nomination_timer_live, is_ballot_timer_live}
 use Rattle.protocol.specs.Sameness.{same_votes, same_sent}
 
@@ -44,8 +44,8 @@ fresh slot name configured = record {
 
 -- ---- settling
 -- one more pass; its table, and so what it sees, is the same in all passes after one event
-abbrev pub passed : Node → Votes → Votes
-passed n w = pass n.name (seen n.name n.slices n.inputs.leaders n.table) n.inputs w
+abbrev pub after_pass : Node → Votes → Votes
+after_pass n w = pass n.name (seen n.name n.slices n.inputs.leaders n.table) n.inputs w
 
 -- passes until one changes nothing; none, where each of so many changes something
 unfoldable pub settle : ℕ → (Votes → Votes) → Votes → Option Votes
@@ -81,25 +81,25 @@ is_counter_live n c =
     is_ballot_timer_live c n.votes.armed (option_map (λ b. b.counter) n.votes.ballot) (is_externalized n.votes.phase)
 
 -- the ballot goes up by one counter, its value chosen as after a raise
-abbrev pub bumped : Votes → Option Ballot → Votes
-bumped w None = w
-bumped w (Some b) = record w { ballot = Some (raised w b (b.counter + 1)) }
+abbrev pub at_next_counter : Votes → Option Ballot → Votes
+at_next_counter w None = w
+at_next_counter w (Some b) = record w { ballot = Some (ballot_at_counter w b (b.counter + 1)) }
 
 -- one more ballot timer has fired, and the ballot is one counter up
-abbrev pub timed_out : Node → Node
-timed_out n = record n { inputs = record n.inputs { ballot_timeouts = n.inputs.ballot_timeouts + 1 }; votes = bumped n.votes n.votes.ballot }
+abbrev pub with_timeout : Node → Node
+with_timeout n = record n { inputs = record n.inputs { ballot_timeouts = n.inputs.ballot_timeouts + 1 }; votes = at_next_counter n.votes n.votes.ballot }
 
 -- from now on these are the configured slices; all else is as it was, its leaders too
-abbrev pub resliced : Node → Slices → Node
-resliced n q = record n { slices = q }
+abbrev pub with_slices : Node → Slices → Node
+with_slices n q = record n { slices = q }
 
 -- none for a stale envelope, and for a timer that is not live
 unfoldable pub change : Node → NodeEvent → Option Node
 change n (Propose x) = Some (proposed n x)
 change n (Take e) = if is_taken n.table e then Some (record n { table = with_row e n.table }) else None
 change n (NominationTimer r) = if is_round_live n r then Some (in_round n (r + 1)) else None
-change n (BallotTimer c) = if is_counter_live n c then Some (timed_out n) else None
-change n (Reslice q) = Some (resliced n q)
+change n (BallotTimer c) = if is_counter_live n c then Some (with_timeout n) else None
+change n (Reslice q) = Some (with_slices n q)
 
 -- ---- what is given out
 abbrev pub when : Bool → Out → List Out
@@ -107,16 +107,16 @@ when true o = o ∷ []
 when false o = []
 
 -- a statement is sent where it is not the one that would have been sent before
-abbrev pub emitted : Node → Option Statement → Option Statement → List Out
-emitted n old None = []
-emitted n old (Some s) =
+abbrev pub emission_between : Node → Option Statement → Option Statement → List Out
+emission_between n old None = []
+emission_between n old (Some s) =
     if same_sent old (Some s) then [] else Emit
     (record { sender = n.name; slot = n.slot; slices = n.slices; body = s }) ∷ []
 
 -- the value of the ballot is externalized
-abbrev pub decided : Option Ballot → List Out
-decided None = []
-decided (Some b) = Decided b.value ∷ []
+abbrev pub externalization : Option Ballot → List Out
+externalization None = []
+externalization (Some b) = Decided b.value ∷ []
 
 -- from the node before the event and the node after it, in order
 unfoldable pub outs : Node → Node → List Out
@@ -124,30 +124,30 @@ outs old new =
     when (not (new.inputs.round == old.inputs.round) && is_none new.votes.confirmed_prepared) (ArmNomination new.inputs.round)
     ++ when (not (new.votes.armed == old.votes.armed) && (new.votes.armed == counter_of new.votes.ballot)
     && not (is_externalized new.votes.phase)) (ArmBallot new.votes.armed)
-    ++ emitted new (sent_nomination old.votes) (sent_nomination new.votes)
-    ++ emitted new (sent_vote old.votes) (sent_vote new.votes)
+    ++ emission_between new (sent_nomination old.votes) (sent_nomination new.votes)
+    ++ emission_between new (sent_vote old.votes) (sent_vote new.votes)
     ++ (if is_externalized new.votes.phase
-    && not (is_externalized old.votes.phase) then decided new.votes.ballot else [])
+    && not (is_externalized old.votes.phase) then externalization new.votes.ballot else [])
 
 -- ---- a step
-abbrev pub settled : Node → Option Votes → Option Node
-settled n None = None
-settled n (Some w) = Some (record n { votes = w })
+abbrev pub with_settled_votes : Node → Option Votes → Option Node
+with_settled_votes n None = None
+with_settled_votes n (Some w) = Some (record n { votes = w })
 
 -- the node after its passes; none where the limit is met
 abbrev pub after_change : Option Node → Option Node
 after_change None = None
-after_change (Some n) = settled n (settle most_passes (passed n) n.votes)
+after_change (Some n) = with_settled_votes n (settle most_passes (after_pass n) n.votes)
 
 -- where nothing changes, or the limit of passes is met, the node stays as it was, its slices too, and gives nothing out
-abbrev pub answered : Node → Option Node → Node × List Out
-answered old None = (old, [])
-answered old (Some new) = (new, outs old new)
+abbrev pub node_and_outs : Node → Option Node → Node × List Out
+node_and_outs old None = (old, [])
+node_and_outs old (Some new) = (new, outs old new)
 
 -- One event of a node: its own change, then passes until one changes nothing, then what is given out.
 unfoldable pub step : Node → NodeEvent → Node × List Out
-step n e = answered n (after_change (change n e))
+step n e = node_and_outs n (after_change (change n e))
 
 -- one more pass would change nothing
 abbrev pub Calm : Node → Type 0
-Calm n = passed n n.votes ≡ n.votes
+Calm n = after_pass n n.votes ≡ n.votes

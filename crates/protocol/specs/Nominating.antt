@@ -6,8 +6,8 @@ use Rattle.protocol.specs.Sets.{among}
 use Rattle.protocol.specs.Views.{Seen, accepted, confirmed}
 use Rattle.types.specs.declared.state.Inputs.{Inputs}
 use Rattle.types.specs.declared.state.Votes.{Votes}
-use Rattle.protocol.specs.States.{nominated}
-use Rattle.protocol.specs.Candidates.{values_by, all_with, filled}
+use Rattle.protocol.specs.States.{nomination_position}
+use Rattle.protocol.specs.Candidates.{values_by, all_with, with_up_to_sixteen}
 
 -- what a leader proposes counts for itself too
 abbrev pub own_proposal : ℕ → Inputs → List (List ℕ)
@@ -18,24 +18,24 @@ own_proposal own g = if among g.leaders own then option_to_list g.proposal else 
 unfoldable pub echo : ℕ → Seen → Inputs → Votes → Votes
 echo own seen g w =
     if nat_lt 0 g.round && not (nat_lt 0 (length w.confirms))
-    then record w { voted = filled w.voted (flat_map values_by seen.led ++ own_proposal own g) }
+    then record w { voted = with_up_to_sixteen w.voted (flat_map values_by seen.led ++ own_proposal own g) }
     else w
 
 -- nominating the value is accepted
 abbrev pub is_value_accepted : Seen → Votes → List ℕ → Bool
 is_value_accepted seen w x =
-    accepted seen Nomination (nominated w) (λ s. votes_or_accepts_nominate s x) (λ s. accepts_nominate s x)
+    accepted seen Nomination (nomination_position w) (λ s. votes_or_accepts_nominate s x) (λ s. accepts_nominate s x)
 
 -- nominating the value is confirmed
 abbrev pub is_value_confirmed : Seen → Votes → List ℕ → Bool
-is_value_confirmed seen w x = confirmed seen Nomination (nominated w) (λ s. accepts_nominate s x)
+is_value_confirmed seen w x = confirmed seen Nomination (nomination_position w) (λ s. accepts_nominate s x)
 
 -- Accept: values of reached nominations and of the node itself that are accepted are added. It needs neither a proposal
 -- nor a vote of one's own.
 unfoldable pub accept_values : Seen → Votes → Votes
 accept_values seen w = record w {
   accepts =
-      filled w.accepts
+      with_up_to_sixteen w.accepts
       (filter (is_value_accepted seen w) (flat_map values_by (seen.rows Nomination) ++ w.voted ++ w.accepts));
 }
 

@@ -17,11 +17,11 @@ use Rattle.protocol.specs.Balloting.{start, accept_prepared, confirm_prepared, a
 
 -- ---- counters
 -- the ballot counter is at least n; an EXTERNALIZE counts as infinite
-abbrev pub counts : ℕ → Statement → Bool
-counts n (Nominate voted accepted) = false
-counts n (Prepare b p a h c) = nat_le n b.counter
-counts n (Commit b p h c) = nat_le n b.counter
-counts n (Externalize b h) = true
+abbrev pub has_counter : ℕ → Statement → Bool
+has_counter n (Nominate voted accepted) = false
+has_counter n (Prepare b p a h c) = nat_le n b.counter
+has_counter n (Commit b p h c) = nat_le n b.counter
+has_counter n (Externalize b h) = true
 
 -- the value of a ballot, else that one
 abbrev pub value_or : Option Ballot → List ℕ → List ℕ
@@ -35,31 +35,31 @@ known_or (Some y) x = y
 
 -- the value of a raised ballot in PREPARE: that of the highest confirmed ballot, else the combined confirmed value,
 -- else that of the highest accepted ballot, else its own; in the other phases it stays
-abbrev pub raised_value : Phase → Votes → List ℕ → List ℕ
-raised_value Preparing w x = value_or w.confirmed_prepared (known_or (combine w.confirms) (value_or w.prepared x))
-raised_value Committing w x = x
-raised_value Externalized w x = x
+abbrev pub value_once_raised : Phase → Votes → List ℕ → List ℕ
+value_once_raised Preparing w x = value_or w.confirmed_prepared (known_or (combine w.confirms) (value_or w.prepared x))
+value_once_raised Committing w x = x
+value_once_raised Externalized w x = x
 
 -- the ballot at this counter; its value is chosen anew only where that is another counter
-abbrev pub raised : Votes → Ballot → ℕ → Ballot
-raised w b n = if n == b.counter then b else ballot_at n (raised_value w.phase w b.value)
+abbrev pub ballot_at_counter : Votes → Ballot → ℕ → Ballot
+ballot_at_counter w b n = if n == b.counter then b else ballot_at n (value_once_raised w.phase w b.value)
 
 -- the lowest counter, from the ballot's on, at which those with greater counters do not block, at most the cap, or the
 -- ballot's own where that is above the cap
-unfoldable pub raised_counter : Seen → Inputs → Ballot → Votes → ℕ
-raised_counter seen g b w =
+unfoldable pub counter_after_raise : Seen → Inputs → Ballot → Votes → ℕ
+counter_after_raise seen g b w =
     least_from (cap g.ballot_timeouts - b.counter) b.counter
-    (λ n. not (seen.blocking Kind.Ballot (passes (counts (n + 1)) (position w)) (counts (n + 1))))
+    (λ n. not (seen.blocking Kind.Ballot (passes (has_counter (n + 1)) (position w)) (has_counter (n + 1))))
 
 -- Raise: the ballot goes to that counter.
 unfoldable pub raise : Seen → Inputs → Ballot → Votes → Votes
-raise seen g b w = record w { ballot = Some (raised w b (raised_counter seen g b w)) }
+raise seen g b w = record w { ballot = Some (ballot_at_counter w b (counter_after_raise seen g b w)) }
 
 -- Arm: where all members of some quorum that contains the node have counters of at least the ballot's.
 unfoldable pub arm : Seen → Ballot → Votes → Votes
 arm seen b w =
-    if seen.quorum Kind.Ballot (passes (counts b.counter) (position w))
-    (counts b.counter) then record w { armed = b.counter } else w
+    if seen.quorum Kind.Ballot (passes (has_counter b.counter) (position w))
+    (has_counter b.counter) then record w { armed = b.counter } else w
 
 -- ---- the rules in order
 -- a rule that needs the ballot

@@ -4,9 +4,9 @@ use Rattle.types.specs.Trees.{Slices}
 use Rattle.types.specs.declared.event.NodeEvent.{NodeEvent}
 use Rattle.types.specs.declared.event.NodeEvent.TheVariants.{Propose, Take, NominationTimer, BallotTimer, Reslice}
 use Rattle.protocol.specs.Nodes.{Node, step}
-use Rattle.protocol.specs.Limits.{Reached}
-use Rattle.protocol.specs.Networks.{Step, Place, slices_of, places_at, known}
-use Rattle.protocol.specs.Networks.Step.{Opens, Closes, Asks, Delivers, Hears, NominationTimes, BallotTimes, Reslices}
+use Rattle.protocol.specs.Limits.{ComesOfEvents}
+use Rattle.protocol.specs.Networks.{Step, Place, slices_of, places_at, node_where_open}
+use Rattle.protocol.specs.Networks.Step.{Opens, Closes, Proposes, Delivers, Hears, NominationTimerFires, BallotTimerFires, Reslices}
 use Rattle.protocol.specs.Hosts.{Config, Entry}
 use Rattle.protocol.specs.Runs.{IsRun, state_of}
 
@@ -21,7 +21,7 @@ slices_after (Reslice new) q = new
 -- a node that events lead to has the slices that were given last: no event meets the limit of passes, so new ones are
 -- always in force
 abbrev pub SlicesFollowEvents : Type 0
-SlicesFollowEvents = (n : Node) → Reached n → (e : NodeEvent) → (step n e).0.slices ≡ slices_after e n.slices
+SlicesFollowEvents = (n : Node) → ComesOfEvents n → (e : NodeEvent) → (step n e).0.slices ≡ slices_after e n.slices
 
 -- name and slot are as they were, and so are the table and the inputs, the leaders among them
 pub record IsElseSame (old new : Node) : Type 0 where
@@ -36,7 +36,7 @@ ReslicesChangeVotes = (n : Node) (q : Slices) → IsElseSame n (step n (Reslice 
 
 -- the slices that it has already change nothing of a node that events lead to, and it gives nothing out
 abbrev pub SameSlicesAreQuiet : Type 0
-SameSlicesAreQuiet = (n : Node) → Reached n → step n (Reslice n.slices) ≡ (n, [])
+SameSlicesAreQuiet = (n : Node) → ComesOfEvents n → step n (Reslice n.slices) ≡ (n, [])
 
 -- ---- over a run
 -- the slices of a node at a slot after one more applied event: the new ones where that gives them to the node there;
@@ -44,11 +44,11 @@ SameSlicesAreQuiet = (n : Node) → Reached n → step n (Reslice n.slices) ≡ 
 abbrev pub slices_next : ℕ → ℕ → Slices → Slices → Step → Slices
 slices_next i u configured now (Opens j) = if j == i then configured else now
 slices_next i u configured now (Closes j) = if j == i then configured else now
-slices_next i u configured now (Asks j w x) = now
+slices_next i u configured now (Proposes j w x) = now
 slices_next i u configured now (Delivers w size d) = now
 slices_next i u configured now (Hears j w from kind k) = now
-slices_next i u configured now (NominationTimes j w r) = now
-slices_next i u configured now (BallotTimes j w n) = now
+slices_next i u configured now (NominationTimerFires j w r) = now
+slices_next i u configured now (BallotTimerFires j w n) = now
 slices_next i u configured now (Reslices j w q) = if (j == i) && (w == u) then q else now
 
 -- after the events of these entries
@@ -64,4 +64,5 @@ slices_at_end i u configured run = slices_since i u configured configured run
 abbrev pub SlicesFollowRuns : Type 0
 SlicesFollowRuns = (config : Config) (run : List Entry) (i u : ℕ) (configured : Slices) (p : Place) → IsRun config run
     → slices_of config.hosts u ≡ Some configured
-    → known (places_at (state_of config run).slots i) u ≡ Some p → p.node.slices ≡ slices_at_end i u configured run
+    → node_where_open (places_at (state_of config run).slots i) u ≡ Some p
+    → p.node.slices ≡ slices_at_end i u configured run

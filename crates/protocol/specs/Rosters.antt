@@ -40,8 +40,8 @@ is_on names (Own u) = among names u
 is_on names (Pair u from) = among names u && among names from
 
 -- the share of a slot where its names are on the roster; else the budgets
-abbrev pub reserved : Roster → ℕ → Share → Source
-reserved r i s = if is_on r.names s then OfShare r.shares i s else OfBudgets
+abbrev pub share_or_budgets : Roster → ℕ → Share → Source
+share_or_budgets r i s = if is_on r.names s then OfShare r.shares i s else OfBudgets
 
 -- one share
 abbrev pub same_share : Share → Share → Bool

@@ -40,13 +40,13 @@ unfoldable pub is_taken : List Sent → Sent → Bool
 is_taken table e = replaces e (row table e.sender (kind_of e.body))
 
 -- the table after an offer; a stale envelope changes nothing
-unfoldable pub offered : List Sent → Sent → List Sent
-offered table e = if is_taken table e then with_row e table else table
+unfoldable pub table_with_offer : List Sent → Sent → List Sent
+table_with_offer table e = if is_taken table e then with_row e table else table
 
 -- the table after offers to it, in their order
-abbrev pub offered_all : List Sent → List Sent → List Sent
-offered_all = fold offered
+abbrev pub table_with_offers : List Sent → List Sent → List Sent
+table_with_offers = fold table_with_offer
 
 -- the table after all envelopes of a list were offered, in their order, to an empty one
 unfoldable pub table_after : List Sent → List Sent
-table_after taken = offered_all [] taken
+table_after taken = table_with_offers [] taken

@@ -81,13 +81,13 @@ unfoldable pub position : Votes → Option Statement
 position w = option_map (position_in w.phase w) w.ballot
 
 -- the position in nomination
-unfoldable pub nominated : Votes → Option Statement
-nominated w = Some (Nominate w.voted w.accepts)
+unfoldable pub nomination_position : Votes → Option Statement
+nomination_position w = Some (Nominate w.voted w.accepts)
 
 -- ---- what is sent
 -- the highest accepted ballot as it is sent: where it is above the ballot, the greatest of its value that is not
-unfoldable pub clamped : Ballot → Ballot → Ballot
-clamped b p =
+unfoldable pub prepared_as_sent : Ballot → Ballot → Ballot
+prepared_as_sent b p =
     if below b p
     then (if not (is_gt (bytes_cmp p.value b.value)) then ballot_at b.counter p.value else ballot_at
     (b.counter - 1) p.value)
@@ -96,7 +96,8 @@ clamped b p =
 -- the ballot statement that is sent: in PREPARE nothing in it is above the ballot
 unfoldable pub sent_in : Phase → Votes → Ballot → Statement
 sent_in Preparing w b =
-    Prepare b (option_map (clamped b) w.prepared) (min w.aborted b.counter) (high_counter w b) (commit_counter w b)
+    Prepare b (option_map (prepared_as_sent b) w.prepared) (min w.aborted b.counter) (high_counter w b)
+    (commit_counter w b)
 sent_in Committing w b = Commit b (counter_of w.prepared) w.high w.low
 sent_in Externalized w b = Externalize (ballot_at w.low b.value) w.high
 

@@ -8,8 +8,8 @@ use Rattle.types.specs.declared.kind.Kind.{Kind}
 use Rattle.types.specs.declared.kind.Kind.TheVariants.{Nomination}
 use Rattle.types.specs.declared.state.Inputs.{Inputs}
 use Rattle.types.specs.declared.state.Votes.{Votes}
-use Rattle.protocol.specs.Limits.{Reached}
-use Rattle.protocol.specs.Nodes.{Node, change, most_passes, passed, settle}
+use Rattle.protocol.specs.Limits.{ComesOfEvents}
+use Rattle.protocol.specs.Nodes.{Node, change, most_passes, after_pass, settle}
 use Rattle.protocol.specs.Passes.{balloted_in, nominated_in, pass}
 use Rattle.protocol.specs.Reach.{reached}
 use Rattle.protocol.specs.Rows.{with_row}
@@ -17,8 +17,8 @@ use Rattle.protocol.specs.Sameness.{same_values, same_votes}
 use Rattle.protocol.specs.Views.{Seen, seen}
 
 -- a node reaches the same nodes by both tables
-abbrev pub KeepsReach : ℕ → Slices → List Sent → List Sent → Type 0
-KeepsReach own configured old new = (u : ℕ) → reached own configured new u ≡ reached own configured old u
+abbrev pub ReachesSame : ℕ → Slices → List Sent → List Sent → Type 0
+ReachesSame own configured old new = (u : ℕ) → reached own configured new u ≡ reached own configured old u
 
 -- the votes after a first pass that made these of those: where it changed something, balloting alone goes on until it
 -- changes nothing
@@ -46,22 +46,22 @@ seen_by n = seen n.name n.slices n.inputs.leaders n.table
 
 -- after every event of a node that events lead to, nomination has its say in the first pass alone
 abbrev pub NominationRestsAfterAPass : Type 0
-NominationRestsAfterAPass = (n : Node) → Reached n → (e : NodeEvent) (m : Node) → change n e ≡ Some m
-    → settle_all m.name (seen_by m) m.inputs m.votes ≡ settle most_passes (passed m) m.votes
+NominationRestsAfterAPass = (n : Node) → ComesOfEvents n → (e : NodeEvent) (m : Node) → change n e ≡ Some m
+    → settle_all m.name (seen_by m) m.inputs m.votes ≡ settle most_passes (after_pass m) m.votes
 
 -- a ballot row by which the node reaches no other nodes stirs balloting alone
 abbrev pub BallotRowsStirBallots : Type 0
 BallotRowsStirBallots =
-    (n : Node) → Reached n → (e : Sent) → kind_of e.body ≡ Kind.Ballot
-    → KeepsReach n.name n.slices n.table (with_row e n.table)
+    (n : Node) → ComesOfEvents n → (e : Sent) → kind_of e.body ≡ Kind.Ballot
+    → ReachesSame n.name n.slices n.table (with_row e n.table)
     → let m = record n { table = with_row e n.table } in
-    settle_ballots (seen_by m) m.inputs m.votes ≡ settle most_passes (passed m) m.votes
+    settle_ballots (seen_by m) m.inputs m.votes ≡ settle most_passes (after_pass m) m.votes
 
 -- a nomination row by which the node reaches no other nodes stirs nomination once, and balloting only where that
 -- confirms a value
 abbrev pub NominationRowsStirNomination : Type 0
 NominationRowsStirNomination =
-    (n : Node) → Reached n → (e : Sent) → kind_of e.body ≡ Nomination
-    → KeepsReach n.name n.slices n.table (with_row e n.table)
+    (n : Node) → ComesOfEvents n → (e : Sent) → kind_of e.body ≡ Nomination
+    → ReachesSame n.name n.slices n.table (with_row e n.table)
     → let m = record n { table = with_row e n.table } in
-    settle_nominations m.name (seen_by m) m.inputs m.votes ≡ settle most_passes (passed m) m.votes
+    settle_nominations m.name (seen_by m) m.inputs m.votes ≡ settle most_passes (after_pass m) m.votes

@@ -10,7 +10,7 @@ use Rattle.protocol.specs.Rows.{is_taken, with_row}
 use Rattle.protocol.specs.Reach.{HoldsReach, IsReach}
 use Rattle.protocol.specs.Nodes.{Node, fresh, step}
 use Rattle.protocol.specs.Claims.{IsClosedFor, IsQuiet}
-use Rattle.protocol.specs.Limits.{Reached}
+use Rattle.protocol.specs.Limits.{ComesOfEvents}
 
 -- the slices that an event gives, where it gives any, name nodes in the set alone
 abbrev pub GivesWithin : Names → NodeEvent → Type 0
@@ -39,19 +39,19 @@ HeldIsClosed = (R : Names) (n : Node) → HasNamed R n → HoldsReach n.name n.s
 -- give. Where the node
 -- takes an envelope from outside the set, and not from a leader, its table has the row, and nothing else happens.
 abbrev pub OutsidersAddRows : Type 0
-OutsidersAddRows = (R : Names) (n : Node) (e : Sent) → Reached n → HoldsReach n.name n.slices n.table R
+OutsidersAddRows = (R : Names) (n : Node) (e : Sent) → ComesOfEvents n → HoldsReach n.name n.slices n.table R
     → IsFalse (R e.sender) → IsFalse (among n.inputs.leaders e.sender) → IsTrue (is_taken n.table e)
     → step n (Take e) ≡ (record n { table = with_row e n.table }, [])
 
 -- taken or stale, such an envelope makes the node give nothing out, and changes nothing of it but rows of senders
 -- outside the set
 abbrev pub OutsidersAreQuiet : Type 0
-OutsidersAreQuiet = (R : Names) (n : Node) (e : Sent) → Reached n → HoldsReach n.name n.slices n.table R
+OutsidersAreQuiet = (R : Names) (n : Node) (e : Sent) → ComesOfEvents n → HoldsReach n.name n.slices n.table R
     → IsFalse (R e.sender) → IsFalse (among n.inputs.leaders e.sender)
     → IsQuiet R n (step n (Take e)).0 (step n (Take e)).1
 
 -- and so it is where the node does not reach the sender, and the sender is no leader of its
 abbrev pub StrangersAddRows : Type 0
-StrangersAddRows = (n : Node) (reach : List ℕ) (e : Sent) → Reached n → IsReach n.name n.slices n.table reach
+StrangersAddRows = (n : Node) (reach : List ℕ) (e : Sent) → ComesOfEvents n → IsReach n.name n.slices n.table reach
     → IsFalse (among reach e.sender) → IsFalse (among n.inputs.leaders e.sender) → IsTrue (is_taken n.table e)
     → step n (Take e) ≡ (record n { table = with_row e n.table }, [])

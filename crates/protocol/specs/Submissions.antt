@@ -6,9 +6,9 @@ use Rattle.protocol.specs.Sets.{Names, among, AreWithin}
 use Rattle.protocol.specs.Rosters.{Roster}
 use Rattle.protocol.specs.Networks.{Reading, Step, Net, Reply, slices_of, net_step}
 use Rattle.protocol.specs.Networks.Reading.{Read}
-use Rattle.protocol.specs.Networks.Step.{Opens, Closes, Asks, Delivers, Hears, NominationTimes, BallotTimes, Reslices}
+use Rattle.protocol.specs.Networks.Step.{Opens, Closes, Proposes, Delivers, Hears, NominationTimerFires, BallotTimerFires, Reslices}
 use Rattle.protocol.specs.Hosts.{Config, History, new_net, nets, journal, host_run, hosts_of, steps_of, entries}
-use Rattle.protocol.specs.Isolation.{kept, closure, outs_of, SameCast}
+use Rattle.protocol.specs.Isolation.{kept_step, closure, outs_of, SameCast}
 
 -- ---- what was submitted
 -- a submitted step, with its reply
@@ -37,20 +37,20 @@ answers decode h g = answers_of g (steps_of decode h.calls) (host_run (nets h.co
 abbrev pub concerns : Names → ℕ → Step → Bool
 concerns R i (Opens j) = true
 concerns R i (Closes j) = true
-concerns R i (Asks j u x) = is_some (kept R i (Asks j u x))
-concerns R i (Delivers u size d) = is_some (kept R i (Delivers u size d))
-concerns R i (Hears j u from kind k) = is_some (kept R i (Hears j u from kind k))
-concerns R i (NominationTimes j u r) = is_some (kept R i (NominationTimes j u r))
-concerns R i (BallotTimes j u n) = is_some (kept R i (BallotTimes j u n))
-concerns R i (Reslices j u q) = is_some (kept R i (Reslices j u q))
+concerns R i (Proposes j u x) = is_some (kept_step R i (Proposes j u x))
+concerns R i (Delivers u size d) = is_some (kept_step R i (Delivers u size d))
+concerns R i (Hears j u from kind k) = is_some (kept_step R i (Hears j u from kind k))
+concerns R i (NominationTimerFires j u r) = is_some (kept_step R i (NominationTimerFires j u r))
+concerns R i (BallotTimerFires j u n) = is_some (kept_step R i (BallotTimerFires j u n))
+concerns R i (Reslices j u q) = is_some (kept_step R i (Reslices j u q))
 
 -- what concerns a set at a slot, of all that was submitted
 abbrev pub concerning : Names → ℕ → List Answer → List Answer
 concerning R i xs = filter (λ x. concerns R i x.step) xs
 
 -- these steps, in order
-abbrev pub concerned : Names → ℕ → List Answer → List Step
-concerned R i xs = map (λ x. x.step) (concerning R i xs)
+abbrev pub concerning_steps : Names → ℕ → List Answer → List Step
+concerning_steps R i xs = map (λ x. x.step) (concerning R i xs)
 
 -- and their replies
 abbrev pub replied_to : Names → ℕ → List Answer → List Reply
@@ -97,7 +97,7 @@ MembersAreNeverCrowdedOut = (decode : List ℕ → Reading) (one other : History
     SameCast R v (hosts_of one.configs g) (hosts_of other.configs g)
     → SameReserves (config_of one.configs g) (config_of other.configs g)
     → AreWithin R (among (roster_names (config_of one.configs g)))
-    → concerned R i (answers decode one g) ≡ concerned R i (answers decode other g)
+    → concerning_steps R i (answers decode one g) ≡ concerning_steps R i (answers decode other g)
     → (replied_to R i (answers decode one g) ≡ replied_to R i (answers decode other g))
     × ((u : ℕ) → IsTrue (R u) → IsTrue (is_some (slices_of (hosts_of one.configs g) u))
     → outs_of i u (entries decode one g) ≡ outs_of i u (entries decode other g))
@@ -109,7 +109,7 @@ MembersOfRunsAreNeverCrowdedOut = (one other : Config) (es fs : List Step) (i v 
     SameCast R v one.hosts other.hosts
     → SameReserves (Some one) (Some other)
     → AreWithin R (among (names_on one.roster))
-    → concerned R i (net_run (new_net one) es) ≡ concerned R i (net_run (new_net other) fs)
+    → concerning_steps R i (net_run (new_net one) es) ≡ concerning_steps R i (net_run (new_net other) fs)
     → (replied_to R i (net_run (new_net one) es) ≡ replied_to R i (net_run (new_net other) fs))
     × ((u : ℕ) → IsTrue (R u) → outs_of i u (journal (new_net one) es) ≡ outs_of i u (journal (new_net other) fs))
 
@@ -122,15 +122,16 @@ HasOneLength decode = (a b : List ℕ) (e : Sent) → decode a ≡ Read e → de
 abbrev pub unsized : Step → Step
 unsized (Opens j) = Opens j
 unsized (Closes j) = Closes j
-unsized (Asks j u x) = Asks j u x
+unsized (Proposes j u x) = Proposes j u x
 unsized (Delivers u size d) = Delivers u 0 d
 unsized (Hears j u from kind k) = Hears j u from kind k
-unsized (NominationTimes j u r) = NominationTimes j u r
-unsized (BallotTimes j u n) = BallotTimes j u n
+unsized (NominationTimerFires j u r) = NominationTimerFires j u r
+unsized (BallotTimerFires j u n) = BallotTimerFires j u n
 unsized (Reslices j u q) = Reslices j u q
 
 -- then submitted steps that are the same but for lengths are the same
 abbrev pub LengthsFollow : Type 0
 LengthsFollow = (decode : List ℕ → Reading) → HasOneLength decode → (one other : History) (g i : ℕ) (R : Names)
-    → map unsized (concerned R i (answers decode one g)) ≡ map unsized (concerned R i (answers decode other g))
-    → concerned R i (answers decode one g) ≡ concerned R i (answers decode other g)
+    → map unsized (concerning_steps R i (answers decode one g))
+    ≡ map unsized (concerning_steps R i (answers decode other g))
+    → concerning_steps R i (answers decode one g) ≡ concerning_steps R i (answers decode other g)

@@ -9,8 +9,8 @@ mod closures;
 mod extremes;
 mod headline;
 mod limits;
+mod node;
 mod quorums;
-mod reached;
 mod rosters;
 mod rows;
 mod values;
@@ -25,10 +25,10 @@ pub use headline::{
     networks_agree, prefix, quiet, verdicts_are_determined,
 };
 pub use limits::{four_passes_are_enough, rows_stir_their_kind};
-pub use quorums::{blocking_is_counted, nested_quorum_cut, quorum_cut, quorums_are_found};
-pub use reached::{
-    last_emitted_is_sent, reached_nodes_send_well_formed, slices_follow_events, strangers_add_rows,
+pub use node::{
+    last_emitted_is_sent, nodes_send_well_formed, slices_follow_events, strangers_add_rows,
 };
+pub use quorums::{blocking_is_counted, nested_quorum_cut, quorum_cut, quorums_are_found};
 pub use rosters::{
     crowds_are_determined, lengths_follow_from_envelopes, members_are_never_crowded_out,
     room_is_counted, without_roster_nothing_changes,

@@ -1,16 +1,16 @@
 //! The limit of passes: no event meets it.
 
-ghost use Rattle.protocol.specs.Limits.{NeverLimited, WithinFour, RunsReach};
+ghost use Rattle.protocol.specs.Limits.{NeverLimited, WithinFour, RunsComeOfEvents};
 ghost use Rattle.protocol.specs.Stirring.{BallotRowsStirBallots, NominationRestsAfterAPass, NominationRowsStirNomination};
 
 /// Four passes are enough for each event of a node that events lead to, the last of which changes
 /// nothing: so no event is undone by the limit of 64 passes. And each node in a network's run is one
 /// that events lead to.
-#[tactic(auto, using(crate::proofs::Passes::Settling::never_limited, crate::proofs::Passes::Settling::within_four, crate::proofs::Networks::Places::runs_reach))]
+#[tactic(auto, using(crate::proofs::Passes::Settling::never_limited, crate::proofs::Passes::Settling::within_four, crate::proofs::Networks::Places::runs_come_of_events))]
 pub fn four_passes_are_enough()
     ensures limit { NeverLimited }
     ensures four { WithinFour }
-    ensures runs { RunsReach }
+    ensures runs { RunsComeOfEvents }
 {}
 
 /// In the passes after an event of a node that events lead to, nomination changes nothing but in the

@@ -8,7 +8,7 @@ ghost use Rattle.types.specs.Statements.{Sent, kind_of};
 ghost use Rattle.types.specs.declared.kind.Kind.{Kind};
 ghost use Rattle.types.specs.declared.statement.Statement.{Statement};
 ghost use Rattle.protocol.specs.Newer.{statement_cmp, is_newer};
-ghost use Rattle.protocol.specs.Rows.{has_single_rows, is_row_of, is_taken, offered, offered_all, row, table_after};
+ghost use Rattle.protocol.specs.Rows.{has_single_rows, is_row_of, is_taken, table_with_offer, table_with_offers, row, table_after};
 ghost use Rattle.protocol.specs.History.{is_externalize, row_of};
 
 /// Statements are in one order, in which each two ballot statements that tie are one statement.
@@ -26,14 +26,14 @@ pub fn newer_is_strict()
 
 /// Where a sender's row is an EXTERNALIZE, no offers change it.
 pub fn externalize_stays()
-    ensures { (offers table : List Sent) (u : ℕ) (k : Kind) (e : Sent) → is_externalize e.body ≡ true → row table u k ≡ Some e → row (offered_all table offers) u k ≡ Some e }
+    ensures { (offers table : List Sent) (u : ℕ) (k : Kind) (e : Sent) → is_externalize e.body ≡ true → row table u k ≡ Some e → row (table_with_offers table offers) u k ≡ Some e }
 {}
 
 /// An offer changes at most the row of its own sender and kind. There the envelope stands after it
 /// exactly where the table takes it.
 pub fn offers_change_one_row()
-    ensures own { (table : List Sent) (e : Sent) → row (offered table e) e.sender (kind_of e.body) ≡ (if is_taken table e then Some e else row table e.sender (kind_of e.body)) }
-    ensures other { (table : List Sent) (e : Sent) (u : ℕ) (k : Kind) → is_row_of u k e ≡ false → row (offered table e) u k ≡ row table u k }
+    ensures own { (table : List Sent) (e : Sent) → row (table_with_offer table e) e.sender (kind_of e.body) ≡ (if is_taken table e then Some e else row table e.sender (kind_of e.body)) }
+    ensures other { (table : List Sent) (e : Sent) (u : ℕ) (k : Kind) → is_row_of u k e ≡ false → row (table_with_offer table e) u k ≡ row table u k }
 {}
 
 /// A table has at most one row of each sender and kind.
@@ -46,5 +46,5 @@ pub fn rows_are_single()
 /// last that was newer than the row standing before it.
 pub fn rows_follow_from_all_offers()
     ensures rows { (taken : List Sent) (u : ℕ) (k : Kind) → row (table_after taken) u k ≡ row_of taken u k }
-    ensures one_more { (taken : List Sent) (e : Sent) → table_after (taken ++ e ∷ []) ≡ offered (table_after taken) e }
+    ensures one_more { (taken : List Sent) (e : Sent) → table_after (taken ++ e ∷ []) ≡ table_with_offer (table_after taken) e }
 {}

@@ -19,10 +19,10 @@ use Rattle.runs.specs.declared.verbs.Verb.TheVariants as verb
 use Rattle.runs.specs.declared.verbs.EventVerb.{EventVerb}
 use Rattle.runs.specs.declared.verbs.EventVerb.TheVariants as ask
 use Rattle.runs.specs.Outlines.{Outlined, Waiting, waiting_at}
-use Rattle.runs.specs.Joining.{IsNamedAt, Joins}
+use Rattle.runs.specs.Joining.{NetworkIsNamedAt, Joins}
 use Rattle.runs.specs.Naming.{Named}
 use Rattle.runs.specs.Taking.{takes}
-use Rattle.runs.specs.Lines.{AsksResliceOf, AsksSayOf, IsAsked, IsResliced, IsSaid, five, place_in, three, verb_in}
+use Rattle.runs.specs.Lines.{AsksResliceOf, AsksSayOf, IsAsked, IsResliced, IsSaid, five, slot_and_node_in, three, verb_in}
 use Rattle.runs.specs.Requests.{AreAllowed, AsksNode, IsNode, IsRequest, IsRequestOf, IsRequested, IsReserved, budgets_in, shares_in}
 use Rattle.runs.specs.Telling.{HasNoNode, IsBad, IsBadRequest, IsBare, Refuses}
 use Rattle.runs.specs.Followed.{also_followed}
@@ -116,7 +116,7 @@ resliced-at (Some at) slices e h = ap is-closing h.2
 
 resliced-of : (o : Option (Bytes × Bytes × Bytes)) (e : Event) → AsksResliceOf o e → is-closing e ≡ false
 resliced-of None e h = absurd h
-resliced-of (Some w) e h = resliced-at (place_in w.0 w.1) w.2 e h
+resliced-of (Some w) e h = resliced-at (slot_and_node_in w.0 w.1) w.2 e h
 
 two-events : (v : EventVerb) (fields : List Bytes) (e f : Event) → IsAsked v fields (Some e) → IsAsked v fields (Some f) → is-closing e ≡ is-closing f
 two-events ask.Open fields e f h k = one-event _ e f h k
@@ -202,7 +202,7 @@ asks-alike (word ∷ number ∷ fields) g r asked h k = asks-alike-of (verb_in w
 
 -- ---- what is told is not bad
 
-pub bare-joins-nothing : {S : Type 0} (joins : Joins S) (g : ℕ) (o : Option Outlined) (ws us : Waiting) (old new : S) → IsBare o → IsNamedAt joins g o ws us old new → ⊥
+pub bare-joins-nothing : {S : Type 0} (joins : Joins S) (g : ℕ) (o : Option Outlined) (ws us : Waiting) (old new : S) → IsBare o → NetworkIsNamedAt joins g o ws us old new → ⊥
 bare-joins-nothing joins g None ws us old new h k = h
 bare-joins-nothing joins g (Some d) ws us old new h k = k.1.1.some_nodes h
 

@@ -13,7 +13,7 @@ use Rattle.runs.specs.Telling.{HasNoNode}
 use Rattle.runs.specs.Submitting.{BadLinesSubmitNothing, IsDeclared, Submitting, declared_once}
 use Rattle.runs.specs.Submitting.{IsBad as IsBadToSubmit, IsBadRequest as IsBadRequestToSubmit}
 use Rattle.runs.specs.Plans.{Plan}
-use Rattle.runs.specs.Putting.{BadLinesPutNothing, IsNoJob, IsPlanned}
+use Rattle.runs.specs.Putting.{BadLinesPutNothing, IsNoJob, IsJobOrOpening}
 use Rattle.runs.specs.Putting.{IsBad as IsBadToPut, IsBadRequest as IsBadRequestToPut}
 use Rattle.runs.specs.Putting.Puts.{declares as puts_declaration, plans}
 use Rattle.runs.specs.Submitting.Submits.{declares as submits_declaration, submits}
@@ -56,11 +56,11 @@ bare-job : (ws : Waiting) (g : ℕ) (f : Event) → is-closing f ≡ false → I
 bare-job ws g (event.CloseSlot i) within bad = absurd (false≢true (sym within))
 bare-job ws g _ within bad = bad
 
-planned-within : (g : ℕ) (e : Event) (old new : Plan) → IsPlanned g e old new → is-closing e ≡ false
+planned-within : (g : ℕ) (e : Event) (old new : Plan) → IsJobOrOpening g e old new → is-closing e ≡ false
 planned-within g (event.CloseSlot i) old new h = absurd h
 planned-within g _ old new h = refl
 
-planned-has-nodes : (g : ℕ) (e : Event) (old new : Plan) → HasNoNode old.submitted.waiting g → IsPlanned g e old new → ⊥
+planned-has-nodes : (g : ℕ) (e : Event) (old new : Plan) → HasNoNode old.submitted.waiting g → IsJobOrOpening g e old new → ⊥
 planned-has-nodes g (event.OpenSlot i) old new bare h = undeclared g old.submitted new.submitted bare h.0
 planned-has-nodes g (event.CloseSlot i) old new bare h = h
 planned-has-nodes g _ old new bare h = undeclared g old.submitted h.0.0 bare h.0.1

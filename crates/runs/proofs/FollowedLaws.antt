@@ -29,7 +29,7 @@ use Rattle.runs.specs.Outlines.{Outlined, IsConfigOf, IsRevised, Waiting, fresh,
 use Rattle.runs.specs.Emissions.{OpenSlot, OpenSlots, at_number, changed_at, handed_on}
 use Rattle.runs.specs.Followed.{Followed, also_followed, followed_with, turn_of, turned, with_handed}
 use Rattle.runs.specs.Hosting.{Hosting, IsApplied, IsBegun, logs_joined, noted_answer, unhosted}
-use Rattle.runs.specs.Joining.{IsNamedAt}
+use Rattle.runs.specs.Joining.{NetworkIsNamedAt}
 use Rattle.runs.specs.Naming.{Named, is_in, named_with}
 use Rattle.runs.specs.Preparing.{Prepares}
 use Rattle.runs.specs.Running.{RefusesLine, Tells}
@@ -266,7 +266,7 @@ module _ (ws : Waiting) (n : Named) (logs : List Log) (f : Followed) (g : ℕ) (
 begun-follows : (g : ℕ) (old new : Hosting) → FollowsJournals old → IsBegun g old new → FollowsJournals new
 begun-follows g old new s h = go (waiting_at old.waiting g) refl h.0 h.1
   where
-    go : (o : Option Outlined) → waiting_at old.waiting g ≡ o → IsNamedAt (also_followed logs_joined) g o old.waiting new.waiting (old.logs, old.followed) (new.logs, new.followed) → new.named ≡ named_with g o old.named → FollowsJournals new
+    go : (o : Option Outlined) → waiting_at old.waiting g ≡ o → NetworkIsNamedAt (also_followed logs_joined) g o old.waiting new.waiting (old.logs, old.followed) (new.logs, new.followed) → new.named ≡ named_with g o old.named → FollowsJournals new
     go None at k named = record {
       room = subst (λ (x : Waiting × Named × List Log). HaveRoom x.0 x.1 x.2) (λ i. (sym k.0 i, sym named i, (sym k.1 i).0)) (record { joined = s.room.joined; counted = s.room.counted; apart = s.room.apart; once = s.room.once; few = s.room.few });
       slots = subst (λ (x : List Log × Followed). AreFollowed x.0 x.1) (sym k.1) s.slots;

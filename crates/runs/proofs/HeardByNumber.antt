@@ -12,15 +12,15 @@ use Rattle.types.specs.declared.event.Out.{Out}
 use Rattle.types.specs.declared.event.Refusal.{Refusal}
 use Rattle.protocol.specs.Nodes.{fresh}
 use Rattle.protocol.specs.Rows.{is_kind, is_row_of}
-use Rattle.protocol.specs.Networks.{Host, Net, Place, Slot, Step, act, act_known, counted, effect, emission, emissions, first_that, is_open, known, moved, net_step, opened, outs_at, place_of, places_at, replied, size_of, source, tests}
+use Rattle.protocol.specs.Networks.{Host, Net, Place, Slot, Step, act, act_known, with_draw, effect, emission, emissions, first_that, is_open, node_where_open, after_event, net_step, nodes_of_new_slot, outs_at, node_named, places_at, state_and_reply, size_of, source, tests}
 use Rattle.protocol.specs.Networks.Reading.{Read, Fault}
-use Rattle.protocol.specs.Networks.Step.{Opens, Closes, Asks, Delivers, Hears, NominationTimes, BallotTimes, Reslices}
+use Rattle.protocol.specs.Networks.Step.{Opens, Closes, Proposes, Delivers, Hears, NominationTimerFires, BallotTimerFires, Reslices}
 use Rattle.protocol.specs.Counts.{is_opening, since_opened}
 use Rattle.protocol.specs.Hosts.{Entry, new_net, Config}
 use Rattle.protocol.specs.Runs.{net_after, IsRun}
 use Rattle.protocol.proofs.Networks.Effects.{effect-keeps, numbers, opened_after}
 use Rattle.protocol.proofs.Networks.OpenSlots.{places_at-drop, places_at-drop_other, places_at-push, places_at-push_other}
-use Rattle.protocol.proofs.Runs.Sights.{known-elsewhere, known-other, known-same}
+use Rattle.protocol.proofs.Runs.Sights.{node_where_open-elsewhere, node_where_open-other, node_where_open-same}
 use Rattle.protocol.proofs.Statements.Offers.{is_kind-itself}
 use Rattle.network.specs.Marks.{told_at}
 use Rattle.hoststep.specs.Logs.{Log}
@@ -39,7 +39,7 @@ abbrev by_node : ℕ → List Sent → List Sent
 by_node u es = filter (λ e. e.sender == u) es
 
 abbrev IsTold : List Entry → Net → Type 0
-IsTold before net = (i u : ℕ) → is_open net i ≡ true → told_at (known (places_at net.slots i) u) ≡ by_node u (sent_at i (since_opened i before))
+IsTold before net = (i u : ℕ) → is_open net i ≡ true → told_at (node_where_open (places_at net.slots i) u) ≡ by_node u (sent_at i (since_opened i before))
 
 by-itself : (i u : ℕ) (es : List Sent) → AreFrom i u es → by_node u es ≡ es
 by-itself i u [] all = refl
@@ -66,16 +66,16 @@ module _ (before : List Entry) (e : Step) (os : List Out) where
   -- nothing is given out, and the places are as they were
   silent-tells : (net next : Net) → os ≡ [] → ((i : ℕ) → is_opening i e ≡ false) → next.slots ≡ net.slots → IsTold before net → IsTold (before ++ entry ∷ []) next
   silent-tells net next none not_opening same told i w opened_there =
-      ap (λ (ss : List Slot). told_at (known (places_at ss i) w)) same
+      ap (λ (ss : List Slot). told_at (node_where_open (places_at ss i) w)) same
       ∙ (told i w (ap (λ (ss : List Slot). is_some (places_at ss i)) (sym same) ∙ opened_there)
       ∙ told-same i w (not_opening i) (ap (λ (xs : List Out). by_node w (filter (λ x. x.slot == i) (emissions xs))) none))
 
-moved-tells : (e : NodeEvent) (o : Option Place) → told_at (option_map (moved e) o) ≡ told_at o ++ emissions (outs_at e o)
-unfolding moved
-moved-tells e None = refl
-moved-tells e (Some p) = refl
+after_event-tells : (e : NodeEvent) (o : Option Place) → told_at (option_map (after_event e) o) ≡ told_at o ++ emissions (outs_at e o)
+unfolding after_event
+after_event-tells e None = refl
+after_event-tells e (Some p) = refl
 
-act-outs : (net : Net) (j u : ℕ) (e : NodeEvent) → (act net j u e).1 ≡ outs_at e (known (places_at net.slots j) u)
+act-outs : (net : Net) (j u : ℕ) (e : NodeEvent) → (act net j u e).1 ≡ outs_at e (node_where_open (places_at net.slots j) u)
 unfolding act
 act-outs net j u e = refl
 
@@ -90,20 +90,20 @@ module _ (before : List Entry) (e : Step) (net : Net) (j u : ℕ) (x : NodeEvent
   all_from : AreFrom j u (emissions given)
   all_from = (act-given net j u x placed).from
 
-  act-elsewhere : (i w : ℕ) → is_open net i ≡ true → (j == i) ≡ false → told_at (known (places_at (act net j u x).0.slots i) w) ≡ by_node w (sent_at i (since_opened i (before ++ more ∷ [])))
+  act-elsewhere : (i w : ℕ) → is_open net i ≡ true → (j == i) ≡ false → told_at (node_where_open (places_at (act net j u x).0.slots i) w) ≡ by_node w (sent_at i (since_opened i (before ++ more ∷ [])))
   act-elsewhere i w opened_there other =
-      ap told_at (known-elsewhere net j i u w x other)
+      ap told_at (node_where_open-elsewhere net j i u w x other)
       ∙ (told i w opened_there ∙ told-same before e given i w (not_opening i) (ap (by_node w) (sent-elsewhere i j u (emissions given) all_from other)))
 
-  act-other : (w : ℕ) → is_open net j ≡ true → (w == u) ≡ false → told_at (known (places_at (act net j u x).0.slots j) w) ≡ by_node w (sent_at j (since_opened j (before ++ more ∷ [])))
+  act-other : (w : ℕ) → is_open net j ≡ true → (w == u) ≡ false → told_at (node_where_open (places_at (act net j u x).0.slots j) w) ≡ by_node w (sent_at j (since_opened j (before ++ more ∷ [])))
   act-other w opened_there other =
-      ap told_at (known-other net j u w x other)
+      ap told_at (node_where_open-other net j u w x other)
       ∙ (told j w opened_there ∙ told-same before e given j w (not_opening j) (ap (by_node w) (sent-there j u (emissions given) all_from) ∙ by-nobody j u w (emissions given) all_from other))
 
-  act-itself : is_open net j ≡ true → told_at (known (places_at (act net j u x).0.slots j) u) ≡ by_node u (sent_at j (since_opened j (before ++ more ∷ [])))
+  act-itself : is_open net j ≡ true → told_at (node_where_open (places_at (act net j u x).0.slots j) u) ≡ by_node u (sent_at j (since_opened j (before ++ more ∷ [])))
   act-itself opened_there =
-      ap told_at (known-same net j u x)
-      ∙ (moved-tells x (known (places_at net.slots j) u)
+      ap told_at (node_where_open-same net j u x)
+      ∙ (after_event-tells x (node_where_open (places_at net.slots j) u)
       ∙ (ap₂ (λ (a b : List Sent). a ++ b) (told j u opened_there) (ap (λ (os : List Out). emissions os) (sym (act-outs net j u x))
       ∙ sym (ap (by_node u) (sent-there j u (emissions given) all_from) ∙ by-itself j u (emissions given) all_from))
       ∙ sym (told-more before e given j u (not_opening j))))
@@ -114,27 +114,27 @@ module _ (before : List Entry) (e : Step) (net : Net) (j u : ℕ) (x : NodeEvent
       was : is_open net i ≡ true
       was = sym (same i) ∙ opened_there
 
-      go : (a : Bool) → (j == i) ≡ a → (b : Bool) → (w == u) ≡ b → told_at (known (places_at (act net j u x).0.slots i) w) ≡ by_node w (sent_at i (since_opened i (before ++ more ∷ [])))
+      go : (a : Bool) → (j == i) ≡ a → (b : Bool) → (w == u) ≡ b → told_at (node_where_open (places_at (act net j u x).0.slots i) w) ≡ by_node w (sent_at i (since_opened i (before ++ more ∷ [])))
       go false f b h = act-elsewhere i w was f
       go true f false h =
           let there : j ≡ i = eqb-true j i f in
-          subst (λ k. told_at (known (places_at (act net j u x).0.slots k) w) ≡ by_node w (sent_at k (since_opened k (before ++ more ∷ [])))) there (act-other w (ap (is_open net) there ∙ was) h)
+          subst (λ k. told_at (node_where_open (places_at (act net j u x).0.slots k) w) ≡ by_node w (sent_at k (since_opened k (before ++ more ∷ [])))) there (act-other w (ap (is_open net) there ∙ was) h)
       go true f true h =
           let there : j ≡ i = eqb-true j i f in
-          subst (λ v. told_at (known (places_at (act net j u x).0.slots i) v) ≡ by_node v (sent_at i (since_opened i (before ++ more ∷ [])))) (sym (eqb-true w u h))
-          (subst (λ k. told_at (known (places_at (act net j u x).0.slots k) u) ≡ by_node u (sent_at k (since_opened k (before ++ more ∷ [])))) there (act-itself (ap (is_open net) there ∙ was)))
+          subst (λ v. told_at (node_where_open (places_at (act net j u x).0.slots i) v) ≡ by_node v (sent_at i (since_opened i (before ++ more ∷ [])))) (sym (eqb-true w u h))
+          (subst (λ k. told_at (node_where_open (places_at (act net j u x).0.slots k) u) ≡ by_node u (sent_at k (since_opened k (before ++ more ∷ [])))) there (act-itself (ap (is_open net) there ∙ was)))
 
 -- ---- a run
 
 numbers-stay : (net : Net) (e : Step) → opened_after e (numbers net.slots) ≡ numbers net.slots → (i : ℕ) → is_open (effect net e).0 i ≡ is_open net i
 numbers-stay net e same i = open-numbers (effect net e).0.slots i ∙ (ap (list_any (λ n. n == i)) ((effect-keeps net e).slots ∙ same) ∙ sym (open-numbers net.slots i))
 
-nobody-told : (hosts : List Host) (j u : ℕ) → told_at (place_of (opened hosts j) u) ≡ []
-unfolding opened fresh
+nobody-told : (hosts : List Host) (j u : ℕ) → told_at (node_named (nodes_of_new_slot hosts j) u) ≡ []
+unfolding nodes_of_new_slot fresh
 nobody-told [] j u = refl
 nobody-told (h ∷ hs) j u = go (h.name == u) (nobody-told hs j u)
   where
-    go : (b : Bool) → told_at (place_of (opened hs j) u) ≡ [] → told_at (if b then Some (record { node = fresh j h.name h.slices; told = [] }) else place_of (opened hs j) u) ≡ []
+    go : (b : Bool) → told_at (node_named (nodes_of_new_slot hs j) u) ≡ [] → told_at (if b then Some (record { node = fresh j h.name h.slices; told = [] }) else node_named (nodes_of_new_slot hs j) u) ≡ []
     go true ih = refl
     go false ih = ih
 
@@ -143,7 +143,7 @@ unfolding effect
 effect-tells before net (Opens j) free placed told = λ i w there. go i w there (j == i) refl
   where
     slot : Slot
-    slot = record { number = j; places = opened net.hosts j }
+    slot = record { number = j; places = nodes_of_new_slot net.hosts j }
 
     closed : places_at net.slots j ≡ None
     closed = is-none (places_at net.slots j) (passes-first (tests net (Opens j)) free)
@@ -151,35 +151,35 @@ effect-tells before net (Opens j) free placed told = λ i w there. go i w there 
     next : List Entry
     next = before ++ record { event = Opens j; outs = [] } ∷ []
 
-    go : (i w : ℕ) → is_some (places_at (net.slots ++ slot ∷ []) i) ≡ true → (b : Bool) → (j == i) ≡ b → told_at (known (places_at (net.slots ++ slot ∷ []) i) w) ≡ by_node w (sent_at i (since_opened i next))
+    go : (i w : ℕ) → is_some (places_at (net.slots ++ slot ∷ []) i) ≡ true → (b : Bool) → (j == i) ≡ b → told_at (node_where_open (places_at (net.slots ++ slot ∷ []) i) w) ≡ by_node w (sent_at i (since_opened i next))
     go i w there true h =
         let same : j ≡ i = eqb-true j i h in
         let anew : since_opened i next ≡ [] = since-more i before (record { event = Opens j; outs = [] }) ∙ ap (λ b. if b then [] else since_opened i before ++ record { event = Opens j; outs = [] } ∷ []) h in
-        ap (λ (o : Option (List Place)). told_at (known o w)) (places_at-push net.slots slot i h (ap (places_at net.slots) (sym same) ∙ closed))
+        ap (λ (o : Option (List Place)). told_at (node_where_open o w)) (places_at-push net.slots slot i h (ap (places_at net.slots) (sym same) ∙ closed))
         ∙ (nobody-told net.hosts j w ∙ sym (ap (λ (xs : List Entry). by_node w (sent_at i xs)) anew))
     go i w there false h =
-        ap (λ (o : Option (List Place)). told_at (known o w)) (places_at-push_other net.slots slot i h)
+        ap (λ (o : Option (List Place)). told_at (node_where_open o w)) (places_at-push_other net.slots slot i h)
         ∙ (told i w (ap (λ (o : Option (List Place)). is_some o) (sym (places_at-push_other net.slots slot i h)) ∙ there) ∙ told-same before (Opens j) [] i w h refl)
 effect-tells before net (Closes j) free placed told = λ i w there. go i w there (j == i) refl
   where
     left : List Slot
     left = filter (λ s. not (s.number == j)) net.slots
 
-    go : (i w : ℕ) → is_some (places_at left i) ≡ true → (b : Bool) → (j == i) ≡ b → told_at (known (places_at left i) w) ≡ by_node w (sent_at i (since_opened i (before ++ record { event = Closes j; outs = [] } ∷ [])))
+    go : (i w : ℕ) → is_some (places_at left i) ≡ true → (b : Bool) → (j == i) ≡ b → told_at (node_where_open (places_at left i) w) ≡ by_node w (sent_at i (since_opened i (before ++ record { event = Closes j; outs = [] } ∷ [])))
     go i w there true h = absurd (false≢true (sym (ap (λ k. is_some (places_at left k)) (sym (eqb-true j i h)) ∙ ap (λ (o : Option (List Place)). is_some o) (places_at-drop net.slots j)) ∙ there))
     go i w there false h =
-        ap (λ (o : Option (List Place)). told_at (known o w)) (places_at-drop_other net.slots j i h)
+        ap (λ (o : Option (List Place)). told_at (node_where_open o w)) (places_at-drop_other net.slots j i h)
         ∙ (told i w (ap (λ (o : Option (List Place)). is_some o) (sym (places_at-drop_other net.slots j i h)) ∙ there) ∙ told-same before (Closes j) [] i w refl refl)
-effect-tells before net (Asks j u x) free placed told = act-tells before (Asks j u x) net j u (Propose x) placed told (λ i. refl) (numbers-stay net (Asks j u x) refl)
+effect-tells before net (Proposes j u x) free placed told = act-tells before (Proposes j u x) net j u (Propose x) placed told (λ i. refl) (numbers-stay net (Proposes j u x) refl)
 effect-tells before net (Delivers u size (Read e)) free placed told = act-tells before (Delivers u size (Read e)) net e.slot u (Take e) placed told (λ i. refl) (numbers-stay net (Delivers u size (Read e)) refl)
 effect-tells before net (Delivers u size (Fault n)) free placed told = silent-tells before (Delivers u size (Fault n)) [] net net refl (λ i. refl) refl told
-effect-tells before net (Hears j u from kind k) free placed told = go (emission (known (places_at net.slots j) from) kind k) (numbers-stay net (Hears j u from kind k) refl)
+effect-tells before net (Hears j u from kind k) free placed told = go (emission (node_where_open (places_at net.slots j) from) kind k) (numbers-stay net (Hears j u from kind k) refl)
   where
     go : (o : Option Sent) → ((i : ℕ) → is_open (act_known net j u o).0 i ≡ is_open net i) → IsTold (before ++ record { event = Hears j u from kind k; outs = (act_known net j u o).1 } ∷ []) (act_known net j u o).0
     go None same = silent-tells before (Hears j u from kind k) [] net net refl (λ i. refl) refl told
     go (Some e) same = act-tells before (Hears j u from kind k) net j u (Take e) placed told (λ i. refl) same
-effect-tells before net (NominationTimes j u r) free placed told = act-tells before (NominationTimes j u r) net j u (NominationTimer r) placed told (λ i. refl) (numbers-stay net (NominationTimes j u r) refl)
-effect-tells before net (BallotTimes j u n) free placed told = act-tells before (BallotTimes j u n) net j u (BallotTimer n) placed told (λ i. refl) (numbers-stay net (BallotTimes j u n) refl)
+effect-tells before net (NominationTimerFires j u r) free placed told = act-tells before (NominationTimerFires j u r) net j u (NominationTimer r) placed told (λ i. refl) (numbers-stay net (NominationTimerFires j u r) refl)
+effect-tells before net (BallotTimerFires j u n) free placed told = act-tells before (BallotTimerFires j u n) net j u (BallotTimer n) placed told (λ i. refl) (numbers-stay net (BallotTimerFires j u n) refl)
 effect-tells before net (Reslices j u q) free placed told = act-tells before (Reslices j u q) net j u (Reslice q) placed told (λ i. refl) (numbers-stay net (Reslices j u q) refl)
 
 record RunsFrom (net : Net) (xs : List Entry) : Type 0 where
@@ -192,11 +192,11 @@ told-run [] before net placed told r = subst (λ (ys : List Entry). IsTold ys ne
 told-run (x ∷ xs) before net placed told r = go (first_that (tests net x.event)) refl (r.applied zero x refl) (λ n. told-run xs (before ++ x ∷ []) n)
   where
     go : (o : Option Refusal) → first_that (tests net x.event) ≡ o → o ≡ None → ((n : Net) → AreInPlace n.slots → IsTold (before ++ x ∷ []) n → RunsFrom n xs → IsTold ((before ++ x ∷ []) ++ xs) (net_after n xs))
-        → IsTold (before ++ x ∷ xs) (net_after (replied net x.event o).0 xs)
+        → IsTold (before ++ x ∷ xs) (net_after (state_and_reply net x.event o).0 xs)
     go (Some n) q e ih = cc
     go None q e ih =
-        let n : Net = counted (source net.roster x.event) (size_of x.event) (effect net x.event).0 in
-        let moves : (ys : List Entry) → net_after net (x ∷ ys) ≡ net_after n ys = λ ys. ap (λ o. net_after (replied net x.event o).0 ys) q in
+        let n : Net = with_draw (source net.roster x.event) (size_of x.event) (effect net x.event).0 in
+        let moves : (ys : List Entry) → net_after net (x ∷ ys) ≡ net_after n ys = λ ys. ap (λ o. net_after (state_and_reply net x.event o).0 ys) q in
         let rest : RunsFrom n xs = record {
           applied = λ k y g. sym (ap (λ m. first_that (tests m y.event)) (moves (take k xs))) ∙ r.applied (suc k) y g;
           outs = λ k y g. r.outs (suc k) y g ∙ ap (λ m. (effect m y.event).1) (moves (take k xs));
@@ -253,7 +253,7 @@ emission-at None k n = refl
 emission-at (Some p) k n = refl
 
 abbrev IsFoundIn : Config → List Entry → ℕ → ℕ → Emission → Type 0
-IsFoundIn config entries i n e = (x : Sent) × (slice_get (sent_at i (since_opened i entries)) n ≡ Some x) × (emission (known (places_at (net_after (new_net config) entries).slots i) e.from) e.kind e.number ≡ Some x)
+IsFoundIn config entries i n e = (x : Sent) × (slice_get (sent_at i (since_opened i entries)) n ≡ Some x) × (emission (node_where_open (places_at (net_after (new_net config) entries).slots i) e.from) e.kind e.number ≡ Some x)
 
 found-in : (config : Config) (entries : List Entry) (m : OpenSlots) → IsRun config entries → AreSlotsBy config entries m → (i n : ℕ) (o : OpenSlot) (e : Emission) → at_number m.slots i ≡ Some o → slice_get o.emissions n ≡ Some e
     → IsFoundIn config entries i n e
@@ -263,7 +263,7 @@ found-in config entries m run s i n o e at is =
     let slot = s.kept i o at in
     let found = found-numbered (sent_at i (since_opened i entries)) [] n e (ap (λ (xs : List Emission). slice_get xs n) (sym slot.emissions) ∙ is) in
     let there : is_open (net_after (new_net config) entries) i ≡ true = sym (s.opens i) ∙ ap (λ (x : Option OpenSlot). is_some x) at in
-    let place : Option Place = known (places_at (net_after (new_net config) entries).slots i) e.from in (
+    let place : Option Place = node_where_open (places_at (net_after (new_net config) entries).slots i) e.from in (
       found.0,
       found.1,
       ap (emission place e.kind) found.2.number

@@ -6,7 +6,7 @@ mod JoiningLaws
 mod LineForms
 mod Places
 mod RosterLaws
-mod QuietLines
+mod UnprintedLines
 mod SayingLaws
 mod SubmittedLines
 mod PlannedLines

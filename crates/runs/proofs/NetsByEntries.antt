@@ -8,15 +8,15 @@ use Rattle.types.specs.Statements.{Sent}
 use Rattle.types.specs.declared.event.Out.{Out}
 use Rattle.types.specs.declared.event.Out.TheVariants.{ArmNomination, ArmBallot, Emit, Externalized}
 use Rattle.types.specs.declared.event.Refusal.{Refusal}
-use Rattle.protocol.specs.Networks.{Host, Net, Step, effect, emissions, first_that, is_hosted, is_open, net_step, replied, slices_of, tests}
+use Rattle.protocol.specs.Networks.{Host, Net, Step, effect, emissions, first_that, is_hosted, is_open, net_step, state_and_reply, slices_of, tests}
 use Rattle.protocol.specs.Networks.Reading.{Read, Fault}
-use Rattle.protocol.specs.Networks.Step.{Opens, Closes, Asks, Delivers, Hears, NominationTimes, BallotTimes, Reslices}
+use Rattle.protocol.specs.Networks.Step.{Opens, Closes, Proposes, Delivers, Hears, NominationTimerFires, BallotTimerFires, Reslices}
 use Rattle.protocol.specs.Counts.{is_opening, since_opened}
 use Rattle.protocol.specs.Hosts.{Config, Entry, new_net}
 use Rattle.protocol.specs.Runs.{net_after, outs_given, refusal_of, state_of}
 use Rattle.protocol.proofs.Networks.Effects.{effect-keeps, numbers, opened_after}
 use Rattle.configuration.specs.Configs.{names_of}
-use Rattle.network.specs.Marks.{place_named}
+use Rattle.network.specs.Marks.{slot_and_node_of}
 use Rattle.hoststep.specs.Deciding.{decided_at, values_in}
 use Rattle.hoststep.proofs.Growing.{after-one}
 use Rattle.hoststep.proofs.SlicesThen.{open-numbers}
@@ -35,7 +35,7 @@ step-hosts : (net : Net) (e : Step) → (net_step net e).0.hosts ≡ net.hosts
 unfolding net_step
 step-hosts net e = go (first_that (tests net e))
   where
-    go : (o : Option Refusal) → (replied net e o).0.hosts ≡ net.hosts
+    go : (o : Option Refusal) → (state_and_reply net e o).0.hosts ≡ net.hosts
     go None = (effect-keeps net e).hosts
     go (Some r) = refl
 
@@ -47,7 +47,7 @@ run-hosts net (x ∷ xs) = run-hosts (net_step net x.event).0 xs ∙ step-hosts 
 open-then : (net : Net) (e : Step) (i : ℕ) → first_that (tests net e) ≡ None → is_open (net_step net e).0 i ≡ list_any (λ n. n == i) (opened_after e (numbers net.slots))
 unfolding net_step
 open-then net e i free =
-    ap (λ o. is_open (replied net e o).0 i) free ∙ (open-numbers (effect net e).0.slots i ∙ ap (list_any (λ n. n == i)) (effect-keeps net e).slots)
+    ap (λ o. is_open (state_and_reply net e o).0 i) free ∙ (open-numbers (effect net e).0.slots i ∙ ap (list_any (λ n. n == i)) (effect-keeps net e).slots)
 
 any-pushed : (i j : ℕ) (ns : List ℕ) → list_any (λ n. n == i) (ns ++ j ∷ []) ≡ ((j == i) || list_any (λ n. n == i) ns)
 any-pushed i j [] = refl
@@ -114,17 +114,17 @@ nowhere : (at : ℕ × ℕ) → None ≡ Some at → ⊥
 nowhere at e = cc
 
 -- the node of an event that is not refused is hosted
-hosted-there : (net : Net) (e : Step) (i u : ℕ) → first_that (tests net e) ≡ None → place_named e ≡ Some (i, u) → is_hosted net u ≡ true
+hosted-there : (net : Net) (e : Step) (i u : ℕ) → first_that (tests net e) ≡ None → slot_and_node_of e ≡ Some (i, u) → is_hosted net u ≡ true
 hosted-there net (Opens j) i u free at = absurd (nowhere (i, u) at)
 hosted-there net (Closes j) i u free at = absurd (nowhere (i, u) at)
-hosted-there net (Asks j w x) i u free at = let same = same-node j w i u at in subst (λ v. is_hosted net v ≡ true) same (not-not (is_hosted net w) (passes-first (tests net (Asks j w x)) free))
+hosted-there net (Proposes j w x) i u free at = let same = same-node j w i u at in subst (λ v. is_hosted net v ≡ true) same (not-not (is_hosted net w) (passes-first (tests net (Proposes j w x)) free))
 hosted-there net (Delivers w size (Read e)) i u free at = let same = same-node e.slot w i u at in subst (λ v. is_hosted net v ≡ true) same (not-not (is_hosted net w) (passes-first (tests net (Delivers w size (Read e))) free))
 hosted-there net (Delivers w size (Fault n)) i u free at = absurd (nowhere (i, u) at)
 hosted-there net (Hears j w from kind k) i u free at =
     let same = same-node j w i u at in
     subst (λ v. is_hosted net v ≡ true) same (neither (is_hosted net w) (is_hosted net from) (w == from) (passes-first (tests net (Hears j w from kind k)) free))
-hosted-there net (NominationTimes j w r) i u free at = let same = same-node j w i u at in subst (λ v. is_hosted net v ≡ true) same (not-not (is_hosted net w) (passes-first (tests net (NominationTimes j w r)) free))
-hosted-there net (BallotTimes j w n) i u free at = let same = same-node j w i u at in subst (λ v. is_hosted net v ≡ true) same (not-not (is_hosted net w) (passes-first (tests net (BallotTimes j w n)) free))
+hosted-there net (NominationTimerFires j w r) i u free at = let same = same-node j w i u at in subst (λ v. is_hosted net v ≡ true) same (not-not (is_hosted net w) (passes-first (tests net (NominationTimerFires j w r)) free))
+hosted-there net (BallotTimerFires j w n) i u free at = let same = same-node j w i u at in subst (λ v. is_hosted net v ≡ true) same (not-not (is_hosted net w) (passes-first (tests net (BallotTimerFires j w n)) free))
 hosted-there net (Reslices j w q) i u free at = let same = same-node j w i u at in subst (λ v. is_hosted net v ≡ true) same (not-not (is_hosted net w) (passes-first (tests net (Reslices j w q)) free))
 
 among-hosts : (hosts : List Host) (u : ℕ) → list_any (λ v. v == u) (names_of hosts) ≡ is_some (slices_of hosts u)
@@ -186,7 +186,7 @@ module _ (config : Config) (entries : List Entry) (m : OpenSlots) (s : AreSlotsB
       subst (λ (xs : List Entry). IsSlotBy m.names i xs o) (sym (since-next i not_opened)) (slot-still m.names i (since_opened i entries) entry o none nothing (s.kept i o at))
 
   -- where nothing is given out
-  silent-at : (i : ℕ) (o : OpenSlot) → place_named e ≡ None → os ≡ [] → is_opening i e ≡ false → at_number m.slots i ≡ Some o → IsSlotBy m.names i (since_opened i (entries ++ entry ∷ [])) o
+  silent-at : (i : ℕ) (o : OpenSlot) → slot_and_node_of e ≡ None → os ≡ [] → is_opening i e ≡ false → at_number m.slots i ≡ Some o → IsSlotBy m.names i (since_opened i (entries ++ entry ∷ [])) o
   silent-at i o nowhere none not_opened at =
       still i o not_opened (ap (λ (ys : List Out). filter (λ x. x.slot == i) (emissions ys)) none)
       (λ u. values-at i u entry ∙ ap (λ p. map (λ d. d.value) (filter (λ d. (d.slot == i) && (d.node == u)) (decided_at p (values_in os)))) nowhere) at
@@ -254,13 +254,13 @@ module _ (config : Config) (entries : List Entry) (m : OpenSlots) (s : AreSlotsB
     unchanged-next kept = record { names = s.names; single = s.single; once = s.once; opens = open-still; kept = kept }
 
     -- nothing is given out
-    silent-next : place_named e ≡ None → os ≡ [] → AreSlotsBy config (entries ++ more ∷ []) (noted_outs os m)
+    silent-next : slot_and_node_of e ≡ None → os ≡ [] → AreSlotsBy config (entries ++ more ∷ []) (noted_outs os m)
     silent-next nowhere none =
         subst (λ (ys : List Out). AreSlotsBy config (entries ++ more ∷ []) (noted_outs ys m)) (sym none)
         (unchanged-next (λ i o at. silent-at config entries m s e os free i o nowhere none (not_opening i) at))
 
     -- an event of a node at a slot
-    module _ (j u : ℕ) (named : place_named e ≡ Some (j, u)) (by : IsGivenBy j u os) where
+    module _ (j u : ℕ) (named : slot_and_node_of e ≡ Some (j, u)) (by : IsGivenBy j u os) where
       hosted : list_any (λ v. v == u) m.names ≡ true
       hosted =
           ap (list_any (λ v. v == u)) (s.names ∙ ap names_of (sym (run-hosts (new_net config) entries)))
@@ -321,7 +321,7 @@ module _ (config : Config) (entries : List Entry) (m : OpenSlots) (s : AreSlotsB
 
   -- what is given out, as the step names its slot and its node
   within-next : (e : Step) → refusal_of config entries e ≡ None → ((i : ℕ) → is_opening i e ≡ false) → opened_after e (numbers (state_of config entries).slots) ≡ numbers (state_of config entries).slots
-      → (at : Option (ℕ × ℕ)) → place_named e ≡ at → IsGivenAt at os → AreSlotsBy config (entries ++ record { event = e; outs = os } ∷ []) (noted_outs os m)
+      → (at : Option (ℕ × ℕ)) → slot_and_node_of e ≡ at → IsGivenAt at os → AreSlotsBy config (entries ++ record { event = e; outs = os } ∷ []) (noted_outs os m)
   within-next e free not_opening same_slots None named given = silent-next e free not_opening same_slots named given
   within-next e free not_opening same_slots (Some at) named given = node-next e free not_opening same_slots at.0 at.1 named given
 
@@ -333,14 +333,14 @@ turn_in _ = turn.Within
 
 pub slots-next : (config : Config) (entries : List Entry) (m : OpenSlots) (e : Step) (os : List Out) → AreSlotsBy config entries m → refusal_of config entries e ≡ None → os ≡ outs_given config entries e
     → AreSlotsBy config (entries ++ record { event = e; outs = os } ∷ []) (turned (turn_in e) os m)
-slots-next config entries m e os s free given = by e free (subst (IsGivenAt (place_named e)) (sym given) (effect-given (state_of config entries) e (run-in-place (new_net config) entries tt)))
+slots-next config entries m e os s free given = by e free (subst (IsGivenAt (slot_and_node_of e)) (sym given) (effect-given (state_of config entries) e (run-in-place (new_net config) entries tt)))
   where
-    by : (x : Step) → refusal_of config entries x ≡ None → IsGivenAt (place_named x) os → AreSlotsBy config (entries ++ record { event = x; outs = os } ∷ []) (turned (turn_in x) os m)
+    by : (x : Step) → refusal_of config entries x ≡ None → IsGivenAt (slot_and_node_of x) os → AreSlotsBy config (entries ++ record { event = x; outs = os } ∷ []) (turned (turn_in x) os m)
     by (Opens j) f g = opens-next config entries m s os j f g
     by (Closes j) f g = closes-next config entries m s os j f g
-    by (Asks j u x) f g = within-next config entries m s os (Asks j u x) f (λ i. refl) refl (place_named (Asks j u x)) refl g
-    by (Delivers u size d) f g = within-next config entries m s os (Delivers u size d) f (λ i. refl) refl (place_named (Delivers u size d)) refl g
-    by (Hears j u from kind k) f g = within-next config entries m s os (Hears j u from kind k) f (λ i. refl) refl (place_named (Hears j u from kind k)) refl g
-    by (NominationTimes j u r) f g = within-next config entries m s os (NominationTimes j u r) f (λ i. refl) refl (place_named (NominationTimes j u r)) refl g
-    by (BallotTimes j u n) f g = within-next config entries m s os (BallotTimes j u n) f (λ i. refl) refl (place_named (BallotTimes j u n)) refl g
-    by (Reslices j u q) f g = within-next config entries m s os (Reslices j u q) f (λ i. refl) refl (place_named (Reslices j u q)) refl g
+    by (Proposes j u x) f g = within-next config entries m s os (Proposes j u x) f (λ i. refl) refl (slot_and_node_of (Proposes j u x)) refl g
+    by (Delivers u size d) f g = within-next config entries m s os (Delivers u size d) f (λ i. refl) refl (slot_and_node_of (Delivers u size d)) refl g
+    by (Hears j u from kind k) f g = within-next config entries m s os (Hears j u from kind k) f (λ i. refl) refl (slot_and_node_of (Hears j u from kind k)) refl g
+    by (NominationTimerFires j u r) f g = within-next config entries m s os (NominationTimerFires j u r) f (λ i. refl) refl (slot_and_node_of (NominationTimerFires j u r)) refl g
+    by (BallotTimerFires j u n) f g = within-next config entries m s os (BallotTimerFires j u n) f (λ i. refl) refl (slot_and_node_of (BallotTimerFires j u n)) refl g
+    by (Reslices j u q) f g = within-next config entries m s os (Reslices j u q) f (λ i. refl) refl (slot_and_node_of (Reslices j u q)) refl g

@@ -18,13 +18,13 @@ use Rattle.types.specs.declared.event.Refusal.{Refusal}
 use Rattle.protocol.specs.Rows.{is_taken, with_row}
 use Rattle.protocol.specs.States.{counter_of, sent_in, sent_nomination, sent_vote}
 use Rattle.protocol.specs.Sameness.{same_sent}
-use Rattle.protocol.specs.Nodes.{Node, after_change, answered, change, decided, emitted, fresh, in_round, is_counter_live, is_externalized, is_round_live, outs, passed, resliced, settle, settled, step, timed_out, when, most_passes}
-use Rattle.protocol.specs.Networks.{Host, Net, Place, Slot, Step, act, act_in, act_known, effect, emission, emissions, first_that, known, moved, net_step, opened, outs_at, place_of, places_at, replied, tests}
+use Rattle.protocol.specs.Nodes.{Node, after_change, node_and_outs, change, externalization, emission_between, fresh, in_round, is_counter_live, is_externalized, is_round_live, outs, after_pass, with_slices, settle, with_settled_votes, step, with_timeout, when, most_passes}
+use Rattle.protocol.specs.Networks.{Host, Net, Place, Slot, Step, act, act_in, act_known, effect, emission, emissions, first_that, node_where_open, after_event, net_step, nodes_of_new_slot, outs_at, node_named, places_at, state_and_reply, tests}
 use Rattle.protocol.specs.Networks.Reading.{Read, Fault}
-use Rattle.protocol.specs.Networks.Step.{Opens, Closes, Asks, Delivers, Hears, NominationTimes, BallotTimes, Reslices}
+use Rattle.protocol.specs.Networks.Step.{Opens, Closes, Proposes, Delivers, Hears, NominationTimerFires, BallotTimerFires, Reslices}
 use Rattle.protocol.specs.Hosts.{Entry}
 use Rattle.protocol.specs.Runs.{net_after}
-use Rattle.network.specs.Marks.{place_named}
+use Rattle.network.specs.Marks.{slot_and_node_of}
 use Rattle.hoststep.specs.Deciding.{values_in}
 use Rattle.hoststep.proofs.DecidedOnce.{no-values-emitted, values-append}
 use Rattle.runs.proofs.SlotsByEntries.{AreFrom}
@@ -56,12 +56,12 @@ module _ (i u : ℕ) where
   from-timer true x h = h
   from-timer false x h = tt
 
-  from-decided : (b : Bool) (x : Option Ballot) → AreFrom i u (emissions (if b then decided x else []))
+  from-decided : (b : Bool) (x : Option Ballot) → AreFrom i u (emissions (if b then externalization x else []))
   from-decided true None = tt
   from-decided true (Some x) = tt
   from-decided false x = tt
 
-from-emitted : (n : Node) (old new : Option Statement) → AreFrom n.slot n.name (emissions (emitted n old new))
+from-emitted : (n : Node) (old new : Option Statement) → AreFrom n.slot n.name (emissions (emission_between n old new))
 from-emitted n old None = tt
 from-emitted n old (Some s) = go (same_sent old (Some s))
   where
@@ -84,11 +84,11 @@ none-emitted : (xs ys : List Out) → emissions (xs ++ ys) ≡ [] → (emissions
 none-emitted xs ys h = none-of-either (emissions xs) (emissions ys) (sym (filter_map-append _ xs ys) ∙ h)
 
 -- a node that externalizes emits that
-emits-decision : (n : Node) (old new : Votes) → emissions (emitted n (sent_vote old) (sent_vote new)) ≡ [] → values_in (if is_externalized new.phase && not (is_externalized old.phase) then decided new.ballot else []) ≡ []
+emits-decision : (n : Node) (old new : Votes) → emissions (emission_between n (sent_vote old) (sent_vote new)) ≡ [] → values_in (if is_externalized new.phase && not (is_externalized old.phase) then externalization new.ballot else []) ≡ []
 unfolding sent_vote sent_in
 emits-decision n old new h = go new.phase old.phase new.ballot old.ballot h
   where
-    go : (p q : Phase) (b c : Option Ballot) → emissions (emitted n (option_map (sent_in q old) c) (option_map (sent_in p new) b)) ≡ [] → values_in (if is_externalized p && not (is_externalized q) then decided b else []) ≡ []
+    go : (p q : Phase) (b c : Option Ballot) → emissions (emission_between n (option_map (sent_in q old) c) (option_map (sent_in p new) b)) ≡ [] → values_in (if is_externalized p && not (is_externalized q) then externalization b else []) ≡ []
     go phase.Preparing q b c h = refl
     go phase.Committing q b c h = refl
     go phase.Externalized phase.Externalized b c h = refl
@@ -104,10 +104,10 @@ unfolding outs
 outs-given-by old new =
     let a = when (not (new.inputs.round == old.inputs.round) && is_none new.votes.confirmed_prepared) (ArmNomination new.inputs.round) in
     let b = when (not (new.votes.armed == old.votes.armed) && (new.votes.armed == counter_of new.votes.ballot) && not (is_externalized new.votes.phase)) (ArmBallot new.votes.armed) in
-    let c = emitted new (sent_nomination old.votes) (sent_nomination new.votes) in
-    let d = emitted new (sent_vote old.votes) (sent_vote new.votes) in
+    let c = emission_between new (sent_nomination old.votes) (sent_nomination new.votes) in
+    let d = emission_between new (sent_vote old.votes) (sent_vote new.votes) in
     let now = is_externalized new.votes.phase && not (is_externalized old.votes.phase) in
-    let e = if now then decided new.votes.ballot else [] in
+    let e = if now then externalization new.votes.ballot else [] in
     record {
       from = from-both new.slot new.name (((a ++ b) ++ c) ++ d) e
           (from-both new.slot new.name ((a ++ b) ++ c) d
@@ -136,23 +136,23 @@ pub record StaysAt (i u : ℕ) (r : Node × List Out) : Type 0 where
   pub slot : r.0.slot ≡ i
   pub given : IsGivenBy i u r.1
 
-settled-stays : (n m : Node) (o : Option Votes) → m.name ≡ n.name → m.slot ≡ n.slot → StaysAt n.slot n.name (answered n (settled m o))
-settled-stays n m None name slot = record { name = refl; slot = refl; given = nothing-given n.slot n.name }
-settled-stays n m (Some w) name slot =
+with_settled_votes-stays : (n m : Node) (o : Option Votes) → m.name ≡ n.name → m.slot ≡ n.slot → StaysAt n.slot n.name (node_and_outs n (with_settled_votes m o))
+with_settled_votes-stays n m None name slot = record { name = refl; slot = refl; given = nothing-given n.slot n.name }
+with_settled_votes-stays n m (Some w) name slot =
     let new : Node = record m { votes = w } in
     record { name = name; slot = slot; given = subst (λ i. IsGivenBy i n.name (outs n new)) slot (subst (λ u. IsGivenBy m.slot u (outs n new)) name (outs-given-by n new)) }
 
-stays : (n : Node) (b : Bool) (m : Node) → m.name ≡ n.name → m.slot ≡ n.slot → StaysAt n.slot n.name (answered n (after_change (if b then Some m else None)))
+stays : (n : Node) (b : Bool) (m : Node) → m.name ≡ n.name → m.slot ≡ n.slot → StaysAt n.slot n.name (node_and_outs n (after_change (if b then Some m else None)))
 stays n false m name slot = record { name = refl; slot = refl; given = nothing-given n.slot n.name }
-stays n true m name slot = settled-stays n m (settle most_passes (passed m) m.votes) name slot
+stays n true m name slot = with_settled_votes-stays n m (settle most_passes (after_pass m) m.votes) name slot
 
 step-stays : (n : Node) (e : NodeEvent) → StaysAt n.slot n.name (step n e)
 unfolding step change
 step-stays n (Propose x) = stays n true (in_round (record n { inputs = record n.inputs { proposal = Some x } }) 1) refl refl
 step-stays n (Take e) = stays n (is_taken n.table e) (record n { table = with_row e n.table }) refl refl
 step-stays n (NominationTimer k) = stays n (is_round_live n k) (in_round n (k + 1)) refl refl
-step-stays n (BallotTimer c) = stays n (is_counter_live n c) (timed_out n) refl refl
-step-stays n (Reslice q) = stays n true (resliced n q) refl refl
+step-stays n (BallotTimer c) = stays n (is_counter_live n c) (with_timeout n) refl refl
+step-stays n (Reslice q) = stays n true (with_slices n q) refl refl
 
 -- ---- the places of a network
 
@@ -163,21 +163,21 @@ AreAt i ps = AllByRecursion (λ p. p.node.slot ≡ i) ps
 abbrev pub AreInPlace : List Slot → Type 0
 AreInPlace ss = AllByRecursion (λ s. AreAt s.number s.places) ss
 
-opened-in-place : (hosts : List Host) (i : ℕ) → AreAt i (opened hosts i)
-unfolding opened fresh
-opened-in-place [] i = tt
-opened-in-place (h ∷ hs) i = (refl, opened-in-place hs i)
+nodes_of_new_slot-in-place : (hosts : List Host) (i : ℕ) → AreAt i (nodes_of_new_slot hosts i)
+unfolding nodes_of_new_slot fresh
+nodes_of_new_slot-in-place [] i = tt
+nodes_of_new_slot-in-place (h ∷ hs) i = (refl, nodes_of_new_slot-in-place hs i)
 
-moved-in-place : (i : ℕ) (e : NodeEvent) (p : Place) → p.node.slot ≡ i → (moved e p).node.slot ≡ i
-unfolding moved
-moved-in-place i e p at = (step-stays p.node e).slot ∙ at
+after_event-in-place : (i : ℕ) (e : NodeEvent) (p : Place) → p.node.slot ≡ i → (after_event e p).node.slot ≡ i
+unfolding after_event
+after_event-in-place i e p at = (step-stays p.node e).slot ∙ at
 
 acted-in-place : (i u : ℕ) (e : NodeEvent) (ps : List Place) → AreAt i ps → AreAt i (act_in u e ps)
 acted-in-place i u e [] h = tt
 acted-in-place i u e (p ∷ ps) h = (one (p.node.name == u), acted-in-place i u e ps h.1)
   where
-    one : (b : Bool) → (if b then moved e p else p).node.slot ≡ i
-    one true = moved-in-place i e p h.0
+    one : (b : Bool) → (if b then after_event e p else p).node.slot ≡ i
+    one true = after_event-in-place i e p h.0
     one false = h.0
 
 act-in-place : (net : Net) (i u : ℕ) (e : NodeEvent) → AreInPlace net.slots → AreInPlace (act net i u e).0.slots
@@ -206,25 +206,25 @@ left-in-place p (s ∷ ss) h = go (p s) (left-in-place p ss h.1)
 
 pub effect-in-place : (net : Net) (e : Step) → AreInPlace net.slots → AreInPlace (effect net e).0.slots
 unfolding effect
-effect-in-place net (Opens i) h = pushed-in-place net.slots (record { number = i; places = opened net.hosts i }) h (opened-in-place net.hosts i)
+effect-in-place net (Opens i) h = pushed-in-place net.slots (record { number = i; places = nodes_of_new_slot net.hosts i }) h (nodes_of_new_slot-in-place net.hosts i)
 effect-in-place net (Closes i) h = left-in-place (λ s. not (s.number == i)) net.slots h
-effect-in-place net (Asks i u x) h = act-in-place net i u (Propose x) h
+effect-in-place net (Proposes i u x) h = act-in-place net i u (Propose x) h
 effect-in-place net (Delivers u size (Read e)) h = act-in-place net e.slot u (Take e) h
 effect-in-place net (Delivers u size (Fault n)) h = h
-effect-in-place net (Hears i u from kind k) h = heard (emission (known (places_at net.slots i) from) kind k)
+effect-in-place net (Hears i u from kind k) h = heard (emission (node_where_open (places_at net.slots i) from) kind k)
   where
     heard : (o : Option Sent) → AreInPlace (act_known net i u o).0.slots
     heard None = h
     heard (Some e) = act-in-place net i u (Take e) h
-effect-in-place net (NominationTimes i u r) h = act-in-place net i u (NominationTimer r) h
-effect-in-place net (BallotTimes i u n) h = act-in-place net i u (BallotTimer n) h
+effect-in-place net (NominationTimerFires i u r) h = act-in-place net i u (NominationTimer r) h
+effect-in-place net (BallotTimerFires i u n) h = act-in-place net i u (BallotTimer n) h
 effect-in-place net (Reslices i u q) h = act-in-place net i u (Reslice q) h
 
 step-in-place : (net : Net) (e : Step) → AreInPlace net.slots → AreInPlace (net_step net e).0.slots
 unfolding net_step
 step-in-place net e h = go (first_that (tests net e))
   where
-    go : (o : Option Refusal) → AreInPlace (replied net e o).0.slots
+    go : (o : Option Refusal) → AreInPlace (state_and_reply net e o).0.slots
     go None = effect-in-place net e h
     go (Some n) = h
 
@@ -235,44 +235,44 @@ run-in-place net (x ∷ xs) h = run-in-place (net_step net x.event).0 xs (step-i
 
 -- ---- what an event gives out
 
-named-so : (ps : List Place) (u : ℕ) (p : Place) (i : ℕ) → place_of ps u ≡ Some p → AreAt i ps → (p.node.name ≡ u) × (p.node.slot ≡ i)
+named-so : (ps : List Place) (u : ℕ) (p : Place) (i : ℕ) → node_named ps u ≡ Some p → AreAt i ps → (p.node.name ≡ u) × (p.node.slot ≡ i)
 named-so [] u p i at h = absurd (cc)
 named-so (q ∷ ps) u p i at h = go (q.node.name == u) refl at (λ k. named-so ps u p i k h.1)
   where
-    go : (b : Bool) → (q.node.name == u) ≡ b → (if b then Some q else place_of ps u) ≡ Some p → (place_of ps u ≡ Some p → (p.node.name ≡ u) × (p.node.slot ≡ i)) → (p.node.name ≡ u) × (p.node.slot ≡ i)
+    go : (b : Bool) → (q.node.name == u) ≡ b → (if b then Some q else node_named ps u) ≡ Some p → (node_named ps u ≡ Some p → (p.node.name ≡ u) × (p.node.slot ≡ i)) → (p.node.name ≡ u) × (p.node.slot ≡ i)
     go true e k rest = let same : q ≡ p = cc in (sym (ap (λ (x : Place). x.node.name) same) ∙ eqb-true q.node.name u e, sym (ap (λ (x : Place). x.node.slot) same) ∙ h.0)
     go false e k rest = rest k
 
-known-so : (ss : List Slot) (i u : ℕ) (p : Place) → known (places_at ss i) u ≡ Some p → AreInPlace ss → (p.node.name ≡ u) × (p.node.slot ≡ i)
-known-so [] i u p at h = absurd (cc)
-known-so (s ∷ ss) i u p at h = go (s.number == i) refl at (λ k. known-so ss i u p k h.1)
+node_where_open-so : (ss : List Slot) (i u : ℕ) (p : Place) → node_where_open (places_at ss i) u ≡ Some p → AreInPlace ss → (p.node.name ≡ u) × (p.node.slot ≡ i)
+node_where_open-so [] i u p at h = absurd (cc)
+node_where_open-so (s ∷ ss) i u p at h = go (s.number == i) refl at (λ k. node_where_open-so ss i u p k h.1)
   where
-    go : (b : Bool) → (s.number == i) ≡ b → known (if b then Some s.places else places_at ss i) u ≡ Some p → (known (places_at ss i) u ≡ Some p → (p.node.name ≡ u) × (p.node.slot ≡ i)) → (p.node.name ≡ u) × (p.node.slot ≡ i)
+    go : (b : Bool) → (s.number == i) ≡ b → node_where_open (if b then Some s.places else places_at ss i) u ≡ Some p → (node_where_open (places_at ss i) u ≡ Some p → (p.node.name ≡ u) × (p.node.slot ≡ i)) → (p.node.name ≡ u) × (p.node.slot ≡ i)
     go true e k rest = let so = named-so s.places u p s.number k h.0 in (so.0, so.1 ∙ eqb-true s.number i e)
     go false e k rest = rest k
 
 pub act-given : (net : Net) (i u : ℕ) (e : NodeEvent) → AreInPlace net.slots → IsGivenBy i u (act net i u e).1
 unfolding act
-act-given net i u e h = go (known (places_at net.slots i) u) refl
+act-given net i u e h = go (node_where_open (places_at net.slots i) u) refl
   where
-    go : (o : Option Place) → known (places_at net.slots i) u ≡ o → IsGivenBy i u (outs_at e o)
+    go : (o : Option Place) → node_where_open (places_at net.slots i) u ≡ o → IsGivenBy i u (outs_at e o)
     go None k = nothing-given i u
     go (Some p) k =
-        let so = known-so net.slots i u p k h in
+        let so = node_where_open-so net.slots i u p k h in
         subst (λ j. IsGivenBy j u (step p.node e).1) so.1 (subst (λ w. IsGivenBy p.node.slot w (step p.node e).1) so.0 ((step-stays p.node e).given))
 
 heard-given : (net : Net) (i u : ℕ) (o : Option Sent) → AreInPlace net.slots → IsGivenBy i u (act_known net i u o).1
 heard-given net i u None h = nothing-given i u
 heard-given net i u (Some e) h = act-given net i u (Take e) h
 
-pub effect-given : (net : Net) (e : Step) → AreInPlace net.slots → IsGivenAt (place_named e) (effect net e).1
+pub effect-given : (net : Net) (e : Step) → AreInPlace net.slots → IsGivenAt (slot_and_node_of e) (effect net e).1
 unfolding effect
 effect-given net (Opens i) h = refl
 effect-given net (Closes i) h = refl
-effect-given net (Asks i u x) h = act-given net i u (Propose x) h
+effect-given net (Proposes i u x) h = act-given net i u (Propose x) h
 effect-given net (Delivers u size (Read e)) h = act-given net e.slot u (Take e) h
 effect-given net (Delivers u size (Fault n)) h = refl
-effect-given net (Hears i u from kind k) h = heard-given net i u (emission (known (places_at net.slots i) from) kind k) h
-effect-given net (NominationTimes i u r) h = act-given net i u (NominationTimer r) h
-effect-given net (BallotTimes i u n) h = act-given net i u (BallotTimer n) h
+effect-given net (Hears i u from kind k) h = heard-given net i u (emission (node_where_open (places_at net.slots i) from) kind k) h
+effect-given net (NominationTimerFires i u r) h = act-given net i u (NominationTimer r) h
+effect-given net (BallotTimerFires i u n) h = act-given net i u (BallotTimer n) h
 effect-given net (Reslices i u q) h = act-given net i u (Reslice q) h

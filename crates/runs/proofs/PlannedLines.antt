@@ -7,7 +7,7 @@ use Rattle.runs.specs.declared.requests.Request.{Request}
 use Rattle.runs.specs.declared.requests.Request.TheVariants.{Declare, Apply}
 use Rattle.runs.specs.Plans.{Plan}
 use Rattle.runs.specs.Preparing.{Prepares}
-use Rattle.runs.specs.Putting.{IsPlanned, Puts}
+use Rattle.runs.specs.Putting.{IsJobOrOpening, Puts}
 use Rattle.runs.specs.Putting.Puts.{declares, plans}
 use Rattle.runs.specs.Submitting.{Submitting}
 use Rattle.runs.specs.Taking.{takes}
@@ -20,6 +20,6 @@ pub puts-declaration : (old : Plan) (s t : Submitting) (opens : List _) (fields 
 puts-declaration old s t opens fields g r d is e asked taken p named same =
     subst (λ o. Puts o fields None (record { submitted = t; opens = opens })) is (declares (g, d, subst (Asked fields g) e asked, taken, p) named same refl)
 
-pub puts-event : (old new : Plan) (fields : List Bytes) (g : ℕ) (r : Request) (e : Event) → r ≡ Apply e → Asked fields g r → IsPlanned g e old new
+pub puts-event : (old new : Plan) (fields : List Bytes) (g : ℕ) (r : Request) (e : Event) → r ≡ Apply e → Asked fields g r → IsJobOrOpening g e old new
     → Puts old fields None new
 puts-event old new fields g r e is asked planned = plans g e (subst (Asked fields g) is asked) planned

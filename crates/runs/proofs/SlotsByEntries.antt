@@ -16,7 +16,7 @@ use Rattle.types.specs.declared.event.Out.TheVariants.{ArmNomination, ArmBallot,
 use Rattle.protocol.specs.Rows.{is_kind, is_row_of}
 use Rattle.protocol.specs.Networks.{emissions}
 use Rattle.protocol.specs.Hosts.{Entry}
-use Rattle.network.specs.Marks.{place_named}
+use Rattle.network.specs.Marks.{slot_and_node_of}
 use Rattle.hoststep.specs.Deciding.{Decided, decided_at, decisions_by, decisions_in, values_in}
 use Rattle.hoststep.proofs.DecisionLists.{decisions_by-append}
 use Rattle.network.specs.declared.plan.Emission.{Emission}
@@ -208,10 +208,10 @@ values-of i u j w true e (v ∷ vs) = rw e (ap (λ (xs : List (List ℕ)). v ∷
 values-of i u j w false e (v ∷ vs) = rw e (values-of i u j w false e vs)
 
 -- what an entry decides at a slot
-pub values-at : (i u : ℕ) (x : Entry) → values_at i u (x ∷ []) ≡ map (λ (d : Decided). d.value) (filter (is_there i u) (decided_at (place_named x.event) (values_in x.outs)))
+pub values-at : (i u : ℕ) (x : Entry) → values_at i u (x ∷ []) ≡ map (λ (d : Decided). d.value) (filter (is_there i u) (decided_at (slot_and_node_of x.event) (values_in x.outs)))
 values-at i u x = ap (λ (ds : List Decided). map (λ d. d.value) (filter (is_there i u) ds)) (append-nil (decisions_in x))
 
-pub values-by : (i u j w : ℕ) (x : Entry) → place_named x.event ≡ Some (j, w) → values_at i u (x ∷ []) ≡ (if (j == i) && (w == u) then values_in x.outs else [])
+pub values-by : (i u j w : ℕ) (x : Entry) → slot_and_node_of x.event ≡ Some (j, w) → values_at i u (x ∷ []) ≡ (if (j == i) && (w == u) then values_in x.outs else [])
 values-by i u j w x at =
     values-at i u x ∙ (ap (λ (p : Option (ℕ × ℕ)). map (λ (d : Decided). d.value) (filter (is_there i u) (decided_at p (values_in x.outs)))) at
     ∙ values-of i u j w ((j == i) && (w == u)) refl (values_in x.outs))
@@ -235,7 +235,7 @@ slot-still names i since x o none nothing s =
 
 -- an entry of a node at the slot
 pub slot-next : (names : List ℕ) → all_differ names ≡ true → (i u : ℕ) → list_any (λ v. v == u) names ≡ true → (since : List Entry) (x : Entry) (o : OpenSlot)
-    → place_named x.event ≡ Some (i, u) → AreFrom i u (emissions x.outs) → IsSlotBy names i since o → IsSlotBy names i (since ++ x ∷ []) (fold (given_out u) o x.outs)
+    → slot_and_node_of x.event ≡ Some (i, u) → AreFrom i u (emissions x.outs) → IsSlotBy names i since o → IsSlotBy names i (since ++ x ∷ []) (fold (given_out u) o x.outs)
 slot-next names single i u hosted since x o at by s =
     let d : ℕ → Option (List ℕ) = λ v. last_or None (values_at i v since) in
     let said : Says names (sent_at i since) d o = record { speakers = s.speakers; emissions = s.emissions; handed = s.handed } in

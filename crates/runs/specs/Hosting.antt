@@ -9,7 +9,7 @@ use Rattle.hoststep.specs.Logs.{Log}
 use Rattle.hoststep.specs.Worlds.{IsAnswered, items_of, log_at, logs_with}
 use Rattle.runs.specs.Outlines.{Waiting, waiting_at}
 use Rattle.runs.specs.Followed.{Followed, also_followed, noted, turn_of}
-use Rattle.runs.specs.Joining.{HaveJoined, IsNamed, Joins}
+use Rattle.runs.specs.Joining.{HaveJoined, NetworkIsNamed, Joins}
 use Rattle.runs.specs.Naming.{Named, named_with, unnamed}
 use Rattle.runs.specs.Replies.{IsReply}
 
@@ -36,7 +36,7 @@ logs_joined c logs = if has_room logs c.number then logs_with (record { config =
 
 -- the network of a number is named: where the line is the first that does, the network joins, and what its nodes emit is followed from then on
 abbrev pub IsBegun : ℕ → Hosting → Hosting → Type 0
-IsBegun g old new = IsNamed (also_followed logs_joined) g old.waiting new.waiting (old.logs, old.followed) (new.logs, new.followed)
+IsBegun g old new = NetworkIsNamed (also_followed logs_joined) g old.waiting new.waiting (old.logs, old.followed) (new.logs, new.followed)
     × (new.named ≡ named_with g (waiting_at old.waiting g) old.named)
 
 -- after the last line all networks that wait and have nodes have joined

@@ -8,12 +8,12 @@ abbrev pub Joins : Type 0 → Type 0
 Joins S = Config → S → S
 
 -- an event names a network: where it waits, it joins and waits no more; else nothing changes
-abbrev pub IsNamedAt : {S : Type 0} → Joins S → ℕ → Option Outlined → Waiting → Waiting → S → S → Type 0
-IsNamedAt joins g None ws us old new = (us ≡ ws) × (new ≡ old)
-IsNamedAt joins g (Some d) ws us old new = (us ≡ waiting_without ws g) × ((c : Config) × IsConfigOf g d c × (new ≡ joins c old))
+abbrev pub NetworkIsNamedAt : {S : Type 0} → Joins S → ℕ → Option Outlined → Waiting → Waiting → S → S → Type 0
+NetworkIsNamedAt joins g None ws us old new = (us ≡ ws) × (new ≡ old)
+NetworkIsNamedAt joins g (Some d) ws us old new = (us ≡ waiting_without ws g) × ((c : Config) × IsConfigOf g d c × (new ≡ joins c old))
 
-abbrev pub IsNamed : {S : Type 0} → Joins S → ℕ → Waiting → Waiting → S → S → Type 0
-IsNamed joins g ws us old new = IsNamedAt joins g (waiting_at ws g) ws us old new
+abbrev pub NetworkIsNamed : {S : Type 0} → Joins S → ℕ → Waiting → Waiting → S → S → Type 0
+NetworkIsNamed joins g ws us old new = NetworkIsNamedAt joins g (waiting_at ws g) ws us old new
 
 -- an event names a network: where it waits, it waits no more, and its configuration is this
 abbrev pub IsTaken : ℕ → Option Outlined → Option Config → Waiting → Waiting → Type 0

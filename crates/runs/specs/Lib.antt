@@ -14,7 +14,7 @@ pub mod SettledLines
 pub mod Settling
 pub mod Running
 pub mod ByJournals
-pub mod Quiet
+pub mod Unprinted
 pub mod Submitting
 pub mod Plans
 pub mod Putting

@@ -70,8 +70,8 @@ five (a ∷ b ∷ more) = behind_two a b (three more)
 five fields = None
 
 -- the slot and the node that two words spell
-abbrev pub place_in : Bytes → Bytes → Option (ℕ × ℕ)
-place_in i name = option_and_then (λ slot. option_map (λ u. (slot, u)) (word_name name)) (slot_in i)
+abbrev pub slot_and_node_in : Bytes → Bytes → Option (ℕ × ℕ)
+slot_and_node_in i name = option_and_then (λ slot. option_map (λ u. (slot, u)) (word_name name)) (slot_in i)
 
 -- an emission by its sender, its kind and its number
 abbrev pub emission_in : Bytes → Bytes → Bytes → Option (ℕ × Kind × ℕ)
@@ -95,7 +95,7 @@ closed fields = None
 
 -- of a slot, a node and a value
 abbrev pub proposed : List Bytes → Option Event
-proposed fields = option_and_then (λ w. option_and_then (λ at. option_map (λ x. Propose at.0 at.1 x) (word_proposal w.2)) (place_in w.0 w.1)) (three fields)
+proposed fields = option_and_then (λ w. option_and_then (λ at. option_map (λ x. Propose at.0 at.1 x) (word_proposal w.2)) (slot_and_node_in w.0 w.1)) (three fields)
 
 -- of a node and bytes
 abbrev pub delivered : List Bytes → Option Event
@@ -105,15 +105,15 @@ delivered fields = None
 -- of a slot, a node and an emission
 abbrev pub heard : List Bytes → Option Event
 heard fields =
-    option_and_then (λ w. option_and_then (λ at. option_map (λ x. Hear at.0 at.1 x.0 x.1 x.2) (emission_in w.2 w.3 w.4)) (place_in w.0 w.1)) (five fields)
+    option_and_then (λ w. option_and_then (λ at. option_map (λ x. Hear at.0 at.1 x.0 x.1 x.2) (emission_in w.2 w.3 w.4)) (slot_and_node_in w.0 w.1)) (five fields)
 
 -- of a slot, a node and a round
 abbrev pub nomination_timed : List Bytes → Option Event
-nomination_timed fields = option_and_then (λ w. option_and_then (λ at. option_map (λ r. NominationTimer at.0 at.1 r) (word_counter w.2)) (place_in w.0 w.1)) (three fields)
+nomination_timed fields = option_and_then (λ w. option_and_then (λ at. option_map (λ r. NominationTimer at.0 at.1 r) (word_counter w.2)) (slot_and_node_in w.0 w.1)) (three fields)
 
 -- of a slot, a node and a counter
 abbrev pub ballot_timed : List Bytes → Option Event
-ballot_timed fields = option_and_then (λ w. option_and_then (λ at. option_map (λ n. BallotTimer at.0 at.1 n) (word_counter w.2)) (place_in w.0 w.1)) (three fields)
+ballot_timed fields = option_and_then (λ w. option_and_then (λ at. option_map (λ n. BallotTimer at.0 at.1 n) (word_counter w.2)) (slot_and_node_in w.0 w.1)) (three fields)
 
 -- at this slot and node, if any, the slices that the word spells
 abbrev pub IsResliced : Option (ℕ × ℕ) → Bytes → Event → Type 0
@@ -123,7 +123,7 @@ IsResliced (Some at) slices e = (q : Slices) × AreSlices slices (Some q) × (e 
 -- of a slot, a node and slices
 abbrev pub AsksResliceOf : Option (Bytes × Bytes × Bytes) → Event → Type 0
 AsksResliceOf None e = ⊥
-AsksResliceOf (Some w) e = IsResliced (place_in w.0 w.1) w.2 e
+AsksResliceOf (Some w) e = IsResliced (slot_and_node_in w.0 w.1) w.2 e
 
 abbrev pub AsksReslice : List Bytes → Event → Type 0
 AsksReslice fields e = AsksResliceOf (three fields) e

@@ -23,16 +23,16 @@ abbrev pub IsJob : ℕ → Event → Plan → Plan → Type 0
 IsJob g e old new = IsSubmitted g e old.submitted new.submitted × (new.opens ≡ old.opens)
 
 -- an event of the network of a number: openings come first, nothing is closed, and each other one is a job
-abbrev pub IsPlanned : ℕ → Event → Plan → Plan → Type 0
-IsPlanned g (OpenSlot slot) old new = IsOpened g slot old new
-IsPlanned g (CloseSlot slot) old new = ⊥
-IsPlanned g e old new = IsJob g e old new
+abbrev pub IsJobOrOpening : ℕ → Event → Plan → Plan → Type 0
+IsJobOrOpening g (OpenSlot slot) old new = IsOpened g slot old new
+IsJobOrOpening g (CloseSlot slot) old new = ⊥
+IsJobOrOpening g e old new = IsJob g e old new
 
 -- what a line tells, and nothing is printed: a declaration that is taken opens, puts and names nothing, an event is planned, and no line settles
 pub data Puts : Plan → List Bytes → Option Bytes → Plan → Type 0 where
   declares : {old new : Plan} {fields : List Bytes} → IsPrepared fields old.submitted.named old.submitted.waiting new.submitted.waiting
       → new.submitted.named ≡ old.submitted.named → new.submitted.history ≡ old.submitted.history → new.opens ≡ old.opens → Puts old fields None new
-  plans : {old new : Plan} {fields : List Bytes} (g : ℕ) (e : Event) → AsksOf fields g e → IsPlanned g e old new → Puts old fields None new
+  plans : {old new : Plan} {fields : List Bytes} (g : ℕ) (e : Event) → AsksOf fields g e → IsJobOrOpening g e old new → Puts old fields None new
 
 -- an event is no job: one that closes a slot, and one of a network that has no node
 abbrev pub IsNoJob : Waiting → ℕ → Event → Type 0

@@ -6,7 +6,7 @@ use Rattle.protocol.specs.Hosts.{History}
 use Rattle.protocol.specs.Submissions.{config_of}
 use Rattle.crowds.specs.Submitted.{and_then, declared}
 use Rattle.runs.specs.Outlines.{Waiting, waiting_at}
-use Rattle.runs.specs.Joining.{HaveJoined, IsNamed, Joins}
+use Rattle.runs.specs.Joining.{HaveJoined, NetworkIsNamed, Joins}
 use Rattle.runs.specs.Naming.{Named, named_with, unnamed}
 use Rattle.runs.specs.Preparing.{IsPrepared}
 use Rattle.runs.specs.Taking.{takes}
@@ -32,7 +32,7 @@ declared_once c h = if is_some (config_of h.configs c.number) then h else declar
 -- the network of a number is named: where the line is the first that does, the network is declared
 abbrev pub IsDeclared : ℕ → Submitting → Submitting → Type 0
 IsDeclared g old new =
-    IsNamed declared_once g old.waiting new.waiting old.history new.history × (new.named ≡ named_with g (waiting_at old.waiting g) old.named)
+    NetworkIsNamed declared_once g old.waiting new.waiting old.history new.history × (new.named ≡ named_with g (waiting_at old.waiting g) old.named)
 
 -- an event of the network of a number is submitted
 abbrev pub IsSubmitted : ℕ → Event → Submitting → Submitting → Type 0

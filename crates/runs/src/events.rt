@@ -1,7 +1,7 @@
 //! Events as lines write them, after the number of the network. Fields that have not this form ask for none.
 
 ghost use Rattle.std.specs.Prelude.{◌≡◌, IfOk, IfSome, map, option_map};
-ghost use Rattle.runs.specs.Lines.{AreSaid, AsksReslice, AsksSay, IsAsked, IsRead, ballot_timed, closed, delivered, emission_in, five, heard, kind_in, nomination_timed, opened, place_in, proposed, saying_in, slot_in, three, word_proposal};
+ghost use Rattle.runs.specs.Lines.{AreSaid, AsksReslice, AsksSay, IsAsked, IsRead, ballot_timed, closed, delivered, emission_in, five, heard, kind_in, nomination_timed, opened, slot_and_node_in, proposed, saying_in, slot_in, three, word_proposal};
 
 use crate::verbs::{EventVerb, is_word};
 use codec::encode;
@@ -66,7 +66,7 @@ fn propose(alloc: Global, fields: &[&[u8]]) -> Result<Option<Event>, AllocError>
     let Some((slot, node, value)) = three_of(fields) else {
         return Ok(None);
     };
-    let Some((slot, node)) = place_in(slot, node) else {
+    let Some((slot, node)) = slot_and_node_in(slot, node) else {
         return Ok(None);
     };
     let Some(value) = proposal_of(alloc, value)? else {
@@ -179,7 +179,7 @@ fn hear(fields: &[&[u8]]) -> Option<Event>
     let Some((slot, node, from, kind, number)) = five_of(fields) else {
         return None;
     };
-    let Some((slot, node)) = place_in(slot, node) else {
+    let Some((slot, node)) = slot_and_node_in(slot, node) else {
         return None;
     };
     match emission_of(from, kind, number) {
@@ -228,7 +228,7 @@ fn nomination_timer(fields: &[&[u8]]) -> Option<Event>
     let Some((slot, node, round)) = three_of(fields) else {
         return None;
     };
-    let Some((slot, node)) = place_in(slot, node) else {
+    let Some((slot, node)) = slot_and_node_in(slot, node) else {
         return None;
     };
     match counter_of(round) {
@@ -244,7 +244,7 @@ fn ballot_timer(fields: &[&[u8]]) -> Option<Event>
     let Some((slot, node, counter)) = three_of(fields) else {
         return None;
     };
-    let Some((slot, node)) = place_in(slot, node) else {
+    let Some((slot, node)) = slot_and_node_in(slot, node) else {
         return None;
     };
     match counter_of(counter) {
@@ -264,7 +264,7 @@ fn reslice(alloc: Global, fields: &[&[u8]]) -> Result<Option<Event>, AllocError>
     let Some((slot, node, slices)) = three_of(fields) else {
         return Ok(None);
     };
-    let Some((slot, node)) = place_in(slot, node) else {
+    let Some((slot, node)) = slot_and_node_in(slot, node) else {
         return Ok(None);
     };
     match slices_of(alloc, slices)? {
@@ -274,8 +274,8 @@ fn reslice(alloc: Global, fields: &[&[u8]]) -> Result<Option<Event>, AllocError>
 }
 
 /// The slot and the node that words name.
-fn place_in(slot: &[u8], node: &[u8]) -> Option<(u64, NodeId)>
-    ensures { result ≡ place_in slot.now node.now }
+fn slot_and_node_in(slot: &[u8], node: &[u8]) -> Option<(u64, NodeId)>
+    ensures { result ≡ slot_and_node_in slot.now node.now }
 {
     let Some(slot) = number_of(slot) else {
         return None;

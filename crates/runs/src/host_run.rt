@@ -5,7 +5,7 @@ ghost use Rattle.types.specs.declared.event.Event.TheVariants.{Hear};
 ghost use Rattle.runs.specs.ByJournals.{KeptAreFound, LinesFollowJournals, RunsFollowJournals};
 ghost use Rattle.runs.specs.Followed.{handed_at, names_at, open_slot, waiting};
 ghost use Rattle.runs.specs.Hosting.{IsApplied, IsBegun, IsFinished, IsPut, unhosted};
-ghost use Rattle.runs.specs.Quiet.{IsPutQuietly, IsRunBy};
+ghost use Rattle.runs.specs.Unprinted.{IsPutUnprinted, IsRunBy};
 ghost use Rattle.runs.specs.Running.{BadLinesTellNothing, RefusesLine};
 ghost use Rattle.runs.specs.Settling.{AreHandedOn, HandedOnIsCounted, HasSettled, HeardWaitsOn, IsHanded, IsHeardBy, IsSettled, line_of, others};
 ghost use Rattle.runs.specs.Telling.{HasNoNode};
@@ -71,7 +71,11 @@ impl HostRun {
     }
 
     /// Runs a line without saying what it answers, and gives the number of the network that it names.
-    pub(crate) fn run_quietly(&mut self, alloc: Global, fields: &[&[u8]]) -> Result<u32, LineError>
+    pub(crate) fn run_unprinted(
+        &mut self,
+        alloc: Global,
+        fields: &[&[u8]],
+    ) -> Result<u32, LineError>
         ensures told { IfOk result (λ g. IsRunBy g (map (λ field. field.now) fields.now) self.old self.new) }
         ensures bad { result ≡ Err LineError.Bad → RefusesLine self.old (map (λ field. field.now) fields.now) }
     {
@@ -94,7 +98,7 @@ impl HostRun {
 
     /// Puts an event to the network of a number, whatever it answers.
     fn put(&mut self, number: u32, event: Event) -> Result<(), LineError>
-        ensures told { OnOk result (IsPutQuietly number event self.old self.new) }
+        ensures told { OnOk result (IsPutUnprinted number event self.old self.new) }
         ensures bad { result ≡ Err LineError.Bad → HasNoNode self.old.waiting number }
     {
         self.begin(number)?;

@@ -2,7 +2,7 @@
 
 ghost use Rattle.std.specs.Prelude.{◌≡◌, Err, OnOk};
 ghost use Rattle.runs.specs.Plans.{unplanned};
-ghost use Rattle.runs.specs.Putting.{BadLinesPutNothing, IsCompletePlan, IsNoJob, IsOpened, IsPlanned};
+ghost use Rattle.runs.specs.Putting.{BadLinesPutNothing, IsCompletePlan, IsNoJob, IsOpened, IsJobOrOpening};
 ghost use Rattle.runs.specs.Telling.{HasNoNode};
 
 use crate::requests::{Request, request_of};
@@ -75,7 +75,7 @@ impl JobRun {
 
     /// An event of the network of a number is a job. It is a bad line where it closes a slot.
     fn put(&mut self, number: u32, event: Event) -> Result<(), LineError>
-        ensures planned { OnOk result (IsPlanned number event self.old self.new) }
+        ensures planned { OnOk result (IsJobOrOpening number event self.old self.new) }
         ensures bad { result ≡ Err LineError.Bad → IsNoJob self.old.submitted.waiting number event }
     {
         match event {

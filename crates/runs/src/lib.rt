@@ -14,12 +14,12 @@ mod named;
 mod nets;
 mod networks;
 mod outlines;
-mod quiet_run;
 mod refusals;
 mod replies;
 mod requests;
 mod submission_run;
 mod trace;
+mod unprinted_run;
 mod verbs;
 mod waiting;
 
@@ -28,6 +28,6 @@ pub use host_run::{
     open_slots_follow_journals,
 };
 pub use job_run::{JobRun, bad_lines_put_nothing};
-pub use quiet_run::QuietRun;
 pub use replies::{line_of_reply, push_outs};
 pub use submission_run::{SubmissionRun, bad_lines_submit_nothing};
+pub use unprinted_run::UnprintedRun;

@@ -3,7 +3,7 @@
 ghost use Rattle.std.specs.Prelude.{◌≡◌, [], Err, IfOk, None, OnOk, false, true};
 ghost use Rattle.runs.specs.Outlines.{IsRevised, fresh, waiting_at, waiting_with, with_node, with_roster};
 ghost use Rattle.runs.specs.Followed.{also_followed};
-ghost use Rattle.runs.specs.Joining.{HasJoined, HaveJoined, IsNamed, IsTaken};
+ghost use Rattle.runs.specs.Joining.{HasJoined, HaveJoined, NetworkIsNamed, IsTaken};
 ghost use Rattle.runs.specs.Naming.{named_with, unnamed};
 ghost use Rattle.runs.specs.Preparing.{Prepares};
 ghost use Rattle.runs.specs.Taking.{takes};
@@ -115,7 +115,7 @@ impl Nets {
     /// An event names a network. Where it is the first and the network is declared, the network is complete
     /// and joins. It is a bad line where the network has no node.
     pub fn begin<N: Networks>(&mut self, networks: &mut N, number: u32) -> Result<(), LineError>
-        ensures named { OnOk result (IsNamed (also_followed N.joins) number self.old.waiting self.new.waiting (networks.old, self.old.followed) (networks.new, self.new.followed)
+        ensures named { OnOk result (NetworkIsNamed (also_followed N.joins) number self.old.waiting self.new.waiting (networks.old, self.old.followed) (networks.new, self.new.followed)
             × (self.new.named ≡ named_with number (waiting_at self.old.waiting number) self.old.named)) }
         ensures bad { result ≡ Err LineError.Bad → HasNoNode self.old.waiting number }
     {

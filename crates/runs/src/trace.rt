@@ -1,7 +1,7 @@
 //! From which line of a script each entry of a journal comes.
 
 ghost use Rattle.std.specs.Prelude.{◌≡◌, ◌++◌, ◌∷◌, [], Some, OnErr, OnOk};
-ghost use Rattle.runs.specs.Quiet.{origin_in};
+ghost use Rattle.runs.specs.Unprinted.{origin_in};
 
 use std::alloc::{AllocError, Global};
 use std::marker::Model;
@@ -14,7 +14,7 @@ pub(crate) struct Trace {
 }
 
 impl Model for Trace {
-    ghost use Rattle.runs.specs.Quiet.{Trace};
+    ghost use Rattle.runs.specs.Unprinted.{Trace};
 
     ghost Value = { Trace };
 

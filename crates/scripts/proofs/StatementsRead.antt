@@ -15,10 +15,10 @@ use Rattle.types.specs.declared.ballot.Ballot.{Ballot}
 use Rattle.types.specs.declared.statement.Statement.TheVariants.{Nominate, Prepare, Commit, Externalize}
 use Rattle.scripts.specs.Script.{Bytes}
 use Rattle.scripts.specs.Values.{is_plain, is_lower_digit, text_of_value, word_value}
-use Rattle.scripts.specs.Words.{cut_at, text_of_ballot, word_ballot, word_counter}
+use Rattle.scripts.specs.Words.{split_once, text_of_ballot, word_ballot, word_counter}
 use Rattle.scripts.specs.WordLists.{each_word}
 use Rattle.scripts.specs.Printed.{behind_plus, fields_of_statement, text_of_optional, text_of_values}
-use Rattle.scripts.specs.Statements.{HasBytes, StatementsReadBack, before_bracket, commit_in, cut_twice, externalize_in, nomination_in, prepare_in, three_counters, word_optional, word_values}
+use Rattle.scripts.specs.Statements.{HasBytes, StatementsReadBack, before_bracket, commit_in, split_twice, externalize_in, nomination_in, prepare_in, three_counters, word_optional, word_values}
 use Rattle.scripts.proofs.DigitLaws.{digits_lower}
 use Rattle.scripts.proofs.RunLaws.{append_nothing}
 use Rattle.scripts.proofs.ScriptLemmas.{both_true}
@@ -98,7 +98,7 @@ not_is false e = refl
 not_self : (at : ℕ) → not (at == at) ≡ false
 not_self at = grind (arith, nat_tests)
 
-pub cut_before : (at : ℕ) (word more : Bytes) → lacks at word ≡ true → cut_at at (word ++ at ∷ more) ≡ Some (word, more)
+pub cut_before : (at : ℕ) (word more : Bytes) → lacks at word ≡ true → split_once at (word ++ at ∷ more) ≡ Some (word, more)
 cut_before at word more e =
     let count : position_or_len (λ b. b == at) (word ++ at ∷ more) ≡ length word = count_before (λ b. not (b == at)) word at more e (not_self at) in
     let within : nat_lt (length word) (length (word ++ at ∷ more)) ≡ true = below (length word) (length (word ++ at ∷ more)) (omega (arith, length-append word (at ∷ more))) in
@@ -111,7 +111,7 @@ cut_before at word more e =
     parts : ◌≡◌ {A = Option (Bytes × Bytes)} (Some (take (length word) (word ++ at ∷ more), drop (length word + 1) (word ++ at ∷ more))) (Some (word, more))
     parts = rw (take-append_seam word (at ∷ more), drop-append-add word (at ∷ more) 1) refl
 
-cut_two : (at : ℕ) (first second third : Bytes) → lacks at first ≡ true → lacks at second ≡ true → cut_twice at (first ++ at ∷ (second ++ at ∷ third)) ≡ Some (first, second, third)
+cut_two : (at : ℕ) (first second third : Bytes) → lacks at first ≡ true → lacks at second ≡ true → split_twice at (first ++ at ∷ (second ++ at ∷ third)) ≡ Some (first, second, third)
 cut_two at first second third e f = rw (cut_before at first (second ++ at ∷ third) e, cut_before at second third f) refl
 
 -- ---- ballots and counters

@@ -11,17 +11,17 @@ use Rattle.std.specs.List.{position_or_len}
 use Rattle.std.specs.Char.{is_ascii_alphanumeric}
 use Rattle.std.proofs.lemmas.Bool.Decides.{nat_tests}
 use Rattle.scripts.specs.Fronts.{plain_count, plain_part, behind_plain}
-use Rattle.scripts.specs.Words.{cut_at}
+use Rattle.scripts.specs.Words.{split_once}
 use Rattle.scripts.proofs.RunLaws.{append_nothing}
 
 pub cut_found : (text : Bytes) (at n : ℕ) → n < length text → position (λ b. b == at) text ≡ Some n
-    → Some (take n text, take (length text - (n + 1)) (drop (n + 1) text)) ≡ cut_at at text
+    → Some (take n text, take (length text - (n + 1)) (drop (n + 1) text)) ≡ split_once at text
 cut_found text at n within found =
     let whole : take (length text - (n + 1)) (drop (n + 1) text) ≡ drop (n + 1) text =
     take_all (length text - (n + 1)) (drop (n + 1) text) (omega (arith, length-drop (n + 1) text)) in
     rw (whole, found) refl
 
-pub cut_missing : (text : Bytes) (at : ℕ) → position (λ b. b == at) text ≡ None → None ≡ cut_at at text
+pub cut_missing : (text : Bytes) (at : ℕ) → position (λ b. b == at) text ≡ None → None ≡ split_once at text
 cut_missing text at missing = rw missing refl
 
 -- one byte more is two digits more

@@ -10,14 +10,14 @@ use Rattle.types.specs.declared.statement.Statement.TheVariants.{Nominate, Prepa
 use Rattle.scripts.specs.Script.{Bytes}
 use Rattle.scripts.specs.Values.{word_value}
 use Rattle.scripts.specs.Printed.{text_of_statement}
-use Rattle.scripts.specs.Words.{cut_at, word_ballot, word_counter}
+use Rattle.scripts.specs.Words.{split_once, word_ballot, word_counter}
 use Rattle.scripts.specs.WordLists.{each_word}
 
 -- ---- pieces of a word
 
 -- what stands before the first such byte, between it and the second, and behind that
-abbrev pub cut_twice : ℕ → Bytes → Option (Bytes × Bytes × Bytes)
-cut_twice at text = option_and_then (λ p. option_map (λ q. (p.0, q.0, q.1)) (cut_at at p.1)) (cut_at at text)
+abbrev pub split_twice : ℕ → Bytes → Option (Bytes × Bytes × Bytes)
+split_twice at text = option_and_then (λ p. option_map (λ q. (p.0, q.0, q.1)) (split_once at p.1)) (split_once at text)
 
 -- what stands behind a front
 abbrev pub behind : Bytes → Bytes → Option Bytes
@@ -44,7 +44,7 @@ word_optional word = if pointwise nat_eq word (45 ∷ []) then Some None else op
 -- three counters with a comma (44) between each and the next
 abbrev pub three_counters : Bytes → Option (ℕ × ℕ × ℕ)
 three_counters text =
-    option_and_then (λ w. option_and_then (λ a. option_and_then (λ b. option_map (λ c. (a, b, c)) (word_counter w.2)) (word_counter w.1)) (word_counter w.0)) (cut_twice 44 text)
+    option_and_then (λ w. option_and_then (λ a. option_and_then (λ b. option_map (λ c. (a, b, c)) (word_counter w.2)) (word_counter w.1)) (word_counter w.0)) (split_twice 44 text)
 
 -- ---- statements by their fields
 
@@ -62,19 +62,19 @@ externalize counter ballot = option_and_then (λ h. option_map (λ b. Externaliz
 
 -- the values voted for and those accepted, with a bar (124) between
 abbrev pub nomination_in : Bytes → Option Statement
-nomination_in fields = option_and_then (λ w. nomination (word_values w.0) (word_values w.1)) (cut_at 124 fields)
+nomination_in fields = option_and_then (λ w. nomination (word_values w.0) (word_values w.1)) (split_once 124 fields)
 
 -- the ballot, the prepared one, and three counters
 abbrev pub prepare_in : Bytes → Option Statement
-prepare_in fields = option_and_then (λ w. prepare (three_counters w.2) (word_ballot w.0) (word_optional w.1)) (cut_twice 44 fields)
+prepare_in fields = option_and_then (λ w. prepare (three_counters w.2) (word_ballot w.0) (word_optional w.1)) (split_twice 44 fields)
 
 -- the ballot and three counters
 abbrev pub commit_in : Bytes → Option Statement
-commit_in fields = option_and_then (λ w. commit (three_counters w.1) (word_ballot w.0)) (cut_at 44 fields)
+commit_in fields = option_and_then (λ w. commit (three_counters w.1) (word_ballot w.0)) (split_once 44 fields)
 
 -- the ballot and a counter
 abbrev pub externalize_in : Bytes → Option Statement
-externalize_in fields = option_and_then (λ w. externalize (word_counter w.1) (word_ballot w.0)) (cut_at 44 fields)
+externalize_in fields = option_and_then (λ w. externalize (word_counter w.1) (word_ballot w.0)) (split_once 44 fields)
 
 -- ---- statements
 

@@ -8,8 +8,8 @@ use Rattle.scripts.specs.Numbers.{is_digit, decimal as number}
 use Rattle.scripts.specs.Values.{text_of_value, word_value}
 
 -- what stands before the first such byte, and what stands after it
-abbrev pub cut_at : ℕ → Bytes → Option (Bytes × Bytes)
-cut_at at text = option_map (λ n. (take n text, drop (n + 1) text)) (position (λ b. b == at) text)
+abbrev pub split_once : ℕ → Bytes → Option (Bytes × Bytes)
+split_once at text = option_map (λ n. (take n text, drop (n + 1) text)) (position (λ b. b == at) text)
 
 -- ---- numbers and ballots
 
@@ -45,7 +45,7 @@ valued None = None
 
 -- the ballot that a word spells: a counter, a colon (58) and a value
 abbrev pub word_ballot : Bytes → Option Ballot
-word_ballot word = valued (counted (cut_at 58 word))
+word_ballot word = valued (counted (split_once 58 word))
 
 -- a counter, a colon (58) and a value
 abbrev pub text_of_ballot : Ballot → Bytes

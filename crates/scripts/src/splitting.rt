@@ -4,13 +4,13 @@ ghost use Rattle.std.specs.Prelude.{◌≡◌, ◌++◌, ◌∷◌, ◌==◌, If
 ghost use Rattle.std.specs.Char.{is_ascii_alphanumeric};
 ghost use Rattle.scripts.specs.Fronts.{behind_plain, plain_part};
 ghost use Rattle.scripts.specs.Values.{is_plain as plain_test};
-ghost use Rattle.scripts.specs.Statements.{cut_twice};
-ghost use Rattle.scripts.specs.Words.{cut_at};
+ghost use Rattle.scripts.specs.Statements.{split_twice};
+ghost use Rattle.scripts.specs.Words.{split_once};
 
 /// What stands before the first such byte, and what stands after it, where there is one.
 #[tactic(auto, using(crate::proofs::WordLaws::cut_found, crate::proofs::WordLaws::cut_missing))]
 pub(crate) fn split_once(text: &[u8], at: u8) -> Option<(&[u8], &[u8])>
-    ensures { option_map (λ r. (r.0.now, r.1.now)) result ≡ cut_at at text.now }
+    ensures { option_map (λ r. (r.0.now, r.1.now)) result ≡ split_once at text.now }
 {
     match place_of(text, at) {
         Some(place) => Some((&text[..place], &text[place + 1..])),
@@ -21,7 +21,7 @@ pub(crate) fn split_once(text: &[u8], at: u8) -> Option<(&[u8], &[u8])>
 /// What stands before the first such byte, between it and the second, and behind that, where there are
 /// two.
 pub(crate) fn split_twice(text: &[u8], at: u8) -> Option<(&[u8], &[u8], &[u8])>
-    ensures { option_map (λ r. (r.0.now, r.1.now, r.2.now)) result ≡ cut_twice at text.now }
+    ensures { option_map (λ r. (r.0.now, r.1.now, r.2.now)) result ≡ split_twice at text.now }
 {
     let Some((first, rest)) = split_once(text, at) else {
         return None;

@@ -11,14 +11,14 @@ use Rattle.types.specs.declared.state.Votes.{Votes}
 use Rattle.protocol.specs.Nodes.{Node, is_externalized, step}
 use Rattle.protocol.specs.Passes.{pass, pass_rules, while_open}
 use Rattle.protocol.specs.Views.{Seen, seen}
-use Rattle.protocol.specs.Limits.{Reached}
-use Rattle.protocol.specs.Limits.Reached.{next}
+use Rattle.protocol.specs.Limits.{ComesOfEvents}
+use Rattle.protocol.specs.Limits.ComesOfEvents.{next}
 use Rattle.std.specs.Prelude.{IsFalse, IsTrue}
 use Rattle.protocol.specs.Sets.{among}
-use Rattle.protocol.specs.Rows.{is_taken, offered, with_row}
+use Rattle.protocol.specs.Rows.{is_taken, table_with_offer, with_row}
 use Rattle.protocol.proofs.Nodes.Quiet.{row-alone, step-stale}
 use Rattle.protocol.proofs.Nodes.Strangers.{strangers_add_rows}
-use Rattle.listening.proofs.Offers.{offered-stale, offered-taken}
+use Rattle.listening.proofs.Offers.{table_with_offer-stale, table_with_offer-taken}
 use Rattle.listening.specs.Listening.{Heard, IsStranger}
 use Rattle.slot.specs.Listening.{AddsRowAlone, node_of}
 use Rattle.envstore.specs.Archives.{sents_of}
@@ -30,17 +30,17 @@ untrue true h = sym h
 untrue false h = refl
 
 -- ---- a stranger's
-stranger-there : (h : Heard) (inputs : Inputs) (votes : Votes) (u : ℕ) → IsStranger h u → IsFalse (among inputs.leaders u) → Reached (node_of h inputs votes) → AddsRowAlone (node_of h inputs votes) u
+stranger-there : (h : Heard) (inputs : Inputs) (votes : Votes) (u : ℕ) → IsStranger h u → IsFalse (among inputs.leaders u) → ComesOfEvents (node_of h inputs votes) → AddsRowAlone (node_of h inputs votes) u
 stranger-there h inputs votes u s l r = λ e from.
     let n : Node = node_of h inputs votes in
     let outside : IsFalse (among s.reach e.sender) = subst (λ w. IsFalse (among s.reach w)) (sym from) s.outside in
     let led : IsFalse (among inputs.leaders e.sender) = subst (λ w. IsFalse (among inputs.leaders w)) (sym from) l in
     elim (cases_Bool (is_taken n.table e)) [
-      | inl t ↦ strangers_add_rows n s.reach e r s.is outside led t ∙ ap {B = Node × List Out} (λ (rows : List Sent). (record n { table = rows }, [])) (sym (offered-taken n.table e t))
-      | inr f ↦ step-stale n e f ∙ ap {B = Node × List Out} (λ (rows : List Sent). (record n { table = rows }, [])) (sym (offered-stale n.table e f))
+      | inl t ↦ strangers_add_rows n s.reach e r s.is outside led t ∙ ap {B = Node × List Out} (λ (rows : List Sent). (record n { table = rows }, [])) (sym (table_with_offer-taken n.table e t))
+      | inr f ↦ step-stale n e f ∙ ap {B = Node × List Out} (λ (rows : List Sent). (record n { table = rows }, [])) (sym (table_with_offer-stale n.table e f))
     ]
 
-pub stranger-row : (n : Node) (h : Heard) (inputs : Inputs) (votes : Votes) (u : ℕ) → n ≡ node_of h inputs votes → IsStranger h u → IsFalse (among inputs.leaders u) → Reached (node_of h inputs votes) → AddsRowAlone n u
+pub stranger-row : (n : Node) (h : Heard) (inputs : Inputs) (votes : Votes) (u : ℕ) → n ≡ node_of h inputs votes → IsStranger h u → IsFalse (among inputs.leaders u) → ComesOfEvents (node_of h inputs votes) → AddsRowAlone n u
 stranger-row n h inputs votes u is s l r = subst (λ (m : Node). AddsRowAlone m u) (sym is) (stranger-there h inputs votes u s l r)
 
 -- ---- after a value was externalized
@@ -59,22 +59,22 @@ over-taken n e over t = row-alone n e t (over-pass n.name (seen n.name n.slices 
 pub over-row : (n : Node) (u : ℕ) → is_externalized n.votes.phase ≡ true → AddsRowAlone n u
 over-row n u over = λ e from.
     elim (cases_Bool (is_taken n.table e)) [
-      | inl t ↦ over-taken n e over t ∙ ap {B = Node × List Out} (λ (rows : List Sent). (record n { table = rows }, [])) (sym (offered-taken n.table e t))
-      | inr f ↦ step-stale n e f ∙ ap {B = Node × List Out} (λ (rows : List Sent). (record n { table = rows }, [])) (sym (offered-stale n.table e f))
+      | inl t ↦ over-taken n e over t ∙ ap {B = Node × List Out} (λ (rows : List Sent). (record n { table = rows }, [])) (sym (table_with_offer-taken n.table e t))
+      | inr f ↦ step-stale n e f ∙ ap {B = Node × List Out} (λ (rows : List Sent). (record n { table = rows }, [])) (sym (table_with_offer-stale n.table e f))
     ]
 
 -- ---- the step
 -- the listener after an offer
-offered-to : (h k : Heard) (inputs : Inputs) (votes : Votes) (x : Sent) → k.configured ≡ h.configured → sents_of k.table ≡ offered (sents_of h.table) x → whole h.configured inputs votes (offered (sents_of h.table) x) ≡ node_of k inputs votes
-offered-to h k inputs votes x c t = λ i. whole (sym c i) inputs votes (sym t i)
+table_with_offer-to : (h k : Heard) (inputs : Inputs) (votes : Votes) (x : Sent) → k.configured ≡ h.configured → sents_of k.table ≡ table_with_offer (sents_of h.table) x → whole h.configured inputs votes (table_with_offer (sents_of h.table) x) ≡ node_of k inputs votes
+table_with_offer-to h k inputs votes x c t = λ i. whole (sym c i) inputs votes (sym t i)
 
 -- the step offers the envelope, and gives nothing out
-pub row-step : (n : Node) (h k : Heard) (inputs : Inputs) (votes : Votes) (x : Sent) → n ≡ node_of h inputs votes → AddsRowAlone n x.sender → k.configured ≡ h.configured → sents_of k.table ≡ offered (sents_of h.table) x
+pub row-step : (n : Node) (h k : Heard) (inputs : Inputs) (votes : Votes) (x : Sent) → n ≡ node_of h inputs votes → AddsRowAlone n x.sender → k.configured ≡ h.configured → sents_of k.table ≡ table_with_offer (sents_of h.table) x
     → step n (Take x) ≡ (node_of k inputs votes, [])
 row-step n h k inputs votes x is alone c t =
-    alone x refl ∙ ap {B = Node × List Out} (λ (m : Node). (record m { table = offered m.table x }, [])) is ∙ ap {B = Node × List Out} (λ (m : Node). (m, [])) (offered-to h k inputs votes x c t)
+    alone x refl ∙ ap {B = Node × List Out} (λ (m : Node). (record m { table = table_with_offer m.table x }, [])) is ∙ ap {B = Node × List Out} (λ (m : Node). (m, [])) (table_with_offer-to h k inputs votes x c t)
 
 -- and events led to the node after it
-pub row-reached : (n : Node) (h k : Heard) (inputs : Inputs) (votes : Votes) (x : Sent) → n ≡ node_of h inputs votes → AddsRowAlone n x.sender → Reached (node_of h inputs votes) → k.configured ≡ h.configured → sents_of k.table ≡ offered (sents_of h.table) x
-    → Reached (node_of k inputs votes)
-row-reached n h k inputs votes x is alone r c t = subst (λ (p : Node × List Out). Reached p.0) (row-step n h k inputs votes x is alone c t) (next (subst Reached (sym is) r) (Take x))
+pub row-reached : (n : Node) (h k : Heard) (inputs : Inputs) (votes : Votes) (x : Sent) → n ≡ node_of h inputs votes → AddsRowAlone n x.sender → ComesOfEvents (node_of h inputs votes) → k.configured ≡ h.configured → sents_of k.table ≡ table_with_offer (sents_of h.table) x
+    → ComesOfEvents (node_of k inputs votes)
+row-reached n h k inputs votes x is alone r c t = subst (λ (p : Node × List Out). ComesOfEvents p.0) (row-step n h k inputs votes x is alone c t) (next (subst ComesOfEvents (sym is) r) (Take x))

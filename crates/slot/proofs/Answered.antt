@@ -14,10 +14,10 @@ use Rattle.types.specs.declared.state.Votes.{Votes}
 use Rattle.protocol.specs.Rows.{is_taken, row, with_row}
 use Rattle.protocol.specs.States.{counter_of}
 use Rattle.protocol.specs.Timers.{is_nomination_timer_live, is_ballot_timer_live}
-use Rattle.protocol.specs.Nodes.{Node, passed, settle, change, settled, after_change, answered, outs, step, in_round, timed_out, bumped, is_externalized, most_passes}
-use Rattle.protocol.specs.Limits.{Reached}
-use Rattle.protocol.specs.Limits.Reached.{next}
-use Rattle.protocol.proofs.Nodes.Reached.{reached-sends}
+use Rattle.protocol.specs.Nodes.{Node, after_pass, settle, change, with_settled_votes, after_change, node_and_outs, outs, step, in_round, with_timeout, at_next_counter, is_externalized, most_passes}
+use Rattle.protocol.specs.Limits.{ComesOfEvents}
+use Rattle.protocol.specs.Limits.ComesOfEvents.{next}
+use Rattle.protocol.proofs.Nodes.Lawful.{sends-of-events}
 use Rattle.protocol.proofs.Passes.Settling.{never_limited}
 use Rattle.protocol.specs.Claims.{IsQuiet}
 use Rattle.protocol.specs.Reach.{HoldsReach}
@@ -41,22 +41,22 @@ abbrev pub node_in : Held → Node
 node_in h = h.node
 
 -- the votes that an event changes settle within the limit
-pub settles-after : (n m : Node) (e : NodeEvent) → Reached n → change n e ≡ Some m → IsTrue (is_some (settle most_passes (passed m) m.votes))
+pub settles-after : (n m : Node) (e : NodeEvent) → ComesOfEvents n → change n e ≡ Some m → IsTrue (is_some (settle most_passes (after_pass m) m.votes))
 settles-after n m e r h = never_limited n r e m h
 
 -- what they send once they settle is well formed
-pub sends-after : (n m : Node) (e : NodeEvent) → Reached n → change n e ≡ Some m → IfSome (settle most_passes (passed m) m.votes) SendWellFormed
+pub sends-after : (n m : Node) (e : NodeEvent) → ComesOfEvents n → change n e ≡ Some m → IfSome (settle most_passes (after_pass m) m.votes) SendWellFormed
 unfolding step
-sends-after n m e r h = go (settle most_passes (passed m) m.votes) (subst (λ (o : Option Node). Reached (answered n (after_change o)).0) h (next r e))
+sends-after n m e r h = go (settle most_passes (after_pass m) m.votes) (subst (λ (o : Option Node). ComesOfEvents (node_and_outs n (after_change o)).0) h (next r e))
   where
-    go : (o : Option Votes) → Reached (answered n (settled m o)).0 → IfSome o SendWellFormed
+    go : (o : Option Votes) → ComesOfEvents (node_and_outs n (with_settled_votes m o)).0 → IfSome o SendWellFormed
     go None r = tt
-    go (Some w) r = reached-sends r
+    go (Some w) r = sends-of-events r
 
 -- a step is the answer to its change
-pub step-is : (n : Node) (e : NodeEvent) (o : Option Node) → change n e ≡ o → step n e ≡ answered n (after_change o)
+pub step-is : (n : Node) (e : NodeEvent) (o : Option Node) → change n e ≡ o → step n e ≡ node_and_outs n (after_change o)
 unfolding step
-step-is n e o h = ap (λ (o : Option Node). answered n (after_change o)) h
+step-is n e o h = ap (λ (o : Option Node). node_and_outs n (after_change o)) h
 
 -- ---- the changes, part by part
 -- a round begins with the same leader where the same is configured
@@ -98,18 +98,18 @@ abbrev pub counter_in : Option Ballot → Option ℕ
 counter_in o = option_map (λ (b : Ballot). b.counter) o
 
 pub change-counter : (c : Configured) (inputs g : Inputs) (votes w : Votes) (table : List Sent) (n : Node) (k : ℕ) → n ≡ whole c inputs votes table
-    → is_ballot_timer_live k votes.armed (counter_in votes.ballot) (is_externalized votes.phase) ≡ true → g ≡ record inputs { ballot_timeouts = inputs.ballot_timeouts + 1 } → w ≡ bumped votes votes.ballot
+    → is_ballot_timer_live k votes.armed (counter_in votes.ballot) (is_externalized votes.phase) ≡ true → g ≡ record inputs { ballot_timeouts = inputs.ballot_timeouts + 1 } → w ≡ at_next_counter votes votes.ballot
     → change n (BallotTimer k) ≡ Some (record n { inputs = g; votes = w })
 unfolding change
 change-counter c inputs g votes w table n k e live eg ew =
     ap (λ m. change m (BallotTimer k)) e
-    ∙ ap (λ b. if b then Some (timed_out (whole c inputs votes table)) else None) live
+    ∙ ap (λ b. if b then Some (with_timeout (whole c inputs votes table)) else None) live
     ∙ (λ i. Some (record (sym e i) { inputs = sym eg i; votes = sym ew i }))
 
 pub change-no_counter : (c : Configured) (inputs : Inputs) (votes : Votes) (table : List Sent) (n : Node) (k : ℕ) → n ≡ whole c inputs votes table
     → is_ballot_timer_live k votes.armed (counter_in votes.ballot) (is_externalized votes.phase) ≡ false → change n (BallotTimer k) ≡ None
 unfolding change
-change-no_counter c inputs votes table n k e dead = ap (λ m. change m (BallotTimer k)) e ∙ ap (λ b. if b then Some (timed_out (whole c inputs votes table)) else None) dead
+change-no_counter c inputs votes table n k e dead = ap (λ m. change m (BallotTimer k)) e ∙ ap (λ b. if b then Some (with_timeout (whole c inputs votes table)) else None) dead
 
 -- a ballot timer is live below the last counter alone
 pub live-below : (k armed : ℕ) (o : Option Ballot) (over : Bool) → is_ballot_timer_live k armed (counter_in o) over ≡ true → counter_of o < 4294967295
@@ -150,15 +150,15 @@ outs-by_new c d inputs votes before table new = refl
 
 -- ---- whole steps
 -- the votes settle
-pub step-some : (n m : Node) (e : NodeEvent) (w : Votes) → change n e ≡ Some m → settle most_passes (passed m) m.votes ≡ Some w → step n e ≡ answered n (Some (record m { votes = w }))
-step-some n m e w h s = step-is n e (Some m) h ∙ ap (λ (o : Option Votes). answered n (settled m o)) s
+pub step-some : (n m : Node) (e : NodeEvent) (w : Votes) → change n e ≡ Some m → settle most_passes (after_pass m) m.votes ≡ Some w → step n e ≡ node_and_outs n (Some (record m { votes = w }))
+step-some n m e w h s = step-is n e (Some m) h ∙ ap (λ (o : Option Votes). node_and_outs n (with_settled_votes m o)) s
 
-pub reached-some : (n m : Node) (e : NodeEvent) (w : Votes) → Reached n → change n e ≡ Some m → settle most_passes (passed m) m.votes ≡ Some w → Reached (record m { votes = w })
-reached-some n m e w r h s = subst (λ (p : Node × List Out). Reached p.0) (step-some n m e w h s) (next r e)
+pub reached-some : (n m : Node) (e : NodeEvent) (w : Votes) → ComesOfEvents n → change n e ≡ Some m → settle most_passes (after_pass m) m.votes ≡ Some w → ComesOfEvents (record m { votes = w })
+reached-some n m e w r h s = subst (λ (p : Node × List Out). ComesOfEvents p.0) (step-some n m e w h s) (next r e)
 
 -- ---- quiet
 -- an envelope from outside of a set that holds the node's reach, and not from a leader
-pub quiet-after : {E : Type 0} (n new : Node) (event : NodeEvent) (r : Result GivenOut E) → Reached n → OnOk r (new ≡ (step n event).0) → IfOk r (λ v. outs_of v.outs.items ≡ (step n event).1)
+pub quiet-after : {E : Type 0} (n new : Node) (event : NodeEvent) (r : Result GivenOut E) → ComesOfEvents n → OnOk r (new ≡ (step n event).0) → IfOk r (λ v. outs_of v.outs.items ≡ (step n event).1)
     → (R : Names) (x : Sent) → event ≡ Take x → HoldsReach n.name n.slices n.table R → IsFalse (R x.sender) → IsFalse (among n.inputs.leaders x.sender) → IfOk r (λ v. IsQuiet R n new (outs_of v.outs.items))
 quiet-after n new event (Ok v) h node outs R x is held out led =
     let q = outsiders_are_quiet R n x h held out led in

@@ -12,7 +12,7 @@ use Rattle.types.specs.declared.event.Out.TheVariants.{ArmNomination, ArmBallot,
 use Rattle.types.specs.declared.statement.Statement.{Statement}
 use Rattle.protocol.specs.Sameness.{same_sent}
 use Rattle.protocol.specs.States.{counter_of, sent_nomination, sent_vote}
-use Rattle.protocol.specs.Nodes.{Node, change, after_change, answered, step, outs, emitted, decided, when, is_externalized}
+use Rattle.protocol.specs.Nodes.{Node, change, after_change, node_and_outs, step, outs, emission_between, externalization, when, is_externalized}
 use Rattle.protocol.proofs.Sets.Contained.{contained_cases}
 use Rattle.slot.specs.declared.filed.FiledOut.{FiledOut}
 use Rattle.slot.specs.declared.filed.GivenOut.{GivenOut}
@@ -80,7 +80,7 @@ outs-own old new =
     armed true o h = other new o h
     armed false o h = none new
 
-    sent : (before after : Option Statement) → Own new (emitted new before after)
+    sent : (before after : Option Statement) → Own new (emission_between new before after)
     sent a None = none new
     sent a (Some s) = go (same_sent a (Some s))
       where
@@ -88,7 +88,7 @@ outs-own old new =
         go true = none new
         go false = one new (record { sender = new.name; slot = new.slot; slices = new.slices; body = s }) (record { sender = refl; slot = refl; slices = refl })
 
-    last : (b : Bool) (o : Option Ballot) → Own new (if b then decided o else [])
+    last : (b : Bool) (o : Option Ballot) → Own new (if b then externalization o else [])
     last true None = none new
     last true (Some b) = other new (Decided b.value) refl
     last false o = none new
@@ -98,7 +98,7 @@ step-own : (n : Node) (e : NodeEvent) → Own (step n e).0 (step n e).1
 unfolding step
 step-own n e = go (after_change (change n e))
   where
-    go : (o : Option Node) → Own (answered n o).0 (answered n o).1
+    go : (o : Option Node) → Own (node_and_outs n o).0 (node_and_outs n o).1
     go None = none n
     go (Some m) = outs-own n m
 

@@ -5,10 +5,10 @@ use Rattle.types.specs.declared.event.NodeEvent.{NodeEvent}
 use Rattle.types.specs.declared.event.NodeEvent.TheVariants.{Take}
 use Rattle.types.specs.declared.state.Inputs.{Inputs}
 use Rattle.types.specs.declared.state.Votes.{Votes}
-use Rattle.protocol.specs.Limits.{Reached}
+use Rattle.protocol.specs.Limits.{ComesOfEvents}
 use Rattle.protocol.specs.Nodes.{Node, change}
 use Rattle.protocol.specs.Rows.{with_row}
-use Rattle.protocol.specs.Stirring.{KeepsReach}
+use Rattle.protocol.specs.Stirring.{ReachesSame}
 use Rattle.protocol.proofs.Passes.Stirring.{ballot_rows_stir_ballots, nomination_rests_after_a_pass, nomination_rows_stir_nomination}
 use Rattle.envstore.specs.Archives.{sents_of}
 use Rattle.slot.specs.declared.stirring.Stirred.{Stirred}
@@ -20,18 +20,18 @@ use Rattle.slot.specs.Wholes.{whole}
 
 -- ---- what is stirred
 -- a node after an event of whatever kind
-pub stirs-all : (n m : Node) (e : NodeEvent) → Reached n → change n e ≡ Some m → StirsIn All m
+pub stirs-all : (n m : Node) (e : NodeEvent) → ComesOfEvents n → change n e ≡ Some m → StirsIn All m
 stirs-all n m e r made = nomination_rests_after_a_pass n r e m made
 
 -- the listener after a row
 row-in : (h k : Heard) (inputs : Inputs) (votes : Votes) (x : Sent) → k.configured ≡ h.configured → sents_of k.table ≡ with_row x (sents_of h.table) → whole h.configured inputs votes (with_row x (sents_of h.table)) ≡ node_of k inputs votes
 row-in h k inputs votes x c t = λ i. whole (sym c i) inputs votes (sym t i)
 
-kept-row : (h k : Heard) (x : Sent) → sents_of k.table ≡ with_row x (sents_of h.table) → KeepsReach h.configured.name h.configured.slices (sents_of h.table) (sents_of k.table) → KeepsReach h.configured.name h.configured.slices (sents_of h.table) (with_row x (sents_of h.table))
-kept-row h k x t kept = subst (λ (table : List Sent). KeepsReach h.configured.name h.configured.slices (sents_of h.table) table) t kept
+kept-row : (h k : Heard) (x : Sent) → sents_of k.table ≡ with_row x (sents_of h.table) → ReachesSame h.configured.name h.configured.slices (sents_of h.table) (sents_of k.table) → ReachesSame h.configured.name h.configured.slices (sents_of h.table) (with_row x (sents_of h.table))
+kept-row h k x t kept = subst (λ (table : List Sent). ReachesSame h.configured.name h.configured.slices (sents_of h.table) table) t kept
 
 -- a node after a row
-pub stirs-row : (h k : Heard) (inputs : Inputs) (votes : Votes) (x : Sent) (stirred : Stirred) → Reached (node_of h inputs votes) → k.configured ≡ h.configured → sents_of k.table ≡ with_row x (sents_of h.table)
+pub stirs-row : (h k : Heard) (inputs : Inputs) (votes : Votes) (x : Sent) (stirred : Stirred) → ComesOfEvents (node_of h inputs votes) → k.configured ≡ h.configured → sents_of k.table ≡ with_row x (sents_of h.table)
     → change (node_of h inputs votes) (Take x) ≡ Some (node_of k inputs votes) → IsStirred stirred h.configured (sents_of h.table) x (sents_of k.table) → StirsIn stirred (node_of k inputs votes)
 stirs-row h k inputs votes x All r c t made is = stirs-all (node_of h inputs votes) (node_of k inputs votes) (Take x) r made
 stirs-row h k inputs votes x Ballots r c t made is = subst (StirsIn Ballots) (row-in h k inputs votes x c t) (ballot_rows_stir_ballots (node_of h inputs votes) r x is.0 (kept-row h k x t is.1))

@@ -5,7 +5,7 @@ use Rattle.types.specs.declared.event.NodeEvent.TheVariants.{Take}
 use Rattle.types.specs.declared.state.Inputs.{Inputs}
 use Rattle.types.specs.declared.state.Votes.{Votes}
 use Rattle.protocol.specs.Nodes.{Node, step}
-use Rattle.protocol.specs.Rows.{offered}
+use Rattle.protocol.specs.Rows.{table_with_offer}
 use Rattle.envstore.specs.declared.filed.Filed.{Filed}
 use Rattle.envstore.specs.Archives.{sents_of}
 use Rattle.listening.specs.Listening.{Heard}
@@ -22,4 +22,4 @@ node_of h inputs votes = whole h.configured inputs votes (sents_of h.table)
 
 -- an envelope of this sender is no more than a row: where it is newer than that which stands it takes its place, and nothing else happens
 abbrev pub AddsRowAlone : Node → ℕ → Type 0
-AddsRowAlone n u = (e : Sent) → e.sender ≡ u → step n (Take e) ≡ (record n { table = offered n.table e }, [])
+AddsRowAlone n u = (e : Sent) → e.sender ≡ u → step n (Take e) ≡ (record n { table = table_with_offer n.table e }, [])

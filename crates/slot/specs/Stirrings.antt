@@ -7,7 +7,7 @@ use Rattle.types.specs.declared.state.Inputs.{Inputs}
 use Rattle.types.specs.declared.state.Votes.{Votes}
 use Rattle.protocol.specs.Nodes.{Node, settle, most_passes}
 use Rattle.protocol.specs.Passes.{balloted_in, nominated_in, pass}
-use Rattle.protocol.specs.Stirring.{KeepsReach, seen_by, settle_all, settle_ballots, settle_nominations}
+use Rattle.protocol.specs.Stirring.{ReachesSame, seen_by, settle_all, settle_ballots, settle_nominations}
 use Rattle.protocol.specs.Views.{Seen}
 use Rattle.listening.specs.declared.configured.Configured.{Configured}
 use Rattle.view.specs.declared.known_reach.KnownReach.{KnownReach}
@@ -42,8 +42,8 @@ StirsIn stirred n = Stirs stirred n.name (seen_by n) n.inputs n.votes
 -- a table that took an envelope: the envelope is of one kind, and the nodes that are reached stay
 abbrev pub IsStirred : Stirred → Configured → List Sent → Sent → List Sent → Type 0
 IsStirred All c old e new = ⊤
-IsStirred Ballots c old e new = (kind_of e.body ≡ Kind.Ballot) × KeepsReach c.name c.slices old new
-IsStirred Nominations c old e new = (kind_of e.body ≡ Nomination) × KeepsReach c.name c.slices old new
+IsStirred Ballots c old e new = (kind_of e.body ≡ Kind.Ballot) × ReachesSame c.name c.slices old new
+IsStirred Nominations c old e new = (kind_of e.body ≡ Nomination) × ReachesSame c.name c.slices old new
 
 -- what these rules go through is listed: values for nomination, ballots for balloting
 abbrev pub is_listed : Stirred → KnownReach → Bool

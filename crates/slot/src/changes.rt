@@ -1,7 +1,7 @@
 //! An event's own change of a node's inputs and votes, before any pass.
 
 ghost use Rattle.std.specs.Prelude.{◌≡◌, ◌<◌, ◌+◌, IfOk, Some, is_some, option_map};
-ghost use Rattle.protocol.specs.Nodes.{bumped, is_externalized};
+ghost use Rattle.protocol.specs.Nodes.{at_next_counter, is_externalized};
 ghost use Rattle.protocol.specs.Timers.{is_ballot_timer_live, is_nomination_timer_live};
 ghost use Rattle.protocol.specs.States.{counter_of};
 ghost use Rattle.slot.specs.Wholes.{led};
@@ -99,7 +99,7 @@ pub(crate) fn with_timeout(alloc: Global, inputs: &Inputs) -> Result<Inputs, All
 /// says that a value has too many owners.
 pub(crate) fn votes_at_next_counter(votes: &Votes) -> Result<Votes, AllocError>
     requires { counter_of votes.now.ballot < 4294967295 }
-    ensures { IfOk result (λ w. w ≡ bumped votes.now votes.now.ballot) }
+    ensures { IfOk result (λ w. w ≡ at_next_counter votes.now votes.now.ballot) }
 {
     let mut next = votes.try_copy()?;
     if let Some(ballot) = &votes.ballot {

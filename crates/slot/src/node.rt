@@ -2,10 +2,10 @@
 
 ghost use Rattle.std.specs.Prelude.{[], ◌≡◌, IfOk, IfSome, IsFalse, IsTrue, List, None, OnErr, OnOk, Some, is_ok, is_some, unwrap_or};
 ghost use Rattle.std.specs.List.{Contains};
-ghost use Rattle.protocol.specs.Nodes.{Calm, after_change, answered, change, fresh, outs, passed, settle, step, most_passes};
+ghost use Rattle.protocol.specs.Nodes.{Calm, after_change, node_and_outs, change, fresh, outs, after_pass, settle, step, most_passes};
 ghost use Rattle.protocol.specs.Claims.{IsQuiet};
 ghost use Rattle.protocol.specs.Reach.{HoldsReach};
-ghost use Rattle.protocol.specs.Limits.{Reached};
+ghost use Rattle.protocol.specs.Limits.{ComesOfEvents};
 ghost use Rattle.protocol.specs.Sets.{Names, among};
 ghost use Rattle.envstore.specs.Archives.{AreFiled, IsFiled, Keeps, sent_of};
 ghost use Rattle.slot.specs.Filings.{AreFiledOuts, HasCopies, IsFiledEvent, event_of, outs_of};
@@ -56,7 +56,7 @@ impl Model for Node {
     ghost use Rattle.std.specs.Coded.{codes};
     ghost use Rattle.types.specs.Trees.{members_code};
     ghost use Rattle.slot.specs.Listening.{Held, node_of};
-    ghost use Rattle.protocol.specs.Limits.{Reached};
+    ghost use Rattle.protocol.specs.Limits.{ComesOfEvents};
 
     ghost Value = { Held };
 
@@ -64,7 +64,7 @@ impl Model for Node {
 
     ghost view = { λ n. record { node = node_of n.listener n.inputs n.votes; rows = n.listener.table } };
 
-    ghost invariant = { λ n. Reached (node_of n.listener n.inputs n.votes) };
+    ghost invariant = { λ n. ComesOfEvents (node_of n.listener n.inputs n.votes) };
 }
 
 impl Node {
@@ -222,7 +222,7 @@ impl Node {
 
     /// A law: events led to it.
     fn comes_of_events(&self)
-        ensures { Reached self.now.node }
+        ensures { ComesOfEvents self.now.node }
     {
         let _inputs = &self.inputs;
     }
@@ -432,8 +432,8 @@ impl Node {
     ) -> Result<GivenOut, AllocError>
         requires rows { AreFiled archive.old self.old.rows }
         requires change { IsChange self.old.node (record self.old.node { inputs = changed.inputs; votes = changed.votes }) }
-        ensures node { OnOk result (self.new.node ≡ (answered self.old.node (after_change (Some (record self.old.node { inputs = changed.inputs; votes = changed.votes })))).0) }
-        ensures outs { IfOk result (λ v. outs_of v.outs.items ≡ (answered self.old.node (after_change (Some (record self.old.node { inputs = changed.inputs; votes = changed.votes })))).1) }
+        ensures node { OnOk result (self.new.node ≡ (node_and_outs self.old.node (after_change (Some (record self.old.node { inputs = changed.inputs; votes = changed.votes })))).0) }
+        ensures outs { IfOk result (λ v. outs_of v.outs.items ≡ (node_and_outs self.old.node (after_change (Some (record self.old.node { inputs = changed.inputs; votes = changed.votes })))).1) }
         ensures err { OnErr result (self.new ≡ self.old) }
         ensures rows { AreFiled archive.new self.new.rows }
         ensures filed { IfOk result (λ v. AreFiledOuts archive.new v.outs.items) }
@@ -472,9 +472,9 @@ fn answer_anew<S: Shelf>(
 ) -> Result<FiledAnswer, AllocError>
     requires rows { AreFiled archive.old listener.old.table }
     requires stirs { StirsIn start.now.stirred (node_of listener.old start.now.inputs.now start.now.votes.now) }
-    requires settles { IsTrue (is_some (settle most_passes (passed (node_of listener.old start.now.inputs.now start.now.votes.now)) start.now.votes.now)) }
-    requires sends { IfSome (settle most_passes (passed (node_of listener.old start.now.inputs.now start.now.votes.now)) start.now.votes.now) SendWellFormed }
-    ensures votes { IfOk result (λ a. settle most_passes (passed (node_of listener.old start.now.inputs.now start.now.votes.now)) start.now.votes.now ≡ Some (unwrap_or a.votes start.now.votes.now)) }
+    requires settles { IsTrue (is_some (settle most_passes (after_pass (node_of listener.old start.now.inputs.now start.now.votes.now)) start.now.votes.now)) }
+    requires sends { IfSome (settle most_passes (after_pass (node_of listener.old start.now.inputs.now start.now.votes.now)) start.now.votes.now) SendWellFormed }
+    ensures votes { IfOk result (λ a. settle most_passes (after_pass (node_of listener.old start.now.inputs.now start.now.votes.now)) start.now.votes.now ≡ Some (unwrap_or a.votes start.now.votes.now)) }
     ensures outs { IfOk result (λ a. (before after : List Sent) → outs_of a.given_out.outs.items ≡ outs (whole listener.old.configured start.now.inputs.now start.now.votes.now before) (whole listener.old.configured start.now.inputs.now (unwrap_or a.votes start.now.votes.now) after)) }
     ensures same { listener.new ≡ listener.old }
     ensures filed { IfOk result (λ a. AreFiledOuts archive.new a.given_out.outs.items) }

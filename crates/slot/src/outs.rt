@@ -3,7 +3,7 @@
 //! Where a function here answers an error, memory is short.
 
 ghost use Rattle.std.specs.Prelude.{◌≡◌, ◌++◌, [], List, Option, IfOk, IfSome, OnOk, not, ◌&&◌, if◌then◌else◌};
-ghost use Rattle.protocol.specs.Nodes.{decided, is_externalized, outs, when};
+ghost use Rattle.protocol.specs.Nodes.{externalization, is_externalized, outs, when};
 ghost use Rattle.protocol.specs.States.{sent_nomination, sent_vote};
 ghost use Rattle.slot.specs.Wholes.{emitted_by, whole, SendWellFormed};
 ghost use Rattle.types.specs.Statements.{IsWellFormed, Sent};
@@ -127,7 +127,7 @@ fn push_new(
 
 /// Adds the value of the ballot where the phase has become [`Phase::Externalized`].
 fn push_decided(given_out: &mut Vec<Out>, old: &Votes, new: &Votes) -> Result<(), AllocError>
-    ensures { OnOk result (given_out.new.items ≡ given_out.old.items ++ (if is_externalized new.now.phase && not (is_externalized old.now.phase) then decided new.now.ballot else [])) }
+    ensures { OnOk result (given_out.new.items ≡ given_out.old.items ++ (if is_externalized new.now.phase && not (is_externalized old.now.phase) then externalization new.now.ballot else [])) }
 {
     if !is_externalized(new.phase) || is_externalized(old.phase) {
         return Ok(());

@@ -4,12 +4,12 @@ use Rattle.scripts.specs.Script.{Bytes}
 use Rattle.scripts.specs.Words.{word_ballot}
 use Rattle.types.specs.Statements.{Sent}
 use Rattle.types.specs.declared.ballot.Ballot.{Ballot}
-use Rattle.protocol.specs.Rows.{is_taken, offered}
+use Rattle.protocol.specs.Rows.{is_taken, table_with_offer}
 use Rattle.tables.specs.Listeners.{HeardRows, IsBacked}
 
 -- what becomes of an envelope, in a word
 pub data Takes (h : HeardRows) (e : Sent) : Option Bytes → HeardRows → Type 0 where
-  replaced : e.slot ≡ h.configured.slot → is_taken h.rows e ≡ true → Takes h e (Some (codes "replaced")) (record h { rows = offered h.rows e })
+  replaced : e.slot ≡ h.configured.slot → is_taken h.rows e ≡ true → Takes h e (Some (codes "replaced")) (record h { rows = table_with_offer h.rows e })
   stale : e.slot ≡ h.configured.slot → is_taken h.rows e ≡ false → Takes h e (Some (codes "stale")) h
   other : e.slot ≢ h.configured.slot → Takes h e (Some (codes "other")) h
 

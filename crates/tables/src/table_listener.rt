@@ -6,7 +6,7 @@ ghost use Rattle.fedvote.specs.Questions.{backs};
 ghost use Rattle.fedvote.specs.declared.claim.Claim.{Claim};
 ghost use Rattle.types.specs.declared.kind.Kind.{Kind};
 ghost use Rattle.protocol.specs.Backing.{passing};
-ghost use Rattle.protocol.specs.Rows.{is_taken, offered};
+ghost use Rattle.protocol.specs.Rows.{is_taken, table_with_offer};
 ghost use Rattle.protocol.specs.Reach.{IsReach};
 ghost use Rattle.tables.specs.Listeners.{IsBacked};
 ghost use Rattle.view.specs.Knowing.{IsKnown};
@@ -92,7 +92,7 @@ impl TableListener {
     pub fn take(&mut self, alloc: Global, envelope: Envelope) -> Taken
         ensures other { (result ≡ Taken.OtherSlot) ↔ (envelope.slot ≢ self.old.configured.slot) }
         ensures stale { (result ≡ Taken.Stale) ↔ ((envelope.slot ≡ self.old.configured.slot) × (is_taken self.old.rows envelope ≡ false)) }
-        ensures replaced { result ≡ Taken.Replaced → self.new ≡ record self.old { rows = offered self.old.rows envelope } }
+        ensures replaced { result ≡ Taken.Replaced → self.new ≡ record self.old { rows = table_with_offer self.old.rows envelope } }
         ensures newer { result ≡ Taken.Replaced → is_taken self.old.rows envelope ≡ true }
         ensures unchanged { result ≢ Taken.Replaced → self.new ≡ self.old }
     {
@@ -111,7 +111,7 @@ impl TableListener {
 
     /// Files the envelope, and offers it to the table. An error says that memory is short, and nothing changed.
     fn offer(&mut self, alloc: Global, envelope: Envelope) -> Result<(), AllocError>
-        ensures offered { OnOk result (self.new ≡ record self.old { rows = offered self.old.rows envelope }) }
+        ensures offered { OnOk result (self.new ≡ record self.old { rows = table_with_offer self.old.rows envelope }) }
         ensures err { OnErr result (self.new ≡ self.old) }
     {
         let filed = self.archive.put(envelope)?;

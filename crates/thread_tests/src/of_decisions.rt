@@ -45,11 +45,17 @@ fn what_is_published_stays_in_front(rt: HostRuntime) -> Result<(), Fail> {
     let mut publisher = publisher;
     publisher.append(decision(alloc, 2, b'b')?)?;
     publisher.append(decision(alloc, 3, b'c')?)?;
-    assert_eq!(rt; (publisher.shown().len(), publisher.waiting()), (1, 2));
+    assert_eq!(rt;
+        (publisher.published_list().len(), publisher.pending_count()),
+        (1, 2)
+    );
     assert_eq!(rt; letters(&mut watch), Some(*b"a......."));
     let (publisher, answer) = publisher.publish();
     answer?;
-    assert_eq!(rt; (publisher.shown().len(), publisher.waiting()), (3, 0));
+    assert_eq!(rt;
+        (publisher.published_list().len(), publisher.pending_count()),
+        (3, 0)
+    );
     assert_eq!(rt; letters(&mut watch), Some(*b"abc....."));
     let (publisher, answer) = publisher.publish();
     answer?;
@@ -170,7 +176,7 @@ fn race<R: Threads + Wait + Sync + Drop + Copy + Send>(
 #[test]
 fn threads_read_while_one_publishes(rt: HostRuntime) -> Result<(), Fail> {
     let (publisher, readers) = race(&rt, rt.alloc())?;
-    assert_eq!(rt; publisher.shown().len(), 50);
+    assert_eq!(rt; publisher.published_list().len(), 50);
     for (watch, wrong) in readers {
         let mut watch = watch;
         assert_eq!(rt; wrong, 0);
@@ -186,13 +192,13 @@ fn append_again<R: Wait + Drop>(
     publisher: &mut Publisher<R>,
     slot: u64,
 ) -> Result<(), AllocError> {
-    let waited = publisher.waiting();
+    let waited = publisher.pending_count();
     if let Ok(decision) = decision(alloc, slot, b'x') {
         if publisher.append(decision).is_ok() {
             return Ok(());
         }
     }
-    if publisher.waiting() != waited {
+    if publisher.pending_count() != waited {
         return Err(AllocError);
     }
     publisher.append(decision(alloc, slot, b'x')?)
@@ -200,12 +206,12 @@ fn append_again<R: Wait + Drop>(
 
 /// Publishes, trying once more where memory is short. All that waited waits still in between.
 fn publish_again<R: Wait + Drop>(publisher: Publisher<R>) -> Result<Publisher<R>, AllocError> {
-    let before = (publisher.shown().len(), publisher.waiting());
+    let before = (publisher.published_list().len(), publisher.pending_count());
     let (publisher, answer) = publisher.publish();
     if answer.is_ok() {
         return Ok(publisher);
     }
-    if (publisher.shown().len(), publisher.waiting()) != before {
+    if (publisher.published_list().len(), publisher.pending_count()) != before {
         return Err(AllocError);
     }
     let (publisher, answer) = publisher.publish();

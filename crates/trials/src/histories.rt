@@ -57,7 +57,7 @@ impl History {
 
     /// What another node emitted last, or else a statement at random, of a sender at random, which may be
     /// the node itself.
-    fn said(&mut self, node: u8) -> Happening {
+    fn random_statement(&mut self, node: u8) -> Happening {
         let count = self.count();
         let sender = self.dice.number(count);
         if let Some(twin) = self.twins.get(sender as usize) {
@@ -92,7 +92,7 @@ impl History {
             3 => Happening::BallotTimer(armed),
             4 if self.dice.is_one_in(4) => Happening::BallotTimer(self.dice.below(4)),
             5 if self.dice.is_one_in(2) => Happening::Resliced(self.dice.trust(7)),
-            _ => self.said(node),
+            _ => self.random_statement(node),
         }
     }
 

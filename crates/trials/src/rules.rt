@@ -81,7 +81,7 @@ impl State {
 
     /// The ballot statement that is sent: the position, but with no prepared ballot and no aborted counter that are
     /// above its ballot.
-    pub fn sent(votes: Votes) -> Option<Statement> {
+    pub fn sent_statement(votes: Votes) -> Option<Statement> {
         let Some(ballot) = votes.ballot else {
             return None;
         };

@@ -76,8 +76,8 @@ impl State {
                 accepted: new.accepts,
             }))?;
         }
-        if let Some(sent) = State::sent(new) {
-            if State::sent(old) != Some(sent) {
+        if let Some(sent) = State::sent_statement(new) {
+            if State::sent_statement(old) != Some(sent) {
                 outs.push(Out::Emit(sent))?;
             }
         }

@@ -162,7 +162,8 @@ impl Twin {
                 accepted: votes.accepts,
             })
         };
-        said_in(self.nominated) == nominated && said_in(self.balloted) == State::sent(votes)
+        said_in(self.nominated) == nominated
+            && said_in(self.balloted) == State::sent_statement(votes)
     }
 
     /// Their tables have the same rows.

@@ -7,9 +7,9 @@ use Rattle.std.proofs.lemmas.Option.{slice_get_within}
 use Rattle.protocol.specs.Sets.{Names}
 use Rattle.protocol.specs.Networks.{Step}
 use Rattle.protocol.specs.Networks.Reading.{Read, Fault}
-use Rattle.protocol.specs.Networks.Step.{Opens, Closes, Asks, Delivers, Hears, NominationTimes, BallotTimes, Reslices}
+use Rattle.protocol.specs.Networks.Step.{Opens, Closes, Proposes, Delivers, Hears, NominationTimerFires, BallotTimerFires, Reslices}
 use Rattle.protocol.specs.Hosts.{Entry}
-use Rattle.protocol.specs.Isolation.{Kept, kept, kept_of, when_kept}
+use Rattle.protocol.specs.Isolation.{Kept, kept_step, kept_of, when_kept}
 use Rattle.protocol.specs.Verdicts.{IsFirstDifference}
 use Rattle.differences.proofs.Places.{at_seam, front_at, rest_at, there_is}
 use Rattle.differences.proofs.SideBySide.{IsAgreed, agreed_at_first, agreed_more, parts_at_end, parts_at_other_end, parts_unlike}
@@ -19,15 +19,15 @@ when_is : (b : Bool) (k : Kept) → when_kept b k ≡ (if b then Some k else Non
 when_is true k = refl
 when_is false k = refl
 
-kept_is : (R : Names) (i : ℕ) (s : Step) → kept R i s ≡ (if is_kept R i s then Some (core s) else None)
+kept_is : (R : Names) (i : ℕ) (s : Step) → kept_step R i s ≡ (if is_kept R i s then Some (core s) else None)
 kept_is R i (Opens j) = when_is (j == i) (core (Opens j))
 kept_is R i (Closes j) = when_is (j == i) (core (Closes j))
-kept_is R i (Asks j u x) = when_is ((j == i) && R u) (core (Asks j u x))
+kept_is R i (Proposes j u x) = when_is ((j == i) && R u) (core (Proposes j u x))
 kept_is R i (Delivers u size (Read e)) = when_is ((e.slot == i) && R u && R e.sender) (core (Delivers u size (Read e)))
 kept_is R i (Delivers u size (Fault n)) = refl
 kept_is R i (Hears j u from kind k) = when_is ((j == i) && R u && R from) (core (Hears j u from kind k))
-kept_is R i (NominationTimes j u r) = when_is ((j == i) && R u) (core (NominationTimes j u r))
-kept_is R i (BallotTimes j u n) = when_is ((j == i) && R u) (core (BallotTimes j u n))
+kept_is R i (NominationTimerFires j u r) = when_is ((j == i) && R u) (core (NominationTimerFires j u r))
+kept_is R i (BallotTimerFires j u n) = when_is ((j == i) && R u) (core (BallotTimerFires j u n))
 kept_is R i (Reslices j u q) = when_is ((j == i) && R u) (core (Reslices j u q))
 
 pub core_at : (run : List Entry) (n : ℕ) (x : Entry) → slice_get run n ≡ Some x → option_map core (event_at run n) ≡ Some (core x.event)
@@ -39,8 +39,8 @@ is_one z w e = cc
 module _ (R : Names) (i : ℕ) where
   kept_head : (x : Entry) (xs : List Entry) (b : Bool) → is_kept R i x.event ≡ b → kept_of R i (x ∷ xs) ≡ (if b then core x.event ∷ kept_of R i xs else kept_of R i xs)
   unfolding kept_of
-  kept_head x xs true e = let k : kept R i x.event ≡ Some (core x.event) = kept_is R i x.event ∙ ap (λ b. if b then Some (core x.event) else None) e in rw k refl
-  kept_head x xs false e = let k : kept R i x.event ≡ None = kept_is R i x.event ∙ ap (λ b. if b then Some (core x.event) else None) e in rw k refl
+  kept_head x xs true e = let k : kept_step R i x.event ≡ Some (core x.event) = kept_is R i x.event ∙ ap (λ b. if b then Some (core x.event) else None) e in rw k refl
+  kept_head x xs false e = let k : kept_step R i x.event ≡ None = kept_is R i x.event ∙ ap (λ b. if b then Some (core x.event) else None) e in rw k refl
 
   pub kept_skip : (run : List Entry) (n : ℕ) (x : Entry) → slice_get run n ≡ Some x → is_kept R i x.event ≡ false → kept_of R i (drop n run) ≡ kept_of R i (drop (n + 1) run)
   kept_skip run n x e h = ap (λ (ys : List Entry). kept_of R i ys) (rest_at run n x e) ∙ kept_head x (drop (n + 1) run) false h
@@ -75,7 +75,7 @@ module _ (R : Names) (i : ℕ) where
   unfolding kept_of
   front_is run n x e =
       ap (λ (ys : List Entry). kept_of R i ys) (front_at run n x e)
-      ∙ filter_map-append (λ (y : Entry). kept R i y.event) (take n run) (x ∷ [])
+      ∙ filter_map-append (λ (y : Entry). kept_step R i y.event) (take n run) (x ∷ [])
 
   nothing_kept : kept_of R i [] ≡ []
   unfolding kept_of
@@ -105,7 +105,7 @@ module _ (R : Names) (i : ℕ) where
 
   whole_is : (run : List Entry) (n : ℕ) → kept_of R i run ≡ kept_of R i (take n run) ++ kept_of R i (drop n run)
   unfolding kept_of
-  whole_is run n = ap (λ (ys : List Entry). kept_of R i ys) (sym (take-append-drop n run)) ∙ filter_map-append (λ (y : Entry). kept R i y.event) (take n run) (drop n run)
+  whole_is run n = ap (λ (ys : List Entry). kept_of R i ys) (sym (take-append-drop n run)) ∙ filter_map-append (λ (y : Entry). kept_step R i y.event) (take n run) (drop n run)
 
   pub counted_there : (run : List Entry) (n place : ℕ) → n < length run → is_kept_in R i (event_at run n) ≡ true → place ≡ length (kept_of R i (take n run)) → IsKeptEntry R i run place n
   counted_there run n place l h was =

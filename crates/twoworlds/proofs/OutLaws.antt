@@ -10,7 +10,7 @@ use Rattle.std.proofs.lemmas.List.Sorted.{searched}
 use Rattle.protocol.specs.Sets.{IsAscending}
 use Rattle.protocol.specs.Networks.{Step}
 use Rattle.protocol.specs.Networks.Reading.{Read, Fault}
-use Rattle.protocol.specs.Networks.Step.{Opens, Closes, Asks, Delivers, Hears, NominationTimes, BallotTimes, Reslices}
+use Rattle.protocol.specs.Networks.Step.{Opens, Closes, Proposes, Delivers, Hears, NominationTimerFires, BallotTimerFires, Reslices}
 use Rattle.protocol.specs.Hosts.{Entry}
 use Rattle.protocol.specs.Isolation.{is_of, outs_of}
 use Rattle.twoworlds.specs.Steps.{at_slot, event_at, node_in, node_of}
@@ -30,12 +30,12 @@ when_at false w u = refl
 pub is_of_is : (i u : ℕ) (s : Step) → is_of i u s ≡ is_node (node_of i s) u
 is_of_is i u (Opens j) = refl
 is_of_is i u (Closes j) = refl
-is_of_is i u (Asks j w x) = when_at (j == i) w u
+is_of_is i u (Proposes j w x) = when_at (j == i) w u
 is_of_is i u (Delivers w size (Read e)) = when_at (e.slot == i) w u
 is_of_is i u (Delivers w size (Fault n)) = refl
 is_of_is i u (Hears j w from kind k) = when_at (j == i) w u
-is_of_is i u (NominationTimes j w r) = when_at (j == i) w u
-is_of_is i u (BallotTimes j w n) = when_at (j == i) w u
+is_of_is i u (NominationTimerFires j w r) = when_at (j == i) w u
+is_of_is i u (BallotTimerFires j w n) = when_at (j == i) w u
 is_of_is i u (Reslices j w q) = when_at (j == i) w u
 
 flat_more : {X Y : Type 0} (f : X → List Y) (xs : List X) (x : X) → flat_map f (xs ++ x ∷ []) ≡ flat_map f xs ++ f x

@@ -4,9 +4,9 @@ use Rattle.types.specs.declared.event.NodeEvent.TheVariants.{Propose, Take, Nomi
 use Rattle.protocol.specs.Sets.{Names}
 use Rattle.protocol.specs.Networks.{Step}
 use Rattle.protocol.specs.Networks.Reading.{Read, Fault}
-use Rattle.protocol.specs.Networks.Step.{Opens, Closes, Asks, Delivers, Hears, NominationTimes, BallotTimes, Reslices}
+use Rattle.protocol.specs.Networks.Step.{Opens, Closes, Proposes, Delivers, Hears, NominationTimerFires, BallotTimerFires, Reslices}
 use Rattle.protocol.specs.Hosts.{Entry}
-use Rattle.protocol.specs.Isolation.{Kept, kept, kept_of}
+use Rattle.protocol.specs.Isolation.{Kept, kept_step, kept_of}
 use Rattle.protocol.specs.Isolation.Kept.{Opened, Closed, Told, Heard}
 
 -- the event of the entry with this number, if there is one
@@ -17,12 +17,12 @@ event_at run n = option_map (λ x. x.event) (slice_get run n)
 abbrev pub is_kept : Names → ℕ → Step → Bool
 is_kept R i (Opens j) = j == i
 is_kept R i (Closes j) = j == i
-is_kept R i (Asks j u x) = (j == i) && R u
+is_kept R i (Proposes j u x) = (j == i) && R u
 is_kept R i (Delivers u size (Read e)) = (e.slot == i) && R u && R e.sender
 is_kept R i (Delivers u size (Fault n)) = false
 is_kept R i (Hears j u from kind k) = (j == i) && R u && R from
-is_kept R i (NominationTimes j u r) = (j == i) && R u
-is_kept R i (BallotTimes j u n) = (j == i) && R u
+is_kept R i (NominationTimerFires j u r) = (j == i) && R u
+is_kept R i (BallotTimerFires j u n) = (j == i) && R u
 is_kept R i (Reslices j u q) = (j == i) && R u
 
 -- and there is such a step
@@ -34,12 +34,12 @@ is_kept_in R i (Some s) = is_kept R i s
 abbrev pub core : Step → Kept
 core (Opens j) = Opened
 core (Closes j) = Closed
-core (Asks j u x) = Told u (Propose x)
+core (Proposes j u x) = Told u (Propose x)
 core (Delivers u size (Read e)) = Told u (Take e)
 core (Delivers u size (Fault n)) = Opened
 core (Hears j u from kind k) = Heard u from kind k
-core (NominationTimes j u r) = Told u (NominationTimer r)
-core (BallotTimes j u n) = Told u (BallotTimer n)
+core (NominationTimerFires j u r) = Told u (NominationTimer r)
+core (BallotTimerFires j u n) = Told u (BallotTimer n)
 core (Reslices j u q) = Told u (Reslice q)
 
 -- the node of a step at the slot
@@ -49,12 +49,12 @@ at_slot b u = if b then Some u else None
 abbrev pub node_of : ℕ → Step → Option ℕ
 node_of i (Opens j) = None
 node_of i (Closes j) = None
-node_of i (Asks j u x) = at_slot (j == i) u
+node_of i (Proposes j u x) = at_slot (j == i) u
 node_of i (Delivers u size (Read e)) = at_slot (e.slot == i) u
 node_of i (Delivers u size (Fault n)) = None
 node_of i (Hears j u from kind k) = at_slot (j == i) u
-node_of i (NominationTimes j u r) = at_slot (j == i) u
-node_of i (BallotTimes j u n) = at_slot (j == i) u
+node_of i (NominationTimerFires j u r) = at_slot (j == i) u
+node_of i (BallotTimerFires j u n) = at_slot (j == i) u
 node_of i (Reslices j u q) = at_slot (j == i) u
 
 -- where there is a step
@@ -74,4 +74,4 @@ pub record IsKeptEntry (R : Names) (i : ℕ) (run : List Entry) (place k : ℕ) 
   pub there : slice_get run k ≡ Some entry
   pub concerns : IsTrue (is_kept R i entry.event)
   pub before : length (kept_of R i (take k run)) ≡ place
-  pub step : slice_get (kept_of R i run) place ≡ kept R i entry.event
+  pub step : slice_get (kept_of R i run) place ≡ kept_step R i entry.event

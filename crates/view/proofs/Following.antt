@@ -7,7 +7,7 @@ use Rattle.types.specs.declared.ballot.Ballot.{Ballot}
 use Rattle.types.specs.declared.kind.Kind.{Kind}
 use Rattle.types.specs.declared.statement.Statement.{Statement}
 use Rattle.types.specs.Statements.{Sent, kind_of}
-use Rattle.protocol.specs.Candidates.{committed_by, is_counted, named_by}
+use Rattle.protocol.specs.Candidates.{committed_by, has_positive_counter, named_by}
 use Rattle.protocol.specs.Rows.{is_kind, row, with_row}
 use Rattle.protocol.specs.Sets.{among}
 use Rattle.protocol.proofs.Statements.Offers.{is_row_of-parts, row-with, same_kind}
@@ -82,10 +82,10 @@ module _ (k : Kind) (own : ℕ) (nodes : List ℕ) (old : List Sent) (e : Sent) 
   -- ---- which ballots are listed
   module _ (by : Statement → List Ballot) (listed mid now going : List Ballot) where
     pub followed : ((s : Statement) → said_old e.sender ≡ Some s → (x : Ballot) → Contains (by s) x → Contains going x)
-        → AreListed listed (filter is_counted (flat_map by (rows_of_others own k old nodes)))
-        → AreListed mid (listed ++ filter is_counted (by e.body))
-        → AreLeft (filter is_counted (flat_map by (rows_of_others own k (with_row e old) nodes))) going mid now
-        → AreListed now (filter is_counted (flat_map by (rows_of_others own k (with_row e old) nodes)))
+        → AreListed listed (filter has_positive_counter (flat_map by (rows_of_others own k old nodes)))
+        → AreListed mid (listed ++ filter has_positive_counter (by e.body))
+        → AreLeft (filter has_positive_counter (flat_map by (rows_of_others own k (with_row e old) nodes))) going mid now
+        → AreListed now (filter has_positive_counter (flat_map by (rows_of_others own k (with_row e old) nodes)))
     followed goes are added left x = (over, back)
       where
         before : List Statement
@@ -95,14 +95,14 @@ module _ (k : Kind) (own : ℕ) (nodes : List ℕ) (old : List Sent) (e : Sent) 
         after = rows_of_others own k (with_row e old) nodes
 
         -- a ballot that was listed, or is added now
-        from_mid : Contains mid x → (Contains (flat_map by before) x ⊎ Contains (by e.body) x) × (is_counted x ≡ true)
-        from_mid c = elim (Contains-append_cases listed (filter is_counted (by e.body)) x ((added x).0 c)) [
-          | inl i ↦ let r = kept_from is_counted (flat_map by before) x ((are x).0 i) in (inl r.0, r.1)
-          | inr i ↦ let r = kept_from is_counted (by e.body) x i in (inr r.0, r.1)
+        from_mid : Contains mid x → (Contains (flat_map by before) x ⊎ Contains (by e.body) x) × (has_positive_counter x ≡ true)
+        from_mid c = elim (Contains-append_cases listed (filter has_positive_counter (by e.body)) x ((added x).0 c)) [
+          | inl i ↦ let r = kept_from has_positive_counter (flat_map by before) x ((are x).0 i) in (inl r.0, r.1)
+          | inr i ↦ let r = kept_from has_positive_counter (by e.body) x i in (inr r.0, r.1)
         ]
 
-        still : Contains (flat_map by before) x ⊎ Contains (by e.body) x → Contains (filter is_counted (flat_map by after)) x ⊎ (Contains going x → ⊥) → Contains (flat_map by after) x
-        still i (inl s) = (kept_from is_counted (flat_map by after) x s).0
+        still : Contains (flat_map by before) x ⊎ Contains (by e.body) x → Contains (filter has_positive_counter (flat_map by after)) x ⊎ (Contains going x → ⊥) → Contains (flat_map by after) x
+        still i (inl s) = (kept_from has_positive_counter (flat_map by after) x s).0
         still (inr i) (inr n) = given_to by after e.body x stands i
         still (inl i) (inr n) =
             let r = given_from by before x i in
@@ -111,22 +111,22 @@ module _ (k : Kind) (own : ℕ) (nodes : List ℕ) (old : List Sent) (e : Sent) 
               | inr c ↦ given_to by after r.0 x c r.2
             ]
 
-        over : Contains now x → Contains (filter is_counted (flat_map by after)) x
+        over : Contains now x → Contains (filter has_positive_counter (flat_map by after)) x
         over c =
             let r = (left x).0 c in
             let m = from_mid r.0 in
-            kept_to is_counted (flat_map by after) x (still m.0 r.1) m.1
+            kept_to has_positive_counter (flat_map by after) x (still m.0 r.1) m.1
 
-        into_mid : Contains (flat_map by after) x → is_counted x ≡ true → Contains mid x
+        into_mid : Contains (flat_map by after) x → has_positive_counter x ≡ true → Contains mid x
         into_mid c counted =
             let r = given_from by after x c in
             elim (came r.0 r.1) [
-              | inl q ↦ (added x).1 (Contains-append_right listed (filter is_counted (by e.body)) x (kept_to is_counted (by e.body) x (subst (λ s. Contains (by s) x) (sym q) r.2) counted))
-              | inr i ↦ (added x).1 (Contains-append_left listed (filter is_counted (by e.body)) x ((are x).1 (kept_to is_counted (flat_map by before) x (given_to by before r.0 x i r.2) counted)))
+              | inl q ↦ (added x).1 (Contains-append_right listed (filter has_positive_counter (by e.body)) x (kept_to has_positive_counter (by e.body) x (subst (λ s. Contains (by s) x) (sym q) r.2) counted))
+              | inr i ↦ (added x).1 (Contains-append_left listed (filter has_positive_counter (by e.body)) x ((are x).1 (kept_to has_positive_counter (flat_map by before) x (given_to by before r.0 x i r.2) counted)))
             ]
 
-        back : Contains (filter is_counted (flat_map by after)) x → Contains now x
-        back c = let r = kept_from is_counted (flat_map by after) x c in (left x).1 (into_mid r.0 r.1, inl c)
+        back : Contains (filter has_positive_counter (flat_map by after)) x → Contains now x
+        back c = let r = kept_from has_positive_counter (flat_map by after) x c in (left x).1 (into_mid r.0 r.1, inl c)
 
 -- ---- a row of the other kind, of the node itself or of a stranger
 module _ (k : Kind) (own : ℕ) (nodes : List ℕ) (old : List Sent) (e : Sent) (unheard : is_heard k own nodes e ≡ false) where
@@ -165,10 +165,10 @@ module _ (k : Kind) (own : ℕ) (nodes : List ℕ) (old : List Sent) (e : Sent) 
     λ c. let r = found_from (λ u. said_by_another own (row (with_row e old) u k)) nodes s c in found_to (λ u. said_by_another own (row old u k)) nodes r.0 s r.1 (sym (as_before r.0 r.1) ∙ r.2),
   )
 
-  listed_alike : (by : Statement → List Ballot) (listed : List Ballot) → AreListed listed (filter is_counted (flat_map by (rows_of_others own k old nodes)))
-      → AreListed listed (filter is_counted (flat_map by (rows_of_others own k (with_row e old) nodes)))
+  listed_alike : (by : Statement → List Ballot) (listed : List Ballot) → AreListed listed (filter has_positive_counter (flat_map by (rows_of_others own k old nodes)))
+      → AreListed listed (filter has_positive_counter (flat_map by (rows_of_others own k (with_row e old) nodes)))
   listed_alike by listed are x =
-      let same = same_kept is_counted _ _ (same_given by _ _ said_alike) x in
+      let same = same_kept has_positive_counter _ _ (same_given by _ _ said_alike) x in
       (λ c. same.0 ((are x).0 c), λ c. (are x).1 (same.1 c))
 
 -- it leaves what is listed
@@ -183,15 +183,15 @@ unheard_listed own nodes old new e unheard is (Some b) are = subst (λ (t : List
 -- ---- as the code lists them: a first row takes nothing away
 module _ (own : ℕ) (nodes : List ℕ) (old new : List Sent) (now : Statement) (by : Statement → List Ballot) (listed added : List Ballot) where
   pub first_followed : IsHeard own nodes old new now None
-      → AreListed listed (filter is_counted (flat_map by (rows_of_others own Kind.Ballot old nodes)))
-      → AreListed added (listed ++ filter is_counted (by now))
-      → AreListed added (filter is_counted (flat_map by (rows_of_others own Kind.Ballot new nodes)))
+      → AreListed listed (filter has_positive_counter (flat_map by (rows_of_others own Kind.Ballot old nodes)))
+      → AreListed added (listed ++ filter has_positive_counter (by now))
+      → AreListed added (filter has_positive_counter (flat_map by (rows_of_others own Kind.Ballot new nodes)))
   first_followed h are adds =
       let e = h.envelope in
-      subst (λ (t : List Sent). AreListed added (filter is_counted (flat_map by (rows_of_others own Kind.Ballot t nodes)))) (sym h.taken.now)
+      subst (λ (t : List Sent). AreListed added (filter has_positive_counter (flat_map by (rows_of_others own Kind.Ballot t nodes)))) (sym h.taken.now)
       (followed Kind.Ballot own nodes old e h.heard by listed added added [] goes are
-      (subst (λ s. AreListed added (listed ++ filter is_counted (by s))) (sym h.says) adds)
-      (none_left (filter is_counted (flat_map by (rows_of_others own Kind.Ballot (with_row e old) nodes))) added))
+      (subst (λ s. AreListed added (listed ++ filter has_positive_counter (by s))) (sym h.says) adds)
+      (none_left (filter has_positive_counter (flat_map by (rows_of_others own Kind.Ballot (with_row e old) nodes))) added))
     where
       goes : (s : Statement) → said_old Kind.Ballot own nodes old h.envelope h.heard h.envelope.sender ≡ Some s → (x : Ballot) → Contains (by s) x → Contains [] x
       goes s q x c =
@@ -200,16 +200,16 @@ module _ (own : ℕ) (nodes : List ℕ) (old new : List Sent) (now : Statement) 
 
   -- another one takes away what it alone spoke of
   pub other_followed : (before : Statement) (left : List Ballot) → IsHeard own nodes old new now (Some before)
-      → AreListed listed (filter is_counted (flat_map by (rows_of_others own Kind.Ballot old nodes)))
-      → AreListed added (listed ++ filter is_counted (by now))
-      → AreLeft (filter is_counted (flat_map by (rows_of_others own Kind.Ballot new nodes))) (by before) added left
-      → AreListed left (filter is_counted (flat_map by (rows_of_others own Kind.Ballot new nodes)))
+      → AreListed listed (filter has_positive_counter (flat_map by (rows_of_others own Kind.Ballot old nodes)))
+      → AreListed added (listed ++ filter has_positive_counter (by now))
+      → AreLeft (filter has_positive_counter (flat_map by (rows_of_others own Kind.Ballot new nodes))) (by before) added left
+      → AreListed left (filter has_positive_counter (flat_map by (rows_of_others own Kind.Ballot new nodes)))
   other_followed before left h are adds leaves =
       let e = h.envelope in
-      subst (λ (t : List Sent). AreListed left (filter is_counted (flat_map by (rows_of_others own Kind.Ballot t nodes)))) (sym h.taken.now)
+      subst (λ (t : List Sent). AreListed left (filter has_positive_counter (flat_map by (rows_of_others own Kind.Ballot t nodes)))) (sym h.taken.now)
       (followed Kind.Ballot own nodes old e h.heard by listed added left (by before) goes are
-      (subst (λ s. AreListed added (listed ++ filter is_counted (by s))) (sym h.says) adds)
-      (subst (λ (t : List Sent). AreLeft (filter is_counted (flat_map by (rows_of_others own Kind.Ballot t nodes))) (by before) added left) h.taken.now leaves))
+      (subst (λ s. AreListed added (listed ++ filter has_positive_counter (by s))) (sym h.says) adds)
+      (subst (λ (t : List Sent). AreLeft (filter has_positive_counter (flat_map by (rows_of_others own Kind.Ballot t nodes))) (by before) added left) h.taken.now leaves))
     where
       goes : (s : Statement) → said_old Kind.Ballot own nodes old h.envelope h.heard h.envelope.sender ≡ Some s → (x : Ballot) → Contains (by s) x → Contains (by before) x
       goes s q x c =

@@ -11,7 +11,7 @@ use Rattle.std.proofs.lemmas.List.Sorted.{Contains-permutation, IsPermutation-re
 use Rattle.types.specs.declared.ballot.Ballot.{Ballot}
 use Rattle.types.specs.declared.statement.Statement.{Statement}
 use Rattle.types.specs.Votes.{same_value}
-use Rattle.protocol.specs.Candidates.{is_counted}
+use Rattle.protocol.specs.Candidates.{has_positive_counter}
 use Rattle.protocol.specs.Sameness.{same_ballot}
 use Rattle.protocol.specs.States.{below}
 use Rattle.protocol.proofs.Ballots.Order.{below-self}
@@ -48,11 +48,11 @@ one_of_to (s ∷ ts) t c = elim (contained_cases t s ts c) [
 ]
 
 -- of those with counters from 1 on
-pub counted_one : (ts : List Ballot) (t : Ballot) → is_one_of (filter is_counted ts) t ≡ is_counted t && is_one_of ts t
+pub counted_one : (ts : List Ballot) (t : Ballot) → is_one_of (filter has_positive_counter ts) t ≡ has_positive_counter t && is_one_of ts t
 counted_one ts t =
-    same_test (is_one_of (filter is_counted ts) t) (is_counted t && is_one_of ts t)
-    (λ h. let r = kept_from is_counted ts t (one_of_from (filter is_counted ts) t h) in and_from (is_counted t) (is_one_of ts t) r.1 (one_of_to ts t r.0))
-    (λ h. let p = and_parts (is_counted t) (is_one_of ts t) h in one_of_to (filter is_counted ts) t (kept_to is_counted ts t (one_of_from ts t p.1) p.0))
+    same_test (is_one_of (filter has_positive_counter ts) t) (has_positive_counter t && is_one_of ts t)
+    (λ h. let r = kept_from has_positive_counter ts t (one_of_from (filter has_positive_counter ts) t h) in and_from (has_positive_counter t) (is_one_of ts t) r.1 (one_of_to ts t r.0))
+    (λ h. let p = and_parts (has_positive_counter t) (is_one_of ts t) h in one_of_to (filter has_positive_counter ts) t (kept_to has_positive_counter ts t (one_of_from ts t p.1) p.0))
 
 or_assoc : (a b c : Bool) → (a || b) || c ≡ a || (b || c)
 or_assoc true b c = refl

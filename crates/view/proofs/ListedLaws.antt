@@ -15,7 +15,7 @@ use Rattle.std.proofs.lemmas.List.Elements.{Contains-append_cases, Contains-appe
 use Rattle.std.proofs.lemmas.List.Sorted.{Contains-permutation, IsPermutation-insert, IsPermutation-sym, IsPermutation-to_front, IsPermutation-trans}
 use Rattle.types.specs.declared.ballot.Ballot.{Ballot}
 use Rattle.types.specs.declared.statement.Statement.{Statement}
-use Rattle.protocol.specs.Candidates.{is_counted}
+use Rattle.protocol.specs.Candidates.{has_positive_counter}
 use Rattle.protocol.specs.Extremes.{IsGreatest, IsGreatestIn}
 use Rattle.protocol.specs.Extremes.IsGreatestIn.{nothing, this}
 use Rattle.protocol.specs.States.{below}
@@ -23,7 +23,7 @@ use Rattle.types.specs.Orders.{ballot_cmp}
 use Rattle.protocol.proofs.Ballots.Order.{ballots_ordered, below-asym, below-self, below-trans, one_ballot}
 use Rattle.protocol.proofs.Ballots.Greatest.{greatest_is_alone, greatest_is_exact}
 use Rattle.fedvote.specs.Searching.{is_under, next_under}
-use Rattle.view.specs.Listing.{AreListed, IsBallotPlace, IsDescending, IsPlaceUnder, StandsFor}
+use Rattle.view.specs.Listing.{AreListed, IsBallotPlace, IsDescending, IsPlaceUnder, FindsAsAmong}
 use Rattle.view.proofs.SameRows.{is_contained, is_in, kept_from, kept_to, none_contained, same_next}
 
 pub less_or_same : (i j : ℕ) → i ≤ j → (i < j) ⊎ (i ≡ j)
@@ -194,7 +194,7 @@ has_listed ts t has x = (
 )
 
 -- a ballot with a counter from 1 on is added, and no other
-pub counted_listed : (now ts : List Ballot) (t : Ballot) → is_counted t ≡ true → AreListed now (ts ++ t ∷ []) → AreListed now (ts ++ filter is_counted (t ∷ []))
+pub counted_listed : (now ts : List Ballot) (t : Ballot) → has_positive_counter t ≡ true → AreListed now (ts ++ t ∷ []) → AreListed now (ts ++ filter has_positive_counter (t ∷ []))
 counted_listed now ts t h listed = rw h listed
 
 some_place : (p : ℕ) → (p ≡ 0 → ⊥) → 0 < p
@@ -202,8 +202,8 @@ some_place zero h = absurd (h refl)
 some_place (suc p) h = omega arith
 
 -- a counter that is not 0 is one from 1 on
-pub is_counted-from : (n : ℕ) (t : Ballot) → n ≡ t.counter → (n ≡ 0 → ⊥) → is_counted t ≡ true
-is_counted-from n t is h = ap (λ k. nat_lt 0 k) (sym is) ∙ above n (some_place n h)
+pub has_positive_counter-from : (n : ℕ) (t : Ballot) → n ≡ t.counter → (n ≡ 0 → ⊥) → has_positive_counter t ≡ true
+has_positive_counter-from n t is h = ap (λ k. nat_lt 0 k) (sym is) ∙ above n (some_place n h)
   where
     above : (k : ℕ) → 0 < k → nat_lt 0 k ≡ true
     above k l = grind (arith, nat_tests)
@@ -213,18 +213,18 @@ pub as_before : (ts : List Ballot) → AreListed ts (ts ++ [])
 as_before ts x = subst (λ (us : List Ballot). Contains ts x ↔ Contains us x) (sym (append-nil ts)) (λ c. c, λ c. c)
 
 -- some are added, and then others
-pub listed_then : (old mid now ts us : List Ballot) → AreListed mid (old ++ filter is_counted ts) → AreListed now (mid ++ filter is_counted us) → AreListed now (old ++ filter is_counted (ts ++ us))
+pub listed_then : (old mid now ts us : List Ballot) → AreListed mid (old ++ filter has_positive_counter ts) → AreListed now (mid ++ filter has_positive_counter us) → AreListed now (old ++ filter has_positive_counter (ts ++ us))
 listed_then old mid now ts us first then x =
     subst (λ (ys : List Ballot). Contains now x ↔ Contains ys x) joined (over, back)
   where
     fs : List Ballot
-    fs = filter is_counted ts
+    fs = filter has_positive_counter ts
 
     gs : List Ballot
-    gs = filter is_counted us
+    gs = filter has_positive_counter us
 
-    joined : (old ++ fs) ++ gs ≡ old ++ filter is_counted (ts ++ us)
-    joined = append_assoc old fs gs ∙ ap (λ ys. old ++ ys) (sym (filter-append is_counted ts us))
+    joined : (old ++ fs) ++ gs ≡ old ++ filter has_positive_counter (ts ++ us)
+    joined = append_assoc old fs gs ∙ ap (λ ys. old ++ ys) (sym (filter-append has_positive_counter ts us))
 
     over : Contains now x → Contains ((old ++ fs) ++ gs) x
     over c = elim (Contains-append_cases mid gs x ((then x).0 c)) [
@@ -243,8 +243,8 @@ on_ok (Ok x) P Q f h = f h
 on_ok (Err e) P Q f h = h
 
 -- the same where the second may want memory, and the ballots are named otherwise
-pub then_listed : {A E : Type 0} (r : Result A E) (old mid now ts us all : List Ballot) → ts ++ us ≡ all → AreListed mid (old ++ filter is_counted ts) → OnOk r (AreListed now (mid ++ filter is_counted us)) → OnOk r (AreListed now (old ++ filter is_counted all))
-then_listed r old mid now ts us all is first then = on_ok r _ _ (λ h. subst (λ (ys : List Ballot). AreListed now (old ++ filter is_counted ys)) is (listed_then old mid now ts us first h)) then
+pub then_listed : {A E : Type 0} (r : Result A E) (old mid now ts us all : List Ballot) → ts ++ us ≡ all → AreListed mid (old ++ filter has_positive_counter ts) → OnOk r (AreListed now (mid ++ filter has_positive_counter us)) → OnOk r (AreListed now (old ++ filter has_positive_counter all))
+then_listed r old mid now ts us all is first then = on_ok r _ _ (λ h. subst (λ (ys : List Ballot). AreListed now (old ++ filter has_positive_counter ys)) is (listed_then old mid now ts us first h)) then
 
 -- what one node more says comes last
 said_more : (said : ℕ → Option Statement) (us : List ℕ) (u : ℕ) → filter_map said (us ++ u ∷ []) ≡ filter_map said us ++ option_to_list (said u)
@@ -266,25 +266,25 @@ module _ (said : ℕ → Option Statement) (by : Statement → List Ballot) (us 
 
   -- what the node at the place says is added to them
   pub one_listed : (s : Statement) (mid now : List Ballot) → i < length us → Some s ≡ said (get_or us i 0)
-      → AreListed mid (filter is_counted (flat_map by (filter_map said (take i us)))) → AreListed now (mid ++ filter is_counted (by s)) → AreListed now (filter is_counted (flat_map by (filter_map said (take (i + 1) us))))
+      → AreListed mid (filter has_positive_counter (flat_map by (filter_map said (take i us)))) → AreListed now (mid ++ filter has_positive_counter (by s)) → AreListed now (filter has_positive_counter (flat_map by (filter_map said (take (i + 1) us))))
   one_listed s mid now within is first then =
       let joined : flat_map by (filter_map said (take (i + 1) us)) ≡ flat_map by (filter_map said (take i us)) ++ by s =
       ap (flat_map by) (more within)
       ∙ ap (λ o. flat_map by (filter_map said (take i us) ++ option_to_list o)) (sym is)
       ∙ flat_map-append by (filter_map said (take i us)) (s ∷ [])
       ∙ ap (λ ys. flat_map by (filter_map said (take i us)) ++ ys) (append-nil (by s)) in
-      subst (λ (ts : List Ballot). AreListed now (filter is_counted ts)) (sym joined) (listed_then [] mid now (flat_map by (filter_map said (take i us))) (by s) first then)
+      subst (λ (ts : List Ballot). AreListed now (filter has_positive_counter ts)) (sym joined) (listed_then [] mid now (flat_map by (filter_map said (take i us))) (by s) first then)
 
   -- or it says nothing
   pub none_listed : (now : List Ballot) → i < length us → None ≡ said (get_or us i 0)
-      → AreListed now (filter is_counted (flat_map by (filter_map said (take i us)))) → AreListed now (filter is_counted (flat_map by (filter_map said (take (i + 1) us))))
+      → AreListed now (filter has_positive_counter (flat_map by (filter_map said (take i us)))) → AreListed now (filter has_positive_counter (flat_map by (filter_map said (take (i + 1) us))))
   none_listed now within is first =
       let same : filter_map said (take i us) ≡ filter_map said (take (i + 1) us) = sym (more within ∙ ap (λ o. filter_map said (take i us) ++ option_to_list o) (sym is) ∙ append-nil (filter_map said (take i us))) in
-      subst (λ (ss : List Statement). AreListed now (filter is_counted (flat_map by ss))) same first
+      subst (λ (ss : List Statement). AreListed now (filter has_positive_counter (flat_map by ss))) same first
 
   -- at the end those of all are listed
-  pub all_listed : (now : List Ballot) → length us ≤ i → AreListed now (filter is_counted (flat_map by (filter_map said (take i us)))) → AreListed now (filter is_counted (flat_map by (filter_map said us)))
-  all_listed now end listed = subst (λ (ws : List ℕ). AreListed now (filter is_counted (flat_map by (filter_map said ws)))) (take_all i us end) listed
+  pub all_listed : (now : List Ballot) → length us ≤ i → AreListed now (filter has_positive_counter (flat_map by (filter_map said (take i us)))) → AreListed now (filter has_positive_counter (flat_map by (filter_map said us)))
+  all_listed now end listed = subst (λ (ws : List ℕ). AreListed now (filter has_positive_counter (flat_map by (filter_map said ws)))) (take_all i us end) listed
 
 -- ---- the next below a bound
 module _ (bound : Option Ballot) (ts : List Ballot) (p : ℕ) (down : IsDescending ts) (place : IsPlaceUnder bound ts p) where
@@ -337,15 +337,15 @@ module _ (bound : Option Ballot) (ts : List Ballot) (p : ℕ) (down : IsDescendi
 -- the ballots by a statement are listed, where there is one
 abbrev pub HasListed : (Statement → List Ballot) → List Ballot → Option Statement → Type 0
 HasListed by listed None = AreListed listed listed
-HasListed by listed (Some s) = AreListed listed (listed ++ filter is_counted (by s))
+HasListed by listed (Some s) = AreListed listed (listed ++ filter has_positive_counter (by s))
 
 -- they are once they were added
-pub has_added : (by : Statement → List Ballot) (s : Statement) (old now : List Ballot) → AreListed now (old ++ filter is_counted (by s)) → HasListed by now (Some s)
+pub has_added : (by : Statement → List Ballot) (s : Statement) (old now : List Ballot) → AreListed now (old ++ filter has_positive_counter (by s)) → HasListed by now (Some s)
 has_added by s old now added x = (
-  λ c. Contains-append_left now (filter is_counted (by s)) x c,
-  λ c. elim (Contains-append_cases now (filter is_counted (by s)) x c) [ inl i ↦ i | inr i ↦ (added x).1 (Contains-append_right old (filter is_counted (by s)) x i) ],
+  λ c. Contains-append_left now (filter has_positive_counter (by s)) x c,
+  λ c. elim (Contains-append_cases now (filter has_positive_counter (by s)) x c) [ inl i ↦ i | inr i ↦ (added x).1 (Contains-append_right old (filter has_positive_counter (by s)) x i) ],
 )
 
 -- listed ballots stand for the ballots that they are
-pub listed_stand : (listed ts us : List Ballot) → ts ≡ us → AreListed listed ts → StandsFor listed us
+pub listed_stand : (listed ts us : List Ballot) → ts ≡ us → AreListed listed ts → FindsAsAmong listed us
 listed_stand listed ts us is same bound = same_next bound listed ts same ∙ ap (next_under bound) is

@@ -30,7 +30,7 @@ use Rattle.compiled.specs.Met.{met, picked, picked_from, one_where}
 use Rattle.compiled.specs.Searching.{AreCompiled, met_at}
 use Rattle.view.specs.declared.region.Region.{Region}
 use Rattle.view.specs.Regions.{IsRegion, row_places}
-use Rattle.view.specs.Watching.{Kept, passes_at, passes_within}
+use Rattle.view.specs.Watching.{RowsOfNodes, passes_at, passes_within}
 use Rattle.view.specs.declared.passing.OwnAnswer.{OwnAnswer}
 use Rattle.compiled.proofs.PassingWords.{passing_words}
 use Rattle.view.proofs.PlaceLaws.{places_kept}
@@ -102,16 +102,16 @@ module _ (own : ℕ) (configured : Slices) (table : List Sent) (r : Region) (is 
       true≢false (sym more ∙ (sym there ∙ fails))
 
   -- those who pass, by the rows that are asked
-  module _ (kind : Kind) (k : Kept) (a : OwnAnswer) (own_passes : Bool) (test : Statement → Bool) (few : length r.nodes.items < 2 ^ 64)
+  module _ (kind : Kind) (k : RowsOfNodes) (a : OwnAnswer) (own_passes : Bool) (test : Statement → Bool) (few : length r.nodes.items < 2 ^ 64)
       (rows : k ≡ record { nodes = r.nodes.items; table = table; kind = kind }) (answer : a ≡ record { place = r.place; passes = own_passes }) where
     supporting_words : (ws : List ℕ) × ArePassing (passes_within k a.place a.passes test) ws × AreBits r.nodes.items ws (passing_with own table kind own_passes test)
     supporting_words =
         let us = r.nodes.items in
-        let reached : Kept = record { nodes = us; table = table; kind = kind } in
+        let reached : RowsOfNodes = record { nodes = us; table = table; kind = kind } in
         let by_place : ℕ → Names = λ u. passing_with u table kind own_passes test in
         let found = passing_words (length us) (passes_within reached r.place own_passes test) few (λ i out. ap (λ b. b && passes_at reached r.place own_passes test i) (le-ltb i (length us) out)) in (
           found.0,
-          subst (λ (p : Kept × OwnAnswer). ArePassing (passes_within p.0 p.1.place p.1.passes test) found.0) (λ i. (sym rows i, sym answer i)) found.1,
+          subst (λ (p : RowsOfNodes × OwnAnswer). ArePassing (passes_within p.0 p.1.place p.1.passes test) found.0) (λ i. (sym rows i, sym answer i)) found.1,
           subst (λ u. AreBits us found.0 (by_place u)) is.itself (bits_within us found.0 (by_place (get_or us r.place 0)) found.1),
         )
 

@@ -6,7 +6,7 @@ use Rattle.std.proofs.lemmas.Bool.Decides.{nat_tests}
 use Rattle.types.specs.declared.ballot.Ballot.{Ballot}
 use Rattle.types.specs.declared.statement.Statement.{Statement}
 use Rattle.types.specs.Votes.{has_value, same_value}
-use Rattle.protocol.specs.Candidates.{as_set, committed_by, committed_in, greatest, is_counted, named_by, named_in, values_by}
+use Rattle.protocol.specs.Candidates.{as_set, committed_by, committed_in, greatest, has_positive_counter, named_by, named_in, values_by}
 use Rattle.protocol.specs.Extremes.{IsIn, IsGreatestIn}
 use Rattle.protocol.specs.Extremes.IsGreatestIn.{nothing, this}
 use Rattle.protocol.proofs.Sets.Contained.{contained_cases, contains_head, contains_tail}
@@ -147,11 +147,11 @@ same_greatest ts us same = go (greatest None ts) (greatest None us) (greatest_is
 pub same_next : (bound : Option Ballot) (ts us : List Ballot) → AreSame ts us → next_under bound ts ≡ next_under bound us
 same_next bound ts us same = same_greatest _ _ (same_kept (is_under bound) ts us same)
 
-same_under : (by : Statement → List Ballot) (bound : Option Ballot) (xs ys : List Statement) → AreSame xs ys → next_under bound (filter is_counted (flat_map by xs)) ≡ next_under bound (filter is_counted (flat_map by ys))
+same_under : (by : Statement → List Ballot) (bound : Option Ballot) (xs ys : List Statement) → AreSame xs ys → next_under bound (filter has_positive_counter (flat_map by xs)) ≡ next_under bound (filter has_positive_counter (flat_map by ys))
 same_under by bound xs ys same =
     same_greatest _ _
-    (same_kept (is_under bound) (filter is_counted (flat_map by xs)) (filter is_counted (flat_map by ys))
-    (same_kept is_counted (flat_map by xs) (flat_map by ys) (same_given by xs ys same)))
+    (same_kept (is_under bound) (filter has_positive_counter (flat_map by xs)) (filter has_positive_counter (flat_map by ys))
+    (same_kept has_positive_counter (flat_map by xs) (flat_map by ys) (same_given by xs ys same)))
 
 pub same_named : (bound : Option Ballot) (xs ys : List Statement) → AreSame xs ys → next_under bound (named_in xs) ≡ next_under bound (named_in ys)
 same_named bound xs ys same = same_under named_by bound xs ys same

@@ -9,7 +9,7 @@ use Rattle.types.specs.declared.statement.Statement.{Statement}
 use Rattle.protocol.specs.Candidates.{committed_in, named_in}
 use Rattle.protocol.specs.Rows.{is_kind, is_taken, row, with_row}
 use Rattle.protocol.specs.Sets.{among}
-use Rattle.view.specs.Listing.{AreListed, StandsFor}
+use Rattle.view.specs.Listing.{AreListed, FindsAsAmong}
 use Rattle.view.specs.Regions.{IsRegion}
 use Rattle.view.specs.Watching.{rows_of_others, values_in}
 use Rattle.view.specs.declared.known_reach.KnownReach.{KnownReach}
@@ -34,7 +34,7 @@ listed_as Committed b = b.committed
 -- each search among listed ballots finds what it would find among those that the rows of a kind speak of
 abbrev pub AreSearched : ℕ → Kind → List Sent → List ℕ → ReachedBallots → Type 0
 AreSearched own kind table nodes b =
-    StandsFor b.named (named_in (rows_of_others own kind table nodes)) × StandsFor b.committed (committed_in (rows_of_others own kind table nodes))
+    FindsAsAmong b.named (named_in (rows_of_others own kind table nodes)) × FindsAsAmong b.committed (committed_in (rows_of_others own kind table nodes))
 
 -- the region of a node, and the ballots and nominated values in it where they are listed
 pub record IsKnown (own : ℕ) (configured : Slices) (table : List Sent) (k : KnownReach) : Type 0 where

@@ -24,8 +24,8 @@ is_one_of [] t = false
 is_one_of (s ∷ ts) t = same_ballot s t || is_one_of ts t
 
 -- each search in the list finds what it would find among these ballots
-abbrev pub StandsFor : List Ballot → List Ballot → Type 0
-StandsFor listed ts = (bound : Option Ballot) → next_under bound listed ≡ next_under bound ts
+abbrev pub FindsAsAmong : List Ballot → List Ballot → Type 0
+FindsAsAmong listed ts = (bound : Option Ballot) → next_under bound listed ≡ next_under bound ts
 
 -- the place in a list at which those begin that are below the bound, where there is one
 pub record IsPlaceUnder (bound : Option Ballot) (ts : List Ballot) (place : ℕ) : Type 0 where

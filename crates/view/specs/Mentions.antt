@@ -2,7 +2,7 @@
 use Rattle.std.specs.Prelude.{List, filter, flat_map}
 use Rattle.types.specs.declared.ballot.Ballot.{Ballot}
 use Rattle.types.specs.declared.statement.Statement.{Statement}
-use Rattle.protocol.specs.Candidates.{committed_by, is_counted, named_by}
+use Rattle.protocol.specs.Candidates.{committed_by, has_positive_counter, named_by}
 use Rattle.view.specs.declared.mentions.Mention.{Mention}
 use Rattle.view.specs.declared.mentions.Mention.TheVariants.{Committed, Named}
 
@@ -13,4 +13,4 @@ mentioned_by Committed = committed_by
 
 -- those of several statements, with counters from 1 on
 abbrev pub mentioned_in : Mention → List Statement → List Ballot
-mentioned_in mention statements = filter is_counted (flat_map (mentioned_by mention) statements)
+mentioned_in mention statements = filter has_positive_counter (flat_map (mentioned_by mention) statements)

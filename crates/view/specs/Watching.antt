@@ -10,7 +10,7 @@ use Rattle.protocol.specs.Views.{passing_with}
 use Rattle.fedvote.specs.Searching.{lesser}
 
 -- the rows of a kind that some nodes have in a table, kept for look-ups
-pub record Kept : Type 0 where
+pub record RowsOfNodes : Type 0 where
   pub nodes : List ℕ
   pub table : List Sent
   pub kind : Kind
@@ -24,11 +24,11 @@ abbrev pub rows_at : Kind → List Sent → List ℕ → List (Option Sent)
 rows_at kind table nodes = map (λ u. row table u kind) nodes
 
 -- whether the node at a place passes a test: the one at the own place where its position does, another where its row does
-abbrev pub passes_at : Kept → ℕ → Bool → (Statement → Bool) → ℕ → Bool
+abbrev pub passes_at : RowsOfNodes → ℕ → Bool → (Statement → Bool) → ℕ → Bool
 passes_at rows own_place own_passes test i = passing_with (get_or rows.nodes own_place 0) rows.table rows.kind own_passes test (get_or rows.nodes i 0)
 
 -- the same where there is a node at the place: at none other a test is passed
-abbrev pub passes_within : Kept → ℕ → Bool → (Statement → Bool) → ℕ → Bool
+abbrev pub passes_within : RowsOfNodes → ℕ → Bool → (Statement → Bool) → ℕ → Bool
 passes_within rows own_place own_passes test i = nat_lt i (length rows.nodes) && passes_at rows own_place own_passes test i
 
 -- the row at a place in a table: nothing without a place

@@ -2,7 +2,7 @@
 
 ghost use Rattle.std.specs.Prelude.{◌≡◌, ◌<◌, ◌∷◌, ◌++◌, [], OnOk, Some, filter, length};
 ghost use Rattle.std.specs.List.{remove};
-ghost use Rattle.protocol.specs.Candidates.{committed_by, is_counted, named_by};
+ghost use Rattle.protocol.specs.Candidates.{committed_by, has_positive_counter, named_by};
 ghost use Rattle.fedvote.specs.Searching.{next_under};
 ghost use Rattle.types.specs.Orders.{ballot_cmp};
 ghost use Rattle.view.specs.Listing.{AreLeft, AreListed, IsBallotPlace, IsDescending, IsPlaceUnder, both_of};
@@ -55,7 +55,7 @@ impl ListedBallots {
 
     /// Lists the ballots that the statement names. An error says that memory is short.
     pub(crate) fn add_named(&mut self, statement: &Statement) -> Result<(), AllocError>
-        ensures { OnOk result (AreListed self.new (self.old ++ filter is_counted (named_by statement.now))) }
+        ensures { OnOk result (AreListed self.new (self.old ++ filter has_positive_counter (named_by statement.now))) }
     {
         match statement {
             Statement::Nominate { .. } => Ok(()),
@@ -94,7 +94,7 @@ impl ListedBallots {
     /// Lists the ballots at the counters at which the statement speaks of commit. An error says that memory
     /// is short.
     pub(crate) fn add_committed(&mut self, statement: &Statement) -> Result<(), AllocError>
-        ensures { OnOk result (AreListed self.new (self.old ++ filter is_counted (committed_by statement.now))) }
+        ensures { OnOk result (AreListed self.new (self.old ++ filter has_positive_counter (committed_by statement.now))) }
     {
         match committed_by(statement) {
             None => Ok(()),
@@ -104,7 +104,7 @@ impl ListedBallots {
 
     /// Lists two ballots. An error says that memory is short.
     fn add_both(&mut self, one: LentBallot, other: LentBallot) -> Result<(), AllocError>
-        ensures { OnOk result (AreListed self.new (self.old ++ filter is_counted (one.entry ∷ other.entry ∷ []))) }
+        ensures { OnOk result (AreListed self.new (self.old ++ filter has_positive_counter (one.entry ∷ other.entry ∷ []))) }
     {
         self.add(one)?;
         self.add(other)
@@ -113,7 +113,7 @@ impl ListedBallots {
     /// Lists a ballot whose counter is from 1 on, where it is not listed yet. An error says that memory is
     /// short.
     fn add(&mut self, ballot: LentBallot) -> Result<(), AllocError>
-        ensures { OnOk result (AreListed self.new (self.old ++ filter is_counted (ballot.entry ∷ []))) }
+        ensures { OnOk result (AreListed self.new (self.old ++ filter has_positive_counter (ballot.entry ∷ []))) }
     {
         if ballot.counter() == 0 {
             return Ok(());

@@ -37,9 +37,9 @@ impl<'a, S: Places> Model for ReachedRows<'a, S> {
     ghost use Rattle.std.specs.Prelude.{◌≡◌, ◌<◌, ℕ, None, get_or, length, option_map};
     ghost use Rattle.protocol.specs.Rows.{row};
     ghost use Rattle.types.specs.Trees.{members_code};
-    ghost use Rattle.view.specs.Watching.{ArePlaces, Kept};
+    ghost use Rattle.view.specs.Watching.{ArePlaces, RowsOfNodes};
 
-    ghost Value = { Kept };
+    ghost Value = { RowsOfNodes };
 
     ghost coded = { Prim.hlevel (codes, members_code) };
 
@@ -70,8 +70,15 @@ impl<'a, S: Places> ReachedRows<'a, S> {
         }
     }
 
+    /// The table in which the rows stand.
+    pub(crate) fn table(&self) -> &'a Rows<'a, S>
+        ensures { result.now ≡ self.now.table }
+    {
+        self.table
+    }
+
     /// The same where no places are kept: a row is looked up, when it is asked for.
-    pub(crate) fn looked_up(
+    pub(crate) fn by_look_up(
         alloc: Global,
         nodes: &'a [NodeId],
         table: &'a Rows<'a, S>,

@@ -198,7 +198,7 @@ impl Region {
         ensures { IfOk result (λ o. IfSome o (IsFoundWithin self.now.nodes.items (slices_by own.entry.name.now own.entry.slices.now table.now (kind_of envelope.now.body)) (forms_of (kind_of envelope.now.body) self.now) self.now.numbers envelope.now.slices)) }
     {
         let kind = envelope.body().kind();
-        let rows = ReachedRows::looked_up(alloc, &self.nodes, table, kind);
+        let rows = ReachedRows::by_look_up(alloc, &self.nodes, table, kind);
         let reached = SlicesInReach::new(own, rows, None);
         let there = Candidates {
             forms: self.forms(kind),
@@ -341,8 +341,10 @@ fn kind_forms<'a, S: Places>(
     ensures ballots { IfOk result (λ f. AreAllForms placed.now.nodes.items (slices_by own.entry.name.now own.entry.slices.now table.now Kind.Ballot) f.ballots.items) }
     ensures nominations { IfOk result (λ f. AreAllForms placed.now.nodes.items (slices_by own.entry.name.now own.entry.slices.now table.now Nomination) f.nominations.items) }
 {
-    let ballots = forms_by(alloc, own, table, placed, former, Kind::Ballot)?;
-    let nominations = forms_by(alloc, own, table, placed, former, Kind::Nomination)?;
+    let rows = placed.rows_of(alloc, table, Kind::Ballot);
+    let ballots = forms_by(alloc, own, rows, forms_of(&former, Kind::Ballot))?;
+    let rows = placed.rows_of(alloc, table, Kind::Nomination);
+    let nominations = forms_by(alloc, own, rows, forms_of(&former, Kind::Nomination))?;
     Ok(KindForms {
         ballots,
         nominations,
@@ -354,18 +356,14 @@ fn kind_forms<'a, S: Places>(
 fn forms_by<'a, S: Places>(
     alloc: Global,
     own: Own<'a>,
-    table: &'a Rows<'a, S>,
-    placed: &'a Placed,
-    former: Option<FormerRegion<'a>>,
-    kind: Kind,
+    rows: ReachedRows<'a, S>,
+    former: Option<Former<'a>>,
 ) -> Result<Vec<Option<Form>>, AllocError>
-    requires ascending { IsAscending placed.now.nodes.items }
-    requires rows { places_of_kind kind placed.now.rows ≡ row_places table.now kind placed.now.nodes.items }
-    requires former { IfSome former (IsFormerRegion own.name.now own.slices.now table.now placed.now.nodes.items) }
-    ensures { IfOk result (λ v. AreAllForms placed.now.nodes.items (slices_by own.entry.name.now own.entry.slices.now table.now kind) v.items) }
+    requires ascending { IsAscending rows.nodes }
+    requires former { IfSome former (IsFormerOf rows.nodes (slices_by own.name.now own.slices.now rows.table rows.kind)) }
+    ensures { IfOk result (λ v. AreAllForms rows.entry.nodes (slices_by own.entry.name.now own.entry.slices.now rows.entry.table rows.entry.kind) v.items) }
 {
-    let rows = ReachedRows::in_place(alloc, &placed.nodes, placed.rows.of(kind), table, kind);
-    let reached = SlicesInReach::new(own, rows, forms_of(&former, kind));
+    let reached = SlicesInReach::new(own, rows, former);
     reached.forms(alloc)
 }
 
@@ -374,6 +372,21 @@ fn forms_by<'a, S: Places>(
 pub(crate) struct Placed {
     pub nodes: Vec<NodeId>,
     pub rows: KindPlaces,
+}
+
+impl Placed {
+    /// The rows of a kind that the nodes have in the table. None is gathered, and it takes no memory.
+    fn rows_of<'a, S: Places>(
+        &'a self,
+        alloc: Global,
+        table: &'a Rows<'a, S>,
+        kind: Kind,
+    ) -> ReachedRows<'a, S>
+        requires { places_of_kind kind self.now.rows ≡ row_places table.now kind self.now.nodes.items }
+        ensures { result ≡ record { nodes = self.now.nodes.items; table = table.now; kind = kind } }
+    {
+        ReachedRows::in_place(alloc, &self.nodes, self.rows.of(kind), table, kind)
+    }
 }
 
 /// A region of other nodes, where its nodes stand among all, and the one node whose rows may be others since.

@@ -85,7 +85,7 @@ impl<'a, S: Places> View<'a, S> {
         let region = &known.region;
         let places = &region.ballot_rows;
         let ballots = ReachedRows::gather(alloc, &region.nodes, places, table, Kind::Ballot)?;
-        Ok(View::by_ballot_rows(alloc, own, leaders, table, known, ballots))
+        Ok(View::by_ballot_rows(alloc, own, leaders, known, ballots))
     }
 
     /// The same, where the rules of balloting are hardly asked: ballot rows are read where they stand. It takes no memory.
@@ -100,7 +100,7 @@ impl<'a, S: Places> View<'a, S> {
         ensures { ⟦<View<'a, S> as Sight>⟧.seen result ≡ seen own.entry.name.now own.entry.slices.now leaders.now table.now }
     {
         let ballots = known.region.rows(alloc, table, Kind::Ballot);
-        View::by_ballot_rows(alloc, own, leaders, table, known, ballots)
+        View::by_ballot_rows(alloc, own, leaders, known, ballots)
     }
 
     /// The same by the ballot rows of the reached nodes, which are at hand.
@@ -108,14 +108,14 @@ impl<'a, S: Places> View<'a, S> {
         alloc: Global,
         own: Own<'a>,
         leaders: &'a Leaders,
-        table: &'a Rows<'a, S>,
         known: &'a KnownReach,
         ballots: ReachedRows<'a, S>,
     ) -> View<'a, S>
-        requires known { IsKnown own.name.now own.slices.now table.now known.now }
-        requires ballots { ballots ≡ record { nodes = known.now.region.nodes.items; table = table.now; kind = Kind.Ballot } }
-        ensures { ⟦<View<'a, S> as Sight>⟧.seen result ≡ seen own.entry.name.now own.entry.slices.now leaders.now table.now }
+        requires known { IsKnown own.name.now own.slices.now ballots.table known.now }
+        requires ballots { ballots ≡ record { nodes = known.now.region.nodes.items; table = ballots.table; kind = Kind.Ballot } }
+        ensures { ⟦<View<'a, S> as Sight>⟧.seen result ≡ seen own.entry.name.now own.entry.slices.now leaders.now ballots.entry.table }
     {
+        let table = ballots.table();
         table.are_single();
         let region = &known.region;
         let nominations = region.rows(alloc, table, Kind::Nomination);

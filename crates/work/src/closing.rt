@@ -6,7 +6,7 @@ ghost use Rattle.work.specs.Hands.{all_parts, weigh};
 ghost use Rattle.work.specs.Queues.{AllPasses, IsOn, parts, parts_by, put_by, taken_by};
 ghost use Rattle.work.specs.declared.rule.Job.{Job};
 
-use crate::rule::{Cut, Job, Line, Pass, Takes};
+use crate::rule::{CutsOff, Job, Line, Pass, Takes};
 use std::sync::Wait;
 
 /// One pass that has put and taken what all of them have.
@@ -20,7 +20,7 @@ pub(crate) fn gather(line: &Line, mut passes: Vec<Pass>) -> Pass
         unreachable!()
     };
     while let Some(pass) = passes.pop() {
-        line.absorb::<Cut>(&mut whole, pass);
+        line.absorb::<CutsOff>(&mut whole, pass);
     }
     whole
 }

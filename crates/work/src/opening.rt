@@ -5,7 +5,7 @@ ghost use Rattle.crossbeam_queue.specs.Passes.{view, IsPassOf};
 ghost use Rattle.work.specs.Hands.{all_parts, hand};
 ghost use Rattle.work.specs.Queues.{AllPasses, IsFreshOn, parts_by};
 
-use crate::rule::{Cut, Line, Pass};
+use crate::rule::{CutsOff, Line, Pass};
 
 /// So many passes, in the room that is there for them: each has one part, and the last one all others.
 pub(crate) fn share_out(
@@ -22,7 +22,7 @@ pub(crate) fn share_out(
     ensures fresh { AllPasses (IsFreshOn line.now) result.items }
 {
     for _made in 1..passes {
-        room.push_reserved(line.another::<Cut>(&mut first));
+        room.push_reserved(line.another::<CutsOff>(&mut first));
     }
     room.push_reserved(first);
     room

@@ -80,9 +80,9 @@ impl Lesson<Job, Hand> for Takes {
 }
 
 /// One part is cut off, for a pass of its own; and a pass takes in all that another one has.
-pub struct Cut;
+pub struct CutsOff;
 
-impl Split<Hand> for Cut {
+impl Split<Hand> for CutsOff {
     ghost use Rattle.std.specs.Prelude.{◌-◌, []};
     ghost use Rattle.work.specs.Hands.{hand};
 
@@ -91,7 +91,7 @@ impl Split<Hand> for Cut {
     ghost right = { λ v. hand 1 [] [] };
 }
 
-impl Join<Hand> for Cut {
+impl Join<Hand> for CutsOff {
     ghost use Rattle.std.specs.Prelude.{◌+◌, ◌++◌, []};
     ghost use Rattle.work.specs.Hands.{hand};
 

@@ -8,7 +8,7 @@ use Rattle.work.specs.declared.line.Queue.{Queue}
 use Rattle.work.specs.Hands.{weigh}
 use Rattle.work.specs.Queues.{put_by, taken_by, parts_by, parts}
 use Rattle.work.proofs.Balances.{weigh-append}
-use Rattle.cells.specs.Sights.{Sight}
+use Rattle.cells.specs.Sights.{SeatSight}
 use Rattle.workers.specs.declared.deal.Bench.{Bench}
 use Rattle.workers.specs.declared.deal.Room.{Room}
 use Rattle.workers.specs.declared.walk.Walk.{Walk}
@@ -76,7 +76,7 @@ dealt_have n [] (w ∷ ws) ys all have = absurd all
 dealt_have n (a ∷ xs) [] ys all have = absurd all
 dealt_have n (a ∷ xs) (w ∷ ws) [] all have = absurd all
 dealt_have n (a ∷ xs) (w ∷ ws) (b ∷ ys) all have = (
-  (let l : length a.seats.items ≡ length (b.seats.items ++ w.seat ∷ []) = ap (λ (l : List Sight). length l) all.0.seats in let m = length-append b.seats.items (w.seat ∷ []) in let h = have.0 in omega arith),
+  (let l : length a.seats.items ≡ length (b.seats.items ++ w.seat ∷ []) = ap (λ (l : List SeatSight). length l) all.0.seats in let m = length-append b.seats.items (w.seat ∷ []) in let h = have.0 in omega arith),
   dealt_have n xs ws ys all.1 have.1,
 )
 
@@ -84,7 +84,7 @@ pub have_less : {S H P : Type 0} → (m n : ℕ) (bs : List (Bench S H P)) → m
 have_less m n [] le all = tt
 have_less m n (b ∷ bs) le all = ((let a = all.0 in omega arith), have_less m n bs le all.1)
 
-pub dealt_sum : {S H P : Type 0} → (f : Sight → ℕ) (xs : List (Bench S H P)) (ws : List (Walk S H P)) (ys : List (Bench S H P)) → IsDealt xs ws ys → on_benches f xs ≡ on_benches f ys + weigh (λ (v : (Walk S H P)). f v.seat) ws
+pub dealt_sum : {S H P : Type 0} → (f : SeatSight → ℕ) (xs : List (Bench S H P)) (ws : List (Walk S H P)) (ys : List (Bench S H P)) → IsDealt xs ws ys → on_benches f xs ≡ on_benches f ys + weigh (λ (v : (Walk S H P)). f v.seat) ws
 dealt_sum f [] [] [] all = refl
 dealt_sum f [] [] (b ∷ ys) all = absurd all
 dealt_sum f [] (w ∷ ws) ys all = absurd all
@@ -106,7 +106,7 @@ dealt_all_last before (x ∷ ws) w after all =
     let r = dealt_all_last all.0 ws w after all.2 in
     (r.0, (all.0, all.1, r.1), r.2)
 
-pub dealt_all_sum : {S H P : Type 0} → (f : Sight → ℕ) (before : List (Bench S H P)) (ws : List (Worker S H P)) (after : List (Bench S H P)) → IsDealtAll before ws after → on_benches f before ≡ on_benches f after + at_work f ws
+pub dealt_all_sum : {S H P : Type 0} → (f : SeatSight → ℕ) (before : List (Bench S H P)) (ws : List (Worker S H P)) (after : List (Bench S H P)) → IsDealtAll before ws after → on_benches f before ≡ on_benches f after + at_work f ws
 dealt_all_sum f before [] after all = (let e : on_benches f after ≡ on_benches f before = ap (on_benches f) all in omega arith)
 dealt_all_sum f before (w ∷ ws) after all =
     let a = dealt_sum f before w.walks.items all.0 all.1 in
@@ -201,7 +201,7 @@ given_from_lt (u ∷ vs) (w ∷ ws) [] ys v all = absurd all
 given_from_lt (u ∷ vs) (w ∷ ws) (x ∷ xs) [] v all = absurd all
 given_from_lt (u ∷ vs) (w ∷ ws) (x ∷ xs) (y ∷ ys) v all = let r = given_from_lt vs ws xs ys v all.2 in omega arith
 
-pub given_sum : {S H P : Type 0} → (f : Sight → ℕ) (xs : List (Bench S H P)) (ws : List (Walk S H P)) (ys : List (Bench S H P)) → IsGiven xs ws ys → on_benches f ys ≡ on_benches f xs + weigh (λ (v : (Walk S H P)). f v.seat) ws
+pub given_sum : {S H P : Type 0} → (f : SeatSight → ℕ) (xs : List (Bench S H P)) (ws : List (Walk S H P)) (ys : List (Bench S H P)) → IsGiven xs ws ys → on_benches f ys ≡ on_benches f xs + weigh (λ (v : (Walk S H P)). f v.seat) ws
 given_sum f [] [] [] all = refl
 given_sum f [] [] (b ∷ ys) all = absurd all
 given_sum f [] (w ∷ ws) ys all = absurd all

@@ -6,12 +6,12 @@ use Rattle.std.proofs.lemmas.Option.{slice_get-get_or}
 use Rattle.protocol.specs.Hosts.{Config}
 use Rattle.cells.specs.Cells.{AllFresh, IsSeatOf}
 use Rattle.cells.specs.Closing.{HasNumber}
-use Rattle.cells.specs.Sights.{CellSight, Sight}
+use Rattle.cells.specs.Sights.{CellSight, SeatSight}
 use Rattle.cells.proofs.Seats.{seats_from_all}
 use Rattle.workers.specs.Benches.{IsHosted}
 
 -- each number is a seat's: the first one's, or that of one that is as it was
-numbered : (c : CellSight) (config : Config) (n : ℕ) (a s : Sight) (rest : List Sight) → AllFresh c.cell config n (a ∷ rest) → length (a ∷ rest) ≡ n
+numbered : (c : CellSight) (config : Config) (n : ℕ) (a s : SeatSight) (rest : List SeatSight) → AllFresh c.cell config n (a ∷ rest) → length (a ∷ rest) ≡ n
     → s.me.number ≡ a.me.number → (k : ℕ) → k < n → HasNumber (s ∷ rest) k
 numbered c config n a s rest fresh many same zero below = (zero, s, refl, same ∙ ap (λ m. m.number) (fresh zero a refl).1)
 numbered c config n a s rest fresh many same (suc k) below =
@@ -19,8 +19,8 @@ numbered c config n a s rest fresh many same (suc k) below =
     (suc k, get_or rest k a, e, ap (λ m. m.number) (fresh (suc k) (get_or rest k a) e).1)
 
 -- the seats that a cell is opened with are all its seats, also where the first has asked for something since
-pub hosted : (c : CellSight) (config : Config) (n : ℕ) (old : List Sight) (s : Sight) → 0 < n → c.seats ≡ n → length old ≡ n
-    → AllFresh c.cell config n old → All (IsSeatOf c) old → IsSeatOf c s → ((d : Sight) → slice_get old 0 ≡ Some d → s.me.number ≡ d.me.number)
+pub hosted : (c : CellSight) (config : Config) (n : ℕ) (old : List SeatSight) (s : SeatSight) → 0 < n → c.seats ≡ n → length old ≡ n
+    → AllFresh c.cell config n old → All (IsSeatOf c) old → IsSeatOf c s → ((d : SeatSight) → slice_get old 0 ≡ Some d → s.me.number ≡ d.me.number)
     → IsHosted c (slice_set old 0 s)
 hosted c config n [] s some seats many fresh all own same = absurd (omega arith)
 hosted c config n (a ∷ rest) s some seats many fresh all own same = record {
@@ -29,7 +29,7 @@ hosted c config n (a ∷ rest) s some seats many fresh all own same = record {
   all = λ k below. numbered c config n a s rest fresh many (same a refl) k (subst (λ m. k < m) seats below);
 }
 
-pub hosted_fresh : (c : CellSight) (config : Config) (n : ℕ) (seats : List Sight) → 0 < n → c.seats ≡ n → length seats ≡ n → AllFresh c.cell config n seats
+pub hosted_fresh : (c : CellSight) (config : Config) (n : ℕ) (seats : List SeatSight) → 0 < n → c.seats ≡ n → length seats ≡ n → AllFresh c.cell config n seats
     → All (IsSeatOf c) seats → IsHosted c seats
 hosted_fresh c config n [] some seats many fresh all = absurd (omega arith)
 hosted_fresh c config n (a ∷ rest) some seats many fresh all =

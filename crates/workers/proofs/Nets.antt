@@ -10,7 +10,7 @@ use Rattle.work.proofs.Balances.{weigh-append}
 use Rattle.cells.specs.Sights.{CellSight}
 use Rattle.cells.specs.Receipts.{Applied}
 use Rattle.cells.specs.Views.{Denial}
-use Rattle.cells.specs.Sights.{Sight}
+use Rattle.cells.specs.Sights.{SeatSight}
 use Rattle.workers.specs.declared.deal.Bench.{Bench}
 use Rattle.workers.specs.declared.floor.Floor.{Floor}
 use Rattle.workers.specs.declared.running.Report.{Report}
@@ -120,7 +120,7 @@ place_fits f g x i is same p =
     (omega arith, omega arith, omega arith)
 
 -- a network joins
-pub joins : {S H P : Type 0} → (f g h : (Floor S H P)) (i : ℕ) (c : CellSight) (seats : List Sight) → IsFloor f → IsSameFloor f g → IsPlace f.shared.numbers.items (number_of c) i → length f.shared.numbers.items < 4096 → IsHosted c seats → IsPut g i c seats h
+pub joins : {S H P : Type 0} → (f g h : (Floor S H P)) (i : ℕ) (c : CellSight) (seats : List SeatSight) → IsFloor f → IsSameFloor f g → IsPlace f.shared.numbers.items (number_of c) i → length f.shared.numbers.items < 4096 → IsHosted c seats → IsPut g i c seats h
     → IsFloor h × (nets_of h.shared.cells.items h.benches.items ≡ nets_with (record { cell = c; seats = seats }) (nets_of f.shared.cells.items f.benches.items))
 joins f g h i c seats is same p few hosted put =
     let cs = f.shared.cells.items in
@@ -181,12 +181,12 @@ nets_last [] (x ∷ bs) c b all = absurd all
 nets_last (d ∷ cs) [] c b all = absurd all
 nets_last (d ∷ cs) (x ∷ bs) c b all = ap (λ l. record { cell = d; seats = x.seats.items } ∷ l) (nets_last cs bs c b all.1)
 
-greatest : {S H P : Type 0} → (c : CellSight) (seats : List Sight) (cs : List CellSight) (bs : List (Bench S H P)) → IsRising (map number_of cs ++ number_of c ∷ []) → IsGreatest (record { cell = c; seats = seats }) (nets_of cs bs)
+greatest : {S H P : Type 0} → (c : CellSight) (seats : List SeatSight) (cs : List CellSight) (bs : List (Bench S H P)) → IsRising (map number_of cs ++ number_of c ∷ []) → IsGreatest (record { cell = c; seats = seats }) (nets_of cs bs)
 greatest c seats [] bs up = tt
 greatest c seats (d ∷ cs) [] up = tt
 greatest c seats (d ∷ cs) (b ∷ bs) up = (above_last (number_of d) (map number_of cs) (number_of c) up.0, greatest c seats cs bs up.1)
 
-pub leaves : {S H P : Type 0} → (f g : (Floor S H P)) (c : CellSight) (seats : List Sight) → IsFloor f → IsRemoved f c seats g
+pub leaves : {S H P : Type 0} → (f g : (Floor S H P)) (c : CellSight) (seats : List SeatSight) → IsFloor f → IsRemoved f c seats g
     → IsFloor g × IsHosted c seats × IsGreatest (record { cell = c; seats = seats }) (nets_of g.shared.cells.items g.benches.items)
     × (nets_of f.shared.cells.items f.benches.items ≡ nets_of g.shared.cells.items g.benches.items ++ record { cell = c; seats = seats } ∷ [])
 leaves {S} {H} {P} f g c seats is gone =
@@ -206,7 +206,7 @@ leaves {S} {H} {P} f g c seats is gone =
       },
       subst (IsHosted c) gone.own both.1,
       greatest c seats cs bs (subst IsRising same up),
-      (λ i. nets_of (gone.cells i) (gone.benches i)) ∙ nets_last cs bs c gone.bench both.0 ∙ ap (λ (l : List Sight). nets_of cs bs ++ record { cell = c; seats = l } ∷ []) gone.own,
+      (λ i. nets_of (gone.cells i) (gone.benches i)) ∙ nets_last cs bs c gone.bench both.0 ∙ ap (λ (l : List SeatSight). nets_of cs bs ++ record { cell = c; seats = l } ∷ []) gone.own,
     )
 
 -- networks part
@@ -314,13 +314,13 @@ parts_fit f nets k view is le =
 
 -- what was gained
 
-gains_seats : (f : Sight → ℕ) (g : Sight → Sight → ℕ) → ((a b : Sight) → IsLater a b → f b ≡ f a + g a b) → (xs ys : List Sight) → AllGrown xs ys → weigh f ys ≡ weigh f xs + over_seats g xs ys
+gains_seats : (f : SeatSight → ℕ) (g : SeatSight → SeatSight → ℕ) → ((a b : SeatSight) → IsLater a b → f b ≡ f a + g a b) → (xs ys : List SeatSight) → AllGrown xs ys → weigh f ys ≡ weigh f xs + over_seats g xs ys
 gains_seats f g one [] [] all = refl
 gains_seats f g one [] (y ∷ ys) all = absurd all
 gains_seats f g one (x ∷ xs) [] all = absurd all
 gains_seats f g one (x ∷ xs) (y ∷ ys) all = let a = one x y all.0 in let r = gains_seats f g one xs ys all.1 in omega arith
 
-gains : {S H P : Type 0} → (f : Sight → ℕ) (g : Sight → Sight → ℕ) → ((a b : Sight) → IsLater a b → f b ≡ f a + g a b) → (cs : List CellSight) (xs ys : List (Bench S H P)) → AllHosted cs xs → AllGrownBenches xs ys → on_benches f ys ≡ on_benches f xs + over_nets g (nets_of cs xs) (nets_of cs ys)
+gains : {S H P : Type 0} → (f : SeatSight → ℕ) (g : SeatSight → SeatSight → ℕ) → ((a b : SeatSight) → IsLater a b → f b ≡ f a + g a b) → (cs : List CellSight) (xs ys : List (Bench S H P)) → AllHosted cs xs → AllGrownBenches xs ys → on_benches f ys ≡ on_benches f xs + over_nets g (nets_of cs xs) (nets_of cs ys)
 gains f g one [] [] [] hosted all = refl
 gains f g one [] [] (y ∷ ys) hosted all = absurd all
 gains f g one [] (x ∷ xs) ys hosted all = absurd hosted
@@ -330,13 +330,13 @@ gains f g one (c ∷ cs) (x ∷ xs) (y ∷ ys) hosted all =
     let a = gains_seats f g one x.seats.items y.seats.items all.0.0 in
     let r = gains f g one cs xs ys hosted.1 all.1 in omega arith
 
-gained_is : (a b : Sight) (l : IsLater a b) → gained a b ≡ l.receipts
+gained_is : (a b : SeatSight) (l : IsLater a b) → gained a b ≡ l.receipts
 gained_is a b l = ap (drop (length a.me.receipts)) l.gained ∙ drop-append_seam a.me.receipts l.receipts
 
-denied_is : (a b : Sight) (l : IsLater a b) → denied a b ≡ l.denials
+denied_is : (a b : SeatSight) (l : IsLater a b) → denied a b ≡ l.denials
 denied_is a b l = ap (drop (length a.me.denials)) l.refused ∙ drop-append_seam a.me.denials l.denials
 
-one_done : (h : Job → ℕ) (a b : Sight) → IsLater a b → seat_done h b ≡ seat_done h a + done_since h a b
+one_done : (h : Job → ℕ) (a b : SeatSight) → IsLater a b → seat_done h b ≡ seat_done h a + done_since h a b
 one_done h a b l =
     let p : applied_of h b.me.config b.me.receipts ≡ applied_of h a.me.config a.me.receipts + applied_of h a.me.config (gained a b) =
     (λ i. applied_of h (l.config i) (l.gained i)) ∙ weigh-append (λ (r : Applied). h (job a.me.config.number r.event)) a.me.receipts l.receipts ∙ ap (λ x. applied_of h a.me.config a.me.receipts + applied_of h a.me.config x) (sym (gained_is a b l)) in
@@ -344,14 +344,14 @@ one_done h a b l =
     (λ i. refused_of h (l.config i) (l.refused i)) ∙ weigh-append (λ (r : Denial). h (job a.me.config.number r.event)) a.me.denials l.denials ∙ ap (λ x. refused_of h a.me.config a.me.denials + refused_of h a.me.config x) (sym (denied_is a b l)) in
     omega arith
 
-one_heard : (h : Job → ℕ) (a b : Sight) → IsLater a b → seat_heard h b ≡ seat_heard h a + heard_since h a b
+one_heard : (h : Job → ℕ) (a b : SeatSight) → IsLater a b → seat_heard h b ≡ seat_heard h a + heard_since h a b
 one_heard h a b l =
     (λ i. heard_of h (l.config i) (l.gained i)) ∙ weigh-append (λ (r : Applied). weigh h (hears a.me.config r)) a.me.receipts l.receipts ∙ ap (λ x. heard_of h a.me.config a.me.receipts + heard_of h a.me.config x) (sym (gained_is a b l))
 
-one_applied : (a b : Sight) → IsLater a b → seat_applied b ≡ seat_applied a + length (gained a b)
+one_applied : (a b : SeatSight) → IsLater a b → seat_applied b ≡ seat_applied a + length (gained a b)
 one_applied a b l = ap (λ (x : List Applied). length x) l.gained ∙ length-append a.me.receipts l.receipts ∙ ap (λ (x : List Applied). length a.me.receipts + length x) (sym (gained_is a b l))
 
-one_refused : (a b : Sight) → IsLater a b → seat_refused b ≡ seat_refused a + length (denied a b)
+one_refused : (a b : SeatSight) → IsLater a b → seat_refused b ≡ seat_refused a + length (denied a b)
 one_refused a b l = ap (λ (x : List Denial). length x) l.refused ∙ length-append a.me.denials l.denials ∙ ap (λ (x : List Denial). length a.me.denials + length x) (sym (denied_is a b l))
 
 pub is_done : {S H P : Type 0} → (cs : List CellSight) (xs ys : List (Bench S H P)) (came went : (Job → ℕ) → ℕ) (r : Report) → AllHosted cs xs → AllGrownBenches xs ys → IsWorked cs xs ys came went r → IsDone (nets_of cs xs) (nets_of cs ys) came went r

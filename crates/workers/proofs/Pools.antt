@@ -11,7 +11,7 @@ use Rattle.work.specs.Queues.{put_by, taken_by, parts_by, parts, AllPasses, IsOf
 use Rattle.work.proofs.Balances.{weigh-append}
 use Rattle.cells.specs.Sights.{CellSight}
 use Rattle.workers.specs.declared.worker.Worker.{Worker}
-use Rattle.workers.specs.Sums.{AllLaterWorkers, AllPassing, AllReady, IsClosed, IsKept, IsPassing, IsReady, IsSummed, told, at_rest, denials_of, done, hand_of, applied_by, refused_by, parts_of, passes_of, put, receipts_of, taken}
+use Rattle.workers.specs.Sums.{AllLaterWorkers, AllPassing, AllReady, IsClosed, KeepsSums, IsPassing, IsReady, IsSummed, told, at_rest, denials_of, done, hand_of, applied_by, refused_by, parts_of, passes_of, put, receipts_of, taken}
 use Rattle.workers.proofs.Sums.{all_lack_both, all_later_both, all_later_none, all_of}
 
 pub ready_at : {S H P : Type 0} → (cs : List CellSight) (q : Option Queue) (ws : List (Worker S H P)) (k : ℕ) (w : (Worker S H P)) → AllReady cs q ws → k < length ws → w ≡ get_or ws k w → IsReady cs q w
@@ -115,10 +115,10 @@ first_ready cs (x ∷ xs) w all one = (one, all.1)
 -- what the first worker does at the end closes the sums of all
 pub closed : {S H P : Type 0} → (cs : List CellSight) (xs zs : List (Worker S H P)) (ps qs : List (Pass Job Hand)) (a c : (Worker S H P)) (left : List Job)
     → 0 < length xs → a ≡ get_or (map at_rest xs) 0 a → zs ≡ slice_set (map at_rest xs) 0 c → qs ≡ ps ++ passes_of xs → ((h : Job → ℕ) → put_by h qs ≡ taken_by h qs + weigh h left)
-    → IsPassing None c.pass → IsKept cs left a c → IsClosed cs ps xs zs
+    → IsPassing None c.pass → KeepsSums cs left a c → IsClosed cs ps xs zs
 closed cs [] zs ps qs a c left lt at after all close nc k = absurd (omega arith)
 closed cs (x ∷ xs) zs ps qs a c left lt at after all close nc kept =
-    let k : IsKept cs left (at_rest x) c = subst (λ (y : (Worker _ _ _)). IsKept cs left y c) at kept in
+    let k : KeepsSums cs left (at_rest x) c = subst (λ (y : (Worker _ _ _)). KeepsSums cs left y c) at kept in
     let w : (f : (Worker _ _ _) → ℕ) → weigh f zs ≡ f c + weigh (λ (w : (Worker _ _ _)). f (at_rest w)) xs = λ f. ap (weigh f) after ∙ (let r = weigh_rest f xs in omega arith) in
     record {
       lacking = k.lacking;
@@ -158,6 +158,6 @@ rest_is (x ∷ xs) ys d lt is = ap (λ (l : List (Worker _ _ _)). get_or l 0 d) 
 
 pub closed_by : {S H P : Type 0} → (cs : List CellSight) (xs ys : List (Worker S H P)) (ps qs : List (Pass Job Hand)) (d c : (Worker S H P)) (left : List Job)
     → 0 < length xs → ys ≡ map at_rest xs → qs ≡ ps ++ passes_of xs → ((h : Job → ℕ) → put_by h qs ≡ taken_by h qs + weigh h left)
-    → IsPassing None c.pass → IsKept cs left (get_or ys 0 d) c → IsClosed cs ps xs (slice_set ys 0 c)
+    → IsPassing None c.pass → KeepsSums cs left (get_or ys 0 d) c → IsClosed cs ps xs (slice_set ys 0 c)
 closed_by cs xs ys ps qs d c left lt is all close passing kept =
     closed cs xs (slice_set ys 0 c) ps qs (get_or ys 0 d) c left lt (rest_is xs ys d lt is) (ap (λ (l : List (Worker _ _ _)). slice_set l 0 c) is) all close passing kept

@@ -17,11 +17,11 @@ use Rattle.cells.specs.Receipts.{Applied}
 use Rattle.cells.specs.Views.{Denial}
 use Rattle.cells.specs.Sights.{CellSight}
 use Rattle.cells.specs.Cells.{IsSeatOf}
-use Rattle.cells.specs.Sights.{Sight}
+use Rattle.cells.specs.Sights.{SeatSight}
 use Rattle.workers.specs.declared.walk.Walk.{Walk}
 use Rattle.workers.specs.declared.worker.Worker.{Worker}
 use Rattle.workers.specs.Numbers.{Lacks, AllLack, IsNumberAt}
-use Rattle.workers.specs.Sums.{job, hears, applied_of, refused_of, heard_of, done_by, told_by, applied_many, refused_many, seat_done, hand_of, IsWalk, AllSeated, IsLater, AllLater, IsDone, done, told, put, taken, IsKept, with_put, with_taken, AllPast, AllPastBut, hear_by, hears_of, hears_from, emission_in, IsNext, IsShort, SamePlaces, IsThrough, AllReady, IsSummed, IsReady, IsBusy}
+use Rattle.workers.specs.Sums.{job, hears, applied_of, refused_of, heard_of, done_by, told_by, applied_many, refused_many, seat_done, hand_of, IsWalk, AllSeated, IsLater, AllLater, IsDone, done, told, put, taken, KeepsSums, with_put, with_taken, AllPast, AllPastBut, hear_by, hears_of, hears_from, emission_in, IsNext, IsShort, SamePlaces, IsThrough, AllReady, IsSummed, IsReady, IsBusy}
 use Rattle.work.specs.declared.line.Queue.{Queue}
 use Rattle.std.proofs.Common.{Option, Some, None}
 use Rattle.crossbeam_queue.specs.Passes.{Pass}
@@ -60,10 +60,10 @@ seated_set (x ∷ xs) (y ∷ ys) (suc k) c w all lt is now = (all.0, seated_set 
 
 -- the same seat later
 
-pub later_none : (a : Sight) → IsLater a a
+pub later_none : (a : SeatSight) → IsLater a a
 later_none a = record { cell = refl; number = refl; config = refl; seats = refl; closed = refl; receipts = []; denials = []; gained = sym (append-nil _); refused = sym (append-nil _) }
 
-pub later_both : (a b c : Sight) → IsLater a b → IsLater b c → IsLater a c
+pub later_both : (a b c : SeatSight) → IsLater a b → IsLater b c → IsLater a c
 later_both a b c x y = record {
   cell = y.cell ∙ x.cell;
   number = y.number ∙ x.number;
@@ -138,7 +138,7 @@ pub still_next : {S H P : Type 0} → (xs ys : List (Walk S H P)) (k : ℕ) (a b
 still_next xs ys k a b r short is at places later next = next_later a b r (later_at xs ys k a b later short.0 is at) (place_at xs ys k a b places short.0 is at) (short_at xs k a short is) next
 
 pub moved_walk : {S H P : Type 0} → (c : CellSight) (w v : (Walk S H P)) → IsWalk c w → w.place < length w.seat.me.receipts → v.seat ≡ w.seat → v.place ≡ w.place + 1 → IsWalk c v
-moved_walk c w v walk lt seat place = (subst (IsSeatOf c) (sym seat) walk.0, (let l : length v.seat.me.receipts ≡ length w.seat.me.receipts = ap (λ (s : Sight). length s.me.receipts) seat in omega arith))
+moved_walk c w v walk lt seat place = (subst (IsSeatOf c) (sym seat) walk.0, (let l : length v.seat.me.receipts ≡ length w.seat.me.receipts = ap (λ (s : SeatSight). length s.me.receipts) seat in omega arith))
 
 -- jobs for one node more
 hears_of-append : (e : Emission) (hs : List Host) (h : Host) → hears_of e (hs ++ h ∷ []) ≡ hears_of e hs ++ hear_by e h
@@ -282,10 +282,10 @@ pub all_lack_both : (cs : List CellSight) (xs ys : List Job) → AllLack cs xs �
 all_lack_both cs [] ys a b = b
 all_lack_both cs (x ∷ xs) ys a b = (a.0, all_lack_both cs xs ys a.1 b)
 
-pub kept_none : {S H P : Type 0} → (cs : List CellSight) (a : (Worker S H P)) → IsKept cs [] a a
+pub kept_none : {S H P : Type 0} → (cs : List CellSight) (a : (Worker S H P)) → KeepsSums cs [] a a
 kept_none cs a = record { lacking = []; elsewhere = tt; sum = λ h. omega arith; applied = omega arith; refused = omega arith; later = all_later_none a.walks.items; parts = refl }
 
-pub kept_both : {S H P : Type 0} → (cs : List CellSight) (xs ys : List Job) (a b c : (Worker S H P)) → IsKept cs xs a b → IsKept cs ys b c → IsKept cs (xs ++ ys) a c
+pub kept_both : {S H P : Type 0} → (cs : List CellSight) (xs ys : List Job) (a b c : (Worker S H P)) → KeepsSums cs xs a b → KeepsSums cs ys b c → KeepsSums cs (xs ++ ys) a c
 kept_both cs xs ys a b c k l = record {
   lacking = k.lacking ++ l.lacking;
   elsewhere = all_lack_both cs k.lacking l.lacking k.elsewhere l.elsewhere;
@@ -297,7 +297,7 @@ kept_both cs xs ys a b c k l = record {
 }
 
 -- a job of no network here
-pub kept_lacking : {S H P : Type 0} → (cs : List CellSight) (a b : (Worker S H P)) (j : Job) → Lacks cs j.network → b.walks.items ≡ a.walks.items → b.pass ≡ a.pass → b.applied ≡ a.applied → b.refused ≡ a.refused + 1 → IsKept cs (j ∷ []) a b
+pub kept_lacking : {S H P : Type 0} → (cs : List CellSight) (a b : (Worker S H P)) (j : Job) → Lacks cs j.network → b.walks.items ≡ a.walks.items → b.pass ≡ a.pass → b.applied ≡ a.applied → b.refused ≡ a.refused + 1 → KeepsSums cs (j ∷ []) a b
 kept_lacking cs a b j lacks walks pass applied refused = record {
   lacking = j ∷ [];
   elsewhere = (lacks, tt);
@@ -317,7 +317,7 @@ kept_lacking cs a b j lacks walks pass applied refused = record {
 pub kept_done : {S H P : Type 0} → (cs : List CellSight) (a b : (Worker S H P)) (j : Job) (k : ℕ) (old new : (Walk S H P)) (well : Bool) → k < length a.walks.items → old ≡ get_or a.walks.items k old → IsDone old new j well
     → b.walks.items ≡ slice_set a.walks.items k new → b.pass ≡ a.pass
     → b.applied ≡ a.applied + (if well then 1 else 0) → b.refused ≡ a.refused + (if well then 0 else 1)
-    → IsKept cs (j ∷ []) a b
+    → KeepsSums cs (j ∷ []) a b
 kept_done cs a b j k old new well lt at one walks pass applied refused = record {
   lacking = [];
   elsewhere = tt;
@@ -344,7 +344,7 @@ kept_done cs a b j k old new well lt at one walks pass applied refused = record 
 }
 
 -- the job went into the queue
-pub kept_put : {S H P : Type 0} → (cs : List CellSight) (a b : (Worker S H P)) (j : Job) → b.walks ≡ a.walks → b.applied ≡ a.applied → b.refused ≡ a.refused → hand_of b.pass ≡ with_put (hand_of a.pass) j → IsKept cs (j ∷ []) a b
+pub kept_put : {S H P : Type 0} → (cs : List CellSight) (a b : (Worker S H P)) (j : Job) → b.walks ≡ a.walks → b.applied ≡ a.applied → b.refused ≡ a.refused → hand_of b.pass ≡ with_put (hand_of a.pass) j → KeepsSums cs (j ∷ []) a b
 kept_put cs a b j walks applied refused pass =
     let items : b.walks.items ≡ a.walks.items = ap (λ v. v.items) walks in
     record {
@@ -363,7 +363,7 @@ kept_put cs a b j walks applied refused pass =
     }
 
 -- the job that was taken is done
-pub kept_taken : {S H P : Type 0} → (cs : List CellSight) (a b c : (Worker S H P)) (j : Job) → b.walks ≡ a.walks → b.applied ≡ a.applied → b.refused ≡ a.refused → hand_of b.pass ≡ with_taken (hand_of a.pass) j → IsKept cs (j ∷ []) b c → IsKept cs [] a c
+pub kept_taken : {S H P : Type 0} → (cs : List CellSight) (a b c : (Worker S H P)) (j : Job) → b.walks ≡ a.walks → b.applied ≡ a.applied → b.refused ≡ a.refused → hand_of b.pass ≡ with_taken (hand_of a.pass) j → KeepsSums cs (j ∷ []) b c → KeepsSums cs [] a c
 kept_taken cs a b c j walks applied refused pass kept =
     let items : b.walks.items ≡ a.walks.items = ap (λ v. v.items) walks in
     record {
@@ -385,18 +385,18 @@ kept_taken cs a b c j walks applied refused pass kept =
 pub kept_moved : {S H P : Type 0} → (cs : List CellSight) (a b c : (Worker S H P)) (k : ℕ) (w v : (Walk S H P)) (r : Applied) (xs : List Job) → k < length b.walks.items → w ≡ get_or b.walks.items k w → IsNext w r → w.place < length w.seat.me.receipts
     → xs ≡ hears w.seat.me.config r → v.seat ≡ w.seat → v.place ≡ w.place + 1
     → c.walks.items ≡ slice_set b.walks.items k v → c.pass ≡ b.pass → c.applied ≡ b.applied → c.refused ≡ b.refused
-    → IsKept cs xs a b → IsKept cs [] a c
+    → KeepsSums cs xs a b → KeepsSums cs [] a c
 kept_moved cs a b c k w v r xs lt at next short is seat place walks pass applied refused kept =
     let later : IsLater w.seat v.seat = record {
-      cell = ap (λ (s : Sight). s.cell) seat;
-      number = ap (λ (s : Sight). s.me.number) seat;
-      config = ap (λ (s : Sight). s.me.config) seat;
-      seats = ap (λ (s : Sight). s.me.seats) seat;
-      closed = ap (λ (s : Sight). s.me.closed) seat;
+      cell = ap (λ (s : SeatSight). s.cell) seat;
+      number = ap (λ (s : SeatSight). s.me.number) seat;
+      config = ap (λ (s : SeatSight). s.me.config) seat;
+      seats = ap (λ (s : SeatSight). s.me.seats) seat;
+      closed = ap (λ (s : SeatSight). s.me.closed) seat;
       receipts = [];
       denials = [];
-      gained = ap (λ (s : Sight). s.me.receipts) seat ∙ sym (append-nil _);
-      refused = ap (λ (s : Sight). s.me.denials) seat ∙ sym (append-nil _);
+      gained = ap (λ (s : SeatSight). s.me.receipts) seat ∙ sym (append-nil _);
+      refused = ap (λ (s : SeatSight). s.me.denials) seat ∙ sym (append-nil _);
     } in
     record {
       lacking = kept.lacking;
@@ -420,12 +420,12 @@ kept_moved cs a b c k w v r xs lt at next short is seat place walks pass applied
       applied =
           let m : weigh applied_many c.walks.items ≡ weigh applied_many (slice_set b.walks.items k v) = ap (weigh applied_many) walks in
           let n = weigh_set applied_many b.walks.items k w v lt at in
-          let same : applied_many v ≡ applied_many w = ap (λ (t : Sight). length t.me.receipts) seat in
+          let same : applied_many v ≡ applied_many w = ap (λ (t : SeatSight). length t.me.receipts) seat in
           let s = kept.applied in omega arith;
       refused =
           let m : weigh refused_many c.walks.items ≡ weigh refused_many (slice_set b.walks.items k v) = ap (weigh refused_many) walks in
           let n = weigh_set refused_many b.walks.items k w v lt at in
-          let same : refused_many v ≡ refused_many w = ap (λ (t : Sight). length t.me.denials) seat in
+          let same : refused_many v ≡ refused_many w = ap (λ (t : SeatSight). length t.me.denials) seat in
           let s = kept.refused in omega arith;
       later = all_later_both a.walks.items b.walks.items c.walks.items kept.later (subst (AllLater b.walks.items) (sym walks) (all_later_set b.walks.items k w v lt at later));
       parts = ap (λ p. (hand_of p).parts) pass ∙ kept.parts;
@@ -434,7 +434,7 @@ kept_moved cs a b c k w v r xs lt at next short is seat place walks pass applied
 summed_none : {S H P : Type 0} (cs : List CellSight) → IsSummed {S = S} {H = H} {P = P} cs [] []
 summed_none cs = record { lacking = []; elsewhere = tt; sum = λ h. refl; applied = refl; refused = refl; later = tt; parts = refl }
 
-summed_one : {S H P : Type 0} → (cs : List CellSight) (a b : (Worker S H P)) (xs ys : List (Worker S H P)) → IsKept cs [] a b → IsSummed cs xs ys → IsSummed cs (a ∷ xs) (b ∷ ys)
+summed_one : {S H P : Type 0} → (cs : List CellSight) (a b : (Worker S H P)) (xs ys : List (Worker S H P)) → KeepsSums cs [] a b → IsSummed cs xs ys → IsSummed cs (a ∷ xs) (b ∷ ys)
 summed_one cs a b xs ys k s = record {
   lacking = k.lacking ++ s.lacking;
   elsewhere = all_lack_both cs k.lacking s.lacking k.elsewhere s.elsewhere;
@@ -462,8 +462,8 @@ weigh-last f before after x is = ap (weigh f) is ∙ weigh-append f after (x ∷
 
 -- one job more was handed out, the last of those that were left
 pub one_handed : {S H P : Type 0} → (cs : List CellSight) (all left now handed : List Job) (j : Job) (a b c : (Worker S H P)) → left ≡ now ++ j ∷ []
-    → ((h : Job → ℕ) → weigh h handed + weigh h left ≡ weigh h all) → IsKept cs handed a b → IsKept cs (j ∷ []) b c
-    → (more : List Job) × ((h : Job → ℕ) → weigh h more + weigh h now ≡ weigh h all) × IsKept cs more a c
+    → ((h : Job → ℕ) → weigh h handed + weigh h left ≡ weigh h all) → KeepsSums cs handed a b → KeepsSums cs (j ∷ []) b c
+    → (more : List Job) × ((h : Job → ℕ) → weigh h more + weigh h now ≡ weigh h all) × KeepsSums cs more a c
 one_handed cs all left now handed j a b c is sum kept one = (
   handed ++ j ∷ [],
   λ h. let x = weigh-last h left now j is in let y = weigh-append h handed (j ∷ []) in let z = sum h in omega arith,

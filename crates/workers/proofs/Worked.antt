@@ -12,7 +12,7 @@ use Rattle.work.proofs.Balances.{weigh-append}
 use Rattle.cells.specs.Sights.{CellSight}
 use Rattle.cells.specs.Cells.{IsSeatOf}
 use Rattle.cells.specs.Closing.{AllSeats}
-use Rattle.cells.specs.Sights.{Sight}
+use Rattle.cells.specs.Sights.{SeatSight}
 use Rattle.workers.specs.declared.deal.Bench.{Bench}
 use Rattle.workers.specs.declared.running.Report.{Report}
 use Rattle.workers.specs.declared.walk.Walk.{Walk}
@@ -23,7 +23,7 @@ use Rattle.workers.proofs.Sums.{later_none}
 use Rattle.workers.proofs.Deals.{dealt_all_sum, dealt_len, dealt_sum, given_sum, passing_cut}
 use Rattle.workers.proofs.Pools.{parts_weigh, passing_append, passing_one, put_weighs, taken_weighs}
 use Rattle.std.specs.Option.{option_to_list}
-use Rattle.workers.specs.Sums.{IsKept, IsPassing}
+use Rattle.workers.specs.Sums.{KeepsSums, IsPassing}
 use Rattle.work.specs.Queues.{parts}
 
 pub weigh_more : {X : Type 0} (f : X → ℕ) (xs : List X) (i : ℕ) (x : X) → i < length xs → x ≡ get_or xs i x → weigh f (take (i + 1) xs) ≡ weigh f (take i xs) + f x
@@ -43,7 +43,7 @@ own [] (b ∷ bs) all = absurd all
 own (c ∷ cs) [] all = absurd all
 own (c ∷ cs) (b ∷ bs) all = (all.0.own, own cs bs all.1)
 
-seats_front : (P : Sight → Type 0) (xs : List Sight) (s : Sight) → AllSeats P (xs ++ s ∷ []) → AllSeats P xs × P s
+seats_front : (P : SeatSight → Type 0) (xs : List SeatSight) (s : SeatSight) → AllSeats P (xs ++ s ∷ []) → AllSeats P xs × P s
 seats_front P [] s all = (tt, all.0)
 seats_front P (x ∷ xs) s all = let r = seats_front P xs s all.1 in ((all.0, r.0), r.1)
 
@@ -72,7 +72,7 @@ dealt_ready cs q before ws after hosted h d = ready_all cs q before ws after (ow
 
 -- seats that have grown
 
-pub grown_none : (xs : List Sight) → AllGrown xs xs
+pub grown_none : (xs : List SeatSight) → AllGrown xs xs
 grown_none [] = tt
 grown_none (x ∷ xs) = (later_none x, grown_none xs)
 
@@ -80,13 +80,13 @@ pub grown_benches_none : {S H P : Type 0} → (bs : List (Bench S H P)) → AllG
 grown_benches_none [] = tt
 grown_benches_none (b ∷ bs) = ((grown_none b.seats.items, refl), grown_benches_none bs)
 
-grown_snoc : (xs ys : List Sight) (a b : Sight) → AllGrown xs ys → IsLater a b → AllGrown (xs ++ a ∷ []) (ys ++ b ∷ [])
+grown_snoc : (xs ys : List SeatSight) (a b : SeatSight) → AllGrown xs ys → IsLater a b → AllGrown (xs ++ a ∷ []) (ys ++ b ∷ [])
 grown_snoc [] [] a b all one = (one, tt)
 grown_snoc [] (y ∷ ys) a b all one = absurd all
 grown_snoc (x ∷ xs) [] a b all one = absurd all
 grown_snoc (x ∷ xs) (y ∷ ys) a b all one = (all.0, grown_snoc xs ys a b all.1 one)
 
-grown_len : (xs ys : List Sight) → AllGrown xs ys → length ys ≡ length xs
+grown_len : (xs ys : List SeatSight) → AllGrown xs ys → length ys ≡ length xs
 grown_len [] [] all = refl
 grown_len [] (y ∷ ys) all = absurd all
 grown_len (x ∷ xs) [] all = absurd all
@@ -118,7 +118,7 @@ given_grown (x ∷ before) (w ∷ ws) (m ∷ mid) [] (u ∷ cur) after d g l b =
 given_grown (x ∷ before) (w ∷ ws) (m ∷ mid) (z ∷ zs) (u ∷ cur) [] d g l b = absurd b
 given_grown (x ∷ before) (w ∷ ws) (m ∷ mid) (z ∷ zs) (u ∷ cur) (a ∷ after) d g l b = (
   (
-    subst (λ (p : List Sight × List Sight). AllGrown p.0 p.1) (λ i. (sym d.0.seats i, sym b.0.seats i)) (grown_snoc m.seats.items u.seats.items w.seat z.seat g.0.0 l.0),
+    subst (λ (p : List SeatSight × List SeatSight). AllGrown p.0 p.1) (λ i. (sym d.0.seats i, sym b.0.seats i)) (grown_snoc m.seats.items u.seats.items w.seat z.seat g.0.0 l.0),
     b.0.capacity ∙ g.0.1 ∙ d.0.capacity,
   ),
   given_grown before ws mid zs cur after d.1 g.1 l.1 b.1,
@@ -184,10 +184,10 @@ told_all cs q h (w ∷ ws) all =
     let e = told_past h w.walks.items all.0.past in omega arith
 
 pub worked : {S H P : Type 0} → (cs : List CellSight) (q : Option Queue) (xs mid ys : List (Bench S H P)) (ws zs : List (Worker S H P)) (ps qs : List (Pass Job Hand)) (r : Report)
-    → IsDealtAll xs ws mid → ((f : Sight → ℕ) → on_benches f ys ≡ on_benches f mid + at_work f zs) → AllFresh ws → IsSplit ps ws qs → AllReady cs q ws → AllReady cs None zs
+    → IsDealtAll xs ws mid → ((f : SeatSight → ℕ) → on_benches f ys ≡ on_benches f mid + at_work f zs) → AllFresh ws → IsSplit ps ws qs → AllReady cs q ws → AllReady cs None zs
     → IsClosed cs qs ws zs → IsCounted zs r → IsWorked cs xs ys (λ h. put_by h ps) (λ h. taken_by h ps) r
 worked cs q xs mid ys ws zs ps qs r dealt given fresh split ready rest closed counted =
-    let s : (f : Sight → ℕ) → on_benches f xs ≡ on_benches f mid + at_work f ws = λ f. dealt_all_sum f xs ws mid dealt in
+    let s : (f : SeatSight → ℕ) → on_benches f xs ≡ on_benches f mid + at_work f ws = λ f. dealt_all_sum f xs ws mid dealt in
     let n = fresh_sums ws fresh in
     let n0 = n.0 in let n1 = n.1 in
     record {
@@ -224,7 +224,7 @@ worked cs q xs mid ys ws zs ps qs r dealt given fresh split ready rest closed co
 
 -- hosted as before
 
-own_grown : (c : CellSight) (xs ys : List Sight) → AllGrown xs ys → AllSeats (IsSeatOf c) xs → AllSeats (IsSeatOf c) ys
+own_grown : (c : CellSight) (xs ys : List SeatSight) → AllGrown xs ys → AllSeats (IsSeatOf c) xs → AllSeats (IsSeatOf c) ys
 own_grown c [] [] g all = tt
 own_grown c [] (y ∷ ys) g all = absurd g
 own_grown c (x ∷ xs) [] g all = absurd g
@@ -233,13 +233,13 @@ own_grown c (x ∷ xs) (y ∷ ys) g all = (
   own_grown c xs ys g.1 all.1,
 )
 
-grown_at : (xs ys : List Sight) (i : ℕ) (s : Sight) → AllGrown xs ys → slice_get xs i ≡ Some s → (t : Sight) × (slice_get ys i ≡ Some t) × (t.me.number ≡ s.me.number)
+grown_at : (xs ys : List SeatSight) (i : ℕ) (s : SeatSight) → AllGrown xs ys → slice_get xs i ≡ Some s → (t : SeatSight) × (slice_get ys i ≡ Some t) × (t.me.number ≡ s.me.number)
 grown_at xs ys i s g at = go xs ys i g at
   where
-    go : (xs ys : List Sight) (i : ℕ) → AllGrown xs ys → slice_get xs i ≡ Some s → (t : Sight) × (slice_get ys i ≡ Some t) × (t.me.number ≡ s.me.number)
+    go : (xs ys : List SeatSight) (i : ℕ) → AllGrown xs ys → slice_get xs i ≡ Some s → (t : SeatSight) × (slice_get ys i ≡ Some t) × (t.me.number ≡ s.me.number)
     go [] ys i g at = absurd (cc)
     go (x ∷ xs) [] i g at = absurd g
-    go (x ∷ xs) (y ∷ ys) zero g at = (y, refl, g.0.number ∙ ap (λ (v : Sight). v.me.number) (let is : x ≡ s = cc in is))
+    go (x ∷ xs) (y ∷ ys) zero g at = (y, refl, g.0.number ∙ ap (λ (v : SeatSight). v.me.number) (let is : x ≡ s = cc in is))
     go (x ∷ xs) (y ∷ ys) (suc i) g at = go xs ys i g.1 at
 
 pub hosted_grown : {S H P : Type 0} → (cs : List CellSight) (xs ys : List (Bench S H P)) → AllHosted cs xs → AllGrownBenches xs ys → AllHosted cs ys
@@ -271,7 +271,7 @@ pub empty : {X : Type 0} (xs : List X) → length xs ≡ 0 → xs ≡ []
 empty [] len = refl
 empty (x ∷ xs) len = absurd (omega arith)
 
-has_one : (xs : List Sight) (i : ℕ) (s : Sight) → slice_get xs i ≡ Some s → 1 ≤ length xs
+has_one : (xs : List SeatSight) (i : ℕ) (s : SeatSight) → slice_get xs i ≡ Some s → 1 ≤ length xs
 has_one [] i s e = absurd (cc)
 has_one (x ∷ xs) i s e = omega arith
 
@@ -301,7 +301,7 @@ passing_back cs q w v ps qs rs all is back ready same = (
 )
 
 pub offered : {S H P : Type 0} (cs : List CellSight) (q : Option Queue) (xs mid ys : List (Bench S H P)) (a b : Worker S H P) (ps qs rs : List (Pass Job Hand)) (jobs : List Job) (r : Report)
-    → IsDealt xs a.walks.items mid → IsGiven mid b.walks.items ys → a.applied ≡ 0 → a.refused ≡ 0 → IsReady cs q a → IsReady cs q b → IsKept cs jobs a b
+    → IsDealt xs a.walks.items mid → IsGiven mid b.walks.items ys → a.applied ≡ 0 → a.refused ≡ 0 → IsReady cs q a → IsReady cs q b → KeepsSums cs jobs a b
     → ps ≡ qs ++ option_to_list a.pass → rs ≡ qs ++ option_to_list b.pass → r.applied ≡ b.applied → r.refused ≡ b.refused → r.unrun ≡ 0
     → IsWorked cs xs ys (λ h. weigh h jobs + put_by h ps + taken_by h rs) (λ h. put_by h rs + taken_by h ps) r
 offered cs q xs mid ys a b ps qs rs jobs r dealt given a0 a1 before after k pop push applied refused unrun = record {

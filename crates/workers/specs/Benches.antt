@@ -9,7 +9,7 @@ use Rattle.work.specs.Queues.{put_by, taken_by, parts_by}
 use Rattle.cells.specs.Sights.{CellSight}
 use Rattle.cells.specs.Cells.{IsSeatOf}
 use Rattle.cells.specs.Closing.{AllSeats, HasNumber}
-use Rattle.cells.specs.Sights.{Sight}
+use Rattle.cells.specs.Sights.{SeatSight}
 use Rattle.workers.specs.Numbers.{AllLack}
 use Rattle.workers.specs.Sums.{AllPassing, IsLater, applied_by, refused_by, seat_done, seat_heard, seat_applied, seat_refused, IsPassing, parts_of, put, taken}
 use Rattle.workers.specs.declared.deal.Bench.{Bench}
@@ -93,7 +93,7 @@ pub record IsSplit {S H P : Type 0} (before : List (Pass Job Hand)) (ws : List (
   pub parts_all : parts_by before ≡ parts_by after + weigh parts_of ws
 
 -- seats that have gained receipts and denials, one by one
-abbrev pub AllGrown : List Sight → List Sight → Type 0
+abbrev pub AllGrown : List SeatSight → List SeatSight → Type 0
 AllGrown [] [] = Unit {0}
 AllGrown [] (b ∷ bs) = ⊥
 AllGrown (a ∷ xs) [] = ⊥
@@ -106,7 +106,7 @@ AllGrownBenches (a ∷ xs) [] = ⊥
 AllGrownBenches (a ∷ xs) (b ∷ ys) = (AllGrown a.seats.items b.seats.items × (vec_capacity b.seats ≡ vec_capacity a.seats)) × AllGrownBenches xs ys
 
 -- all seats of the cell are there, and no others
-pub record IsHosted (c : CellSight) (seats : List Sight) : Type 0 where
+pub record IsHosted (c : CellSight) (seats : List SeatSight) : Type 0 where
   pub own : AllSeats (IsSeatOf c) seats
   pub some : 0 < c.seats
   pub all : (k : ℕ) → k < c.seats → HasNumber seats k
@@ -118,11 +118,11 @@ AllHosted (c ∷ cs) [] = ⊥
 AllHosted (c ∷ cs) (b ∷ bs) = IsHosted c b.seats.items × AllHosted cs bs
 
 -- the seats on all benches, weighed
-abbrev pub on_benches : {S H P : Type 0} → (Sight → ℕ) → List (Bench S H P) → ℕ
+abbrev pub on_benches : {S H P : Type 0} → (SeatSight → ℕ) → List (Bench S H P) → ℕ
 on_benches f bs = weigh (λ (b : (Bench _ _ _)). weigh f b.seats.items) bs
 
 -- the seats of all workers, weighed
-abbrev pub at_work : {S H P : Type 0} → (Sight → ℕ) → List (Worker S H P) → ℕ
+abbrev pub at_work : {S H P : Type 0} → (SeatSight → ℕ) → List (Worker S H P) → ℕ
 at_work f ws = weigh (λ (w : (Worker _ _ _)). weigh (λ (v : (Walk _ _ _)). f v.seat) w.walks.items) ws
 
 -- what the workers counted

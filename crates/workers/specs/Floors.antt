@@ -1,7 +1,7 @@
 -- Networks that join and leave.
 use Rattle.std.specs.Prelude.{◌≡◌, ◌<◌, ℕ, List, [], ◌∷◌, ◌++◌, None, drop, insert, take, vec_len, vec_capacity}
 use Rattle.cells.specs.Sights.{CellSight}
-use Rattle.cells.specs.Sights.{Sight}
+use Rattle.cells.specs.Sights.{SeatSight}
 use Rattle.workers.specs.declared.deal.Bench.{Bench}
 use Rattle.workers.specs.declared.floor.Floor.{Floor}
 
@@ -18,7 +18,7 @@ pub record HasRoom {S H P : Type 0} (f : (Floor S H P)) : Type 0 where
   pub benches : vec_len f.benches < vec_capacity f.benches
 
 -- a network stands at the place
-pub record IsPut {S H P : Type 0} (a : (Floor S H P)) (place : ℕ) (c : CellSight) (seats : List Sight) (b : (Floor S H P)) : Type 0 where
+pub record IsPut {S H P : Type 0} (a : (Floor S H P)) (place : ℕ) (c : CellSight) (seats : List SeatSight) (b : (Floor S H P)) : Type 0 where
   pub numbers : b.shared.numbers.items ≡ insert a.shared.numbers.items place c.config.number
   pub cells : b.shared.cells.items ≡ insert a.shared.cells.items place c
   pub bench : (Bench S H P)
@@ -27,7 +27,7 @@ pub record IsPut {S H P : Type 0} (a : (Floor S H P)) (place : ℕ) (c : CellSig
   pub queue : b.shared.queue ≡ a.shared.queue
 
 -- the last network is gone
-pub record IsRemoved {S H P : Type 0} (a : (Floor S H P)) (c : CellSight) (seats : List Sight) (b : (Floor S H P)) : Type 0 where
+pub record IsRemoved {S H P : Type 0} (a : (Floor S H P)) (c : CellSight) (seats : List SeatSight) (b : (Floor S H P)) : Type 0 where
   pub number : ℕ
   pub numbers : a.shared.numbers.items ≡ b.shared.numbers.items ++ number ∷ []
   pub cells : a.shared.cells.items ≡ b.shared.cells.items ++ c ∷ []

@@ -1,8 +1,8 @@
 -- What contracts see of a network of a host.
 use Rattle.std.specs.Prelude.{List}
-use Rattle.cells.specs.Sights.{CellSight, Sight}
+use Rattle.cells.specs.Sights.{CellSight, SeatSight}
 
 -- a network: its cell, and its seats
 pub record Net : Type 0 where
   pub cell : CellSight
-  pub seats : List Sight
+  pub seats : List SeatSight

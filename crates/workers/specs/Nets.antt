@@ -7,7 +7,7 @@ use Rattle.cells.specs.Sights.{CellSight}
 use Rattle.cells.specs.Receipts.{Applied}
 use Rattle.cells.specs.Views.{Denial}
 use Rattle.cells.specs.Closing.{IsOneHistory, ended_sight}
-use Rattle.cells.specs.Sights.{Sight}
+use Rattle.cells.specs.Sights.{SeatSight}
 use Rattle.workers.specs.NetSights.{Net}
 use Rattle.workers.specs.Benches.{AllGrown, AllHosted}
 use Rattle.workers.specs.Numbers.{IsNumbered}
@@ -47,25 +47,25 @@ IsGreatest n [] = Unit {0}
 IsGreatest n (m ∷ ms) = (net_number m < net_number n) × IsGreatest n ms
 
 -- the network's journal is one history of its seats
-pub record IsClosedNet (n : Net) (j : Log) (ss : List Sight) : Type 0 where
+pub record IsClosedNet (n : Net) (j : Log) (ss : List SeatSight) : Type 0 where
   pub config : j.config ≡ n.cell.config
   pub seats : ss ≡ map ended_sight n.seats
   pub history : IsOneHistory n.cell.seats j ss
 
 -- the receipts and denials that a seat gained
-abbrev pub gained : Sight → Sight → List Applied
+abbrev pub gained : SeatSight → SeatSight → List Applied
 gained a b = drop (length a.me.receipts) b.me.receipts
 
-abbrev pub denied : Sight → Sight → List Denial
+abbrev pub denied : SeatSight → SeatSight → List Denial
 denied a b = drop (length a.me.denials) b.me.denials
 
 -- over all seats of all networks, before and after
-abbrev pub over_seats : (Sight → Sight → ℕ) → List Sight → List Sight → ℕ
+abbrev pub over_seats : (SeatSight → SeatSight → ℕ) → List SeatSight → List SeatSight → ℕ
 over_seats f [] bs = 0
 over_seats f (a ∷ xs) [] = 0
 over_seats f (a ∷ xs) (b ∷ ys) = f a b + over_seats f xs ys
 
-abbrev pub over_nets : (Sight → Sight → ℕ) → List Net → List Net → ℕ
+abbrev pub over_nets : (SeatSight → SeatSight → ℕ) → List Net → List Net → ℕ
 over_nets f [] bs = 0
 over_nets f (a ∷ xs) [] = 0
 over_nets f (a ∷ xs) (b ∷ ys) = over_seats f a.seats b.seats + over_nets f xs ys
@@ -82,11 +82,11 @@ AllElsewhere nets [] = Unit {0}
 AllElsewhere nets (j ∷ js) = NoNet nets j.network × AllElsewhere nets js
 
 -- the events of the receipts and denials that a seat gained, as jobs of its network, weighed
-abbrev pub done_since : (Job → ℕ) → Sight → Sight → ℕ
+abbrev pub done_since : (Job → ℕ) → SeatSight → SeatSight → ℕ
 done_since h a b = applied_of h a.me.config (gained a b) + refused_of h a.me.config (denied a b)
 
 -- the jobs that the receipts that a seat gained make others hear, weighed
-abbrev pub heard_since : (Job → ℕ) → Sight → Sight → ℕ
+abbrev pub heard_since : (Job → ℕ) → SeatSight → SeatSight → ℕ
 heard_since h a b = heard_of h a.me.config (gained a b)
 
 -- However jobs are weighed: those that came in, and one for each emission that was gained and each other hosted node of its network, are those that went out, the events that were gained as receipts and as denials, and those of networks that are not here; and the report has the numbers of these.
@@ -106,5 +106,5 @@ pub record IsUndone (xs ys : List Net) (came went : (Job → ℕ) → ℕ) (r : 
   pub left : went (λ _. 1) + r.unrun ≡ came (λ _. 1)
 
 -- all was done, or nothing
-abbrev pub IsRun : List Net → List Net → ((Job → ℕ) → ℕ) → ((Job → ℕ) → ℕ) → Report → Type 0
-IsRun xs ys came went r = IsDone xs ys came went r ⊎ IsUndone xs ys came went r
+abbrev pub IsAllOrNothing : List Net → List Net → ((Job → ℕ) → ℕ) → ((Job → ℕ) → ℕ) → Report → Type 0
+IsAllOrNothing xs ys came went r = IsDone xs ys came went r ⊎ IsUndone xs ys came went r

@@ -17,7 +17,7 @@ use Rattle.work.specs.Queues.{IsOf, put_by, taken_by}
 use Rattle.cells.specs.Receipts.{Applied}
 use Rattle.cells.specs.Views.{Denial}
 use Rattle.cells.specs.Cells.{IsSeatOf}
-use Rattle.cells.specs.Sights.{CellSight, Sight}
+use Rattle.cells.specs.Sights.{CellSight, SeatSight}
 use Rattle.workers.specs.Numbers.{AllLack}
 use Rattle.workers.specs.declared.walk.Emission.{Emission}
 use Rattle.workers.specs.declared.walk.Walk.{Walk}
@@ -69,16 +69,16 @@ abbrev pub heard_of : (Job → ℕ) → Config → List Applied → ℕ
 heard_of h config rs = weigh (λ (r : Applied). weigh h (hears config r)) rs
 
 -- what was done by a seat: applied or refused
-abbrev pub seat_done : (Job → ℕ) → Sight → ℕ
+abbrev pub seat_done : (Job → ℕ) → SeatSight → ℕ
 seat_done h s = applied_of h s.me.config s.me.receipts + refused_of h s.me.config s.me.denials
 
-abbrev pub seat_heard : (Job → ℕ) → Sight → ℕ
+abbrev pub seat_heard : (Job → ℕ) → SeatSight → ℕ
 seat_heard h s = heard_of h s.me.config s.me.receipts
 
-abbrev pub seat_applied : Sight → ℕ
+abbrev pub seat_applied : SeatSight → ℕ
 seat_applied s = length s.me.receipts
 
-abbrev pub seat_refused : Sight → ℕ
+abbrev pub seat_refused : SeatSight → ℕ
 seat_refused s = length s.me.denials
 
 abbrev pub done_by : {S H P : Type 0} → (Job → ℕ) → (Walk S H P) → ℕ
@@ -116,7 +116,7 @@ AllSeated (c ∷ cs) [] = ⊥
 AllSeated (c ∷ cs) (w ∷ ws) = IsWalk c w × AllSeated cs ws
 
 -- the same seat later: it has gained receipts and denials
-pub record IsLater (a b : Sight) : Type 0 where
+pub record IsLater (a b : SeatSight) : Type 0 where
   pub cell : b.cell ≡ a.cell
   pub number : b.me.number ≡ a.me.number
   pub config : b.me.config ≡ a.me.config
@@ -173,7 +173,7 @@ abbrev pub denials_of : {S H P : Type 0} → (Worker S H P) → ℕ
 denials_of w = weigh refused_many w.walks.items
 
 -- from one moment of a worker to another: what it took, what its receipts made heard and what it was handed were as often put, applied, refused or of no network here
-pub record IsKept {S H P : Type 0} (cells : List CellSight) (handed : List Job) (a b : (Worker S H P)) : Type 0 where
+pub record KeepsSums {S H P : Type 0} (cells : List CellSight) (handed : List Job) (a b : (Worker S H P)) : Type 0 where
   pub lacking : List Job
   pub elsewhere : AllLack cells lacking
   pub sum : (h : Job → ℕ) → done h b + put h b + weigh h lacking + told h a + taken h a ≡ done h a + put h a + told h b + taken h b + weigh h handed
@@ -218,7 +218,7 @@ SamePlaces (a ∷ xs) (b ∷ ys) = (b.place ≡ a.place) × SamePlaces xs ys
 -- at work's end
 pub record IsThrough {S H P : Type 0} (cells : List CellSight) (queue : Option Queue) (a b : (Worker S H P)) : Type 0 where
   pub ready : IsReady cells queue b
-  pub kept : IsKept cells [] a b
+  pub kept : KeepsSums cells [] a b
 
 abbrev pub AllReady : {S H P : Type 0} → List CellSight → Option Queue → List (Worker S H P) → Type 0
 AllReady cells queue [] = Unit {0}

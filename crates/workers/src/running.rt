@@ -5,7 +5,7 @@ ghost use Rattle.work.specs.Hands.{all_parts, weigh};
 ghost use Rattle.work.specs.Queues.{AllPasses, IsOf, parts_by, put_by, taken_by};
 ghost use Rattle.work.specs.declared.line.Queue.{Queue};
 ghost use Rattle.workers.specs.Benches.{AllGrownBenches, AllHave, AllHosted, IsCounted, IsCrew, IsWorked};
-ghost use Rattle.workers.specs.Nets.{AllGrownNets, IsRun};
+ghost use Rattle.workers.specs.Nets.{AllGrownNets, IsAllOrNothing};
 ghost use Rattle.workers.specs.Numbers.{IsNumbered};
 ghost use Rattle.workers.specs.Sums.{AllPassing};
 
@@ -106,7 +106,7 @@ where
     requires workers { (0 < workers) × (workers ≤ 64) }
     requires passes { AllPasses (IsOf queue.0) queue.1.items × (parts_by queue.1.items ≡ all_parts) }
     ensures same { AllGrownNets host.old host.new }
-    ensures run { IsRun host.old host.new (λ h. put_by h queue.1.items) (λ h. taken_by h queue.1.items) result }
+    ensures run { IsAllOrNothing host.old host.new (λ h. put_by h queue.1.items) (λ h. taken_by h queue.1.items) result }
 {
     let (queue, passes) = queue;
     let many = fewest_seats(host.floor.benches.as_slice(), workers.min(passes.len()));
@@ -182,7 +182,7 @@ pub fn offer<S: Shelf + Drop, H: Wait + Drop, R: Wait, G: Gate>(
     requires passes { AllPasses (IsOf queue.0) queue.1.items × (0 < length queue.1.items) }
     ensures same { AllGrownNets host.old host.new }
     ensures passes { (result.0.0 ≡ queue.0) × AllPasses (IsOf queue.0) result.0.1.items × (parts_by result.0.1.items ≡ parts_by queue.1.items) }
-    ensures offered { IsRun host.old host.new (λ h. weigh h jobs.items + put_by h queue.1.items + taken_by h result.0.1.items) (λ h. put_by h result.0.1.items + taken_by h queue.1.items) result.1 }
+    ensures offered { IsAllOrNothing host.old host.new (λ h. weigh h jobs.items + put_by h queue.1.items + taken_by h result.0.1.items) (λ h. put_by h result.0.1.items + taken_by h queue.1.items) result.1 }
 {
     let (queue, passes) = queue;
     match Vec::with_capacity(host.alloc, host.floor.benches.len()) {

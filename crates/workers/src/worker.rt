@@ -4,7 +4,7 @@ ghost use Rattle.std.specs.Prelude.{◌≡◌, ◌<◌, ◌+◌, if◌then◌els
 ghost use Rattle.std.specs.Option.{option_to_list};
 ghost use Rattle.cells.specs.Sights.{CellSight};
 ghost use Rattle.workers.specs.Numbers.{IsNumbered, IsNumberAt};
-ghost use Rattle.workers.specs.Sums.{IsBusy, IsKept, IsPassing, IsReady, IsShort, SamePlaces, hand_of, hear_by, hears_of, with_put, with_taken};
+ghost use Rattle.workers.specs.Sums.{IsBusy, KeepsSums, IsPassing, IsReady, IsShort, SamePlaces, hand_of, hear_by, hears_of, with_put, with_taken};
 
 use crate::gate::Gate;
 use crate::shared::Shared;
@@ -85,7 +85,7 @@ impl<S: Shelf + Drop, H: Wait + Drop> Worker<S, H> {
         requires job { IsNumberAt workplace.now.shared.now.cells.items k job.network }
         ensures busy { IsBusy workplace.now.shared.now.cells.items workplace.now.shared.now.queue k self.new }
         ensures places { SamePlaces self.old.walks.items self.new.walks.items }
-        ensures kept { IsKept workplace.now.shared.now.cells.items (job ∷ []) self.old self.new }
+        ensures kept { KeepsSums workplace.now.shared.now.cells.items (job ∷ []) self.old self.new }
     {
         let is_applied = apply_by(
             workplace.rt,
@@ -134,7 +134,7 @@ impl<S: Shelf + Drop, H: Wait + Drop> Worker<S, H> {
         requires network { IsNumberAt workplace.now.shared.now.cells.items k emission.network }
         ensures busy { IsBusy workplace.now.shared.now.cells.items workplace.now.shared.now.queue k self.new }
         ensures places { SamePlaces self.old.walks.items self.new.walks.items }
-        ensures kept { (c : CellSight) → c ≡ slice_index_or workplace.now.shared.now.cells.items k c → IsKept workplace.now.shared.now.cells.items (hears_of emission c.config.hosts) self.old self.new }
+        ensures kept { (c : CellSight) → c ≡ slice_index_or workplace.now.shared.now.cells.items k c → KeepsSums workplace.now.shared.now.cells.items (hears_of emission c.config.hosts) self.old self.new }
     {
         let hosts = workplace.shared.cells[k].config().hosts();
         for host in hosts {
@@ -150,7 +150,7 @@ impl<S: Shelf + Drop, H: Wait + Drop> Worker<S, H> {
         requires busy { IsBusy workplace.now.shared.now.cells.items workplace.now.shared.now.queue k self.old }
         requires place { IsShort self.old.walks.items k }
         ensures busy { IsBusy workplace.now.shared.now.cells.items workplace.now.shared.now.queue k self.new }
-        ensures kept { IsKept workplace.now.shared.now.cells.items [] self.old self.new }
+        ensures kept { KeepsSums workplace.now.shared.now.cells.items [] self.old self.new }
     {
         let config = workplace.shared.cells[k].config();
         let (receipt, many) = read(&self.walks[k]);
@@ -173,7 +173,7 @@ impl<S: Shelf + Drop, H: Wait + Drop> Worker<S, H> {
     fn settle<R: Wait, G: Gate>(&mut self, workplace: &Workplace<'_, S, H, R, G>, k: usize)
         requires { IsBusy workplace.now.shared.now.cells.items workplace.now.shared.now.queue k self.old }
         ensures ready { IsReady workplace.now.shared.now.cells.items workplace.now.shared.now.queue self.new }
-        ensures kept { IsKept workplace.now.shared.now.cells.items [] self.old self.new }
+        ensures kept { KeepsSums workplace.now.shared.now.cells.items [] self.old self.new }
     {
         for _ in workplace.rt.forever() {
             if is_short(&self.walks[k]) {
@@ -189,7 +189,7 @@ impl<S: Shelf + Drop, H: Wait + Drop> Worker<S, H> {
         requires order { IsNumbered workplace.now.shared.now.numbers.items workplace.now.shared.now.cells.items }
         requires ready { IsReady workplace.now.shared.now.cells.items workplace.now.shared.now.queue self.old }
         ensures ready { IsReady workplace.now.shared.now.cells.items workplace.now.shared.now.queue self.new }
-        ensures kept { IsKept workplace.now.shared.now.cells.items (job ∷ []) self.old self.new }
+        ensures kept { KeepsSums workplace.now.shared.now.cells.items (job ∷ []) self.old self.new }
     {
         match workplace.shared.find(job.network) {
             Some(k) => {
@@ -205,7 +205,7 @@ impl<S: Shelf + Drop, H: Wait + Drop> Worker<S, H> {
         requires order { IsNumbered workplace.now.shared.now.numbers.items workplace.now.shared.now.cells.items }
         requires ready { IsReady workplace.now.shared.now.cells.items workplace.now.shared.now.queue self.old }
         ensures ready { IsReady workplace.now.shared.now.cells.items workplace.now.shared.now.queue self.new }
-        ensures kept { IsKept workplace.now.shared.now.cells.items [] self.old self.new }
+        ensures kept { KeepsSums workplace.now.shared.now.cells.items [] self.old self.new }
     {
         for _ in workplace.rt.forever() {
             match self.take(workplace.rt, workplace.shared) {
@@ -224,7 +224,7 @@ impl<S: Shelf + Drop, H: Wait + Drop> Worker<S, H> {
         requires order { IsNumbered workplace.now.shared.now.numbers.items workplace.now.shared.now.cells.items }
         requires ready { IsReady workplace.now.shared.now.cells.items workplace.now.shared.now.queue self.old }
         ensures ready { IsReady workplace.now.shared.now.cells.items workplace.now.shared.now.queue self.new }
-        ensures kept { IsKept workplace.now.shared.now.cells.items jobs.items self.old self.new }
+        ensures kept { KeepsSums workplace.now.shared.now.cells.items jobs.items self.old self.new }
     {
         while let Some(job) = jobs.pop() {
             self.serve(workplace, job);
@@ -236,7 +236,7 @@ impl<S: Shelf + Drop, H: Wait + Drop> Worker<S, H> {
         requires order { IsNumbered workplace.now.shared.now.numbers.items workplace.now.shared.now.cells.items }
         requires ready { IsReady workplace.now.shared.now.cells.items workplace.now.shared.now.queue self.old }
         ensures ready { IsReady workplace.now.shared.now.cells.items workplace.now.shared.now.queue self.new }
-        ensures kept { IsKept workplace.now.shared.now.cells.items (job ∷ []) self.old self.new }
+        ensures kept { KeepsSums workplace.now.shared.now.cells.items (job ∷ []) self.old self.new }
     {
         match self.put(workplace.rt, workplace.shared, job) {
             Ok(()) => {}
@@ -253,7 +253,7 @@ impl<S: Shelf + Drop, H: Wait + Drop> Worker<S, H> {
         requires order { IsNumbered workplace.now.shared.now.numbers.items workplace.now.shared.now.cells.items }
         requires ready { IsReady workplace.now.shared.now.cells.items workplace.now.shared.now.queue self.old }
         ensures ready { IsReady workplace.now.shared.now.cells.items workplace.now.shared.now.queue self.new }
-        ensures kept { IsKept workplace.now.shared.now.cells.items jobs.items self.old self.new }
+        ensures kept { KeepsSums workplace.now.shared.now.cells.items jobs.items self.old self.new }
     {
         jobs.reverse();
         while let Some(job) = jobs.pop() {

@@ -13,8 +13,8 @@ use Rattle.protocol.specs.Views.{Seen, passes}
 use Rattle.protocol.specs.States.{ballot_at, high_counter, commit_counter, position, position_in}
 use Rattle.protocol.specs.Timers.{cap}
 use Rattle.protocol.specs.Candidates.{combine, commits, committed_in, greatest, least_from, lowest, named, named_in}
-use Rattle.protocol.specs.Balloting.{prepare_accepted, prepare_confirmed, interval_accepted, interval_confirmed, started, start_from, start, aborted_by, may_be_prepared, accept_prepared, raise_confirmed_prepared, follow_confirmed_prepared, is_aborted, cleared, chosen, set_commit, confirm_prepared, accepted_from, first_committed, next_committed, enter_commit, widen_commit, accept_commit, confirmed_commit, externalize, confirm_commit}
-use Rattle.protocol.specs.Passes.{counts, raised_value, raised, raised_counter, raise, arm, with_ballot, on_ballot, while_preparing, in_prepare, while_open, balloting, voting, counting, balloted_in}
+use Rattle.protocol.specs.Balloting.{prepare_accepted, prepare_confirmed, interval_accepted, interval_confirmed, with_first_ballot, start_from, start, aborted_by, may_be_prepared, accept_prepared, raise_confirmed_prepared, follow_confirmed_prepared, is_aborted, cleared, chosen, set_commit, confirm_prepared, accepted_from, first_committed, next_committed, enter_commit, widen_commit, accept_commit, confirmed_commit, externalize, confirm_commit}
+use Rattle.protocol.specs.Passes.{has_counter, value_once_raised, ballot_at_counter, counter_after_raise, raise, arm, with_ballot, on_ballot, while_preparing, in_prepare, while_open, balloting, voting, counting, balloted_in}
 
 module _ (vo ac : List (List ℕ)) where
   -- the votes with these voted and accepted values
@@ -33,10 +33,10 @@ module _ (vo ac : List (List ℕ)) where
 
   -- ---- rule by rule
   start-sets : (s : Seen) (w : Votes) → start s (with_sets w) ≡ with_sets (start s w)
-  unfolding start started named
+  unfolding start with_first_ballot named
   start-sets s w = go w.ballot
     where
-      without : (z : Option (List ℕ)) → started s (with_sets w) z ≡ with_sets (started s w z)
+      without : (z : Option (List ℕ)) → with_first_ballot s (with_sets w) z ≡ with_sets (with_first_ballot s w z)
       without (Some x) = refl
       without None =
           ap {B = Votes} (λ (o : Option Statement). record w {
@@ -175,34 +175,35 @@ module _ (vo ac : List (List ℕ)) where
       ap (externalize s (with_sets w)) (decided-sets s b w) ∙ externalize-sets s w (confirmed_commit s b w)
   confirm-sets Externalized s b w = refl
 
-  raised-sets : (w : Votes) (b : Ballot) (n : ℕ) → raised (with_sets w) b n ≡ raised w b n
-  raised-sets w b n = ap (λ (x : List ℕ). if n == b.counter then b else ballot_at n x) (go w.phase)
+  ballot_at_counter-sets : (w : Votes) (b : Ballot) (n : ℕ)
+      → ballot_at_counter (with_sets w) b n ≡ ballot_at_counter w b n
+  ballot_at_counter-sets w b n = ap (λ (x : List ℕ). if n == b.counter then b else ballot_at n x) (go w.phase)
     where
-      go : (p : Phase) → raised_value p (with_sets w) b.value ≡ raised_value p w b.value
+      go : (p : Phase) → value_once_raised p (with_sets w) b.value ≡ value_once_raised p w b.value
       go Preparing = refl
       go Committing = refl
       go Externalized = refl
 
   raise-sets : (s : Seen) (g : Inputs) (b : Ballot) (w : Votes) → raise s g b (with_sets w) ≡ with_sets (raise s g b w)
-  unfolding raise raised_counter
+  unfolding raise counter_after_raise
   raise-sets s g b w =
       ap {B = Votes} (λ (o : Option Statement). record w {
         voted = vo;
         accepts = ac;
-        ballot = Some (raised (with_sets w) b
+        ballot = Some (ballot_at_counter (with_sets w) b
             (least_from (cap g.ballot_timeouts - b.counter) b.counter
-            (λ n. not (s.blocking Kind.Ballot (passes (counts (n + 1)) o) (counts (n + 1))))));
+            (λ n. not (s.blocking Kind.Ballot (passes (has_counter (n + 1)) o) (has_counter (n + 1))))));
       }) (position-sets w)
       ∙ ap {B = Votes} (λ (x : Ballot). record w { voted = vo; accepts = ac; ballot = Some x })
-      (raised-sets w b (raised_counter s g b w))
+      (ballot_at_counter-sets w b (counter_after_raise s g b w))
 
   arm-sets : (s : Seen) (b : Ballot) (w : Votes) → arm s b (with_sets w) ≡ with_sets (arm s b w)
   unfolding arm
   arm-sets s b w =
-      ap {B = Votes} (λ (o : Option Statement). if s.quorum Kind.Ballot (passes (counts b.counter) o)
-      (counts b.counter) then record w { voted = vo; accepts = ac; armed = b.counter } else with_sets w)
+      ap {B = Votes} (λ (o : Option Statement). if s.quorum Kind.Ballot (passes (has_counter b.counter) o)
+      (has_counter b.counter) then record w { voted = vo; accepts = ac; armed = b.counter } else with_sets w)
       (position-sets w)
-      ∙ go (s.quorum Kind.Ballot (passes (counts b.counter) (position w)) (counts b.counter))
+      ∙ go (s.quorum Kind.Ballot (passes (has_counter b.counter) (position w)) (has_counter b.counter))
     where
       go : (t : Bool)
           → (if t then record w { voted = vo; accepts = ac; armed = b.counter } else with_sets w)

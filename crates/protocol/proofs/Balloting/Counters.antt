@@ -6,7 +6,7 @@ use Rattle.types.specs.declared.ballot.Ballot.{Ballot}
 use Rattle.types.specs.declared.statement.Statement.{Statement}
 use Rattle.protocol.proofs.Balloting.Tests.{Fair, blocking_more}
 use Rattle.protocol.specs.Timers.{cap}
-use Rattle.protocol.specs.Passes.{counts, raised, raise, arm, raised_counter}
+use Rattle.protocol.specs.Passes.{has_counter, ballot_at_counter, raise, arm, counter_after_raise}
 use Rattle.types.specs.declared.statement.Statement.TheVariants.{Nominate, Prepare, Commit, Externalize}
 use Rattle.types.specs.declared.kind.Kind.{Kind}
 use Rattle.protocol.specs.Views.{Seen, passes}
@@ -20,27 +20,28 @@ use Rattle.protocol.proofs.Ballots.Above.{least_from-low, least_from-ends, least
 
 -- Counters: from n on nothing is to be raised
 abbrev pub Risen : Seen → Inputs → ℕ → Type 0
-Risen s g n = (cap g.ballot_timeouts ≤ n) ⊎ (s.blocking Kind.Ballot false (counts (n + 1)) ≡ false)
+Risen s g n = (cap g.ballot_timeouts ≤ n) ⊎ (s.blocking Kind.Ballot false (has_counter (n + 1)) ≡ false)
 
-counts-less : (m n : ℕ) (x : Statement) → m ≤ n → counts n x ≡ true → counts m x ≡ true
-counts-less m n (Nominate v a) h k = k
-counts-less m n (Prepare b p a c d) h k = grind (arith, nat_tests)
-counts-less m n (Commit b p c d) h k = grind (arith, nat_tests)
-counts-less m n (Externalize b d) h k = refl
+has_counter-less : (m n : ℕ) (x : Statement) → m ≤ n → has_counter n x ≡ true → has_counter m x ≡ true
+has_counter-less m n (Nominate v a) h k = k
+has_counter-less m n (Prepare b p a c d) h k = grind (arith, nat_tests)
+has_counter-less m n (Commit b p c d) h k = grind (arith, nat_tests)
+has_counter-less m n (Externalize b d) h k = refl
 
 pub risen-up : (s : Seen) → Fair s → (g : Inputs) (m n : ℕ) → m ≤ n → Risen s g m → Risen s g n
 risen-up s f g m n h (inl r) = inl (omega (arith, h, r))
 risen-up s f g m n h (inr r) =
     inr (false_from_ne_true _ (λ b. true≢false
-    (sym (blocking_more s f Kind.Ballot None None (counts (n + 1)) (counts (m + 1))
-    (λ x i. counts-less (m + 1) (n + 1) x (omega (arith, h)) i) (λ i. i) b) ∙ r)))
+    (sym (blocking_more s f Kind.Ballot None None (has_counter (n + 1)) (has_counter (m + 1))
+    (λ x i. has_counter-less (m + 1) (n + 1) x (omega (arith, h)) i) (λ i. i) b) ∙ r)))
 
 -- a raise ends where no more is needed
 pub raise-moves : (s : Seen) → Fair s → (g : Inputs) (b : Ballot) (w : Votes)
-    → (n : ℕ) × (raise s g b w ≡ record w { ballot = Some (raised w b n) }) × (b.counter ≤ n) × Risen s g n
-unfolding raise raised_counter
+    → (n : ℕ) × (raise s g b w ≡ record w { ballot = Some (ballot_at_counter w b n) }) × (b.counter ≤ n) × Risen s g n
+unfolding raise counter_after_raise
 raise-moves s f g b w =
-    let test : ℕ → Bool = λ n. not (s.blocking Kind.Ballot (passes (counts (n + 1)) (position w)) (counts (n + 1))) in
+    let test : ℕ → Bool =
+    λ n. not (s.blocking Kind.Ballot (passes (has_counter (n + 1)) (position w)) (has_counter (n + 1))) in
     let n = least_from (cap g.ballot_timeouts - b.counter) b.counter test in
     let low = least_from-low (cap g.ballot_timeouts - b.counter) b.counter test in (
       n,
@@ -49,7 +50,7 @@ raise-moves s f g b w =
       elim (least_from-ends (cap g.ballot_timeouts - b.counter) b.counter test) [
         | inl e ↦ inr
             (false_from_ne_true _ (λ k. true≢false
-            (sym (blocking_more s f Kind.Ballot None (position w) (counts (n + 1)) (counts (n + 1)) (λ x i. i)
+            (sym (blocking_more s f Kind.Ballot None (position w) (has_counter (n + 1)) (has_counter (n + 1)) (λ x i. i)
             (λ i. absurd (false≢true i)) k) ∙ not-true _ e)))
         | inr e ↦ inl (cap_over (cap g.ballot_timeouts) b.counter n e)
       ],
@@ -59,29 +60,32 @@ raise-moves s f g b w =
     cap_over c b n h = omega (arith, h)
 
 pub raise-still : (s : Seen) → Fair s → (g : Inputs) (b : Ballot) (w : Votes) → w.ballot ≡ Some b
-    → passes (counts (b.counter + 1)) (position w) ≡ false → Risen s g b.counter → raise s g b w ≡ w
-unfolding raise raised_counter
+    → passes (has_counter (b.counter + 1)) (position w) ≡ false → Risen s g b.counter → raise s g b w ≡ w
+unfolding raise counter_after_raise
 raise-still s f g b w e c r =
-    let test : ℕ → Bool = λ n. not (s.blocking Kind.Ballot (passes (counts (n + 1)) (position w)) (counts (n + 1))) in
+    let test : ℕ → Bool =
+    λ n. not (s.blocking Kind.Ballot (passes (has_counter (n + 1)) (position w)) (has_counter (n + 1))) in
     let q : least_from (cap g.ballot_timeouts - b.counter) b.counter test ≡ b.counter =
     least_from-still (cap g.ballot_timeouts - b.counter) b.counter test (ends r) in
     rw (q, eq-eqb b.counter b.counter refl) (λ i. record w { ballot = sym e i })
   where
     ends : Risen s g b.counter
         → (cap g.ballot_timeouts - b.counter ≡ 0)
-        ⊎ (not (s.blocking Kind.Ballot (passes (counts (b.counter + 1)) (position w)) (counts (b.counter + 1))) ≡ true)
+        ⊎ (not (s.blocking Kind.Ballot (passes (has_counter (b.counter + 1)) (position w))
+        (has_counter (b.counter + 1))) ≡ true)
     ends (inl h) = inl (omega (arith, h))
     ends (inr h) =
         inr (not_from_false _ (false_from_ne_true _
-        (λ k. true≢false (sym (blocking_more s f Kind.Ballot (position w) None (counts (b.counter + 1))
-        (counts (b.counter + 1)) (λ x i. i) (λ i. absurd (true≢false (sym i ∙ c))) k) ∙ h))))
+        (λ k. true≢false (sym (blocking_more s f Kind.Ballot (position w) None (has_counter (b.counter + 1))
+        (has_counter (b.counter + 1)) (λ x i. i) (λ i. absurd (true≢false (sym i ∙ c))) k) ∙ h))))
 
 pub arm-moves : (s : Seen) (b : Ballot) (w : Votes) → (n : ℕ) × (arm s b w ≡ record w { armed = n })
 unfolding arm
-arm-moves s b w = elim (cases_Bool (s.quorum Kind.Ballot (passes (counts b.counter) (position w)) (counts b.counter))) [
-  | inl e ↦ rw e (b.counter, refl)
-  | inr e ↦ rw e (w.armed, refl)
-]
+arm-moves s b w =
+    elim (cases_Bool (s.quorum Kind.Ballot (passes (has_counter b.counter) (position w)) (has_counter b.counter))) [
+      | inl e ↦ rw e (b.counter, refl)
+      | inr e ↦ rw e (w.armed, refl)
+    ]
 
 -- the position does not tell what is armed
 pub position-armed : (w : Votes) (n : ℕ) → position (record w { armed = n }) ≡ position w
@@ -99,18 +103,19 @@ position-armed w n = go w.phase w.ballot w.confirmed_prepared w.commit refl refl
     go Externalized (Some b) h c i j k l = rw (i, j) refl
 
 arm-at : (s : Seen) (b : Ballot) (w : Votes) (c : Bool)
-    → s.quorum Kind.Ballot (passes (counts b.counter) (position w)) (counts b.counter) ≡ c
+    → s.quorum Kind.Ballot (passes (has_counter b.counter) (position w)) (has_counter b.counter) ≡ c
     → arm s b w ≡ (if c then record w { armed = b.counter } else w)
 unfolding arm
 arm-at s b w c e = ap (λ c. if c then record w { armed = b.counter } else w) e
 
 pub arm-still : (s : Seen) (b : Ballot) (w : Votes) → arm s b (arm s b w) ≡ arm s b w
-arm-still s b w = elim (cases_Bool (s.quorum Kind.Ballot (passes (counts b.counter) (position w)) (counts b.counter))) [
-  | inl e ↦ let q : arm s b w ≡ record w { armed = b.counter } = arm-at s b w true e in
-      let k : s.quorum Kind.Ballot (passes (counts b.counter) (position (record w { armed = b.counter })))
-      (counts b.counter) ≡ true =
-      ap (λ o. s.quorum Kind.Ballot (passes (counts b.counter) o) (counts b.counter))
-      (position-armed w b.counter) ∙ e in
-      subst (λ (x : Votes). arm s b x ≡ x) (sym q) (arm-at s b (record w { armed = b.counter }) true k)
-  | inr e ↦ let q : arm s b w ≡ w = arm-at s b w false e in subst (λ (x : Votes). arm s b x ≡ x) (sym q) q
-]
+arm-still s b w =
+    elim (cases_Bool (s.quorum Kind.Ballot (passes (has_counter b.counter) (position w)) (has_counter b.counter))) [
+      | inl e ↦ let q : arm s b w ≡ record w { armed = b.counter } = arm-at s b w true e in
+          let k : s.quorum Kind.Ballot (passes (has_counter b.counter) (position (record w { armed = b.counter })))
+          (has_counter b.counter) ≡ true =
+          ap (λ o. s.quorum Kind.Ballot (passes (has_counter b.counter) o) (has_counter b.counter))
+          (position-armed w b.counter) ∙ e in
+          subst (λ (x : Votes). arm s b x ≡ x) (sym q) (arm-at s b (record w { armed = b.counter }) true k)
+      | inr e ↦ let q : arm s b w ≡ w = arm-at s b w false e in subst (λ (x : Votes). arm s b x ≡ x) (sym q) q
+    ]

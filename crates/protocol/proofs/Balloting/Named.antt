@@ -6,7 +6,7 @@ use Rattle.types.specs.declared.statement.Statement.{Statement}
 use Rattle.protocol.specs.Views.{Seen}
 use Rattle.types.specs.declared.state.Votes.{Votes}
 use Rattle.protocol.specs.States.{position}
-use Rattle.protocol.specs.Candidates.{is_counted, named_by, committed_by, named, commits}
+use Rattle.protocol.specs.Candidates.{has_positive_counter, named_by, committed_by, named, commits}
 use Rattle.protocol.specs.Extremes.{IsIn}
 use Rattle.protocol.proofs.Ballots.Above.{in-filter, from-filter, flat_map-append, flat_map-left, flat_map-right}
 
@@ -25,17 +25,18 @@ own_commits w = flat_map committed_by (option_to_list (position w))
 
 -- what some statements name by rows and position, from counter 1 on, a row or the own position names
 module _ (by : Statement → List Ballot) (rows own : List Statement) (t : Ballot) where
-  parts : IsIn t (filter is_counted (flat_map by (rows ++ own)))
+  parts : IsIn t (filter has_positive_counter (flat_map by (rows ++ own)))
       → (nat_lt 0 t.counter ≡ true) × (IsIn t (flat_map by rows) ⊎ IsIn t (flat_map by own))
-  parts i = let r = from-filter is_counted t (flat_map by (rows ++ own)) i in (r.1, flat_map-append by rows own t r.0)
+  parts i = let r =
+      from-filter has_positive_counter t (flat_map by (rows ++ own)) i in (r.1, flat_map-append by rows own t r.0)
 
   of_row : nat_lt 0 t.counter ≡ true → IsIn t (flat_map by rows)
-      → IsIn t (filter is_counted (flat_map by (rows ++ own)))
-  of_row c i = in-filter is_counted t (flat_map by (rows ++ own)) (flat_map-left by rows own t i) c
+      → IsIn t (filter has_positive_counter (flat_map by (rows ++ own)))
+  of_row c i = in-filter has_positive_counter t (flat_map by (rows ++ own)) (flat_map-left by rows own t i) c
 
   of_own : nat_lt 0 t.counter ≡ true → IsIn t (flat_map by own)
-      → IsIn t (filter is_counted (flat_map by (rows ++ own)))
-  of_own c i = in-filter is_counted t (flat_map by (rows ++ own)) (flat_map-right by rows own t i) c
+      → IsIn t (filter has_positive_counter (flat_map by (rows ++ own)))
+  of_own c i = in-filter has_positive_counter t (flat_map by (rows ++ own)) (flat_map-right by rows own t i) c
 
 module _ (s : Seen) (w : Votes) (t : Ballot) where
   pub named-parts : IsIn t (named s w) → (nat_lt 0 t.counter ≡ true) × (IsIn t (row_named s) ⊎ IsIn t (own_named w))

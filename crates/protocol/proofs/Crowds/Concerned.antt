@@ -6,12 +6,12 @@ use Rattle.std.proofs.lemmas.Bool.{and_parts, and_from, eqb-true, false≢true, 
 use Rattle.types.specs.declared.kind.Kind.{Kind}
 use Rattle.types.specs.declared.event.Refusal.TheVariants.{NoSuchNode, SlotNotOpen, SlotOpenAlready, TooManySlots, HostedSender, NotEmitted, BadValue, ProposedAlready, ShareFull, ShareBytesFull}
 use Rattle.protocol.specs.Sets.{Names, among}
-use Rattle.protocol.specs.Rosters.{Shares, Roster, Share, Source, Draw, is_on, reserved, events_of}
+use Rattle.protocol.specs.Rosters.{Shares, Roster, Share, Source, Draw, is_on, share_or_budgets, events_of}
 use Rattle.protocol.specs.Rosters.Share.{Own, Pair}
 use Rattle.protocol.specs.Rosters.Source.{OfBudgets, OfOpens, OfShare}
-use Rattle.protocol.specs.Networks.{Place, Slot, Net, Step, slices_of, places_at, known, emission, has_proposal, is_hosted, is_bad_value, source, source_by, is_hosted_not, is_open_not, is_full, is_full_of_bytes, tests, tests_on, size_of, on_shares}
+use Rattle.protocol.specs.Networks.{Place, Slot, Net, Step, slices_of, places_at, node_where_open, emission, has_proposal, is_hosted, is_bad_value, source, source_by, hosted_test, open_test, room_test, bytes_test, tests, tests_on, size_of, on_shares}
 use Rattle.protocol.specs.Networks.Reading.{Read, Fault}
-use Rattle.protocol.specs.Networks.Step.{Opens, Closes, Asks, Delivers, Hears, NominationTimes, BallotTimes, Reslices}
+use Rattle.protocol.specs.Networks.Step.{Opens, Closes, Proposes, Delivers, Hears, NominationTimerFires, BallotTimerFires, Reslices}
 use Rattle.protocol.specs.Isolation.{Kept, when_kept}
 use Rattle.protocol.specs.Submissions.{concerns}
 use Rattle.protocol.proofs.Sets.Tests.{and_joined}
@@ -43,36 +43,37 @@ module _ (R : Names) (i : ℕ) (net : Net) where
   hosted u r = ap (λ b. is_some (if b then slices_of net.hosts u else None)) (sym r)
 
   seen_at : (j u : ℕ) → (j == i) ≡ true → R u ≡ true
-      → sight R i net u ≡ option_map (cut_place R) (known (places_at net.slots j) u)
-  seen_at j u e r = ap (λ b. if b then option_map (cut_place R) (known (places_at net.slots i) u) else None) r
-      ∙ ap (λ x. option_map (cut_place R) (known (places_at net.slots x) u)) (sym (eqb-true j i e))
+      → sight R i net u ≡ option_map (cut_place R) (node_where_open (places_at net.slots j) u)
+  seen_at j u e r = ap (λ b. if b then option_map (cut_place R) (node_where_open (places_at net.slots i) u) else None) r
+      ∙ ap (λ x. option_map (cut_place R) (node_where_open (places_at net.slots x) u)) (sym (eqb-true j i e))
 
   proposal : (j u : ℕ) → (j == i) ≡ true → R u ≡ true
-      → has_proposal (known (places_at net.slots j) u) ≡ has_proposal (sight R i net u)
-  proposal j u e r = proposal-cut R (known (places_at net.slots j) u) ∙ ap has_proposal (sym (seen_at j u e r))
+      → has_proposal (node_where_open (places_at net.slots j) u) ≡ has_proposal (sight R i net u)
+  proposal j u e r =
+      proposal-cut R (node_where_open (places_at net.slots j) u) ∙ ap has_proposal (sym (seen_at j u e r))
 
   emitted : (j u : ℕ) (kind : Kind) (k : ℕ) → (j == i) ≡ true → R u ≡ true
-      → emission (known (places_at net.slots j) u) kind k ≡ emission (sight R i net u) kind k
+      → emission (node_where_open (places_at net.slots j) u) kind k ≡ emission (sight R i net u) kind k
   emitted j u kind k e r =
-      sym (emission-cut R (known (places_at net.slots j) u) kind k)
+      sym (emission-cut R (node_where_open (places_at net.slots j) u) kind k)
       ∙ ap (λ o. emission o kind k) (sym (seen_at j u e r))
 
   full : (shares : Shares) (j : ℕ) (s : Share) → (j == i) ≡ true → of_members R s ≡ true
-      → is_full net (OfShare shares j s) ≡ full_in (view R i net) (OfShare shares j s)
+      → room_test net (OfShare shares j s) ≡ full_in (view R i net) (OfShare shares j s)
   full shares j s e m =
       ap {B = Bool × Refusal} (λ ds. (not (nat_lt (length ds) (events_of shares s)), ShareFull))
       (sym (drawn-ours R i j s net.draws e m))
 
   bytes_full : (shares : Shares) (j : ℕ) (s : Share) (size : ℕ) → (j == i) ≡ true → of_members R s ≡ true
-      → is_full_of_bytes net (OfShare shares j s) size ≡ bytes_full_in (view R i net) (OfShare shares j s) size
+      → bytes_test net (OfShare shares j s) size ≡ bytes_full_in (view R i net) (OfShare shares j s) size
   bytes_full shares j s size e m =
       ap {B = Bool × Refusal} (λ ds. (nat_lt shares.bytes (sum_by (λ d. d.size) ds + size), ShareBytesFull))
       (sym (drawn-ours R i j s net.draws e m))
 
 -- what a step draws on that concerns R, where R lies in the roster
 module _ (R : Names) (i : ℕ) (r : Roster) (on : (u : ℕ) → R u ≡ true → among r.names u ≡ true) where
-  reserved-ours : (j : ℕ) (s : Share) → of_members R s ≡ true → reserved r j s ≡ OfShare r.shares j s
-  reserved-ours j s m = ap (λ b. if b then OfShare r.shares j s else OfBudgets) (is_there s m)
+  share_or_budgets-ours : (j : ℕ) (s : Share) → of_members R s ≡ true → share_or_budgets r j s ≡ OfShare r.shares j s
+  share_or_budgets-ours j s m = ap (λ b. if b then OfShare r.shares j s else OfBudgets) (is_there s m)
     where
       is_there : (s : Share) → of_members R s ≡ true → is_on r.names s ≡ true
       is_there (Own u) m = on u m
@@ -94,17 +95,18 @@ kept-false false k h = refl
 
 module _ (R : Names) (i : ℕ) (r : Roster) (on : (u : ℕ) → R u ≡ true → among r.names u ≡ true) where
   -- it draws on a member's share
-  draws-ours : (net : Net) → net.roster ≡ Some r → (e : Step) (j : ℕ) (s : Share) → source_by r e ≡ reserved r j s
+  draws-ours : (net : Net) → net.roster ≡ Some r → (e : Step) (j : ℕ) (s : Share)
+      → source_by r e ≡ share_or_budgets r j s
       → of_members R s ≡ true → source net.roster e ≡ OfShare r.shares j s
-  draws-ours net h e j s is m = ap (λ o. source o e) h ∙ (is ∙ reserved-ours R i r on j s m)
+  draws-ours net h e j s is m = ap (λ o. source o e) h ∙ (is ∙ share_or_budgets-ours R i r on j s m)
 
   -- a member's own step is tested for no more than the member, the slot and the share
   own-tested : (net : Net) (j u : ℕ) → (j == i) ≡ true → R u ≡ true → (s : Source) → s ≡ OfShare r.shares j (Own u)
-      → is_hosted_not net u ∷ is_open_not net j ∷ is_full net s ∷ []
+      → hosted_test net u ∷ open_test net j ∷ room_test net s ∷ []
       ≡ (not (is_some (cast_of R net.hosts u)), NoSuchNode) ∷ (not (among (numbers net.slots) j), SlotNotOpen)
       ∷ full_in (view R i net) (OfShare r.shares j (Own u)) ∷ []
   own-tested net j u e m s d =
-      ap (λ z. is_hosted_not net u ∷ is_open_not net j ∷ is_full net z ∷ []) d
+      ap (λ z. hosted_test net u ∷ open_test net j ∷ room_test net z ∷ []) d
       ∙ (λ k. (not (hosted R i net u m k), NoSuchNode) ∷ (not (open-same net.slots j k), SlotNotOpen)
       ∷ full R i net r.shares j (Own u) e m k ∷ [])
 
@@ -128,12 +130,12 @@ module _ (R : Names) (i : ℕ) (r : Roster) (on : (u : ℕ) → R u ≡ true →
               ShareFull,
             ) ∷ []);
       }
-  as_concerned net h (Asks j u x) c =
+  as_concerned net h (Proposes j u x) c =
       let m = and_parts (j == i) (R u) (kept-true ((j == i) && R u) _ c) in
-      let d = draws-ours net h (Asks j u x) j (Own u) refl m.1 in
+      let d = draws-ours net h (Proposes j u x) j (Own u) refl m.1 in
       record {
         draws = d;
-        tested = ap (λ s. tests_on net s (Asks j u x)) d
+        tested = ap (λ s. tests_on net s (Proposes j u x)) d
             ∙ (λ k. (not (hosted R i net u m.1 k), NoSuchNode) ∷ (not (open-same net.slots j k), SlotNotOpen) ∷
             (is_bad_value x, BadValue) ∷ (proposal R i net j u m.0 m.1 k, ProposedAlready) ∷ full R i net r.shares j
             (Own u) m.0 m.1 k ∷ []);
@@ -165,14 +167,14 @@ module _ (R : Names) (i : ℕ) (r : Roster) (on : (u : ℕ) → R u ≡ true →
             (is_none (emitted R i net j from kind n m.0 p.1 k), NotEmitted)
             ∷ full R i net r.shares j (Pair u from) m.0 both k ∷ []);
       }
-  as_concerned net h (NominationTimes j u n) c =
+  as_concerned net h (NominationTimerFires j u n) c =
       let m = and_parts (j == i) (R u) (kept-true ((j == i) && R u) _ c) in
-      let d = draws-ours net h (NominationTimes j u n) j (Own u) refl m.1 in
-      record { draws = d; tested = own-tested net j u m.0 m.1 (source net.roster (NominationTimes j u n)) d }
-  as_concerned net h (BallotTimes j u n) c =
+      let d = draws-ours net h (NominationTimerFires j u n) j (Own u) refl m.1 in
+      record { draws = d; tested = own-tested net j u m.0 m.1 (source net.roster (NominationTimerFires j u n)) d }
+  as_concerned net h (BallotTimerFires j u n) c =
       let m = and_parts (j == i) (R u) (kept-true ((j == i) && R u) _ c) in
-      let d = draws-ours net h (BallotTimes j u n) j (Own u) refl m.1 in
-      record { draws = d; tested = own-tested net j u m.0 m.1 (source net.roster (BallotTimes j u n)) d }
+      let d = draws-ours net h (BallotTimerFires j u n) j (Own u) refl m.1 in
+      record { draws = d; tested = own-tested net j u m.0 m.1 (source net.roster (BallotTimerFires j u n)) d }
   as_concerned net h (Reslices j u q) c =
       let m = and_parts (j == i) (R u) (kept-true ((j == i) && R u) _ c) in
       let d = draws-ours net h (Reslices j u q) j (Own u) refl m.1 in
@@ -184,12 +186,12 @@ module _ (R : Names) (i : ℕ) (r : Roster) (on : (u : ℕ) → R u ≡ true →
       ≡ on_shares (share_of r.shares e) (size_of e) ++ left e (filter (is_ours R i) ds)
   ours-left (Opens j) c ds = filter_swap (is_ours R i) (λ d. not (d.slot == j)) ds
   ours-left (Closes j) c ds = refl
-  ours-left (Asks j u x) c ds = rw (kept-true ((j == i) && R u) _ c) refl
+  ours-left (Proposes j u x) c ds = rw (kept-true ((j == i) && R u) _ c) refl
   ours-left (Delivers u size (Fault n)) c ds = absurd (false≢true c)
   ours-left (Delivers u size (Read e)) c ds =
       rw (and_joined (e.slot == i) (R u) (R e.sender) ∙ kept-true ((e.slot == i) && R u && R e.sender) _ c) refl
   ours-left (Hears j u from kind n) c ds =
       rw (and_joined (j == i) (R u) (R from) ∙ kept-true ((j == i) && R u && R from) _ c) refl
-  ours-left (NominationTimes j u n) c ds = rw (kept-true ((j == i) && R u) _ c) refl
-  ours-left (BallotTimes j u n) c ds = rw (kept-true ((j == i) && R u) _ c) refl
+  ours-left (NominationTimerFires j u n) c ds = rw (kept-true ((j == i) && R u) _ c) refl
+  ours-left (BallotTimerFires j u n) c ds = rw (kept-true ((j == i) && R u) _ c) refl
   ours-left (Reslices j u q) c ds = rw (kept-true ((j == i) && R u) _ c) refl

@@ -5,11 +5,11 @@ use Rattle.std.proofs.Common.{◌≡◌, ℕ, Bool, true, false, Option, Some, N
 use Rattle.std.specs.List.{cons_option}
 use Rattle.protocol.specs.Sets.{Names, among, AreWithin}
 use Rattle.protocol.specs.Rosters.{Roster}
-use Rattle.protocol.specs.Networks.{Host, Net, Step, Reply, slices_of, tests, first_that, replied, net_step}
+use Rattle.protocol.specs.Networks.{Host, Net, Step, Reply, slices_of, tests, first_that, state_and_reply, net_step}
 use Rattle.protocol.specs.Networks.Reply.{Done, Refused}
-use Rattle.protocol.specs.Hosts.{Config, Entry, entered, journal, new_net, nets, hosts_of, steps_of, entries}
-use Rattle.protocol.specs.Isolation.{Kept, kept, kept_of, closure, outs_of, SameCast}
-use Rattle.protocol.specs.Submissions.{Answer, net_run, answers, concerns, concerning, concerned, replied_to, config_of, SameRoster, SameReserves, names_on, roster_names, MembersAreNeverCrowdedOut, MembersOfRunsAreNeverCrowdedOut}
+use Rattle.protocol.specs.Hosts.{Config, Entry, journal_with, journal, new_net, nets, hosts_of, steps_of, entries}
+use Rattle.protocol.specs.Isolation.{Kept, kept_step, kept_of, closure, outs_of, SameCast}
+use Rattle.protocol.specs.Submissions.{Answer, net_run, answers, concerns, concerning, concerning_steps, replied_to, config_of, SameRoster, SameReserves, names_on, roster_names, MembersAreNeverCrowdedOut, MembersOfRunsAreNeverCrowdedOut}
 use Rattle.protocol.proofs.Runs.Openings.{HostsIn}
 use Rattle.protocol.proofs.Runs.KeptWithin.{hosts-closed, events-closed, closure-start}
 use Rattle.protocol.proofs.Runs.SameSteps.{casts-same, hosts-other, no-places, journals-agree}
@@ -24,27 +24,30 @@ if_done (Done os) k = k
 if_done (Refused n) k = None
 
 abbrev kept_answer : Names → ℕ → Answer → Option Kept
-kept_answer R i x = if_done x.reply (kept R i x.step)
+kept_answer R i x = if_done x.reply (kept_step R i x.step)
 
-kept-answers : (R : Names) (i : ℕ) (es : List Step) (net : Net)
+kept_step-answers : (R : Names) (i : ℕ) (es : List Step) (net : Net)
     → kept_of R i (journal net es) ≡ filter_map (kept_answer R i) (concerning R i (net_run net es))
 unfolding kept_of journal net_run net_step
-kept-answers R i [] net = refl
-kept-answers R i (e ∷ es) net = go (concerns R i e) refl (first_that (tests net e)) (λ n. kept-answers R i es n)
+kept_step-answers R i [] net = refl
+kept_step-answers R i (e ∷ es) net =
+    go (concerns R i e) refl (first_that (tests net e)) (λ n. kept_step-answers R i es n)
   where
     rest : Option Refusal → List Answer
-    rest o = concerning R i (net_run (replied net e o).0 es)
+    rest o = concerning R i (net_run (state_and_reply net e o).0 es)
 
     go : (b : Bool) → concerns R i e ≡ b → (o : Option Refusal)
         → ((n : Net) → kept_of R i (journal n es) ≡ filter_map (kept_answer R i) (concerning R i (net_run n es)))
-        → kept_of R i (entered e (replied net e o).1 (journal (replied net e o).0 es))
-        ≡ filter_map (kept_answer R i) (cond b (record { step = e; reply = (replied net e o).1 } ∷ rest o) (rest o))
+        → kept_of R i (journal_with e (state_and_reply net e o).1 (journal (state_and_reply net e o).0 es))
+        ≡ filter_map (kept_answer R i)
+        (cond b (record { step = e; reply = (state_and_reply net e o).1 } ∷ rest o) (rest o))
     go true c (Some n) ih = ih net
-    go true c None ih = ap (λ ks. cons_option (kept R i e) ks) (ih (replied net e None).0)
+    go true c None ih = ap (λ ks. cons_option (kept_step R i e) ks) (ih (state_and_reply net e None).0)
     go false c (Some n) ih = ih net
     go false c None ih =
-        ap (λ (k : Option Kept). cons_option k (kept_of R i (journal (replied net e None).0 es))) (others-kept R i e c)
-        ∙ ih (replied net e None).0
+        ap (λ (k : Option Kept). cons_option k (kept_of R i (journal (state_and_reply net e None).0 es)))
+        (others-kept R i e c)
+        ∙ ih (state_and_reply net e None).0
 
 -- answers are their steps with their replies
 one-list : (xs ys : List Answer) → map (λ x. x.step) xs ≡ map (λ x. x.step) ys
@@ -67,7 +70,7 @@ pub replies-agree : (config config' : Config) (r r' : Roster) (i v : ℕ) (es es
     SameCast R v config.hosts config'.hosts → ((u : ℕ) → among r.names u ≡ among r'.names u) → r.shares ≡ r'.shares
     → config.budgets.slots ≡ config'.budgets.slots
     → AreWithin R (among r.names)
-    → concerned R i (net_run (new_net config) es) ≡ concerned R i (net_run (new_net config') es')
+    → concerning_steps R i (net_run (new_net config) es) ≡ concerning_steps R i (net_run (new_net config') es')
     → replied_to R i (net_run (new_net config) es) ≡ replied_to R i (net_run (new_net config') es')
 replies-agree config config' r r' i v es es' h h' cast names shares slots on same =
     let run = journal (new_net config) es in
@@ -80,7 +83,7 @@ replies-agree config config' r r' i v es es' h h' cast names shares slots on sam
     let frames : frame R r (new_net config) ≡ frame R r' (new_net config') =
     λ j. record { cast = casts-same R v config.hosts config'.hosts cast j; shares = shares j; slots = slots j } in
     let good : AllGood R i (frame R r' (new_net config')) (view R i (new_net config'))
-    (concerned R i (net_run (new_net config') es')) =
+    (concerning_steps R i (net_run (new_net config') es')) =
     subst (λ (z : Frame × List Step). AllGood R i z.0 (view R i (new_net config)) z.1)
     (λ j. (frames j, same j)) one.good in
     let other : Shows R i r' on' (new_net config') (concerning R i (net_run (new_net config') es'))
@@ -99,25 +102,26 @@ replies-agree config config' r r' i v es es' h h' cast names shares slots on sam
 pub outs-agree : (config config' : Config) (i v : ℕ) (es es' : List Step) →
     let R = closure config.hosts i v (journal (new_net config) es) in
     SameCast R v config.hosts config'.hosts
-    → concerned R i (net_run (new_net config) es) ≡ concerned R i (net_run (new_net config') es')
+    → concerning_steps R i (net_run (new_net config) es) ≡ concerning_steps R i (net_run (new_net config') es')
     → replied_to R i (net_run (new_net config) es) ≡ replied_to R i (net_run (new_net config') es')
     → (u : ℕ) → R u ≡ true → outs_of i u (journal (new_net config) es) ≡ outs_of i u (journal (new_net config') es')
 outs-agree config config' i v es es' cast steps replies =
     let R : Names = closure config.hosts i v (journal (new_net config) es) in
     journals-agree config config' i v es es' cast
-    (kept-answers R i es (new_net config)
+    (kept_step-answers R i es (new_net config)
     ∙ (ap (filter_map (kept_answer R i))
     (one-list (concerning R i (net_run (new_net config) es))
-    (concerning R i (net_run (new_net config') es')) steps replies) ∙ sym (kept-answers R i es' (new_net config'))))
+    (concerning R i (net_run (new_net config') es')) steps replies)
+    ∙ sym (kept_step-answers R i es' (new_net config'))))
 
 -- ---- two host histories
 -- one network, in each of them
 record Agree (one other : Config) (i v : ℕ) (runs runs' : List Entry) (xs ys : List Answer) : Type 0 where
   replies : SameReserves (Some one) (Some other)
       → AreWithin (closure one.hosts i v runs) (among (roster_names (Some one)))
-      → concerned (closure one.hosts i v runs) i xs ≡ concerned (closure one.hosts i v runs) i ys
+      → concerning_steps (closure one.hosts i v runs) i xs ≡ concerning_steps (closure one.hosts i v runs) i ys
       → replied_to (closure one.hosts i v runs) i xs ≡ replied_to (closure one.hosts i v runs) i ys
-  outs : concerned (closure one.hosts i v runs) i xs ≡ concerned (closure one.hosts i v runs) i ys
+  outs : concerning_steps (closure one.hosts i v runs) i xs ≡ concerning_steps (closure one.hosts i v runs) i ys
       → replied_to (closure one.hosts i v runs) i xs ≡ replied_to (closure one.hosts i v runs) i ys
       → (u : ℕ) → IsTrue (closure one.hosts i v runs u) → outs_of i u runs ≡ outs_of i u runs'
 
@@ -135,7 +139,7 @@ agrees one other i v es es' cast = record {
 
     go : (o p : Option Roster) → one.roster ≡ o → other.roster ≡ p → SameRoster o p → AreWithin R (among (names_on o))
         → one.budgets.slots ≡ other.budgets.slots
-        → concerned R i (net_run (new_net one) es) ≡ concerned R i (net_run (new_net other) es')
+        → concerning_steps R i (net_run (new_net one) es) ≡ concerning_steps R i (net_run (new_net other) es')
         → replied_to R i (net_run (new_net one) es) ≡ replied_to R i (net_run (new_net other) es')
     go None p h k reserves on slots same = absurd reserves
     go (Some r) None h k reserves on slots same = absurd reserves
@@ -164,7 +168,7 @@ abbrev Claim : ℕ → ℕ → Worlds → Type 0
 Claim i v w =
     let R = closure w.hosts i v w.runs in
     SameCast R v w.hosts w.hosts' → SameReserves w.config w.config' → AreWithin R (among (roster_names w.config))
-    → concerned R i w.xs ≡ concerned R i w.ys
+    → concerning_steps R i w.xs ≡ concerning_steps R i w.ys
     → (replied_to R i w.xs ≡ replied_to R i w.ys)
     × ((u : ℕ) → IsTrue (R u) → IsTrue (is_some (slices_of w.hosts u)) → outs_of i u w.runs ≡ outs_of i u w.runs')
 

@@ -2,13 +2,13 @@
 use Rattle.std.proofs.Common.{◌≡◌, ℕ, Bool, true, false, ◌&&◌, ◌==◌, Option, Some, None, List, ◌++◌, filter, if◌then◌else◌, is_some, refl, ◌∙◌, ap}
 use Rattle.std.proofs.lemmas.Bool.{true≢false}
 use Rattle.protocol.specs.Sets.{Names}
-use Rattle.protocol.specs.Rosters.{Roster, Share, Source, Draw, is_on, reserved}
+use Rattle.protocol.specs.Rosters.{Roster, Share, Source, Draw, is_on, share_or_budgets}
 use Rattle.protocol.specs.Rosters.Share.{Own, Pair}
 use Rattle.protocol.specs.Rosters.Source.{OfBudgets, OfShare}
 use Rattle.protocol.specs.Networks.{Step, source, size_of, on_shares, on_opens}
 use Rattle.protocol.specs.Networks.Reading.{Read, Fault}
-use Rattle.protocol.specs.Networks.Step.{Opens, Closes, Asks, Delivers, Hears, NominationTimes, BallotTimes, Reslices}
-use Rattle.protocol.specs.Isolation.{Kept, kept}
+use Rattle.protocol.specs.Networks.Step.{Opens, Closes, Proposes, Delivers, Hears, NominationTimerFires, BallotTimerFires, Reslices}
+use Rattle.protocol.specs.Isolation.{Kept, kept_step}
 use Rattle.protocol.specs.Submissions.{concerns}
 use Rattle.protocol.proofs.Networks.Effects.{opened_after, left}
 use Rattle.protocol.proofs.Crowds.Concerned.{kept-false}
@@ -24,7 +24,8 @@ module _ (R : Names) (i : ℕ) where
   of_budgets : IsElsewhere OfBudgets
   of_budgets = record { draws = λ size ds. refl; opens = refl }
 
-  of_others : (r : Roster) (j : ℕ) (s : Share) → ((j == i) && of_members R s) ≡ false → IsElsewhere (reserved r j s)
+  of_others : (r : Roster) (j : ℕ) (s : Share) → ((j == i) && of_members R s) ≡ false
+      → IsElsewhere (share_or_budgets r j s)
   of_others r j s o = go (is_on r.names s)
     where
       go : (b : Bool) → IsElsewhere (if b then OfShare r.shares j s else OfBudgets)
@@ -35,15 +36,15 @@ module _ (R : Names) (i : ℕ) where
   others-source None e c = of_budgets
   others-source (Some r) (Opens j) c = absurd (true≢false c)
   others-source (Some r) (Closes j) c = absurd (true≢false c)
-  others-source (Some r) (Asks j u x) c = of_others r j (Own u) (kept-false ((j == i) && R u) _ c)
+  others-source (Some r) (Proposes j u x) c = of_others r j (Own u) (kept-false ((j == i) && R u) _ c)
   others-source (Some r) (Delivers u size (Fault n)) c = of_budgets
   others-source (Some r) (Delivers u size (Read e)) c =
       of_others r e.slot (Pair u e.sender)
       (and_joined (e.slot == i) (R u) (R e.sender) ∙ kept-false ((e.slot == i) && R u && R e.sender) _ c)
   others-source (Some r) (Hears j u from kind n) c =
       of_others r j (Pair u from) (and_joined (j == i) (R u) (R from) ∙ kept-false ((j == i) && R u && R from) _ c)
-  others-source (Some r) (NominationTimes j u n) c = of_others r j (Own u) (kept-false ((j == i) && R u) _ c)
-  others-source (Some r) (BallotTimes j u n) c = of_others r j (Own u) (kept-false ((j == i) && R u) _ c)
+  others-source (Some r) (NominationTimerFires j u n) c = of_others r j (Own u) (kept-false ((j == i) && R u) _ c)
+  others-source (Some r) (BallotTimerFires j u n) c = of_others r j (Own u) (kept-false ((j == i) && R u) _ c)
   others-source (Some r) (Reslices j u q) c = of_others r j (Own u) (kept-false ((j == i) && R u) _ c)
 
   -- nor does it open or close
@@ -68,7 +69,7 @@ module _ (R : Names) (i : ℕ) where
   unkept None h = refl
   unkept (Some k) h = absurd (true≢false h)
 
-  pub others-kept : (e : Step) → concerns R i e ≡ false → kept R i e ≡ None
+  pub others-kept : (e : Step) → concerns R i e ≡ false → kept_step R i e ≡ None
   others-kept (Opens j) c = absurd (true≢false c)
   others-kept (Closes j) c = absurd (true≢false c)
-  others-kept e c = unkept (kept R i e) c
+  others-kept e c = unkept (kept_step R i e) c

@@ -6,12 +6,12 @@ use Rattle.std.proofs.Common.{◌≡◌, ◌⊎◌, ℕ, Bool, true, false, ◌&
 use Rattle.std.proofs.lemmas.Bool.{and_parts, and_from, false≢true}
 use Rattle.protocol.specs.Sets.{Names, among}
 use Rattle.protocol.specs.Rosters.{Roster, Draw}
-use Rattle.protocol.specs.Networks.{Net, Step, Reply, source, size_of, on_shares, on_opens, effect, tests, first_that, replied, net_step}
+use Rattle.protocol.specs.Networks.{Net, Step, Reply, source, size_of, on_shares, on_opens, effect, tests, first_that, state_and_reply, net_step}
 use Rattle.protocol.specs.Networks.Reading.{Read, Fault}
-use Rattle.protocol.specs.Networks.Step.{Opens, Closes, Asks, Delivers, Hears, NominationTimes, BallotTimes, Reslices}
+use Rattle.protocol.specs.Networks.Step.{Opens, Closes, Proposes, Delivers, Hears, NominationTimerFires, BallotTimerFires, Reslices}
 use Rattle.protocol.specs.Networks.Reply.{Done, Refused}
-use Rattle.protocol.specs.Hosts.{Entry, entered, journal}
-use Rattle.protocol.specs.Isolation.{Kept, when_kept, kept, is_of}
+use Rattle.protocol.specs.Hosts.{Entry, journal_with, journal}
+use Rattle.protocol.specs.Isolation.{Kept, when_kept, kept_step, is_of}
 use Rattle.protocol.specs.Isolation.Kept.{Opened, Closed}
 use Rattle.protocol.specs.Submissions.{Answer, net_run, concerns, concerning}
 use Rattle.protocol.proofs.Equality.Sameness.{eqb-refl}
@@ -21,7 +21,7 @@ use Rattle.protocol.proofs.Runs.Events.{IsWithin, follows}
 use Rattle.protocol.proofs.Runs.Openings.{HostsIn, cast_of}
 use Rattle.protocol.proofs.Networks.Effects.{next, effect-keeps, left}
 use Rattle.protocol.proofs.Runs.KeptSteps.{AllIn, is_new}
-use Rattle.protocol.proofs.Runs.KeptWithin.{kept-to, if_kept}
+use Rattle.protocol.proofs.Runs.KeptWithin.{kept_step-to, if_kept}
 use Rattle.protocol.proofs.Crowds.Views.{View, view, Frame, frame, share_of, node_of, tests_in, next_in, replied_in, step_in, replies_in, is_ours}
 use Rattle.protocol.proofs.Crowds.Concerned.{as_concerned, ours-left, kept-true}
 use Rattle.protocol.proofs.Crowds.Others.{others-left, others-opens, others-numbers, others-kept}
@@ -42,14 +42,14 @@ module _ (R : Names) (i : ℕ) where
   outs-opened s false k f = refl
 
   outs-of : (net : Net) (e : Step) → concerns R i e ≡ true
-      → Follows R (cast_of R net.hosts) i net (effect net e) (λ w. is_of i w e) (kept R i e)
-      → (effect net e).1 ≡ reply (sight R i net) (kept R i e) (node_of e)
+      → Follows R (cast_of R net.hosts) i net (effect net e) (λ w. is_of i w e) (kept_step R i e)
+      → (effect net e).1 ≡ reply (sight R i net) (kept_step R i e) (node_of e)
   unfolding effect
   outs-of net (Opens j) c f = outs-opened (sight R i net) (j == i) Opened (λ w. refl)
   outs-of net (Closes j) c f = outs-opened (sight R i net) (j == i) Closed (λ w. refl)
-  outs-of net (Asks j u x) c f =
+  outs-of net (Proposes j u x) c f =
       let m = and_parts (j == i) (R u) (kept-true ((j == i) && R u) _ c) in
-      sym (ap (λ b. if b then (effect net (Asks j u x)).1 else []) (and_from (j == i) (u == u) m.0 (eqb-refl u)))
+      sym (ap (λ b. if b then (effect net (Proposes j u x)).1 else []) (and_from (j == i) (u == u) m.0 (eqb-refl u)))
       ∙ f.replies u m.1
   outs-of net (Delivers u size (Fault n)) c f = absurd (false≢true c)
   outs-of net (Delivers u size (Read e)) c f =
@@ -62,13 +62,14 @@ module _ (R : Names) (i : ℕ) where
       let m = and_parts (j == i) (R u) p.0 in
       sym (ap (λ b. if b then (effect net (Hears j u from kind n)).1 else [])
       (and_from (j == i) (u == u) m.0 (eqb-refl u))) ∙ f.replies u m.1
-  outs-of net (NominationTimes j u n) c f =
+  outs-of net (NominationTimerFires j u n) c f =
       let m = and_parts (j == i) (R u) (kept-true ((j == i) && R u) _ c) in
-      sym (ap (λ b. if b then (effect net (NominationTimes j u n)).1 else [])
+      sym (ap (λ b. if b then (effect net (NominationTimerFires j u n)).1 else [])
       (and_from (j == i) (u == u) m.0 (eqb-refl u))) ∙ f.replies u m.1
-  outs-of net (BallotTimes j u n) c f =
+  outs-of net (BallotTimerFires j u n) c f =
       let m = and_parts (j == i) (R u) (kept-true ((j == i) && R u) _ c) in
-      sym (ap (λ b. if b then (effect net (BallotTimes j u n)).1 else []) (and_from (j == i) (u == u) m.0 (eqb-refl u)))
+      sym (ap (λ b. if b then (effect net (BallotTimerFires j u n)).1 else [])
+      (and_from (j == i) (u == u) m.0 (eqb-refl u)))
       ∙ f.replies u m.1
   outs-of net (Reslices j u q) c f =
       let m = and_parts (j == i) (R u) (kept-true ((j == i) && R u) _ c) in
@@ -83,7 +84,7 @@ module _ (R : Names) (i : ℕ) (r : Roster) (on : (u : ℕ) → R u ≡ true →
     pub roster : net.roster ≡ Some r
 
   follows-here : (net : Net) (e : Step) → Stands net → first_that (tests net e) ≡ None → IsWithin R i e
-      → Follows R (cast_of R net.hosts) i net (effect net e) (λ w. is_of i w e) (kept R i e)
+      → Follows R (cast_of R net.hosts) i net (effect net e) (λ w. is_of i w e) (kept_step R i e)
   follows-here net e s q f = follows R i net e s.places s.hosts (is_new net e q) f
 
   stands-next : (net : Net) (e : Step) → Stands net → first_that (tests net e) ≡ None → IsWithin R i e
@@ -176,13 +177,13 @@ module _ (R : Names) (i : ℕ) (r : Roster) (on : (u : ℕ) → R u ≡ true →
   shows (e ∷ es) net s g = go (concerns R i e) refl (first_that (tests net e)) refl g (λ n. shows es n)
     where
       answer : Option Refusal → Answer
-      answer o = record { step = e; reply = (replied net e o).1 }
+      answer o = record { step = e; reply = (state_and_reply net e o).1 }
 
       rest : Option Refusal → List Answer
-      rest o = concerning R i (net_run (replied net e o).0 es)
+      rest o = concerning R i (net_run (state_and_reply net e o).0 es)
 
       entries : Option Refusal → List Entry
-      entries o = entered e (replied net e o).1 (journal (replied net e o).0 es)
+      entries o = journal_with e (state_and_reply net e o).1 (journal (state_and_reply net e o).0 es)
 
       Hypothesis : Type 0
       Hypothesis = (n : Net) → Stands n → IsGood n (concerning R i (net_run n es)) (journal n es)
@@ -193,7 +194,7 @@ module _ (R : Names) (i : ℕ) (r : Roster) (on : (u : ℕ) → R u ≡ true →
           → Shows net (with_one b (answer o) (rest o)) (entries o)
       go false c (Some n) q g ih = ih net s g
       go false c None q g ih =
-          let w : IsWithin R i e = kept-to R R i e (λ u r. r) (subst (if_kept R) (sym (others-kept R i e c)) tt) in
+          let w : IsWithin R i e = kept_step-to R R i e (λ u r. r) (subst (if_kept R) (sym (others-kept R i e c)) tt) in
           let f = frame-next net e in
           let v = view-others net e s c q w in
           let before : IsGood (next net e) (rest None) (journal (next net e) es) =

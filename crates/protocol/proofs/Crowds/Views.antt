@@ -11,9 +11,9 @@ use Rattle.protocol.specs.Rosters.Share.{Own, Pair}
 use Rattle.protocol.specs.Rosters.Source.{OfBudgets, OfOpens, OfShare}
 use Rattle.protocol.specs.Networks.{Net, Step, Reply, emission, has_proposal, is_bad_value, first_that, size_of, on_shares, on_opens}
 use Rattle.protocol.specs.Networks.Reading.{Read, Fault}
-use Rattle.protocol.specs.Networks.Step.{Opens, Closes, Asks, Delivers, Hears, NominationTimes, BallotTimes, Reslices}
+use Rattle.protocol.specs.Networks.Step.{Opens, Closes, Proposes, Delivers, Hears, NominationTimerFires, BallotTimerFires, Reslices}
 use Rattle.protocol.specs.Networks.Reply.{Done, Refused}
-use Rattle.protocol.specs.Isolation.{kept}
+use Rattle.protocol.specs.Isolation.{kept_step}
 use Rattle.protocol.proofs.Sets.Lists.{filter_filter}
 use Rattle.protocol.proofs.Runs.Sights.{Sight, sight, play, reply}
 use Rattle.protocol.proofs.Runs.Openings.{cast_of}
@@ -72,12 +72,12 @@ frame R r net = record { cast = cast_of R net.hosts; shares = r.shares; slots = 
 abbrev pub share_of : Shares → Step → Source
 share_of shares (Opens j) = OfOpens shares
 share_of shares (Closes j) = OfOpens shares
-share_of shares (Asks j u x) = OfShare shares j (Own u)
+share_of shares (Proposes j u x) = OfShare shares j (Own u)
 share_of shares (Delivers u size (Read e)) = OfShare shares e.slot (Pair u e.sender)
 share_of shares (Delivers u size (Fault n)) = OfBudgets
 share_of shares (Hears j u from kind k) = OfShare shares j (Pair u from)
-share_of shares (NominationTimes j u r) = OfShare shares j (Own u)
-share_of shares (BallotTimes j u n) = OfShare shares j (Own u)
+share_of shares (NominationTimerFires j u r) = OfShare shares j (Own u)
+share_of shares (BallotTimerFires j u n) = OfShare shares j (Own u)
 share_of shares (Reslices j u q) = OfShare shares j (Own u)
 
 abbrev pub full_in : View → Source → Bool × Refusal
@@ -96,9 +96,9 @@ tests_in f w (Opens j) =
     (among w.numbers j, SlotOpenAlready) ∷ (not (nat_lt (length w.numbers) f.slots), TooManySlots) ∷ full_in w
     (share_of f.shares (Opens j)) ∷ []
 tests_in f w (Closes j) = (not (among w.numbers j), SlotNotOpen) ∷ full_in w (share_of f.shares (Closes j)) ∷ []
-tests_in f w (Asks j u x) =
+tests_in f w (Proposes j u x) =
     (not (is_some (f.cast u)), NoSuchNode) ∷ (not (among w.numbers j), SlotNotOpen) ∷ (is_bad_value x, BadValue) ∷
-    (has_proposal (w.sight u), ProposedAlready) ∷ full_in w (share_of f.shares (Asks j u x)) ∷ []
+    (has_proposal (w.sight u), ProposedAlready) ∷ full_in w (share_of f.shares (Proposes j u x)) ∷ []
 tests_in f w (Delivers u size (Fault n)) = []
 tests_in f w (Delivers u size (Read e)) =
     (not (is_some (f.cast u)), NoSuchNode) ∷ (is_some (f.cast e.sender), HostedSender) ∷ (
@@ -112,12 +112,12 @@ tests_in f w (Hears j u from kind k) =
       SlotNotOpen,
     ) ∷ (is_none (emission (w.sight from) kind k), NotEmitted) ∷ full_in w
     (share_of f.shares (Hears j u from kind k)) ∷ []
-tests_in f w (NominationTimes j u r) =
+tests_in f w (NominationTimerFires j u r) =
     (not (is_some (f.cast u)), NoSuchNode) ∷ (not (among w.numbers j), SlotNotOpen) ∷ full_in w
-    (share_of f.shares (NominationTimes j u r)) ∷ []
-tests_in f w (BallotTimes j u n) =
+    (share_of f.shares (NominationTimerFires j u r)) ∷ []
+tests_in f w (BallotTimerFires j u n) =
     (not (is_some (f.cast u)), NoSuchNode) ∷ (not (among w.numbers j), SlotNotOpen) ∷ full_in w
-    (share_of f.shares (BallotTimes j u n)) ∷ []
+    (share_of f.shares (BallotTimerFires j u n)) ∷ []
 tests_in f w (Reslices j u q) =
     (not (is_some (f.cast u)), NoSuchNode) ∷ (not (among w.numbers j), SlotNotOpen) ∷ full_in w
     (share_of f.shares (Reslices j u q)) ∷ []
@@ -126,17 +126,17 @@ tests_in f w (Reslices j u q) =
 abbrev pub node_of : Step → ℕ
 node_of (Opens j) = 0
 node_of (Closes j) = 0
-node_of (Asks j u x) = u
+node_of (Proposes j u x) = u
 node_of (Delivers u size d) = u
 node_of (Hears j u from kind k) = u
-node_of (NominationTimes j u r) = u
-node_of (BallotTimes j u n) = u
+node_of (NominationTimerFires j u r) = u
+node_of (BallotTimerFires j u n) = u
 node_of (Reslices j u q) = u
 
 -- what a step that is not refused changes of what R sees
 abbrev pub next_in : Names → ℕ → Frame → View → Step → View
 next_in R i f w e = record {
-  sight = play f.cast i w.sight (kept R i e);
+  sight = play f.cast i w.sight (kept_step R i e);
   numbers = opened_after e w.numbers;
   draws = on_shares (share_of f.shares e) (size_of e) ++ left e w.draws;
   opens = w.opens + on_opens (share_of f.shares e);
@@ -144,7 +144,7 @@ next_in R i f w e = record {
 
 abbrev pub replied_in : Names → ℕ → Frame → View → Step → Option Refusal → View × Reply
 replied_in R i f w e (Some n) = (w, Refused n)
-replied_in R i f w e None = (next_in R i f w e, Done (reply w.sight (kept R i e) (node_of e)))
+replied_in R i f w e None = (next_in R i f w e, Done (reply w.sight (kept_step R i e) (node_of e)))
 
 abbrev pub step_in : Names → ℕ → Frame → View → Step → View × Reply
 step_in R i f w e = replied_in R i f w e (first_that (tests_in f w e))

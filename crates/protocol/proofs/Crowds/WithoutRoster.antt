@@ -3,7 +3,7 @@ use Rattle.types.specs.declared.event.Refusal.{Refusal}
 use Rattle.std.proofs.Common.{◌≡◌, Bool, Option, Some, None, List, [], ◌++◌, ◌+◌, refl, ◌∙◌, ap, ap₂}
 use Rattle.protocol.specs.Rosters.{Draw}
 use Rattle.protocol.specs.Rosters.Source.{OfBudgets}
-use Rattle.protocol.specs.Networks.{Net, Step, Reply, source, size_of, on_shares, on_opens, effect, tests, tests_on, first_that, counted, replied, net_step}
+use Rattle.protocol.specs.Networks.{Net, Step, Reply, source, size_of, on_shares, on_opens, effect, tests, tests_on, first_that, with_draw, state_and_reply, net_step}
 use Rattle.protocol.specs.Networks.Reading.{Fault}
 use Rattle.protocol.specs.Networks.Step.{Opens, Delivers}
 use Rattle.protocol.specs.Networks.Reply.{Done}
@@ -16,20 +16,20 @@ tested : (net : Net) (e : Step) → tests_on net OfBudgets e ≡ tests_without n
 tested net (Delivers u size (Fault n)) = refl
 tested net _ = refl
 
-counts : (net : Net) (e : Step) → counted OfBudgets (size_of e) net ≡ counted_without e net
+counts : (net : Net) (e : Step) → with_draw OfBudgets (size_of e) net ≡ counted_without e net
 counts net e = λ j. record (counted_without e net) { opens = plus_nothing net.opens j }
 
 pub steps_without : StepsWithout
 unfolding net_step
 steps_without net e h =
-    ap (λ (ts : List (Bool × Refusal)). replied net e (first_that ts))
+    ap (λ (ts : List (Bool × Refusal)). state_and_reply net e (first_that ts))
     (ap (λ o. tests_on net (source o e) e) h ∙ tested net e) ∙ go (first_that (tests_without net e))
   where
-    go : (o : Option Refusal) → replied net e o ≡ replied_without net e o
+    go : (o : Option Refusal) → state_and_reply net e o ≡ replied_without net e o
     go (Some n) = refl
     go None =
         ap {B = Net × Reply} (λ (n : Net). (n, Done (effect net e).1))
-        (ap (λ o. counted (source o e) (size_of e) (effect net e).0) h ∙ counts (effect net e).0 e)
+        (ap (λ o. with_draw (source o e) (size_of e) (effect net e).0) h ∙ counts (effect net e).0 e)
 
 none_left : (e : Step) (ds : List Draw) → ds ≡ [] → left e ds ≡ []
 none_left (Opens i) ds h = ap (left (Opens i)) h

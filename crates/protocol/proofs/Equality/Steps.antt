@@ -8,7 +8,7 @@ use Rattle.types.specs.declared.kind.Kind.{Kind}
 use Rattle.types.specs.declared.event.NodeEvent.TheVariants.{Propose, Take, NominationTimer, BallotTimer, Reslice}
 use Rattle.protocol.specs.Networks.{Reading, Step}
 use Rattle.protocol.specs.Networks.Reading.{Read, Fault}
-use Rattle.protocol.specs.Networks.Step.{Opens, Closes, Asks, Delivers, Hears, NominationTimes, BallotTimes, Reslices}
+use Rattle.protocol.specs.Networks.Step.{Opens, Closes, Proposes, Delivers, Hears, NominationTimerFires, BallotTimerFires, Reslices}
 use Rattle.protocol.specs.Isolation.{Kept}
 use Rattle.protocol.specs.Isolation.Kept.{Opened, Closed, Told, Heard}
 use Rattle.protocol.proofs.Equality.Decisions.{IsDecided, by_image, decided_kind, decided_list, decided_sent, decided_slices, decided_ℕ, decided×, decided⊎}
@@ -88,21 +88,21 @@ reading_from (inr n) = Fault n
 step_parts : Step → StepParts
 step_parts (Opens j) = inl (inl (inl j))
 step_parts (Closes j) = inl (inl (inr j))
-step_parts (Asks j u x) = inl (inr (inl ((j, u), x)))
+step_parts (Proposes j u x) = inl (inr (inl ((j, u), x)))
 step_parts (Delivers u size d) = inl (inr (inr ((u, size), reading_parts d)))
 step_parts (Hears j u from kind k) = inr (inl ((j, u), (from, (kind, k))))
-step_parts (NominationTimes j u r) = inr (inr (inl ((j, u), r)))
-step_parts (BallotTimes j u n) = inr (inr (inr (inl ((j, u), n))))
+step_parts (NominationTimerFires j u r) = inr (inr (inl ((j, u), r)))
+step_parts (BallotTimerFires j u n) = inr (inr (inr (inl ((j, u), n))))
 step_parts (Reslices j u q) = inr (inr (inr (inr ((j, u), q))))
 
 step_from : StepParts → Step
 step_from (inl (inl (inl j))) = Opens j
 step_from (inl (inl (inr j))) = Closes j
-step_from (inl (inr (inl p))) = Asks p.0.0 p.0.1 p.1
+step_from (inl (inr (inl p))) = Proposes p.0.0 p.0.1 p.1
 step_from (inl (inr (inr p))) = Delivers p.0.0 p.0.1 (reading_from p.1)
 step_from (inr (inl p)) = Hears p.0.0 p.0.1 p.1.0 p.1.1.0 p.1.1.1
-step_from (inr (inr (inl p))) = NominationTimes p.0.0 p.0.1 p.1
-step_from (inr (inr (inr (inl p)))) = BallotTimes p.0.0 p.0.1 p.1
+step_from (inr (inr (inl p))) = NominationTimerFires p.0.0 p.0.1 p.1
+step_from (inr (inr (inr (inl p)))) = BallotTimerFires p.0.0 p.0.1 p.1
 step_from (inr (inr (inr (inr p)))) = Reslices p.0.0 p.0.1 p.1
 
 step_back : (e : Step) → step_from (step_parts e) ≡ e

@@ -1,6 +1,6 @@
 -- How counts move with each step. The law `room_is_counted`, `Room` and the crate `network` stand on it.
 use Rattle.std.proofs.Common.{◌+◌, length, sum_by, sym, ap, subst}
-use Rattle.protocol.specs.Networks.{Net, Step, source, size_of, on_budgets, on_opens, replied, net_step}
+use Rattle.protocol.specs.Networks.{Net, Step, source, size_of, on_budgets, on_opens, state_and_reply, net_step}
 use Rattle.protocol.specs.Counts.{IsCountedAfter, StepsAreCounted}
 use Rattle.protocol.proofs.Networks.Effects.{next, effect-keeps}
 use Rattle.protocol.proofs.Networks.Counts.{drawn-anew, drawn-next, sum-length, sum-each}
@@ -19,4 +19,4 @@ counted-next net e =
 
 pub steps_are_counted : StepsAreCounted
 unfolding net_step
-steps_are_counted net e h = subst (λ o. IsCountedAfter net e (replied net e o).0) (sym h) (counted-next net e)
+steps_are_counted net e h = subst (λ o. IsCountedAfter net e (state_and_reply net e o).0) (sym h) (counted-next net e)

@@ -5,12 +5,12 @@ use Rattle.std.proofs.Common.{◌≡◌, ℕ, Bool, true, false, not, ◌==◌, 
 use Rattle.std.proofs.lemmas.List.{map-append}
 use Rattle.types.specs.Statements.{Sent}
 use Rattle.protocol.specs.Rosters.{Draw}
-use Rattle.protocol.specs.Networks.{Slot, Place, Net, Step, effect, act, act_in, act_known, emission, known, places_at, renewed, source, size_of, tests, first_that, counted, replied, net_step}
+use Rattle.protocol.specs.Networks.{Slot, Place, Net, Step, effect, act, act_in, act_known, emission, node_where_open, places_at, renewed, source, size_of, tests, first_that, with_draw, state_and_reply, net_step}
 use Rattle.protocol.specs.Hosts.{Entry}
 use Rattle.protocol.specs.Runs.{net_after}
 use Rattle.types.specs.declared.event.Refusal.{Refusal}
 use Rattle.protocol.specs.Networks.Reading.{Read, Fault}
-use Rattle.protocol.specs.Networks.Step.{Opens, Closes, Asks, Delivers, Hears, NominationTimes, BallotTimes, Reslices}
+use Rattle.protocol.specs.Networks.Step.{Opens, Closes, Proposes, Delivers, Hears, NominationTimerFires, BallotTimerFires, Reslices}
 
 -- what an event leaves of the draws
 abbrev pub left : Step → List Draw → List Draw
@@ -90,21 +90,21 @@ pub effect-keeps : (net : Net) (e : Step)
 unfolding effect
 effect-keeps net (Opens j) = keeps-slots net _ (renewed j net.draws) _ (map-append (λ s. s.number) net.slots (_ ∷ []))
 effect-keeps net (Closes j) = keeps-slots net _ net.draws _ (numbers-drop j net.slots)
-effect-keeps net (Asks j u x) = keeps-act net j u _
+effect-keeps net (Proposes j u x) = keeps-act net j u _
 effect-keeps net (Delivers u size (Read e)) = keeps-act net e.slot u _
 effect-keeps net (Delivers u size (Fault n)) = keeps-self net
-effect-keeps net (Hears j u from kind k) = go (emission (known (places_at net.slots j) from) kind k)
+effect-keeps net (Hears j u from kind k) = go (emission (node_where_open (places_at net.slots j) from) kind k)
   where
     go : (o : Option Sent) → Keeps net (numbers net.slots) net.draws (act_known net j u o).0
     go None = keeps-self net
     go (Some e) = keeps-act net j u _
-effect-keeps net (NominationTimes j u r) = keeps-act net j u _
-effect-keeps net (BallotTimes j u n) = keeps-act net j u _
+effect-keeps net (NominationTimerFires j u r) = keeps-act net j u _
+effect-keeps net (BallotTimerFires j u n) = keeps-act net j u _
 effect-keeps net (Reslices j u q) = keeps-act net j u _
 
 -- the network after an event that is not refused
 abbrev pub next : Net → Step → Net
-next net e = counted (source net.roster e) (size_of e) (effect net e).0
+next net e = with_draw (source net.roster e) (size_of e) (effect net e).0
 
 -- what each such event keeps, a step keeps, which may be refused, and so does a run
 module _ (P : Net → Type 0) (keeps : (net : Net) (e : Step) → first_that (tests net e) ≡ None → P net
@@ -113,7 +113,7 @@ module _ (P : Net → Type 0) (keeps : (net : Net) (e : Step) → first_that (te
   unfolding net_step
   net_step-keeps net e h = go (first_that (tests net e)) refl
     where
-      go : (o : Option Refusal) → first_that (tests net e) ≡ o → P (replied net e o).0
+      go : (o : Option Refusal) → first_that (tests net e) ≡ o → P (state_and_reply net e o).0
       go (Some n) q = h
       go None q = keeps net e q h
 

@@ -2,8 +2,8 @@
 -- stand on it.
 use Rattle.types.specs.declared.event.Refusal.{Refusal}
 use Rattle.std.proofs.Common.{◌≡◌, ℕ, zero, suc, List, [], ◌∷◌, map, take, slice_get, Option, Some, None, refl, sym, ◌∙◌, ap, subst}
-use Rattle.protocol.specs.Networks.{Step, Net, tests, first_that, effect, replied, net_step}
-use Rattle.protocol.specs.Hosts.{Entry, new_net, entered, journal}
+use Rattle.protocol.specs.Networks.{Step, Net, tests, first_that, effect, state_and_reply, net_step}
+use Rattle.protocol.specs.Hosts.{Entry, new_net, journal_with, journal}
 use Rattle.protocol.proofs.Networks.Effects.{next}
 use Rattle.protocol.specs.Runs.{net_after, JournalsAreRuns, RunsAreJournals}
 
@@ -18,7 +18,7 @@ pub record RunsFrom (net : Net) (entries : List Entry) : Type 0 where
 pub run-moves : (net : Net) (x : Entry) (xs : List Entry) → first_that (tests net x.event) ≡ None
     → net_after net (x ∷ xs) ≡ net_after (next net x.event) xs
 unfolding net_after net_step
-run-moves net x xs q = ap (λ o. net_after (replied net x.event o).0 xs) q
+run-moves net x xs q = ap (λ o. net_after (state_and_reply net x.event o).0 xs) q
 
 -- from which the others are a run
 pub runs-next : (net : Net) (x : Entry) (xs : List Entry) → RunsFrom net (x ∷ xs) → RunsFrom (next net x.event) xs
@@ -38,7 +38,7 @@ journal-runs [] net = record { applied = λ k x e. cc; outs = λ k x e. cc }
 journal-runs (e ∷ es) net = go (first_that (tests net e)) refl (λ n. journal-runs es n)
   where
     go : (o : Option Refusal) → first_that (tests net e) ≡ o → ((n : Net) → RunsFrom n (journal n es))
-        → RunsFrom net (entered e (replied net e o).1 (journal (replied net e o).0 es))
+        → RunsFrom net (journal_with e (state_and_reply net e o).1 (journal (state_and_reply net e o).0 es))
     go (Some r) q ih = ih net
     go None q ih = record { applied = applies; outs = gives }
       where
@@ -71,7 +71,8 @@ runs-journal (x ∷ xs) net h =
     (runs-journal xs (next net x.event) (runs-next net x xs h))
   where
     entry : (o : Option Refusal) → o ≡ None → xs ≡ journal (next net x.event) (map (λ x. x.event) xs)
-        → x ∷ xs ≡ entered x.event (replied net x.event o).1 (journal (replied net x.event o).0 (map (λ x. x.event) xs))
+        → x ∷ xs ≡ journal_with x.event (state_and_reply net x.event o).1
+        (journal (state_and_reply net x.event o).0 (map (λ x. x.event) xs))
     entry (Some r) n same = cc
     entry None n same = λ i. record { event = x.event; outs = h.outs zero x refl i } ∷ same i
 

@@ -1,38 +1,38 @@
--- What a fresh place has and each step keeps, each place in a network's run has; so each node there is reached. The law
+-- What a fresh place has and each step keeps, each place in a network's run has; so events lead to each node there. The law
 -- `four_passes_are_enough` and `Sending` stand on it.
 use Rattle.types.specs.declared.event.NodeEvent.{NodeEvent}
 use Rattle.std.proofs.Common.{ℕ, Bool, true, false, not, cond, ◌==◌, Option, Some, None, List, [], ◌∷◌, ◌++◌, filter, if◌then◌else◌}
 use Rattle.types.specs.Statements.{Sent}
 use Rattle.types.specs.declared.event.NodeEvent.TheVariants.{Propose, Take, NominationTimer, BallotTimer, Reslice}
-use Rattle.protocol.specs.Networks.{Net, Slot, Place, Host, Step, moved, act_in, act, act_known, opened, effect, emission, known, places_at}
-use Rattle.protocol.specs.Networks.Step.{Opens, Closes, Asks, Delivers, Hears, NominationTimes, BallotTimes, Reslices}
+use Rattle.protocol.specs.Networks.{Net, Slot, Place, Host, Step, after_event, act_in, act, act_known, nodes_of_new_slot, effect, emission, node_where_open, places_at}
+use Rattle.protocol.specs.Networks.Step.{Opens, Closes, Proposes, Delivers, Hears, NominationTimerFires, BallotTimerFires, Reslices}
 use Rattle.protocol.specs.Networks.Reading.{Read, Fault}
 use Rattle.protocol.specs.Nodes.{fresh}
-use Rattle.protocol.specs.Limits.{Reached, RunsReach}
-use Rattle.protocol.specs.Limits.Reached.{begin, next}
+use Rattle.protocol.specs.Limits.{ComesOfEvents, RunsComeOfEvents}
+use Rattle.protocol.specs.Limits.ComesOfEvents.{begin, next}
 use Rattle.protocol.proofs.Networks.Effects.{at_slot, run-keeps}
 use Rattle.std.specs.List.{AllByRecursion}
 use Rattle.protocol.specs.Runs.{net_after}
 use Rattle.protocol.specs.Hosts.{Entry, new_net}
 
 module _ (P : Place → Type 0) (new : (i : ℕ) (h : Host) → P (record { node = fresh i h.name h.slices; told = [] }))
-    (more : (e : NodeEvent) (p : Place) → P p → P (moved e p)) where
+    (more : (e : NodeEvent) (p : Place) → P p → P (after_event e p)) where
   abbrev AllAt : List Place → Type 0
   AllAt ps = AllByRecursion P ps
 
   abbrev AllSlots : List Slot → Type 0
   AllSlots ss = AllByRecursion (λ s. AllByRecursion P s.places) ss
 
-  opened-all : (hosts : List Host) (i : ℕ) → AllAt (opened hosts i)
-  unfolding opened
-  opened-all [] i = tt
-  opened-all (h ∷ hs) i = (new i h, opened-all hs i)
+  nodes_of_new_slot-all : (hosts : List Host) (i : ℕ) → AllAt (nodes_of_new_slot hosts i)
+  unfolding nodes_of_new_slot
+  nodes_of_new_slot-all [] i = tt
+  nodes_of_new_slot-all (h ∷ hs) i = (new i h, nodes_of_new_slot-all hs i)
 
   act_in-all : (u : ℕ) (e : NodeEvent) (ps : List Place) → AllAt ps → AllAt (act_in u e ps)
   act_in-all u e [] h = tt
   act_in-all u e (p ∷ ps) h = (one (p.node.name == u), act_in-all u e ps h.1)
     where
-      one : (b : Bool) → P (if b then moved e p else p)
+      one : (b : Bool) → P (if b then after_event e p else p)
       one true = more e p h.0
       one false = h.0
 
@@ -63,27 +63,28 @@ module _ (P : Place → Type 0) (new : (i : ℕ) (h : Host) → P (record { node
   effect-all : (net : Net) (e : Step) → AllSlots net.slots → AllSlots (effect net e).0.slots
   unfolding effect
   effect-all net (Opens i) h =
-      push-all net.slots (record { number = i; places = opened net.hosts i }) h (opened-all net.hosts i)
+      push-all net.slots (record { number = i; places = nodes_of_new_slot net.hosts i }) h
+      (nodes_of_new_slot-all net.hosts i)
   effect-all net (Closes i) h = filter-all (λ s. not (s.number == i)) net.slots h
-  effect-all net (Asks i u x) h = act-all net i u (Propose x) h
+  effect-all net (Proposes i u x) h = act-all net i u (Propose x) h
   effect-all net (Delivers u size (Read e)) h = act-all net e.slot u (Take e) h
   effect-all net (Delivers u size (Fault n)) h = h
-  effect-all net (Hears i u from kind k) h = heard (emission (known (places_at net.slots i) from) kind k)
+  effect-all net (Hears i u from kind k) h = heard (emission (node_where_open (places_at net.slots i) from) kind k)
     where
       heard : (o : Option Sent) → AllSlots (act_known net i u o).0.slots
       heard None = h
       heard (Some e) = act-all net i u (Take e) h
-  effect-all net (NominationTimes i u r) h = act-all net i u (NominationTimer r) h
-  effect-all net (BallotTimes i u n) h = act-all net i u (BallotTimer n) h
+  effect-all net (NominationTimerFires i u r) h = act-all net i u (NominationTimer r) h
+  effect-all net (BallotTimerFires i u n) h = act-all net i u (BallotTimer n) h
   effect-all net (Reslices i u q) h = act-all net i u (Reslice q) h
 
   pub run-all : (net : Net) (entries : List Entry) → AllSlots net.slots → AllSlots (net_after net entries).slots
   run-all net entries h = run-keeps (λ n. AllSlots n.slots) (λ n e q k. effect-all n e k) entries net h
 
-moved-reached : (e : NodeEvent) (p : Place) → Reached p.node → Reached (moved e p).node
-unfolding moved
-moved-reached e p r = next r e
+after_event-comes : (e : NodeEvent) (p : Place) → ComesOfEvents p.node → ComesOfEvents (after_event e p).node
+unfolding after_event
+after_event-comes e p r = next r e
 
-pub runs_reach : RunsReach
-runs_reach config before =
-    run-all (λ p. Reached p.node) (λ i h. begin i h.name h.slices) moved-reached (new_net config) before tt
+pub runs_come_of_events : RunsComeOfEvents
+runs_come_of_events config before =
+    run-all (λ p. ComesOfEvents p.node) (λ i h. begin i h.name h.slices) after_event-comes (new_net config) before tt

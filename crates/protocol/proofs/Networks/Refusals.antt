@@ -6,10 +6,10 @@ use Rattle.std.specs.List.{AllByRecursion}
 use Rattle.std.proofs.lemmas.Bool.{false≢true, true≢false, ltb-true, ltb-false, not-true, not-false}
 use Rattle.protocol.specs.Rosters.{Source, events_drawn, bytes_drawn, events_of}
 use Rattle.protocol.specs.Rosters.Source.{OfBudgets, OfOpens, OfShare}
-use Rattle.protocol.specs.Networks.{Net, Step, source, size_of, is_full, is_full_of_bytes, tests, tests_on, first_that}
+use Rattle.protocol.specs.Networks.{Net, Step, source, size_of, room_test, bytes_test, tests, tests_on, first_that}
 use Rattle.protocol.specs.Networks.Reading.{Read, Fault}
-use Rattle.protocol.specs.Networks.Step.{Opens, Closes, Asks, Delivers, Hears}
-use Rattle.protocol.specs.Counts.{IsMet, RefusedWhereMet, HasEvents, HasBytes, AppliedWhereRoom}
+use Rattle.protocol.specs.Networks.Step.{Opens, Closes, Proposes, Delivers, Hears}
+use Rattle.protocol.specs.Counts.{IsMet, RefusedWhereMet, HasRoomForEvents, HasRoomForBytes, AppliedWhereRoom}
 
 abbrev Says : (Refusal → Type 0) → List (Bool × Refusal) → Type 0
 Says P ts = AllByRecursion (λ (t : Bool × Refusal). t.0 ≡ true → P t.1) ts
@@ -23,7 +23,7 @@ first-says P (t ∷ ts) n h e = go t.0 refl e (first-says P ts n h.1)
     go true q e ih = let m : t.1 ≡ n = cc in subst P m (h.0 q)
     go false q e ih = ih e
 
-full-says : (net : Net) (s : Source) (size : ℕ) → (is_full net s).0 ≡ true → IsMet net s size (is_full net s).1
+full-says : (net : Net) (s : Source) (size : ℕ) → (room_test net s).0 ≡ true → IsMet net s size (room_test net s).1
 full-says net OfBudgets size h =
     (refl, ltb-false net.events net.budgets.events (not-true (nat_lt net.events net.budgets.events) h))
 full-says net (OfOpens shares) size h =
@@ -34,8 +34,8 @@ full-says net (OfShare shares i t) size h = (
       (not-true (nat_lt (events_drawn i t net.draws) (events_of shares t)) h),
 )
 
-bytes-says : (net : Net) (s : Source) (size : ℕ) → (is_full_of_bytes net s size).0 ≡ true
-    → IsMet net s size (is_full_of_bytes net s size).1
+bytes-says : (net : Net) (s : Source) (size : ℕ) → (bytes_test net s size).0 ≡ true
+    → IsMet net s size (bytes_test net s size).1
 bytes-says net OfBudgets size h = (refl, ltb-true net.budgets.bytes (net.bytes + size) h)
 bytes-says net (OfOpens shares) size h = absurd (false≢true h)
 bytes-says net (OfShare shares i t) size h = ltb-true shares.bytes (bytes_drawn i t net.draws + size) h
@@ -50,7 +50,7 @@ tests-say net s (Opens i) = (
   ),
 )
 tests-say net s (Closes i) = (λ h. tt, (full-says net s 0, tt))
-tests-say net s (Asks i u x) = (λ h. tt, (λ h. tt, (λ h. tt, (λ h. tt, (full-says net s 0, tt)))))
+tests-say net s (Proposes i u x) = (λ h. tt, (λ h. tt, (λ h. tt, (λ h. tt, (full-says net s 0, tt)))))
 tests-say net s (Delivers u size (Fault n)) = (λ h. tt, (λ h. tt, tt))
 tests-say net s (Delivers u size (Read e)) =
     (λ h. tt, (λ h. tt, (λ h. tt, (full-says net s size, (bytes-says net s size, tt)))))
@@ -73,14 +73,14 @@ none-holds (t ∷ ts) h = go t.0 refl h (none-holds ts)
     go true q e ih = cc
     go false q e ih = (q, ih e)
 
-has-events : (net : Net) (s : Source) → (is_full net s).0 ≡ false → HasEvents net s
+has-events : (net : Net) (s : Source) → (room_test net s).0 ≡ false → HasRoomForEvents net s
 has-events net OfBudgets h = ltb-true net.events net.budgets.events (not-false (nat_lt net.events net.budgets.events) h)
 has-events net (OfOpens shares) h = ltb-true net.opens shares.opens (not-false (nat_lt net.opens shares.opens) h)
 has-events net (OfShare shares i t) h =
     ltb-true (events_drawn i t net.draws) (events_of shares t)
     (not-false (nat_lt (events_drawn i t net.draws) (events_of shares t)) h)
 
-has-bytes : (net : Net) (s : Source) (size : ℕ) → (is_full_of_bytes net s size).0 ≡ false → HasBytes net s size
+has-bytes : (net : Net) (s : Source) (size : ℕ) → (bytes_test net s size).0 ≡ false → HasRoomForBytes net s size
 has-bytes net OfBudgets size h = ltb-false net.budgets.bytes (net.bytes + size) h
 has-bytes net (OfOpens shares) size h = tt
 has-bytes net (OfShare shares i t) size h = ltb-false shares.bytes (bytes_drawn i t net.draws + size) h
@@ -93,8 +93,8 @@ applied_where_room net (Opens i) h =
     )
 applied_where_room net (Closes i) h =
     let a = none-holds (tests net (Closes i)) h in has-events net (source net.roster (Closes i)) a.1.0
-applied_where_room net (Asks i u x) h =
-    let a = none-holds (tests net (Asks i u x)) h in has-events net (source net.roster (Asks i u x)) a.1.1.1.1.0
+applied_where_room net (Proposes i u x) h =
+    let a = none-holds (tests net (Proposes i u x)) h in has-events net (source net.roster (Proposes i u x)) a.1.1.1.1.0
 applied_where_room net (Delivers u size (Fault n)) h =
     let a = none-holds (tests net (Delivers u size (Fault n))) h in absurd (true≢false a.1.0)
 applied_where_room net (Delivers u size (Read e)) h =

@@ -3,28 +3,28 @@ use Rattle.std.proofs.Common.{◌≡◌, ◌⊎◌, ℕ, ◌<◌, ◌≤◌, Boo
 use Rattle.std.proofs.lemmas.Bool.{cases_Bool, and_parts, eqb-true}
 use Rattle.std.proofs.lemmas.List.{length-append}
 use Rattle.std.proofs.lemmas.List.Filters.{length-filter_both}
-use Rattle.protocol.specs.Rosters.{Shares, Share, Source, Roster, same_share, events_drawn, bytes_drawn, events_of, reserved, is_on}
+use Rattle.protocol.specs.Rosters.{Shares, Share, Source, Roster, same_share, events_drawn, bytes_drawn, events_of, share_or_budgets, is_on}
 use Rattle.protocol.specs.Rosters.Share.{Own, Pair}
 use Rattle.protocol.specs.Rosters.Source.{OfBudgets, OfOpens, OfShare}
 use Rattle.protocol.specs.Networks.{Net, Step, source, source_by, size_of, on_budgets, on_opens, effect, tests, first_that}
 use Rattle.protocol.specs.Networks.Reading.{Read, Fault}
-use Rattle.protocol.specs.Networks.Step.{Opens, Closes, Asks, Delivers, Hears, NominationTimes, BallotTimes, Reslices}
+use Rattle.protocol.specs.Networks.Step.{Opens, Closes, Proposes, Delivers, Hears, NominationTimerFires, BallotTimerFires, Reslices}
 use Rattle.protocol.specs.Hosts.{Config, new_net}
-use Rattle.protocol.specs.Counts.{is_of_share, is_opening, HasEvents, HasBytes, HasRoom, IsInRoom, StaysInRoom}
+use Rattle.protocol.specs.Counts.{is_of_share, is_opening, HasRoomForEvents, HasRoomForBytes, HasRoom, IsInRoom, StaysInRoom}
 use Rattle.protocol.proofs.Networks.Effects.{numbers, opened_after, next, effect-keeps, run-keeps}
 use Rattle.protocol.proofs.Crowds.Views.{same_share-true}
 use Rattle.protocol.proofs.Crowds.Concerned.{length-numbers}
 use Rattle.protocol.proofs.Networks.Refusals.{applied_where_room}
 use Rattle.protocol.proofs.Networks.Drawn.{counted-next}
 
-pub room-events : (net : Net) (e : Step) → HasRoom net e → HasEvents net (source net.roster e)
+pub room-events : (net : Net) (e : Step) → HasRoom net e → HasRoomForEvents net (source net.roster e)
 room-events net (Opens i) h = h.1
 room-events net (Delivers u size d) h = h.0
 room-events net _ h = h
 
 -- bytes that fit, or none
 abbrev pub FitsOr : Net → Step → Type 0
-FitsOr net e = HasBytes net (source net.roster e) (size_of e) ⊎ (size_of e ≡ 0)
+FitsOr net e = HasRoomForBytes net (source net.roster e) (size_of e) ⊎ (size_of e ≡ 0)
 
 pub room-bytes : (net : Net) (e : Step) → HasRoom net e → FitsOr net e
 room-bytes net (Delivers u size d) h = inl h.1
@@ -36,8 +36,8 @@ HasSharesOf r OfBudgets = Unit {0}
 HasSharesOf r (OfOpens shares) = shares ≡ r.shares
 HasSharesOf r (OfShare shares i t) = shares ≡ r.shares
 
-reserved-shares : (r : Roster) (i : ℕ) (t : Share) → HasSharesOf r (reserved r i t)
-reserved-shares r i t = go (is_on r.names t)
+share_or_budgets-shares : (r : Roster) (i : ℕ) (t : Share) → HasSharesOf r (share_or_budgets r i t)
+share_or_budgets-shares r i t = go (is_on r.names t)
   where
     go : (b : Bool) → HasSharesOf r (if b then OfShare r.shares i t else OfBudgets)
     go true = refl
@@ -46,13 +46,13 @@ reserved-shares r i t = go (is_on r.names t)
 source-shares : (r : Roster) (e : Step) → HasSharesOf r (source_by r e)
 source-shares r (Opens i) = refl
 source-shares r (Closes i) = refl
-source-shares r (Asks i u x) = reserved-shares r i (Own u)
-source-shares r (Delivers u size (Read e)) = reserved-shares r e.slot (Pair u e.sender)
+source-shares r (Proposes i u x) = share_or_budgets-shares r i (Own u)
+source-shares r (Delivers u size (Read e)) = share_or_budgets-shares r e.slot (Pair u e.sender)
 source-shares r (Delivers u size (Fault n)) = tt
-source-shares r (Hears i u from kind k) = reserved-shares r i (Pair u from)
-source-shares r (NominationTimes i u n) = reserved-shares r i (Own u)
-source-shares r (BallotTimes i u n) = reserved-shares r i (Own u)
-source-shares r (Reslices i u q) = reserved-shares r i (Own u)
+source-shares r (Hears i u from kind k) = share_or_budgets-shares r i (Pair u from)
+source-shares r (NominationTimerFires i u n) = share_or_budgets-shares r i (Own u)
+source-shares r (BallotTimerFires i u n) = share_or_budgets-shares r i (Own u)
+source-shares r (Reslices i u q) = share_or_budgets-shares r i (Own u)
 
 -- the open slots after a step that found room
 slots-fit : (net : Net) (e : Step) (most : ℕ) → length net.slots ≤ most → net.budgets.slots ≡ most → HasRoom net e
@@ -70,14 +70,14 @@ module _ (config : Config) (net : Net) (e : Step) (h : net.roster ≡ config.ros
     (in_room : IsInRoom config net) (room : HasRoom net e) where
   events-fit : (s : Source) → source net.roster e ≡ s → net.events + on_budgets s 1 ≤ config.budgets.events
   events-fit OfBudgets q =
-      let l : net.events < net.budgets.events = subst (HasEvents net) q (room-events net e room) in
+      let l : net.events < net.budgets.events = subst (HasRoomForEvents net) q (room-events net e room) in
       let k : net.budgets.events ≡ config.budgets.events = ap (λ b. b.events) g in omega (arith, l, k)
   events-fit (OfOpens shares) q = let l = in_room.events in omega (arith, l)
   events-fit (OfShare shares i t) q = let l = in_room.events in omega (arith, l)
 
   bytes-fit : (s : Source) → source net.roster e ≡ s → net.bytes + on_budgets s (size_of e) ≤ config.budgets.bytes
   bytes-fit OfBudgets q = elim (room-bytes net e room) [
-    | inl f ↦ let l : net.bytes + size_of e ≤ net.budgets.bytes = subst (λ z. HasBytes net z (size_of e)) q f in
+    | inl f ↦ let l : net.bytes + size_of e ≤ net.budgets.bytes = subst (λ z. HasRoomForBytes net z (size_of e)) q f in
         let k : net.budgets.bytes ≡ config.budgets.bytes = ap (λ b. b.bytes) g in omega (arith, l, k)
     | inr z ↦ let l = in_room.bytes in omega (arith, l, z)
   ]
@@ -91,7 +91,7 @@ module _ (config : Config) (net : Net) (e : Step) (h : net.roster ≡ config.ros
     opens-fit : (s : Source) → source net.roster e ≡ s → net.opens + on_opens s ≤ r.shares.opens
     opens-fit OfBudgets q = let l = in_room.opens r c in omega (arith, l)
     opens-fit (OfOpens shares) q =
-        let l : net.opens < shares.opens = subst (HasEvents net) q (room-events net e room) in
+        let l : net.opens < shares.opens = subst (HasRoomForEvents net) q (room-events net e room) in
         let k : shares.opens ≡ r.shares.opens = ap (λ z. z.opens) (its-shares (OfOpens shares) q) in omega (arith, l, k)
     opens-fit (OfShare shares i t) q = let l = in_room.opens r c in omega (arith, l)
 
@@ -108,7 +108,7 @@ module _ (config : Config) (net : Net) (e : Step) (h : net.roster ≡ config.ros
           go true o =
               let p = and_parts (j == i) (same_share u t) o in
               let l : events_drawn j u net.draws < events_of shares u =
-              subst (HasEvents net) q (room-events net e room) in
+              subst (HasRoomForEvents net) q (room-events net e room) in
               let d : events_drawn j u net.draws ≡ events_drawn i t net.draws =
               ap₂ (λ (k : ℕ) (w : Share). events_drawn k w net.draws) (eqb-true j i p.0)
               (same_share-true u t p.1) in
@@ -133,7 +133,7 @@ module _ (config : Config) (net : Net) (e : Step) (h : net.roster ≡ config.ros
               let f : shares.bytes ≡ r.shares.bytes = ap (λ z. z.bytes) (its-shares (OfShare shares j u) q) in
               elim (room-bytes net e room) [
                 | inl b ↦ let l : bytes_drawn j u net.draws + size_of e ≤ shares.bytes =
-                    subst (λ z. HasBytes net z (size_of e)) q b in omega (arith, l, d, f)
+                    subst (λ z. HasRoomForBytes net z (size_of e)) q b in omega (arith, l, d, f)
                 | inr z ↦ let l = in_room.share_bytes r c i t in omega (arith, l, z)
               ]
 

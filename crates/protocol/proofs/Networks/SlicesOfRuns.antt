@@ -9,19 +9,19 @@ use Rattle.types.specs.Trees.{Slices}
 use Rattle.types.specs.Statements.{Sent}
 use Rattle.std.proofs.lemmas.Option.{none-some}
 use Rattle.protocol.specs.Nodes.{fresh}
-use Rattle.protocol.specs.Limits.{Reached}
-use Rattle.protocol.specs.Limits.Reached.{begin, next}
-use Rattle.protocol.specs.Networks.{Net, Step, Place, Slot, slices_of, places_at, known, emission, moved, act, act_known, opened, renewed, effect, source, size_of, tests, first_that, counted, replied, net_step}
+use Rattle.protocol.specs.Limits.{ComesOfEvents}
+use Rattle.protocol.specs.Limits.ComesOfEvents.{begin, next}
+use Rattle.protocol.specs.Networks.{Net, Step, Place, Slot, slices_of, places_at, node_where_open, emission, after_event, act, act_known, nodes_of_new_slot, renewed, effect, source, size_of, tests, first_that, with_draw, state_and_reply, net_step}
 use Rattle.protocol.specs.Networks.Reading.{Read, Fault}
-use Rattle.protocol.specs.Networks.Step.{Opens, Closes, Asks, Delivers, Hears, NominationTimes, BallotTimes, Reslices}
-use Rattle.protocol.specs.Hosts.{Entry, entered, journal, new_net}
+use Rattle.protocol.specs.Networks.Step.{Opens, Closes, Proposes, Delivers, Hears, NominationTimerFires, BallotTimerFires, Reslices}
+use Rattle.protocol.specs.Hosts.{Entry, journal_with, journal, new_net}
 use Rattle.protocol.specs.Runs.{net_after}
 use Rattle.protocol.specs.Reslices.{slices_after, slices_next, slices_since, SlicesFollowRuns}
 use Rattle.protocol.proofs.Networks.Effects.{effect-keeps}
-use Rattle.protocol.proofs.Runs.Sights.{known-same, known-other, known-elsewhere}
+use Rattle.protocol.proofs.Runs.Sights.{node_where_open-same, node_where_open-other, node_where_open-elsewhere}
 use Rattle.protocol.proofs.Runs.Events.{IsNew}
 use Rattle.protocol.proofs.Networks.OpenSlots.{places_at-push, places_at-push_other, places_at-drop, places_at-drop_other}
-use Rattle.protocol.proofs.Runs.Openings.{place_of-opened}
+use Rattle.protocol.proofs.Runs.Openings.{node_named-opened}
 use Rattle.protocol.proofs.Runs.KeptSteps.{is_new}
 use Rattle.protocol.proofs.Networks.Journals.{runs_are_journals}
 use Rattle.protocol.proofs.Nodes.Reslices.{slices_follow_events}
@@ -29,31 +29,33 @@ use Rattle.protocol.proofs.Nodes.Reslices.{slices_follow_events}
 module _ (i u : ℕ) (q : Slices) where
   -- wherever the node is at the slot, it has these slices, and events led to it
   abbrev Has : Slices → Net → Type 0
-  Has now net = (p : Place) → known (places_at net.slots i) u ≡ Some p → (p.node.slices ≡ now) × Reached p.node
+  Has now net =
+      (p : Place) → node_where_open (places_at net.slots i) u ≡ Some p → (p.node.slices ≡ now) × ComesOfEvents p.node
 
   -- a step of another node, or at another slot
   has-other : (now : Slices) (net : Net) (j w : ℕ) (e : NodeEvent) → ((j == i) && (w == u)) ≡ false → Has now net
       → Has now (act net j w e).0
   has-other now net j w e o h p k = elim (cases_Bool (j == i)) [
-    | inr n ↦ h p (sym (known-elsewhere net j i w u e n) ∙ k)
-    | inl y ↦ h p (sym (known-other net i w u e (elim (cases_Bool (u == w)) [
+    | inr n ↦ h p (sym (node_where_open-elsewhere net j i w u e n) ∙ k)
+    | inl y ↦ h p (sym (node_where_open-other net i w u e (elim (cases_Bool (u == w)) [
       | inl z ↦ absurd (true≢false (sym (and_from (j == i) (w == u) y (eq-eqb w u (sym (eqb-true u w z)))) ∙ o))
       | inr n ↦ n
-    ])) ∙ subst (λ x. known (places_at (act net x w e).0.slots i) u ≡ Some p) (eqb-true j i y) k)
+    ])) ∙ subst (λ x. node_where_open (places_at (act net x w e).0.slots i) u ≡ Some p) (eqb-true j i y) k)
   ]
 
   -- a step of the node
   has-own : (now : Slices) (net : Net) (e : NodeEvent) → Has now net → Has (slices_after e now) (act net i u e).0
-  unfolding moved
-  has-own now net e h p k = go (known (places_at net.slots i) u) refl (sym (known-same net i u e) ∙ k)
+  unfolding after_event
+  has-own now net e h p k =
+      go (node_where_open (places_at net.slots i) u) refl (sym (node_where_open-same net i u e) ∙ k)
     where
-      go : (o : Option Place) → known (places_at net.slots i) u ≡ o → option_map (moved e) o ≡ Some p
-          → (p.node.slices ≡ slices_after e now) × Reached p.node
+      go : (o : Option Place) → node_where_open (places_at net.slots i) u ≡ o → option_map (after_event e) o ≡ Some p
+          → (p.node.slices ≡ slices_after e now) × ComesOfEvents p.node
       go None x y = cc
       go (Some m) x y =
-          let same : moved e m ≡ p = cc in
+          let same : after_event e m ≡ p = cc in
           let a = h m x in
-          subst (λ (z : Place). (z.node.slices ≡ slices_after e now) × Reached z.node) same
+          subst (λ (z : Place). (z.node.slices ≡ slices_after e now) × ComesOfEvents z.node) same
           (slices_follow_events m.node a.1 e ∙ ap (slices_after e) a.0, next a.1 e)
 
   -- any step
@@ -83,28 +85,29 @@ module _ (i u : ℕ) (q : Slices) where
       → places_at net.slots j ≡ None → Has now net
       → Has (if j == i then q else now)
       (record net {
-        slots = net.slots ++ record { number = j; places = opened net.hosts j } ∷ [];
+        slots = net.slots ++ record { number = j; places = nodes_of_new_slot net.hosts j } ∷ [];
         draws = renewed j net.draws;
       })
   unfolding fresh
   has-opened now net j hosted n h = go (j == i) refl
     where
       slot : Slot
-      slot = record { number = j; places = opened net.hosts j }
+      slot = record { number = j; places = nodes_of_new_slot net.hosts j }
 
       go : (b : Bool) → (j == i) ≡ b
           → Has (if b then q else now) (record net { slots = net.slots ++ slot ∷ []; draws = renewed j net.draws })
-      go false o p k = h p (ap (λ x. known x u) (sym (places_at-push_other net.slots slot i o)) ∙ k)
+      go false o p k = h p (ap (λ x. node_where_open x u) (sym (places_at-push_other net.slots slot i o)) ∙ k)
       go true y p k =
-          let there : known (places_at (net.slots ++ slot ∷ []) i) u
+          let there : node_where_open (places_at (net.slots ++ slot ∷ []) i) u
           ≡ option_map (λ x. record { node = fresh j u x; told = [] }) (slices_of net.hosts u) =
-          ap (λ x. known x u) (places_at-push net.slots slot i y (ap (places_at net.slots) (sym (eqb-true j i y)) ∙ n))
-          ∙ place_of-opened net.hosts j u in
+          ap (λ x. node_where_open x u)
+          (places_at-push net.slots slot i y (ap (places_at net.slots) (sym (eqb-true j i y)) ∙ n))
+          ∙ node_named-opened net.hosts j u in
           let same : ◌≡◌ {A = Option Place} (Some (record { node = fresh j u q; told = [] })) (Some p) =
           ap (option_map (λ (x : Slices). record { node = fresh j u x; told = [] })) (sym hosted)
           ∙ (sym there ∙ k) in
           let is : record { node = fresh j u q; told = [] } ≡ p = cc in
-          subst (λ (z : Place). (z.node.slices ≡ q) × Reached z.node) is (refl, begin j u q)
+          subst (λ (z : Place). (z.node.slices ≡ q) × ComesOfEvents z.node) is (refl, begin j u q)
 
   -- closing the slot, or another one
   has-closed : (now : Slices) (net : Net) (j : ℕ) → Has now net
@@ -113,9 +116,9 @@ module _ (i u : ℕ) (q : Slices) where
     where
       go : (b : Bool) → (j == i) ≡ b
           → Has (if b then q else now) (record net { slots = filter (λ s. not (s.number == j)) net.slots })
-      go false o p k = h p (ap (λ x. known x u) (sym (places_at-drop_other net.slots j i o)) ∙ k)
+      go false o p k = h p (ap (λ x. node_where_open x u) (sym (places_at-drop_other net.slots j i o)) ∙ k)
       go true y p k =
-          absurd (none-some p (sym (ap (λ x. known x u)
+          absurd (none-some p (sym (ap (λ x. node_where_open x u)
           (ap (λ x. places_at (filter (λ s. not (s.number == x)) net.slots) i) (eqb-true j i y)
           ∙ places_at-drop net.slots i)) ∙ k))
 
@@ -125,16 +128,17 @@ module _ (i u : ℕ) (q : Slices) where
   unfolding effect
   has-effect now net (Opens j) hosted n h = has-opened now net j hosted n h
   has-effect now net (Closes j) hosted n h = has-closed now net j h
-  has-effect now net (Asks j w x) hosted n h = has-still now net j w (Propose x) refl h
+  has-effect now net (Proposes j w x) hosted n h = has-still now net j w (Propose x) refl h
   has-effect now net (Delivers w size (Read e)) hosted n h = has-still now net e.slot w (Take e) refl h
   has-effect now net (Delivers w size (Fault f)) hosted n h = h
-  has-effect now net (Hears j w from kind k) hosted n h = go (emission (known (places_at net.slots j) from) kind k)
+  has-effect now net (Hears j w from kind k) hosted n h =
+      go (emission (node_where_open (places_at net.slots j) from) kind k)
     where
       go : (o : Option Sent) → Has now (act_known net j w o).0
       go None = h
       go (Some e) = has-still now net j w (Take e) refl h
-  has-effect now net (NominationTimes j w r) hosted n h = has-still now net j w (NominationTimer r) refl h
-  has-effect now net (BallotTimes j w c) hosted n h = has-still now net j w (BallotTimer c) refl h
+  has-effect now net (NominationTimerFires j w r) hosted n h = has-still now net j w (NominationTimer r) refl h
+  has-effect now net (BallotTimerFires j w c) hosted n h = has-still now net j w (BallotTimer c) refl h
   has-effect now net (Reslices j w new) hosted n h = has-act now net j w (Reslice new) h
 
   -- a whole journal
@@ -149,14 +153,14 @@ module _ (i u : ℕ) (q : Slices) where
 
       go : (o : Option Refusal) → first_that (tests net e) ≡ o
           → ((n : Net) (x : Slices) → slices_of n.hosts u ≡ Some q → Has x n → Claim n x (journal n es))
-          → Claim net now (entered e (replied net e o).1 (journal (replied net e o).0 es))
+          → Claim net now (journal_with e (state_and_reply net e o).1 (journal (state_and_reply net e o).0 es))
       go (Some r) z ih = ih net now hosted h
       go None z ih =
-          let after : Net = counted (source net.roster e) (size_of e) (effect net e).0 in
+          let after : Net = with_draw (source net.roster e) (size_of e) (effect net e).0 in
           let run = journal after es in
           let now_then = slices_next i u q now e in
           subst (λ (n : Net). Has (slices_since i u q now_then run) n)
-          (ap (λ o. net_after (replied net e o).0 run) (sym z))
+          (ap (λ o. net_after (state_and_reply net e o).0 run) (sym z))
           (ih after now_then (ap (λ hs. slices_of hs u) (effect-keeps net e).hosts ∙ hosted)
           (has-effect now net e hosted (is_new net e z) h))
 

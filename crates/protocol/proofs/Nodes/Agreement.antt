@@ -11,7 +11,7 @@ use Rattle.protocol.specs.Rows.{row, is_kind, is_row_of, with_row, is_taken, rep
 use Rattle.protocol.specs.Views.{Seen}
 use Rattle.types.specs.declared.state.Votes.{Votes}
 use Rattle.protocol.specs.Passes.{pass}
-use Rattle.protocol.specs.Nodes.{Node, passed, settle, change, outs, settled, after_change, answered, step, most_passes}
+use Rattle.protocol.specs.Nodes.{Node, after_pass, settle, change, outs, with_settled_votes, after_change, node_and_outs, step, most_passes}
 use Rattle.types.specs.declared.event.NodeEvent.TheVariants.{Propose, Take, NominationTimer, BallotTimer, Reslice}
 use Rattle.protocol.proofs.Nodes.Views.{cut, row-cut, seen-cut}
 use Rattle.protocol.proofs.Nodes.Closed.{Good, IsFit, good-change}
@@ -27,8 +27,8 @@ IsKept R (Take e) = (R e.sender ≡ true) × (within (names e.slices) R ≡ true
 IsKept R _ = Unit {0}
 
 -- a pass sees the rows of R alone
-passed-cut : (R : Names) (n : Node) → Good R n → passed n ≡ passed (cut_node R n)
-passed-cut R n g =
+after_pass-cut : (R : Names) (n : Node) → Good R n → after_pass n ≡ after_pass (cut_node R n)
+after_pass-cut R n g =
     ap {B = Votes → Votes} (λ (s : Seen) (w : Votes). pass n.name s n.inputs w)
     (seen-cut R n.name n.slices n.inputs.leaders n.table g.closed g.leaders)
 
@@ -85,7 +85,7 @@ pub step-kept : (R : Names) (n : Node) (e : NodeEvent) → Good R n → IsFit R 
     → step (cut_node R n) e ≡ (cut_node R (step n e).0, (step n e).1)
 unfolding step
 step-kept R n e g f k =
-    ap (λ o. answered (cut_node R n) o)
+    ap (λ o. node_and_outs (cut_node R n) o)
     (ap after_change (change-cut R n e k) ∙ settled-cut (change n e) (good-change R n e g f))
     ∙ out (after_change (change n e))
   where
@@ -93,14 +93,17 @@ step-kept R n e g f k =
         → after_change (option_map (cut_node R) o) ≡ option_map (cut_node R) (after_change o)
     settled-cut None h = refl
     settled-cut (Some m) h =
-        ap (λ (p : Votes → Votes). settled (cut_node R m) (settle most_passes p m.votes)) (sym (passed-cut R m h))
-        ∙ same (settle most_passes (passed m) m.votes)
+        ap (λ (p : Votes → Votes). with_settled_votes (cut_node R m) (settle most_passes p m.votes))
+        (sym (after_pass-cut R m h))
+        ∙ same (settle most_passes (after_pass m) m.votes)
       where
-        same : (o : Option Votes) → settled (cut_node R m) o ≡ option_map (cut_node R) (settled m o)
+        same : (o : Option Votes)
+            → with_settled_votes (cut_node R m) o ≡ option_map (cut_node R) (with_settled_votes m o)
         same None = refl
         same (Some w) = refl
 
     out : (o : Option Node)
-        → answered (cut_node R n) (option_map (cut_node R) o) ≡ (cut_node R (answered n o).0, (answered n o).1)
+        → node_and_outs (cut_node R n) (option_map (cut_node R) o)
+        ≡ (cut_node R (node_and_outs n o).0, (node_and_outs n o).1)
     out None = refl
     out (Some m) = ap {B = Node × List Out} (λ (os : List Out). (cut_node R m, os)) (outs-cut R n m)

@@ -5,19 +5,19 @@ use Rattle.std.proofs.Common.{◌≡◌, ℕ, zero, suc, Bool, true, false, Opti
 use Rattle.types.specs.declared.state.Votes.{Votes}
 use Rattle.protocol.specs.Passes.{pass, pass_rules, voting, counting}
 use Rattle.protocol.specs.Sameness.{same_votes}
-use Rattle.protocol.specs.Nodes.{Node, passed, settle, change, settled, after_change, step, Calm, fresh, most_passes}
+use Rattle.protocol.specs.Nodes.{Node, after_pass, settle, change, with_settled_votes, after_change, step, Calm, fresh, most_passes}
 use Rattle.protocol.proofs.Equality.Sameness.{same_votes-refl, same_votes-true}
-use Rattle.protocol.proofs.Nodes.Made.{answered-node, if_node}
+use Rattle.protocol.proofs.Nodes.Made.{node_and_outs-node, if_node}
 use Rattle.types.specs.Trees.{Slices}
 use Rattle.protocol.specs.Views.{seen, rows_seen, led_by}
 use Rattle.protocol.specs.States.{position}
-use Rattle.protocol.specs.Candidates.{filled, combine, greatest, named}
+use Rattle.protocol.specs.Candidates.{with_up_to_sixteen, combine, greatest, named}
 use Rattle.protocol.specs.Nominating.{nominate, confirm_values, accept_values, echo}
-use Rattle.protocol.specs.Balloting.{started, start}
+use Rattle.protocol.specs.Balloting.{with_first_ballot, start}
 
 -- a fresh node is
 pub fresh-calm : (slot v : ℕ) (q : Slices) → Calm (fresh slot v q)
-unfolding fresh pass pass_rules voting counting nominate confirm_values accept_values echo filled started start combine greatest named position seen rows_seen led_by
+unfolding fresh pass pass_rules voting counting nominate confirm_values accept_values echo with_up_to_sixteen with_first_ballot start combine greatest named position seen rows_seen led_by
 fresh-calm slot v q = refl
 
 -- votes that a pass leaves as they are settle at once
@@ -39,13 +39,13 @@ settle-calm (suc k) f w u h = go (same_votes (f w) w) refl h (settle-calm k f (f
 
 calm-settled : (o : Option Node) → if_node Calm (after_change o)
 calm-settled None = tt
-calm-settled (Some n) = go (settle most_passes (passed n) n.votes) refl
+calm-settled (Some n) = go (settle most_passes (after_pass n) n.votes) refl
   where
-    go : (o : Option Votes) → settle most_passes (passed n) n.votes ≡ o → if_node Calm (settled n o)
+    go : (o : Option Votes) → settle most_passes (after_pass n) n.votes ≡ o → if_node Calm (with_settled_votes n o)
     go None e = tt
-    go (Some w) e = settle-calm most_passes (passed n) n.votes w e
+    go (Some w) e = settle-calm most_passes (after_pass n) n.votes w e
 
 -- calm is kept by each step
 pub calm-step : (n : Node) (e : NodeEvent) → Calm n → Calm (step n e).0
 unfolding step
-calm-step n e c = answered-node Calm n (after_change (change n e)) c (calm-settled (change n e))
+calm-step n e c = node_and_outs-node Calm n (after_change (change n e)) c (calm-settled (change n e))

@@ -11,7 +11,7 @@ use Rattle.protocol.specs.Satisfaction.{names}
 use Rattle.protocol.specs.Weights.{weight}
 use Rattle.protocol.specs.Rows.{is_row_of, with_row, is_taken}
 use Rattle.protocol.specs.Leaders.{leader, best, neighbours, is_near, hash, beats}
-use Rattle.protocol.specs.Nodes.{Node, change, step, in_round, timed_out}
+use Rattle.protocol.specs.Nodes.{Node, change, step, in_round, with_timeout}
 use Rattle.types.specs.declared.event.NodeEvent.TheVariants.{Propose, Take, NominationTimer, BallotTimer, Reslice}
 use Rattle.protocol.proofs.Nodes.Views.{announces_in, Closed}
 use Rattle.protocol.proofs.Nodes.Made.{if_node, if_node-if, step-keeps}
@@ -99,7 +99,7 @@ good-change R n (NominationTimer r) g k = if_node-if (Good R) _ (in_round n (r +
           all-push R n.inputs.leaders (leader n.slot (r + 1) n.name n.slices) g.leaders
           (leader-in R n.slot (r + 1) n.name n.slices g.closed.has g.closed.own);
     })
-good-change R n (BallotTimer c) g k = if_node-if (Good R) _ (timed_out n)
+good-change R n (BallotTimer c) g k = if_node-if (Good R) _ (with_timeout n)
     (record { closed = g.closed; leaders = g.leaders })
 good-change R n (Reslice q) g k =
     record { closed = record { has = g.closed.has; own = k; rows = g.closed.rows }; leaders = g.leaders }

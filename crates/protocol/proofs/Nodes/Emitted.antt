@@ -11,13 +11,13 @@ use Rattle.types.specs.declared.statement.Statement.{Statement}
 use Rattle.protocol.specs.Rows.{with_row, is_taken}
 use Rattle.protocol.specs.States.{counter_of, sent_vote, sent_nomination}
 use Rattle.protocol.specs.Sameness.{same_sent}
-use Rattle.protocol.specs.Nodes.{Node, change, when, emitted, decided, outs, after_change, answered, step, is_externalized, in_round, timed_out}
+use Rattle.protocol.specs.Nodes.{Node, change, when, emission_between, externalization, outs, after_change, node_and_outs, step, is_externalized, in_round, with_timeout}
 use Rattle.types.specs.declared.event.NodeEvent.TheVariants.{Propose, Take, NominationTimer, BallotTimer, Reslice}
 use Rattle.types.specs.declared.event.Out.TheVariants.{ArmNomination, ArmBallot, Emit}
 use Rattle.protocol.specs.Networks.{emission_of, emissions}
 use Rattle.std.proofs.lemmas.List.Elements.{filter_map-append}
 use Rattle.protocol.proofs.Sets.Lists.{all-append}
-use Rattle.protocol.proofs.Nodes.Made.{said_by, if_node, if_node-if, settled-keeps, step-keeps}
+use Rattle.protocol.proofs.Nodes.Made.{said_by, if_node, if_node-if, with_settled_votes-keeps, step-keeps}
 
 -- a step keeps the name
 abbrev pub IsSelf : Node → Node → Type 0
@@ -28,7 +28,7 @@ unfolding change
 self-change n (Propose x) = refl
 self-change n (Take e) = if_node-if (IsSelf n) (is_taken n.table e) (record n { table = with_row e n.table }) refl
 self-change n (NominationTimer r) = if_node-if (IsSelf n) _ (in_round n (r + 1)) refl
-self-change n (BallotTimer c) = if_node-if (IsSelf n) _ (timed_out n) refl
+self-change n (BallotTimer c) = if_node-if (IsSelf n) _ (with_timeout n) refl
 self-change n (Reslice q) = refl
 
 pub step-self : (n : Node) (e : NodeEvent) → IsSelf n (step n e).0
@@ -62,7 +62,7 @@ outs-emit P old new f =
     armed true o h = record { all = h }
     armed false o h = record { all = refl }
 
-    sent : (old_one new_one : Option Statement) → Emits P (emitted new old_one new_one)
+    sent : (old_one new_one : Option Statement) → Emits P (emission_between new old_one new_one)
     sent a None = record { all = refl }
     sent a (Some s) = go (same_sent a (Some s))
       where
@@ -70,7 +70,7 @@ outs-emit P old new f =
         go true = record { all = refl }
         go false = record { all = and_from (P (said_by new s)) true (f s) refl }
 
-    last : (b : Bool) (o : Option Ballot) → Emits P (if b then decided o else [])
+    last : (b : Bool) (o : Option Ballot) → Emits P (if b then externalization o else [])
     last true None = record { all = refl }
     last true (Some b) = record { all = refl }
     last false o = record { all = refl }
@@ -80,11 +80,11 @@ pub step-emit : (P : Sent → Bool) (n : Node) (e : NodeEvent)
     ≡ true) → list_all P (emissions (step n e).1) ≡ true
 unfolding step
 step-emit P n e f =
-    go (after_change (change n e)) (settled-keeps (IsSelf n) (λ m h. h) (change n e) (self-change n e)) f
+    go (after_change (change n e)) (with_settled_votes-keeps (IsSelf n) (λ m h. h) (change n e) (self-change n e)) f
   where
     go : (o : Option Node) → if_node (IsSelf n) o
         → ((slot : ℕ) (s : Statement) → P
-        (record { sender = n.name; slot = slot; slices = (answered n o).0.slices; body = s }) ≡ true)
-        → list_all P (emissions (answered n o).1) ≡ true
+        (record { sender = n.name; slot = slot; slices = (node_and_outs n o).0.slices; body = s }) ≡ true)
+        → list_all P (emissions (node_and_outs n o).1) ≡ true
     go None h f = refl
     go (Some m) h f = (outs-emit P n m (λ s. rw h (f m.slot s))).all

@@ -15,7 +15,7 @@ use Rattle.protocol.specs.Views.{Seen, led_by, seen}
 use Rattle.types.specs.declared.state.Votes.{Votes}
 use Rattle.protocol.specs.States.{sent_vote, sent_nomination}
 use Rattle.protocol.specs.Passes.{pass}
-use Rattle.protocol.specs.Nodes.{Node, passed, change, emitted, decided, outs, settled, after_change, answered, step, Calm, is_externalized}
+use Rattle.protocol.specs.Nodes.{Node, after_pass, change, emission_between, externalization, outs, with_settled_votes, after_change, node_and_outs, step, Calm, is_externalized}
 use Rattle.types.specs.declared.event.NodeEvent.TheVariants.{Take}
 use Rattle.types.specs.declared.event.Out.TheVariants.{Emit}
 use Rattle.protocol.proofs.Equality.Sameness.{eqb-refl, same_sent-refl}
@@ -44,9 +44,9 @@ cut-push_other R e (x ∷ xs) o = go (is_row_of e.sender (kind_of e.body) x) ref
         ) refl
     go false h ih = ap (λ ys. cond (R x.sender) (x ∷ ys) ys) ih
 
-emitted-same : (n : Node) (o : Option Statement) → emitted n o o ≡ []
-emitted-same n None = refl
-emitted-same n (Some s) =
+emission_between-same : (n : Node) (o : Option Statement) → emission_between n o o ≡ []
+emission_between-same n None = refl
+emission_between-same n (Some s) =
     ap (λ b. if b then [] else Emit (said_by n s) ∷ [])
     (same_sent-refl (Some s))
 
@@ -64,9 +64,9 @@ outs-none n taken =
     rw (
       r,
       a,
-      emitted-same m (sent_nomination n.votes),
-      emitted-same m (sent_vote n.votes),
-      never (is_externalized n.votes.phase) (decided n.votes.ballot),
+      emission_between-same m (sent_nomination n.votes),
+      emission_between-same m (sent_vote n.votes),
+      never (is_externalized n.votes.phase) (externalization n.votes.ballot),
     )
 
 -- an envelope that the table takes is a row more, and gives nothing out, where one more pass changes nothing behind it
@@ -75,8 +75,8 @@ pub row-alone : (n : Node) (e : Sent) → is_taken n.table e ≡ true → Calm (
 unfolding step change
 row-alone n e t c =
     let m : Node = record n { table = with_row e n.table } in
-    ap (λ b. answered n (after_change (if b then Some m else None))) t
-    ∙ (ap (λ (w : Option Votes). answered n (settled m w)) (settle-still 63 (passed m) n.votes c)
+    ap (λ b. node_and_outs n (after_change (if b then Some m else None))) t
+    ∙ (ap (λ (w : Option Votes). node_and_outs n (with_settled_votes m w)) (settle-still 63 (after_pass m) n.votes c)
     ∙ ap {B = Node × List Out} (λ (os : List Out). (m, os)) (outs-none n (with_row e n.table)))
 
 -- ---- envelopes from outside
@@ -134,7 +134,7 @@ no_leader R leaders u w o = false_from_ne_true _ (λ i. true≢false (sym (withi
 pub step-stale : (n : Node) (e : Sent) → is_taken n.table e ≡ false → step n (Take e) ≡ (n, [])
 unfolding step change
 step-stale n e f =
-    ap (λ b. answered n (after_change (if b then Some (record n { table = with_row e n.table }) else None))) f
+    ap (λ b. node_and_outs n (after_change (if b then Some (record n { table = with_row e n.table }) else None))) f
 
 -- Quiet, for one event: an envelope from outside R changes at most rows outside R, and gives no outs
 pub step-quiet : (R : Names) (n : Node) (e : Sent) → Good R n → Calm n → R e.sender ≡ false

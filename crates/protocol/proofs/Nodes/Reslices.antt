@@ -6,26 +6,26 @@ use Rattle.std.proofs.lemmas.Bool.{false≢true}
 use Rattle.types.specs.Trees.{Slices}
 use Rattle.types.specs.declared.state.Votes.{Votes}
 use Rattle.protocol.specs.Rows.{is_taken, with_row}
-use Rattle.protocol.specs.Nodes.{Node, passed, settle, change, settled, after_change, answered, step, in_round, timed_out, resliced, most_passes}
+use Rattle.protocol.specs.Nodes.{Node, after_pass, settle, change, with_settled_votes, after_change, node_and_outs, step, in_round, with_timeout, with_slices, most_passes}
 use Rattle.protocol.specs.Reslices.{SlicesFollowEvents, IsElseSame, ReslicesChangeVotes, SameSlicesAreQuiet}
 use Rattle.protocol.proofs.Nodes.Calm.{settle-still}
 use Rattle.protocol.proofs.Nodes.Quiet.{outs-none}
-use Rattle.protocol.proofs.Nodes.Reached.{reached-calm}
+use Rattle.protocol.proofs.Nodes.Lawful.{calm-of-events}
 use Rattle.protocol.proofs.Passes.Settling.{never_limited}
 
 -- ---- the slices
-settled-slices : (q : Slices) (n m : Node) (o : Option Votes) → is_some o ≡ true → m.slices ≡ q
-    → (answered n (settled m o)).0.slices ≡ q
-settled-slices q n m None s e = absurd (false≢true s)
-settled-slices q n m (Some w) s e = e
+with_settled_votes-slices : (q : Slices) (n m : Node) (o : Option Votes) → is_some o ≡ true → m.slices ≡ q
+    → (node_and_outs n (with_settled_votes m o)).0.slices ≡ q
+with_settled_votes-slices q n m None s e = absurd (false≢true s)
+with_settled_votes-slices q n m (Some w) s e = e
 
 -- the votes that settle are those of a node with these slices
 stays : (n : Node) (b : Bool) (m : Node) → m.slices ≡ n.slices
-    → (answered n (after_change (if b then Some m else None))).0.slices ≡ n.slices
+    → (node_and_outs n (after_change (if b then Some m else None))).0.slices ≡ n.slices
 stays n false m e = refl
-stays n true m e = go (settle most_passes (passed m) m.votes)
+stays n true m e = go (settle most_passes (after_pass m) m.votes)
   where
-    go : (o : Option Votes) → (answered n (settled m o)).0.slices ≡ n.slices
+    go : (o : Option Votes) → (node_and_outs n (with_settled_votes m o)).0.slices ≡ n.slices
     go None = refl
     go (Some w) = e
 
@@ -35,22 +35,23 @@ slices_follow_events n r (Propose x) =
     stays n true (in_round (record n { inputs = record n.inputs { proposal = Some x } }) 1) refl
 slices_follow_events n r (Take e) = stays n (is_taken n.table e) (record n { table = with_row e n.table }) refl
 slices_follow_events n r (NominationTimer k) = stays n _ (in_round n (k + 1)) refl
-slices_follow_events n r (BallotTimer c) = stays n _ (timed_out n) refl
+slices_follow_events n r (BallotTimer c) = stays n _ (with_timeout n) refl
 slices_follow_events n r (Reslice q) =
-    settled-slices q n (resliced n q) (settle most_passes (passed (resliced n q)) n.votes)
-    (never_limited n r (Reslice q) (resliced n q) refl) refl
+    with_settled_votes-slices q n (with_slices n q) (settle most_passes (after_pass (with_slices n q)) n.votes)
+    (never_limited n r (Reslice q) (with_slices n q) refl) refl
 
 -- ---- what stays
 pub reslices_change_votes : ReslicesChangeVotes
 unfolding step change
-reslices_change_votes n q = go (settle most_passes (passed (resliced n q)) n.votes)
+reslices_change_votes n q = go (settle most_passes (after_pass (with_slices n q)) n.votes)
   where
-    go : (o : Option Votes) → IsElseSame n (answered n (settled (resliced n q) o)).0
+    go : (o : Option Votes) → IsElseSame n (node_and_outs n (with_settled_votes (with_slices n q) o)).0
     go None = record { name = refl; slot = refl; inputs = refl; table = refl }
     go (Some w) = record { name = refl; slot = refl; inputs = refl; table = refl }
 
 pub same_slices_are_quiet : SameSlicesAreQuiet
 unfolding step change
 same_slices_are_quiet n r =
-    ap (λ (w : Option Votes). answered n (settled n w)) (settle-still 63 (passed n) n.votes (reached-calm r))
+    ap (λ (w : Option Votes). node_and_outs n (with_settled_votes n w))
+    (settle-still 63 (after_pass n) n.votes (calm-of-events r))
     ∙ ap {B = Node × List Out} (λ (os : List Out). (n, os)) (outs-none n n.table)

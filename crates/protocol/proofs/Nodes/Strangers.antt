@@ -13,7 +13,7 @@ use Rattle.protocol.specs.Satisfaction.{names}
 use Rattle.protocol.specs.Rows.{row, is_taken, with_row}
 use Rattle.protocol.specs.Reach.{HoldsReach, IsReach}
 use Rattle.protocol.specs.Leaders.{leader}
-use Rattle.protocol.specs.Nodes.{Node, fresh, change, step, in_round, timed_out}
+use Rattle.protocol.specs.Nodes.{Node, fresh, change, step, in_round, with_timeout}
 use Rattle.protocol.specs.Claims.{IsQuiet}
 use Rattle.protocol.specs.Strangers.{GivesWithin, HasNamed, LeadersAreNear, HeldIsClosed, OutsidersAddRows, OutsidersAreQuiet, StrangersAddRows}
 use Rattle.protocol.specs.Strangers.HasNamed.{begin, next}
@@ -24,7 +24,7 @@ use Rattle.protocol.proofs.Nodes.Views.{Closed, announces_in, row-cut}
 use Rattle.protocol.proofs.Nodes.Quiet.{cut-push_other, step-outside, step-stale}
 use Rattle.protocol.proofs.Nodes.Made.{if_node, if_node-if, step-keeps}
 use Rattle.protocol.proofs.Nodes.Closed.{all-push, leader-in}
-use Rattle.protocol.proofs.Nodes.Reached.{reached-calm}
+use Rattle.protocol.proofs.Nodes.Lawful.{calm-of-events}
 
 -- ---- leaders
 -- the set has the node's name, the names of its slices, and its leaders
@@ -48,7 +48,7 @@ module _ (R : Names) where
   near-change n (NominationTimer r) g h =
       if_node-if (IsNear R) _ (in_round n (r + 1)) (record { has = h.has; own = h.own; leaders = in_next n (r + 1) h })
   near-change n (BallotTimer c) g h =
-      if_node-if (IsNear R) _ (timed_out n) (record { has = h.has; own = h.own; leaders = h.leaders })
+      if_node-if (IsNear R) _ (with_timeout n) (record { has = h.has; own = h.own; leaders = h.leaders })
   near-change n (Reslice q) g h = record { has = h.has; own = g; leaders = h.leaders }
 
   near-step : (n : Node) (e : NodeEvent) → GivesWithin R e → IsNear R n → IsNear R (step n e).0
@@ -91,7 +91,7 @@ reach_held n us r =
 
 -- ---- envelopes from outside
 pub outsiders_add_rows : OutsidersAddRows
-outsiders_add_rows R n e r held o l t = step-outside R n e (held-closed R n held) (reached-calm r) o l t
+outsiders_add_rows R n e r held o l t = step-outside R n e (held-closed R n held) (calm-of-events r) o l t
 
 pub strangers_add_rows : StrangersAddRows
 strangers_add_rows n us e r is o l t = outsiders_add_rows (among us) n e r (reach_held n us is) o l t

@@ -9,7 +9,7 @@ use Rattle.types.specs.declared.kind.Kind.TheVariants.{Nomination}
 use Rattle.protocol.specs.Views.{Seen, accepted, confirmed, passes}
 use Rattle.types.specs.declared.state.Inputs.{Inputs}
 use Rattle.types.specs.Nominations.{Ascending, with_value}
-use Rattle.protocol.specs.Candidates.{as_set, all_with, filled, values_by}
+use Rattle.protocol.specs.Candidates.{as_set, all_with, with_up_to_sixteen, values_by}
 use Rattle.protocol.proofs.Nominating.Ascending.{ascends_on, ascends_from, first_least, with-has, with-kept, with-from, all-ascending, all-has, all-same, value-true}
 use Rattle.protocol.proofs.Nominating.Lengths.{with-new, all-longer}
 use Rattle.protocol.proofs.Nominating.Sets.{sources, echoes, new_voted, new_accepts, new_confirms, QuietAt, quiet-from}
@@ -124,10 +124,11 @@ all-count (y ∷ ys) xs h f =
     ]
 
 -- filled is full, or holds all that was new
-filled-full : (old new : List (List ℕ))
-    → (16 ≤ length (filled old new)) ⊎ ((z : List ℕ) → has_value new z ≡ true → has_value (filled old new) z ≡ true)
-unfolding filled
-filled-full old new = elim (cases_Bool (nat_le (length S) (16 - length old))) [
+with_up_to_sixteen-full : (old new : List (List ℕ))
+    → (16 ≤ length (with_up_to_sixteen old new))
+    ⊎ ((z : List ℕ) → has_value new z ≡ true → has_value (with_up_to_sixteen old new) z ≡ true)
+unfolding with_up_to_sixteen
+with_up_to_sixteen-full old new = elim (cases_Bool (nat_le (length S) (16 - length old))) [
   | inl e ↦ inr
       (λ z i. subst (λ D. has_value (all_with D old) z ≡ true)
       (sym (take_all (16 - length old) S (up_to (length S) (16 - length old) e))) (elim (cases_Bool (has_value old z)) [
@@ -156,11 +157,11 @@ filled-full old new = elim (cases_Bool (nat_le (length S) (16 - length old))) [
         past a b h = grind (arith, nat_tests)
 
 -- and then is filled no more
-filled-still : (f new : List (List ℕ))
-    → (16 ≤ length f) ⊎ ((z : List ℕ) → has_value new z ≡ true → has_value f z ≡ true) → filled f new ≡ f
-unfolding filled
-filled-still f new (inl h) = let e : 16 - length f ≡ 0 = omega (arith, h) in rw e refl
-filled-still f new (inr h) =
+with_up_to_sixteen-still : (f new : List (List ℕ))
+    → (16 ≤ length f) ⊎ ((z : List ℕ) → has_value new z ≡ true → has_value f z ≡ true) → with_up_to_sixteen f new ≡ f
+unfolding with_up_to_sixteen
+with_up_to_sixteen-still f new (inl h) = let e : 16 - length f ≡ 0 = omega (arith, h) in rw e refl
+with_up_to_sixteen-still f new (inr h) =
     let e : filter (λ x. not (has_value f x)) (as_set new) ≡ [] = empty (as_set new) (λ z i. h z (set-from new z i)) in
     rw e (gone (16 - length f))
   where
@@ -204,7 +205,7 @@ value-from s f V A B x n h =
     ]
 
 accepts-still : (s : Seen) → Fair s → (V ac : List (List ℕ)) → new_accepts s V (new_accepts s V ac) ≡ new_accepts s V ac
-accepts-still s f V ac = filled-still A (cands A) (elim (filled-full ac (cands ac)) [
+accepts-still s f V ac = with_up_to_sixteen-still A (cands A) (elim (with_up_to_sixteen-full ac (cands ac)) [
   | inl h ↦ inl h
   | inr h ↦ inr
       (λ z i. settle z (filter-has_value (test A) (flat_map values_by (s.rows Nomination) ++ V ++ A) z i) h
@@ -247,16 +248,18 @@ sets-rest v s f g vo ac co h =
     )
   where
     voted-stays : (C : List (List ℕ)) → length co ≤ length C → (b : Bool) → echoes g C ≡ b
-        → (if b then filled (new_voted v s g vo co) (sources v s g) else new_voted v s g vo co) ≡ new_voted v s g vo co
+        → (if b then with_up_to_sixteen (new_voted v s g vo co) (sources v s g) else new_voted v s g vo co)
+        ≡ new_voted v s g vo co
     voted-stays C l false k = refl
     voted-stays C l true k =
         let p = and_parts (nat_lt 0 g.round) (not (nat_lt 0 (length C))) k in
         let q : echoes g co ≡ true =
         and_from (nat_lt 0 g.round) (not (nat_lt 0 (length co))) p.0 (fewer (length co) (length C) l p.1) in
-        let e : new_voted v s g vo co ≡ filled vo (sources v s g) =
-        ap (λ b. if b then filled vo (sources v s g) else vo) q in
-        subst (λ m. filled m (sources v s g) ≡ m) (sym e)
-        (filled-still (filled vo (sources v s g)) (sources v s g) (filled-full vo (sources v s g)))
+        let e : new_voted v s g vo co ≡ with_up_to_sixteen vo (sources v s g) =
+        ap (λ b. if b then with_up_to_sixteen vo (sources v s g) else vo) q in
+        subst (λ m. with_up_to_sixteen m (sources v s g) ≡ m) (sym e)
+        (with_up_to_sixteen-still (with_up_to_sixteen vo (sources v s g)) (sources v s g)
+        (with_up_to_sixteen-full vo (sources v s g)))
       where
         fewer : (a b : ℕ) → a ≤ b → not (nat_lt 0 b) ≡ true → not (nat_lt 0 a) ≡ true
         fewer a b h k = grind (arith, nat_tests)

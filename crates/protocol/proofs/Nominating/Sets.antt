@@ -8,8 +8,8 @@ use Rattle.types.specs.declared.kind.Kind.TheVariants.{Nomination}
 use Rattle.protocol.specs.Views.{Seen, accepted, confirmed}
 use Rattle.types.specs.declared.state.Inputs.{Inputs}
 use Rattle.types.specs.declared.state.Votes.{Votes}
-use Rattle.protocol.specs.States.{nominated}
-use Rattle.protocol.specs.Candidates.{all_with, filled, values_by}
+use Rattle.protocol.specs.States.{nomination_position}
+use Rattle.protocol.specs.Candidates.{all_with, with_up_to_sixteen, values_by}
 use Rattle.protocol.specs.Nominating.{echo, accept_values, confirm_values, nominate}
 
 -- the three sets after a pass
@@ -20,11 +20,11 @@ abbrev pub echoes : Inputs → List (List ℕ) → Bool
 echoes g co = nat_lt 0 g.round && not (nat_lt 0 (length co))
 
 abbrev pub new_voted : ℕ → Seen → Inputs → List (List ℕ) → List (List ℕ) → List (List ℕ)
-new_voted v s g vo co = if echoes g co then filled vo (sources v s g) else vo
+new_voted v s g vo co = if echoes g co then with_up_to_sixteen vo (sources v s g) else vo
 
 abbrev pub new_accepts : Seen → List (List ℕ) → List (List ℕ) → List (List ℕ)
 new_accepts s vo ac =
-    filled ac
+    with_up_to_sixteen ac
     (filter (λ x. accepted s Nomination (Some (Nominate vo ac)) (backs_value x) (takes_value x))
     (flat_map values_by (s.rows Nomination) ++ vo ++ ac))
 
@@ -37,8 +37,8 @@ unfolding echo
 echo-is v s g w = go (echoes g w.confirms)
   where
     go : (b : Bool)
-        → (if b then record w { voted = filled w.voted (sources v s g) } else w)
-        ≡ record w { voted = if b then filled w.voted (sources v s g) else w.voted }
+        → (if b then record w { voted = with_up_to_sixteen w.voted (sources v s g) } else w)
+        ≡ record w { voted = if b then with_up_to_sixteen w.voted (sources v s g) else w.voted }
     go true = refl
     go false = refl
 
@@ -47,7 +47,7 @@ rest-is : (s : Seen) (w : Votes)
       accepts = new_accepts s w.voted w.accepts;
       confirms = new_confirms s w.voted (new_accepts s w.voted w.accepts) w.confirms;
     }
-unfolding confirm_values accept_values nominated
+unfolding confirm_values accept_values nomination_position
 rest-is s w = refl
 
 pub nominate-is : (v : ℕ) (s : Seen) (g : Inputs) (w : Votes) → is_none w.confirmed_prepared ≡ true

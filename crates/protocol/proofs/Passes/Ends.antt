@@ -7,7 +7,7 @@ use Rattle.types.specs.declared.state.Votes.{Votes}
 use Rattle.protocol.specs.States.{position}
 use Rattle.protocol.specs.Candidates.{greatest}
 use Rattle.protocol.specs.Nominating.{nominate}
-use Rattle.protocol.specs.Balloting.{start, accept_prepared, raise_confirmed_prepared, follow_confirmed_prepared, set_commit, accept_commit, confirm_commit, started}
+use Rattle.protocol.specs.Balloting.{start, accept_prepared, raise_confirmed_prepared, follow_confirmed_prepared, set_commit, accept_commit, confirm_commit, with_first_ballot}
 use Rattle.protocol.specs.Passes.{arm, pass, while_open}
 use Rattle.types.specs.declared.state.Phase.TheVariants.{Preparing, Committing, Externalized}
 use Rattle.protocol.proofs.Balloting.Tests.{Fair}
@@ -17,7 +17,7 @@ use Rattle.protocol.proofs.Balloting.PreparedStays.{Sound, Ready, ready}
 use Rattle.protocol.proofs.Balloting.EntersCommit.{entering, enter_not, enters}
 use Rattle.protocol.proofs.Balloting.Decides.{deciding, decide_not, decides}
 use Rattle.protocol.proofs.Balloting.CommittedStays.{widening, widen_not, Steady, steady}
-use Rattle.protocol.proofs.Passes.RuleByRule.{r2, r3, r4, r5, ruled, tail, begun, finish, IsOpen, open-runs, pass-ruled, r4-at, r5-at, r23-preparing, r234-committing, counts-on, counts-still, own-counts, accept_prepared-armed, raise_confirmed_prepared-armed, entering-armed}
+use Rattle.protocol.proofs.Passes.RuleByRule.{r2, r3, r4, r5, ruled, tail, begun, finish, IsOpen, open-runs, pass-ruled, r4-at, r5-at, r23-preparing, r234-committing, counts-on, has_counter-still, own-counts, accept_prepared-armed, raise_confirmed_prepared-armed, entering-armed}
 use Rattle.std.proofs.lemmas.Option.{same_Some}
 
 -- one more pass changes nothing, if nomination does not
@@ -37,7 +37,7 @@ pub record Went (s : Seen) (g : Inputs) (w y : Votes) : Type 0 where
   pub ends : Ends s g y
 
 pub start-some : (s : Seen) (w : Votes) (b : Ballot) → w.ballot ≡ Some b → start s w ≡ w
-unfolding start started
+unfolding start with_first_ballot
 start-some s w b e = rw e refl
 
 confirm-none : (s : Seen) (b : Ballot) (w : Votes) → confirm_commit Preparing s b w ≡ w
@@ -63,7 +63,7 @@ rests-armed v s f g n u o ball risen all =
     let y : Votes = record u { armed = a.0 } in
     let still : arm s n y ≡ y = subst (λ (x : Votes). arm s n x ≡ x) a.1 (arm-still s n u) in
     let end : finish s g y ≡ y = finish-open s g y o
-    ∙ (counts-still s f g y n ball (own-counts y n o ball) risen ∙ still) in
+    ∙ (has_counter-still s f g y n ball (own-counts y n o ball) risen ∙ still) in
     subst (λ (x : Votes). Rests v s g x) (sym a.1)
     (λ m. pass-ruled v s g y o
     ∙ (ap (λ x. finish s g (ruled s x)) (begins v s g y n ball m) ∙ (ap (finish s g) (all a.0) ∙ end)))
@@ -187,7 +187,7 @@ from-committing v s f g w b ph ball sound =
         | inl k ↦ inr k
         | inr k ↦ inl
             (subst (λ (x : Votes). Rests v s g x)
-            (sym (k.2 ∙ counts-still s f g R.u R.n R.ballot (own-counts R.u R.n (inr R.phase) R.ballot) up))
+            (sym (k.2 ∙ has_counter-still s f g R.u R.n R.ballot (own-counts R.u R.n (inr R.phase) R.ballot) up))
             (rests-committing v s f g b w R k.1 up))
       ],
     )
@@ -212,7 +212,7 @@ from-preparing v s f g w b ph ball sound =
             went-on s g w R.u C.u R.voted R.accepts R.confirms R.stays (went-counted s f g R.u R.n R.ballot R.sound),
             λ risen. let up = risen-up s f g b.counter R.n.counter R.grows risen in
                 inl (subst (λ (x : Votes). Rests v s g x)
-                (sym (counts-still s f g R.u R.n R.ballot (own-counts R.u R.n (inl R.phase) R.ballot) up) ∙ C.is)
+                (sym (has_counter-still s f g R.u R.n R.ballot (own-counts R.u R.n (inl R.phase) R.ballot) up) ∙ C.is)
                 (rests-preparing v s f g b w R none up)),
           )
       | inr E ↦

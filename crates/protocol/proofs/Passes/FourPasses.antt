@@ -90,7 +90,7 @@ module _ (v : ℕ) (s : Seen) (f : Fair s) (g : Inputs) where
         ]
       ])
 
--- what a reached node's votes have
+-- what the votes of a node have that events lead to
 pub record Fit (w : Votes) : Type 0 where
   pub sound : Sound w
   pub ascending : Ascending w.confirms

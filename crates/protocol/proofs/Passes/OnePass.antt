@@ -8,7 +8,7 @@ use Rattle.types.specs.declared.state.Votes.{Votes}
 use Rattle.protocol.specs.Candidates.{combine}
 use Rattle.protocol.specs.Passes.{pass}
 use Rattle.protocol.specs.Nominating.{nominate}
-use Rattle.protocol.specs.Balloting.{started, start}
+use Rattle.protocol.specs.Balloting.{with_first_ballot, start}
 use Rattle.types.specs.declared.state.Phase.TheVariants.{Preparing}
 use Rattle.protocol.proofs.Balloting.Tests.{Fair}
 use Rattle.protocol.proofs.Balloting.PreparedStays.{Sound}
@@ -18,7 +18,7 @@ use Rattle.protocol.proofs.Nominating.Sets.{nominate-is, nominate-not}
 
 -- The start
 start-is : (s : Seen) (w : Votes) → start s w ≡ record w { ballot = (start s w).ballot }
-unfolding start started
+unfolding start with_first_ballot
 start-is s w = go w.ballot (combine w.confirms) refl refl
   where
     go : (o : Option Ballot) (z : Option (List ℕ)) → w.ballot ≡ o → combine w.confirms ≡ z

@@ -13,7 +13,7 @@ use Rattle.protocol.specs.Satisfaction.{sat, is_blocked}
 use Rattle.protocol.specs.Quorums.{HasQuorum}
 use Rattle.protocol.specs.Rows.{row, is_row_of, is_kind, with_row}
 use Rattle.protocol.specs.Backing.{slices_by, is_passed}
-use Rattle.protocol.specs.Stirring.{KeepsReach}
+use Rattle.protocol.specs.Stirring.{ReachesSame}
 use Rattle.protocol.specs.Views.{Seen, others_reached, rows_seen, led_by, passing_with, quorum_passes, blocking_passes, seen}
 use Rattle.protocol.proofs.Sets.Finite.{same_test}
 use Rattle.protocol.proofs.Slices.Satisfaction.{sat_monotone}
@@ -54,7 +54,8 @@ rows-of_other_kind p e (x ∷ xs) k h = go (is_row_of e.sender (kind_of e.body) 
 
 module _ (v : ℕ) (q : Slices) (table : List Sent) (e : Sent) (k : Kind)
     (other : is_kind k (kind_of e.body) ≡ false) where
-  rows_seen-still : KeepsReach v q table (with_row e table) → rows_seen v q (with_row e table) k ≡ rows_seen v q table k
+  rows_seen-still : ReachesSame v q table (with_row e table)
+      → rows_seen v q (with_row e table) k ≡ rows_seen v q table k
   unfolding rows_seen
   rows_seen-still reach =
       ap (map (λ (x : Sent). x.body))
@@ -126,7 +127,7 @@ ballots_of s =
 
 -- after a ballot row nominations are seen as they were
 pub nominations-still : (v : ℕ) (q : Slices) (leaders : List ℕ) (table : List Sent) (e : Sent)
-    → kind_of e.body ≡ Kind.Ballot → KeepsReach v q table (with_row e table)
+    → kind_of e.body ≡ Kind.Ballot → ReachesSame v q table (with_row e table)
     → nominations_of (seen v q leaders (with_row e table)) ≡ nominations_of (seen v q leaders table)
 unfolding seen
 nominations-still v q leaders table e kind reach =
@@ -143,7 +144,7 @@ nominations-still v q leaders table e kind reach =
 
 -- and after a nomination row ballots
 pub ballots-still : (v : ℕ) (q : Slices) (leaders : List ℕ) (table : List Sent) (e : Sent) → kind_of e.body ≡ Nomination
-    → KeepsReach v q table (with_row e table)
+    → ReachesSame v q table (with_row e table)
     → ballots_of (seen v q leaders (with_row e table)) ≡ ballots_of (seen v q leaders table)
 unfolding seen
 ballots-still v q leaders table e kind reach =

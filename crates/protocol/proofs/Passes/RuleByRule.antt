@@ -5,7 +5,7 @@ use Rattle.std.proofs.lemmas.Bool.Decides.{nat_tests}
 use Rattle.types.specs.declared.ballot.Ballot.{Ballot}
 use Rattle.types.specs.declared.statement.Statement.{Statement}
 use Rattle.protocol.proofs.Balloting.Tests.{backs_prepare, takes_prepare, Fair}
-use Rattle.protocol.specs.Passes.{counts, raised_value, raised, raise, arm, on_ballot, in_prepare, counting, pass, while_open, pass_rules, voting}
+use Rattle.protocol.specs.Passes.{has_counter, value_once_raised, ballot_at_counter, raise, arm, on_ballot, in_prepare, counting, pass, while_open, pass_rules, voting}
 use Rattle.types.specs.declared.kind.Kind.{Kind}
 use Rattle.protocol.specs.Views.{Seen, passes, accepted, confirmed}
 use Rattle.types.specs.declared.state.Phase.{Phase}
@@ -152,34 +152,36 @@ pub record Counted (s : Seen) (g : Inputs) (w : Votes) (b : Ballot) : Type 0 whe
   pub confirms : u.confirms ≡ w.confirms
   pub confirmed_prepared : u.confirmed_prepared ≡ w.confirmed_prepared
 
-pub raised-counter : (w : Votes) (b : Ballot) (n : ℕ) → (raised w b n).counter ≡ n
-raised-counter w b n = go (n == b.counter) refl
+pub ballot_at_counter-counter : (w : Votes) (b : Ballot) (n : ℕ) → (ballot_at_counter w b n).counter ≡ n
+ballot_at_counter-counter w b n = go (n == b.counter) refl
   where
-    go : (c : Bool) → (n == b.counter) ≡ c → (if c then b else ballot_at n (raised_value w.phase w b.value)).counter ≡ n
+    go : (c : Bool) → (n == b.counter) ≡ c
+        → (if c then b else ballot_at n (value_once_raised w.phase w b.value)).counter ≡ n
     go true e = sym (eqb-true n b.counter e)
     go false e = refl
 
-pub raised-stays : (w : Votes) (b : Ballot) (n : ℕ) → w.phase ≡ Committing → (raised w b n).value ≡ b.value
-raised-stays w b n p = go (n == b.counter)
+pub ballot_at_counter-stays : (w : Votes) (b : Ballot) (n : ℕ) → w.phase ≡ Committing
+    → (ballot_at_counter w b n).value ≡ b.value
+ballot_at_counter-stays w b n p = go (n == b.counter)
   where
-    go : (c : Bool) → (if c then b else ballot_at n (raised_value w.phase w b.value)).value ≡ b.value
+    go : (c : Bool) → (if c then b else ballot_at n (value_once_raised w.phase w b.value)).value ≡ b.value
     go true = refl
-    go false = ap (λ q. raised_value q w b.value) p
+    go false = ap (λ q. value_once_raised q w b.value) p
 
 -- a raised ballot, whatever is armed
-pub raised-sound : (w : Votes) (b : Ballot) (n armed : ℕ) → w.ballot ≡ Some b → Sound w
-    → Sound (record w { ballot = Some (raised w b n); armed = armed })
-raised-sound w b n armed e sound =
+pub ballot_at_counter-sound : (w : Votes) (b : Ballot) (n armed : ℕ) → w.ballot ≡ Some b → Sound w
+    → Sound (record w { ballot = Some (ballot_at_counter w b n); armed = armed })
+ballot_at_counter-sound w b n armed e sound =
     record {
       aborted = sound.aborted;
       confirmed_prepared = sound.confirmed_prepared;
       committing = λ c. let h = sound.committing c in let z : h.b ≡ b = same_Some h.b b (sym h.ballot ∙ e) in
           record {
-            b = raised w b n;
+            b = ballot_at_counter w b n;
             p = h.p;
             ballot = refl;
             prepared = h.prepared;
-            value = h.value ∙ (ap (λ (x : Ballot). x.value) z ∙ sym (raised-stays w b n c));
+            value = h.value ∙ (ap (λ (x : Ballot). x.value) z ∙ sym (ballot_at_counter-stays w b n c));
             high = h.high;
             low = h.low;
           };
@@ -189,17 +191,17 @@ pub counts-on : (s : Seen) → Fair s → (g : Inputs) (w : Votes) (b : Ballot) 
     → Counted s g w b
 counts-on s f g w b e sound =
     let r = raise-moves s f g b w in
-    let x : Votes = record w { ballot = Some (raised w b r.0) } in
-    let a = arm-moves s (raised w b r.0) x in
+    let x : Votes = record w { ballot = Some (ballot_at_counter w b r.0) } in
+    let a = arm-moves s (ballot_at_counter w b r.0) x in
     record {
       u = record x { armed = a.0 };
       is = ap (on_ballot (arm s)) (on_ballot-at (raise s g) w b e ∙ r.1)
-          ∙ (on_ballot-at (arm s) x (raised w b r.0) refl ∙ a.1);
-      n = raised w b r.0;
+          ∙ (on_ballot-at (arm s) x (ballot_at_counter w b r.0) refl ∙ a.1);
+      n = ballot_at_counter w b r.0;
       ballot = refl;
       phase = refl;
-      risen = subst (λ n. Risen s g n) (sym (raised-counter w b r.0)) r.3;
-      sound = raised-sound w b r.0 a.0 e sound;
+      risen = subst (λ n. Risen s g n) (sym (ballot_at_counter-counter w b r.0)) r.3;
+      sound = ballot_at_counter-sound w b r.0 a.0 e sound;
       voted = refl;
       accepts = refl;
       confirms = refl;
@@ -207,16 +209,16 @@ counts-on s f g w b e sound =
     }
 
 -- where nothing is to be raised
-pub counts-still : (s : Seen) → Fair s → (g : Inputs) (w : Votes) (b : Ballot) → w.ballot ≡ Some b
-    → passes (counts (b.counter + 1)) (position w) ≡ false → Risen s g b.counter → tail s g w ≡ arm s b w
-counts-still s f g w b e c r =
+pub has_counter-still : (s : Seen) → Fair s → (g : Inputs) (w : Votes) (b : Ballot) → w.ballot ≡ Some b
+    → passes (has_counter (b.counter + 1)) (position w) ≡ false → Risen s g b.counter → tail s g w ≡ arm s b w
+has_counter-still s f g w b e c r =
     ap (on_ballot (arm s)) (on_ballot-at (raise s g) w b e ∙ raise-still s f g b w e c r) ∙ on_ballot-at (arm s) w b e
 
 above : (n : ℕ) → nat_le (n + 1) n ≡ false
 above n = grind (arith, nat_tests)
 
 pub own-counts : (w : Votes) (b : Ballot) → IsOpen w → w.ballot ≡ Some b
-    → passes (counts (b.counter + 1)) (position w) ≡ false
+    → passes (has_counter (b.counter + 1)) (position w) ≡ false
 own-counts w b (inl p) e = rw (position-preparing w b p e) (above b.counter)
 own-counts w b (inr p) e = rw (position-committing w b p e) (above b.counter)
 

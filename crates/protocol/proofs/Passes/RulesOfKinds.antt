@@ -8,8 +8,8 @@ use Rattle.types.specs.declared.state.Votes.{Votes}
 use Rattle.protocol.specs.Views.{Seen}
 use Rattle.protocol.specs.Candidates.{named, commits, combine}
 use Rattle.protocol.specs.Nominating.{echo, accept_values, confirm_values, nominate}
-use Rattle.protocol.specs.Balloting.{started, start_from, start, accept_prepared, raise_confirmed_prepared, confirm_prepared, accepted_from, first_committed, next_committed, enter_commit, widen_commit, accept_commit, confirmed_commit, externalize, confirm_commit}
-use Rattle.protocol.specs.Passes.{raised_counter, raise, arm, with_ballot, on_ballot, in_prepare, while_preparing, while_open, balloting, voting, counting, balloted_in}
+use Rattle.protocol.specs.Balloting.{with_first_ballot, start_from, start, accept_prepared, raise_confirmed_prepared, confirm_prepared, accepted_from, first_committed, next_committed, enter_commit, widen_commit, accept_commit, confirmed_commit, externalize, confirm_commit}
+use Rattle.protocol.specs.Passes.{counter_after_raise, raise, arm, with_ballot, on_ballot, in_prepare, while_preparing, while_open, balloting, voting, counting, balloted_in}
 use Rattle.protocol.proofs.Passes.RowsOfKinds.{nominations_of, ballots_of}
 
 pub nominate-reads : (v : ℕ) (s : Seen) (g : Inputs) (w : Votes) → nominate v s g w ≡ nominate v (nominations_of s) g w
@@ -18,10 +18,10 @@ nominate-reads v s g w = refl
 
 -- ---- rule by rule
 start-reads : (s : Seen) (w : Votes) → start s w ≡ start (ballots_of s) w
-unfolding start started named
+unfolding start with_first_ballot named
 start-reads s w = go w.ballot (combine w.confirms)
   where
-    without : (z : Option (List ℕ)) → started s w z ≡ started (ballots_of s) w z
+    without : (z : Option (List ℕ)) → with_first_ballot s w z ≡ with_first_ballot (ballots_of s) w z
     without (Some x) = refl
     without None = refl
 
@@ -84,7 +84,7 @@ confirm-reads Committing s b w =
 confirm-reads Externalized s b w = refl
 
 raise-reads : (s : Seen) (g : Inputs) (b : Ballot) (w : Votes) → raise s g b w ≡ raise (ballots_of s) g b w
-unfolding raise raised_counter
+unfolding raise counter_after_raise
 raise-reads s g b w = refl
 
 arm-reads : (s : Seen) (b : Ballot) (w : Votes) → arm s b w ≡ arm (ballots_of s) b w

@@ -1,4 +1,4 @@
--- No event of a reached node meets the limit of passes: its votes are fit, and each step keeps them so. The law
+-- No event of a node that events lead to meets the limit of passes: its votes are fit, and each step keeps them so. The law
 -- `four_passes_are_enough`, `Nodes` and the crate `slot` stand on it.
 use Rattle.types.specs.declared.event.NodeEvent.{NodeEvent}
 use Rattle.std.proofs.Common.{◌≡◌, ℕ, suc, ◌+◌, Option, Some, None, refl, subst, arith}
@@ -8,13 +8,13 @@ use Rattle.protocol.specs.Rows.{with_row, is_taken}
 use Rattle.protocol.specs.Views.{seen}
 use Rattle.types.specs.declared.state.Votes.{Votes}
 use Rattle.types.specs.declared.state.Phase.TheVariants.{Preparing, Committing}
-use Rattle.protocol.specs.Nodes.{Node, fresh, passed, settle, change, step, bumped, in_round, timed_out}
+use Rattle.protocol.specs.Nodes.{Node, fresh, after_pass, settle, change, step, at_next_counter, in_round, with_timeout}
 use Rattle.types.specs.declared.event.NodeEvent.TheVariants.{Propose, Take, NominationTimer, BallotTimer, Reslice}
-use Rattle.protocol.specs.Limits.{Reached, NeverLimited, WithinFour}
-use Rattle.protocol.specs.Limits.Reached.{begin, next}
+use Rattle.protocol.specs.Limits.{ComesOfEvents, NeverLimited, WithinFour}
+use Rattle.protocol.specs.Limits.ComesOfEvents.{begin, next}
 use Rattle.protocol.proofs.Balloting.FairSight.{seen-fair}
 use Rattle.protocol.proofs.Nodes.Made.{if_node, if_node-if, step-keeps}
-use Rattle.protocol.proofs.Passes.RuleByRule.{raised-sound}
+use Rattle.protocol.proofs.Passes.RuleByRule.{ballot_at_counter-sound}
 use Rattle.protocol.proofs.Passes.FourPasses.{Fit, IsSome, four, pass-fit}
 
 -- Nodes
@@ -30,10 +30,10 @@ fresh-fit slot v q =
       ascending = tt;
     }
 
-bumped-fit : (w : Votes) (o : Option Ballot) → w.ballot ≡ o → Fit w → Fit (bumped w o)
-bumped-fit w None e h = h
-bumped-fit w (Some b) e h =
-    record { sound = raised-sound w b (b.counter + 1) w.armed e h.sound; ascending = h.ascending }
+at_next_counter-fit : (w : Votes) (o : Option Ballot) → w.ballot ≡ o → Fit w → Fit (at_next_counter w o)
+at_next_counter-fit w None e h = h
+at_next_counter-fit w (Some b) e h =
+    record { sound = ballot_at_counter-sound w b (b.counter + 1) w.armed e h.sound; ascending = h.ascending }
 
 abbrev IsFit : Node → Type 0
 IsFit n = Fit n.votes
@@ -43,14 +43,14 @@ unfolding change
 change-fit n (Propose x) h = h
 change-fit n (Take e) h = if_node-if IsFit (is_taken n.table e) (record n { table = with_row e n.table }) h
 change-fit n (NominationTimer r) h = if_node-if IsFit _ (in_round n (r + 1)) h
-change-fit n (BallotTimer c) h = if_node-if IsFit _ (timed_out n) (bumped-fit n.votes n.votes.ballot refl h)
+change-fit n (BallotTimer c) h = if_node-if IsFit _ (with_timeout n) (at_next_counter-fit n.votes n.votes.ballot refl h)
 change-fit n (Reslice q) h = h
 
 pub step-fit : (n : Node) (e : NodeEvent) → Fit n.votes → Fit (step n e).0.votes
 step-fit n e h = step-keeps IsFit (λ m. pass-fit m.name (seen m.name m.slices m.inputs.leaders m.table)
     (seen-fair m.name m.slices m.inputs.leaders m.table) m.inputs m.votes) n e h (change-fit n e h)
 
-pub reached-fit : {n : Node} → Reached n → Fit n.votes
+pub reached-fit : {n : Node} → ComesOfEvents n → Fit n.votes
 reached-fit (begin slot v q) = fresh-fit slot v q
 reached-fit (next {n} r e) = step-fit n e (reached-fit r)
 
@@ -60,7 +60,7 @@ changed-fit n e m h c = subst (if_node IsFit) c (change-fit n e h)
 
 -- for each node whose votes are fit
 pub fit-four : (n : Node) (e : NodeEvent) (m : Node) (k : ℕ) → Fit n.votes → change n e ≡ Some m
-    → IsSome (settle (suc (suc (suc (suc k)))) (passed m) m.votes)
+    → IsSome (settle (suc (suc (suc (suc k)))) (after_pass m) m.votes)
 fit-four n e m k h c =
     four m.name (seen m.name m.slices m.inputs.leaders m.table)
     (seen-fair m.name m.slices m.inputs.leaders m.table) m.inputs k m.votes (changed-fit n e m h c)

@@ -19,7 +19,7 @@ use Rattle.protocol.proofs.Nominating.Sets.{new_voted, new_accepts, new_confirms
 use Rattle.protocol.proofs.Passes.RuleByRule.{IsOpen, open-runs, pass-externalized}
 use Rattle.protocol.proofs.Balloting.PreparedStays.{Sound}
 use Rattle.protocol.proofs.Nodes.Calm.{settle-still}
-use Rattle.protocol.proofs.Nodes.Reached.{reached-calm}
+use Rattle.protocol.proofs.Nodes.Lawful.{calm-of-events}
 use Rattle.protocol.proofs.Passes.RowsOfKinds.{nominations-still, ballots-still}
 use Rattle.protocol.proofs.Passes.RulesOfKinds.{nominate-reads, balloted-reads}
 use Rattle.protocol.proofs.Equality.Sameness.{same_values-true, same_votes-refl, same_votes-true}
@@ -239,7 +239,7 @@ ballot_rows_stir_ballots n r e kind reach =
     let fair = seen-fair m.name m.slices m.inputs.leaders m.table in
     let old =
     calm-nominated n.name (seen_by n) (seen-fair n.name n.slices n.inputs.leaders n.table) n.inputs n.votes fit.sound
-    (reached-calm r) in
+    (calm-of-events r) in
     elim (phases n.votes.phase) [
       | inl over ↦ over-ballots m.name (seen_by m) fair m.inputs m.votes over
       | inr o ↦
@@ -260,7 +260,7 @@ nomination_rows_stir_nomination n r e kind reach =
     let fair = seen-fair m.name m.slices m.inputs.leaders m.table in
     let old =
     calm-balloted n.name (seen_by n) (seen-fair n.name n.slices n.inputs.leaders n.table) n.inputs n.votes fit.sound
-    (reached-calm r) in
+    (calm-of-events r) in
     let still : balloted_in (seen_by m) m.inputs m.votes ≡ m.votes =
     balloted-reads (seen_by m) m.inputs m.votes
     ∙ (ap (λ s. balloted_in s m.inputs m.votes) (ballots-still n.name n.slices n.inputs.leaders n.table e kind reach)

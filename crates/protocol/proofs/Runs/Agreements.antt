@@ -9,10 +9,10 @@ use Rattle.std.proofs.lemmas.Bool.{eqb-true}
 use Rattle.types.specs.Statements.{Sent}
 use Rattle.protocol.specs.Sets.{Names}
 use Rattle.protocol.specs.Nodes.{Node}
-use Rattle.protocol.specs.Networks.{Place, Net, Step, slices_of, places_at, place_of, known, effect, source, size_of, counted, tests, first_that, replied, net_step}
+use Rattle.protocol.specs.Networks.{Place, Net, Step, slices_of, places_at, node_named, node_where_open, effect, source, size_of, with_draw, tests, first_that, state_and_reply, net_step}
 use Rattle.protocol.specs.Networks.Reply.{Done}
 use Rattle.protocol.specs.Runs.{state_of}
-use Rattle.protocol.specs.Isolation.{Kept, kept, is_of, closure}
+use Rattle.protocol.specs.Isolation.{Kept, kept_step, is_of, closure}
 use Rattle.protocol.specs.Isolation.Kept.{Told}
 use Rattle.protocol.specs.Agreeing.{place_in, IsClosedIn, ArePlacesAlike, AgreeIn, IsKeptOfMembers, given_by, NewNetworksAgree, RunsStayClosedIn, StepsAgree, OtherStepsLeave, StaysClosedIn}
 use Rattle.protocol.proofs.Networks.Effects.{effect-keeps}
@@ -23,26 +23,26 @@ use Rattle.protocol.proofs.Runs.Follows.{Follows}
 use Rattle.protocol.proofs.Runs.Events.{IsNew, follows}
 use Rattle.protocol.proofs.Runs.Openings.{HostsIn, cast_of}
 use Rattle.protocol.proofs.Runs.KeptSteps.{is_new}
-use Rattle.protocol.proofs.Runs.KeptWithin.{if_kept, IsKeptIn, kept-to}
+use Rattle.protocol.proofs.Runs.KeptWithin.{if_kept, IsKeptIn, kept_step-to}
 
 -- ---- what a set sees, and agreement
-place-name : (ps : List Place) (u : ℕ) (p : Place) → place_of ps u ≡ Some p → p.node.name ≡ u
+place-name : (ps : List Place) (u : ℕ) (p : Place) → node_named ps u ≡ Some p → p.node.name ≡ u
 place-name [] u p h = cc
 place-name (x ∷ xs) u p h = go (x.node.name == u) refl h (place-name xs u p)
   where
-    go : (b : Bool) → (x.node.name == u) ≡ b → (if b then Some x else place_of xs u) ≡ Some p
-        → (place_of xs u ≡ Some p → p.node.name ≡ u) → p.node.name ≡ u
+    go : (b : Bool) → (x.node.name == u) ≡ b → (if b then Some x else node_named xs u) ≡ Some p
+        → (node_named xs u ≡ Some p → p.node.name ≡ u) → p.node.name ≡ u
     go true e k ih = let same : x ≡ p = cc in ap (λ (y : Place). y.node.name) (sym same) ∙ eqb-true x.node.name u e
     go false e k ih = ih k
 
-known-name : (o : Option (List Place)) (u : ℕ) (p : Place) → known o u ≡ Some p → p.node.name ≡ u
-known-name None u p h = cc
-known-name (Some ps) u p h = place-name ps u p h
+node_where_open-name : (o : Option (List Place)) (u : ℕ) (p : Place) → node_where_open o u ≡ Some p → p.node.name ≡ u
+node_where_open-name None u p h = cc
+node_where_open-name (Some ps) u p h = place-name ps u p h
 
 module _ (R : Names) (i : ℕ) where
   all_places : (net : Net) → IsClosedIn R i net → AllPlaces R i net
   all_places net c u p k = record {
-    name = known-name (places_at net.slots i) u p k;
+    name = node_where_open-name (places_at net.slots i) u p k;
     good = λ r. good R p.node (c.nodes u p k r);
     calm = λ r. c.calm u p k r;
     told = c.told u p k;
@@ -119,11 +119,12 @@ module _ (R : Names) (i : ℕ) where
   unfolding net_step
   applied net e os h = go (first_that (tests net e)) refl h
     where
-      go : (o : Option Refusal) → first_that (tests net e) ≡ o → (replied net e o).1 ≡ Done os → Applied net e os
+      go : (o : Option Refusal) → first_that (tests net e) ≡ o → (state_and_reply net e o).1 ≡ Done os
+          → Applied net e os
       go (Some n) q d = cc
       go None q d = record {
-        after = counted (source net.roster e) (size_of e) (effect net e).0;
-        is = ap (λ o. (replied net e o).0) q;
+        after = with_draw (source net.roster e) (size_of e) (effect net e).0;
+        is = ap (λ o. (state_and_reply net e o).0) q;
         hosts = (effect-keeps net e).hosts;
         slots = refl;
         outs = cc;
@@ -132,33 +133,33 @@ module _ (R : Names) (i : ℕ) where
 
   -- what the set sees after it, what its members give out, and what holds of the places
   record Seen (net : Net) (e : Step) (os : List Out) : Type 0 where
-    sights : sight R i (net_step net e).0 ≡ play (cast_of R net.hosts) i (sight R i net) (kept R i e)
-    replies : (u : ℕ) → R u ≡ true → given_by i u e os ≡ reply (sight R i net) (kept R i e) u
+    sights : sight R i (net_step net e).0 ≡ play (cast_of R net.hosts) i (sight R i net) (kept_step R i e)
+    replies : (u : ℕ) → R u ≡ true → given_by i u e os ≡ reply (sight R i net) (kept_step R i e) u
     hosts : (net_step net e).0.hosts ≡ net.hosts
     closed : IsClosedIn R i (net_step net e).0
 
   seen_step : (net : Net) (e : Step) (os : List Out) → IsClosedIn R i net → (net_step net e).1 ≡ Done os
-      → if_kept R (kept R i e) → Seen net e os
+      → if_kept R (kept_step R i e) → Seen net e os
   seen_step net e os c d k =
       let a = applied net e os d in
       let hosts : HostsIn R net.hosts = c.hosts in
-      let f : Follows R (cast_of R net.hosts) i net (effect net e) (λ w. is_of i w e) (kept R i e) =
-      follows R i net e (all_places net c) hosts a.fresh (kept-to R R i e (λ u r. r) k) in
+      let f : Follows R (cast_of R net.hosts) i net (effect net e) (λ w. is_of i w e) (kept_step R i e) =
+      follows R i net e (all_places net c) hosts a.fresh (kept_step-to R R i e (λ u r. r) k) in
       let slots = ap (λ (n : Net). n.slots) a.is ∙ a.slots in
       let same_hosts = ap (λ (n : Net). n.hosts) a.is ∙ a.hosts in
       record {
         sights = fun_ext (λ u. ap (λ ss. if R u then option_map (cut_place R)
-            (known (places_at ss i) u) else None) slots) ∙ f.sights;
+            (node_where_open (places_at ss i) u) else None) slots) ∙ f.sights;
         replies = λ u r. ap (λ xs. given_by i u e xs) a.outs ∙ f.replies u r;
         hosts = same_hosts;
         closed = closed_in (net_step net e).0 (subst (λ hs. HostsIn R hs) (sym same_hosts) hosts)
-            (λ u p h. f.places u p (ap (λ ss. known (places_at ss i) u) (sym slots) ∙ h));
+            (λ u p h. f.places u p (ap (λ ss. node_where_open (places_at ss i) u) (sym slots) ∙ h));
       }
 
 -- ---- the laws
 pub steps_agree : StepsAgree
 steps_agree R i one other e d os ps c c_there a done done_there same k =
-    let kept_one = some_kept-in R i (kept R i e) k in
+    let kept_one = some_kept-in R i (kept_step R i e) k in
     let s = seen_step R i one e os c done kept_one in
     let t = seen_step R i other d ps c_there done_there (subst (if_kept R) same kept_one) in
     let now = agree-sights R i one other a in
@@ -185,7 +186,7 @@ other_steps_leave R i one other e os c a done none =
     )
 
 pub stays_closed_in : StaysClosedIn
-stays_closed_in R i net e os c done k = (seen_step R i net e os c done (some_kept-in R i (kept R i e) k)).closed
+stays_closed_in R i net e os c done k = (seen_step R i net e os c done (some_kept-in R i (kept_step R i e) k)).closed
 
 pub new_networks_agree : NewNetworksAgree
 new_networks_agree R i one other same = record { cast = same; places = λ u r. tt }

@@ -12,7 +12,7 @@ use Rattle.protocol.specs.Rows.{row}
 use Rattle.protocol.specs.Nodes.{Node, step}
 use Rattle.types.specs.declared.event.NodeEvent.TheVariants.{Take, Reslice}
 use Rattle.protocol.specs.Hosts.{Entry}
-use Rattle.protocol.specs.Isolation.{closure, host_rule, announced}
+use Rattle.protocol.specs.Isolation.{closure, host_rule, announcement_rules}
 use Rattle.protocol.specs.Claims.{IsClosedFor, IsOfMembers, Agree, Quiet, PrefixOfRun, PrefixOfReach}
 use Rattle.protocol.proofs.Sets.RuleLists.{least-in, least-start, least-keeps}
 use Rattle.protocol.proofs.Nodes.Views.{row-cut, reached-in}
@@ -57,17 +57,19 @@ prefix_of_reach R n c u h = reached-in R n.name n.slices n.table (good R n c).cl
 pub prefix_of_run : PrefixOfRun
 unfolding closure
 prefix_of_run hosts i v front rest u h =
-    let whole = in_least (map host_rule hosts ++ flat_map (λ x. announced i x.event) (front ++ rest)) v in
-    least-in (map host_rule hosts ++ flat_map (λ x. announced i x.event) front) v whole
-    (least-start (map host_rule hosts ++ flat_map (λ x. announced i x.event) (front ++ rest)) v)
+    let whole = in_least (map host_rule hosts ++ flat_map (λ x. announcement_rules i x.event) (front ++ rest)) v in
+    least-in (map host_rule hosts ++ flat_map (λ x. announcement_rules i x.event) front) v whole
+    (least-start (map host_rule hosts ++ flat_map (λ x. announcement_rules i x.event) (front ++ rest)) v)
     (front_of (map host_rule hosts) front rest whole
-    (least-keeps (map host_rule hosts ++ flat_map (λ x. announced i x.event) (front ++ rest)) v)) u h
+    (least-keeps (map host_rule hosts ++ flat_map (λ x. announcement_rules i x.event) (front ++ rest)) v)) u h
   where
     front_of : (rules : List Rule) (xs ys : List Entry) (S : Names)
-        → list_all (keeps S) (rules ++ flat_map (λ x. announced i x.event) (xs ++ ys)) ≡ true
-        → list_all (keeps S) (rules ++ flat_map (λ x. announced i x.event) xs) ≡ true
+        → list_all (keeps S) (rules ++ flat_map (λ x. announcement_rules i x.event) (xs ++ ys)) ≡ true
+        → list_all (keeps S) (rules ++ flat_map (λ x. announcement_rules i x.event) xs) ≡ true
     front_of rules xs ys S k =
-        all-left (keeps S) (rules ++ flat_map (λ x. announced i x.event) xs) (flat_map (λ x. announced i x.event) ys)
+        all-left (keeps S) (rules ++ flat_map (λ x. announcement_rules i x.event) xs)
+        (flat_map (λ x. announcement_rules i x.event) ys)
         (subst (λ (zs : List Rule). list_all (keeps S) zs ≡ true)
-        (ap (λ zs. rules ++ zs) (flat_map-append (λ (x : Entry). announced i x.event) xs ys)
-        ∙ sym (append_assoc rules (flat_map (λ x. announced i x.event) xs) (flat_map (λ x. announced i x.event) ys))) k)
+        (ap (λ zs. rules ++ zs) (flat_map-append (λ (x : Entry). announcement_rules i x.event) xs ys)
+        ∙ sym (append_assoc rules (flat_map (λ x. announcement_rules i x.event) xs)
+        (flat_map (λ x. announcement_rules i x.event) ys))) k)

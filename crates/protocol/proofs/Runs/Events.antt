@@ -10,8 +10,8 @@ use Rattle.protocol.specs.Satisfaction.{names}
 use Rattle.types.specs.declared.event.NodeEvent.TheVariants.{Propose, Take, NominationTimer, BallotTimer, Reslice}
 use Rattle.protocol.specs.Networks.{Net, Step, places_at, act, effect}
 use Rattle.protocol.specs.Networks.Reading.{Read, Fault}
-use Rattle.protocol.specs.Networks.Step.{Opens, Closes, Asks, Delivers, Hears, NominationTimes, BallotTimes, Reslices}
-use Rattle.protocol.specs.Isolation.{Kept, when_kept, kept, is_of}
+use Rattle.protocol.specs.Networks.Step.{Opens, Closes, Proposes, Delivers, Hears, NominationTimerFires, BallotTimerFires, Reslices}
+use Rattle.protocol.specs.Isolation.{Kept, when_kept, kept_step, is_of}
 use Rattle.protocol.specs.Isolation.Kept.{Told}
 use Rattle.protocol.proofs.Nodes.Agreement.{IsKept}
 use Rattle.protocol.proofs.Nodes.Closed.{IsFit}
@@ -82,16 +82,16 @@ IsNew net _ = Unit {0}
 -- Each applied event is followed.
 pub follows : (R : Names) (i : ℕ) (net : Net) (e : Step) → AllPlaces R i net → HostsIn R net.hosts → IsNew net e
     → IsWithin R i e
-    → Follows R (cast_of R net.hosts) i net (effect net e) (λ w. is_of i w e) (kept R i e)
+    → Follows R (cast_of R net.hosts) i net (effect net e) (λ w. is_of i w e) (kept_step R i e)
 unfolding effect
 follows R i net (Opens j) h hosts n f = opens R i net j h hosts n
 follows R i net (Closes j) h hosts n f = closes R (cast_of R net.hosts) i net j h
-follows R i net (Asks j u x) h hosts n f = asked R (cast_of R net.hosts) i net j u (Propose x) h (λ y r. tt) tt
+follows R i net (Proposes j u x) h hosts n f = asked R (cast_of R net.hosts) i net j u (Propose x) h (λ y r. tt) tt
 follows R i net (Delivers u size (Read e)) h hosts n f = delivered R (cast_of R net.hosts) i net u e h f
 follows R i net (Delivers u size (Fault x)) h hosts n f = stays R (cast_of R net.hosts) i net (λ w. false) h
 follows R i net (Hears j u from kind k) h hosts n f = heard R (cast_of R net.hosts) i net j u from kind k h
-follows R i net (NominationTimes j u r) h hosts n f =
+follows R i net (NominationTimerFires j u r) h hosts n f =
     asked R (cast_of R net.hosts) i net j u (NominationTimer r) h (λ y r. tt) tt
-follows R i net (BallotTimes j u c) h hosts n f =
+follows R i net (BallotTimerFires j u c) h hosts n f =
     asked R (cast_of R net.hosts) i net j u (BallotTimer c) h (λ y r. tt) tt
 follows R i net (Reslices j u q) h hosts n f = asked R (cast_of R net.hosts) i net j u (Reslice q) h f tt

@@ -9,7 +9,7 @@ use Rattle.protocol.specs.Sets.{Names, within}
 use Rattle.protocol.specs.Satisfaction.{names}
 use Rattle.protocol.specs.Rows.{is_kind}
 use Rattle.types.specs.declared.event.NodeEvent.TheVariants.{Take}
-use Rattle.protocol.specs.Networks.{Place, Net, places_at, emission, known, act_known}
+use Rattle.protocol.specs.Networks.{Place, Net, places_at, emission, node_where_open, act_known}
 use Rattle.protocol.specs.Isolation.{Kept, when_kept}
 use Rattle.protocol.specs.Isolation.Kept.{Heard}
 use Rattle.protocol.proofs.Equality.Sameness.{eqb-refl}
@@ -42,21 +42,22 @@ emission-cut R (Some p) kind (suc k) = refl
 
 pub heard : (R : Names) (cast : ℕ → Option Slices) (i : ℕ) (net : Net) (j u from : ℕ) (kind : Kind) (k : ℕ)
     → AllPlaces R i net
-    → Follows R cast i net (act_known net j u (emission (known (places_at net.slots j) from) kind k))
+    → Follows R cast i net (act_known net j u (emission (node_where_open (places_at net.slots j) from) kind k))
     (λ w. (j == i) && (u == w)) (when_kept ((j == i) && R u && R from) (Heard u from kind k))
 heard R cast i net j u from kind k h = elim (cases_Bool (j == i)) [
   | inr n ↦ subst
       (λ (x : Option Kept). Follows R cast i net
-      (act_known net j u (emission (known (places_at net.slots j) from) kind k)) (λ w. (j == i) && (u == w)) x)
+      (act_known net j u (emission (node_where_open (places_at net.slots j) from) kind k))
+      (λ w. (j == i) && (u == w)) x)
       (sym (ap (λ b. when_kept b (Heard u from kind k))
       (and_left ((j == i) && R u) (R from) (and_left (j == i) (R u) n))))
-      (elsewhere (emission (known (places_at net.slots j) from) kind k) (and_left (j == i) (R u) n))
+      (elsewhere (emission (node_where_open (places_at net.slots j) from) kind k) (and_left (j == i) (R u) n))
   | inl y ↦ subst
-      (λ x. Follows R cast i net (act_known net x u (emission (known (places_at net.slots x) from) kind k))
+      (λ x. Follows R cast i net (act_known net x u (emission (node_where_open (places_at net.slots x) from) kind k))
       (λ w. (x == i) && (u == w)) (when_kept ((x == i) && R u && R from) (Heard u from kind k)))
       (sym (eqb-true j i y))
-      (here (emission (known (places_at net.slots i) from) kind k) (R u) (R from) refl refl refl
-      (emission-all R from (known (places_at net.slots i) from) kind k (λ p q. h from p q)))
+      (here (emission (node_where_open (places_at net.slots i) from) kind k) (R u) (R from) refl refl refl
+      (emission-all R from (node_where_open (places_at net.slots i) from) kind k (λ p q. h from p q)))
 ]
   where
     elsewhere : (o : Option Sent) → ((j == i) && R u) ≡ false
@@ -65,9 +66,9 @@ heard R cast i net j u from kind k h = elim (cases_Bool (j == i)) [
     elsewhere (Some e) b = unseen R cast i net j u (Take e) h b
 
     -- what the machine hands over is the same
-    handed : (o : Option Sent) → R from ≡ true → emission (known (places_at net.slots i) from) kind k ≡ o
+    handed : (o : Option Sent) → R from ≡ true → emission (node_where_open (places_at net.slots i) from) kind k ≡ o
         → o ≡ emission (sight R i net from) kind k
-    handed o r q = sym (rw r (emission-cut R (known (places_at net.slots i) from) kind k ∙ q))
+    handed o r q = sym (rw r (emission-cut R (node_where_open (places_at net.slots i) from) kind k ∙ q))
 
     kept_is : (a b : Bool) → R u ≡ a → R from ≡ b
         → when_kept (a && b) (Heard u from kind k) ≡ when_kept ((i == i) && R u && R from) (Heard u from kind k)
@@ -85,7 +86,7 @@ heard R cast i net j u from kind k h = elim (cases_Bool (j == i)) [
         (kept_is a b p q) x
 
     here : (o : Option Sent) (a b : Bool) → R u ≡ a → R from ≡ b
-        → emission (known (places_at net.slots i) from) kind k ≡ o
+        → emission (node_where_open (places_at net.slots i) from) kind k ≡ o
         → if_some (λ e. (e.sender == from) && announces_in R e) o ≡ true
         → Follows R cast i net (act_known net i u o)
         (λ w. (i == i) && (u == w)) (when_kept ((i == i) && R u && R from) (Heard u from kind k))

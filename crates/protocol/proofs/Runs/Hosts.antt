@@ -3,7 +3,7 @@
 use Rattle.std.proofs.Common.{◌≡◌, ℕ, Bool, true, false, ◌==◌, Option, Some, List, [], ◌∷◌, map, if◌then◌else◌, is_some, refl, sym, ◌∙◌, ap, ap₂, subst, inl, inr, ◌⊎◌}
 use Rattle.std.proofs.lemmas.Bool.{false≢true, eqb-true}
 use Rattle.protocol.specs.Networks.{Host, Net, Step, Reply, slices_of, net_step}
-use Rattle.protocol.specs.Hosts.{Entry, Config, entered, journal, net_at, reply_at, host_run, applied, nets, new_net, hosts_of, steps_of, entries}
+use Rattle.protocol.specs.Hosts.{Entry, Config, journal_with, journal, net_at, reply_at, host_run, applied, nets, new_net, hosts_of, steps_of, entries}
 use Rattle.protocol.specs.Submissions.{net_run, answers_of, config_of}
 use Rattle.protocol.specs.Isolation.{closure, kept_of, outs_of, SameCast, Isolation}
 use Rattle.protocol.proofs.Networks.Effects.{effect-keeps, net_step-keeps}
@@ -77,7 +77,7 @@ module _ {X : Type 0} (g : ℕ) (more : Step → Reply → List X → List X) (o
 pub applied-journal : (g : ℕ) (calls : List (ℕ × Step)) (ns : List Net) (n : Net) → net_at ns g ≡ Some n
     → applied g calls (host_run ns calls) ≡ journal n (steps_to g calls)
 unfolding applied journal
-applied-journal g = gathered g entered (applied g) journal (λ n. refl) (λ c cs r rs. refl) (λ n e es. refl)
+applied-journal g = gathered g journal_with (applied g) journal (λ n. refl) (λ c cs r rs. refl) (λ n e es. refl)
 
 -- and the answers of each of them
 pub answers-run : (g : ℕ) (calls : List (ℕ × Step)) (ns : List Net) (n : Net) → net_at ns g ≡ Some n

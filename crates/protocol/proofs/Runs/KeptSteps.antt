@@ -5,11 +5,11 @@ use Rattle.std.proofs.Common.{◌≡◌, ℕ, Bool, true, not, Option, Some, Non
 use Rattle.std.specs.List.{AllByRecursion, cons_option}
 use Rattle.types.specs.Trees.{Slices}
 use Rattle.protocol.specs.Sets.{Names}
-use Rattle.protocol.specs.Networks.{Host, Place, Net, Step, places_at, effect, tests, first_that, source, is_full, size_of, counted, replied, net_step}
+use Rattle.protocol.specs.Networks.{Host, Place, Net, Step, places_at, effect, tests, first_that, source, room_test, size_of, with_draw, state_and_reply, net_step}
 use Rattle.types.specs.declared.event.Refusal.TheVariants.{SlotOpenAlready, TooManySlots}
 use Rattle.protocol.specs.Networks.Step.{Opens}
-use Rattle.protocol.specs.Hosts.{Entry, entered, journal}
-use Rattle.protocol.specs.Isolation.{Kept, kept, is_of, kept_of, outs_of}
+use Rattle.protocol.specs.Hosts.{Entry, journal_with, journal}
+use Rattle.protocol.specs.Isolation.{Kept, kept_step, is_of, kept_of, outs_of}
 use Rattle.protocol.proofs.Networks.Effects.{effect-keeps}
 use Rattle.protocol.proofs.Runs.Sights.{Sight, sight, play, reply, AllPlaces}
 use Rattle.protocol.proofs.Runs.Follows.{Follows}
@@ -28,7 +28,7 @@ answers-option cast i s u (Some k) ks = refl
 
 pub is_new : (net : Net) (e : Step) → first_that (tests net e) ≡ None → IsNew net e
 is_new net (Opens j) h =
-    go ((not (nat_lt (length net.slots) net.budgets.slots), TooManySlots) ∷ is_full net
+    go ((not (nat_lt (length net.slots) net.budgets.slots), TooManySlots) ∷ room_test net
     (source net.roster (Opens j)) ∷ []) (places_at net.slots j) h
   where
     go : (ts : List (Bool × Refusal)) (o : Option (List Place))
@@ -53,18 +53,20 @@ run-sight R i u r (e ∷ es) net h hosts f = go (first_that (tests net e)) refl 
         → outs_of i u (journal n es) ≡ answers (cast_of R n.hosts) i (sight R i n) u (kept_of R i (journal n es))
 
     go : (o : Option Refusal) → first_that (tests net e) ≡ o
-        → AllIn R i (entered e (replied net e o).1 (journal (replied net e o).0 es)) → ((n : Net) → Claim n)
-        → outs_of i u (entered e (replied net e o).1 (journal (replied net e o).0 es))
+        → AllIn R i (journal_with e (state_and_reply net e o).1 (journal (state_and_reply net e o).0 es))
+        → ((n : Net) → Claim n)
+        → outs_of i u (journal_with e (state_and_reply net e o).1 (journal (state_and_reply net e o).0 es))
         ≡ answers (cast_of R net.hosts) i (sight R i net) u
-        (kept_of R i (entered e (replied net e o).1 (journal (replied net e o).0 es)))
+        (kept_of R i (journal_with e (state_and_reply net e o).1 (journal (state_and_reply net e o).0 es)))
     go (Some n) q f ih = ih net h hosts f
     go None q f ih =
-        let next : Net = counted (source net.roster e) (size_of e) (effect net e).0 in
-        let step : Follows R (cast_of R net.hosts) i net (effect net e) (λ w. is_of i w e) (kept R i e) =
+        let next : Net = with_draw (source net.roster e) (size_of e) (effect net e).0 in
+        let step : Follows R (cast_of R net.hosts) i net (effect net e) (λ w. is_of i w e) (kept_step R i e) =
         follows R i net e h hosts (is_new net e q) f.0 in
         let same : next.hosts ≡ net.hosts = (effect-keeps net e).hosts in
         let rest = ih next step.places (subst (HostsIn R) (sym same) hosts) f.1 in
         ap₂ (λ (xs ys : List Out). xs ++ ys) (step.replies u r)
         (rest ∙ ap₂ (λ (hs : List Host) (s : Sight). answers (cast_of R hs) i s u
         (kept_of R i (journal next es))) same step.sights)
-        ∙ sym (answers-option (cast_of R net.hosts) i (sight R i net) u (kept R i e) (kept_of R i (journal next es)))
+        ∙ sym (answers-option (cast_of R net.hosts) i (sight R i net) u (kept_step R i e)
+        (kept_of R i (journal next es)))

@@ -10,9 +10,9 @@ use Rattle.protocol.specs.Closures.{keeps}
 use Rattle.types.specs.declared.event.NodeEvent.TheVariants.{Propose, Take, NominationTimer, BallotTimer, Reslice}
 use Rattle.protocol.specs.Networks.{Host, Step, slices_of}
 use Rattle.protocol.specs.Networks.Reading.{Read, Fault}
-use Rattle.protocol.specs.Networks.Step.{Opens, Closes, Asks, Delivers, Hears, NominationTimes, BallotTimes, Reslices}
+use Rattle.protocol.specs.Networks.Step.{Opens, Closes, Proposes, Delivers, Hears, NominationTimerFires, BallotTimerFires, Reslices}
 use Rattle.protocol.specs.Hosts.{Entry}
-use Rattle.protocol.specs.Isolation.{Kept, when_kept, kept, kept_of, host_rule, announced, closure}
+use Rattle.protocol.specs.Isolation.{Kept, when_kept, kept_step, kept_of, host_rule, announcement_rules, closure}
 use Rattle.protocol.specs.Isolation.Kept.{Opened, Closed, Told, Heard}
 use Rattle.protocol.proofs.Sets.Least.{keeps-at}
 use Rattle.protocol.proofs.Sets.RuleLists.{least-keeps, least-start}
@@ -39,14 +39,15 @@ hosts-in R (x ∷ xs) h u q e r =
     go false n k s ih = ih s r
 
 events-in : (R : Names) (i : ℕ) (entries : List Entry)
-    → list_all (keeps R) (flat_map (λ x. announced i x.event) entries) ≡ true → AllIn R i entries
+    → list_all (keeps R) (flat_map (λ x. announcement_rules i x.event) entries) ≡ true → AllIn R i entries
 events-in R i [] h = tt
 events-in R i (x ∷ xs) h = (
-  one x.event (all-left (keeps R) (announced i x.event) (flat_map (λ x. announced i x.event) xs) h),
-  events-in R i xs (all-right (keeps R) (announced i x.event) (flat_map (λ x. announced i x.event) xs) h),
+  one x.event (all-left (keeps R) (announcement_rules i x.event) (flat_map (λ x. announcement_rules i x.event) xs) h),
+  events-in R i xs
+      (all-right (keeps R) (announcement_rules i x.event) (flat_map (λ x. announcement_rules i x.event) xs) h),
 )
   where
-    one : (e : Step) → list_all (keeps R) (announced i e) ≡ true → IsWithin R i e
+    one : (e : Step) → list_all (keeps R) (announcement_rules i e) ≡ true → IsWithin R i e
     one (Delivers u size (Read e)) k = λ y r s. go (e.slot == i) y k r s
       where
         go : (b : Bool) → b ≡ true
@@ -94,48 +95,49 @@ free S true k h = h
 free S false k h = tt
 
 -- what is kept for one set, of what lies in another
-kept-from : (R S : Names) (i : ℕ) (e : Step) → IsWithin S i e → if_kept S (kept R i e)
-kept-from R S i (Opens j) h = free S (j == i) Opened tt
-kept-from R S i (Closes j) h = free S (j == i) Closed tt
-kept-from R S i (Asks j u x) h = free S ((j == i) && R u) (Told u (Propose x)) tt
-kept-from R S i (Delivers u size (Read e)) h = go ((e.slot == i) && R u && R e.sender) refl
+kept_step-from : (R S : Names) (i : ℕ) (e : Step) → IsWithin S i e → if_kept S (kept_step R i e)
+kept_step-from R S i (Opens j) h = free S (j == i) Opened tt
+kept_step-from R S i (Closes j) h = free S (j == i) Closed tt
+kept_step-from R S i (Proposes j u x) h = free S ((j == i) && R u) (Told u (Propose x)) tt
+kept_step-from R S i (Delivers u size (Read e)) h = go ((e.slot == i) && R u && R e.sender) refl
   where
     go : (b : Bool) → ((e.slot == i) && R u && R e.sender) ≡ b → if_kept S (when_kept b (Told u (Take e)))
     go true y = h (and_parts (e.slot == i) (R u) (and_parts ((e.slot == i) && R u) (R e.sender) y).0).0
     go false y = tt
-kept-from R S i (Delivers u size (Fault n)) h = tt
-kept-from R S i (Hears j u from kind k) h = free S ((j == i) && R u && R from) (Heard u from kind k) tt
-kept-from R S i (NominationTimes j u r) h = free S ((j == i) && R u) (Told u (NominationTimer r)) tt
-kept-from R S i (BallotTimes j u n) h = free S ((j == i) && R u) (Told u (BallotTimer n)) tt
-kept-from R S i (Reslices j u q) h = go ((j == i) && R u) refl
+kept_step-from R S i (Delivers u size (Fault n)) h = tt
+kept_step-from R S i (Hears j u from kind k) h = free S ((j == i) && R u && R from) (Heard u from kind k) tt
+kept_step-from R S i (NominationTimerFires j u r) h = free S ((j == i) && R u) (Told u (NominationTimer r)) tt
+kept_step-from R S i (BallotTimerFires j u n) h = free S ((j == i) && R u) (Told u (BallotTimer n)) tt
+kept_step-from R S i (Reslices j u q) h = go ((j == i) && R u) refl
   where
     go : (b : Bool) → ((j == i) && R u) ≡ b → if_kept S (when_kept b (Told u (Reslice q)))
     go true y = h (and_parts (j == i) (R u) y).0
     go false y = tt
 
 -- and back, where the other lies in the one
-pub kept-to : (R S : Names) (i : ℕ) (e : Step) → AreWithin S R → if_kept S (kept R i e) → IsWithin S i e
-kept-to R S i (Delivers u size (Read e)) w h = λ y r s.
+pub kept_step-to : (R S : Names) (i : ℕ) (e : Step) → AreWithin S R → if_kept S (kept_step R i e) → IsWithin S i e
+kept_step-to R S i (Delivers u size (Read e)) w h = λ y r s.
     (subst (λ b. if_kept S (when_kept b (Told u (Take e))))
     (and_from ((e.slot == i) && R u) (R e.sender) (and_from (e.slot == i) (R u) y (w u r)) (w e.sender s)) h) r s
-kept-to R S i (Reslices j u q) w h =
+kept_step-to R S i (Reslices j u q) w h =
     λ y r. (subst (λ b. if_kept S (when_kept b (Told u (Reslice q)))) (and_from (j == i) (R u) y (w u r)) h) r
-kept-to R S i _ w h = tt
+kept_step-to R S i _ w h = tt
 
 pub all_kept-from : (R S : Names) (i : ℕ) (entries : List Entry) → AllIn S i entries
     → AllByRecursion (IsKeptIn S) (kept_of R i entries)
 unfolding kept_of
 all_kept-from R S i [] h = tt
 all_kept-from R S i (x ∷ xs) h =
-    all-option S (kept R i x.event) (kept_of R i xs) (kept-from R S i x.event h.0) (all_kept-from R S i xs h.1)
+    all-option S (kept_step R i x.event) (kept_of R i xs) (kept_step-from R S i x.event h.0)
+    (all_kept-from R S i xs h.1)
 
 pub all_kept-to : (R S : Names) (i : ℕ) (entries : List Entry) → AreWithin S R
     → AllByRecursion (IsKeptIn S) (kept_of R i entries) → AllIn S i entries
 unfolding kept_of
 all_kept-to R S i [] w h = tt
 all_kept-to R S i (x ∷ xs) w h =
-    let p = option-all S (kept R i x.event) (kept_of R i xs) h in
-    (kept-to R S i x.event w p.0, all_kept-to R S i xs w p.1)
+    let p = option-all S (kept_step R i x.event) (kept_of R i xs) h in
+    (kept_step-to R S i x.event w p.0, all_kept-to R S i xs w p.1)
 
 -- what lies in R in one world does in the other, where the kept steps are the same
 pub all_in-other : (R : Names) (i : ℕ) (one other : List Entry) → kept_of R i one ≡ kept_of R i other → AllIn R i one
@@ -145,25 +147,27 @@ all_in-other R i one other same h =
 
 pub closure-start : (hosts : List Host) (i v : ℕ) (entries : List Entry) → closure hosts i v entries v ≡ true
 unfolding closure
-closure-start hosts i v entries = least-start (map host_rule hosts ++ flat_map (λ x. announced i x.event) entries) v
+closure-start hosts i v entries =
+    least-start (map host_rule hosts ++ flat_map (λ x. announcement_rules i x.event) entries) v
 
 pub closure-keeps : (hosts : List Host) (i v : ℕ) (entries : List Entry)
     → list_all (keeps (closure hosts i v entries))
-    (map host_rule hosts ++ flat_map (λ x. announced i x.event) entries) ≡ true
+    (map host_rule hosts ++ flat_map (λ x. announcement_rules i x.event) entries) ≡ true
 unfolding closure
-closure-keeps hosts i v entries = least-keeps (map host_rule hosts ++ flat_map (λ x. announced i x.event) entries) v
+closure-keeps hosts i v entries =
+    least-keeps (map host_rule hosts ++ flat_map (λ x. announcement_rules i x.event) entries) v
 
 -- what the closure of a run says of its hosted members, and of what is delivered among them
 pub hosts-closed : (hosts : List Host) (i v : ℕ) (entries : List Entry) → HostsIn (closure hosts i v entries) hosts
 hosts-closed hosts i v entries =
     let R = closure hosts i v entries in
     hosts-in R hosts
-    (all-left (keeps R) (map host_rule hosts) (flat_map (λ x. announced i x.event) entries)
+    (all-left (keeps R) (map host_rule hosts) (flat_map (λ x. announcement_rules i x.event) entries)
     (closure-keeps hosts i v entries))
 
 pub events-closed : (hosts : List Host) (i v : ℕ) (entries : List Entry) → AllIn (closure hosts i v entries) i entries
 events-closed hosts i v entries =
     let R = closure hosts i v entries in
     events-in R i entries
-    (all-right (keeps R) (map host_rule hosts) (flat_map (λ x. announced i x.event) entries)
+    (all-right (keeps R) (map host_rule hosts) (flat_map (λ x. announcement_rules i x.event) entries)
     (closure-keeps hosts i v entries))

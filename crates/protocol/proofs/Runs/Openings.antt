@@ -7,7 +7,7 @@ use Rattle.std.proofs.lemmas.Option.{none-some}
 use Rattle.protocol.specs.Sets.{Names, within}
 use Rattle.protocol.specs.Satisfaction.{names}
 use Rattle.protocol.specs.Nodes.{fresh}
-use Rattle.protocol.specs.Networks.{Host, Place, Slot, Net, slices_of, places_at, place_of, known, opened, renewed}
+use Rattle.protocol.specs.Networks.{Host, Place, Slot, Net, slices_of, places_at, node_named, node_where_open, nodes_of_new_slot, renewed}
 use Rattle.protocol.specs.Isolation.{when_kept}
 use Rattle.protocol.specs.Isolation.Kept.{Opened, Closed}
 use Rattle.protocol.proofs.Runs.Sights.{cut_place, IsPlace, AllPlaces}
@@ -17,15 +17,18 @@ use Rattle.protocol.proofs.Networks.OpenSlots.{places_at-drop, places_at-drop_ot
 
 -- Opening and closing
 
-pub place_of-opened : (hosts : List Host) (i u : ℕ)
-    → place_of (opened hosts i) u ≡ option_map (λ q. record { node = fresh i u q; told = [] }) (slices_of hosts u)
-unfolding opened fresh
-place_of-opened [] i u = refl
-place_of-opened (h ∷ hs) i u = go (h.name == u) refl (place_of-opened hs i u)
+pub node_named-opened : (hosts : List Host) (i u : ℕ)
+    → node_named (nodes_of_new_slot hosts i) u
+    ≡ option_map (λ q. record { node = fresh i u q; told = [] }) (slices_of hosts u)
+unfolding nodes_of_new_slot fresh
+node_named-opened [] i u = refl
+node_named-opened (h ∷ hs) i u = go (h.name == u) refl (node_named-opened hs i u)
   where
     go : (b : Bool) → (h.name == u) ≡ b
-        → place_of (opened hs i) u ≡ option_map (λ q. record { node = fresh i u q; told = [] }) (slices_of hs u)
-        → (if b then Some (record { node = fresh i h.name h.slices; told = [] }) else place_of (opened hs i) u)
+        → node_named (nodes_of_new_slot hs i) u
+        ≡ option_map (λ q. record { node = fresh i u q; told = [] }) (slices_of hs u)
+        → (if b then Some (record { node = fresh i h.name h.slices; told = [] }) else node_named
+        (nodes_of_new_slot hs i) u)
         ≡ option_map (λ q. record { node = fresh i u q; told = [] }) (if b then Some h.slices else slices_of hs u)
     go true e ih =
         ap {B = Option Place} (λ x. Some (record { node = fresh i x h.slices; told = [] })) (eqb-true h.name u e)
@@ -59,16 +62,16 @@ cast_of R hosts u = if R u then slices_of hosts u else None
 other_slot : (R : Names) (cast : ℕ → Option Slices) (i : ℕ) (net net' : Net) → AllPlaces R i net
     → places_at net'.slots i ≡ places_at net.slots i → Follows R cast i net (net', []) (λ w. false) None
 other_slot R cast i net net' h e = record {
-  sights = fun_ext (λ u. ap (λ o. if R u then option_map (cut_place R) (known o u) else None) e);
+  sights = fun_ext (λ u. ap (λ o. if R u then option_map (cut_place R) (node_where_open o u) else None) e);
   replies = λ w r. refl;
-  places = λ u p k. h u p (ap (λ o. known o u) (sym e) ∙ k);
+  places = λ u p k. h u p (ap (λ o. node_where_open o u) (sym e) ∙ k);
 }
 
 pub opens : (R : Names) (i : ℕ) (net : Net) (j : ℕ) → AllPlaces R i net → HostsIn R net.hosts
     → places_at net.slots j ≡ None
     → Follows R (cast_of R net.hosts) i net (
       record net {
-        slots = net.slots ++ record { number = j; places = opened net.hosts j } ∷ [];
+        slots = net.slots ++ record { number = j; places = nodes_of_new_slot net.hosts j } ∷ [];
         draws = renewed j net.draws;
       },
       [],
@@ -76,7 +79,7 @@ pub opens : (R : Names) (i : ℕ) (net : Net) (j : ℕ) → AllPlaces R i net �
 opens R i net j h hosts n = go (j == i) refl
   where
     slot : ℕ → Slot
-    slot x = record { number = x; places = opened net.hosts x }
+    slot x = record { number = x; places = nodes_of_new_slot net.hosts x }
 
     now : Net
     now = record net { slots = net.slots ++ slot j ∷ []; draws = renewed j net.draws }
@@ -93,13 +96,14 @@ opens R i net j h hosts n = go (j == i) refl
         ji = eqb-true j i y
 
         there : (u : ℕ)
-            → known (places_at now.slots i) u
+            → node_where_open (places_at now.slots i) u
             ≡ option_map (λ q. record { node = fresh i u q; told = [] }) (slices_of net.hosts u)
-        there u = ap (λ o. known o u) (places_at-push net.slots (slot j) i y (ap (places_at net.slots) (sym ji) ∙ n))
-            ∙ (ap (λ x. place_of (opened net.hosts x) u) ji ∙ place_of-opened net.hosts i u)
+        there u = ap (λ o. node_where_open o u)
+            (places_at-push net.slots (slot j) i y (ap (places_at net.slots) (sym ji) ∙ n))
+            ∙ (ap (λ x. node_named (nodes_of_new_slot net.hosts x) u) ji ∙ node_named-opened net.hosts i u)
 
         see : (u : ℕ) (b : Bool) → R u ≡ b
-            → (if b then option_map (cut_place R) (known (places_at now.slots i) u) else None)
+            → (if b then option_map (cut_place R) (node_where_open (places_at now.slots i) u) else None)
             ≡ option_map (λ q. record { node = fresh i u q; told = [] }) (if b then slices_of net.hosts u else None)
         see u true r = ap (option_map (cut_place R)) (there u) ∙ fresh-cut R i u (slices_of net.hosts u)
         see u false r = refl
@@ -127,8 +131,9 @@ closes R cast i net j h = go (j == i) refl
       places = λ u p k. absurd (none-some p (sym (gone u) ∙ k));
     }
       where
-        gone : (u : ℕ) → known (places_at now.slots i) u ≡ None
-        gone u = ap (λ o. known o u) (ap (places_at now.slots) (sym (eqb-true j i y)) ∙ places_at-drop net.slots j)
+        gone : (u : ℕ) → node_where_open (places_at now.slots i) u ≡ None
+        gone u =
+            ap (λ o. node_where_open o u) (ap (places_at now.slots) (sym (eqb-true j i y)) ∙ places_at-drop net.slots j)
 
         see : (b : Bool) {o : Option Place} → o ≡ None → (if b then option_map (cut_place R) o else None) ≡ None
         see true e = ap (option_map (cut_place R)) e

@@ -4,8 +4,8 @@ use Rattle.types.specs.declared.event.Refusal.{Refusal}
 use Rattle.std.proofs.Common.{◌≡◌, ℕ, zero, suc, Option, Some, None, List, [], ◌∷◌, map, take, refl, sym, subst}
 use Rattle.protocol.specs.Sets.{Names}
 use Rattle.protocol.specs.Nodes.{Node}
-use Rattle.protocol.specs.Networks.{Net, Step, effect, source, size_of, tests, first_that, counted, replied, net_step}
-use Rattle.protocol.specs.Hosts.{Entry, Config, entered, journal, new_net}
+use Rattle.protocol.specs.Networks.{Net, Step, effect, source, size_of, tests, first_that, with_draw, state_and_reply, net_step}
+use Rattle.protocol.specs.Hosts.{Entry, Config, journal_with, journal, new_net}
 use Rattle.protocol.specs.Isolation.{closure}
 use Rattle.protocol.specs.Runs.{net_after, state_of, IsRun}
 use Rattle.protocol.specs.Claims.{IsClosedFor, PrefixOfWholeRun}
@@ -38,14 +38,14 @@ places-after R i (e ∷ es) net h f n = go (first_that (tests net e)) refl f (λ
     Claim x run = (n : ℕ) → Holds R i (net_after x (take n run))
 
     go : (o : Option Refusal) → first_that (tests net e) ≡ o
-        → AllIn R i (entered e (replied net e o).1 (journal (replied net e o).0 es))
+        → AllIn R i (journal_with e (state_and_reply net e o).1 (journal (state_and_reply net e o).0 es))
         → ((x : Net) → Holds R i x → AllIn R i (journal x es) → Claim x (journal x es))
-        → Claim net (entered e (replied net e o).1 (journal (replied net e o).0 es))
+        → Claim net (journal_with e (state_and_reply net e o).1 (journal (state_and_reply net e o).0 es))
     go (Some r) q f ih n = ih net h f n
     go None q f ih zero = h
     go None q f ih (suc n) =
-        let after : Net = counted (source net.roster e) (size_of e) (effect net e).0 in
-        subst (λ o. Holds R i (net_after (replied net e o).0 (take n (journal after es)))) (sym q)
+        let after : Net = with_draw (source net.roster e) (size_of e) (effect net e).0 in
+        subst (λ o. Holds R i (net_after (state_and_reply net e o).0 (take n (journal after es)))) (sym q)
         (ih after (
           (follows R i net e h.0 h.1 (is_new net e q) f.0).places,
           subst (HostsIn R) (sym (effect-keeps net e).hosts) h.1,

@@ -10,7 +10,7 @@ use Rattle.protocol.specs.Networks.{Host, Step}
 use Rattle.protocol.specs.Networks.Reading.{Read}
 use Rattle.protocol.specs.Networks.Step.{Delivers, Reslices}
 use Rattle.protocol.specs.Hosts.{Entry}
-use Rattle.protocol.specs.Isolation.{closure, host_rule, announced, SameClosures}
+use Rattle.protocol.specs.Isolation.{closure, host_rule, announcement_rules, SameClosures}
 use Rattle.protocol.proofs.Sets.Finite.{same_test}
 use Rattle.protocol.proofs.Sets.Contained.{contains_head, contains_tail}
 use Rattle.protocol.proofs.Sets.Least.{keeps-from}
@@ -36,7 +36,7 @@ module _ (R : Names) where
   one_rule true r f = and_from (keeps R r) true (f refl) refl
   one_rule false r f = refl
 
-  keeps-event : (i : ℕ) (e : Step) → IsWithin R i e → list_all (keeps R) (announced i e) ≡ true
+  keeps-event : (i : ℕ) (e : Step) → IsWithin R i e → list_all (keeps R) (announcement_rules i e) ≡ true
   keeps-event i (Delivers u size (Read e)) h =
       one_rule (e.slot == i) (record { sources = u ∷ e.sender ∷ []; gives = names e.slices })
       (λ y. keeps-from R (record { sources = u ∷ e.sender ∷ []; gives = names e.slices })
@@ -47,10 +47,11 @@ module _ (R : Names) where
   keeps-event i _ h = refl
 
   keeps-events : (i : ℕ) (entries : List Entry) → AllIn R i entries
-      → list_all (keeps R) (flat_map (λ x. announced i x.event) entries) ≡ true
+      → list_all (keeps R) (flat_map (λ x. announcement_rules i x.event) entries) ≡ true
   keeps-events i [] h = refl
   keeps-events i (x ∷ xs) h =
-      all-append (keeps R) (announced i x.event) (flat_map (λ x. announced i x.event) xs) (keeps-event i x.event h.0)
+      all-append (keeps R) (announcement_rules i x.event) (flat_map (λ x. announcement_rules i x.event) xs)
+      (keeps-event i x.event h.0)
       (keeps-events i xs h.1)
 
 -- the closure lies in each set that has v, what its hosted members announce, and what is announced among its members
@@ -59,9 +60,9 @@ pub closure-in : (hosts : List Host) (i v : ℕ) (entries : List Entry) (R : Nam
     → AreWithin (closure hosts i v entries) R
 unfolding closure
 closure-in hosts i v entries R start f h =
-    let rules = map host_rule hosts ++ flat_map (λ x. announced i x.event) entries in
+    let rules = map host_rule hosts ++ flat_map (λ x. announcement_rules i x.event) entries in
     least-in rules v R start
-    (all-append (keeps R) (map host_rule hosts) (flat_map (λ x. announced i x.event) entries)
+    (all-append (keeps R) (map host_rule hosts) (flat_map (λ x. announcement_rules i x.event) entries)
     (keeps-hosts R hosts f) (keeps-events R i entries h))
 
 pub same_closures : SameClosures

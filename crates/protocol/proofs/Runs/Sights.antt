@@ -11,7 +11,7 @@ use Rattle.protocol.specs.Sets.{Names, within}
 use Rattle.protocol.specs.Satisfaction.{names}
 use Rattle.protocol.specs.Nodes.{step, Calm, fresh}
 use Rattle.types.specs.declared.event.NodeEvent.TheVariants.{Take}
-use Rattle.protocol.specs.Networks.{Place, Slot, Net, places_at, place_of, emissions, emission, known, moved, outs_at, act_in, act}
+use Rattle.protocol.specs.Networks.{Place, Slot, Net, places_at, node_named, emissions, emission, node_where_open, after_event, outs_at, act_in, act}
 use Rattle.protocol.specs.Isolation.{Kept}
 use Rattle.protocol.specs.Isolation.Kept.{Opened, Closed, Told, Heard}
 use Rattle.protocol.proofs.Sets.Lists.{all-append}
@@ -30,12 +30,12 @@ abbrev pub Sight : Type 0
 Sight = ℕ → Option Place
 
 abbrev pub sight : Names → ℕ → Net → Sight
-sight R i net = λ u. if R u then option_map (cut_place R) (known (places_at net.slots i) u) else None
+sight R i net = λ u. if R u then option_map (cut_place R) (node_where_open (places_at net.slots i) u) else None
 
 -- The machine of the kept steps alone
 
 abbrev pub told_to : Sight → ℕ → NodeEvent → Sight
-told_to s u e = λ w. if w == u then option_map (moved e) (s w) else s w
+told_to s u e = λ w. if w == u then option_map (after_event e) (s w) else s w
 
 abbrev pub heard_to : Sight → ℕ → Option Sent → Sight
 heard_to s u None = s
@@ -68,16 +68,16 @@ pub record IsPlace (R : Names) (u : ℕ) (p : Place) : Type 0 where
   pub told : list_all (λ e. (e.sender == u) && announces_in R e) p.told ≡ true
 
 abbrev pub AllPlaces : Names → ℕ → Net → Type 0
-AllPlaces R i net = (u : ℕ) (p : Place) → known (places_at net.slots i) u ≡ Some p → IsPlace R u p
+AllPlaces R i net = (u : ℕ) (p : Place) → node_where_open (places_at net.slots i) u ≡ Some p → IsPlace R u p
 
-pub moved-name : (e : NodeEvent) (p : Place) → (moved e p).node.name ≡ p.node.name
-unfolding moved
-moved-name e p = step-self p.node e
+pub after_event-name : (e : NodeEvent) (p : Place) → (after_event e p).node.name ≡ p.node.name
+unfolding after_event
+after_event-name e p = step-self p.node e
 
 -- a step keeps it
 pub place-moved : (R : Names) (u : ℕ) (p : Place) (e : NodeEvent) → (R u ≡ true → IsFit R e) → IsPlace R u p
-    → IsPlace R u (moved e p)
-unfolding moved
+    → IsPlace R u (after_event e p)
+unfolding after_event
 place-moved R u p e fit h = record {
   name = step-self p.node e ∙ h.name;
   good = λ i. good-step R p.node e (h.good i) (fit i);
@@ -96,32 +96,33 @@ place-moved R u p e fit h = record {
 
 -- Looking up after a step
 
-place_of-same : (u : ℕ) (e : NodeEvent) (ps : List Place)
-    → place_of (act_in u e ps) u ≡ option_map (moved e) (place_of ps u)
-place_of-same u e [] = refl
-place_of-same u e (p ∷ ps) = go (p.node.name == u) refl (place_of-same u e ps)
+node_named-same : (u : ℕ) (e : NodeEvent) (ps : List Place)
+    → node_named (act_in u e ps) u ≡ option_map (after_event e) (node_named ps u)
+node_named-same u e [] = refl
+node_named-same u e (p ∷ ps) = go (p.node.name == u) refl (node_named-same u e ps)
   where
-    go : (b : Bool) → (p.node.name == u) ≡ b → place_of (act_in u e ps) u ≡ option_map (moved e) (place_of ps u)
-        → place_of ((if b then moved e p else p) ∷ act_in u e ps) u
-        ≡ option_map (moved e) (if b then Some p else place_of ps u)
-    go true h ih = rw (ap (λ x. x == u) (moved-name e p) ∙ h)
+    go : (b : Bool) → (p.node.name == u) ≡ b
+        → node_named (act_in u e ps) u ≡ option_map (after_event e) (node_named ps u)
+        → node_named ((if b then after_event e p else p) ∷ act_in u e ps) u
+        ≡ option_map (after_event e) (if b then Some p else node_named ps u)
+    go true h ih = rw (ap (λ x. x == u) (after_event-name e p) ∙ h)
     go false h ih = rw h ih
 
-place_of-other : (u w : ℕ) (e : NodeEvent) (ps : List Place) → (w == u) ≡ false
-    → place_of (act_in u e ps) w ≡ place_of ps w
-place_of-other u w e [] o = refl
-place_of-other u w e (p ∷ ps) o = go (p.node.name == u) refl (place_of-other u w e ps o)
+node_named-other : (u w : ℕ) (e : NodeEvent) (ps : List Place) → (w == u) ≡ false
+    → node_named (act_in u e ps) w ≡ node_named ps w
+node_named-other u w e [] o = refl
+node_named-other u w e (p ∷ ps) o = go (p.node.name == u) refl (node_named-other u w e ps o)
   where
-    go : (b : Bool) → (p.node.name == u) ≡ b → place_of (act_in u e ps) w ≡ place_of ps w
-        → place_of ((if b then moved e p else p) ∷ act_in u e ps) w
-        ≡ (if p.node.name == w then Some p else place_of ps w)
+    go : (b : Bool) → (p.node.name == u) ≡ b → node_named (act_in u e ps) w ≡ node_named ps w
+        → node_named ((if b then after_event e p else p) ∷ act_in u e ps) w
+        ≡ (if p.node.name == w then Some p else node_named ps w)
     go true h ih =
         let no : (p.node.name == w) ≡ false = elim (cases_Bool (p.node.name == w)) [
           | inl y ↦ absurd
               (true≢false (sym (eq-eqb w u (sym (eqb-true p.node.name w y) ∙ eqb-true p.node.name u h)) ∙ o))
           | inr n ↦ n
         ] in
-        rw (ap (λ x. x == w) (moved-name e p) ∙ no, no) ih
+        rw (ap (λ x. x == w) (after_event-name e p) ∙ no, no) ih
     go false h ih = ap (λ o. if p.node.name == w then Some p else o) ih
 
 places_at-same : (f : List Place → List Place) (ss : List Slot) (i : ℕ)
@@ -147,25 +148,29 @@ places_at-other f (s ∷ ss) j i o = go (s.number == j) refl (places_at-other f 
         let no : (s.number == i) ≡ false = ap (λ x. x == i) (eqb-true s.number j h) ∙ o in rw no ih
     go false h ih = ap (λ o. if s.number == i then Some s.places else o) ih
 
-pub known-same : (net : Net) (i u : ℕ) (e : NodeEvent)
-    → known (places_at (act net i u e).0.slots i) u ≡ option_map (moved e) (known (places_at net.slots i) u)
+pub node_where_open-same : (net : Net) (i u : ℕ) (e : NodeEvent)
+    → node_where_open (places_at (act net i u e).0.slots i) u
+    ≡ option_map (after_event e) (node_where_open (places_at net.slots i) u)
 unfolding act
-known-same net i u e = ap (λ o. known o u) (places_at-same (act_in u e) net.slots i) ∙ go (places_at net.slots i)
+node_where_open-same net i u e =
+    ap (λ o. node_where_open o u) (places_at-same (act_in u e) net.slots i) ∙ go (places_at net.slots i)
   where
-    go : (o : Option (List Place)) → known (option_map (act_in u e) o) u ≡ option_map (moved e) (known o u)
+    go : (o : Option (List Place))
+        → node_where_open (option_map (act_in u e) o) u ≡ option_map (after_event e) (node_where_open o u)
     go None = refl
-    go (Some ps) = place_of-same u e ps
+    go (Some ps) = node_named-same u e ps
 
-pub known-other : (net : Net) (i u w : ℕ) (e : NodeEvent) → (w == u) ≡ false
-    → known (places_at (act net i u e).0.slots i) w ≡ known (places_at net.slots i) w
+pub node_where_open-other : (net : Net) (i u w : ℕ) (e : NodeEvent) → (w == u) ≡ false
+    → node_where_open (places_at (act net i u e).0.slots i) w ≡ node_where_open (places_at net.slots i) w
 unfolding act
-known-other net i u w e o = ap (λ x. known x w) (places_at-same (act_in u e) net.slots i) ∙ go (places_at net.slots i)
+node_where_open-other net i u w e o =
+    ap (λ x. node_where_open x w) (places_at-same (act_in u e) net.slots i) ∙ go (places_at net.slots i)
   where
-    go : (x : Option (List Place)) → known (option_map (act_in u e) x) w ≡ known x w
+    go : (x : Option (List Place)) → node_where_open (option_map (act_in u e) x) w ≡ node_where_open x w
     go None = refl
-    go (Some ps) = place_of-other u w e ps o
+    go (Some ps) = node_named-other u w e ps o
 
-pub known-elsewhere : (net : Net) (j i u w : ℕ) (e : NodeEvent) → (j == i) ≡ false
-    → known (places_at (act net j u e).0.slots i) w ≡ known (places_at net.slots i) w
+pub node_where_open-elsewhere : (net : Net) (j i u w : ℕ) (e : NodeEvent) → (j == i) ≡ false
+    → node_where_open (places_at (act net j u e).0.slots i) w ≡ node_where_open (places_at net.slots i) w
 unfolding act
-known-elsewhere net j i u w e o = ap (λ x. known x w) (places_at-other (act_in u e) net.slots j i o)
+node_where_open-elsewhere net j i u w e o = ap (λ x. node_where_open x w) (places_at-other (act_in u e) net.slots j i o)

@@ -11,12 +11,12 @@ use Rattle.types.specs.declared.state.Votes.{Votes}
 use Rattle.types.specs.Votes.{has_value}
 use Rattle.protocol.specs.Rows.{with_row, is_taken}
 use Rattle.protocol.specs.Views.{Seen, seen}
-use Rattle.protocol.specs.Candidates.{combine, as_set, filled}
+use Rattle.protocol.specs.Candidates.{combine, as_set, with_up_to_sixteen}
 use Rattle.protocol.specs.Nominating.{nominate}
-use Rattle.protocol.specs.Balloting.{started, start_from, start, accept_prepared, raise_confirmed_prepared, follow_confirmed_prepared, set_commit, confirm_prepared, enter_commit, widen_commit, first_committed, next_committed, accept_commit, externalize, confirmed_commit, confirm_commit}
+use Rattle.protocol.specs.Balloting.{with_first_ballot, start_from, start, accept_prepared, raise_confirmed_prepared, follow_confirmed_prepared, set_commit, confirm_prepared, enter_commit, widen_commit, first_committed, next_committed, accept_commit, externalize, confirmed_commit, confirm_commit}
 use Rattle.protocol.specs.Passes.{raise, arm, pass}
-use Rattle.protocol.specs.Nodes.{Node, change, after_change, bumped, in_round, timed_out}
-use Rattle.protocol.proofs.Nodes.Made.{if_node, if_node-if, settled-keeps}
+use Rattle.protocol.specs.Nodes.{Node, change, after_change, at_next_counter, in_round, with_timeout}
+use Rattle.protocol.proofs.Nodes.Made.{if_node, if_node-if, with_settled_votes-keeps}
 use Rattle.protocol.proofs.Balloting.Counters.{arm-moves}
 use Rattle.protocol.proofs.Nominating.Lengths.{all-longer}
 use Rattle.protocol.proofs.Nominating.Sets.{nominate-is, nominate-not, echoes, sources}
@@ -32,9 +32,10 @@ pub record Grows (old w : Votes) : Type 0 where
 pub grows-self : (w : Votes) → Grows w w
 grows-self w = record { voted = omega arith; accepts = omega arith; ballot = λ h. h }
 
-filled-longer : (old new : List (List ℕ)) → length old ≤ length (filled old new)
-unfolding filled
-filled-longer old new = (all-longer (take (16 - length old) (filter (λ x. not (has_value old x)) (as_set new))) old).0
+with_up_to_sixteen-longer : (old new : List (List ℕ)) → length old ≤ length (with_up_to_sixteen old new)
+unfolding with_up_to_sixteen
+with_up_to_sixteen-longer old new =
+    (all-longer (take (16 - length old) (filter (λ x. not (has_value old x)) (as_set new))) old).0
 
 -- each rule keeps that
 module _ (old : Votes) where
@@ -43,20 +44,20 @@ module _ (old : Votes) where
     | inr e ↦ subst (Grows old) (sym (nominate-not v s g w e)) h
     | inl e ↦ subst (Grows old) (sym (nominate-is v s g w e)) (record {
       voted = through (length old.voted) (length w.voted) _ h.voted (longer (echoes g w.confirms));
-      accepts = through (length old.accepts) (length w.accepts) _ h.accepts (filled-longer w.accepts _);
+      accepts = through (length old.accepts) (length w.accepts) _ h.accepts (with_up_to_sixteen-longer w.accepts _);
       ballot = h.ballot;
     })
   ]
     where
-      longer : (b : Bool) → length w.voted ≤ length (if b then filled w.voted (sources v s g) else w.voted)
-      longer true = filled-longer w.voted (sources v s g)
+      longer : (b : Bool) → length w.voted ≤ length (if b then with_up_to_sixteen w.voted (sources v s g) else w.voted)
+      longer true = with_up_to_sixteen-longer w.voted (sources v s g)
       longer false = omega arith
 
   start-grows : (s : Seen) (w : Votes) → Grows old w → Grows old (start s w)
-  unfolding start started
+  unfolding start with_first_ballot
   start-grows s w h = go w.ballot refl
     where
-      begun : (o : Option (List ℕ)) → w.ballot ≡ None → Grows old (started s w o)
+      begun : (o : Option (List ℕ)) → w.ballot ≡ None → Grows old (with_first_ballot s w o)
       begun None e =
           record {
             voted = h.voted;
@@ -126,19 +127,20 @@ module _ (old : Votes) where
   abbrev NodeGrows : Node → Type 0
   NodeGrows m = Grows old m.votes
 
-  bumped-grows : (w : Votes) (o : Option Ballot) → Grows old w → Grows old (bumped w o)
-  bumped-grows w None h = h
-  bumped-grows w (Some b) h = record { voted = h.voted; accepts = h.accepts; ballot = λ k. refl }
+  at_next_counter-grows : (w : Votes) (o : Option Ballot) → Grows old w → Grows old (at_next_counter w o)
+  at_next_counter-grows w None h = h
+  at_next_counter-grows w (Some b) h = record { voted = h.voted; accepts = h.accepts; ballot = λ k. refl }
 
   change-grows : (n : Node) (e : NodeEvent) → NodeGrows n → if_node NodeGrows (change n e)
   unfolding change
   change-grows n (Propose x) h = h
   change-grows n (Take e) h = if_node-if NodeGrows (is_taken n.table e) (record n { table = with_row e n.table }) h
   change-grows n (NominationTimer r) h = if_node-if NodeGrows _ (in_round n (r + 1)) h
-  change-grows n (BallotTimer c) h = if_node-if NodeGrows _ (timed_out n) (bumped-grows n.votes n.votes.ballot h)
+  change-grows n (BallotTimer c) h =
+      if_node-if NodeGrows _ (with_timeout n) (at_next_counter-grows n.votes n.votes.ballot h)
   change-grows n (Reslice q) h = h
 
 pub event-grows : (n : Node) (e : NodeEvent) → if_node (λ m. Grows n.votes m.votes) (after_change (change n e))
-event-grows n e = settled-keeps (NodeGrows n.votes) (λ m. pass-grows n.votes m.name
+event-grows n e = with_settled_votes-keeps (NodeGrows n.votes) (λ m. pass-grows n.votes m.name
     (seen m.name m.slices m.inputs.leaders m.table) m.inputs m.votes) (change n e)
     (change-grows n.votes n e (grows-self n.votes))

@@ -19,8 +19,8 @@ use Rattle.types.specs.Statements.{Sent, kind_of}
 use Rattle.protocol.specs.Rows.{is_kind}
 use Rattle.protocol.specs.Sameness.{same_sent}
 use Rattle.protocol.specs.States.{counter_of, sent_in, sent_vote, sent_nomination}
-use Rattle.protocol.specs.Nodes.{Node, fresh, change, after_change, answered, step, when, emitted, decided, outs, is_externalized}
-use Rattle.protocol.specs.Networks.{Host, Place, emission_of, emissions, moved}
+use Rattle.protocol.specs.Nodes.{Node, fresh, change, after_change, node_and_outs, step, when, emission_between, externalization, outs, is_externalized}
+use Rattle.protocol.specs.Networks.{Host, Place, emission_of, emissions, after_event}
 use Rattle.protocol.specs.Hosts.{new_net}
 use Rattle.protocol.specs.LastSent.{last_of, sent_as, SendsItsLast, LastIsSent}
 use Rattle.protocol.proofs.Equality.Sameness.{same_sent-true}
@@ -53,14 +53,14 @@ module _ (kind : Kind) where
   armed o true x h = h
   armed o false x h = refl
 
-  last : (o : Option Sent) (b : Bool) (x : Option Ballot) → after kind o (if b then decided x else []) ≡ o
+  last : (o : Option Sent) (b : Bool) (x : Option Ballot) → after kind o (if b then externalization x else []) ≡ o
   last o true None = refl
   last o true (Some b) = refl
   last o false x = refl
 
   -- a statement of another kind
   other : (n : Node) (o : Option Sent) (a x : Option Statement)
-      → ((s : Statement) → x ≡ Some s → is_kind kind (kind_of s) ≡ false) → after kind o (emitted n a x) ≡ o
+      → ((s : Statement) → x ≡ Some s → is_kind kind (kind_of s) ≡ false) → after kind o (emission_between n a x) ≡ o
   other n o a None f = refl
   other n o a (Some s) f = go (same_sent a (Some s))
     where
@@ -71,7 +71,7 @@ module _ (kind : Kind) where
   -- one of this kind: it is emitted where it is not the one before
   own : (n : Node) (o : Option Sent) (a x : Option Statement) → option_map (λ e. e.body) o ≡ a
       → ((s : Statement) → x ≡ Some s → is_kind kind (kind_of s) ≡ true) → (is_some a ≡ true → is_some x ≡ true)
-      → option_map (λ e. e.body) (after kind o (emitted n a x)) ≡ x
+      → option_map (λ e. e.body) (after kind o (emission_between n a x)) ≡ x
   own n o None None h f m = h
   own n o (Some y) None h f m = absurd (false≢true (m refl))
   own n o a (Some s) h f m = go (same_sent a (Some s)) refl
@@ -85,18 +85,18 @@ module _ (kind : Kind) where
   -- of all that is given out, the two statements count
   outs-after : (o : Option Sent) (old new : Node)
       → after kind o (outs old new)
-      ≡ after kind (after kind o (emitted new (sent_nomination old.votes) (sent_nomination new.votes)))
-      (emitted new (sent_vote old.votes) (sent_vote new.votes))
+      ≡ after kind (after kind o (emission_between new (sent_nomination old.votes) (sent_nomination new.votes)))
+      (emission_between new (sent_vote old.votes) (sent_vote new.votes))
   unfolding outs
   outs-after o old new =
       let a = when (not (new.inputs.round == old.inputs.round) && is_none new.votes.confirmed_prepared)
       (ArmNomination new.inputs.round) in
       let b = when (not (new.votes.armed == old.votes.armed) && (new.votes.armed == counter_of new.votes.ballot)
       && not (is_externalized new.votes.phase)) (ArmBallot new.votes.armed) in
-      let c = emitted new (sent_nomination old.votes) (sent_nomination new.votes) in
-      let d = emitted new (sent_vote old.votes) (sent_vote new.votes) in
+      let c = emission_between new (sent_nomination old.votes) (sent_nomination new.votes) in
+      let d = emission_between new (sent_vote old.votes) (sent_vote new.votes) in
       let e = if is_externalized new.votes.phase
-      && not (is_externalized old.votes.phase) then decided new.votes.ballot else [] in
+      && not (is_externalized old.votes.phase) then externalization new.votes.ballot else [] in
       after-append kind o (((a ++ b) ++ c) ++ d) e
       ∙ (last (after kind o (((a ++ b) ++ c) ++ d))
       (is_externalized new.votes.phase && not (is_externalized old.votes.phase)) new.votes.ballot
@@ -168,13 +168,14 @@ step-sends : (old new : Node) → Grows old.votes new.votes → (kind : Kind) (o
     → option_map (λ e. e.body) (after kind o (outs old new)) ≡ sent_as kind new.votes
 step-sends old new g Nomination o h =
     ap (λ (p : Option Sent). option_map (λ e. e.body) p) (outs-after Nomination o old new
-    ∙ other Nomination new (after Nomination o (emitted new (sent_nomination old.votes) (sent_nomination new.votes)))
+    ∙ other Nomination new
+    (after Nomination o (emission_between new (sent_nomination old.votes) (sent_nomination new.votes)))
     (sent_vote old.votes) (sent_vote new.votes) (λ s e. ap (is_kind Nomination) (vote-kind new.votes s e)))
     ∙ own Nomination new o (sent_nomination old.votes) (sent_nomination new.votes) h
     (λ s e. ap (is_kind Nomination) (nomination-kind new.votes s e)) (nomination-stays old.votes new.votes g)
 step-sends old new g Kind.Ballot o h =
     ap (λ (p : Option Sent). option_map (λ e. e.body) p) (outs-after Kind.Ballot o old new
-    ∙ ap (λ p. after Kind.Ballot p (emitted new (sent_vote old.votes) (sent_vote new.votes)))
+    ∙ ap (λ p. after Kind.Ballot p (emission_between new (sent_vote old.votes) (sent_vote new.votes)))
     (other Kind.Ballot new o (sent_nomination old.votes) (sent_nomination new.votes)
     (λ s e. ap (is_kind Kind.Ballot) (nomination-kind new.votes s e))))
     ∙ own Kind.Ballot new o (sent_vote old.votes) (sent_vote new.votes) h
@@ -190,17 +191,18 @@ last_of-more kind told os =
     (last-append None (filter (λ e. is_kind kind (kind_of e.body)) told)
     (filter (λ e. is_kind kind (kind_of e.body)) (emissions os)))
 
-moved-sends : (e : NodeEvent) (p : Place) → SendsItsLast p → SendsItsLast (moved e p)
-unfolding moved step
-moved-sends e p h kind =
-    last_of-more kind p.told (answered p.node (after_change (change p.node e))).1
+after_event-sends : (e : NodeEvent) (p : Place) → SendsItsLast p → SendsItsLast (after_event e p)
+unfolding after_event step
+after_event-sends e p h kind =
+    last_of-more kind p.told (node_and_outs p.node (after_change (change p.node e))).1
     ∙ go (after_change (change p.node e)) (event-grows p.node e)
   where
     before : Option Sent
     before = last_or None (filter (λ e. is_kind kind (kind_of e.body)) p.told)
 
     go : (o : Option Node) → if_node (λ m. Grows p.node.votes m.votes) o
-        → option_map (λ e. e.body) (after kind before (answered p.node o).1) ≡ sent_as kind (answered p.node o).0.votes
+        → option_map (λ e. e.body) (after kind before (node_and_outs p.node o).1)
+        ≡ sent_as kind (node_and_outs p.node o).0.votes
     go None g = h kind
     go (Some m) g = step-sends p.node m g kind before (h kind)
 
@@ -210,4 +212,4 @@ fresh-sends i h Nomination = refl
 fresh-sends i h Kind.Ballot = refl
 
 pub last_is_sent : LastIsSent
-last_is_sent config before = run-all SendsItsLast fresh-sends moved-sends (new_net config) before tt
+last_is_sent config before = run-all SendsItsLast fresh-sends after_event-sends (new_net config) before tt

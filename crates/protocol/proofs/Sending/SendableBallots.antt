@@ -13,7 +13,7 @@ use Rattle.protocol.specs.Views.{Seen}
 use Rattle.protocol.specs.States.{below, ballot_at, counter_of}
 use Rattle.protocol.specs.Candidates.{combine, commits, greatest, lowest, named}
 use Rattle.protocol.specs.Nominating.{nominate}
-use Rattle.protocol.specs.Balloting.{started, start, accept_prepared, at_least, raise_confirmed_prepared, follow_confirmed_prepared, set_commit, confirm_prepared, is_accepted, is_confirmed, is_aborted, commit_accepted, commit_confirmed, accepted_from, first_committed, next_committed, enter_commit, widen_commit, accept_commit, confirmed_commit, externalize, confirm_commit}
+use Rattle.protocol.specs.Balloting.{with_first_ballot, start, accept_prepared, at_least, raise_confirmed_prepared, follow_confirmed_prepared, set_commit, confirm_prepared, is_accepted, is_confirmed, is_aborted, commit_accepted, commit_confirmed, accepted_from, first_committed, next_committed, enter_commit, widen_commit, accept_commit, confirmed_commit, externalize, confirm_commit}
 use Rattle.protocol.specs.Extremes.{IsIn}
 use Rattle.protocol.proofs.Ballots.Above.{Under, greatest-of, lowest-low}
 use Rattle.protocol.proofs.Ballots.Order.{below-self, below-counter}
@@ -22,7 +22,7 @@ use Rattle.protocol.proofs.Nominating.Sets.{nominate-is, nominate-not}
 use Rattle.protocol.proofs.Passes.Ends.{start-some}
 use Rattle.protocol.proofs.Balloting.Named.{named-parts, commits-parts}
 use Rattle.protocol.proofs.Sending.Sendable.{IsPlaced, IsSendable}
-use Rattle.protocol.proofs.Sending.SendableSets.{filled-set, voted-set}
+use Rattle.protocol.proofs.Sending.SendableSets.{with_up_to_sixteen-set, voted-set}
 use Rattle.protocol.proofs.Sets.Numbers.{through}
 
 most : (a b c : ℕ) → a ≤ b → a ≤ max b c
@@ -40,7 +40,7 @@ module _ (timeouts : ℕ) where
   nominate-keeps v s g w h = elim (cases_Bool (is_none w.confirmed_prepared)) [
     | inl e ↦ subst (IsSendable timeouts) (sym (nominate-is v s g w e)) (record {
       voted = voted-set v s g w.voted w.confirms h.voted;
-      accepts = filled-set w.accepts _ h.accepts;
+      accepts = with_up_to_sixteen-set w.accepts _ h.accepts;
       timers = h.timers;
       counted = h.counted;
       placed = h.placed;
@@ -81,7 +81,7 @@ module _ (timeouts : ℕ) where
       from_one t.counter (named-parts s w t (greatest-of test (named s w) t e).0).0
 
   pub start-keeps : (s : Seen) (w : Votes) → IsSendable timeouts w → IsSendable timeouts (start s w)
-  unfolding start started
+  unfolding start with_first_ballot
   start-keeps s w h = go w.ballot (combine w.confirms) refl refl
     where
       go : (o : Option Ballot) (z : Option (List ℕ)) → w.ballot ≡ o → combine w.confirms ≡ z

@@ -10,10 +10,10 @@ use Rattle.types.specs.declared.state.Votes.{Votes}
 use Rattle.protocol.specs.Views.{Seen, passes}
 use Rattle.protocol.specs.States.{below, ballot_at, counter_of, position}
 use Rattle.protocol.specs.Timers.{cap}
-use Rattle.protocol.specs.Passes.{counts, raised_value, raised, raised_counter, raise, arm}
+use Rattle.protocol.specs.Passes.{has_counter, value_once_raised, ballot_at_counter, counter_after_raise, raise, arm}
 use Rattle.protocol.proofs.Ballots.Above.{least_from-low}
 use Rattle.protocol.proofs.Ballots.Order.{below-parts, not_below-counter, less}
-use Rattle.protocol.proofs.Passes.RuleByRule.{raised-counter}
+use Rattle.protocol.proofs.Passes.RuleByRule.{ballot_at_counter-counter}
 use Rattle.protocol.proofs.Balloting.Counters.{arm-moves}
 use Rattle.protocol.proofs.Sending.Sendable.{IsPlaced, IsSendable}
 use Rattle.protocol.proofs.Sets.Numbers.{through}
@@ -27,45 +27,47 @@ past-counter a b h = below-parts a b ∙ over a.counter b.counter (less a.value 
     over m n false h = grind (arith, nat_tests)
 
 -- a counter that is not lowered keeps what is placed
-raised-placed : (p : Phase) (w : Votes) (b : Ballot) (confirmed_prepared : Option Ballot) (n low high : ℕ) → b.counter ≤ n
-    → IsPlaced p (Some b) confirmed_prepared low high → IsPlaced p (Some (raised w b n)) confirmed_prepared low high
-raised-placed Preparing w b None n low high k h = tt
-raised-placed Preparing w b (Some x) n low high k h = go (n == b.counter) refl
+ballot_at_counter-placed : (p : Phase) (w : Votes) (b : Ballot) (confirmed_prepared : Option Ballot) (n low high : ℕ) → b.counter ≤ n
+    → IsPlaced p (Some b) confirmed_prepared low high
+    → IsPlaced p (Some (ballot_at_counter w b n)) confirmed_prepared low high
+ballot_at_counter-placed Preparing w b None n low high k h = tt
+ballot_at_counter-placed Preparing w b (Some x) n low high k h = go (n == b.counter) refl
   where
     over : (x m n : ℕ) → x ≤ m → m ≤ n → (n == m) ≡ false → x < n
     over x m n h k e = grind (arith, nat_tests)
 
     go : (c : Bool) → (n == b.counter) ≡ c
-        → below (if c then b else ballot_at n (raised_value w.phase w b.value)) x ≡ false
+        → below (if c then b else ballot_at n (value_once_raised w.phase w b.value)) x ≡ false
     go true e = h
     go false e =
-        past-counter (ballot_at n (raised_value w.phase w b.value)) x
+        past-counter (ballot_at n (value_once_raised w.phase w b.value)) x
         (over x.counter b.counter n (not_below-counter b x h) k e)
-raised-placed Committing w b confirmed_prepared n low high k h =
-    (h.0, (h.1.0, subst (λ m. high ≤ m) (sym (raised-counter w b n)) (through high b.counter n h.1.1 k)))
-raised-placed Externalized w b confirmed_prepared n low high k h = h
+ballot_at_counter-placed Committing w b confirmed_prepared n low high k h =
+    (h.0, (h.1.0, subst (λ m. high ≤ m) (sym (ballot_at_counter-counter w b n)) (through high b.counter n h.1.1 k)))
+ballot_at_counter-placed Externalized w b confirmed_prepared n low high k h = h
 
 -- so does a raise, to a counter that is not below the timers
-pub raised-keeps : (timeouts more : ℕ) (w : Votes) (b : Ballot) (n : ℕ) → w.ballot ≡ Some b → b.counter ≤ n → more ≤ n
-    → IsSendable timeouts w → IsSendable more (record w { ballot = Some (raised w b n) })
-raised-keeps timeouts more w b n e k l h = record {
+pub ballot_at_counter-keeps : (timeouts more : ℕ) (w : Votes) (b : Ballot) (n : ℕ) → w.ballot ≡ Some b → b.counter ≤ n
+    → more ≤ n
+    → IsSendable timeouts w → IsSendable more (record w { ballot = Some (ballot_at_counter w b n) })
+ballot_at_counter-keeps timeouts more w b n e k l h = record {
   voted = h.voted;
   accepts = h.accepts;
-  timers = subst (λ m. more ≤ m) (sym (raised-counter w b n)) l;
+  timers = subst (λ m. more ≤ m) (sym (ballot_at_counter-counter w b n)) l;
   counted =
-      subst (λ m. 1 ≤ m) (sym (raised-counter w b n))
+      subst (λ m. 1 ≤ m) (sym (ballot_at_counter-counter w b n))
       (through 1 b.counter n (subst (λ o. IfSome o (λ b. 1 ≤ b.counter)) e h.counted) k);
-  placed = raised-placed w.phase w b w.confirmed_prepared n w.low w.high k (subst (λ o. IsPlaced w.phase o w.confirmed_prepared w.low w.high) e h.placed);
+  placed = ballot_at_counter-placed w.phase w b w.confirmed_prepared n w.low w.high k (subst (λ o. IsPlaced w.phase o w.confirmed_prepared w.low w.high) e h.placed);
 }
 
 module _ (timeouts : ℕ) where
   pub raise-keeps : (s : Seen) (g : Inputs) (b : Ballot) (w : Votes) → w.ballot ≡ Some b → IsSendable timeouts w
       → IsSendable timeouts (raise s g b w)
-  unfolding raise raised_counter
+  unfolding raise counter_after_raise
   raise-keeps s g b w e h =
       let up = least_from-low (cap g.ballot_timeouts - b.counter) b.counter
-      (λ n. not (s.blocking _ (passes (counts (n + 1)) (position w)) (counts (n + 1)))) in
-      raised-keeps timeouts timeouts w b _ e up
+      (λ n. not (s.blocking _ (passes (has_counter (n + 1)) (position w)) (has_counter (n + 1)))) in
+      ballot_at_counter-keeps timeouts timeouts w b _ e up
       (through timeouts b.counter _ (subst (λ o. timeouts ≤ counter_of o) e h.timers) up) h
 
   pub arm-keeps : (s : Seen) (b : Ballot) (w : Votes) → IsSendable timeouts w → IsSendable timeouts (arm s b w)

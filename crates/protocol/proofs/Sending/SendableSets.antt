@@ -4,7 +4,7 @@ use Rattle.types.specs.declared.state.Inputs.{Inputs}
 use Rattle.types.specs.Nominations.{IsNominationSet}
 use Rattle.types.specs.Votes.{has_value}
 use Rattle.protocol.specs.Views.{Seen}
-use Rattle.protocol.specs.Candidates.{filled, all_with, as_set}
+use Rattle.protocol.specs.Candidates.{with_up_to_sixteen, all_with, as_set}
 use Rattle.protocol.proofs.Nominating.Ascending.{all-ascending}
 use Rattle.protocol.proofs.Nominating.Lengths.{all-longer}
 use Rattle.protocol.proofs.Nominating.Sets.{new_voted, echoes, sources}
@@ -14,9 +14,10 @@ take-few zero xs = omega arith
 take-few (suc n) [] = omega arith
 take-few (suc n) (x ∷ xs) = let k = take-few n xs in omega (arith, k)
 
-pub filled-set : (old new : List (List ℕ)) → IsNominationSet old → IsNominationSet (filled old new)
-unfolding filled
-filled-set old new h =
+pub with_up_to_sixteen-set : (old new : List (List ℕ)) → IsNominationSet old
+    → IsNominationSet (with_up_to_sixteen old new)
+unfolding with_up_to_sixteen
+with_up_to_sixteen-set old new h =
     let more = take (16 - length old) (filter (λ x. not (has_value old x)) (as_set new)) in
     record {
       few = upto (length (all_with more old)) (length old) (length more) (all-longer more old).1
@@ -31,6 +32,6 @@ pub voted-set : (v : ℕ) (s : Seen) (g : Inputs) (vo co : List (List ℕ)) → 
     → IsNominationSet (new_voted v s g vo co)
 voted-set v s g vo co h = go (echoes g co)
   where
-    go : (b : Bool) → IsNominationSet (if b then filled vo (sources v s g) else vo)
-    go true = filled-set vo (sources v s g) h
+    go : (b : Bool) → IsNominationSet (if b then with_up_to_sixteen vo (sources v s g) else vo)
+    go true = with_up_to_sixteen-set vo (sources v s g) h
     go false = h

@@ -14,7 +14,7 @@ use Rattle.types.specs.declared.state.Votes.{Votes}
 use Rattle.types.specs.Orders.{bytes_cmp, ballot_cmp}
 use Rattle.types.specs.Statements.{IsUpTo, IsWellFormed}
 use Rattle.types.specs.Votes.{same_value}
-use Rattle.protocol.specs.States.{below, ballot_at, counter_for, counter_up_to, high_counter, commit_counter, clamped, sent_in, sent_vote, sent_nomination}
+use Rattle.protocol.specs.States.{below, ballot_at, counter_for, counter_up_to, high_counter, commit_counter, prepared_as_sent, sent_in, sent_vote, sent_nomination}
 use Rattle.protocol.proofs.Ballots.Above.{Under}
 use Rattle.protocol.proofs.Ballots.Order.{ballots_ordered, not_below-counter}
 use Rattle.protocol.proofs.Sending.Sendable.{IsPlaced, IsSendable}
@@ -44,9 +44,9 @@ up-to a b h = ap is_gt (ballots_ordered.antisymm a b) ∙ turned (ballot_cmp b a
     turned Equal h = refl
     turned Greater h = refl
 
-clamped-up-to : (b p : Ballot) → 1 ≤ b.counter → IsUpTo (clamped b p) b
-unfolding clamped
-clamped-up-to b p c = go (below b p) refl
+prepared_as_sent-up-to : (b p : Ballot) → 1 ≤ b.counter → IsUpTo (prepared_as_sent b p) b
+unfolding prepared_as_sent
+prepared_as_sent-up-to b p c = go (below b p) refl
   where
     same_counter : (n : ℕ) (o : Ordering) → is_gt o ≡ false → is_gt (ordering_then (nat_cmp n n) o) ≡ false
     same_counter n o h = grind (arith, nat_tests)
@@ -93,9 +93,9 @@ vote-sends-in w b Preparing c h = record {
   high_below = high-up-to b w.confirmed_prepared h;
 }
   where
-    each : (o : Option Ballot) → IfSome (option_map (clamped b) o) (λ p. IsUpTo p b)
+    each : (o : Option Ballot) → IfSome (option_map (prepared_as_sent b) o) (λ p. IsUpTo p b)
     each None = tt
-    each (Some p) = clamped-up-to b p c
+    each (Some p) = prepared_as_sent-up-to b p c
 
     least : (a n : ℕ) → min a n ≤ n
     least a n = omega arith

@@ -12,7 +12,7 @@ use Rattle.types.specs.declared.statement.Statement.{Statement}
 use Rattle.types.specs.declared.statement.Statement.TheVariants.{Nominate, Prepare, Commit, Externalize}
 use Rattle.types.specs.Statements.{Sent, kind_of}
 use Rattle.protocol.specs.Newer.{is_above, is_newer}
-use Rattle.protocol.specs.Rows.{is_kind, is_row_of, row, replaces, offered, offered_all, table_after}
+use Rattle.protocol.specs.Rows.{is_kind, is_row_of, row, replaces, table_with_offer, table_with_offers, table_after}
 use Rattle.protocol.specs.History.{is_externalize, is_greatest_of, first_greatest, last_newer, row_among, row_of}
 use Rattle.protocol.proofs.Statements.Newer.{above-itself, above-back, above-over}
 use Rattle.protocol.proofs.Statements.Offers.{row-offered, newer-externalize}
@@ -232,10 +232,10 @@ row_of-push taken e u k = ap (row_among k) (filter-append (is_row_of u k) taken 
     go false = ap (row_among k) (append-nil (filter (is_row_of u k) taken))
 
 exact : (es table front : List Sent) → ((u : ℕ) (k : Kind) → row table u k ≡ row_of front u k) → (u : ℕ) (k : Kind)
-    → row (offered_all table es) u k ≡ row_of (front ++ es) u k
+    → row (table_with_offers table es) u k ≡ row_of (front ++ es) u k
 exact [] table front h u k = h u k ∙ ap (λ xs. row_of xs u k) (sym (append-nil front))
 exact (e ∷ es) table front h u k =
-    exact es (offered table e) (front ++ e ∷ [])
+    exact es (table_with_offer table e) (front ++ e ∷ [])
     (λ w j. (row-offered table e w j ∙ ap (λ o. if is_row_of w j e then taken_row o e else o) (h w j))
     ∙ sym (row_of-push front e w j)) u k
     ∙ ap (λ xs. row_of xs u k) (append_assoc front (e ∷ []) es)

@@ -10,7 +10,7 @@ use Rattle.types.specs.declared.statement.Statement.{Statement}
 use Rattle.types.specs.declared.statement.Statement.TheVariants.{Externalize}
 use Rattle.types.specs.Statements.{Sent, kind_of}
 use Rattle.protocol.specs.Newer.{is_newer}
-use Rattle.protocol.specs.Rows.{is_kind, is_row_of, row, with_row, replaces, is_taken, offered, offered_all, has_single_rows, table_after}
+use Rattle.protocol.specs.Rows.{is_kind, is_row_of, row, with_row, replaces, is_taken, table_with_offer, table_with_offers, has_single_rows, table_after}
 use Rattle.protocol.specs.History.{is_externalize}
 
 pub same_kind : (j k : Kind) → is_kind j k ≡ true → j ≡ k
@@ -73,9 +73,9 @@ row-with e (x ∷ xs) u k =
 
 -- what a table takes becomes the row of its sender and kind, and no other row changes
 pub row-offered : (table : List Sent) (e : Sent) (u : ℕ) (k : Kind)
-    → row (offered table e) u k
+    → row (table_with_offer table e) u k
     ≡ (if is_row_of u k e then (if replaces e (row table u k) then Some e else row table u k) else row table u k)
-unfolding offered is_taken
+unfolding table_with_offer is_taken
 row-offered table e u k = go (is_row_of u k e) refl
   where
     own : is_row_of u k e ≡ true → row table e.sender (kind_of e.body) ≡ row table u k
@@ -98,13 +98,13 @@ row-offered table e u k = go (is_row_of u k e) refl
     go false h = other (replaces e (row table e.sender (kind_of e.body))) h
 
 pub other_row-offered : (table : List Sent) (e : Sent) (u : ℕ) (k : Kind) → is_row_of u k e ≡ false
-    → row (offered table e) u k ≡ row table u k
+    → row (table_with_offer table e) u k ≡ row table u k
 other_row-offered table e u k h =
     row-offered table e u k
     ∙ ap (λ b. if b then (if replaces e (row table u k) then Some e else row table u k) else row table u k) h
 
 pub own_row-offered : (table : List Sent) (e : Sent)
-    → row (offered table e) e.sender (kind_of e.body)
+    → row (table_with_offer table e) e.sender (kind_of e.body)
     ≡ (if is_taken table e then Some e else row table e.sender (kind_of e.body))
 unfolding is_taken
 own_row-offered table e =
@@ -118,10 +118,10 @@ newer-externalize s (Externalize b k) h = refl
 newer-externalize s _ h = absurd (false≢true h)
 
 pub externalize_row-stays : (offers table : List Sent) (u : ℕ) (k : Kind) (x : Sent) → is_externalize x.body ≡ true
-    → row table u k ≡ Some x → row (offered_all table offers) u k ≡ Some x
+    → row table u k ≡ Some x → row (table_with_offers table offers) u k ≡ Some x
 externalize_row-stays [] table u k x h r = r
 externalize_row-stays (e ∷ es) table u k x h r =
-    externalize_row-stays es (offered table e) u k x h
+    externalize_row-stays es (table_with_offer table e) u k x h
     (row-offered table e u k ∙ (ap (λ o. if is_row_of u k e then (if replaces e o then Some e else o) else o) r
     ∙ go (is_row_of u k e)))
   where
@@ -169,8 +169,8 @@ single-with e (x ∷ xs) h =
         (λ y. true≢false (sym (is_row_of-both x.sender (kind_of x.body) x e (is_row_of-own x) y) ∙ a))) t) ih
 
 pub single-offered : (table : List Sent) (e : Sent) → has_single_rows table ≡ true
-    → has_single_rows (offered table e) ≡ true
-unfolding offered
+    → has_single_rows (table_with_offer table e) ≡ true
+unfolding table_with_offer
 single-offered table e h = go (is_taken table e)
   where
     go : (b : Bool) → has_single_rows (if b then with_row e table else table) ≡ true
@@ -178,15 +178,16 @@ single-offered table e h = go (is_taken table e)
     go false = h
 
 pub single-offered_all : (es table : List Sent) → has_single_rows table ≡ true
-    → has_single_rows (offered_all table es) ≡ true
+    → has_single_rows (table_with_offers table es) ≡ true
 single-offered_all [] table h = h
-single-offered_all (e ∷ es) table h = single-offered_all es (offered table e) (single-offered table e h)
+single-offered_all (e ∷ es) table h = single-offered_all es (table_with_offer table e) (single-offered table e h)
 
 pub single-after : (taken : List Sent) → has_single_rows (table_after taken) ≡ true
 unfolding table_after
 single-after taken = single-offered_all taken [] refl
 
 -- one envelope more
-pub table_after-push : (taken : List Sent) (e : Sent) → table_after (taken ++ e ∷ []) ≡ offered (table_after taken) e
+pub table_after-push : (taken : List Sent) (e : Sent)
+    → table_after (taken ++ e ∷ []) ≡ table_with_offer (table_after taken) e
 unfolding table_after
-table_after-push taken e = fold-append offered [] taken (e ∷ [])
+table_after-push taken e = fold-append table_with_offer [] taken (e ∷ [])

@@ -9,7 +9,7 @@ use Rattle.protocol.specs.Sets.{Names, among, IsAscending}
 use Rattle.protocol.specs.Closures.{Rule, keeps}
 use Rattle.protocol.specs.Networks.{Host, slices_of}
 use Rattle.protocol.specs.Hosts.{Entry}
-use Rattle.protocol.specs.Isolation.{host_rule, announced, closure, kept_of, outs_of, SameCast}
+use Rattle.protocol.specs.Isolation.{host_rule, announcement_rules, closure, kept_of, outs_of, SameCast}
 use Rattle.protocol.specs.Verdicts.{Verdict, IsVerdict, IsFirstUnlike, IsFirstDifference, IsListOf, VerdictsExist}
 use Rattle.protocol.specs.Verdicts.Verdict.{CastDiffers, InputsDiffer, Same}
 use Rattle.protocol.proofs.Sets.Finite.{all_from, among_head, among_tail}
@@ -24,7 +24,7 @@ use Rattle.protocol.proofs.Equality.LeastNumber.{bound_of, among-below, least_am
 
 -- ---- a closure has finitely many members
 abbrev rules_in : List Host → ℕ → List Entry → List Rule
-rules_in hosts i run = map host_rule hosts ++ flat_map (λ x. announced i x.event) run
+rules_in hosts i run = map host_rule hosts ++ flat_map (λ x. announcement_rules i x.event) run
 
 -- a number above all names of a closure
 pub closure-bound : List Host → ℕ → ℕ → List Entry → ℕ

@@ -8,7 +8,7 @@ use Rattle.protocol.specs.Networks.{Reading, Step}
 use Rattle.protocol.specs.Hosts.{Config, History, hosts_of, entries}
 use Rattle.protocol.specs.Isolation.{closure, SameCast}
 use Rattle.protocol.specs.Verdicts.{IsFirstUnlike, IsFirstDifference}
-use Rattle.protocol.specs.Submissions.{answers, concerned, replied_to, config_of, SameRoster, SameReserves, roster_names}
+use Rattle.protocol.specs.Submissions.{answers, concerning_steps, replied_to, config_of, SameRoster, SameReserves, roster_names}
 use Rattle.protocol.specs.Crowds.{Crowd, IsFirstOutside, IsCrowd, CrowdsExist, CrowdsAreUnique}
 use Rattle.protocol.specs.Crowds.Crowd.{CastDiffers, RosterDiffers, OutsideRoster, InputsDiffer, Same}
 use Rattle.protocol.proofs.Verdicts.Determined.{one_place, one_unlike, not_unlike}
@@ -119,7 +119,8 @@ module _ (decode : List ℕ → Reading) (one other : History) (g i v : ℕ) whe
       go (cast_found R v (hosts_of one.configs g) (hosts_of other.configs g) bound below)
       (same_reserves (config_of one.configs g) (config_of other.configs g))
       (outside_found R (roster_names (config_of one.configs g)) bound below)
-      (first_difference decided_step (concerned R i (answers decode one g)) (concerned R i (answers decode other g)))
+      (first_difference decided_step (concerning_steps R i (answers decode one g))
+      (concerning_steps R i (answers decode other g)))
     where
       bound : ℕ
       bound = closure-bound (hosts_of one.configs g) i v (entries decode one g)
@@ -133,9 +134,9 @@ module _ (decode : List ℕ → Reading) (one other : History) (g i v : ℕ) whe
           ⊎ (SameReserves (config_of one.configs g) (config_of other.configs g) → ⊥)
           → AreWithin R (among (roster_names (config_of one.configs g)))
           ⊎ ((u : ℕ) × IsFirstOutside R (roster_names (config_of one.configs g)) u)
-          → (concerned R i (answers decode one g) ≡ concerned R i (answers decode other g))
-          ⊎ ((place : ℕ) × IsFirstDifference (concerned R i (answers decode one g))
-          (concerned R i (answers decode other g)) place)
+          → (concerning_steps R i (answers decode one g) ≡ concerning_steps R i (answers decode other g))
+          ⊎ ((place : ℕ) × IsFirstDifference (concerning_steps R i (answers decode one g))
+          (concerning_steps R i (answers decode other g)) place)
           → (c : Crowd) × IsCrowd decode one other g i v c
       go (inr p) b c d = (CastDiffers p.0, p.1)
       go (inl a) (inr n) c d = (RosterDiffers, (a, n))
@@ -165,7 +166,7 @@ crowds_are_unique decode one other g i v a b h k = go a b h k
     outside u h c = not_outside S (roster_names (config_of one.configs g)) u h c
 
     steps : History → List Step
-    steps h = concerned S i (answers decode h g)
+    steps h = concerning_steps S i (answers decode h g)
 
     differ : (place : ℕ) → IsFirstDifference (steps one) (steps other) place → steps one ≡ steps other → ⊥
     differ place h e = h.there (ap (λ es. slice_get es place) e)

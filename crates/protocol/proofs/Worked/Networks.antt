@@ -8,7 +8,7 @@ use Rattle.types.specs.declared.event.Out.TheVariants.{ArmBallot, Emit, External
 use Rattle.protocol.specs.Networks.{Step, Reply}
 use Rattle.protocol.specs.Networks.Reading.{Read, Fault}
 use Rattle.types.specs.declared.event.Refusal.TheVariants.{NoSuchNetwork, NoSuchNode, SlotNotOpen, SlotOpenAlready, TooManySlots, BadEnvelope, HostedSender, NotEmitted, JournalFull, BytesFull, BadValue, ProposedAlready}
-use Rattle.protocol.specs.Networks.Step.{Opens, Closes, Asks, Delivers, Hears}
+use Rattle.protocol.specs.Networks.Step.{Opens, Closes, Proposes, Delivers, Hears}
 use Rattle.protocol.specs.Networks.Reply.{Done, Refused}
 use Rattle.protocol.specs.Hosts.{Config, Entry, nets, host_run}
 use Rattle.protocol.specs.Isolation.{closure, kept_of, outs_of}
@@ -21,7 +21,7 @@ two_hosts = one_net (host A (just A) ∷ host B (just A) ∷ []) (record { event
 
 -- a Hear hands over what was emitted and nothing else; nobody delivers under a hosted name
 pub hears_what_was_emitted : host_run (nets two_hosts)
-    (in_one (Opens 1 ∷ Asks 1 A x ∷ Hears 1 B A Kind.Ballot 2 ∷ Delivers B 88
+    (in_one (Opens 1 ∷ Proposes 1 A x ∷ Hears 1 B A Kind.Ballot 2 ∷ Delivers B 88
     (Read (by A (just A) (Externalize (at 1 x) 1))) ∷ Hears 1 B A Kind.Ballot 1 ∷ Hears 1 B C Kind.Ballot 1
     ∷ Hears 1 B A Kind.Ballot 0 ∷ []) ++ (7, Opens 1) ∷ [])
     ≡ Done [] ∷ Done
@@ -37,7 +37,8 @@ alone events = one_net (host A (just A) ∷ []) (record { events = events; bytes
 
 -- a closed slot is forgotten, and begins anew when it is opened again
 pub reopened_slot_begins_anew : replies (alone 10)
-    (Opens 1 ∷ Asks 1 A x ∷ Asks 1 A y ∷ Opens 1 ∷ Opens 2 ∷ Closes 1 ∷ Asks 1 A y ∷ Opens 1 ∷ Asks 1 A y ∷ [])
+    (Opens 1 ∷ Proposes 1 A x ∷ Proposes 1 A y ∷ Opens 1 ∷ Opens 2 ∷ Closes 1 ∷ Proposes 1 A y ∷ Opens 1
+    ∷ Proposes 1 A y ∷ [])
     ≡ Done [] ∷ Done
     (Emit (by A (just A) (Nominate (x ∷ []) (x ∷ []))) ∷ Emit
     (by A (just A) (Externalize (at 1 x) 1)) ∷ Decided x ∷ [])
@@ -50,7 +51,7 @@ reopened_slot_begins_anew = refl
 
 -- a full journal takes nothing more; a value has at least one byte; faulty bytes are refused once the node is known
 pub full_journal_refuses : replies (alone 2)
-    (Opens 1 ∷ Asks 1 A [] ∷ Delivers B 3 (Fault 1) ∷ Delivers A 3 (Fault 1) ∷ Asks 1 A x ∷ Closes 1 ∷ [])
+    (Opens 1 ∷ Proposes 1 A [] ∷ Delivers B 3 (Fault 1) ∷ Delivers A 3 (Fault 1) ∷ Proposes 1 A x ∷ Closes 1 ∷ [])
     ≡ Done [] ∷ Refused BadValue ∷ Refused NoSuchNode ∷ Refused (BadEnvelope 1) ∷ Done
     (Emit (by A (just A) (Nominate (x ∷ []) (x ∷ []))) ∷ Emit
     (by A (just A) (Externalize (at 1 x) 1)) ∷ Decided x ∷ []) ∷ Refused JournalFull ∷ []
@@ -129,7 +130,7 @@ heard_by_all kind number = flat_map (heard_by_others kind number) (A ∷ B ∷ C
 
 -- all propose x
 abbrev talk : List Step
-talk = Opens 1 ∷ Asks 1 A x ∷ Asks 1 B x ∷ Asks 1 C x ∷ Asks 1 D x ∷ []
+talk = Opens 1 ∷ Proposes 1 A x ∷ Proposes 1 B x ∷ Proposes 1 C x ∷ Proposes 1 D x ∷ []
 
 abbrev decided_in : List Out → List (List ℕ)
 decided_in [] = []

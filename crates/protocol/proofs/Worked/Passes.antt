@@ -3,7 +3,7 @@ use Rattle.types.specs.declared.event.NodeEvent.{NodeEvent}
 use Rattle.std.proofs.Common.{◌≡◌, ℕ, Bool, true, false, Option, Some, None, List, [], ◌∷◌, is_some, refl}
 use Rattle.types.specs.Trees.{Slices, node, inner, none}
 use Rattle.types.specs.declared.statement.Statement.TheVariants.{Nominate, Prepare}
-use Rattle.protocol.specs.Nodes.{Node, fresh, passed, settle, change, step}
+use Rattle.protocol.specs.Nodes.{Node, fresh, after_pass, settle, change, step}
 use Rattle.types.specs.declared.event.NodeEvent.TheVariants.{Take}
 use Rattle.protocol.proofs.Worked.Everything.{everything}
 use Rattle.protocol.proofs.Worked.Letters.{A, B, C, x, y, at, just, by}
@@ -29,7 +29,7 @@ last = Take (by C (just C) (Prepare (at 7 y) None 0 0 0))
 
 abbrev settles_in : ℕ → Option Node → Bool
 settles_in passes None = true
-settles_in passes (Some n) = is_some (settle passes (passed n) n.votes)
+settles_in passes (Some n) = is_some (settle passes (after_pass n) n.votes)
 
 -- a raise, then COMMIT by the node's own vote for what it was raised to, then a greater interval, then nothing
 pub three_are_not_enough : settles_in 3 (change before last) ≡ false

@@ -8,7 +8,7 @@ use Rattle.types.specs.declared.event.Out.TheVariants.{ArmBallot, Emit, External
 use Rattle.types.specs.declared.event.Refusal.TheVariants.{NoSuchNode, SlotNotOpen, JournalFull}
 use Rattle.protocol.specs.Nodes.{Node, fresh, step}
 use Rattle.protocol.specs.Networks.{Step}
-use Rattle.protocol.specs.Networks.Step.{Opens, Closes, Asks, Hears, Reslices}
+use Rattle.protocol.specs.Networks.Step.{Opens, Closes, Proposes, Hears, Reslices}
 use Rattle.protocol.specs.Networks.Reply.{Done, Refused}
 use Rattle.protocol.specs.Hosts.{Config, Entry, nets, host_run}
 use Rattle.protocol.specs.Isolation.{Kept, closure, kept_of}
@@ -115,7 +115,7 @@ new_slices_are_refused = refl
 -- a slot that is opened again begins with the configured slices
 pub reopened_slot_has_the_configured_slices : replies
     (one_net (host A (just A) ∷ []) (record { events = 100; bytes = 0; slots = 1 }))
-    (Opens 1 ∷ Reslices 1 A (just B) ∷ Closes 1 ∷ Opens 1 ∷ Asks 1 A x ∷ [])
+    (Opens 1 ∷ Reslices 1 A (just B) ∷ Closes 1 ∷ Opens 1 ∷ Proposes 1 A x ∷ [])
     ≡ Done [] ∷ Done [] ∷ Done [] ∷ Done [] ∷ Done
     (Emit (by A (just A) (Nominate (x ∷ []) (x ∷ []))) ∷ Emit
     (by A (just A) (Externalize (at 1 x) 1)) ∷ Decided x ∷ []) ∷ []
@@ -127,7 +127,7 @@ both_hosted = one_net (host A (just A) ∷ host B (just A) ∷ []) (record { eve
 
 -- what was emitted is heard with the slices that it was emitted with
 pub heard_with_the_old_slices : host_run (nets both_hosted)
-    (in_one (Opens 1 ∷ Asks 1 A x ∷ Reslices 1 A (just C) ∷ Hears 1 B A Kind.Ballot 1 ∷ []))
+    (in_one (Opens 1 ∷ Proposes 1 A x ∷ Reslices 1 A (just C) ∷ Hears 1 B A Kind.Ballot 1 ∷ []))
     ≡ Done [] ∷ Done
     (Emit (by A (just A) (Nominate (x ∷ []) (x ∷ []))) ∷ Emit
     (by A (just A) (Externalize (at 1 x) 1)) ∷ Decided x ∷ []) ∷ Done []

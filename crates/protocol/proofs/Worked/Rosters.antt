@@ -9,10 +9,10 @@ use Rattle.protocol.specs.Sets.{among}
 use Rattle.protocol.specs.Rosters.{Shares}
 use Rattle.protocol.specs.Networks.{Reading, Step, Host}
 use Rattle.protocol.specs.Networks.Reading.{Read, Fault}
-use Rattle.protocol.specs.Networks.Step.{Opens, Closes, NominationTimes, Reslices}
+use Rattle.protocol.specs.Networks.Step.{Opens, Closes, NominationTimerFires, Reslices}
 use Rattle.protocol.specs.Networks.Reply.{Done, Refused}
 use Rattle.protocol.specs.Hosts.{Config, History, entries}
-use Rattle.protocol.specs.Isolation.{closure, kept_of, outs_of, host_rule, announced}
+use Rattle.protocol.specs.Isolation.{closure, kept_of, outs_of, host_rule, announcement_rules}
 use Rattle.protocol.specs.Verdicts.{IsFirstDifference}
 use Rattle.protocol.specs.Submissions.{answers_of}
 use Rattle.protocol.specs.Crowds.{IsCrowd}
@@ -78,7 +78,7 @@ narrow = record {
 } ∷ []
 
 pub each_draws_on_its_own : replies narrow
-    (Opens 1 ∷ NominationTimes 1 A 1 ∷ NominationTimes 1 A 1 ∷ from Z ∷ from B ∷ Closes 1 ∷ Opens 1 ∷ NominationTimes 1 A 1 ∷ Closes 1 ∷ [])
+    (Opens 1 ∷ NominationTimerFires 1 A 1 ∷ NominationTimerFires 1 A 1 ∷ from Z ∷ from B ∷ Closes 1 ∷ Opens 1 ∷ NominationTimerFires 1 A 1 ∷ Closes 1 ∷ [])
     ≡ Done [] ∷ Done [] ∷ Refused ShareFull ∷ Refused JournalFull ∷ Done [] ∷ Done [] ∷ Done [] ∷ Done [] ∷ Refused ShareFull ∷ []
 unfolding everything
 each_draws_on_its_own = refl
@@ -86,7 +86,7 @@ each_draws_on_its_own = refl
 -- new slices draw on the node's own share, as its timers do; name and slot are tested before that
 pub new_slices_draw_on_their_own : replies narrow
     (Opens 1 ∷ Reslices 1 Z (just A) ∷ Reslices 2 A (just A) ∷ Reslices 1 A (just B) ∷ Reslices 1 A
-    (just C) ∷ NominationTimes 1 A 1 ∷ [])
+    (just C) ∷ NominationTimerFires 1 A 1 ∷ [])
     ≡ Done [] ∷ Refused NoSuchNode ∷ Refused SlotNotOpen ∷ Done [] ∷ Refused ShareFull ∷ Refused ShareFull ∷ []
 unfolding everything
 new_slices_draw_on_their_own = refl
@@ -125,7 +125,7 @@ hosts = host A two_of_bcd ∷ []
 in_abcd : (u : ℕ) → closure_in decode (crowded (with_roster abcd)) 1 1 A u ≡ true → among abcd u ≡ true
 unfolding everything closure
 in_abcd u h =
-    least-in (map host_rule hosts ++ flat_map (λ x. announced 1 x.event)
+    least-in (map host_rule hosts ++ flat_map (λ x. announcement_rules 1 x.event)
     (entries decode (crowded (with_roster abcd)) 1)) A (among abcd) refl refl u h
 
 pub strangers_crowd_nobody_out : IsCrowd decode (crowded (with_roster abcd)) (quiet (with_roster abcd)) 1 1 A
@@ -159,7 +159,7 @@ abc = A ∷ B ∷ C ∷ []
 in_abcd_too : (u : ℕ) → closure_in decode (crowded (with_roster abc)) 1 1 A u ≡ true → among abcd u ≡ true
 unfolding everything closure
 in_abcd_too u h =
-    least-in (map host_rule hosts ++ flat_map (λ x. announced 1 x.event)
+    least-in (map host_rule hosts ++ flat_map (λ x. announcement_rules 1 x.event)
     (entries decode (crowded (with_roster abc)) 1)) A (among abcd) refl refl u h
 
 below_D : (w : ℕ) → among abcd w ≡ true → w < D → among abc w ≡ true

@@ -9,13 +9,13 @@ use Rattle.protocol.specs.Nodes.{Node, fresh, change, step}
 use Rattle.types.specs.declared.event.NodeEvent.TheVariants.{Take}
 use Rattle.types.specs.declared.event.Out.TheVariants.{ArmBallot, Emit, Externalized as Decided}
 use Rattle.protocol.specs.Networks.{Step}
-use Rattle.protocol.specs.Networks.Step.{Opens, Asks, BallotTimes}
+use Rattle.protocol.specs.Networks.Step.{Opens, Proposes, BallotTimerFires}
 use Rattle.protocol.specs.Networks.Reply.{Done}
 use Rattle.protocol.proofs.Worked.Everything.{everything}
 use Rattle.protocol.proofs.Worked.Letters.{A, B, C, D, E, F, Z, k, m, q, x, y, at, just, two_of_bcd, three_of_bcde, by, to_A, net_of_A, replies}
 
 -- a validator that trusts itself alone externalizes what it proposes, in one event
-pub alone_externalizes : replies (net_of_A (just A)) (Opens 1 ∷ Asks 1 A x ∷ [])
+pub alone_externalizes : replies (net_of_A (just A)) (Opens 1 ∷ Proposes 1 A x ∷ [])
     ≡ Done [] ∷ Done
     (Emit (by A (just A) (Nominate (x ∷ []) (x ∷ []))) ∷ Emit
     (by A (just A) (Externalize (at 1 x) 1)) ∷ Decided x ∷ []) ∷ []
@@ -82,7 +82,7 @@ intervals_are_not_joined = refl
 -- those who externalized count as infinite: the raise stops at the cap, and no timer is armed there
 pub raise_stops_at_the_cap : replies (net_of_A two_of_bcd)
     (Opens 1 ∷ prepares E 3 x ∷ to_A B (just E) (Externalize (at 3 x) 3) ∷ to_A C (just E)
-    (Externalize (at 3 x) 3) ∷ BallotTimes 1 A 1000 ∷ [])
+    (Externalize (at 3 x) 3) ∷ BallotTimerFires 1 A 1000 ∷ [])
     ≡ Done [] ∷ Done [] ∷ Done [] ∷ Done (Emit (by A two_of_bcd (Commit (at 1000 x) 1000 3 3)) ∷ []) ∷ Done [] ∷ []
 unfolding everything
 raise_stops_at_the_cap = refl
@@ -90,7 +90,7 @@ raise_stops_at_the_cap = refl
 -- a timer that has fired is not live again; a prepared ballot of another value resets the ballot whose commit is voted
 -- for
 pub overtaken_vote_is_reset : replies (net_of_A two_of_bcd)
-    (until_reached ++ BallotTimes 1 A 8 ∷ BallotTimes 1 A 8 ∷ to_A C (just C)
+    (until_reached ++ BallotTimerFires 1 A 8 ∷ BallotTimerFires 1 A 8 ∷ to_A C (just C)
     (Prepare (at 9 m) (Some (at 9 m)) 6 0 0) ∷ [])
     ≡ Done [] ∷ Done [] ∷ Done [] ∷ Done [] ∷ Done
     (ArmBallot 8 ∷ Emit (by A two_of_bcd (Prepare (at 8 q) (Some (at 5 q)) 0 5 5)) ∷ []) ∷ Done
@@ -106,7 +106,7 @@ greatest_counter = 4294967295
 
 pub greatest_counter_has_no_timer : replies (net_of_A two_of_bcd)
     (Opens 1 ∷ to_A B (just B) (Prepare (at greatest_counter x) (Some (at greatest_counter x)) 0 0 0) ∷ to_A C (just C)
-    (Prepare (at greatest_counter x) (Some (at greatest_counter x)) 0 0 0) ∷ BallotTimes 1 A greatest_counter ∷ [])
+    (Prepare (at greatest_counter x) (Some (at greatest_counter x)) 0 0 0) ∷ BallotTimerFires 1 A greatest_counter ∷ [])
     ≡ Done [] ∷ Done [] ∷ Done
     (ArmBallot greatest_counter ∷ Emit
     (by A two_of_bcd (Prepare (at greatest_counter x)

@@ -1,5 +1,5 @@
 use Rattle.std.proofs.Common.{ap, ◌∙◌}
-use Rattle.cells.specs.Views.{Known}
+use Rattle.cells.specs.Views.{Knowledge}
 use Rattle.cells.proofs.Moves.{shows, agrees}
 use Rattle.cells.proofs.lock.compare.Goals as goal
 
@@ -10,4 +10,4 @@ pub learn_as-requires-clause-rule : goal.learn_as-requires-clause-rule
 learn_as-requires-clause-rule g c =
     let is = c.absorb.ensures.rule in
     let r = c.requires.closer in
-    agrees _ _ (ap (λ (v : Known). v.known) is ∙ r.2) (ap (λ (v : Known). v.holding) is ∙ r.0) (ap (λ (v : Known). v.claims) is ∙ c.requires.note.0)
+    agrees _ _ (ap (λ (v : Knowledge). v.known) is ∙ r.2) (ap (λ (v : Knowledge). v.holding) is ∙ r.0) (ap (λ (v : Knowledge). v.claims) is ∙ c.requires.note.0)

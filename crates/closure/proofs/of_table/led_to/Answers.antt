@@ -1,5 +1,5 @@
 use Rattle.std.proofs.Common.{◌≡◌, ◌+◌, ◌∙◌, ℕ, List, length, ap, sym, subst, arith}
-use Rattle.closure.specs.Sweeps.{Swept, AreNoted, named_by, unknown}
+use Rattle.closure.specs.Sweeps.{Swept, AreNoted, names_in_rows_of, unknown}
 use Rattle.closure.specs.Widening.{AreLedTo}
 use Rattle.closure.proofs.Widening.{begins, goes_on, led_to, widening_bound}
 use Rattle.closure.proofs.of_table.led_to.Goals as goal
@@ -7,7 +7,7 @@ use Rattle.closure.proofs.of_table.led_to.Goals as goal
 pub loop-next-init : goal.loop-next-init
 loop-next-init g c =
     begins c.args.table.now c.args.known.now c.args.sender.now c.note_rows_of.new.sweep
-    (subst (λ (s : Swept). AreNoted s c.note_rows_of.new.sweep (unknown c.args.known.now (named_by c.args.table.now c.args.sender.now))) c.new-sweep.ensures c.in_ok-note_rows_of.ensures)
+    (subst (λ (s : Swept). AreNoted s c.note_rows_of.new.sweep (unknown c.args.known.now (names_in_rows_of c.args.table.now c.args.sender.now))) c.new-sweep.ensures c.in_ok-note_rows_of.ensures)
 
 pub loop-next-preserved : goal.loop-next-preserved
 loop-next-preserved g c =

@@ -3,7 +3,7 @@ use Rattle.types.specs.Statements.{Sent}
 use Rattle.protocol.specs.Sets.{among}
 use Rattle.closure.specs.declared.search.KnownNodes.{KnownNodes}
 use Rattle.closure.specs.Searching.{AreKnown}
-use Rattle.closure.specs.Sweeps.{named_by, named_in}
+use Rattle.closure.specs.Sweeps.{names_in_rows_of, names_in_row}
 use Rattle.closure.proofs.Finding.{found_same}
 use Rattle.closure.proofs.Underway.{begins, goes_on, is_reach, found_bound}
 use Rattle.closure.proofs.of_table.reach_among.Goals as goal
@@ -24,7 +24,7 @@ loop-rows-preserved g c =
     let t = c.args.table.now in
     let with = c.in-Some.ensures in
     let u = with.node in
-    let noted = found_same c.take.new.self c.note_rows.new.self _ (named_by t u) (λ w. ap₂ (λ (a b : Option Sent). named_in a w || named_in b w) with.theirs.ballot with.theirs.nomination) c.in_ok-note_rows.ensures in
+    let noted = found_same c.take.new.self c.note_rows.new.self _ (names_in_rows_of t u) (λ w. ap₂ (λ (a b : Option Sent). names_in_row a w || names_in_row b w) with.theirs.ballot with.theirs.nomination) c.in_ok-note_rows.ensures in
     record {
       search = noted.search;
       known = subst (λ (k : KnownNodes). AreKnown t k) (sym (noted.known ∙ with.taken.known)) c.loop-rows.invariant.known;
@@ -38,7 +38,7 @@ loop-rows-smaller g c =
     let t = c.args.table.now in
     let with = c.in-Some.ensures in
     let u = with.node in
-    let noted = found_same c.take.new.self c.note_rows.new.self _ (named_by t u) (λ w. ap₂ (λ (a b : Option Sent). named_in a w || named_in b w) with.theirs.ballot with.theirs.nomination) c.in_ok-note_rows.ensures in
+    let noted = found_same c.take.new.self c.note_rows.new.self _ (names_in_rows_of t u) (λ w. ap₂ (λ (a b : Option Sent). names_in_row a w || names_in_row b w) with.theirs.ballot with.theirs.nomination) c.in_ok-note_rows.ensures in
     let way = goes_on own q t c.loop-rows.search c.take.new.self c.note_rows.new.self u c.loop-rows.invariant.way with.taken noted in
     let bound = found_bound own q t c.note_rows.new.self noted.search way in
     omega (arith, bound, with.taken.counted, ap (λ (xs : List ℕ). length xs) with.taken.same, noted.marks, noted.counted)

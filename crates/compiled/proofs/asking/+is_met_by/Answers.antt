@@ -15,7 +15,7 @@ loop-inner-init g t c = record {
       let set = c.args.set.now in
       let mid = c.after_masks-tally.result in
       let Asked : List Mask → ℕ → Type 0 = λ ms needed. IsAsked (places_in ms ws) (count_in ms) (record { missing = needed; left = c.members.result }) mid in
-      let asked = subst (λ (q : List Mask × ℕ). Asked q.0 q.1) (λ i. (c.masks.ensures i, c.needed.ensures i)) (c.after_masks-tally.ensures ws are) in
+      let asked = subst (λ (q : List Mask × ℕ). Asked q.0 q.1) (λ i. (c.masks.ensures i, c.needed_count.ensures i)) (c.after_masks-tally.ensures ws are) in
       all_asked set c.inner-sets.result.now ws c.members.result mid t' c.inner-sets.ensures c.members.ensures asked later;
 }
 

@@ -48,4 +48,4 @@ returns t c = λ ws vs is.
     let none = ap (λ (xs : List Compiled). sets_met (sets_of xs) ws) (drop_all c.loop-each.each-index cs (omega (arith, c.loop-each-test.false))) in
     let shape = ap (λ (s : Sets). sets_met s ws) c.loop-each.invariant.shape in
     let sets : sets_met (sets_of c.loop-each.inner.items) vs ≡ sets_met set.inner ws = omega (arith, c.loop-each.invariant.so_far ws vs is, none, shape) in
-    ap (λ (x : Compiled). met x vs) c.new.ensures ∙ (λ i. nat_le (c.needed.ensures i) (masks i + sets i))
+    ap (λ (x : Compiled). met x vs) c.new.ensures ∙ (λ i. nat_le (c.needed_count.ensures i) (masks i + sets i))

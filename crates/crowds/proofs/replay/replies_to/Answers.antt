@@ -6,7 +6,7 @@ use Rattle.protocol.specs.Hosts.{Config}
 use Rattle.protocol.specs.Submissions.{replied_to}
 use Rattle.hoststep.specs.Logs.{Log}
 use Rattle.crowds.specs.Replies.{reply_of}
-use Rattle.crowds.specs.Submitted.{is_asked}
+use Rattle.crowds.specs.Submitted.{concerns_members}
 use Rattle.crowds.proofs.RunsOf.{answers_stay, log_at_first, log_next, log_stays, mark_at, replied_at_first, replied_in_all, replies_next}
 use Rattle.crowds.proofs.replay.replies_to.Goals as goal
 use Rattle.crowds.proofs.replay.replies_to.Goals.{then-number-net+in_ok-reply+in_ok-keep, else-number-net}
@@ -31,8 +31,8 @@ loop-place-preserved c =
             journal = w.journal-is ∙ log_next h c.args.config.now c.args.net c.requires.declared k x there o c.loop-place.journal c.loop-place.invariant.journal w.in_ok-reply.ensures;
             replies = λ R i m.
                 ap (λ v. map reply_of v.items) w.replies-is
-                ∙ replies_next h c.args.config.now c.args.net c.requires.declared k x there o c.loop-place.journal c.loop-place.invariant.journal w.in_ok-reply.ensures R i w.is_marked-is_asked.result
-                (mark_at (is_asked R i c.args.net) c.args.marks.now h.calls k x w.is_marked-is_asked.result m there w.is_marked-is_asked.ensures) _ _ (c.loop-place.invariant.replies R i m) w.in_ok-keep.ensures;
+                ∙ replies_next h c.args.config.now c.args.net c.requires.declared k x there o c.loop-place.journal c.loop-place.invariant.journal w.in_ok-reply.ensures R i w.is_marked-concerns_members.result
+                (mark_at (concerns_members R i c.args.net) c.args.marks.now h.calls k x w.is_marked-concerns_members.result m there w.is_marked-concerns_members.ensures) _ _ (c.loop-place.invariant.replies R i m) w.in_ok-keep.ensures;
           }
       | else-number-net w ↦
           let o : (x.0 == c.args.net) ≡ false = grind (arith, nat_tests, w.if-number-net.false) in

@@ -7,4 +7,4 @@ use Rattle.hoststep.proofs.lent_decision.lent_decision.Goals as goal
 pub returns : goal.returns
 returns g c =
     let is = first-is-all _ _ c.first_value.ensures c.requires.once in
-    c.decision_at.ensures ∙ ap (decided_at c.place_named.result) is ∙ ap (λ (at : Option (ℕ × ℕ)). decided_at at (values_in (outs_of c.args.outs.now))) c.place_named.ensures
+    c.decision_at.ensures ∙ ap (decided_at c.slot_and_node_of.result) is ∙ ap (λ (at : Option (ℕ × ℕ)). decided_at at (values_in (outs_of c.args.outs.now))) c.slot_and_node_of.ensures

@@ -2,13 +2,13 @@ use Rattle.std.proofs.Common.{◌-◌, not, ◌&&◌, List, ℕ, length, take, f
 use Rattle.types.specs.declared.kind.Kind.TheVariants.{Nomination}
 use Rattle.types.specs.Nominations.{most_nominated}
 use Rattle.types.specs.Votes.{has_value}
-use Rattle.protocol.specs.Candidates.{all_with, filled, values_by}
+use Rattle.protocol.specs.Candidates.{all_with, with_up_to_sixteen, values_by}
 use Rattle.protocol.specs.Nominating.{accept_values, is_value_accepted}
 use Rattle.protocol.proofs.Nominating.ValueSets.{new_ones}
 use Rattle.nomination.proofs.rules.values_to_accept.Goals as goal
 
 pub returns : goal.returns
-unfolding accept_values filled
+unfolding accept_values with_up_to_sixteen
 returns g c =
     let w = c.args.votes.now in
     let seen = g.S.Sight.seen c.args.sight.now in

@@ -1,5 +1,5 @@
 use Rattle.std.proofs.Common.{◌∙◌, ap}
-use Rattle.cells.specs.Sights.{Sight}
+use Rattle.cells.specs.Sights.{SeatSight}
 use Rattle.workers.proofs.Hosting.{hosted}
 use Rattle.pooled.proofs.HostedSeats.{first_is, ready}
 use Rattle.pooled.proofs.hosting.open_network.Goals as goal
@@ -8,7 +8,7 @@ pub invariant_of-result : goal.invariant_of-result
 invariant_of-result g c =
     hosted c.in_ok-cell.cell _ _ c.in_ok-cell.seats.items c.open_slots.new.seat c.requires.some c.in_ok-cell.ensures.cell.1 c.in_ok-cell.ensures.seats
     c.in_ok-cell.ensures.fresh c.in_ok-cell.ensures.theirs c.open_slots.ensures.seat
-    (λ d e. c.open_slots.ensures.number ∙ ap (λ (s : Sight). s.me.number) (first_is _ _ d c.index_mut.ensures.value e))
+    (λ d e. c.open_slots.ensures.number ∙ ap (λ (s : SeatSight). s.me.number) (first_is _ _ d c.index_mut.ensures.value e))
 
 pub returns : goal.returns
 returns g c =

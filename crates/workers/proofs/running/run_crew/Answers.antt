@@ -1,7 +1,7 @@
 use Rattle.std.proofs.Common.{◌≡◌, ◌+◌, [], ℕ, List, refl, sym, ap, ◌∙◌, subst, arith}
 use Rattle.work.specs.Hands.{all_parts, weigh}
 use Rattle.work.specs.Queues.{parts_by}
-use Rattle.cells.specs.Sights.{Sight}
+use Rattle.cells.specs.Sights.{SeatSight}
 use Rattle.workers.specs.declared.walk.Walk.{Walk}
 use Rattle.workers.specs.declared.worker.Worker.{Worker}
 use Rattle.workers.specs.Benches.{IsCounted, IsDealtAll, at_work, on_benches}
@@ -58,7 +58,7 @@ loop-worker-preserved g c =
     let l = later_last i.0 c.pop.new.self.items z (subst (AllLaterWorkers i.0) c.in-Some.ensures.items i.3) in
     let d = dealt_all_last c.args.floor.now.benches.items l.0 l.1 i.1 (subst (λ (v : List (Worker _ _ _)). IsDealtAll c.args.floor.now.benches.items v i.1) l.2 i.2) in (
       c.loop-worker.invariant.0,
-      (λ (f : Sight → ℕ).
+      (λ (f : SeatSight → ℕ).
           let a = given_sum f cur z.walks.items c.give_back.new.benches.items c.give_back.ensures in
           let b = weigh-last (λ (w : (Worker _ _ _)). weigh (λ (v : (Walk _ _ _)). f v.seat) w.walks.items) c.loop-worker.workers.items c.pop.new.self.items z c.in-Some.ensures.items in
           let s = c.loop-worker.invariant.1 f in omega arith),
@@ -83,7 +83,7 @@ returns-clause-worked g c =
     let back = written_back c.deal-workers.result.len xs ys closed.later c.deal-workers.result.ok.0 in
     let none : c.loop-worker.workers.items ≡ [] = empty c.loop-worker.workers.items (let ok = c.loop-worker.workers.ok.0 in let m = c.in_default.ensures.cases.0 in omega arith) in
     let hold = (c.deal-workers.ensures.passes.passing q c.requires.queue.0).1 in
-    let given : (f : Sight → ℕ) → on_benches f cur ≡ on_benches f mid + at_work f ys = λ f.
+    let given : (f : SeatSight → ℕ) → on_benches f cur ≡ on_benches f mid + at_work f ys = λ f.
     (let s = c.loop-worker.invariant.1 f in
     let a : at_work f c.loop-worker.workers.items ≡ 0 = ap (at_work f) none in
     let b = ap (at_work f) back in omega arith) in

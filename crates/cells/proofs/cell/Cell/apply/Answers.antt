@@ -4,7 +4,7 @@ use Rattle.cells.specs.Sounds.{IsWhy}
 use Rattle.crossbeam_queue.specs.Passes.{view}
 use Rattle.cells.specs.Receipts.{Applied}
 use mathlib.Core.List.{IsPrefix}
-use Rattle.cells.specs.Sights.{Sight}
+use Rattle.cells.specs.Sights.{SeatSight}
 use Rattle.cells.proofs.Seats.{made_at, seat_added, seat_denied, seen_added}
 use Rattle.cells.proofs.cell.Cell.apply.Goals as goal
 
@@ -25,5 +25,5 @@ invariant_of-seat-in-Err g c =
 
 pub returns-in-Ok-clause-seen : goal.returns-in-Ok-clause-seen
 returns-in-Ok-clause-seen g c =
-    subst (λ (s : Sight). IsPrefix s.me.seen (view c.add.new.pass).seen) c.seat.view_is
+    subst (λ (s : SeatSight). IsPrefix s.me.seen (view c.add.new.pass).seen) c.seat.view_is
     (seen_added (view c.seat.inside.pass) c.take-desk.result (view c.take-desk.new.pass) (view c.add.new.pass) c.in-Ok.entered.made.value c.seat.invariant.free c.take-desk.ensures.rule c.add.ensures.view)

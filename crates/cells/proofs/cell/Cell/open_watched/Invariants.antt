@@ -1,7 +1,7 @@
 use Rattle.std.proofs.Common.{◌≡◌, ◌≤◌, ℕ, length, Some, slice_get, vec_len, vec_capacity}
 use Rattle.crossbeam_queue.specs.Passes.{view, IsPassOf}
 use Rattle.cells.specs.Rule.{opened, fresh}
-use Rattle.cells.specs.Sights.{Sight}
+use Rattle.cells.specs.Sights.{SeatSight}
 use Rattle.cells.proofs.cell.Cell.open_watched.Given as goal
 
 abbrev pub ghosts-put_first : goal.ghosts-put_first
@@ -12,4 +12,4 @@ invariant-loop-number g l =
     IsPassOf l.lock l.opener
     × (view l.opener ≡ record (opened l.fn.config l.seats) { made = l.number })
     × (vec_len l.all ≡ l.number) × (length l.all.items ≡ l.number) × (l.seats ≤ vec_capacity l.all)
-    × ((k : ℕ) (s : Sight) → slice_get l.all.items k ≡ Some s → (s.cell ≡ l.lock.table.shared.table_id) × (s.me ≡ fresh l.fn.config l.seats k))
+    × ((k : ℕ) (s : SeatSight) → slice_get l.all.items k ≡ Some s → (s.cell ≡ l.lock.table.shared.table_id) × (s.me ≡ fresh l.fn.config l.seats k))

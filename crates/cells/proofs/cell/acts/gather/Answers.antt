@@ -1,8 +1,8 @@
 use Rattle.std.proofs.Common.{◌≡◌, ap, ◌∙◌, sym, subst, arith, ◌<◌, ◌≤◌, length, List, get_or, set}
 use Rattle.std.proofs.lemmas.List.{set-get_or}
 use Rattle.crossbeam_queue.specs.Passes.{view}
-use Rattle.cells.specs.Sights.{Sight}
-use Rattle.cells.specs.Views.{Known}
+use Rattle.cells.specs.Sights.{SeatSight}
+use Rattle.cells.specs.Views.{Knowledge}
 use Rattle.cells.specs.Rule.{note_of}
 use Rattle.cells.specs.Closing.{ended_sight}
 use Rattle.cells.proofs.Closing.{keeps_shown, one_more_seat, gathered, all_get_or, seam_read}
@@ -12,20 +12,20 @@ pub loop-seat-preserved : goal.loop-seat-preserved
 loop-seat-preserved g c =
     let i = c.loop-seat.invariant in
     let e = c.end_seat.ensures in
-    let old : List Sight = c.args.seats.now in
+    let old : List SeatSight = c.args.seats.now in
     let n = c.loop-seat.seat-index in
-    let item : Sight = c.seat-item.result in
+    let item : SeatSight = c.seat-item.result in
     let at : item ≡ get_or c.loop-seat.seats n item = c.seat-item.is in
     let now : c.end_seat.new.seat ≡ ended_sight item = e.seat ∙ ap ended_sight (sym at) in
-    let xs : List Sight = set old 0 c.closer_from-keeper.new.seat in
+    let xs : List SeatSight = set old 0 c.closer_from-keeper.new.seat in
     let same : xs ≡ old = ap (set old 0) c.closer_from-keeper.ensures.same ∙ set-get_or old 0 c.index-seats-0.result in
     let lt : n < length xs = let t = c.loop-seat-test.true in let a = c.loop-seat.auto.seats in omega arith in
-    let lt' : n < length old = subst (λ (l : List Sight). n < length l) same lt in
+    let lt' : n < length old = subst (λ (l : List SeatSight). n < length l) same lt in
     let first = all_get_or _ old 0 c.index-seats-0.result c.requires.seats c.requires.some in
     let mine = all_get_or _ old n item c.requires.seats lt' in
-    let here : item ≡ get_or old n item = at ∙ seam_read xs c.loop-seat.seats n item lt i.2 ∙ ap (λ (l : List Sight). get_or l n item) same in
-    let base : (view c.take-desk.new.pass).config ≡ c.args.config.now = ap (λ (v : Known). v.config) c.take-desk.ensures.rule.now ∙ ap (λ (v : Known). v.config) c.closer_from-keeper.ensures.pass.1 ∙ first.1 in
-    let config : item.me.config ≡ (view c.take-desk.new.pass).config = ap (λ (s : Sight). s.me.config) here ∙ mine.1 ∙ sym base in
+    let here : item ≡ get_or old n item = at ∙ seam_read xs c.loop-seat.seats n item lt i.2 ∙ ap (λ (l : List SeatSight). get_or l n item) same in
+    let base : (view c.take-desk.new.pass).config ≡ c.args.config.now = ap (λ (v : Knowledge). v.config) c.take-desk.ensures.rule.now ∙ ap (λ (v : Knowledge). v.config) c.closer_from-keeper.ensures.pass.1 ∙ first.1 in
+    let config : item.me.config ≡ (view c.take-desk.new.pass).config = ap (λ (s : SeatSight). s.me.config) here ∙ mine.1 ∙ sym base in
     let rest = one_more_seat (view c.take-desk.new.pass) (view c.loop-seat.keeper) (view c.end_seat.new.keeper) xs c.loop-seat.seats n item c.end_seat.new.seat lt i.2 at now i.1 e.told e.sound config i.3 in
     ((e.queue.0 ∙ i.0.0, e.queue.2 ∙ i.0.1), keeps_shown (view c.take-desk.new.pass) (view c.loop-seat.keeper) (view c.end_seat.new.keeper) (note_of (get_or c.loop-seat.seats n item).me) i.1 e.keeper, rest.0, rest.1)
 
@@ -34,20 +34,20 @@ returns-clause-gathered g c =
     let i = c.loop-seat.invariant in
     let closer = c.closer_from-keeper.ensures.pass.1 in
     let first = all_get_or _ c.args.seats.now 0 c.index-seats-0.result c.requires.seats c.requires.some in
-    let xs : List Sight = set c.args.seats.now 0 c.closer_from-keeper.new.seat in
+    let xs : List SeatSight = set c.args.seats.now 0 c.closer_from-keeper.new.seat in
     let all : length xs ≤ c.loop-seat.seat-index = let t = c.loop-seat-test.false in let a = c.loop-seat.auto.seats in omega arith in
     gathered c.args.config.now c.args.count c.take-desk.result (view c.closer_from-keeper.result) (view c.take-desk.new.pass) xs c.loop-seat.seats c.loop-seat.seat-index c.take-desk.ensures.rule
-    (ap (λ (v : Known). v.config) closer ∙ first.1) (ap (λ (v : Known). v.seats) closer ∙ first.2) i.2 all i.3
+    (ap (λ (v : Knowledge). v.config) closer ∙ first.1) (ap (λ (v : Knowledge). v.seats) closer ∙ first.2) i.2 all i.3
 
 pub end_seat-requires-clause-seat : goal.end_seat-requires-clause-seat
 end_seat-requires-clause-seat g c =
     let i = c.loop-seat.invariant in
-    let old : List Sight = c.args.seats.now in
+    let old : List SeatSight = c.args.seats.now in
     let n = c.loop-seat.seat-index in
-    let item : Sight = c.seat-item.result in
-    let xs : List Sight = set old 0 c.closer_from-keeper.new.seat in
+    let item : SeatSight = c.seat-item.result in
+    let xs : List SeatSight = set old 0 c.closer_from-keeper.new.seat in
     let same : xs ≡ old = ap (set old 0) c.closer_from-keeper.ensures.same ∙ set-get_or old 0 c.index-seats-0.result in
     let lt : n < length xs = let t = c.loop-seat-test.true in let a = c.loop-seat.auto.seats in omega arith in
-    let lt' : n < length old = subst (λ (l : List Sight). n < length l) same lt in
+    let lt' : n < length old = subst (λ (l : List SeatSight). n < length l) same lt in
     let mine = all_get_or _ old n item c.requires.seats lt' in
-    ap (λ (s : Sight). s.cell) (seam_read xs c.loop-seat.seats n item lt i.2 ∙ ap (λ (l : List Sight). get_or l n item) same) ∙ mine.0
+    ap (λ (s : SeatSight). s.cell) (seam_read xs c.loop-seat.seats n item lt i.2 ∙ ap (λ (l : List SeatSight). get_or l n item) same) ∙ mine.0

@@ -1,7 +1,7 @@
 use Rattle.std.proofs.Common.{◌≡◌, ◌∙◌, ◌+◌, ap, sym, subst, ℕ, List, Some, None, refl, length, arith}
 use Rattle.std.proofs.lemmas.Option.{slice_get_read}
 use Rattle.closure.specs.Announcing.{Listed, names_of}
-use Rattle.closure.specs.Turns.{IsGiven, IsKept, IsSettled}
+use Rattle.closure.specs.Turns.{IsGiven, AreCovered, NamesAreMembers}
 use Rattle.closure.proofs.Growing.{IsJoining, joining_begins, joining_goes_on, turn_settles, all_held, one_name}
 use Rattle.closure.proofs.Waking.{kept_begins, kept_goes_on, kept_ends}
 use Rattle.closure.proofs.turns.Turns.take.Goals as goal
@@ -13,7 +13,7 @@ loop-name-init g c =
     let given_is : c.deref-name-items.result.now ≡ c.in_ok-given.given.items = c.deref-name-items.ensures.value in
     let sound = subst (λ (xs : List ℕ). IsGiven hosts c.args.self.now.slot run (names_of c.args.members.now) c.in-Some.node xs) (sym given_is) c.in_ok-given.ensures.given in (
       joining_begins hosts c.args.self.now.slot run c.deref-name-items.result.now c.args.members.now,
-      subst (λ (r : List (List ℕ)). IsKept hosts c.args.self.now.slot run (names_of c.args.members.now) r c.args.place c.deref-name-items.result.now) (sym c.in_ok-given.ensures.turned)
+      subst (λ (r : List (List ℕ)). AreCovered hosts c.args.self.now.slot run (names_of c.args.members.now) r c.args.place c.deref-name-items.result.now) (sym c.in_ok-given.ensures.turned)
           (kept_begins hosts c.args.self.now.slot run (names_of c.args.members.now) c.args.ready.now c.args.place c.in-Some.node c.deref-name-items.result.now c.requires.ready (sym c.in-Some.ensures) c.requires.next sound),
       refl,
     )
@@ -42,7 +42,7 @@ returns-after-loop-name-clause-settled g c = λ w e.
     let same : c.in-Some.node ≡ w = one_name (names_of c.args.members.now) c.args.place c.in-Some.node w (sym c.in-Some.ensures) e in
     let whole : c.loop-name.name-index ≡ length c.deref-name-items.result.now = omega arith in
     let way = subst (λ n. IsJoining hosts c.args.self.now.slot run c.deref-name-items.result.now c.args.members.now c.loop-name.members n) whole c.loop-name.invariant.0 in
-    subst (λ x. IsSettled hosts c.args.self.now.slot run (names_of c.loop-name.members) (names_of c.args.members.now) x) same
+    subst (λ x. NamesAreMembers hosts c.args.self.now.slot run (names_of c.loop-name.members) (names_of c.args.members.now) x) same
     (turn_settles hosts c.args.self.now.slot run c.deref-name-items.result.now c.args.members.now c.loop-name.members c.in-Some.node way sound)
 
 pub returns-after-loop-name-clause-ready : goal.returns-after-loop-name-clause-ready

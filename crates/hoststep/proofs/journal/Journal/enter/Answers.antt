@@ -1,6 +1,6 @@
 use Rattle.std.proofs.Common.{rules}
 use Rattle.network.specs.Decoding.{step_of}
-use Rattle.hoststep.specs.declared.kept.Kept.{Kept}
+use Rattle.hoststep.specs.declared.kept.StoredEntry.{StoredEntry}
 use Rattle.hoststep.proofs.Growing.{entered-with, is-readable, log-grows, names-hosts, stands-more}
 use Rattle.hoststep.proofs.journal.Journal.enter.Goals as goal
 
@@ -14,7 +14,7 @@ kept_event-event-requires-clause-readable g c =
 
 pub invariant_of-self-2 : goal.invariant_of-self-2
 invariant_of-self-2 g c =
-    let x : Kept = record { event = c.kept_event-event.result; outs = c.put-outs.result } in
+    let x : StoredEntry = record { event = c.kept_event-event.result; outs = c.put-outs.result } in
     stands-more c.self.inside.network c.apply.new.self c.config.result.now c.self.inside.given.items c.reserve-else-is_err.new.self.items c.put-outs.new.lists.items c.len.result c.self.inside.entries.items c.reserve.new.self.items c.push_reserved.new.self.items x (step_of c.args.event) c.args.copies c.in_ok-applied.applied
     c.self.invariant c.in_ok-applied.ensures.applied c.config.ensures c.apply.ensures.config c.apply.ensures.kept c.reserve-else-is_err.ensures.items (search rules) c.put-outs.ensures.put c.reserve.ensures.items c.push_reserved.ensures.items
     (record { step = c.kept_event-event.ensures.step; gave = c.put-outs.ensures.outs })
@@ -26,7 +26,7 @@ returns-clause-ok g c =
 
 pub returns-clause-entered : goal.returns-clause-entered
 returns-clause-entered g c =
-    let x : Kept = record { event = c.kept_event-event.result; outs = c.put-outs.result } in
+    let x : StoredEntry = record { event = c.kept_event-event.result; outs = c.put-outs.result } in
     log-grows c.args.self.now c.self.inside.network c.apply.new.self c.self.inside.given.items c.self.inside.entries.items c.reserve.new.self.items c.push_reserved.new.self.items x (step_of c.args.event) c.args.copies c.in_ok-applied.applied
     c.self.view_is c.self.invariant c.in_ok-applied.ensures.applied c.apply.ensures.config c.reserve.ensures.items c.push_reserved.ensures.items
     (record { step = c.kept_event-event.ensures.step; gave = c.put-outs.ensures.outs })

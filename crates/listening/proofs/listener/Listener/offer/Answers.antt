@@ -3,8 +3,8 @@ use Rattle.std.specs.Prelude.{IsTrue}
 use Rattle.std.proofs.lemmas.Bool.{false≢true}
 use Rattle.latest.specs.Puts.{IsPut}
 use Rattle.envstore.specs.Archives.{sent_of, sents_of}
-use Rattle.protocol.specs.Rows.{offered}
-use Rattle.listening.proofs.Offers.{first-taken, offered-stale, offered-taken, put-takes}
+use Rattle.protocol.specs.Rows.{table_with_offer}
+use Rattle.listening.proofs.Offers.{first-taken, table_with_offer-stale, table_with_offer-taken, put-takes}
 use Rattle.listening.proofs.listener.Listener.offer.Goals as goal
 use Rattle.listening.proofs.listener.Listener.offer.Goals.{in-NoMemory, in-Stale, in-Added}
 
@@ -14,13 +14,13 @@ returns-clause-offered g c =
     let new = c.put-put.new.self.table in
     let x = sent_of c.args.envelope in
     elim c.match-put.branch [
-      | in-NoMemory w ↦ subst (λ r. OnOk r (sents_of new ≡ offered (sents_of old) x)) (sym w.result-is) tt
+      | in-NoMemory w ↦ subst (λ r. OnOk r (sents_of new ≡ table_with_offer (sents_of old) x)) (sym w.result-is) tt
       | in-Stale w ↦
           let p = subst (λ p. IsPut old x p new) w.in-Stale.is c.put-put.ensures.put in
-          subst (λ r. OnOk r (sents_of new ≡ offered (sents_of old) x)) (sym w.result-is) (ap sents_of p.1 ∙ sym (offered-stale (sents_of old) x p.0))
+          subst (λ r. OnOk r (sents_of new ≡ table_with_offer (sents_of old) x)) (sym w.result-is) (ap sents_of p.1 ∙ sym (table_with_offer-stale (sents_of old) x p.0))
       | in-Added w ↦
           let p = put-takes old new x c.put-put.result.0 c.put-put.ensures.put w.in-Added.is in
-          subst (λ r. OnOk r (sents_of new ≡ offered (sents_of old) x)) (sym w.result-is) (p.1 ∙ sym (offered-taken (sents_of old) x p.0))
+          subst (λ r. OnOk r (sents_of new ≡ table_with_offer (sents_of old) x)) (sym w.result-is) (p.1 ∙ sym (table_with_offer-taken (sents_of old) x p.0))
     ]
 
 pub returns-clause-idle : goal.returns-clause-idle

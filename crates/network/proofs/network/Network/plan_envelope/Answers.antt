@@ -38,18 +38,18 @@ returns-in_err-drawn g c =
     let full = sender-room reach (Err r) c.sender-2.ensures.value c.in_err-drawn.ensures.room in
     subst (IsPlanned a.self.now (Delivers a.node.now a.size (Read a.envelope))) (sym e) (envelope-full a.size r reach full)
 
-pub returns-in_err-has_bytes : goal.returns-in_err-has_bytes
-returns-in_err-has_bytes g c =
+pub returns-in_err-has_room_for_bytes : goal.returns-in_err-has_room_for_bytes
+returns-in_err-has_room_for_bytes g c =
     let a = c.args in
     let reach = reaching a.self.now a.node.now a.host_at c.in_ok-slot_at.slot_at c.slot.result a.envelope c.requires (search rules) c.slot.ensures c.in_ok-slot_at.ensures in
     let room = sender-room reach (Ok c.in_ok-drawn.drawn) c.sender-2.ensures.value c.in_ok-drawn.ensures.room in
-    let r = c.in_err-has_bytes.field-0.0 in
-    let e : c.from_residual-in_err-has_bytes.result ≡ Err r = search rules in
-    subst (IsPlanned a.self.now (Delivers a.node.now a.size (Read a.envelope))) (sym e) (envelope-large a.size c.in_ok-drawn.drawn r reach room c.in_err-has_bytes.ensures)
+    let r = c.in_err-has_room_for_bytes.field-0.0 in
+    let e : c.from_residual-in_err-has_room_for_bytes.result ≡ Err r = search rules in
+    subst (IsPlanned a.self.now (Delivers a.node.now a.size (Read a.envelope))) (sym e) (envelope-large a.size c.in_ok-drawn.drawn r reach room c.in_err-has_room_for_bytes.ensures)
 
 pub returns : goal.returns
 returns g c =
     let a = c.args in
     let reach = reaching a.self.now a.node.now a.host_at c.in_ok-slot_at.slot_at c.slot.result a.envelope c.requires (search rules) c.slot.ensures c.in_ok-slot_at.ensures in
     let room = sender-room reach (Ok c.in_ok-drawn.drawn) c.sender-2.ensures.value c.in_ok-drawn.ensures.room in
-    envelope-plan a.size c.in_ok-drawn.drawn (subst IsStanding c.self.view_is c.self.invariant) reach room c.in_ok-has_bytes.ensures
+    envelope-plan a.size c.in_ok-drawn.drawn (subst IsStanding c.self.view_is c.self.invariant) reach room c.in_ok-has_room_for_bytes.ensures

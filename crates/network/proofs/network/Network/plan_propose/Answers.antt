@@ -1,6 +1,6 @@
 use Rattle.std.proofs.Common.{rules, ◌≡◌, ◌∙◌, true, false, Err, sym, ap, subst}
 use Rattle.protocol.specs.Networks.{is_bad_value}
-use Rattle.protocol.specs.Networks.Step.{Asks}
+use Rattle.protocol.specs.Networks.Step.{Proposes}
 use Rattle.slot.specs.declared.filed.FiledEvent.TheVariants as events
 use Rattle.std.specs.Prelude.{List, ℕ}
 use Rattle.network.specs.Deeds.{IsPlanned, IsPlan}
@@ -17,7 +17,7 @@ returns-in_err-spot g c =
     let m = c.args.self.now in
     let r = c.in_err-spot.field-0.0 in
     let e : c.from_residual.result ≡ Err r = search rules in
-    subst (IsPlanned m (Asks c.args.slot c.args.node.now c.args.value.now)) (sym e) (asks-nowhere m c.args.slot c.args.node.now c.args.value.now r c.in_err-spot.ensures)
+    subst (IsPlanned m (Proposes c.args.slot c.args.node.now c.args.value.now)) (sym e) (asks-nowhere m c.args.slot c.args.node.now c.args.value.now r c.in_err-spot.ensures)
 
 pub returns-then-is_bad : goal.returns-then-is_bad
 returns-then-is_bad g c =
@@ -48,7 +48,7 @@ returns-in_err-drawn g c =
     let r = c.in_err-drawn.field-0.0 in
     let e : c.from_residual-in_err-drawn.result ≡ Err r = search rules in
     let bad : is_bad_value c.args.value.now ≡ false = search rules in
-    subst (IsPlanned m (Asks c.args.slot c.args.node.now c.args.value.now)) (sym e)
+    subst (IsPlanned m (Proposes c.args.slot c.args.node.now c.args.value.now)) (sym e)
     (asks-full m c.args.slot c.args.node.now c.args.value.now c.in_ok-spot.spot (seat_of c.place.result.now) c.has_proposal.result r st c.in_ok-spot.ensures c.place.ensures.seat bad c.has_proposal.ensures c.if-has_proposal.false (c.in_err-drawn.ensures c.args.slot c.in_ok-spot.ensures.slot))
 
 pub returns-in-Ok : goal.returns-in-Ok
@@ -58,4 +58,4 @@ returns-in-Ok g c =
     let bad : is_bad_value c.args.value.now ≡ false = search rules in
     let plan = asks-plan m c.args.slot c.args.node.now c.args.value.now c.in_ok-spot.spot (seat_of c.place.result.now) c.has_proposal.result c.in_ok-drawn.drawn st c.in_ok-spot.ensures c.place.ensures.seat bad c.has_proposal.ensures c.if-has_proposal.false (c.in_ok-drawn.ensures c.args.slot c.in_ok-spot.ensures.slot) in
     let e : c.plan_at.result ≡ record { deed = Act c.in_ok-spot.spot.slot_at c.in_ok-spot.spot.host_at (events.Propose c.args.value.now); drawn = c.in_ok-drawn.drawn; size = 0 } = c.plan_at.ensures ∙ ap (λ (x : List ℕ). record { deed = Act c.in_ok-spot.spot.slot_at c.in_ok-spot.spot.host_at (events.Propose x); drawn = c.in_ok-drawn.drawn; size = 0 }) c.in-Ok.ensures in
-    subst (λ (p : Plan). IsPlan m (Asks c.args.slot c.args.node.now c.args.value.now) p) (sym e) plan
+    subst (λ (p : Plan). IsPlan m (Proposes c.args.slot c.args.node.now c.args.value.now) p) (sym e) plan

@@ -3,7 +3,7 @@ use Rattle.std.proofs.lemmas.Bool.{false≢true}
 use Rattle.types.specs.declared.event.Out.{Out}
 use Rattle.types.specs.declared.event.NodeEvent.TheVariants.{BallotTimer}
 use Rattle.protocol.specs.Nodes.{Node, is_counter_live}
-use Rattle.protocol.proofs.Nodes.Reached.{reached-timeouts}
+use Rattle.protocol.proofs.Nodes.Lawful.{timeouts-of-events}
 use Rattle.slot.specs.Filings.{outs_of}
 use Rattle.envstore.specs.Archives.{sents_of}
 use Rattle.slot.specs.Listening.{Held}
@@ -25,7 +25,7 @@ returns-then-not-is_counter_live-clause-outs g c =
 pub with_timeout-requires : goal.with_timeout-requires
 with_timeout-requires g c =
     let i = c.self.inside in
-    let low = reached-timeouts c.self.invariant in
+    let low = timeouts-of-events c.self.invariant in
     let confirmed_prepared = live-below c.args.counter i.votes.armed i.votes.ballot _ (sym c.is_counter_live.ensures ∙ c.if-not-is_counter_live.false) in
     omega (arith, low, confirmed_prepared)
 

@@ -1,7 +1,7 @@
 use Rattle.std.proofs.Common.{◌≡◌, sym, subst}
 use Rattle.protocol.specs.Nodes.{fresh}
-use Rattle.protocol.specs.Limits.{Reached}
-use Rattle.protocol.specs.Limits.Reached.{begin}
+use Rattle.protocol.specs.Limits.{ComesOfEvents}
+use Rattle.protocol.specs.Limits.ComesOfEvents.{begin}
 use Rattle.slot.specs.Listening.{node_of}
 use Rattle.slot.proofs.node.Node.new.Goals as goal
 
@@ -13,4 +13,4 @@ pub invariant_of-result : goal.invariant_of-result
 unfolding fresh
 invariant_of-result c =
     let same : fresh c.args.slot c.args.name c.args.slices ≡ node_of c.new.result c.nothing.result c.none.result = λ i. node_of (sym c.new.ensures i) (sym c.nothing.ensures i) (sym c.none.ensures i) in
-    subst Reached same (begin c.args.slot c.args.name c.args.slices)
+    subst ComesOfEvents same (begin c.args.slot c.args.name c.args.slices)

@@ -3,7 +3,7 @@ use Rattle.types.specs.declared.event.NodeEvent.TheVariants.{Reslice}
 use Rattle.types.specs.declared.event.Out.{Out}
 use Rattle.types.specs.declared.state.Votes.{Votes}
 use Rattle.protocol.specs.Nodes.{Node, outs}
-use Rattle.protocol.specs.Limits.{Reached}
+use Rattle.protocol.specs.Limits.{ComesOfEvents}
 use Rattle.listening.specs.Listening.{Heard}
 use Rattle.slot.specs.Listening.{Held, node_of}
 use Rattle.envstore.specs.Archives.{AreFiled, sents_of}
@@ -18,7 +18,7 @@ answer_anew-requires-clause-settles g c =
     let n = c.args.self.now.node in
     let k = c.exchange_slices-old_slices.new.self in
     let made = change-slices i.listener k i.inputs i.votes i.votes n c.args.slices (sym (ap node_in c.self.view_is)) c.exchange_slices-old_slices.ensures.now refl in
-    settles-after n (node_of k i.inputs i.votes) (Reslice c.args.slices) (subst Reached (ap node_in c.self.view_is) c.self.invariant) made
+    settles-after n (node_of k i.inputs i.votes) (Reslice c.args.slices) (subst ComesOfEvents (ap node_in c.self.view_is) c.self.invariant) made
 
 pub answer_anew-requires-clause-stirs : goal.answer_anew-requires-clause-stirs
 answer_anew-requires-clause-stirs g c =
@@ -26,7 +26,7 @@ answer_anew-requires-clause-stirs g c =
     let n = c.args.self.now.node in
     let k = c.exchange_slices-old_slices.new.self in
     let made = change-slices i.listener k i.inputs i.votes i.votes n c.args.slices (sym (ap node_in c.self.view_is)) c.exchange_slices-old_slices.ensures.now refl in
-    stirs-all n (node_of k i.inputs i.votes) (Reslice c.args.slices) (subst Reached (ap node_in c.self.view_is) c.self.invariant) made
+    stirs-all n (node_of k i.inputs i.votes) (Reslice c.args.slices) (subst ComesOfEvents (ap node_in c.self.view_is) c.self.invariant) made
 
 pub answer_anew-requires-clause-sends : goal.answer_anew-requires-clause-sends
 answer_anew-requires-clause-sends g c =
@@ -34,7 +34,7 @@ answer_anew-requires-clause-sends g c =
     let n = c.args.self.now.node in
     let k = c.exchange_slices-old_slices.new.self in
     let made = change-slices i.listener k i.inputs i.votes i.votes n c.args.slices (sym (ap node_in c.self.view_is)) c.exchange_slices-old_slices.ensures.now refl in
-    sends-after n (node_of k i.inputs i.votes) (Reslice c.args.slices) (subst Reached (ap node_in c.self.view_is) c.self.invariant) made
+    sends-after n (node_of k i.inputs i.votes) (Reslice c.args.slices) (subst ComesOfEvents (ap node_in c.self.view_is) c.self.invariant) made
 
 pub invariant_of-self : goal.invariant_of-self
 invariant_of-self g c =
@@ -43,8 +43,8 @@ invariant_of-self g c =
     let k = c.exchange_slices-old_slices.new.self in
     let made = change-slices i.listener k i.inputs i.votes i.votes n c.args.slices (sym (ap node_in c.self.view_is)) c.exchange_slices-old_slices.ensures.now refl in
     let w = unwrap_or c.in-Ok.field-0.votes i.votes in
-    let after = reached-some n (node_of k i.inputs i.votes) (Reslice c.args.slices) w (subst Reached (ap node_in c.self.view_is) c.self.invariant) made c.in-Ok.ensures.votes in
-    subst (λ (v : Votes). Reached (node_of c.answer_anew.new.listener i.inputs v)) (sym c.set_settled.ensures) (subst (λ (h : Heard). Reached (node_of h i.inputs w)) (sym c.answer_anew.ensures.same) after)
+    let after = reached-some n (node_of k i.inputs i.votes) (Reslice c.args.slices) w (subst ComesOfEvents (ap node_in c.self.view_is) c.self.invariant) made c.in-Ok.ensures.votes in
+    subst (λ (v : Votes). ComesOfEvents (node_of c.answer_anew.new.listener i.inputs v)) (sym c.set_settled.ensures) (subst (λ (h : Heard). ComesOfEvents (node_of h i.inputs w)) (sym c.answer_anew.ensures.same) after)
 
 pub returns-in-Ok-clause-node : goal.returns-in-Ok-clause-node
 returns-in-Ok-clause-node g c =

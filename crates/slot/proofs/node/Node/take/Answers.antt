@@ -3,7 +3,7 @@ use Rattle.std.proofs.lemmas.Bool.{false≢true}
 use Rattle.types.specs.Statements.{Sent}
 use Rattle.types.specs.declared.event.Out.{Out}
 use Rattle.protocol.specs.Nodes.{Node}
-use Rattle.protocol.specs.Limits.{Reached}
+use Rattle.protocol.specs.Limits.{ComesOfEvents}
 use Rattle.listening.specs.Listening.{Heard}
 use Rattle.slot.specs.Listening.{AddsRowAlone, node_of}
 use Rattle.slot.specs.Filings.{outs_of}
@@ -14,7 +14,7 @@ use Rattle.slot.proofs.AddedRows.{row-step, row-reached}
 use Rattle.slot.proofs.node.Node.take.Goals as goal
 
 pub invariant_of-self : goal.invariant_of-self
-invariant_of-self g c = subst (λ (h : Heard). Reached (node_of h c.self.inside.inputs c.self.inside.votes)) (sym c.in_err-offer.ensures.err) c.self.invariant
+invariant_of-self g c = subst (λ (h : Heard). ComesOfEvents (node_of h c.self.inside.inputs c.self.inside.votes)) (sym c.in_err-offer.ensures.err) c.self.invariant
 
 pub invariant_of-self-then-adds_row_alone : goal.invariant_of-self-then-adds_row_alone
 invariant_of-self-then-adds_row_alone g c =

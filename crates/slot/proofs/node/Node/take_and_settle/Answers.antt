@@ -4,7 +4,7 @@ use Rattle.types.specs.declared.event.NodeEvent.TheVariants.{Take}
 use Rattle.types.specs.declared.event.Out.{Out}
 use Rattle.types.specs.declared.state.Votes.{Votes}
 use Rattle.protocol.specs.Nodes.{Node, outs}
-use Rattle.protocol.specs.Limits.{Reached}
+use Rattle.protocol.specs.Limits.{ComesOfEvents}
 use Rattle.listening.specs.declared.configured.Configured.{Configured}
 use Rattle.latest.specs.declared.table.Put.{Put}
 use Rattle.latest.specs.Puts.{IsPut}
@@ -26,7 +26,7 @@ answer_anew-requires-clause-settles g c =
     let n = c.args.self.now.node in
     let k = c.put_row-put.new.listener in
     let made = change-put i.listener k i.inputs i.votes i.votes n (sent_of c.args.envelope) c.put_row-put.result.0 (sym (ap node_in c.self.view_is)) c.put_row-put.ensures.put c.put_row-put.ensures.same c.in-Added.is refl in
-    settles-after n (node_of k i.inputs i.votes) (Take (sent_of c.args.envelope)) (subst Reached (ap node_in c.self.view_is) c.self.invariant) made
+    settles-after n (node_of k i.inputs i.votes) (Take (sent_of c.args.envelope)) (subst ComesOfEvents (ap node_in c.self.view_is) c.self.invariant) made
 
 pub answer_anew-requires-clause-stirs : goal.answer_anew-requires-clause-stirs
 answer_anew-requires-clause-stirs g c =
@@ -43,7 +43,7 @@ answer_anew-requires-clause-sends g c =
     let n = c.args.self.now.node in
     let k = c.put_row-put.new.listener in
     let made = change-put i.listener k i.inputs i.votes i.votes n (sent_of c.args.envelope) c.put_row-put.result.0 (sym (ap node_in c.self.view_is)) c.put_row-put.ensures.put c.put_row-put.ensures.same c.in-Added.is refl in
-    sends-after n (node_of k i.inputs i.votes) (Take (sent_of c.args.envelope)) (subst Reached (ap node_in c.self.view_is) c.self.invariant) made
+    sends-after n (node_of k i.inputs i.votes) (Take (sent_of c.args.envelope)) (subst ComesOfEvents (ap node_in c.self.view_is) c.self.invariant) made
 
 pub invariant_of-self-in-Ok : goal.invariant_of-self-in-Ok
 invariant_of-self-in-Ok g c =
@@ -52,8 +52,8 @@ invariant_of-self-in-Ok g c =
     let k = c.put_row-put.new.listener in
     let made = change-put i.listener k i.inputs i.votes i.votes n (sent_of c.args.envelope) c.put_row-put.result.0 (sym (ap node_in c.self.view_is)) c.put_row-put.ensures.put c.put_row-put.ensures.same c.in-Added.is refl in
     let w = unwrap_or c.in-Ok.field-0.votes i.votes in
-    let after = reached-some n (node_of k i.inputs i.votes) (Take (sent_of c.args.envelope)) w (subst Reached (ap node_in c.self.view_is) c.self.invariant) made c.in-Ok.ensures.votes in
-    subst (λ (v : Votes). Reached (node_of c.answer_anew.new.listener i.inputs v)) (sym c.set_settled.ensures) (subst (λ (h : Heard). Reached (node_of h i.inputs w)) (sym c.answer_anew.ensures.same) after)
+    let after = reached-some n (node_of k i.inputs i.votes) (Take (sent_of c.args.envelope)) w (subst ComesOfEvents (ap node_in c.self.view_is) c.self.invariant) made c.in-Ok.ensures.votes in
+    subst (λ (v : Votes). ComesOfEvents (node_of c.answer_anew.new.listener i.inputs v)) (sym c.set_settled.ensures) (subst (λ (h : Heard). ComesOfEvents (node_of h i.inputs w)) (sym c.answer_anew.ensures.same) after)
 
 pub returns-in-Stale-clause-node : goal.returns-in-Stale-clause-node
 returns-in-Stale-clause-node g c =

@@ -2,7 +2,7 @@ use Rattle.std.proofs.Common.{◌∙◌, Bor, IfSome, Option, Some, option_map, 
 use Rattle.types.specs.declared.envelope.Envelope.{Envelope}
 use Rattle.types.specs.declared.statement.Statement.{Statement}
 use Rattle.view.specs.Knowing.{AreBallotsOf, IsHeard}
-use Rattle.view.specs.Watching.{Kept}
+use Rattle.view.specs.Watching.{RowsOfNodes}
 use Rattle.view.specs.declared.reached_ballots.ReachedBallots.{ReachedBallots}
 use Rattle.view.proofs.known_reach.KnownReach.follow_ballots.Goals as goal
 
@@ -23,5 +23,5 @@ returns-in-Ok-clause-ballots g c = λ old taken are.
       says = sym c.body.ensures.value;
       said = sym c.said_in-before.ensures;
     } in
-    subst (λ (k : Kept). IsHeard own k.nodes old k.table c.body.result.now said → AreBallotsOf own old k.nodes before → AreBallotsOf own k.table k.nodes c.replace-replaced.new.self) c.rows-rows.ensures
+    subst (λ (k : RowsOfNodes). IsHeard own k.nodes old k.table c.body.result.now said → AreBallotsOf own old k.nodes before → AreBallotsOf own k.table k.nodes c.replace-replaced.new.self) c.rows-rows.ensures
     (c.in-Ok.ensures old) heard there

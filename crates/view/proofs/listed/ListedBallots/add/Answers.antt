@@ -2,14 +2,14 @@ use Rattle.std.proofs.Common.{◌++◌, ◌∷◌, [], List, Some, subst, sym}
 use Rattle.std.specs.List.{Contains, insert}
 use Rattle.types.specs.declared.ballot.Ballot.{Ballot}
 use Rattle.view.specs.Listing.{AreListed, IsDescending, IsPlaceUnder}
-use Rattle.view.proofs.ListedLaws.{counted_listed, has_listed, insert_descends, insert_listed, is_counted-from}
+use Rattle.view.proofs.ListedLaws.{counted_listed, has_listed, insert_descends, insert_listed, has_positive_counter-from}
 use Rattle.view.proofs.listed.ListedBallots.add.Goals as goal
 
 pub returns-in-Ok : goal.returns-in-Ok
 returns-in-Ok c =
     let ts = c.args.self.now in
     let t = c.args.ballot in
-    counted_listed ts ts t (is_counted-from c.counter.result t c.counter.ensures c.if-counter-eq0.false) (has_listed ts t c.in-Ok.ensures.1)
+    counted_listed ts ts t (has_positive_counter-from c.counter.result t c.counter.ensures c.if-counter-eq0.false) (has_listed ts t c.in-Ok.ensures.1)
 
 pub invariant_of-self-in-Err : goal.invariant_of-self-in-Err
 invariant_of-self-in-Err c =
@@ -27,5 +27,5 @@ returns-in_ok-insert-in-Err c =
     let p = c.in-Err.place in
     let of_copy = subst (λ (u : Ballot). AreListed (insert c.self.inside.ballots.items p u) (c.self.inside.ballots.items ++ t ∷ [])) (sym c.in_ok-copy-in-Err.ensures) (insert_listed c.self.inside.ballots.items p t) in
     let listed = subst (λ (us : List Ballot). AreListed us (c.self.inside.ballots.items ++ t ∷ [])) (sym c.in_ok-insert-in-Err.ensures.items) of_copy in
-    counted_listed c.insert.new.self.items c.args.self.now t (is_counted-from c.counter.result t c.counter.ensures c.if-counter-eq0.false)
+    counted_listed c.insert.new.self.items c.args.self.now t (has_positive_counter-from c.counter.result t c.counter.ensures c.if-counter-eq0.false)
     (subst (λ (us : List Ballot). AreListed c.insert.new.self.items (us ++ t ∷ [])) c.self.view_is listed)

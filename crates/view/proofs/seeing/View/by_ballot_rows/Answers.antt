@@ -1,24 +1,28 @@
 use Rattle.std.proofs.Common.{◌≡◌, ℕ, IfSome, List, subst, sym}
 use Rattle.types.specs.declared.kind.Kind.{Kind}
 use Rattle.types.specs.declared.kind.Kind.TheVariants.{Nomination}
-use Rattle.view.specs.Knowing.{AreSearched}
-use Rattle.view.specs.Watching.{Kept, rows_of_others, values_in}
+use Rattle.types.specs.Statements.{Sent}
+use Rattle.view.specs.Knowing.{AreSearched, IsKnown}
+use Rattle.view.specs.Watching.{RowsOfNodes, rows_of_others, values_in}
 use Rattle.view.proofs.Knowing.{searched}
 use Rattle.view.proofs.seeing.View.by_ballot_rows.Goals as goal
 
 pub invariant_of-result : goal.invariant_of-result
 invariant_of-result g c =
     let own = c.args.own.name.now in
-    let table = c.args.table.now in
+    let table = c.table-table.result.now in
+    let same : c.args.ballots.table ≡ table = sym c.table-table.ensures in
     let known = c.args.known.now in
-    let at : List ℕ → Kind → Kept = λ us kind. record { nodes = us; table = table; kind = kind } in
-    let kept : c.args.ballots ≡ at known.region.nodes.items Kind.Ballot = c.requires.ballots in
+    let at : List ℕ → Kind → RowsOfNodes = λ us kind. record { nodes = us; table = table; kind = kind } in
+    let kept : c.args.ballots ≡ at known.region.nodes.items Kind.Ballot =
+    subst (λ (t : List Sent). c.args.ballots ≡ record { nodes = known.region.nodes.items; table = t; kind = Kind.Ballot }) same c.requires.ballots in
+    let is = subst (λ (t : List Sent). IsKnown own c.args.own.slices.now t known) same c.requires.known in
     let nominated : c.rows-nominations.result ≡ at known.region.nodes.items Nomination = c.rows-nominations.ensures in
     record {
-      known = c.requires.known.region;
+      known = is.region;
       single = c.are_single.ensures;
       ballots_kept = kept;
       nominations_kept = nominated;
-      ballots_listed = subst (λ (k : Kept). IfSome known.ballots (λ b. AreSearched own k.kind k.table k.nodes b)) (sym kept) (searched own table known.region.nodes.items known.ballots c.requires.known.ballots);
-      values_listed = subst (λ (k : Kept). IfSome known.values (λ v. v ≡ values_in (rows_of_others own k.kind k.table k.nodes))) (sym nominated) c.requires.known.values;
+      ballots_listed = subst (λ (k : RowsOfNodes). IfSome known.ballots (λ b. AreSearched own k.kind k.table k.nodes b)) (sym kept) (searched own table known.region.nodes.items known.ballots is.ballots);
+      values_listed = subst (λ (k : RowsOfNodes). IfSome known.values (λ v. v ≡ values_in (rows_of_others own k.kind k.table k.nodes))) (sym nominated) is.values;
     }

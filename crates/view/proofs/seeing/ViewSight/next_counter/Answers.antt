@@ -2,7 +2,7 @@ use Rattle.std.proofs.Common.{◌∙◌, List, ap, sym}
 use Rattle.types.specs.declared.kind.Kind.{Kind}
 use Rattle.types.specs.declared.statement.Statement.{Statement}
 use Rattle.fedvote.specs.Searching.{next_counter}
-use Rattle.view.specs.Watching.{Kept, rows_of_others}
+use Rattle.view.specs.Watching.{RowsOfNodes, rows_of_others}
 use Rattle.view.proofs.FoundRows.{counter_found}
 use Rattle.view.proofs.Sightings.{seen_rows}
 use Rattle.view.proofs.seeing.ViewSight.next_counter.Goals as goal
@@ -13,6 +13,6 @@ returns g c =
     let own = view.own.now in
     let search = λ (ss : List Statement). next_counter c.args.above ss in
     c.next_counter.ensures
-    ∙ ap (λ (k : Kept). search (rows_of_others own k.kind k.table k.nodes)) view.ballots_kept
+    ∙ ap (λ (k : RowsOfNodes). search (rows_of_others own k.kind k.table k.nodes)) view.ballots_kept
     ∙ counter_found own view.slices.now view.table.now view.region.now.nodes.items view.known.reach.exactly view.single c.args.above
     ∙ ap search (sym (seen_rows own view.slices.now view.leaders.now view.table.now Kind.Ballot))

@@ -3,7 +3,7 @@ use Rattle.work.specs.declared.rule.Job.{Job}
 use Rattle.types.specs.declared.event.Out.{Out}
 use Rattle.types.specs.declared.event.Out.TheVariants.{ArmBallot}
 use Rattle.protocol.specs.Hosts.{Config}
-use Rattle.workers.specs.Sums.{IsBusy, IsKept, SamePlaces, emission_in, hears, hears_from, hears_of}
+use Rattle.workers.specs.Sums.{IsBusy, KeepsSums, SamePlaces, emission_in, hears, hears_from, hears_of}
 use Rattle.workers.proofs.Sums.{busy_set, found_network, found_none, found_some, is_seated, kept_none, kept_both, kept_moved, number_at, places_none, places_both, still_next, seated_at, hears_whole, moved_walk}
 use Rattle.workers.proofs.worker.Worker.tell_one.Goals as goal
 use Rattle.workers.proofs.worker.Worker.tell_one.Goals.{in-Some, in-None}
@@ -46,9 +46,9 @@ loop-index-preserved g c =
           let s = w.tell_others.ensures in
           let now = w.tell_others.new.self in
           let more = found_some config r.outs r.marks index mark o e lt (sym found ∙ w.in-Some.is) in
-          let kept = subst (λ (k : Config). IsKept cs (hears_of e k.hosts) was now) (sym c.config-config.ensures) (s.kept c.index.result.now c.index.ensures) in
+          let kept = subst (λ (k : Config). KeepsSums cs (hears_of e k.hosts) was now) (sym c.config-config.ensures) (s.kept c.index.result.now c.index.ensures) in
           subst (λ y. IsBusy cs c.args.workplace.now.shared.now.queue c.args.k y × SamePlaces a.walks.items y.walks.items × (c.match-emission_at.mark ≤ index + 1)
-          × ((handed : List Job) × (handed ++ hears_from config (drop (index + 1) r.outs) (drop c.match-emission_at.mark r.marks) ≡ hears config r) × IsKept cs handed a y)) (sym w.self-is) (
+          × ((handed : List Job) × (handed ++ hears_from config (drop (index + 1) r.outs) (drop c.match-emission_at.mark r.marks) ≡ hears config r) × KeepsSums cs handed a y)) (sym w.self-is) (
             s.busy,
             places_both a.walks.items was.walks.items now.walks.items i.1 s.places,
             (let m = i.2 in let k : c.match-emission_at.mark ≡ mark + 1 = w.mark-is in omega arith),
@@ -62,7 +62,7 @@ loop-index-preserved g c =
       | in-None w ↦
           let more = found_none config r.outs r.marks index mark o lt (sym found ∙ w.in-None.is) in
           subst (λ y. IsBusy cs c.args.workplace.now.shared.now.queue c.args.k y × SamePlaces a.walks.items y.walks.items × (c.match-emission_at.mark ≤ index + 1)
-          × ((handed : List Job) × (handed ++ hears_from config (drop (index + 1) r.outs) (drop c.match-emission_at.mark r.marks) ≡ hears config r) × IsKept cs handed a y)) (sym w.self-is) (
+          × ((handed : List Job) × (handed ++ hears_from config (drop (index + 1) r.outs) (drop c.match-emission_at.mark r.marks) ≡ hears config r) × KeepsSums cs handed a y)) (sym w.self-is) (
             i.0,
             i.1,
             (let m = i.2 in let k : c.match-emission_at.mark ≡ mark = w.mark-is in omega arith),

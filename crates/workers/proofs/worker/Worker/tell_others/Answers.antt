@@ -2,7 +2,7 @@ use Rattle.std.proofs.Common.{◌≡◌, ◌≤◌, subst, sym, ap, ◌∙◌, �
 use Rattle.std.specs.Option.{option_to_list}
 use Rattle.protocol.specs.Hosts.{Config}
 use Rattle.cells.specs.Sights.{CellSight}
-use Rattle.workers.specs.Sums.{IsBusy, IsKept, SamePlaces, hears_of}
+use Rattle.workers.specs.Sums.{IsBusy, KeepsSums, SamePlaces, hears_of}
 use Rattle.workers.proofs.Sums.{get_or_same, hears_more, kept_none, kept_both, places_none, places_both}
 use Rattle.std.proofs.lemmas.List.{take_all}
 use Rattle.workers.proofs.worker.Worker.tell_others.Goals as goal
@@ -30,15 +30,15 @@ loop-host-preserved g c =
           let s = w.apply_at.ensures in
           let now = w.apply_at.new.self in
           let what = sym (ap option_to_list w.in-Some.is) ∙ c.hearing.ensures.jobs in
-          subst (λ y. IsBusy cs c.args.workplace.now.shared.now.queue c.args.k y × SamePlaces a.walks.items y.walks.items × IsKept cs (hears_of e (take (n + 1) hs)) a y) (sym w.self-is) (
+          subst (λ y. IsBusy cs c.args.workplace.now.shared.now.queue c.args.k y × SamePlaces a.walks.items y.walks.items × KeepsSums cs (hears_of e (take (n + 1) hs)) a y) (sym w.self-is) (
             s.busy,
             places_both a.walks.items was.walks.items now.walks.items i.1 s.places,
-            subst (λ l. IsKept cs l a now) (ap (λ l. hears_of e (take n hs) ++ l) what ∙ more) (kept_both cs _ _ a was now i.2 s.kept),
+            subst (λ l. KeepsSums cs l a now) (ap (λ l. hears_of e (take n hs) ++ l) what ∙ more) (kept_both cs _ _ a was now i.2 s.kept),
           )
       | in-None w ↦
           let what = sym (ap option_to_list w.in-None.is) ∙ c.hearing.ensures.jobs in
-          subst (λ y. IsBusy cs c.args.workplace.now.shared.now.queue c.args.k y × SamePlaces a.walks.items y.walks.items × IsKept cs (hears_of e (take (n + 1) hs)) a y) (sym w.self-is)
-          (i.0, i.1, subst (λ l. IsKept cs l a was) (sym (append-nil _) ∙ ap (λ l. hears_of e (take n hs) ++ l) what ∙ more) i.2)
+          subst (λ y. IsBusy cs c.args.workplace.now.shared.now.queue c.args.k y × SamePlaces a.walks.items y.walks.items × KeepsSums cs (hears_of e (take (n + 1) hs)) a y) (sym w.self-is)
+          (i.0, i.1, subst (λ l. KeepsSums cs l a was) (sym (append-nil _) ∙ ap (λ l. hears_of e (take n hs) ++ l) what ∙ more) i.2)
     ]
 
 pub returns-clause-kept : goal.returns-clause-kept
@@ -48,4 +48,4 @@ returns-clause-kept g c = λ d at.
     let le : length c.hosts-hosts.result.now ≤ c.loop-host.host-index = let t = c.loop-host-test.false in omega arith in
     let cell : c.index.result.now ≡ d = c.index.ensures ∙ get_or_same cs c.args.k c.index.result.now d c.requires.busy.there ∙ sym at in
     let hosts = take_all c.loop-host.host-index c.hosts-hosts.result.now le ∙ c.hosts-hosts.ensures.value ∙ ap (λ (k : Config). k.hosts) c.config.ensures ∙ ap (λ (x : CellSight). x.config.hosts) cell in
-    subst (λ l. IsKept cs (hears_of c.args.emission l) c.args.self.now c.loop-host.self) hosts i.2)
+    subst (λ l. KeepsSums cs (hears_of c.args.emission l) c.args.self.now c.loop-host.self) hosts i.2)

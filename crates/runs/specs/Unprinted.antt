@@ -16,7 +16,7 @@ abbrev pub Trace : Type 0
 Trace = List (ℕ × ℕ)
 
 -- the networks of a script whose lines print nothing, and the trace of the lines, where it is kept
-pub record Quiet : Type 0 where
+pub record Unprinted : Type 0 where
   pub hosting : Hosting
   pub trace : Option Trace
 
@@ -25,8 +25,8 @@ abbrev pub IsRunBy : ℕ → List Bytes → Hosting → Hosting → Type 0
 IsRunBy g fields old new = NamesNet fields g × (printed : Option Bytes) × Tells old fields printed new
 
 -- an event is put to the network of a number, whatever it answers
-abbrev pub IsPutQuietly : ℕ → Event → Hosting → Hosting → Type 0
-IsPutQuietly g e old new = (begun : Hosting) × (r : Result (Vec Out Global) Refusal) × IsBegun g old begun × IsApplied g e r begun new
+abbrev pub IsPutUnprinted : ℕ → Event → Hosting → Hosting → Type 0
+IsPutUnprinted g e old new = (begun : Hosting) × (r : Result (Vec Out Global) Refusal) × IsBegun g old begun × IsApplied g e r begun new
 
 -- how many entries a journal has
 abbrev pub entries_in : Option Log → ℕ
@@ -39,13 +39,13 @@ traced g logs None = None
 traced g logs (Some t) = Some (t ++ (g, entries_in (log_at logs g)) ∷ [])
 
 -- what a line tells where nothing is printed
-abbrev pub TellsQuietly : Quiet → List Bytes → Option Bytes → Quiet → Type 0
-TellsQuietly old fields printed new = (g : ℕ) × (printed ≡ None) × IsRunBy g fields old.hosting new.hosting
+abbrev pub TellsUnprinted : Unprinted → List Bytes → Option Bytes → Unprinted → Type 0
+TellsUnprinted old fields printed new = (g : ℕ) × (printed ≡ None) × IsRunBy g fields old.hosting new.hosting
     × (new.trace ≡ traced g new.hosting.logs old.trace)
 
 -- the line is bad
-abbrev pub RefusesQuietly : Quiet → List Bytes → Type 0
-RefusesQuietly old fields = RefusesLine old.hosting fields
+abbrev pub RefusesUnprinted : Unprinted → List Bytes → Type 0
+RefusesUnprinted old fields = RefusesLine old.hosting fields
 
 -- the line that an entry of a network comes from, counted from 0: the first one after which the network has more entries than come before it
 abbrev pub origin_in : Option Trace → ℕ → ℕ → Option ℕ
@@ -53,5 +53,5 @@ origin_in None g n = None
 origin_in (Some t) g n = position (λ line. (line.0 == g) && nat_lt n line.1) t
 
 -- after the last line all networks that wait and have nodes have joined
-abbrev pub IsFinishedQuietly : Quiet → Quiet → Type 0
-IsFinishedQuietly old new = IsFinished old.hosting new.hosting × (new.trace ≡ old.trace)
+abbrev pub IsFinishedUnprinted : Unprinted → Unprinted → Type 0
+IsFinishedUnprinted old new = IsFinished old.hosting new.hosting × (new.trace ≡ old.trace)

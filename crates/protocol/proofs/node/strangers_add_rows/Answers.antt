@@ -1,5 +1,5 @@
 use Rattle.protocol.proofs.Nodes.Strangers.{held_is_closed, leaders_are_near, outsiders_add_rows, outsiders_are_quiet, strangers_add_rows}
-use Rattle.protocol.proofs.reached.strangers_add_rows.Goals as goal
+use Rattle.protocol.proofs.node.strangers_add_rows.Goals as goal
 
 pub returns-clause-leaders : goal.returns-clause-leaders
 returns-clause-leaders c = leaders_are_near

@@ -2,7 +2,7 @@
 
 ghost use Rattle.std.specs.Prelude.{◌≡◌, [], None, OnOk, Some};
 ghost use Rattle.runs.specs.Hosting.{unhosted};
-ghost use Rattle.runs.specs.Quiet.{IsFinishedQuietly, origin_in, traced};
+ghost use Rattle.runs.specs.Unprinted.{IsFinishedUnprinted, origin_in, traced};
 
 use crate::host_run::HostRun;
 use crate::trace::Trace;
@@ -14,39 +14,39 @@ use std::marker::Model;
 
 /// The networks of one script, whose lines are run as a [`HostRun`] runs them and print nothing.
 #[derive(Drop)]
-pub struct QuietRun {
+pub struct UnprintedRun {
     run: HostRun,
     trace: Option<Trace>,
 }
 
-impl Model for QuietRun {
+impl Model for UnprintedRun {
     ghost use Rattle.std.specs.Coded.{codes};
     ghost use Rattle.types.specs.Trees.{members_code};
-    ghost use Rattle.runs.specs.Quiet.{Quiet};
+    ghost use Rattle.runs.specs.Unprinted.{Unprinted};
 
-    ghost Value = { Quiet };
+    ghost Value = { Unprinted };
 
     ghost coded = { Prim.hlevel (codes, members_code) };
 
-    ghost view = { λ quiet. record { hosting = quiet.run; trace = quiet.trace } };
+    ghost view = { λ unprinted. record { hosting = unprinted.run; trace = unprinted.trace } };
 }
 
-impl QuietRun {
+impl UnprintedRun {
     /// The state before the first line. It takes no memory.
-    pub fn new(alloc: Global) -> QuietRun
+    pub fn new(alloc: Global) -> UnprintedRun
         ensures { result ≡ record { hosting = unhosted; trace = None } }
     {
-        QuietRun {
+        UnprintedRun {
             run: HostRun::new(alloc),
             trace: None,
         }
     }
 
     /// The same, which keeps from which line each entry comes.
-    pub fn with_origins(alloc: Global) -> QuietRun
+    pub fn with_origins(alloc: Global) -> UnprintedRun
         ensures { result ≡ record { hosting = unhosted; trace = Some [] } }
     {
-        QuietRun {
+        UnprintedRun {
             run: HostRun::new(alloc),
             trace: Some(Trace::new(alloc)),
         }
@@ -56,12 +56,12 @@ impl QuietRun {
     /// world, and nothing has happened to them. A network without nodes does not, and is no fault. An error
     /// says that memory is short.
     pub fn finish(&mut self) -> Result<(), AllocError>
-        ensures { OnOk result (IsFinishedQuietly self.old self.new) }
+        ensures { OnOk result (IsFinishedUnprinted self.old self.new) }
     {
         self.run.finish()
     }
 
-    /// The journals of the networks that an event has named, and after [`QuietRun::finish`] of all that are
+    /// The journals of the networks that an event has named, and after [`UnprintedRun::finish`] of all that are
     /// declared with nodes.
     pub fn world(&self) -> &World<VecShelf>
         ensures { result.now ≡ self.now.hosting.logs }
@@ -96,15 +96,15 @@ impl QuietRun {
     }
 }
 
-impl LineRunner for QuietRun {
-    ghost use Rattle.runs.specs.Quiet.{RefusesQuietly, TellsQuietly};
+impl LineRunner for UnprintedRun {
+    ghost use Rattle.runs.specs.Unprinted.{RefusesUnprinted, TellsUnprinted};
 
-    ghost tells = { TellsQuietly };
+    ghost tells = { TellsUnprinted };
 
-    ghost refuses = { RefusesQuietly };
+    ghost refuses = { RefusesUnprinted };
 
     fn line(&mut self, alloc: Global, fields: &[&[u8]]) -> Result<Option<String>, LineError> {
-        let net = self.run.run_quietly(alloc, fields)?;
+        let net = self.run.run_unprinted(alloc, fields)?;
         self.note(net)?;
         Ok(None)
     }

@@ -1,5 +1,5 @@
 -- Nodes that events lead to: calm, with no counter below the timers that have fired, and what they send is well formed.
--- The law `reached_nodes_send_well_formed`, `Passes`, `Sending` and the crate `slot` stand on it.
+-- The law `nodes_send_well_formed`, `Passes`, `Sending` and the crate `slot` stand on it.
 use Rattle.std.proofs.Common.{◌≡◌, ℕ, ◌+◌, ◌≤◌, Bool, true, false, not, ◌&&◌, ◌==◌, nat_lt, [], Option, Some, None, if◌then◌else◌, is_some, option_map, refl, subst, arith}
 use Rattle.std.specs.Prelude.{IfSome}
 use Rattle.std.proofs.lemmas.Bool.{and_parts, false≢true}
@@ -12,22 +12,22 @@ use Rattle.protocol.specs.Rows.{with_row, is_taken}
 use Rattle.protocol.specs.Views.{seen}
 use Rattle.protocol.specs.States.{counter_of, sent_vote, sent_nomination}
 use Rattle.protocol.specs.Timers.{is_counter, most_counter}
-use Rattle.protocol.specs.Nodes.{Node, fresh, change, step, bumped, in_round, timed_out, is_externalized, is_counter_live, Calm}
-use Rattle.protocol.specs.Limits.{Reached, ReachedAreCalm, TimersAreCounted, SendsWellFormed}
-use Rattle.protocol.specs.Limits.Reached.{begin, next}
+use Rattle.protocol.specs.Nodes.{Node, fresh, change, step, at_next_counter, in_round, with_timeout, is_externalized, is_counter_live, Calm}
+use Rattle.protocol.specs.Limits.{ComesOfEvents, NodesAreCalm, TimersAreCounted, SendsWellFormed}
+use Rattle.protocol.specs.Limits.ComesOfEvents.{begin, next}
 use Rattle.protocol.proofs.Nodes.Calm.{fresh-calm}
 use Rattle.protocol.proofs.Nodes.Made.{if_node, if_node-if, step-keeps}
 use Rattle.protocol.proofs.Nodes.Calm.{calm-step}
 use Rattle.types.specs.Nominations.{IsNominationSet}
 use Rattle.protocol.proofs.Sending.Sendable.{IsSendable}
-use Rattle.protocol.proofs.Sending.SendableCounters.{raised-keeps}
+use Rattle.protocol.proofs.Sending.SendableCounters.{ballot_at_counter-keeps}
 use Rattle.protocol.proofs.Sending.SendablePasses.{pass-keeps}
 use Rattle.protocol.proofs.Sending.WellFormed.{nomination-sends, vote-sends}
 
 -- ---- calm
-pub reached-calm : {n : Node} → Reached n → Calm n
-reached-calm (begin slot v q) = fresh-calm slot v q
-reached-calm (next {n} r e) = calm-step n e (reached-calm r)
+pub calm-of-events : {n : Node} → ComesOfEvents n → Calm n
+calm-of-events (begin slot v q) = fresh-calm slot v q
+calm-of-events (next {n} r e) = calm-step n e (calm-of-events r)
 
 -- ---- what is sent, and the timers
 abbrev pub IsLawful : Node → Type 0
@@ -41,10 +41,11 @@ fresh-lawful slot v q = record { voted = none; accepts = none; timers = omega ar
     none = record { few = omega arith; ascending = tt }
 
 timed_out-lawful : (n : Node) (o : Option Ballot) → n.votes.ballot ≡ o → is_some o ≡ true → IsLawful n
-    → IsSendable (n.inputs.ballot_timeouts + 1) (bumped n.votes o)
+    → IsSendable (n.inputs.ballot_timeouts + 1) (at_next_counter n.votes o)
 timed_out-lawful n None e s h = absurd (false≢true s)
 timed_out-lawful n (Some b) e s h =
-    raised-keeps n.inputs.ballot_timeouts (n.inputs.ballot_timeouts + 1) n.votes b (b.counter + 1) e (omega arith)
+    ballot_at_counter-keeps n.inputs.ballot_timeouts (n.inputs.ballot_timeouts + 1) n.votes b (b.counter + 1) e
+    (omega arith)
     (up n.inputs.ballot_timeouts b.counter (subst (λ o. n.inputs.ballot_timeouts ≤ counter_of o) e h.timers)) h
   where
     up : (m n : ℕ) → m ≤ n → m + 1 ≤ n + 1
@@ -69,7 +70,7 @@ change-lawful n (BallotTimer c) h = go (is_counter_live n c) refl
         (nat_lt c most_counter) live in
         counted n.votes.ballot (and_parts (not (is_externalized n.votes.phase) && (c == n.votes.armed)) of_ballot p.0).1
 
-    go : (b : Bool) → is_counter_live n c ≡ b → if_node IsLawful (if b then Some (timed_out n) else None)
+    go : (b : Bool) → is_counter_live n c ≡ b → if_node IsLawful (if b then Some (with_timeout n) else None)
     go true live = timed_out-lawful n n.votes.ballot refl (has_ballot live) h
     go false live = tt
 
@@ -77,25 +78,25 @@ step-lawful : (n : Node) (e : NodeEvent) → IsLawful n → IsLawful (step n e).
 step-lawful n e h = step-keeps IsLawful (λ m. pass-keeps m.inputs.ballot_timeouts m.name
     (seen m.name m.slices m.inputs.leaders m.table) m.inputs m.votes) n e h (change-lawful n e h)
 
-pub reached-lawful : {n : Node} → Reached n → IsLawful n
-reached-lawful (begin slot v q) = fresh-lawful slot v q
-reached-lawful (next {n} r e) = step-lawful n e (reached-lawful r)
+pub lawful-of-events : {n : Node} → ComesOfEvents n → IsLawful n
+lawful-of-events (begin slot v q) = fresh-lawful slot v q
+lawful-of-events (next {n} r e) = step-lawful n e (lawful-of-events r)
 
-pub reached-timeouts : {n : Node} → Reached n → n.inputs.ballot_timeouts ≤ counter_of n.votes.ballot
-reached-timeouts r = (reached-lawful r).timers
+pub timeouts-of-events : {n : Node} → ComesOfEvents n → n.inputs.ballot_timeouts ≤ counter_of n.votes.ballot
+timeouts-of-events r = (lawful-of-events r).timers
 
-pub reached-sends : {n : Node} → Reached n
+pub sends-of-events : {n : Node} → ComesOfEvents n
     → IfSome (sent_nomination n.votes) IsWellFormed × IfSome (sent_vote n.votes) IsWellFormed
-reached-sends {n} r =
-    let h = reached-lawful r in
+sends-of-events {n} r =
+    let h = lawful-of-events r in
     (nomination-sends n.inputs.ballot_timeouts n.votes h, vote-sends n.inputs.ballot_timeouts n.votes h)
 
 -- ---- the laws
-pub reached_are_calm : ReachedAreCalm
-reached_are_calm n r = reached-calm r
+pub nodes_are_calm : NodesAreCalm
+nodes_are_calm n r = calm-of-events r
 
 pub timers_are_counted : TimersAreCounted
-timers_are_counted n r = reached-timeouts r
+timers_are_counted n r = timeouts-of-events r
 
 pub sends_well_formed : SendsWellFormed
-sends_well_formed n r = reached-sends r
+sends_well_formed n r = sends-of-events r

@@ -1,7 +1,7 @@
 //! Nodes that events lead to, and what they send.
 
 ghost use Rattle.protocol.specs.LastSent.{LastIsSent};
-ghost use Rattle.protocol.specs.Limits.{ReachedAreCalm, SendsWellFormed, TimersAreCounted};
+ghost use Rattle.protocol.specs.Limits.{NodesAreCalm, SendsWellFormed, TimersAreCounted};
 ghost use Rattle.protocol.specs.Reslices.{ReslicesChangeVotes, SameSlicesAreQuiet, SlicesFollowEvents, SlicesFollowRuns};
 ghost use Rattle.protocol.specs.Strangers.{HeldIsClosed, LeadersAreNear, OutsidersAddRows, OutsidersAreQuiet, StrangersAddRows};
 
@@ -9,9 +9,9 @@ ghost use Rattle.protocol.specs.Strangers.{HeldIsClosed, LeadersAreNear, Outside
 /// it and whatever rows it has. Nor have more of its ballot timers fired than the counter of its
 /// ballot says, so that their number fits where a counter does; and one more pass would change
 /// nothing, so that a node's votes are at rest between events.
-#[tactic(auto, using(crate::proofs::Nodes::Reached::reached_are_calm, crate::proofs::Nodes::Reached::timers_are_counted, crate::proofs::Nodes::Reached::sends_well_formed))]
-pub fn reached_nodes_send_well_formed()
-    ensures calm { ReachedAreCalm }
+#[tactic(auto, using(crate::proofs::Nodes::Lawful::nodes_are_calm, crate::proofs::Nodes::Lawful::timers_are_counted, crate::proofs::Nodes::Lawful::sends_well_formed))]
+pub fn nodes_send_well_formed()
+    ensures calm { NodesAreCalm }
     ensures timers { TimersAreCounted }
     ensures sends { SendsWellFormed }
 {}
