@@ -6,8 +6,8 @@ use Rattle.std.proofs.Math.Seq.{take-append_seam}
 use Rattle.protocol.specs.Hosts.{Config, Entry}
 use Rattle.hoststep.specs.Logs.{Log}
 use Rattle.cells.specs.Receipts.{extract_of, extracts_of}
-use Rattle.cells.specs.Views.{DeskSight, Knowledge}
-use Rattle.cells.specs.Rule.{IsTaken, Told, shown, AllBelow}
+use Rattle.cells.specs.Views.{CellStateSight, Knowledge}
+use Rattle.cells.specs.Rule.{IsTaken, IsKnownAtEnd, shown, AllBelow}
 use Rattle.cells.specs.Sights.{SeatSight}
 use Rattle.cells.specs.Sounds.{IsSound, AllStand, AllRight}
 use Rattle.cells.specs.Closing.{Keeps, AllSeats, HasNumber, ended_sight, Gathered, IsOneHistory}
@@ -19,16 +19,16 @@ use Rattle.std.proofs.lemmas.List.Edits.{map_over_more}
 pub keeps_shown : (b v w n : Knowledge) → Keeps b v → w ≡ shown v n → Keeps b w
 keeps_shown b v w n k is = subst (Keeps b) (sym is) (record { holding = k.holding; live = k.live; known = k.known; opens = k.opens; config = k.config; all = k.all; owners = k.owners; over = k.over; stopper = k.stopper })
 
-pub told_by : (b v w : Knowledge) → Keeps b v → Told v.config v.all v.owners v.over v.stopper w → Told b.config b.all b.owners b.over b.stopper w
-told_by b v w k t = subst (λ (y : Config × List Entry × List ℕ × Bool × ℕ). Told y.0 y.1 y.2 y.3 y.4 w) (λ i. (k.config i, k.all i, k.owners i, k.over i, k.stopper i)) t
+pub told_by : (b v w : Knowledge) → Keeps b v → IsKnownAtEnd v.config v.all v.owners v.over v.stopper w → IsKnownAtEnd b.config b.all b.owners b.over b.stopper w
+told_by b v w k t = subst (λ (y : Config × List Entry × List ℕ × Bool × ℕ). IsKnownAtEnd y.0 y.1 y.2 y.3 y.4 w) (λ i. (k.config i, k.all i, k.owners i, k.over i, k.stopper i)) t
 
 pub all_map : (P Q : SeatSight → Type 0) (l : List SeatSight) → ((s : SeatSight) → P s → Q s) → AllSeats P l → AllSeats Q l
 all_map P Q [] f all = tt
 all_map P Q (s ∷ ss) f all = (f s all.0, all_map P Q ss f all.1)
 
-pub gathered : (c : Config) (n : ℕ) (d : DeskSight) (v w : Knowledge) (xs now : List SeatSight) (i : ℕ) → IsTaken v d w → v.config ≡ c → v.seats ≡ n
+pub gathered : (c : Config) (n : ℕ) (d : CellStateSight) (v w : Knowledge) (xs now : List SeatSight) (i : ℕ) → IsTaken v d w → v.config ≡ c → v.seats ≡ n
     → now ≡ map ended_sight (take i xs) ++ drop i xs → length xs ≤ i
-    → AllSeats (λ s. Told w.config w.all w.owners w.over w.stopper s.me × IsSound s.me × (s.me.config ≡ w.config)) (map ended_sight (take i xs))
+    → AllSeats (λ s. IsKnownAtEnd w.config w.all w.owners w.over w.stopper s.me × IsSound s.me × (s.me.config ≡ w.config)) (map ended_sight (take i xs))
     → Gathered c n d now
 gathered c n d v w xs now i t config seats is whole all =
     let same : w.config ≡ c = ap (λ (u : Knowledge). u.config) t.now ∙ config in
@@ -43,7 +43,7 @@ gathered c n d v w xs now i t config seats is whole all =
       paired = t.paired ∙ ap length entries;
       owned = subst (λ (k : ℕ). AllBelow k w.owners) seats t.owned;
       within = λ s. subst (λ (k : ℕ). w.stopper < k) seats (t.stopper (over ∙ s));
-      told = subst (λ (y : Config × List Entry × Bool × List SeatSight). AllSeats (λ s. Told y.0 y.1 w.owners y.2 w.stopper s.me × IsSound s.me × (s.me.config ≡ y.0)) y.3) (λ j. (same j, entries j, over j, sym now_is j)) all;
+      told = subst (λ (y : Config × List Entry × Bool × List SeatSight). AllSeats (λ s. IsKnownAtEnd y.0 y.1 w.owners y.2 w.stopper s.me × IsSound s.me × (s.me.config ≡ y.0)) y.3) (λ j. (same j, entries j, over j, sym now_is j)) all;
     }
 
 get_map : (l : List SeatSight) (i : ℕ) (s : SeatSight) → slice_get l i ≡ Some s → slice_get (map ended_sight l) i ≡ Some (ended_sight s)
@@ -54,11 +54,11 @@ get_map (x ∷ xs) (suc i) s e = get_map xs i s e
 pub has_ended : (l : List SeatSight) (k : ℕ) → HasNumber l k → HasNumber (map ended_sight l) k
 has_ended l k h = (h.0, ended_sight h.1, get_map l h.0 h.1 h.2, h.3)
 
-pub one_history : (c : Config) (n : ℕ) (d : DeskSight) (seats : List SeatSight) → Gathered c n d seats → ((k : ℕ) → k < n → HasNumber seats k) → IsOneHistory n d.log seats
+pub one_history : (c : Config) (n : ℕ) (d : CellStateSight) (seats : List SeatSight) → Gathered c n d seats → ((k : ℕ) → k < n → HasNumber seats k) → IsOneHistory n d.log seats
 one_history c n d seats g present =
     let j : Log = d.log in
-    let P : SeatSight → Type 0 = λ s. Told j.config j.entries g.owners d.stopped g.stopper s.me × IsSound s.me × (s.me.config ≡ j.config) in
-    let told : AllSeats P seats = subst (λ (k : Config). AllSeats (λ s. Told k j.entries g.owners d.stopped g.stopper s.me × IsSound s.me × (s.me.config ≡ k)) seats) (sym g.config) g.told in
+    let P : SeatSight → Type 0 = λ s. IsKnownAtEnd j.config j.entries g.owners d.stopped g.stopper s.me × IsSound s.me × (s.me.config ≡ j.config) in
+    let told : AllSeats P seats = subst (λ (k : Config). AllSeats (λ s. IsKnownAtEnd k j.entries g.owners d.stopped g.stopper s.me × IsSound s.me × (s.me.config ≡ k)) seats) (sym g.config) g.told in
     let receipts : AllSeats (λ s. map extract_of s.me.receipts ≡ extracts_of j.config s.me.number g.owners j.entries) seats = all_map P (λ s. map extract_of s.me.receipts ≡ extracts_of j.config s.me.number g.owners j.entries) seats (λ s p. p.0.receipts) told in
     record {
       owners = g.owners;
@@ -97,12 +97,12 @@ all_get_or P (x ∷ xs) (suc i) d all h = all_get_or P xs i d all.1 (omega arith
 
 -- one turn of the loop
 pub one_more_seat : (b v w : Knowledge) (xs seats : List SeatSight) (i : ℕ) (item new : SeatSight) → i < length xs → seats ≡ map ended_sight (take i xs) ++ drop i xs → item ≡ get_or seats i item
-    → new ≡ ended_sight item → Keeps b v → Told v.config v.all v.owners v.over v.stopper new.me → IsSound new.me → item.me.config ≡ b.config
-    → AllSeats (λ s. Told b.config b.all b.owners b.over b.stopper s.me × IsSound s.me × (s.me.config ≡ b.config)) (map ended_sight (take i xs))
+    → new ≡ ended_sight item → Keeps b v → IsKnownAtEnd v.config v.all v.owners v.over v.stopper new.me → IsSound new.me → item.me.config ≡ b.config
+    → AllSeats (λ s. IsKnownAtEnd b.config b.all b.owners b.over b.stopper s.me × IsSound s.me × (s.me.config ≡ b.config)) (map ended_sight (take i xs))
     → (set seats i new ≡ map ended_sight (take (i + 1) xs) ++ drop (i + 1) xs)
-    × AllSeats (λ s. Told b.config b.all b.owners b.over b.stopper s.me × IsSound s.me × (s.me.config ≡ b.config)) (map ended_sight (take (i + 1) xs))
+    × AllSeats (λ s. IsKnownAtEnd b.config b.all b.owners b.over b.stopper s.me × IsSound s.me × (s.me.config ≡ b.config)) (map ended_sight (take (i + 1) xs))
 one_more_seat b v w xs seats i item new lt is at now keeps told sound config all =
-    let P : SeatSight → Type 0 = λ s. Told b.config b.all b.owners b.over b.stopper s.me × IsSound s.me × (s.me.config ≡ b.config) in
+    let P : SeatSight → Type 0 = λ s. IsKnownAtEnd b.config b.all b.owners b.over b.stopper s.me × IsSound s.me × (s.me.config ≡ b.config) in
     let one : P new = (told_by b v new.me keeps told, sound, ap (λ (s : SeatSight). s.me.config) now ∙ config) in
     let here : item ≡ get_or xs i item = at ∙ seam_read xs seats i item lt is in (
       ap (set seats i) now ∙ map_over_more ended_sight xs seats i item lt is at,

@@ -15,7 +15,7 @@ use Rattle.atomic_table.proofs.shared.Seat.TheSendSync as pass
 use Rattle.crossbeam_queue.proofs.array_queue.Slotted.TheSendSync as queue
 use Rattle.std.specs.declared.sync.Wait.{Ghosts as WaitGhosts}
 use Rattle.cells.specs.contracts.cell.Cell as Cell
-use Rattle.cells.specs.contracts.desk.Desk as Desk
+use Rattle.cells.specs.contracts.cell_state.CellState as CellState
 use Rattle.cells.specs.contracts.receipt.Receipt as Receipt
 use Rattle.cells.specs.contracts.seat.Seat as Seat
 use Rattle.cells.specs.contracts.watched.WatchedJournal as WatchedJournal
@@ -34,14 +34,14 @@ module _ (S H P : RattleType) (g : Ghosts S.Denot P.Denot) where
   watched_send : IsSend S → IsSend H → IsSend P → IsSend (WatchedJournal.the_row S H P g)
   watched_send s h p = let a = journal_send S P g s p in search (sendable, crosses, publisher.the_send) depth 40
 
-  desk_send : IsSend S → IsSend H → IsSend P → IsSend (Desk.the_row S H P g)
-  desk_send s h p = let a = watched_send s h p in search (sendable, crosses) depth 40
+  cell_state_send : IsSend S → IsSend H → IsSend P → IsSend (CellState.the_row S H P g)
+  cell_state_send s h p = let a = watched_send s h p in search (sendable, crosses) depth 40
 
   pub seat_send : IsSend S → IsSend H → IsSend P → IsSend (Seat.the_row S H P g)
-  seat_send s h p = let a = desk_send s h p in search (sendable, crosses, pass.the_send, receipt_send) depth 40
+  seat_send s h p = let a = cell_state_send s h p in search (sendable, crosses, pass.the_send, receipt_send) depth 40
 
   pub cell_sync : (k : ShelfGhosts S.Denot P.Denot) (w : WaitGhosts H.Denot) → IsSend S → IsSend H → IsSend P → IsSync (Cell.the_row S H P k g w)
-  cell_sync k w s h p = let a = desk_send s h p in search (sendable, crosses, queue.the_field_sync, config_sync) depth 40
+  cell_sync k w s h p = let a = cell_state_send s h p in search (sendable, crosses, queue.the_field_sync, config_sync) depth 40
 
   pub cell_send : (k : ShelfGhosts S.Denot P.Denot) (w : WaitGhosts H.Denot) → IsSend S → IsSend H → IsSend P → IsSend (Cell.the_row S H P k g w)
-  cell_send k w s h p = let a = desk_send s h p in search (sendable, crosses, queue.the_field_send, config_send) depth 40
+  cell_send k w s h p = let a = cell_state_send s h p in search (sendable, crosses, queue.the_field_send, config_send) depth 40

@@ -10,9 +10,9 @@ use Rattle.atomic_table.proofs.Lists.{at_set}
 use Rattle.types.specs.declared.event.Event.{Event}
 use Rattle.protocol.specs.Hosts.{Config, Entry}
 use Rattle.cells.specs.declared.refusal.CellRefusal.{CellRefusal}
-use Rattle.cells.specs.Receipts.{Applied, Extract, entry_of, extract, extract_of, extracts_from, extracts_of}
-use Rattle.cells.specs.Views.{Denial, DeskSight, Knowledge, nobody}
-use Rattle.cells.specs.Rule.{opener, opened, one_more, seat_of, fresh, ended, note_of, closer_of, shown, desk_at, AllBelow, History, World, Claims, Has, Fits, AllFit, IsOpen, Holds, IsEmpty, taken, IsTaken, Agrees, added, denial, denied, looked, stopped, HasDesk}
+use Rattle.cells.specs.Receipts.{AppliedEvent, Extract, entry_of, extract, extract_of, extracts_from, extracts_of}
+use Rattle.cells.specs.Views.{Denial, CellStateSight, Knowledge, nobody}
+use Rattle.cells.specs.Rule.{opener, opened, one_more, seat_of, fresh, ended, note_of, closer_of, shown, cell_state_at, AllBelow, History, World, Claims, Has, Fits, AllFit, IsOpen, Holds, IsEmpty, taken, IsTaken, Agrees, added, denial, denied, looked, stopped, HasCellState}
 
 off : {A : Type 0} → false ≡ true → A
 off e = absurd (true≢false (sym e))
@@ -37,7 +37,7 @@ at_end [] a b (suc j) e = absurd (some-ne-none b (sym e))
 at_end (x ∷ xs) a b zero e = inl e
 at_end (x ∷ xs) a b (suc j) e = ⊎_elim (λ h. inl h) (λ h. inr (ap suc h.0, h.1)) (at_end xs a b j e)
 
--- the only view before the desk is there
+-- the only view before the cell state is there
 only : (v : Knowledge) (views : List Knowledge) (id : ℕ) → views ≡ opener ∷ [] → get_elem? views id ≡ some v → (id ≡ 0) × (v ≡ opener)
 only v views id is at = go id (subst (λ (l : List Knowledge). get_elem? l id ≡ some v) is at)
   where
@@ -64,13 +64,13 @@ seated g made gone home = record g { past = record g.past { made = made; ended =
 has_seated : (g : World) (made : ℕ) (gone : ℕ → Bool) (home : ℕ → ℕ) (id : ℕ) (v : Knowledge) → Has g id v → Has (seated g made gone home) id v
 has_seated g made gone home id v m = record { free = m.free; holder = m.holder; all = m.all; owners = m.owners; over = m.over; stopper = m.stopper }
 
--- the desk stays where it is
-open_seated : (g : World) (gone : ℕ → Bool) (items : List DeskSight) (views now : List Knowledge) → IsOpen g items views
+-- the cell state stays where it is
+open_seated : (g : World) (gone : ℕ → Bool) (items : List CellStateSight) (views now : List Knowledge) → IsOpen g items views
     → AllFit (seated g g.past.made gone g.home) now → IsOpen (seated g g.past.made gone g.home) items now
 open_seated g gone items views now o fit = record { there = o.there; away = o.away; paired = o.paired; owned = o.owned; stopper = o.stopper; made = o.made; fit = fit }
 
 -- past the opening, the world
-past_opening : (items : List DeskSight) (views : List Knowledge) (id : ℕ) (v : Knowledge) → Holds items views → get_elem? views id ≡ some v → v.known ≡ true → (g : World) × IsOpen g items views
+past_opening : (items : List CellStateSight) (views : List Knowledge) (id : ℕ) (v : Knowledge) → Holds items views → get_elem? views id ≡ some v → v.known ≡ true → (g : World) × IsOpen g items views
 past_opening items views id v h at known =
     ⊎_elim (λ (o : (items ≡ []) × (views ≡ opener ∷ [])). off (sym (ap (λ (u : Knowledge). u.known) (only v views id o.1 at).1) ∙ known)) (λ (g : (g : World) × IsOpen g items views). g) h
 
@@ -85,15 +85,15 @@ empties id v mine items views h at =
     ⊎_elim (λ (m : v.holding ≡ true). w.1.away (f.holding m).free) (λ (m : v.opening ≡ true). off (sym f.opening ∙ m)) mine)
     h
 
--- what is put back is the desk that is named, and the view is then the one that is named
-pub pushed_as : (id : ℕ) (v w next : Knowledge) (d desk : DeskSight) → desk ≡ d → next ≡ w → Pushes Holds 1 id v d (λ u. u ≡ w) → Pushes Holds 1 id v desk (λ u. u ≡ next)
-pushed_as id v w next d desk is named h = subst (λ (y : DeskSight × Knowledge). Pushes Holds 1 id v y.0 (λ u. u ≡ y.1)) (λ i. (sym is i, sym named i)) h
+-- what is put back is the cell state that is named, and the view is then the one that is named
+pub pushed_as : (id : ℕ) (v w next : Knowledge) (d cell_state : CellStateSight) → cell_state ≡ d → next ≡ w → Pushes Holds 1 id v d (λ u. u ≡ w) → Pushes Holds 1 id v cell_state (λ u. u ≡ next)
+pushed_as id v w next d cell_state is named h = subst (λ (y : CellStateSight × Knowledge). Pushes Holds 1 id v y.0 (λ u. u ≡ y.1)) (λ i. (sym is i, sym named i)) h
 
 -- the opening
 abbrev first_world : Config → ℕ → World
 first_world config seats = record { past = record { config = config; seats = seats; entries = []; owners = []; over = false; stopper = 0; made = 0; ended = λ _. false }; home = λ _. 0; free = true; holder = 0; opener = 0 }
 
-pub opens : (id : ℕ) (v : Knowledge) (config : Config) (seats : ℕ) → v.opening ≡ true → Pushes Holds 1 id v (desk_at config seats [] false) (λ w. w ≡ opened config seats)
+pub opens : (id : ℕ) (v : Knowledge) (config : Config) (seats : ℕ) → v.opening ≡ true → Pushes Holds 1 id v (cell_state_at config seats [] false) (λ w. w ≡ opened config seats)
 opens id v config seats opening items views room h at =
     ⊎_elim
     (λ (o : (items ≡ []) × (views ≡ opener ∷ [])).
@@ -103,7 +103,7 @@ opens id v config seats opening items views room h at =
       inr (
         first_world config seats,
         record {
-          there = λ _. ap (λ (l : List DeskSight). l ++ desk_at config seats [] false ∷ []) o.0;
+          there = λ _. ap (λ (l : List CellStateSight). l ++ cell_state_at config seats [] false ∷ []) o.0;
           away = λ f. absurd (true≢false f);
           paired = refl;
           owned = tt;
@@ -143,7 +143,7 @@ same_claims h u w number seen stopped receipts stops closed c = record {
   ended = closed ∙ c.ended ∙ ap h.ended (sym number);
 }
 
--- the desk is taken
+-- the cell state is taken
 pub takes : (id : ℕ) (v : Knowledge) → v.known ≡ true → v.holding ≡ false → Pops Holds id v (λ x w. IsTaken v x w)
 takes id v known away x items views h at =
     let world = past_opening (x ∷ items) views id v h at known in
@@ -151,13 +151,13 @@ takes id v known away x items views h at =
     let o : IsOpen g (x ∷ items) views = world.1 in
     ⊎_elim
     (λ (free : g.free ≡ true).
-    let both : x ∷ items ≡ desk_at g.past.config g.past.seats g.past.entries g.past.over ∷ [] = o.there free in
-    let is : x ≡ desk_at g.past.config g.past.seats g.past.entries g.past.over = cc in
+    let both : x ∷ items ≡ cell_state_at g.past.config g.past.seats g.past.entries g.past.over ∷ [] = o.there free in
+    let is : x ≡ cell_state_at g.past.config g.past.seats g.past.entries g.past.over = cc in
     let none : items ≡ [] = cc in
     let f = o.fit id v at in
     let w : Knowledge = taken v x.log.entries x.stopped g.past.owners g.past.stopper in
-    let all : x.log.entries ≡ g.past.entries = ap (λ (d : DeskSight). d.log.entries) is in
-    let over : x.stopped ≡ g.past.over = ap (λ (d : DeskSight). d.stopped) is in
+    let all : x.log.entries ≡ g.past.entries = ap (λ (d : CellStateSight). d.log.entries) is in
+    let over : x.stopped ≡ g.past.over = ap (λ (d : CellStateSight). d.stopped) is in
     let g' : World = record g { free = false; holder = id } in (
       w,
       inr (
@@ -182,8 +182,8 @@ takes id v known away x items views h at =
         },
       ),
       record {
-        config = ap (λ (d : DeskSight). d.log.config) is ∙ sym (f.known known).0;
-        seats = ap (λ (d : DeskSight). d.seats) is ∙ sym (f.known known).1;
+        config = ap (λ (d : CellStateSight). d.log.config) is ∙ sym (f.known known).0;
+        seats = ap (λ (d : CellStateSight). d.seats) is ∙ sym (f.known known).1;
         now = refl;
         paired = o.paired ∙ sym (ap length all);
         owned = subst (λ (n : ℕ). AllBelow n g.past.owners) (sym (f.known known).1) (below_more g.past.made g.past.seats g.past.owners o.made o.owned);
@@ -240,36 +240,36 @@ others_grow h by e u len apart c = record {
 }
 
 -- another seat that is live or noted has another number
-another : (g : World) (id : ℕ) (v : Knowledge) (j : ℕ) (u : Knowledge) → HasDesk v → Fits g id v → Fits g j u → j ≢ id → (u.live ≡ true) ⊎ (u.claims ≡ true) → u.number ≢ v.number
+another : (g : World) (id : ℕ) (v : Knowledge) (j : ℕ) (u : Knowledge) → HasCellState v → Fits g id v → Fits g j u → j ≢ id → (u.live ≡ true) ⊎ (u.claims ≡ true) → u.number ≢ v.number
 another g id v j u s f k apart is same =
     ⊎_elim
     (λ (l : u.live ≡ true). apart ((k.live l).0 ∙ ap g.home same ∙ sym (f.live s.live).0))
     (λ (l : u.claims ≡ true). let c = k.claims l in off (sym s.closed ∙ (f.live s.live).1.ended ∙ ap g.past.ended (sym same) ∙ sym c.1.ended ∙ c.0))
     is
 
--- ---- the desk comes back
+-- ---- the cell state comes back
 
 -- the view of one who puts it back
-abbrev back : Knowledge → List Entry → Bool → List Applied → List Denial → ℕ → Knowledge
+abbrev back : Knowledge → List Entry → Bool → List AppliedEvent → List Denial → ℕ → Knowledge
 back v seen stop receipts denials stops = record v { holding = false; seen = seen; stopped = stop; receipts = receipts; denials = denials; stops = stops }
 
 -- what was done, with another journal or another mark
 abbrev renewed : History → List Entry → List ℕ → Bool → ℕ → History
 renewed h entries owners over stopper = record h { entries = entries; owners = owners; over = over; stopper = stopper }
 
--- the desk with that history fits it, and so does what was claimed
-record IsBack (past : History) (v : Knowledge) (x : DeskSight) (w : Knowledge) (now : History) : Type 0 where
-  desk : x ≡ desk_at now.config now.seats now.entries now.over
+-- the cell state with that history fits it, and so does what was claimed
+record IsBack (past : History) (v : Knowledge) (x : CellStateSight) (w : Knowledge) (now : History) : Type 0 where
+  cell_state : x ≡ cell_state_at now.config now.seats now.entries now.over
   paired : length now.owners ≡ length now.entries
   owned : AllBelow now.made now.owners
   stopper : now.over ≡ true → now.stopper < now.made
   mine : Claims now w
   others : (u : Knowledge) → u.number ≢ v.number → Claims past u → Claims now u
 
--- a seat puts the desk back with what this makes of the history, if it fits whatever world is open
-gives : (id : ℕ) (v : Knowledge) (x : DeskSight) (seen : List Entry) (stop : Bool) (receipts : List Applied) (denials : List Denial) (stops : ℕ)
-    (entries : History → List Entry) (owners : History → List ℕ) (over : History → Bool) (stopper : History → ℕ) → HasDesk v
-    → ((g : World) (items : List DeskSight) (views : List Knowledge) → IsOpen g items views → Fits g id v → Has g id v → Claims g.past v
+-- a seat puts the cell state back with what this makes of the history, if it fits whatever world is open
+gives : (id : ℕ) (v : Knowledge) (x : CellStateSight) (seen : List Entry) (stop : Bool) (receipts : List AppliedEvent) (denials : List Denial) (stops : ℕ)
+    (entries : History → List Entry) (owners : History → List ℕ) (over : History → Bool) (stopper : History → ℕ) → HasCellState v
+    → ((g : World) (items : List CellStateSight) (views : List Knowledge) → IsOpen g items views → Fits g id v → Has g id v → Claims g.past v
     → IsBack g.past v x (back v seen stop receipts denials stops) (renewed g.past (entries g.past) (owners g.past) (over g.past) (stopper g.past)))
     → Pushes Holds 1 id v x (λ w. w ≡ back v seen stop receipts denials stops)
 gives id v x seen stop receipts denials stops entries owners over stopper s fits items views room h at =
@@ -285,7 +285,7 @@ gives id v x seen stop receipts denials stops entries owners over stopper s fits
       inr (
         g',
         record {
-          there = λ _. ap (λ (l : List DeskSight). l ++ x ∷ []) (o.away has.free) ∙ ap (λ (y : DeskSight). y ∷ []) b.desk;
+          there = λ _. ap (λ (l : List CellStateSight). l ++ x ∷ []) (o.away has.free) ∙ ap (λ (y : CellStateSight). y ∷ []) b.cell_state;
           away = λ t. absurd (true≢false t);
           paired = b.paired;
           owned = b.owned;
@@ -314,14 +314,14 @@ gives id v x seen stop receipts denials stops entries owners over stopper s fits
       refl,
     )
 
-pub adds : (id : ℕ) (v : Knowledge) (r : Applied) → HasDesk v → extract_of r ≡ extract v.config v.all (entry_of r) → Pushes Holds 1 id v (desk_at v.config v.seats (v.all ++ entry_of r ∷ []) v.over) (λ w. w ≡ added v r)
+pub adds : (id : ℕ) (v : Knowledge) (r : AppliedEvent) → HasCellState v → extract_of r ≡ extract v.config v.all (entry_of r) → Pushes Holds 1 id v (cell_state_at v.config v.seats (v.all ++ entry_of r ∷ []) v.over) (λ w. w ≡ added v r)
 adds id v r s is =
     let e : Entry = entry_of r in
-    gives id v (desk_at v.config v.seats (v.all ++ e ∷ []) v.over) (v.all ++ e ∷ []) v.over (v.receipts ++ r ∷ []) v.denials v.stops
+    gives id v (cell_state_at v.config v.seats (v.all ++ e ∷ []) v.over) (v.all ++ e ∷ []) v.over (v.receipts ++ r ∷ []) v.denials v.stops
     (λ past. past.entries ++ e ∷ []) (λ past. past.owners ++ v.number ∷ []) (λ past. past.over) (λ past. past.stopper) s
     (λ g items views o f has c.
     let past = g.past in record {
-      desk = λ i. desk_at ((f.known s.known).0 i) ((f.known s.known).1 i) (has.all i ++ e ∷ []) (has.over i);
+      cell_state = λ i. cell_state_at ((f.known s.known).0 i) ((f.known s.known).1 i) (has.all i ++ e ∷ []) (has.over i);
       paired = length-append past.owners (v.number ∷ []) ∙ ap (λ (n : ℕ). n + 1) o.paired ∙ sym (length-append past.entries (e ∷ []));
       owned = below_snoc past.made v.number past.owners o.owned c.made;
       stopper = o.stopper;
@@ -339,13 +339,13 @@ adds id v r s is =
     })
 
 -- nothing was added, and the view has what else it wants
-sees : (id : ℕ) (v : Knowledge) (denials : List Denial) → HasDesk v
-    → Pushes Holds 1 id v (desk_at v.config v.seats v.all v.over) (λ w. w ≡ back v v.all v.over v.receipts denials v.stops)
+sees : (id : ℕ) (v : Knowledge) (denials : List Denial) → HasCellState v
+    → Pushes Holds 1 id v (cell_state_at v.config v.seats v.all v.over) (λ w. w ≡ back v v.all v.over v.receipts denials v.stops)
 sees id v denials s =
-    gives id v (desk_at v.config v.seats v.all v.over) v.all v.over v.receipts denials v.stops
+    gives id v (cell_state_at v.config v.seats v.all v.over) v.all v.over v.receipts denials v.stops
     (λ past. past.entries) (λ past. past.owners) (λ past. past.over) (λ past. past.stopper) s
     (λ g items views o f has c. record {
-      desk = λ i. desk_at ((f.known s.known).0 i) ((f.known s.known).1 i) (has.all i) (has.over i);
+      cell_state = λ i. cell_state_at ((f.known s.known).0 i) ((f.known s.known).1 i) (has.all i) (has.over i);
       paired = o.paired;
       owned = o.owned;
       stopper = o.stopper;
@@ -353,17 +353,17 @@ sees id v denials s =
       others = λ u apart k. k;
     })
 
-pub denies : (id : ℕ) (v : Knowledge) (event : Event) (refusal : CellRefusal) → HasDesk v → Pushes Holds 1 id v (desk_at v.config v.seats v.all v.over) (λ w. w ≡ denied v event refusal)
+pub denies : (id : ℕ) (v : Knowledge) (event : Event) (refusal : CellRefusal) → HasCellState v → Pushes Holds 1 id v (cell_state_at v.config v.seats v.all v.over) (λ w. w ≡ denied v event refusal)
 denies id v event refusal s = sees id v (v.denials ++ denial event refusal (length v.all) ∷ []) s
 
 -- nothing was done
-pub looks : (id : ℕ) (v : Knowledge) → HasDesk v → Pushes Holds 1 id v (desk_at v.config v.seats v.all v.over) (λ w. w ≡ looked v)
+pub looks : (id : ℕ) (v : Knowledge) → HasCellState v → Pushes Holds 1 id v (cell_state_at v.config v.seats v.all v.over) (λ w. w ≡ looked v)
 looks id v s = sees id v v.denials s
 
 -- the stop mark is set
-pub stops : (id : ℕ) (v : Knowledge) → HasDesk v → Pushes Holds 1 id v (desk_at v.config v.seats v.all true) (λ w. w ≡ stopped v)
+pub stops : (id : ℕ) (v : Knowledge) → HasCellState v → Pushes Holds 1 id v (cell_state_at v.config v.seats v.all true) (λ w. w ≡ stopped v)
 stops id v s =
-    gives id v (desk_at v.config v.seats v.all true) v.all true v.receipts v.denials (suc v.stops)
+    gives id v (cell_state_at v.config v.seats v.all true) v.all true v.receipts v.denials (suc v.stops)
     (λ past. past.entries) (λ past. past.owners) (λ past. true) (λ past. if past.over then past.stopper else v.number) s
     (λ g items views o f has c.
     let past = g.past in
@@ -371,7 +371,7 @@ stops id v s =
     (λ (t : past.over ≡ true). subst (λ (b : Bool). (if b then past.stopper else v.number) < past.made) (sym t) (o.stopper t))
     (λ (t : past.over ≡ false). subst (λ (b : Bool). (if b then past.stopper else v.number) < past.made) (sym t) c.made)
     (is_or_not past.over) in record {
-      desk = λ i. desk_at ((f.known s.known).0 i) ((f.known s.known).1 i) (has.all i) true;
+      cell_state = λ i. cell_state_at ((f.known s.known).0 i) ((f.known s.known).1 i) (has.all i) true;
       paired = o.paired;
       owned = o.owned;
       stopper = λ _. made;
@@ -571,7 +571,7 @@ shows id v other n known live opens claims items views h at apart there =
           (all_set (Fits g) (set views id w) other nobody (fits_idle g other nobody refl refl refl refl refl (λ l. off l)) (λ j u _ e. with_note j u e)),
     )
 
--- the desk that the closer has agrees with the note
+-- the cell state that the closer has agrees with the note
 pub agrees : (id : ℕ) (v : Knowledge) → v.known ≡ true → v.holding ≡ true → v.claims ≡ true → Learns Holds id v (λ items. Agrees v)
 agrees id v known holding claims items views h at =
     let world = past_opening items views id v h at known in

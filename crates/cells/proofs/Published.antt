@@ -8,7 +8,7 @@ use Rattle.protocol.specs.Hosts.{Config, Entry}
 use Rattle.protocol.specs.Networks.{Step}
 use Rattle.protocol.specs.Runs.{IsRun}
 use Rattle.decisions.specs.declared.decision.Decision.{Decision}
-use Rattle.hoststep.specs.Deciding.{Decided, decisions_at, decisions_by, decisions_from, decisions_in}
+use Rattle.hoststep.specs.Deciding.{ExternalizedValue, decisions_at, decisions_by, decisions_from, decisions_in}
 use Rattle.hoststep.specs.Logs.{Log, extended}
 use Rattle.hoststep.specs.declared.recorded.Recorded.{Recorded}
 use Rattle.hoststep.proofs.DecidedOnce.{decisions-few}
@@ -22,19 +22,19 @@ next entries n lt = let one : suc n ≡ n + 1 = omega arith in decisions_from-ne
 pub none_more : (entries : List Entry) (n : ℕ) (p : List Decision × List Decision) → IsPublished entries n p → n < length entries → decisions_at entries n ≡ [] → IsPublished entries (n + 1) p
 none_more entries n p h lt is = record {
   within = omega (arith, lt);
-  all = ap (λ (ds : List Decided). p.0 ++ p.1 ++ map as_published ds) (sym (next entries n lt ∙ ap (λ (ds : List Decided). ds ++ decisions_from entries (n + 1)) is)) ∙ h.all;
+  all = ap (λ (ds : List ExternalizedValue). p.0 ++ p.1 ++ map as_published ds) (sym (next entries n lt ∙ ap (λ (ds : List ExternalizedValue). ds ++ decisions_from entries (n + 1)) is)) ∙ h.all;
 }
 
 -- it decided this, which waits now
-pub one_more_waits : (entries : List Entry) (n : ℕ) (p q : List Decision × List Decision) (d : Decided) → IsPublished entries n p → n < length entries → d ∷ [] ≡ decisions_at entries n
+pub one_more_waits : (entries : List Entry) (n : ℕ) (p q : List Decision × List Decision) (d : ExternalizedValue) → IsPublished entries n p → n < length entries → d ∷ [] ≡ decisions_at entries n
     → q.0 ≡ p.0 → q.1 ≡ p.1 ++ as_published d ∷ [] → IsPublished entries (n + 1) q
 one_more_waits entries n p q d h lt is shown waiting =
     let rest : List Decision = map as_published (decisions_from entries (n + 1)) in
-    let split : decisions_from entries n ≡ d ∷ decisions_from entries (n + 1) = next entries n lt ∙ ap (λ (ds : List Decided). ds ++ decisions_from entries (n + 1)) (sym is) in
+    let split : decisions_from entries n ≡ d ∷ decisions_from entries (n + 1) = next entries n lt ∙ ap (λ (ds : List ExternalizedValue). ds ++ decisions_from entries (n + 1)) (sym is) in
     record {
       within = omega (arith, lt);
       all = (λ i. shown i ++ waiting i ++ rest) ∙ ap (λ (l : List Decision). l ++ rest) (sym (append_assoc p.0 p.1 (as_published d ∷ []))) ∙ append_assoc (p.0 ++ p.1) (as_published d ∷ []) rest
-          ∙ ap (λ (ds : List Decided). p.0 ++ p.1 ++ map as_published ds) (sym split) ∙ h.all;
+          ∙ ap (λ (ds : List ExternalizedValue). p.0 ++ p.1 ++ map as_published ds) (sym split) ∙ h.all;
     }
 
 -- with an entry more
@@ -43,10 +43,10 @@ entry_more entries x n p h =
     let front : List Decision = p.0 ++ p.1 in
     let rest : List Decision = map as_published (decisions_from entries n) in
     let new : List Decision = map as_published (decisions_in x) in
-    let by : decisions_by (entries ++ x ∷ []) ≡ decisions_by entries ++ decisions_in x = decisions_by-append entries (x ∷ []) ∙ ap (λ (ds : List Decided). decisions_by entries ++ ds) (append-nil (decisions_in x)) in
+    let by : decisions_by (entries ++ x ∷ []) ≡ decisions_by entries ++ decisions_in x = decisions_by-append entries (x ∷ []) ∙ ap (λ (ds : List ExternalizedValue). decisions_by entries ++ ds) (append-nil (decisions_in x)) in
     record {
       within = subst (λ (k : ℕ). n ≤ k) (sym (length-append entries (x ∷ []))) (let w = h.within in omega (arith, w));
-      all = ap (λ (ds : List Decided). front ++ map as_published ds) (decisions_from-extended entries x n h.within) ∙ ap (λ (l : List Decision). front ++ l) (map-append as_published (decisions_from entries n) (decisions_in x))
+      all = ap (λ (ds : List ExternalizedValue). front ++ map as_published ds) (decisions_from-extended entries x n h.within) ∙ ap (λ (l : List Decision). front ++ l) (map-append as_published (decisions_from entries n) (decisions_in x))
           ∙ sym (append_assoc front rest new) ∙ ap (λ (l : List Decision). l ++ new) h.all ∙ sym (map-append as_published (decisions_by entries) (decisions_in x)) ∙ ap (map as_published) (sym by);
     }
 
@@ -83,7 +83,7 @@ pub count_next : (entries : List Entry) (n : ℕ) → n < length entries → len
 count_next entries n lt = ap length (next entries n lt) ∙ length-append (decisions_at entries n) (decisions_from entries (n + 1))
 
 -- what came of the attempt to append it
-pub appended : {T E : Type 0} (entries : List Entry) (n : ℕ) (p q : List Decision × List Decision) (d : Decided) (x : Decision) (r : Result T E) (b : Bool) → IsPublished entries n p → n < length entries → d ∷ [] ≡ decisions_at entries n
+pub appended : {T E : Type 0} (entries : List Entry) (n : ℕ) (p q : List Decision × List Decision) (d : ExternalizedValue) (x : Decision) (r : Result T E) (b : Bool) → IsPublished entries n p → n < length entries → d ∷ [] ≡ decisions_at entries n
     → q.0 ≡ p.0 → OnOk r (q.1 ≡ p.1 ++ x ∷ []) → x ≡ as_published d → b ≡ is_ok r → b ≡ true → IsPublished entries (n + 1) q
 appended entries n p q d x (Ok y) b h lt is shown ok same told done = one_more_waits entries n p q d h lt is shown (ok ∙ ap (λ (e : Decision). p.1 ++ e ∷ []) same)
 appended entries n p q d x (Err y) b h lt is shown ok same told done = absurd (true≢false (sym done ∙ told))

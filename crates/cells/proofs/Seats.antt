@@ -14,8 +14,8 @@ use Rattle.types.specs.declared.event.Event.{Event}
 use Rattle.types.specs.declared.event.Out.{Out}
 use Rattle.protocol.specs.Hosts.{Config, Entry}
 use Rattle.cells.specs.declared.refusal.CellRefusal.{CellRefusal}
-use Rattle.cells.specs.Receipts.{Applied, Extract, entry_of, extract, extract_of, receipt}
-use Rattle.cells.specs.Views.{Denial, DeskSight, Knowledge}
+use Rattle.cells.specs.Receipts.{AppliedEvent, Extract, entry_of, extract, extract_of, receipt}
+use Rattle.cells.specs.Views.{Denial, CellStateSight, Knowledge}
 use Rattle.cells.specs.Rule.{denial, IsTaken, added, denied, looked, stopped, fresh}
 use Rattle.cells.specs.Sights.{SeatSight}
 use Rattle.cells.specs.Sounds.{Stands, IsRight, IsWhy, refused_by, AllStand, AllRight, IsRising, IsSound, IsFree, IsSeat}
@@ -38,7 +38,7 @@ take_front a b n p le = ap (λ (l : List Entry). take n l) (sym p.1) ∙ take-ap
 prefix_length : (a b : List Entry) → IsPrefix a b → length a ≤ length b
 prefix_length a b p = let e = ap length p.1 in omega (arith, length-append a p.0)
 
-pub stand_more : (config : Config) (a b : List Entry) (rs : List Applied) → IsPrefix a b → AllStand config a rs → AllStand config b rs
+pub stand_more : (config : Config) (a b : List Entry) (rs : List AppliedEvent) → IsPrefix a b → AllStand config a rs → AllStand config b rs
 stand_more config a b [] p s = tt
 stand_more config a b (r ∷ rs) p s =
     let t = s.0 in
@@ -57,18 +57,18 @@ right_snoc : (config : Config) (a : List Entry) (s : Bool) (ds : List Denial) (d
 right_snoc config a s [] d all one = (one, tt)
 right_snoc config a s (x ∷ xs) d all one = (all.0, right_snoc config a s xs d all.1 one)
 
-stand_snoc : (config : Config) (a : List Entry) (rs : List Applied) (r : Applied) → AllStand config a rs → Stands config a r → AllStand config a (rs ++ r ∷ [])
+stand_snoc : (config : Config) (a : List Entry) (rs : List AppliedEvent) (r : AppliedEvent) → AllStand config a rs → Stands config a r → AllStand config a (rs ++ r ∷ [])
 stand_snoc config a [] r all one = (one, tt)
 stand_snoc config a (x ∷ xs) r all one = (all.0, stand_snoc config a xs r all.1 one)
 
-rising_snoc : (config : Config) (a : List Entry) (n : ℕ) (rs : List Applied) (r : Applied) → IsRising n rs → AllStand config a rs → n ≤ r.number → length a ≤ r.number → IsRising n (rs ++ r ∷ [])
+rising_snoc : (config : Config) (a : List Entry) (n : ℕ) (rs : List AppliedEvent) (r : AppliedEvent) → IsRising n rs → AllStand config a rs → n ≤ r.number → length a ≤ r.number → IsRising n (rs ++ r ∷ [])
 rising_snoc config a n [] r up all le far = (le, tt)
 rising_snoc config a n (x ∷ xs) r up all le far =
     let within : x.number < length a = slice_get_within a x.number all.0.0 all.0.1 in
     (up.0, rising_snoc config a (suc x.number) xs r up.1 all.1 (omega arith) far)
 
--- what a seat claims is right of all that it sees at the desk
-sound_seen : (v : Knowledge) (x : DeskSight) (w : Knowledge) (over : Bool) (stops : ℕ) → IsFree v → IsSound v → IsTaken v x w → (v.stopped ≡ true → over ≡ true)
+-- what a seat claims is right of all that it sees at the cell state
+sound_seen : (v : Knowledge) (x : CellStateSight) (w : Knowledge) (over : Bool) (stops : ℕ) → IsFree v → IsSound v → IsTaken v x w → (v.stopped ≡ true → over ≡ true)
     → IsSound (record w { holding = false; seen = w.all; stopped = over; stops = stops })
 sound_seen v x w over stops f s t up =
     let config : w.config ≡ v.config = ap (λ (u : Knowledge). u.config) t.now in
@@ -76,13 +76,13 @@ sound_seen v x w over stops f s t up =
     let denials : w.denials ≡ v.denials = ap (λ (u : Knowledge). u.denials) t.now in
     let p = t.seen f.live in
     record {
-      stand = subst (λ (y : Config × List Applied). AllStand y.0 w.all y.1) (λ i. (sym config i, sym receipts i)) (stand_more v.config v.seen w.all v.receipts p s.stand);
-      rising = subst (λ (l : List Applied). IsRising 0 l) (sym receipts) s.rising;
+      stand = subst (λ (y : Config × List AppliedEvent). AllStand y.0 w.all y.1) (λ i. (sym config i, sym receipts i)) (stand_more v.config v.seen w.all v.receipts p s.stand);
+      rising = subst (λ (l : List AppliedEvent). IsRising 0 l) (sym receipts) s.rising;
       right = subst (λ (y : Config × List Denial). AllRight y.0 w.all over y.1) (λ i. (sym config i, sym denials i)) (right_more v.config v.seen w.all v.stopped over v.denials p up s.right);
     }
 
 -- a refusal
-sound_denied : (v : Knowledge) (x : DeskSight) (w : Knowledge) (event : Event) (refusal : CellRefusal) → IsFree v → IsSound v → IsTaken v x w → IsWhy x.log.config x.log.entries x.stopped event refusal → IsSound (denied w event refusal)
+sound_denied : (v : Knowledge) (x : CellStateSight) (w : Knowledge) (event : Event) (refusal : CellRefusal) → IsFree v → IsSound v → IsTaken v x w → IsWhy x.log.config x.log.entries x.stopped event refusal → IsSound (denied w event refusal)
 sound_denied v x w event refusal f s t why =
     let all : w.all ≡ x.log.entries = ap (λ (u : Knowledge). u.all) t.now in
     let over : w.over ≡ x.stopped = ap (λ (u : Knowledge). u.over) t.now in
@@ -93,7 +93,7 @@ sound_denied v x w event refusal f s t why =
     record { stand = before.stand; rising = before.rising; right = right_snoc w.config w.all w.over w.denials (denial event refusal (length w.all)) before.right one }
 
 -- an application
-sound_added : (v : Knowledge) (x : DeskSight) (w : Knowledge) (r : Applied) → IsFree v → IsSound v → IsTaken v x w → extract_of r ≡ extract w.config w.all (entry_of r) → IsSound (added w r)
+sound_added : (v : Knowledge) (x : CellStateSight) (w : Knowledge) (r : AppliedEvent) → IsFree v → IsSound v → IsTaken v x w → extract_of r ≡ extract w.config w.all (entry_of r) → IsSound (added w r)
 sound_added v x w r f s t made =
     let e : Entry = entry_of r in
     let number : r.number ≡ length w.all = ap (λ (y : Extract). y.number) made in
@@ -106,11 +106,11 @@ sound_added v x w r f s t made =
       right = right_more w.config w.all (w.all ++ e ∷ []) w.over w.over w.denials (e ∷ [], refl) (λ over. over) before.right;
     }
 
--- the view after the desk was put back: the seat is the same and may act
+-- the view after the cell state was put back: the seat is the same and may act
 abbrev IsBack : Knowledge → Knowledge → Type 0
 IsBack w u = (u.number ≡ w.number) × (u.known ≡ w.known) × (u.live ≡ w.live) × (u.claims ≡ w.claims) × (u.opens ≡ w.opens) × (u.holding ≡ false)
 
-seat_back : (p q r : Pass DeskSight Knowledge) (n : ℕ) (rs now : List Applied) (x : DeskSight) (u : Knowledge) → IsSeat p n rs → IsTaken (view p) x (view q) → q.me.1 ≡ p.me.1 → r.me.1 ≡ q.me.1
+seat_back : (p q r : Pass CellStateSight Knowledge) (n : ℕ) (rs now : List AppliedEvent) (x : CellStateSight) (u : Knowledge) → IsSeat p n rs → IsTaken (view p) x (view q) → q.me.1 ≡ p.me.1 → r.me.1 ≡ q.me.1
     → view r ≡ u → IsBack (view q) u → u.receipts ≡ now → IsSound u → IsSeat r n now
 seat_back p q r n rs now x u s t one two is same receipts sound =
     let f = s.free in
@@ -129,49 +129,49 @@ seat_back p q r n rs now x u s t one two is same receipts sound =
       sound = subst IsSound (sym is) sound;
     }
 
--- the receipts of one that took the desk
-receipts_there : (p q : Pass DeskSight Knowledge) (n : ℕ) (rs : List Applied) (x : DeskSight) → IsSeat p n rs → IsTaken (view p) x (view q) → (view q).receipts ≡ rs
+-- the receipts of one that took the cell state
+receipts_there : (p q : Pass CellStateSight Knowledge) (n : ℕ) (rs : List AppliedEvent) (x : CellStateSight) → IsSeat p n rs → IsTaken (view p) x (view q) → (view q).receipts ≡ rs
 receipts_there p q n rs x s t = ap (λ (y : Knowledge). y.receipts) t.now ∙ s.receipts
 
-pub seat_denied : (p q r : Pass DeskSight Knowledge) (n : ℕ) (rs now : List Applied) (x : DeskSight) (event : Event) (refusal : CellRefusal) → IsSeat p n rs → IsTaken (view p) x (view q) → q.me.1 ≡ p.me.1 → r.me.1 ≡ q.me.1
+pub seat_denied : (p q r : Pass CellStateSight Knowledge) (n : ℕ) (rs now : List AppliedEvent) (x : CellStateSight) (event : Event) (refusal : CellRefusal) → IsSeat p n rs → IsTaken (view p) x (view q) → q.me.1 ≡ p.me.1 → r.me.1 ≡ q.me.1
     → view r ≡ denied (view q) event refusal → now ≡ rs → IsWhy x.log.config x.log.entries x.stopped event refusal → IsSeat r n now
 seat_denied p q r n rs now x event refusal s t one two is same why =
     seat_back p q r n rs now x (denied (view q) event refusal) s t one two is (refl, refl, refl, refl, refl, refl) (receipts_there p q n rs x s t ∙ sym same)
     (sound_denied (view p) x (view q) event refusal s.free s.sound t why)
 
-pub seat_added : (p q r : Pass DeskSight Knowledge) (n : ℕ) (rs now : List Applied) (x : DeskSight) (a : Applied) → IsSeat p n rs → IsTaken (view p) x (view q) → q.me.1 ≡ p.me.1 → r.me.1 ≡ q.me.1
+pub seat_added : (p q r : Pass CellStateSight Knowledge) (n : ℕ) (rs now : List AppliedEvent) (x : CellStateSight) (a : AppliedEvent) → IsSeat p n rs → IsTaken (view p) x (view q) → q.me.1 ≡ p.me.1 → r.me.1 ≡ q.me.1
     → view r ≡ added (view q) a → now ≡ rs ++ a ∷ [] → extract_of a ≡ extract (view q).config (view q).all (entry_of a) → IsSeat r n now
 seat_added p q r n rs now x a s t one two is same made =
     seat_back p q r n rs now x (added (view q) a) s t one two is (refl, refl, refl, refl, refl, refl)
-    (ap (λ (l : List Applied). l ++ a ∷ []) (receipts_there p q n rs x s t) ∙ sym same) (sound_added (view p) x (view q) a s.free s.sound t made)
+    (ap (λ (l : List AppliedEvent). l ++ a ∷ []) (receipts_there p q n rs x s t) ∙ sym same) (sound_added (view p) x (view q) a s.free s.sound t made)
 
--- a receipt that was made at the desk
-pub made_at : (v : Knowledge) (x : DeskSight) (w : Knowledge) (event : Event) (outs : List Out) (a : Applied) → IsTaken v x w → a ≡ receipt x.log.config x.log.entries event outs → extract_of a ≡ extract w.config w.all (entry_of a)
+-- a receipt that was made at the cell state
+pub made_at : (v : Knowledge) (x : CellStateSight) (w : Knowledge) (event : Event) (outs : List Out) (a : AppliedEvent) → IsTaken v x w → a ≡ receipt x.log.config x.log.entries event outs → extract_of a ≡ extract w.config w.all (entry_of a)
 made_at v x w event outs a t is =
     let all : x.log.entries ≡ w.all = sym (ap (λ (u : Knowledge). u.all) t.now) in
     let config : x.log.config ≡ w.config = t.config ∙ sym (ap (λ (u : Knowledge). u.config) t.now) in
     ap extract_of is ∙ (λ i. extract (config i) (all i) (entry_of (sym is i)))
 
 -- what was seen before is a beginning of what is seen after an application
-pub seen_added : (v : Knowledge) (x : DeskSight) (w u : Knowledge) (r : Applied) → IsFree v → IsTaken v x w → u ≡ added w r → IsPrefix v.seen u.seen
+pub seen_added : (v : Knowledge) (x : CellStateSight) (w u : Knowledge) (r : AppliedEvent) → IsFree v → IsTaken v x w → u ≡ added w r → IsPrefix v.seen u.seen
 seen_added v x w u r f t is = let p = t.seen f.live in
     (p.0 ++ entry_of r ∷ [], sym (append_assoc v.seen p.0 (entry_of r ∷ [])) ∙ ap (λ (l : List Entry). l ++ entry_of r ∷ []) p.1 ∙ sym (ap (λ (y : Knowledge). y.seen) is))
 
-pub seat_stopped : (p q r : Pass DeskSight Knowledge) (n : ℕ) (rs : List Applied) (x : DeskSight) → IsSeat p n rs → IsTaken (view p) x (view q) → q.me.1 ≡ p.me.1 → r.me.1 ≡ q.me.1
+pub seat_stopped : (p q r : Pass CellStateSight Knowledge) (n : ℕ) (rs : List AppliedEvent) (x : CellStateSight) → IsSeat p n rs → IsTaken (view p) x (view q) → q.me.1 ≡ p.me.1 → r.me.1 ≡ q.me.1
     → view r ≡ stopped (view q) → IsSeat r n rs
 seat_stopped p q r n rs x s t one two is =
     seat_back p q r n rs rs x (stopped (view q)) s t one two is (refl, refl, refl, refl, refl, refl) (receipts_there p q n rs x s t)
     (sound_seen (view p) x (view q) true (suc (view q).stops) s.free s.sound t (λ _. refl))
 
 -- one that looked
-pub seat_looked : (p q r : Pass DeskSight Knowledge) (n : ℕ) (rs : List Applied) (x : DeskSight) → IsSeat p n rs → IsTaken (view p) x (view q) → q.me.1 ≡ p.me.1 → r.me.1 ≡ q.me.1
+pub seat_looked : (p q r : Pass CellStateSight Knowledge) (n : ℕ) (rs : List AppliedEvent) (x : CellStateSight) → IsSeat p n rs → IsTaken (view p) x (view q) → q.me.1 ≡ p.me.1 → r.me.1 ≡ q.me.1
     → view r ≡ looked (view q) → IsSeat r n rs
 seat_looked p q r n rs x s t one two is =
     seat_back p q r n rs rs x (looked (view q)) s t one two is (refl, refl, refl, refl, refl, refl) (receipts_there p q n rs x s t)
     (sound_seen (view p) x (view q) (view q).over (view q).stops s.free s.sound t (t.stopped s.free.live))
 
 -- a seat that was made just now
-pub seat_fresh : (p : Pass DeskSight Knowledge) (config : Config) (seats n : ℕ) → p.me.1 ≡ [] → view p ≡ fresh config seats n → IsSeat p n []
+pub seat_fresh : (p : Pass CellStateSight Knowledge) (config : Config) (seats n : ℕ) → p.me.1 ≡ [] → view p ≡ fresh config seats n → IsSeat p n []
 seat_fresh p config seats n slot is = record {
   no_slot = slot;
   number = ap (λ (y : Knowledge). y.number) is;
@@ -180,7 +180,7 @@ seat_fresh p config seats n slot is = record {
   sound = subst IsSound (sym is) (record { stand = tt; rising = tt; right = tt });
 }
 
-pub seat_same : (p q : Pass DeskSight Knowledge) (n : ℕ) (rs : List Applied) → IsSeat p n rs → q.me.1 ≡ p.me.1 → view q ≡ view p → IsSeat q n rs
+pub seat_same : (p q : Pass CellStateSight Knowledge) (n : ℕ) (rs : List AppliedEvent) → IsSeat p n rs → q.me.1 ≡ p.me.1 → view q ≡ view p → IsSeat q n rs
 seat_same p q n rs s slot is = record {
   no_slot = slot ∙ s.no_slot;
   number = ap (λ (y : Knowledge). y.number) is ∙ s.number;

@@ -10,12 +10,12 @@ use Rattle.protocol.specs.Runs.{outs_given, refusal_of}
 use Rattle.hoststep.specs.Logs.{IsEntered}
 use Rattle.cells.specs.declared.refusal.CellRefusal.{CellRefusal}
 use Rattle.cells.specs.declared.refusal.CellRefusal.TheVariants.{Closed}
-use Rattle.cells.specs.declared.desk.Entered.{Entered}
+use Rattle.cells.specs.declared.cell_state.Entered.{Entered}
 use Rattle.cells.specs.Receipts.{entry_of, receipt}
 use Rattle.cells.specs.Rule.{denial, fresh}
 use Rattle.cells.specs.Sights.{CellSight, SeatSight}
 use Rattle.cells.specs.Sounds.{IsWhy}
-use Rattle.cells.specs.Views.{DeskSight}
+use Rattle.cells.specs.Views.{CellStateSight}
 
 -- an open seat of this cell
 pub record IsSeatOf (c : CellSight) (s : SeatSight) : Type 0 where
@@ -29,14 +29,14 @@ abbrev pub AllFresh : TableId → Config → ℕ → List SeatSight → Type 0
 AllFresh cell config seats all = (k : ℕ) (s : SeatSight) → slice_get all k ≡ Some s → (s.cell ≡ cell) × (s.me ≡ fresh config seats k)
 
 -- an event was entered in the journal that lies under the lock, and its receipt made
-pub record IsEnteredAt (old : DeskSight) (event : Event) (m : Entered) (new : DeskSight) : Type 0 where
+pub record IsEnteredAt (old : CellStateSight) (event : Event) (m : Entered) (new : CellStateSight) : Type 0 where
   pub running : old.stopped ≡ false
   pub entered : IsEntered old.log (step_of event) m.answer.items
   pub made : m.made.value ≡ receipt old.log.config old.log.entries event m.answer.items
-  pub desk : new ≡ record old { log = record old.log { entries = old.log.entries ++ entry_of m.made.value ∷ [] } }
+  pub cell_state : new ≡ record old { log = record old.log { entries = old.log.entries ++ entry_of m.made.value ∷ [] } }
 
 -- why it was not entered; the stop mark comes first
-abbrev pub IsDenied : DeskSight → Event → CellRefusal → Type 0
+abbrev pub IsDenied : CellStateSight → Event → CellRefusal → Type 0
 IsDenied d event r = IsWhy d.log.config d.log.entries d.stopped event r × ((r ≡ Closed) ↔ (d.stopped ≡ true))
 
 -- The seat gained one receipt, of this event with these outs, and nothing else but what it saw. They are what the event gives out after the

@@ -4,10 +4,10 @@ use mathlib.Core.List.{IsPrefix}
 use Rattle.protocol.specs.Hosts.{Config}
 use Rattle.hoststep.specs.Logs.{Log}
 use Rattle.cells.specs.Receipts.{extract_of, extracts_of}
-use Rattle.cells.specs.Rule.{Told, AllBelow, ended}
+use Rattle.cells.specs.Rule.{IsKnownAtEnd, AllBelow, ended}
 use Rattle.cells.specs.Sights.{SeatSight}
 use Rattle.cells.specs.Sounds.{IsSound, AllStand, AllRight}
-use Rattle.cells.specs.Views.{DeskSight, Knowledge}
+use Rattle.cells.specs.Views.{CellStateSight, Knowledge}
 
 abbrev pub AllSeats : (SeatSight → Type 0) → List SeatSight → Type 0
 AllSeats P [] = Unit {0}
@@ -25,15 +25,15 @@ receipts_in (s ∷ ss) = length s.me.receipts + receipts_in ss
 abbrev pub ended_sight : SeatSight → SeatSight
 ended_sight s = record s { me = ended s.me }
 
--- the desk, and what is known of each seat by it
-pub record Gathered (c : Config) (n : ℕ) (d : DeskSight) (seats : List SeatSight) : Type 0 where
+-- the cell state, and what is known of each seat by it
+pub record Gathered (c : Config) (n : ℕ) (d : CellStateSight) (seats : List SeatSight) : Type 0 where
   pub owners : List ℕ
   pub stopper : ℕ
   pub config : d.log.config ≡ c
   pub paired : length owners ≡ length d.log.entries
   pub owned : AllBelow n owners
   pub within : d.stopped ≡ true → stopper < n
-  pub told : AllSeats (λ s. Told c d.log.entries owners d.stopped stopper s.me × IsSound s.me × (s.me.config ≡ c)) seats
+  pub told : AllSeats (λ s. IsKnownAtEnd c d.log.entries owners d.stopped stopper s.me × IsSound s.me × (s.me.config ≡ c)) seats
 
 -- Each entry is one seat's, and each seat's receipts are its entries. What each seat saw is a beginning. Each denial was right. A mark was
 -- set by some seat. Where no more seats are there than the cell has, there are as many entries as receipts.
@@ -49,7 +49,7 @@ pub record IsOneHistory (n : ℕ) (j : Log) (seats : List SeatSight) : Type 0 wh
   pub right : AllSeats (λ s. AllRight j.config j.entries s.me.stopped s.me.denials) seats
   pub stops : AllSeats (λ s. s.me.stopped ≡ true → (i : ℕ) × (t : SeatSight) × (slice_get seats i ≡ Some t) × (0 < t.me.stops)) seats
 
--- the closer has the desk still
+-- the closer has the cell state still
 pub record Keeps (before after : Knowledge) : Type 0 where
   pub holding : after.holding ≡ true
   pub live : after.live ≡ false

@@ -2,10 +2,10 @@
 use Rattle.std.specs.Prelude.{◌≡◌, ℕ, ◌≤◌, List, ◌++◌, length, map}
 use Rattle.protocol.specs.Hosts.{Entry}
 use Rattle.decisions.specs.declared.decision.Decision.{Decision}
-use Rattle.hoststep.specs.Deciding.{Decided, decisions_by, decisions_from}
+use Rattle.hoststep.specs.Deciding.{ExternalizedValue, decisions_by, decisions_from}
 
 -- a decision, as it is published
-abbrev pub as_published : Decided → Decision
+abbrev pub as_published : ExternalizedValue → Decision
 as_published d = record { slot = d.slot; node = d.node; value = d.value }
 
 -- all that these entries decided, in order

@@ -9,7 +9,7 @@ use Rattle.hoststep.specs.Logs.{marks_of}
 
 -- an event that was applied, with the network and the number of its entry, what it gave out, and the numbers by which a Hear names its
 -- emissions
-pub record Applied : Type 0 where
+pub record AppliedEvent : Type 0 where
   pub network : ℕ
   pub number : ℕ
   pub event : Event
@@ -25,14 +25,14 @@ pub record Extract : Type 0 where
   pub marks : List ℕ
 
 -- the receipt of an event with these outs, after these entries
-abbrev pub receipt : Config → List Entry → Event → List Out → Applied
+abbrev pub receipt : Config → List Entry → Event → List Out → AppliedEvent
 receipt config before event outs = record { network = config.number; number = length before; event = event; outs = outs; marks = marks_of config before (step_of event) }
 
 -- the entry that a receipt is of
-abbrev pub entry_of : Applied → Entry
+abbrev pub entry_of : AppliedEvent → Entry
 entry_of r = record { event = step_of r.event; outs = r.outs }
 
-abbrev pub extract_of : Applied → Extract
+abbrev pub extract_of : AppliedEvent → Extract
 extract_of r = record { network = r.network; number = r.number; step = step_of r.event; outs = r.outs; marks = r.marks }
 
 -- what the receipt of an entry has, after these entries

@@ -1,4 +1,4 @@
--- One history under the lock: what the desk has, and what each seat knows of it.
+-- One history under the lock: what the cell state has, and what each seat knows of it.
 use Rattle.std.specs.Prelude.{◌≡◌, ◌⊎◌, ℕ, suc, ◌<◌, ◌≤◌, Bool, true, false, List, [], ◌∷◌, ◌++◌, length, map}
 use mathlib.Core.Option.{some}
 use mathlib.Core.List.{IsPrefix}
@@ -6,14 +6,14 @@ use lib.ListN.{get_elem?}
 use Rattle.types.specs.declared.event.Event.{Event}
 use Rattle.protocol.specs.Hosts.{Config, Entry}
 use Rattle.cells.specs.declared.refusal.CellRefusal.{CellRefusal}
-use Rattle.cells.specs.Receipts.{Applied, entry_of, extract_of, extracts_of}
-use Rattle.cells.specs.Views.{Denial, DeskSight, Knowledge, nobody}
+use Rattle.cells.specs.Receipts.{AppliedEvent, entry_of, extract_of, extracts_of}
+use Rattle.cells.specs.Views.{Denial, CellStateSight, Knowledge, nobody}
 
 -- the pass with which a lock begins
 abbrev pub opener : Knowledge
 opener = record nobody { opening = true }
 
--- once the desk is there, it makes the seats
+-- once the cell state is there, it makes the seats
 abbrev pub opened : Config → ℕ → Knowledge
 opened config seats = record nobody { opens = true; known = true; config = config; seats = seats }
 
@@ -39,8 +39,8 @@ closer_of v = record nobody { known = true; config = v.config; seats = v.seats }
 abbrev pub shown : Knowledge → Knowledge → Knowledge
 shown v w = record v { claims = w.claims; closed = w.closed; number = w.number; seen = w.seen; stopped = w.stopped; receipts = w.receipts; denials = w.denials; stops = w.stops }
 
-abbrev pub desk_at : Config → ℕ → List Entry → Bool → DeskSight
-desk_at config seats entries over = record { log = record { config = config; entries = entries }; stopped = over; seats = seats }
+abbrev pub cell_state_at : Config → ℕ → List Entry → Bool → CellStateSight
+cell_state_at config seats entries over = record { log = record { config = config; entries = entries }; stopped = over; seats = seats }
 
 -- whose entries they are
 abbrev pub AllBelow : ℕ → List ℕ → Type 0
@@ -74,7 +74,7 @@ pub record Claims (h : History) (v : Knowledge) : Type 0 where
   pub stops : h.over ≡ true → v.number ≡ h.stopper → 0 < v.stops
   pub ended : v.closed ≡ h.ended v.number
 
--- what the one who has the desk knows
+-- what the one who has the cell state knows
 pub record Has (g : World) (id : ℕ) (v : Knowledge) : Type 0 where
   pub free : g.free ≡ false
   pub holder : id ≡ g.holder
@@ -94,8 +94,8 @@ pub record Fits (g : World) (id : ℕ) (v : Knowledge) : Type 0 where
 abbrev pub AllFit : World → List Knowledge → Type 0
 AllFit g views = (id : ℕ) (v : Knowledge) → get_elem? views id ≡ some v → Fits g id v
 
-pub record IsOpen (g : World) (items : List DeskSight) (views : List Knowledge) : Type 0 where
-  pub there : g.free ≡ true → items ≡ desk_at g.past.config g.past.seats g.past.entries g.past.over ∷ []
+pub record IsOpen (g : World) (items : List CellStateSight) (views : List Knowledge) : Type 0 where
+  pub there : g.free ≡ true → items ≡ cell_state_at g.past.config g.past.seats g.past.entries g.past.over ∷ []
   pub away : g.free ≡ false → items ≡ []
   pub paired : length g.past.owners ≡ length g.past.entries
   pub owned : AllBelow g.past.made g.past.owners
@@ -103,18 +103,18 @@ pub record IsOpen (g : World) (items : List DeskSight) (views : List Knowledge) 
   pub made : g.past.made ≤ g.past.seats
   pub fit : AllFit g views
 
--- before the desk is there, or after
-abbrev pub Holds : List DeskSight → List Knowledge → Type 0
+-- before the cell state is there, or after
+abbrev pub Holds : List CellStateSight → List Knowledge → Type 0
 Holds items views = ((items ≡ []) × (views ≡ opener ∷ [])) ⊎ ((g : World) × IsOpen g items views)
 
-abbrev pub IsEmpty : List DeskSight → Type 0
+abbrev pub IsEmpty : List CellStateSight → Type 0
 IsEmpty items = items ≡ []
 
--- what the one who took the desk knows from now on
+-- what the one who took the cell state knows from now on
 abbrev pub taken : Knowledge → List Entry → Bool → List ℕ → ℕ → Knowledge
 taken v all over owners stopper = record v { holding = true; all = all; over = over; owners = owners; stopper = stopper }
 
-pub record IsTaken (v : Knowledge) (x : DeskSight) (w : Knowledge) : Type 0 where
+pub record IsTaken (v : Knowledge) (x : CellStateSight) (w : Knowledge) : Type 0 where
   pub config : x.log.config ≡ v.config
   pub seats : x.seats ≡ v.seats
   pub now : w ≡ taken v x.log.entries x.stopped w.owners w.stopper
@@ -124,19 +124,19 @@ pub record IsTaken (v : Knowledge) (x : DeskSight) (w : Knowledge) : Type 0 wher
   pub seen : v.live ≡ true → IsPrefix v.seen w.all
   pub stopped : v.live ≡ true → v.stopped ≡ true → w.over ≡ true
 
--- what is known of a seat at the end, by the desk
-pub record Told (config : Config) (entries : List Entry) (owners : List ℕ) (over : Bool) (stopper : ℕ) (v : Knowledge) : Type 0 where
+-- what is known of a seat at the end, by the cell state
+pub record IsKnownAtEnd (config : Config) (entries : List Entry) (owners : List ℕ) (over : Bool) (stopper : ℕ) (v : Knowledge) : Type 0 where
   pub seen : IsPrefix v.seen entries
   pub stopped : v.stopped ≡ true → over ≡ true
   pub receipts : map extract_of v.receipts ≡ extracts_of config v.number owners entries
   pub stops : over ≡ true → v.number ≡ stopper → 0 < v.stops
 
--- the desk that the closer has agrees with the note
+-- the cell state that the closer has agrees with the note
 abbrev pub Agrees : Knowledge → Type 0
-Agrees v = Told v.config v.all v.owners v.over v.stopper v
+Agrees v = IsKnownAtEnd v.config v.all v.owners v.over v.stopper v
 
 -- the view after an application, a refusal, a look and a stop
-abbrev pub added : Knowledge → Applied → Knowledge
+abbrev pub added : Knowledge → AppliedEvent → Knowledge
 added v r = record v { holding = false; seen = v.all ++ entry_of r ∷ []; stopped = v.over; receipts = v.receipts ++ r ∷ [] }
 
 abbrev pub denial : Event → CellRefusal → ℕ → Denial
@@ -152,8 +152,8 @@ looked v = record v { holding = false; seen = v.all; stopped = v.over }
 abbrev pub stopped : Knowledge → Knowledge
 stopped v = record v { holding = false; seen = v.all; stopped = true; stops = suc v.stops }
 
--- a seat with the desk
-pub record HasDesk (v : Knowledge) : Type 0 where
+-- a seat with the cell state
+pub record HasCellState (v : Knowledge) : Type 0 where
   pub known : v.known ≡ true
   pub live : v.live ≡ true
   pub claims : v.claims ≡ false

@@ -3,7 +3,7 @@ use Rattle.std.specs.Prelude.{ℕ}
 use Rattle.atomic_table.specs.Seated.{TableId}
 use Rattle.crossbeam_queue.specs.Passes.{Pass, view}
 use Rattle.protocol.specs.Hosts.{Config}
-use Rattle.cells.specs.Views.{DeskSight, Knowledge}
+use Rattle.cells.specs.Views.{CellStateSight, Knowledge}
 
 -- which cell it is, the configuration of its network, and how many seats it has
 pub record CellSight : Type 0 where
@@ -16,5 +16,5 @@ pub record SeatSight : Type 0 where
   pub cell : TableId
   pub me : Knowledge
 
-abbrev pub sight_of : Pass DeskSight Knowledge → SeatSight
+abbrev pub sight_of : Pass CellStateSight Knowledge → SeatSight
 sight_of p = record { cell = p.table_id; me = view p }

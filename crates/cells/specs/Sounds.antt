@@ -8,11 +8,11 @@ use Rattle.protocol.specs.Hosts.{Config, Entry}
 use Rattle.protocol.specs.Runs.{refusal_of}
 use Rattle.cells.specs.declared.refusal.CellRefusal.{CellRefusal}
 use Rattle.cells.specs.declared.refusal.CellRefusal.TheVariants.{Closed, Network}
-use Rattle.cells.specs.Receipts.{Applied, extract, extract_of}
-use Rattle.cells.specs.Views.{Denial, DeskSight, Knowledge}
+use Rattle.cells.specs.Receipts.{AppliedEvent, extract, extract_of}
+use Rattle.cells.specs.Views.{Denial, CellStateSight, Knowledge}
 
 -- the receipt is that of the entry at its number
-abbrev pub Stands : Config → List Entry → Applied → Type 0
+abbrev pub Stands : Config → List Entry → AppliedEvent → Type 0
 Stands config entries r = (e : Entry) × (slice_get entries r.number ≡ Some e) × (extract_of r ≡ extract config (take r.number entries) e)
 
 -- the first refusal that applies to an event after these entries
@@ -27,7 +27,7 @@ IsWhy config entries stopped event r = (r ≡ Network NoMemory) ⊎ ((r ≡ Clos
 abbrev pub IsRight : Config → List Entry → Bool → Denial → Type 0
 IsRight config entries stopped d = (d.length ≤ length entries) × IsWhy config (take d.length entries) stopped d.event d.refusal
 
-abbrev pub AllStand : Config → List Entry → List Applied → Type 0
+abbrev pub AllStand : Config → List Entry → List AppliedEvent → Type 0
 AllStand config entries [] = Unit {0}
 AllStand config entries (r ∷ rs) = Stands config entries r × AllStand config entries rs
 
@@ -36,7 +36,7 @@ AllRight config entries stopped [] = Unit {0}
 AllRight config entries stopped (d ∷ ds) = IsRight config entries stopped d × AllRight config entries stopped ds
 
 -- the numbers rise, from n on
-abbrev pub IsRising : ℕ → List Applied → Type 0
+abbrev pub IsRising : ℕ → List AppliedEvent → Type 0
 IsRising n [] = Unit {0}
 IsRising n (r ∷ rs) = (n ≤ r.number) × IsRising (suc r.number) rs
 
@@ -55,7 +55,7 @@ pub record IsFree (v : Knowledge) : Type 0 where
   pub holding : v.holding ≡ false
 
 -- a pass, a number and receipts that make a seat
-pub record IsSeat (p : Pass DeskSight Knowledge) (n : ℕ) (rs : List Applied) : Type 0 where
+pub record IsSeat (p : Pass CellStateSight Knowledge) (n : ℕ) (rs : List AppliedEvent) : Type 0 where
   pub no_slot : p.me.1 ≡ []
   pub number : (view p).number ≡ n
   pub receipts : (view p).receipts ≡ rs

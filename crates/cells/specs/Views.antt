@@ -4,10 +4,10 @@ use Rattle.types.specs.declared.event.Event.{Event}
 use Rattle.protocol.specs.Hosts.{Config, Entry}
 use Rattle.hoststep.specs.Logs.{Log}
 use Rattle.cells.specs.declared.refusal.CellRefusal.{CellRefusal}
-use Rattle.cells.specs.Receipts.{Applied}
+use Rattle.cells.specs.Receipts.{AppliedEvent}
 
 -- the journal, the stop mark, and how many seats the cell has
-pub record DeskSight : Type 0 where
+pub record CellStateSight : Type 0 where
   pub log : Log
   pub stopped : Bool
   pub seats : ℕ
@@ -19,7 +19,7 @@ pub record Denial : Type 0 where
   pub length : ℕ
 
 -- What a pass knows. It may be the one that a cell begins with (opening), the one that makes the seats (opens), a seat (live), or a note of
--- one (claims), and may have the desk (holding).
+-- one (claims), and may have the cell state (holding).
 pub record Knowledge : Type 0 where
   pub opening : Bool
   pub opens : Bool
@@ -35,10 +35,10 @@ pub record Knowledge : Type 0 where
   -- of a seat: the journal and the mark as it left them last, its receipts and denials, and how often it set the mark
   pub seen : List Entry
   pub stopped : Bool
-  pub receipts : List Applied
+  pub receipts : List AppliedEvent
   pub denials : List Denial
   pub stops : ℕ
-  -- of who has the desk: the journal, whose each entry is, the mark, and who set it first
+  -- of who has the cell state: the journal, whose each entry is, the mark, and who set it first
   pub all : List Entry
   pub owners : List ℕ
   pub over : Bool

@@ -8,7 +8,7 @@
 #![tactic(auto)]
 
 mod cell;
-mod desk;
+mod cell_state;
 mod lock;
 mod receipt;
 mod refusal;

@@ -4,9 +4,9 @@ ghost use Rattle.std.specs.Prelude.{◌≡◌, ◌⊎◌, ◌<◌, true, false, 
 ghost use Rattle.crossbeam_queue.specs.Fifo.{Pushes, Pops, Forks};
 ghost use Rattle.crossbeam_queue.specs.Passes.{view, IsSamePass, IsPassOf, ruled_capacity};
 ghost use Rattle.cells.specs.Receipts.{entry_of, extract, extract_of};
-ghost use Rattle.cells.specs.Rule.{Holds, IsTaken, Agrees, opener, opened, one_more, seat_of, ended, note_of, closer_of, shown, added, denied, looked, stopped, HasDesk, desk_at};
+ghost use Rattle.cells.specs.Rule.{Holds, IsTaken, Agrees, opener, opened, one_more, seat_of, ended, note_of, closer_of, shown, added, denied, looked, stopped, HasCellState, cell_state_at};
 
-use crate::desk::{Desk, Refused};
+use crate::cell_state::{CellState, Refused};
 use crate::receipt::Receipt;
 use crate::rule::{Checks, Closes, Ends, Gives, Lock, Next, SeatPass, Shows, Sits, Takes};
 use envstore::Shelf;
@@ -15,7 +15,7 @@ use std::snapshot::Snapshot;
 use std::sync::Wait;
 use std::thread;
 
-/// A lock with nothing under it yet, and the pass that is to put the desk there. An error says that memory is
+/// A lock with nothing under it yet, and the pass that is to put the cell state there. An error says that memory is
 /// short.
 pub(crate) fn new<S: Shelf, H: Wait + Drop>(
     alloc: Global,
@@ -25,12 +25,12 @@ pub(crate) fn new<S: Shelf, H: Wait + Drop>(
     Lock::ruled(alloc, 1)
 }
 
-/// Waits for the desk.
+/// Waits for the cell state.
 pub(crate) fn take<S: Shelf, H: Wait + Drop, R: Wait>(
     rt: &R,
     lock: &Lock<S, H>,
     pass: &mut SeatPass<S, H>,
-) -> Desk<S, H>
+) -> CellState<S, H>
     requires queue { IsPassOf lock.now pass.old }
     requires known { (view pass.old).known ≡ true }
     requires away { (view pass.old).holding ≡ false }
@@ -38,102 +38,102 @@ pub(crate) fn take<S: Shelf, H: Wait + Drop, R: Wait>(
     ensures rule { IsTaken (view pass.old) result (view pass.new) }
 {
     for _ in rt.forever() {
-        if let Some(desk) = lock.pop_as::<Takes, R>(rt, pass) {
-            return desk;
+        if let Some(cell_state) = lock.pop_as::<Takes, R>(rt, pass) {
+            return cell_state;
         }
         thread::yield_now();
     }
     unreachable!()
 }
 
-/// Puts the desk back. The view is then the one that was named.
+/// Puts the cell state back. The view is then the one that was named.
 pub(crate) fn give<N: Next, S: Shelf, H: Wait + Drop, R: Wait>(
     rt: &R,
     lock: &Lock<S, H>,
     pass: &mut SeatPass<S, H>,
-    desk: Desk<S, H>,
+    cell_state: CellState<S, H>,
 )
     requires queue { IsPassOf lock.now pass.old × (ruled_capacity lock.now ≡ 1) }
     requires mine { ((view pass.old).holding ≡ true) ⊎ ((view pass.old).opening ≡ true) }
-    requires rule { Pushes Holds 1 pass.old.id (view pass.old) desk (λ w. w ≡ N.next) }
+    requires rule { Pushes Holds 1 pass.old.id (view pass.old) cell_state (λ w. w ≡ N.next) }
     ensures queue { IsSamePass pass.old pass.new }
     ensures view { view pass.new ≡ N.next }
 {
-    match lock.push_as::<Gives<N>, R>(rt, pass, desk) {
+    match lock.push_as::<Gives<N>, R>(rt, pass, cell_state) {
         Ok(()) => {}
         Err(_) => unreachable!(),
     }
 }
 
-/// Puts the desk back with one entry more.
+/// Puts the cell state back with one entry more.
 pub(crate) fn add<N: Next, S: Shelf, H: Wait + Drop, R: Wait>(
     rt: &R,
     lock: &Lock<S, H>,
     pass: &mut SeatPass<S, H>,
-    desk: Desk<S, H>,
+    cell_state: CellState<S, H>,
     made: &Snapshot<Receipt>,
 )
     requires queue { IsPassOf lock.now pass.old × (ruled_capacity lock.now ≡ 1) }
-    requires sits { HasDesk (view pass.old) }
-    requires desk { desk ≡ desk_at (view pass.old).config (view pass.old).seats ((view pass.old).all ++ entry_of made.now.value ∷ []) (view pass.old).over }
+    requires sits { HasCellState (view pass.old) }
+    requires cell_state { cell_state ≡ cell_state_at (view pass.old).config (view pass.old).seats ((view pass.old).all ++ entry_of made.now.value ∷ []) (view pass.old).over }
     requires made { extract_of made.now.value ≡ extract (view pass.old).config (view pass.old).all (entry_of made.now.value) }
     requires next { N.next ≡ added (view pass.old) made.now.value }
     ensures queue { IsSamePass pass.old pass.new }
     ensures view { view pass.new ≡ added (view pass.old) made.now.value }
 {
-    give::<N, S, H, R>(rt, lock, pass, desk);
+    give::<N, S, H, R>(rt, lock, pass, cell_state);
 }
 
-/// Puts the desk back as it was, and the refused event is kept in the view.
+/// Puts the cell state back as it was, and the refused event is kept in the view.
 pub(crate) fn deny<N: Next, S: Shelf, H: Wait + Drop, R: Wait>(
     rt: &R,
     lock: &Lock<S, H>,
     pass: &mut SeatPass<S, H>,
-    desk: Desk<S, H>,
+    cell_state: CellState<S, H>,
     refused: &Refused,
 )
     requires queue { IsPassOf lock.now pass.old × (ruled_capacity lock.now ≡ 1) }
-    requires sits { HasDesk (view pass.old) }
-    requires desk { desk ≡ desk_at (view pass.old).config (view pass.old).seats (view pass.old).all (view pass.old).over }
+    requires sits { HasCellState (view pass.old) }
+    requires cell_state { cell_state ≡ cell_state_at (view pass.old).config (view pass.old).seats (view pass.old).all (view pass.old).over }
     requires next { N.next ≡ denied (view pass.old) refused.now.asked.value refused.now.refusal }
     ensures queue { IsSamePass pass.old pass.new }
     ensures view { view pass.new ≡ denied (view pass.old) refused.now.asked.value refused.now.refusal }
 {
-    give::<N, S, H, R>(rt, lock, pass, desk);
+    give::<N, S, H, R>(rt, lock, pass, cell_state);
 }
 
-/// Puts the desk back as it was.
+/// Puts the cell state back as it was.
 pub(crate) fn leave<N: Next, S: Shelf, H: Wait + Drop, R: Wait>(
     rt: &R,
     lock: &Lock<S, H>,
     pass: &mut SeatPass<S, H>,
-    desk: Desk<S, H>,
+    cell_state: CellState<S, H>,
 )
     requires queue { IsPassOf lock.now pass.old × (ruled_capacity lock.now ≡ 1) }
-    requires sits { HasDesk (view pass.old) }
-    requires desk { desk ≡ desk_at (view pass.old).config (view pass.old).seats (view pass.old).all (view pass.old).over }
+    requires sits { HasCellState (view pass.old) }
+    requires cell_state { cell_state ≡ cell_state_at (view pass.old).config (view pass.old).seats (view pass.old).all (view pass.old).over }
     requires next { N.next ≡ looked (view pass.old) }
     ensures queue { IsSamePass pass.old pass.new }
     ensures view { view pass.new ≡ looked (view pass.old) }
 {
-    give::<N, S, H, R>(rt, lock, pass, desk);
+    give::<N, S, H, R>(rt, lock, pass, cell_state);
 }
 
-/// Puts the desk back with the stop mark.
+/// Puts the cell state back with the stop mark.
 pub(crate) fn mark<N: Next, S: Shelf, H: Wait + Drop, R: Wait>(
     rt: &R,
     lock: &Lock<S, H>,
     pass: &mut SeatPass<S, H>,
-    desk: Desk<S, H>,
+    cell_state: CellState<S, H>,
 )
     requires queue { IsPassOf lock.now pass.old × (ruled_capacity lock.now ≡ 1) }
-    requires sits { HasDesk (view pass.old) }
-    requires desk { desk ≡ desk_at (view pass.old).config (view pass.old).seats (view pass.old).all true }
+    requires sits { HasCellState (view pass.old) }
+    requires cell_state { cell_state ≡ cell_state_at (view pass.old).config (view pass.old).seats (view pass.old).all true }
     requires next { N.next ≡ stopped (view pass.old) }
     ensures queue { IsSamePass pass.old pass.new }
     ensures view { view pass.new ≡ stopped (view pass.old) }
 {
-    give::<N, S, H, R>(rt, lock, pass, desk);
+    give::<N, S, H, R>(rt, lock, pass, cell_state);
 }
 
 /// The first thing that the lock gets.
@@ -141,16 +141,16 @@ pub(crate) fn put_first<N: Next, S: Shelf, H: Wait + Drop, R: Wait>(
     rt: &R,
     lock: &Lock<S, H>,
     pass: &mut SeatPass<S, H>,
-    desk: Desk<S, H>,
+    cell_state: CellState<S, H>,
 )
     requires queue { IsPassOf lock.now pass.old × (ruled_capacity lock.now ≡ 1) }
     requires opening { (view pass.old).opening ≡ true }
-    requires desk { desk ≡ desk_at desk.log.config desk.seats [] false }
-    requires next { N.next ≡ opened desk.log.config desk.seats }
+    requires cell_state { cell_state ≡ cell_state_at cell_state.log.config cell_state.seats [] false }
+    requires next { N.next ≡ opened cell_state.log.config cell_state.seats }
     ensures queue { IsSamePass pass.old pass.new }
-    ensures view { view pass.new ≡ opened desk.log.config desk.seats }
+    ensures view { view pass.new ≡ opened cell_state.log.config cell_state.seats }
 {
-    give::<N, S, H, R>(rt, lock, pass, desk);
+    give::<N, S, H, R>(rt, lock, pass, cell_state);
 }
 
 /// The pass of one seat more.
@@ -180,7 +180,7 @@ pub(crate) fn end<S: Shelf, H: Wait + Drop>(
     lock.another::<Ends>(pass)
 }
 
-/// A pass that is to take the desk for good.
+/// A pass that is to take the cell state for good.
 pub(crate) fn closer<S: Shelf, H: Wait + Drop>(
     lock: &Lock<S, H>,
     pass: &mut SeatPass<S, H>,
@@ -193,7 +193,7 @@ pub(crate) fn closer<S: Shelf, H: Wait + Drop>(
     lock.another::<Closes>(pass)
 }
 
-/// The desk that the closer has agrees with the note.
+/// The cell state that the closer has agrees with the note.
 pub(crate) fn compare<S: Shelf, H: Wait + Drop>(
     lock: &Lock<S, H>,
     closer: &mut SeatPass<S, H>,

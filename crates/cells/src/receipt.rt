@@ -19,9 +19,9 @@ pub struct Receipt {
 impl Model for Receipt {
     ghost use Rattle.std.specs.Coded.{codes};
     ghost use Rattle.types.specs.Trees.{members_code};
-    ghost use Rattle.cells.specs.Receipts.{Applied};
+    ghost use Rattle.cells.specs.Receipts.{AppliedEvent};
 
-    ghost Value = { Applied };
+    ghost Value = { AppliedEvent };
 
     ghost coded = { Prim.hlevel (codes, members_code) };
 

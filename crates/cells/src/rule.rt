@@ -2,7 +2,7 @@
 
 ghost use Rattle.std.specs.Prelude.{◌≡◌};
 
-use crate::desk::Desk;
+use crate::cell_state::CellState;
 use crossbeam_queue::protocol::{Join, Lesson, Outcome, Protocol, Split};
 use crossbeam_queue::{Pass, RuledArrayQueue};
 use envstore::Shelf;
@@ -27,7 +27,7 @@ impl Model for PassKnowledge {
 /// The rule of the lock.
 pub struct OneHistory;
 
-impl<S: Shelf, H: Wait + Drop> Protocol<Desk<S, H>, PassKnowledge> for OneHistory {
+impl<S: Shelf, H: Wait + Drop> Protocol<CellState<S, H>, PassKnowledge> for OneHistory {
     ghost use Rattle.cells.specs.Rule.{opener, Holds};
 
     ghost holds = { Holds };
@@ -48,33 +48,33 @@ impl Next for Brand {
     ghost next = { opener };
 }
 
-/// The desk is put back, and the view is the one that was named.
+/// The cell state is put back, and the view is the one that was named.
 pub struct Gives<N> {
     of: std::marker::PhantomData<N>,
 }
 
-impl<N: Next, S: Shelf, H: Wait + Drop> Outcome<Desk<S, H>, PassKnowledge> for Gives<N> {
+impl<N: Next, S: Shelf, H: Wait + Drop> Outcome<CellState<S, H>, PassKnowledge> for Gives<N> {
     ghost use Rattle.std.specs.Prelude.{◌≡◌};
 
     ghost then = { λ v x w. w ≡ N.next };
 }
 
-impl<N: Next, S: Shelf, H: Wait + Drop> Lesson<Desk<S, H>, PassKnowledge> for Gives<N> {
+impl<N: Next, S: Shelf, H: Wait + Drop> Lesson<CellState<S, H>, PassKnowledge> for Gives<N> {
     ghost use Rattle.cells.specs.Rule.{IsEmpty};
 
     ghost fact = { λ v items. IsEmpty items };
 }
 
-/// The desk is taken.
+/// The cell state is taken.
 pub struct Takes;
 
-impl<S: Shelf, H: Wait + Drop> Outcome<Desk<S, H>, PassKnowledge> for Takes {
+impl<S: Shelf, H: Wait + Drop> Outcome<CellState<S, H>, PassKnowledge> for Takes {
     ghost use Rattle.cells.specs.Rule.{IsTaken};
 
     ghost then = { IsTaken };
 }
 
-impl<S: Shelf, H: Wait + Drop> Lesson<Desk<S, H>, PassKnowledge> for Takes {
+impl<S: Shelf, H: Wait + Drop> Lesson<CellState<S, H>, PassKnowledge> for Takes {
     ghost fact = { λ v items. Unit {0} };
 }
 
@@ -100,7 +100,7 @@ impl Split<PassKnowledge> for Ends {
     ghost right = { note_of };
 }
 
-/// A pass that is to take the desk for good.
+/// A pass that is to take the cell state for good.
 pub struct Closes;
 
 impl Split<PassKnowledge> for Closes {
@@ -123,17 +123,17 @@ impl Join<PassKnowledge> for Shows {
     ghost spent = { nobody };
 }
 
-/// The closer compares the note with the desk that it has.
+/// The closer compares the note with the cell state that it has.
 pub struct Checks;
 
-impl<S: Shelf, H: Wait + Drop> Lesson<Desk<S, H>, PassKnowledge> for Checks {
+impl<S: Shelf, H: Wait + Drop> Lesson<CellState<S, H>, PassKnowledge> for Checks {
     ghost use Rattle.cells.specs.Rule.{Agrees};
 
     ghost fact = { λ v items. Agrees v };
 }
 
 /// The lock of a cell.
-pub type Lock<S, H> = RuledArrayQueue<Desk<S, H>, PassKnowledge, OneHistory>;
+pub type Lock<S, H> = RuledArrayQueue<CellState<S, H>, PassKnowledge, OneHistory>;
 
 /// What a thread uses a lock by.
-pub type SeatPass<S, H> = Pass<Desk<S, H>, PassKnowledge>;
+pub type SeatPass<S, H> = Pass<CellState<S, H>, PassKnowledge>;

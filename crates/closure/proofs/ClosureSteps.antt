@@ -7,7 +7,7 @@ use Rattle.protocol.specs.Sets.{Names, among, AreWithin, IsAscending}
 use Rattle.protocol.specs.Satisfaction.{names}
 use Rattle.protocol.specs.Closures.{Rule, Derived, IsClosed}
 use Rattle.protocol.specs.Closures.Derived.{start, given}
-use Rattle.protocol.specs.Networks.{Host, Step, slices_of}
+use Rattle.protocol.specs.Networks.{HostedNode, Step, slices_of}
 use Rattle.protocol.specs.Networks.Reading.{Read, Fault}
 use Rattle.protocol.specs.Networks.Step.{Opens, Closes, Proposes, Delivers, Hears, NominationTimerFires, BallotTimerFires, Reslices}
 use Rattle.protocol.specs.Hosts.{Entry}
@@ -15,7 +15,7 @@ use Rattle.protocol.specs.Isolation.{host_rule, announcement_rules, closure}
 use Rattle.protocol.proofs.Sets.Finite.{among_head, among_tail}
 use Rattle.protocol.proofs.Sets.Contained.{contains_head, contains_tail, contained_cases}
 use Rattle.protocol.proofs.Sets.Derived.{least_is}
-use Rattle.closure.specs.Announcing.{Announced, announced_by, announced_in, announced_at, IsNamedBy, Listed, names_of, IsChained, IsClosureList}
+use Rattle.closure.specs.Announcing.{AnnouncedSlices, announced_by, announced_in, announced_at, IsNamedBy, MemberList, names_of, IsChained, IsClosureList}
 use Rattle.closure.specs.Announcing.IsNamedBy.{configured, learnt}
 use Rattle.closure.specs.Turns.{AllNamesAreMembers}
 use Rattle.protocol.proofs.Sets.Mapped.{mapped_to, mapped_from}
@@ -74,23 +74,23 @@ place_taken (x ∷ xs) (suc k) u h = elim (or_cases (x == u) (among (take k xs) 
 ]
 
 -- ---- hosted nodes
-host_found : (hosts : List Host) (w : ℕ) (q : Slices) → slices_of hosts w ≡ Some q → (h : Host) × Contains hosts h × (h.name ≡ w) × (h.slices ≡ q)
+host_found : (hosts : List HostedNode) (w : ℕ) (q : Slices) → slices_of hosts w ≡ Some q → (h : HostedNode) × Contains hosts h × (h.name ≡ w) × (h.slices ≡ q)
 host_found [] w q e = cc
 host_found (h ∷ hs) w q e = go (h.name == w) refl e (host_found hs w q)
   where
     go : (b : Bool) → (h.name == w) ≡ b → (if b then Some h.slices else slices_of hs w) ≡ Some q
-        → (slices_of hs w ≡ Some q → (g : Host) × Contains hs g × (g.name ≡ w) × (g.slices ≡ q)) → (g : Host) × Contains (h ∷ hs) g × (g.name ≡ w) × (g.slices ≡ q)
+        → (slices_of hs w ≡ Some q → (g : HostedNode) × Contains hs g × (g.name ≡ w) × (g.slices ≡ q)) → (g : HostedNode) × Contains (h ∷ hs) g × (g.name ≡ w) × (g.slices ≡ q)
     go true n s f = (h, contains_head h hs, eqb-true h.name w n, cc)
     go false n s f = let r = f s in (r.0, contains_tail r.0 h hs r.1, r.2, r.3)
 
 -- where names ascend, each hosted node is found by its name
-abbrev host_names : List Host → List ℕ
+abbrev host_names : List HostedNode → List ℕ
 host_names hosts = map (λ h. h.name) hosts
 
-found_host : (hosts : List Host) (g : Host) → IsAscending (host_names hosts) → Contains hosts g → slices_of hosts g.name ≡ Some g.slices
+found_host : (hosts : List HostedNode) (g : HostedNode) → IsAscending (host_names hosts) → Contains hosts g → slices_of hosts g.name ≡ Some g.slices
 found_host [] g up c = absurd (let l = c.1 in omega arith)
 found_host (h ∷ hs) g up c = elim (contained_cases g h hs c) [
-  | inl e ↦ subst (λ (x : Host). slices_of (h ∷ hs) x.name ≡ Some x.slices) e (here (h.name == h.name) (eq-eqb h.name h.name refl))
+  | inl e ↦ subst (λ (x : HostedNode). slices_of (h ∷ hs) x.name ≡ Some x.slices) e (here (h.name == h.name) (eq-eqb h.name h.name refl))
   | inr k ↦ there (h.name == g.name) refl k (found_host hs g (λ i j d l m. up (suc i) (suc j) d (omega arith) (omega arith)) k)
 ]
   where
@@ -101,7 +101,7 @@ found_host (h ∷ hs) g up c = elim (contained_cases g h hs c) [
     there : (b : Bool) → (h.name == g.name) ≡ b → Contains hs g → slices_of hs g.name ≡ Some g.slices → (if b then Some h.slices else slices_of hs g.name) ≡ Some g.slices
     there false e k f = f
     there true e k f =
-        let place = mapped_to (λ (x : Host). x.name) hs g k in
+        let place = mapped_to (λ (x : HostedNode). x.name) hs g k in
         let less = up 0 (suc place.0) g.name (omega arith) (let l = place.1 in omega arith) in
         let same = eqb-true h.name g.name e in
         let at = place.2 in
@@ -109,13 +109,13 @@ found_host (h ∷ hs) g up c = elim (contained_cases g h hs c) [
 
 -- ---- announcements
 -- the rule of an announcement: its sources are receiver and sender, and it gives the names of the slices
-record IsRuleOf (a : Announced) (r : Rule) : Type 0 where
+record IsRuleOf (a : AnnouncedSlices) (r : Rule) : Type 0 where
   sources : (y : ℕ) → IsTrue (among r.sources y) → (a.receiver ≡ y) ⊎ (a.sender ≡ y)
   receiver : IsTrue (among r.sources a.receiver)
   sender : IsTrue (among r.sources a.sender)
   gives : r.gives ≡ names a.slices
 
-of_both : (a : Announced) → IsRuleOf a (record { sources = a.receiver ∷ a.sender ∷ []; gives = names a.slices })
+of_both : (a : AnnouncedSlices) → IsRuleOf a (record { sources = a.receiver ∷ a.sender ∷ []; gives = names a.slices })
 of_both a = record {
   sources = λ y m. elim (or_cases (a.receiver == y) ((a.sender == y) || false) m) [
     | inl k ↦ inl (eqb-true a.receiver y k)
@@ -147,16 +147,16 @@ only_one true r x c = elim (contained_cases x r [] c) [
 only_one false r x c = absurd (let l = c.1 in omega arith)
 
 -- what an event announces has a rule of the closure
-record HasRule (i : ℕ) (s : Step) (a : Announced) : Type 0 where
+record HasRule (i : ℕ) (s : Step) (a : AnnouncedSlices) : Type 0 where
   rule : Rule
   there : Contains {X = Rule} (announcement_rules i s) rule
   is : IsRuleOf a rule
 
-announced_rule : (i : ℕ) (s : Step) (a : Announced) → announced_by s ≡ Some a → a.slot ≡ i → HasRule i s a
+announced_rule : (i : ℕ) (s : Step) (a : AnnouncedSlices) → announced_by s ≡ Some a → a.slot ≡ i → HasRule i s a
 announced_rule i (Delivers u size (Read e)) a h k =
-    let now : Announced = record { slot = e.slot; receiver = u; sender = e.sender; slices = e.slices } in
+    let now : AnnouncedSlices = record { slot = e.slot; receiver = u; sender = e.sender; slices = e.slices } in
     let same : now ≡ a = cc in
-    subst (λ (x : Announced). x.slot ≡ i → HasRule i (Delivers u size (Read e)) x) same (λ q. record {
+    subst (λ (x : AnnouncedSlices). x.slot ≡ i → HasRule i (Delivers u size (Read e)) x) same (λ q. record {
       rule = record { sources = u ∷ e.sender ∷ []; gives = names e.slices };
       there = only (e.slot == i) (record { sources = u ∷ e.sender ∷ []; gives = names e.slices }) (eq-eqb e.slot i q);
       is = of_both now;
@@ -169,9 +169,9 @@ announced_rule i (Hears j u f kind n) a h k = cc
 announced_rule i (NominationTimerFires j u r) a h k = cc
 announced_rule i (BallotTimerFires j u n) a h k = cc
 announced_rule i (Reslices j u new) a h k =
-    let now : Announced = record { slot = j; receiver = u; sender = u; slices = new } in
+    let now : AnnouncedSlices = record { slot = j; receiver = u; sender = u; slices = new } in
     let same : now ≡ a = cc in
-    subst (λ (x : Announced). x.slot ≡ i → HasRule i (Reslices j u new) x) same (λ q. record {
+    subst (λ (x : AnnouncedSlices). x.slot ≡ i → HasRule i (Reslices j u new) x) same (λ q. record {
       rule = record { sources = u ∷ []; gives = names new };
       there = only (j == i) (record { sources = u ∷ []; gives = names new }) (eq-eqb j i q);
       is = of_one j u new;
@@ -179,14 +179,14 @@ announced_rule i (Reslices j u new) a h k =
 
 -- and each rule is that of an announcement
 record IsAnnounced (i : ℕ) (s : Step) (r : Rule) : Type 0 where
-  announcement : Announced
+  announcement : AnnouncedSlices
   by : announced_by s ≡ Some announcement
   at : announcement.slot ≡ i
   is : IsRuleOf announcement r
 
 rule_announced : (i : ℕ) (s : Step) (r : Rule) → Contains (announcement_rules i s) r → IsAnnounced i s r
 rule_announced i (Delivers u size (Read e)) r c =
-    let now : Announced = record { slot = e.slot; receiver = u; sender = e.sender; slices = e.slices } in
+    let now : AnnouncedSlices = record { slot = e.slot; receiver = u; sender = e.sender; slices = e.slices } in
     let o = only_one (e.slot == i) (record { sources = u ∷ e.sender ∷ []; gives = names e.slices }) r c in
     record { announcement = now; by = refl; at = eqb-true e.slot i o.0; is = subst (λ (x : Rule). IsRuleOf now x) (sym o.1) (of_both now) }
 rule_announced i (Delivers u size (Fault n)) r c = absurd (let l = c.1 in omega arith)
@@ -197,19 +197,19 @@ rule_announced i (Hears j u f kind n) r c = absurd (let l = c.1 in omega arith)
 rule_announced i (NominationTimerFires j u x) r c = absurd (let l = c.1 in omega arith)
 rule_announced i (BallotTimerFires j u n) r c = absurd (let l = c.1 in omega arith)
 rule_announced i (Reslices j u new) r c =
-    let now : Announced = record { slot = j; receiver = u; sender = u; slices = new } in
+    let now : AnnouncedSlices = record { slot = j; receiver = u; sender = u; slices = new } in
     let o = only_one (j == i) (record { sources = u ∷ []; gives = names new }) r c in
     record { announcement = now; by = refl; at = eqb-true j i o.0; is = subst (λ (x : Rule). IsRuleOf now x) (sym o.1) (of_one j u new) }
 
 -- what stands at a place of a journal and announces something
-entry_at : (run : List Entry) (n : ℕ) (a : Announced) → announced_at run n ≡ Some a → (x : Entry) × (slice_get run n ≡ Some x) × (announced_by x.event ≡ Some a)
+entry_at : (run : List Entry) (n : ℕ) (a : AnnouncedSlices) → announced_at run n ≡ Some a → (x : Entry) × (slice_get run n ≡ Some x) × (announced_by x.event ≡ Some a)
 entry_at run n a e = go (slice_get run n) refl e
   where
     go : (o : Option Entry) → slice_get run n ≡ o → announced_in o ≡ Some a → (x : Entry) × (slice_get run n ≡ Some x) × (announced_by x.event ≡ Some a)
     go None p q = cc
     go (Some x) p q = (x, p, q)
 
-module _ (hosts : List Host) (i : ℕ) (run : List Entry) where
+module _ (hosts : List HostedNode) (i : ℕ) (run : List Entry) where
   abbrev pub rules : List Rule
   rules = map host_rule hosts ++ flat_map (λ x. announcement_rules i x.event) run
 
@@ -248,11 +248,11 @@ module _ (hosts : List Host) (i : ℕ) (run : List Entry) where
       }
 
   -- ---- each member of a chained list is derived
-  module _ (v : ℕ) (list : Listed) (chained : IsChained hosts i v run list) where
+  module _ (v : ℕ) (list : MemberList) (chained : IsChained hosts i v run list) where
     name_at : (k u : ℕ) → slice_get (names_of list) k ≡ Some u → (m : ℕ × ℕ) × (slice_get list k ≡ Some m) × (m.0 ≡ u)
     name_at k u e = go list k e
       where
-        go : (xs : Listed) (k : ℕ) → slice_get (names_of xs) k ≡ Some u → (m : ℕ × ℕ) × (slice_get xs k ≡ Some m) × (m.0 ≡ u)
+        go : (xs : MemberList) (k : ℕ) → slice_get (names_of xs) k ≡ Some u → (m : ℕ × ℕ) × (slice_get xs k ≡ Some m) × (m.0 ≡ u)
         go [] k e = cc
         go (x ∷ xs) zero e = (x, refl, cc)
         go (x ∷ xs) (suc k) e = go xs k e
@@ -282,7 +282,7 @@ module _ (hosts : List Host) (i : ℕ) (run : List Entry) where
     all_derived u h = let p = place_among (names_of list) u h in derived_below (suc p.0) p.0 u (omega arith) p.1
 
   -- ---- where all is settled, the list is closed
-  all_closed : (v : ℕ) (list : Listed) → IsAscending (host_names hosts) → IsChained hosts i v run list → AllNamesAreMembers hosts i run (names_of list) (names_of list) → IsClosed rules v (among (names_of list))
+  all_closed : (v : ℕ) (list : MemberList) → IsAscending (host_names hosts) → IsChained hosts i v run list → AllNamesAreMembers hosts i run (names_of list) (names_of list) → IsClosed rules v (among (names_of list))
   all_closed v list up chained settled = record {
     start = first_in list chained.first;
     each = λ r c within u g. elim (contained_either r (map host_rule hosts) (flat_map (λ x. announcement_rules i x.event) run) c) [
@@ -291,7 +291,7 @@ module _ (hosts : List Host) (i : ℕ) (run : List Entry) where
     ];
   }
     where
-      first_in : (xs : Listed) → slice_get xs 0 ≡ Some (v, 0) → among (names_of xs) v ≡ true
+      first_in : (xs : MemberList) → slice_get xs 0 ≡ Some (v, 0) → among (names_of xs) v ≡ true
       first_in [] e = cc
       first_in (x ∷ xs) e = let same : x.0 ≡ v = cc in subst (λ w. among (names_of (x ∷ xs)) w ≡ true) same (among_head x.0 (names_of xs))
 
@@ -314,7 +314,7 @@ module _ (hosts : List Host) (i : ℕ) (run : List Entry) where
           settled place.0 a.sender place.1 u (learnt x.0 a at told_by.at refl receiver (subst (λ (ns : List ℕ). IsTrue (among ns u)) told_by.is.gives g))
 
   -- a chained list in which all is settled is the closure
-  pub is_closure : (v : ℕ) (list : Listed) → IsAscending (host_names hosts) → IsChained hosts i v run list → AllNamesAreMembers hosts i run (names_of list) (names_of list) → IsDistinct (λ x y. x == y) (names_of list) → IsClosureList hosts i v run list
+  pub is_closure : (v : ℕ) (list : MemberList) → IsAscending (host_names hosts) → IsChained hosts i v run list → AllNamesAreMembers hosts i run (names_of list) (names_of list) → IsDistinct (λ x y. x == y) (names_of list) → IsClosureList hosts i v run list
   unfolding closure
   is_closure v list up chained settled once = record {
     chained = chained;

@@ -4,11 +4,11 @@ use Rattle.std.proofs.lemmas.Bool.{or_cases, or_left, or_right, and_parts, eq-eq
 use Rattle.types.specs.Trees.{Slices}
 use Rattle.protocol.specs.Sets.{among, AreWithin}
 use Rattle.protocol.specs.Satisfaction.{names}
-use Rattle.protocol.specs.Networks.{Host, slices_of}
+use Rattle.protocol.specs.Networks.{HostedNode, slices_of}
 use Rattle.protocol.specs.Hosts.{Entry}
-use Rattle.closure.specs.Announcing.{Announced, announced_at, IsNamedBy}
+use Rattle.closure.specs.Announcing.{AnnouncedSlices, announced_at, IsNamedBy}
 use Rattle.closure.specs.Announcing.IsNamedBy.{configured, learnt}
-use Rattle.closure.specs.Turns.{Linked, IsIndex, IsGiven, IsReady, added_names, all_added, known_names, last_below, ready_at, sender_at}
+use Rattle.closure.specs.Turns.{PartyIndex, IsIndex, IsGiven, IsReady, added_names, all_added, known_names, last_below, ready_at, sender_at}
 use Rattle.closure.proofs.Noted.{among_append}
 use Rattle.closure.proofs.Walking.{IsWalked, sender_is, walk_begins, walk_goes_on, walk_ends}
 
@@ -27,7 +27,7 @@ of_flat f (x ∷ xs) n u h g = among_append (f x) (flat_map f xs) u ∙ elim (or
   | inr k ↦ or_right (among (f x) u) (among (flat_map f xs) u) (of_flat f xs n u k g)
 ]
 
-module _ (hosts : List Host) (i : ℕ) (run : List Entry) (members : List ℕ) (w : ℕ) where
+module _ (hosts : List HostedNode) (i : ℕ) (run : List Entry) (members : List ℕ) (w : ℕ) where
   -- ---- what an announcement adds
   added_at : ℕ → List ℕ
   added_at n = added_names i members w (announced_at run n)
@@ -36,20 +36,20 @@ module _ (hosts : List Host) (i : ℕ) (run : List Entry) (members : List ℕ) (
   unfolding added_at
   added_sound n u h = go (announced_at run n) refl h
     where
-      told : (a : Announced) (b : Bool) → announced_at run n ≡ Some a → (a.slot == i && (a.sender == w && among members a.receiver)) ≡ b → among (if b then names a.slices else []) u ≡ true → IsNamedBy hosts i run (among members) w u
+      told : (a : AnnouncedSlices) (b : Bool) → announced_at run n ≡ Some a → (a.slot == i && (a.sender == w && among members a.receiver)) ≡ b → among (if b then names a.slices else []) u ≡ true → IsNamedBy hosts i run (among members) w u
       told a false e q g = absurd (false≢true g)
       told a true e q g =
           let p = and_parts (a.slot == i) (a.sender == w && among members a.receiver) q in
           let r = and_parts (a.sender == w) (among members a.receiver) p.1 in
           learnt n a e (eqb-true a.slot i p.0) (eqb-true a.sender w r.0) r.1 g
 
-      go : (o : Option Announced) → announced_at run n ≡ o → among (added_names i members w o) u ≡ true → IsNamedBy hosts i run (among members) w u
+      go : (o : Option AnnouncedSlices) → announced_at run n ≡ o → among (added_names i members w o) u ≡ true → IsNamedBy hosts i run (among members) w u
       go None e g = absurd (false≢true g)
       go (Some a) e g = told a (a.slot == i && (a.sender == w && among members a.receiver)) e refl g
 
-  added_there : (n : ℕ) (a : Announced) (u : ℕ) → announced_at run n ≡ Some a → a.slot ≡ i → a.sender ≡ w → IsTrue (among members a.receiver) → IsTrue (among (names a.slices) u) → among (added_at n) u ≡ true
+  added_there : (n : ℕ) (a : AnnouncedSlices) (u : ℕ) → announced_at run n ≡ Some a → a.slot ≡ i → a.sender ≡ w → IsTrue (among members a.receiver) → IsTrue (among (names a.slices) u) → among (added_at n) u ≡ true
   unfolding added_at
-  added_there n a u e s t r g = ap (λ (o : Option Announced). among (added_names i members w o) u) e ∙ go (a.slot == i) (a.sender == w) (among members a.receiver) (eq-eqb a.slot i s) (eq-eqb a.sender w t) r
+  added_there n a u e s t r g = ap (λ (o : Option AnnouncedSlices). among (added_names i members w o) u) e ∙ go (a.slot == i) (a.sender == w) (among members a.receiver) (eq-eqb a.slot i s) (eq-eqb a.sender w t) r
     where
       go : (x y z : Bool) → x ≡ true → y ≡ true → z ≡ true → among (if (x && (y && z)) then names a.slices else []) u ≡ true
       go true true true p q k = g
@@ -75,7 +75,7 @@ module _ (hosts : List Host) (i : ℕ) (run : List Entry) (members : List ℕ) (
     start = λ u h. ap (λ (xs : List ℕ). among xs u) s ∙ h;
   }
 
-  pub gather_goes_on : (d : Linked) (number : ℕ) (next : Option ℕ) (old new : List ℕ) → IsIndex (sender_at i) run (length run) d → IsGathered next old → next ≡ Some number
+  pub gather_goes_on : (d : PartyIndex) (number : ℕ) (next : Option ℕ) (old new : List ℕ) → IsIndex (sender_at i) run (length run) d → IsGathered next old → next ≡ Some number
       → new ≡ old ++ added_names i members w (announced_at run number) → IsGathered (get_or d.earlier number None) new
   unfolding added_at
   gather_goes_on d number next old new index way there e = record {
@@ -100,7 +100,7 @@ module _ (hosts : List Host) (i : ℕ) (run : List Entry) (members : List ℕ) (
       whole u (learnt n a at t f r g) =
           let Done : ℕ → Type 0 = λ n. AreWithin (among (added_names i members w (announced_at run n))) (among found) in
           walk_ends (sender_at i) run w Done (subst (λ o. IsWalked (sender_at i) run w Done o) e way.walked) n
-          (ap (λ (o : Option Announced). sender_at i o) at ∙ (sender_is i a t ∙ ap Some f)) u (added_there n a u at t f r g)
+          (ap (λ (o : Option AnnouncedSlices). sender_at i o) at ∙ (sender_is i a t ∙ ap Some f)) u (added_there n a u at t f r g)
 
   -- ---- a later turn
   pub given_by_ready : (ready : List (List ℕ)) (place : ℕ) (numbers found : List ℕ) → IsReady hosts i run members ready → place < length ready → slice_get members place ≡ Some w → ready_at ready place ≡ numbers

@@ -8,12 +8,12 @@ use Rattle.std.proofs.lemmas.Map.Made.{length-le_from_is_member}
 use Rattle.std.proofs.lemmas.Option.{slice_get_within, get_or_from_slice_get}
 use Rattle.protocol.specs.Sets.{Names, among, AreWithin}
 use Rattle.protocol.specs.Closures.{IsClosed}
-use Rattle.protocol.specs.Networks.{Host}
+use Rattle.protocol.specs.Networks.{HostedNode}
 use Rattle.protocol.specs.Hosts.{Entry}
 use Rattle.protocol.proofs.Sets.Finite.{among_head, among_tail}
 use Rattle.protocol.proofs.Sets.Least.{given_by_rule}
 use Rattle.protocol.proofs.Sets.Derived.{derived-in}
-use Rattle.closure.specs.Announcing.{IsNamedBy, Listed, names_of, IsNamedBefore, IsChained}
+use Rattle.closure.specs.Announcing.{IsNamedBy, MemberList, names_of, IsNamedBefore, IsChained}
 use Rattle.closure.specs.Announcing.IsNamedBy.{configured, learnt}
 use Rattle.closure.specs.Turns.{NamesAreMembers, AllNamesAreMembers, IsGrown, IsGiven, with_member}
 use Rattle.closure.proofs.Noted.{among_append}
@@ -42,34 +42,34 @@ get_last [] x y (suc k) e h = absurd (omega arith)
 get_last (z ∷ zs) x y zero e h = absurd (omega arith)
 get_last (z ∷ zs) x y (suc k) e h = get_last zs x y k (omega arith) h
 
-pub names_length : (list : Listed) → length (names_of list) ≡ length list
+pub names_length : (list : MemberList) → length (names_of list) ≡ length list
 names_length list = length-map list (λ m. m.0)
 
 -- a list with the same front has the names of the front
-front_names : (old new : Listed) → take (length old) new ≡ old → take (length old) (names_of new) ≡ names_of old
+front_names : (old new : MemberList) → take (length old) new ≡ old → take (length old) (names_of new) ≡ names_of old
 front_names old new kept = take-map (λ m. m.0) (length old) new ∙ ap names_of kept
 
-front_among : (old new : Listed) → take (length old) new ≡ old → AreWithin (among (names_of old)) (among (names_of new))
+front_among : (old new : MemberList) → take (length old) new ≡ old → AreWithin (among (names_of old)) (among (names_of new))
 front_among old new kept u h = taken_among (length old) (names_of new) u (ap (λ (xs : List ℕ). among xs u) (front_names old new kept) ∙ h)
 
-pub front_kept : (old mid new : Listed) → take (length old) mid ≡ old → take (length mid) new ≡ mid → length old ≤ length mid → take (length old) new ≡ old
-front_kept old mid new a b l = sym (take-take (length old) (length mid) new l) ∙ (ap (λ (xs : Listed). take (length old) xs) b ∙ a)
+pub front_kept : (old mid new : MemberList) → take (length old) mid ≡ old → take (length mid) new ≡ mid → length old ≤ length mid → take (length old) new ≡ old
+front_kept old mid new a b l = sym (take-take (length old) (length mid) new l) ∙ (ap (λ (xs : MemberList). take (length old) xs) b ∙ a)
 
 -- ---- who is named stays named where there are more members
-pub named_more : (hosts : List Host) (i : ℕ) (run : List Entry) (one other : Names) (w u : ℕ) → AreWithin one other → IsNamedBy hosts i run one w u → IsNamedBy hosts i run other w u
+pub named_more : (hosts : List HostedNode) (i : ℕ) (run : List Entry) (one other : Names) (w u : ℕ) → AreWithin one other → IsNamedBy hosts i run one w u → IsNamedBy hosts i run other w u
 named_more hosts i run one other w u f (configured q e g) = configured q e g
 named_more hosts i run one other w u f (learnt n a e s t r g) = learnt n a e s t (f a.receiver r) g
 
 -- a list that another begins with is no longer than that
-length_of_front : (old more : Listed) → take (length old) more ≡ old → length old ≤ length more
+length_of_front : (old more : MemberList) → take (length old) more ≡ old → length old ≤ length more
 length_of_front [] more e = omega arith
 length_of_front (x ∷ xs) [] e = cc
 length_of_front (x ∷ xs) (y ∷ ys) e = let rest : take (length xs) ys ≡ xs = cc in let l = length_of_front xs ys rest in omega arith
 
 -- ---- one more member
-module _ (hosts : List Host) (i : ℕ) (run : List Entry) where
-  module _ (v : ℕ) (list : Listed) (x : ℕ × ℕ) (w : ℕ) (chained : IsChained hosts i v run list) (there : slice_get (names_of list) x.1 ≡ Some w) (named : IsNamedBy hosts i run (among (names_of list)) w x.0) where
-    more : Listed
+module _ (hosts : List HostedNode) (i : ℕ) (run : List Entry) where
+  module _ (v : ℕ) (list : MemberList) (x : ℕ × ℕ) (w : ℕ) (chained : IsChained hosts i v run list) (there : slice_get (names_of list) x.1 ≡ Some w) (named : IsNamedBy hosts i run (among (names_of list)) w x.0) where
+    more : MemberList
     more = list ++ x ∷ []
 
     names_more : names_of more ≡ names_of list ++ x.0 ∷ []
@@ -119,21 +119,21 @@ module _ (hosts : List Host) (i : ℕ) (run : List Entry) where
 
   -- ---- a turn
   -- the names up to an index have joined
-  pub record IsJoining (given : List ℕ) (initial now : Listed) (n : ℕ) : Type 0 where
+  pub record IsJoining (given : List ℕ) (initial now : MemberList) (n : ℕ) : Type 0 where
     pub kept : take (length initial) now ≡ initial
     pub longer : length initial ≤ length now
     pub chained : (v : ℕ) → IsChained hosts i v run initial → IsChained hosts i v run now
     pub held : AreWithin (among (take n given)) (among (names_of now))
 
-  pub joining_begins : (given : List ℕ) (list : Listed) → IsJoining given list list 0
+  pub joining_begins : (given : List ℕ) (list : MemberList) → IsJoining given list list 0
   joining_begins given list = record { kept = take_all (length list) list (omega arith); longer = omega arith; chained = λ v c. c; held = λ u h. absurd (false≢true h) }
 
-  module _ (given : List ℕ) (initial now : Listed) (place w n x : ℕ) (way : IsJoining given initial now n) (there : slice_get (names_of initial) place ≡ Some w)
+  module _ (given : List ℕ) (initial now : MemberList) (place w n x : ℕ) (way : IsJoining given initial now n) (there : slice_get (names_of initial) place ≡ Some w)
       (sound : IsGiven hosts i run (names_of initial) w given) (next : slice_get given n ≡ Some x) where
     taken_more : take (n + 1) given ≡ take n given ++ x ∷ []
     taken_more = take_more given n x (slice_get_within given n x next) ∙ ap (λ y. take n given ++ y ∷ []) (get_or_from_slice_get given n x x next)
 
-    held_more : (new : Listed) → AreWithin (among (names_of now)) (among (names_of new)) → among (names_of new) x ≡ true → AreWithin (among (take (n + 1) given)) (among (names_of new))
+    held_more : (new : MemberList) → AreWithin (among (names_of now)) (among (names_of new)) → among (names_of new) x ≡ true → AreWithin (among (take (n + 1) given)) (among (names_of new))
     held_more new f h u m = elim (or_cases (among (take n given) u) (among (x ∷ []) u) (sym (ap (λ (xs : List ℕ). among xs u) taken_more ∙ among_append (take n given) (x ∷ []) u) ∙ m)) [
       | inl k ↦ f u (way.held u k)
       | inr k ↦ elim (or_cases (x == u) false k) [ inl e ↦ subst (λ y. among (names_of new) y ≡ true) (eqb-true x u e) h | inr e ↦ absurd (false≢true e) ]
@@ -161,10 +161,10 @@ module _ (hosts : List Host) (i : ℕ) (run : List Entry) where
     joining_goes_on = joined (among (names_of now) x) refl
 
   -- once all have joined, what is given is there, and all that is named
-  pub all_held : (given : List ℕ) (initial now : Listed) → IsJoining given initial now (length given) → AreWithin (among given) (among (names_of now))
+  pub all_held : (given : List ℕ) (initial now : MemberList) → IsJoining given initial now (length given) → AreWithin (among given) (among (names_of now))
   all_held given initial now way u k = way.held u (ap (λ (xs : List ℕ). among xs u) (take_all (length given) given (omega arith)) ∙ k)
 
-  pub turn_settles : (given : List ℕ) (initial now : Listed) (w : ℕ) → IsJoining given initial now (length given) → IsGiven hosts i run (names_of initial) w given → NamesAreMembers hosts i run (names_of now) (names_of initial) w
+  pub turn_settles : (given : List ℕ) (initial now : MemberList) (w : ℕ) → IsJoining given initial now (length given) → IsGiven hosts i run (names_of initial) w given → NamesAreMembers hosts i run (names_of now) (names_of initial) w
   turn_settles given initial now w way sound u h = elim (sound.complete u h) [
     | inl k ↦ front_among initial now way.kept u k
     | inr k ↦ all_held given initial now way u k
@@ -172,16 +172,16 @@ module _ (hosts : List Host) (i : ℕ) (run : List Entry) where
 
   -- ---- a sweep
   -- the members before a place have had their turn
-  pub record IsSweeping (initial now : Listed) (place : ℕ) : Type 0 where
+  pub record IsSweeping (initial now : MemberList) (place : ℕ) : Type 0 where
     pub kept : take (length initial) now ≡ initial
     pub longer : length initial ≤ length now
     pub chained : (v : ℕ) → IsChained hosts i v run initial → IsChained hosts i v run now
     pub settled : (j w : ℕ) → j < place → slice_get (names_of now) j ≡ Some w → NamesAreMembers hosts i run (names_of now) (names_of initial) w
 
-  pub sweeping_begins : (list : Listed) → IsSweeping list list 0
+  pub sweeping_begins : (list : MemberList) → IsSweeping list list 0
   sweeping_begins list = record { kept = take_all (length list) list (omega arith); longer = omega arith; chained = λ v c. c; settled = λ j w l. absurd (omega arith) }
 
-  pub sweeping_goes_on : (initial now new : Listed) (place v : ℕ) → IsSweeping initial now place → place < length now → IsChained hosts i v run initial
+  pub sweeping_goes_on : (initial now new : MemberList) (place v : ℕ) → IsSweeping initial now place → place < length now → IsChained hosts i v run initial
       → ((x : ℕ) → IsChained hosts i x run now → IsGrown hosts i x run now new)
       → ((w : ℕ) → slice_get (names_of now) place ≡ Some w → NamesAreMembers hosts i run (names_of new) (names_of now) w)
       → IsSweeping initial new (place + 1)
@@ -202,15 +202,15 @@ module _ (hosts : List Host) (i : ℕ) (run : List Entry) where
             ];
       }
 
-  pub sweep_settles : (initial now : Listed) (place : ℕ) → IsSweeping initial now place → length now ≤ place → AllNamesAreMembers hosts i run (names_of now) (names_of initial)
+  pub sweep_settles : (initial now : MemberList) (place : ℕ) → IsSweeping initial now place → length now ≤ place → AllNamesAreMembers hosts i run (names_of now) (names_of initial)
   sweep_settles initial now place way over j w e = way.settled j w (let l = slice_get_within (names_of now) j w e in omega (arith, l, over, names_length now)) e
 
   -- after a sweep, what the members name of the old ones is there
-  pub settled_of_front : (old new : Listed) → take (length old) new ≡ old → AllNamesAreMembers hosts i run (names_of new) (names_of old) → AllNamesAreMembers hosts i run (names_of new) (take (length old) (names_of new))
+  pub settled_of_front : (old new : MemberList) → take (length old) new ≡ old → AllNamesAreMembers hosts i run (names_of new) (names_of old) → AllNamesAreMembers hosts i run (names_of new) (take (length old) (names_of new))
   settled_of_front old new kept settled j w e u h = settled j w e u (subst (λ (xs : List ℕ). IsNamedBy hosts i run (among xs) w u) (front_names old new kept) h)
 
   -- ---- how many members there can be
-  pub members_bound : (v : ℕ) (list : Listed) → IsChained hosts i v run list → IsDistinct (λ x y. x == y) (names_of list) → length list ≤ suc (length (all_given hosts i run))
+  pub members_bound : (v : ℕ) (list : MemberList) → IsChained hosts i v run list → IsDistinct (λ x y. x == y) (names_of list) → length list ≤ suc (length (all_given hosts i run))
   members_bound v list chained once =
       let all = v ∷ all_given hosts i run in
       let closed : IsClosed (rules hosts i run) v (among all) = record {
@@ -229,18 +229,18 @@ one_name xs k u w e h = same (sym e ∙ h)
 
 -- ---- sweep after sweep
 -- a chained list in which all is settled of the members up to a place, where that is not 0
-pub record IsSwept (hosts : List Host) (i v : ℕ) (run : List Entry) (list : Listed) (known : ℕ) : Type 0 where
+pub record IsSwept (hosts : List HostedNode) (i v : ℕ) (run : List Entry) (list : MemberList) (known : ℕ) : Type 0 where
   pub chained : IsChained hosts i v run list
   pub within : known ≤ length list
   pub settled : 0 < known → AllNamesAreMembers hosts i run (names_of list) (take known (names_of list))
 
-first_chained : (hosts : List Host) (i v : ℕ) (run : List Entry) → IsChained hosts i v run ((v, 0) ∷ [])
+first_chained : (hosts : List HostedNode) (i v : ℕ) (run : List Entry) → IsChained hosts i v run ((v, 0) ∷ [])
 first_chained hosts i v run = record { first = refl; later = λ k m e. cc }
 
-pub swept_at_first : (hosts : List Host) (i v : ℕ) (run : List Entry) → IsSwept hosts i v run ((v, 0) ∷ []) 0
+pub swept_at_first : (hosts : List HostedNode) (i v : ℕ) (run : List Entry) → IsSwept hosts i v run ((v, 0) ∷ []) 0
 swept_at_first hosts i v run = record { chained = first_chained hosts i v run; within = omega arith; settled = λ some. absurd (omega arith) }
 
-pub swept_again : (hosts : List Host) (i v : ℕ) (run : List Entry) (old new : Listed) → IsGrown hosts i v run old new → AllNamesAreMembers hosts i run (names_of new) (names_of old) → IsSwept hosts i v run new (length old)
+pub swept_again : (hosts : List HostedNode) (i v : ℕ) (run : List Entry) (old new : MemberList) → IsGrown hosts i v run old new → AllNamesAreMembers hosts i run (names_of new) (names_of old) → IsSwept hosts i v run new (length old)
 swept_again hosts i v run old new grown settled = record {
   chained = grown.chained;
   within = length_of_front old new grown.kept;
@@ -248,12 +248,12 @@ swept_again hosts i v run old new grown settled = record {
 }
 
 -- there is a first member
-some_member : (v : ℕ) (list : Listed) → slice_get list 0 ≡ Some (v, 0) → 0 < length list
+some_member : (v : ℕ) (list : MemberList) → slice_get list 0 ≡ Some (v, 0) → 0 < length list
 some_member v [] e = cc
 some_member v (x ∷ xs) e = omega arith
 
 -- where a sweep added none, all is settled
-pub swept_whole : (hosts : List Host) (i v : ℕ) (run : List Entry) (list : Listed) (known : ℕ) → IsSwept hosts i v run list known → length list ≤ known → AllNamesAreMembers hosts i run (names_of list) (names_of list)
+pub swept_whole : (hosts : List HostedNode) (i v : ℕ) (run : List Entry) (list : MemberList) (known : ℕ) → IsSwept hosts i v run list known → length list ≤ known → AllNamesAreMembers hosts i run (names_of list) (names_of list)
 swept_whole hosts i v run list known swept over =
     let all : take known (names_of list) ≡ names_of list = take_all known (names_of list) (omega (arith, over, names_length list)) in
     let some = some_member v list swept.chained.first in

@@ -3,33 +3,33 @@ use Rattle.std.proofs.Common.{◌≡◌, ℕ, suc, ◌+◌, ◌<◌, ◌==◌, L
 use Rattle.std.proofs.lemmas.Bool.{cases_lt}
 use Rattle.std.proofs.lemmas.List.{get_or_append_left, get_or_push, length_push}
 use Rattle.protocol.specs.Hosts.{Entry}
-use Rattle.closure.specs.Announcing.{Announced, announced_at}
-use Rattle.closure.specs.Turns.{Linked, IsLinkedTo, IsIndex, found_by, is_this, last_below}
+use Rattle.closure.specs.Announcing.{AnnouncedSlices, announced_at}
+use Rattle.closure.specs.Turns.{PartyIndex, IsIndexedTo, IsIndex, found_by, is_this, last_below}
 
-module _ (party : Option Announced → Option ℕ) (run : List Entry) where
+module _ (party : Option AnnouncedSlices → Option ℕ) (run : List Entry) where
   pub index_none : IsIndex party run 0 (record { latest = []; earlier = [] })
   index_none = record { counted = refl; latest = λ w. refl; earlier = λ k w l e. absurd (omega arith) }
 
-  module _ (n : ℕ) (d e : Linked) (was : IsIndex party run n d) where
-    counted_more : (o : Option ℕ) → IsLinkedTo d e o → length e.earlier ≡ suc n
+  module _ (n : ℕ) (d e : PartyIndex) (was : IsIndex party run n d) where
+    counted_more : (o : Option ℕ) → IsIndexedTo d e o → length e.earlier ≡ suc n
     counted_more None h = ap length h.1 ∙ (length_push d.earlier None ∙ omega (arith, was.counted))
     counted_more (Some w) h = ap length h.1 ∙ (length_push d.earlier (found_by d.latest w) ∙ omega (arith, was.counted))
 
-    latest_more : (o : Option ℕ) → IsLinkedTo d e o → (w : ℕ) → found_by e.latest w ≡ (if is_this w o then Some n else last_below party run w n)
+    latest_more : (o : Option ℕ) → IsIndexedTo d e o → (w : ℕ) → found_by e.latest w ≡ (if is_this w o then Some n else last_below party run w n)
     latest_more None h w = ap (λ (xs : List (ℕ × ℕ)). found_by xs w) h.0 ∙ was.latest w
     latest_more (Some u) h w = h.0 w ∙ (λ j. if (u == w) then Some (was.counted j) else was.latest w j)
 
-    earlier_before : (o : Option ℕ) → IsLinkedTo d e o → (k : ℕ) → k < n → get_or e.earlier k None ≡ get_or d.earlier k None
+    earlier_before : (o : Option ℕ) → IsIndexedTo d e o → (k : ℕ) → k < n → get_or e.earlier k None ≡ get_or d.earlier k None
     earlier_before None h k l = ap (λ (xs : List (Option ℕ)). get_or xs k None) h.1 ∙ get_or_append_left d.earlier (None ∷ []) None k (omega (arith, l, was.counted))
     earlier_before (Some u) h k l = ap (λ (xs : List (Option ℕ)). get_or xs k None) h.1 ∙ get_or_append_left d.earlier (found_by d.latest u ∷ []) None k (omega (arith, l, was.counted))
 
-    earlier_last : (o : Option ℕ) → IsLinkedTo d e o → (w : ℕ) → o ≡ Some w → get_or e.earlier n None ≡ last_below party run w n
+    earlier_last : (o : Option ℕ) → IsIndexedTo d e o → (w : ℕ) → o ≡ Some w → get_or e.earlier n None ≡ last_below party run w n
     earlier_last None h w q = cc
     earlier_last (Some u) h w q =
         let same : u ≡ w = cc in
         ap (λ (xs : List (Option ℕ)). get_or xs n None) h.1 ∙ (get_or_push d.earlier (found_by d.latest u) None n was.counted ∙ (was.latest u ∙ ap (λ x. last_below party run x n) same))
 
-    pub index_more : IsLinkedTo d e (party (announced_at run n)) → IsIndex party run (n + 1) e
+    pub index_more : IsIndexedTo d e (party (announced_at run n)) → IsIndex party run (n + 1) e
     index_more h = subst (λ m. IsIndex party run m e) (sym (add-one n)) (record {
       counted = counted_more (party (announced_at run n)) h;
       latest = latest_more (party (announced_at run n)) h;

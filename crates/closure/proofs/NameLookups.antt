@@ -13,7 +13,7 @@ use Rattle.types.specs.contracts.node_id.NodeIdPartialEq.TheImpl.{ghosts as equa
 use Rattle.types.proofs.NameOrder.{name_eq_is}
 use Rattle.protocol.specs.Sets.{among}
 use Rattle.closure.specs.Announcing.{names_of}
-use Rattle.closure.specs.Turns.{Linked, IsLinkedTo, found_by, with_member}
+use Rattle.closure.specs.Turns.{PartyIndex, IsIndexedTo, found_by, with_member}
 
 flips : (x y : ℕ) → (x == y) ≡ (y == x)
 flips x y = grind (arith, nat_tests)
@@ -100,14 +100,14 @@ there_is es k p h = go (among (names_of es) k) h
     go false e = absurd (true≢false (sym e))
 
 -- ---- one more entry of the index
-pub linked_none : (old new : Linked) (sender before : Option ℕ) → sender ≡ None → before ≡ None → new.latest ≡ old.latest → new.earlier ≡ old.earlier ++ before ∷ [] → IsLinkedTo old new sender
+pub linked_none : (old new : PartyIndex) (sender before : Option ℕ) → sender ≡ None → before ≡ None → new.latest ≡ old.latest → new.earlier ≡ old.earlier ++ before ∷ [] → IsIndexedTo old new sender
 linked_none old new None before s b l e = (l, subst (λ o. new.earlier ≡ old.earlier ++ o ∷ []) b e)
 linked_none old new (Some w) before s b l e = cc
 
-pub linked_some : (old new : Linked) (w : ℕ) (sender before : Option ℕ) → sender ≡ Some w → before ≡ lookup (equal.eq w) old.latest
-    → ((u : ℕ) → lookup (equal.eq u) new.latest ≡ cond (equal.eq w u) (Some (length old.earlier)) (lookup (equal.eq u) old.latest)) → new.earlier ≡ old.earlier ++ before ∷ [] → IsLinkedTo old new sender
+pub linked_some : (old new : PartyIndex) (w : ℕ) (sender before : Option ℕ) → sender ≡ Some w → before ≡ lookup (equal.eq w) old.latest
+    → ((u : ℕ) → lookup (equal.eq u) new.latest ≡ cond (equal.eq w u) (Some (length old.earlier)) (lookup (equal.eq u) old.latest)) → new.earlier ≡ old.earlier ++ before ∷ [] → IsIndexedTo old new sender
 linked_some old new w sender before s b l e =
-    subst (λ o. IsLinkedTo old new o) (sym s) (
+    subst (λ o. IsIndexedTo old new o) (sym s) (
       λ u. put_is u w old.latest new.latest (length old.earlier) (l u),
       e ∙ ap (λ (o : Option ℕ). old.earlier ++ o ∷ []) (b ∙ found_is w old.latest),
     )

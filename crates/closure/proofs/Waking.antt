@@ -6,11 +6,11 @@ use Rattle.std.proofs.lemmas.List.{length_push, map_push}
 use Rattle.std.proofs.lemmas.Map.Keys.{apart_from_distinct}
 use Rattle.std.proofs.lemmas.Option.{slice_get_within, get_or_from_slice_get}
 use Rattle.protocol.specs.Sets.{among, AreWithin}
-use Rattle.protocol.specs.Networks.{Host}
+use Rattle.protocol.specs.Networks.{HostedNode}
 use Rattle.protocol.specs.Hosts.{Entry}
-use Rattle.closure.specs.Announcing.{Announced, announced_at, IsNamedBy, Listed, names_of}
+use Rattle.closure.specs.Announcing.{AnnouncedSlices, announced_at, IsNamedBy, MemberList, names_of}
 use Rattle.closure.specs.Announcing.IsNamedBy.{configured, learnt}
-use Rattle.closure.specs.Turns.{Linked, AreMore, AreWoken, IsDue, IsFor, IsGiven, IsIndex, IsJoined, AreCovered, IsReady, last_below, ready_at, receiver_at, turned, with_member, with_ready}
+use Rattle.closure.specs.Turns.{PartyIndex, AreMore, AreWoken, IsDue, IsFor, IsGiven, IsIndex, IsJoined, AreCovered, IsReady, last_below, ready_at, receiver_at, turned, with_member, with_ready}
 use Rattle.closure.proofs.Noted.{among_append}
 use Rattle.closure.proofs.ClosureSteps.{among_at}
 use Rattle.closure.proofs.Growing.{get_appended, one_name}
@@ -34,19 +34,19 @@ one_place xs j k u once e h = elim (cases_lt j k) [
         let two : get_or xs n 0 ≡ u = get_or_from_slice_get xs n u 0 b in
         true≢false (sym (eq-eqb (get_or xs m 0) (get_or xs n 0) (one ∙ sym two)) ∙ apart_from_distinct (λ x y. x == y) xs m n 0 once l (slice_get_within xs n u b))
 
-pub for_more : (members : List ℕ) (old new : List (List ℕ)) (n : ℕ) (o : Option Announced) → AreMore old new → IsFor members old n o → IsFor members new n o
+pub for_more : (members : List ℕ) (old new : List (List ℕ)) (n : ℕ) (o : Option AnnouncedSlices) → AreMore old new → IsFor members old n o → IsFor members new n o
 for_more members old new n o more is a j e at l = more.kept j n (is a j e at (omega (arith, l, more.counted)))
 
-pub for_stranger : (members : List ℕ) (ready : List (List ℕ)) (n : ℕ) (told : Announced) (o : Option Announced) → Some told ≡ o → IsFalse (among members told.sender) → IsFor members ready n o
+pub for_stranger : (members : List ℕ) (ready : List (List ℕ)) (n : ℕ) (told : AnnouncedSlices) (o : Option AnnouncedSlices) → Some told ≡ o → IsFalse (among members told.sender) → IsFor members ready n o
 for_stranger members ready n told o e none a j h at l =
     let same : a ≡ told = cc in
-    absurd (true≢false (sym (among_at members j told.sender (subst (λ (x : Announced). slice_get members j ≡ Some x.sender) same at)) ∙ none))
+    absurd (true≢false (sym (among_at members j told.sender (subst (λ (x : AnnouncedSlices). slice_get members j ≡ Some x.sender) same at)) ∙ none))
 
-pub for_sender : (members : List ℕ) (ready new : List (List ℕ)) (n place : ℕ) (told : Announced) (o : Option Announced) → IsDistinct (λ x y. x == y) members → Some told ≡ o → slice_get members place ≡ Some told.sender
+pub for_sender : (members : List ℕ) (ready new : List (List ℕ)) (n place : ℕ) (told : AnnouncedSlices) (o : Option AnnouncedSlices) → IsDistinct (λ x y. x == y) members → Some told ≡ o → slice_get members place ≡ Some told.sender
     → new ≡ with_ready ready place n → IsFor members new n o
 for_sender members ready new n place told o once e there put a j h at l =
     let same : a ≡ told = cc in
-    let here : j ≡ place = one_place members j place told.sender once (subst (λ (x : Announced). slice_get members j ≡ Some x.sender) same at) there in
+    let here : j ≡ place = one_place members j place told.sender once (subst (λ (x : AnnouncedSlices). slice_get members j ≡ Some x.sender) same at) there in
     subst (λ (r : List (List ℕ)). IsTrue (among (ready_at r j) n)) (sym put) (subst (λ k. IsTrue (among (ready_at (with_ready ready place n) k) n)) (sym here)
     (put_there ready place n (omega (arith, l, here, ap length put, (put_more ready place n).counted))))
 
@@ -63,7 +63,7 @@ module _ (i : ℕ) (run : List Entry) (members : List ℕ) (u : ℕ) (initial : 
   pub waking_begins : (next : Option ℕ) → next ≡ last_below (receiver_at i) run u (length run) → IsWaking next initial
   waking_begins next e = record { walked = walk_begins (receiver_at i) run u (λ n. IsFor members initial n (announced_at run n)) next refl e; more = more_same initial }
 
-  pub waking_goes_on : (d : Linked) (number : ℕ) (next : Option ℕ) (old new : List (List ℕ)) → IsIndex (receiver_at i) run (length run) d → IsWaking next old → next ≡ Some number
+  pub waking_goes_on : (d : PartyIndex) (number : ℕ) (next : Option ℕ) (old new : List (List ℕ)) → IsIndex (receiver_at i) run (length run) d → IsWaking next old → next ≡ Some number
       → AreMore old new → IsFor members new number (announced_at run number) → IsWaking (get_or d.earlier number None) new
   waking_goes_on d number next old new index way there more now = record {
     walked = walk_goes_on (receiver_at i) run u d index number next (λ n. IsFor members old n (announced_at run n)) way.walked there (λ n. IsFor members new n (announced_at run n))
@@ -75,7 +75,7 @@ module _ (i : ℕ) (run : List Entry) (members : List ℕ) (u : ℕ) (initial : 
   waking_ends next ready e way n a at s r =
       let Done : ℕ → Type 0 = λ m. IsFor members ready m (announced_at run m) in
       subst (λ o. IsFor members ready n o) at (walk_ends (receiver_at i) run u Done (subst (λ o. IsWalked (receiver_at i) run u Done o) e way.walked) n
-      (ap (λ (o : Option Announced). receiver_at i o) at ∙ (receiver_is i a s ∙ ap Some r)))
+      (ap (λ (o : Option AnnouncedSlices). receiver_at i o) at ∙ (receiver_is i a s ∙ ap Some r)))
 
 -- ---- one more member
 record IsLonger (old new : List ℕ) (x : ℕ) : Type 0 where
@@ -98,7 +98,7 @@ longer_push xs x none = record {
   ];
 }
 
-longer_member : (old : Listed) (x place : ℕ) → IsLonger (names_of old) (names_of (with_member old x place)) x
+longer_member : (old : MemberList) (x place : ℕ) → IsLonger (names_of old) (names_of (with_member old x place)) x
 longer_member old x place = go (among (names_of old) x) refl
   where
     go : (b : Bool) → among (names_of old) x ≡ b → IsLonger (names_of old) (names_of (if b then old else old ++ (x, place) ∷ [])) x
@@ -106,7 +106,7 @@ longer_member old x place = go (among (names_of old) x) refl
     go false e = subst (λ (xs : List ℕ). IsLonger (names_of old) xs x) (sym (map_push (λ m. m.0) old (x, place))) (longer_push (names_of old) x e)
 
 -- ---- what is kept
-module _ (hosts : List Host) (i : ℕ) (run : List Entry) where
+module _ (hosts : List HostedNode) (i : ℕ) (run : List Entry) where
   pub ready_at_first : (v : ℕ) → IsReady hosts i run (v ∷ []) []
   ready_at_first v = record { within = omega arith; covered = λ j w u l. absurd (omega arith) }
 
@@ -130,9 +130,9 @@ module _ (hosts : List Host) (i : ℕ) (run : List Entry) where
   }
 
   -- and goes on with each name that joins
-  module _ (old new : Listed) (before after : List (List ℕ)) (place : ℕ) (given : List ℕ) (x namer : ℕ) (kept : AreCovered hosts i run (names_of old) before place given) (joined : IsJoined i run old new before after x namer) where
+  module _ (old new : MemberList) (before after : List (List ℕ)) (place : ℕ) (given : List ℕ) (x namer : ℕ) (kept : AreCovered hosts i run (names_of old) before place given) (joined : IsJoined i run old new before after x namer) where
     longer : IsLonger (names_of old) (names_of new) x
-    longer = subst (λ (list : Listed). IsLonger (names_of old) (names_of list) x) (sym joined.members) (longer_member old x namer)
+    longer = subst (λ (list : MemberList). IsLonger (names_of old) (names_of list) x) (sym joined.members) (longer_member old x namer)
 
     older : (j w u : ℕ) → j < length after → slice_get (names_of new) j ≡ Some w → IsNamedBy hosts i run (among (names_of new)) w u
         → IsNamedBy hosts i run (among (names_of old)) w u ⊎ IsDue i run (among (names_of new)) (ready_at after j) w u

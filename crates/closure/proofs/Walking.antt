@@ -3,18 +3,18 @@ use Rattle.std.proofs.Common.{◌≡◌, ℕ, zero, suc, ◌<◌, ◌≤◌, Boo
 use Rattle.std.proofs.lemmas.Bool.{cases_lt, eq-eqb, eqb-true, true≢false, false≢true}
 use Rattle.std.proofs.lemmas.Option.{slice_get_within}
 use Rattle.protocol.specs.Hosts.{Entry}
-use Rattle.closure.specs.Announcing.{Announced, announced_in, announced_at}
-use Rattle.closure.specs.Turns.{Linked, IsIndex, is_this, sender_at, receiver_at, last_below}
+use Rattle.closure.specs.Announcing.{AnnouncedSlices, announced_in, announced_at}
+use Rattle.closure.specs.Turns.{PartyIndex, IsIndex, is_this, sender_at, receiver_at, last_below}
 
 -- ---- parties
-pub sender_is : (i : ℕ) (a : Announced) → a.slot ≡ i → sender_at i (Some a) ≡ Some a.sender
+pub sender_is : (i : ℕ) (a : AnnouncedSlices) → a.slot ≡ i → sender_at i (Some a) ≡ Some a.sender
 sender_is i a s = go (a.slot == i) (eq-eqb a.slot i s)
   where
     go : (b : Bool) → b ≡ true → (if b then Some a.sender else None) ≡ Some a.sender
     go true q = refl
     go false q = absurd (false≢true q)
 
-pub receiver_is : (i : ℕ) (a : Announced) → a.slot ≡ i → receiver_at i (Some a) ≡ Some a.receiver
+pub receiver_is : (i : ℕ) (a : AnnouncedSlices) → a.slot ≡ i → receiver_at i (Some a) ≡ Some a.receiver
 receiver_is i a s = go (a.slot == i) (eq-eqb a.slot i s)
   where
     go : (b : Bool) → b ≡ true → (if b then Some a.receiver else None) ≡ Some a.receiver
@@ -34,7 +34,7 @@ abbrev pub steps_left : Option ℕ → ℕ
 steps_left None = 0
 steps_left (Some n) = suc n
 
-module _ (party : Option Announced → Option ℕ) (run : List Entry) (w : ℕ) where
+module _ (party : Option AnnouncedSlices → Option ℕ) (run : List Entry) (w : ℕ) where
   -- ---- the last announcement below a number
   of_this : ℕ → Bool
   of_this n = is_this w (party (announced_at run n))
@@ -103,7 +103,7 @@ module _ (party : Option Announced → Option ℕ) (run : List Entry) (w : ℕ) 
           go None p q = cc
           go (Some x) p q = let m = slice_get_within run n x p in omega arith
 
-  module _ (d : Linked) (index : IsIndex party run (length run) d) (number : ℕ) (next : Option ℕ) (Done : ℕ → Type 0) (way : IsWalked Done next) (there : next ≡ Some number) where
+  module _ (d : PartyIndex) (index : IsIndex party run (length run) d) (number : ℕ) (next : Option ℕ) (Done : ℕ → Type 0) (way : IsWalked Done next) (there : next ≡ Some number) where
     here : IsLast way.below number
     here = last_is way.below number (sym way.is ∙ there)
 

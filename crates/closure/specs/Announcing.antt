@@ -5,7 +5,7 @@ use Rattle.std.specs.Prelude.{◌==◌}
 use Rattle.types.specs.Trees.{Slices}
 use Rattle.protocol.specs.Sets.{Names, among}
 use Rattle.protocol.specs.Satisfaction.{names}
-use Rattle.protocol.specs.Networks.{Host, Step, slices_of}
+use Rattle.protocol.specs.Networks.{HostedNode, Step, slices_of}
 use Rattle.protocol.specs.Networks.Reading.{Read}
 use Rattle.protocol.specs.Networks.Step.{Delivers, Reslices}
 use Rattle.protocol.specs.Hosts.{Entry}
@@ -13,58 +13,58 @@ use Rattle.protocol.specs.Isolation.{closure}
 use Rattle.protocol.specs.Reslices.{slices_at_end}
 
 -- slices that an applied event announces: at which slot, to whom and from whom
-pub record Announced : Type 0 where
+pub record AnnouncedSlices : Type 0 where
   pub slot : ℕ
   pub receiver : ℕ
   pub sender : ℕ
   pub slices : Slices
 
 -- a delivery announces the slices of its envelope, and a node to which new slices are given announces them to itself; no other event announces anything
-abbrev pub announced_by : Step → Option Announced
+abbrev pub announced_by : Step → Option AnnouncedSlices
 announced_by (Delivers u size (Read e)) = Some (record { slot = e.slot; receiver = u; sender = e.sender; slices = e.slices })
 announced_by (Reslices j u q) = Some (record { slot = j; receiver = u; sender = u; slices = q })
 announced_by _ = None
 
 -- what an entry announces, if there is one
-abbrev pub announced_in : Option Entry → Option Announced
+abbrev pub announced_in : Option Entry → Option AnnouncedSlices
 announced_in None = None
 announced_in (Some x) = announced_by x.event
 
 -- what the entry with this number announces
-abbrev pub announced_at : List Entry → ℕ → Option Announced
+abbrev pub announced_at : List Entry → ℕ → Option AnnouncedSlices
 announced_at entries n = announced_in (slice_get entries n)
 
 -- the slices of a hosted node at a slot after a whole run
-abbrev pub slices_then : List Host → ℕ → List Entry → ℕ → Option Slices
+abbrev pub slices_then : List HostedNode → ℕ → List Entry → ℕ → Option Slices
 slices_then hosts i run u = option_map (λ q. slices_at_end i u q run) (slices_of hosts u)
 
 -- A node w names u: by its configured slices where it is hosted, or by slices that it announces at the slot to one of the members: by a delivery, or as a member that is given new ones.
-pub data IsNamedBy (hosts : List Host) (i : ℕ) (run : List Entry) (members : Names) (w u : ℕ) : Type 0 where
+pub data IsNamedBy (hosts : List HostedNode) (i : ℕ) (run : List Entry) (members : Names) (w u : ℕ) : Type 0 where
   configured : (q : Slices) → slices_of hosts w ≡ Some q → IsTrue (among (names q) u) → IsNamedBy hosts i run members w u
-  learnt : (n : ℕ) (a : Announced) → announced_at run n ≡ Some a → a.slot ≡ i → a.sender ≡ w → IsTrue (members a.receiver) → IsTrue (among (names a.slices) u) → IsNamedBy hosts i run members w u
+  learnt : (n : ℕ) (a : AnnouncedSlices) → announced_at run n ≡ Some a → a.slot ≡ i → a.sender ≡ w → IsTrue (members a.receiver) → IsTrue (among (names a.slices) u) → IsNamedBy hosts i run members w u
 
 -- members in order, each with the place of the member that named it
-abbrev pub Listed : Type 0
-Listed = List (ℕ × ℕ)
+abbrev pub MemberList : Type 0
+MemberList = List (ℕ × ℕ)
 
 -- their names, in order
-abbrev pub names_of : Listed → List ℕ
+abbrev pub names_of : MemberList → List ℕ
 names_of list = map (λ m. m.0) list
 
 -- the member at a place is named by one before it, announcements counting to members before it
-pub record IsNamedBefore (hosts : List Host) (i : ℕ) (run : List Entry) (list : Listed) (place : ℕ) (m : ℕ × ℕ) : Type 0 where
+pub record IsNamedBefore (hosts : List HostedNode) (i : ℕ) (run : List Entry) (list : MemberList) (place : ℕ) (m : ℕ × ℕ) : Type 0 where
   pub namer : ℕ
   pub there : slice_get (names_of list) m.1 ≡ Some namer
   pub before : m.1 < place
   pub named : IsNamedBy hosts i run (among (take place (names_of list))) namer m.0
 
 -- the first member is v, and each later one is named by an earlier one
-pub record IsChained (hosts : List Host) (i v : ℕ) (run : List Entry) (list : Listed) : Type 0 where
+pub record IsChained (hosts : List HostedNode) (i v : ℕ) (run : List Entry) (list : MemberList) : Type 0 where
   pub first : slice_get list 0 ≡ Some (v, 0)
   pub later : (k : ℕ) (m : ℕ × ℕ) → slice_get list (suc k) ≡ Some m → IsNamedBefore hosts i run list (suc k) m
 
 -- The closure of v as a list: v first, each member once, each later one with an earlier one that names it, and exactly its members.
-pub record IsClosureList (hosts : List Host) (i v : ℕ) (run : List Entry) (list : Listed) : Type 0 where
+pub record IsClosureList (hosts : List HostedNode) (i v : ℕ) (run : List Entry) (list : MemberList) : Type 0 where
   pub chained : IsChained hosts i v run list
   pub once : IsDistinct (λ x y. x == y) (names_of list)
   pub exactly : (u : ℕ) → among (names_of list) u ≡ closure hosts i v run u

@@ -3,18 +3,18 @@ use Rattle.std.specs.Prelude.{◌≡◌, ◌⊎◌, ℕ, zero, suc, ◌<◌, ◌
 use Rattle.types.specs.Trees.{Slices}
 use Rattle.protocol.specs.Sets.{Names, among}
 use Rattle.protocol.specs.Satisfaction.{names}
-use Rattle.protocol.specs.Networks.{Host}
+use Rattle.protocol.specs.Networks.{HostedNode}
 use Rattle.protocol.specs.Hosts.{Entry}
-use Rattle.closure.specs.Announcing.{Announced, announced_at, IsNamedBy, Listed, names_of, IsChained}
+use Rattle.closure.specs.Announcing.{AnnouncedSlices, announced_at, IsNamedBy, MemberList, names_of, IsChained}
 
 -- ---- announcements by one of their parties
 -- the sender of an announcement at the slot
-abbrev pub sender_at : ℕ → Option Announced → Option ℕ
+abbrev pub sender_at : ℕ → Option AnnouncedSlices → Option ℕ
 sender_at i None = None
 sender_at i (Some a) = if a.slot == i then Some a.sender else None
 
 -- the receiver of an announcement at the slot
-abbrev pub receiver_at : ℕ → Option Announced → Option ℕ
+abbrev pub receiver_at : ℕ → Option AnnouncedSlices → Option ℕ
 receiver_at i None = None
 receiver_at i (Some a) = if a.slot == i then Some a.receiver else None
 
@@ -24,7 +24,7 @@ is_this w None = false
 is_this w (Some u) = u == w
 
 -- the number of the last entry of a party, of the first k entries
-abbrev pub last_below : (Option Announced → Option ℕ) → List Entry → ℕ → ℕ → Option ℕ
+abbrev pub last_below : (Option AnnouncedSlices → Option ℕ) → List Entry → ℕ → ℕ → Option ℕ
 last_below party run w zero = None
 last_below party run w (suc k) = if is_this w (party (announced_at run k)) then Some k else last_below party run w k
 
@@ -34,29 +34,29 @@ found_by [] u = None
 found_by (x ∷ xs) u = if x.0 == u then Some x.1 else found_by xs u
 
 -- the last announcement of each party, and for each entry the last one before it of the same party
-pub record Linked : Type 0 where
+pub record PartyIndex : Type 0 where
   pub latest : List (ℕ × ℕ)
   pub earlier : List (Option ℕ)
 
 -- one more entry
-abbrev pub IsLinkedTo : Linked → Linked → Option ℕ → Type 0
-IsLinkedTo old new None = (new.latest ≡ old.latest) × (new.earlier ≡ old.earlier ++ None ∷ [])
-IsLinkedTo old new (Some w) =
+abbrev pub IsIndexedTo : PartyIndex → PartyIndex → Option ℕ → Type 0
+IsIndexedTo old new None = (new.latest ≡ old.latest) × (new.earlier ≡ old.earlier ++ None ∷ [])
+IsIndexedTo old new (Some w) =
     ((u : ℕ) → found_by new.latest u ≡ (if w == u then Some (length old.earlier) else found_by old.latest u)) × (new.earlier ≡ old.earlier ++ found_by old.latest w ∷ [])
 
 -- the announcements among the first n entries, by a party
-pub record IsIndex (party : Option Announced → Option ℕ) (run : List Entry) (n : ℕ) (d : Linked) : Type 0 where
+pub record IsIndex (party : Option AnnouncedSlices → Option ℕ) (run : List Entry) (n : ℕ) (d : PartyIndex) : Type 0 where
   pub counted : length d.earlier ≡ n
   pub latest : (w : ℕ) → found_by d.latest w ≡ last_below party run w n
   pub earlier : (k w : ℕ) → k < n → party (announced_at run k) ≡ Some w → get_or d.earlier k None ≡ last_below party run w k
 
 -- the announcements by sender, and by receiver
-pub record Delivered : Type 0 where
-  pub sent : Linked
-  pub heard : Linked
+pub record AnnouncementIndex : Type 0 where
+  pub sent : PartyIndex
+  pub heard : PartyIndex
 
 -- both are of the announcements at the slot among the first n entries
-pub record AreIndexed (i : ℕ) (run : List Entry) (n : ℕ) (d : Delivered) : Type 0 where
+pub record AreIndexed (i : ℕ) (run : List Entry) (n : ℕ) (d : AnnouncementIndex) : Type 0 where
   pub sent : IsIndex (sender_at i) run n d.sent
   pub heard : IsIndex (receiver_at i) run n d.heard
 
@@ -84,7 +84,7 @@ known_names None = []
 known_names (Some q) = names q
 
 -- the names that an announcement adds in the turn of w: those of its slices where it is one of w at the slot to a member
-abbrev pub added_names : ℕ → List ℕ → ℕ → Option Announced → List ℕ
+abbrev pub added_names : ℕ → List ℕ → ℕ → Option AnnouncedSlices → List ℕ
 added_names i members w None = []
 added_names i members w (Some a) = if a.slot == i && (a.sender == w && among members a.receiver) then names a.slices else []
 
@@ -93,17 +93,17 @@ abbrev pub all_added : ℕ → List Entry → List ℕ → ℕ → List ℕ → 
 all_added i run members w numbers = flat_map (λ n. added_names i members w (announced_at run n)) numbers
 
 -- all that w names, announcements counting to the receivers, is among the members
-abbrev pub NamesAreMembers : List Host → ℕ → List Entry → List ℕ → List ℕ → ℕ → Type 0
+abbrev pub NamesAreMembers : List HostedNode → ℕ → List Entry → List ℕ → List ℕ → ℕ → Type 0
 NamesAreMembers hosts i run members receivers w = (u : ℕ) → IsNamedBy hosts i run (among receivers) w u → IsTrue (among members u)
 
 -- all that the members name is among them, announcements counting to the receivers
-abbrev pub AllNamesAreMembers : List Host → ℕ → List Entry → List ℕ → List ℕ → Type 0
+abbrev pub AllNamesAreMembers : List HostedNode → ℕ → List Entry → List ℕ → List ℕ → Type 0
 AllNamesAreMembers hosts i run members receivers = (j w : ℕ) → slice_get members j ≡ Some w → NamesAreMembers hosts i run members receivers w
 
 -- one of the numbers is that of an announcement at the slot from w to a member, of slices that name u
 pub record IsDue (i : ℕ) (run : List Entry) (members : Names) (numbers : List ℕ) (w u : ℕ) : Type 0 where
   pub number : ℕ
-  pub announcement : Announced
+  pub announcement : AnnouncedSlices
   pub there : IsTrue (among numbers number)
   pub at : announced_at run number ≡ Some announcement
   pub slot : announcement.slot ≡ i
@@ -113,23 +113,23 @@ pub record IsDue (i : ℕ) (run : List Entry) (members : Names) (numbers : List 
 
 -- Each member that had a turn has a list of numbers. All that such a member names is a member, or its list has the announcement
 -- of it, or it is one of the names that are given in a turn that is underway.
-pub record AreCovered (hosts : List Host) (i : ℕ) (run : List Entry) (members : List ℕ) (ready : List (List ℕ)) (place : ℕ) (given : List ℕ) : Type 0 where
+pub record AreCovered (hosts : List HostedNode) (i : ℕ) (run : List Entry) (members : List ℕ) (ready : List (List ℕ)) (place : ℕ) (given : List ℕ) : Type 0 where
   pub within : length ready ≤ length members
   pub covered : (j w u : ℕ) → j < length ready → slice_get members j ≡ Some w → IsNamedBy hosts i run (among members) w u
       → IsTrue (among members u) ⊎ (IsDue i run (among members) (ready_at ready j) w u ⊎ ((j ≡ place) × IsTrue (among given u)))
 
 -- and no turn is underway
-abbrev pub IsReady : List Host → ℕ → List Entry → List ℕ → List (List ℕ) → Type 0
+abbrev pub IsReady : List HostedNode → ℕ → List Entry → List ℕ → List (List ℕ) → Type 0
 IsReady hosts i run members ready = AreCovered hosts i run members ready 0 []
 
 -- the names that w gives in its turn: nothing but what it names, and all of that, save what is a member already
-pub record IsGiven (hosts : List Host) (i : ℕ) (run : List Entry) (members : List ℕ) (w : ℕ) (given : List ℕ) : Type 0 where
+pub record IsGiven (hosts : List HostedNode) (i : ℕ) (run : List Entry) (members : List ℕ) (w : ℕ) (given : List ℕ) : Type 0 where
   pub sound : (u : ℕ) → IsTrue (among given u) → IsNamedBy hosts i run (among members) w u
   pub complete : (u : ℕ) → IsNamedBy hosts i run (among members) w u → IsTrue (among members u) ⊎ IsTrue (among given u)
 
 -- ---- members that join
 -- a name is added at the end, with the place of the member that names it, unless it is there
-abbrev pub with_member : Listed → ℕ → ℕ → Listed
+abbrev pub with_member : MemberList → ℕ → ℕ → MemberList
 with_member list u place = if among (names_of list) u then list else list ++ (u, place) ∷ []
 
 -- numbers became ready, and all that were stay so
@@ -138,20 +138,20 @@ pub record AreMore (old new : List (List ℕ)) : Type 0 where
   pub kept : (j n : ℕ) → IsTrue (among (ready_at old j) n) → IsTrue (among (ready_at new j) n)
 
 -- the entry with this number is ready for its sender, where that is a member that had a turn
-abbrev pub IsFor : List ℕ → List (List ℕ) → ℕ → Option Announced → Type 0
-IsFor members ready n o = (a : Announced) (j : ℕ) → o ≡ Some a → slice_get members j ≡ Some a.sender → j < length ready → IsTrue (among (ready_at ready j) n)
+abbrev pub IsFor : List ℕ → List (List ℕ) → ℕ → Option AnnouncedSlices → Type 0
+IsFor members ready n o = (a : AnnouncedSlices) (j : ℕ) → o ≡ Some a → slice_get members j ≡ Some a.sender → j < length ready → IsTrue (among (ready_at ready j) n)
 
 -- each announcement at the slot to a node is ready for its sender, where that is a member that had a turn
 abbrev pub AreWoken : ℕ → List Entry → List ℕ → List (List ℕ) → ℕ → Type 0
-AreWoken i run members ready u = (n : ℕ) (a : Announced) → announced_at run n ≡ Some a → a.slot ≡ i → a.receiver ≡ u → IsFor members ready n (Some a)
+AreWoken i run members ready u = (n : ℕ) (a : AnnouncedSlices) → announced_at run n ≡ Some a → a.slot ≡ i → a.receiver ≡ u → IsFor members ready n (Some a)
 
 -- a name joins, unless it is there: the announcements to it become ready
-pub record IsJoined (i : ℕ) (run : List Entry) (old new : Listed) (before after : List (List ℕ)) (u place : ℕ) : Type 0 where
+pub record IsJoined (i : ℕ) (run : List Entry) (old new : MemberList) (before after : List (List ℕ)) (u place : ℕ) : Type 0 where
   pub members : new ≡ with_member old u place
   pub more : AreMore before after
   pub woken : IsFalse (among (names_of old) u) → AreWoken i run (names_of new) after u
 
 -- members that a turn or a sweep adds: the old ones stay in front, and the list is still chained
-pub record IsGrown (hosts : List Host) (i v : ℕ) (run : List Entry) (old new : Listed) : Type 0 where
+pub record IsGrown (hosts : List HostedNode) (i v : ℕ) (run : List Entry) (old new : MemberList) : Type 0 where
   pub kept : take (length old) new ≡ old
   pub chained : IsChained hosts i v run new

@@ -2,7 +2,7 @@
 
 ghost use Rattle.std.specs.Prelude.{◌≡◌, ◌<◌, List, ℕ, length, map, option_map};
 ghost use Rattle.protocol.specs.Hosts.{Entry};
-ghost use Rattle.protocol.specs.Networks.{Host, slices_of};
+ghost use Rattle.protocol.specs.Networks.{HostedNode, slices_of};
 ghost use Rattle.protocol.specs.Sets.{IsAscending};
 ghost use Rattle.closure.specs.Announcing.{announced_at, slices_then};
 
@@ -28,7 +28,7 @@ pub struct Announcement<'a> {
 /// The ghost members are the hosted nodes and the entries of the definitions. No method takes memory.
 pub trait Announcements {
     /// The hosted nodes, as they are configured.
-    ghost hosts: { Self → List Host };
+    ghost hosts: { Self → List HostedNode };
 
     /// The applied events, in order, with what they gave out.
     ghost entries: { Self → List Entry };

@@ -19,9 +19,9 @@ pub struct ClosureList {
 }
 
 impl Model for ClosureList {
-    ghost use Rattle.closure.specs.Announcing.{Listed};
+    ghost use Rattle.closure.specs.Announcing.{MemberList};
 
-    ghost Value = { Listed };
+    ghost Value = { MemberList };
 
     ghost view = { λ a. a.members.entries };
 }

@@ -2,7 +2,7 @@
 
 ghost use Rattle.std.specs.Prelude.{◌≡◌, [], None, length, get_or, option_map, IfOk, OnOk};
 ghost use Rattle.closure.specs.Announcing.{announced_at};
-ghost use Rattle.closure.specs.Turns.{AreIndexed, IsLinkedTo, found_by, receiver_at, sender_at};
+ghost use Rattle.closure.specs.Turns.{AreIndexed, IsIndexedTo, found_by, receiver_at, sender_at};
 
 use crate::announcing::Announcements;
 use indexmap::IndexMap;
@@ -19,9 +19,9 @@ pub struct Links {
 }
 
 impl Model for Links {
-    ghost use Rattle.closure.specs.Turns.{Linked};
+    ghost use Rattle.closure.specs.Turns.{PartyIndex};
 
-    ghost Value = { Linked };
+    ghost Value = { PartyIndex };
 
     ghost view = { λ a. record { latest = a.latest.entries; earlier = a.earlier.items } };
 }
@@ -39,7 +39,7 @@ impl Links {
 
     /// One more entry: an announcement of this party, or none.
     fn push(&mut self, party: Option<NodeId>) -> Result<(), AllocError>
-        ensures { OnOk result (IsLinkedTo self.old self.new party) }
+        ensures { OnOk result (IsIndexedTo self.old self.new party) }
     {
         let before = match party {
             None => None,
@@ -75,9 +75,9 @@ pub struct Deliveries {
 }
 
 impl Model for Deliveries {
-    ghost use Rattle.closure.specs.Turns.{Delivered};
+    ghost use Rattle.closure.specs.Turns.{AnnouncementIndex};
 
-    ghost Value = { Delivered };
+    ghost Value = { AnnouncementIndex };
 
     ghost view = { λ a. record { sent = a.sent; heard = a.heard } };
 }
@@ -112,8 +112,8 @@ impl Deliveries {
 
     /// One more entry: an announcement of this sender to this receiver, or none.
     fn push(&mut self, sender: Option<NodeId>, receiver: Option<NodeId>) -> Result<(), AllocError>
-        ensures sent { OnOk result (IsLinkedTo self.old.sent self.new.sent sender) }
-        ensures heard { OnOk result (IsLinkedTo self.old.heard self.new.heard receiver) }
+        ensures sent { OnOk result (IsIndexedTo self.old.sent self.new.sent sender) }
+        ensures heard { OnOk result (IsIndexedTo self.old.heard self.new.heard receiver) }
     {
         self.sent.push(sender)?;
         self.heard.push(receiver)

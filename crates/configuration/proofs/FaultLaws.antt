@@ -2,20 +2,20 @@
 use Rattle.std.proofs.Common.{◌≡◌, ℕ, ◌<◌, ◌≤◌, true, false, List, length, Some, None, refl, arith}
 use Rattle.std.proofs.lemmas.Bool.{lt-ltb, le-ltb, ne_eqb, eq-eqb}
 use Rattle.types.specs.Trees.{all_differ}
-use Rattle.protocol.specs.Networks.{Host}
+use Rattle.protocol.specs.Networks.{HostedNode}
 use Rattle.protocol.specs.Rosters.{Shares}
 use Rattle.configuration.specs.Configs.{names_of}
 use Rattle.configuration.specs.Faults.{first_fault, node_tests, roster_tests, is_too_large}
 use Rattle.configuration.specs.declared.error.ConfigError.TheVariants.{NoNodes, TooManyNodes, RosterTooLong, ShareTooLarge}
 
 -- ---- the tests of nodes
-pub no-nodes : (nodes : List Host) → all_differ (names_of nodes) ≡ true → length nodes ≡ 0 → first_fault (node_tests nodes) ≡ Some NoNodes
+pub no-nodes : (nodes : List HostedNode) → all_differ (names_of nodes) ≡ true → length nodes ≡ 0 → first_fault (node_tests nodes) ≡ Some NoNodes
 no-nodes nodes d l = rw (d, eq-eqb (length nodes) 0 l) refl
 
-pub too-many-nodes : (nodes : List Host) → all_differ (names_of nodes) ≡ true → 256 < length nodes → first_fault (node_tests nodes) ≡ Some TooManyNodes
+pub too-many-nodes : (nodes : List HostedNode) → all_differ (names_of nodes) ≡ true → 256 < length nodes → first_fault (node_tests nodes) ≡ Some TooManyNodes
 too-many-nodes nodes d l = rw (d, ne_eqb (length nodes) 0 (λ e. omega (arith, l, e)), lt-ltb 256 (length nodes) l) refl
 
-pub good-nodes : (nodes : List Host) → all_differ (names_of nodes) ≡ true → 0 < length nodes → length nodes ≤ 256 → first_fault (node_tests nodes) ≡ None
+pub good-nodes : (nodes : List HostedNode) → all_differ (names_of nodes) ≡ true → 0 < length nodes → length nodes ≤ 256 → first_fault (node_tests nodes) ≡ None
 good-nodes nodes d s l = rw (d, ne_eqb (length nodes) 0 (λ e. omega (arith, s, e)), le-ltb 256 (length nodes) l) refl
 
 -- ---- the tests of a roster

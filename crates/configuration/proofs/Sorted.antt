@@ -10,7 +10,7 @@ use Rattle.types.specs.Trees.{all_differ}
 use Rattle.types.specs.contracts.node_id.NodeIdOrd.TheImpl.{ghosts as ord}
 use Rattle.types.proofs.NameOrder.{name_cmp_is}
 use Rattle.types.proofs.RisingNames.{increases, rises-where-differ}
-use Rattle.protocol.specs.Networks.{Host}
+use Rattle.protocol.specs.Networks.{HostedNode}
 use Rattle.protocol.specs.Sets.{IsAscending}
 use Rattle.configuration.specs.Configs.{names_of, rises}
 
@@ -24,7 +24,7 @@ sorted-keys n (x ∷ xs) up = IsNonDecreasingBy-from_default (λ y. y) (map n (x
     rw (get_or-map n (x ∷ xs) i x, get_or-map n (x ∷ xs) j x) (up i j x l k))
 
 -- what a sort of nodes by name gives
-pub rises-once-sorted-by-name : (nodes hosts : List Host) → IsPermutation nodes hosts → IsSortedByKey (λ h. h.name) ord.cmp hosts → rises (names_of hosts) ≡ all_differ (names_of nodes)
+pub rises-once-sorted-by-name : (nodes hosts : List HostedNode) → IsPermutation nodes hosts → IsSortedByKey (λ h. h.name) ord.cmp hosts → rises (names_of hosts) ≡ all_differ (names_of nodes)
 rises-once-sorted-by-name nodes hosts moved sorted =
     let by_number = subst (λ f. IsSortedByKey (λ h. h.name) f hosts) (fun_ext (λ x. fun_ext (λ y. name_cmp_is x y))) sorted in
     let up = sorted-keys (λ h. h.name) hosts (IsNonDecreasingBy-from_sort (λ h. h.name) hosts by_number) in

@@ -1,7 +1,7 @@
 -- What is wrong with nodes and rosters that make no network, by tests on the lists as they are given.
 use Rattle.std.specs.Prelude.{ℕ, ◌^◌, Bool, not, ◌||◌, ◌==◌, nat_lt, List, [], ◌∷◌, length, Option, Some, None, if◌then◌else◌}
 use Rattle.types.specs.Trees.{all_differ}
-use Rattle.protocol.specs.Networks.{Host}
+use Rattle.protocol.specs.Networks.{HostedNode}
 use Rattle.protocol.specs.Rosters.{Shares}
 use Rattle.configuration.specs.Configs.{names_of}
 use Rattle.configuration.specs.declared.error.ConfigError.{ConfigError}
@@ -23,7 +23,7 @@ first_fault [] = None
 first_fault (t ∷ ts) = if t.0 then Some t.1 else first_fault ts
 
 -- what is tested of nodes, in this order
-abbrev pub node_tests : List Host → List (Bool × ConfigError)
+abbrev pub node_tests : List HostedNode → List (Bool × ConfigError)
 node_tests nodes = (not (all_differ (names_of nodes)), NodeTwice) ∷ (length nodes == 0, NoNodes) ∷ (nat_lt 256 (length nodes), TooManyNodes) ∷ []
 
 -- some share is above the limit

@@ -10,7 +10,7 @@ ghost use Rattle.configuration.specs.Rosters.{HasRosterOf};
 
 use crate::budgets::Budgets;
 use crate::error::ConfigError;
-use crate::host::Host;
+use crate::hosted_node::HostedNode;
 use crate::roster::{Reservation, Roster};
 use std::alloc::{AllocError, Global};
 use std::marker::Model;
@@ -29,7 +29,7 @@ pub const MAX_HOSTS: usize = 256;
 #[derive(Drop)]
 pub struct NetConfig {
     number: u32,
-    hosts: Vec<Host>,
+    hosts: Vec<HostedNode>,
     names: Vec<NodeId>,
     budgets: Budgets,
     roster: Option<Roster>,
@@ -59,7 +59,7 @@ impl NetConfig {
     pub fn new(
         alloc: Global,
         number: u32,
-        nodes: Vec<Host>,
+        nodes: Vec<HostedNode>,
         budgets: Budgets,
     ) -> Result<NetConfig, ConfigError>
         ensures parts { IfOk result (λ c. (c.number ≡ number) × (c.budgets ≡ budgets) × (c.roster ≡ None)) }
@@ -88,7 +88,7 @@ impl NetConfig {
     pub fn with_roster(
         alloc: Global,
         number: u32,
-        nodes: Vec<Host>,
+        nodes: Vec<HostedNode>,
         budgets: Budgets,
         roster: Reservation,
     ) -> Result<NetConfig, ConfigError>
@@ -119,7 +119,7 @@ impl NetConfig {
     }
 
     /// The hosted nodes, 1 to 256, ascending by name.
-    pub fn hosts(&self) -> &[Host]
+    pub fn hosts(&self) -> &[HostedNode]
         ensures value { result.now ≡ self.now.hosts }
         ensures ascending { IsAscending (names_of result.now) }
         ensures some_hosts { 1 ≤ length result.now }
@@ -168,7 +168,7 @@ impl NetConfig {
 }
 
 /// The nodes that a network hosts, in order. The first fault that applies is answered; it takes no memory.
-fn check_nodes(nodes: Vec<Host>) -> Result<Vec<Host>, ConfigError>
+fn check_nodes(nodes: Vec<HostedNode>) -> Result<Vec<HostedNode>, ConfigError>
     ensures hosts { IfOk result (λ v. IsPermutation nodes.items v.items) }
     ensures rules { IfOk result (λ v. AreHosts v.items) }
     ensures faultless { IfOk result (λ _. first_fault (node_tests nodes.items) ≡ None) }
@@ -187,7 +187,7 @@ fn check_nodes(nodes: Vec<Host>) -> Result<Vec<Host>, ConfigError>
 }
 
 /// The nodes ascending by name; `None` where a name stands twice.
-fn in_order(nodes: Vec<Host>) -> Option<Vec<Host>>
+fn in_order(nodes: Vec<HostedNode>) -> Option<Vec<HostedNode>>
     ensures hosts { IfSome result (λ v. IsPermutation nodes.items v.items) }
     ensures ascending { IfSome result (λ v. IsAscending (names_of v.items)) }
     ensures exactly { is_some result ≡ all_differ (names_of nodes.items) }
@@ -207,7 +207,7 @@ fn in_order(nodes: Vec<Host>) -> Option<Vec<Host>>
 }
 
 /// Whether the name of each node is below that of the next one.
-fn is_ascending(hosts: &[Host]) -> bool
+fn is_ascending(hosts: &[HostedNode]) -> bool
     ensures { result ≡ rises (names_of hosts.now) }
 {
     let Some((first, rest)) = hosts.split_first() else {
@@ -225,7 +225,7 @@ fn is_ascending(hosts: &[Host]) -> bool
 }
 
 /// The names of hosts. An error says that memory is short.
-fn list_names(alloc: Global, hosts: &[Host]) -> Result<Vec<NodeId>, AllocError>
+fn list_names(alloc: Global, hosts: &[HostedNode]) -> Result<Vec<NodeId>, AllocError>
     ensures { IfOk result (λ v. v.items ≡ names_of hosts.now) }
 {
     let mut names = Vec::with_capacity(alloc, hosts.len())?;
@@ -236,13 +236,13 @@ fn list_names(alloc: Global, hosts: &[Host]) -> Result<Vec<NodeId>, AllocError>
 }
 
 /// Copies of hosts. An error says that memory is short.
-fn copies(alloc: Global, hosts: &[Host]) -> Result<Vec<Host>, AllocError>
+fn copies(alloc: Global, hosts: &[HostedNode]) -> Result<Vec<HostedNode>, AllocError>
     ensures { IfOk result (λ v. v.items ≡ hosts.now) }
 {
     let mut copies = Vec::with_capacity(alloc, hosts.len())?;
     for host in hosts {
         let slices = host.slices().try_copy()?;
-        copies.push(Host::new(*host.name(), slices))?;
+        copies.push(HostedNode::new(*host.name(), slices))?;
     }
     Ok(copies)
 }

@@ -8,13 +8,13 @@
 mod budgets;
 mod config;
 mod error;
-mod host;
+mod hosted_node;
 mod roster;
 mod shares;
 
 pub use budgets::{Budgets, MAX_BUDGET, MAX_OPEN_SLOTS};
 pub use config::{MAX_HOSTS, NetConfig};
 pub use error::ConfigError;
-pub use host::Host;
+pub use hosted_node::HostedNode;
 pub use roster::{MAX_ROSTER, Reservation, Roster};
 pub use shares::{MAX_SHARE, Shares};

@@ -3,7 +3,7 @@ use Rattle.std.proofs.Common.{◌≡◌, ℕ, Bool, true, List, Option, Some, is
 use Rattle.std.proofs.Math.Path.{fun_ext}
 use Rattle.types.specs.declared.event.Event.{Event}
 use Rattle.protocol.specs.Sets.{Names, among, AreWithin}
-use Rattle.protocol.specs.Networks.{Host, slices_of}
+use Rattle.protocol.specs.Networks.{HostedNode, slices_of}
 use Rattle.protocol.specs.Rosters.{Roster}
 use Rattle.protocol.specs.Hosts.{Config, History, entries, hosts_of}
 use Rattle.protocol.specs.Isolation.{closure, SameCast}
@@ -38,10 +38,10 @@ module _ (one other : History) (g i v : ℕ) (members : List ℕ) where
     pub reserves : SameReserves (config_of one.configs g) (config_of other.configs g)
     pub inside : AreWithin inner (among (roster_names (config_of one.configs g)))
 
-  pub are_reserved : ((u : ℕ) → among members u ≡ inner u) → IsTrue (is_some (slices_of (hosts_of one.configs g) v)) → (hosts others : List Host) → hosts ≡ hosts_of one.configs g → others ≡ hosts_of other.configs g → AreAlike hosts others members
+  pub are_reserved : ((u : ℕ) → among members u ≡ inner u) → IsTrue (is_some (slices_of (hosts_of one.configs g) v)) → (hosts others : List HostedNode) → hosts ≡ hosts_of one.configs g → others ≡ hosts_of other.configs g → AreAlike hosts others members
       → (c d : Config) → Some c ≡ config_of one.configs g → Some d ≡ config_of other.configs g → SameReserves (Some c) (Some d) → (r : Roster) → Some r ≡ c.roster → AreAll (IsOn r.names) members → AreReserved
   are_reserved exactly hosted hosts others p q alike c d first second same r roster on = record {
-    cast = record { hosted = hosted; same = λ u m. ap (λ (hs : List Host). slices_of hs u) (sym p) ∙ (alike u (exactly u ∙ m) ∙ ap (λ (hs : List Host). slices_of hs u) q) };
+    cast = record { hosted = hosted; same = λ u m. ap (λ (hs : List HostedNode). slices_of hs u) (sym p) ∙ (alike u (exactly u ∙ m) ∙ ap (λ (hs : List HostedNode). slices_of hs u) q) };
     reserves = subst (λ (z : Option Config × Option Config). SameReserves z.0 z.1) (λ j. (first j, second j)) same;
     inside = λ u m. subst (λ (xs : List ℕ). among xs u ≡ true) (ap names_on roster ∙ ap roster_names first) (on u (exactly u ∙ m));
   }

@@ -8,10 +8,10 @@ use Rattle.protocol.specs.Submissions.{answers, concerning_steps, replied_to, co
 use Rattle.protocol.specs.Crowds.{Crowd, IsCrowd}
 use Rattle.protocol.specs.Crowds.Crowd.{CastDiffers, RosterDiffers, OutsideRoster, InputsDiffer, Same}
 use Rattle.network.specs.Decoding.{reading}
-use Rattle.crowds.specs.declared.verdict.Crowd.{Crowd as Told}
+use Rattle.crowds.specs.declared.verdict.Crowd.{Crowd as CrowdVerdict}
 use Rattle.crowds.specs.declared.verdict.Crowd.TheVariants as told
 
-abbrev pub meant : Told → Crowd
+abbrev pub meant : CrowdVerdict → Crowd
 meant (told.CastDiffers u) = CastDiffers u
 meant told.RosterDiffers = RosterDiffers
 meant (told.OutsideRoster u) = OutsideRoster u
@@ -19,7 +19,7 @@ meant (told.InputsDiffer place) = InputsDiffer place
 meant (told.Same replies) = Same replies
 
 -- it is the verdict of two submissions, read by this host's decoder
-abbrev pub IsCrowdHere : History → History → ℕ → ℕ → ℕ → Told → Type 0
+abbrev pub IsCrowdHere : History → History → ℕ → ℕ → ℕ → CrowdVerdict → Type 0
 IsCrowdHere one other g i v c = IsCrowd reading one other g i v (meant c)
 
 -- Reserved shares, of these two submissions and this host's decoder: if the closure of v in the first has the same hosted members in both,

@@ -6,12 +6,16 @@ ghost use Rattle.protocol.specs.Networks.{slices_of};
 ghost use Rattle.differences.specs.Hosting.{AreAlike, IsLeastUnlike};
 
 use closure::ClosureList;
-use configuration::Host;
+use configuration::HostedNode;
 use differences::{is_hosted_alike, least_failing};
 use types::{Nested, NodeId};
 
 /// The least member that the two networks host unlike: in one of them alone, or with other slices.
-pub(crate) fn least_unlike(one: &[Host], other: &[Host], members: &ClosureList) -> Option<NodeId>
+pub(crate) fn least_unlike(
+    one: &[HostedNode],
+    other: &[HostedNode],
+    members: &ClosureList,
+) -> Option<NodeId>
     ensures { MatchOption result (AreAlike one.now other.now (names_of members.now)) (IsLeastUnlike one.now other.now (names_of members.now)) }
 {
     least_failing(members, |name| {
@@ -20,7 +24,7 @@ pub(crate) fn least_unlike(one: &[Host], other: &[Host], members: &ClosureList) 
 }
 
 /// The slices of a node, where it is one of these.
-pub(crate) fn slices_among<'a>(hosts: &'a [Host], node: &NodeId) -> Option<&'a Nested>
+pub(crate) fn slices_among<'a>(hosts: &'a [HostedNode], node: &NodeId) -> Option<&'a Nested>
     ensures { option_map (λ q. q.now) result ≡ slices_of hosts.now node.now }
 {
     match hosts {

@@ -5,7 +5,7 @@ ghost use Rattle.protocol.specs.Hosts.{hosts_of};
 ghost use Rattle.protocol.specs.Submissions.{config_of};
 ghost use Rattle.crowds.specs.Submitted.{IsNotDeclared, and_then, declared};
 
-use configuration::{Host, NetConfig};
+use configuration::{HostedNode, NetConfig};
 use std::alloc::{AllocError, Global};
 use std::collections::BTreeMap;
 use std::marker::Model;
@@ -117,7 +117,7 @@ impl Submission {
     }
 
     /// The hosted nodes of a network; none where it is not declared.
-    pub fn hosts(&self, net: u32) -> &[Host]
+    pub fn hosts(&self, net: u32) -> &[HostedNode]
         ensures { result.now ≡ hosts_of self.now.configs net }
     {
         match self.config(net) {

@@ -3,11 +3,11 @@ use Rattle.std.specs.Prelude.{◌≡◌, ◌↔◌, ◌&&◌, ℕ, List, [], ◌
 use Rattle.types.specs.Trees.{Slices}
 use Rattle.protocol.specs.Sets.{Names, among, IsAscending}
 use Rattle.protocol.specs.Satisfaction.{Blocks, sat}
-use Rattle.closure.specs.Announcing.{Listed}
+use Rattle.closure.specs.Announcing.{MemberList}
 
 -- the closure, and the hosted members, each with those that block it
 pub record Shown : Type 0 where
-  pub members : Listed
+  pub members : MemberList
   pub hosted : List (ℕ × List ℕ)
 
 -- exactly the members of a set that block the slices each by itself, ascending

@@ -4,7 +4,7 @@ use Rattle.std.specs.List.{enumerate_from, flat_map}
 use Rattle.std.specs.Fmt.{decimal}
 use Rattle.scripts.specs.Script.{Bytes}
 use Rattle.scripts.specs.Names.{text_of_name}
-use Rattle.closure.specs.Announcing.{Listed}
+use Rattle.closure.specs.Announcing.{MemberList}
 use Rattle.explorer.specs.Reports.{Shown}
 
 -- the place of the member that named the one at a place, behind a space (32), with a line feed (10); the first one has a hyphen
@@ -21,7 +21,7 @@ line_at place None = []
 line_at place (Some m) = line_of_member (place, m)
 
 -- the lines of the members from a place on
-abbrev pub lines_from : ℕ → Listed → Bytes
+abbrev pub lines_from : ℕ → MemberList → Bytes
 lines_from place members = flat_map line_of_member (enumerate_from place members)
 
 -- a name behind a space

@@ -1,6 +1,6 @@
 //! Reports as graphs in the language DOT.
 
-use crate::report::{Blockers, Report};
+use crate::report::{Blockers, ClosureReport};
 use closure::ClosureList;
 use scripts::push_name;
 use std::alloc::AllocError;
@@ -10,7 +10,7 @@ use types::NodeId;
 /// Adds a graph for Graphviz: the members with an arrow from each to those that it named first, hosted
 /// members filled, and a dashed arrow from each single member to the hosted ones whose slices it blocks.
 /// Where memory is wanting, a part may have been added.
-pub fn push_dot(text: &mut String, report: &Report) -> Result<(), AllocError> {
+pub fn push_dot(text: &mut String, report: &ClosureReport) -> Result<(), AllocError> {
     text.push_str("digraph closure {\n")?;
     push_members(text, report.members())?;
     for blockers in report.blockers() {

@@ -19,6 +19,6 @@ mod text;
 
 pub use dot::push_dot;
 pub use no_network::NoNetwork;
-pub use report::{Blockers, Report, report_of};
+pub use report::{Blockers, ClosureReport, report_of};
 pub use svg::push_svg;
 pub use text::push_text;

@@ -1,6 +1,6 @@
 //! What members are drawn as.
 
-use crate::report::Report;
+use crate::report::ClosureReport;
 use closure::ClosureList;
 use std::alloc::{AllocError, Global};
 use std::fmt::Write;
@@ -49,7 +49,7 @@ impl Mark {
 }
 
 /// Who is hosted, and who blocks a hosted member by itself, by the places of the members.
-pub fn marks_of(alloc: Global, report: &Report) -> Result<Vec<Mark>, AllocError> {
+pub fn marks_of(alloc: Global, report: &ClosureReport) -> Result<Vec<Mark>, AllocError> {
     let members = report.members();
     let mut marks: Vec<Mark> = Vec::new(alloc);
     for _ in 0..members.len() {

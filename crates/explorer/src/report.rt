@@ -46,12 +46,12 @@ impl Blockers {
 
 /// The closure of a node in a journal, and who blocks whom in it.
 #[derive(Drop)]
-pub struct Report {
+pub struct ClosureReport {
     members: ClosureList,
     hosted: Vec<Blockers>,
 }
 
-impl Model for Report {
+impl Model for ClosureReport {
     ghost use Rattle.explorer.specs.Reports.{Shown};
 
     ghost Value = { Shown };
@@ -59,7 +59,7 @@ impl Model for Report {
     ghost view = { λ a. record { members = a.members; hosted = a.hosted.items } };
 }
 
-impl Report {
+impl ClosureReport {
     /// The members in the order in which they were found, each with the place of the one that named it
     /// first.
     pub fn members(&self) -> &ClosureList
@@ -88,12 +88,12 @@ pub fn report_of<J: Announcements>(
     journal: &J,
     slot: u64,
     node: &NodeId,
-) -> Result<Report, AllocError>
+) -> Result<ClosureReport, AllocError>
     ensures members { IfOk result (λ r. IsClosureList (J.hosts journal.now) slot node.now (J.entries journal.now) r.members) }
     ensures hosted { IfOk result (λ r. AreHosted (slices_then (J.hosts journal.now) slot (J.entries journal.now)) (among (names_of r.members)) r.hosted) }
 {
     let members = closure(alloc, journal, slot, node)?;
     let names = ascending_members(alloc, &members)?;
     let hosted = hosted_members(alloc, journal, slot, &names)?;
-    Ok(Report { members, hosted })
+    Ok(ClosureReport { members, hosted })
 }

@@ -4,7 +4,7 @@ use crate::circle::{TURN, point};
 use crate::frame::Frame;
 use crate::layout::Layout;
 use crate::marks::{HEIGHT, Mark, marks_of, push_shape};
-use crate::report::Report;
+use crate::report::ClosureReport;
 use closure::ClosureList;
 use scripts::push_name;
 use std::alloc::{AllocError, Global};
@@ -37,7 +37,7 @@ path.named{fill:none;stroke:#888;marker-end:url(#head)}
 /// A report as it is drawn.
 #[derive(Drop)]
 struct Picture<'a> {
-    report: &'a Report,
+    report: &'a ClosureReport,
     marks: Vec<Mark>,
     layout: Layout,
     width: u64,
@@ -51,7 +51,11 @@ struct Picture<'a> {
 ///
 /// It takes time in proportion to the members and to those who block one, with a look-up for each.
 /// Where memory is wanting, a part may have been added.
-pub fn push_svg(alloc: Global, text: &mut String, report: &Report) -> Result<(), AllocError> {
+pub fn push_svg(
+    alloc: Global,
+    text: &mut String,
+    report: &ClosureReport,
+) -> Result<(), AllocError> {
     let picture = picture_of(alloc, report)?;
     picture.push_head(text)?;
     picture.push_arrows(text)?;
@@ -62,7 +66,7 @@ pub fn push_svg(alloc: Global, text: &mut String, report: &Report) -> Result<(),
 }
 
 /// What is drawn of a report: how wide its members are, where they stand, and how each is marked.
-fn picture_of(alloc: Global, report: &Report) -> Result<Picture<'_>, AllocError> {
+fn picture_of(alloc: Global, report: &ClosureReport) -> Result<Picture<'_>, AllocError> {
     let members = report.members();
     let width = width_of(alloc, members)?;
     let apart = HEIGHT.saturating_add(4);

@@ -4,7 +4,7 @@ ghost use Rattle.std.specs.Prelude.{◌≡◌, ◌++◌, OnOk, slice_get, string
 ghost use Rattle.std.specs.List.{flat_map};
 ghost use Rattle.explorer.specs.Texts.{line_at, line_of_blockers, line_of_member, lines_from, name_behind_space, text_of_namer, text_of_report};
 
-use crate::report::{Blockers, Report};
+use crate::report::{Blockers, ClosureReport};
 use closure::ClosureList;
 use scripts::push_name;
 use std::alloc::AllocError;
@@ -15,7 +15,7 @@ use types::NodeId;
 /// `-` for the first one; then for each hosted member, ascending, the word `blocks`, its name, and the single
 /// members that by themselves block its slices, ascending. Fields are separated by one space. Where memory
 /// is wanting, a part may have been added.
-pub fn push_text(text: &mut String, report: &Report) -> Result<(), AllocError>
+pub fn push_text(text: &mut String, report: &ClosureReport) -> Result<(), AllocError>
     ensures { OnOk result (string_bytes text.new ≡ string_bytes text.old ++ text_of_report report.now) }
 {
     push_members(text, report.members())?;

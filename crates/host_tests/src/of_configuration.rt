@@ -1,7 +1,7 @@
 //! That a network is configured and copied where there is memory, and faults in words. What a configuration has, and which
 //! fault is answered, is said by contracts; each limit is tried through the program.
 
-use configuration::{Budgets, ConfigError, Host, NetConfig, Reservation, Shares};
+use configuration::{Budgets, ConfigError, HostedNode, NetConfig, Reservation, Shares};
 use std::alloc::Global;
 use std::test::Fail;
 use types::{Member, Nested, NodeId, SliceSet};
@@ -12,14 +12,14 @@ fn name(number: u64) -> NodeId {
 }
 
 /// A node whose slices name it alone.
-fn node(alloc: Global, number: u64) -> Result<Host, Fail> {
+fn node(alloc: Global, number: u64) -> Result<HostedNode, Fail> {
     let members = vec![in alloc; Member::Node(name(number))]?;
     let slices = Nested::new(alloc, SliceSet::new(1, members))?.ok_or("slices")?;
-    Ok(Host::new(name(number), slices))
+    Ok(HostedNode::new(name(number), slices))
 }
 
 /// Nodes of the names with these numbers.
-fn nodes(alloc: Global, numbers: &[u64]) -> Result<Vec<Host>, Fail> {
+fn nodes(alloc: Global, numbers: &[u64]) -> Result<Vec<HostedNode>, Fail> {
     let mut nodes = Vec::new(alloc);
     for number in numbers {
         nodes.push(node(alloc, *number)?)?;

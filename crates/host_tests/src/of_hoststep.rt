@@ -2,7 +2,7 @@
 
 use codec::encode;
 use envstore::VecShelf;
-use hoststep::{Budgets, Host, Journal, NetConfig, NetMachine};
+use hoststep::{Budgets, HostedNode, Journal, NetConfig, NetMachine};
 use std::alloc::Global;
 use std::test::Fail;
 use types::{
@@ -22,7 +22,7 @@ fn slices(alloc: Global, number: u64) -> Option<Nested> {
 
 /// Node 1 is hosted and needs node 2, which is not. There are so many events and one slot.
 fn config(alloc: Global, events: u64) -> Option<NetConfig> {
-    let hosts = vec![in alloc; Host::new(name(1), slices(alloc, 2)?)].ok()?;
+    let hosts = vec![in alloc; HostedNode::new(name(1), slices(alloc, 2)?)].ok()?;
     NetConfig::new(alloc, 7, hosts, Budgets::new(events, 1000, 1)?).ok()
 }
 

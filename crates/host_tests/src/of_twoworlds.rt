@@ -1,7 +1,7 @@
 //! Many comparisons of two worlds beside one after another, with ample memory.
 
 use codec::encode;
-use configuration::{Budgets, Host, NetConfig};
+use configuration::{Budgets, HostedNode, NetConfig};
 use envstore::VecShelf;
 use hoststep::World;
 use std::alloc::Global;
@@ -12,7 +12,7 @@ use types::{
     Value,
 };
 
-type Told = World<VecShelf>;
+type TestWorld = World<VecShelf>;
 
 /// The name of a number.
 fn name(number: u64) -> NodeId {
@@ -77,7 +77,7 @@ fn said(alloc: Global, sender: u64, body: Option<Statement>) -> Option<Event> {
 }
 
 /// The world with one more event, where it is not refused.
-fn after(mut world: Told, net: u32, event: Option<Event>) -> Option<Told> {
+fn after(mut world: TestWorld, net: u32, event: Option<Event>) -> Option<TestWorld> {
     match world.apply(net, event?) {
         Ok(_) => Some(world),
         Err(_) => None,
@@ -85,8 +85,10 @@ fn after(mut world: Told, net: u32, event: Option<Event>) -> Option<Told> {
 }
 
 /// The world with one more network, in which node 1 wants so many of nodes 2, 3 and 4, and slot 1 is open.
-fn with_network(alloc: Global, mut world: Told, net: u32, threshold: u8) -> Option<Told> {
-    let hosts = vec![in alloc; Host::new(name(1), slices(alloc, threshold, &[2, 3, 4])?)].ok()?;
+fn with_network(alloc: Global, mut world: TestWorld, net: u32, threshold: u8) -> Option<TestWorld> {
+    let hosts = vec![in alloc;
+        HostedNode::new(name(1), slices(alloc, threshold, &[2, 3, 4])?),
+    ].ok()?;
     let budgets = Budgets::new(100, 100_000, 1)?;
     let config = NetConfig::new(alloc, net, hosts, budgets).ok()?;
     world.add(config, VecShelf::new(alloc)).ok()?;
@@ -94,23 +96,23 @@ fn with_network(alloc: Global, mut world: Told, net: u32, threshold: u8) -> Opti
 }
 
 /// The world where node 2 accepts a ballot in this network.
-fn begin(alloc: Global, world: Told, net: u32) -> Option<Told> {
+fn begin(alloc: Global, world: TestWorld, net: u32) -> Option<TestWorld> {
     after(world, net, said(alloc, 2, acceptance(alloc, 9, b'm')))
 }
 
 /// The world where then node 3 accepts another ballot in this network, and node 4 votes for that value.
-fn end(alloc: Global, world: Told, net: u32) -> Option<Told> {
+fn end(alloc: Global, world: TestWorld, net: u32) -> Option<TestWorld> {
     let world = after(world, net, said(alloc, 3, acceptance(alloc, 8, b'k')))?;
     after(world, net, said(alloc, 4, vote(alloc, 1, b'k')))
 }
 
 /// The world where a stranger votes in this network.
-fn disturb(alloc: Global, world: Told, net: u32, counter: u32) -> Option<Told> {
+fn disturb(alloc: Global, world: TestWorld, net: u32, counter: u32) -> Option<TestWorld> {
     after(world, net, said(alloc, 9, vote(alloc, counter, b'q')))
 }
 
 /// A world where all speak in network 1, node 2 alone in networks 2 and 3, and nobody in network 4.
-fn quiet(alloc: Global) -> Option<Told> {
+fn quiet(alloc: Global) -> Option<TestWorld> {
     let world = with_network(alloc, World::new(alloc), 1, 2)?;
     let world = with_network(alloc, world, 2, 2)?;
     let world = with_network(alloc, world, 3, 2)?;
@@ -121,7 +123,7 @@ fn quiet(alloc: Global) -> Option<Told> {
 
 /// The same with a stranger in networks 1 and 2; in network 2 more is said, network 3 is not there, and
 /// node 1 has other slices in network 4.
-fn flood(alloc: Global) -> Option<Told> {
+fn flood(alloc: Global) -> Option<TestWorld> {
     let world = with_network(alloc, World::new(alloc), 1, 2)?;
     let world = with_network(alloc, world, 2, 2)?;
     let world = with_network(alloc, world, 4, 1)?;
@@ -179,8 +181,8 @@ fn is_same_verdict(one: &Verdict, other: &Verdict) -> bool {
 /// Whether these are the verdicts of one comparison after another.
 fn are_those_one_by_one(
     alloc: Global,
-    one: &Told,
-    other: &Told,
+    one: &TestWorld,
+    other: &TestWorld,
     subjects: &[Subject],
     verdicts: &[Verdict],
 ) -> Option<bool> {

@@ -4,9 +4,9 @@ use Rattle.std.proofs.lemmas.Bool.Decides.{nat_tests}
 use Rattle.std.proofs.lemmas.Option.{slice_get_read}
 use Rattle.types.specs.Trees.{Slices}
 use Rattle.configuration.specs.Configs.{index_in, index_of_name, names_of}
-use Rattle.protocol.specs.Networks.{Host, slices_of}
+use Rattle.protocol.specs.Networks.{HostedNode, slices_of}
 
-pub within : (hosts : List Host) (u k : ℕ) → index_of_name hosts u ≡ Some k → k < length hosts
+pub within : (hosts : List HostedNode) (u k : ℕ) → index_of_name hosts u ≡ Some k → k < length hosts
 within [] u k h = absurd (cc)
 within (x ∷ xs) u k h = go (x.name == u) (index_in (names_of xs) u) (λ j e. within xs u j e) refl h
   where
@@ -16,10 +16,10 @@ within (x ∷ xs) u k h = go (x.name == u) (index_in (names_of xs) u) (λ j e. w
     go false (Some j) ih e q = let z : suc j ≡ k = cc in let l = ih j e in omega (arith, z, l)
 
 -- the slices of the node at a place
-abbrev pub slices_in : Option Host → Option Slices
+abbrev pub slices_in : Option HostedNode → Option Slices
 slices_in o = option_map (λ h. h.slices) o
 
-pub found : (hosts : List Host) (u k : ℕ) → index_of_name hosts u ≡ Some k → slices_of hosts u ≡ slices_in (slice_get hosts k)
+pub found : (hosts : List HostedNode) (u k : ℕ) → index_of_name hosts u ≡ Some k → slices_of hosts u ≡ slices_in (slice_get hosts k)
 found [] u k h = absurd (cc)
 found (x ∷ xs) u k h = go (x.name == u) (index_in (names_of xs) u) (λ j e. found xs u j e) refl h
   where
@@ -30,12 +30,12 @@ found (x ∷ xs) u k h = go (x.name == u) (index_in (names_of xs) u) (λ j e. fo
     go false (Some j) ih e q = let z : suc j ≡ k = cc in ih j e ∙ ap (λ n. slices_in (slice_get (x ∷ xs) n)) z
 
 -- those of the hosted node at the place of a name
-pub stands : (hosts : List Host) (u k : ℕ) (h : Host) (q : Slices) → index_of_name hosts u ≡ Some k → k < length hosts → h ≡ get_or hosts k h → q ≡ h.slices → Some q ≡ slices_of hosts u
+pub stands : (hosts : List HostedNode) (u k : ℕ) (h : HostedNode) (q : Slices) → index_of_name hosts u ≡ Some k → k < length hosts → h ≡ get_or hosts k h → q ≡ h.slices → Some q ≡ slices_of hosts u
 stands hosts u k h q at inside is same =
     ap (λ (s : Slices). Some s) same ∙ sym (found hosts u k at ∙ ap slices_in (slice_get_read hosts (length hosts) k h refl inside is))
 
 -- a name without a place is not hosted
-pub missing : (hosts : List Host) (u : ℕ) → index_of_name hosts u ≡ None → slices_of hosts u ≡ None
+pub missing : (hosts : List HostedNode) (u : ℕ) → index_of_name hosts u ≡ None → slices_of hosts u ≡ None
 missing [] u h = refl
 missing (x ∷ xs) u h = go (x.name == u) (index_in (names_of xs) u) (λ e. missing xs u e) refl h
   where
@@ -45,15 +45,15 @@ missing (x ∷ xs) u h = go (x.name == u) (index_in (names_of xs) u) (λ e. miss
     go false (Some j) ih e q = absurd (cc)
 
 -- the name that stands at the place of a name
-pub named : (hosts : List Host) (u k : ℕ) → index_of_name hosts u ≡ Some k → option_map (λ (h : Host). h.name) (slice_get hosts k) ≡ Some u
+pub named : (hosts : List HostedNode) (u k : ℕ) → index_of_name hosts u ≡ Some k → option_map (λ (h : HostedNode). h.name) (slice_get hosts k) ≡ Some u
 named [] u k h = absurd (cc)
 named (x ∷ xs) u k h = go (x.name == u) (index_in (names_of xs) u) (λ j e. named xs u j e) refl refl h
   where
-    go : (b : Bool) (o : Option ℕ) → ((j : ℕ) → index_in (names_of xs) u ≡ Some j → option_map (λ (y : Host). y.name) (slice_get xs j) ≡ Some u) → (x.name == u) ≡ b → index_in (names_of xs) u ≡ o
-        → (if b then Some 0 else option_map suc o) ≡ Some k → option_map (λ (y : Host). y.name) (slice_get (x ∷ xs) k) ≡ Some u
+    go : (b : Bool) (o : Option ℕ) → ((j : ℕ) → index_in (names_of xs) u ≡ Some j → option_map (λ (y : HostedNode). y.name) (slice_get xs j) ≡ Some u) → (x.name == u) ≡ b → index_in (names_of xs) u ≡ o
+        → (if b then Some 0 else option_map suc o) ≡ Some k → option_map (λ (y : HostedNode). y.name) (slice_get (x ∷ xs) k) ≡ Some u
     go true o ih is e q =
         let z : 0 ≡ k = cc in
         let same : x.name ≡ u = grind (arith, nat_tests, is) in
-        sym (ap (λ n. option_map (λ (y : Host). y.name) (slice_get (x ∷ xs) n)) z) ∙ ap (λ (n : ℕ). Some n) same
+        sym (ap (λ n. option_map (λ (y : HostedNode). y.name) (slice_get (x ∷ xs) n)) z) ∙ ap (λ (n : ℕ). Some n) same
     go false None ih is e q = absurd (cc)
-    go false (Some j) ih is e q = let z : suc j ≡ k = cc in sym (ap (λ n. option_map (λ (y : Host). y.name) (slice_get (x ∷ xs) n)) z) ∙ ih j e
+    go false (Some j) ih is e q = let z : suc j ≡ k = cc in sym (ap (λ n. option_map (λ (y : HostedNode). y.name) (slice_get (x ∷ xs) n)) z) ∙ ih j e

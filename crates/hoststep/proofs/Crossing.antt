@@ -33,10 +33,10 @@ use Rattle.slot.specs.contracts.node.Node as Node
 use Rattle.slot.specs.contracts.filed.FiledOut as FiledOut
 use Rattle.envstore.specs.contracts.filed.Filed as Filed
 use Rattle.envstore.specs.contracts.archive.Archive as Archive
-use Rattle.configuration.specs.contracts.host.Host as Host
+use Rattle.configuration.specs.contracts.hosted_node.HostedNode as HostedNode
 use Rattle.configuration.specs.contracts.config.NetConfig as NetConfig
 use Rattle.network.specs.contracts.tallies.Tallies as Tallies
-use Rattle.network.specs.contracts.told.Told as Told
+use Rattle.network.specs.contracts.emission_log.EmissionLog as EmissionLog
 use Rattle.network.specs.contracts.place.Place as Place
 use Rattle.network.specs.contracts.open_slot.OpenSlot as OpenSlot
 use Rattle.network.specs.contracts.slot_index.SlotIndex as SlotIndex
@@ -130,10 +130,10 @@ node_sync = search (sendable, crosses, listener_sync, inputs.the_field_sync, vot
 node_send : IsSend (Node.the_row)
 node_send = search (sendable, crosses, listener_send, inputs.the_field_send, votes.the_field_send) depth 40
 
-host_sync : IsSync (Host.the_row)
+host_sync : IsSync (HostedNode.the_row)
 host_sync = search (sendable, crosses, name.the_sync, nested_sync) depth 40
 
-host_send : IsSend (Host.the_row)
+host_send : IsSend (HostedNode.the_row)
 host_send = search (sendable, crosses, name.the_send, nested_send) depth 40
 
 pub config_sync : IsSync (NetConfig.the_row)
@@ -142,10 +142,10 @@ config_sync = search (sendable, crosses, host_sync, name.the_sync, budgets.the_s
 pub config_send : IsSend (NetConfig.the_row)
 config_send = search (sendable, crosses, host_send, name.the_send, budgets.the_send, roster.the_send) depth 40
 
-told_sync : IsSync (Told.the_row)
+told_sync : IsSync (EmissionLog.the_row)
 told_sync = search (sendable, crosses, filed_sync) depth 40
 
-told_send : IsSend (Told.the_row)
+told_send : IsSend (EmissionLog.the_row)
 told_send = search (sendable, crosses, filed_send) depth 40
 
 tallies_sync : IsSync (Tallies.the_row)

@@ -13,7 +13,7 @@ use Rattle.types.specs.declared.event.Out.{Out}
 use Rattle.types.specs.declared.event.Refusal.{Refusal}
 use Rattle.types.specs.declared.event.Refusal.TheVariants.{NoSuchNode, BadEnvelope}
 use Rattle.envstore.specs.Archives.{Keeps}
-use Rattle.protocol.specs.Networks.{Host, Net, Step, effect, first_that, is_hosted, net_step, state_and_reply, tests}
+use Rattle.protocol.specs.Networks.{HostedNode, Net, Step, effect, first_that, is_hosted, net_step, state_and_reply, tests}
 use Rattle.protocol.specs.Networks.Reading.{Read, Fault}
 use Rattle.protocol.specs.Networks.Reply.{Done}
 use Rattle.protocol.specs.Networks.Step.{Opens, Closes, Proposes, Delivers, Hears, NominationTimerFires, BallotTimerFires, Reslices}
@@ -22,7 +22,7 @@ use Rattle.protocol.specs.Runs.{IsRun, net_after, outs_given, refusal_of, state_
 use Rattle.slot.specs.Filings.{AreFiledOuts, IsFiledOut, copies_of, outs_of}
 use Rattle.slot.specs.declared.filed.FiledOut.{FiledOut}
 use Rattle.network.specs.Answers.{IsApplied}
-use Rattle.network.specs.declared.applied.Applied.{Applied}
+use Rattle.network.specs.declared.applied.Outcome.{Outcome}
 use Rattle.network.specs.Standing.{IsStep, Standing, StandsFor, machine_of}
 use Rattle.hoststep.specs.declared.kept.StoredEntry.{StoredEntry}
 use Rattle.hoststep.specs.declared.outs_list.EntryOuts.{EntryOuts}
@@ -131,7 +131,7 @@ journal-grows old new es e os h step same = record {
 abbrev pub OutsLists : Type 0
 OutsLists = List EntryOuts
 
-event-stays : (hosts : List Host) (old new : List Sent) (x : KeptEvent) → Keeps old new → IsKeptEvent hosts old x → IsKeptEvent hosts new x
+event-stays : (hosts : List HostedNode) (old new : List Sent) (x : KeptEvent) → Keeps old new → IsKeptEvent hosts old x → IsKeptEvent hosts new x
 event-stays hosts old new (events.OpenSlot i) kept h = tt
 event-stays hosts old new (events.CloseSlot i) kept h = tt
 event-stays hosts old new (events.Deliver u size f) kept h = (h.0, kept f h.1, h.2)
@@ -146,10 +146,10 @@ out-stays old new (FiledOut.ArmBallot n) kept h = tt
 out-stays old new (FiledOut.Emit f) kept h = (kept f h.0, h.1)
 out-stays old new (FiledOut.Externalized x) kept h = tt
 
-abbrev pub IsKeptIn : List Host → List Sent → StoredEntry → Type 0
+abbrev pub IsKeptIn : List HostedNode → List Sent → StoredEntry → Type 0
 IsKeptIn hosts archive x = IsKeptEvent hosts archive x.event × AreFiledOuts archive (kept_outs x.outs)
 
-kept-still : (hosts : List Host) (old new : List Sent) (xs : List StoredEntry) → Keeps old new → All (IsKeptIn hosts old) xs → All (IsKeptIn hosts new) xs
+kept-still : (hosts : List HostedNode) (old new : List Sent) (xs : List StoredEntry) → Keeps old new → All (IsKeptIn hosts old) xs → All (IsKeptIn hosts new) xs
 kept-still hosts old new xs kept all =
     λ k d l. (event-stays hosts old new (get_or xs k d).event kept (all k d l).0, λ j c m. out-stays old new (get_or (kept_outs (get_or xs k d).outs) j c) kept ((all k d l).1 j c m))
 
@@ -175,7 +175,7 @@ listed-more before xs x outs h gave =
           (below_or_last k (length xs) within);
     }
 
-pub kept-more : (hosts : List Host) (old new : List Sent) (before : OutsLists) (xs : List StoredEntry) (x : StoredEntry) (outs : Vec FiledOut Global) → Keeps old new → AreKept hosts old before xs
+pub kept-more : (hosts : List HostedNode) (old new : List Sent) (before : OutsLists) (xs : List StoredEntry) (x : StoredEntry) (outs : Vec FiledOut Global) → Keeps old new → AreKept hosts old before xs
     → IsKeptEvent hosts new x.event → kept_outs x.outs ≡ outs.items → AreFiledOuts new (kept_outs x.outs) → AreKept hosts new (with_outs (length xs) outs before) (xs ++ x ∷ [])
 kept-more hosts old new before xs x outs kept all event gave filed = (
   All-append (IsKeptIn hosts new) xs (x ∷ []) (kept-still hosts old new xs kept all.0) (All-cons (IsKeptIn hosts new) x [] (event, filed) (All-nil (IsKeptIn hosts new))),
@@ -190,18 +190,18 @@ Stands m lists xs = IsJournal (machine_of m) (map entry_of xs) × AreKept m.conf
 abbrev pub log_of : Standing → List StoredEntry → Log
 log_of m xs = record { config = m.config; entries = map entry_of xs }
 
-next-of : (old new : Standing) (lists : OutsLists) (xs : List StoredEntry) (e : Step) (count : ℕ) (a : Applied) → Stands old lists xs → IsApplied old e count new a → IsNext old.config (map entry_of xs) (record { event = e; outs = outs_of a.outs.items })
+next-of : (old new : Standing) (lists : OutsLists) (xs : List StoredEntry) (e : Step) (count : ℕ) (a : Outcome) → Stands old lists xs → IsApplied old e count new a → IsNext old.config (map entry_of xs) (record { event = e; outs = outs_of a.outs.items })
 next-of old new lists xs e count a h d = applied-next old new (map entry_of xs) e (outs_of a.outs.items) h.0 d.step
 
-pub is-readable : (old new : Standing) (lists : OutsLists) (xs : List StoredEntry) (e : Step) (count : ℕ) (a : Applied) → Stands old lists xs → IsApplied old e count new a → IsReadable e
+pub is-readable : (old new : Standing) (lists : OutsLists) (xs : List StoredEntry) (e : Step) (count : ℕ) (a : Outcome) → Stands old lists xs → IsApplied old e count new a → IsReadable e
 is-readable old new lists xs e count a h d = readable (state_of old.config (map entry_of xs)) e (next-of old new lists xs e count a h d).0
 
-pub names-hosts : (old new : Standing) (config : Config) (lists : OutsLists) (xs : List StoredEntry) (e : Step) (count : ℕ) (a : Applied) → Stands old lists xs → IsApplied old e count new a → config ≡ new.config → new.config ≡ old.config → NamesHosts config.hosts e
+pub names-hosts : (old new : Standing) (config : Config) (lists : OutsLists) (xs : List StoredEntry) (e : Step) (count : ℕ) (a : Outcome) → Stands old lists xs → IsApplied old e count new a → config ≡ new.config → new.config ≡ old.config → NamesHosts config.hosts e
 names-hosts old new config lists xs e count a h d is same =
     let net = state_of old.config (map entry_of xs) in
     subst (λ (k : Config). NamesHosts k.hosts e) (sym (is ∙ same)) (subst (λ (n : Net). NamesHosts n.hosts e) h.0.state.is (all-hosted net e (next-of old new lists xs e count a h d).0))
 
-pub entered-with : (l : Log) (old new : Standing) (lists : OutsLists) (xs : List StoredEntry) (e : Step) (count : ℕ) (a : Applied) → log_of old xs ≡ l → Stands old lists xs → IsApplied old e count new a → IsEnteredWith l e count (record { marks = a.marks; copies = a.copies })
+pub entered-with : (l : Log) (old new : Standing) (lists : OutsLists) (xs : List StoredEntry) (e : Step) (count : ℕ) (a : Outcome) → log_of old xs ≡ l → Stands old lists xs → IsApplied old e count new a → IsEnteredWith l e count (record { marks = a.marks; copies = a.copies })
 entered-with l old new lists xs e count a is h d =
     let next = next-of old new lists xs e count a h d in
     subst (λ (k : Log). IsEnteredWith k e count (record { marks = a.marks; copies = a.copies })) is
@@ -218,7 +218,7 @@ more xs ys zs x e os same is entry =
     ∙ ap (λ (s : Step). map entry_of xs ++ record { event = s; outs = outs_of (kept_outs x.outs) } ∷ []) entry.step
     ∙ ap (λ (l : List FiledOut). map entry_of xs ++ record { event = e; outs = outs_of l } ∷ []) entry.gave
 
-pub stands-more : (old new : Standing) (hosting : Config) (before middle after : OutsLists) (n : ℕ) (xs ys zs : List StoredEntry) (x : StoredEntry) (e : Step) (count : ℕ) (a : Applied) → Stands old before xs → IsApplied old e count new a → hosting ≡ new.config → new.config ≡ old.config
+pub stands-more : (old new : Standing) (hosting : Config) (before middle after : OutsLists) (n : ℕ) (xs ys zs : List StoredEntry) (x : StoredEntry) (e : Step) (count : ℕ) (a : Outcome) → Stands old before xs → IsApplied old e count new a → hosting ≡ new.config → new.config ≡ old.config
     → Keeps old.archive new.archive → middle ≡ before → n ≡ length ys → after ≡ with_outs n a.outs middle → ys ≡ xs → zs ≡ ys ++ x ∷ [] → IsEntryFor e a.outs.items x → IsKeptEvent hosting.hosts new.archive x.event → Stands new after zs
 stands-more old new hosting before middle after n xs ys zs x e count a h d there config kept stays counted put same is entry filed =
     let earlier : AreKept new.config.hosts old.archive before xs = subst (λ (k : Config). AreKept k.hosts old.archive before xs) (sym config) h.1 in
@@ -229,7 +229,7 @@ stands-more old new hosting before middle after n xs ys zs x e count a h d there
       subst (λ (l : OutsLists × List StoredEntry). AreKept new.config.hosts new.archive l.0 l.1) (λ i. (sym lists i, sym (is ∙ ap (λ (l : List StoredEntry). l ++ x ∷ []) same) i)) (kept-more new.config.hosts old.archive new.archive before xs x a.outs kept earlier mine entry.gave outs),
     )
 
-pub log-grows : (l : Log) (old new : Standing) (before : OutsLists) (xs ys zs : List StoredEntry) (x : StoredEntry) (e : Step) (count : ℕ) (a : Applied) → log_of old xs ≡ l → Stands old before xs → IsApplied old e count new a → new.config ≡ old.config
+pub log-grows : (l : Log) (old new : Standing) (before : OutsLists) (xs ys zs : List StoredEntry) (x : StoredEntry) (e : Step) (count : ℕ) (a : Outcome) → log_of old xs ≡ l → Stands old before xs → IsApplied old e count new a → new.config ≡ old.config
     → ys ≡ xs → zs ≡ ys ++ x ∷ [] → IsEntryFor e a.outs.items x → log_of new zs ≡ extended l e (outs_after l e)
 log-grows l old new before xs ys zs x e count a of h d config same is entry =
     let next = next-of old new before xs e count a h d in

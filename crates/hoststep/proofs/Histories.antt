@@ -15,7 +15,7 @@ use Rattle.protocol.specs.Runs.{net_after, refusal_of, state_of}
 use Rattle.protocol.proofs.Runs.Hosts.{applied-journal, steps_to}
 use Rattle.network.specs.Decoding.{reading, step_of}
 use Rattle.hoststep.specs.Logs.{IsEntered, IsRefused, Log, extended}
-use Rattle.hoststep.specs.Worlds.{IsAnswered, IsAnsweredAt, IsToldBy, items_of, adopted, and_then, configs_with, joined, log_at, logs_set, logs_with}
+use Rattle.hoststep.specs.Worlds.{IsAnswered, IsAnsweredAt, AreJournalsOf, items_of, adopted, and_then, configs_with, joined, log_at, logs_set, logs_with}
 
 equal : (a b : ℕ) → a ≡ b → (a == b) ≡ true
 equal a b e = grind (arith, nat_tests, e)
@@ -120,14 +120,14 @@ entries-then h ls g event j l c at =
     ∙ ap (journal (new_net l.config)) (steps-snoc j (steps_of reading h.calls) g (step_of event))
 
 -- where the event is not of the network, or it is refused, there are no more entries
-stays : (h : History) (ls : List Log) (g : ℕ) (event : Event) (j : ℕ) (l : Log) → IsToldBy h ls → log_at ls j ≡ Some l → (g == j) ≡ false → l.entries ≡ entries reading (and_then h g event) j
+stays : (h : History) (ls : List Log) (g : ℕ) (event : Event) (j : ℕ) (l : Log) → AreJournalsOf h ls → log_at ls j ≡ Some l → (g == j) ≡ false → l.entries ≡ entries reading (and_then h g event) j
 stays h ls g event j l told at other =
     told.entries j l at ∙ history-journal h ls j l told.configs at
     ∙ ap (journal (new_net l.config)) (sym (append-nil (steps_to j (steps_of reading h.calls))) ∙ ap (λ b. steps_to j (steps_of reading h.calls) ++ (if b then step_of event ∷ [] else [])) (sym other))
     ∙ sym (entries-then h ls g event j l told.configs at)
 
 -- what the network of the event has then
-goes-on : (h : History) (ls : List Log) (g : ℕ) (event : Event) (l : Log) → IsToldBy h ls → log_at ls g ≡ Some l
+goes-on : (h : History) (ls : List Log) (g : ℕ) (event : Event) (l : Log) → AreJournalsOf h ls → log_at ls g ≡ Some l
     → l.entries ++ journal_with (step_of event) (replies l (step_of event)) [] ≡ entries reading (and_then h g event) g
 goes-on h ls g event l told at =
     let e = step_of event in
@@ -141,22 +141,22 @@ goes-on h ls g event l told at =
     ∙ sym (entries-then h ls g event g l told.configs at)
 
 -- the journals are those of the history with the event, but where memory was wanting
-pub told-then : (h : History) (ls new : List Log) (g : ℕ) (event : Event) (r : Result (List Out) Refusal) → IsToldBy h ls → IsAnsweredAt (log_at ls g) ls (step_of event) r new → (r ≡ Err NoMemory → ⊥) → IsToldBy (and_then h g event) new
+pub told-then : (h : History) (ls new : List Log) (g : ℕ) (event : Event) (r : Result (List Out) Refusal) → AreJournalsOf h ls → IsAnsweredAt (log_at ls g) ls (step_of event) r new → (r ≡ Err NoMemory → ⊥) → AreJournalsOf (and_then h g event) new
 told-then h ls new g event r told answer memory = go (log_at ls g) refl r memory answer
   where
     e : Step
     e = step_of event
 
-    same : new ≡ ls → ((l : Log) → log_at ls g ≡ Some l → l.entries ≡ entries reading (and_then h g event) g) → IsToldBy (and_then h g event) new
-    same is own = subst (λ (ks : List Log). IsToldBy (and_then h g event) ks) (sym is) (record { configs = told.configs; entries = λ j l at. each j l at (g == j) refl })
+    same : new ≡ ls → ((l : Log) → log_at ls g ≡ Some l → l.entries ≡ entries reading (and_then h g event) g) → AreJournalsOf (and_then h g event) new
+    same is own = subst (λ (ks : List Log). AreJournalsOf (and_then h g event) ks) (sym is) (record { configs = told.configs; entries = λ j l at. each j l at (g == j) refl })
       where
         each : (j : ℕ) (l : Log) → log_at ls j ≡ Some l → (b : Bool) → (g == j) ≡ b → l.entries ≡ entries reading (and_then h g event) j
         each j l at true y = subst (λ n. l.entries ≡ entries reading (and_then h g event) n) (eqb-true g j y) (own l (ap (log_at ls) (eqb-true g j y) ∙ at))
         each j l at false y = stays h ls g event j l told at y
 
-    go : (o : Option Log) → log_at ls g ≡ o → (r : Result (List Out) Refusal) → (r ≡ Err NoMemory → ⊥) → IsAnsweredAt o ls e r new → IsToldBy (and_then h g event) new
+    go : (o : Option Log) → log_at ls g ≡ o → (r : Result (List Out) Refusal) → (r ≡ Err NoMemory → ⊥) → IsAnsweredAt o ls e r new → AreJournalsOf (and_then h g event) new
     go None at r memory (unknown, is) = same is (λ l found. absurd (cc))
-    go (Some l) at (Ok os) memory (entered_is, is) = subst (λ (ks : List Log). IsToldBy (and_then h g event) ks) (sym is) (record {
+    go (Some l) at (Ok os) memory (entered_is, is) = subst (λ (ks : List Log). AreJournalsOf (and_then h g event) ks) (sym is) (record {
       configs = set-configs ls g l (extended l e os) at refl ∙ told.configs;
       entries = λ j m found. each j m found (g == j) refl;
     })
@@ -182,7 +182,7 @@ told-then h ls new g event r told answer memory = go (log_at ls g) refl r memory
             by (inl none) = absurd (memory (ap (λ (z : Refusal). Err z) none))
             by (inr first) = sym (ap (λ (z : Log). z.entries) q) ∙ sym (append-nil l.entries) ∙ ap (λ (p : Reply). l.entries ++ journal_with e p []) (sym (refused l e x first)) ∙ goes-on h ls g event l told at
 
-pub told-answered : (h : History) (ls new : List Log) (g : ℕ) (event : Event) (r : Result (Vec Out Global) Refusal) → IsToldBy h ls → IsAnswered ls g event r new → r ≢ Err NoMemory → IsToldBy (and_then h g event) new
+pub told-answered : (h : History) (ls new : List Log) (g : ℕ) (event : Event) (r : Result (Vec Out Global) Refusal) → AreJournalsOf h ls → IsAnswered ls g event r new → r ≢ Err NoMemory → AreJournalsOf (and_then h g event) new
 told-answered h ls new g event r told answer memory = told-then h ls new g event (items_of r) told answer (go r memory)
   where
     go : (r : Result (Vec Out Global) Refusal) → r ≢ Err NoMemory → items_of r ≡ Err NoMemory → ⊥
@@ -237,7 +237,7 @@ none-left g (c ∷ cs) = go (c.0 == g) refl (none-left g cs)
     go true y ih = ih
     go false y ih = rw y ih
 
-pub told-joined : (h : History) (ls : List Log) (config : Config) → IsToldBy h ls → log_at ls config.number ≡ None → IsToldBy (joined config h) (logs_with (record { config = config; entries = [] }) ls)
+pub told-joined : (h : History) (ls : List Log) (config : Config) → AreJournalsOf h ls → log_at ls config.number ≡ None → AreJournalsOf (joined config h) (logs_with (record { config = config; entries = [] }) ls)
 unfolding journal
 told-joined h ls config told none = record { configs = configs-are; entries = λ j m found. each j m found (config.number == j) refl }
   where
@@ -297,7 +297,7 @@ adopted-steps c own h j =
     ap (steps_to j) (map-append (λ (x : ℕ × Event). (x.0, step_of x.1)) (filter (λ x. not (x.0 == c.number)) h.calls) (filter (λ x. x.0 == c.number) own.calls))
     ∙ steps-both j (steps_of reading (filter (λ x. not (x.0 == c.number)) h.calls)) (steps_of reading (filter (λ x. x.0 == c.number) own.calls))
 
-pub told-adopted : (h own : History) (ls : List Log) (l : Log) → IsToldBy h ls → IsToldBy own (l ∷ []) → log_at ls l.config.number ≡ None → IsToldBy (adopted l.config own h) (logs_with l ls)
+pub told-adopted : (h own : History) (ls : List Log) (l : Log) → AreJournalsOf h ls → AreJournalsOf own (l ∷ []) → log_at ls l.config.number ≡ None → AreJournalsOf (adopted l.config own h) (logs_with l ls)
 told-adopted h own ls l told mine none = record { configs = configs-are; entries = λ j m found. each j m found (l.config.number == j) refl }
   where
     g : ℕ

@@ -7,7 +7,7 @@ use Rattle.network.specs.Marks.{slot_and_node_of}
 use Rattle.hoststep.specs.declared.lent_decision.LentDecision.{LentDecision}
 
 -- a node externalized a value for a slot
-pub record Decided : Type 0 where
+pub record ExternalizedValue : Type 0 where
   pub slot : ℕ
   pub node : ℕ
   pub value : List ℕ
@@ -21,32 +21,32 @@ values_in (Emit e ∷ os) = values_in os
 values_in (Externalized x ∷ os) = x ∷ values_in os
 
 -- these values, decided at this slot by this node
-abbrev pub decided_at : Option (ℕ × ℕ) → List (List ℕ) → List Decided
+abbrev pub decided_at : Option (ℕ × ℕ) → List (List ℕ) → List ExternalizedValue
 decided_at None xs = []
 decided_at (Some at) xs = map (λ x. record { slot = at.0; node = at.1; value = x }) xs
 
 -- all that an entry decided: each value that it gives out, at the slot and by the node of its event
-abbrev pub decisions_in : Entry → List Decided
+abbrev pub decisions_in : Entry → List ExternalizedValue
 decisions_in x = decided_at (slot_and_node_of x.event) (values_in x.outs)
 
 -- nothing where there is no entry
-abbrev pub decisions_in_any : Option Entry → List Decided
+abbrev pub decisions_in_any : Option Entry → List ExternalizedValue
 decisions_in_any None = []
 decisions_in_any (Some x) = decisions_in x
 
 -- what the entry with this number decided, from 0 on; nothing past the last
-abbrev pub decisions_at : List Entry → ℕ → List Decided
+abbrev pub decisions_at : List Entry → ℕ → List ExternalizedValue
 decisions_at entries n = decisions_in_any (slice_get entries n)
 
 -- all that these entries decided, in order
-abbrev pub decisions_by : List Entry → List Decided
+abbrev pub decisions_by : List Entry → List ExternalizedValue
 decisions_by [] = []
 decisions_by (x ∷ xs) = decisions_in x ++ decisions_by xs
 
 -- what the entries from this number on decided
-abbrev pub decisions_from : List Entry → ℕ → List Decided
+abbrev pub decisions_from : List Entry → ℕ → List ExternalizedValue
 decisions_from entries n = decisions_by (drop n entries)
 
 -- a decision that is lent
-abbrev pub decided_by : LentDecision → Decided
+abbrev pub decided_by : LentDecision → ExternalizedValue
 decided_by d = record { slot = d.slot; node = d.node; value = d.value.now }

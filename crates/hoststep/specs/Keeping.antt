@@ -4,7 +4,7 @@ use Rattle.std.specs.List.{All}
 use Rattle.types.specs.Statements.{Sent}
 use Rattle.codec.specs.Spelling.{spelling}
 use Rattle.protocol.specs.Hosts.{Entry}
-use Rattle.protocol.specs.Networks.{Host, Step}
+use Rattle.protocol.specs.Networks.{HostedNode, Step}
 use Rattle.protocol.specs.Networks.Reading.{Read, Fault}
 use Rattle.protocol.specs.Networks.Step.{Opens, Closes, Delivers, Hears, NominationTimerFires, BallotTimerFires}
 use Rattle.envstore.specs.Archives.{IsFiled, sent_of}
@@ -44,7 +44,7 @@ spelled_size e = length (spelling e)
 
 -- the nodes stand at their places among the hosts; the archive has the envelope that was delivered, and as many bytes came as its
 -- spelling has; what lies in a box is large
-abbrev pub IsKeptEvent : List Host → List Sent → KeptEvent → Type 0
+abbrev pub IsKeptEvent : List HostedNode → List Sent → KeptEvent → Type 0
 IsKeptEvent hosts archive (OpenSlot i) = ⊤
 IsKeptEvent hosts archive (CloseSlot i) = ⊤
 IsKeptEvent hosts archive (Deliver u size f) = IsHostAt hosts u × IsFiled archive f × (size ≡ spelled_size (sent_of f))
@@ -60,12 +60,12 @@ pub record AreListed (lists : List EntryOuts) (xs : List StoredEntry) : Type 0 w
   pub listed : (k : ℕ) (d : StoredEntry) → k < length xs → listed_at lists k ≡ kept_outs (get_or xs k d).outs
 
 -- that of each entry; the archive has what was emitted, and what was given out is listed
-abbrev pub AreKept : List Host → List Sent → List EntryOuts → List StoredEntry → Type 0
+abbrev pub AreKept : List HostedNode → List Sent → List EntryOuts → List StoredEntry → Type 0
 AreKept hosts archive lists xs = All (λ x. IsKeptEvent hosts archive x.event × AreFiledOuts archive (kept_outs x.outs)) xs × AreListed lists xs
 
 -- an entry that is read in place
 abbrev pub lent_entry : LentEntry → Entry
 lent_entry x = record { event = step_in x.event.now; outs = outs_of x.outs.now }
 
-abbrev pub IsLentEntry : List Host → List Sent → LentEntry → Type 0
+abbrev pub IsLentEntry : List HostedNode → List Sent → LentEntry → Type 0
 IsLentEntry hosts archive x = IsKeptEvent hosts archive x.event.now × AreFiledOuts archive x.outs.now

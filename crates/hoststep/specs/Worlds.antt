@@ -67,7 +67,7 @@ abbrev pub adopted : Config → History → History → History
 adopted c own h = record h { configs = configs_with c h.configs; calls = filter (λ x. not (x.0 == c.number)) h.calls ++ filter (λ x. x.0 == c.number) own.calls }
 
 -- the journals are those of a history: its configurations, and of each network the entries that the history applies to it
-pub record IsToldBy (h : History) (logs : List Log) : Type 0 where
+pub record AreJournalsOf (h : History) (logs : List Log) : Type 0 where
   pub configs : map (λ l. l.config) logs ≡ h.configs
   pub entries : (g : ℕ) (l : Log) → log_at logs g ≡ Some l → l.entries ≡ entries reading h g
 

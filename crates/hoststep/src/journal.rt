@@ -19,7 +19,7 @@ use crate::outs_list::{EntryOuts, KeptOuts};
 use crate::recorded::Recorded;
 use configuration::NetConfig;
 use envstore::Shelf;
-use network::{Applied, Network};
+use network::{Network, Outcome};
 use std::alloc::{AllocError, Global};
 use std::marker::Model;
 use types::{Event, Nested, NodeId, Out, Refusal};
@@ -165,7 +165,7 @@ impl<S: Shelf> Journal<S> {
             return Err(Refusal::NoMemory);
         }
         let applied = self.network.apply(&event, copies)?;
-        let Applied {
+        let Outcome {
             outs,
             marks,
             copies,

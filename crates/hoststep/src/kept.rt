@@ -5,7 +5,7 @@
 ghost use Rattle.std.specs.Prelude.{◌≡◌, ◌++◌, IfOk, IfSome, List, OnErr, OnOk, false, length, option_map, slice_get, take};
 ghost use Rattle.codec.specs.Steps.{IsBytes};
 ghost use Rattle.envstore.specs.Archives.{IsFiled, sent_of};
-ghost use Rattle.protocol.specs.Networks.{Host};
+ghost use Rattle.protocol.specs.Networks.{HostedNode};
 ghost use Rattle.protocol.specs.Networks.Reading.{Read};
 ghost use Rattle.protocol.specs.Networks.Step.{Delivers};
 ghost use Rattle.slot.specs.Filings.{AreFiledOuts, IsFiledOut, out_of, outs_of};
@@ -176,7 +176,7 @@ fn kept_delivery(node: HostPlace, bytes: &Bytes, delivered: Option<Filed>) -> Ke
     requires delivered { option_map sent_of delivered ≡ delivered_of (Delivers (host_name node) (length bytes.now) (reading bytes.now)) }
     requires readable { IsReadable (Delivers (host_name node) (length bytes.now) (reading bytes.now)) }
     ensures step { step_in result ≡ Delivers (host_name node) (length bytes.now) (reading bytes.now) }
-    ensures filed { (hosts : List Host) (archive : List Sent) → IsHostAt hosts node → IfSome delivered (IsFiled archive) → IsKeptEvent hosts archive result }
+    ensures filed { (hosts : List HostedNode) (archive : List Sent) → IsHostAt hosts node → IfSome delivered (IsFiled archive) → IsKeptEvent hosts archive result }
 {
     let Some(envelope) = delivered else {
         unreachable!()

@@ -20,7 +20,7 @@ mod recorded;
 mod sizes;
 mod world;
 
-pub use configuration::{Budgets, ConfigError, Host, NetConfig, Reservation, Roster, Shares};
+pub use configuration::{Budgets, ConfigError, HostedNode, NetConfig, Reservation, Roster, Shares};
 pub use journal::Journal;
 pub use lent_decision::LentDecision;
 pub use lent_event::LentEvent;

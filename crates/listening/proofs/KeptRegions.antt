@@ -3,11 +3,11 @@ use Rattle.std.proofs.Common.{List, sym, ◌∙◌}
 use Rattle.types.specs.Statements.{Sent}
 use Rattle.protocol.specs.Rows.{with_row}
 use Rattle.protocol.specs.Stirring.{ReachesSame}
-use Rattle.view.specs.declared.region.Entry.{Entry}
+use Rattle.view.specs.declared.region.RegionEntry.{RegionEntry}
 use Rattle.view.specs.declared.region.Region.{Region}
 use Rattle.view.specs.Regions.{IsEntry, IsRegion}
 use Rattle.listening.specs.declared.configured.Configured.{Configured}
 
 -- an entry that a row sets, which leaves the reach
-pub keeps-entry : (c : Configured) (table : List Sent) (e : Sent) (r : Region) (x : Entry) → IsEntry c.name c.slices table e r x → IsRegion c.name c.slices table r → ReachesSame c.name c.slices table (with_row e table)
+pub keeps-entry : (c : Configured) (table : List Sent) (e : Sent) (r : Region) (x : RegionEntry) → IsEntry c.name c.slices table e r x → IsRegion c.name c.slices table r → ReachesSame c.name c.slices table (with_row e table)
 keeps-entry c table e r x entry is = λ u. sym ((entry.reach is.reach).exactly u) ∙ is.reach.exactly u

@@ -19,7 +19,7 @@ use envstore::{Archive, Filed, Places};
 use latest::{Put, Rows, Table};
 use std::alloc::{AllocError, Global};
 use types::Envelope;
-use view::{Change, Entry, Extent, KnownReach, NewReach, Region, Taken};
+use view::{Change, Extent, KnownReach, NewReach, Region, RegionEntry, Taken};
 
 /// What a row does to the region that is known.
 #[derive(Drop)]
@@ -27,7 +27,7 @@ pub(crate) enum Effect {
     /// It stays.
     Nothing,
     /// This entry is set.
-    Sets(Entry),
+    Sets(RegionEntry),
     /// Whom the node reaches is of this extent.
     Reach(Extent),
     /// It is not known any more.

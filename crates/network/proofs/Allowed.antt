@@ -2,7 +2,7 @@
 use Rattle.std.proofs.Common.{◌≡◌, ℕ, zero, suc, ◌<◌, Bool, true, false, not, List, [], ◌∷◌, map, Some, None, is_some, option_map, slice_get, if◌then◌else◌, refl, ◌∙◌, ap, subst, arith, length}
 use Rattle.types.specs.declared.event.Refusal.{Refusal}
 use Rattle.types.specs.declared.event.Refusal.TheVariants.{NoSuchNode, SlotNotOpen}
-use Rattle.protocol.specs.Networks.{Host, Net, Slot, is_hosted, hosted_test, is_open, open_test, first_that}
+use Rattle.protocol.specs.Networks.{HostedNode, Net, Slot, is_hosted, hosted_test, is_open, open_test, first_that}
 use Rattle.configuration.specs.Configs.{index_in, index_of_name, names_of}
 use Rattle.network.specs.Deeds.{IsSlotThere, index_of_slot}
 use Rattle.network.specs.Lodgings.{slot_of}
@@ -28,11 +28,11 @@ is_some-map f (x ∷ xs) (suc k) l = is_some-map f xs k (omega (arith, l))
 
 pub hosted : (net : Net) (u h : ℕ) → index_in (names_of net.hosts) u ≡ Some h → is_hosted net u ≡ true
 hosted net u h q =
-    let l : h < length net.hosts = subst (λ n. h < n) (mapped-length (λ (x : Host). x.name) net.hosts) (index-within (names_of net.hosts) u h q) in
-    ap is_some (slices_of-is net.hosts u ∙ at-index (λ (x : Host). x.name) (λ (x : Host). x.slices) net.hosts u h q) ∙ is_some-map (λ (x : Host). x.slices) net.hosts h l
+    let l : h < length net.hosts = subst (λ n. h < n) (mapped-length (λ (x : HostedNode). x.name) net.hosts) (index-within (names_of net.hosts) u h q) in
+    ap is_some (slices_of-is net.hosts u ∙ at-index (λ (x : HostedNode). x.name) (λ (x : HostedNode). x.slices) net.hosts u h q) ∙ is_some-map (λ (x : HostedNode). x.slices) net.hosts h l
 
 pub hosted-not : (net : Net) (u : ℕ) → index_in (names_of net.hosts) u ≡ None → is_hosted net u ≡ false
-hosted-not net u q = ap is_some (slices_of-is net.hosts u ∙ at-none (λ (x : Host). x.name) (λ (x : Host). x.slices) net.hosts u q)
+hosted-not net u q = ap is_some (slices_of-is net.hosts u ∙ at-none (λ (x : HostedNode). x.name) (λ (x : HostedNode). x.slices) net.hosts u q)
 
 pub opened_at : (net : Net) (i k : ℕ) → index_of_slot net.slots i ≡ Some k → is_open net i ≡ true
 opened_at net i k q =

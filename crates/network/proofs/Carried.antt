@@ -28,9 +28,9 @@ use Rattle.network.specs.Charges.{HasRoomInCounts, HasRoomOnNetwork, IsActed, Is
 use Rattle.network.specs.Deeds.{IsDrawn, IsEventOf, IsNodeOf, IsPlan, IsThere, acted, handed, node_at, outs_after, slots_after}
 use Rattle.network.specs.Doings.{IsAnswer, IsDoable, IsDone, marks_after, slots_of}
 use Rattle.network.specs.Lodgings.{AreTallied, IsLodged, IsTallied, IsUncounted, Lodging, Lodgings, Seat, Seats, bytes_from, events_from, place_in, seat_of, seats_of, slot_of}
-use Rattle.network.specs.Marks.{marks_in, numbered, slot_and_node_of, told_at, told_before}
+use Rattle.network.specs.Marks.{marks_in, numbered, slot_and_node_of, emitted_at, emitted_before}
 use Rattle.network.specs.Standing.{IsStanding, IsStep, IsTidy, Machine, Standing, StandsFor, machine_of, net_of}
-use Rattle.network.specs.declared.applied.Applied.{Applied}
+use Rattle.network.specs.declared.applied.Outcome.{Outcome}
 use Rattle.network.specs.declared.plan.Charge.{Charge}
 use Rattle.network.specs.declared.plan.Deed.{Deed}
 use Rattle.network.specs.declared.plan.Deed.TheVariants.{Open, Close, Act, Hand}
@@ -400,13 +400,13 @@ module _ (m : Standing) (e : Step) (p : Plan) (t : IsStanding m) (plan : IsPlan 
   marks-by (Act k h x) nm os =
       let a = node-named (machine_of m) e k h nm in
       let n = neat-of (machine_of m) t.tidy in
-      let told = ap (told_before net) a.2 ∙ ap told_at (node_where_open-at (names_of m.config.hosts) (slots_of m.slots) a.0 a.1 k h n.names a.3 a.4) in
-      ap₂ (λ (ts : List Sent) (ys : List Out). numbered ts (emissions ys)) (sym told) os
+      let emitted = ap (emitted_before net) a.2 ∙ ap emitted_at (node_where_open-at (names_of m.config.hosts) (slots_of m.slots) a.0 a.1 k h n.names a.3 a.4) in
+      ap₂ (λ (ts : List Sent) (ys : List Out). numbered ts (emissions ys)) (sym emitted) os
   marks-by (Hand k h x) nm os =
       let a = node-named (machine_of m) e k h nm in
       let n = neat-of (machine_of m) t.tidy in
-      let told = ap (told_before net) a.2 ∙ ap told_at (node_where_open-at (names_of m.config.hosts) (slots_of m.slots) a.0 a.1 k h n.names a.3 a.4) in
-      ap₂ (λ (ts : List Sent) (ys : List Out). numbered ts (emissions ys)) (sym told) os
+      let emitted = ap (emitted_before net) a.2 ∙ ap emitted_at (node_where_open-at (names_of m.config.hosts) (slots_of m.slots) a.0 a.1 k h n.names a.3 a.4) in
+      ap₂ (λ (ts : List Sent) (ys : List Out). numbered ts (emissions ys)) (sym emitted) os
 
   pub marks-after : marks_after (slots_of m.slots) p.deed ≡ marks_in net e
   marks-after = marks-by p.deed plan.named (plan.outs net stands-for)
@@ -565,7 +565,7 @@ module _ {m : Standing} {e : Step} {p : Plan} (known : IsCarriable m e p) where
         (record { lodged = lodged; tidy = tidy-after; stood = ((net_step stood e).0.draws, (stands-after m e p known.standing known.plan known.standing.stood.0 known.standing.stood.1 new done).tallied) })
 
 -- ---- what carrying out leaves
-pub applied : (m : Standing) (e : Step) (p : Plan) (new : List Lodgings) (archive : List Sent) (events bytes opens count : ℕ) (a : Applied) → IsStanding m → IsPlan m e p → IsDone (charge_of p) p.deed m.slots new
+pub applied : (m : Standing) (e : Step) (p : Plan) (new : List Lodgings) (archive : List Sent) (events bytes opens count : ℕ) (a : Outcome) → IsStanding m → IsPlan m e p → IsDone (charge_of p) p.deed m.slots new
     → events ≡ m.events + on_budgets_of p.drawn 1 → bytes ≡ m.bytes + on_budgets_of p.drawn p.size → opens ≡ m.opens + on_opens_of p.drawn
     → IsAnswer (outs_after (slots_of m.slots) p.deed) (marks_after (slots_of m.slots) p.deed) (handed p.deed) count archive a
     → IsApplied m e count (record { config = m.config; archive = archive; slots = new; events = events; bytes = bytes; opens = opens }) a

@@ -10,9 +10,9 @@ use Rattle.network.specs.Charges.{HasRoomFor, IsReady}
 use Rattle.network.specs.Deeds.{node_at}
 use Rattle.network.specs.Doings.{slots_of}
 use Rattle.network.specs.Lodgings.{AreLodged, IsGiven, IsLodged, Lodging, Lodgings, Seat, place_in, seat_of}
-use Rattle.network.specs.Marks.{numbered, told_at}
+use Rattle.network.specs.Marks.{numbered, emitted_at}
 use Rattle.network.specs.declared.plan.Charge.{Charge}
-use Rattle.network.specs.declared.told.Noted.{Noted}
+use Rattle.network.specs.declared.emission_log.NumberedOuts.{NumberedOuts}
 use Rattle.network.proofs.Placed.{lodged-still}
 
 pub at-get : {X : Type 0} (xs : List X) (k : ℕ) (x y : X) → slice_get xs k ≡ Some x → y ≡ get_or xs k y → y ≡ x
@@ -64,11 +64,11 @@ place-room c items k h y r is =
     let q = at-get items k r.slot y r.slot_is is in
     subst (λ (s : Lodgings). IfSome (slice_get s.places h) (HasRoomFor c)) (sym q) (subst (λ (o : Option Lodging). IfSome o (HasRoomFor c)) (sym r.place_is) r.room)
 
-abbrev pub IsSeen : NodeEvent → ℕ → Option Place → Noted → Type 0
-IsSeen e count o n = IsGiven (outs_at e o) (numbered (told_at o) (emissions (outs_at e o))) count n
+abbrev pub IsSeen : NodeEvent → ℕ → Option Place → NumberedOuts → Type 0
+IsSeen e count o n = IsGiven (outs_at e o) (numbered (emitted_at o) (emissions (outs_at e o))) count n
 
 -- what its event answers
-pub given-seen : (c : Charge) (items : List Lodgings) (k h : ℕ) (y : Lodgings) (e : NodeEvent) (count : ℕ) (n : Noted) → (r : IsReady c items k h) → y ≡ get_or items k y → IsSeen e count (slice_get (map place_in y.places) h) n → IsSeen e count (node_at (slice_get (slots_of items) k) h) n
+pub given-seen : (c : Charge) (items : List Lodgings) (k h : ℕ) (y : Lodgings) (e : NodeEvent) (count : ℕ) (n : NumberedOuts) → (r : IsReady c items k h) → y ≡ get_or items k y → IsSeen e count (slice_get (map place_in y.places) h) n → IsSeen e count (node_at (slice_get (slots_of items) k) h) n
 given-seen c items k h y e count n r is g =
     let q = at-get items k r.slot y r.slot_is is in
     subst (λ (o : Option Place). IsSeen e count o n) (ap (λ (s : Lodgings). slice_get (map place_in s.places) h) q ∙ sym (seen-at items k h r.slot r.slot_is)) g

@@ -16,7 +16,7 @@ use Rattle.slot.specs.declared.filed.FiledEvent.TheVariants as events
 use Rattle.network.specs.Deeds.{HasRoomForBytes, HasNoRoomForBytes, IsDrawn, IsPlan, IsRoom, IsSeat, IsSlotThere, index_of_slot, pair_source}
 use Rattle.network.specs.Lodgings.{Seat, slot_of}
 use Rattle.network.specs.Standing.{IsRefusal, IsStanding, Standing, StandsFor, machine_of}
-use Rattle.network.specs.Tellings.{nth_of}
+use Rattle.network.specs.EmissionsByKind.{nth_of}
 use Rattle.network.specs.declared.plan.Deed.TheVariants.{Act, Hand}
 use Rattle.network.specs.declared.plan.Drawn.{Drawn}
 use Rattle.network.proofs.Allowed.{host_then, host-in, hosted, hosted-not, no_host, not_open, open_then, passes, refuses, stops}
@@ -173,13 +173,13 @@ hears-closed m i u h w j kind n two c =
     inr (λ net s. two-there m net i u h w j kind n two s ∙ not_open m net i ((is_none (emission (node_where_open (places_at net.slots i) w) kind n), NotEmitted) ∷ room_test net (pair_source net.roster i u w) ∷ []) s c)
 
 -- what it has emitted
-told-nth : (p : Place) (kind : Kind) (n : ℕ) → emission (Some p) kind n ≡ nth_of kind n p.told
-told-nth p kind zero = refl
-told-nth p kind (suc n) = refl
+emitted-nth : (p : Place) (kind : Kind) (n : ℕ) → emission (Some p) kind n ≡ nth_of kind n p.emitted
+emitted-nth p kind zero = refl
+emitted-nth p kind (suc n) = refl
 
 emission-is : (m : Standing) (net : Net) (i w k j : ℕ) (kind : Kind) (n : ℕ) (y : Seat) (o : Option (Bor Filed)) → IsStanding m → StandsFor (machine_of m) net → IsSlotThere m i k → index_of_name m.config.hosts w ≡ Some j → IsSeat (machine_of m) k j y
-    → option_map (λ f. sent_of f.now) o ≡ nth_of kind n y.place.told → emission (node_where_open (places_at net.slots i) w) kind n ≡ option_map (λ f. sent_of f.now) o
-emission-is m net i w k j kind n y o st s q r is e = ap (λ x. emission x kind n) (node_where_open-seat m net i w k j y st s q r is) ∙ told-nth y.place kind n ∙ sym e
+    → option_map (λ f. sent_of f.now) o ≡ nth_of kind n y.place.emitted → emission (node_where_open (places_at net.slots i) w) kind n ≡ option_map (λ f. sent_of f.now) o
+emission-is m net i w k j kind n y o st s q r is e = ap (λ x. emission x kind n) (node_where_open-seat m net i w k j y st s q r is) ∙ emitted-nth y.place kind n ∙ sym e
 
 -- and the slot is open
 pub record IsHearing (m : Standing) (i u h w j k : ℕ) (kind : Kind) (n : ℕ) (y : Seat) (o : Option (Bor Filed)) : Type 0 where
@@ -187,10 +187,10 @@ pub record IsHearing (m : Standing) (i u h w j k : ℕ) (kind : Kind) (n : ℕ) 
   pub two : AreTwo m u h w j
   pub slot : IsSlotThere m i k
   pub seat : IsSeat (machine_of m) k j y
-  pub sent : option_map (λ f. sent_of f.now) o ≡ nth_of kind n y.place.told
+  pub sent : option_map (λ f. sent_of f.now) o ≡ nth_of kind n y.place.emitted
 
 pub hearing : {s : Standing} (m : Standing) (i u h w j k : ℕ) (kind : Kind) (n : ℕ) (y : Seat) (o : Option (Bor Filed)) → s ≡ m → IsStanding s → index_of_name m.config.hosts u ≡ Some h → index_of_name m.config.hosts w ≡ Some j → (u == w) ≡ false → IsSlotThere m i k → IsSeat (machine_of m) k j y
-    → option_map (λ f. sent_of f.now) o ≡ nth_of kind n y.place.told → IsHearing m i u h w j k kind n y o
+    → option_map (λ f. sent_of f.now) o ≡ nth_of kind n y.place.emitted → IsHearing m i u h w j k kind n y o
 hearing m i u h w j k kind n y o seen st q r differ c is e = record { standing = subst IsStanding seen st; two = record { node = q; from = r; differ = differ }; slot = c; seat = is; sent = e }
 
 heard-at : (m : Standing) (net : Net) (i u h w j k : ℕ) (kind : Kind) (n : ℕ) (y : Seat) (o : Option (Bor Filed)) → IsHearing m i u h w j k kind n y o → StandsFor (machine_of m) net

@@ -8,7 +8,7 @@ mod FewOuts
 mod Handings
 mod Indexes
 pub mod KeyPlaces
-mod Noted
+mod NumberedOuts
 mod Openings
 mod Placed
 mod Planned
@@ -17,5 +17,5 @@ pub mod Readings
 mod SlicesAt
 mod SlotPlaceLaws
 mod TallyLaws
-mod Tellings
+mod EmissionsByKind
 mod Tidiness

@@ -9,7 +9,7 @@ use Rattle.types.specs.declared.event.NodeEvent.{NodeEvent}
 use Rattle.std.proofs.Math.Seq.{drop-cons}
 use Rattle.std.proofs.lemmas.List.{map-append}
 use Rattle.protocol.specs.Nodes.{fresh}
-use Rattle.protocol.specs.Networks.{Host, Place, nodes_of_new_slot}
+use Rattle.protocol.specs.Networks.{HostedNode, Place, nodes_of_new_slot}
 use Rattle.envstore.specs.declared.filed.Filed.{Filed}
 use Rattle.envstore.specs.Archives.{AreFiled, IsFiled, Keeps}
 use Rattle.protocol.specs.Hosts.{Config}
@@ -44,17 +44,17 @@ got old at x l is = slice_get_read (map place_in old) (length (map place_in old)
 pub lodged-still : (old new : List Sent) (x : Lodging) → Keeps old new → IsLodged old x → IsLodged new x
 lodged-still old new x kept h = record {
   rows = λ k d l. kept (get_or x.held.rows k d) (h.rows k d l);
-  told = λ k d l. kept (get_or x.told k d) (h.told k d l);
+  emitted = λ k d l. kept (get_or x.emitted k d) (h.emitted k d l);
 }
 
 pub all-lodged : (old new : List Sent) (xs : List Lodging) (at : ℕ) (y : Lodging) → Keeps old new → IsLodged new y → All (IsLodged old) xs → All (IsLodged new) (set xs at y)
 all-lodged old new xs at y kept one all = All-set (IsLodged new) xs at y one (λ k d l. lodged-still old new (get_or xs k d) kept (all k d l))
 
 -- a node that has taken and emitted nothing
-pub fresh-lodged : (archive : List Sent) (x : Lodging) → x.held.rows ≡ [] → x.told ≡ [] → IsLodged archive x
-fresh-lodged archive x rows told = record {
+pub fresh-lodged : (archive : List Sent) (x : Lodging) → x.held.rows ≡ [] → x.emitted ≡ [] → IsLodged archive x
+fresh-lodged archive x rows emitted = record {
   rows = subst (λ (fs : List Filed). AreFiled archive fs) (sym rows) (All-nil (IsFiled archive));
-  told = subst (λ (fs : List Filed). AreFiled archive fs) (sym told) (All-nil (IsFiled archive));
+  emitted = subst (λ (fs : List Filed). AreFiled archive fs) (sym emitted) (All-nil (IsFiled archive));
 }
 
 pub one-more : (archive : List Sent) (xs ys : List Lodging) (x : Lodging) → ys ≡ xs ++ x ∷ [] → IsLodged archive x → All (IsLodged archive) xs → All (IsLodged archive) ys
@@ -66,13 +66,13 @@ one-more-uncounted xs ys x is own heard all =
     subst (λ (zs : List Lodging). All IsUncounted zs) (sym is) (All-append IsUncounted xs (x ∷ []) all (All-cons IsUncounted x [] one (All-nil IsUncounted)))
 
 -- one host more
-pub nodes_of_new_slot-more : (old new : List Lodging) (start : List Place) (hosts : List Host) (i n : ℕ) (h : Host) (x : Lodging) → i < length hosts → h ≡ get_or hosts i h → new ≡ old ++ x ∷ []
-    → place_in x ≡ record { node = fresh n h.name h.slices; told = [] } → map place_in old ++ nodes_of_new_slot (drop i hosts) n ≡ start → map place_in new ++ nodes_of_new_slot (drop (i + 1) hosts) n ≡ start
+pub nodes_of_new_slot-more : (old new : List Lodging) (start : List Place) (hosts : List HostedNode) (i n : ℕ) (h : HostedNode) (x : Lodging) → i < length hosts → h ≡ get_or hosts i h → new ≡ old ++ x ∷ []
+    → place_in x ≡ record { node = fresh n h.name h.slices; emitted = [] } → map place_in old ++ nodes_of_new_slot (drop i hosts) n ≡ start → map place_in new ++ nodes_of_new_slot (drop (i + 1) hosts) n ≡ start
 unfolding nodes_of_new_slot
 nodes_of_new_slot-more old new start hosts i n h x l is more made before =
     let z : suc i ≡ i + 1 = omega arith in
     let rest = nodes_of_new_slot (drop (i + 1) hosts) n in
-    let next : nodes_of_new_slot (drop i hosts) n ≡ place_in x ∷ rest = ap (λ (hs : List Host). nodes_of_new_slot hs n) (drop-cons hosts i h l ∙ (λ j. sym is j ∷ drop (z j) hosts)) ∙ ap (λ (q : Place). q ∷ rest) (sym made) in
+    let next : nodes_of_new_slot (drop i hosts) n ≡ place_in x ∷ rest = ap (λ (hs : List HostedNode). nodes_of_new_slot hs n) (drop-cons hosts i h l ∙ (λ j. sym is j ∷ drop (z j) hosts)) ∙ ap (λ (q : Place). q ∷ rest) (sym made) in
     ap (λ (ls : List Lodging). map place_in ls ++ rest) more ∙ ap (λ (ps : List Place). ps ++ rest) (map-append place_in old (x ∷ [])) ∙ append_assoc (map place_in old) (place_in x ∷ []) rest
     ∙ sym (ap (λ (ps : List Place). map place_in old ++ ps) next) ∙ before
 

@@ -5,7 +5,7 @@ use Rattle.std.proofs.lemmas.Option.{slice_get-map, slice_get_within}
 use Rattle.std.proofs.lemmas.Bool.{eqb-true, false≢true, and_parts}
 use Rattle.types.specs.Trees.{all_differ}
 use Rattle.types.specs.declared.event.NodeEvent.{NodeEvent}
-use Rattle.protocol.specs.Networks.{Host, Net, Place, Slot, act, act_in, node_where_open, after_event, outs_at, node_named, places_at, slices_of}
+use Rattle.protocol.specs.Networks.{HostedNode, Net, Place, Slot, act, act_in, node_where_open, after_event, outs_at, node_named, places_at, slices_of}
 use Rattle.configuration.specs.Configs.{index_in, index_of_name, names_of}
 use Rattle.network.specs.Changes.{changed_at}
 use Rattle.network.specs.Deeds.{IsNodeThere, IsSeat, acted, index_of_slot, node_at}
@@ -46,7 +46,7 @@ pub node_named-is : (ps : List Place) (u : ℕ) → node_named ps u ≡ at_key n
 node_named-is [] u = refl
 node_named-is (p ∷ ps) u = ap (λ o. if p.node.name == u then Some p else o) (node_named-is ps u)
 
-pub slices_of-is : (hosts : List Host) (u : ℕ) → slices_of hosts u ≡ at_key (λ (h : Host). h.name) (λ (h : Host). h.slices) hosts u
+pub slices_of-is : (hosts : List HostedNode) (u : ℕ) → slices_of hosts u ≡ at_key (λ (h : HostedNode). h.name) (λ (h : HostedNode). h.slices) hosts u
 slices_of-is [] u = refl
 slices_of-is (h ∷ hs) u = ap (λ o. if h.name == u then Some h.slices else o) (slices_of-is hs u)
 
@@ -62,7 +62,7 @@ at-place P (y ∷ ys) (suc k) x a h = at-place P ys k x a.1 h
 
 -- ---- machines and the networks for which they stand
 -- no name is hosted twice; the hosted nodes stand in their order at each open slot; no slot is open twice
-pub record IsNeat (hosts : List Host) (slots : List Slot) : Type 0 where
+pub record IsNeat (hosts : List HostedNode) (slots : List Slot) : Type 0 where
   pub single : all_differ (names_of hosts) ≡ true
   pub names : AllByRecursion (λ s. map name_of s.places ≡ names_of hosts) slots
   pub apart : all_differ (map number_of slots) ≡ true
@@ -110,10 +110,10 @@ node-there m k h y is =
     (slot_of is.0, at, slice_get_within (map (λ (x : Seat). x.place) is.0.seats) h y.place (slice_get-map (λ (x : Seat). x.place) is.0.seats h ∙ ap (option_map (λ (x : Seat). x.place)) is.2))
 
 -- ---- the node of a name at a slot
-pub known-place : (hosts : List Host) (ps : List Place) (u h : ℕ) → map name_of ps ≡ names_of hosts → index_in (names_of hosts) u ≡ Some h → node_named ps u ≡ slice_get ps h
+pub known-place : (hosts : List HostedNode) (ps : List Place) (u h : ℕ) → map name_of ps ≡ names_of hosts → index_in (names_of hosts) u ≡ Some h → node_named ps u ≡ slice_get ps h
 known-place hosts ps u h e q = node_named-is ps u ∙ at-index name_of (λ p. p) ps u h (ap (λ ns. index_in ns u) e ∙ q) ∙ same-option (slice_get ps h)
 
-pub node_where_open-node : (hosts : List Host) (slots : List Slot) (i u k h : ℕ) → IsNeat hosts slots → index_of_slot slots i ≡ Some k → index_in (names_of hosts) u ≡ Some h → node_where_open (places_at slots i) u ≡ node_at (slice_get slots k) h
+pub node_where_open-node : (hosts : List HostedNode) (slots : List Slot) (i u k h : ℕ) → IsNeat hosts slots → index_of_slot slots i ≡ Some k → index_in (names_of hosts) u ≡ Some h → node_where_open (places_at slots i) u ≡ node_at (slice_get slots k) h
 node_where_open-node hosts slots i u k h t q r = ap (λ o. node_where_open o u) (places_at-is slots i ∙ at-index number_of places_of slots i k q) ∙ go (slice_get slots k) refl
   where
     go : (o : Option Slot) → slice_get slots k ≡ o → node_where_open (option_map places_of o) u ≡ node_at o h
@@ -121,10 +121,10 @@ node_where_open-node hosts slots i u k h t q r = ap (λ o. node_where_open o u) 
     go (Some s) e = known-place hosts s.places u h (at-place (λ (s : Slot). map name_of s.places ≡ names_of hosts) slots k s t.names e) r
 
 -- ---- one event of one node
-same-nodes : (hosts : List Host) (ps : List Place) (u h : ℕ) (e : NodeEvent) → all_differ (names_of hosts) ≡ true → map name_of ps ≡ names_of hosts → index_in (names_of hosts) u ≡ Some h → changed_at h (after_event e) ps ≡ act_in u e ps
+same-nodes : (hosts : List HostedNode) (ps : List Place) (u h : ℕ) (e : NodeEvent) → all_differ (names_of hosts) ≡ true → map name_of ps ≡ names_of hosts → index_in (names_of hosts) u ≡ Some h → changed_at h (after_event e) ps ≡ act_in u e ps
 same-nodes hosts ps u h e d q r = changed-map name_of (after_event e) ps u h (ap (λ ns. index_in ns u) q ∙ r) (ap all_differ q ∙ d)
 
-same-slots : (hosts : List Host) (slots : List Slot) (i u h : ℕ) (e : NodeEvent) → all_differ (names_of hosts) ≡ true → AllByRecursion (λ s. map name_of s.places ≡ names_of hosts) slots → index_in (names_of hosts) u ≡ Some h
+same-slots : (hosts : List HostedNode) (slots : List Slot) (i u h : ℕ) (e : NodeEvent) → all_differ (names_of hosts) ≡ true → AllByRecursion (λ s. map name_of s.places ≡ names_of hosts) slots → index_in (names_of hosts) u ≡ Some h
     → map {B = Slot} (λ (s : Slot). if s.number == i then record s { places = changed_at h (after_event e) s.places } else s) slots ≡ map {B = Slot} (λ (s : Slot). if s.number == i then record s { places = act_in u e s.places } else s) slots
 same-slots hosts [] i u h e d a r = refl
 same-slots hosts (s ∷ ss) i u h e d a r =

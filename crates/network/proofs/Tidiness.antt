@@ -8,7 +8,7 @@ use Rattle.types.specs.Statements.{Sent}
 use Rattle.types.specs.declared.event.NodeEvent.{NodeEvent}
 use Rattle.types.specs.declared.event.NodeEvent.TheVariants.{Propose, Take, NominationTimer, BallotTimer, Reslice}
 use Rattle.protocol.specs.Nodes.{fresh}
-use Rattle.protocol.specs.Networks.{Host, Net, Place, Slot, Step, act, act_in, act_known, effect, emission, first_that, room_test, is_open, node_where_open, after_event, nodes_of_new_slot, places_at, source, tests}
+use Rattle.protocol.specs.Networks.{HostedNode, Net, Place, Slot, Step, act, act_in, act_known, effect, emission, first_that, room_test, is_open, node_where_open, after_event, nodes_of_new_slot, places_at, source, tests}
 use Rattle.types.specs.declared.event.Refusal.TheVariants.{SlotOpenAlready, TooManySlots}
 use Rattle.protocol.specs.Networks.Reading.{Read, Fault}
 use Rattle.protocol.specs.Networks.Step.{Opens, Closes, Proposes, Delivers, Hears, NominationTimerFires, BallotTimerFires, Reslices}
@@ -22,7 +22,7 @@ abbrev pub slot_numbers : List Slot → List ℕ
 slot_numbers ss = map (λ (s : Slot). s.number) ss
 
 -- the names at each slot, and the numbers of the slots
-pub record Neat (hosts : List Host) (slots : List Slot) : Type 0 where
+pub record Neat (hosts : List HostedNode) (slots : List Slot) : Type 0 where
   pub names : AllByRecursion (λ s. names_at s.places ≡ names_of hosts) slots
   pub apart : all_differ (slot_numbers slots) ≡ true
 
@@ -67,7 +67,7 @@ neat-known net i u None n = n
 neat-known net i u (Some e) n = neat-act net i u (Take e) n
 
 -- ---- opening
-fresh-names : (hosts : List Host) (i : ℕ) → names_at (nodes_of_new_slot hosts i) ≡ names_of hosts
+fresh-names : (hosts : List HostedNode) (i : ℕ) → names_at (nodes_of_new_slot hosts i) ≡ names_of hosts
 unfolding nodes_of_new_slot fresh
 fresh-names [] i = refl
 fresh-names (h ∷ hs) i = ap (λ (ns : List ℕ). h.name ∷ ns) (fresh-names hs i)

@@ -8,7 +8,7 @@ use Rattle.envstore.specs.Archives.{IsFiled, sent_of}
 use Rattle.slot.specs.Filings.{AreFiledOuts, copies_of, outs_of}
 use Rattle.network.specs.Marks.{marks_in}
 use Rattle.network.specs.Standing.{IsStep, Standing, StandsFor, machine_of}
-use Rattle.network.specs.declared.applied.Applied.{Applied}
+use Rattle.network.specs.declared.applied.Outcome.{Outcome}
 
 -- the envelope that an event delivers
 abbrev pub delivered_of : Step → Option Sent
@@ -17,7 +17,7 @@ delivered_of _ = None
 
 -- The event is the network's step, with what that gives out, its marks, and so many whole copies; the archive has what was given out
 -- and what was delivered.
-pub record IsApplied (old : Standing) (e : Step) (count : ℕ) (new : Standing) (a : Applied) : Type 0 where
+pub record IsApplied (old : Standing) (e : Step) (count : ℕ) (new : Standing) (a : Outcome) : Type 0 where
   pub step : IsStep (machine_of old) e (outs_of a.outs.items) (machine_of new)
   pub marks : (net : Net) → StandsFor (machine_of old) net → a.marks.items ≡ marks_in net e
   pub copies : map (λ v. v.items) a.copies.items ≡ copies_of count (outs_of a.outs.items)

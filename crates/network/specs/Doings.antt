@@ -13,9 +13,9 @@ use Rattle.network.specs.Charges.{IsReady, IsSlotActed}
 use Rattle.network.specs.Changes.{IsChangedAt}
 use Rattle.network.specs.Deeds.{node_at, outs_after}
 use Rattle.network.specs.Lodgings.{IsLodged, Lodgings, seats_of, slot_of}
-use Rattle.network.specs.Marks.{numbered, told_at}
+use Rattle.network.specs.Marks.{numbered, emitted_at}
 use Rattle.network.specs.SlotPlaces.{numbers_of}
-use Rattle.network.specs.declared.applied.Applied.{Applied}
+use Rattle.network.specs.declared.applied.Outcome.{Outcome}
 use Rattle.network.specs.declared.plan.Charge.{Charge}
 use Rattle.network.specs.declared.plan.Deed.{Deed}
 use Rattle.network.specs.declared.plan.Deed.TheVariants.{Open, Close, Act, Hand}
@@ -43,11 +43,11 @@ IsDone c (Hand k h e) old new = IsChangedAt (IsSlotActed c h (NodeEvent.Take e))
 abbrev pub marks_after : List Slot → Deed → List ℕ
 marks_after slots (Open s) = []
 marks_after slots (Close k) = []
-marks_after slots (Act k h e) = numbered (told_at (node_at (slice_get slots k) h)) (emissions (outs_after slots (Act k h e)))
-marks_after slots (Hand k h e) = numbered (told_at (node_at (slice_get slots k) h)) (emissions (outs_after slots (Hand k h e)))
+marks_after slots (Act k h e) = numbered (emitted_at (node_at (slice_get slots k) h)) (emissions (outs_after slots (Act k h e)))
+marks_after slots (Hand k h e) = numbered (emitted_at (node_at (slice_get slots k) h)) (emissions (outs_after slots (Hand k h e)))
 
 -- what is given out, its marks, so many whole copies, and what was filed
-pub record IsAnswer (outs : List Out) (marks : List ℕ) (delivered : Option Sent) (count : ℕ) (archive : List Sent) (a : Applied) : Type 0 where
+pub record IsAnswer (outs : List Out) (marks : List ℕ) (delivered : Option Sent) (count : ℕ) (archive : List Sent) (a : Outcome) : Type 0 where
   pub outs_are : outs_of a.outs.items ≡ outs
   pub marks_are : a.marks.items ≡ marks
   pub copies : map (λ v. v.items) a.copies.items ≡ copies_of count outs

@@ -2,7 +2,7 @@ pub mod Changes
 pub mod Keyed
 pub mod Marks
 pub mod Decoding
-pub mod Tellings
+pub mod EmissionsByKind
 pub mod TallyBooks
 pub mod Lodgings
 pub mod SlotPlaces

@@ -12,14 +12,14 @@ use Rattle.envstore.specs.declared.filed.Filed.{Filed}
 use Rattle.slot.specs.Filings.{copies_of, outs_of}
 use Rattle.slot.specs.Listening.{Held}
 use Rattle.network.specs.declared.tallies.Tally.{Tally}
-use Rattle.network.specs.declared.told.Noted.{Noted}
-use Rattle.network.specs.declared.told.PlacesByKind.{PlacesByKind}
+use Rattle.network.specs.declared.emission_log.NumberedOuts.{NumberedOuts}
+use Rattle.network.specs.declared.emission_log.PlacesByKind.{PlacesByKind}
 
 -- ---- a node at a slot
 -- a node and what it has emitted, as they were filed; how many of its own events it drew, and what it drew from each other name
 pub record Lodging : Type 0 where
   pub held : Held
-  pub told : List Filed
+  pub emitted : List Filed
   pub own : ℕ
   pub heard : List Tally
 
@@ -30,7 +30,7 @@ pub record Seat : Type 0 where
   pub heard : List Tally
 
 abbrev pub place_in : Lodging → Place
-place_in l = record { node = l.held.node; told = sents_of l.told }
+place_in l = record { node = l.held.node; emitted = sents_of l.emitted }
 
 abbrev pub seat_of : Lodging → Seat
 seat_of l = record { place = place_in l; own = l.own; heard = l.heard }
@@ -43,7 +43,7 @@ pub record IsUncounted (l : Lodging) : Type 0 where
 -- the archive has its rows and what it has emitted
 pub record IsLodged (archive : List Sent) (l : Lodging) : Type 0 where
   pub rows : AreFiled archive l.held.rows
-  pub told : AreFiled archive l.told
+  pub emitted : AreFiled archive l.emitted
 
 -- ---- an open slot
 pub record Lodgings : Type 0 where
@@ -84,7 +84,7 @@ AreTallied draws slots = All (λ s. All (IsTallied s.number draws) s.seats) slot
 
 -- ---- what an event of a node answers
 -- these outs, filed, these marks, and so many whole copies of the outs
-pub record IsGiven (outs : List Out) (marks : List ℕ) (count : ℕ) (a : Noted) : Type 0 where
+pub record IsGiven (outs : List Out) (marks : List ℕ) (count : ℕ) (a : NumberedOuts) : Type 0 where
   pub outs_are : outs_of a.outs.items ≡ outs
   pub marks_are : a.marks.items ≡ marks
   pub copies : map (λ v. v.items) a.copies.items ≡ copies_of count outs

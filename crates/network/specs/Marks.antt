@@ -19,20 +19,20 @@ slot_and_node_of (BallotTimerFires i u n) = Some (i, u)
 slot_and_node_of (Reslices i u q) = Some (i, u)
 
 -- what a node has emitted
-abbrev pub told_at : Option Place → List Sent
-told_at None = []
-told_at (Some p) = p.told
+abbrev pub emitted_at : Option Place → List Sent
+emitted_at None = []
+emitted_at (Some p) = p.emitted
 
 -- what the node of an event has emitted before it, since its slot was opened
-abbrev pub told_before : Net → Option (ℕ × ℕ) → List Sent
-told_before net None = []
-told_before net (Some at) = told_at (node_where_open (places_at net.slots at.0) at.1)
+abbrev pub emitted_before : Net → Option (ℕ × ℕ) → List Sent
+emitted_before net None = []
+emitted_before net (Some at) = emitted_at (node_where_open (places_at net.slots at.0) at.1)
 
 -- the number of each emission among those of its kind, after these
 unfoldable pub numbered : List Sent → List Sent → List ℕ
-numbered told [] = []
-numbered told (e ∷ es) = suc (length (filter (λ x. is_kind (kind_of e.body) (kind_of x.body)) told)) ∷ numbered (told ++ e ∷ []) es
+numbered emitted [] = []
+numbered emitted (e ∷ es) = suc (length (filter (λ x. is_kind (kind_of e.body) (kind_of x.body)) emitted)) ∷ numbered (emitted ++ e ∷ []) es
 
 -- the marks of an event that is not refused: by which number a Hear names each of its emissions
 abbrev pub marks_in : Net → Step → List ℕ
-marks_in net e = numbered (told_before net (slot_and_node_of e)) (emissions (effect net e).1)
+marks_in net e = numbered (emitted_before net (slot_and_node_of e)) (emissions (effect net e).1)

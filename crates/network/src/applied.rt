@@ -8,7 +8,7 @@ use types::Out;
 /// whole copies of what it gave out as were asked for; and the envelope that was delivered, where it was a
 /// delivery.
 #[derive(Drop)]
-pub struct Applied {
+pub struct Outcome {
     pub outs: Vec<FiledOut>,
     pub marks: Vec<u64>,
     pub copies: Vec<Vec<Out>>,

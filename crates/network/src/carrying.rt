@@ -22,7 +22,7 @@ ghost use Rattle.network.specs.Lodgings.{AreLodged, IsLodged};
 ghost use Rattle.network.specs.SlotPlaces.{numbers_of};
 ghost use Rattle.network.specs.Standing.{IsRefusal, machine_of};
 
-use crate::applied::Applied;
+use crate::applied::Outcome;
 use crate::network::Network;
 use crate::open_slot::OpenSlot;
 use crate::open_slots::OpenSlots;
@@ -39,7 +39,7 @@ impl<S: Shelf> Network<S> {
     ///
     /// An error is the first refusal that applies, or says that memory is short; then the network is as it
     /// was, but that the archive may have more.
-    pub fn apply(&mut self, event: &Event, copies: usize) -> Result<Applied, Refusal>
+    pub fn apply(&mut self, event: &Event, copies: usize) -> Result<Outcome, Refusal>
         ensures applied { IfOk result (IsApplied self.old (step_of event.now) copies self.new) }
         ensures err { IfErr result (IsRefusal (machine_of self.old) (step_of event.now)) }
         ensures same { OnErr result (machine_of self.new ≡ machine_of self.old) }
@@ -54,7 +54,7 @@ impl<S: Shelf> Network<S> {
     }
 
     /// What was planned for an event is done and counted.
-    fn carry_out(&mut self, event: &Event, plan: Plan, copies: usize) -> Result<Applied, AllocError>
+    fn carry_out(&mut self, event: &Event, plan: Plan, copies: usize) -> Result<Outcome, AllocError>
         requires { IsPlan self.old (step_of event.now) plan }
         ensures applied { IfOk result (IsApplied self.old (step_of event.now) copies self.new) }
         ensures same { OnErr result (machine_of self.new ≡ machine_of self.old) }
@@ -126,7 +126,7 @@ fn perform<S: Shelf>(
     slots: &mut OpenSlots,
     deed: Deed,
     terms: &Terms,
-) -> Result<Applied, AllocError>
+) -> Result<Outcome, AllocError>
     requires lodged { AreLodged archive.old slots.old }
     requires doable { IsDoable archive.old terms.now.charge slots.old deed }
     ensures done { OnOk result (IsDone terms.now.charge deed slots.old slots.new) }
@@ -163,7 +163,7 @@ fn open<S: Shelf>(
     archive: &Archive<S>,
     slots: &mut OpenSlots,
     slot: OpenSlot,
-) -> Result<Applied, AllocError>
+) -> Result<Outcome, AllocError>
     requires lodged { AreLodged archive.now slots.old }
     requires slot { All (IsLodged archive.now) slot.places }
     requires fresh { index_in (numbers_of slots.old) slot.number ≡ None }
@@ -182,7 +182,7 @@ fn close<S: Shelf>(
     archive: &Archive<S>,
     slots: &mut OpenSlots,
     slot_at: usize,
-) -> Applied
+) -> Outcome
     requires lodged { AreLodged archive.now slots.old }
     requires at { slot_at < length slots.old }
     requires apart { all_differ (numbers_of slots.old) ≡ true }
@@ -201,7 +201,7 @@ fn act<S: Shelf>(
     spot: &Spot,
     event: FiledEvent,
     terms: &Terms,
-) -> Result<Applied, AllocError>
+) -> Result<Outcome, AllocError>
     requires lodged { AreLodged archive.old slots.old.items }
     requires ready { IsReady terms.now.charge slots.old.items spot.now.slot_at spot.now.host_at }
     requires event { IsFiledEvent archive.old event }
@@ -212,7 +212,7 @@ fn act<S: Shelf>(
     ensures kept { Keeps archive.old archive.new }
 {
     let noted = slots[spot.slot_at].act(archive, spot.host_at, event, terms)?;
-    Ok(Applied {
+    Ok(Outcome {
         outs: noted.outs,
         marks: noted.marks,
         copies: noted.copies,
@@ -227,7 +227,7 @@ fn hand<S: Shelf>(
     spot: &Spot,
     envelope: Envelope,
     terms: &Terms,
-) -> Result<Applied, AllocError>
+) -> Result<Outcome, AllocError>
     requires lodged { AreLodged archive.old slots.old.items }
     requires ready { IsReady terms.now.charge slots.old.items spot.now.slot_at spot.now.host_at }
     ensures done { OnOk result (IsChangedAt (IsSlotActed terms.now.charge spot.now.host_at (NodeEvent.Take envelope)) spot.now.slot_at slots.old.items slots.new.items) }
@@ -239,7 +239,7 @@ fn hand<S: Shelf>(
     let delivered = archive.put(envelope)?;
     let event = FiledEvent::Take(archive.copy_of(&delivered));
     let applied = act(archive, slots, spot, event, terms)?;
-    Ok(Applied {
+    Ok(Outcome {
         outs: applied.outs,
         marks: applied.marks,
         copies: applied.copies,
@@ -248,10 +248,10 @@ fn hand<S: Shelf>(
 }
 
 /// Nothing is given out, and so in no copies. It takes no memory.
-fn nothing<S: Shelf>(alloc: Global, archive: &Archive<S>) -> Applied
+fn nothing<S: Shelf>(alloc: Global, archive: &Archive<S>) -> Outcome
     ensures { (count : ℕ) → IsAnswer [] [] None count archive.now result }
 {
-    Applied {
+    Outcome {
         outs: Vec::new(alloc),
         marks: Vec::new(alloc),
         copies: Vec::new(alloc),

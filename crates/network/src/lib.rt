@@ -7,6 +7,7 @@
 
 mod applied;
 mod carrying;
+mod emission_log;
 mod handing;
 mod network;
 mod open_slot;
@@ -18,9 +19,8 @@ mod reading;
 mod rooms;
 mod slot_index;
 mod tallies;
-mod told;
 
-pub use applied::Applied;
+pub use applied::Outcome;
 pub use network::Network;
 pub use plan::Emission;
 pub use reading::readings_are_exact;

@@ -4,17 +4,17 @@ ghost use Rattle.std.specs.Prelude.{◌≡◌, ◌<◌, IfOk, IfSome, List, OnEr
 ghost use Rattle.std.specs.List.{All};
 ghost use Rattle.envstore.specs.Archives.{Keeps};
 ghost use Rattle.protocol.specs.Networks.{emissions, nodes_of_new_slot, outs_at};
-ghost use Rattle.network.specs.Marks.{numbered, told_at};
+ghost use Rattle.network.specs.Marks.{numbered, emitted_at};
 ghost use Rattle.slot.specs.Filings.{AreFiledOuts, IsFiledEvent, event_of};
 ghost use Rattle.network.specs.Changes.{IsChangedAt};
 ghost use Rattle.network.specs.Charges.{HasRoomFor, IsActed};
 ghost use Rattle.network.specs.Lodgings.{IsGiven, IsLodged, IsUncounted, place_in};
 ghost use Rattle.types.specs.Statements.{Sent};
 
+use crate::emission_log::NumberedOuts;
 use crate::place::Place;
 use crate::plan::Terms;
-use crate::told::Noted;
-use configuration::{Host, NetConfig};
+use configuration::{HostedNode, NetConfig};
 use envstore::{Archive, Shelf};
 use slot::FiledEvent;
 use std::alloc::{AllocError, Global};
@@ -77,13 +77,13 @@ impl OpenSlot {
         at: usize,
         event: FiledEvent,
         terms: &Terms,
-    ) -> Result<Noted, AllocError>
+    ) -> Result<NumberedOuts, AllocError>
         requires at { at < length self.old.places }
         requires lodged { All (IsLodged archive.old) self.old.places }
         requires event { IsFiledEvent archive.old event }
         requires room { IfSome (slice_get self.old.places at) (HasRoomFor terms.now.charge) }
         ensures acted { OnOk result (IsChangedAt (IsActed terms.now.charge (event_of event)) at self.old.places self.new.places) }
-        ensures applied { IfOk result (IsGiven (outs_at (event_of event) (slice_get (map place_in self.old.places) at)) (numbered (told_at (slice_get (map place_in self.old.places) at)) (emissions (outs_at (event_of event) (slice_get (map place_in self.old.places) at)))) terms.now.copies) }
+        ensures applied { IfOk result (IsGiven (outs_at (event_of event) (slice_get (map place_in self.old.places) at)) (numbered (emitted_at (slice_get (map place_in self.old.places) at)) (emissions (outs_at (event_of event) (slice_get (map place_in self.old.places) at)))) terms.now.copies) }
         ensures err { OnErr result (self.new ≡ self.old) }
         ensures number { self.new.number ≡ self.old.number }
         ensures lodged { All (IsLodged archive.new) self.new.places }
@@ -96,7 +96,7 @@ impl OpenSlot {
 
 /// A fresh node for each host. An error says that memory is short.
 #[tactic(auto, unfolding(protocol::specs::Networks::nodes_of_new_slot))]
-fn fresh_places(alloc: Global, number: u64, hosts: &[Host]) -> Result<Vec<Place>, AllocError>
+fn fresh_places(alloc: Global, number: u64, hosts: &[HostedNode]) -> Result<Vec<Place>, AllocError>
     ensures places { IfOk result (λ v. map place_in v.items ≡ nodes_of_new_slot hosts.now number) }
     ensures lodged { IfOk result (λ v. (archive : List Sent) → All (IsLodged archive) v.items) }
     ensures counts { IfOk result (λ v. All IsUncounted v.items) }

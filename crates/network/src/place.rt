@@ -9,11 +9,11 @@ ghost use Rattle.network.specs.Marks.{numbered};
 ghost use Rattle.slot.specs.Filings.{AreFiledOuts, IsFiledEvent, event_of};
 ghost use Rattle.network.specs.Charges.{HasRoomFor, IsActed};
 ghost use Rattle.network.specs.Lodgings.{IsGiven, IsLodged, bytes_from, events_from, place_in};
-ghost use Rattle.network.specs.Tellings.{nth_of};
+ghost use Rattle.network.specs.EmissionsByKind.{nth_of};
 
+use crate::emission_log::{EmissionLog, NumberedOuts};
 use crate::plan::Terms;
 use crate::tallies::{Tallies, count};
-use crate::told::{Noted, Told};
 use envstore::{Archive, Filed, Shelf};
 use slot::{FiledEvent, Node};
 use std::alloc::{AllocError, Global};
@@ -24,7 +24,7 @@ use types::{Kind, Nested, NodeId};
 #[derive(Drop)]
 pub(crate) struct Place {
     node: Node,
-    told: Told,
+    emitted: EmissionLog,
     own: u64,
     heard: Tallies,
 }
@@ -38,21 +38,21 @@ impl Model for Place {
 
     ghost coded = { Prim.hlevel (codes, members_code) };
 
-    ghost view = { λ p. record { held = p.node; told = p.told; own = p.own; heard = p.heard.tallies } };
+    ghost view = { λ p. record { held = p.node; emitted = p.emitted; own = p.own; heard = p.heard.tallies } };
 }
 
 impl Place {
     /// A node to which nothing has happened. It takes no memory.
     pub(crate) fn new(alloc: Global, name: NodeId, slot: u64, slices: Nested) -> Place
-        ensures place { place_in result ≡ record { node = fresh slot name slices; told = [] } }
+        ensures place { place_in result ≡ record { node = fresh slot name slices; emitted = [] } }
         ensures rows { result.held.rows ≡ [] }
-        ensures told { result.told ≡ [] }
+        ensures emitted { result.emitted ≡ [] }
         ensures own { result.own ≡ 0 }
         ensures heard { result.heard ≡ [] }
     {
         Place {
             node: Node::new(alloc, name, slot, slices),
-            told: Told::nothing(alloc),
+            emitted: EmissionLog::nothing(alloc),
             own: 0,
             heard: Tallies::nothing(alloc),
         }
@@ -74,10 +74,10 @@ impl Place {
 
     /// The node's emission of a kind with this number, from 1 on.
     pub(crate) fn emission(&self, kind: Kind, number: u64) -> Option<&Filed>
-        ensures sent { option_map (λ f. sent_of f.now) result ≡ nth_of kind number (place_in self.now).told }
+        ensures sent { option_map (λ f. sent_of f.now) result ≡ nth_of kind number (place_in self.now).emitted }
         ensures filed { (archive : List Sent) → IsLodged archive self.now → IfSome result (λ f. IsFiled archive f.now) }
     {
-        self.told.emission(kind, number)
+        self.emitted.emission(kind, number)
     }
 
     /// How many of its own events it drew since the slot was opened.
@@ -109,12 +109,12 @@ impl Place {
         archive: &mut Archive<S>,
         event: FiledEvent,
         terms: &Terms,
-    ) -> Result<Noted, AllocError>
+    ) -> Result<NumberedOuts, AllocError>
         requires lodged { IsLodged archive.old self.old }
         requires event { IsFiledEvent archive.old event }
         requires room { HasRoomFor terms.now.charge self.old }
         ensures acted { OnOk result (IsActed terms.now.charge (event_of event) self.old self.new) }
-        ensures applied { IfOk result (IsGiven (step (place_in self.old).node (event_of event)).1 (numbered (place_in self.old).told (emissions (step (place_in self.old).node (event_of event)).1)) terms.now.copies) }
+        ensures applied { IfOk result (IsGiven (step (place_in self.old).node (event_of event)).1 (numbered (place_in self.old).emitted (emissions (step (place_in self.old).node (event_of event)).1)) terms.now.copies) }
         ensures err { OnErr result (self.new ≡ self.old) }
         ensures lodged { IsLodged archive.new self.new }
         ensures filed { IfOk result (λ a. AreFiledOuts archive.new a.outs.items) }
@@ -122,12 +122,12 @@ impl Place {
     {
         let Place {
             node,
-            told,
+            emitted,
             own,
             heard,
         } = self;
         heard.make_room(&terms.charge.drawn)?;
-        let noted = told.advance(archive, node, event, terms.copies)?;
+        let noted = emitted.advance(archive, node, event, terms.copies)?;
         count(own, heard, &terms.charge);
         Ok(noted)
     }

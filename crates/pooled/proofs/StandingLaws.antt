@@ -5,18 +5,18 @@ use Rattle.std.proofs.lemmas.List.{append-nil, append_assoc}
 use Rattle.std.proofs.lemmas.List.Elements.{filter-append}
 use Rattle.std.proofs.lemmas.Option.{slice_get-get_or}
 use Rattle.protocol.specs.Hosts.{Entry}
-use Rattle.hoststep.specs.Deciding.{Decided, decisions_in}
+use Rattle.hoststep.specs.Deciding.{ExternalizedValue, decisions_in}
 use Rattle.pooled.specs.Decisions.{closed_by, closes, closes_it, decided_next, decided_past, left_by, standing_in}
 
 left_of_none : (o : Option ℕ) → left_by o [] ≡ []
 left_of_none None = refl
 left_of_none (Some i) = refl
 
-left_of_both : (o : Option ℕ) (ds es : List Decided) → left_by o (ds ++ es) ≡ left_by o ds ++ left_by o es
+left_of_both : (o : Option ℕ) (ds es : List ExternalizedValue) → left_by o (ds ++ es) ≡ left_by o ds ++ left_by o es
 left_of_both None ds es = refl
 left_of_both (Some i) ds es = filter-append (λ d. not (d.slot == i)) ds es
 
-any_more : (d : Decided) (xs : List Entry) (x : Entry) → list_any (closes_it d) (xs ++ x ∷ []) ≡ (list_any (closes_it d) xs || closes_it d x)
+any_more : (d : ExternalizedValue) (xs : List Entry) (x : Entry) → list_any (closes_it d) (xs ++ x ∷ []) ≡ (list_any (closes_it d) xs || closes_it d x)
 any_more d [] x = with_false (closes_it d x)
   where
     with_false : (b : Bool) → (b || false) ≡ (false || b)
@@ -29,21 +29,21 @@ any_more d (y ∷ ys) x = ap (λ b. closes_it d y || b) (any_more d ys x) ∙ pa
     parted false b c = refl
 
 -- one decision, kept or not
-kept_one : (d : Decided) (o : Option ℕ) (b : Bool) (rest : List Decided)
+kept_one : (d : ExternalizedValue) (o : Option ℕ) (b : Bool) (rest : List ExternalizedValue)
     → (if not (b || closes d.slot o) then d ∷ left_by o rest else left_by o rest) ≡ left_by o (if not b then d ∷ rest else rest)
 kept_one d None true rest = refl
 kept_one d None false rest = refl
 kept_one d (Some i) true rest = refl
 kept_one d (Some i) false rest = elim (d.slot == i) as (λ c. (if not c then d ∷ filter (λ d. not (d.slot == i)) rest else filter (λ d. not (d.slot == i)) rest) ≡ (if not c then d ∷ filter (λ d. not (d.slot == i)) rest else filter (λ d. not (d.slot == i)) rest)) [ true ↦ refl | false ↦ refl ]
 
-left_of_standing : (xs : List Entry) (x : Entry) (ds : List Decided)
+left_of_standing : (xs : List Entry) (x : Entry) (ds : List ExternalizedValue)
     → filter (λ d. not (list_any (closes_it d) (xs ++ x ∷ []))) ds ≡ left_by (closed_by x.event) (filter (λ d. not (list_any (closes_it d) xs)) ds)
 left_of_standing xs x [] = sym (left_of_none (closed_by x.event))
 left_of_standing xs x (d ∷ ds) =
     ap₂ (λ b rest. if not b then d ∷ rest else rest) (any_more d xs x) (left_of_standing xs x ds)
     ∙ kept_one d (closed_by x.event) (list_any (closes_it d) xs) (filter (λ d. not (list_any (closes_it d) xs)) ds)
 
-all_stand : (ds : List Decided) → filter (λ d. true) ds ≡ ds
+all_stand : (ds : List ExternalizedValue) → filter (λ d. true) ds ≡ ds
 all_stand [] = refl
 all_stand (d ∷ ds) = ap (λ l. d ∷ l) (all_stand ds)
 
@@ -61,7 +61,7 @@ one_more [] n x is = cc
 one_more (e ∷ es) zero x is = let e_is : e ≡ x = cc in ap (λ y. y ∷ []) e_is
 one_more (e ∷ es) (suc n) x is = ap (λ l. e ∷ l) (one_more es n x is)
 
-past_is : (found : List Decided) (entries : List Entry) (n : ℕ) (o : Option Entry) → slice_get entries n ≡ o → n < length entries
+past_is : (found : List ExternalizedValue) (entries : List Entry) (n : ℕ) (o : Option Entry) → slice_get entries n ≡ o → n < length entries
     → found ≡ standing_in (take n entries) → decided_past found o ≡ standing_in (take (suc n) entries)
 past_is found entries n None none within is = absurd (none_within entries n none within)
   where
@@ -72,7 +72,7 @@ past_is found entries n None none within is = absurd (none_within entries n none
 past_is found entries n (Some x) some within is =
     ap (λ ds. decided_next ds x) is ∙ sym (standing_more (take n entries) x) ∙ ap standing_in (sym (one_more entries n x some))
 
-pub standing_on : (found : List Decided) (entries : List Entry) (n : ℕ) → n < length entries → found ≡ standing_in (take n entries)
+pub standing_on : (found : List ExternalizedValue) (entries : List Entry) (n : ℕ) → n < length entries → found ≡ standing_in (take n entries)
     → decided_past found (slice_get entries n) ≡ standing_in (take (n + 1) entries)
 standing_on found entries n within is =
     let more : suc n ≡ n + 1 = omega arith in

@@ -8,7 +8,7 @@ use Rattle.hoststep.specs.Logs.{Log}
 use Rattle.cells.specs.Sights.{SeatSight}
 use Rattle.workers.specs.NetSights.{Net}
 use Rattle.workers.specs.Nets.{IsClosedNet}
-use Rattle.pooled.specs.Pooling.{AreClosed, AreJournals, AreTold, IsToldMore}
+use Rattle.pooled.specs.Pooling.{AreClosed, AreJournals, AreJournalLines, IsToldMore}
 use Rattle.pooled.specs.PoolLines.{AreAllDecidedLines, AreDecidedLines, length_line, length_lines}
 use Rattle.pooled.specs.PoolLines.AreAllDecidedLines.{none, more}
 
@@ -96,7 +96,7 @@ journals_of (n ∷ ns) [] closed runs = absurd closed
 journals_of (n ∷ ns) (l ∷ ls) closed runs = ((closed.0, runs.0), journals_of ns ls closed.1 runs.1)
 
 -- when none is left, it has been told of all
-pub all_told : (nets : List Net) (js : List Log) (decided lengths : Bytes) → js ≡ [] → IsPartTold nets (reverse js) decided lengths → AreTold nets decided lengths
+pub all_told : (nets : List Net) (js : List Log) (decided lengths : Bytes) → js ≡ [] → IsPartTold nets (reverse js) decided lengths → AreJournalLines nets decided lengths
 all_told nets js decided lengths empty part = record {
   logs = part.told;
   journals = journals_of nets part.told (subst (AreClosed nets) (ap (λ ks. part.told ++ reverse ks) empty ∙ append-nil part.told) part.closed) part.runs;
@@ -117,7 +117,7 @@ lines_both [] ks _ lines none other = other
 lines_both (l ∷ ls) ks _ lines (more {lines = own} {others = others} first rest) other =
     subst (AreAllDecidedLines (l ∷ (ls ++ ks))) (sym (append_assoc own others lines)) (more first (lines_both ls ks others lines rest other))
 
-told_all : (ns ms : List Net) (decided lines lengths longer : Bytes) → AreTold ns decided lengths → AreTold ms lines longer → AreTold (ns ++ ms) (decided ++ lines) (lengths ++ longer)
+told_all : (ns ms : List Net) (decided lines lengths longer : Bytes) → AreJournalLines ns decided lengths → AreJournalLines ms lines longer → AreJournalLines (ns ++ ms) (decided ++ lines) (lengths ++ longer)
 told_all ns ms decided lines lengths longer one other = record {
   logs = one.logs ++ other.logs;
   journals = journals_both ns ms one.logs other.logs one.journals other.journals;
@@ -127,8 +127,8 @@ told_all ns ms decided lines lengths longer one other = record {
 
 -- of the first so many networks, and of those behind
 pub told_both : (nets low high : List Net) (count : ℕ) (decided lines lengths longer all whole : Bytes) → low ≡ take count nets → high ≡ drop count nets
-    → AreTold low decided lengths → AreTold high lines longer → all ≡ decided ++ lines → whole ≡ lengths ++ longer → AreTold nets all whole
+    → AreJournalLines low decided lengths → AreJournalLines high lines longer → all ≡ decided ++ lines → whole ≡ lengths ++ longer → AreJournalLines nets all whole
 told_both nets low high count decided lines lengths longer all whole low_is high_is one other all_is whole_is =
     let nets_are : low ++ high ≡ nets = ap₂ (λ a b. a ++ b) low_is high_is ∙ take-append-drop count nets in
-    subst (λ (ns : List Net). AreTold ns all whole) nets_are
-    (subst (λ (z : Bytes × Bytes). AreTold (low ++ high) z.0 z.1) (λ i. (sym all_is i, sym whole_is i)) (told_all low high decided lines lengths longer one other))
+    subst (λ (ns : List Net). AreJournalLines ns all whole) nets_are
+    (subst (λ (z : Bytes × Bytes). AreJournalLines (low ++ high) z.0 z.1) (λ i. (sym all_is i, sym whole_is i)) (told_all low high decided lines lengths longer one other))

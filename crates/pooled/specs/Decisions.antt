@@ -5,7 +5,7 @@ use Rattle.std.specs.List.Sorted.{IsPermutation, IsSortedBy}
 use Rattle.protocol.specs.Hosts.{Entry}
 use Rattle.protocol.specs.Networks.{Step}
 use Rattle.protocol.specs.Networks.Step.{Closes}
-use Rattle.hoststep.specs.Deciding.{Decided, decisions_in}
+use Rattle.hoststep.specs.Deciding.{ExternalizedValue, decisions_in}
 
 -- the slot that an event closes
 abbrev pub closed_by : Step → Option ℕ
@@ -17,35 +17,35 @@ abbrev pub closes : ℕ → Option ℕ → Bool
 closes slot (Some i) = slot == i
 closes slot None = false
 
-abbrev pub closes_it : Decided → Entry → Bool
+abbrev pub closes_it : ExternalizedValue → Entry → Bool
 closes_it d x = closes d.slot (closed_by x.event)
 
 -- all that entries decided at slots that none of those behind closes, in order
-abbrev pub standing_in : List Entry → List Decided
+abbrev pub standing_in : List Entry → List ExternalizedValue
 standing_in [] = []
 standing_in (x ∷ xs) = filter (λ d. not (list_any (closes_it d) xs)) (decisions_in x) ++ standing_in xs
 
 -- a lower slot, or the same one and a lesser name
-abbrev pub is_lower : Decided → Decided → Bool
+abbrev pub is_lower : ExternalizedValue → ExternalizedValue → Bool
 is_lower a b = if a.slot == b.slot then nat_lt a.node b.node else nat_lt a.slot b.slot
 
 -- the same, ascending by slot and then by name
-abbrev pub IsDecided : List Entry → List Decided → Type 0
+abbrev pub IsDecided : List Entry → List ExternalizedValue → Type 0
 IsDecided entries ds = IsPermutation (standing_in entries) ds × IsSortedBy is_lower ds
 
 -- ---- as it is found
 
 -- what is left when a slot is closed, or none is
-abbrev pub left_by : Option ℕ → List Decided → List Decided
+abbrev pub left_by : Option ℕ → List ExternalizedValue → List ExternalizedValue
 left_by (Some i) ds = filter (λ d. not (d.slot == i)) ds
 left_by None ds = ds
 
 -- what stands after one entry more
-abbrev pub decided_next : List Decided → Entry → List Decided
+abbrev pub decided_next : List ExternalizedValue → Entry → List ExternalizedValue
 decided_next ds x = left_by (closed_by x.event) ds ++ decisions_in x
 
 -- the same, where there is one
-abbrev pub decided_past : List Decided → Option Entry → List Decided
+abbrev pub decided_past : List ExternalizedValue → Option Entry → List ExternalizedValue
 decided_past ds None = ds
 decided_past ds (Some x) = decided_next ds x
 

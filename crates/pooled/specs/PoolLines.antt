@@ -5,7 +5,7 @@ use Rattle.std.specs.Fmt.{decimal}
 use Rattle.scripts.specs.Script.{Bytes}
 use Rattle.scripts.specs.Names.{text_of_name}
 use Rattle.scripts.specs.Values.{text_of_value}
-use Rattle.hoststep.specs.Deciding.{Decided}
+use Rattle.hoststep.specs.Deciding.{ExternalizedValue}
 use Rattle.hoststep.specs.Logs.{Log}
 use Rattle.pooled.specs.Decisions.{IsDecided}
 
@@ -14,13 +14,13 @@ abbrev pub spaced : Bytes → Bytes → Bytes
 spaced one other = one ++ 32 ∷ other
 
 -- the line of what a node of a network has externalized, with its line feed (10)
-abbrev pub decided_line : ℕ → Decided → Bytes
+abbrev pub decided_line : ℕ → ExternalizedValue → Bytes
 decided_line g d =
     codes "decided " ++ spaced (decimal g) (spaced (decimal d.slot) (spaced (text_of_name d.node) (text_of_value d.value ++ 10 ∷ [])))
 
 -- the lines of what the nodes of a network have externalized at open slots
 abbrev pub AreDecidedLines : Log → Bytes → Type 0
-AreDecidedLines l text = (ds : List Decided) × IsDecided l.entries ds × (text ≡ flat_map (decided_line l.config.number) ds)
+AreDecidedLines l text = (ds : List ExternalizedValue) × IsDecided l.entries ds × (text ≡ flat_map (decided_line l.config.number) ds)
 
 -- the line of how many entries a journal has
 abbrev pub length_line : ℕ → ℕ → Bytes

@@ -44,7 +44,7 @@ IsToldMore l decided lengths more longer =
     × (longer ≡ lengths ++ length_line l.config.number (length l.entries))
 
 -- what is told of networks: what their nodes have externalized, and how long their journals are
-pub record AreTold (nets : List Net) (decided lengths : Bytes) : Type 0 where
+pub record AreJournalLines (nets : List Net) (decided lengths : Bytes) : Type 0 where
   pub logs : List Log
   pub journals : AreJournals nets logs
   pub lines : AreAllDecidedLines logs decided
@@ -54,7 +54,7 @@ pub record AreTold (nets : List Net) (decided lengths : Bytes) : Type 0 where
 pub record IsToldOf (nets : List Net) (one other : Report) (text : Bytes) : Type 0 where
   pub decided : Bytes
   pub lengths : Bytes
-  pub told : AreTold nets decided lengths
+  pub told : AreJournalLines nets decided lengths
   pub parts : text ≡ (decided ++ lengths) ++ report_line (one.applied + other.applied) (one.refused + other.refused) (one.unrun + other.unrun)
 
 -- what was done with jobs, first by one thread, then by workers. What the first put in the queue and took from it, weighed, is what the workers find there, and leave.

@@ -14,23 +14,26 @@ use types::{NodeId, Value};
 
 /// What a hosted node has externalized at a slot.
 #[derive(Drop)]
-pub struct Decided {
+pub struct ExternalizedValue {
     pub slot: u64,
     pub node: NodeId,
     pub value: Value,
 }
 
-impl Model for Decided {
-    ghost use Rattle.hoststep.specs.Deciding.{Decided};
+impl Model for ExternalizedValue {
+    ghost use Rattle.hoststep.specs.Deciding.{ExternalizedValue};
 
-    ghost Value = { Decided };
+    ghost Value = { ExternalizedValue };
 
     ghost view = { λ d. record { slot = d.slot; node = d.node; value = d.value } };
 }
 
 /// What the nodes of a journal have externalized at slots that no later entry closes, ascending by slot and
 /// then by name.
-pub fn decided_in<S: Shelf>(alloc: Global, journal: &Journal<S>) -> Result<Vec<Decided>, AllocError>
+pub fn decided_in<S: Shelf>(
+    alloc: Global,
+    journal: &Journal<S>,
+) -> Result<Vec<ExternalizedValue>, AllocError>
     ensures { IfOk result (λ v. IsDecided journal.now.entries v.items) }
 {
     let mut found = decided_in_order(alloc, journal)?;
@@ -46,7 +49,7 @@ pub fn decided_in<S: Shelf>(alloc: Global, journal: &Journal<S>) -> Result<Vec<D
 fn decided_in_order<S: Shelf>(
     alloc: Global,
     journal: &Journal<S>,
-) -> Result<Vec<Decided>, AllocError>
+) -> Result<Vec<ExternalizedValue>, AllocError>
     ensures { IfOk result (λ v. v.items ≡ standing_in journal.now.entries) }
 {
     let mut found = Vec::new(alloc);
@@ -61,7 +64,7 @@ fn decided_in_order<S: Shelf>(
 fn note<S: Shelf>(
     journal: &Journal<S>,
     number: usize,
-    found: &mut Vec<Decided>,
+    found: &mut Vec<ExternalizedValue>,
 ) -> Result<(), AllocError>
     ensures { OnOk result (found.new.items ≡ decided_past found.old.items (slice_get journal.now.entries number)) }
 {
@@ -83,7 +86,7 @@ fn closed_at<S: Shelf>(journal: &Journal<S>, number: usize) -> Option<u64>
 }
 
 /// Nothing that was externalized at the slot is left.
-fn forget(slot: u64, found: &mut Vec<Decided>)
+fn forget(slot: u64, found: &mut Vec<ExternalizedValue>)
     ensures { found.new.items ≡ filter (λ d. not (d.slot == slot)) found.old.items }
 {
     found.retain(
@@ -97,7 +100,7 @@ fn forget(slot: u64, found: &mut Vec<Decided>)
 fn push_decision<S: Shelf>(
     journal: &Journal<S>,
     number: usize,
-    found: &mut Vec<Decided>,
+    found: &mut Vec<ExternalizedValue>,
 ) -> Result<(), AllocError>
     ensures { OnOk result (found.new.items ≡ found.old.items ++ decisions_at journal.now.entries number) }
 {
@@ -105,7 +108,7 @@ fn push_decision<S: Shelf>(
         return Ok(());
     };
     let value = decision.value.try_copy()?;
-    found.push(Decided {
+    found.push(ExternalizedValue {
         slot: decision.slot,
         node: decision.node,
         value,

@@ -29,7 +29,7 @@ pub struct Opened<R: Wait + Drop> {
 impl<R: Wait + Drop> Model for Opened<R> {
     ghost use Rattle.std.specs.Coded.{codes};
     ghost use Rattle.types.specs.Trees.{members_code};
-    ghost use Rattle.workers.specs.Benches.{IsHosted};
+    ghost use Rattle.workers.specs.Spares.{IsHosted};
     ghost use Rattle.workers.specs.NetSights.{Net};
 
     ghost Value = { Net };

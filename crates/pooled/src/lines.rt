@@ -5,7 +5,7 @@ ghost use Rattle.std.specs.List.{flat_map};
 ghost use Rattle.scripts.specs.Script.{Bytes};
 ghost use Rattle.pooled.specs.PoolLines.{AreDecidedLines, decided_line, length_line, report_line};
 
-use crate::decided::{Decided, decided_in};
+use crate::decided::{ExternalizedValue, decided_in};
 use envstore::Shelf;
 use hoststep::Journal;
 use scripts::{push_name, push_value};
@@ -28,7 +28,7 @@ pub fn push_decided<S: Shelf>(
 }
 
 /// Adds a line for each of them.
-fn push_all(text: &mut String, number: u32, decided: &[Decided]) -> Result<(), AllocError>
+fn push_all(text: &mut String, number: u32, decided: &[ExternalizedValue]) -> Result<(), AllocError>
     ensures { OnOk result (string_bytes text.new ≡ string_bytes text.old ++ flat_map (decided_line number) decided.now) }
 {
     for one in decided {
@@ -38,7 +38,7 @@ fn push_all(text: &mut String, number: u32, decided: &[Decided]) -> Result<(), A
 }
 
 /// Adds the line of what one node has externalized.
-fn push_one(text: &mut String, number: u32, decided: &Decided) -> Result<(), AllocError>
+fn push_one(text: &mut String, number: u32, decided: &ExternalizedValue) -> Result<(), AllocError>
     ensures { OnOk result (string_bytes text.new ≡ string_bytes text.old ++ decided_line number decided.now) }
 {
     let slot = decided.slot;

@@ -5,7 +5,7 @@ ghost use Rattle.std.specs.List.Sorted.{IsNonDecreasingBy};
 ghost use Rattle.std.specs.Thread.{IsSend, IsSync};
 ghost use Rattle.pooled.specs.Opening.{AreHosted, slots_of};
 ghost use Rattle.pooled.specs.PoolLines.{report_line};
-ghost use Rattle.pooled.specs.Pooling.{AreClosed, AreDone, AreTold, IsPoolText, IsToldMore, IsToldOf, jobs_of};
+ghost use Rattle.pooled.specs.Pooling.{AreClosed, AreDone, AreJournalLines, IsPoolText, IsToldMore, IsToldOf, jobs_of};
 
 use crate::gate::Open;
 use crate::joining::{Unopened, join_all, open_by};
@@ -31,7 +31,7 @@ const MOST_PLACES: usize = 65_536;
 
 /// What is told of networks: what their nodes have externalized, and how long their journals are.
 #[derive(Drop)]
-struct Told {
+struct JournalLines {
     decided: String,
     lengths: String,
 }
@@ -153,7 +153,7 @@ fn tell_all<R: Threads + Wait + Sync + Send + Drop>(
 {
     let (one, other) = reports;
     let told = tell_by(rt, alloc, host, threads)?;
-    let Told {
+    let JournalLines {
         mut decided,
         lengths,
     } = told;
@@ -170,8 +170,8 @@ fn tell_by<R: Threads + Wait + Sync + Send + Drop>(
     alloc: Global,
     host: Host<SharedHandle<R>, R>,
     threads: usize,
-) -> Result<Told, AllocError>
-    ensures { IfOk result (λ told. AreTold host (string_bytes told.decided) (string_bytes told.lengths)) }
+) -> Result<JournalLines, AllocError>
+    ensures { IfOk result (λ told. AreJournalLines host (string_bytes told.decided) (string_bytes told.lengths)) }
 {
     if threads < 2 {
         return tell_alone(rt, alloc, host);
@@ -180,13 +180,13 @@ fn tell_by<R: Threads + Wait + Sync + Send + Drop>(
     let (low, high) = host.split_at(count)?;
     let fewer = threads / 2;
     let more = threads - fewer;
-    let tell_low = move || -> Result<Told, AllocError>
+    let tell_low = move || -> Result<JournalLines, AllocError>
         requires { IsSync R.row × IsSend R.row }
-        ensures { IfOk result (λ told. AreTold low (string_bytes told.decided) (string_bytes told.lengths)) }
+        ensures { IfOk result (λ told. AreJournalLines low (string_bytes told.decided) (string_bytes told.lengths)) }
     { tell_by(rt, alloc, low, fewer) };
-    let tell_high = move || -> Result<Told, AllocError>
+    let tell_high = move || -> Result<JournalLines, AllocError>
         requires { IsSync R.row × IsSend R.row }
-        ensures { IfOk result (λ told. AreTold high (string_bytes told.decided) (string_bytes told.lengths)) }
+        ensures { IfOk result (λ told. AreJournalLines high (string_bytes told.decided) (string_bytes told.lengths)) }
     { tell_by(rt, alloc, high, more) };
     let (first, others) = thread::join(rt, tell_low, tell_high);
     let told = tell_both(first?, others?)?;
@@ -194,16 +194,16 @@ fn tell_by<R: Threads + Wait + Sync + Send + Drop>(
 }
 
 /// What is told of some networks, and then of others.
-fn tell_both(first: Told, others: Told) -> Result<Told, AllocError>
+fn tell_both(first: JournalLines, others: JournalLines) -> Result<JournalLines, AllocError>
     ensures { IfOk result (λ told. (string_bytes told.decided ≡ string_bytes first.decided ++ string_bytes others.decided) × (string_bytes told.lengths ≡ string_bytes first.lengths ++ string_bytes others.lengths)) }
 {
-    let Told {
+    let JournalLines {
         mut decided,
         mut lengths,
     } = first;
     decided.push_str(others.decided.as_str())?;
     lengths.push_str(others.lengths.as_str())?;
-    Ok(Told { decided, lengths })
+    Ok(JournalLines { decided, lengths })
 }
 
 /// Closes each network, and tells of it, in this thread. The memory of what was told of is not given back.
@@ -211,8 +211,8 @@ fn tell_alone<R: Wait + Drop>(
     rt: &R,
     alloc: Global,
     mut host: Host<SharedHandle<R>, R>,
-) -> Result<Told, AllocError>
-    ensures { IfOk result (λ told. AreTold host (string_bytes told.decided) (string_bytes told.lengths)) }
+) -> Result<JournalLines, AllocError>
+    ensures { IfOk result (λ told. AreJournalLines host (string_bytes told.decided) (string_bytes told.lengths)) }
 {
     let mut journals = close_all(rt, alloc, &mut host)?;
     let mut decided = String::new(alloc);
@@ -222,7 +222,7 @@ fn tell_alone<R: Wait + Drop>(
         // Piece by piece, into the heaps of the threads that took them, this cost a quarter of a run of four workers.
         forget(journal);
     }
-    Ok(Told { decided, lengths })
+    Ok(JournalLines { decided, lengths })
 }
 
 /// Closes each network. The journals stand descending by network.

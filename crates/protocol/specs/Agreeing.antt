@@ -24,8 +24,8 @@ pub record IsClosedIn (R : Names) (i : ℕ) (net : Net) : Type 0 where
   pub hosts : (u : ℕ) (q : Slices) → slices_of net.hosts u ≡ Some q → IsTrue (R u) → IsTrue (within (names q) R)
   pub nodes : (u : ℕ) (p : Place) → place_in net i u ≡ Some p → IsTrue (R u) → IsClosedFor R p.node
   pub calm : (u : ℕ) (p : Place) → place_in net i u ≡ Some p → IsTrue (R u) → Calm p.node
-  pub told : (u : ℕ) (p : Place) → place_in net i u ≡ Some p
-      → IsTrue (list_all (λ e. (e.sender == u) && (not (R e.sender) || within (names e.slices) R)) p.told)
+  pub emitted : (u : ℕ) (p : Place) → place_in net i u ≡ Some p
+      → IsTrue (list_all (λ e. (e.sender == u) && (not (R e.sender) || within (names e.slices) R)) p.emitted)
 
 -- a member in two networks: it is in neither, or its nodes are one in state and agree on the rows of members, and have
 -- told the same
@@ -33,7 +33,7 @@ abbrev pub ArePlacesAlike : Names → Option Place → Option Place → Type 0
 ArePlacesAlike R None None = Unit {0}
 ArePlacesAlike R None (Some q) = ⊥
 ArePlacesAlike R (Some p) None = ⊥
-ArePlacesAlike R (Some p) (Some q) = AgreeOn R p.node q.node × (p.told ≡ q.told)
+ArePlacesAlike R (Some p) (Some q) = AgreeOn R p.node q.node × (p.emitted ≡ q.emitted)
 
 -- two networks agree on a set at a slot: they host its members with the same slices, and each member is alike in both
 pub record AgreeIn (R : Names) (i : ℕ) (one other : Net) : Type 0 where

@@ -11,7 +11,7 @@ use Rattle.protocol.specs.Rows.{row}
 use Rattle.protocol.specs.Reach.{reached}
 use Rattle.protocol.specs.Nodes.{Node, step, Calm}
 use Rattle.types.specs.declared.event.NodeEvent.TheVariants.{Propose, Take, NominationTimer, BallotTimer, Reslice}
-use Rattle.protocol.specs.Networks.{Host, Place, places_at, node_where_open}
+use Rattle.protocol.specs.Networks.{HostedNode, Place, places_at, node_where_open}
 use Rattle.protocol.specs.Hosts.{Entry, Config}
 use Rattle.protocol.specs.Runs.{IsRun, state_of}
 use Rattle.protocol.specs.Isolation.{closure}
@@ -38,7 +38,7 @@ Quiet = (R : Names) (n : Node) (e : Sent) → IsClosedFor R n → Calm n → IsF
 
 -- Prefix, of a run: the closure of each beginning lies in that of the whole run
 abbrev pub PrefixOfRun : Type 0
-PrefixOfRun = (hosts : List Host) (i v : ℕ) (front rest : List Entry) (u : ℕ) → IsTrue (closure hosts i v front u)
+PrefixOfRun = (hosts : List HostedNode) (i v : ℕ) (front rest : List Entry) (u : ℕ) → IsTrue (closure hosts i v front u)
     → IsTrue (closure hosts i v (front ++ rest) u)
 
 -- Prefix, of reach: whom a node reaches lies in each set that is closed for it

@@ -1,7 +1,7 @@
 -- What a comparison of two submissions to one network answers.
 use Rattle.std.specs.Prelude.{◌≡◌, ℕ, ◌<◌, List, Option, IsTrue, IsFalse}
 use Rattle.protocol.specs.Sets.{Names, among, AreWithin}
-use Rattle.protocol.specs.Networks.{Host, Reading, Reply}
+use Rattle.protocol.specs.Networks.{HostedNode, Reading, Reply}
 use Rattle.protocol.specs.Hosts.{Config, Entry, History, hosts_of, entries}
 use Rattle.protocol.specs.Isolation.{closure, SameCast}
 use Rattle.protocol.specs.Verdicts.{IsFirstUnlike, IsFirstDifference}
@@ -25,7 +25,7 @@ pub record IsFirstOutside (R : Names) (names : List ℕ) (u : ℕ) : Type 0 wher
 
 -- Of two networks, by their configurations, by the journal of the first and by what was submitted to each of them: the
 -- first that applies, in this order.
-abbrev pub IsCrowdOf : List Host → List Host → Option Config → Option Config → List Entry → List Answer → List Answer
+abbrev pub IsCrowdOf : List HostedNode → List HostedNode → Option Config → Option Config → List Entry → List Answer → List Answer
     → ℕ → ℕ → Crowd → Type 0
 IsCrowdOf one other config configs run xs ys i v (CastDiffers u) = IsFirstUnlike (closure one i v run) v one other u
 IsCrowdOf one other config configs run xs ys i v RosterDiffers =

@@ -3,7 +3,7 @@ use Rattle.types.specs.declared.event.Event.{Event}
 use Rattle.types.specs.declared.event.Out.{Out}
 use Rattle.std.specs.Prelude.{ℕ, ◌==◌, List, [], ◌∷◌, Option, Some, None, map, if◌then◌else◌}
 use Rattle.protocol.specs.Rosters.{Roster}
-use Rattle.protocol.specs.Networks.{Reading, Step, read, Host, Budgets, Net, Reply, net_step}
+use Rattle.protocol.specs.Networks.{Reading, Step, read, HostedNode, Budgets, Net, Reply, net_step}
 use Rattle.types.specs.declared.event.Refusal.TheVariants.{NoSuchNetwork}
 use Rattle.protocol.specs.Networks.Reply.{Done, Refused}
 
@@ -48,7 +48,7 @@ applied g (c ∷ cs) (r ∷ rs) = if c.0 == g then journal_with c.1 r (applied g
 -- a network as it is configured
 pub record Config : Type 0 where
   pub number : ℕ
-  pub hosts : List Host
+  pub hosts : List HostedNode
   pub budgets : Budgets
   pub roster : Option Roster
 
@@ -72,7 +72,7 @@ abbrev pub nets : List Config → List Net
 nets configs = map new_net configs
 
 -- the hosted nodes of a network; none where the network is not there
-abbrev pub hosts_of : List Config → ℕ → List Host
+abbrev pub hosts_of : List Config → ℕ → List HostedNode
 hosts_of [] g = []
 hosts_of (c ∷ cs) g = if c.number == g then c.hosts else hosts_of cs g
 

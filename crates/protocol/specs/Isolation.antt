@@ -8,14 +8,14 @@ use Rattle.protocol.specs.Sets.{Names}
 use Rattle.protocol.specs.Satisfaction.{names}
 use Rattle.protocol.specs.Closures.{Rule, in_least}
 use Rattle.types.specs.declared.event.NodeEvent.TheVariants.{Propose, Take, NominationTimer, BallotTimer, Reslice}
-use Rattle.protocol.specs.Networks.{Host, Reading, Step, slices_of}
+use Rattle.protocol.specs.Networks.{HostedNode, Reading, Step, slices_of}
 use Rattle.protocol.specs.Networks.Reading.{Read, Fault}
 use Rattle.protocol.specs.Networks.Step.{Opens, Closes, Proposes, Delivers, Hears, NominationTimerFires, BallotTimerFires, Reslices}
 use Rattle.protocol.specs.Hosts.{Entry, History, hosts_of, entries}
 
 -- ---- the closure of a run
 -- where a hosted node is in, so are the names of its configured slices
-abbrev pub host_rule : Host → Rule
+abbrev pub host_rule : HostedNode → Rule
 host_rule h = record { sources = h.name ∷ []; gives = names h.slices }
 
 -- where receiver and sender of a delivery at the slot are in, so are the names that it announces; where a hosted node
@@ -28,7 +28,7 @@ announcement_rules i _ = []
 
 -- the least set that contains v and keeps the rules of the hosted nodes, and of all deliveries and changes of slices of
 -- the whole run
-unfoldable pub closure : List Host → ℕ → ℕ → List Entry → Names
+unfoldable pub closure : List HostedNode → ℕ → ℕ → List Entry → Names
 closure hosts i v run = in_least (map host_rule hosts ++ flat_map (λ x. announcement_rules i x.event) run) v
 
 -- ---- kept steps
@@ -80,7 +80,7 @@ outs_of i u run = flat_map (λ x. if is_of i u x.event then x.outs else []) run
 
 -- ---- the theorem
 -- both worlds host the same members, with the same slices by their configurations, and v is one of them
-pub record SameCast (R : Names) (v : ℕ) (one other : List Host) : Type 0 where
+pub record SameCast (R : Names) (v : ℕ) (one other : List HostedNode) : Type 0 where
   pub hosted : IsTrue (is_some (slices_of one v))
   pub same : (u : ℕ) → IsTrue (R u) → slices_of one u ≡ slices_of other u
 
@@ -99,13 +99,13 @@ Isolation = (decode : List ℕ → Reading) (one other : History) (g i v : ℕ) 
 
 -- ---- the closure in the second world
 -- no name is hosted twice: each hosted node is the one that its name finds
-abbrev pub AreNamedOnce : List Host → Type 0
-AreNamedOnce hosts = (h : Host) → Contains hosts h → slices_of hosts h.name ≡ Some h.slices
+abbrev pub AreNamedOnce : List HostedNode → Type 0
+AreNamedOnce hosts = (h : HostedNode) → Contains hosts h → slices_of hosts h.name ≡ Some h.slices
 
 -- Where the casts are the same and so are the kept steps, the closure of v is the same set of names in both worlds,
 -- whatever entries they have: those of two runs, or of a network in two histories.
 abbrev pub SameClosures : Type 0
-SameClosures = (one other : List Host) (runs others : List Entry) (i v : ℕ) → AreNamedOnce one → AreNamedOnce other →
+SameClosures = (one other : List HostedNode) (runs others : List Entry) (i v : ℕ) → AreNamedOnce one → AreNamedOnce other →
     let R = closure one i v runs in
     SameCast R v one other → kept_of R i runs ≡ kept_of R i others
     → (u : ℕ) → closure other i v others u ≡ R u

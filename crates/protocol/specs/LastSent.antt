@@ -14,7 +14,7 @@ use Rattle.protocol.specs.Runs.{state_of}
 
 -- the statement of a kind that was emitted last
 abbrev pub last_of : Kind → List Sent → Option Statement
-last_of kind told = option_map (λ e. e.body) (last_or None (filter (λ e. is_kind kind (kind_of e.body)) told))
+last_of kind emitted = option_map (λ e. e.body) (last_or None (filter (λ e. is_kind kind (kind_of e.body)) emitted))
 
 -- what votes send of a kind
 abbrev pub sent_as : Kind → Votes → Option Statement
@@ -23,7 +23,7 @@ sent_as Kind.Ballot w = sent_vote w
 
 -- of each kind, what a node emitted last is what it would send now, and it emitted none where it would send none
 abbrev pub SendsItsLast : Place → Type 0
-SendsItsLast p = (kind : Kind) → last_of kind p.told ≡ sent_as kind p.node.votes
+SendsItsLast p = (kind : Kind) → last_of kind p.emitted ≡ sent_as kind p.node.votes
 
 -- so it is with each hosted node at each open slot, after any entries: what differs from the last one emitted is what
 -- differs from the one that would have been sent before.

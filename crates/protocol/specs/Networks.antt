@@ -47,7 +47,7 @@ read decode (event.Reslice i u q) = Reslices i u q
 
 -- ---- networks
 -- a hosted node, as it is configured
-pub record Host : Type 0 where
+pub record HostedNode : Type 0 where
   pub name : ℕ
   pub slices : Slices
 
@@ -60,7 +60,7 @@ pub record Budgets : Type 0 where
 -- a hosted node at a slot, and what it has emitted since the slot was opened
 pub record Place : Type 0 where
   pub node : Node
-  pub told : List Sent
+  pub emitted : List Sent
 
 -- an open slot
 pub record Slot : Type 0 where
@@ -72,7 +72,7 @@ pub record Slot : Type 0 where
 -- and what was drawn on the shares of each slot since it was opened
 pub record Net : Type 0 where
   pub number : ℕ
-  pub hosts : List Host
+  pub hosts : List HostedNode
   pub budgets : Budgets
   pub roster : Option Roster
   pub slots : List Slot
@@ -82,7 +82,7 @@ pub record Net : Type 0 where
   pub draws : List Draw
 
 -- ---- looking up
-abbrev pub slices_of : List Host → ℕ → Option Slices
+abbrev pub slices_of : List HostedNode → ℕ → Option Slices
 slices_of [] u = None
 slices_of (h ∷ hs) u = if h.name == u then Some h.slices else slices_of hs u
 
@@ -116,12 +116,12 @@ emissions os = filter_map emission_of os
 abbrev pub emission : Option Place → Kind → ℕ → Option Sent
 emission None kind k = None
 emission (Some p) kind zero = None
-emission (Some p) kind (suc k) = slice_get (filter (λ e. is_kind kind (kind_of e.body)) p.told) k
+emission (Some p) kind (suc k) = slice_get (filter (λ e. is_kind kind (kind_of e.body)) p.emitted) k
 
 -- ---- what an event does
 -- the node's step at its place
 unfoldable pub after_event : NodeEvent → Place → Place
-after_event e p = record { node = (step p.node e).0; told = p.told ++ emissions (step p.node e).1 }
+after_event e p = record { node = (step p.node e).0; emitted = p.emitted ++ emissions (step p.node e).1 }
 
 -- what the node's step gives out
 abbrev pub outs_at : NodeEvent → Option Place → List Out
@@ -150,8 +150,8 @@ act_known net i u None = (net, [])
 act_known net i u (Some e) = act net i u (Take e)
 
 -- opening a slot makes each hosted node anew, with the slices of its configuration
-unfoldable pub nodes_of_new_slot : List Host → ℕ → List Place
-nodes_of_new_slot hosts i = map (λ h. record { node = fresh i h.name h.slices; told = [] }) hosts
+unfoldable pub nodes_of_new_slot : List HostedNode → ℕ → List Place
+nodes_of_new_slot hosts i = map (λ h. record { node = fresh i h.name h.slices; emitted = [] }) hosts
 
 -- nothing is drawn yet on the shares of a slot that is opened
 abbrev pub renewed : ℕ → List Draw → List Draw

@@ -3,7 +3,7 @@ use Rattle.types.specs.declared.event.Out.{Out}
 use Rattle.std.specs.Prelude.{◌≡◌, ◌≢◌, ℕ, ◌<◌, ◌⊎◌, List, take, slice_get, map, IsTrue, IsFalse, is_some}
 use Rattle.std.specs.List.{AllByRecursion, Contains}
 use Rattle.protocol.specs.Sets.{Names, IsAscending}
-use Rattle.protocol.specs.Networks.{Host, slices_of}
+use Rattle.protocol.specs.Networks.{HostedNode, slices_of}
 use Rattle.protocol.specs.Hosts.{Config, Entry}
 use Rattle.protocol.specs.Runs.{IsRun}
 use Rattle.protocol.specs.Isolation.{closure, kept_of, outs_of, SameCast}
@@ -16,7 +16,7 @@ pub data Verdict : Type 0 where
   Same : List (ℕ × List Out) → Verdict
 
 -- v itself where the first world does not host it; else the least member that the worlds host unlike
-abbrev pub IsFirstUnlike : Names → ℕ → List Host → List Host → ℕ → Type 0
+abbrev pub IsFirstUnlike : Names → ℕ → List HostedNode → List HostedNode → ℕ → Type 0
 IsFirstUnlike R v one other u =
     (IsFalse (is_some (slices_of one v)) × (u ≡ v))
     ⊎ (IsTrue (is_some (slices_of one v))
@@ -29,7 +29,7 @@ pub record IsFirstDifference {A : Type 0} (one other : List A) (place : ℕ) : T
   pub there : slice_get one place ≢ slice_get other place
 
 -- the hosted members, ascending, each with its outs in that world
-pub record IsListOf (R : Names) (hosts : List Host) (i : ℕ) (run : List Entry)
+pub record IsListOf (R : Names) (hosts : List HostedNode) (i : ℕ) (run : List Entry)
     (list : List (ℕ × List Out)) : Type 0 where
   pub outs : AllByRecursion
       (λ p. (p.1 ≡ outs_of i p.0 run) × (IsTrue (R p.0) × IsTrue (is_some (slices_of hosts p.0)))) list
@@ -37,7 +37,7 @@ pub record IsListOf (R : Names) (hosts : List Host) (i : ℕ) (run : List Entry)
   pub ascending : IsAscending (map (λ p. p.0) list)
 
 -- the verdict on two runs of one network, for the closure of v at slot i in the first
-abbrev pub IsVerdict : List Host → List Host → List Entry → List Entry → ℕ → ℕ → Verdict → Type 0
+abbrev pub IsVerdict : List HostedNode → List HostedNode → List Entry → List Entry → ℕ → ℕ → Verdict → Type 0
 IsVerdict one other runs others i v (CastDiffers u) = IsFirstUnlike (closure one i v runs) v one other u
 IsVerdict one other runs others i v (InputsDiffer place) =
     let R = closure one i v runs in
@@ -49,7 +49,7 @@ IsVerdict one other runs others i v (Same list) =
 
 -- the verdict is determined
 abbrev pub VerdictsAreUnique : Type 0
-VerdictsAreUnique = (one other : List Host) (runs others : List Entry) (i v : ℕ) (a b : Verdict)
+VerdictsAreUnique = (one other : List HostedNode) (runs others : List Entry) (i v : ℕ) (a b : Verdict)
     → IsVerdict one other runs others i v a → IsVerdict one other runs others i v b → a ≡ b
 
 -- and every two runs have one

@@ -8,7 +8,7 @@ use Rattle.types.specs.Statements.{Sent}
 use Rattle.types.specs.declared.event.Out.{Out}
 use Rattle.types.specs.declared.event.Out.TheVariants.{ArmNomination, ArmBallot, Emit, Externalized}
 use Rattle.types.specs.declared.event.Refusal.{Refusal}
-use Rattle.protocol.specs.Networks.{Host, Net, Step, effect, emissions, first_that, is_hosted, is_open, net_step, state_and_reply, slices_of, tests}
+use Rattle.protocol.specs.Networks.{HostedNode, Net, Step, effect, emissions, first_that, is_hosted, is_open, net_step, state_and_reply, slices_of, tests}
 use Rattle.protocol.specs.Networks.Reading.{Read, Fault}
 use Rattle.protocol.specs.Networks.Step.{Opens, Closes, Proposes, Delivers, Hears, NominationTimerFires, BallotTimerFires, Reslices}
 use Rattle.protocol.specs.Counts.{is_opening, since_opened}
@@ -127,7 +127,7 @@ hosted-there net (NominationTimerFires j w r) i u free at = let same = same-node
 hosted-there net (BallotTimerFires j w n) i u free at = let same = same-node j w i u at in subst (λ v. is_hosted net v ≡ true) same (not-not (is_hosted net w) (passes-first (tests net (BallotTimerFires j w n)) free))
 hosted-there net (Reslices j w q) i u free at = let same = same-node j w i u at in subst (λ v. is_hosted net v ≡ true) same (not-not (is_hosted net w) (passes-first (tests net (Reslices j w q)) free))
 
-among-hosts : (hosts : List Host) (u : ℕ) → list_any (λ v. v == u) (names_of hosts) ≡ is_some (slices_of hosts u)
+among-hosts : (hosts : List HostedNode) (u : ℕ) → list_any (λ v. v == u) (names_of hosts) ≡ is_some (slices_of hosts u)
 among-hosts [] u = refl
 among-hosts (h ∷ hs) u = go (h.name == u) (among-hosts hs u)
   where

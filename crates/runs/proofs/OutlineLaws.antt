@@ -5,7 +5,7 @@ use Rattle.std.proofs.lemmas.Bool.{false≢true}
 use Rattle.std.proofs.lemmas.Bool.Decides.{nat_tests}
 use Rattle.types.specs.Trees.{Slices, all_differ}
 use Rattle.types.proofs.Bools.{both, join, not_is}
-use Rattle.protocol.specs.Networks.{Host}
+use Rattle.protocol.specs.Networks.{HostedNode}
 use Rattle.configuration.specs.Configs.{names_of}
 use Rattle.runs.specs.Outlines.{Outlined, IsSound}
 
@@ -31,22 +31,22 @@ differ-more (x ∷ xs) u d n =
     (ap not (none-more (λ w. w == x) xs u (not_is (list_any (λ w. w == x) xs) h.0) (swapped x u parts.0)))
     (differ-more xs u h.1 parts.1)
 
-names-more : (nodes : List Host) (h : Host) → names_of (nodes ++ h ∷ []) ≡ names_of nodes ++ h.name ∷ []
+names-more : (nodes : List HostedNode) (h : HostedNode) → names_of (nodes ++ h ∷ []) ≡ names_of nodes ++ h.name ∷ []
 names-more [] h = refl
 names-more (x ∷ nodes) h = ap (λ us. x.name ∷ us) (names-more nodes h)
 
-no-name : (nodes : List Host) (u : ℕ) → list_any (λ host. host.name == u) nodes ≡ false → list_any (λ w. w == u) (names_of nodes) ≡ false
+no-name : (nodes : List HostedNode) (u : ℕ) → list_any (λ host. host.name == u) nodes ≡ false → list_any (λ w. w == u) (names_of nodes) ≡ false
 no-name [] u h = refl
 no-name (x ∷ nodes) u h =
     let parts = neither (x.name == u) (list_any (λ host. host.name == u) nodes) h in
     rw (parts.0, no-name nodes u parts.1) refl
 
-length-more : (nodes : List Host) (h : Host) → length (nodes ++ h ∷ []) ≡ length nodes + 1
+length-more : (nodes : List HostedNode) (h : HostedNode) → length (nodes ++ h ∷ []) ≡ length nodes + 1
 length-more [] h = refl
 length-more (x ∷ nodes) h = omega (arith, length-more nodes h)
 
 -- a node of another name may follow
-pub hosted-sound : (d : Outlined) (h : Host) (now : List Host) → IsSound d → length d.nodes < 256 → list_any (λ host. host.name == h.name) d.nodes ≡ false
+pub hosted-sound : (d : Outlined) (h : HostedNode) (now : List HostedNode) → IsSound d → length d.nodes < 256 → list_any (λ host. host.name == h.name) d.nodes ≡ false
     → now ≡ d.nodes ++ h ∷ [] → IsSound (record d { nodes = now })
 hosted-sound d h now sound few other e = record {
   differ = subst (λ nodes. all_differ (names_of nodes) ≡ true) (sym e)
@@ -57,7 +57,7 @@ hosted-sound d h now sound few other e = record {
 }
 
 -- the same of a list that may have been too short of room
-pub hosted-or-same : (d : Outlined) (h : Host) (u : ℕ) (q : Slices) (seen now : List Host) (ok : Bool) → IsSound d → length d.nodes < 256
+pub hosted-or-same : (d : Outlined) (h : HostedNode) (u : ℕ) (q : Slices) (seen now : List HostedNode) (ok : Bool) → IsSound d → length d.nodes < 256
     → h ≡ record { name = u; slices = q } → seen ≡ d.nodes → list_any (λ host. host.name == u) seen ≡ false
     → now ≡ (if ok then d.nodes ++ h ∷ [] else d.nodes) → IsSound (record d { nodes = now })
 hosted-or-same d h u q seen now true sound few is same other e =

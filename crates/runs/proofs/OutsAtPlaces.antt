@@ -19,7 +19,7 @@ use Rattle.protocol.specs.Rows.{is_taken, with_row}
 use Rattle.protocol.specs.States.{counter_of, sent_in, sent_nomination, sent_vote}
 use Rattle.protocol.specs.Sameness.{same_sent}
 use Rattle.protocol.specs.Nodes.{Node, after_change, node_and_outs, change, externalization, emission_between, fresh, in_round, is_counter_live, is_externalized, is_round_live, outs, after_pass, with_slices, settle, with_settled_votes, step, with_timeout, when, most_passes}
-use Rattle.protocol.specs.Networks.{Host, Net, Place, Slot, Step, act, act_in, act_known, effect, emission, emissions, first_that, node_where_open, after_event, net_step, nodes_of_new_slot, outs_at, node_named, places_at, state_and_reply, tests}
+use Rattle.protocol.specs.Networks.{HostedNode, Net, Place, Slot, Step, act, act_in, act_known, effect, emission, emissions, first_that, node_where_open, after_event, net_step, nodes_of_new_slot, outs_at, node_named, places_at, state_and_reply, tests}
 use Rattle.protocol.specs.Networks.Reading.{Read, Fault}
 use Rattle.protocol.specs.Networks.Step.{Opens, Closes, Proposes, Delivers, Hears, NominationTimerFires, BallotTimerFires, Reslices}
 use Rattle.protocol.specs.Hosts.{Entry}
@@ -163,7 +163,7 @@ AreAt i ps = AllByRecursion (λ p. p.node.slot ≡ i) ps
 abbrev pub AreInPlace : List Slot → Type 0
 AreInPlace ss = AllByRecursion (λ s. AreAt s.number s.places) ss
 
-nodes_of_new_slot-in-place : (hosts : List Host) (i : ℕ) → AreAt i (nodes_of_new_slot hosts i)
+nodes_of_new_slot-in-place : (hosts : List HostedNode) (i : ℕ) → AreAt i (nodes_of_new_slot hosts i)
 unfolding nodes_of_new_slot fresh
 nodes_of_new_slot-in-place [] i = tt
 nodes_of_new_slot-in-place (h ∷ hs) i = (refl, nodes_of_new_slot-in-place hs i)

@@ -17,7 +17,7 @@ use Rattle.protocol.specs.Rows.{is_kind, is_row_of}
 use Rattle.protocol.specs.Networks.{emissions}
 use Rattle.protocol.specs.Hosts.{Entry}
 use Rattle.network.specs.Marks.{slot_and_node_of}
-use Rattle.hoststep.specs.Deciding.{Decided, decided_at, decisions_by, decisions_in, values_in}
+use Rattle.hoststep.specs.Deciding.{ExternalizedValue, decided_at, decisions_by, decisions_in, values_in}
 use Rattle.hoststep.proofs.DecisionLists.{decisions_by-append}
 use Rattle.network.specs.declared.plan.Emission.{Emission}
 use Rattle.runs.specs.declared.emissions.Speaker.{Speaker}
@@ -191,29 +191,29 @@ sent-more i xs x =
     ∙ (filter-append (λ e. e.slot == i) (flat_map (λ (y : Entry). emissions y.outs) xs) (emissions x.outs ++ [])
     ∙ ap (λ (es : List Sent). sent_at i xs ++ filter (λ e. e.slot == i) es) (append-nil (emissions x.outs)))
 
-abbrev is_there : ℕ → ℕ → Decided → Bool
+abbrev is_there : ℕ → ℕ → ExternalizedValue → Bool
 is_there i u d = (d.slot == i) && (d.node == u)
 
 values-more : (i u : ℕ) (xs : List Entry) (x : Entry) → values_at i u (xs ++ x ∷ []) ≡ values_at i u xs ++ values_at i u (x ∷ [])
 values-more i u xs x =
-    ap (λ (ds : List Decided). map (λ d. d.value) (filter (is_there i u) ds)) (decisions_by-append xs (x ∷ []))
-    ∙ (ap (λ (ds : List Decided). map (λ d. d.value) ds) (filter-append (is_there i u) (decisions_by xs) (decisions_by (x ∷ [])))
-    ∙ map-append (λ (d : Decided). d.value) (filter (is_there i u) (decisions_by xs)) (filter (is_there i u) (decisions_by (x ∷ []))))
+    ap (λ (ds : List ExternalizedValue). map (λ d. d.value) (filter (is_there i u) ds)) (decisions_by-append xs (x ∷ []))
+    ∙ (ap (λ (ds : List ExternalizedValue). map (λ d. d.value) ds) (filter-append (is_there i u) (decisions_by xs) (decisions_by (x ∷ [])))
+    ∙ map-append (λ (d : ExternalizedValue). d.value) (filter (is_there i u) (decisions_by xs)) (filter (is_there i u) (decisions_by (x ∷ []))))
 
 values-of : (i u j w : ℕ) (b : Bool) → ((j == i) && (w == u)) ≡ b → (vs : List (List ℕ))
-    → map (λ (d : Decided). d.value) (filter (is_there i u) (decided_at (Some (j, w)) vs)) ≡ (if b then vs else [])
+    → map (λ (d : ExternalizedValue). d.value) (filter (is_there i u) (decided_at (Some (j, w)) vs)) ≡ (if b then vs else [])
 values-of i u j w true e [] = refl
 values-of i u j w false e [] = refl
 values-of i u j w true e (v ∷ vs) = rw e (ap (λ (xs : List (List ℕ)). v ∷ xs) (values-of i u j w true e vs))
 values-of i u j w false e (v ∷ vs) = rw e (values-of i u j w false e vs)
 
 -- what an entry decides at a slot
-pub values-at : (i u : ℕ) (x : Entry) → values_at i u (x ∷ []) ≡ map (λ (d : Decided). d.value) (filter (is_there i u) (decided_at (slot_and_node_of x.event) (values_in x.outs)))
-values-at i u x = ap (λ (ds : List Decided). map (λ d. d.value) (filter (is_there i u) ds)) (append-nil (decisions_in x))
+pub values-at : (i u : ℕ) (x : Entry) → values_at i u (x ∷ []) ≡ map (λ (d : ExternalizedValue). d.value) (filter (is_there i u) (decided_at (slot_and_node_of x.event) (values_in x.outs)))
+values-at i u x = ap (λ (ds : List ExternalizedValue). map (λ d. d.value) (filter (is_there i u) ds)) (append-nil (decisions_in x))
 
 pub values-by : (i u j w : ℕ) (x : Entry) → slot_and_node_of x.event ≡ Some (j, w) → values_at i u (x ∷ []) ≡ (if (j == i) && (w == u) then values_in x.outs else [])
 values-by i u j w x at =
-    values-at i u x ∙ (ap (λ (p : Option (ℕ × ℕ)). map (λ (d : Decided). d.value) (filter (is_there i u) (decided_at p (values_in x.outs)))) at
+    values-at i u x ∙ (ap (λ (p : Option (ℕ × ℕ)). map (λ (d : ExternalizedValue). d.value) (filter (is_there i u) (decided_at p (values_in x.outs)))) at
     ∙ values-of i u j w ((j == i) && (w == u)) refl (values_in x.outs))
 
 last-more : {A : Type 0} (o : Option A) (xs ys : List A) → last_or o (xs ++ ys) ≡ last_or (last_or o xs) ys

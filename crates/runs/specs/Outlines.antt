@@ -6,7 +6,7 @@ use Rattle.std.specs.BTreeMap.{insert_entry, is_at}
 use Rattle.std.specs.Map.{lookup, remove_entry, set_value}
 use Rattle.types.specs.Trees.{Slices, all_differ}
 use Rattle.protocol.specs.Sets.{IsAscending}
-use Rattle.protocol.specs.Networks.{Budgets, Host}
+use Rattle.protocol.specs.Networks.{Budgets, HostedNode}
 use Rattle.protocol.specs.Rosters.{Roster, Shares}
 use Rattle.protocol.specs.Hosts.{Config}
 use Rattle.configuration.specs.Configs.{names_of}
@@ -16,7 +16,7 @@ use Rattle.configuration.specs.Rosters.{HasRosterOf}
 -- what lines have declared of a network: its budgets, its nodes in the order of their lines, and the names and the shares of its roster
 pub record Outlined : Type 0 where
   pub budgets : Budgets
-  pub nodes : List Host
+  pub nodes : List HostedNode
   pub roster : Option (List ℕ × Shares)
 
 -- the networks that are declared and that no event has named since, ascending by number

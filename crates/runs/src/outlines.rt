@@ -7,7 +7,8 @@ ghost use Rattle.runs.specs.Outlines.{IsConfigOf, fresh, with_node, with_roster}
 ghost use Rattle.runs.specs.Taking.{is_roster, takes_node, takes_roster};
 
 use configuration::{
-    Budgets, ConfigError, Host, MAX_HOSTS, MAX_ROSTER, MAX_SHARE, NetConfig, Reservation, Shares,
+    Budgets, ConfigError, HostedNode, MAX_HOSTS, MAX_ROSTER, MAX_SHARE, NetConfig, Reservation,
+    Shares,
 };
 use scripts::LineError;
 use std::alloc::Global;
@@ -22,7 +23,7 @@ use types::{Nested, NodeId};
 pub(crate) struct Outline {
     alloc: Global,
     budgets: Budgets,
-    nodes: Vec<Host>,
+    nodes: Vec<HostedNode>,
     roster: Option<Reservation>,
 }
 
@@ -63,7 +64,7 @@ impl Outline {
         if self.nodes.len() >= MAX_HOSTS || has_node(&self.nodes, &name) {
             return Err(LineError::Bad);
         }
-        match self.nodes.push(Host::new(name, slices)) {
+        match self.nodes.push(HostedNode::new(name, slices)) {
             Ok(()) => Ok(()),
             // Memory: the list has no room.
             Err(_) => Err(LineError::NoMemory),
@@ -127,7 +128,7 @@ fn is_allowed(roster: &Reservation) -> bool
 }
 
 /// A node has the name.
-fn has_node(nodes: &[Host], name: &NodeId) -> bool
+fn has_node(nodes: &[HostedNode], name: &NodeId) -> bool
     ensures { result ≡ list_any (λ host. host.name == name.now) nodes.now }
 {
     nodes.iter().any(|node| *node.name() == *name)

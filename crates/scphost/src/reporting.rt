@@ -8,7 +8,7 @@ ghost use Rattle.scphost.specs.Reporting.{IsReport, IsReportOf};
 use crate::answer::Answer;
 use crate::quiet::FinishedScript;
 use command_line::Format;
-use explorer::{NoNetwork, Report, push_dot, push_svg, push_text, report_of};
+use explorer::{ClosureReport, NoNetwork, push_dot, push_svg, push_text, report_of};
 use std::alloc::{AllocError, Global};
 use types::Subject;
 
@@ -35,7 +35,7 @@ fn report_after(
     alloc: Global,
     script: &FinishedScript,
     subject: &Subject,
-) -> Result<Report, AllocError>
+) -> Result<ClosureReport, AllocError>
     ensures { IfOk result (IsReportOf (log_at script.now.run.hosting.logs subject.now.net) subject.now.slot subject.now.node) }
 {
     match script.run().world().journal(subject.net) {
@@ -45,7 +45,11 @@ fn report_after(
 }
 
 /// A report in a form.
-fn format_report(alloc: Global, report: &Report, format: Format) -> Result<String, AllocError>
+fn format_report(
+    alloc: Global,
+    report: &ClosureReport,
+    format: Format,
+) -> Result<String, AllocError>
     ensures { IfOk result (λ text. format ≡ Format.Text → string_bytes text ≡ text_of_report report.now) }
 {
     let mut text = String::new(alloc);

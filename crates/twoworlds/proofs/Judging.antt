@@ -7,12 +7,12 @@ use Rattle.std.proofs.Math.Path.{fun_ext}
 use Rattle.std.proofs.lemmas.Bool.{eq-eqb, eqb-true, true≢false, false≢true}
 use Rattle.std.proofs.lemmas.List.Kept.{AllPairs-filter}
 use Rattle.protocol.specs.Sets.{Names, among, IsAscending}
-use Rattle.protocol.specs.Networks.{Host, slices_of}
+use Rattle.protocol.specs.Networks.{HostedNode, slices_of}
 use Rattle.protocol.specs.Hosts.{Entry}
 use Rattle.protocol.specs.Isolation.{closure, kept_of, outs_of, SameCast}
 use Rattle.protocol.specs.Verdicts.{IsFirstDifference, IsListOf, IsVerdict}
 use Rattle.protocol.proofs.Sets.Contained.{contains_head, contains_tail, contained_cases}
-use Rattle.closure.specs.Announcing.{Listed, names_of, IsClosureList}
+use Rattle.closure.specs.Announcing.{MemberList, names_of, IsClosureList}
 use Rattle.twoworlds.specs.declared.verdict.Verdict.TheVariants.{InputsDiffer, Same}
 use Rattle.differences.specs.Hosting.{AreAlike}
 use Rattle.hoststep.specs.Logs.{Log}
@@ -47,10 +47,10 @@ module _ (R : Names) where
       go false e (inr k) f = f k
 
 -- ---- hosted nodes
-abbrev host_names : List Host → List ℕ
+abbrev host_names : List HostedNode → List ℕ
 host_names hosts = map (λ h. h.name) hosts
 
-named_host : (hosts : List Host) (u : ℕ) → is_some (slices_of hosts u) ≡ true → Contains (host_names hosts) u
+named_host : (hosts : List HostedNode) (u : ℕ) → is_some (slices_of hosts u) ≡ true → Contains (host_names hosts) u
 named_host [] u h = absurd (false≢true h)
 named_host (x ∷ xs) u h = go (x.name == u) refl h (named_host xs u)
   where
@@ -58,7 +58,7 @@ named_host (x ∷ xs) u h = go (x.name == u) refl h (named_host xs u)
     go true e k f = subst (λ y. Contains (x.name ∷ host_names xs) y) (eqb-true x.name u e) (contains_head x.name (host_names xs))
     go false e k f = contains_tail u x.name (host_names xs) (f k)
 
-host_named : (hosts : List Host) (u : ℕ) → Contains (host_names hosts) u → is_some (slices_of hosts u) ≡ true
+host_named : (hosts : List HostedNode) (u : ℕ) → Contains (host_names hosts) u → is_some (slices_of hosts u) ≡ true
 host_named [] u c = absurd (let l = c.1 in omega arith)
 host_named (x ∷ xs) u c = go (x.name == u) refl (contained_cases u x.name (host_names xs) c) (host_named xs u)
   where
@@ -68,7 +68,7 @@ host_named (x ∷ xs) u c = go (x.name == u) refl (contained_cases u x.name (hos
     go false e (inr k) f = f k
 
 -- ---- the list of hosted members
-module _ (R : Names) (hosts : List Host) (i : ℕ) (run : List Entry) where
+module _ (R : Names) (hosts : List HostedNode) (i : ℕ) (run : List Entry) where
   names_kept : (list : List ℕ) → map (λ p. p.0) (outs_of_each i run list) ≡ list
   names_kept [] = refl
   names_kept (u ∷ us) = ap (λ (ys : List ℕ). u ∷ ys) (names_kept us)
@@ -87,11 +87,11 @@ module _ (R : Names) (hosts : List Host) (i : ℕ) (run : List Entry) where
 
 -- ---- verdicts
 -- a verdict is right
-abbrev IsVerdictOf : List Host → List Host → List Entry → List Entry → ℕ → ℕ → Verdict → Type 0
+abbrev IsVerdictOf : List HostedNode → List HostedNode → List Entry → List Entry → ℕ → ℕ → Verdict → Type 0
 IsVerdictOf one other run others i v verdict = IsVerdict one other run others i v (meant verdict)
 
 -- the same cast and the same kept steps, and so the same outs
-abbrev AreIsolatedRuns : List Host → List Host → List Entry → List Entry → ℕ → ℕ → Type 0
+abbrev AreIsolatedRuns : List HostedNode → List HostedNode → List Entry → List Entry → ℕ → ℕ → Type 0
 AreIsolatedRuns one other run others i v =
     let R = closure one i v run in
     SameCast R v one other → kept_of R i run ≡ kept_of R i others → (u : ℕ) → IsTrue (R u) → outs_of i u run ≡ outs_of i u others
@@ -103,8 +103,8 @@ isolated_both one other i v a b = isolated_runs one.config other.config one.entr
 pub isolated_alone : (one : Log) (i v : ℕ) → AreIsolated (Some one) None i v
 isolated_alone one i v cast same u m = absurd (true≢false (sym cast.hosted ∙ ap is_some (cast.same v (closure-start one.config.hosts i v one.entries))))
 
-module _ (one other : List Host) (run others : List Entry) (i v : ℕ) where
-  module _ (list : Listed) (c : IsClosureList one i v run list) (hosted : is_some (slices_of one v) ≡ true) where
+module _ (one other : List HostedNode) (run others : List Entry) (i v : ℕ) where
+  module _ (list : MemberList) (c : IsClosureList one i v run list) (hosted : is_some (slices_of one v) ≡ true) where
     abbrev here : Names
     here = among (names_of list)
 
@@ -138,7 +138,7 @@ module _ (one other : List Host) (run others : List Entry) (i v : ℕ) where
         )
 
 -- ---- verdicts on what two worlds have of a network
-module _ (one : Log) (o : Option Log) (i v : ℕ) (list : Listed) (c : IsClosureList one.config.hosts i v one.entries list) (hosted : is_some (slices_of one.config.hosts v) ≡ true) (alike : AreAlike one.config.hosts (hosts_in o) (names_of list)) where
+module _ (one : Log) (o : Option Log) (i v : ℕ) (list : MemberList) (c : IsClosureList one.config.hosts i v one.entries list) (hosted : is_some (slices_of one.config.hosts v) ≡ true) (alike : AreAlike one.config.hosts (hosts_in o) (names_of list)) where
   alike_in : (p : Option Log) → o ≡ p → AreAlike one.config.hosts (hosts_in p) (names_of list)
   alike_in p q = subst (λ (r : Option Log). AreAlike one.config.hosts (hosts_in r) (names_of list)) q alike
 

@@ -4,7 +4,7 @@ use Rattle.std.specs.List.{AllZip}
 use Rattle.types.specs.declared.subject.Subject.{Subject}
 use Rattle.protocol.specs.Hosts.{History}
 use Rattle.hoststep.specs.Logs.{Log}
-use Rattle.hoststep.specs.Worlds.{IsToldBy}
+use Rattle.hoststep.specs.Worlds.{AreJournalsOf}
 use Rattle.twoworlds.proofs.ToldLaws.{told_verdict}
 use Rattle.twoworlds.specs.Questions.{AreVerdictsBetween, AreVerdictsOn}
 use Rattle.twoworlds.specs.declared.verdict.Verdict.{Verdict}
@@ -23,7 +23,7 @@ all_ok {X} {Y} {E} Q R xs rs (Ok v) h z =
 all_ok Q R xs rs (Err e) h z = tt
 
 -- verdicts on the journals are verdicts on the histories
-pub told_verdicts : (h k : History) (ls ms : List Log) → IsToldBy h ls → IsToldBy k ms → (subjects : List Subject) (verdicts : List Verdict)
+pub told_verdicts : (h k : History) (ls ms : List Log) → AreJournalsOf h ls → AreJournalsOf k ms → (subjects : List Subject) (verdicts : List Verdict)
     → AreVerdictsOn ls ms subjects verdicts → AreVerdictsBetween h k subjects verdicts
 told_verdicts h k ls ms one other [] [] x = tt
 told_verdicts h k ls ms one other [] (r ∷ rs) x = absurd x

@@ -1,14 +1,14 @@
 -- Worlds whose journals are those of histories: a verdict on the journals is one on the histories.
 use Rattle.std.proofs.Common.{◌≡◌, ℕ, Bool, true, false, ◌==◌, Option, Some, None, List, [], ◌∷◌, map, if◌then◌else◌, is_some, refl, sym, ◌∙◌, ap, subst, inl, inr}
 use Rattle.std.proofs.lemmas.Bool.{true≢false}
-use Rattle.protocol.specs.Networks.{Host}
+use Rattle.protocol.specs.Networks.{HostedNode}
 use Rattle.protocol.specs.Hosts.{Entry, History, entries, hosts_of}
 use Rattle.protocol.specs.Isolation.{SameCast, closure}
 use Rattle.protocol.specs.Verdicts.{IsVerdict, Verdict}
 use Rattle.protocol.specs.Verdicts.Verdict.{CastDiffers, InputsDiffer, Same}
 use Rattle.network.specs.Decoding.{reading}
 use Rattle.hoststep.specs.Logs.{Log}
-use Rattle.hoststep.specs.Worlds.{IsToldBy, log_at}
+use Rattle.hoststep.specs.Worlds.{AreJournalsOf, log_at}
 use Rattle.protocol.proofs.Runs.KeptWithin.{closure-start}
 use Rattle.twoworlds.specs.Meanings.{IsVerdictBetween, IsVerdictOn, entries_in, hosts_in, meant}
 use Rattle.twoworlds.specs.declared.verdict.Verdict as code
@@ -22,42 +22,42 @@ hosts-map (l ∷ ls) g = go (l.config.number == g) (hosts-map ls g)
     go true ih = refl
     go false ih = ih
 
-hosts-told : (h : History) (ls : List Log) (g : ℕ) → IsToldBy h ls → hosts_in (log_at ls g) ≡ hosts_of h.configs g
+hosts-told : (h : History) (ls : List Log) (g : ℕ) → AreJournalsOf h ls → hosts_in (log_at ls g) ≡ hosts_of h.configs g
 hosts-told h ls g told = hosts-map ls g ∙ ap (λ cs. hosts_of cs g) told.configs
 
 -- where a world hosts nobody its entries do not matter
-first-without : (other : List Host) (run runs others : List Entry) (i v : ℕ) (r : Verdict) → IsVerdict [] other run others i v r → IsVerdict [] other runs others i v r
+first-without : (other : List HostedNode) (run runs others : List Entry) (i v : ℕ) (r : Verdict) → IsVerdict [] other run others i v r → IsVerdict [] other runs others i v r
 first-without other run runs others i v (CastDiffers u) (inl h) = inl h
 first-without other run runs others i v (CastDiffers u) (inr h) = absurd (true≢false (sym h.0))
 first-without other run runs others i v (InputsDiffer place) h = absurd (true≢false (sym h.0.hosted))
 first-without other run runs others i v (Same list) h = absurd (true≢false (sym h.0.hosted))
 
-nobody-else : (one : List Host) (run : List Entry) (i v : ℕ) → SameCast (closure one i v run) v one [] → ⊥
+nobody-else : (one : List HostedNode) (run : List Entry) (i v : ℕ) → SameCast (closure one i v run) v one [] → ⊥
 nobody-else one run i v cast = true≢false (sym cast.hosted ∙ ap is_some (cast.same v (closure-start one i v run)))
 
-second-without : (one : List Host) (run others more : List Entry) (i v : ℕ) (r : Verdict) → IsVerdict one [] run others i v r → IsVerdict one [] run more i v r
+second-without : (one : List HostedNode) (run others more : List Entry) (i v : ℕ) (r : Verdict) → IsVerdict one [] run others i v r → IsVerdict one [] run more i v r
 second-without one run others more i v (CastDiffers u) h = h
 second-without one run others more i v (InputsDiffer place) h = absurd (nobody-else one run i v h.0)
 second-without one run others more i v (Same list) h = absurd (nobody-else one run i v h.0)
 
 -- the history in the place of the journal, in the first world and in the second
-first-told : (o : Option Log) (hosts : List Host) (run : List Entry) → hosts_in o ≡ hosts → ((l : Log) → o ≡ Some l → l.entries ≡ run) → (other : List Host) (others : List Entry) (i v : ℕ) (r : Verdict)
+first-told : (o : Option Log) (hosts : List HostedNode) (run : List Entry) → hosts_in o ≡ hosts → ((l : Log) → o ≡ Some l → l.entries ≡ run) → (other : List HostedNode) (others : List Entry) (i v : ℕ) (r : Verdict)
     → IsVerdict (hosts_in o) other (entries_in o) others i v r → IsVerdict hosts other run others i v r
 first-told (Some l) hosts run same entered other others i v r x = subst (λ k. IsVerdict k other run others i v r) same (subst (λ e. IsVerdict l.config.hosts other e others i v r) (entered l refl) x)
 first-told None hosts run same entered other others i v r x = subst (λ k. IsVerdict k other run others i v r) same (first-without other [] run others i v r x)
 
-second-told : (o : Option Log) (hosts : List Host) (run : List Entry) → hosts_in o ≡ hosts → ((l : Log) → o ≡ Some l → l.entries ≡ run) → (one : List Host) (ones : List Entry) (i v : ℕ) (r : Verdict)
+second-told : (o : Option Log) (hosts : List HostedNode) (run : List Entry) → hosts_in o ≡ hosts → ((l : Log) → o ≡ Some l → l.entries ≡ run) → (one : List HostedNode) (ones : List Entry) (i v : ℕ) (r : Verdict)
     → IsVerdict one (hosts_in o) ones (entries_in o) i v r → IsVerdict one hosts ones run i v r
 second-told (Some l) hosts run same entered one ones i v r x = subst (λ k. IsVerdict one k ones run i v r) same (subst (λ e. IsVerdict one l.config.hosts ones e i v r) (entered l refl) x)
 second-told None hosts run same entered one ones i v r x = subst (λ k. IsVerdict one k ones run i v r) same (second-without one ones [] run i v r x)
 
 -- a verdict on the journals is one on the histories
-pub told_verdict : (h k : History) (ls ms : List Log) (g i v : ℕ) (r : code.Verdict) → IsToldBy h ls → IsToldBy k ms → IsVerdictOn (log_at ls g) (log_at ms g) i v r → IsVerdictBetween h k g i v r
+pub told_verdict : (h k : History) (ls ms : List Log) (g i v : ℕ) (r : code.Verdict) → AreJournalsOf h ls → AreJournalsOf k ms → IsVerdictOn (log_at ls g) (log_at ms g) i v r → IsVerdictBetween h k g i v r
 told_verdict h k ls ms g i v r one other x =
     second-told (log_at ms g) (hosts_of k.configs g) (entries reading k g) (hosts-told k ms g other) (other.entries g) (hosts_of h.configs g) (entries reading h g) i v (meant r)
     (first-told (log_at ls g) (hosts_of h.configs g) (entries reading h g) (hosts-told h ls g one) (one.entries g) (hosts_in (log_at ms g)) (entries_in (log_at ms g)) i v (meant r) x)
 
 -- a world that lacks the network does not host the node
-pub told_nowhere : (h k : History) (ls ms : List Log) (g i v : ℕ) → IsToldBy h ls → IsToldBy k ms → log_at ls g ≡ None → IsVerdictBetween h k g i v (code.TheVariants.CastDiffers v)
+pub told_nowhere : (h k : History) (ls ms : List Log) (g i v : ℕ) → AreJournalsOf h ls → AreJournalsOf k ms → log_at ls g ≡ None → IsVerdictBetween h k g i v (code.TheVariants.CastDiffers v)
 told_nowhere h k ls ms g i v one other lost =
     told_verdict h k ls ms g i v (code.TheVariants.CastDiffers v) one other (subst (λ o. IsVerdictOn o (log_at ms g) i v (code.TheVariants.CastDiffers v)) (sym lost) (inl (refl, refl)))

@@ -1,6 +1,6 @@
 -- Verdicts, and the isolation that each comparison carries, over journals.
 use Rattle.std.specs.Prelude.{◌≡◌, ℕ, List, [], Option, Some, None, IsTrue}
-use Rattle.protocol.specs.Networks.{Host}
+use Rattle.protocol.specs.Networks.{HostedNode}
 use Rattle.protocol.specs.Hosts.{Entry, History, entries, hosts_of}
 use Rattle.protocol.specs.Verdicts as verdicts
 use Rattle.protocol.specs.Isolation.{closure, kept_of, outs_of, SameCast}
@@ -16,7 +16,7 @@ meant (InputsDiffer place) = verdicts.Verdict.InputsDiffer place
 meant (Same list) = verdicts.Verdict.Same list
 
 -- the hosted nodes of a network; nobody where a world lacks it
-abbrev pub hosts_in : Option Log → List Host
+abbrev pub hosts_in : Option Log → List HostedNode
 hosts_in None = []
 hosts_in (Some l) = l.config.hosts
 

@@ -2,7 +2,7 @@
 use Rattle.std.specs.Prelude.{◌≡◌, ◌≢◌, ℕ, List, map, filter, ◌++◌, slice_get, slice_set, Some, IsTrue, IsFalse}
 use Rattle.types.specs.declared.event.Out.{Out}
 use Rattle.protocol.specs.Sets.{Names}
-use Rattle.protocol.specs.Networks.{Host}
+use Rattle.protocol.specs.Networks.{HostedNode}
 use Rattle.protocol.specs.Hosts.{Entry}
 use Rattle.protocol.specs.Isolation.{is_of, outs_of}
 
@@ -11,7 +11,7 @@ abbrev pub outs_of_each : ℕ → List Entry → List ℕ → List (ℕ × List 
 outs_of_each i run list = map (λ u. (u, outs_of i u run)) list
 
 -- the hosted nodes that are in the set, in their order
-abbrev pub hosted_in : Names → List Host → List ℕ
+abbrev pub hosted_in : Names → List HostedNode → List ℕ
 hosted_in R hosts = filter R (map (λ h. h.name) hosts)
 
 -- What an entry adds to a list of nodes with their outs: its own to the node that it is of, where that is one of the names.

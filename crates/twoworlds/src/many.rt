@@ -2,7 +2,7 @@
 
 ghost use Rattle.std.specs.Prelude.{IfOk};
 ghost use Rattle.protocol.specs.Hosts.{History};
-ghost use Rattle.hoststep.specs.Worlds.{IsToldBy, log_at};
+ghost use Rattle.hoststep.specs.Worlds.{AreJournalsOf, log_at};
 ghost use Rattle.twoworlds.specs.Meanings.{IsVerdictOn};
 ghost use Rattle.twoworlds.specs.Questions.{AreAllIsolated, AreVerdictsBetween, AreVerdictsOn};
 
@@ -43,7 +43,7 @@ where
     T::Place: Sync,
     ensures verdicts { IfOk result (λ all. AreVerdictsOn one.now other.now subjects.now all.items) }
     ensures isolated { AreAllIsolated one.now other.now subjects.now }
-    ensures told { (h k : History) → IsToldBy h one.now → IsToldBy k other.now → IfOk result (λ all. AreVerdictsBetween h k subjects.now all.items) }
+    ensures told { (h k : History) → AreJournalsOf h one.now → AreJournalsOf k other.now → IfOk result (λ all. AreVerdictsBetween h k subjects.now all.items) }
 {
     are_all_isolated(one, other, subjects);
     let verdicts = verdicts_of(rt, alloc, one, other, subjects)?;

@@ -10,7 +10,7 @@ ghost use Rattle.twoworlds.specs.OutLists.{IsNotedAt, hosted_in, outs_of_each};
 use crate::steps::node_at;
 use crate::verdict::{MemberOuts, OutsOfMembers};
 use closure::ClosureList;
-use configuration::Host;
+use configuration::HostedNode;
 use envstore::Shelf;
 use hoststep::Journal;
 use std::alloc::{AllocError, Global};
@@ -26,7 +26,7 @@ struct EntryOf<'a, S: Shelf> {
 /// The hosted nodes that are members, in their order.
 pub fn hosted_members(
     alloc: Global,
-    hosts: &[Host],
+    hosts: &[HostedNode],
     members: &ClosureList,
 ) -> Result<Vec<NodeId>, AllocError>
     ensures { IfOk result (λ v. v.items ≡ hosted_in (among (names_of members.now)) hosts.now) }

@@ -19,7 +19,7 @@ use Rattle.protocol.proofs.Statements.Offers.{row-with}
 use Rattle.compiled.specs.Places.{Compiled, Numbered}
 use Rattle.compiled.specs.Met.{IsCompiled, picked}
 use Rattle.compiled.specs.Searching.{AreCompiled, met_at}
-use Rattle.view.specs.declared.region.Entry.{Entry}
+use Rattle.view.specs.declared.region.RegionEntry.{RegionEntry}
 use Rattle.view.specs.declared.region.Region.{Region}
 use Rattle.latest.specs.Places.{place_of}
 use Rattle.view.specs.Forms.{AreBelow, Fits, IsFoundWithin, MayJoin}
@@ -101,7 +101,7 @@ set_compiled own configured table e k us cs p f up inside sender_is another kind
 }
 
 module _ (table : List Sent) (e : Sent) (r : Region) (own : ℕ) (configured : Slices) (is : IsRegion own configured table r) where
-  module _ (x : Entry) (entry : IsEntry own configured table e r x) where
+  module _ (x : RegionEntry) (entry : IsEntry own configured table e r x) where
     another : (own == e.sender) ≡ false
     another =
         (λ i. sym is.itself i == sym entry.sender i)

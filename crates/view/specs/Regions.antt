@@ -19,7 +19,7 @@ use Rattle.view.specs.declared.changing.Extent.{Extent}
 use Rattle.view.specs.declared.changing.Extent.TheVariants.{Wider, Other}
 use Rattle.view.specs.declared.region.Change.{Change}
 use Rattle.view.specs.declared.region.Change.TheVariants.{Sets, Reach}
-use Rattle.view.specs.declared.region.Entry.{Entry}
+use Rattle.view.specs.declared.region.RegionEntry.{RegionEntry}
 use Rattle.view.specs.declared.region.FormerRegion.{FormerRegion}
 use Rattle.view.specs.declared.region.KindPlaces.{KindPlaces}
 use Rattle.view.specs.declared.region.Placed.{Placed}
@@ -79,7 +79,7 @@ pub record IsCopy (old new : Region) : Type 0 where
   pub numbers : new.numbers ≡ old.numbers
 
 -- what a region has to have once a row of another node came that leaves the reach as it is: the row's slices, compiled, for its kind and at its sender's place, and where the row then stands
-pub record IsEntry (own : ℕ) (configured : Slices) (table : List Sent) (e : Sent) (r : Region) (x : Entry) : Type 0 where
+pub record IsEntry (own : ℕ) (configured : Slices) (table : List Sent) (e : Sent) (r : Region) (x : RegionEntry) : Type 0 where
   pub reach : IsReach own configured table r.nodes.items → IsReach own configured (with_row e table) r.nodes.items
   pub within : x.place < length r.nodes.items
   pub sender : get_or r.nodes.items x.place 0 ≡ e.sender

@@ -24,5 +24,5 @@ pub use changing::{Extent, NewReach};
 pub use known_reach::{KnownReach, Taken};
 pub use own::Own;
 pub use reached_ballots::ReachedBallots;
-pub use region::{Change, Entry, Region};
+pub use region::{Change, Region, RegionEntry};
 pub use seeing::View;

@@ -47,7 +47,7 @@ pub struct Region {
 /// The slices in a reached node's row of a kind, compiled, and where that row is to stand in the table: all that
 /// a row changes in a region whose reach stays. The numbers of all forms are below `numbers` then.
 #[derive(Drop)]
-pub struct Entry {
+pub struct RegionEntry {
     kind: Kind,
     place: usize,
     slices: Form,
@@ -59,7 +59,7 @@ pub struct Entry {
 #[derive(Drop)]
 pub enum Change {
     /// This entry; whom the node reaches stays.
-    Sets(Entry),
+    Sets(RegionEntry),
     /// Whom the node reaches.
     Reach(Extent),
 }
@@ -174,7 +174,7 @@ impl Region {
         let Some(form) = found else {
             return Ok(Change::Reach(Extent::Wider));
         };
-        Ok(Change::Sets(Entry {
+        Ok(Change::Sets(RegionEntry {
             kind: envelope.body().kind(),
             place,
             slices: form,
@@ -236,7 +236,7 @@ impl Region {
 
     /// Sets what [`Region::change_by`] found. The region is then that of the table with the row, of the same nodes. It
     /// takes no memory.
-    pub fn set_entry(&mut self, entry: Entry)
+    pub fn set_entry(&mut self, entry: RegionEntry)
         ensures nodes { self.new.nodes.items ≡ self.old.nodes.items }
         ensures region { (own : ℕ) (configured : Slices) (table : List Sent) (e : Sent) → IsEntry own configured table e self.old entry → IsRegion own configured table self.old → IsRegion own configured (with_row e table) self.new }
     {

@@ -10,7 +10,7 @@ use latest::{Offer, RowPlace, Rows, Table};
 use std::alloc::Global;
 use std::test::Fail;
 use types::{Envelope, Nested};
-use view::{Change, Entry, Extent, Own, Region};
+use view::{Change, Extent, Own, Region, RegionEntry};
 
 /// The slices of node 1, of which both it and node 2 are needed.
 fn both(alloc: Global) -> Result<Nested, Fail> {
@@ -47,7 +47,7 @@ fn set_row(
 }
 
 /// The entry that is the change, if it is one.
-fn entry_in(change: Change) -> Option<Entry> {
+fn entry_in(change: Change) -> Option<RegionEntry> {
     match change {
         Change::Sets(entry) => Some(entry),
         Change::Reach(_) => None,

@@ -9,7 +9,7 @@ ghost use Rattle.work.specs.declared.rule.Job.{Job};
 use crate::closing::{drain, gather};
 use crate::line::Queue;
 use crate::opening::share_out;
-use crate::rule::{Job, Line, Pass, Puts, Takes};
+use crate::rule::{Job, Pass, Puts, RuledQueue, Takes};
 use std::alloc::{AllocError, Global};
 use std::sync::Wait;
 
@@ -28,7 +28,7 @@ impl Queue {
     {
         let all = Vec::with_capacity(alloc, passes)?;
         let room = Vec::with_capacity(alloc, capacity)?;
-        let (line, first) = Line::ruled(alloc, capacity)?;
+        let (line, first) = RuledQueue::ruled(alloc, capacity)?;
         let all = share_out(&line, first, passes, all);
         Ok((
             Queue {

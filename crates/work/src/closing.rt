@@ -6,11 +6,11 @@ ghost use Rattle.work.specs.Hands.{all_parts, weigh};
 ghost use Rattle.work.specs.Queues.{AllPasses, IsOn, parts, parts_by, put_by, taken_by};
 ghost use Rattle.work.specs.declared.rule.Job.{Job};
 
-use crate::rule::{CutsOff, Job, Line, Pass, Takes};
+use crate::rule::{CutsOff, Job, Pass, RuledQueue, Takes};
 use std::sync::Wait;
 
 /// One pass that has put and taken what all of them have.
-pub(crate) fn gather(line: &Line, mut passes: Vec<Pass>) -> Pass
+pub(crate) fn gather(line: &RuledQueue, mut passes: Vec<Pass>) -> Pass
     requires all { parts_by passes.items ≡ all_parts }
     requires passes { AllPasses (IsOn line.now) passes.items }
     ensures pass { IsPassOf line.now result × (parts result ≡ all_parts) }
@@ -26,7 +26,12 @@ pub(crate) fn gather(line: &Line, mut passes: Vec<Pass>) -> Pass
 }
 
 /// All jobs that the queue holds, in the room that is there for them.
-pub(crate) fn drain<R: Wait>(rt: &R, line: &Line, whole: &mut Pass, mut room: Vec<Job>) -> Vec<Job>
+pub(crate) fn drain<R: Wait>(
+    rt: &R,
+    line: &RuledQueue,
+    whole: &mut Pass,
+    mut room: Vec<Job>,
+) -> Vec<Job>
     requires pass { IsPassOf line.now whole.old × (parts whole.old ≡ all_parts) }
     requires room { (ruled_capacity line.now ≤ vec_capacity room) × (vec_len room ≡ 0) × (room.items ≡ []) }
     ensures { (h : Job → ℕ) → weigh h (view whole.old).put ≡ weigh h (view whole.old).taken + weigh h result.items }

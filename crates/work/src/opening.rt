@@ -5,11 +5,11 @@ ghost use Rattle.crossbeam_queue.specs.Passes.{view, IsPassOf};
 ghost use Rattle.work.specs.Hands.{all_parts, hand};
 ghost use Rattle.work.specs.Queues.{AllPasses, IsFreshOn, parts_by};
 
-use crate::rule::{CutsOff, Line, Pass};
+use crate::rule::{CutsOff, Pass, RuledQueue};
 
 /// So many passes, in the room that is there for them: each has one part, and the last one all others.
 pub(crate) fn share_out(
-    line: &Line,
+    line: &RuledQueue,
     mut first: Pass,
     passes: usize,
     mut room: Vec<Pass>,

@@ -101,7 +101,7 @@ impl Join<Hand> for CutsOff {
 }
 
 /// The queue of the toolchain, under the rule.
-pub type Line = RuledArrayQueue<Job, Hand, Fair>;
+pub type RuledQueue = RuledArrayQueue<Job, Hand, Fair>;
 
 /// The leave of one caller to put and to take. It is of one queue, and has no bytes. Contracts know it with
 /// the jobs that went by it (`Hand`).

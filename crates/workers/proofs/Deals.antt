@@ -9,59 +9,59 @@ use Rattle.work.specs.Hands.{weigh}
 use Rattle.work.specs.Queues.{put_by, taken_by, parts_by, parts}
 use Rattle.work.proofs.Balances.{weigh-append}
 use Rattle.cells.specs.Sights.{SeatSight}
-use Rattle.workers.specs.declared.deal.Bench.{Bench}
+use Rattle.workers.specs.declared.deal.SpareSeats.{SpareSeats}
 use Rattle.workers.specs.declared.deal.Room.{Room}
 use Rattle.workers.specs.declared.walk.Walk.{Walk}
 use Rattle.workers.specs.declared.worker.Worker.{Worker}
 use Rattle.workers.specs.Sums.{AllPassing, IsPassing, parts_of, put, taken}
-use Rattle.workers.specs.Benches.{AllBlank, AllFresh, AllHave, AllHold, AllRoomy, IsDealt, IsDealtAll, IsDealtSeat, IsGiven, IsGivenSeat, IsSplit, at_work, on_benches}
+use Rattle.workers.specs.Spares.{AllBlank, AllFresh, AllHave, AllHold, AllRoomy, IsDealt, IsDealtAll, IsDealtSeat, IsGiven, IsGivenSeat, IsSplit, at_work, on_spares}
 use Rattle.workers.proofs.Sums.{weigh-last}
 use Rattle.workers.proofs.Pools.{parts_weigh, put_weighs, taken_weighs}
 
--- dealing a seat of each bench
+-- dealing a spare seat of each cell
 
--- of the first k benches a seat was dealt
-abbrev pub IsDealtTo : {S H P : Type 0} → ℕ → List (Bench S H P) → List (Walk S H P) → List (Bench S H P) → Type 0
+-- of the first k cells a seat was dealt
+abbrev pub IsDealtTo : {S H P : Type 0} → ℕ → List (SpareSeats S H P) → List (Walk S H P) → List (SpareSeats S H P) → Type 0
 IsDealtTo zero xs ws ys = (ws ≡ []) × (ys ≡ xs)
 IsDealtTo (suc k) [] ws ys = ⊥
 IsDealtTo (suc k) (a ∷ xs) [] ys = ⊥
 IsDealtTo (suc k) (a ∷ xs) (w ∷ ws) [] = ⊥
 IsDealtTo (suc k) (a ∷ xs) (w ∷ ws) (b ∷ ys) = IsDealtSeat a w b × IsDealtTo k xs ws ys
 
-dealt_to_suc : {S H P : Type 0} → (k : ℕ) (xs : List (Bench S H P)) (ws : List (Walk S H P)) (ys : List (Bench S H P)) (a b : (Bench S H P)) (w : (Walk S H P)) → IsDealtTo k xs ws ys → k < length ys → a ≡ get_or ys k a → IsDealtSeat a w b → IsDealtTo (suc k) xs (ws ++ w ∷ []) (slice_set ys k b)
+dealt_to_suc : {S H P : Type 0} → (k : ℕ) (xs : List (SpareSeats S H P)) (ws : List (Walk S H P)) (ys : List (SpareSeats S H P)) (a b : (SpareSeats S H P)) (w : (Walk S H P)) → IsDealtTo k xs ws ys → k < length ys → a ≡ get_or ys k a → IsDealtSeat a w b → IsDealtTo (suc k) xs (ws ++ w ∷ []) (slice_set ys k b)
 dealt_to_suc zero xs ws [] a b w all lt at one = absurd (omega arith)
 dealt_to_suc zero xs ws (y ∷ ys) a b w all lt at one =
-    subst (λ (z : List (Walk _ _ _) × List (Bench _ _ _)). IsDealtTo 1 z.1 (z.0 ++ w ∷ []) (b ∷ ys)) (λ i. (sym all.0 i, all.1 i))
-    (subst (λ (z : (Bench _ _ _)). IsDealtSeat z w b) at one, (refl, refl))
+    subst (λ (z : List (Walk _ _ _) × List (SpareSeats _ _ _)). IsDealtTo 1 z.1 (z.0 ++ w ∷ []) (b ∷ ys)) (λ i. (sym all.0 i, all.1 i))
+    (subst (λ (z : (SpareSeats _ _ _)). IsDealtSeat z w b) at one, (refl, refl))
 dealt_to_suc (suc k) [] ws ys a b w all lt at one = absurd all
 dealt_to_suc (suc k) (x ∷ xs) [] ys a b w all lt at one = absurd all
 dealt_to_suc (suc k) (x ∷ xs) (v ∷ ws) [] a b w all lt at one = absurd all
 dealt_to_suc (suc k) (x ∷ xs) (v ∷ ws) (y ∷ ys) a b w all lt at one = (all.0, dealt_to_suc k xs ws ys a b w all.1 (omega arith) at one)
 
-pub dealt_to_more : {S H P : Type 0} → (k : ℕ) (xs : List (Bench S H P)) (ws : List (Walk S H P)) (ys : List (Bench S H P)) (a b : (Bench S H P)) (w : (Walk S H P)) (vs : List (Walk S H P)) → IsDealtTo k xs ws ys → k < length ys → a ≡ get_or ys k a → vs ≡ ws ++ w ∷ [] → IsDealtSeat a w b → IsDealtTo (k + 1) xs vs (slice_set ys k b)
+pub dealt_to_more : {S H P : Type 0} → (k : ℕ) (xs : List (SpareSeats S H P)) (ws : List (Walk S H P)) (ys : List (SpareSeats S H P)) (a b : (SpareSeats S H P)) (w : (Walk S H P)) (vs : List (Walk S H P)) → IsDealtTo k xs ws ys → k < length ys → a ≡ get_or ys k a → vs ≡ ws ++ w ∷ [] → IsDealtSeat a w b → IsDealtTo (k + 1) xs vs (slice_set ys k b)
 dealt_to_more k xs ws ys a b w vs all lt at is one =
     let more : suc k ≡ k + 1 = omega arith in
     subst (λ (z : ℕ × List (Walk _ _ _)). IsDealtTo z.0 xs z.1 (slice_set ys k b)) (λ i. (more i, sym is i)) (dealt_to_suc k xs ws ys a b w all lt at one)
 
-pub dealt_to_end : {S H P : Type 0} → (k : ℕ) (xs : List (Bench S H P)) (ws : List (Walk S H P)) (ys : List (Bench S H P)) → IsDealtTo k xs ws ys → length ys ≤ k → IsDealt xs ws ys
-dealt_to_end zero xs ws [] all le = subst (λ (z : List (Walk _ _ _) × List (Bench _ _ _)). IsDealt z.1 z.0 []) (λ i. (sym all.0 i, all.1 i)) tt
+pub dealt_to_end : {S H P : Type 0} → (k : ℕ) (xs : List (SpareSeats S H P)) (ws : List (Walk S H P)) (ys : List (SpareSeats S H P)) → IsDealtTo k xs ws ys → length ys ≤ k → IsDealt xs ws ys
+dealt_to_end zero xs ws [] all le = subst (λ (z : List (Walk _ _ _) × List (SpareSeats _ _ _)). IsDealt z.1 z.0 []) (λ i. (sym all.0 i, all.1 i)) tt
 dealt_to_end zero xs ws (y ∷ ys) all le = absurd (omega arith)
 dealt_to_end (suc k) [] ws ys all le = absurd all
 dealt_to_end (suc k) (x ∷ xs) [] ys all le = absurd all
 dealt_to_end (suc k) (x ∷ xs) (w ∷ ws) [] all le = absurd all
 dealt_to_end (suc k) (x ∷ xs) (w ∷ ws) (y ∷ ys) all le = (all.0, dealt_to_end k xs ws ys all.1 (omega arith))
 
-pub dealt_to_at : {S H P : Type 0} → (k : ℕ) (xs : List (Bench S H P)) (ws : List (Walk S H P)) (ys : List (Bench S H P)) (a : (Bench S H P)) → IsDealtTo k xs ws ys → k < length ys → a ≡ get_or ys k a → AllHave 1 xs → 0 < length a.seats.items
+pub dealt_to_at : {S H P : Type 0} → (k : ℕ) (xs : List (SpareSeats S H P)) (ws : List (Walk S H P)) (ys : List (SpareSeats S H P)) (a : (SpareSeats S H P)) → IsDealtTo k xs ws ys → k < length ys → a ≡ get_or ys k a → AllHave 1 xs → 0 < length a.seats.items
 dealt_to_at zero xs ws [] a all lt at have = absurd (omega arith)
 dealt_to_at zero xs ws (y ∷ ys) a all lt at have =
     let h : AllHave 1 (y ∷ ys) = subst (AllHave 1) (sym all.1) have in
-    subst (λ (z : (Bench _ _ _)). 0 < length z.seats.items) (sym at) (let m = h.0 in omega arith)
+    subst (λ (z : (SpareSeats _ _ _)). 0 < length z.seats.items) (sym at) (let m = h.0 in omega arith)
 dealt_to_at (suc k) [] ws ys a all lt at have = absurd all
 dealt_to_at (suc k) (x ∷ xs) [] ys a all lt at have = absurd all
 dealt_to_at (suc k) (x ∷ xs) (w ∷ ws) [] a all lt at have = absurd all
 dealt_to_at (suc k) (x ∷ xs) (w ∷ ws) (y ∷ ys) a all lt at have = dealt_to_at k xs ws ys a all.1 (omega arith) at have.1
 
-pub dealt_len : {S H P : Type 0} → (xs : List (Bench S H P)) (ws : List (Walk S H P)) (ys : List (Bench S H P)) → IsDealt xs ws ys → (length ys ≡ length xs) × (length ws ≡ length xs)
+pub dealt_len : {S H P : Type 0} → (xs : List (SpareSeats S H P)) (ws : List (Walk S H P)) (ys : List (SpareSeats S H P)) → IsDealt xs ws ys → (length ys ≡ length xs) × (length ws ≡ length xs)
 dealt_len [] [] [] all = (refl, refl)
 dealt_len [] [] (b ∷ ys) all = absurd all
 dealt_len [] (w ∷ ws) ys all = absurd all
@@ -69,7 +69,7 @@ dealt_len (a ∷ xs) [] ys all = absurd all
 dealt_len (a ∷ xs) (w ∷ ws) [] all = absurd all
 dealt_len (a ∷ xs) (w ∷ ws) (b ∷ ys) all = let r = dealt_len xs ws ys all.1 in (ap suc r.0, ap suc r.1)
 
-pub dealt_have : {S H P : Type 0} → (n : ℕ) (xs : List (Bench S H P)) (ws : List (Walk S H P)) (ys : List (Bench S H P)) → IsDealt xs ws ys → AllHave (suc n) xs → AllHave n ys
+pub dealt_have : {S H P : Type 0} → (n : ℕ) (xs : List (SpareSeats S H P)) (ws : List (Walk S H P)) (ys : List (SpareSeats S H P)) → IsDealt xs ws ys → AllHave (suc n) xs → AllHave n ys
 dealt_have n [] [] [] all have = tt
 dealt_have n [] [] (b ∷ ys) all have = absurd all
 dealt_have n [] (w ∷ ws) ys all have = absurd all
@@ -80,11 +80,11 @@ dealt_have n (a ∷ xs) (w ∷ ws) (b ∷ ys) all have = (
   dealt_have n xs ws ys all.1 have.1,
 )
 
-pub have_less : {S H P : Type 0} → (m n : ℕ) (bs : List (Bench S H P)) → m ≤ n → AllHave n bs → AllHave m bs
+pub have_less : {S H P : Type 0} → (m n : ℕ) (bs : List (SpareSeats S H P)) → m ≤ n → AllHave n bs → AllHave m bs
 have_less m n [] le all = tt
 have_less m n (b ∷ bs) le all = ((let a = all.0 in omega arith), have_less m n bs le all.1)
 
-pub dealt_sum : {S H P : Type 0} → (f : SeatSight → ℕ) (xs : List (Bench S H P)) (ws : List (Walk S H P)) (ys : List (Bench S H P)) → IsDealt xs ws ys → on_benches f xs ≡ on_benches f ys + weigh (λ (v : (Walk S H P)). f v.seat) ws
+pub dealt_sum : {S H P : Type 0} → (f : SeatSight → ℕ) (xs : List (SpareSeats S H P)) (ws : List (Walk S H P)) (ys : List (SpareSeats S H P)) → IsDealt xs ws ys → on_spares f xs ≡ on_spares f ys + weigh (λ (v : (Walk S H P)). f v.seat) ws
 dealt_sum f [] [] [] all = refl
 dealt_sum f [] [] (b ∷ ys) all = absurd all
 dealt_sum f [] (w ∷ ws) ys all = absurd all
@@ -96,18 +96,18 @@ dealt_sum f (a ∷ xs) (w ∷ ws) (b ∷ ys) all =
 
 -- one worker after another
 
-pub dealt_all_snoc : {S H P : Type 0} → (before : List (Bench S H P)) (ws : List (Worker S H P)) (mid : List (Bench S H P)) (w : (Worker S H P)) (after : List (Bench S H P)) → IsDealtAll before ws mid → IsDealt mid w.walks.items after → IsDealtAll before (ws ++ w ∷ []) after
-dealt_all_snoc before [] mid w after all one = (after, subst (λ (z : List (Bench _ _ _)). IsDealt z w.walks.items after) all one, refl)
+pub dealt_all_snoc : {S H P : Type 0} → (before : List (SpareSeats S H P)) (ws : List (Worker S H P)) (mid : List (SpareSeats S H P)) (w : (Worker S H P)) (after : List (SpareSeats S H P)) → IsDealtAll before ws mid → IsDealt mid w.walks.items after → IsDealtAll before (ws ++ w ∷ []) after
+dealt_all_snoc before [] mid w after all one = (after, subst (λ (z : List (SpareSeats _ _ _)). IsDealt z w.walks.items after) all one, refl)
 dealt_all_snoc before (x ∷ ws) mid w after all one = (all.0, all.1, dealt_all_snoc all.0 ws mid w after all.2 one)
 
-pub dealt_all_last : {S H P : Type 0} → (before : List (Bench S H P)) (ws : List (Worker S H P)) (w : (Worker S H P)) (after : List (Bench S H P)) → IsDealtAll before (ws ++ w ∷ []) after → (mid : List (Bench S H P)) × IsDealtAll before ws mid × IsDealt mid w.walks.items after
-dealt_all_last before [] w after all = (before, refl, subst (λ (z : List (Bench _ _ _)). IsDealt before w.walks.items z) (sym all.2) all.1)
+pub dealt_all_last : {S H P : Type 0} → (before : List (SpareSeats S H P)) (ws : List (Worker S H P)) (w : (Worker S H P)) (after : List (SpareSeats S H P)) → IsDealtAll before (ws ++ w ∷ []) after → (mid : List (SpareSeats S H P)) × IsDealtAll before ws mid × IsDealt mid w.walks.items after
+dealt_all_last before [] w after all = (before, refl, subst (λ (z : List (SpareSeats _ _ _)). IsDealt before w.walks.items z) (sym all.2) all.1)
 dealt_all_last before (x ∷ ws) w after all =
     let r = dealt_all_last all.0 ws w after all.2 in
     (r.0, (all.0, all.1, r.1), r.2)
 
-pub dealt_all_sum : {S H P : Type 0} → (f : SeatSight → ℕ) (before : List (Bench S H P)) (ws : List (Worker S H P)) (after : List (Bench S H P)) → IsDealtAll before ws after → on_benches f before ≡ on_benches f after + at_work f ws
-dealt_all_sum f before [] after all = (let e : on_benches f after ≡ on_benches f before = ap (on_benches f) all in omega arith)
+pub dealt_all_sum : {S H P : Type 0} → (f : SeatSight → ℕ) (before : List (SpareSeats S H P)) (ws : List (Worker S H P)) (after : List (SpareSeats S H P)) → IsDealtAll before ws after → on_spares f before ≡ on_spares f after + at_work f ws
+dealt_all_sum f before [] after all = (let e : on_spares f after ≡ on_spares f before = ap (on_spares f) all in omega arith)
 dealt_all_sum f before (w ∷ ws) after all =
     let a = dealt_sum f before w.walks.items all.0 all.1 in
     let b = dealt_all_sum f all.0 ws after all.2 in omega arith
@@ -158,40 +158,40 @@ split_more before ws w mid after s is = record {
 -- giving seats back
 
 -- the first walks are those of before, and of the others the seats were given back
-abbrev pub IsGivenFrom : {S H P : Type 0} → List (Walk S H P) → List (Walk S H P) → List (Bench S H P) → List (Bench S H P) → Type 0
+abbrev pub IsGivenFrom : {S H P : Type 0} → List (Walk S H P) → List (Walk S H P) → List (SpareSeats S H P) → List (SpareSeats S H P) → Type 0
 IsGivenFrom [] ws xs ys = IsGiven xs ws ys
 IsGivenFrom (v ∷ vs) [] xs ys = ⊥
 IsGivenFrom (v ∷ vs) (w ∷ ws) [] ys = ⊥
 IsGivenFrom (v ∷ vs) (w ∷ ws) (a ∷ xs) [] = ⊥
 IsGivenFrom (v ∷ vs) (w ∷ ws) (a ∷ xs) (b ∷ ys) = (v ≡ w) × (b ≡ a) × IsGivenFrom vs ws xs ys
 
-pub given_from_all : {S H P : Type 0} → (ws : List (Walk S H P)) (xs : List (Bench S H P)) → length ws ≡ length xs → IsGivenFrom ws ws xs xs
+pub given_from_all : {S H P : Type 0} → (ws : List (Walk S H P)) (xs : List (SpareSeats S H P)) → length ws ≡ length xs → IsGivenFrom ws ws xs xs
 given_from_all [] [] len = tt
 given_from_all [] (x ∷ xs) len = absurd (omega arith)
 given_from_all (w ∷ ws) [] len = absurd (omega arith)
 given_from_all (w ∷ ws) (x ∷ xs) len = (refl, refl, given_from_all ws xs (omega arith))
 
-pub given_from_less : {S H P : Type 0} → (vs ws : List (Walk S H P)) (xs ys : List (Bench S H P)) (v : (Walk S H P)) (a b : (Bench S H P)) → IsGivenFrom (vs ++ v ∷ []) ws xs ys → a ≡ get_or ys (length vs) a → IsGivenSeat a v b → IsGivenFrom vs ws xs (slice_set ys (length vs) b)
+pub given_from_less : {S H P : Type 0} → (vs ws : List (Walk S H P)) (xs ys : List (SpareSeats S H P)) (v : (Walk S H P)) (a b : (SpareSeats S H P)) → IsGivenFrom (vs ++ v ∷ []) ws xs ys → a ≡ get_or ys (length vs) a → IsGivenSeat a v b → IsGivenFrom vs ws xs (slice_set ys (length vs) b)
 given_from_less [] [] xs ys v a b all at one = absurd all
 given_from_less [] (w ∷ ws) [] ys v a b all at one = absurd all
 given_from_less [] (w ∷ ws) (x ∷ xs) [] v a b all at one = absurd all
-given_from_less [] (w ∷ ws) (x ∷ xs) (y ∷ ys) v a b all at one = (subst (λ (z : (Bench _ _ _) × (Walk _ _ _)). IsGivenSeat z.0 z.1 b) (λ i. ((at ∙ all.1) i, all.0 i)) one, all.2)
+given_from_less [] (w ∷ ws) (x ∷ xs) (y ∷ ys) v a b all at one = (subst (λ (z : (SpareSeats _ _ _) × (Walk _ _ _)). IsGivenSeat z.0 z.1 b) (λ i. ((at ∙ all.1) i, all.0 i)) one, all.2)
 given_from_less (u ∷ vs) [] xs ys v a b all at one = absurd all
 given_from_less (u ∷ vs) (w ∷ ws) [] ys v a b all at one = absurd all
 given_from_less (u ∷ vs) (w ∷ ws) (x ∷ xs) [] v a b all at one = absurd all
 given_from_less (u ∷ vs) (w ∷ ws) (x ∷ xs) (y ∷ ys) v a b all at one = (all.0, all.1, given_from_less vs ws xs ys v a b all.2 at one)
 
-pub given_from_at : {S H P : Type 0} → (vs ws : List (Walk S H P)) (xs ys : List (Bench S H P)) (v : (Walk S H P)) (a : (Bench S H P)) → IsGivenFrom (vs ++ v ∷ []) ws xs ys → a ≡ get_or ys (length vs) a → AllRoomy xs → length a.seats.items < vec_capacity a.seats
+pub given_from_at : {S H P : Type 0} → (vs ws : List (Walk S H P)) (xs ys : List (SpareSeats S H P)) (v : (Walk S H P)) (a : (SpareSeats S H P)) → IsGivenFrom (vs ++ v ∷ []) ws xs ys → a ≡ get_or ys (length vs) a → AllRoomy xs → length a.seats.items < vec_capacity a.seats
 given_from_at [] [] xs ys v a all at room = absurd all
 given_from_at [] (w ∷ ws) [] ys v a all at room = absurd all
 given_from_at [] (w ∷ ws) (x ∷ xs) [] v a all at room = absurd all
-given_from_at [] (w ∷ ws) (x ∷ xs) (y ∷ ys) v a all at room = subst (λ (z : (Bench _ _ _)). length z.seats.items < vec_capacity z.seats) (sym (at ∙ all.1)) room.0
+given_from_at [] (w ∷ ws) (x ∷ xs) (y ∷ ys) v a all at room = subst (λ (z : (SpareSeats _ _ _)). length z.seats.items < vec_capacity z.seats) (sym (at ∙ all.1)) room.0
 given_from_at (u ∷ vs) [] xs ys v a all at room = absurd all
 given_from_at (u ∷ vs) (w ∷ ws) [] ys v a all at room = absurd all
 given_from_at (u ∷ vs) (w ∷ ws) (x ∷ xs) [] v a all at room = absurd all
 given_from_at (u ∷ vs) (w ∷ ws) (x ∷ xs) (y ∷ ys) v a all at room = given_from_at vs ws xs ys v a all.2 at room.1
 
-pub given_from_lt : {S H P : Type 0} → (vs ws : List (Walk S H P)) (xs ys : List (Bench S H P)) (v : (Walk S H P)) → IsGivenFrom (vs ++ v ∷ []) ws xs ys → length vs < length ys
+pub given_from_lt : {S H P : Type 0} → (vs ws : List (Walk S H P)) (xs ys : List (SpareSeats S H P)) (v : (Walk S H P)) → IsGivenFrom (vs ++ v ∷ []) ws xs ys → length vs < length ys
 given_from_lt [] [] xs ys v all = absurd all
 given_from_lt [] (w ∷ ws) [] ys v all = absurd all
 given_from_lt [] (w ∷ ws) (x ∷ xs) [] v all = absurd all
@@ -201,7 +201,7 @@ given_from_lt (u ∷ vs) (w ∷ ws) [] ys v all = absurd all
 given_from_lt (u ∷ vs) (w ∷ ws) (x ∷ xs) [] v all = absurd all
 given_from_lt (u ∷ vs) (w ∷ ws) (x ∷ xs) (y ∷ ys) v all = let r = given_from_lt vs ws xs ys v all.2 in omega arith
 
-pub given_sum : {S H P : Type 0} → (f : SeatSight → ℕ) (xs : List (Bench S H P)) (ws : List (Walk S H P)) (ys : List (Bench S H P)) → IsGiven xs ws ys → on_benches f ys ≡ on_benches f xs + weigh (λ (v : (Walk S H P)). f v.seat) ws
+pub given_sum : {S H P : Type 0} → (f : SeatSight → ℕ) (xs : List (SpareSeats S H P)) (ws : List (Walk S H P)) (ys : List (SpareSeats S H P)) → IsGiven xs ws ys → on_spares f ys ≡ on_spares f xs + weigh (λ (v : (Walk S H P)). f v.seat) ws
 given_sum f [] [] [] all = refl
 given_sum f [] [] (b ∷ ys) all = absurd all
 given_sum f [] (w ∷ ws) ys all = absurd all
@@ -211,17 +211,17 @@ given_sum f (a ∷ xs) (w ∷ ws) (b ∷ ys) all =
     let l = weigh-last f b.seats.items a.seats.items w.seat all.0.seats in
     let r = given_sum f xs ws ys all.1 in omega arith
 
-pub have_at : {S H P : Type 0} → (n : ℕ) (bs : List (Bench S H P)) (k : ℕ) (b : (Bench S H P)) → AllHave n bs → k < length bs → b ≡ get_or bs k b → n ≤ length b.seats.items
+pub have_at : {S H P : Type 0} → (n : ℕ) (bs : List (SpareSeats S H P)) (k : ℕ) (b : (SpareSeats S H P)) → AllHave n bs → k < length bs → b ≡ get_or bs k b → n ≤ length b.seats.items
 have_at n [] k b all lt at = absurd (omega arith)
-have_at n (x ∷ bs) zero b all lt at = subst (λ (z : (Bench _ _ _)). n ≤ length z.seats.items) (sym at) all.0
+have_at n (x ∷ bs) zero b all lt at = subst (λ (z : (SpareSeats _ _ _)). n ≤ length z.seats.items) (sym at) all.0
 have_at n (x ∷ bs) (suc k) b all lt at = have_at n bs k b all.1 (omega arith) at
 
-have_suc : {S H P : Type 0} → (n m : ℕ) (bs : List (Bench S H P)) (k : ℕ) (b : (Bench S H P)) → AllHave n (take k bs) → m ≤ n → k < length bs → b ≡ get_or bs k b → m ≤ length b.seats.items → AllHave m (take (suc k) bs)
+have_suc : {S H P : Type 0} → (n m : ℕ) (bs : List (SpareSeats S H P)) (k : ℕ) (b : (SpareSeats S H P)) → AllHave n (take k bs) → m ≤ n → k < length bs → b ≡ get_or bs k b → m ≤ length b.seats.items → AllHave m (take (suc k) bs)
 have_suc n m [] k b all le lt at one = absurd (omega arith)
-have_suc n m (x ∷ bs) zero b all le lt at one = (subst (λ (z : (Bench _ _ _)). m ≤ length z.seats.items) at one, tt)
+have_suc n m (x ∷ bs) zero b all le lt at one = (subst (λ (z : (SpareSeats _ _ _)). m ≤ length z.seats.items) at one, tt)
 have_suc n m (x ∷ bs) (suc k) b all le lt at one = ((let a = all.0 in omega arith), have_suc n m bs k b all.1 le (omega arith) at one)
 
-pub have_more : {S H P : Type 0} → (n m : ℕ) (bs : List (Bench S H P)) (k : ℕ) (b : (Bench S H P)) → AllHave n (take k bs) → m ≤ n → k < length bs → b ≡ get_or bs k b → m ≤ length b.seats.items → AllHave m (take (k + 1) bs)
+pub have_more : {S H P : Type 0} → (n m : ℕ) (bs : List (SpareSeats S H P)) (k : ℕ) (b : (SpareSeats S H P)) → AllHave n (take k bs) → m ≤ n → k < length bs → b ≡ get_or bs k b → m ≤ length b.seats.items → AllHave m (take (k + 1) bs)
 have_more n m bs k b all le lt at one = let more : suc k ≡ k + 1 = omega arith in subst (λ (z : ℕ). AllHave m (take z bs)) more (have_suc n m bs k b all le lt at one)
 
 pub one_left : {X : Type 0} (o : Option X) (a b : ℕ) → MatchOption o ((b ≡ 0) × (a ≡ 0)) (λ _. a + 1 ≡ b) → 0 < b → a + 1 ≡ b

@@ -8,7 +8,7 @@ use Rattle.cells.specs.Cells.{AllFresh, IsSeatOf}
 use Rattle.cells.specs.Closing.{HasNumber}
 use Rattle.cells.specs.Sights.{CellSight, SeatSight}
 use Rattle.cells.proofs.Seats.{seats_from_all}
-use Rattle.workers.specs.Benches.{IsHosted}
+use Rattle.workers.specs.Spares.{IsHosted}
 
 -- each number is a seat's: the first one's, or that of one that is as it was
 numbered : (c : CellSight) (config : Config) (n : ℕ) (a s : SeatSight) (rest : List SeatSight) → AllFresh c.cell config n (a ∷ rest) → length (a ∷ rest) ≡ n

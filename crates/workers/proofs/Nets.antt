@@ -8,38 +8,38 @@ use Rattle.work.specs.declared.rule.Job.{Job}
 use Rattle.work.specs.Hands.{weigh}
 use Rattle.work.proofs.Balances.{weigh-append}
 use Rattle.cells.specs.Sights.{CellSight}
-use Rattle.cells.specs.Receipts.{Applied}
+use Rattle.cells.specs.Receipts.{AppliedEvent}
 use Rattle.cells.specs.Views.{Denial}
 use Rattle.cells.specs.Sights.{SeatSight}
-use Rattle.workers.specs.declared.deal.Bench.{Bench}
-use Rattle.workers.specs.declared.floor.Floor.{Floor}
+use Rattle.workers.specs.declared.deal.SpareSeats.{SpareSeats}
+use Rattle.workers.specs.declared.host_state.HostState.{HostState}
 use Rattle.workers.specs.declared.running.Report.{Report}
 use Rattle.workers.specs.Sums.{IsLater, applied_of, heard_of, refused_of, seat_applied, seat_done, seat_heard, seat_refused, job, hears}
-use Rattle.workers.specs.Benches.{AllGrown, AllGrownBenches, AllHosted, IsHosted, IsWorked, on_benches}
-use Rattle.workers.specs.Floors.{AreParts, IsPut, IsRemoved, IsSameFloor}
+use Rattle.workers.specs.Spares.{AllGrown, AllGrownSpares, AllHosted, IsHosted, IsWorked, on_spares}
+use Rattle.workers.specs.HostStates.{AreParts, IsPut, IsRemoved, IsSameHostState}
 use Rattle.workers.specs.NetSights.{Net}
-use Rattle.workers.specs.Nets.{AllElsewhere, AllGrownNets, IsDone, IsFloor, IsGreatest, NoNet, denied, done_since, gained, heard_since, nets_of, nets_with, over_nets, over_seats}
+use Rattle.workers.specs.Nets.{AllElsewhere, AllGrownNets, IsDone, IsHostState, IsGreatest, NoNet, denied, done_since, gained, heard_since, nets_of, nets_with, over_nets, over_seats}
 use Rattle.workers.specs.Numbers.{AllAbove, AllLack, IsNumbered, IsRising, Lacks, number_of}
 use Rattle.workers.proofs.Numbers.{IsPlace, lacks_at}
 use Rattle.workers.proofs.Worked.{grown_none, hosted_grown}
 
-pub hosted_len : {S H P : Type 0} → (cs : List CellSight) (bs : List (Bench S H P)) → AllHosted cs bs → length bs ≡ length cs
+pub hosted_len : {S H P : Type 0} → (cs : List CellSight) (bs : List (SpareSeats S H P)) → AllHosted cs bs → length bs ≡ length cs
 hosted_len [] [] all = refl
 hosted_len [] (b ∷ bs) all = absurd all
 hosted_len (c ∷ cs) [] all = absurd all
 hosted_len (c ∷ cs) (b ∷ bs) all = ap suc (hosted_len cs bs all.1)
 
-pub nets_len : {S H P : Type 0} → (cs : List CellSight) (bs : List (Bench S H P)) → AllHosted cs bs → length (nets_of cs bs) ≡ length cs
+pub nets_len : {S H P : Type 0} → (cs : List CellSight) (bs : List (SpareSeats S H P)) → AllHosted cs bs → length (nets_of cs bs) ≡ length cs
 nets_len [] bs all = refl
 nets_len (c ∷ cs) [] all = absurd all
 nets_len (c ∷ cs) (b ∷ bs) all = ap suc (nets_len cs bs all.1)
 
-no_net : {S H P : Type 0} → (cs : List CellSight) (bs : List (Bench S H P)) (x : ℕ) → Lacks cs x → NoNet (nets_of cs bs) x
+no_net : {S H P : Type 0} → (cs : List CellSight) (bs : List (SpareSeats S H P)) (x : ℕ) → Lacks cs x → NoNet (nets_of cs bs) x
 no_net [] bs x l = tt
 no_net (c ∷ cs) [] x l = tt
 no_net (c ∷ cs) (b ∷ bs) x l = (l.0, no_net cs bs x l.1)
 
-elsewhere : {S H P : Type 0} → (cs : List CellSight) (bs : List (Bench S H P)) (js : List Job) → AllLack cs js → AllElsewhere (nets_of cs bs) js
+elsewhere : {S H P : Type 0} → (cs : List CellSight) (bs : List (SpareSeats S H P)) (js : List Job) → AllLack cs js → AllElsewhere (nets_of cs bs) js
 elsewhere cs bs [] all = tt
 elsewhere cs bs (j ∷ js) all = (no_net cs bs j.network all.0, elsewhere cs bs js all.1)
 
@@ -74,7 +74,7 @@ insert_numbers [] (suc i) c = refl
 insert_numbers (d ∷ cs) zero c = refl
 insert_numbers (d ∷ cs) (suc i) c = ap (λ l. number_of d ∷ l) (insert_numbers cs i c)
 
-insert_hosted : {S H P : Type 0} → (cs : List CellSight) (bs : List (Bench S H P)) (i : ℕ) (c : CellSight) (b : (Bench S H P)) → i ≤ length cs → AllHosted cs bs → IsHosted c b.seats.items → AllHosted (insert cs i c) (insert bs i b)
+insert_hosted : {S H P : Type 0} → (cs : List CellSight) (bs : List (SpareSeats S H P)) (i : ℕ) (c : CellSight) (b : (SpareSeats S H P)) → i ≤ length cs → AllHosted cs bs → IsHosted c b.seats.items → AllHosted (insert cs i c) (insert bs i b)
 insert_hosted [] [] zero c b le all one = (one, tt)
 insert_hosted [] [] (suc i) c b le all one = absurd (omega arith)
 insert_hosted [] (x ∷ bs) i c b le all one = absurd all
@@ -88,7 +88,7 @@ is_below a b h = grind (arith, nat_tests, h)
 not_below : (a b : ℕ) → b < a → nat_lt a b ≡ false
 not_below a b h = grind (arith, nat_tests, h)
 
-insert_nets : {S H P : Type 0} → (cs : List CellSight) (bs : List (Bench S H P)) (i : ℕ) (c : CellSight) (b : (Bench S H P)) → AllHosted cs bs → IsPlace (map number_of cs) (number_of c) i → nets_of (insert cs i c) (insert bs i b) ≡ nets_with (record { cell = c; seats = b.seats.items }) (nets_of cs bs)
+insert_nets : {S H P : Type 0} → (cs : List CellSight) (bs : List (SpareSeats S H P)) (i : ℕ) (c : CellSight) (b : (SpareSeats S H P)) → AllHosted cs bs → IsPlace (map number_of cs) (number_of c) i → nets_of (insert cs i c) (insert bs i b) ≡ nets_with (record { cell = c; seats = b.seats.items }) (nets_of cs bs)
 insert_nets [] [] zero c b all p = refl
 insert_nets [] [] (suc i) c b all p = absurd (let l = p.0 in omega arith)
 insert_nets [] (x ∷ bs) i c b all p = absurd all
@@ -109,43 +109,43 @@ insert_len [] (suc i) c = omega arith
 insert_len (d ∷ cs) zero c = omega arith
 insert_len (d ∷ cs) (suc i) c = let r = insert_len cs i c in omega arith
 
-pub place_fits : {S H P : Type 0} → (f g : (Floor S H P)) (x i : ℕ) → IsFloor f → IsSameFloor f g → IsPlace f.shared.numbers.items x i → (i ≤ length g.shared.numbers.items) × (i ≤ length g.shared.cells.items) × (i ≤ length g.benches.items)
+pub place_fits : {S H P : Type 0} → (f g : (HostState S H P)) (x i : ℕ) → IsHostState f → IsSameHostState f g → IsPlace f.shared.numbers.items x i → (i ≤ length g.shared.numbers.items) × (i ≤ length g.shared.cells.items) × (i ≤ length g.spares.items)
 place_fits f g x i is same p =
     let a = ap (λ (l : List ℕ). length l) same.numbers in
     let b = ap (λ (l : List CellSight). length l) same.cells in
-    let c = ap (λ (l : List (Bench _ _ _)). length l) same.benches in
+    let c = ap (λ (l : List (SpareSeats _ _ _)). length l) same.spares in
     let n = ap (λ (l : List ℕ). length l) is.numbered.0 ∙ map_len f.shared.cells.items in
-    let h = hosted_len f.shared.cells.items f.benches.items is.hosted in
+    let h = hosted_len f.shared.cells.items f.spares.items is.hosted in
     let le = p.0 in
     (omega arith, omega arith, omega arith)
 
 -- a network joins
-pub joins : {S H P : Type 0} → (f g h : (Floor S H P)) (i : ℕ) (c : CellSight) (seats : List SeatSight) → IsFloor f → IsSameFloor f g → IsPlace f.shared.numbers.items (number_of c) i → length f.shared.numbers.items < 4096 → IsHosted c seats → IsPut g i c seats h
-    → IsFloor h × (nets_of h.shared.cells.items h.benches.items ≡ nets_with (record { cell = c; seats = seats }) (nets_of f.shared.cells.items f.benches.items))
+pub joins : {S H P : Type 0} → (f g h : (HostState S H P)) (i : ℕ) (c : CellSight) (seats : List SeatSight) → IsHostState f → IsSameHostState f g → IsPlace f.shared.numbers.items (number_of c) i → length f.shared.numbers.items < 4096 → IsHosted c seats → IsPut g i c seats h
+    → IsHostState h × (nets_of h.shared.cells.items h.spares.items ≡ nets_with (record { cell = c; seats = seats }) (nets_of f.shared.cells.items f.spares.items))
 joins f g h i c seats is same p few hosted put =
     let cs = f.shared.cells.items in
-    let bs = f.benches.items in
+    let bs = f.spares.items in
     let q : IsPlace (map number_of cs) (number_of c) i = subst (λ (l : List ℕ). IsPlace l (number_of c) i) is.numbered.0 p in
     let numbers : h.shared.numbers.items ≡ map number_of (insert cs i c) = put.numbers ∙ ap (λ l. insert l i (number_of c)) (same.numbers ∙ is.numbered.0) ∙ insert_numbers cs i c in
     let cells : h.shared.cells.items ≡ insert cs i c = put.cells ∙ ap (λ l. insert l i c) same.cells in
-    let benches : h.benches.items ≡ insert bs i put.bench = put.benches ∙ ap (λ l. insert l i put.bench) same.benches in
+    let spares : h.spares.items ≡ insert bs i put.spare = put.spares ∙ ap (λ l. insert l i put.spare) same.spares in
     let le : i ≤ length cs = let a = q.0 in let b = map_len cs in omega arith in
     let n = ap (λ (l : List ℕ). length l) is.numbered.0 ∙ map_len cs in
     let len = insert_len cs i c in
     let many = ap (λ (l : List CellSight). length l) cells in (
       record {
         numbered = (numbers ∙ sym (ap (map number_of) cells), subst IsRising (sym numbers) (rising_insert cs i c (subst IsRising is.numbered.0 is.numbered.1) q));
-        hosted = subst (λ (z : List CellSight). AllHosted z h.benches.items) (sym cells) (subst (AllHosted (insert cs i c)) (sym benches) (insert_hosted cs bs i c put.bench le is.hosted (subst (IsHosted c) (sym put.own) hosted)));
+        hosted = subst (λ (z : List CellSight). AllHosted z h.spares.items) (sym cells) (subst (AllHosted (insert cs i c)) (sym spares) (insert_hosted cs bs i c put.spare le is.hosted (subst (IsHosted c) (sym put.own) hosted)));
         few = omega arith;
         closed = put.queue ∙ same.queue ∙ is.closed;
       },
-      (λ j. nets_of (cells j) (benches j)) ∙ insert_nets cs bs i c put.bench is.hosted q ∙ ap (λ l. nets_with (record { cell = c; seats = l }) (nets_of cs bs)) put.own,
+      (λ j. nets_of (cells j) (spares j)) ∙ insert_nets cs bs i c put.spare is.hosted q ∙ ap (λ l. nets_with (record { cell = c; seats = l }) (nets_of cs bs)) put.own,
     )
 
-pub joins_fresh : {S H P : Type 0} → (f : (Floor S H P)) (nets : List Net) (x i : ℕ) → nets_of f.shared.cells.items f.benches.items ≡ nets → IsFloor f → IsPlace f.shared.numbers.items x i → length f.shared.numbers.items < 4096 → NoNet nets x × (length nets < 4096)
+pub joins_fresh : {S H P : Type 0} → (f : (HostState S H P)) (nets : List Net) (x i : ℕ) → nets_of f.shared.cells.items f.spares.items ≡ nets → IsHostState f → IsPlace f.shared.numbers.items x i → length f.shared.numbers.items < 4096 → NoNet nets x × (length nets < 4096)
 joins_fresh f nets x i view is p few = subst (λ (l : List Net). NoNet l x × (length l < 4096)) view (
-  no_net f.shared.cells.items f.benches.items x (lacks_at f.shared.numbers.items f.shared.cells.items x i is.numbered p),
-  (let a = nets_len f.shared.cells.items f.benches.items is.hosted in
+  no_net f.shared.cells.items f.spares.items x (lacks_at f.shared.numbers.items f.shared.cells.items x i is.numbered p),
+  (let a = nets_len f.shared.cells.items f.spares.items is.hosted in
       let n = ap (λ (l : List ℕ). length l) is.numbered.0 ∙ map_len f.shared.cells.items in omega arith),
 )
 
@@ -167,7 +167,7 @@ numbers_last : (cs : List CellSight) (c : CellSight) → map number_of (cs ++ c 
 numbers_last [] c = refl
 numbers_last (d ∷ cs) c = ap (λ l. number_of d ∷ l) (numbers_last cs c)
 
-hosted_last : {S H P : Type 0} → (cs : List CellSight) (bs : List (Bench S H P)) (c : CellSight) (b : (Bench S H P)) → AllHosted (cs ++ c ∷ []) (bs ++ b ∷ []) → AllHosted cs bs × IsHosted c b.seats.items
+hosted_last : {S H P : Type 0} → (cs : List CellSight) (bs : List (SpareSeats S H P)) (c : CellSight) (b : (SpareSeats S H P)) → AllHosted (cs ++ c ∷ []) (bs ++ b ∷ []) → AllHosted cs bs × IsHosted c b.seats.items
 hosted_last [] [] c b all = (tt, all.0)
 hosted_last [] (x ∷ []) c b all = absurd all.1
 hosted_last [] (x ∷ y ∷ bs) c b all = absurd all.1
@@ -175,25 +175,25 @@ hosted_last (d ∷ []) [] c b all = absurd all.1
 hosted_last (d ∷ e ∷ cs) [] c b all = absurd all.1
 hosted_last (d ∷ cs) (x ∷ bs) c b all = let r = hosted_last cs bs c b all.1 in ((all.0, r.0), r.1)
 
-nets_last : {S H P : Type 0} → (cs : List CellSight) (bs : List (Bench S H P)) (c : CellSight) (b : (Bench S H P)) → AllHosted cs bs → nets_of (cs ++ c ∷ []) (bs ++ b ∷ []) ≡ nets_of cs bs ++ record { cell = c; seats = b.seats.items } ∷ []
+nets_last : {S H P : Type 0} → (cs : List CellSight) (bs : List (SpareSeats S H P)) (c : CellSight) (b : (SpareSeats S H P)) → AllHosted cs bs → nets_of (cs ++ c ∷ []) (bs ++ b ∷ []) ≡ nets_of cs bs ++ record { cell = c; seats = b.seats.items } ∷ []
 nets_last [] [] c b all = refl
 nets_last [] (x ∷ bs) c b all = absurd all
 nets_last (d ∷ cs) [] c b all = absurd all
 nets_last (d ∷ cs) (x ∷ bs) c b all = ap (λ l. record { cell = d; seats = x.seats.items } ∷ l) (nets_last cs bs c b all.1)
 
-greatest : {S H P : Type 0} → (c : CellSight) (seats : List SeatSight) (cs : List CellSight) (bs : List (Bench S H P)) → IsRising (map number_of cs ++ number_of c ∷ []) → IsGreatest (record { cell = c; seats = seats }) (nets_of cs bs)
+greatest : {S H P : Type 0} → (c : CellSight) (seats : List SeatSight) (cs : List CellSight) (bs : List (SpareSeats S H P)) → IsRising (map number_of cs ++ number_of c ∷ []) → IsGreatest (record { cell = c; seats = seats }) (nets_of cs bs)
 greatest c seats [] bs up = tt
 greatest c seats (d ∷ cs) [] up = tt
 greatest c seats (d ∷ cs) (b ∷ bs) up = (above_last (number_of d) (map number_of cs) (number_of c) up.0, greatest c seats cs bs up.1)
 
-pub leaves : {S H P : Type 0} → (f g : (Floor S H P)) (c : CellSight) (seats : List SeatSight) → IsFloor f → IsRemoved f c seats g
-    → IsFloor g × IsHosted c seats × IsGreatest (record { cell = c; seats = seats }) (nets_of g.shared.cells.items g.benches.items)
-    × (nets_of f.shared.cells.items f.benches.items ≡ nets_of g.shared.cells.items g.benches.items ++ record { cell = c; seats = seats } ∷ [])
+pub leaves : {S H P : Type 0} → (f g : (HostState S H P)) (c : CellSight) (seats : List SeatSight) → IsHostState f → IsRemoved f c seats g
+    → IsHostState g × IsHosted c seats × IsGreatest (record { cell = c; seats = seats }) (nets_of g.shared.cells.items g.spares.items)
+    × (nets_of f.shared.cells.items f.spares.items ≡ nets_of g.shared.cells.items g.spares.items ++ record { cell = c; seats = seats } ∷ [])
 leaves {S} {H} {P} f g c seats is gone =
     let ns = g.shared.numbers.items in
     let cs = g.shared.cells.items in
-    let bs = g.benches.items in
-    let both = hosted_last cs bs c gone.bench (subst (λ (z : List CellSight × List (Bench S H P)). AllHosted z.0 z.1) (λ i. (gone.cells i, gone.benches i)) is.hosted) in
+    let bs = g.spares.items in
+    let both = hosted_last cs bs c gone.spare (subst (λ (z : List CellSight × List (SpareSeats S H P)). AllHosted z.0 z.1) (λ i. (gone.cells i, gone.spares i)) is.hosted) in
     let same : ns ++ gone.number ∷ [] ≡ map number_of cs ++ number_of c ∷ [] = sym gone.numbers ∙ is.numbered.0 ∙ ap (map number_of) gone.cells ∙ numbers_last cs c in
     let up : IsRising (ns ++ gone.number ∷ []) = subst IsRising gone.numbers is.numbered.1 in
     let n = ap (λ (l : List CellSight). length l) gone.cells ∙ length-append cs (c ∷ []) in
@@ -206,7 +206,7 @@ leaves {S} {H} {P} f g c seats is gone =
       },
       subst (IsHosted c) gone.own both.1,
       greatest c seats cs bs (subst IsRising same up),
-      (λ i. nets_of (gone.cells i) (gone.benches i)) ∙ nets_last cs bs c gone.bench both.0 ∙ ap (λ (l : List SeatSight). nets_of cs bs ++ record { cell = c; seats = l } ∷ []) gone.own,
+      (λ i. nets_of (gone.cells i) (gone.spares i)) ∙ nets_last cs bs c gone.spare both.0 ∙ ap (λ (l : List SeatSight). nets_of cs bs ++ record { cell = c; seats = l } ∷ []) gone.own,
     )
 
 -- networks part
@@ -236,28 +236,28 @@ numbers_take zero cs = refl
 numbers_take (suc k) [] = refl
 numbers_take (suc k) (c ∷ cs) = ap (λ l. number_of c ∷ l) (numbers_take k cs)
 
-hosted_drop : {S H P : Type 0} → (k : ℕ) (cs : List CellSight) (bs : List (Bench S H P)) → AllHosted cs bs → AllHosted (drop k cs) (drop k bs)
+hosted_drop : {S H P : Type 0} → (k : ℕ) (cs : List CellSight) (bs : List (SpareSeats S H P)) → AllHosted cs bs → AllHosted (drop k cs) (drop k bs)
 hosted_drop zero cs bs all = all
 hosted_drop (suc k) [] [] all = tt
 hosted_drop (suc k) [] (b ∷ bs) all = absurd all
 hosted_drop (suc k) (c ∷ cs) [] all = absurd all
 hosted_drop (suc k) (c ∷ cs) (b ∷ bs) all = hosted_drop k cs bs all.1
 
-hosted_take : {S H P : Type 0} → (k : ℕ) (cs : List CellSight) (bs : List (Bench S H P)) → AllHosted cs bs → AllHosted (take k cs) (take k bs)
+hosted_take : {S H P : Type 0} → (k : ℕ) (cs : List CellSight) (bs : List (SpareSeats S H P)) → AllHosted cs bs → AllHosted (take k cs) (take k bs)
 hosted_take zero cs bs all = tt
 hosted_take (suc k) [] [] all = tt
 hosted_take (suc k) [] (b ∷ bs) all = absurd all
 hosted_take (suc k) (c ∷ cs) [] all = absurd all
 hosted_take (suc k) (c ∷ cs) (b ∷ bs) all = (all.0, hosted_take k cs bs all.1)
 
-nets_drop : {S H P : Type 0} → (k : ℕ) (cs : List CellSight) (bs : List (Bench S H P)) → AllHosted cs bs → nets_of (drop k cs) (drop k bs) ≡ drop k (nets_of cs bs)
+nets_drop : {S H P : Type 0} → (k : ℕ) (cs : List CellSight) (bs : List (SpareSeats S H P)) → AllHosted cs bs → nets_of (drop k cs) (drop k bs) ≡ drop k (nets_of cs bs)
 nets_drop zero cs bs all = refl
 nets_drop (suc k) [] [] all = refl
 nets_drop (suc k) [] (b ∷ bs) all = absurd all
 nets_drop (suc k) (c ∷ cs) [] all = absurd all
 nets_drop (suc k) (c ∷ cs) (b ∷ bs) all = nets_drop k cs bs all.1
 
-nets_take : {S H P : Type 0} → (k : ℕ) (cs : List CellSight) (bs : List (Bench S H P)) → AllHosted cs bs → nets_of (take k cs) (take k bs) ≡ take k (nets_of cs bs)
+nets_take : {S H P : Type 0} → (k : ℕ) (cs : List CellSight) (bs : List (SpareSeats S H P)) → AllHosted cs bs → nets_of (take k cs) (take k bs) ≡ take k (nets_of cs bs)
 nets_take zero cs bs all = refl
 nets_take (suc k) [] [] all = refl
 nets_take (suc k) [] (b ∷ bs) all = absurd all
@@ -274,41 +274,41 @@ cells_take zero cs = omega arith
 cells_take (suc k) [] = omega arith
 cells_take (suc k) (c ∷ cs) = let r = cells_take k cs in omega arith
 
--- a floor as its lists are said to be
-floor_by : {S H P : Type 0} → (f : (Floor S H P)) (ns : List ℕ) (cs : List CellSight) (bs : List (Bench S H P)) → f.shared.numbers.items ≡ ns → f.shared.cells.items ≡ cs → f.benches.items ≡ bs
-    → IsNumbered ns cs → AllHosted cs bs → length cs ≤ 4096 → f.shared.queue ≡ None → IsFloor f
-floor_by {S} {H} {P} f ns cs bs numbers cells benches numbered hosted few closed = record {
+-- the state of a host as its lists are said to be
+host_state_by : {S H P : Type 0} → (f : (HostState S H P)) (ns : List ℕ) (cs : List CellSight) (bs : List (SpareSeats S H P)) → f.shared.numbers.items ≡ ns → f.shared.cells.items ≡ cs → f.spares.items ≡ bs
+    → IsNumbered ns cs → AllHosted cs bs → length cs ≤ 4096 → f.shared.queue ≡ None → IsHostState f
+host_state_by {S} {H} {P} f ns cs bs numbers cells spares numbered hosted few closed = record {
   numbered = subst (λ (z : List ℕ × List CellSight). IsNumbered z.0 z.1) (λ i. (sym numbers i, sym cells i)) numbered;
-  hosted = subst (λ (z : List CellSight × List (Bench S H P)). AllHosted z.0 z.1) (λ i. (sym cells i, sym benches i)) hosted;
+  hosted = subst (λ (z : List CellSight × List (SpareSeats S H P)). AllHosted z.0 z.1) (λ i. (sym cells i, sym spares i)) hosted;
   few = subst (λ (z : List CellSight). length z ≤ 4096) (sym cells) few;
   closed = closed;
 }
 
-pub parted : {S H P : Type 0} → (f g h : (Floor S H P)) (k : ℕ) → IsFloor f → AreParts f k g h
-    → IsFloor g × IsFloor h × (nets_of g.shared.cells.items g.benches.items ≡ take k (nets_of f.shared.cells.items f.benches.items))
-    × (nets_of h.shared.cells.items h.benches.items ≡ drop k (nets_of f.shared.cells.items f.benches.items))
+pub parted : {S H P : Type 0} → (f g h : (HostState S H P)) (k : ℕ) → IsHostState f → AreParts f k g h
+    → IsHostState g × IsHostState h × (nets_of g.shared.cells.items g.spares.items ≡ take k (nets_of f.shared.cells.items f.spares.items))
+    × (nets_of h.shared.cells.items h.spares.items ≡ drop k (nets_of f.shared.cells.items f.spares.items))
 parted f g h k is parts =
     let ns = f.shared.numbers.items in
     let cs = f.shared.cells.items in
-    let bs = f.benches.items in
+    let bs = f.spares.items in
     let few = is.few in
     let front = cells_take k cs in
     let back = cells_drop k cs in (
-      floor_by g (take k ns) (take k cs) (take k bs) parts.first_numbers parts.first_cells parts.first_benches
+      host_state_by g (take k ns) (take k cs) (take k bs) parts.first_numbers parts.first_cells parts.first_spares
           (ap (take k) is.numbered.0 ∙ numbers_take k cs, rising_take k ns is.numbered.1) (hosted_take k cs bs is.hosted) (omega arith) (parts.queue ∙ is.closed),
-      floor_by h (drop k ns) (drop k cs) (drop k bs) parts.numbers parts.cells parts.benches
+      host_state_by h (drop k ns) (drop k cs) (drop k bs) parts.numbers parts.cells parts.spares
           (ap (drop k) is.numbered.0 ∙ numbers_drop k cs, rising_drop k ns is.numbered.1) (hosted_drop k cs bs is.hosted) (omega arith) parts.none,
-      (λ i. nets_of (parts.first_cells i) (parts.first_benches i)) ∙ nets_take k cs bs is.hosted,
-      (λ i. nets_of (parts.cells i) (parts.benches i)) ∙ nets_drop k cs bs is.hosted,
+      (λ i. nets_of (parts.first_cells i) (parts.first_spares i)) ∙ nets_take k cs bs is.hosted,
+      (λ i. nets_of (parts.cells i) (parts.spares i)) ∙ nets_drop k cs bs is.hosted,
     )
 
 -- as many as there are networks there are of each
-pub parts_fit : {S H P : Type 0} → (f : (Floor S H P)) (nets : List Net) (k : ℕ) → nets_of f.shared.cells.items f.benches.items ≡ nets → IsFloor f → k ≤ length nets
-    → (k ≤ length f.shared.numbers.items) × (k ≤ length f.shared.cells.items) × (k ≤ length f.benches.items)
+pub parts_fit : {S H P : Type 0} → (f : (HostState S H P)) (nets : List Net) (k : ℕ) → nets_of f.shared.cells.items f.spares.items ≡ nets → IsHostState f → k ≤ length nets
+    → (k ≤ length f.shared.numbers.items) × (k ≤ length f.shared.cells.items) × (k ≤ length f.spares.items)
 parts_fit f nets k view is le =
     let a = ap (λ (l : List Net). length l) view in
-    let m = nets_len f.shared.cells.items f.benches.items is.hosted in
-    let b = hosted_len f.shared.cells.items f.benches.items is.hosted in
+    let m = nets_len f.shared.cells.items f.spares.items is.hosted in
+    let b = hosted_len f.shared.cells.items f.spares.items is.hosted in
     let n = ap (λ (l : List ℕ). length l) is.numbered.0 ∙ map_len f.shared.cells.items in
     (omega arith, omega arith, omega arith)
 
@@ -320,7 +320,7 @@ gains_seats f g one [] (y ∷ ys) all = absurd all
 gains_seats f g one (x ∷ xs) [] all = absurd all
 gains_seats f g one (x ∷ xs) (y ∷ ys) all = let a = one x y all.0 in let r = gains_seats f g one xs ys all.1 in omega arith
 
-gains : {S H P : Type 0} → (f : SeatSight → ℕ) (g : SeatSight → SeatSight → ℕ) → ((a b : SeatSight) → IsLater a b → f b ≡ f a + g a b) → (cs : List CellSight) (xs ys : List (Bench S H P)) → AllHosted cs xs → AllGrownBenches xs ys → on_benches f ys ≡ on_benches f xs + over_nets g (nets_of cs xs) (nets_of cs ys)
+gains : {S H P : Type 0} → (f : SeatSight → ℕ) (g : SeatSight → SeatSight → ℕ) → ((a b : SeatSight) → IsLater a b → f b ≡ f a + g a b) → (cs : List CellSight) (xs ys : List (SpareSeats S H P)) → AllHosted cs xs → AllGrownSpares xs ys → on_spares f ys ≡ on_spares f xs + over_nets g (nets_of cs xs) (nets_of cs ys)
 gains f g one [] [] [] hosted all = refl
 gains f g one [] [] (y ∷ ys) hosted all = absurd all
 gains f g one [] (x ∷ xs) ys hosted all = absurd hosted
@@ -339,22 +339,22 @@ denied_is a b l = ap (drop (length a.me.denials)) l.refused ∙ drop-append_seam
 one_done : (h : Job → ℕ) (a b : SeatSight) → IsLater a b → seat_done h b ≡ seat_done h a + done_since h a b
 one_done h a b l =
     let p : applied_of h b.me.config b.me.receipts ≡ applied_of h a.me.config a.me.receipts + applied_of h a.me.config (gained a b) =
-    (λ i. applied_of h (l.config i) (l.gained i)) ∙ weigh-append (λ (r : Applied). h (job a.me.config.number r.event)) a.me.receipts l.receipts ∙ ap (λ x. applied_of h a.me.config a.me.receipts + applied_of h a.me.config x) (sym (gained_is a b l)) in
+    (λ i. applied_of h (l.config i) (l.gained i)) ∙ weigh-append (λ (r : AppliedEvent). h (job a.me.config.number r.event)) a.me.receipts l.receipts ∙ ap (λ x. applied_of h a.me.config a.me.receipts + applied_of h a.me.config x) (sym (gained_is a b l)) in
     let q : refused_of h b.me.config b.me.denials ≡ refused_of h a.me.config a.me.denials + refused_of h a.me.config (denied a b) =
     (λ i. refused_of h (l.config i) (l.refused i)) ∙ weigh-append (λ (r : Denial). h (job a.me.config.number r.event)) a.me.denials l.denials ∙ ap (λ x. refused_of h a.me.config a.me.denials + refused_of h a.me.config x) (sym (denied_is a b l)) in
     omega arith
 
 one_heard : (h : Job → ℕ) (a b : SeatSight) → IsLater a b → seat_heard h b ≡ seat_heard h a + heard_since h a b
 one_heard h a b l =
-    (λ i. heard_of h (l.config i) (l.gained i)) ∙ weigh-append (λ (r : Applied). weigh h (hears a.me.config r)) a.me.receipts l.receipts ∙ ap (λ x. heard_of h a.me.config a.me.receipts + heard_of h a.me.config x) (sym (gained_is a b l))
+    (λ i. heard_of h (l.config i) (l.gained i)) ∙ weigh-append (λ (r : AppliedEvent). weigh h (hears a.me.config r)) a.me.receipts l.receipts ∙ ap (λ x. heard_of h a.me.config a.me.receipts + heard_of h a.me.config x) (sym (gained_is a b l))
 
 one_applied : (a b : SeatSight) → IsLater a b → seat_applied b ≡ seat_applied a + length (gained a b)
-one_applied a b l = ap (λ (x : List Applied). length x) l.gained ∙ length-append a.me.receipts l.receipts ∙ ap (λ (x : List Applied). length a.me.receipts + length x) (sym (gained_is a b l))
+one_applied a b l = ap (λ (x : List AppliedEvent). length x) l.gained ∙ length-append a.me.receipts l.receipts ∙ ap (λ (x : List AppliedEvent). length a.me.receipts + length x) (sym (gained_is a b l))
 
 one_refused : (a b : SeatSight) → IsLater a b → seat_refused b ≡ seat_refused a + length (denied a b)
 one_refused a b l = ap (λ (x : List Denial). length x) l.refused ∙ length-append a.me.denials l.denials ∙ ap (λ (x : List Denial). length a.me.denials + length x) (sym (denied_is a b l))
 
-pub is_done : {S H P : Type 0} → (cs : List CellSight) (xs ys : List (Bench S H P)) (came went : (Job → ℕ) → ℕ) (r : Report) → AllHosted cs xs → AllGrownBenches xs ys → IsWorked cs xs ys came went r → IsDone (nets_of cs xs) (nets_of cs ys) came went r
+pub is_done : {S H P : Type 0} → (cs : List CellSight) (xs ys : List (SpareSeats S H P)) (came went : (Job → ℕ) → ℕ) (r : Report) → AllHosted cs xs → AllGrownSpares xs ys → IsWorked cs xs ys came went r → IsDone (nets_of cs xs) (nets_of cs ys) came went r
 is_done cs xs ys came went r hosted grown w = record {
   lacking = w.lacking;
   elsewhere = elsewhere cs xs w.lacking w.elsewhere;
@@ -367,19 +367,19 @@ is_done cs xs ys came went r hosted grown w = record {
   unrun = w.unrun;
 }
 
-grown_nets : {S H P : Type 0} → (cs : List CellSight) (xs ys : List (Bench S H P)) → AllHosted cs xs → AllGrownBenches xs ys → AllGrownNets (nets_of cs xs) (nets_of cs ys)
+grown_nets : {S H P : Type 0} → (cs : List CellSight) (xs ys : List (SpareSeats S H P)) → AllHosted cs xs → AllGrownSpares xs ys → AllGrownNets (nets_of cs xs) (nets_of cs ys)
 grown_nets [] xs ys hosted all = tt
 grown_nets (c ∷ cs) [] ys hosted all = absurd hosted
 grown_nets (c ∷ cs) (x ∷ xs) [] hosted all = absurd all
 grown_nets (c ∷ cs) (x ∷ xs) (y ∷ ys) hosted all = (refl, all.0.0, grown_nets cs xs ys hosted.1 all.1)
 
-pub grown_floor : {S H P : Type 0} → (cs ds : List CellSight) (xs ys : List (Bench S H P)) → ds ≡ cs → AllHosted cs xs → AllGrownBenches xs ys → AllGrownNets (nets_of cs xs) (nets_of ds ys)
-grown_floor cs ds xs ys is hosted all = subst (λ (l : List CellSight). AllGrownNets (nets_of cs xs) (nets_of l ys)) (sym is) (grown_nets cs xs ys hosted all)
+pub grown_host_state : {S H P : Type 0} → (cs ds : List CellSight) (xs ys : List (SpareSeats S H P)) → ds ≡ cs → AllHosted cs xs → AllGrownSpares xs ys → AllGrownNets (nets_of cs xs) (nets_of ds ys)
+grown_host_state cs ds xs ys is hosted all = subst (λ (l : List CellSight). AllGrownNets (nets_of cs xs) (nets_of l ys)) (sym is) (grown_nets cs xs ys hosted all)
 
-pub floor_after : {S H P : Type 0} → (f g : (Floor S H P)) → IsFloor f → g.shared.numbers ≡ f.shared.numbers → g.shared.cells ≡ f.shared.cells → g.shared.queue ≡ None → AllGrownBenches f.benches.items g.benches.items → IsFloor g
-floor_after f g is numbers cells queue grown = record {
+pub host_state_after : {S H P : Type 0} → (f g : (HostState S H P)) → IsHostState f → g.shared.numbers ≡ f.shared.numbers → g.shared.cells ≡ f.shared.cells → g.shared.queue ≡ None → AllGrownSpares f.spares.items g.spares.items → IsHostState g
+host_state_after f g is numbers cells queue grown = record {
   numbered = subst (λ (z : List ℕ × List CellSight). IsNumbered z.0 z.1) (λ i. ((sym numbers i).items, (sym cells i).items)) is.numbered;
-  hosted = subst (λ (z : List CellSight). AllHosted z g.benches.items) (λ i. (sym cells i).items) (hosted_grown f.shared.cells.items f.benches.items g.benches.items is.hosted grown);
+  hosted = subst (λ (z : List CellSight). AllHosted z g.spares.items) (λ i. (sym cells i).items) (hosted_grown f.shared.cells.items f.spares.items g.spares.items is.hosted grown);
   few = subst (λ (z : List CellSight). length z ≤ 4096) (λ i. (sym cells i).items) is.few;
   closed = queue;
 }
@@ -391,12 +391,12 @@ pub nets_same : (ns : List Net) → AllGrownNets ns ns
 nets_same [] = tt
 nets_same (n ∷ ns) = (refl, grown_none n.seats, nets_same ns)
 
-pub done_after : {S H P : Type 0} → (f g : (Floor S H P)) (nets : List Net) (came went : (Job → ℕ) → ℕ) (r : Report) → IsFloor f → nets_of f.shared.cells.items f.benches.items ≡ nets → g.shared.cells ≡ f.shared.cells → AllGrownBenches f.benches.items g.benches.items → IsWorked f.shared.cells.items f.benches.items g.benches.items came went r → IsDone nets (nets_of g.shared.cells.items g.benches.items) came went r
+pub done_after : {S H P : Type 0} → (f g : (HostState S H P)) (nets : List Net) (came went : (Job → ℕ) → ℕ) (r : Report) → IsHostState f → nets_of f.shared.cells.items f.spares.items ≡ nets → g.shared.cells ≡ f.shared.cells → AllGrownSpares f.spares.items g.spares.items → IsWorked f.shared.cells.items f.spares.items g.spares.items came went r → IsDone nets (nets_of g.shared.cells.items g.spares.items) came went r
 done_after f g nets came went r is view cells grown w =
-    subst (λ (z : List Net × List CellSight). IsDone z.0 (nets_of z.1 g.benches.items) came went r) (λ i. (view i, (sym cells i).items))
-    (is_done f.shared.cells.items f.benches.items g.benches.items came went r is.hosted grown w)
+    subst (λ (z : List Net × List CellSight). IsDone z.0 (nets_of z.1 g.spares.items) came went r) (λ i. (view i, (sym cells i).items))
+    (is_done f.shared.cells.items f.spares.items g.spares.items came went r is.hosted grown w)
 
-pub grown_after : {S H P : Type 0} → (f g : (Floor S H P)) (nets : List Net) → IsFloor f → nets_of f.shared.cells.items f.benches.items ≡ nets → g.shared.cells ≡ f.shared.cells → AllGrownBenches f.benches.items g.benches.items → AllGrownNets nets (nets_of g.shared.cells.items g.benches.items)
+pub grown_after : {S H P : Type 0} → (f g : (HostState S H P)) (nets : List Net) → IsHostState f → nets_of f.shared.cells.items f.spares.items ≡ nets → g.shared.cells ≡ f.shared.cells → AllGrownSpares f.spares.items g.spares.items → AllGrownNets nets (nets_of g.shared.cells.items g.spares.items)
 grown_after f g nets is view cells grown =
-    subst (λ (l : List Net). AllGrownNets l (nets_of g.shared.cells.items g.benches.items)) view
-    (grown_floor f.shared.cells.items g.shared.cells.items f.benches.items g.benches.items (ap (λ v. v.items) cells) is.hosted grown)
+    subst (λ (l : List Net). AllGrownNets l (nets_of g.shared.cells.items g.spares.items)) view
+    (grown_host_state f.shared.cells.items g.shared.cells.items f.spares.items g.spares.items (ap (λ v. v.items) cells) is.hosted grown)

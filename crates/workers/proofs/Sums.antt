@@ -2,8 +2,8 @@
 use Rattle.std.proofs.Common.{◌≡◌, ◌≤◌, ◌<◌, ◌+◌, ℕ, zero, suc, List, [], ◌∷◌, ◌++◌, length, length-append, take, slice_set, get_or, refl, sym, ap, ◌∙◌, subst, arith, Bool, true, false, slice_get, if◌then◌else◌, append_assoc, append-nil}
 use Rattle.types.specs.declared.event.Out.{Out}
 use Rattle.types.specs.declared.event.Out.TheVariants.{ArmNomination, ArmBallot, Emit, Externalized}
-use Rattle.protocol.specs.Networks.{Host}
-use Rattle.workers.specs.declared.walk.Emission.{Emission}
+use Rattle.protocol.specs.Networks.{HostedNode}
+use Rattle.workers.specs.declared.walk.SlotEmission.{SlotEmission}
 use Rattle.std.proofs.lemmas.List.{take-append-le, take_more, reverse-append, at_drop_more, at_drop_all}
 use Rattle.std.proofs.Common.{reverse}
 use Rattle.std.proofs.Math.ListN.{get_or-append}
@@ -13,7 +13,7 @@ use Rattle.work.specs.declared.rule.Job.{Job}
 use Rattle.work.specs.declared.rule.Hand.{Hand}
 use Rattle.work.specs.Hands.{weigh}
 use Rattle.work.proofs.Balances.{weigh-append}
-use Rattle.cells.specs.Receipts.{Applied}
+use Rattle.cells.specs.Receipts.{AppliedEvent}
 use Rattle.cells.specs.Views.{Denial}
 use Rattle.cells.specs.Sights.{CellSight}
 use Rattle.cells.specs.Cells.{IsSeatOf}
@@ -123,9 +123,9 @@ place_at (x ∷ xs) (y ∷ ys) zero a b all lt is at = ap (λ (z : (Walk _ _ _))
 place_at (x ∷ xs) (y ∷ ys) (suc k) a b all lt is at = place_at xs ys k a b all.1 (omega arith) is at
 
 -- the receipt at the place stays, and there are no fewer
-pub next_later : {S H P : Type 0} → (a b : (Walk S H P)) (r : Applied) → IsLater a.seat b.seat → b.place ≡ a.place → a.place < length a.seat.me.receipts → IsNext a r → IsNext b r × (b.place < length b.seat.me.receipts)
+pub next_later : {S H P : Type 0} → (a b : (Walk S H P)) (r : AppliedEvent) → IsLater a.seat b.seat → b.place ≡ a.place → a.place < length a.seat.me.receipts → IsNext a r → IsNext b r × (b.place < length b.seat.me.receipts)
 next_later a b r later place lt next =
-    let l = ap (λ (x : List Applied). length x) later.gained in
+    let l = ap (λ (x : List AppliedEvent). length x) later.gained in
     let m = length-append a.seat.me.receipts later.receipts in (
       next ∙ sym (get_or-append a.seat.me.receipts later.receipts r a.place lt) ∙ (λ i. get_or (sym later.gained i) (sym place i) r),
       omega arith,
@@ -134,23 +134,23 @@ next_later a b r later place lt next =
 pub short_at : {S H P : Type 0} → (ws : List (Walk S H P)) (k : ℕ) (w : (Walk S H P)) → IsShort ws k → w ≡ get_or ws k w → w.place < length w.seat.me.receipts
 short_at ws k w short is = subst (λ (v : (Walk _ _ _)). v.place < length v.seat.me.receipts) (sym is) (short.1 w)
 
-pub still_next : {S H P : Type 0} → (xs ys : List (Walk S H P)) (k : ℕ) (a b : (Walk S H P)) (r : Applied) → IsShort xs k → a ≡ get_or xs k a → b ≡ get_or ys k b → SamePlaces xs ys → AllLater xs ys → IsNext a r → IsNext b r × (b.place < length b.seat.me.receipts)
+pub still_next : {S H P : Type 0} → (xs ys : List (Walk S H P)) (k : ℕ) (a b : (Walk S H P)) (r : AppliedEvent) → IsShort xs k → a ≡ get_or xs k a → b ≡ get_or ys k b → SamePlaces xs ys → AllLater xs ys → IsNext a r → IsNext b r × (b.place < length b.seat.me.receipts)
 still_next xs ys k a b r short is at places later next = next_later a b r (later_at xs ys k a b later short.0 is at) (place_at xs ys k a b places short.0 is at) (short_at xs k a short is) next
 
 pub moved_walk : {S H P : Type 0} → (c : CellSight) (w v : (Walk S H P)) → IsWalk c w → w.place < length w.seat.me.receipts → v.seat ≡ w.seat → v.place ≡ w.place + 1 → IsWalk c v
 moved_walk c w v walk lt seat place = (subst (IsSeatOf c) (sym seat) walk.0, (let l : length v.seat.me.receipts ≡ length w.seat.me.receipts = ap (λ (s : SeatSight). length s.me.receipts) seat in omega arith))
 
 -- jobs for one node more
-hears_of-append : (e : Emission) (hs : List Host) (h : Host) → hears_of e (hs ++ h ∷ []) ≡ hears_of e hs ++ hear_by e h
+hears_of-append : (e : SlotEmission) (hs : List HostedNode) (h : HostedNode) → hears_of e (hs ++ h ∷ []) ≡ hears_of e hs ++ hear_by e h
 hears_of-append e [] h = append-nil _
 hears_of-append e (x ∷ hs) h = ap (λ l. hear_by e x ++ l) (hears_of-append e hs h) ∙ sym (append_assoc (hear_by e x) (hears_of e hs) (hear_by e h))
 
-pub hears_more : (e : Emission) (hs : List Host) (k : ℕ) (h : Host) → k < length hs → h ≡ get_or hs k h → hears_of e (take k hs) ++ hear_by e h ≡ hears_of e (take (k + 1) hs)
-hears_more e hs k h lt at = sym (hears_of-append e (take k hs) h) ∙ ap (hears_of e) (ap (λ (x : Host). take k hs ++ x ∷ []) at ∙ sym (take_more hs k h lt))
+pub hears_more : (e : SlotEmission) (hs : List HostedNode) (k : ℕ) (h : HostedNode) → k < length hs → h ≡ get_or hs k h → hears_of e (take k hs) ++ hear_by e h ≡ hears_of e (take (k + 1) hs)
+hears_more e hs k h lt at = sym (hears_of-append e (take k hs) h) ∙ ap (hears_of e) (ap (λ (x : HostedNode). take k hs ++ x ∷ []) at ∙ sym (take_more hs k h lt))
 
 -- jobs for one out more
 
-emits : (config : Config) (os : List Out) (ns : List ℕ) (o : Out) (e : Emission) → emission_in config.number o (slice_get ns 0) ≡ Some e → hears_from config (o ∷ os) ns ≡ hears_of e config.hosts ++ hears_from config os (drop 1 ns)
+emits : (config : Config) (os : List Out) (ns : List ℕ) (o : Out) (e : SlotEmission) → emission_in config.number o (slice_get ns 0) ≡ Some e → hears_from config (o ∷ os) ns ≡ hears_of e config.hosts ++ hears_from config os (drop 1 ns)
 emits config os ns (ArmNomination r) e is = absurd (cc)
 emits config os ns (ArmBallot n) e is = absurd (cc)
 emits config os ns (Externalized v) e is = absurd (cc)
@@ -179,7 +179,7 @@ drop_suc [] (suc k) = refl
 drop_suc (m ∷ ms) zero = refl
 drop_suc (m ∷ ms) (suc k) = drop_suc ms k
 
-pub found_some : (config : Config) (os : List Out) (ms : List ℕ) (index mark : ℕ) (o : Out) (e : Emission) → index < length os → emission_in config.number (get_or os index o) (slice_get ms mark) ≡ Some e
+pub found_some : (config : Config) (os : List Out) (ms : List ℕ) (index mark : ℕ) (o : Out) (e : SlotEmission) → index < length os → emission_in config.number (get_or os index o) (slice_get ms mark) ≡ Some e
     → hears_from config (drop index os) (drop mark ms) ≡ hears_of e config.hosts ++ hears_from config (drop (index + 1) os) (drop (mark + 1) ms)
 found_some config os ms index mark o e lt is =
     let more : suc mark ≡ mark + 1 = omega arith in
@@ -193,12 +193,12 @@ found_none config os ms index mark o lt is =
     at_drop_more (λ l. hears_from config l (drop mark ms)) os index o lt
     ∙ emits_not config (drop (index + 1) os) (drop mark ms) (get_or os index o) (ap (emission_in config.number (get_or os index o)) (sym (get_drop ms mark)) ∙ is)
 
-pub found_network : (n : ℕ) (o : Out) (m : Option ℕ) (e : Emission) → emission_in n o m ≡ Some e → e.network ≡ n
+pub found_network : (n : ℕ) (o : Out) (m : Option ℕ) (e : SlotEmission) → emission_in n o m ≡ Some e → e.network ≡ n
 found_network n (ArmNomination r) m e is = absurd (cc)
 found_network n (ArmBallot k) m e is = absurd (cc)
 found_network n (Externalized v) m e is = absurd (cc)
 found_network n (Emit s) None e is = absurd (cc)
-found_network n (Emit s) (Some m) e is = sym (ap (λ (x : Emission). x.network) (some_same is))
+found_network n (Emit s) (Some m) e is = sym (ap (λ (x : SlotEmission). x.network) (some_same is))
   where
     some_same : {X : Type 0} {x y : X} → Some x ≡ Some y → x ≡ y
     some_same e = cc
@@ -207,7 +207,7 @@ pub number_at : (cs : List CellSight) (k : ℕ) (c : CellSight) (n m : ℕ) → 
 number_at cs k c n m lt at is same = λ d. ap (λ (x : CellSight). x.config.number) (get_or_same cs k d c lt ∙ sym at) ∙ sym (same ∙ is)
 
 -- all outs of the receipt were handed on
-pub hears_whole : {S H P : Type 0} (c : CellSight) (w : Walk S H P) (config : Config) (r : Applied) (index mark : ℕ) (handed : List Job) → IsWalk c w → config ≡ c.config → length r.outs ≤ index → handed ++ hears_from config (drop index r.outs) (drop mark r.marks) ≡ hears config r → handed ≡ hears w.seat.me.config r
+pub hears_whole : {S H P : Type 0} (c : CellSight) (w : Walk S H P) (config : Config) (r : AppliedEvent) (index mark : ℕ) (handed : List Job) → IsWalk c w → config ≡ c.config → length r.outs ≤ index → handed ++ hears_from config (drop index r.outs) (drop mark r.marks) ≡ hears config r → handed ≡ hears w.seat.me.config r
 hears_whole c w config r index mark handed walk is le all =
     sym (append-nil handed)
     ∙ sym (at_drop_all (λ l. handed ++ hears_from config l (drop mark r.marks)) r.outs index le)
@@ -232,12 +232,12 @@ past_all (x ∷ xs) (suc k) w all is one = (all.0, past_all xs k w all.1 is one)
 
 -- one job by one seat
 
-told_same : {S H P : Type 0} → (h : Job → ℕ) (a b : (Walk S H P)) (more : List Applied) → b.seat.me.config ≡ a.seat.me.config → b.place ≡ a.place → b.seat.me.receipts ≡ a.seat.me.receipts ++ more → a.place ≤ length a.seat.me.receipts → told_by h b ≡ told_by h a
+told_same : {S H P : Type 0} → (h : Job → ℕ) (a b : (Walk S H P)) (more : List AppliedEvent) → b.seat.me.config ≡ a.seat.me.config → b.place ≡ a.place → b.seat.me.receipts ≡ a.seat.me.receipts ++ more → a.place ≤ length a.seat.me.receipts → told_by h b ≡ told_by h a
 told_same h a b more config place gained le =
     (λ i. heard_of h (config i) (take (place i) (gained i)))
     ∙ ap (heard_of h a.seat.me.config) (take-append-le a.place a.seat.me.receipts more le)
 
-pub done_well : {S H P : Type 0} (a b : Walk S H P) (c : CellSight) (j : Job) (x : Applied) → c.config.number ≡ j.network → IsWalk c a → IsSeatOf c b.seat → b.place ≡ a.place → b.seat.me.number ≡ a.seat.me.number
+pub done_well : {S H P : Type 0} (a b : Walk S H P) (c : CellSight) (j : Job) (x : AppliedEvent) → c.config.number ≡ j.network → IsWalk c a → IsSeatOf c b.seat → b.place ≡ a.place → b.seat.me.number ≡ a.seat.me.number
     → x.event ≡ j.event → b.seat.me.receipts ≡ a.seat.me.receipts ++ x ∷ [] → b.seat.me.denials ≡ a.seat.me.denials
     → IsDone a b j true
 done_well a b c j x here walk seat place number event more same =
@@ -247,12 +247,12 @@ done_well a b c j x here walk seat place number event more same =
       later = record { cell = seat.cell ∙ sym walk.0.cell; number = number; config = config; seats = seat.seats ∙ sym walk.0.seats; closed = seat.open_yet ∙ sym walk.0.open_yet; receipts = x ∷ []; denials = []; gained = more; refused = same ∙ sym (append-nil _) };
       place = place;
       sum = λ h.
-          let p : applied_of h b.seat.me.config b.seat.me.receipts ≡ applied_of h a.seat.me.config a.seat.me.receipts + h (job n x.event) = (λ i. applied_of h (config i) (more i)) ∙ weigh-append (λ (r : Applied). h (job n r.event)) a.seat.me.receipts (x ∷ []) ∙ omega arith in
+          let p : applied_of h b.seat.me.config b.seat.me.receipts ≡ applied_of h a.seat.me.config a.seat.me.receipts + h (job n x.event) = (λ i. applied_of h (config i) (more i)) ∙ weigh-append (λ (r : AppliedEvent). h (job n r.event)) a.seat.me.receipts (x ∷ []) ∙ omega arith in
           let q : h (job n x.event) ≡ h j = λ i. h (job ((ap (λ (k : Config). k.number) walk.0.config ∙ here) i) (event i)) in
           let d : refused_of h b.seat.me.config b.seat.me.denials ≡ refused_of h a.seat.me.config a.seat.me.denials = λ i. refused_of h (config i) (same i) in
           omega arith;
       told = λ h. told_same h a b (x ∷ []) config place more walk.1;
-      applied = ap (λ (l : List Applied). length l) more ∙ length-append a.seat.me.receipts (x ∷ []);
+      applied = ap (λ (l : List AppliedEvent). length l) more ∙ length-append a.seat.me.receipts (x ∷ []);
       refused = ap (λ (l : List Denial). length l) same ∙ omega arith;
     }
 
@@ -272,7 +272,7 @@ done_ill a b c j x here walk seat place number event unchanged more =
           let q : h (job n x.event) ≡ h j = λ i. h (job ((ap (λ (k : Config). k.number) walk.0.config ∙ here) i) (event i)) in
           omega arith;
       told = λ h. told_same h a b [] config place same walk.1;
-      applied = ap (λ (l : List Applied). length l) unchanged ∙ omega arith;
+      applied = ap (λ (l : List AppliedEvent). length l) unchanged ∙ omega arith;
       refused = ap (λ (l : List Denial). length l) more ∙ length-append a.seat.me.denials (x ∷ []);
     }
 
@@ -382,7 +382,7 @@ kept_taken cs a b c j walks applied refused pass kept =
     }
 
 -- the place is past a receipt whose emissions were handed on
-pub kept_moved : {S H P : Type 0} → (cs : List CellSight) (a b c : (Worker S H P)) (k : ℕ) (w v : (Walk S H P)) (r : Applied) (xs : List Job) → k < length b.walks.items → w ≡ get_or b.walks.items k w → IsNext w r → w.place < length w.seat.me.receipts
+pub kept_moved : {S H P : Type 0} → (cs : List CellSight) (a b c : (Worker S H P)) (k : ℕ) (w v : (Walk S H P)) (r : AppliedEvent) (xs : List Job) → k < length b.walks.items → w ≡ get_or b.walks.items k w → IsNext w r → w.place < length w.seat.me.receipts
     → xs ≡ hears w.seat.me.config r → v.seat ≡ w.seat → v.place ≡ w.place + 1
     → c.walks.items ≡ slice_set b.walks.items k v → c.pass ≡ b.pass → c.applied ≡ b.applied → c.refused ≡ b.refused
     → KeepsSums cs xs a b → KeepsSums cs [] a c
@@ -410,8 +410,8 @@ kept_moved cs a b c k w v r xs lt at next short is seat place walks pass applied
           let e' = weigh_set (told_by h) b.walks.items k w v lt at in
           let more : told_by h v ≡ told_by h w + weigh h xs =
           (λ i. heard_of h (seat i).me.config (take (place i) (seat i).me.receipts))
-          ∙ ap (heard_of h w.seat.me.config) (take_more w.seat.me.receipts w.place r short ∙ ap (λ (x : Applied). take w.place w.seat.me.receipts ++ x ∷ []) (sym next))
-          ∙ weigh-append (λ (x : Applied). weigh h (hears w.seat.me.config x)) (take w.place w.seat.me.receipts) (r ∷ [])
+          ∙ ap (heard_of h w.seat.me.config) (take_more w.seat.me.receipts w.place r short ∙ ap (λ (x : AppliedEvent). take w.place w.seat.me.receipts ++ x ∷ []) (sym next))
+          ∙ weigh-append (λ (x : AppliedEvent). weigh h (hears w.seat.me.config x)) (take w.place w.seat.me.receipts) (r ∷ [])
           ∙ omega arith
           ∙ ap (λ (l : List Job). told_by h w + weigh h l) (sym is) in
           let p : put h c ≡ put h b = ap (λ p. weigh h (hand_of p).put) pass in

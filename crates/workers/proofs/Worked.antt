@@ -13,12 +13,12 @@ use Rattle.cells.specs.Sights.{CellSight}
 use Rattle.cells.specs.Cells.{IsSeatOf}
 use Rattle.cells.specs.Closing.{AllSeats}
 use Rattle.cells.specs.Sights.{SeatSight}
-use Rattle.workers.specs.declared.deal.Bench.{Bench}
+use Rattle.workers.specs.declared.deal.SpareSeats.{SpareSeats}
 use Rattle.workers.specs.declared.running.Report.{Report}
 use Rattle.workers.specs.declared.walk.Walk.{Walk}
 use Rattle.workers.specs.declared.worker.Worker.{Worker}
 use Rattle.workers.specs.Sums.{AllLater, AllLaterWorkers, AllPassing, AllPast, AllReady, AllSeated, IsClosed, IsLater, IsReady, applied_by, told, told_by, denials_of, done, heard_of, parts_of, put, receipts_of, refused_by, seat_applied, seat_done, seat_heard, seat_refused, taken}
-use Rattle.workers.specs.Benches.{AllFresh, AllGrown, AllGrownBenches, AllHave, AllHold, AllHosted, AllRoomy, IsCounted, IsDealt, IsDealtAll, IsGiven, IsSplit, IsWorked, at_work, on_benches}
+use Rattle.workers.specs.Spares.{AllFresh, AllGrown, AllGrownSpares, AllHave, AllHold, AllHosted, AllRoomy, IsCounted, IsDealt, IsDealtAll, IsGiven, IsSplit, IsWorked, at_work, on_spares}
 use Rattle.workers.proofs.Sums.{later_none}
 use Rattle.workers.proofs.Deals.{dealt_all_sum, dealt_len, dealt_sum, given_sum, passing_cut}
 use Rattle.workers.proofs.Pools.{parts_weigh, passing_append, passing_one, put_weighs, taken_weighs}
@@ -31,13 +31,13 @@ weigh_more f xs i x lt at = ap (weigh f) (take_more xs i x lt ∙ ap (λ y. take
 
 -- own seats of each cell
 
-abbrev pub AllOwn : {S H P : Type 0} → List CellSight → List (Bench S H P) → Type 0
+abbrev pub AllOwn : {S H P : Type 0} → List CellSight → List (SpareSeats S H P) → Type 0
 AllOwn [] [] = Unit {0}
 AllOwn [] (b ∷ bs) = ⊥
 AllOwn (c ∷ cs) [] = ⊥
 AllOwn (c ∷ cs) (b ∷ bs) = AllSeats (IsSeatOf c) b.seats.items × AllOwn cs bs
 
-own : {S H P : Type 0} → (cs : List CellSight) (bs : List (Bench S H P)) → AllHosted cs bs → AllOwn cs bs
+own : {S H P : Type 0} → (cs : List CellSight) (bs : List (SpareSeats S H P)) → AllHosted cs bs → AllOwn cs bs
 own [] [] all = tt
 own [] (b ∷ bs) all = absurd all
 own (c ∷ cs) [] all = absurd all
@@ -47,7 +47,7 @@ seats_front : (P : SeatSight → Type 0) (xs : List SeatSight) (s : SeatSight) �
 seats_front P [] s all = (tt, all.0)
 seats_front P (x ∷ xs) s all = let r = seats_front P xs s all.1 in ((all.0, r.0), r.1)
 
-own_dealt : {S H P : Type 0} → (cs : List CellSight) (xs : List (Bench S H P)) (ws : List (Walk S H P)) (ys : List (Bench S H P)) → AllOwn cs xs → IsDealt xs ws ys → AllOwn cs ys × AllSeated cs ws × AllPast ws
+own_dealt : {S H P : Type 0} → (cs : List CellSight) (xs : List (SpareSeats S H P)) (ws : List (Walk S H P)) (ys : List (SpareSeats S H P)) → AllOwn cs xs → IsDealt xs ws ys → AllOwn cs ys × AllSeated cs ws × AllPast ws
 own_dealt [] [] [] [] o d = (tt, tt, tt)
 own_dealt [] [] [] (y ∷ ys) o d = absurd d
 own_dealt [] [] (w ∷ ws) ys o d = absurd d
@@ -61,13 +61,13 @@ own_dealt (c ∷ cs) (x ∷ xs) (w ∷ ws) (y ∷ ys) o d =
     let p = d.0.place in
     ((f.0, r.0), ((f.1, omega arith), r.1), (omega arith, r.2))
 
-ready_all : {S H P : Type 0} → (cs : List CellSight) (q : Option Queue) (before : List (Bench S H P)) (ws : List (Worker S H P)) (after : List (Bench S H P)) → AllOwn cs before → AllHold q ws → IsDealtAll before ws after → AllReady cs q ws
+ready_all : {S H P : Type 0} → (cs : List CellSight) (q : Option Queue) (before : List (SpareSeats S H P)) (ws : List (Worker S H P)) (after : List (SpareSeats S H P)) → AllOwn cs before → AllHold q ws → IsDealtAll before ws after → AllReady cs q ws
 ready_all cs q before [] after o h d = tt
 ready_all cs q before (w ∷ ws) after o h d =
     let r = own_dealt cs before w.walks.items d.0 o d.1 in
     (record { seated = r.1; passing = h.0; past = r.2 }, ready_all cs q d.0 ws after r.0 h.1 d.2)
 
-pub dealt_ready : {S H P : Type 0} → (cs : List CellSight) (q : Option Queue) (before : List (Bench S H P)) (ws : List (Worker S H P)) (after : List (Bench S H P)) → AllHosted cs before → AllHold q ws → IsDealtAll before ws after → AllReady cs q ws
+pub dealt_ready : {S H P : Type 0} → (cs : List CellSight) (q : Option Queue) (before : List (SpareSeats S H P)) (ws : List (Worker S H P)) (after : List (SpareSeats S H P)) → AllHosted cs before → AllHold q ws → IsDealtAll before ws after → AllReady cs q ws
 dealt_ready cs q before ws after hosted h d = ready_all cs q before ws after (own cs before hosted) h d
 
 -- seats that have grown
@@ -76,9 +76,9 @@ pub grown_none : (xs : List SeatSight) → AllGrown xs xs
 grown_none [] = tt
 grown_none (x ∷ xs) = (later_none x, grown_none xs)
 
-pub grown_benches_none : {S H P : Type 0} → (bs : List (Bench S H P)) → AllGrownBenches bs bs
-grown_benches_none [] = tt
-grown_benches_none (b ∷ bs) = ((grown_none b.seats.items, refl), grown_benches_none bs)
+pub grown_spares_none : {S H P : Type 0} → (bs : List (SpareSeats S H P)) → AllGrownSpares bs bs
+grown_spares_none [] = tt
+grown_spares_none (b ∷ bs) = ((grown_none b.seats.items, refl), grown_spares_none bs)
 
 grown_snoc : (xs ys : List SeatSight) (a b : SeatSight) → AllGrown xs ys → IsLater a b → AllGrown (xs ++ a ∷ []) (ys ++ b ∷ [])
 grown_snoc [] [] a b all one = (one, tt)
@@ -92,11 +92,11 @@ grown_len [] (y ∷ ys) all = absurd all
 grown_len (x ∷ xs) [] all = absurd all
 grown_len (x ∷ xs) (y ∷ ys) all = ap suc (grown_len xs ys all.1)
 
-grown_benches_len : {S H P : Type 0} → (xs ys : List (Bench S H P)) → AllGrownBenches xs ys → length ys ≡ length xs
-grown_benches_len [] [] all = refl
-grown_benches_len [] (y ∷ ys) all = absurd all
-grown_benches_len (x ∷ xs) [] all = absurd all
-grown_benches_len (x ∷ xs) (y ∷ ys) all = ap suc (grown_benches_len xs ys all.1)
+grown_spares_len : {S H P : Type 0} → (xs ys : List (SpareSeats S H P)) → AllGrownSpares xs ys → length ys ≡ length xs
+grown_spares_len [] [] all = refl
+grown_spares_len [] (y ∷ ys) all = absurd all
+grown_spares_len (x ∷ xs) [] all = absurd all
+grown_spares_len (x ∷ xs) (y ∷ ys) all = ap suc (grown_spares_len xs ys all.1)
 
 later_len : {S H P : Type 0} → (ws zs : List (Walk S H P)) → AllLater ws zs → length zs ≡ length ws
 later_len [] [] all = refl
@@ -104,7 +104,7 @@ later_len [] (z ∷ zs) all = absurd all
 later_len (w ∷ ws) [] all = absurd all
 later_len (w ∷ ws) (z ∷ zs) all = ap suc (later_len ws zs all.1)
 
-pub given_grown : {S H P : Type 0} → (before : List (Bench S H P)) (ws : List (Walk S H P)) (mid : List (Bench S H P)) (zs : List (Walk S H P)) (cur after : List (Bench S H P)) → IsDealt before ws mid → AllGrownBenches mid cur → AllLater ws zs → IsGiven cur zs after → AllGrownBenches before after
+pub given_grown : {S H P : Type 0} → (before : List (SpareSeats S H P)) (ws : List (Walk S H P)) (mid : List (SpareSeats S H P)) (zs : List (Walk S H P)) (cur after : List (SpareSeats S H P)) → IsDealt before ws mid → AllGrownSpares mid cur → AllLater ws zs → IsGiven cur zs after → AllGrownSpares before after
 given_grown [] [] [] [] [] [] d g l b = tt
 given_grown [] [] [] [] [] (a ∷ after) d g l b = absurd b
 given_grown [] [] [] [] (u ∷ cur) after d g l b = absurd g
@@ -124,7 +124,7 @@ given_grown (x ∷ before) (w ∷ ws) (m ∷ mid) (z ∷ zs) (u ∷ cur) (a ∷ 
   given_grown before ws mid zs cur after d.1 g.1 l.1 b.1,
 )
 
-pub grown_roomy : {S H P : Type 0} → (before : List (Bench S H P)) (ws : List (Walk S H P)) (mid cur : List (Bench S H P)) → IsDealt before ws mid → AllGrownBenches mid cur → AllRoomy cur
+pub grown_roomy : {S H P : Type 0} → (before : List (SpareSeats S H P)) (ws : List (Walk S H P)) (mid cur : List (SpareSeats S H P)) → IsDealt before ws mid → AllGrownSpares mid cur → AllRoomy cur
 grown_roomy before ws mid [] d g = tt
 grown_roomy before ws [] (u ∷ cur) d g = absurd g
 grown_roomy [] [] (m ∷ mid) (u ∷ cur) d g = absurd d
@@ -135,11 +135,11 @@ grown_roomy (x ∷ before) (w ∷ ws) (m ∷ mid) (u ∷ cur) d g = (
   grown_roomy before ws mid cur d.1 g.1,
 )
 
-pub given_many : {S H P : Type 0} → (before : List (Bench S H P)) (ws : List (Walk S H P)) (mid cur : List (Bench S H P)) (zs : List (Walk S H P)) → IsDealt before ws mid → AllGrownBenches mid cur → AllLater ws zs → length zs ≡ length cur
+pub given_many : {S H P : Type 0} → (before : List (SpareSeats S H P)) (ws : List (Walk S H P)) (mid cur : List (SpareSeats S H P)) (zs : List (Walk S H P)) → IsDealt before ws mid → AllGrownSpares mid cur → AllLater ws zs → length zs ≡ length cur
 given_many before ws mid cur zs d g l =
     let a = dealt_len before ws mid d in
     let a0 = a.0 in let a1 = a.1 in
-    let b = grown_benches_len mid cur g in
+    let b = grown_spares_len mid cur g in
     let e = later_len ws zs l in omega arith
 
 -- the last of the workers
@@ -156,11 +156,11 @@ later_none_left : {S H P : Type 0} → (ws : List (Worker S H P)) → AllLaterWo
 later_none_left [] all = refl
 later_none_left (w ∷ ws) all = absurd all
 
-pub all_given : {S H P : Type 0} → (before : List (Bench S H P)) (ws : List (Worker S H P)) (mid cur : List (Bench S H P)) (zs : List (Worker S H P)) → IsDealtAll before ws mid → AllLaterWorkers ws zs → zs ≡ [] → AllGrownBenches mid cur → AllGrownBenches before cur
+pub all_given : {S H P : Type 0} → (before : List (SpareSeats S H P)) (ws : List (Worker S H P)) (mid cur : List (SpareSeats S H P)) (zs : List (Worker S H P)) → IsDealtAll before ws mid → AllLaterWorkers ws zs → zs ≡ [] → AllGrownSpares mid cur → AllGrownSpares before cur
 all_given before ws mid cur zs d l none g =
     let e = later_none_left ws (subst (AllLaterWorkers ws) none l) in
     let m : mid ≡ before = subst (λ (v : List (Worker _ _ _)). IsDealtAll before v mid) e d in
-    subst (λ (b : List (Bench _ _ _)). AllGrownBenches b cur) m g
+    subst (λ (b : List (SpareSeats _ _ _)). AllGrownSpares b cur) m g
 
 -- sums
 
@@ -183,11 +183,11 @@ told_all cs q h (w ∷ ws) all =
     let r = told_all cs q h ws all.1 in
     let e = told_past h w.walks.items all.0.past in omega arith
 
-pub worked : {S H P : Type 0} → (cs : List CellSight) (q : Option Queue) (xs mid ys : List (Bench S H P)) (ws zs : List (Worker S H P)) (ps qs : List (Pass Job Hand)) (r : Report)
-    → IsDealtAll xs ws mid → ((f : SeatSight → ℕ) → on_benches f ys ≡ on_benches f mid + at_work f zs) → AllFresh ws → IsSplit ps ws qs → AllReady cs q ws → AllReady cs None zs
+pub worked : {S H P : Type 0} → (cs : List CellSight) (q : Option Queue) (xs mid ys : List (SpareSeats S H P)) (ws zs : List (Worker S H P)) (ps qs : List (Pass Job Hand)) (r : Report)
+    → IsDealtAll xs ws mid → ((f : SeatSight → ℕ) → on_spares f ys ≡ on_spares f mid + at_work f zs) → AllFresh ws → IsSplit ps ws qs → AllReady cs q ws → AllReady cs None zs
     → IsClosed cs qs ws zs → IsCounted zs r → IsWorked cs xs ys (λ h. put_by h ps) (λ h. taken_by h ps) r
 worked cs q xs mid ys ws zs ps qs r dealt given fresh split ready rest closed counted =
-    let s : (f : SeatSight → ℕ) → on_benches f xs ≡ on_benches f mid + at_work f ws = λ f. dealt_all_sum f xs ws mid dealt in
+    let s : (f : SeatSight → ℕ) → on_spares f xs ≡ on_spares f mid + at_work f ws = λ f. dealt_all_sum f xs ws mid dealt in
     let n = fresh_sums ws fresh in
     let n0 = n.0 in let n1 = n.1 in
     record {
@@ -242,7 +242,7 @@ grown_at xs ys i s g at = go xs ys i g at
     go (x ∷ xs) (y ∷ ys) zero g at = (y, refl, g.0.number ∙ ap (λ (v : SeatSight). v.me.number) (let is : x ≡ s = cc in is))
     go (x ∷ xs) (y ∷ ys) (suc i) g at = go xs ys i g.1 at
 
-pub hosted_grown : {S H P : Type 0} → (cs : List CellSight) (xs ys : List (Bench S H P)) → AllHosted cs xs → AllGrownBenches xs ys → AllHosted cs ys
+pub hosted_grown : {S H P : Type 0} → (cs : List CellSight) (xs ys : List (SpareSeats S H P)) → AllHosted cs xs → AllGrownSpares xs ys → AllHosted cs ys
 hosted_grown [] [] [] all g = tt
 hosted_grown [] [] (y ∷ ys) all g = absurd g
 hosted_grown [] (x ∷ xs) ys all g = absurd all
@@ -275,7 +275,7 @@ has_one : (xs : List SeatSight) (i : ℕ) (s : SeatSight) → slice_get xs i ≡
 has_one [] i s e = absurd (cc)
 has_one (x ∷ xs) i s e = omega arith
 
-pub hosted_have : {S H P : Type 0} → (cs : List CellSight) (bs : List (Bench S H P)) → AllHosted cs bs → AllHave 1 bs
+pub hosted_have : {S H P : Type 0} → (cs : List CellSight) (bs : List (SpareSeats S H P)) → AllHosted cs bs → AllHave 1 bs
 hosted_have [] [] all = tt
 hosted_have [] (b ∷ bs) all = absurd all
 hosted_have (c ∷ cs) [] all = absurd all
@@ -287,10 +287,10 @@ many_ones (x ∷ xs) = let r = many_ones xs in omega arith
 
 -- jobs that one worker put
 
-one_ready : {S H P : Type 0} (cs : List CellSight) (q : Option Queue) (xs mid : List (Bench S H P)) (w : Worker S H P) → AllHosted cs xs → IsPassing q w.pass → IsDealt xs w.walks.items mid → IsReady cs q w
+one_ready : {S H P : Type 0} (cs : List CellSight) (q : Option Queue) (xs mid : List (SpareSeats S H P)) (w : Worker S H P) → AllHosted cs xs → IsPassing q w.pass → IsDealt xs w.walks.items mid → IsReady cs q w
 one_ready cs q xs mid w hosted passing d = (dealt_ready cs q xs (w ∷ []) mid hosted (passing, tt) (mid, d, refl)).0
 
-pub popped_ready : {S H P : Type 0} (cs : List CellSight) (q : Option Queue) (xs mid : List (Bench S H P)) (w : Worker S H P) (ps qs : List (Pass Job Hand)) → AllHosted cs xs → AllPassing q ps → ps ≡ qs ++ option_to_list w.pass → IsDealt xs w.walks.items mid → IsReady cs q w
+pub popped_ready : {S H P : Type 0} (cs : List CellSight) (q : Option Queue) (xs mid : List (SpareSeats S H P)) (w : Worker S H P) (ps qs : List (Pass Job Hand)) → AllHosted cs xs → AllPassing q ps → ps ≡ qs ++ option_to_list w.pass → IsDealt xs w.walks.items mid → IsReady cs q w
 popped_ready cs q xs mid w ps qs hosted all is d = one_ready cs q xs mid w hosted (passing_cut q qs w.pass (subst (AllPassing q) is all)).1 d
 
 pub passing_back : {S H P : Type 0} (cs : List CellSight) (q : Option Queue) (w v : Worker S H P) (ps qs rs : List (Pass Job Hand)) → AllPassing q ps → ps ≡ qs ++ option_to_list w.pass → rs ≡ qs ++ option_to_list v.pass → IsReady cs q v → parts_of v ≡ parts_of w → AllPassing q rs × (parts_by rs ≡ parts_by ps)
@@ -300,7 +300,7 @@ passing_back cs q w v ps qs rs all is back ready same = (
       let b : parts_by ps ≡ parts_by qs + parts_of w = ap parts_by is ∙ weigh-append parts qs (option_to_list w.pass) ∙ ap (λ n. parts_by qs + n) (parts_weigh w.pass) in omega arith),
 )
 
-pub offered : {S H P : Type 0} (cs : List CellSight) (q : Option Queue) (xs mid ys : List (Bench S H P)) (a b : Worker S H P) (ps qs rs : List (Pass Job Hand)) (jobs : List Job) (r : Report)
+pub offered : {S H P : Type 0} (cs : List CellSight) (q : Option Queue) (xs mid ys : List (SpareSeats S H P)) (a b : Worker S H P) (ps qs rs : List (Pass Job Hand)) (jobs : List Job) (r : Report)
     → IsDealt xs a.walks.items mid → IsGiven mid b.walks.items ys → a.applied ≡ 0 → a.refused ≡ 0 → IsReady cs q a → IsReady cs q b → KeepsSums cs jobs a b
     → ps ≡ qs ++ option_to_list a.pass → rs ≡ qs ++ option_to_list b.pass → r.applied ≡ b.applied → r.refused ≡ b.refused → r.unrun ≡ 0
     → IsWorked cs xs ys (λ h. weigh h jobs + put_by h ps + taken_by h rs) (λ h. put_by h rs + taken_by h ps) r

@@ -1,6 +1,6 @@
 pub mod Numbers
 pub mod Sums
-pub mod Benches
+pub mod Spares
 pub mod NetSights
 pub mod Nets
-pub mod Floors
+pub mod HostStates

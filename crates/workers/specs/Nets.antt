@@ -4,30 +4,30 @@ use Rattle.hoststep.specs.Logs.{Log}
 use Rattle.work.specs.declared.rule.Job.{Job}
 use Rattle.work.specs.Hands.{weigh}
 use Rattle.cells.specs.Sights.{CellSight}
-use Rattle.cells.specs.Receipts.{Applied}
+use Rattle.cells.specs.Receipts.{AppliedEvent}
 use Rattle.cells.specs.Views.{Denial}
 use Rattle.cells.specs.Closing.{IsOneHistory, ended_sight}
 use Rattle.cells.specs.Sights.{SeatSight}
 use Rattle.workers.specs.NetSights.{Net}
-use Rattle.workers.specs.Benches.{AllGrown, AllHosted}
+use Rattle.workers.specs.Spares.{AllGrown, AllHosted}
 use Rattle.workers.specs.Numbers.{IsNumbered}
 use Rattle.workers.specs.Sums.{applied_of, heard_of, refused_of}
-use Rattle.workers.specs.declared.deal.Bench.{Bench}
-use Rattle.workers.specs.declared.floor.Floor.{Floor}
+use Rattle.workers.specs.declared.deal.SpareSeats.{SpareSeats}
+use Rattle.workers.specs.declared.host_state.HostState.{HostState}
 use Rattle.workers.specs.declared.running.Report.{Report}
 
 abbrev pub net_number : Net → ℕ
 net_number n = n.cell.config.number
 
-abbrev pub nets_of : {S H P : Type 0} → List CellSight → List (Bench S H P) → List Net
+abbrev pub nets_of : {S H P : Type 0} → List CellSight → List (SpareSeats S H P) → List Net
 nets_of [] bs = []
 nets_of (c ∷ cs) [] = []
 nets_of (c ∷ cs) (b ∷ bs) = record { cell = c; seats = b.seats.items } ∷ nets_of cs bs
 
 -- the cells in their order, with all seats, at most 4,096, and no queue
-pub record IsFloor {S H P : Type 0} (f : (Floor S H P)) : Type 0 where
+pub record IsHostState {S H P : Type 0} (f : (HostState S H P)) : Type 0 where
   pub numbered : IsNumbered f.shared.numbers.items f.shared.cells.items
-  pub hosted : AllHosted f.shared.cells.items f.benches.items
+  pub hosted : AllHosted f.shared.cells.items f.spares.items
   pub few : length f.shared.cells.items ≤ 4096
   pub closed : f.shared.queue ≡ None
 
@@ -53,7 +53,7 @@ pub record IsClosedNet (n : Net) (j : Log) (ss : List SeatSight) : Type 0 where
   pub history : IsOneHistory n.cell.seats j ss
 
 -- the receipts and denials that a seat gained
-abbrev pub gained : SeatSight → SeatSight → List Applied
+abbrev pub gained : SeatSight → SeatSight → List AppliedEvent
 gained a b = drop (length a.me.receipts) b.me.receipts
 
 abbrev pub denied : SeatSight → SeatSight → List Denial

@@ -7,19 +7,19 @@ use Rattle.types.specs.declared.event.Event.TheVariants.{Hear}
 use Rattle.types.specs.declared.event.Out.{Out}
 use Rattle.types.specs.declared.event.Out.TheVariants.{ArmNomination, ArmBallot, Emit, Externalized}
 use Rattle.types.specs.Statements.{kind_of}
-use Rattle.protocol.specs.Networks.{Host}
+use Rattle.protocol.specs.Networks.{HostedNode}
 use Rattle.protocol.specs.Hosts.{Config}
 use Rattle.work.specs.declared.rule.Job.{Job}
 use Rattle.work.specs.declared.rule.Hand.{Hand}
 use Rattle.work.specs.declared.line.Queue.{Queue}
 use Rattle.work.specs.Hands.{weigh, hand}
 use Rattle.work.specs.Queues.{IsOf, put_by, taken_by}
-use Rattle.cells.specs.Receipts.{Applied}
+use Rattle.cells.specs.Receipts.{AppliedEvent}
 use Rattle.cells.specs.Views.{Denial}
 use Rattle.cells.specs.Cells.{IsSeatOf}
 use Rattle.cells.specs.Sights.{CellSight, SeatSight}
 use Rattle.workers.specs.Numbers.{AllLack}
-use Rattle.workers.specs.declared.walk.Emission.{Emission}
+use Rattle.workers.specs.declared.walk.SlotEmission.{SlotEmission}
 use Rattle.workers.specs.declared.walk.Walk.{Walk}
 use Rattle.workers.specs.declared.worker.Worker.{Worker}
 
@@ -27,16 +27,16 @@ abbrev pub job : ℕ → Event → Job
 job network event = record { network = network; event = event }
 
 -- the job by which a node hears an emission, if it is not its own
-abbrev pub hear_by : Emission → Host → List Job
+abbrev pub hear_by : SlotEmission → HostedNode → List Job
 hear_by e h = if h.name == e.from then [] else job e.network (Hear e.slot h.name e.from e.kind e.number) ∷ []
 
 -- one job for each other node that is hosted
-abbrev pub hears_of : Emission → List Host → List Job
+abbrev pub hears_of : SlotEmission → List HostedNode → List Job
 hears_of e [] = []
 hears_of e (h ∷ hs) = hear_by e h ++ hears_of e hs
 
 -- the emission that an out is, with its mark
-abbrev pub emission_in : ℕ → Out → Option ℕ → Option Emission
+abbrev pub emission_in : ℕ → Out → Option ℕ → Option SlotEmission
 emission_in network (ArmNomination r) m = None
 emission_in network (ArmBallot n) m = None
 emission_in network (Externalized v) m = None
@@ -53,20 +53,20 @@ hears_from config (Emit e ∷ os) [] = hears_from config os []
 hears_from config (Emit e ∷ os) (m ∷ ms) = hears_of (record { network = config.number; slot = e.slot; from = e.sender; kind = kind_of e.body; number = m }) config.hosts ++ hears_from config os ms
 
 -- what a receipt makes the other nodes of its network hear
-abbrev pub hears : Config → Applied → List Job
+abbrev pub hears : Config → AppliedEvent → List Job
 hears config r = hears_from config r.outs r.marks
 
 -- the events of the receipts, as jobs of their network, weighed
-abbrev pub applied_of : (Job → ℕ) → Config → List Applied → ℕ
-applied_of h config rs = weigh (λ (r : Applied). h (job config.number r.event)) rs
+abbrev pub applied_of : (Job → ℕ) → Config → List AppliedEvent → ℕ
+applied_of h config rs = weigh (λ (r : AppliedEvent). h (job config.number r.event)) rs
 
 -- the refused events, as jobs of their network, weighed
 abbrev pub refused_of : (Job → ℕ) → Config → List Denial → ℕ
 refused_of h config ds = weigh (λ (d : Denial). h (job config.number d.event)) ds
 
 -- what the receipts make others hear, weighed
-abbrev pub heard_of : (Job → ℕ) → Config → List Applied → ℕ
-heard_of h config rs = weigh (λ (r : Applied). weigh h (hears config r)) rs
+abbrev pub heard_of : (Job → ℕ) → Config → List AppliedEvent → ℕ
+heard_of h config rs = weigh (λ (r : AppliedEvent). weigh h (hears config r)) rs
 
 -- what was done by a seat: applied or refused
 abbrev pub seat_done : (Job → ℕ) → SeatSight → ℕ
@@ -122,7 +122,7 @@ pub record IsLater (a b : SeatSight) : Type 0 where
   pub config : b.me.config ≡ a.me.config
   pub seats : b.me.seats ≡ a.me.seats
   pub closed : b.me.closed ≡ a.me.closed
-  pub receipts : List Applied
+  pub receipts : List AppliedEvent
   pub denials : List Denial
   pub gained : b.me.receipts ≡ a.me.receipts ++ receipts
   pub refused : b.me.denials ≡ a.me.denials ++ denials
@@ -202,7 +202,7 @@ pub record IsBusy {S H P : Type 0} (cells : List CellSight) (queue : Option Queu
   pub past : AllPastBut k w.walks.items
 
 -- the receipt at the walk's place
-abbrev pub IsNext : {S H P : Type 0} → (Walk S H P) → Applied → Type 0
+abbrev pub IsNext : {S H P : Type 0} → (Walk S H P) → AppliedEvent → Type 0
 IsNext w r = r ≡ slice_index_or w.seat.me.receipts w.place r
 
 -- the walk there is not past its receipts

@@ -1,12 +1,12 @@
 //! The networks of one host.
 
 ghost use Rattle.std.specs.Prelude.{◌≡◌, ◌<◌, ◌≤◌, [], ◌∷◌, ◌++◌, IfErr, IfOk, IfSome, IfNone, OnOk, drop, length, take, Err};
-ghost use Rattle.workers.specs.Benches.{IsHosted};
+ghost use Rattle.workers.specs.Spares.{IsHosted};
 ghost use Rattle.workers.specs.NetSights.{Net};
 ghost use Rattle.workers.specs.Nets.{IsClosedNet, IsGreatest, NoNet, nets_with};
 
-use crate::deal::Bench;
-use crate::floor::Floor;
+use crate::deal::SpareSeats;
+use crate::host_state::HostState;
 use crate::shared::Shared;
 use cells::{Cell, Seat};
 use envstore::Shelf;
@@ -26,7 +26,7 @@ pub const MAX_NETWORKS: usize = 4096;
 #[derive(Drop)]
 pub struct Host<S: Shelf, H: Wait + Drop> {
     pub(crate) alloc: Global,
-    pub(crate) floor: Floor<S, H>,
+    pub(crate) host_state: HostState<S, H>,
 }
 
 impl<S: Shelf, H: Wait + Drop> Model for Host<S, H> {
@@ -39,11 +39,11 @@ impl<S: Shelf, H: Wait + Drop> Model for Host<S, H> {
 
     ghost coded = { Prim.hlevel (codes, members_code) };
 
-    ghost use Rattle.workers.specs.Nets.{IsFloor, nets_of};
+    ghost use Rattle.workers.specs.Nets.{IsHostState, nets_of};
 
-    ghost view = { λ h. nets_of h.floor.shared.cells.items h.floor.benches.items };
+    ghost view = { λ h. nets_of h.host_state.shared.cells.items h.host_state.spares.items };
 
-    ghost invariant = { λ h. IsFloor h.floor };
+    ghost invariant = { λ h. IsHostState h.host_state };
 }
 
 /// All seats of a cell end, and its journal is handed over.
@@ -69,13 +69,13 @@ impl<S: Shelf + Drop, H: Wait + Drop> Host<S, H> {
     {
         Host {
             alloc,
-            floor: Floor {
+            host_state: HostState {
                 shared: Shared {
                     numbers: Vec::new(alloc),
                     cells: Vec::new(alloc),
                     queue: None,
                 },
-                benches: Vec::new(alloc),
+                spares: Vec::new(alloc),
             },
         }
     }
@@ -84,7 +84,7 @@ impl<S: Shelf + Drop, H: Wait + Drop> Host<S, H> {
     pub fn len(&self) -> usize
         ensures { result ≡ length self.now }
     {
-        self.floor.shared.cells.len()
+        self.host_state.shared.cells.len()
     }
 
     /// Takes a network in, given by its cell and all seats of it, in the place of its number.
@@ -103,16 +103,16 @@ impl<S: Shelf + Drop, H: Wait + Drop> Host<S, H> {
         ensures same { IfErr result (λ _. self.new ≡ self.old) }
     {
         let number = cell.config().number();
-        match self.floor.shared.numbers.binary_search(&number) {
+        match self.host_state.shared.numbers.binary_search(&number) {
             Ok(_) => Err((cell, seats)),
             Err(place) => {
-                if self.floor.shared.numbers.len() >= MAX_NETWORKS {
+                if self.host_state.shared.numbers.len() >= MAX_NETWORKS {
                     return Err((cell, seats));
                 }
-                if !self.floor.reserve() {
+                if !self.host_state.reserve() {
                     return Err((cell, seats));
                 }
-                self.floor.put_at(place, cell, seats);
+                self.host_state.put_at(place, cell, seats);
                 Ok(())
             }
         }
@@ -126,10 +126,10 @@ impl<S: Shelf + Drop, H: Wait + Drop> Host<S, H> {
         ensures none { IfNone result ((self.old ≡ []) × (self.new ≡ [])) }
         ensures closed { IfSome result (λ r. (net : Net) × (self.old ≡ self.new ++ net ∷ []) × IsGreatest net self.new × IsClosedNet net r.0 r.1.items) }
     {
-        if self.floor.shared.cells.is_empty() {
+        if self.host_state.shared.cells.is_empty() {
             return None;
         }
-        let (cell, seats) = self.floor.remove_last();
+        let (cell, seats) = self.host_state.remove_last();
         Some(close_net(rt, cell, seats))
     }
     /// The first so many networks, and the others, each as a host of their own. An error says that memory is
@@ -138,16 +138,16 @@ impl<S: Shelf + Drop, H: Wait + Drop> Host<S, H> {
         requires { count ≤ length self }
         ensures { IfOk result (λ r. (r.0 ≡ take count self) × (r.1 ≡ drop count self)) }
     {
-        let Host { alloc, floor } = self;
-        let (first, others) = floor.split_at(count)?;
+        let Host { alloc, host_state } = self;
+        let (first, others) = host_state.split_at(count)?;
         Ok((
             Host {
                 alloc,
-                floor: first,
+                host_state: first,
             },
             Host {
                 alloc,
-                floor: others,
+                host_state: others,
             },
         ))
     }

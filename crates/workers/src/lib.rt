@@ -13,9 +13,9 @@
 #![tactic(auto)]
 
 mod deal;
-mod floor;
 mod gate;
 mod host;
+mod host_state;
 mod pool;
 mod running;
 mod shared;

@@ -4,15 +4,15 @@ ghost use Rattle.std.specs.Prelude.{◌≡◌, ◌<◌, ◌≤◌, ◌+◌, ℕ,
 ghost use Rattle.work.specs.Hands.{all_parts, weigh};
 ghost use Rattle.work.specs.Queues.{AllPasses, IsOf, parts_by, put_by, taken_by};
 ghost use Rattle.work.specs.declared.line.Queue.{Queue};
-ghost use Rattle.workers.specs.Benches.{AllGrownBenches, AllHave, AllHosted, IsCounted, IsCrew, IsWorked};
+ghost use Rattle.workers.specs.Spares.{AllGrownSpares, AllHave, AllHosted, IsCounted, IsWorkerRoom, IsWorked};
 ghost use Rattle.workers.specs.Nets.{AllGrownNets, IsAllOrNothing};
 ghost use Rattle.workers.specs.Numbers.{IsNumbered};
 ghost use Rattle.workers.specs.Sums.{AllPassing};
 
-use crate::deal::{Crew, Room, deal, deal_one, fewest_seats, give_back, make_crew};
-use crate::floor::Floor;
+use crate::deal::{Room, WorkerRoom, deal, deal_one, fewest_seats, give_back, make_worker_room};
 use crate::gate::Gate;
 use crate::host::Host;
+use crate::host_state::HostState;
 use crate::pool::{leave, work_through};
 use crate::worker::{Worker, add};
 use crate::workplace::Workplace;
@@ -51,29 +51,41 @@ fn report_of<S: Shelf, H: Wait + Drop, R: Wait>(rt: &R, workers: &[Worker<S, H>]
 }
 
 /// Deals the seats, works until all is done, and takes the seats back.
-fn run_crew<
+fn run_workers<
     S: Shelf + Drop + Send,
     H: Wait + Drop + Send,
     R: Threads + Wait + Sync,
     G: Gate + Sync,
->(rt: &R, floor: &mut Floor<S, H>, crew: Crew<S, H>, mut passes: Vec<Pass>, gate: &G) -> Report
+>(
+    rt: &R,
+    host_state: &mut HostState<S, H>,
+    worker_room: WorkerRoom<S, H>,
+    mut passes: Vec<Pass>,
+    gate: &G,
+) -> Report
 where
     S::Place: Send,
-    requires order { IsNumbered floor.old.shared.numbers.items floor.old.shared.cells.items }
-    requires hosted { AllHosted floor.old.shared.cells.items floor.old.benches.items }
-    requires there { (q : Queue) × (floor.old.shared.queue ≡ Some q) }
-    requires queue { AllPassing floor.old.shared.queue passes.items × (parts_by passes.items ≡ all_parts) }
-    requires room { length crew.rooms.items ≤ vec_len passes }
-    requires crew { (0 < length crew.rooms.items) × AllHave (length crew.rooms.items) floor.old.benches.items × IsCrew (length crew.rooms.items) (length floor.old.benches.items) crew }
-    ensures shared { (floor.new.shared.numbers ≡ floor.old.shared.numbers) × (floor.new.shared.cells ≡ floor.old.shared.cells) × (floor.new.shared.queue ≡ None) }
-    ensures grown { AllGrownBenches floor.old.benches.items floor.new.benches.items }
-    ensures worked { IsWorked floor.old.shared.cells.items floor.old.benches.items floor.new.benches.items (λ h. put_by h passes.items) (λ h. taken_by h passes.items) result }
+    requires order { IsNumbered host_state.old.shared.numbers.items host_state.old.shared.cells.items }
+    requires hosted { AllHosted host_state.old.shared.cells.items host_state.old.spares.items }
+    requires there { (q : Queue) × (host_state.old.shared.queue ≡ Some q) }
+    requires queue { AllPassing host_state.old.shared.queue passes.items × (parts_by passes.items ≡ all_parts) }
+    requires room { length worker_room.rooms.items ≤ vec_len passes }
+    requires worker_room { (0 < length worker_room.rooms.items) × AllHave (length worker_room.rooms.items) host_state.old.spares.items × IsWorkerRoom (length worker_room.rooms.items) (length host_state.old.spares.items) worker_room }
+    ensures shared { (host_state.new.shared.numbers ≡ host_state.old.shared.numbers) × (host_state.new.shared.cells ≡ host_state.old.shared.cells) × (host_state.new.shared.queue ≡ None) }
+    ensures grown { AllGrownSpares host_state.old.spares.items host_state.new.spares.items }
+    ensures worked { IsWorked host_state.old.shared.cells.items host_state.old.spares.items host_state.new.spares.items (λ h. put_by h passes.items) (λ h. taken_by h passes.items) result }
 {
-    let mut workers = deal(&mut floor.benches, &mut passes, crew);
-    work_through(rt, &mut floor.shared, workers.as_mut_slice(), passes, gate);
+    let mut workers = deal(&mut host_state.spares, &mut passes, worker_room);
+    work_through(
+        rt,
+        &mut host_state.shared,
+        workers.as_mut_slice(),
+        passes,
+        gate,
+    );
     let report = report_of(rt, workers.as_slice());
     while let Some(worker) = workers.pop() {
-        give_back(&mut floor.benches, worker);
+        give_back(&mut host_state.spares, worker);
     }
     report
 }
@@ -109,11 +121,11 @@ where
     ensures run { IsAllOrNothing host.old host.new (λ h. put_by h queue.1.items) (λ h. taken_by h queue.1.items) result }
 {
     let (queue, passes) = queue;
-    let many = fewest_seats(host.floor.benches.as_slice(), workers.min(passes.len()));
-    match make_crew(host.alloc, many, host.floor.benches.len()) {
-        Ok(crew) => {
-            host.floor.shared.queue = Some(queue);
-            run_crew(rt, &mut host.floor, crew, passes, gate)
+    let many = fewest_seats(host.host_state.spares.as_slice(), workers.min(passes.len()));
+    match make_worker_room(host.alloc, many, host.host_state.spares.len()) {
+        Ok(worker_room) => {
+            host.host_state.shared.queue = Some(queue);
+            run_workers(rt, &mut host.host_state, worker_room, passes, gate)
         }
         // Memory: no worker has room.
         Err(_) => Report {
@@ -127,22 +139,22 @@ where
 /// Puts the jobs by one worker, which serves those that a full queue hands back, and takes its seats back.
 fn offer_on<S: Shelf + Drop, H: Wait + Drop, R: Wait, G: Gate>(
     rt: &R,
-    floor: &mut Floor<S, H>,
+    host_state: &mut HostState<S, H>,
     kit: (Room<S, H>, Vec<Pass>),
     jobs: Vec<Job>,
     gate: &G,
 ) -> (Vec<Pass>, Report)
-    requires order { IsNumbered floor.old.shared.numbers.items floor.old.shared.cells.items }
-    requires hosted { AllHosted floor.old.shared.cells.items floor.old.benches.items }
-    requires passes { AllPassing floor.old.shared.queue kit.1.items × (0 < length kit.1.items) }
-    requires room { (kit.0.walks.items ≡ []) × (length floor.old.benches.items ≤ vec_capacity kit.0.walks) }
-    ensures shared { floor.new.shared ≡ floor.old.shared }
-    ensures grown { AllGrownBenches floor.old.benches.items floor.new.benches.items }
-    ensures passes { AllPassing floor.old.shared.queue result.0.items × (parts_by result.0.items ≡ parts_by kit.1.items) }
-    ensures worked { IsWorked floor.old.shared.cells.items floor.old.benches.items floor.new.benches.items (λ h. weigh h jobs.items + put_by h kit.1.items + taken_by h result.0.items) (λ h. put_by h result.0.items + taken_by h kit.1.items) result.1 }
+    requires order { IsNumbered host_state.old.shared.numbers.items host_state.old.shared.cells.items }
+    requires hosted { AllHosted host_state.old.shared.cells.items host_state.old.spares.items }
+    requires passes { AllPassing host_state.old.shared.queue kit.1.items × (0 < length kit.1.items) }
+    requires room { (kit.0.walks.items ≡ []) × (length host_state.old.spares.items ≤ vec_capacity kit.0.walks) }
+    ensures shared { host_state.new.shared ≡ host_state.old.shared }
+    ensures grown { AllGrownSpares host_state.old.spares.items host_state.new.spares.items }
+    ensures passes { AllPassing host_state.old.shared.queue result.0.items × (parts_by result.0.items ≡ parts_by kit.1.items) }
+    ensures worked { IsWorked host_state.old.shared.cells.items host_state.old.spares.items host_state.new.spares.items (λ h. weigh h jobs.items + put_by h kit.1.items + taken_by h result.0.items) (λ h. put_by h result.0.items + taken_by h kit.1.items) result.1 }
 {
     let (room, mut passes) = kit;
-    let walks = deal_one(&mut floor.benches, room);
+    let walks = deal_one(&mut host_state.spares, room);
     let mut worker = Worker {
         walks,
         pass: passes.pop(),
@@ -151,7 +163,7 @@ fn offer_on<S: Shelf + Drop, H: Wait + Drop, R: Wait, G: Gate>(
     };
     let workplace = Workplace {
         rt,
-        shared: &floor.shared,
+        shared: &host_state.shared,
         gate,
     };
     worker.submit_all(&workplace, jobs);
@@ -161,7 +173,7 @@ fn offer_on<S: Shelf + Drop, H: Wait + Drop, R: Wait, G: Gate>(
         refused: worker.refused,
         unrun: 0,
     };
-    give_back(&mut floor.benches, worker);
+    give_back(&mut host_state.spares, worker);
     (passes, report)
 }
 
@@ -185,12 +197,12 @@ pub fn offer<S: Shelf + Drop, H: Wait + Drop, R: Wait, G: Gate>(
     ensures offered { IsAllOrNothing host.old host.new (λ h. weigh h jobs.items + put_by h queue.1.items + taken_by h result.0.1.items) (λ h. put_by h result.0.1.items + taken_by h queue.1.items) result.1 }
 {
     let (queue, passes) = queue;
-    match Vec::with_capacity(host.alloc, host.floor.benches.len()) {
+    match Vec::with_capacity(host.alloc, host.host_state.spares.len()) {
         Ok(walks) => {
-            host.floor.shared.queue = Some(queue);
+            host.host_state.shared.queue = Some(queue);
             let kit = (Room { walks }, passes);
-            let (passes, report) = offer_on(rt, &mut host.floor, kit, jobs, gate);
-            let Some(queue) = host.floor.shared.queue.take() else {
+            let (passes, report) = offer_on(rt, &mut host.host_state, kit, jobs, gate);
+            let Some(queue) = host.host_state.shared.queue.take() else {
                 unreachable!()
             };
             ((queue, passes), report)

@@ -22,7 +22,7 @@ pub(crate) struct Walk<S: Shelf, H: Wait + Drop> {
 
 /// An emission, by the numbers that a Hear names it by.
 #[derive(Clone, Copy)]
-pub(crate) struct Emission {
+pub(crate) struct SlotEmission {
     pub network: u32,
     pub slot: u64,
     pub from: NodeId,
@@ -85,13 +85,13 @@ pub(crate) fn move_on<S: Shelf, H: Wait + Drop>(walk: &mut Walk<S, H>)
 }
 
 /// The out at an index of a receipt, if it is an emission, with the mark at another.
-fn emission_of(receipt: &Receipt, network: u32, index: usize, mark: usize) -> Option<Emission>
+fn emission_of(receipt: &Receipt, network: u32, index: usize, mark: usize) -> Option<SlotEmission>
     requires { index < length receipt.now.outs }
     ensures { (o : Out) → result ≡ emission_in network (slice_index_or receipt.now.outs index o) (slice_get receipt.now.marks mark) }
 {
     match &receipt.outs()[index] {
         Out::Emit(envelope) => match receipt.marks().get(mark) {
-            Some(number) => Some(Emission {
+            Some(number) => Some(SlotEmission {
                 network,
                 slot: envelope.slot(),
                 from: *envelope.sender(),
@@ -111,7 +111,7 @@ pub(crate) fn emission_at<S: Shelf, H: Wait + Drop>(
     network: u32,
     index: usize,
     mark: usize,
-) -> Option<Emission>
+) -> Option<SlotEmission>
     requires next { IsNext walk.now receipt.now.value × (walk.now.place < length walk.now.seat.me.receipts) }
     requires index { index < length receipt.now.value.outs }
     ensures { (o : Out) → result ≡ emission_in network (slice_index_or receipt.now.value.outs index o) (slice_get receipt.now.value.marks mark) }

@@ -8,9 +8,9 @@ ghost use Rattle.workers.specs.Sums.{IsBusy, KeepsSums, IsPassing, IsReady, IsSh
 
 use crate::gate::Gate;
 use crate::shared::Shared;
-use crate::walk::{Emission, Walk, apply_by, emission_at, is_short, move_on, read};
+use crate::walk::{SlotEmission, Walk, apply_by, emission_at, is_short, move_on, read};
 use crate::workplace::Workplace;
-use configuration::Host;
+use configuration::HostedNode;
 use envstore::Shelf;
 use std::sync::Wait;
 use types::Event;
@@ -40,7 +40,7 @@ pub(crate) fn add<R: Wait>(rt: &R, count: u64, more: u64) -> u64
 }
 
 /// The job by which a node hears an emission, if it is not its own.
-fn hearing(emission: &Emission, host: &Host) -> Option<Job>
+fn hearing(emission: &SlotEmission, host: &HostedNode) -> Option<Job>
     ensures jobs { option_to_list result ≡ hear_by emission.now host.now }
     ensures network { IfSome result (λ j. j.network ≡ emission.now.network) }
 {
@@ -128,7 +128,7 @@ impl<S: Shelf + Drop, H: Wait + Drop> Worker<S, H> {
         &mut self,
         workplace: &Workplace<'_, S, H, R, G>,
         k: usize,
-        emission: Emission,
+        emission: SlotEmission,
     )
         requires busy { IsBusy workplace.now.shared.now.cells.items workplace.now.shared.now.queue k self.old }
         requires network { IsNumberAt workplace.now.shared.now.cells.items k emission.network }

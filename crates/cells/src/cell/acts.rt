@@ -8,11 +8,11 @@ ghost use Rattle.cells.specs.declared.refusal.CellRefusal.TheVariants.{Closed};
 ghost use Rattle.cells.specs.Cells.{AllFresh, IsApplied, IsDenial, IsSameButSeen, IsSeatOf, IsStopped};
 ghost use Rattle.cells.specs.Closing.{AllSeats, HasNumber, ended_sight, Gathered, IsOneHistory};
 ghost use Rattle.cells.specs.Publishing.{IsToldBut, decisions_known};
-ghost use Rattle.cells.specs.Rule.{closer_of, note_of, shown, Told};
+ghost use Rattle.cells.specs.Rule.{closer_of, note_of, shown, IsKnownAtEnd};
 ghost use Rattle.cells.specs.Sounds.{IsSound, IsWhy};
 
 use super::Cell;
-use crate::desk::{Desk, Refused};
+use crate::cell_state::{CellState, Refused};
 use crate::lock;
 use crate::lock::{add, closer, compare, deny, end, leave, mark, put_first, sit, take};
 use crate::refusal::CellRefusal;
@@ -69,7 +69,7 @@ fn has_all<S: Shelf, H: Wait + Drop>(count: u64, seats: &[Seat<S, H>]) -> bool
     true
 }
 
-/// A pass that is to take the desk for good.
+/// A pass that is to take the cell state for good.
 fn closer_from<S: Shelf, H: Wait + Drop>(lock: &Lock<S, H>, seat: &mut Seat<S, H>) -> SeatPass<S, H>
     requires { seat.old.cell ≡ lock.now.table.shared.table_id }
     ensures same { seat.new ≡ seat.old }
@@ -78,7 +78,7 @@ fn closer_from<S: Shelf, H: Wait + Drop>(lock: &Lock<S, H>, seat: &mut Seat<S, H
     closer(lock, &mut seat.pass)
 }
 
-/// Ends a seat, and compares it with the desk.
+/// Ends a seat, and compares it with the cell state.
 fn end_seat<S: Shelf, H: Wait + Drop>(
     lock: &Lock<S, H>,
     keeper: &mut SeatPass<S, H>,
@@ -91,31 +91,31 @@ fn end_seat<S: Shelf, H: Wait + Drop>(
     ensures sound { IsSound seat.new.me }
     ensures queue { IsSamePass keeper.old keeper.new }
     ensures keeper { view keeper.new ≡ shown (view keeper.old) (note_of seat.old.me) }
-    ensures told { Told (view keeper.old).config (view keeper.old).all (view keeper.old).owners (view keeper.old).over (view keeper.old).stopper seat.new.me }
+    ensures told { IsKnownAtEnd (view keeper.old).config (view keeper.old).all (view keeper.old).owners (view keeper.old).over (view keeper.old).stopper seat.new.me }
 {
     let note = end(lock, &mut seat.pass);
     compare(lock, keeper, note);
 }
 
-/// Takes the desk for good, and ends each seat.
+/// Takes the cell state for good, and ends each seat.
 fn gather<S: Shelf, H: Wait + Drop, R: Wait>(
     rt: &R,
     lock: &Lock<S, H>,
     config: &NetConfig,
     count: u64,
     seats: &mut [Seat<S, H>],
-) -> Desk<S, H>
+) -> CellState<S, H>
     requires some { 0 < length seats.old }
     requires seats { AllSeats (λ s. (s.cell ≡ lock.now.table.shared.table_id) × (s.me.config ≡ config.now) × (s.me.seats ≡ count)) seats.old }
     ensures gathered { Gathered config.now count result seats.new }
     ensures ended { seats.new ≡ map ended_sight seats.old }
 {
     let mut keeper = closer_from(lock, &mut seats[0]);
-    let desk = take(rt, lock, &mut keeper);
+    let cell_state = take(rt, lock, &mut keeper);
     for seat in seats.iter_mut() {
         end_seat(lock, &mut keeper, seat);
     }
-    desk
+    cell_state
 }
 
 /// So many watches of a publisher, which have seen nothing. An error says that memory is short.
@@ -166,8 +166,8 @@ impl<S: Shelf + Drop, H: Wait + Drop + Copy> Cell<S, H> {
         let publisher = Publisher::new(alloc, *rt, watches + 1)?;
         let given = watches_of(alloc, &publisher, watches)?;
         let (lock, mut opener) = lock::new(alloc)?;
-        let desk = Desk::new(alloc, config, shelf, seats, publisher);
-        put_first::<Brand, S, H, H>(rt, &lock, &mut opener, desk);
+        let cell_state = CellState::new(alloc, config, shelf, seats, publisher);
+        put_first::<Brand, S, H, H>(rt, &lock, &mut opener, cell_state);
         for number in 0..seats {
             let pass = sit(&lock, &mut opener);
             all.push_reserved(Seat {
@@ -229,16 +229,16 @@ impl<S: Shelf + Drop, H: Wait + Drop> Cell<S, H> {
         ensures closed { (result ≡ Err Closed) ↔ (seat.new.me.stopped ≡ true) }
     {
         let asked = Snapshot::of(&event);
-        let mut desk = take(rt, &self.lock, &mut seat.pass);
-        match desk.enter(&mut seat.receipts, event) {
+        let mut cell_state = take(rt, &self.lock, &mut seat.pass);
+        match cell_state.enter(&mut seat.receipts, event) {
             Ok(entered) => {
-                let desk = desk.publish();
-                add::<Brand, S, H, R>(rt, &self.lock, &mut seat.pass, desk, &entered.made);
+                let cell_state = cell_state.publish();
+                add::<Brand, S, H, R>(rt, &self.lock, &mut seat.pass, cell_state, &entered.made);
                 Ok(entered.answer)
             }
             Err(refusal) => {
                 let refused = Refused { asked, refusal };
-                deny::<Brand, S, H, R>(rt, &self.lock, &mut seat.pass, desk, &refused);
+                deny::<Brand, S, H, R>(rt, &self.lock, &mut seat.pass, cell_state, &refused);
                 Err(refusal)
             }
         }
@@ -252,9 +252,9 @@ impl<S: Shelf + Drop, H: Wait + Drop> Cell<S, H> {
         ensures seen { IsPrefix seat.old.me.seen seat.new.me.seen }
         ensures stopped { IsStopped seat.old seat.new }
     {
-        let mut desk = take(rt, &self.lock, &mut seat.pass);
-        desk.stop();
-        mark::<Brand, S, H, R>(rt, &self.lock, &mut seat.pass, desk);
+        let mut cell_state = take(rt, &self.lock, &mut seat.pass);
+        cell_state.stop();
+        mark::<Brand, S, H, R>(rt, &self.lock, &mut seat.pass, cell_state);
     }
 
     /// Publishes what the journal decided, as far as there is memory, and has a watch of this cell see all that is
@@ -269,9 +269,9 @@ impl<S: Shelf + Drop, H: Wait + Drop> Cell<S, H> {
         ensures told { IsToldBut seat.new.me.seen result watch.new }
         ensures grows { IsPrefix watch.old watch.new }
     {
-        let desk = take(rt, &self.lock, &mut seat.pass).publish();
-        let missing = desk.tell(rt, watch);
-        leave::<Brand, S, H, R>(rt, &self.lock, &mut seat.pass, desk);
+        let cell_state = take(rt, &self.lock, &mut seat.pass).publish();
+        let missing = cell_state.tell(rt, watch);
+        leave::<Brand, S, H, R>(rt, &self.lock, &mut seat.pass, cell_state);
         missing
     }
 
@@ -295,14 +295,14 @@ impl<S: Shelf + Drop, H: Wait + Drop> Cell<S, H> {
         if !has_all(self.seats, seats.as_slice()) {
             return Err(SeatsMissing { cell: self, seats });
         }
-        let desk = gather(
+        let cell_state = gather(
             rt,
             &self.lock,
             &self.config,
             self.seats,
             seats.as_mut_slice(),
         );
-        let (journal, board) = desk.into_parts();
+        let (journal, board) = cell_state.into_parts();
         Ok((journal, seats, board))
     }
 

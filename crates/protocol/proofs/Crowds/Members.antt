@@ -5,7 +5,7 @@ use Rattle.std.proofs.Common.{◌≡◌, ℕ, Bool, true, false, Option, Some, N
 use Rattle.std.specs.List.{cons_option}
 use Rattle.protocol.specs.Sets.{Names, among, AreWithin}
 use Rattle.protocol.specs.Rosters.{Roster}
-use Rattle.protocol.specs.Networks.{Host, Net, Step, Reply, slices_of, tests, first_that, state_and_reply, net_step}
+use Rattle.protocol.specs.Networks.{HostedNode, Net, Step, Reply, slices_of, tests, first_that, state_and_reply, net_step}
 use Rattle.protocol.specs.Networks.Reply.{Done, Refused}
 use Rattle.protocol.specs.Hosts.{Config, Entry, journal_with, journal, new_net, nets, hosts_of, steps_of, entries}
 use Rattle.protocol.specs.Isolation.{Kept, kept_step, kept_of, closure, outs_of, SameCast}
@@ -155,8 +155,8 @@ never_crowded_out_of_runs one other es fs i v cast reserves on same =
 
 -- all that the theorem speaks of
 record Worlds : Type 0 where
-  hosts : List Host
-  hosts' : List Host
+  hosts : List HostedNode
+  hosts' : List HostedNode
   config : Option Config
   config' : Option Config
   runs : List Entry

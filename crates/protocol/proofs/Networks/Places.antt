@@ -4,7 +4,7 @@ use Rattle.types.specs.declared.event.NodeEvent.{NodeEvent}
 use Rattle.std.proofs.Common.{ℕ, Bool, true, false, not, cond, ◌==◌, Option, Some, None, List, [], ◌∷◌, ◌++◌, filter, if◌then◌else◌}
 use Rattle.types.specs.Statements.{Sent}
 use Rattle.types.specs.declared.event.NodeEvent.TheVariants.{Propose, Take, NominationTimer, BallotTimer, Reslice}
-use Rattle.protocol.specs.Networks.{Net, Slot, Place, Host, Step, after_event, act_in, act, act_known, nodes_of_new_slot, effect, emission, node_where_open, places_at}
+use Rattle.protocol.specs.Networks.{Net, Slot, Place, HostedNode, Step, after_event, act_in, act, act_known, nodes_of_new_slot, effect, emission, node_where_open, places_at}
 use Rattle.protocol.specs.Networks.Step.{Opens, Closes, Proposes, Delivers, Hears, NominationTimerFires, BallotTimerFires, Reslices}
 use Rattle.protocol.specs.Networks.Reading.{Read, Fault}
 use Rattle.protocol.specs.Nodes.{fresh}
@@ -15,7 +15,7 @@ use Rattle.std.specs.List.{AllByRecursion}
 use Rattle.protocol.specs.Runs.{net_after}
 use Rattle.protocol.specs.Hosts.{Entry, new_net}
 
-module _ (P : Place → Type 0) (new : (i : ℕ) (h : Host) → P (record { node = fresh i h.name h.slices; told = [] }))
+module _ (P : Place → Type 0) (new : (i : ℕ) (h : HostedNode) → P (record { node = fresh i h.name h.slices; emitted = [] }))
     (more : (e : NodeEvent) (p : Place) → P p → P (after_event e p)) where
   abbrev AllAt : List Place → Type 0
   AllAt ps = AllByRecursion P ps
@@ -23,7 +23,7 @@ module _ (P : Place → Type 0) (new : (i : ℕ) (h : Host) → P (record { node
   abbrev AllSlots : List Slot → Type 0
   AllSlots ss = AllByRecursion (λ s. AllByRecursion P s.places) ss
 
-  nodes_of_new_slot-all : (hosts : List Host) (i : ℕ) → AllAt (nodes_of_new_slot hosts i)
+  nodes_of_new_slot-all : (hosts : List HostedNode) (i : ℕ) → AllAt (nodes_of_new_slot hosts i)
   unfolding nodes_of_new_slot
   nodes_of_new_slot-all [] i = tt
   nodes_of_new_slot-all (h ∷ hs) i = (new i h, nodes_of_new_slot-all hs i)

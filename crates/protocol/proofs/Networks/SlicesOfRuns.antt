@@ -99,14 +99,14 @@ module _ (i u : ℕ) (q : Slices) where
       go false o p k = h p (ap (λ x. node_where_open x u) (sym (places_at-push_other net.slots slot i o)) ∙ k)
       go true y p k =
           let there : node_where_open (places_at (net.slots ++ slot ∷ []) i) u
-          ≡ option_map (λ x. record { node = fresh j u x; told = [] }) (slices_of net.hosts u) =
+          ≡ option_map (λ x. record { node = fresh j u x; emitted = [] }) (slices_of net.hosts u) =
           ap (λ x. node_where_open x u)
           (places_at-push net.slots slot i y (ap (places_at net.slots) (sym (eqb-true j i y)) ∙ n))
           ∙ node_named-opened net.hosts j u in
-          let same : ◌≡◌ {A = Option Place} (Some (record { node = fresh j u q; told = [] })) (Some p) =
-          ap (option_map (λ (x : Slices). record { node = fresh j u x; told = [] })) (sym hosted)
+          let same : ◌≡◌ {A = Option Place} (Some (record { node = fresh j u q; emitted = [] })) (Some p) =
+          ap (option_map (λ (x : Slices). record { node = fresh j u x; emitted = [] })) (sym hosted)
           ∙ (sym there ∙ k) in
-          let is : record { node = fresh j u q; told = [] } ≡ p = cc in
+          let is : record { node = fresh j u q; emitted = [] } ≡ p = cc in
           subst (λ (z : Place). (z.node.slices ≡ q) × ComesOfEvents z.node) is (refl, begin j u q)
 
   -- closing the slot, or another one

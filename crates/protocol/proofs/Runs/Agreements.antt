@@ -45,7 +45,7 @@ module _ (R : Names) (i : ℕ) where
     name = node_where_open-name (places_at net.slots i) u p k;
     good = λ r. good R p.node (c.nodes u p k r);
     calm = λ r. c.calm u p k r;
-    told = c.told u p k;
+    emitted = c.emitted u p k;
   }
 
   closed_in : (net : Net) → HostsIn R net.hosts → AllPlaces R i net → IsClosedIn R i net
@@ -53,7 +53,7 @@ module _ (R : Names) (i : ℕ) where
     hosts = hosts;
     nodes = λ u p k r. closed_for R p.node ((h u p k).good r);
     calm = λ u p k r. (h u p k).calm r;
-    told = λ u p k. (h u p k).told;
+    emitted = λ u p k. (h u p k).emitted;
   }
 
   alike-cut : (a b : Option Place) → ArePlacesAlike R a b → option_map (cut_place R) a ≡ option_map (cut_place R) b
@@ -61,7 +61,7 @@ module _ (R : Names) (i : ℕ) where
   alike-cut None (Some q) h = absurd h
   alike-cut (Some p) None h = absurd h
   alike-cut (Some p) (Some q) h =
-      ap₂ {C = Option Place} (λ (n : Node) (es : List Sent). Some (record { node = n; told = es })) h.0 h.1
+      ap₂ {C = Option Place} (λ (n : Node) (es : List Sent). Some (record { node = n; emitted = es })) h.0 h.1
 
   cut-alike : (a b : Option Place) → option_map (cut_place R) a ≡ option_map (cut_place R) b → ArePlacesAlike R a b
   cut-alike None None h = tt
@@ -69,7 +69,7 @@ module _ (R : Names) (i : ℕ) where
   cut-alike (Some p) None h = cc
   cut-alike (Some p) (Some q) h =
       let same : cut_place R p ≡ cut_place R q = cc in
-      (ap (λ (x : Place). x.node) same, ap (λ (x : Place). x.told) same)
+      (ap (λ (x : Place). x.node) same, ap (λ (x : Place). x.emitted) same)
 
   agree-sights : (one other : Net) → AgreeIn R i one other → sight R i one ≡ sight R i other
   agree-sights one other a = fun_ext (λ u. go u (R u) refl)

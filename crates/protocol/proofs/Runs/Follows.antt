@@ -92,7 +92,7 @@ after_event-cut : (R : Names) (u : ℕ) (p : Place) (e : NodeEvent) → IsPlace 
     → cut_place R (after_event e p) ≡ after_event e (cut_place R p)
 unfolding after_event
 after_event-cut R u p e h r f k =
-    ap {B = Place} (λ (x : Node × List Out). record { node = x.0; told = p.told ++ emissions x.1 })
+    ap {B = Place} (λ (x : Node × List Out). record { node = x.0; emitted = p.emitted ++ emissions x.1 })
     (sym (step-kept R p.node e (h.good r) f k))
 
 after_event-quiet : (R : Names) (u : ℕ) (p : Place) (e : Sent) → IsPlace R u p → R u ≡ true → R e.sender ≡ false
@@ -100,8 +100,8 @@ after_event-quiet : (R : Names) (u : ℕ) (p : Place) (e : Sent) → IsPlace R u
 unfolding after_event
 after_event-quiet R u p e h r o =
     let q = step-quiet R p.node e (h.good r) (h.calm r) o in
-    ap₂ {C = Place} (λ (n : Node) (os : List Out). record { node = n; told = p.told ++ emissions os }) q.0 q.1
-    ∙ ap {B = Place} (λ (es : List Sent). record { node = cut_node R p.node; told = es }) (append-nil p.told)
+    ap₂ {C = Place} (λ (n : Node) (os : List Out). record { node = n; emitted = p.emitted ++ emissions os }) q.0 q.1
+    ∙ ap {B = Place} (λ (es : List Sent). record { node = cut_node R p.node; emitted = es }) (append-nil p.emitted)
 
 pub act-outs : (net : Net) (i u : ℕ) (e : NodeEvent)
     → (act net i u e).1 ≡ outs_at e (node_where_open (places_at net.slots i) u)

@@ -30,9 +30,9 @@ emission-all : (R : Names) (u : ℕ) (o : Option Place) (kind : Kind) (k : ℕ) 
 emission-all R u None kind k h = refl
 emission-all R u (Some p) kind zero h = refl
 emission-all R u (Some p) kind (suc k) h =
-    get-all (λ e. (e.sender == u) && announces_in R e) (filter (λ e. is_kind kind (kind_of e.body)) p.told) k
+    get-all (λ e. (e.sender == u) && announces_in R e) (filter (λ e. is_kind kind (kind_of e.body)) p.emitted) k
     (all_filter (λ e. (e.sender == u) && announces_in R e) (λ e. (e.sender == u) && announces_in R e)
-    (λ e. is_kind kind (kind_of e.body)) (λ e a b. a) p.told (h p refl).told)
+    (λ e. is_kind kind (kind_of e.body)) (λ e a b. a) p.emitted (h p refl).emitted)
 
 pub emission-cut : (R : Names) (o : Option Place) (kind : Kind) (k : ℕ)
     → emission (option_map (cut_place R) o) kind k ≡ emission o kind k

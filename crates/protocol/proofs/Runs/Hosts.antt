@@ -2,7 +2,7 @@
 -- on it.
 use Rattle.std.proofs.Common.{◌≡◌, ℕ, Bool, true, false, ◌==◌, Option, Some, List, [], ◌∷◌, map, if◌then◌else◌, is_some, refl, sym, ◌∙◌, ap, ap₂, subst, inl, inr, ◌⊎◌}
 use Rattle.std.proofs.lemmas.Bool.{false≢true, eqb-true}
-use Rattle.protocol.specs.Networks.{Host, Net, Step, Reply, slices_of, net_step}
+use Rattle.protocol.specs.Networks.{HostedNode, Net, Step, Reply, slices_of, net_step}
 use Rattle.protocol.specs.Hosts.{Entry, Config, journal_with, journal, net_at, reply_at, host_run, applied, nets, new_net, hosts_of, steps_of, entries}
 use Rattle.protocol.specs.Submissions.{net_run, answers_of, config_of}
 use Rattle.protocol.specs.Isolation.{closure, kept_of, outs_of, SameCast, Isolation}
@@ -105,7 +105,7 @@ find_net (c ∷ cs) g = go (c.number == g) refl (find_net cs g)
     go false y (inr n) = inr (record { config = n.config; is = rw y n.is; of = rw y n.of; at = rw y n.at })
 
 -- nobody is hosted where there are no hosts
-pub nobody : (hosts : List Host) (w : ℕ) → hosts ≡ [] → is_some (slices_of hosts w) ≡ true → ⊥
+pub nobody : (hosts : List HostedNode) (w : ℕ) → hosts ≡ [] → is_some (slices_of hosts w) ≡ true → ⊥
 nobody hosts w e h = false≢true (sym (ap (λ x. is_some (slices_of x w)) e) ∙ h)
 
 pub isolation : Isolation
@@ -121,16 +121,16 @@ isolation decode one other g i v cast same u r hosted = go (find_net one.configs
         (journals-agree a.config b.config i v (steps_to g (steps_of decode one.calls))
         (steps_to g (steps_of decode other.calls))) cast same r
       where
-        Claim : List Host → List Host → List Entry → List Entry → Type 0
+        Claim : List HostedNode → List HostedNode → List Entry → List Entry → Type 0
         Claim h k x y =
             SameCast (closure h i v x) v h k → kept_of (closure h i v x) i x ≡ kept_of (closure h i v x) i y
             → closure h i v x u ≡ true → outs_of i u x ≡ outs_of i u y
 
-        agree : {h h' k k' : List Host} {x x' y y' : List Entry} → h ≡ h' → k ≡ k' → x ≡ x' → y ≡ y'
+        agree : {h h' k k' : List HostedNode} {x x' y y' : List Entry} → h ≡ h' → k ≡ k' → x ≡ x' → y ≡ y'
             → (SameCast (closure h' i v x') v h' k'
             → kept_of (closure h' i v x') i x' ≡ kept_of (closure h' i v x') i y' → (w : ℕ) → closure h' i v x' w ≡ true
             → outs_of i w x' ≡ outs_of i w y')
             → Claim h k x y
         agree {h' = h'} {k' = k'} {x' = x'} {y' = y'} p q s t f =
-            subst (λ (z : (List Host × List Host) × (List Entry × List Entry)). Claim z.0.0 z.0.1 z.1.0 z.1.1)
+            subst (λ (z : (List HostedNode × List HostedNode) × (List Entry × List Entry)). Claim z.0.0 z.0.1 z.1.0 z.1.1)
             (sym (λ j. ((p j, q j), (s j, t j)))) (λ c e w. f c e u w)

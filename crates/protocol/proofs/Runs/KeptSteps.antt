@@ -5,7 +5,7 @@ use Rattle.std.proofs.Common.{◌≡◌, ℕ, Bool, true, not, Option, Some, Non
 use Rattle.std.specs.List.{AllByRecursion, cons_option}
 use Rattle.types.specs.Trees.{Slices}
 use Rattle.protocol.specs.Sets.{Names}
-use Rattle.protocol.specs.Networks.{Host, Place, Net, Step, places_at, effect, tests, first_that, source, room_test, size_of, with_draw, state_and_reply, net_step}
+use Rattle.protocol.specs.Networks.{HostedNode, Place, Net, Step, places_at, effect, tests, first_that, source, room_test, size_of, with_draw, state_and_reply, net_step}
 use Rattle.types.specs.declared.event.Refusal.TheVariants.{SlotOpenAlready, TooManySlots}
 use Rattle.protocol.specs.Networks.Step.{Opens}
 use Rattle.protocol.specs.Hosts.{Entry, journal_with, journal}
@@ -66,7 +66,7 @@ run-sight R i u r (e ∷ es) net h hosts f = go (first_that (tests net e)) refl 
         let same : next.hosts ≡ net.hosts = (effect-keeps net e).hosts in
         let rest = ih next step.places (subst (HostsIn R) (sym same) hosts) f.1 in
         ap₂ (λ (xs ys : List Out). xs ++ ys) (step.replies u r)
-        (rest ∙ ap₂ (λ (hs : List Host) (s : Sight). answers (cast_of R hs) i s u
+        (rest ∙ ap₂ (λ (hs : List HostedNode) (s : Sight). answers (cast_of R hs) i s u
         (kept_of R i (journal next es))) same step.sights)
         ∙ sym (answers-option (cast_of R net.hosts) i (sight R i net) u (kept_step R i e)
         (kept_of R i (journal next es)))

@@ -8,7 +8,7 @@ use Rattle.protocol.specs.Sets.{Names, AreWithin, within}
 use Rattle.protocol.specs.Satisfaction.{names}
 use Rattle.protocol.specs.Closures.{keeps}
 use Rattle.types.specs.declared.event.NodeEvent.TheVariants.{Propose, Take, NominationTimer, BallotTimer, Reslice}
-use Rattle.protocol.specs.Networks.{Host, Step, slices_of}
+use Rattle.protocol.specs.Networks.{HostedNode, Step, slices_of}
 use Rattle.protocol.specs.Networks.Reading.{Read, Fault}
 use Rattle.protocol.specs.Networks.Step.{Opens, Closes, Proposes, Delivers, Hears, NominationTimerFires, BallotTimerFires, Reslices}
 use Rattle.protocol.specs.Hosts.{Entry}
@@ -23,7 +23,7 @@ use Rattle.protocol.proofs.Sets.Lists.{all-left, all-right}
 
 -- What the closure says of a run
 
-hosts-in : (R : Names) (hosts : List Host) → list_all (keeps R) (map host_rule hosts) ≡ true → HostsIn R hosts
+hosts-in : (R : Names) (hosts : List HostedNode) → list_all (keeps R) (map host_rule hosts) ≡ true → HostsIn R hosts
 hosts-in R [] h u q e r = cc
 hosts-in R (x ∷ xs) h u q e r =
     let p = and_parts (keeps R (host_rule x)) (list_all (keeps R) (map host_rule xs)) h in
@@ -145,12 +145,12 @@ pub all_in-other : (R : Names) (i : ℕ) (one other : List Entry) → kept_of R 
 all_in-other R i one other same h =
     all_kept-to R R i other (λ u r. r) (subst (AllByRecursion (IsKeptIn R)) same (all_kept-from R R i one h))
 
-pub closure-start : (hosts : List Host) (i v : ℕ) (entries : List Entry) → closure hosts i v entries v ≡ true
+pub closure-start : (hosts : List HostedNode) (i v : ℕ) (entries : List Entry) → closure hosts i v entries v ≡ true
 unfolding closure
 closure-start hosts i v entries =
     least-start (map host_rule hosts ++ flat_map (λ x. announcement_rules i x.event) entries) v
 
-pub closure-keeps : (hosts : List Host) (i v : ℕ) (entries : List Entry)
+pub closure-keeps : (hosts : List HostedNode) (i v : ℕ) (entries : List Entry)
     → list_all (keeps (closure hosts i v entries))
     (map host_rule hosts ++ flat_map (λ x. announcement_rules i x.event) entries) ≡ true
 unfolding closure
@@ -158,14 +158,14 @@ closure-keeps hosts i v entries =
     least-keeps (map host_rule hosts ++ flat_map (λ x. announcement_rules i x.event) entries) v
 
 -- what the closure of a run says of its hosted members, and of what is delivered among them
-pub hosts-closed : (hosts : List Host) (i v : ℕ) (entries : List Entry) → HostsIn (closure hosts i v entries) hosts
+pub hosts-closed : (hosts : List HostedNode) (i v : ℕ) (entries : List Entry) → HostsIn (closure hosts i v entries) hosts
 hosts-closed hosts i v entries =
     let R = closure hosts i v entries in
     hosts-in R hosts
     (all-left (keeps R) (map host_rule hosts) (flat_map (λ x. announcement_rules i x.event) entries)
     (closure-keeps hosts i v entries))
 
-pub events-closed : (hosts : List Host) (i v : ℕ) (entries : List Entry) → AllIn (closure hosts i v entries) i entries
+pub events-closed : (hosts : List HostedNode) (i v : ℕ) (entries : List Entry) → AllIn (closure hosts i v entries) i entries
 events-closed hosts i v entries =
     let R = closure hosts i v entries in
     events-in R i entries

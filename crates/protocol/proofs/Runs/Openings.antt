@@ -7,7 +7,7 @@ use Rattle.std.proofs.lemmas.Option.{none-some}
 use Rattle.protocol.specs.Sets.{Names, within}
 use Rattle.protocol.specs.Satisfaction.{names}
 use Rattle.protocol.specs.Nodes.{fresh}
-use Rattle.protocol.specs.Networks.{Host, Place, Slot, Net, slices_of, places_at, node_named, node_where_open, nodes_of_new_slot, renewed}
+use Rattle.protocol.specs.Networks.{HostedNode, Place, Slot, Net, slices_of, places_at, node_named, node_where_open, nodes_of_new_slot, renewed}
 use Rattle.protocol.specs.Isolation.{when_kept}
 use Rattle.protocol.specs.Isolation.Kept.{Opened, Closed}
 use Rattle.protocol.proofs.Runs.Sights.{cut_place, IsPlace, AllPlaces}
@@ -17,45 +17,45 @@ use Rattle.protocol.proofs.Networks.OpenSlots.{places_at-drop, places_at-drop_ot
 
 -- Opening and closing
 
-pub node_named-opened : (hosts : List Host) (i u : ℕ)
+pub node_named-opened : (hosts : List HostedNode) (i u : ℕ)
     → node_named (nodes_of_new_slot hosts i) u
-    ≡ option_map (λ q. record { node = fresh i u q; told = [] }) (slices_of hosts u)
+    ≡ option_map (λ q. record { node = fresh i u q; emitted = [] }) (slices_of hosts u)
 unfolding nodes_of_new_slot fresh
 node_named-opened [] i u = refl
 node_named-opened (h ∷ hs) i u = go (h.name == u) refl (node_named-opened hs i u)
   where
     go : (b : Bool) → (h.name == u) ≡ b
         → node_named (nodes_of_new_slot hs i) u
-        ≡ option_map (λ q. record { node = fresh i u q; told = [] }) (slices_of hs u)
-        → (if b then Some (record { node = fresh i h.name h.slices; told = [] }) else node_named
+        ≡ option_map (λ q. record { node = fresh i u q; emitted = [] }) (slices_of hs u)
+        → (if b then Some (record { node = fresh i h.name h.slices; emitted = [] }) else node_named
         (nodes_of_new_slot hs i) u)
-        ≡ option_map (λ q. record { node = fresh i u q; told = [] }) (if b then Some h.slices else slices_of hs u)
+        ≡ option_map (λ q. record { node = fresh i u q; emitted = [] }) (if b then Some h.slices else slices_of hs u)
     go true e ih =
-        ap {B = Option Place} (λ x. Some (record { node = fresh i x h.slices; told = [] })) (eqb-true h.name u e)
+        ap {B = Option Place} (λ x. Some (record { node = fresh i x h.slices; emitted = [] })) (eqb-true h.name u e)
     go false e ih = ih
 
 -- what the hosted members announce lies in R
-abbrev pub HostsIn : Names → List Host → Type 0
+abbrev pub HostsIn : Names → List HostedNode → Type 0
 HostsIn R hosts = (u : ℕ) (q : Slices) → slices_of hosts u ≡ Some q → R u ≡ true → within (names q) R ≡ true
 
 fresh-place : (R : Names) (i u : ℕ) (q : Slices) → (R u ≡ true → within (names q) R ≡ true)
-    → IsPlace R u (record { node = fresh i u q; told = [] })
+    → IsPlace R u (record { node = fresh i u q; emitted = [] })
 unfolding fresh
 fresh-place R i u q f = record {
   name = refl;
   good = λ r. record { closed = record { has = r; own = f r; rows = refl }; leaders = refl };
   calm = λ r. fresh-calm i u q;
-  told = refl;
+  emitted = refl;
 }
 
 fresh-cut : (R : Names) (i u : ℕ) (o : Option Slices)
-    → option_map (cut_place R) (option_map (λ q. record { node = fresh i u q; told = [] }) o)
-    ≡ option_map (λ q. record { node = fresh i u q; told = [] }) o
+    → option_map (cut_place R) (option_map (λ q. record { node = fresh i u q; emitted = [] }) o)
+    ≡ option_map (λ q. record { node = fresh i u q; emitted = [] }) o
 unfolding fresh
 fresh-cut R i u None = refl
 fresh-cut R i u (Some q) = refl
 
-abbrev pub cast_of : Names → List Host → ℕ → Option Slices
+abbrev pub cast_of : Names → List HostedNode → ℕ → Option Slices
 cast_of R hosts u = if R u then slices_of hosts u else None
 
 -- a change of the slots that R doesn't see
@@ -97,22 +97,22 @@ opens R i net j h hosts n = go (j == i) refl
 
         there : (u : ℕ)
             → node_where_open (places_at now.slots i) u
-            ≡ option_map (λ q. record { node = fresh i u q; told = [] }) (slices_of net.hosts u)
+            ≡ option_map (λ q. record { node = fresh i u q; emitted = [] }) (slices_of net.hosts u)
         there u = ap (λ o. node_where_open o u)
             (places_at-push net.slots (slot j) i y (ap (places_at net.slots) (sym ji) ∙ n))
             ∙ (ap (λ x. node_named (nodes_of_new_slot net.hosts x) u) ji ∙ node_named-opened net.hosts i u)
 
         see : (u : ℕ) (b : Bool) → R u ≡ b
             → (if b then option_map (cut_place R) (node_where_open (places_at now.slots i) u) else None)
-            ≡ option_map (λ q. record { node = fresh i u q; told = [] }) (if b then slices_of net.hosts u else None)
+            ≡ option_map (λ q. record { node = fresh i u q; emitted = [] }) (if b then slices_of net.hosts u else None)
         see u true r = ap (option_map (cut_place R)) (there u) ∙ fresh-cut R i u (slices_of net.hosts u)
         see u false r = refl
 
         place : (u : ℕ) (p : Place) (o : Option Slices) → slices_of net.hosts u ≡ o
-            → option_map (λ q. record { node = fresh i u q; told = [] }) o ≡ Some p → IsPlace R u p
+            → option_map (λ q. record { node = fresh i u q; emitted = [] }) o ≡ Some p → IsPlace R u p
         place u p None s q = cc
         place u p (Some x) s q =
-            let m : record { node = fresh i u x; told = [] } ≡ p = cc in
+            let m : record { node = fresh i u x; emitted = [] } ≡ p = cc in
             subst (λ y. IsPlace R u y) m (fresh-place R i u x (λ r. hosts u x s r))
 
 pub closes : (R : Names) (cast : ℕ → Option Slices) (i : ℕ) (net : Net) (j : ℕ) → AllPlaces R i net

@@ -6,7 +6,7 @@ use Rattle.std.proofs.lemmas.Bool.{and_parts, and_from}
 use Rattle.protocol.specs.Sets.{Names, AreWithin, within}
 use Rattle.protocol.specs.Satisfaction.{names}
 use Rattle.protocol.specs.Closures.{Rule, keeps}
-use Rattle.protocol.specs.Networks.{Host, Step}
+use Rattle.protocol.specs.Networks.{HostedNode, Step}
 use Rattle.protocol.specs.Networks.Reading.{Read}
 use Rattle.protocol.specs.Networks.Step.{Delivers, Reslices}
 use Rattle.protocol.specs.Hosts.{Entry}
@@ -22,8 +22,8 @@ use Rattle.protocol.proofs.Runs.KeptWithin.{IsKeptIn, all_kept-from, all_kept-to
 
 module _ (R : Names) where
   -- the rules of hosted nodes are kept where the slices of hosted members lie in the set
-  keeps-hosts : (hosts : List Host)
-      → ((h : Host) → Contains hosts h → R h.name ≡ true → within (names h.slices) R ≡ true)
+  keeps-hosts : (hosts : List HostedNode)
+      → ((h : HostedNode) → Contains hosts h → R h.name ≡ true → within (names h.slices) R ≡ true)
       → list_all (keeps R) (map host_rule hosts) ≡ true
   keeps-hosts [] f = refl
   keeps-hosts (h ∷ hs) f =
@@ -55,8 +55,8 @@ module _ (R : Names) where
       (keeps-events i xs h.1)
 
 -- the closure lies in each set that has v, what its hosted members announce, and what is announced among its members
-pub closure-in : (hosts : List Host) (i v : ℕ) (entries : List Entry) (R : Names) → R v ≡ true
-    → ((h : Host) → Contains hosts h → R h.name ≡ true → within (names h.slices) R ≡ true) → AllIn R i entries
+pub closure-in : (hosts : List HostedNode) (i v : ℕ) (entries : List Entry) (R : Names) → R v ≡ true
+    → ((h : HostedNode) → Contains hosts h → R h.name ≡ true → within (names h.slices) R ≡ true) → AllIn R i entries
     → AreWithin (closure hosts i v entries) R
 unfolding closure
 closure-in hosts i v entries R start f h =

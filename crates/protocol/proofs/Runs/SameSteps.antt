@@ -3,7 +3,7 @@ use Rattle.std.proofs.Common.{◌≡◌, ℕ, Bool, true, false, Option, Some, N
 use Rattle.std.proofs.Math.Path.{fun_ext}
 use Rattle.types.specs.Trees.{Slices}
 use Rattle.protocol.specs.Sets.{Names}
-use Rattle.protocol.specs.Networks.{Host, Step, slices_of}
+use Rattle.protocol.specs.Networks.{HostedNode, Step, slices_of}
 use Rattle.protocol.specs.Hosts.{Entry, Config, journal, new_net}
 use Rattle.protocol.specs.Isolation.{Kept, kept_of, outs_of, closure, SameCast}
 use Rattle.protocol.proofs.Runs.Sights.{sight, AllPlaces}
@@ -12,7 +12,7 @@ use Rattle.protocol.proofs.Runs.KeptSteps.{AllIn, answers, run-sight}
 use Rattle.protocol.proofs.Runs.KeptWithin.{all_in-other, events-closed, hosts-closed}
 
 -- the same members in both worlds
-pub casts-same : (R : Names) (v : ℕ) (hosts hosts' : List Host) → SameCast R v hosts hosts'
+pub casts-same : (R : Names) (v : ℕ) (hosts hosts' : List HostedNode) → SameCast R v hosts hosts'
     → cast_of R hosts ≡ cast_of R hosts'
 casts-same R v hosts hosts' cast = fun_ext (λ w. go w (R w) refl)
   where
@@ -21,7 +21,7 @@ casts-same R v hosts hosts' cast = fun_ext (λ w. go w (R w) refl)
     go w true s = cast.same w s
     go w false s = refl
 
-pub hosts-other : (R : Names) (v : ℕ) (hosts hosts' : List Host) → SameCast R v hosts hosts' → HostsIn R hosts
+pub hosts-other : (R : Names) (v : ℕ) (hosts hosts' : List HostedNode) → SameCast R v hosts hosts' → HostsIn R hosts
     → HostsIn R hosts'
 hosts-other R v hosts hosts' cast h w q e s = h w q (cast.same w s ∙ e) s
 

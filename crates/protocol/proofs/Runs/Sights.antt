@@ -23,7 +23,7 @@ use Rattle.protocol.proofs.Nodes.Calm.{calm-step}
 use Rattle.protocol.proofs.Nodes.Emitted.{step-self, step-emit}
 
 abbrev pub cut_place : Names → Place → Place
-cut_place R p = record { node = cut_node R p.node; told = p.told }
+cut_place R p = record { node = cut_node R p.node; emitted = p.emitted }
 
 -- each member's place, with the rows of R alone
 abbrev pub Sight : Type 0
@@ -47,7 +47,7 @@ outs_heard s u (Some e) = outs_at (Take e) (s u)
 
 abbrev pub play : (ℕ → Option Slices) → ℕ → Sight → Option Kept → Sight
 play cast i s None = s
-play cast i s (Some Opened) = λ u. option_map (λ q. record { node = fresh i u q; told = [] }) (cast u)
+play cast i s (Some Opened) = λ u. option_map (λ q. record { node = fresh i u q; emitted = [] }) (cast u)
 play cast i s (Some Closed) = λ u. None
 play cast i s (Some (Told u e)) = told_to s u e
 play cast i s (Some (Heard u from kind k)) = heard_to s u (emission (s from) kind k)
@@ -65,7 +65,7 @@ pub record IsPlace (R : Names) (u : ℕ) (p : Place) : Type 0 where
   pub name : p.node.name ≡ u
   pub good : R u ≡ true → Good R p.node
   pub calm : R u ≡ true → Calm p.node
-  pub told : list_all (λ e. (e.sender == u) && announces_in R e) p.told ≡ true
+  pub emitted : list_all (λ e. (e.sender == u) && announces_in R e) p.emitted ≡ true
 
 abbrev pub AllPlaces : Names → ℕ → Net → Type 0
 AllPlaces R i net = (u : ℕ) (p : Place) → node_where_open (places_at net.slots i) u ≡ Some p → IsPlace R u p
@@ -82,7 +82,7 @@ place-moved R u p e fit h = record {
   name = step-self p.node e ∙ h.name;
   good = λ i. good-step R p.node e (h.good i) (fit i);
   calm = λ i. calm-step p.node e (h.calm i);
-  told = all-append (λ x. (x.sender == u) && announces_in R x) p.told (emissions (step p.node e).1) h.told
+  emitted = all-append (λ x. (x.sender == u) && announces_in R x) p.emitted (emissions (step p.node e).1) h.emitted
       (step-emit (λ x. (x.sender == u) && announces_in R x) p.node e (λ slot s.
       and_from (p.node.name == u) (not (R p.node.name) || within (names (step p.node e).0.slices) R)
       (eq-eqb p.node.name u h.name)

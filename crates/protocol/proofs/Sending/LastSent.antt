@@ -20,7 +20,7 @@ use Rattle.protocol.specs.Rows.{is_kind}
 use Rattle.protocol.specs.Sameness.{same_sent}
 use Rattle.protocol.specs.States.{counter_of, sent_in, sent_vote, sent_nomination}
 use Rattle.protocol.specs.Nodes.{Node, fresh, change, after_change, node_and_outs, step, when, emission_between, externalization, outs, is_externalized}
-use Rattle.protocol.specs.Networks.{Host, Place, emission_of, emissions, after_event}
+use Rattle.protocol.specs.Networks.{HostedNode, Place, emission_of, emissions, after_event}
 use Rattle.protocol.specs.Hosts.{new_net}
 use Rattle.protocol.specs.LastSent.{last_of, sent_as, SendsItsLast, LastIsSent}
 use Rattle.protocol.proofs.Equality.Sameness.{same_sent-true}
@@ -181,24 +181,24 @@ step-sends old new g Kind.Ballot o h =
     ∙ own Kind.Ballot new o (sent_vote old.votes) (sent_vote new.votes) h
     (λ s e. ap (is_kind Kind.Ballot) (vote-kind new.votes s e)) (vote-stays old.votes new.votes g)
 
-last_of-more : (kind : Kind) (told : List Sent) (os : List Out)
-    → last_of kind (told ++ emissions os)
-    ≡ option_map (λ e. e.body) (after kind (last_or None (filter (λ e. is_kind kind (kind_of e.body)) told)) os)
-last_of-more kind told os =
+last_of-more : (kind : Kind) (emitted : List Sent) (os : List Out)
+    → last_of kind (emitted ++ emissions os)
+    ≡ option_map (λ e. e.body) (after kind (last_or None (filter (λ e. is_kind kind (kind_of e.body)) emitted)) os)
+last_of-more kind emitted os =
     ap (λ (es : List Sent). option_map (λ (e : Sent). e.body) (last_or None es))
-    (filter-append (λ e. is_kind kind (kind_of e.body)) told (emissions os))
+    (filter-append (λ e. is_kind kind (kind_of e.body)) emitted (emissions os))
     ∙ ap (λ (p : Option Sent). option_map (λ e. e.body) p)
-    (last-append None (filter (λ e. is_kind kind (kind_of e.body)) told)
+    (last-append None (filter (λ e. is_kind kind (kind_of e.body)) emitted)
     (filter (λ e. is_kind kind (kind_of e.body)) (emissions os)))
 
 after_event-sends : (e : NodeEvent) (p : Place) → SendsItsLast p → SendsItsLast (after_event e p)
 unfolding after_event step
 after_event-sends e p h kind =
-    last_of-more kind p.told (node_and_outs p.node (after_change (change p.node e))).1
+    last_of-more kind p.emitted (node_and_outs p.node (after_change (change p.node e))).1
     ∙ go (after_change (change p.node e)) (event-grows p.node e)
   where
     before : Option Sent
-    before = last_or None (filter (λ e. is_kind kind (kind_of e.body)) p.told)
+    before = last_or None (filter (λ e. is_kind kind (kind_of e.body)) p.emitted)
 
     go : (o : Option Node) → if_node (λ m. Grows p.node.votes m.votes) o
         → option_map (λ e. e.body) (after kind before (node_and_outs p.node o).1)
@@ -206,7 +206,7 @@ after_event-sends e p h kind =
     go None g = h kind
     go (Some m) g = step-sends p.node m g kind before (h kind)
 
-fresh-sends : (i : ℕ) (h : Host) → SendsItsLast (record { node = fresh i h.name h.slices; told = [] })
+fresh-sends : (i : ℕ) (h : HostedNode) → SendsItsLast (record { node = fresh i h.name h.slices; emitted = [] })
 unfolding fresh sent_nomination sent_vote
 fresh-sends i h Nomination = refl
 fresh-sends i h Kind.Ballot = refl

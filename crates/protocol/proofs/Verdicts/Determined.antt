@@ -4,7 +4,7 @@ use Rattle.std.proofs.Common.{◌≡◌, ℕ, ◌<◌, List, [], ◌∷◌, map,
 use Rattle.std.specs.List.{AllByRecursion, Contains}
 use Rattle.std.proofs.lemmas.Bool.{cases_order, true≢false}
 use Rattle.protocol.specs.Sets.{Names}
-use Rattle.protocol.specs.Networks.{Host, slices_of}
+use Rattle.protocol.specs.Networks.{HostedNode, slices_of}
 use Rattle.protocol.specs.Hosts.{Entry}
 use Rattle.protocol.specs.Isolation.{closure, kept_of, outs_of, SameCast}
 use Rattle.protocol.specs.Verdicts.{Verdict, IsFirstUnlike, IsFirstDifference, IsListOf, VerdictsAreUnique}
@@ -14,7 +14,7 @@ use Rattle.protocol.proofs.Verdicts.OneList.{nothing_in, one_list}
 use Rattle.protocol.proofs.Sets.Lists.{get_taken}
 
 -- ---- lists of members with their outs
-module _ (R : Names) (hosts : List Host) (i : ℕ) (run : List Entry) where
+module _ (R : Names) (hosts : List HostedNode) (i : ℕ) (run : List Entry) where
   abbrev IsMember : ℕ × List Out → Type 0
   IsMember p = (p.1 ≡ outs_of i p.0 run) × (IsTrue (R p.0) × IsTrue (is_some (slices_of hosts p.0)))
 
@@ -58,7 +58,7 @@ one_place one other p q a b = elim (cases_order p q) [
 ]
 
 -- ---- casts
-module _ (R : Names) (v : ℕ) (one other : List Host) where
+module _ (R : Names) (v : ℕ) (one other : List HostedNode) where
   pub one_unlike : (u w : ℕ) → IsFirstUnlike R v one other u → IsFirstUnlike R v one other w → u ≡ w
   one_unlike u w (inl a) (inl b) = a.1 ∙ sym b.1
   one_unlike u w (inl a) (inr b) = absurd (true≢false (sym b.0 ∙ a.0))

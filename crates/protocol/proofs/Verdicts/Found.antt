@@ -7,7 +7,7 @@ use Rattle.std.proofs.lemmas.List.Elements.{Contains-append_left, Contains-appen
 use Rattle.std.proofs.lemmas.List.Quantifiers.{all_pairs_push}
 use Rattle.protocol.specs.Sets.{Names, among, IsAscending}
 use Rattle.protocol.specs.Closures.{Rule, keeps}
-use Rattle.protocol.specs.Networks.{Host, slices_of}
+use Rattle.protocol.specs.Networks.{HostedNode, slices_of}
 use Rattle.protocol.specs.Hosts.{Entry}
 use Rattle.protocol.specs.Isolation.{host_rule, announcement_rules, closure, kept_of, outs_of, SameCast}
 use Rattle.protocol.specs.Verdicts.{Verdict, IsVerdict, IsFirstUnlike, IsFirstDifference, IsListOf, VerdictsExist}
@@ -23,14 +23,14 @@ use Rattle.protocol.proofs.Equality.FirstDifference.{first_difference}
 use Rattle.protocol.proofs.Equality.LeastNumber.{bound_of, among-below, least_among}
 
 -- ---- a closure has finitely many members
-abbrev rules_in : List Host → ℕ → List Entry → List Rule
+abbrev rules_in : List HostedNode → ℕ → List Entry → List Rule
 rules_in hosts i run = map host_rule hosts ++ flat_map (λ x. announcement_rules i x.event) run
 
 -- a number above all names of a closure
-pub closure-bound : List Host → ℕ → ℕ → List Entry → ℕ
+pub closure-bound : List HostedNode → ℕ → ℕ → List Entry → ℕ
 closure-bound hosts i v run = bound_of (v ∷ flat_map (λ r. r.gives) (rules_in hosts i run))
 
-pub closure-below : (hosts : List Host) (i v : ℕ) (run : List Entry) (u : ℕ) → closure hosts i v run u ≡ true
+pub closure-below : (hosts : List HostedNode) (i v : ℕ) (run : List Entry) (u : ℕ) → closure hosts i v run u ≡ true
     → u < closure-bound hosts i v run
 unfolding closure closure-bound
 closure-below hosts i v run u h =
@@ -56,7 +56,7 @@ unfolding is_no
 is_no-false (inl e) h = e
 is_no-false (inr n) h = absurd (true≢false h)
 
-module _ (R : Names) (v : ℕ) (one other : List Host) where
+module _ (R : Names) (v : ℕ) (one other : List HostedNode) where
   decide : (u : ℕ) → (slices_of one u ≡ slices_of other u) ⊎ (slices_of one u ≢ slices_of other u)
   decide u = decided_option decided_slices (slices_of one u) (slices_of other u)
 
@@ -146,7 +146,7 @@ module _ (test : Names) where
       go false h k = subst IsAscending (sym (append-nil (passing test n))) h
 
 -- ---- the verdict
-module _ (R : Names) (hosts : List Host) (i : ℕ) (runs others : List Entry) (bound : ℕ)
+module _ (R : Names) (hosts : List HostedNode) (i : ℕ) (runs others : List Entry) (bound : ℕ)
     (below : (u : ℕ) → R u ≡ true → u < bound)
     (same : (u : ℕ) → R u ≡ true → outs_of i u runs ≡ outs_of i u others) where
   hosted : Names

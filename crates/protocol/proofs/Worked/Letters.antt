@@ -5,7 +5,7 @@ use Rattle.types.specs.Statements.{Sent}
 use Rattle.types.specs.declared.ballot.Ballot.{Ballot}
 use Rattle.types.specs.declared.statement.Statement.{Statement}
 use Rattle.protocol.specs.Networks.Step.{Delivers}
-use Rattle.protocol.specs.Networks.{Step, Host, Budgets, Reply}
+use Rattle.protocol.specs.Networks.{Step, HostedNode, Budgets, Reply}
 use Rattle.protocol.specs.Networks.Reading.{Read}
 use Rattle.protocol.specs.Hosts.{Config, Entry, new_net, nets, journal, host_run}
 use Rattle.protocol.specs.Isolation.{closure}
@@ -72,10 +72,10 @@ by u slices s = record { sender = u; slot = 1; slices = slices; body = s }
 abbrev pub to_A : ℕ → Slices → Statement → Step
 to_A u slices s = Delivers A 104 (Read (by u slices s))
 
-abbrev pub one_net : List Host → Budgets → List Config
+abbrev pub one_net : List HostedNode → Budgets → List Config
 one_net hosts budgets = record { number = 1; hosts = hosts; budgets = budgets; roster = None } ∷ []
 
-abbrev pub host : ℕ → Slices → Host
+abbrev pub host : ℕ → Slices → HostedNode
 host u slices = record { name = u; slices = slices }
 
 -- a network that hosts A alone
@@ -83,7 +83,7 @@ abbrev pub net_of_A : Slices → List Config
 net_of_A slices = one_net (host A slices ∷ []) (record { events = 100; bytes = 100000; slots = 1 })
 
 -- the one host of such a network, and the journal of its steps
-abbrev pub hosts_A : List Host
+abbrev pub hosts_A : List HostedNode
 hosts_A = host A two_of_bcd ∷ []
 
 abbrev pub run_A : List Step → List Entry

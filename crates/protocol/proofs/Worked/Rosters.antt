@@ -7,7 +7,7 @@ use Rattle.types.specs.declared.event.Event.TheVariants.{OpenSlot, Deliver}
 use Rattle.types.specs.declared.event.Refusal.TheVariants.{NoSuchNode, SlotNotOpen, JournalFull, BytesFull, ShareFull, ShareBytesFull}
 use Rattle.protocol.specs.Sets.{among}
 use Rattle.protocol.specs.Rosters.{Shares}
-use Rattle.protocol.specs.Networks.{Reading, Step, Host}
+use Rattle.protocol.specs.Networks.{Reading, Step, HostedNode}
 use Rattle.protocol.specs.Networks.Reading.{Read, Fault}
 use Rattle.protocol.specs.Networks.Step.{Opens, Closes, NominationTimerFires, Reslices}
 use Rattle.protocol.specs.Networks.Reply.{Done, Refused}
@@ -118,7 +118,7 @@ with_roster names = of_A 1 names (shares 10 1000)
 abbrev few : List Config
 few = one_net (host A two_of_bcd ∷ []) (record { events = 100; bytes = 208; slots = 1 })
 
-abbrev hosts : List Host
+abbrev hosts : List HostedNode
 hosts = host A two_of_bcd ∷ []
 
 -- A's closure holds A, B, C and D, and strangers deliver to A without being in it

@@ -3,7 +3,7 @@
 ghost use Rattle.std.specs.Prelude.{◌≡◌, ◌<◌, ◌≤◌};
 
 use cells::{Cell, CellRefusal, CellUsers, Receipt, Seat};
-use configuration::{Budgets, Host, NetConfig};
+use configuration::{Budgets, HostedNode, NetConfig};
 use decisions::{Board, Watch};
 use envstore::{SharedHandle, Shelf, VecShelf};
 use hoststep::Journal;
@@ -48,7 +48,7 @@ pub(super) fn name() -> NodeId {
 fn config(alloc: Global, events: u64) -> Option<NetConfig> {
     let members = vec![in alloc; Member::Node(name())].ok()?;
     let slices = Nested::new(alloc, SliceSet::new(1, members)).ok()??;
-    let hosts = vec![in alloc; Host::new(name(), slices)].ok()?;
+    let hosts = vec![in alloc; HostedNode::new(name(), slices)].ok()?;
     NetConfig::new(alloc, 7, hosts, Budgets::new(events, 0, 4)?).ok()
 }
 

@@ -4,7 +4,7 @@ ghost use Rattle.std.specs.Prelude.{◌≡◌, ◌<◌, ◌≤◌, IfSome};
 ghost use Rattle.work.specs.Queues.{AllPasses, IsOf, parts_by};
 
 use cells::{Cell, Seat};
-use configuration::{Budgets, Host as HostedNode, NetConfig};
+use configuration::{Budgets, HostedNode, NetConfig};
 use envstore::{SharedHandle, Shelf, VecShelf};
 use hoststep::Journal;
 use std::alloc::Global;

@@ -1,6 +1,6 @@
 use Rattle.std.proofs.Common.{◌≡◌, ◌∙◌, sym, ap, rules, true, false}
 use Rattle.std.proofs.lemmas.List.Sorted.{answers_always}
-use Rattle.protocol.specs.Networks.{Host}
+use Rattle.protocol.specs.Networks.{HostedNode}
 use Rattle.configuration.specs.Configs.{names_of, rises}
 use Rattle.configuration.proofs.Sorted.{ascending, rises-once-sorted-by-name}
 use Rattle.configuration.proofs.config.in_order.Goals as goal
@@ -13,13 +13,13 @@ returns-then-is_ascending-clause-ascending c =
 pub returns-then-is_ascending-clause-exactly : goal.returns-then-is_ascending-clause-exactly
 returns-then-is_ascending-clause-exactly c =
     let hosts = c.sort_unstable_by_key.new.self.items in
-    let sorted = c.sort_unstable_by_key.ensures.sorted (λ (h : Host). h.name) (answers_always _ _ _ (λ f a r g h. search rules)) in
+    let sorted = c.sort_unstable_by_key.ensures.sorted (λ (h : HostedNode). h.name) (answers_always _ _ _ (λ f a r g h. search rules)) in
     let rise : true ≡ rises (names_of hosts) = sym c.if-is_ascending.true ∙ (c.is_ascending.ensures ∙ ap (λ hs. rises (names_of hs)) c.deref.ensures.value) in
     rise ∙ rises-once-sorted-by-name c.args.nodes.items hosts c.sort_unstable_by_key.ensures.permutation sorted
 
 pub returns-else-is_ascending-clause-exactly : goal.returns-else-is_ascending-clause-exactly
 returns-else-is_ascending-clause-exactly c =
     let hosts = c.sort_unstable_by_key.new.self.items in
-    let sorted = c.sort_unstable_by_key.ensures.sorted (λ (h : Host). h.name) (answers_always _ _ _ (λ f a r g h. search rules)) in
+    let sorted = c.sort_unstable_by_key.ensures.sorted (λ (h : HostedNode). h.name) (answers_always _ _ _ (λ f a r g h. search rules)) in
     let rise : false ≡ rises (names_of hosts) = sym c.if-is_ascending.false ∙ (c.is_ascending.ensures ∙ ap (λ hs. rises (names_of hs)) c.deref.ensures.value) in
     rise ∙ rises-once-sorted-by-name c.args.nodes.items hosts c.sort_unstable_by_key.ensures.permutation sorted

@@ -1,5 +1,5 @@
 use Rattle.std.proofs.Common.{◌∙◌, List, inl, refl, sym, ap}
-use Rattle.protocol.specs.Networks.{Host}
+use Rattle.protocol.specs.Networks.{HostedNode}
 use Rattle.protocol.specs.Hosts.{entries}
 use Rattle.protocol.specs.Isolation.{closure}
 use Rattle.network.specs.Decoding.{reading}
@@ -14,4 +14,4 @@ pub crowd_among-requires-clause-members : goal.crowd_among-requires-clause-membe
 crowd_among-requires-clause-members c = λ u.
     c.in_ok-members.ensures.exactly u
     ∙ (ap (λ (l : Log). closure l.config.hosts c.args.subject.now.slot c.args.subject.now.node l.entries u) c.in_ok-journal.ensures
-    ∙ ap (λ (hs : List Host). closure hs c.args.subject.now.slot c.args.subject.now.node (entries reading c.args.one.now c.args.subject.now.net) u) (hosts_are c.args.one.now.configs c.args.subject.now.net c.in-Some.config.now (sym c.in-Some.ensures)))
+    ∙ ap (λ (hs : List HostedNode). closure hs c.args.subject.now.slot c.args.subject.now.node (entries reading c.args.one.now c.args.subject.now.net) u) (hosts_are c.args.one.now.configs c.args.subject.now.net c.in-Some.config.now (sym c.in-Some.ensures)))

@@ -7,7 +7,7 @@ use Rattle.network.proofs.open_slot.fresh_places.Goals as goal
 pub loop-host-preserved : goal.loop-host-preserved
 loop-host-preserved c = record {
   places = nodes_of_new_slot-more c.loop-host.places.items c.push.new.self.items (nodes_of_new_slot c.args.hosts.now c.args.number) c.args.hosts.now c.loop-host.host-index c.args.number c.host-item.result c.new.result c.loop-host-test.true c.host-item.is c.in_ok-push.ensures.items
-      (c.new.ensures.place ∙ (λ j. record { node = fresh c.args.number (c.name.ensures j) ((c.in_ok-slices.ensures ∙ c.slices.ensures) j); told = [] })) c.loop-host.invariant.places;
-  lodged = λ archive. one-more archive c.loop-host.places.items c.push.new.self.items c.new.result c.in_ok-push.ensures.items (fresh-lodged archive c.new.result c.new.ensures.rows c.new.ensures.told) (c.loop-host.invariant.lodged archive);
+      (c.new.ensures.place ∙ (λ j. record { node = fresh c.args.number (c.name.ensures j) ((c.in_ok-slices.ensures ∙ c.slices.ensures) j); emitted = [] })) c.loop-host.invariant.places;
+  lodged = λ archive. one-more archive c.loop-host.places.items c.push.new.self.items c.new.result c.in_ok-push.ensures.items (fresh-lodged archive c.new.result c.new.ensures.rows c.new.ensures.emitted) (c.loop-host.invariant.lodged archive);
   counts = one-more-uncounted c.loop-host.places.items c.push.new.self.items c.new.result c.in_ok-push.ensures.items c.new.ensures.own c.new.ensures.heard c.loop-host.invariant.counts;
 }

@@ -4,7 +4,7 @@ use Rattle.std.proofs.Crossing.{crosses}
 use Rattle.std.proofs.Common.{rules}
 use Rattle.std.specs.Prelude.{string_bytes}
 use Rattle.std.proofs.lemmas.Result.{IfOk-at_ok}
-use Rattle.pooled.specs.Pooling.{AreTold}
+use Rattle.pooled.specs.Pooling.{AreJournalLines}
 use Rattle.pooled.proofs.Crossing.{part_send}
 use Rattle.pooled.proofs.TellingLaws.{told_both}
 use Rattle.pooled.proofs.pool.+telling.Goals as goal
@@ -19,6 +19,6 @@ join-first-requires-send-F g t c κs within =
 pub returns : goal.returns
 returns g t c =
     let parts = c.in_ok-low.ensures in
-    let low = IfOk-at_ok (λ told. AreTold c.in_ok-low.low (string_bytes told.decided) (string_bytes told.lengths)) c.in_ok-first.was c.join-first.ensures.first in
-    let high = IfOk-at_ok (λ told. AreTold c.in_ok-low.high (string_bytes told.decided) (string_bytes told.lengths)) c.in_ok-others.was c.join-first.ensures.second in
+    let low = IfOk-at_ok (λ told. AreJournalLines c.in_ok-low.low (string_bytes told.decided) (string_bytes told.lengths)) c.in_ok-first.was c.join-first.ensures.first in
+    let high = IfOk-at_ok (λ told. AreJournalLines c.in_ok-low.high (string_bytes told.decided) (string_bytes told.lengths)) c.in_ok-others.was c.join-first.ensures.second in
     told_both c.args.host c.in_ok-low.low c.in_ok-low.high _ _ _ _ _ _ _ parts.0 parts.1 low high c.in_ok-told.ensures.0 c.in_ok-told.ensures.1

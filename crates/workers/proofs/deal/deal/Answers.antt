@@ -1,5 +1,5 @@
 use Rattle.std.proofs.Common.{◌≡◌, ◌∷◌, [], List, arith, length, length-append, subst, sym, ap, refl, ◌∙◌, suc, vec_len}
-use Rattle.workers.specs.Benches.{AllBlank, AllFresh, AllHave, IsDealtAll, IsSplit}
+use Rattle.workers.specs.Spares.{AllBlank, AllFresh, AllHave, IsDealtAll, IsSplit}
 use Rattle.workers.specs.declared.deal.Room.{Room}
 use Rattle.workers.specs.declared.worker.Worker.{Worker}
 use Rattle.workers.proofs.Deals.{blank_front, dealt_all_snoc, dealt_have, dealt_len, fresh_snoc, have_less, one_left, split_more}
@@ -9,12 +9,12 @@ pub deal_one-requires-clause-seats : goal.deal_one-requires-clause-seats
 deal_one-requires-clause-seats g c =
     let i = c.loop-room.invariant in
     let b = ap (λ (x : List (Room _ _ _)). length x) c.in-Some.ensures.items ∙ length-append c.pop.new.self.items (c.in-Some.room ∷ []) in
-    have_less 1 (length c.loop-room.rooms.items) c.loop-room.benches.items (omega arith) i.7
+    have_less 1 (length c.loop-room.rooms.items) c.loop-room.spares.items (omega arith) i.7
 
 pub deal_one-requires-clause-room : goal.deal_one-requires-clause-room
 deal_one-requires-clause-room g c =
     let i = c.loop-room.invariant in
-    let m = length c.args.benches.now.items in
+    let m = length c.args.spares.now.items in
     let b = blank_front m c.pop.new.self.items c.in-Some.room (subst (AllBlank m) c.in-Some.ensures.items i.6) in
     let r = b.2 in
     let e = i.8 in
@@ -23,7 +23,7 @@ deal_one-requires-clause-room g c =
 pub loop-room-preserved : goal.loop-room-preserved
 loop-room-preserved g c =
     let i = c.loop-room.invariant in
-    let m = length c.args.benches.now.items in
+    let m = length c.args.spares.now.items in
     let w : (Worker _ _ _) = record { walks = c.deal_one.result; pass = c.pop-in-Some.result; applied = 0; refused = 0 } in
     let e = c.push_reserved.ensures in
     let was = c.loop-room.workers.items in
@@ -36,14 +36,14 @@ loop-room-preserved g c =
     let one = one_left c.pop-in-Some.result (vec_len c.pop-in-Some.new.self) (vec_len c.loop-room.passes) c.pop-in-Some.ensures.cases (omega arith) in
     let cap = e.capacity in
     let room = i.9 in (
-      subst (λ l. IsDealtAll c.args.benches.now.items l c.deal_one.new.benches.items) (sym e.items) (dealt_all_snoc c.args.benches.now.items was c.loop-room.benches.items w c.deal_one.new.benches.items i.0 c.deal_one.ensures),
+      subst (λ l. IsDealtAll c.args.spares.now.items l c.deal_one.new.spares.items) (sym e.items) (dealt_all_snoc c.args.spares.now.items was c.loop-room.spares.items w c.deal_one.new.spares.items i.0 c.deal_one.ensures),
       subst AllFresh (sym e.items) (fresh_snoc was w i.1 refl refl),
       omega arith,
       subst (λ l. IsSplit c.args.passes.now.items l c.pop-in-Some.new.self.items) (sym e.items) (split_more c.args.passes.now.items was w c.loop-room.passes.items c.pop-in-Some.new.self.items i.3 c.pop-in-Some.ensures.items),
       omega arith,
       c.pop-in-Some.ensures.capacity ∙ i.5,
       (blank_front m c.pop.new.self.items c.in-Some.room (subst (AllBlank m) c.in-Some.ensures.items i.6)).0,
-      dealt_have (length c.pop.new.self.items) c.loop-room.benches.items c.deal_one.result.items c.deal_one.new.benches.items c.deal_one.ensures (subst (λ k. AllHave k c.loop-room.benches.items) more i.7),
-      (dealt_len c.loop-room.benches.items c.deal_one.result.items c.deal_one.new.benches.items c.deal_one.ensures).0 ∙ i.8,
+      dealt_have (length c.pop.new.self.items) c.loop-room.spares.items c.deal_one.result.items c.deal_one.new.spares.items c.deal_one.ensures (subst (λ k. AllHave k c.loop-room.spares.items) more i.7),
+      (dealt_len c.loop-room.spares.items c.deal_one.result.items c.deal_one.new.spares.items c.deal_one.ensures).0 ∙ i.8,
       omega arith,
     )

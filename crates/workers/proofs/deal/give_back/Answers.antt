@@ -4,29 +4,29 @@ use Rattle.workers.proofs.Deals.{IsGivenFrom, given_from_all, given_from_at, giv
 use Rattle.workers.proofs.deal.give_back.Goals as goal
 
 pub loop-walk-init : goal.loop-walk-init
-loop-walk-init g c = given_from_all c.args.worker.walks.items c.args.benches.now.items c.requires.seats
+loop-walk-init g c = given_from_all c.args.worker.walks.items c.args.spares.now.items c.requires.seats
 
 pub index_mut-requires : goal.index_mut-requires
 index_mut-requires g c =
     let vs = c.pop.new.self.items in
-    let all = subst (λ (l : List (Walk _ _ _)). IsGivenFrom l c.args.worker.walks.items c.args.benches.now.items c.loop-walk.benches.items) c.in-Some.ensures.items c.loop-walk.invariant in
-    let lt = given_from_lt vs c.args.worker.walks.items c.args.benches.now.items c.loop-walk.benches.items c.in-Some.walk all in
+    let all = subst (λ (l : List (Walk _ _ _)). IsGivenFrom l c.args.worker.walks.items c.args.spares.now.items c.loop-walk.spares.items) c.in-Some.ensures.items c.loop-walk.invariant in
+    let lt = given_from_lt vs c.args.worker.walks.items c.args.spares.now.items c.loop-walk.spares.items c.in-Some.walk all in
     let ok = c.pop.new.self.ok.0 in
-    let ok' = c.loop-walk.benches.ok.0 in
+    let ok' = c.loop-walk.spares.ok.0 in
     let k = c.len.ensures in omega arith
 
 pub give_seat-requires : goal.give_seat-requires
 give_seat-requires g c =
     let vs = c.pop.new.self.items in
-    let all = subst (λ (l : List (Walk _ _ _)). IsGivenFrom l c.args.worker.walks.items c.args.benches.now.items c.loop-walk.benches.items) c.in-Some.ensures.items c.loop-walk.invariant in
+    let all = subst (λ (l : List (Walk _ _ _)). IsGivenFrom l c.args.worker.walks.items c.args.spares.now.items c.loop-walk.spares.items) c.in-Some.ensures.items c.loop-walk.invariant in
     let n : c.len.result ≡ length vs = let ok = c.pop.new.self.ok.0 in let k = c.len.ensures in omega arith in
-    given_from_at vs c.args.worker.walks.items c.args.benches.now.items c.loop-walk.benches.items c.in-Some.walk c.index_mut.result.now all (c.index_mut.ensures.value ∙ ap (λ k. get_or c.loop-walk.benches.items k c.index_mut.result.now) n) c.requires.room
+    given_from_at vs c.args.worker.walks.items c.args.spares.now.items c.loop-walk.spares.items c.in-Some.walk c.index_mut.result.now all (c.index_mut.ensures.value ∙ ap (λ k. get_or c.loop-walk.spares.items k c.index_mut.result.now) n) c.requires.room
 
 pub loop-walk-preserved : goal.loop-walk-preserved
 loop-walk-preserved g c =
     let vs = c.pop.new.self.items in
-    let ys = c.loop-walk.benches.items in
-    let all = subst (λ (l : List (Walk _ _ _)). IsGivenFrom l c.args.worker.walks.items c.args.benches.now.items ys) c.in-Some.ensures.items c.loop-walk.invariant in
+    let ys = c.loop-walk.spares.items in
+    let all = subst (λ (l : List (Walk _ _ _)). IsGivenFrom l c.args.worker.walks.items c.args.spares.now.items ys) c.in-Some.ensures.items c.loop-walk.invariant in
     let n : c.len.result ≡ length vs = let ok = c.pop.new.self.ok.0 in let k = c.len.ensures in omega arith in
-    subst (λ k. IsGivenFrom vs c.args.worker.walks.items c.args.benches.now.items (slice_set ys k c.give_seat.new.bench)) (sym n)
-    (given_from_less vs c.args.worker.walks.items c.args.benches.now.items ys c.in-Some.walk c.index_mut.result.now c.give_seat.new.bench all (c.index_mut.ensures.value ∙ ap (λ k. get_or ys k c.index_mut.result.now) n) c.give_seat.ensures)
+    subst (λ k. IsGivenFrom vs c.args.worker.walks.items c.args.spares.now.items (slice_set ys k c.give_seat.new.spare)) (sym n)
+    (given_from_less vs c.args.worker.walks.items c.args.spares.now.items ys c.in-Some.walk c.index_mut.result.now c.give_seat.new.spare all (c.index_mut.ensures.value ∙ ap (λ k. get_or ys k c.index_mut.result.now) n) c.give_seat.ensures)

@@ -1,6 +1,6 @@
 use Rattle.cells.proofs.Seats.{fresh_seats, seat_fresh, seats_more}
 use Rattle.std.proofs.Common.{ap, ◌∙◌, sym, subst, arith, ℕ, ◌≡◌, ◌+◌, suc, List, rules}
-use Rattle.cells.specs.Receipts.{Applied}
+use Rattle.cells.specs.Receipts.{AppliedEvent}
 use Rattle.cells.specs.Rule.{seat_of, one_more, opened}
 use Rattle.cells.specs.Sights.{sight_of}
 use Rattle.cells.specs.Sounds.{IsSeat}
@@ -10,7 +10,7 @@ use Rattle.cells.proofs.cell.Cell.open_watched.Goals as goal
 pub invariant_of-push_reserved : goal.invariant_of-push_reserved
 invariant_of-push_reserved g c =
     let s = seat_fresh c.sit-pass.result c.args.config c.args.users.seats c.loop-number.number c.sit-pass.ensures.queue.1.1 (c.sit-pass.ensures.views.1 ∙ ap seat_of c.loop-number.invariant.1) in
-    subst (λ (l : List Applied). IsSeat c.sit-pass.result c.loop-number.number l) (sym c.new-in-loop-number.ensures.items) s
+    subst (λ (l : List AppliedEvent). IsSeat c.sit-pass.result c.loop-number.number l) (sym c.new-in-loop-number.ensures.items) s
 
 pub loop-number-preserved : goal.loop-number-preserved
 loop-number-preserved g c =

@@ -5,7 +5,7 @@ use Rattle.cells.specs.Sights.{SeatSight}
 use Rattle.cells.proofs.cell.Cell.open_watched.Given as goal
 
 abbrev pub ghosts-put_first : goal.ghosts-put_first
-ghosts-put_first g a = record { next = opened a.desk.log.config a.desk.seats }
+ghosts-put_first g a = record { next = opened a.cell_state.log.config a.cell_state.seats }
 
 abbrev pub invariant-loop-number : goal.invariant-loop-number
 invariant-loop-number g l =

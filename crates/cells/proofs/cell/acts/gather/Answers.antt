@@ -24,10 +24,10 @@ loop-seat-preserved g c =
     let first = all_get_or _ old 0 c.index-seats-0.result c.requires.seats c.requires.some in
     let mine = all_get_or _ old n item c.requires.seats lt' in
     let here : item ≡ get_or old n item = at ∙ seam_read xs c.loop-seat.seats n item lt i.2 ∙ ap (λ (l : List SeatSight). get_or l n item) same in
-    let base : (view c.take-desk.new.pass).config ≡ c.args.config.now = ap (λ (v : Knowledge). v.config) c.take-desk.ensures.rule.now ∙ ap (λ (v : Knowledge). v.config) c.closer_from-keeper.ensures.pass.1 ∙ first.1 in
-    let config : item.me.config ≡ (view c.take-desk.new.pass).config = ap (λ (s : SeatSight). s.me.config) here ∙ mine.1 ∙ sym base in
-    let rest = one_more_seat (view c.take-desk.new.pass) (view c.loop-seat.keeper) (view c.end_seat.new.keeper) xs c.loop-seat.seats n item c.end_seat.new.seat lt i.2 at now i.1 e.told e.sound config i.3 in
-    ((e.queue.0 ∙ i.0.0, e.queue.2 ∙ i.0.1), keeps_shown (view c.take-desk.new.pass) (view c.loop-seat.keeper) (view c.end_seat.new.keeper) (note_of (get_or c.loop-seat.seats n item).me) i.1 e.keeper, rest.0, rest.1)
+    let base : (view c.take-cell_state.new.pass).config ≡ c.args.config.now = ap (λ (v : Knowledge). v.config) c.take-cell_state.ensures.rule.now ∙ ap (λ (v : Knowledge). v.config) c.closer_from-keeper.ensures.pass.1 ∙ first.1 in
+    let config : item.me.config ≡ (view c.take-cell_state.new.pass).config = ap (λ (s : SeatSight). s.me.config) here ∙ mine.1 ∙ sym base in
+    let rest = one_more_seat (view c.take-cell_state.new.pass) (view c.loop-seat.keeper) (view c.end_seat.new.keeper) xs c.loop-seat.seats n item c.end_seat.new.seat lt i.2 at now i.1 e.told e.sound config i.3 in
+    ((e.queue.0 ∙ i.0.0, e.queue.2 ∙ i.0.1), keeps_shown (view c.take-cell_state.new.pass) (view c.loop-seat.keeper) (view c.end_seat.new.keeper) (note_of (get_or c.loop-seat.seats n item).me) i.1 e.keeper, rest.0, rest.1)
 
 pub returns-clause-gathered : goal.returns-clause-gathered
 returns-clause-gathered g c =
@@ -36,7 +36,7 @@ returns-clause-gathered g c =
     let first = all_get_or _ c.args.seats.now 0 c.index-seats-0.result c.requires.seats c.requires.some in
     let xs : List SeatSight = set c.args.seats.now 0 c.closer_from-keeper.new.seat in
     let all : length xs ≤ c.loop-seat.seat-index = let t = c.loop-seat-test.false in let a = c.loop-seat.auto.seats in omega arith in
-    gathered c.args.config.now c.args.count c.take-desk.result (view c.closer_from-keeper.result) (view c.take-desk.new.pass) xs c.loop-seat.seats c.loop-seat.seat-index c.take-desk.ensures.rule
+    gathered c.args.config.now c.args.count c.take-cell_state.result (view c.closer_from-keeper.result) (view c.take-cell_state.new.pass) xs c.loop-seat.seats c.loop-seat.seat-index c.take-cell_state.ensures.rule
     (ap (λ (v : Knowledge). v.config) closer ∙ first.1) (ap (λ (v : Knowledge). v.seats) closer ∙ first.2) i.2 all i.3
 
 pub end_seat-requires-clause-seat : goal.end_seat-requires-clause-seat

@@ -1,5 +1,5 @@
 use Rattle.std.proofs.Common.{subst, sym}
-use Rattle.closure.specs.Turns.{Linked, IsIndex, IsLinkedTo, receiver_at, sender_at}
+use Rattle.closure.specs.Turns.{PartyIndex, IsIndex, IsIndexedTo, receiver_at, sender_at}
 use Rattle.closure.proofs.Indexing.{index_none, index_more}
 use Rattle.closure.proofs.deliveries.Deliveries.of.Goals as goal
 
@@ -7,8 +7,8 @@ pub loop-number-init : goal.loop-number-init
 loop-number-init g c =
     let run = g.J.Announcements.entries c.args.journal.now in
     record {
-      sent = subst (λ (d : Linked). IsIndex (sender_at c.args.slot) run 0 d) (sym c.new-deliveries.ensures.sent) (index_none (sender_at c.args.slot) run);
-      heard = subst (λ (d : Linked). IsIndex (receiver_at c.args.slot) run 0 d) (sym c.new-deliveries.ensures.heard) (index_none (receiver_at c.args.slot) run);
+      sent = subst (λ (d : PartyIndex). IsIndex (sender_at c.args.slot) run 0 d) (sym c.new-deliveries.ensures.sent) (index_none (sender_at c.args.slot) run);
+      heard = subst (λ (d : PartyIndex). IsIndex (receiver_at c.args.slot) run 0 d) (sym c.new-deliveries.ensures.heard) (index_none (receiver_at c.args.slot) run);
     }
 
 pub loop-number-preserved : goal.loop-number-preserved
@@ -17,7 +17,7 @@ loop-number-preserved g c =
     let was = c.loop-number.invariant in
     record {
       sent = index_more (sender_at c.args.slot) run c.loop-number.number c.loop-number.deliveries.sent c.push.new.self.sent was.sent
-          (subst (λ o. IsLinkedTo c.loop-number.deliveries.sent c.push.new.self.sent o) c.parties_at-sender.ensures.sender c.in_ok-push.ensures.sent);
+          (subst (λ o. IsIndexedTo c.loop-number.deliveries.sent c.push.new.self.sent o) c.parties_at-sender.ensures.sender c.in_ok-push.ensures.sent);
       heard = index_more (receiver_at c.args.slot) run c.loop-number.number c.loop-number.deliveries.heard c.push.new.self.heard was.heard
-          (subst (λ o. IsLinkedTo c.loop-number.deliveries.heard c.push.new.self.heard o) c.parties_at-sender.ensures.receiver c.in_ok-push.ensures.heard);
+          (subst (λ o. IsIndexedTo c.loop-number.deliveries.heard c.push.new.self.heard o) c.parties_at-sender.ensures.receiver c.in_ok-push.ensures.heard);
     }

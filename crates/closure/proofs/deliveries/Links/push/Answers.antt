@@ -2,15 +2,15 @@ use Rattle.std.proofs.Common.{◌≡◌, ◌∙◌, ap, ℕ, List, Option, cond,
 use Rattle.std.specs.Map.{lookup}
 use Rattle.types.specs.contracts.node_id.NodeIdPartialEq.TheImpl.{ghosts as equal}
 use Rattle.closure.specs.declared.deliveries.Links.TheInside.{Inside}
-use Rattle.closure.specs.Turns.{Linked}
+use Rattle.closure.specs.Turns.{PartyIndex}
 use Rattle.closure.proofs.NameLookups.{linked_none, linked_some}
 use Rattle.closure.proofs.deliveries.Links.push.Goals as goal
 use Rattle.closure.proofs.deliveries.Links.push.Goals.{in-None, in-Some+in_ok-before-in-Some}
 
 pub returns : goal.returns
 returns c =
-    let latest_was : c.self.inside.latest.entries ≡ c.args.self.now.latest = ap (λ (d : Linked). d.latest) c.self.view_is in
-    let earlier_was : c.self.inside.earlier.items ≡ c.args.self.now.earlier = ap (λ (d : Linked). d.earlier) c.self.view_is in
+    let latest_was : c.self.inside.latest.entries ≡ c.args.self.now.latest = ap (λ (d : PartyIndex). d.latest) c.self.view_is in
+    let earlier_was : c.self.inside.earlier.items ≡ c.args.self.now.earlier = ap (λ (d : PartyIndex). d.earlier) c.self.view_is in
     elim c.match-party.branch [
       | in-None w ↦ linked_none c.args.self.now _ c.args.party c.match-party.before w.in-None.is w.before-is
           (ap (λ (x : Inside). x.latest.entries) w.self-inside-is ∙ latest_was)

@@ -1,5 +1,5 @@
 use Rattle.std.proofs.Common.{◌≤◌, ◌∷◌, sym, subst, suc, length, ℕ, List, [], arith}
-use Rattle.closure.specs.Announcing.{Listed, names_of}
+use Rattle.closure.specs.Announcing.{MemberList, names_of}
 use Rattle.closure.specs.Turns.{IsReady}
 use Rattle.closure.proofs.ClosureSteps.{all_given, is_closure}
 use Rattle.closure.proofs.Growing.{IsSwept, swept_at_first, swept_again, swept_whole, members_bound}
@@ -10,8 +10,8 @@ pub loop-known-init : goal.loop-known-init
 loop-known-init g c =
     let hosts = g.J.Announcements.hosts c.args.self.now.journal.now in
     let run = g.J.Announcements.entries c.args.self.now.journal.now in (
-      subst (λ (list : Listed). IsSwept hosts c.args.self.now.slot c.args.node.now run list 0) (sym c.in_ok-members.ensures) (swept_at_first hosts c.args.self.now.slot c.args.node.now run),
-      subst (λ (list : Listed). IsReady hosts c.args.self.now.slot run (names_of list) c.new-ready.result) (sym c.in_ok-members.ensures)
+      subst (λ (list : MemberList). IsSwept hosts c.args.self.now.slot c.args.node.now run list 0) (sym c.in_ok-members.ensures) (swept_at_first hosts c.args.self.now.slot c.args.node.now run),
+      subst (λ (list : MemberList). IsReady hosts c.args.self.now.slot run (names_of list) c.new-ready.result) (sym c.in_ok-members.ensures)
           (subst (λ (r : List (List ℕ)). IsReady hosts c.args.self.now.slot run (names_of ((c.args.node.now, 0) ∷ [])) r) (sym c.new-ready.ensures) (ready_at_first hosts c.args.self.now.slot run c.args.node.now)),
     )
 

@@ -1,6 +1,6 @@
 use Rattle.std.proofs.Common.{◌≡◌, ◌∙◌, ◌+◌, ap, sym, subst, ℕ, List, Some, None, refl, length, arith}
 use Rattle.std.proofs.lemmas.Option.{slice_get_read}
-use Rattle.closure.specs.Announcing.{Listed, names_of}
+use Rattle.closure.specs.Announcing.{MemberList, names_of}
 use Rattle.closure.specs.Turns.{IsGiven, AreCovered, NamesAreMembers}
 use Rattle.closure.proofs.Growing.{IsJoining, joining_begins, joining_goes_on, turn_settles, all_held, one_name}
 use Rattle.closure.proofs.Waking.{kept_begins, kept_goes_on, kept_ends}
@@ -24,7 +24,7 @@ loop-name-preserved g c =
     let run = g.J.Announcements.entries c.args.self.now.journal.now in
     let given_is : c.deref-name-items.result.now ≡ c.in_ok-given.given.items = c.deref-name-items.ensures.value in
     let sound = subst (λ (xs : List ℕ). IsGiven hosts c.args.self.now.slot run (names_of c.args.members.now) c.in-Some.node xs) (sym given_is) c.in_ok-given.ensures.given in (
-      subst (λ (xs : Listed). IsJoining hosts c.args.self.now.slot run c.deref-name-items.result.now c.args.members.now xs (c.loop-name.name-index + 1)) (sym c.in_ok-join.ensures.members)
+      subst (λ (xs : MemberList). IsJoining hosts c.args.self.now.slot run c.deref-name-items.result.now c.args.members.now xs (c.loop-name.name-index + 1)) (sym c.in_ok-join.ensures.members)
           (joining_goes_on hosts c.args.self.now.slot run c.deref-name-items.result.now c.args.members.now c.loop-name.members c.args.place c.in-Some.node c.loop-name.name-index c.name-item.result
           c.loop-name.invariant.0 (sym c.in-Some.ensures) sound
           (slice_get_read c.deref-name-items.result.now (length c.deref-name-items.result.now) c.loop-name.name-index c.name-item.result refl c.loop-name-test.true c.name-item.is)),

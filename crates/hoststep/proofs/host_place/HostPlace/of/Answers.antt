@@ -1,5 +1,5 @@
 use Rattle.std.proofs.Common.{ℕ, true, false, ◌≡◌, ◌≤◌, is_some, Some, List, length, subst, sym, ap, ◌∙◌, arith}
-use Rattle.protocol.specs.Networks.{Host}
+use Rattle.protocol.specs.Networks.{HostedNode}
 use Rattle.hoststep.proofs.Configured.{missing, named, within}
 use Rattle.hoststep.proofs.host_place.HostPlace.of.Goals as goal
 
@@ -11,7 +11,7 @@ unreachable-requires c =
 pub overflow_cast-result : goal.overflow_cast-result
 overflow_cast-result c =
     let inside = within c.args.config.now.hosts c.args.node.now c.in-Some.place (sym c.place.ensures ∙ c.in-Some.is) in
-    let few = subst (λ (hosts : List Host). length hosts ≤ 256) c.hosts-hosts.ensures.value c.hosts-hosts.ensures.few_hosts in
+    let few = subst (λ (hosts : List HostedNode). length hosts ≤ 256) c.hosts-hosts.ensures.value c.hosts-hosts.ensures.few_hosts in
     omega (arith, inside, few)
 
 pub returns-clause-there : goal.returns-clause-there

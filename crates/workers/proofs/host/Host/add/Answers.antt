@@ -7,13 +7,13 @@ use Rattle.workers.proofs.host.Host.add.Goals as goal
 
 pub put_at-requires-clause-place : goal.put_at-requires-clause-place
 put_at-requires-clause-place g c =
-    let f = c.self.inside.floor in
+    let f = c.self.inside.host_state in
     place_fits f c.reserve.new.self c.number-number.result c.in-Err.place c.self.invariant c.reserve.ensures.same
     (found_place f.shared.numbers.items c.deref.result.now _ c.number-number.result c.in-Err.place _ c.self.invariant.numbered.1 c.deref.ensures.value refl c.in-Err.is c.binary_search.ensures.position)
 
 pub invariant_of-self-in-Err : goal.invariant_of-self-in-Err
 invariant_of-self-in-Err g c =
-    let f = c.self.inside.floor in
+    let f = c.self.inside.host_state in
     let number = c.number-number.ensures ∙ ap (λ (k : Config). k.number) c.config.ensures in
     let p = found_place f.shared.numbers.items c.deref.result.now c.args.cell.config.number c.number-number.result c.in-Err.place _ c.self.invariant.numbered.1 c.deref.ensures.value number c.in-Err.is c.binary_search.ensures.position in
     let few : length f.shared.numbers.items < 4096 = omega (arith, c.if-len-ge-MAX_NETWORKS.false, c.len.ensures, f.shared.numbers.ok) in
@@ -21,7 +21,7 @@ invariant_of-self-in-Err g c =
 
 pub returns-else-not-reserve-clause-ok : goal.returns-else-not-reserve-clause-ok
 returns-else-not-reserve-clause-ok g c =
-    let f = c.self.inside.floor in
+    let f = c.self.inside.host_state in
     let number = c.number-number.ensures ∙ ap (λ (k : Config). k.number) c.config.ensures in
     let p = found_place f.shared.numbers.items c.deref.result.now c.args.cell.config.number c.number-number.result c.in-Err.place _ c.self.invariant.numbered.1 c.deref.ensures.value number c.in-Err.is c.binary_search.ensures.position in
     let few : length f.shared.numbers.items < 4096 = omega (arith, c.if-len-ge-MAX_NETWORKS.false, c.len.ensures, f.shared.numbers.ok) in
@@ -30,7 +30,7 @@ returns-else-not-reserve-clause-ok g c =
 
 pub returns-else-not-reserve-clause-fresh : goal.returns-else-not-reserve-clause-fresh
 returns-else-not-reserve-clause-fresh g c =
-    let f = c.self.inside.floor in
+    let f = c.self.inside.host_state in
     let number = c.number-number.ensures ∙ ap (λ (k : Config). k.number) c.config.ensures in
     let p = found_place f.shared.numbers.items c.deref.result.now c.args.cell.config.number c.number-number.result c.in-Err.place _ c.self.invariant.numbered.1 c.deref.ensures.value number c.in-Err.is c.binary_search.ensures.position in
     let few : length f.shared.numbers.items < 4096 = omega (arith, c.if-len-ge-MAX_NETWORKS.false, c.len.ensures, f.shared.numbers.ok) in

@@ -5,5 +5,5 @@ use Rattle.workers.proofs.host.Host.len.Goals as goal
 
 pub returns : goal.returns
 returns g c =
-    let f = c.self.inside.floor in
-    c.len.ensures ∙ f.shared.cells.ok.0 ∙ sym (nets_len f.shared.cells.items f.benches.items c.self.invariant.hosted) ∙ ap (λ (ns : List Net). length ns) c.self.view_is
+    let f = c.self.inside.host_state in
+    c.len.ensures ∙ f.shared.cells.ok.0 ∙ sym (nets_len f.shared.cells.items f.spares.items c.self.invariant.hosted) ∙ ap (λ (ns : List Net). length ns) c.self.view_is

@@ -1,0 +1,281 @@
+//! What a hosted node has emitted.
+
+ghost use Rattle.std.specs.Prelude.{◌≡◌, ◌≤◌, ◌<◌, ◌+◌, ◌++◌, ◌∷◌, [], IfOk, IfSome, List, OnErr, OnOk, ℕ, if◌then◌else◌, length, option_map, slice_get};
+ghost use Rattle.std.specs.Vec.{vec_capacity, vec_len};
+ghost use Rattle.envstore.specs.Archives.{AreFiled, IsFiled, Keeps, sent_of, sents_of};
+ghost use Rattle.types.specs.Statements.{Sent, kind_of};
+ghost use Rattle.types.specs.declared.kind.Kind.TheVariants.{Nomination, Ballot};
+ghost use Rattle.protocol.specs.Networks.{emissions};
+ghost use Rattle.protocol.specs.Nodes.{step};
+ghost use Rattle.protocol.specs.Rows.{is_kind};
+ghost use Rattle.network.specs.Marks.{numbered};
+ghost use Rattle.slot.specs.Filings.{AreFiledOuts, IsFiledEvent, IsFiledOut, event_of, outs_of};
+ghost use Rattle.network.specs.Lodgings.{HaveRoom, IsGiven};
+ghost use Rattle.network.specs.EmissionsByKind.{AreByKind, nth_of, places_of_kind};
+
+use envstore::{Archive, Filed, Shelf};
+use slot::{FiledEvent, FiledOut, Node};
+use std::alloc::{AllocError, Global};
+use std::marker::Model;
+use std::mem;
+use types::{Kind, Out};
+
+/// The most emissions of one event.
+const MOST_EMISSIONS: usize = 2;
+
+/// What an applied event gave out, filed, by which numbers its emissions are named, and as many whole copies
+/// of what it gave out as were asked for.
+#[derive(Drop)]
+pub(crate) struct NumberedOuts {
+    pub outs: Vec<FiledOut>,
+    pub marks: Vec<u64>,
+    pub copies: Vec<Vec<Out>>,
+}
+
+/// What a hosted node has emitted since its slot was opened, in order, with the places of each kind: so the
+/// emission of a kind with a number is found at once, however many there are. Room for the numbers of the next
+/// event's emissions is kept where the last event had none, as most have.
+///
+/// For example, where a nomination, a ballot and again a nomination were emitted, the places of nominations are 0 and
+/// 2, and that of ballots is 1.
+#[derive(Drop)]
+pub(crate) struct EmissionLog {
+    emitted: Vec<Filed>,
+    places: PlacesByKind,
+    room: Vec<u64>,
+}
+
+/// Where among what a node has emitted its nominations stand, and where its ballots.
+#[derive(Drop)]
+pub(crate) struct PlacesByKind {
+    pub nominations: Vec<usize>,
+    pub ballots: Vec<usize>,
+}
+
+impl Model for EmissionLog {
+    ghost use Rattle.std.specs.Prelude.{List};
+    ghost use Rattle.std.specs.Coded.{codes};
+    ghost use Rattle.types.specs.Trees.{members_code};
+    ghost use Rattle.envstore.specs.Archives.{sents_of};
+    ghost use Rattle.envstore.specs.declared.filed.Filed.{Filed};
+    ghost use Rattle.network.specs.EmissionsByKind.{AreByKind};
+
+    ghost Value = { List Filed };
+
+    ghost coded = { Prim.hlevel (codes, members_code) };
+
+    ghost view = { λ t. t.emitted.items };
+
+    ghost invariant = { λ t. AreByKind t.places (sents_of t.emitted.items) };
+}
+
+impl EmissionLog {
+    /// Nothing is emitted yet. It takes no memory.
+    pub(crate) fn nothing(alloc: Global) -> EmissionLog
+        ensures { result ≡ [] }
+    {
+        EmissionLog {
+            emitted: Vec::new(alloc),
+            places: PlacesByKind {
+                nominations: Vec::new(alloc),
+                ballots: Vec::new(alloc),
+            },
+            room: Vec::new(alloc),
+        }
+    }
+
+    /// The emission of a kind with this number, from 1 on.
+    pub(crate) fn emission(&self, kind: Kind, number: u64) -> Option<&Filed>
+        ensures sent { option_map (λ f. sent_of f.now) result ≡ nth_of kind number (sents_of self.now) }
+        ensures filed { (archive : List Sent) → AreFiled archive self.now → IfSome result (λ f. IsFiled archive f.now) }
+    {
+        if number == 0 {
+            return None;
+        }
+        match self.place(kind, (number - 1) as usize) {
+            None => None,
+            Some(place) => filed_at(&self.emitted, place),
+        }
+    }
+
+    /// The place of the emission of a kind with this number, from 0 on.
+    fn place(&self, kind: Kind, number: usize) -> Option<usize>
+        ensures { result ≡ slice_get (places_of_kind kind (sents_of self.now)) number }
+    {
+        match kind {
+            Kind::Nomination => place_at(&self.places.nominations, number),
+            Kind::Ballot => place_at(&self.places.ballots, number),
+        }
+    }
+
+    /// One event of the node whose emissions these are: what it emits is kept. Room for that is made before
+    /// the event, of which few emissions come, so that nothing grows after it. An error says that memory is
+    /// short; then nothing happened but that the archive may have more.
+    pub(crate) fn advance<S: Shelf>(
+        &mut self,
+        archive: &mut Archive<S>,
+        node: &mut Node,
+        event: FiledEvent,
+        copies: usize,
+    ) -> Result<NumberedOuts, AllocError>
+        requires emitted { AreFiled archive.old self.old }
+        requires rows { AreFiled archive.old node.old.rows }
+        requires event { IsFiledEvent archive.old event }
+        ensures node { OnOk result (node.new.node ≡ (step node.old.node (event_of event)).0) }
+        ensures emitted { OnOk result (sents_of self.new ≡ sents_of self.old ++ emissions (step node.old.node (event_of event)).1) }
+        ensures applied { IfOk result (IsGiven (step node.old.node (event_of event)).1 (numbered (sents_of self.old) (emissions (step node.old.node (event_of event)).1)) copies) }
+        ensures node_err { OnErr result (node.new ≡ node.old) }
+        ensures told_err { OnErr result (self.new ≡ self.old) }
+        ensures rows { AreFiled archive.new node.new.rows }
+        ensures filed_told { AreFiled archive.new self.new }
+        ensures filed { IfOk result (λ a. AreFiledOuts archive.new a.outs.items) }
+        ensures kept { Keeps archive.old archive.new }
+    {
+        let alloc = *self.room.allocator();
+        let mut marks = mem::replace(&mut self.room, Vec::new(alloc));
+        marks.clear();
+        marks.reserve(MOST_EMISSIONS)?;
+        self.emitted.reserve(MOST_EMISSIONS)?;
+        self.places.nominations.reserve(MOST_EMISSIONS)?;
+        self.places.ballots.reserve(MOST_EMISSIONS)?;
+        let given_out = node.advance(alloc, archive, event, copies)?;
+        log_outs(
+            archive,
+            &given_out.outs,
+            &mut self.emitted,
+            &mut self.places,
+            &mut marks,
+        );
+        Ok(NumberedOuts {
+            outs: given_out.outs,
+            marks: given_or_kept(alloc, marks, &mut self.room),
+            copies: given_out.copies,
+        })
+    }
+}
+
+/// The numbers, where there are any; the room of none is kept.
+fn given_or_kept(alloc: Global, marks: Vec<u64>, room: &mut Vec<u64>) -> Vec<u64>
+    ensures { result.items ≡ marks.items }
+{
+    if marks.is_empty() {
+        *room = marks;
+        Vec::new(alloc)
+    } else {
+        marks
+    }
+}
+
+/// Keeps what is emitted among these outs, where there is room for it.
+#[tactic(auto, unfolding(crate::specs::Marks::numbered))]
+fn log_outs<S: Shelf>(
+    archive: &Archive<S>,
+    outs: &[FiledOut],
+    emitted: &mut Vec<Filed>,
+    places: &mut PlacesByKind,
+    marks: &mut Vec<u64>,
+)
+    requires outs { AreFiledOuts archive.now outs.now }
+    requires emitted { AreFiled archive.now emitted.old.items }
+    requires places { AreByKind places.old (sents_of emitted.old.items) }
+    requires room { HaveRoom (length (emissions (outs_of outs.now))) emitted.old places.old marks.old }
+    ensures emitted { sents_of emitted.new.items ≡ sents_of emitted.old.items ++ emissions (outs_of outs.now) }
+    ensures places { AreByKind places.new (sents_of emitted.new.items) }
+    ensures marks { marks.new.items ≡ marks.old.items ++ numbered (sents_of emitted.old.items) (emissions (outs_of outs.now)) }
+    ensures filed { AreFiled archive.now emitted.new.items }
+{
+    for out in outs {
+        log_out(archive, out, emitted, places, marks);
+    }
+}
+
+/// Keeps what is emitted where this out is an emission, and there is room for it.
+#[tactic(auto, unfolding(crate::specs::Marks::numbered))]
+fn log_out<S: Shelf>(
+    archive: &Archive<S>,
+    out: &FiledOut,
+    emitted: &mut Vec<Filed>,
+    places: &mut PlacesByKind,
+    marks: &mut Vec<u64>,
+)
+    requires out { IsFiledOut archive.now out.now }
+    requires emitted { AreFiled archive.now emitted.old.items }
+    requires places { AreByKind places.old (sents_of emitted.old.items) }
+    requires room { HaveRoom (length (emissions (outs_of (out.now ∷ [])))) emitted.old places.old marks.old }
+    ensures emitted { sents_of emitted.new.items ≡ sents_of emitted.old.items ++ emissions (outs_of (out.now ∷ [])) }
+    ensures places { AreByKind places.new (sents_of emitted.new.items) }
+    ensures marks { marks.new.items ≡ marks.old.items ++ numbered (sents_of emitted.old.items) (emissions (outs_of (out.now ∷ []))) }
+    ensures room { (count : ℕ) → HaveRoom (length (emissions (outs_of (out.now ∷ []))) + count) emitted.old places.old marks.old → HaveRoom count emitted.new places.new marks.new }
+    ensures filed { AreFiled archive.now emitted.new.items }
+{
+    match out {
+        FiledOut::Emit(filed) => log_emission(archive, filed, emitted, places, marks),
+        FiledOut::ArmNomination(_) | FiledOut::ArmBallot(_) | FiledOut::Externalized(_) => {}
+    }
+}
+
+/// Keeps one emission, where there is room for it.
+fn log_emission<S: Shelf>(
+    archive: &Archive<S>,
+    filed: &Filed,
+    emitted: &mut Vec<Filed>,
+    places: &mut PlacesByKind,
+    marks: &mut Vec<u64>,
+)
+    requires filed { IsFiled archive.now filed.now }
+    requires emitted { AreFiled archive.now emitted.old.items }
+    requires places { AreByKind places.old (sents_of emitted.old.items) }
+    requires room { HaveRoom 1 emitted.old places.old marks.old }
+    ensures emitted { emitted.new.items ≡ emitted.old.items ++ filed.now ∷ [] }
+    ensures places { AreByKind places.new (sents_of emitted.new.items) }
+    ensures marks { marks.new.items ≡ marks.old.items ++ numbered (sents_of emitted.old.items) (sent_of filed.now ∷ []) }
+    ensures room { (count : ℕ) → HaveRoom (1 + count) emitted.old places.old marks.old → HaveRoom count emitted.new places.new marks.new }
+    ensures filed { AreFiled archive.now emitted.new.items }
+{
+    let kind = archive.read(filed).body().kind();
+    let place = emitted.len();
+    let mark = note(places, kind, place);
+    emitted.push_reserved(archive.copy_of(filed));
+    marks.push_reserved(mark);
+}
+
+/// Notes the place of an emission of this kind, and counts those of its kind.
+fn note(places: &mut PlacesByKind, kind: Kind, place: usize) -> u64
+    requires nominations { vec_len places.old.nominations < vec_capacity places.old.nominations }
+    requires ballots { vec_len places.old.ballots < vec_capacity places.old.ballots }
+    ensures nominations { places.new.nominations.items ≡ places.old.nominations.items ++ (if is_kind Nomination kind then place ∷ [] else []) }
+    ensures ballots { places.new.ballots.items ≡ places.old.ballots.items ++ (if is_kind Ballot kind then place ∷ [] else []) }
+    ensures count { result ≡ (if is_kind Nomination kind then length places.old.nominations.items else length places.old.ballots.items) + 1 }
+    ensures nomination_len { vec_len places.new.nominations ≤ vec_len places.old.nominations + 1 }
+    ensures ballot_len { vec_len places.new.ballots ≤ vec_len places.old.ballots + 1 }
+    ensures nomination_room { vec_capacity places.old.nominations ≤ vec_capacity places.new.nominations }
+    ensures ballot_room { vec_capacity places.old.ballots ≤ vec_capacity places.new.ballots }
+{
+    match kind {
+        Kind::Nomination => {
+            places.nominations.push_reserved(place);
+            places.nominations.len() as u64
+        }
+        Kind::Ballot => {
+            places.ballots.push_reserved(place);
+            places.ballots.len() as u64
+        }
+    }
+}
+
+/// The place that stands there.
+fn place_at(places: &[usize], number: usize) -> Option<usize>
+    ensures { result ≡ slice_get places.now number }
+{
+    match places.get(number) {
+        None => None,
+        Some(place) => Some(*place),
+    }
+}
+
+/// What was filed there.
+fn filed_at(emitted: &[Filed], place: usize) -> Option<&Filed>
+    ensures { option_map (λ f. f.now) result ≡ slice_get emitted.now place }
+{
+    emitted.get(place)
+}

@@ -1,0 +1,103 @@
+//! The cells of a host, and the seats at them.
+
+ghost use Rattle.std.specs.Prelude.{◌≡◌, ◌<◌, ◌≤◌, ◌∷◌, IfOk, length, insert, IsTrue, vec_len, vec_capacity};
+ghost use Rattle.workers.specs.HostStates.{AreParts, HasRoom, IsPut, IsRemoved, IsSameHostState};
+
+use crate::deal::SpareSeats;
+use crate::shared::Shared;
+use cells::{Cell, Seat};
+use envstore::Shelf;
+use std::alloc::AllocError;
+use std::sync::Wait;
+
+/// What workers share, and the seats that they do not have now, in the order of the cells.
+#[derive(Drop)]
+pub(crate) struct HostState<S: Shelf, H: Wait + Drop> {
+    pub shared: Shared<S, H>,
+    pub spares: Vec<SpareSeats<S, H>>,
+}
+
+impl<S: Shelf + Drop, H: Wait + Drop> HostState<S, H> {
+    /// Makes room for one network more. `false` says that memory is short.
+    pub(crate) fn reserve(&mut self) -> bool
+        ensures same { IsSameHostState self.old self.new }
+        ensures room { IsTrue result → HasRoom self.new }
+    {
+        if self.shared.numbers.reserve(1).is_err() {
+            return false;
+        }
+        if self.shared.cells.reserve(1).is_err() {
+            return false;
+        }
+        self.spares.reserve(1).is_ok()
+    }
+
+    /// A network joins at a place, where there is room.
+    pub(crate) fn put_at(&mut self, place: usize, cell: Cell<S, H>, seats: Vec<Seat<S, H>>)
+        requires place { (place ≤ length self.old.shared.numbers.items) × (place ≤ length self.old.shared.cells.items) × (place ≤ length self.old.spares.items) }
+        requires room { HasRoom self.old }
+        ensures { IsPut self.old place cell seats.items self.new }
+    {
+        let number = cell.config().number();
+        let Ok(()) = self.shared.numbers.insert(place, number) else {
+            unreachable!()
+        };
+        let Ok(()) = self.shared.cells.insert(place, cell) else {
+            unreachable!()
+        };
+        let Ok(()) = self.spares.insert(place, SpareSeats { seats }) else {
+            unreachable!()
+        };
+    }
+
+    /// The last network leaves.
+    pub(crate) fn remove_last(&mut self) -> (Cell<S, H>, Vec<Seat<S, H>>)
+        requires { (0 < length self.old.shared.numbers.items) × (0 < length self.old.shared.cells.items) × (0 < length self.old.spares.items) }
+        ensures { IsRemoved self.old result.0 result.1.items self.new }
+    {
+        let Some(_number) = self.shared.numbers.pop() else {
+            unreachable!()
+        };
+        let Some(cell) = self.shared.cells.pop() else {
+            unreachable!()
+        };
+        let Some(spare) = self.spares.pop() else {
+            unreachable!()
+        };
+        let SpareSeats { seats } = spare;
+        (cell, seats)
+    }
+    /// The first so many networks, with the queue, and the others. An error says that memory is short.
+    pub(crate) fn split_at(
+        self,
+        count: usize,
+    ) -> Result<(HostState<S, H>, HostState<S, H>), AllocError>
+        requires { (count ≤ length self.shared.numbers.items) × (count ≤ length self.shared.cells.items) × (count ≤ length self.spares.items) }
+        ensures { IfOk result (λ r. AreParts self count r.0 r.1) }
+    {
+        let HostState { shared, mut spares } = self;
+        let Shared {
+            mut numbers,
+            mut cells,
+            queue,
+        } = shared;
+        let others = Shared {
+            numbers: numbers.split_off(count)?,
+            cells: cells.split_off(count)?,
+            queue: None,
+        };
+        let behind = spares.split_off(count)?;
+        let shared = Shared {
+            numbers,
+            cells,
+            queue,
+        };
+        Ok((
+            HostState { shared, spares },
+            HostState {
+                shared: others,
+                spares: behind,
+            },
+        ))
+    }
+}
