@@ -4,18 +4,22 @@
 
 ghost use Rattle.std.specs.Prelude.{◌≡◌, ◌∷◌, [], IfOk, OnOk, Some};
 ghost use Rattle.ballot.specs.Intervals.{moved_to};
+ghost use Rattle.ballot.specs.Stages.{has_come_to};
 ghost use Rattle.drafts.specs.Drafted.{after};
 ghost use Rattle.protocol.specs.Candidates.{commits, greatest, lowest};
-ghost use Rattle.protocol.specs.Balloting.{accept_commit, accepted_from, commit_confirmed, confirm_commit, confirmed_commit, enter_commit, externalize, first_committed, next_committed, widen_commit};
+ghost use Rattle.protocol.specs.Balloting.{accept_commit, confirm_commit, confirmed_commit, enter_commit, externalize, first_committed, next_committed, widen_commit};
 ghost use Rattle.protocol.specs.Passes.{on_ballot};
+ghost use Rattle.protocol.specs.States.{position};
+ghost use Rattle.fedvote.specs.declared.claim.Claim.TheVariants.{Commit};
 
-use crate::intervals::{AcceptedUpTo, CommitConfirmed, ConfirmedUpTo, EntersCommit, WidensCommit};
+use crate::checks::Stage;
+use crate::intervals::{CommitConfirmed, CommitUpTo, EntersCommit, WidensCommit};
 use crate::lowest::lowest_of;
-use crate::named::Committed;
+use crate::mentioned_ballots::MentionedBallots;
 use crate::positions::own_position;
 use crate::search::greatest_of;
 use drafts::Draft;
-use fedvote::Sight;
+use fedvote::{Mention, Sight};
 use std::alloc::{AllocError, Global};
 use types::{Ballot, Phase, Votes};
 
@@ -49,13 +53,13 @@ fn first_committed<S: Sight>(
     ensures { IfOk result (λ t. t ≡ first_committed (S.seen sight.now) votes.now) }
 {
     let own = own_position(votes)?;
-    let candidates = Committed { sight, own: &own };
+    let candidates = MentionedBallots { sight, own: &own };
     let test = EntersCommit {
         sight,
         own: &own,
         votes,
     };
-    greatest_of(alloc, &candidates, &test)
+    greatest_of(alloc, Mention::Committed, &candidates, &test)
 }
 
 /// The greatest counter of the ballot's value above the interval that is accepted as committed.
@@ -69,39 +73,41 @@ fn next_committed<S: Sight>(
     ensures { IfOk result (λ t. t ≡ next_committed (S.seen sight.now) ballot.now votes.now) }
 {
     let own = own_position(votes)?;
-    let candidates = Committed { sight, own: &own };
+    let candidates = MentionedBallots { sight, own: &own };
     let test = WidensCommit {
         sight,
         own: &own,
         value: &ballot.value,
         high: votes.high,
     };
-    greatest_of(alloc, &candidates, &test)
+    greatest_of(alloc, Mention::Committed, &candidates, &test)
 }
 
-/// The least commit counter of the value from which on the interval up to this ballot's counter is accepted.
-#[tactic(auto, unfolding(protocol::specs::Balloting::accepted_from, protocol::specs::Candidates::commits))]
-fn accepted_from<S: Sight>(
+/// The least commit counter of the value from which on the interval up to this ballot's counter has come to this stage.
+#[tactic(auto, unfolding(protocol::specs::Candidates::commits))]
+fn interval_from<S: Sight>(
     alloc: Global,
+    stage: Stage,
     sight: &S,
     votes: &Votes,
     end: &Ballot,
 ) -> Result<u32, AllocError>
-    ensures { IfOk result (λ n. n ≡ accepted_from (S.seen sight.now) votes.now end.now) }
+    ensures { IfOk result (λ n. n ≡ lowest (λ low. has_come_to stage (S.seen sight.now) (position votes.now) (Commit end.now.value low end.now.counter)) end.now.value end.now.counter (commits (S.seen sight.now) votes.now)) }
 {
     let own = own_position(votes)?;
-    let candidates = Committed { sight, own: &own };
-    let test = AcceptedUpTo {
+    let candidates = MentionedBallots { sight, own: &own };
+    let test = CommitUpTo {
+        stage,
         sight,
         own: &own,
         high: end.counter,
     };
-    lowest_of(alloc, &candidates, &test, end)
+    lowest_of(alloc, Mention::Committed, &candidates, &test, end)
 }
 
 /// The phase becomes [`types::Phase::Committing`], with the interval up to the first counter, where there is
 /// one, and nothing stays below that.
-#[tactic(auto, unfolding(protocol::specs::Balloting::enter_commit))]
+#[tactic(auto, unfolding(protocol::specs::Balloting::enter_commit, protocol::specs::Balloting::accepted_from))]
 fn enter_commit<S: Sight>(alloc: Global, sight: &S, draft: &mut Draft<'_>) -> Result<(), AllocError>
     ensures { OnOk result (draft.new ≡ after (on_ballot (λ b w. enter_commit (S.seen sight.now) b w (first_committed (S.seen sight.now) w))) draft.old) }
 {
@@ -111,7 +117,7 @@ fn enter_commit<S: Sight>(alloc: Global, sight: &S, draft: &mut Draft<'_>) -> Re
     let Some(first) = first_committed(alloc, sight, draft.votes())? else {
         return Ok(());
     };
-    let low = accepted_from(alloc, sight, draft.votes(), &first)?;
+    let low = interval_from(alloc, Stage::Accepted, sight, draft.votes(), &first)?;
     move_interval(draft, &first, low)?;
     let confirmed_prepared = greater(&draft.votes().confirmed_prepared, &first)?;
     draft.set_confirmed_prepared(confirmed_prepared)?;
@@ -120,7 +126,7 @@ fn enter_commit<S: Sight>(alloc: Global, sight: &S, draft: &mut Draft<'_>) -> Re
 
 /// The interval goes up to the next counter, where there is one, with the ballot's counter and the highest
 /// accepted ballot.
-#[tactic(auto, unfolding(protocol::specs::Balloting::widen_commit))]
+#[tactic(auto, unfolding(protocol::specs::Balloting::widen_commit, protocol::specs::Balloting::accepted_from))]
 fn widen_commit<S: Sight>(alloc: Global, sight: &S, draft: &mut Draft<'_>) -> Result<(), AllocError>
     ensures { OnOk result (draft.new ≡ after (on_ballot (λ b w. widen_commit (S.seen sight.now) b w (next_committed (S.seen sight.now) b w))) draft.old) }
 {
@@ -131,7 +137,7 @@ fn widen_commit<S: Sight>(alloc: Global, sight: &S, draft: &mut Draft<'_>) -> Re
     let Some(next) = next_committed(alloc, sight, ballot, votes)? else {
         return Ok(());
     };
-    let low = accepted_from(alloc, sight, votes, &next)?;
+    let low = interval_from(alloc, Stage::Accepted, sight, votes, &next)?;
     move_interval(draft, &next, low)
 }
 
@@ -194,13 +200,13 @@ fn confirmed_commit<S: Sight>(
     ensures { IfOk result (λ t. t ≡ confirmed_commit (S.seen sight.now) ballot.now votes.now) }
 {
     let own = own_position(votes)?;
-    let candidates = Committed { sight, own: &own };
+    let candidates = MentionedBallots { sight, own: &own };
     let test = CommitConfirmed {
         sight,
         own: &own,
         value: &ballot.value,
     };
-    greatest_of(alloc, &candidates, &test)
+    greatest_of(alloc, Mention::Committed, &candidates, &test)
 }
 
 /// The phase becomes [`types::Phase::Externalized`], with the confirmed interval up to the last counter,
@@ -216,27 +222,7 @@ fn externalize<S: Sight>(alloc: Global, sight: &S, draft: &mut Draft<'_>) -> Res
     let Some(last) = confirmed_commit(alloc, sight, ballot, votes)? else {
         return Ok(());
     };
-    let low = confirmed_from(alloc, sight, votes, &last)?;
+    let low = interval_from(alloc, Stage::Confirmed, sight, votes, &last)?;
     draft.set_phase(Phase::Externalized)?;
     draft.set_interval(low, last.counter)
-}
-
-/// The least commit counter of the value from which on the interval up to this ballot's counter is confirmed.
-#[tactic(auto, unfolding(protocol::specs::Candidates::commits))]
-fn confirmed_from<S: Sight>(
-    alloc: Global,
-    sight: &S,
-    votes: &Votes,
-    end: &Ballot,
-) -> Result<u32, AllocError>
-    ensures { IfOk result (λ n. n ≡ lowest (λ low. commit_confirmed (S.seen sight.now) votes.now end.now.value low end.now.counter) end.now.value end.now.counter (commits (S.seen sight.now) votes.now)) }
-{
-    let own = own_position(votes)?;
-    let candidates = Committed { sight, own: &own };
-    let test = ConfirmedUpTo {
-        sight,
-        own: &own,
-        high: end.counter,
-    };
-    lowest_of(alloc, &candidates, &test, end)
 }

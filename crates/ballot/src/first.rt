@@ -7,13 +7,13 @@ ghost use Rattle.drafts.specs.Drafted.{after};
 ghost use Rattle.protocol.specs.Candidates.{combine, greatest, named};
 ghost use Rattle.protocol.specs.Balloting.{is_accepted, start, with_first_ballot};
 
-use crate::checks::PrepareAccepted;
+use crate::checks::{PrepareAt, Stage};
 use crate::counters::combine;
-use crate::named::Named;
+use crate::mentioned_ballots::MentionedBallots;
 use crate::positions::own_position;
 use crate::search::greatest_of;
 use drafts::Draft;
-use fedvote::Sight;
+use fedvote::{Mention, Sight};
 use std::alloc::{AllocError, Global};
 use types::{Ballot, Votes};
 
@@ -60,7 +60,11 @@ fn greatest_with_prepare_accepted<S: Sight>(
     ensures { IfOk result (λ o. o ≡ greatest None (filter (is_accepted (S.seen sight.now) votes.now) (named (S.seen sight.now) votes.now))) }
 {
     let own = own_position(votes)?;
-    let named = Named { sight, own: &own };
-    let check = PrepareAccepted { sight, own: &own };
-    greatest_of(alloc, &named, &check)
+    let candidates = MentionedBallots { sight, own: &own };
+    let check = PrepareAt {
+        stage: Stage::Accepted,
+        sight,
+        own: &own,
+    };
+    greatest_of(alloc, Mention::Named, &candidates, &check)
 }

@@ -4,45 +4,17 @@
 
 ghost use Rattle.std.specs.Prelude.{◌≡◌, ◌&&◌, IfOk, nat_lt, not};
 ghost use Rattle.types.specs.Votes.{same_value};
-ghost use Rattle.fedvote.specs.declared.claim.Claim.TheVariants.{Commit};
-ghost use Rattle.protocol.specs.Balloting.{interval_accepted, interval_confirmed, is_aborted, prepare_confirmed};
+ghost use Rattle.fedvote.specs.declared.claim.Claim.TheVariants.{Commit, Prepare};
+ghost use Rattle.protocol.specs.Balloting.{is_aborted};
+ghost use Rattle.ballot.specs.Stages.{has_come_to};
+ghost use Rattle.ballot.specs.declared.checks.Stage.TheVariants.{Accepted, Confirmed};
 
-use crate::checks::is_prepare_confirmed;
+use crate::checks::{Stage, has_come_to};
 use crate::prepared::is_aborted;
 use crate::search::Check;
-use fedvote::{Claim, Sight, is_accepted, is_confirmed};
+use fedvote::{Claim, Sight};
 use std::alloc::{AllocError, Global};
 use types::{LentBallot, Statement, Value, Votes};
-
-/// Whether a node in this position accepts commit of the ballot's value on the whole interval from its
-/// counter to the high end, both included.
-fn is_interval_accepted<S: Sight>(
-    alloc: Global,
-    sight: &S,
-    own: &Option<Statement>,
-    low: &LentBallot,
-    high: u32,
-) -> Result<bool, AllocError>
-    ensures { IfOk result (λ b. b ≡ interval_accepted (S.seen sight.now) own.now low.now.value low.now.counter high) }
-{
-    let claim = commit_up_to(low, high)?;
-    is_accepted(alloc, sight, own, &claim)
-}
-
-/// Whether a node in this position confirms commit of the ballot's value on the whole interval from its
-/// counter to the high end, both included.
-fn is_interval_confirmed<S: Sight>(
-    alloc: Global,
-    sight: &S,
-    own: &Option<Statement>,
-    low: &LentBallot,
-    high: u32,
-) -> Result<bool, AllocError>
-    ensures { IfOk result (λ b. b ≡ interval_confirmed (S.seen sight.now) own.now low.now.value low.now.counter high) }
-{
-    let claim = commit_up_to(low, high)?;
-    is_confirmed(alloc, sight, own, &claim)
-}
 
 /// The claim of commit of the ballot's value on the whole interval from its counter to the high end, both included.
 fn commit_up_to(low: &LentBallot, high: u32) -> Result<Claim, AllocError>
@@ -55,35 +27,21 @@ fn commit_up_to(low: &LentBallot, high: u32) -> Result<Claim, AllocError>
     })
 }
 
-/// Whether commit of the candidate's value is accepted from its counter up to the high end.
+/// Whether commit of the candidate's value has come to this stage from its counter up to the high end.
 #[derive(Drop)]
-pub(crate) struct AcceptedUpTo<'a, S> {
+pub(crate) struct CommitUpTo<'a, S> {
+    pub stage: Stage,
     pub sight: &'a S,
     pub own: &'a Option<Statement>,
     pub high: u32,
 }
 
-impl<'a, S: Sight> Check for AcceptedUpTo<'a, S> {
-    ghost holds = { λ s t. interval_accepted (S.seen s.sight.now) s.own.now t.value t.counter s.high };
+impl<'a, S: Sight> Check for CommitUpTo<'a, S> {
+    ghost holds = { λ s t. has_come_to s.stage (S.seen s.sight.now) s.own.now (Commit t.value t.counter s.high) };
 
     fn check(&self, alloc: Global, candidate: &LentBallot) -> Result<bool, AllocError> {
-        is_interval_accepted(alloc, self.sight, self.own, candidate, self.high)
-    }
-}
-
-/// Whether commit of the candidate's value is confirmed from its counter up to the high end.
-#[derive(Drop)]
-pub(crate) struct ConfirmedUpTo<'a, S> {
-    pub sight: &'a S,
-    pub own: &'a Option<Statement>,
-    pub high: u32,
-}
-
-impl<'a, S: Sight> Check for ConfirmedUpTo<'a, S> {
-    ghost holds = { λ s t. interval_confirmed (S.seen s.sight.now) s.own.now t.value t.counter s.high };
-
-    fn check(&self, alloc: Global, candidate: &LentBallot) -> Result<bool, AllocError> {
-        is_interval_confirmed(alloc, self.sight, self.own, candidate, self.high)
+        let commit = commit_up_to(candidate, self.high)?;
+        has_come_to(alloc, self.stage, self.sight, self.own, commit)
     }
 }
 
@@ -97,17 +55,18 @@ pub(crate) struct EntersCommit<'a, S> {
 }
 
 impl<'a, S: Sight> Check for EntersCommit<'a, S> {
-    ghost holds = { λ s t. interval_accepted (S.seen s.sight.now) s.own.now t.value t.counter t.counter && prepare_confirmed (S.seen s.sight.now) s.own.now t && not (is_aborted s.votes.now t) };
+    ghost holds = { λ s t. has_come_to Accepted (S.seen s.sight.now) s.own.now (Commit t.value t.counter t.counter) && has_come_to Confirmed (S.seen s.sight.now) s.own.now (Prepare t) && not (is_aborted s.votes.now t) };
 
     fn check(&self, alloc: Global, candidate: &LentBallot) -> Result<bool, AllocError> {
         if is_aborted(self.votes, candidate) {
             return Ok(false);
         }
-        let end = candidate.counter();
-        Ok(
-            is_interval_accepted(alloc, self.sight, self.own, candidate, end)?
-                && is_prepare_confirmed(alloc, self.sight, self.own, candidate)?,
-        )
+        let commit = commit_up_to(candidate, candidate.counter())?;
+        if !has_come_to(alloc, Stage::Accepted, self.sight, self.own, commit)? {
+            return Ok(false);
+        }
+        let prepare = Claim::Prepare(candidate.try_copy()?);
+        has_come_to(alloc, Stage::Confirmed, self.sight, self.own, prepare)
     }
 }
 
@@ -122,12 +81,13 @@ pub(crate) struct WidensCommit<'a, S> {
 }
 
 impl<'a, S: Sight> Check for WidensCommit<'a, S> {
-    ghost holds = { λ s t. same_value t.value s.value.now && nat_lt s.high t.counter && interval_accepted (S.seen s.sight.now) s.own.now t.value t.counter t.counter };
+    ghost holds = { λ s t. same_value t.value s.value.now && nat_lt s.high t.counter && has_come_to Accepted (S.seen s.sight.now) s.own.now (Commit t.value t.counter t.counter) };
 
     fn check(&self, alloc: Global, candidate: &LentBallot) -> Result<bool, AllocError> {
         let end = candidate.counter();
         if *candidate.value() == *self.value && self.high < end {
-            is_interval_accepted(alloc, self.sight, self.own, candidate, end)
+            let commit = commit_up_to(candidate, end)?;
+            has_come_to(alloc, Stage::Accepted, self.sight, self.own, commit)
         } else {
             Ok(false)
         }
@@ -143,12 +103,12 @@ pub(crate) struct CommitConfirmed<'a, S> {
 }
 
 impl<'a, S: Sight> Check for CommitConfirmed<'a, S> {
-    ghost holds = { λ s t. same_value t.value s.value.now && interval_confirmed (S.seen s.sight.now) s.own.now t.value t.counter t.counter };
+    ghost holds = { λ s t. same_value t.value s.value.now && has_come_to Confirmed (S.seen s.sight.now) s.own.now (Commit t.value t.counter t.counter) };
 
     fn check(&self, alloc: Global, candidate: &LentBallot) -> Result<bool, AllocError> {
-        let end = candidate.counter();
         if *candidate.value() == *self.value {
-            is_interval_confirmed(alloc, self.sight, self.own, candidate, end)
+            let commit = commit_up_to(candidate, candidate.counter())?;
+            has_come_to(alloc, Stage::Confirmed, self.sight, self.own, commit)
         } else {
             Ok(false)
         }

@@ -11,7 +11,7 @@ mod counters;
 mod first;
 mod intervals;
 mod lowest;
-mod named;
+mod mentioned_ballots;
 mod positions;
 mod prepared;
 mod search;

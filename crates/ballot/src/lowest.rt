@@ -5,6 +5,7 @@ ghost use Rattle.protocol.specs.States.{ballot_at};
 ghost use Rattle.protocol.specs.Candidates.{lowest};
 
 use crate::search::{Candidates, Check};
+use fedvote::Mention;
 use std::alloc::{AllocError, Global};
 use types::{Ballot, LentBallot};
 
@@ -13,15 +14,16 @@ use types::{Ballot, LentBallot};
 /// memory is short.
 pub(crate) fn lowest_of<'a, C: Candidates, T: Check>(
     alloc: Global,
+    mention: Mention,
     candidates: &'a C,
     test: &T,
     end: &'a Ballot,
 ) -> Result<u32, AllocError>
-    ensures { IfOk result (λ n. n ≡ lowest (λ k. T.holds test.now (ballot_at k end.now.value)) end.now.value end.now.counter (C.listed candidates.now)) }
+    ensures { IfOk result (λ n. n ≡ lowest (λ k. T.holds test.now (ballot_at k end.now.value)) end.now.value end.now.counter (C.listed candidates.now mention)) }
 {
     let mut least = end.counter;
     let mut bound = LentBallot::of(end);
-    while let Some(next) = candidates.next(&Some(bound.reborrow())) {
+    while let Some(next) = candidates.next(mention, &Some(bound.reborrow())) {
         if *next.value() == end.value && test.check(alloc, &next)? {
             least = next.counter();
         }

@@ -11,12 +11,12 @@ ghost use Rattle.protocol.specs.States.{Under, below};
 ghost use Rattle.protocol.specs.Balloting.{aborted_by, accept_prepared, chosen, cleared, confirm_prepared, follow_confirmed_prepared, is_aborted, is_accepted, is_confirmed, is_overtaken, may_be_prepared, raise_confirmed_prepared, set_commit};
 ghost use Rattle.protocol.specs.Passes.{in_prepare, on_ballot};
 
-use crate::checks::{MayBePrepared, PrepareAccepted, PrepareConfirmed};
-use crate::named::Named;
+use crate::checks::{MayBePrepared, PrepareAt, Stage};
+use crate::mentioned_ballots::MentionedBallots;
 use crate::positions::{high_counter, own_position};
 use crate::search::greatest_above;
 use drafts::Draft;
-use fedvote::Sight;
+use fedvote::{Mention, Sight};
 use std::alloc::{AllocError, Global};
 use types::{Ballot, LentBallot, Phase, Votes};
 
@@ -54,13 +54,17 @@ fn higher_prepared<'a, S: Sight>(
     ensures { IfOk result (λ o. option_or o votes.now.prepared ≡ greatest votes.now.prepared (filter (λ t. may_be_prepared votes.now.phase ballot.now.value t && is_accepted (S.seen sight.now) votes.now t) (named (S.seen sight.now) votes.now))) }
 {
     let own = own_position(votes)?;
-    let named = Named { sight, own: &own };
+    let candidates = MentionedBallots { sight, own: &own };
     let check = MayBePrepared {
-        accepted: PrepareAccepted { sight, own: &own },
+        prepare: PrepareAt {
+            stage: Stage::Accepted,
+            sight,
+            own: &own,
+        },
         phase: votes.phase,
         value: &ballot.value,
     };
-    greatest_above(alloc, &named, &check, &votes.prepared)
+    greatest_above(alloc, Mention::Named, &candidates, &check, &votes.prepared)
 }
 
 /// The aborted counter once the highest accepted ballot is the second of these: where its value is
@@ -153,9 +157,19 @@ fn higher_confirmed<'a, S: Sight>(
     ensures { IfOk result (λ o. option_or o votes.now.confirmed_prepared ≡ greatest votes.now.confirmed_prepared (filter (is_confirmed (S.seen sight.now) votes.now) (named (S.seen sight.now) votes.now))) }
 {
     let own = own_position(votes)?;
-    let named = Named { sight, own: &own };
-    let check = PrepareConfirmed { sight, own: &own };
-    greatest_above(alloc, &named, &check, &votes.confirmed_prepared)
+    let candidates = MentionedBallots { sight, own: &own };
+    let check = PrepareAt {
+        stage: Stage::Confirmed,
+        sight,
+        own: &own,
+    };
+    greatest_above(
+        alloc,
+        Mention::Named,
+        &candidates,
+        &check,
+        &votes.confirmed_prepared,
+    )
 }
 
 /// The ballot becomes the highest confirmed one where that is above it.

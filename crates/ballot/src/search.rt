@@ -7,18 +7,21 @@ ghost use Rattle.std.specs.Prelude.{◌≡◌, Bool, IfOk, List, None, filter};
 ghost use Rattle.types.specs.declared.ballot.Ballot.{Ballot};
 ghost use Rattle.protocol.specs.States.{above};
 ghost use Rattle.protocol.specs.Candidates.{greatest};
+ghost use Rattle.fedvote.specs.declared.candidates.Mention.{Mention};
 ghost use Rattle.fedvote.specs.Searching.{next_under};
 
+use fedvote::Mention;
 use std::alloc::{AllocError, Global};
 use types::{Ballot, LentBallot};
 
-/// Ballots among which a rule chooses; `listed` is what contracts speak of, in no order.
+/// Ballots among which a rule chooses, by how statements speak of them; `listed` is what contracts speak of, in no
+/// order.
 pub(crate) trait Candidates {
-    ghost listed: { Self → List Ballot };
+    ghost listed: { Self → Mention → List Ballot };
 
     /// The greatest candidate below the bound, where there is one. It takes no memory.
-    fn next<'b>(&'b self, bound: &Option<LentBallot>) -> Option<LentBallot<'b>>
-        ensures { result ≡ next_under bound.now (listed self.now) };
+    fn next<'b>(&'b self, mention: Mention, bound: &Option<LentBallot>) -> Option<LentBallot<'b>>
+        ensures { result ≡ next_under bound.now (listed self.now mention) };
 }
 
 /// A test of candidates; `holds` is what contracts speak of.
@@ -34,27 +37,29 @@ pub(crate) trait Check {
 #[tactic(auto, using(crate::proofs::SearchLaws::found_alone))]
 pub(crate) fn greatest_of<C: Candidates, T: Check>(
     alloc: Global,
+    mention: Mention,
     candidates: &C,
     test: &T,
 ) -> Result<Option<Ballot>, AllocError>
-    ensures { IfOk result (λ r. r ≡ greatest None (filter (T.holds test.now) (C.listed candidates.now))) }
+    ensures { IfOk result (λ r. r ≡ greatest None (filter (T.holds test.now) (C.listed candidates.now mention))) }
 {
-    greatest_above(alloc, candidates, test, &None)
+    greatest_above(alloc, mention, candidates, test, &None)
 }
 
 /// The greatest of the candidates that pass and are above the ballot that is there, if one is; `None` where there
 /// is no such candidate. None is tried that is not above that ballot, nor any below the first that passes.
 pub(crate) fn greatest_above<C: Candidates, T: Check>(
     alloc: Global,
+    mention: Mention,
     candidates: &C,
     test: &T,
     there: &Option<Ballot>,
 ) -> Result<Option<Ballot>, AllocError>
-    ensures { IfOk result (λ r. option_or r there.now ≡ greatest there.now (filter (T.holds test.now) (C.listed candidates.now))) }
+    ensures { IfOk result (λ r. option_or r there.now ≡ greatest there.now (filter (T.holds test.now) (C.listed candidates.now mention))) }
 {
     let mut bound = None;
     loop {
-        let Some(next) = candidates.next(&bound) else {
+        let Some(next) = candidates.next(mention, &bound) else {
             return Ok(None);
         };
         if !is_above(there, &next) {

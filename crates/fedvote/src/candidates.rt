@@ -1,16 +1,41 @@
-//! The ballots that one statement adds to a search.
+//! How a statement speaks of ballots, and what it adds to a search among them.
 
 ghost use Rattle.std.specs.Prelude.{◌≡◌, ◌∷◌, []};
 ghost use Rattle.protocol.specs.Candidates.{committed_by, greatest, has_positive_counter, named_by};
 ghost use Rattle.protocol.specs.States.{ballot_at};
+ghost use Rattle.fedvote.specs.Mentions.{mentioned_by};
 ghost use Rattle.fedvote.specs.Searching.{bettered, is_under};
 
 use types::{Ballot, LentBallot, Statement};
 
-/// The greatest of the best ballot so far and of those that the statement names, below the bound and
-/// with a counter from 1 on (after the Stellar Consensus Protocol draft). It takes no memory.
+/// A way in which a statement speaks of a ballot (after the Stellar Consensus Protocol draft).
+#[derive(Clone, Copy)]
+pub enum Mention {
+    /// It names the ballot.
+    Named,
+    /// It speaks of commit at the ballot's counter.
+    Committed,
+}
+
+/// The greatest of the best ballot so far and of those of which the statement speaks in this way, below the
+/// bound and with a counter from 1 on (after the Stellar Consensus Protocol draft). It takes no memory.
+pub fn better_mentioned<'a>(
+    mention: Mention,
+    best: Option<LentBallot<'a>>,
+    bound: &Option<LentBallot>,
+    statement: &'a Statement,
+) -> Option<LentBallot<'a>>
+    ensures { result ≡ bettered best.entry bound.now (mentioned_by mention statement.now) }
+{
+    match mention {
+        Mention::Named => better_named(best, bound, statement),
+        Mention::Committed => better_committed(best, bound, statement),
+    }
+}
+
+/// The same of the ballots that the statement names.
 #[tactic(auto, using(crate::proofs::Bettering::bettered_then, crate::proofs::Bettering::bettered_none))]
-pub fn better_named<'a>(
+fn better_named<'a>(
     best: Option<LentBallot<'a>>,
     bound: &Option<LentBallot>,
     statement: &'a Statement,
@@ -46,11 +71,9 @@ pub fn better_named<'a>(
     }
 }
 
-/// The greatest of the best ballot so far and of those at the counters at which the statement speaks of
-/// commit, below the bound and with a counter from 1 on (after the Stellar Consensus Protocol draft). It
-/// takes no memory.
+/// The same of the ballots at the counters at which the statement speaks of commit.
 #[tactic(auto, using(crate::proofs::Bettering::bettered_then, crate::proofs::Bettering::bettered_none))]
-pub fn better_committed<'a>(
+fn better_committed<'a>(
     best: Option<LentBallot<'a>>,
     bound: &Option<LentBallot>,
     statement: &'a Statement,
@@ -64,8 +87,8 @@ pub fn better_committed<'a>(
             high_counter,
             commit_counter,
             ..
-        } => better_ends(best, bound, ballot, *commit_counter, *high_counter),
-        Statement::Commit {
+        }
+        | Statement::Commit {
             ballot,
             high_counter,
             commit_counter,

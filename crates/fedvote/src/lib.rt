@@ -3,7 +3,7 @@
 //!
 //! [`is_accepted`] and [`is_confirmed`] are told the claim, which node stands where by [`Position`], and what that
 //! node sees of its table by [`Sight`], which is all that the rules read of a table. A [`Question`] is what a sight is
-//! asked about statements.
+//! asked about statements, and a [`Mention`] how these speak of the ballots that it is asked for.
 #![tactic(auto)]
 
 mod candidates;
@@ -14,7 +14,7 @@ mod question;
 mod seeing;
 mod sight;
 
-pub use candidates::{better_committed, better_named};
+pub use candidates::{Mention, better_mentioned};
 pub use claim::Claim;
 pub use counters::{counter_by, lesser};
 pub use position::Position;

@@ -4,12 +4,14 @@
 
 ghost use Rattle.std.specs.Prelude.{◌≡◌, ◌↔◌, IfOk, IsTrue, flat_map};
 ghost use Rattle.types.specs.declared.kind.Kind.{Kind};
-ghost use Rattle.protocol.specs.Candidates.{as_set, committed_in, named_in, values_by};
+ghost use Rattle.protocol.specs.Candidates.{as_set, values_by};
 ghost use Rattle.protocol.specs.Views.{Seen, accepted, confirmed};
+ghost use Rattle.fedvote.specs.Mentions.{mentioned_in};
 ghost use Rattle.fedvote.specs.Questions.{accepts, asks, backs, kind_asked, kind_of_claim};
 ghost use Rattle.fedvote.specs.Searching.{next_counter, next_under};
 ghost use Rattle.fedvote.specs.Seeing.{AcceptsClaim, ConfirmsClaim, Standpoint, seen_from};
 
+use crate::candidates::Mention;
 use crate::claim::Claim;
 use crate::position::Position;
 use crate::question::Question;
@@ -57,15 +59,14 @@ pub trait Sight {
     fn led_values(&self, alloc: Global) -> Result<Values, AllocError>
         ensures { IfOk result (λ v. v ≡ as_set (flat_map values_by (seen self.now).led)) };
 
-    /// The greatest ballot below the bound, if there is one, that the ballot rows of the others that are
-    /// reached name with a counter from 1 on.
-    fn next_named<'a>(&'a self, bound: &Option<LentBallot>) -> Option<LentBallot<'a>>
-        ensures { result ≡ next_under bound.now (named_in ((seen self.now).rows Kind.Ballot)) };
-
-    /// The greatest commit counter from 1 on, with its value, below the bound, if there is one, of the
-    /// ballot rows of the others that are reached.
-    fn next_committed<'a>(&'a self, bound: &Option<LentBallot>) -> Option<LentBallot<'a>>
-        ensures { result ≡ next_under bound.now (committed_in ((seen self.now).rows Kind.Ballot)) };
+    /// The greatest ballot below the bound, if there is one, of which the ballot rows of the others that are
+    /// reached speak in this way, with a counter from 1 on.
+    fn next_mentioned<'a>(
+        &'a self,
+        mention: Mention,
+        bound: &Option<LentBallot>,
+    ) -> Option<LentBallot<'a>>
+        ensures { result ≡ next_under bound.now (mentioned_in mention ((seen self.now).rows Kind.Ballot)) };
 
     /// The least counter above this one that a ballot row of another that is reached has.
     fn next_counter(&self, above: u32) -> Option<u32>

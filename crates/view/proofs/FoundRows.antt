@@ -7,7 +7,6 @@ use Rattle.types.specs.declared.ballot.Ballot.{Ballot}
 use Rattle.types.specs.declared.kind.Kind.{Kind}
 use Rattle.types.specs.declared.statement.Statement.{Statement}
 use Rattle.types.specs.Statements.{Sent, kind_of}
-use Rattle.protocol.specs.Candidates.{committed_in, named_in}
 use Rattle.protocol.specs.Sets.{among}
 use Rattle.protocol.specs.Reach.{reached}
 use Rattle.protocol.specs.Rows.{row, is_kind, is_row_of, has_single_rows}
@@ -16,9 +15,11 @@ use Rattle.protocol.proofs.Sets.Contained.{contained_cases, contains_head, conta
 use Rattle.protocol.proofs.Sets.Mapped.{mapped_from, mapped_to}
 use Rattle.protocol.proofs.Statements.Found.{row_contained, row_found}
 use Rattle.protocol.proofs.Statements.Offers.{is_kind-itself, is_row_of-parts, same_kind}
+use Rattle.fedvote.specs.declared.candidates.Mention.{Mention}
+use Rattle.fedvote.specs.Mentions.{mentioned_in}
 use Rattle.fedvote.specs.Searching.{next_counter, next_under}
 use Rattle.view.specs.Watching.{rows_of_others, said_by_another, values_in}
-use Rattle.view.proofs.SameRows.{AreSame, none_contained, found_from, found_to, kept_from, kept_to, same_committed, same_counter, same_named, same_values}
+use Rattle.view.proofs.SameRows.{AreSame, none_contained, found_from, found_to, kept_from, kept_to, same_counter, same_mentioned, same_values}
 
 pub among_from : (us : List ℕ) (u : ℕ) → Contains us u → among us u ≡ true
 among_from [] u c = absurd (none_contained u c)
@@ -90,11 +91,8 @@ module _ (own : ℕ) (q : Slices) (table : List Sent) (reach : List ℕ) (exactl
           found_to found reach m.0.sender s (among_to reach m.0.sender (exactly m.0.sender ∙ o.1)) (said_to own m.0 (row table m.0.sender k) at (not-true (own == m.0.sender) o.0) ∙ ap Some m.2)
 
   -- what a search among the rows that were found finds is what it finds among those that are seen
-  pub named_found : (bound : Option Ballot) → next_under bound (named_in (rows_of_others own Kind.Ballot table reach)) ≡ next_under bound (named_in (rows_seen own q table Kind.Ballot))
-  named_found bound = same_named bound _ _ (same_rows Kind.Ballot)
-
-  pub committed_found : (bound : Option Ballot) → next_under bound (committed_in (rows_of_others own Kind.Ballot table reach)) ≡ next_under bound (committed_in (rows_seen own q table Kind.Ballot))
-  committed_found bound = same_committed bound _ _ (same_rows Kind.Ballot)
+  pub mentioned_found : (mention : Mention) (bound : Option Ballot) → next_under bound (mentioned_in mention (rows_of_others own Kind.Ballot table reach)) ≡ next_under bound (mentioned_in mention (rows_seen own q table Kind.Ballot))
+  mentioned_found mention bound = same_mentioned mention bound _ _ (same_rows Kind.Ballot)
 
   pub counter_found : (n : ℕ) → next_counter n (rows_of_others own Kind.Ballot table reach) ≡ next_counter n (rows_seen own q table Kind.Ballot)
   counter_found n = same_counter n _ _ (same_rows Kind.Ballot)

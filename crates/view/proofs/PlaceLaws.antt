@@ -3,14 +3,17 @@ use Rattle.std.proofs.Common.{◌≡◌, ◌≢◌, ◌⊎◌, ℕ, suc, ◌<◌
 use Rattle.std.proofs.lemmas.Bool.{cases_Bool, eqb-true, eq-eqb, true≢false}
 use Rattle.std.proofs.lemmas.List.{append-nil, drop_all, drop_more, get_or-map, get_or-set_same, get_or-set_other, length-map}
 use Rattle.types.specs.declared.kind.Kind.{Kind}
+use Rattle.types.specs.declared.kind.Kind.TheVariants.{Nomination}
 use Rattle.types.specs.Statements.{Sent, kind_of}
 use Rattle.protocol.specs.Rows.{is_row_of, row, with_row}
 use Rattle.latest.specs.Places.{place_of}
+use Rattle.latest.specs.declared.places.RowPlaces.{RowPlaces}
 use Rattle.protocol.proofs.Statements.Offers.{is_row_of-own}
 use Rattle.latest.proofs.Placing.{place-of_others, place-of_replaced, row-at_place}
 use Rattle.latest.proofs.Tabled.{row-nowhere}
-use Rattle.view.specs.Regions.{row_places}
+use Rattle.view.specs.Regions.{AreRowPlaces, row_places}
 use Rattle.view.specs.Watching.{row_where, rows_at}
+use Rattle.view.specs.declared.region.KindPlaces.{KindPlaces}
 
 -- what stands at the place of a row is the row
 pub one_where : (table : List Sent) (u : ℕ) (k : Kind) (o : Option ℕ) → place_of table u k ≡ o → row_where table o ≡ row table u k
@@ -23,7 +26,7 @@ rows_where_placed table k [] = refl
 rows_where_placed table k (u ∷ us) = ap₂ (λ x xs. x ∷ xs) (one_where table u k (place_of table u k) refl) (rows_where_placed table k us)
 
 -- the place of one node more
-pub place_more : (f : ℕ → Option ℕ) (us : List ℕ) (i u : ℕ) (o : Option ℕ) (xs ys : List (Option ℕ)) → i < length us → u ≡ get_or us i u → o ≡ f u → ys ≡ xs ++ o ∷ []
+place_more : (f : ℕ → Option ℕ) (us : List ℕ) (i u : ℕ) (o : Option ℕ) (xs ys : List (Option ℕ)) → i < length us → u ≡ get_or us i u → o ≡ f u → ys ≡ xs ++ o ∷ []
     → xs ++ map f (drop i us) ≡ map f us → ys ++ map f (drop (i + 1) us) ≡ map f us
 place_more f us i u o xs ys within at is pushed so_far =
     ap (λ ps. ps ++ map f (drop (i + 1) us)) pushed
@@ -33,9 +36,30 @@ place_more f us i u o xs ys within at is pushed so_far =
     ∙ so_far
 
 -- the places of all, where none is left
-pub places_all : (f : ℕ → Option ℕ) (us : List ℕ) (i : ℕ) (xs : List (Option ℕ)) → length us ≤ i → xs ++ map f (drop i us) ≡ map f us → xs ≡ map f us
+places_all : (f : ℕ → Option ℕ) (us : List ℕ) (i : ℕ) (xs : List (Option ℕ)) → length us ≤ i → xs ++ map f (drop i us) ≡ map f us → xs ≡ map f us
 places_all f us i xs done so_far =
     sym (append-nil xs) ∙ ap (λ ws. xs ++ map f ws) (sym (drop_all i us done)) ∙ so_far
+
+-- the places of both kinds that were found are those of the first nodes
+pub record AreSoFar (table : List Sent) (us : List ℕ) (i : ℕ) (found : KindPlaces) : Type 0 where
+  pub ballots : found.ballots.items ++ row_places table Kind.Ballot (drop i us) ≡ row_places table Kind.Ballot us
+  pub nominations : found.nominations.items ++ row_places table Nomination (drop i us) ≡ row_places table Nomination us
+
+module _ (table : List Sent) (us : List ℕ) (i : ℕ) (found : KindPlaces) (so_far : AreSoFar table us i found) where
+  -- those of one node more
+  pub both_more : (u : ℕ) (places : RowPlaces) (now : KindPlaces) → i < length us → u ≡ get_or us i u → places.ballot ≡ place_of table u Kind.Ballot → places.nomination ≡ place_of table u Nomination
+      → now.ballots.items ≡ found.ballots.items ++ places.ballot ∷ [] → now.nominations.items ≡ found.nominations.items ++ places.nomination ∷ [] → AreSoFar table us (i + 1) now
+  both_more u places now within at ballot nomination ballots nominations = record {
+    ballots = place_more (λ w. place_of table w Kind.Ballot) us i u places.ballot found.ballots.items now.ballots.items within at ballot ballots so_far.ballots;
+    nominations = place_more (λ w. place_of table w Nomination) us i u places.nomination found.nominations.items now.nominations.items within at nomination nominations so_far.nominations;
+  }
+
+  -- those of all, where none is left
+  pub both_all : length us ≤ i → AreRowPlaces table us found
+  both_all done = record {
+    ballots = places_all (λ w. place_of table w Kind.Ballot) us i found.ballots.items done so_far.ballots;
+    nominations = places_all (λ w. place_of table w Nomination) us i found.nominations.items done so_far.nominations;
+  }
 
 -- lists that are the same place by place
 same_lists : {X : Type 0} (d : X) (xs ys : List X) → length xs ≡ length ys → ((i : ℕ) → i < length xs → get_or xs i d ≡ get_or ys i d) → xs ≡ ys

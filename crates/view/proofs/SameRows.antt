@@ -6,7 +6,7 @@ use Rattle.std.proofs.lemmas.Bool.Decides.{nat_tests}
 use Rattle.types.specs.declared.ballot.Ballot.{Ballot}
 use Rattle.types.specs.declared.statement.Statement.{Statement}
 use Rattle.types.specs.Votes.{has_value, same_value}
-use Rattle.protocol.specs.Candidates.{as_set, committed_by, committed_in, greatest, has_positive_counter, named_by, named_in, values_by}
+use Rattle.protocol.specs.Candidates.{as_set, greatest, has_positive_counter, values_by}
 use Rattle.protocol.specs.Extremes.{IsIn, IsGreatestIn}
 use Rattle.protocol.specs.Extremes.IsGreatestIn.{nothing, this}
 use Rattle.protocol.proofs.Sets.Contained.{contained_cases, contains_head, contains_tail}
@@ -14,6 +14,8 @@ use Rattle.protocol.proofs.Ballots.Greatest.{greatest_is_alone, greatest_is_exac
 use Rattle.protocol.proofs.Equality.Sameness.{same_value-refl, same_value-true}
 use Rattle.protocol.proofs.Sets.Finite.{same_test}
 use Rattle.protocol.proofs.Nominating.ValueSets.{has_all, one_set, set_ascending}
+use Rattle.fedvote.specs.declared.candidates.Mention.{Mention}
+use Rattle.fedvote.specs.Mentions.{mentioned_by, mentioned_in}
 use Rattle.fedvote.specs.Searching.{counter_by, is_under, least_above, lesser, next_counter, next_under}
 use Rattle.view.specs.Watching.{values_in}
 
@@ -147,17 +149,10 @@ same_greatest ts us same = go (greatest None ts) (greatest None us) (greatest_is
 pub same_next : (bound : Option Ballot) (ts us : List Ballot) → AreSame ts us → next_under bound ts ≡ next_under bound us
 same_next bound ts us same = same_greatest _ _ (same_kept (is_under bound) ts us same)
 
-same_under : (by : Statement → List Ballot) (bound : Option Ballot) (xs ys : List Statement) → AreSame xs ys → next_under bound (filter has_positive_counter (flat_map by xs)) ≡ next_under bound (filter has_positive_counter (flat_map by ys))
-same_under by bound xs ys same =
-    same_greatest _ _
-    (same_kept (is_under bound) (filter has_positive_counter (flat_map by xs)) (filter has_positive_counter (flat_map by ys))
-    (same_kept has_positive_counter (flat_map by xs) (flat_map by ys) (same_given by xs ys same)))
-
-pub same_named : (bound : Option Ballot) (xs ys : List Statement) → AreSame xs ys → next_under bound (named_in xs) ≡ next_under bound (named_in ys)
-same_named bound xs ys same = same_under named_by bound xs ys same
-
-pub same_committed : (bound : Option Ballot) (xs ys : List Statement) → AreSame xs ys → next_under bound (committed_in xs) ≡ next_under bound (committed_in ys)
-same_committed bound xs ys same = same_under committed_by bound xs ys same
+pub same_mentioned : (mention : Mention) (bound : Option Ballot) (xs ys : List Statement) → AreSame xs ys → next_under bound (mentioned_in mention xs) ≡ next_under bound (mentioned_in mention ys)
+same_mentioned mention bound xs ys same =
+    let by = mentioned_by mention in
+    same_next bound (mentioned_in mention xs) (mentioned_in mention ys) (same_kept has_positive_counter (flat_map by xs) (flat_map by ys) (same_given by xs ys same))
 
 -- ---- the least of the same counters
 -- nothing where none is above n; else one of those, and not above any

@@ -9,12 +9,12 @@ use Rattle.types.specs.declared.statement.Statement.{Statement}
 use Rattle.protocol.specs.Candidates.{committed_in, named_in}
 use Rattle.protocol.specs.Rows.{is_kind, is_taken, row, with_row}
 use Rattle.protocol.specs.Sets.{among}
+use Rattle.fedvote.specs.declared.candidates.Mention.{Mention}
+use Rattle.fedvote.specs.declared.candidates.Mention.TheVariants.{Committed, Named}
 use Rattle.view.specs.Listing.{AreListed, FindsAsAmong}
 use Rattle.view.specs.Regions.{IsRegion}
 use Rattle.view.specs.Watching.{rows_of_others, values_in}
 use Rattle.view.specs.declared.known_reach.KnownReach.{KnownReach}
-use Rattle.view.specs.declared.mentions.Mention.{Mention}
-use Rattle.view.specs.declared.mentions.Mention.TheVariants.{Committed, Named}
 use Rattle.view.specs.declared.reached_ballots.ReachedBallots.{ReachedBallots}
 
 -- listed are the ballots that the ballot rows of the others of these nodes name, and those at whose counters these rows speak of commit

@@ -110,7 +110,8 @@ impl KnownReach {
         if self.ballots.is_some() {
             return Ok(());
         }
-        let ballots = ballots_within(alloc, own, &self.region, table)?;
+        let rows = self.region.rows(alloc, table, Kind::Ballot);
+        let ballots = ReachedBallots::of_rows(alloc, own.name, &rows)?;
         self.ballots = Some(ballots);
         Ok(())
     }
@@ -132,7 +133,8 @@ impl KnownReach {
         if self.values.is_some() {
             return Ok(());
         }
-        let values = values_within(alloc, own, &self.region, table)?;
+        let rows = self.region.rows(alloc, table, Kind::Nomination);
+        let values = values_of_others(alloc, own.name, &rows)?;
         self.values = Some(values);
         Ok(())
     }
@@ -202,34 +204,6 @@ impl KnownReach {
             self.values = Some(values);
         }
     }
-}
-
-/// The ballots that the ballot rows in a region speak of. An error says that memory is short.
-fn ballots_within<S: Places>(
-    alloc: Global,
-    own: Own<'_>,
-    region: &Region,
-    table: &Rows<'_, S>,
-) -> Result<ReachedBallots, AllocError>
-    requires { IsRegion own.name.now own.slices.now table.now region.now }
-    ensures { IfOk result (λ b. AreBallotsOf own.entry.name.now table.now region.now.nodes.items b) }
-{
-    let rows = region.rows(alloc, table, Kind::Ballot);
-    ReachedBallots::of_rows(alloc, own.name, &rows)
-}
-
-/// The values that the nomination rows in a region vote for or accept. An error says that memory is short.
-fn values_within<S: Places>(
-    alloc: Global,
-    own: Own<'_>,
-    region: &Region,
-    table: &Rows<'_, S>,
-) -> Result<Values, AllocError>
-    requires { IsRegion own.name.now own.slices.now table.now region.now }
-    ensures { IfOk result (λ v. AreValuesOf own.entry.name.now table.now region.now.nodes.items v) }
-{
-    let rows = region.rows(alloc, table, Kind::Nomination);
-    values_of_others(alloc, own.name, &rows)
 }
 
 /// Whether the envelope is of another reached node.

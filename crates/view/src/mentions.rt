@@ -1,25 +1,17 @@
-//! How rows speak of a ballot, and whether some row does.
+//! Whether some row speaks of a ballot.
 
 ghost use Rattle.std.specs.Prelude.{◌≡◌, flat_map};
 ghost use Rattle.protocol.specs.Candidates.{committed_by, named_by};
 ghost use Rattle.protocol.specs.Sameness.{same_ballot};
+ghost use Rattle.fedvote.specs.Mentions.{mentioned_by, mentioned_in};
 ghost use Rattle.view.specs.Listing.{is_one_of};
-ghost use Rattle.view.specs.Mentions.{mentioned_by, mentioned_in};
 ghost use Rattle.view.specs.Watching.{rows_of_others};
 
 use crate::listed::committed_by;
 use crate::reached::ReachedRows;
 use envstore::Places;
+use fedvote::Mention;
 use types::{LentBallot, NodeId, Statement};
-
-/// A way in which a row speaks of a ballot.
-#[derive(Clone, Copy)]
-pub(crate) enum Mention {
-    /// It names the ballot.
-    Named,
-    /// It speaks of commit at the ballot's counter.
-    Committed,
-}
 
 /// Whether a row of another than this node speaks of the ballot in this way, and its counter is from 1 on.
 #[tactic(auto, using(crate::proofs::Leaving::counted_one))]

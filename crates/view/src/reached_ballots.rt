@@ -4,15 +4,16 @@ ghost use Rattle.std.specs.Prelude.{◌≡◌, ◌∷◌, [], List, IfOk, IsTrue
 ghost use Rattle.protocol.specs.Candidates.{committed_by, committed_in, named_by, named_in};
 ghost use Rattle.types.specs.Statements.{Sent};
 ghost use Rattle.types.specs.declared.kind.Kind.{Kind};
+ghost use Rattle.fedvote.specs.Mentions.{mentioned_in};
 ghost use Rattle.view.specs.Knowing.{AreBallotsOf, IsHeard, listed_as};
 ghost use Rattle.view.specs.Listing.{AreLeft};
-ghost use Rattle.view.specs.Mentions.{mentioned_in};
 ghost use Rattle.view.specs.Watching.{rows_of_others};
 
 use crate::listed::{ListedBallots, committed_by};
-use crate::mentions::{Mention, is_mentioned};
+use crate::mentions::is_mentioned;
 use crate::reached::ReachedRows;
 use envstore::Places;
+use fedvote::Mention;
 use std::alloc::{AllocError, Global};
 use types::{LentBallot, NodeId, Statement};
 

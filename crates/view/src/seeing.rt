@@ -16,7 +16,6 @@ ghost use Rattle.view.specs.Watching.{rows_of_others, values_in};
 ghost use Rattle.view.specs.Words.{IsEmptySet};
 
 use crate::known_reach::KnownReach;
-use crate::mentions::Mention;
 use crate::own::Own;
 use crate::passing::{OwnAnswer, Supporters, add_supporters};
 use crate::reached::ReachedRows;
@@ -27,7 +26,7 @@ use crate::searching::next_counter;
 use crate::unlisted::{next_mentioned, nominated_values};
 use compiled::{Form, in_quorum, is_met_by, no_places};
 use envstore::Places;
-use fedvote::{Question, Sight};
+use fedvote::{Mention, Question, Sight};
 use latest::Rows;
 use std::alloc::{AllocError, Global};
 use types::{Kind, Leaders, LentBallot, Nested, NodeId, Values};
@@ -251,18 +250,12 @@ impl<'a, S: Places> Sight for View<'a, S> {
         Ok(values)
     }
 
-    fn next_named<'b>(&'b self, bound: &Option<LentBallot>) -> Option<LentBallot<'b>> {
-        next_mentioned(self.listed, Mention::Named, self.own, &self.ballots, bound)
-    }
-
-    fn next_committed<'b>(&'b self, bound: &Option<LentBallot>) -> Option<LentBallot<'b>> {
-        next_mentioned(
-            self.listed,
-            Mention::Committed,
-            self.own,
-            &self.ballots,
-            bound,
-        )
+    fn next_mentioned<'b>(
+        &'b self,
+        mention: Mention,
+        bound: &Option<LentBallot>,
+    ) -> Option<LentBallot<'b>> {
+        next_mentioned(self.listed, mention, self.own, &self.ballots, bound)
     }
 
     fn next_counter(&self, above: u32) -> Option<u32> {

@@ -2,17 +2,16 @@
 //! nominations speak of, likewise.
 
 ghost use Rattle.std.specs.Prelude.{◌≡◌, IfOk, IfSome, flat_map, option_map, option_to_list};
+ghost use Rattle.fedvote.specs.Mentions.{mentioned_by, mentioned_in};
 ghost use Rattle.fedvote.specs.Searching.{bettered, next_under};
 ghost use Rattle.view.specs.Knowing.{AreSearched};
-ghost use Rattle.view.specs.Mentions.{mentioned_by, mentioned_in};
 ghost use Rattle.view.specs.Watching.{rows_of_others, values_in};
 
-use crate::mentions::Mention;
 use crate::reached::ReachedRows;
 use crate::reached_ballots::ReachedBallots;
 use crate::rows::values_of_others;
 use envstore::Places;
-use fedvote::{better_committed, better_named};
+use fedvote::{Mention, better_mentioned};
 use std::alloc::{AllocError, Global};
 use types::{LentBallot, NodeId, Statement, Values};
 
@@ -80,20 +79,5 @@ fn mentioned_with<'a>(
     match said {
         None => best,
         Some(statement) => better_mentioned(mention, best, bound, statement),
-    }
-}
-
-/// The greatest of the best ballot so far and of those of which the statement speaks in this way.
-fn better_mentioned<'a>(
-    mention: Mention,
-    best: Option<LentBallot<'a>>,
-    bound: &Option<LentBallot>,
-    statement: &'a Statement,
-) -> Option<LentBallot<'a>>
-    ensures { result ≡ bettered best.entry bound.now (mentioned_by mention statement.now) }
-{
-    match mention {
-        Mention::Named => better_named(best, bound, statement),
-        Mention::Committed => better_committed(best, bound, statement),
     }
 }

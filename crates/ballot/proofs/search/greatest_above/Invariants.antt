@@ -4,7 +4,7 @@ use Rattle.ballot.proofs.SearchLaws.{Tried}
 use Rattle.ballot.proofs.search.greatest_above.Given as goal
 
 abbrev pub invariant-loop-next : goal.invariant-loop-next
-invariant-loop-next g l = Tried (g.C.Candidates.listed l.candidates) (g.T.Check.holds l.test) l.bound
+invariant-loop-next g l = Tried (g.C.Candidates.listed l.candidates l.mention) (g.T.Check.holds l.test) l.bound
 
 abbrev pub decreases-loop-next : goal.decreases-loop-next
-decreases-loop-next g l = length (filter (is_under l.bound) (g.C.Candidates.listed l.candidates))
+decreases-loop-next g l = length (filter (is_under l.bound) (g.C.Candidates.listed l.candidates l.mention))

@@ -1,7 +1,7 @@
 use Rattle.std.proofs.Common.{◌≡◌, drop, filter_map, flat_map}
 use Rattle.protocol.specs.Rows.{row}
 use Rattle.view.specs.Listing.{is_one_of}
-use Rattle.view.specs.Mentions.{mentioned_by}
+use Rattle.fedvote.specs.Mentions.{mentioned_by}
 use Rattle.view.specs.Watching.{rows_of_others, said_by_another}
 use Rattle.view.proofs.mentions.is_mentioned_by_one.Given as goal
 

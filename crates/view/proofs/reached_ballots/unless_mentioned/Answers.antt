@@ -1,5 +1,5 @@
 use Rattle.std.proofs.Common.{◌∙◌, sym}
-use Rattle.view.specs.Mentions.{mentioned_in}
+use Rattle.fedvote.specs.Mentions.{mentioned_in}
 use Rattle.view.specs.Watching.{rows_of_others}
 use Rattle.view.proofs.Leaving.{gone_left, still_left}
 use Rattle.view.proofs.reached_ballots.unless_mentioned.Goals as goal

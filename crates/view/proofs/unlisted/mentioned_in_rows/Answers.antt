@@ -2,7 +2,7 @@ use Rattle.std.proofs.Common.{◌∙◌, List, ℕ, Option, ap, arith, flat_map,
 use Rattle.types.specs.declared.statement.Statement.{Statement}
 use Rattle.fedvote.specs.Searching.{bettered, next_under}
 use Rattle.protocol.specs.Rows.{row}
-use Rattle.view.specs.Mentions.{mentioned_by, mentioned_in}
+use Rattle.fedvote.specs.Mentions.{mentioned_by, mentioned_in}
 use Rattle.view.specs.Watching.{rows_of_others, said_by_another}
 use Rattle.view.proofs.Searches.{best_ends, best_goes_on}
 use Rattle.view.proofs.unlisted.mentioned_in_rows.Goals as goal

@@ -1,7 +1,7 @@
 use Rattle.std.proofs.Common.{◌≡◌, drop, filter_map, flat_map}
 use Rattle.fedvote.specs.Searching.{bettered, next_under}
 use Rattle.protocol.specs.Rows.{row}
-use Rattle.view.specs.Mentions.{mentioned_by, mentioned_in}
+use Rattle.fedvote.specs.Mentions.{mentioned_by, mentioned_in}
 use Rattle.view.specs.Watching.{rows_of_others, said_by_another}
 use Rattle.view.proofs.unlisted.mentioned_in_rows.Given as goal
 

@@ -3,8 +3,8 @@ use Rattle.std.specs.Prelude.{List, filter, flat_map}
 use Rattle.types.specs.declared.ballot.Ballot.{Ballot}
 use Rattle.types.specs.declared.statement.Statement.{Statement}
 use Rattle.protocol.specs.Candidates.{committed_by, has_positive_counter, named_by}
-use Rattle.view.specs.declared.mentions.Mention.{Mention}
-use Rattle.view.specs.declared.mentions.Mention.TheVariants.{Committed, Named}
+use Rattle.fedvote.specs.declared.candidates.Mention.{Mention}
+use Rattle.fedvote.specs.declared.candidates.Mention.TheVariants.{Committed, Named}
 
 -- the ballots of which a statement speaks in this way
 abbrev pub mentioned_by : Mention → Statement → List Ballot
