@@ -1,6 +1,5 @@
 -- What the close finds.
-use Rattle.std.proofs.Common.{◌≡◌, ℕ, zero, suc, ◌+◌, ◌<◌, ◌≤◌, Bool, true, List, [], ◌∷◌, ◌++◌, length, take, drop, map, Some, refl, sym, ap, ◌∙◌, subst, arith, slice_get}
-use mathlib.Core.List.{IsPrefix}
+use Rattle.std.proofs.Common.{◌≡◌, ℕ, zero, suc, ◌+◌, ◌<◌, ◌≤◌, Bool, List, [], ◌∷◌, ◌++◌, length, take, drop, map, refl, sym, ap, ◌∙◌, subst, arith}
 use Rattle.std.proofs.lemmas.List.{append-nil, drop_all}
 use Rattle.std.proofs.Math.Seq.{take-append_seam}
 use Rattle.protocol.specs.Hosts.{Config, Entry}
@@ -12,8 +11,10 @@ use Rattle.cells.specs.Sights.{SeatSight}
 use Rattle.cells.specs.Sounds.{IsSound, AllStand, AllRight}
 use Rattle.cells.specs.Closing.{Keeps, AllSeats, HasNumber, ended_sight, Gathered, IsOneHistory}
 use Rattle.cells.proofs.Counts.{as_many}
-use Rattle.cells.proofs.Seats.{all_seats_get, all_seats_more, stand_more, right_more}
-use Rattle.std.proofs.Common.{get_or, set}
+use Rattle.cells.proofs.Seats.{stand_more, right_more}
+use Rattle.std.proofs.Common.{get_or, option_map, set}
+use Rattle.std.proofs.lemmas.List.Elements.{All-map, All-more, All-weaker}
+use Rattle.std.proofs.lemmas.Option.{get_or_from_slice_get, slice_get-map, slice_get_within}
 use Rattle.std.proofs.lemmas.List.Edits.{map_over_more}
 
 pub keeps_shown : (b v w n : Knowledge) → Keeps b v → w ≡ shown v n → Keeps b w
@@ -22,14 +23,13 @@ keeps_shown b v w n k is = subst (Keeps b) (sym is) (record { holding = k.holdin
 pub told_by : (b v w : Knowledge) → Keeps b v → IsKnownAtEnd v.config v.all v.owners v.over v.stopper w → IsKnownAtEnd b.config b.all b.owners b.over b.stopper w
 told_by b v w k t = subst (λ (y : Config × List Entry × List ℕ × Bool × ℕ). IsKnownAtEnd y.0 y.1 y.2 y.3 y.4 w) (λ i. (k.config i, k.all i, k.owners i, k.over i, k.stopper i)) t
 
-pub all_map : (P Q : SeatSight → Type 0) (l : List SeatSight) → ((s : SeatSight) → P s → Q s) → AllSeats P l → AllSeats Q l
-all_map P Q [] f all = tt
-all_map P Q (s ∷ ss) f all = (f s all.0, all_map P Q ss f all.1)
+-- what the one who has the desk knows of a seat
+abbrev pub IsTold : Knowledge → SeatSight → Type 0
+IsTold b s = IsKnownAtEnd b.config b.all b.owners b.over b.stopper s.me × IsSound s.me × (s.me.config ≡ b.config)
 
 pub gathered : (c : Config) (n : ℕ) (d : CellStateSight) (v w : Knowledge) (xs now : List SeatSight) (i : ℕ) → IsTaken v d w → v.config ≡ c → v.seats ≡ n
     → now ≡ map ended_sight (take i xs) ++ drop i xs → length xs ≤ i
-    → AllSeats (λ s. IsKnownAtEnd w.config w.all w.owners w.over w.stopper s.me × IsSound s.me × (s.me.config ≡ w.config)) (map ended_sight (take i xs))
-    → Gathered c n d now
+    → AllSeats (λ s. IsTold w (ended_sight s)) (take i xs) → Gathered c n d now
 gathered c n d v w xs now i t config seats is whole all =
     let same : w.config ≡ c = ap (λ (u : Knowledge). u.config) t.now ∙ config in
     let entries : w.all ≡ d.log.entries = ap (λ (u : Knowledge). u.all) t.now in
@@ -43,23 +43,19 @@ gathered c n d v w xs now i t config seats is whole all =
       paired = t.paired ∙ ap length entries;
       owned = subst (λ (k : ℕ). AllBelow k w.owners) seats t.owned;
       within = λ s. subst (λ (k : ℕ). w.stopper < k) seats (t.stopper (over ∙ s));
-      told = subst (λ (y : Config × List Entry × Bool × List SeatSight). AllSeats (λ s. IsKnownAtEnd y.0 y.1 w.owners y.2 w.stopper s.me × IsSound s.me × (s.me.config ≡ y.0)) y.3) (λ j. (same j, entries j, over j, sym now_is j)) all;
+      told = subst (λ (y : Config × List Entry × Bool × List SeatSight). AllSeats (λ s. IsKnownAtEnd y.0 y.1 w.owners y.2 w.stopper s.me × IsSound s.me × (s.me.config ≡ y.0)) y.3) (λ j. (same j, entries j, over j, sym now_is j))
+          (All-map (IsTold w) ended_sight (take i xs) all);
     }
 
-get_map : (l : List SeatSight) (i : ℕ) (s : SeatSight) → slice_get l i ≡ Some s → slice_get (map ended_sight l) i ≡ Some (ended_sight s)
-get_map [] i s e = absurd (cc)
-get_map (x ∷ xs) zero s e = let is : x ≡ s = cc in ap (λ (y : SeatSight). Some (ended_sight y)) is
-get_map (x ∷ xs) (suc i) s e = get_map xs i s e
-
 pub has_ended : (l : List SeatSight) (k : ℕ) → HasNumber l k → HasNumber (map ended_sight l) k
-has_ended l k h = (h.0, ended_sight h.1, get_map l h.0 h.1 h.2, h.3)
+has_ended l k h = (h.0, ended_sight h.1, slice_get-map ended_sight l h.0 ∙ ap (option_map ended_sight) h.2, h.3)
 
 pub one_history : (c : Config) (n : ℕ) (d : CellStateSight) (seats : List SeatSight) → Gathered c n d seats → ((k : ℕ) → k < n → HasNumber seats k) → IsOneHistory n d.log seats
 one_history c n d seats g present =
     let j : Log = d.log in
     let P : SeatSight → Type 0 = λ s. IsKnownAtEnd j.config j.entries g.owners d.stopped g.stopper s.me × IsSound s.me × (s.me.config ≡ j.config) in
     let told : AllSeats P seats = subst (λ (k : Config). AllSeats (λ s. IsKnownAtEnd k j.entries g.owners d.stopped g.stopper s.me × IsSound s.me × (s.me.config ≡ k)) seats) (sym g.config) g.told in
-    let receipts : AllSeats (λ s. map extract_of s.me.receipts ≡ extracts_of j.config s.me.number g.owners j.entries) seats = all_map P (λ s. map extract_of s.me.receipts ≡ extracts_of j.config s.me.number g.owners j.entries) seats (λ s p. p.0.receipts) told in
+    let receipts : AllSeats (λ s. map extract_of s.me.receipts ≡ extracts_of j.config s.me.number g.owners j.entries) seats = λ k d lt. (told k d lt).0.receipts in
     record {
       owners = g.owners;
       paired = g.paired;
@@ -67,44 +63,37 @@ one_history c n d seats g present =
       present = present;
       counted = as_many j.config n g.owners j.entries seats g.paired g.owned present receipts;
       receipts = receipts;
-      seen = all_map P (λ s. IsPrefix s.me.seen j.entries) seats (λ s p. p.0.seen) told;
-      stand = all_map P (λ s. AllStand j.config j.entries s.me.receipts) seats (λ s p. subst (λ (k : Config). AllStand k j.entries s.me.receipts) p.2 (stand_more s.me.config s.me.seen j.entries s.me.receipts p.0.seen p.1.stand)) told;
-      right = all_map P (λ s. AllRight j.config j.entries s.me.stopped s.me.denials) seats (λ s p. subst (λ (k : Config). AllRight k j.entries s.me.stopped s.me.denials) p.2 (right_more s.me.config s.me.seen j.entries s.me.stopped s.me.stopped s.me.denials p.0.seen (λ h. h) p.1.right)) told;
-      stops = all_map P (λ s. s.me.stopped ≡ true → (i : ℕ) × (t : SeatSight) × (slice_get seats i ≡ Some t) × (0 < t.me.stops)) seats
-          (λ s p mark.
-          let over = p.0.stopped mark in
+      seen = λ k d lt. (told k d lt).0.seen;
+      stand = All-weaker P (λ s. AllStand j.config j.entries s.me.receipts) (λ s p. subst (λ (k : Config). AllStand k j.entries s.me.receipts) p.2 (stand_more s.me.config s.me.seen j.entries s.me.receipts p.0.seen p.1.stand)) seats told;
+      right = All-weaker P (λ s. AllRight j.config j.entries s.me.stopped s.me.denials) (λ s p. subst (λ (k : Config). AllRight k j.entries s.me.stopped s.me.denials) p.2 (right_more s.me.config s.me.seen j.entries s.me.stopped s.me.stopped s.me.denials p.0.seen (λ h. h) p.1.right)) seats told;
+      stops = λ k d lt mark.
+          let over = (told k d lt).0.stopped mark in
           let there = present g.stopper (g.within over) in
-          (there.0, there.1, there.2, (all_seats_get P seats there.0 there.1 told there.2).0.stops over there.3))
-          told;
+          let one = subst P (get_or_from_slice_get seats there.0 there.1 there.1 there.2) (told there.0 there.1 (slice_get_within seats there.0 there.1 there.2)) in
+          (there.0, there.1, there.2, one.0.stops over there.3);
     }
 
 pub written_back : (n : ℕ) (new old : List SeatSight) → length new ≡ length old → n ≡ length old → take n (new ++ drop (length new) old) ≡ new
 written_back n new old len is =
     ap (λ (k : ℕ). take k (new ++ drop (length new) old)) (is ∙ sym len) ∙ take-append_seam new (drop (length new) old)
 
-seam_at : (xs : List SeatSight) (i : ℕ) (d : SeatSight) → i < length xs → get_or (map ended_sight (take i xs) ++ drop i xs) i d ≡ get_or xs i d
-seam_at [] i d h = absurd (omega arith)
-seam_at (x ∷ xs) zero d h = refl
-seam_at (x ∷ xs) (suc i) d h = seam_at xs i d (omega arith)
+-- where a loop changes each element in its place, what it reads is as it was
+seam_at : {X : Type 0} (f : X → X) (xs : List X) (i : ℕ) (d : X) → i < length xs → get_or (map f (take i xs) ++ drop i xs) i d ≡ get_or xs i d
+seam_at f [] i d h = absurd (omega arith)
+seam_at f (x ∷ xs) zero d h = refl
+seam_at f (x ∷ xs) (suc i) d h = seam_at f xs i d (omega arith)
 
-pub seam_read : (xs seats : List SeatSight) (i : ℕ) (d : SeatSight) → i < length xs → seats ≡ map ended_sight (take i xs) ++ drop i xs → get_or seats i d ≡ get_or xs i d
-seam_read xs seats i d h is = ap (λ (l : List SeatSight). get_or l i d) is ∙ seam_at xs i d h
-
-pub all_get_or : (P : SeatSight → Type 0) (l : List SeatSight) (i : ℕ) (d : SeatSight) → AllSeats P l → i < length l → P (get_or l i d)
-all_get_or P [] i d all h = absurd (omega arith)
-all_get_or P (x ∷ xs) zero d all h = all.0
-all_get_or P (x ∷ xs) (suc i) d all h = all_get_or P xs i d all.1 (omega arith)
+pub seam_read : {X : Type 0} (f : X → X) (xs now : List X) (i : ℕ) (d : X) → i < length xs → now ≡ map f (take i xs) ++ drop i xs → get_or now i d ≡ get_or xs i d
+seam_read f xs now i d h is = ap (λ l. get_or l i d) is ∙ seam_at f xs i d h
 
 -- one turn of the loop
 pub one_more_seat : (b v w : Knowledge) (xs seats : List SeatSight) (i : ℕ) (item new : SeatSight) → i < length xs → seats ≡ map ended_sight (take i xs) ++ drop i xs → item ≡ get_or seats i item
     → new ≡ ended_sight item → Keeps b v → IsKnownAtEnd v.config v.all v.owners v.over v.stopper new.me → IsSound new.me → item.me.config ≡ b.config
-    → AllSeats (λ s. IsKnownAtEnd b.config b.all b.owners b.over b.stopper s.me × IsSound s.me × (s.me.config ≡ b.config)) (map ended_sight (take i xs))
-    → (set seats i new ≡ map ended_sight (take (i + 1) xs) ++ drop (i + 1) xs)
-    × AllSeats (λ s. IsKnownAtEnd b.config b.all b.owners b.over b.stopper s.me × IsSound s.me × (s.me.config ≡ b.config)) (map ended_sight (take (i + 1) xs))
+    → AllSeats (λ s. IsTold b (ended_sight s)) (take i xs)
+    → (set seats i new ≡ map ended_sight (take (i + 1) xs) ++ drop (i + 1) xs) × AllSeats (λ s. IsTold b (ended_sight s)) (take (i + 1) xs)
 one_more_seat b v w xs seats i item new lt is at now keeps told sound config all =
-    let P : SeatSight → Type 0 = λ s. IsKnownAtEnd b.config b.all b.owners b.over b.stopper s.me × IsSound s.me × (s.me.config ≡ b.config) in
-    let one : P new = (told_by b v new.me keeps told, sound, ap (λ (s : SeatSight). s.me.config) now ∙ config) in
-    let here : item ≡ get_or xs i item = at ∙ seam_read xs seats i item lt is in (
+    let one : IsTold b new = (told_by b v new.me keeps told, sound, ap (λ (s : SeatSight). s.me.config) now ∙ config) in
+    let here : item ≡ get_or xs i item = at ∙ seam_read ended_sight xs seats i item lt is in (
       ap (set seats i) now ∙ map_over_more ended_sight xs seats i item lt is at,
-      all_seats_more P xs i item lt here all (subst P now one),
+      All-more (λ s. IsTold b (ended_sight s)) xs i item lt all (subst (IsTold b) (now ∙ ap ended_sight here) one),
     )

@@ -1,6 +1,7 @@
 -- There are as many entries as receipts.
 use Rattle.std.proofs.Common.{◌≡◌, ◌≢◌, ◌⊎◌, ℕ, zero, suc, ◌+◌, ◌<◌, ◌≤◌, Bool, true, false, if◌then◌else◌, ◌==◌, List, [], ◌∷◌, ◌++◌, length, map, Some, refl, sym, ap, ◌∙◌, inl, inr, ⊎_elim, arith, length-append, slice_get, eq-eqb, ne_eqb}
 use Rattle.std.proofs.lemmas.List.{length-map}
+use Rattle.std.proofs.lemmas.List.Elements.{All-head, All-tail}
 use Rattle.protocol.specs.Hosts.{Config, Entry}
 use Rattle.cells.specs.Receipts.{Extract, extract, extract_of, extracts_from, extracts_of}
 use Rattle.cells.specs.Rule.{AllBelow}
@@ -60,8 +61,8 @@ each_once : (n : ℕ) (os : List ℕ) → AllBelow n os → below (count os) n �
 each_once n [] all = below_none n
 each_once n (o ∷ os) all =
     let a = below_plus (hit o) (count os) n in
-    let b = once o n all.0 in
-    let c = each_once n os all.1 in
+    let b = once o n (All-head (λ k. k < n) o os all) in
+    let c = each_once n os (All-tail (λ k. k < n) o os all) in
     omega arith
 
 counts : (config : Config) (before : List Entry) (k : ℕ) (os : List ℕ) (es : List Entry) → length os ≡ length es → length (extracts_from config before k os es) ≡ count os k
@@ -125,8 +126,8 @@ receipts_by : (config : Config) (owners : List ℕ) (entries : List Entry) (seat
     → AllSeats (λ s. map extract_of s.me.receipts ≡ extracts_of config s.me.number owners entries) seats → receipts_in seats ≡ sum_of (count owners) (map (λ t. t.me.number) seats)
 receipts_by config owners entries [] len all = refl
 receipts_by config owners entries (s ∷ ss) len all =
-    let one : length s.me.receipts ≡ count owners s.me.number = sym (length-map s.me.receipts extract_of) ∙ ap length all.0 ∙ counts config [] s.me.number owners entries len in
-    let rest = receipts_by config owners entries ss len all.1 in
+    let one : length s.me.receipts ≡ count owners s.me.number = sym (length-map s.me.receipts extract_of) ∙ ap length (all 0 s (omega arith)) ∙ counts config [] s.me.number owners entries len in
+    let rest = receipts_by config owners entries ss len (λ k d lt. all (suc k) d (omega arith)) in
     omega arith
 
 pub as_many : (config : Config) (n : ℕ) (owners : List ℕ) (entries : List Entry) (seats : List SeatSight) → length owners ≡ length entries → AllBelow n owners

@@ -2,6 +2,7 @@
 use Rattle.std.proofs.Common.{◌≡◌, ◌≢◌, ◌⊎◌, ℕ, zero, suc, ◌+◌, ◌<◌, ◌≤◌, Bool, true, false, true≢false, if◌then◌else◌, ◌==◌, List, [], ◌∷◌, ◌++◌, length, set, refl, sym, ap, ◌∙◌, subst, inl, inr, ⊎_elim, arith, length-append, eq-eqb, ne_eqb, append_assoc}
 use Rattle.std.proofs.Common.{map}
 use Rattle.std.proofs.lemmas.List.{append-nil, map-append}
+use Rattle.std.proofs.lemmas.List.Elements.{All-head, All-nil, All-push, All-tail}
 use mathlib.Core.Option.{some, some-ne-none, some-injective}
 use mathlib.Core.List.{IsPrefix}
 use lib.ListN.{get_elem?}
@@ -106,7 +107,7 @@ opens id v config seats opening items views room h at =
           there = λ _. ap (λ (l : List CellStateSight). l ++ cell_state_at config seats [] false ∷ []) o.0;
           away = λ f. absurd (true≢false f);
           paired = refl;
-          owned = tt;
+          owned = All-nil (λ n. n < 0);
           stopper = λ f. off f;
           made = omega arith;
           fit = λ j u e. one u j (subst (λ (l : List Knowledge). get_elem? l j ≡ some u) (ap (λ (y : List Knowledge × ℕ). set y.0 y.1 w) (λ i. (o.1 i, is.0 i))) e);
@@ -129,8 +130,7 @@ opens id v config seats opening items views room h at =
     one u (suc j) e = absurd (some-ne-none u (sym e))
 
 below_more : (m n : ℕ) (os : List ℕ) → m ≤ n → AllBelow m os → AllBelow n os
-below_more m n [] le all = tt
-below_more m n (o ∷ os) le all = (omega (arith, all.0), below_more m n os le all.1)
+below_more m n os le all k d lt = omega (arith, le, all k d lt)
 
 -- what a view claims of a seat stays where that part of it stays
 same_claims : (h : History) (u w : Knowledge) → w.number ≡ u.number → w.seen ≡ u.seen → w.stopped ≡ u.stopped → w.receipts ≡ u.receipts → w.stops ≡ u.stops → w.closed ≡ u.closed → Claims h u → Claims h w
@@ -220,10 +220,6 @@ extracts_others config by o os e es len apart =
     extracts_more config [] by o os e es len
     ∙ ap (λ (b : Bool). extracts_of config by os es ++ (if b then extract config es e ∷ [] else [])) (ne_eqb o by apart)
     ∙ append-nil (extracts_of config by os es)
-
-below_snoc : (n o : ℕ) (os : List ℕ) → AllBelow n os → o < n → AllBelow n (os ++ o ∷ [])
-below_snoc n o [] all lt = (lt, tt)
-below_snoc n o (p ∷ os) all lt = (all.0, below_snoc n o os all.1 lt)
 
 abbrev grown : History → ℕ → Entry → History
 grown h by e = record h { entries = h.entries ++ e ∷ []; owners = h.owners ++ by ∷ [] }
@@ -323,7 +319,7 @@ adds id v r s is =
     let past = g.past in record {
       cell_state = λ i. cell_state_at ((f.known s.known).0 i) ((f.known s.known).1 i) (has.all i ++ e ∷ []) (has.over i);
       paired = length-append past.owners (v.number ∷ []) ∙ ap (λ (n : ℕ). n + 1) o.paired ∙ sym (length-append past.entries (e ∷ []));
-      owned = below_snoc past.made v.number past.owners o.owned c.made;
+      owned = All-push (λ n. n < past.made) past.owners v.number o.owned c.made;
       stopper = o.stopper;
       mine = record {
         made = c.made;
@@ -403,8 +399,8 @@ none_yet : (config : Config) (before : List Entry) (n : ℕ) (os : List ℕ) (es
 none_yet config before n [] es all = refl
 none_yet config before n (o ∷ os) [] all = refl
 none_yet config before n (o ∷ os) (e ∷ es) all =
-    ap (λ (b : Bool). (if b then extract config before e ∷ [] else []) ++ extracts_from config (before ++ e ∷ []) n os es) (ne_eqb o n (λ (same : o ≡ n). let a = all.0 in absurd (omega arith)))
-    ∙ none_yet config (before ++ e ∷ []) n os es all.1
+    ap (λ (b : Bool). (if b then extract config before e ∷ [] else []) ++ extracts_from config (before ++ e ∷ []) n os es) (ne_eqb o n (λ (same : o ≡ n). let a = All-head (λ k. k < n) o os all in absurd (omega arith)))
+    ∙ none_yet config (before ++ e ∷ []) n os es (All-tail (λ k. k < n) o os all)
 
 pub sits : (id : ℕ) (v : Knowledge) → v.opens ≡ true → v.known ≡ true → v.live ≡ false → v.claims ≡ false → v.holding ≡ false → v.made < v.seats → Forks Holds id v (one_more v) (seat_of v)
 sits id v opens known live claims holding room items views h at =

@@ -1,13 +1,12 @@
 -- What each seat knows stays right.
-use Rattle.std.proofs.Common.{◌≡◌, ℕ, zero, suc, ◌+◌, ◌<◌, ◌≤◌, Bool, true, false, List, [], ◌∷◌, ◌++◌, length, take, Some, refl, sym, ap, ◌∙◌, subst, inl, inr, ⊎_elim, arith, length-append, append_assoc, slice_get}
+use Rattle.std.proofs.Common.{◌≡◌, ℕ, zero, suc, ◌<◌, ◌≤◌, Bool, true, false, List, [], ◌∷◌, ◌++◌, length, take, Some, refl, sym, ap, ◌∙◌, subst, inl, inr, ⊎_elim, arith, length-append, append_assoc, slice_get}
 use mathlib.Core.List.{IsPrefix}
 use Rattle.std.proofs.lemmas.List.{take-append-le}
 use Rattle.std.proofs.Math.Seq.{take-append_seam, take-length}
-use Rattle.std.proofs.lemmas.Option.{slice_get_within}
-use Rattle.std.proofs.Common.{map, get_or}
-use Rattle.std.proofs.lemmas.List.{take_more, map-append}
-use Rattle.std.proofs.lemmas.List.Elements.{All-nil, All-cons, All-head, All-tail}
-use Rattle.std.specs.List.{All}
+use Rattle.std.proofs.lemmas.Option.{slice_get_within, slice_get-get_or}
+use Rattle.std.proofs.Common.{get_or}
+use Rattle.std.proofs.lemmas.List.Elements.{All-from_recursion, All-push, recursion_from_All}
+use Rattle.std.specs.List.{All, AllByRecursion}
 use Rattle.atomic_table.specs.Seated.{TableId}
 use Rattle.crossbeam_queue.specs.Passes.{Pass, view}
 use Rattle.types.specs.declared.event.Event.{Event}
@@ -20,7 +19,6 @@ use Rattle.cells.specs.Rule.{denial, IsTaken, added, denied, looked, stopped, fr
 use Rattle.cells.specs.Sights.{SeatSight}
 use Rattle.cells.specs.Sounds.{Stands, IsRight, IsWhy, refused_by, AllStand, AllRight, IsRising, IsSound, IsFree, IsSeat}
 use Rattle.cells.specs.Cells.{AllFresh, IsSeatOf}
-use Rattle.cells.specs.Closing.{AllSeats, ended_sight}
 use Rattle.hoststep.proofs.Growing.{slice_get-snoc}
 
 get_front : {A : Type 0} (xs ys : List A) (k : ℕ) (p : A) → slice_get xs k ≡ Some p → slice_get (xs ++ ys) k ≡ Some p
@@ -53,13 +51,8 @@ right_more config a b s t (d ∷ ds) p up r =
     let le : d.length ≤ length b = let l = prefix_length a b p in let k = one.0 in omega arith in
     ((le, ⊎_elim (λ m. inl m) (λ m. inr (⊎_elim (λ c. inl (c.0, up c.1)) (λ c. inr (ap (λ (l : List Entry). refused_by config l d.event) (take_front a b d.length p one.0) ∙ c)) m)) one.1), right_more config a b s t ds p up r.1)
 
-right_snoc : (config : Config) (a : List Entry) (s : Bool) (ds : List Denial) (d : Denial) → AllRight config a s ds → IsRight config a s d → AllRight config a s (ds ++ d ∷ [])
-right_snoc config a s [] d all one = (one, tt)
-right_snoc config a s (x ∷ xs) d all one = (all.0, right_snoc config a s xs d all.1 one)
-
-stand_snoc : (config : Config) (a : List Entry) (rs : List AppliedEvent) (r : AppliedEvent) → AllStand config a rs → Stands config a r → AllStand config a (rs ++ r ∷ [])
-stand_snoc config a [] r all one = (one, tt)
-stand_snoc config a (x ∷ xs) r all one = (all.0, stand_snoc config a xs r all.1 one)
+all_more : {X : Type 0} (P : X → Type 0) (xs : List X) (x : X) → AllByRecursion P xs → P x → AllByRecursion P (xs ++ x ∷ [])
+all_more P xs x all one = recursion_from_All P (xs ++ x ∷ []) (All-push P xs x (All-from_recursion P xs all) one)
 
 rising_snoc : (config : Config) (a : List Entry) (n : ℕ) (rs : List AppliedEvent) (r : AppliedEvent) → IsRising n rs → AllStand config a rs → n ≤ r.number → length a ≤ r.number → IsRising n (rs ++ r ∷ [])
 rising_snoc config a n [] r up all le far = (le, tt)
@@ -90,7 +83,7 @@ sound_denied v x w event refusal f s t why =
     let whole : refused_by w.config (take (length w.all) w.all) event ≡ refused_by x.log.config x.log.entries event = (λ i. refused_by (config i) (take-length w.all i) event) ∙ (λ i. refused_by (sym t.config i) (all i) event) in
     let one : IsRight w.config w.all w.over (denial event refusal (length w.all)) = (omega arith, ⊎_elim (λ m. inl m) (λ m. inr (⊎_elim (λ c. inl (c.0, over ∙ c.1)) (λ c. inr (whole ∙ c)) m)) why) in
     let before = sound_seen v x w w.over w.stops f s t (t.stopped f.live) in
-    record { stand = before.stand; rising = before.rising; right = right_snoc w.config w.all w.over w.denials (denial event refusal (length w.all)) before.right one }
+    record { stand = before.stand; rising = before.rising; right = all_more (IsRight w.config w.all w.over) w.denials (denial event refusal (length w.all)) before.right one }
 
 -- an application
 sound_added : (v : Knowledge) (x : CellStateSight) (w : Knowledge) (r : AppliedEvent) → IsFree v → IsSound v → IsTaken v x w → extract_of r ≡ extract w.config w.all (entry_of r) → IsSound (added w r)
@@ -101,7 +94,7 @@ sound_added v x w r f s t made =
     let here : Stands w.config (w.all ++ e ∷ []) r = (e, ap (slice_get (w.all ++ e ∷ [])) number ∙ get_last w.all e, made ∙ ap (λ (l : List Entry). extract w.config l e) (sym front)) in
     let before = sound_seen v x w w.over w.stops f s t (t.stopped f.live) in
     record {
-      stand = stand_snoc w.config (w.all ++ e ∷ []) w.receipts r (stand_more w.config w.all (w.all ++ e ∷ []) w.receipts (e ∷ [], refl) before.stand) here;
+      stand = all_more (Stands w.config (w.all ++ e ∷ [])) w.receipts r (stand_more w.config w.all (w.all ++ e ∷ []) w.receipts (e ∷ [], refl) before.stand) here;
       rising = rising_snoc w.config w.all 0 w.receipts r before.rising before.stand (omega arith) (omega (arith, number));
       right = right_more w.config w.all (w.all ++ e ∷ []) w.over w.over w.denials (e ∷ [], refl) (λ over. over) before.right;
     }
@@ -200,25 +193,9 @@ seats_more cell config seats all n new len at me old k s e =
 
 -- seats that were made just now are open seats
 pub fresh_seats : (cell : TableId) (config kept : Config) (seats : ℕ) (all : List SeatSight) → kept ≡ config → AllFresh cell config seats all → All (IsSeatOf (record { cell = cell; config = kept; seats = seats })) all
-fresh_seats cell config kept seats all same new = each all (λ k s e. let h = new k s e in record { cell = h.0; config = ap (λ (v : Knowledge). v.config) h.1 ∙ sym same; seats = ap (λ (v : Knowledge). v.seats) h.1; open_yet = ap (λ (v : Knowledge). v.closed) h.1 })
-  where
-    each : (l : List SeatSight) → ((k : ℕ) (s : SeatSight) → slice_get l k ≡ Some s → IsSeatOf (record { cell = cell; config = kept; seats = seats }) s) → All (IsSeatOf (record { cell = cell; config = kept; seats = seats })) l
-    each [] f = All-nil (IsSeatOf (record { cell = cell; config = kept; seats = seats }))
-    each (s ∷ ss) f = All-cons (IsSeatOf (record { cell = cell; config = kept; seats = seats })) s ss (f 0 s refl) (each ss (λ k u e. f (suc k) u e))
-
-pub seats_from_all : (P : SeatSight → Type 0) (seats : List SeatSight) → All P seats → AllSeats P seats
-seats_from_all P [] all = tt
-seats_from_all P (s ∷ ss) all = (All-head P s ss all, seats_from_all P ss (All-tail P s ss all))
-
-all_seats_snoc : (P : SeatSight → Type 0) (l : List SeatSight) (s : SeatSight) → AllSeats P l → P s → AllSeats P (l ++ s ∷ [])
-all_seats_snoc P [] s all one = (one, tt)
-all_seats_snoc P (x ∷ xs) s all one = (all.0, all_seats_snoc P xs s all.1 one)
-
-pub all_seats_more : (P : SeatSight → Type 0) (xs : List SeatSight) (i : ℕ) (x : SeatSight) → i < length xs → x ≡ get_or xs i x → AllSeats P (map ended_sight (take i xs)) → P (ended_sight x) → AllSeats P (map ended_sight (take (i + 1) xs))
-all_seats_more P xs i x lt is all one =
-    subst (AllSeats P) (sym (ap (map ended_sight) (take_more xs i x lt ∙ ap (λ (y : SeatSight). take i xs ++ y ∷ []) (sym is)) ∙ map-append ended_sight (take i xs) (x ∷ []))) (all_seats_snoc P (map ended_sight (take i xs)) (ended_sight x) all one)
-
-pub all_seats_get : (P : SeatSight → Type 0) (xs : List SeatSight) (i : ℕ) (s : SeatSight) → AllSeats P xs → slice_get xs i ≡ Some s → P s
-all_seats_get P [] i s all e = absurd (cc)
-all_seats_get P (x ∷ xs) zero s all e = let is : x ≡ s = cc in subst P is all.0
-all_seats_get P (x ∷ xs) (suc i) s all e = all_seats_get P xs i s all.1 e
+fresh_seats cell config kept seats all same new k d lt = let h = new k (get_or all k d) (slice_get-get_or all k d lt) in record {
+  cell = h.0;
+  config = ap (λ (v : Knowledge). v.config) h.1 ∙ sym same;
+  seats = ap (λ (v : Knowledge). v.seats) h.1;
+  open_yet = ap (λ (v : Knowledge). v.closed) h.1;
+}

@@ -26,7 +26,8 @@ pub record IsSeatOf (c : CellSight) (s : SeatSight) : Type 0 where
 
 -- seats of this cell, made just now and numbered from 0 on
 abbrev pub AllFresh : TableId → Config → ℕ → List SeatSight → Type 0
-AllFresh cell config seats all = (k : ℕ) (s : SeatSight) → slice_get all k ≡ Some s → (s.cell ≡ cell) × (s.me ≡ fresh config seats k)
+AllFresh cell config seats all =
+    (k : ℕ) (s : SeatSight) → slice_get all k ≡ Some s → (s.cell ≡ cell) × (s.me ≡ fresh config seats k)
 
 -- an event was entered in the journal that lies under the lock, and its receipt made
 pub record IsEnteredAt (old : CellStateSight) (event : Event) (m : Entered) (new : CellStateSight) : Type 0 where
@@ -39,8 +40,8 @@ pub record IsEnteredAt (old : CellStateSight) (event : Event) (m : Entered) (new
 abbrev pub IsDenied : CellStateSight → Event → CellRefusal → Type 0
 IsDenied d event r = IsWhy d.log.config d.log.entries d.stopped event r × ((r ≡ Closed) ↔ (d.stopped ≡ true))
 
--- The seat gained one receipt, of this event with these outs, and nothing else but what it saw. They are what the event gives out after the
--- entries before it, after which it is not refused.
+-- The seat gained one receipt, of this event with these outs, and nothing else but what it saw. They are what the event
+-- gives out after the entries before it, after which it is not refused.
 pub record IsApplied (c : CellSight) (event : Event) (given : List Out) (old new : SeatSight) : Type 0 where
   pub before : List Entry
   pub seen_before : IsPrefix old.me.seen before

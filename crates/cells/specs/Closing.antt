@@ -1,5 +1,6 @@
 -- One history of one thread, at the close.
 use Rattle.std.specs.Prelude.{◌≡◌, ℕ, ◌<◌, ◌≤◌, ◌+◌, false, true, List, [], ◌∷◌, length, map, Some, slice_get}
+use Rattle.std.specs.List.{All}
 use mathlib.Core.List.{IsPrefix}
 use Rattle.protocol.specs.Hosts.{Config}
 use Rattle.hoststep.specs.Logs.{Log}
@@ -10,8 +11,7 @@ use Rattle.cells.specs.Sounds.{IsSound, AllStand, AllRight}
 use Rattle.cells.specs.Views.{CellStateSight, Knowledge}
 
 abbrev pub AllSeats : (SeatSight → Type 0) → List SeatSight → Type 0
-AllSeats P [] = Unit {0}
-AllSeats P (s ∷ ss) = P s × AllSeats P ss
+AllSeats P ss = All P ss
 
 abbrev pub HasNumber : List SeatSight → ℕ → Type 0
 HasNumber seats k = (i : ℕ) × (s : SeatSight) × (slice_get seats i ≡ Some s) × (s.me.number ≡ k)
@@ -35,8 +35,9 @@ pub record Gathered (c : Config) (n : ℕ) (d : CellStateSight) (seats : List Se
   pub within : d.stopped ≡ true → stopper < n
   pub told : AllSeats (λ s. IsKnownAtEnd c d.log.entries owners d.stopped stopper s.me × IsSound s.me × (s.me.config ≡ c)) seats
 
--- Each entry is one seat's, and each seat's receipts are its entries. What each seat saw is a beginning. Each denial was right. A mark was
--- set by some seat. Where no more seats are there than the cell has, there are as many entries as receipts.
+-- Each entry is one seat's, and each seat's receipts are its entries. What each seat saw is a beginning. Each denial
+-- was right. A mark was set by some seat. Where no more seats are there than the cell has, there are as many entries as
+-- receipts.
 pub record IsOneHistory (n : ℕ) (j : Log) (seats : List SeatSight) : Type 0 where
   pub owners : List ℕ
   pub paired : length owners ≡ length j.entries

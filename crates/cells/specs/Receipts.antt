@@ -7,8 +7,8 @@ use Rattle.protocol.specs.Hosts.{Config, Entry}
 use Rattle.network.specs.Decoding.{step_of}
 use Rattle.hoststep.specs.Logs.{marks_of}
 
--- an event that was applied, with the network and the number of its entry, what it gave out, and the numbers by which a Hear names its
--- emissions
+-- an event that was applied, with the network and the number of its entry, what it gave out, and the numbers by which a
+-- Hear names its emissions
 pub record AppliedEvent : Type 0 where
   pub network : ℕ
   pub number : ℕ
@@ -26,7 +26,13 @@ pub record Extract : Type 0 where
 
 -- the receipt of an event with these outs, after these entries
 abbrev pub receipt : Config → List Entry → Event → List Out → AppliedEvent
-receipt config before event outs = record { network = config.number; number = length before; event = event; outs = outs; marks = marks_of config before (step_of event) }
+receipt config before event outs = record {
+  network = config.number;
+  number = length before;
+  event = event;
+  outs = outs;
+  marks = marks_of config before (step_of event);
+}
 
 -- the entry that a receipt is of
 abbrev pub entry_of : AppliedEvent → Entry
@@ -37,13 +43,20 @@ extract_of r = record { network = r.network; number = r.number; step = step_of r
 
 -- what the receipt of an entry has, after these entries
 abbrev pub extract : Config → List Entry → Entry → Extract
-extract config before e = record { network = config.number; number = length before; step = e.event; outs = e.outs; marks = marks_of config before e.event }
+extract config before e = record {
+  network = config.number;
+  number = length before;
+  step = e.event;
+  outs = e.outs;
+  marks = marks_of config before e.event;
+}
 
 -- the same of all entries that are a seat's, by the owner of each; these come after the entries before
 abbrev pub extracts_from : Config → List Entry → ℕ → List ℕ → List Entry → List Extract
 extracts_from config before by [] es = []
 extracts_from config before by (o ∷ os) [] = []
-extracts_from config before by (o ∷ os) (e ∷ es) = (if o == by then extract config before e ∷ [] else []) ++ extracts_from config (before ++ e ∷ []) by os es
+extracts_from config before by (o ∷ os) (e ∷ es) =
+    (if o == by then extract config before e ∷ [] else []) ++ extracts_from config (before ++ e ∷ []) by os es
 
 abbrev pub extracts_of : Config → ℕ → List ℕ → List Entry → List Extract
 extracts_of config by owners entries = extracts_from config [] by owners entries

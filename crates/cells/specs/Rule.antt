@@ -1,5 +1,6 @@
 -- One history under the lock: what the cell state has, and what each seat knows of it.
 use Rattle.std.specs.Prelude.{◌≡◌, ◌⊎◌, ℕ, suc, ◌<◌, ◌≤◌, Bool, true, false, List, [], ◌∷◌, ◌++◌, length, map}
+use Rattle.std.specs.List.{All}
 use mathlib.Core.Option.{some}
 use mathlib.Core.List.{IsPrefix}
 use lib.ListN.{get_elem?}
@@ -37,15 +38,24 @@ closer_of v = record nobody { known = true; config = v.config; seats = v.seats }
 
 -- the closer with a note
 abbrev pub shown : Knowledge → Knowledge → Knowledge
-shown v w = record v { claims = w.claims; closed = w.closed; number = w.number; seen = w.seen; stopped = w.stopped; receipts = w.receipts; denials = w.denials; stops = w.stops }
+shown v w = record v {
+  claims = w.claims;
+  closed = w.closed;
+  number = w.number;
+  seen = w.seen;
+  stopped = w.stopped;
+  receipts = w.receipts;
+  denials = w.denials;
+  stops = w.stops;
+}
 
 abbrev pub cell_state_at : Config → ℕ → List Entry → Bool → CellStateSight
-cell_state_at config seats entries over = record { log = record { config = config; entries = entries }; stopped = over; seats = seats }
+cell_state_at config seats entries over =
+    record { log = record { config = config; entries = entries }; stopped = over; seats = seats }
 
 -- whose entries they are
 abbrev pub AllBelow : ℕ → List ℕ → Type 0
-AllBelow n [] = Unit {0}
-AllBelow n (o ∷ os) = (o < n) × AllBelow n os
+AllBelow n os = All (λ o. o < n) os
 
 -- what was done, and who did it
 pub record History : Type 0 where
@@ -112,7 +122,8 @@ IsEmpty items = items ≡ []
 
 -- what the one who took the cell state knows from now on
 abbrev pub taken : Knowledge → List Entry → Bool → List ℕ → ℕ → Knowledge
-taken v all over owners stopper = record v { holding = true; all = all; over = over; owners = owners; stopper = stopper }
+taken v all over owners stopper =
+    record v { holding = true; all = all; over = over; owners = owners; stopper = stopper }
 
 pub record IsTaken (v : Knowledge) (x : CellStateSight) (w : Knowledge) : Type 0 where
   pub config : x.log.config ≡ v.config
@@ -125,7 +136,8 @@ pub record IsTaken (v : Knowledge) (x : CellStateSight) (w : Knowledge) : Type 0
   pub stopped : v.live ≡ true → v.stopped ≡ true → w.over ≡ true
 
 -- what is known of a seat at the end, by the cell state
-pub record IsKnownAtEnd (config : Config) (entries : List Entry) (owners : List ℕ) (over : Bool) (stopper : ℕ) (v : Knowledge) : Type 0 where
+pub record IsKnownAtEnd (config : Config) (entries : List Entry) (owners : List ℕ) (over : Bool) (stopper : ℕ)
+    (v : Knowledge) : Type 0 where
   pub seen : IsPrefix v.seen entries
   pub stopped : v.stopped ≡ true → over ≡ true
   pub receipts : map extract_of v.receipts ≡ extracts_of config v.number owners entries
@@ -137,13 +149,19 @@ Agrees v = IsKnownAtEnd v.config v.all v.owners v.over v.stopper v
 
 -- the view after an application, a refusal, a look and a stop
 abbrev pub added : Knowledge → AppliedEvent → Knowledge
-added v r = record v { holding = false; seen = v.all ++ entry_of r ∷ []; stopped = v.over; receipts = v.receipts ++ r ∷ [] }
+added v r =
+    record v { holding = false; seen = v.all ++ entry_of r ∷ []; stopped = v.over; receipts = v.receipts ++ r ∷ [] }
 
 abbrev pub denial : Event → CellRefusal → ℕ → Denial
 denial event refusal n = record { event = event; refusal = refusal; length = n }
 
 abbrev pub denied : Knowledge → Event → CellRefusal → Knowledge
-denied v event refusal = record v { holding = false; seen = v.all; stopped = v.over; denials = v.denials ++ denial event refusal (length v.all) ∷ [] }
+denied v event refusal = record v {
+  holding = false;
+  seen = v.all;
+  stopped = v.over;
+  denials = v.denials ++ denial event refusal (length v.all) ∷ [];
+}
 
 -- nothing is done, and all is seen
 abbrev pub looked : Knowledge → Knowledge

@@ -1,5 +1,6 @@
 -- What each seat knows is right.
 use Rattle.std.specs.Prelude.{◌≡◌, ◌⊎◌, ℕ, suc, ◌≤◌, Bool, true, false, List, [], ◌∷◌, length, option_map, take, Option, Some, slice_get}
+use Rattle.std.specs.List.{AllByRecursion}
 use Rattle.types.specs.declared.event.Event.{Event}
 use Rattle.types.specs.declared.event.Refusal.TheVariants.{NoMemory}
 use Rattle.crossbeam_queue.specs.Passes.{Pass, view}
@@ -13,7 +14,8 @@ use Rattle.cells.specs.Views.{Denial, CellStateSight, Knowledge}
 
 -- the receipt is that of the entry at its number
 abbrev pub Stands : Config → List Entry → AppliedEvent → Type 0
-Stands config entries r = (e : Entry) × (slice_get entries r.number ≡ Some e) × (extract_of r ≡ extract config (take r.number entries) e)
+Stands config entries r =
+    (e : Entry) × (slice_get entries r.number ≡ Some e) × (extract_of r ≡ extract config (take r.number entries) e)
 
 -- the first refusal that applies to an event after these entries
 abbrev pub refused_by : Config → List Entry → Event → Option CellRefusal
@@ -21,19 +23,19 @@ refused_by config entries event = option_map Network (refusal_of config entries 
 
 -- why an event is refused: memory is wanting, or there is the mark, or it is the first refusal that applies
 abbrev pub IsWhy : Config → List Entry → Bool → Event → CellRefusal → Type 0
-IsWhy config entries stopped event r = (r ≡ Network NoMemory) ⊎ ((r ≡ Closed) × (stopped ≡ true)) ⊎ (refused_by config entries event ≡ Some r)
+IsWhy config entries stopped event r =
+    (r ≡ Network NoMemory) ⊎ ((r ≡ Closed) × (stopped ≡ true)) ⊎ (refused_by config entries event ≡ Some r)
 
 -- the refusal was right after the entries of its number, and the mark is there where it says so
 abbrev pub IsRight : Config → List Entry → Bool → Denial → Type 0
-IsRight config entries stopped d = (d.length ≤ length entries) × IsWhy config (take d.length entries) stopped d.event d.refusal
+IsRight config entries stopped d =
+    (d.length ≤ length entries) × IsWhy config (take d.length entries) stopped d.event d.refusal
 
 abbrev pub AllStand : Config → List Entry → List AppliedEvent → Type 0
-AllStand config entries [] = Unit {0}
-AllStand config entries (r ∷ rs) = Stands config entries r × AllStand config entries rs
+AllStand config entries rs = AllByRecursion (Stands config entries) rs
 
 abbrev pub AllRight : Config → List Entry → Bool → List Denial → Type 0
-AllRight config entries stopped [] = Unit {0}
-AllRight config entries stopped (d ∷ ds) = IsRight config entries stopped d × AllRight config entries stopped ds
+AllRight config entries stopped ds = AllByRecursion (IsRight config entries stopped) ds
 
 -- the numbers rise, from n on
 abbrev pub IsRising : ℕ → List AppliedEvent → Type 0

@@ -18,8 +18,8 @@ pub record Denial : Type 0 where
   pub refusal : CellRefusal
   pub length : ℕ
 
--- What a pass knows. It may be the one that a cell begins with (opening), the one that makes the seats (opens), a seat (live), or a note of
--- one (claims), and may have the cell state (holding).
+-- What a pass knows. It may be the one that a cell begins with (opening), the one that makes the seats (opens), a seat
+-- (live), or a note of one (claims), and may have the cell state (holding).
 pub record Knowledge : Type 0 where
   pub opening : Bool
   pub opens : Bool
@@ -48,4 +48,25 @@ abbrev pub no_config : Config
 no_config = record { number = 0; hosts = []; budgets = record { events = 0; bytes = 0; slots = 0 }; roster = None }
 
 abbrev pub nobody : Knowledge
-nobody = record { opening = false; opens = false; known = false; live = false; claims = false; holding = false; closed = false; made = 0; number = 0; seats = 0; config = no_config; seen = []; stopped = false; receipts = []; denials = []; stops = 0; all = []; owners = []; over = false; stopper = 0 }
+nobody = record {
+  opening = false;
+  opens = false;
+  known = false;
+  live = false;
+  claims = false;
+  holding = false;
+  closed = false;
+  made = 0;
+  number = 0;
+  seats = 0;
+  config = no_config;
+  seen = [];
+  stopped = false;
+  receipts = [];
+  denials = [];
+  stops = 0;
+  all = [];
+  owners = [];
+  over = false;
+  stopper = 0;
+}

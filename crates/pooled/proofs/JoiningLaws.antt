@@ -1,53 +1,34 @@
 -- Slots that a seat asks for, and networks that are opened and join, one after the other.
-use Rattle.std.proofs.Common.{◌≡◌, ◌∙◌, ◌<◌, ◌≤◌, ◌+◌, ℕ, zero, suc, List, [], ◌∷◌, ◌++◌, drop, get_or, length, map, refl, sym, ap, subst, arith}
-use Rattle.std.proofs.lemmas.List.{append-nil, append_assoc}
+use Rattle.std.proofs.Common.{◌≡◌, ◌∙◌, ◌<◌, ◌≤◌, ◌+◌, ℕ, List, [], ◌∷◌, ◌++◌, drop, get_or, length, map, refl, sym, ap, subst, arith}
+use Rattle.std.proofs.lemmas.List.{append-nil, append_assoc, drop_all, drop_more}
 use Rattle.protocol.specs.Hosts.{Config}
 use Rattle.cells.specs.Sights.{CellSight, SeatSight}
 use Rattle.workers.specs.NetSights.{Net}
 use Rattle.workers.specs.Nets.{NoNet, nets_with}
+use Rattle.workers.proofs.Pairs.{zip-append}
 use Rattle.pooled.specs.Opening.{AreHosted, AreReady, HasAsked, HaveAsked, JoinInTurn, IsReady, slots_of}
 use Rattle.pooled.specs.Opening.HaveAsked.{none as asked_none, more as asked_more}
 use Rattle.pooled.specs.Opening.AreHosted.{none as hosted_none, more as hosted_more}
-
-next_is : (opens : List (ℕ × ℕ)) (i : ℕ) (d : ℕ × ℕ) → i < length opens → drop i opens ≡ get_or opens i d ∷ drop (suc i) opens
-next_is [] i d l = absurd (omega (arith, l))
-next_is (o ∷ os) zero d l = refl
-next_is (o ∷ os) (suc i) d l = next_is os i d (omega (arith, l))
 
 -- one slot more
 pub asked_on : (c : CellSight) (opens : List (ℕ × ℕ)) (i : ℕ) (d : ℕ × ℕ) (old seat next : SeatSight) → i < length opens → HasAsked c (get_or opens i d).1 seat next
     → ((u : SeatSight) → HaveAsked c (map (λ o. o.1) (drop i opens)) seat u → HaveAsked c (map (λ o. o.1) opens) old u)
     → (u : SeatSight) → HaveAsked c (map (λ o. o.1) (drop (i + 1) opens)) next u → HaveAsked c (map (λ o. o.1) opens) old u
 asked_on c opens i d old seat next l one rest u later =
-    let at : i + 1 ≡ suc i = omega arith in
-    let tail = subst (λ k. HaveAsked c (map (λ o. o.1) (drop k opens)) next u) at later in
-    rest u (subst (λ os. HaveAsked c (map (λ o. o.1) os) seat u) (sym (next_is opens i d l)) (asked_more one tail))
-
-drop_past : (opens : List (ℕ × ℕ)) (i : ℕ) → length opens ≤ i → drop i opens ≡ []
-drop_past [] zero l = refl
-drop_past [] (suc i) l = refl
-drop_past (o ∷ os) zero l = absurd (omega (arith, l))
-drop_past (o ∷ os) (suc i) l = drop_past os i (omega (arith, l))
+    rest u (subst (λ os. HaveAsked c (map (λ o. o.1) os) seat u) (sym (drop_more opens i d l)) (asked_more one later))
 
 -- no slot is left
 pub asked_all : (c : CellSight) (opens : List (ℕ × ℕ)) (i : ℕ) (old seat : SeatSight) → length opens ≤ i
     → ((u : SeatSight) → HaveAsked c (map (λ o. o.1) (drop i opens)) seat u → HaveAsked c (map (λ o. o.1) opens) old u) → HaveAsked c (map (λ o. o.1) opens) old seat
-asked_all c opens i old seat l rest = rest seat (subst (λ os. HaveAsked c (map (λ o. o.1) os) seat seat) (sym (drop_past opens i l)) asked_none)
+asked_all c opens i old seat l rest = rest seat (subst (λ os. HaveAsked c (map (λ o. o.1) os) seat seat) (sym (drop_all i opens l)) asked_none)
 
 -- ---- networks that are opened, one after the other
-
-pub ready_both : (many : ℕ) (opens : List (ℕ × ℕ)) (cs ds : List Config) (ns ms : List Net) → AreReady many opens cs ns → AreReady many opens ds ms
-    → AreReady many opens (cs ++ ds) (ns ++ ms)
-ready_both many opens [] ds [] ms one other = other
-ready_both many opens [] ds (n ∷ ns) ms one other = absurd one
-ready_both many opens (c ∷ cs) ds [] ms one other = absurd one
-ready_both many opens (c ∷ cs) ds (n ∷ ns) ms one other = (one.0, ready_both many opens cs ds ns ms one.1 other)
 
 -- of one half of the configurations, and of the other
 pub ready_halves : (many : ℕ) (opens : List (ℕ × ℕ)) (all low high : List Config) (ns ms nets : List Net) → all ≡ low ++ high → nets ≡ ns ++ ms
     → AreReady many opens low ns → AreReady many opens high ms → AreReady many opens all nets
 ready_halves many opens all low high ns ms nets all_is nets_is one other =
-    subst (λ (z : List Config × List Net). AreReady many opens z.0 z.1) (λ i. (sym all_is i, sym nets_is i)) (ready_both many opens low high ns ms one other)
+    subst (λ (z : List Config × List Net). AreReady many opens z.0 z.1) (λ i. (sym all_is i, sym nets_is i)) (zip-append _ low high ns ms one other)
 
 -- whatever networks those that are left will be, behind these they are the networks of all
 abbrev pub Opens : ℕ → List (ℕ × ℕ) → List Config → List Config → List Net → Type 0

@@ -1,7 +1,8 @@
 -- Passes by which nothing was put or taken.
-use Rattle.std.proofs.Common.{◌≡◌, ◌∙◌, ◌+◌, ℕ, List, [], ◌∷◌, refl, sym, ap, ap₂, subst, arith}
+use Rattle.std.proofs.Common.{◌≡◌, ◌+◌, ℕ, List, [], ◌∷◌, refl, ap, ap₂, subst, arith}
 use Rattle.std.proofs.Math.Path.{fun_ext}
-use Rattle.crossbeam_queue.specs.Passes.{Pass, view}
+use Rattle.std.proofs.lemmas.List.Elements.{All-head, All-tail}
+use Rattle.crossbeam_queue.specs.Passes.{Pass}
 use Rattle.work.specs.Hands.{weigh}
 use Rattle.work.specs.Queues.{AllPasses, IsFresh, put_by, taken_by}
 use Rattle.work.specs.declared.line.Queue.{Queue}
@@ -14,11 +15,11 @@ use Rattle.pooled.specs.Pooling.{AreDone}
 
 fresh_put : (q : Queue) (ps : List (Pass Job Hand)) → AllPasses (IsFresh q) ps → (h : Job → ℕ) → put_by h ps ≡ 0
 fresh_put q [] all h = refl
-fresh_put q (p ∷ ps) all h = ap₂ (λ a b. a + b) (ap (weigh h) all.0.put) (fresh_put q ps all.1 h)
+fresh_put q (p ∷ ps) all h = ap₂ (λ a b. a + b) (ap (weigh h) (All-head (IsFresh q) p ps all).put) (fresh_put q ps (All-tail (IsFresh q) p ps all) h)
 
 fresh_taken : (q : Queue) (ps : List (Pass Job Hand)) → AllPasses (IsFresh q) ps → (h : Job → ℕ) → taken_by h ps ≡ 0
 fresh_taken q [] all h = refl
-fresh_taken q (p ∷ ps) all h = ap₂ (λ a b. a + b) (ap (weigh h) all.0.taken) (fresh_taken q ps all.1 h)
+fresh_taken q (p ∷ ps) all h = ap₂ (λ a b. a + b) (ap (weigh h) (All-head (IsFresh q) p ps all).taken) (fresh_taken q ps (All-tail (IsFresh q) p ps all) h)
 
 -- what one thread did by fresh passes, and then workers
 pub done : (q : Queue) (ps rs : List (Pass Job Hand)) (jobs : List Job) (ready offered ended : List Net) (one other : Report) → AllPasses (IsFresh q) ps

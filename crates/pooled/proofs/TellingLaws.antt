@@ -1,24 +1,22 @@
 -- What is told of journals, one after the other.
-use Rattle.std.proofs.Common.{◌≡◌, ◌∙◌, ℕ, List, [], ◌∷◌, ◌++◌, drop, length, take, refl, sym, ap, ap₂, subst}
+use Rattle.std.proofs.Common.{◌≡◌, ◌∙◌, ℕ, suc, List, [], ◌∷◌, ◌++◌, drop, length, take, sym, ap, ap₂, arith, subst}
+use Rattle.std.specs.List.{All}
 use Rattle.std.specs.Prelude.{reverse}
 use Rattle.std.proofs.lemmas.List.{append-nil, append_assoc, reverse-append, take-append-drop}
+use Rattle.std.proofs.lemmas.List.Concat.{flat_map-append}
+use Rattle.std.proofs.lemmas.List.Elements.{All-nil, All-push}
 use Rattle.protocol.specs.Runs.{IsRun as Replays}
 use Rattle.scripts.specs.Script.{Bytes}
 use Rattle.hoststep.specs.Logs.{Log}
 use Rattle.cells.specs.Sights.{SeatSight}
 use Rattle.workers.specs.NetSights.{Net}
 use Rattle.workers.specs.Nets.{IsClosedNet}
+use Rattle.workers.proofs.Pairs.{zip-append}
 use Rattle.pooled.specs.Pooling.{AreClosed, AreJournals, AreJournalLines, IsToldMore}
 use Rattle.pooled.specs.PoolLines.{AreAllDecidedLines, AreDecidedLines, length_line, length_lines}
 use Rattle.pooled.specs.PoolLines.AreAllDecidedLines.{none, more}
 
 -- ---- networks close, the last first
-closed_more : (ns : List Net) (ls : List Log) (n : Net) (l : Log) (seats : List SeatSight) → AreClosed ns ls → IsClosedNet n l seats → AreClosed (ns ++ n ∷ []) (ls ++ l ∷ [])
-closed_more [] [] n l seats all one = ((seats, one), tt)
-closed_more [] (k ∷ ks) n l seats all one = absurd all
-closed_more (m ∷ ms) [] n l seats all one = absurd all
-closed_more (m ∷ ms) (k ∷ ks) n l seats all one = (all.0, closed_more ms ks n l seats all.1 one)
-
 reversed_more : (js : List Log) (l : Log) → reverse (js ++ l ∷ []) ≡ l ∷ reverse js
 reversed_more js l = reverse-append js (l ∷ [])
 
@@ -31,7 +29,7 @@ closes_none all js e ls h = subst (AreClosed all) (sym (ap (λ ks. ls ++ reverse
 
 pub closes_more : (all left rest : List Net) (js now : List Log) (n : Net) (l : Log) (seats : List SeatSight) → left ≡ rest ++ n ∷ [] → IsClosedNet n l seats → now ≡ js ++ l ∷ [] → Closes all left js → Closes all rest now
 closes_more all left rest js now n l seats is done grown whole ls h =
-    let old : AreClosed all ((ls ++ l ∷ []) ++ reverse js) = whole (ls ++ l ∷ []) (subst (λ ns. AreClosed ns (ls ++ l ∷ [])) (sym is) (closed_more rest ls n l seats h done)) in
+    let old : AreClosed all ((ls ++ l ∷ []) ++ reverse js) = whole (ls ++ l ∷ []) (subst (λ ns. AreClosed ns (ls ++ l ∷ [])) (sym is) (zip-append _ rest (n ∷ []) ls (l ∷ []) h ((seats, done), tt))) in
     subst (AreClosed all) (append_assoc ls (l ∷ []) (reverse js) ∙ ap (λ ks. ls ++ ks) (sym (ap (λ ks. reverse ks) grown ∙ reversed_more js l))) old
 
 pub all_closed : (all left : List Net) (js : List Log) → left ≡ [] → Closes all left js → AreClosed all (reverse js)
@@ -40,12 +38,7 @@ all_closed all left js empty whole = whole [] (subst (λ ns. AreClosed ns []) (s
 -- ---- journals are told, one after the other
 -- each is a run
 abbrev pub AreRuns : List Log → Type 0
-AreRuns [] = Unit {0}
-AreRuns (l ∷ ls) = Replays l.config l.entries × AreRuns ls
-
-runs_more : (ls : List Log) (l : Log) → AreRuns ls → Replays l.config l.entries → AreRuns (ls ++ l ∷ [])
-runs_more [] l all one = (one, tt)
-runs_more (k ∷ ks) l all one = (all.0, runs_more ks l all.1 one)
+AreRuns ls = All (λ (l : Log). Replays l.config l.entries) ls
 
 -- some of the journals of networks have been told, and those are left
 pub record IsPartTold (nets : List Net) (left : List Log) (decided lengths : Bytes) : Type 0 where
@@ -59,21 +52,21 @@ pub part_none : (nets : List Net) (left : List Log) (decided lengths : Bytes) �
 part_none nets left decided lengths closed e f = record {
   told = [];
   closed = closed;
-  runs = tt;
+  runs = All-nil (λ (l : Log). Replays l.config l.entries);
   lines = subst (AreAllDecidedLines []) (sym e) none;
   long = f;
 }
 
+lines_both : (ls ks : List Log) (text lines : Bytes) → AreAllDecidedLines ls text → AreAllDecidedLines ks lines → AreAllDecidedLines (ls ++ ks) (text ++ lines)
+lines_both [] ks _ lines none other = other
+lines_both (l ∷ ls) ks _ lines (more {lines = own} {others = others} first rest) other =
+    subst (AreAllDecidedLines (l ∷ (ls ++ ks))) (sym (append_assoc own others lines)) (more first (lines_both ls ks others lines rest other))
+
 lines_more : (ls : List Log) (l : Log) (text lines : Bytes) → AreAllDecidedLines ls text → AreDecidedLines l lines → AreAllDecidedLines (ls ++ l ∷ []) (text ++ lines)
-lines_more [] l _ lines none one = subst (AreAllDecidedLines (l ∷ [])) (append-nil lines) (more one none)
-lines_more (k ∷ ks) l _ lines (more {lines = own} {others = others} first rest) one =
-    subst (AreAllDecidedLines (k ∷ (ks ++ l ∷ []))) (sym (append_assoc own others lines)) (more first (lines_more ks l others lines rest one))
+lines_more ls l text lines all one = lines_both ls (l ∷ []) text lines all (subst (AreAllDecidedLines (l ∷ [])) (append-nil lines) (more one none))
 
 lengths_both : (ls ks : List Log) → length_lines (ls ++ ks) ≡ length_lines ls ++ length_lines ks
-lengths_both [] ks = refl
-lengths_both (l ∷ ls) ks =
-    ap (λ s. length_line l.config.number (length l.entries) ++ s) (lengths_both ls ks)
-    ∙ sym (append_assoc (length_line l.config.number (length l.entries)) (length_lines ls) (length_lines ks))
+lengths_both ls ks = flat_map-append (λ (l : Log). length_line l.config.number (length l.entries)) ls ks
 
 lengths_more : (ls : List Log) (l : Log) → length_lines (ls ++ l ∷ []) ≡ length_lines ls ++ length_line l.config.number (length l.entries)
 lengths_more ls l = lengths_both ls (l ∷ []) ∙ ap (λ s. length_lines ls ++ s) (append-nil (length_line l.config.number (length l.entries)))
@@ -84,7 +77,7 @@ pub part_more : (nets : List Net) (js rest : List Log) (l : Log) (decided length
 part_more nets js rest l decided lengths wider longer is next part = record {
   told = part.told ++ l ∷ [];
   closed = subst (AreClosed nets) (ap (λ ks. part.told ++ ks) (ap (λ ks. reverse ks) is ∙ reversed_more rest l) ∙ sym (append_assoc part.told (l ∷ []) (reverse rest))) part.closed;
-  runs = runs_more part.told l part.runs next.0;
+  runs = All-push (λ (k : Log). Replays k.config k.entries) part.told l part.runs next.0;
   lines = subst (AreAllDecidedLines (part.told ++ l ∷ [])) (sym next.1.2) (lines_more part.told l decided next.1.0 part.lines next.1.1);
   long = next.2 ∙ ap (λ s. s ++ length_line l.config.number (length l.entries)) part.long ∙ sym (lengths_more part.told l);
 }
@@ -93,7 +86,7 @@ journals_of : (ns : List Net) (ls : List Log) → AreClosed ns ls → AreRuns ls
 journals_of [] [] closed runs = tt
 journals_of [] (l ∷ ls) closed runs = absurd closed
 journals_of (n ∷ ns) [] closed runs = absurd closed
-journals_of (n ∷ ns) (l ∷ ls) closed runs = ((closed.0, runs.0), journals_of ns ls closed.1 runs.1)
+journals_of (n ∷ ns) (l ∷ ls) closed runs = ((closed.0, runs 0 l (omega arith)), journals_of ns ls closed.1 (λ k d lt. runs (suc k) d (omega arith)))
 
 -- when none is left, it has been told of all
 pub all_told : (nets : List Net) (js : List Log) (decided lengths : Bytes) → js ≡ [] → IsPartTold nets (reverse js) decided lengths → AreJournalLines nets decided lengths
@@ -106,21 +99,10 @@ all_told nets js decided lengths empty part = record {
 
 -- ---- of some networks it has been told, and of the others
 
-journals_both : (ns ms : List Net) (ls ks : List Log) → AreJournals ns ls → AreJournals ms ks → AreJournals (ns ++ ms) (ls ++ ks)
-journals_both [] ms [] ks one other = other
-journals_both [] ms (l ∷ ls) ks one other = absurd one
-journals_both (n ∷ ns) ms [] ks one other = absurd one
-journals_both (n ∷ ns) ms (l ∷ ls) ks one other = (one.0, journals_both ns ms ls ks one.1 other)
-
-lines_both : (ls ks : List Log) (text lines : Bytes) → AreAllDecidedLines ls text → AreAllDecidedLines ks lines → AreAllDecidedLines (ls ++ ks) (text ++ lines)
-lines_both [] ks _ lines none other = other
-lines_both (l ∷ ls) ks _ lines (more {lines = own} {others = others} first rest) other =
-    subst (AreAllDecidedLines (l ∷ (ls ++ ks))) (sym (append_assoc own others lines)) (more first (lines_both ls ks others lines rest other))
-
 told_all : (ns ms : List Net) (decided lines lengths longer : Bytes) → AreJournalLines ns decided lengths → AreJournalLines ms lines longer → AreJournalLines (ns ++ ms) (decided ++ lines) (lengths ++ longer)
 told_all ns ms decided lines lengths longer one other = record {
   logs = one.logs ++ other.logs;
-  journals = journals_both ns ms one.logs other.logs one.journals other.journals;
+  journals = zip-append _ ns ms one.logs other.logs one.journals other.journals;
   lines = lines_both one.logs other.logs decided lines one.lines other.lines;
   long = ap₂ (λ s t. s ++ t) one.long other.long ∙ sym (lengths_both one.logs other.logs);
 }

@@ -1,5 +1,6 @@
 -- Networks as they are hosted, before the first job.
 use Rattle.std.specs.Prelude.{◌≡◌, ◌==◌, ◌⊎◌, ℕ, List, [], ◌∷◌, Some, filter, length, map, slice_get, slice_set}
+use Rattle.std.specs.List.{AllZip}
 use Rattle.types.specs.declared.event.Event.TheVariants.{OpenSlot}
 use Rattle.types.specs.declared.event.Out.{Out}
 use Rattle.protocol.specs.Hosts.{Config}
@@ -23,9 +24,11 @@ HasAsked c slot old new =
 -- a seat has asked to open slots, one after the other
 pub data HaveAsked (c : CellSight) : List ℕ → SeatSight → SeatSight → Type 0 where
   none : {s : SeatSight} → HaveAsked c [] s s
-  more : {slot : ℕ} {slots : List ℕ} {s t u : SeatSight} → HasAsked c slot s t → HaveAsked c slots t u → HaveAsked c (slot ∷ slots) s u
+  more : {slot : ℕ} {slots : List ℕ} {s t u : SeatSight} → HasAsked c slot s t → HaveAsked c slots t u
+      → HaveAsked c (slot ∷ slots) s u
 
--- a network of this configuration with so many seats, of which none has done anything, save that the first has asked to open these slots
+-- a network of this configuration with so many seats, of which none has done anything, save that the first has asked to
+-- open these slots
 pub record IsReady (given : Config) (many : ℕ) (slots : List ℕ) (n : Net) : Type 0 where
   pub config : n.cell.config ≡ given
   pub count : n.cell.seats ≡ many
@@ -39,15 +42,13 @@ pub record IsReady (given : Config) (many : ℕ) (slots : List ℕ) (n : Net) : 
 -- networks of these configurations have joined those that are hosted, one after the other, each with its first slots
 pub data AreHosted (many : ℕ) (opens : List (ℕ × ℕ)) : List Net → List Config → List Net → Type 0 where
   none : {ns : List Net} → AreHosted many opens ns [] ns
-  more : {c : Config} {cs : List Config} {ns ms : List Net} (n : Net) → IsReady c many (slots_of c.number opens) n → NoNet ns c.number
+  more : {c : Config} {cs : List Config} {ns ms : List Net} (n : Net) → IsReady c many (slots_of c.number opens) n
+      → NoNet ns c.number
       → AreHosted many opens (nets_with n ns) cs ms → AreHosted many opens ns (c ∷ cs) ms
 
 -- networks of these configurations, in their order, each with its first slots
 abbrev pub AreReady : ℕ → List (ℕ × ℕ) → List Config → List Net → Type 0
-AreReady many opens [] [] = Unit {0}
-AreReady many opens [] (n ∷ ns) = ⊥
-AreReady many opens (c ∷ cs) [] = ⊥
-AreReady many opens (c ∷ cs) (n ∷ ns) = IsReady c many (slots_of c.number opens) n × AreReady many opens cs ns
+AreReady many opens cs ns = AllZip (λ (c : Config) n. IsReady c many (slots_of c.number opens) n) cs ns
 
 -- networks have joined those that are hosted, one after the other
 abbrev pub JoinInTurn : List Net → List Net → List Net → Type 0

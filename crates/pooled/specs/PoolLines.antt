@@ -16,11 +16,13 @@ spaced one other = one ++ 32 ∷ other
 -- the line of what a node of a network has externalized, with its line feed (10)
 abbrev pub decided_line : ℕ → ExternalizedValue → Bytes
 decided_line g d =
-    codes "decided " ++ spaced (decimal g) (spaced (decimal d.slot) (spaced (text_of_name d.node) (text_of_value d.value ++ 10 ∷ [])))
+    codes "decided "
+    ++ spaced (decimal g) (spaced (decimal d.slot) (spaced (text_of_name d.node) (text_of_value d.value ++ 10 ∷ [])))
 
 -- the lines of what the nodes of a network have externalized at open slots
 abbrev pub AreDecidedLines : Log → Bytes → Type 0
-AreDecidedLines l text = (ds : List ExternalizedValue) × IsDecided l.entries ds × (text ≡ flat_map (decided_line l.config.number) ds)
+AreDecidedLines l text =
+    (ds : List ExternalizedValue) × IsDecided l.entries ds × (text ≡ flat_map (decided_line l.config.number) ds)
 
 -- the line of how many entries a journal has
 abbrev pub length_line : ℕ → ℕ → Bytes
@@ -29,12 +31,14 @@ length_line g n = codes "journal " ++ spaced (decimal g) (decimal n ++ 10 ∷ []
 -- the line of how many jobs were applied, refused and not run
 abbrev pub report_line : ℕ → ℕ → ℕ → Bytes
 report_line applied refused unrun =
-    codes "applied " ++ spaced (decimal applied) (codes "refused " ++ spaced (decimal refused) (codes "unrun " ++ decimal unrun ++ 10 ∷ []))
+    codes "applied "
+    ++ spaced (decimal applied) (codes "refused " ++ spaced (decimal refused) (codes "unrun " ++ decimal unrun ++ 10 ∷ []))
 
 -- the lines of journals, one after the other
 pub data AreAllDecidedLines : List Log → Bytes → Type 0 where
   none : AreAllDecidedLines [] []
-  more : {l : Log} {ls : List Log} {lines others : Bytes} → AreDecidedLines l lines → AreAllDecidedLines ls others → AreAllDecidedLines (l ∷ ls) (lines ++ others)
+  more : {l : Log} {ls : List Log} {lines others : Bytes} → AreDecidedLines l lines → AreAllDecidedLines ls others
+      → AreAllDecidedLines (l ∷ ls) (lines ++ others)
 
 -- the lines of how many entries each journal has
 abbrev pub length_lines : List Log → Bytes

@@ -1,5 +1,6 @@
 -- What becomes of a script whose events are jobs of a pool.
-use Rattle.std.specs.Prelude.{◌≡◌, ◌+◌, ◌++◌, ℕ, List, [], ◌∷◌, length, map}
+use Rattle.std.specs.Prelude.{◌≡◌, ◌+◌, ◌++◌, ℕ, List, [], length, map}
+use Rattle.std.specs.List.{AllZip}
 use Rattle.types.specs.declared.event.Event.{Event}
 use Rattle.protocol.specs.Hosts.{Config}
 use Rattle.protocol.specs.Runs.{IsRun as Replays}
@@ -24,17 +25,12 @@ jobs_of calls = map job_of calls
 
 -- the journals of networks, in their order: each is one history of its network's seats
 abbrev pub AreClosed : List Net → List Log → Type 0
-AreClosed [] [] = Unit {0}
-AreClosed [] (l ∷ ls) = ⊥
-AreClosed (n ∷ ns) [] = ⊥
-AreClosed (n ∷ ns) (l ∷ ls) = ((seats : List SeatSight) × IsClosedNet n l seats) × AreClosed ns ls
+AreClosed ns ls = AllZip (λ n l. (seats : List SeatSight) × IsClosedNet n l seats) ns ls
 
 -- the same, and a run
 abbrev pub AreJournals : List Net → List Log → Type 0
-AreJournals [] [] = Unit {0}
-AreJournals [] (l ∷ ls) = ⊥
-AreJournals (n ∷ ns) [] = ⊥
-AreJournals (n ∷ ns) (l ∷ ls) = (((seats : List SeatSight) × IsClosedNet n l seats) × Replays l.config l.entries) × AreJournals ns ls
+AreJournals ns ls =
+    AllZip (λ n (l : Log). ((seats : List SeatSight) × IsClosedNet n l seats) × Replays l.config l.entries) ns ls
 
 -- of one journal more it was told what its nodes have externalized, and how long it is
 abbrev pub IsToldMore : Log → Bytes → Bytes → Bytes → Bytes → Type 0
@@ -50,14 +46,17 @@ pub record AreJournalLines (nets : List Net) (decided lengths : Bytes) : Type 0 
   pub lines : AreAllDecidedLines logs decided
   pub long : lengths ≡ length_lines logs
 
--- what is printed of networks: what the nodes of each have externalized, then the length of each journal, then the counts of jobs
+-- what is printed of networks: what the nodes of each have externalized, then the length of each journal, then the
+-- counts of jobs
 pub record IsToldOf (nets : List Net) (one other : Report) (text : Bytes) : Type 0 where
   pub decided : Bytes
   pub lengths : Bytes
   pub told : AreJournalLines nets decided lengths
-  pub parts : text ≡ (decided ++ lengths) ++ report_line (one.applied + other.applied) (one.refused + other.refused) (one.unrun + other.unrun)
+  pub parts : text ≡ (decided ++ lengths)
+      ++ report_line (one.applied + other.applied) (one.refused + other.refused) (one.unrun + other.unrun)
 
--- what was done with jobs, first by one thread, then by workers. What the first put in the queue and took from it, weighed, is what the workers find there, and leave.
+-- what was done with jobs, first by one thread, then by workers. What the first put in the queue and took from it,
+-- weighed, is what the workers find there, and leave.
 pub record AreDone (jobs : List Job) (ready ended : List Net) (one other : Report) : Type 0 where
   pub offered : List Net
   pub put : (Job → ℕ) → ℕ
@@ -67,8 +66,10 @@ pub record AreDone (jobs : List Job) (ready ended : List Net) (one other : Repor
   pub grown : AllGrownNets offered ended
   pub runs : IsAllOrNothing offered ended put taken other
 
--- networks of these configurations join, each with so many seats and its first slots; the events are jobs; and what becomes of them is told
-pub record IsPoolText (configs : List Config) (calls : List (ℕ × Event)) (opens : List (ℕ × ℕ)) (workers : ℕ) (text : Bytes) : Type 0 where
+-- networks of these configurations join, each with so many seats and its first slots; the events are jobs; and what
+-- becomes of them is told
+pub record IsPoolText (configs : List Config) (calls : List (ℕ × Event)) (opens : List (ℕ × ℕ)) (workers : ℕ)
+    (text : Bytes) : Type 0 where
   pub ready : List Net
   pub ended : List Net
   pub one : Report

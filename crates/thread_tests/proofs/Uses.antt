@@ -1,5 +1,6 @@
 -- What stays of the passes of a queue when some of them are used.
 use Rattle.std.proofs.Common.{◌≡◌, ℕ, zero, suc, ◌<◌, List, [], ◌∷◌, ◌++◌, length, slice_set, slice_index_or, Result, Ok, Err, MatchResult, refl, ap, ◌∙◌, arith}
+use Rattle.std.proofs.lemmas.List.Elements.{All-cons, All-nil, All-set}
 use Rattle.crossbeam_queue.specs.Passes.{Pass, view}
 use Rattle.work.specs.declared.line.Queue.{Queue}
 use Rattle.work.specs.declared.rule.Hand.{Hand}
@@ -12,16 +13,6 @@ put-parts : (v w : Hand) (x : Job) (n : ℕ) (r : Result (Unit {0}) Job)
 put-parts v w x n (Ok u) h = ap (λ (y : Hand). y.parts) h
 put-parts v w x n (Err y) h = ap (λ (z : Hand). z.parts) h.1
 
-at : (P : Pass Job Hand → Type 0) (l : List (Pass Job Hand)) (k : ℕ) (d : Pass Job Hand) → k < length l → AllPasses P l → P (slice_index_or l k d)
-at P [] k d less all = absurd (omega arith)
-at P (x ∷ xs) zero d less all = all.0
-at P (x ∷ xs) (suc k) d less all = at P xs k d (omega arith) all.1
-
-all-set : (P : Pass Job Hand → Type 0) (l : List (Pass Job Hand)) (k : ℕ) (p : Pass Job Hand) → AllPasses P l → P p → AllPasses P (slice_set l k p)
-all-set P [] k p all one = tt
-all-set P (x ∷ xs) zero p all one = (one, all.1)
-all-set P (x ∷ xs) (suc k) p all one = (all.0, all-set P xs k p all.1 one)
-
 parts-set : (l : List (Pass Job Hand)) (k : ℕ) (p d : Pass Job Hand) → parts p ≡ parts (slice_index_or l k d) → parts_by (slice_set l k p) ≡ parts_by l
 parts-set [] k p d same = refl
 parts-set (x ∷ xs) zero p d same = omega arith
@@ -31,9 +22,8 @@ parts-set (x ∷ xs) (suc k) p d same = let r = parts-set xs k p d same in omega
 used : (q : Queue) (l : List (Pass Job Hand)) (k : ℕ) (p d : Pass Job Hand) → k < length l → AllPasses (IsOf q) l × (parts_by l ≡ 64) → IsPassOfQueue q p → parts p ≡ parts (slice_index_or l k d)
     → AllPasses (IsOf q) (slice_set l k p) × (parts_by (slice_set l k p) ≡ 64)
 used q l k p d less all own same =
-    let was = at (IsOf q) l k d less all.0 in
-    let some_part = was.part in
-    (all-set (IsOf q) l k p all.0 (record { queue = own; part = omega arith }), parts-set l k p d same ∙ all.1)
+    let some_part = (all.0 k d less).part in
+    (All-set (IsOf q) l k p (record { queue = own; part = omega arith }) all.0, parts-set l k p d same ∙ all.1)
 
 pub put-used : (q : Queue) (l : List (Pass Job Hand)) (k : ℕ) (old p d : Pass Job Hand) (x : Job) (n : ℕ) (r : Result (Unit {0}) Job) → k < length l → AllPasses (IsOf q) l × (parts_by l ≡ 64)
     → old ≡ slice_index_or l k d → IsPassOfQueue q p
@@ -45,11 +35,11 @@ put-used q l k old p d x n r less all is own h = used q l k p d less all own (pu
 pub all-used : (q : Queue) (l m : List (Pass Job Hand)) → length m ≡ length l
     → ((i : ℕ) (d : Pass Job Hand) → i < length l → IsOf q (slice_index_or m i d) × (parts (slice_index_or m i d) ≡ parts (slice_index_or l i d)))
     → AllPasses (IsOf q) m × (parts_by m ≡ parts_by l)
-all-used q [] [] len each = (tt, refl)
+all-used q [] [] len each = (All-nil (IsOf q), refl)
 all-used q [] (y ∷ ys) len each = absurd (omega arith)
 all-used q (x ∷ xs) [] len each = absurd (omega arith)
 all-used q (x ∷ xs) (y ∷ ys) len each =
     let here = each 0 x (omega arith) in
     let same = here.1 in
     let rest = all-used q xs ys (omega arith) (λ i d less. each (suc i) d (omega arith)) in
-    let sums = rest.1 in ((here.0, rest.0), omega arith)
+    let sums = rest.1 in (All-cons (IsOf q) y ys here.0 rest.0, omega arith)

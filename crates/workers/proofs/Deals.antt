@@ -1,6 +1,7 @@
 -- Seats dealt, and given back.
 use Rattle.std.proofs.Common.{◌≡◌, ◌≤◌, ◌<◌, ◌+◌, ℕ, zero, suc, List, [], ◌∷◌, ◌++◌, length, length-append, get_or, slice_set, take, refl, sym, ap, ◌∙◌, subst, arith, Option, Some, None, MatchOption, vec_capacity}
 use Rattle.std.specs.Option.{option_to_list}
+use Rattle.std.proofs.lemmas.List.Elements.{All-cons, All-more, All-nil, All-pop, All-push}
 use Rattle.crossbeam_queue.specs.Passes.{Pass, view}
 use Rattle.work.specs.declared.rule.Job.{Job}
 use Rattle.work.specs.declared.rule.Hand.{Hand}
@@ -10,13 +11,15 @@ use Rattle.work.specs.Queues.{put_by, taken_by, parts_by, parts}
 use Rattle.work.proofs.Balances.{weigh-append}
 use Rattle.cells.specs.Sights.{SeatSight}
 use Rattle.workers.specs.declared.deal.SpareSeats.{SpareSeats}
-use Rattle.workers.specs.declared.deal.Room.{Room}
 use Rattle.workers.specs.declared.walk.Walk.{Walk}
 use Rattle.workers.specs.declared.worker.Worker.{Worker}
 use Rattle.workers.specs.Sums.{AllPassing, IsPassing, parts_of, put, taken}
-use Rattle.workers.specs.Spares.{AllBlank, AllFresh, AllHave, AllHold, AllRoomy, IsDealt, IsDealtAll, IsDealtSeat, IsGiven, IsGivenSeat, IsSplit, at_work, on_spares}
+use Rattle.workers.specs.Spares.{AllHave, AllRoomy, IsDealt, IsDealtAll, IsDealtSeat, IsGiven, IsGivenSeat, IsSplit, at_work, on_spares}
 use Rattle.workers.proofs.Sums.{weigh-last}
 use Rattle.workers.proofs.Pools.{parts_weigh, put_weighs, taken_weighs}
+
+pub have_at : {S H P : Type 0} → (n : ℕ) (bs : List (SpareSeats S H P)) (k : ℕ) (b : (SpareSeats S H P)) → AllHave n bs → k < length bs → b ≡ get_or bs k b → n ≤ length b.seats.items
+have_at n bs k b all lt at = subst (λ (s : SpareSeats _ _ _). n ≤ length s.seats.items) (sym at) (all k b lt)
 
 -- dealing a spare seat of each cell
 
@@ -52,14 +55,11 @@ dealt_to_end (suc k) (x ∷ xs) (w ∷ ws) [] all le = absurd all
 dealt_to_end (suc k) (x ∷ xs) (w ∷ ws) (y ∷ ys) all le = (all.0, dealt_to_end k xs ws ys all.1 (omega arith))
 
 pub dealt_to_at : {S H P : Type 0} → (k : ℕ) (xs : List (SpareSeats S H P)) (ws : List (Walk S H P)) (ys : List (SpareSeats S H P)) (a : (SpareSeats S H P)) → IsDealtTo k xs ws ys → k < length ys → a ≡ get_or ys k a → AllHave 1 xs → 0 < length a.seats.items
-dealt_to_at zero xs ws [] a all lt at have = absurd (omega arith)
-dealt_to_at zero xs ws (y ∷ ys) a all lt at have =
-    let h : AllHave 1 (y ∷ ys) = subst (AllHave 1) (sym all.1) have in
-    subst (λ (z : (SpareSeats _ _ _)). 0 < length z.seats.items) (sym at) (let m = h.0 in omega arith)
+dealt_to_at zero xs ws ys a all lt at have = have_at 1 ys 0 a (subst (AllHave 1) (sym all.1) have) lt at
 dealt_to_at (suc k) [] ws ys a all lt at have = absurd all
 dealt_to_at (suc k) (x ∷ xs) [] ys a all lt at have = absurd all
 dealt_to_at (suc k) (x ∷ xs) (w ∷ ws) [] a all lt at have = absurd all
-dealt_to_at (suc k) (x ∷ xs) (w ∷ ws) (y ∷ ys) a all lt at have = dealt_to_at k xs ws ys a all.1 (omega arith) at have.1
+dealt_to_at (suc k) (x ∷ xs) (w ∷ ws) (y ∷ ys) a all lt at have = dealt_to_at k xs ws ys a all.1 (omega arith) at (λ i d l. have (suc i) d (omega arith))
 
 pub dealt_len : {S H P : Type 0} → (xs : List (SpareSeats S H P)) (ws : List (Walk S H P)) (ys : List (SpareSeats S H P)) → IsDealt xs ws ys → (length ys ≡ length xs) × (length ws ≡ length xs)
 dealt_len [] [] [] all = (refl, refl)
@@ -70,19 +70,18 @@ dealt_len (a ∷ xs) (w ∷ ws) [] all = absurd all
 dealt_len (a ∷ xs) (w ∷ ws) (b ∷ ys) all = let r = dealt_len xs ws ys all.1 in (ap suc r.0, ap suc r.1)
 
 pub dealt_have : {S H P : Type 0} → (n : ℕ) (xs : List (SpareSeats S H P)) (ws : List (Walk S H P)) (ys : List (SpareSeats S H P)) → IsDealt xs ws ys → AllHave (suc n) xs → AllHave n ys
-dealt_have n [] [] [] all have = tt
+dealt_have n [] [] [] all have = All-nil (λ (s : SpareSeats _ _ _). n ≤ length s.seats.items)
 dealt_have n [] [] (b ∷ ys) all have = absurd all
 dealt_have n [] (w ∷ ws) ys all have = absurd all
 dealt_have n (a ∷ xs) [] ys all have = absurd all
 dealt_have n (a ∷ xs) (w ∷ ws) [] all have = absurd all
-dealt_have n (a ∷ xs) (w ∷ ws) (b ∷ ys) all have = (
-  (let l : length a.seats.items ≡ length (b.seats.items ++ w.seat ∷ []) = ap (λ (l : List SeatSight). length l) all.0.seats in let m = length-append b.seats.items (w.seat ∷ []) in let h = have.0 in omega arith),
-  dealt_have n xs ws ys all.1 have.1,
-)
+dealt_have n (a ∷ xs) (w ∷ ws) (b ∷ ys) all have =
+    All-cons (λ (s : SpareSeats _ _ _). n ≤ length s.seats.items) b ys
+    (let l : length a.seats.items ≡ length (b.seats.items ++ w.seat ∷ []) = ap (λ (l : List SeatSight). length l) all.0.seats in let m = length-append b.seats.items (w.seat ∷ []) in let h = have 0 a (omega arith) in omega arith)
+    (dealt_have n xs ws ys all.1 (λ k d lt. have (suc k) d (omega arith)))
 
 pub have_less : {S H P : Type 0} → (m n : ℕ) (bs : List (SpareSeats S H P)) → m ≤ n → AllHave n bs → AllHave m bs
-have_less m n [] le all = tt
-have_less m n (b ∷ bs) le all = ((let a = all.0 in omega arith), have_less m n bs le all.1)
+have_less m n bs le all k d lt = omega (arith, le, all k d lt)
 
 pub dealt_sum : {S H P : Type 0} → (f : SeatSight → ℕ) (xs : List (SpareSeats S H P)) (ws : List (Walk S H P)) (ys : List (SpareSeats S H P)) → IsDealt xs ws ys → on_spares f xs ≡ on_spares f ys + weigh (λ (v : (Walk S H P)). f v.seat) ws
 dealt_sum f [] [] [] all = refl
@@ -112,35 +111,18 @@ dealt_all_sum f before (w ∷ ws) after all =
     let a = dealt_sum f before w.walks.items all.0 all.1 in
     let b = dealt_all_sum f all.0 ws after all.2 in omega arith
 
-pub fresh_snoc : {S H P : Type 0} → (ws : List (Worker S H P)) (w : (Worker S H P)) → AllFresh ws → w.applied ≡ 0 → w.refused ≡ 0 → AllFresh (ws ++ w ∷ [])
-fresh_snoc [] w all a r = (a, r, tt)
-fresh_snoc (x ∷ ws) w all a r = (all.0, all.1, fresh_snoc ws w all.2 a r)
-
-pub blank_front : {S H P : Type 0} → (n : ℕ) (rs : List (Room S H P)) (r : (Room S H P)) → AllBlank n (rs ++ r ∷ []) → AllBlank n rs × (r.walks.items ≡ []) × (n ≤ vec_capacity r.walks)
-blank_front n [] r all = (tt, all.0.0, all.0.1)
-blank_front n (x ∷ rs) r all = let s = blank_front n rs r all.1 in ((all.0, s.0), s.1, s.2)
-
-pub blank_snoc : {S H P : Type 0} → (n : ℕ) (rs : List (Room S H P)) (r : (Room S H P)) → AllBlank n rs → r.walks.items ≡ [] → n ≤ vec_capacity r.walks → AllBlank n (rs ++ r ∷ [])
-blank_snoc n [] r all none room = ((none, room), tt)
-blank_snoc n (x ∷ rs) r all none room = (all.0, blank_snoc n rs r all.1 none room)
-
 -- passes that workers have
 
-hold_snoc : {S H P : Type 0} → (q : Option Queue) (ws : List (Worker S H P)) (w : (Worker S H P)) → AllHold q ws → IsPassing q w.pass → AllHold q (ws ++ w ∷ [])
-hold_snoc q [] w all one = (one, tt)
-hold_snoc q (x ∷ ws) w all one = (all.0, hold_snoc q ws w all.1 one)
-
 pub passing_cut : (q : Option Queue) (ps : List (Pass Job Hand)) (o : Option (Pass Job Hand)) → AllPassing q (ps ++ option_to_list o) → AllPassing q ps × IsPassing q o
-passing_cut q [] None all = (tt, tt)
-passing_cut q [] (Some p) all = (tt, all.0)
-passing_cut q (p ∷ ps) o all = let r = passing_cut q ps o all.1 in ((all.0, r.0), r.1)
+passing_cut q ps None all = ((All-pop (λ r. IsPassing q (Some r)) (ps ++ []) ps None refl all).0, tt)
+passing_cut q ps (Some p) all = All-pop (λ r. IsPassing q (Some r)) (ps ++ p ∷ []) ps (Some p) refl all
 
 pub split_more : {S H P : Type 0} → (before : List (Pass Job Hand)) (ws : List (Worker S H P)) (w : (Worker S H P)) (mid after : List (Pass Job Hand)) → IsSplit before ws mid → mid ≡ after ++ option_to_list w.pass → IsSplit before (ws ++ w ∷ []) after
 split_more before ws w mid after s is = record {
   passing = λ q all.
       (let r = s.passing q all in
       let t = passing_cut q after w.pass (subst (AllPassing q) is r.0) in
-      (t.0, hold_snoc q ws w r.1 t.1));
+      (t.0, All-push (λ (v : Worker _ _ _). IsPassing q v.pass) ws w r.1 t.1));
   put_all = λ h.
       (let a = s.put_all h in
       let b : put_by h mid ≡ put_by h after + put h w = ap (put_by h) is ∙ weigh-append (λ (p : Pass Job Hand). weigh h (view p).put) after (option_to_list w.pass) ∙ ap (λ n. put_by h after + n) (put_weighs h w.pass) in
@@ -185,11 +167,11 @@ pub given_from_at : {S H P : Type 0} → (vs ws : List (Walk S H P)) (xs ys : Li
 given_from_at [] [] xs ys v a all at room = absurd all
 given_from_at [] (w ∷ ws) [] ys v a all at room = absurd all
 given_from_at [] (w ∷ ws) (x ∷ xs) [] v a all at room = absurd all
-given_from_at [] (w ∷ ws) (x ∷ xs) (y ∷ ys) v a all at room = subst (λ (z : (SpareSeats _ _ _)). length z.seats.items < vec_capacity z.seats) (sym (at ∙ all.1)) room.0
+given_from_at [] (w ∷ ws) (x ∷ xs) (y ∷ ys) v a all at room = subst (λ (z : (SpareSeats _ _ _)). length z.seats.items < vec_capacity z.seats) (sym (at ∙ all.1)) (room 0 x (omega arith))
 given_from_at (u ∷ vs) [] xs ys v a all at room = absurd all
 given_from_at (u ∷ vs) (w ∷ ws) [] ys v a all at room = absurd all
 given_from_at (u ∷ vs) (w ∷ ws) (x ∷ xs) [] v a all at room = absurd all
-given_from_at (u ∷ vs) (w ∷ ws) (x ∷ xs) (y ∷ ys) v a all at room = given_from_at vs ws xs ys v a all.2 at room.1
+given_from_at (u ∷ vs) (w ∷ ws) (x ∷ xs) (y ∷ ys) v a all at room = given_from_at vs ws xs ys v a all.2 at (λ k d lt. room (suc k) d (omega arith))
 
 pub given_from_lt : {S H P : Type 0} → (vs ws : List (Walk S H P)) (xs ys : List (SpareSeats S H P)) (v : (Walk S H P)) → IsGivenFrom (vs ++ v ∷ []) ws xs ys → length vs < length ys
 given_from_lt [] [] xs ys v all = absurd all
@@ -211,18 +193,9 @@ given_sum f (a ∷ xs) (w ∷ ws) (b ∷ ys) all =
     let l = weigh-last f b.seats.items a.seats.items w.seat all.0.seats in
     let r = given_sum f xs ws ys all.1 in omega arith
 
-pub have_at : {S H P : Type 0} → (n : ℕ) (bs : List (SpareSeats S H P)) (k : ℕ) (b : (SpareSeats S H P)) → AllHave n bs → k < length bs → b ≡ get_or bs k b → n ≤ length b.seats.items
-have_at n [] k b all lt at = absurd (omega arith)
-have_at n (x ∷ bs) zero b all lt at = subst (λ (z : (SpareSeats _ _ _)). n ≤ length z.seats.items) (sym at) all.0
-have_at n (x ∷ bs) (suc k) b all lt at = have_at n bs k b all.1 (omega arith) at
-
-have_suc : {S H P : Type 0} → (n m : ℕ) (bs : List (SpareSeats S H P)) (k : ℕ) (b : (SpareSeats S H P)) → AllHave n (take k bs) → m ≤ n → k < length bs → b ≡ get_or bs k b → m ≤ length b.seats.items → AllHave m (take (suc k) bs)
-have_suc n m [] k b all le lt at one = absurd (omega arith)
-have_suc n m (x ∷ bs) zero b all le lt at one = (subst (λ (z : (SpareSeats _ _ _)). m ≤ length z.seats.items) at one, tt)
-have_suc n m (x ∷ bs) (suc k) b all le lt at one = ((let a = all.0 in omega arith), have_suc n m bs k b all.1 le (omega arith) at one)
-
 pub have_more : {S H P : Type 0} → (n m : ℕ) (bs : List (SpareSeats S H P)) (k : ℕ) (b : (SpareSeats S H P)) → AllHave n (take k bs) → m ≤ n → k < length bs → b ≡ get_or bs k b → m ≤ length b.seats.items → AllHave m (take (k + 1) bs)
-have_more n m bs k b all le lt at one = let more : suc k ≡ k + 1 = omega arith in subst (λ (z : ℕ). AllHave m (take z bs)) more (have_suc n m bs k b all le lt at one)
+have_more n m bs k b all le lt at one =
+    All-more (λ (s : SpareSeats _ _ _). m ≤ length s.seats.items) bs k b lt (have_less m n (take k bs) le all) (subst (λ (s : SpareSeats _ _ _). m ≤ length s.seats.items) at one)
 
 pub one_left : {X : Type 0} (o : Option X) (a b : ℕ) → MatchOption o ((b ≡ 0) × (a ≡ 0)) (λ _. a + 1 ≡ b) → 0 < b → a + 1 ≡ b
 one_left None a b m lt = absurd (let e = m.0 in omega arith)

@@ -1,13 +1,12 @@
 -- The seats of a cell that was opened just now, and the passes of a queue that was made just now.
 use Rattle.std.proofs.Common.{◌≡◌, ◌∙◌, ◌<◌, ℕ, zero, suc, List, [], ◌∷◌, length, get_or, slice_get, slice_set, Some, refl, sym, ap, subst, arith}
 use Rattle.std.specs.List.{All}
-use Rattle.std.proofs.lemmas.List.Elements.{All-head, All-tail}
+use Rattle.std.proofs.lemmas.List.Elements.{All-cons, All-head, All-tail}
 use Rattle.std.proofs.lemmas.Option.{slice_get-get_or}
 use Rattle.protocol.specs.Hosts.{Config}
 use Rattle.cells.specs.Cells.{AllFresh, IsSeatOf}
 use Rattle.cells.specs.Closing.{HasNumber}
 use Rattle.cells.specs.Sights.{CellSight, SeatSight}
-use Rattle.cells.proofs.Seats.{seats_from_all}
 use Rattle.workers.specs.Spares.{IsHosted}
 
 -- each number is a seat's: the first one's, or that of one that is as it was
@@ -24,7 +23,7 @@ pub hosted : (c : CellSight) (config : Config) (n : ℕ) (old : List SeatSight) 
     → IsHosted c (slice_set old 0 s)
 hosted c config n [] s some seats many fresh all own same = absurd (omega arith)
 hosted c config n (a ∷ rest) s some seats many fresh all own same = record {
-  own = (own, seats_from_all (IsSeatOf c) rest (All-tail (IsSeatOf c) a rest all));
+  own = All-cons (IsSeatOf c) s rest own (All-tail (IsSeatOf c) a rest all);
   some = subst (λ k. 0 < k) (sym seats) some;
   all = λ k below. numbered c config n a s rest fresh many (same a refl) k (subst (λ m. k < m) seats below);
 }

@@ -1,3 +1,4 @@
+pub mod Pairs
 pub mod Sums
 pub mod Numbers
 pub mod Pools

@@ -1,8 +1,12 @@
 -- Networks by number, and what they gained.
-use Rattle.std.proofs.Common.{◌≡◌, ◌≤◌, ◌<◌, ◌+◌, nat_lt, ℕ, zero, suc, Bool, true, false, if◌then◌else◌, List, [], ◌∷◌, ◌++◌, length, length-append, get_or, drop, take, map, refl, sym, ap, ◌∙◌, subst, arith, None}
+use Rattle.std.proofs.Common.{◌≡◌, ◌≤◌, ◌<◌, ◌+◌, nat_lt, ℕ, zero, suc, Bool, true, false, if◌then◌else◌, List, [], ◌∷◌, ◌++◌, length, length-append, get_or, drop, take, map, refl, sym, ap, ◌∙◌, subst, arith, None, Some}
 use Rattle.std.specs.List.{insert}
 use Rattle.std.proofs.lemmas.Bool.Decides.{nat_tests}
-use Rattle.std.proofs.lemmas.List.{same_from_push}
+use Rattle.std.proofs.lemmas.List.{drop-map, length-map, map-append, map_push, same_from_push, take-append-drop, take-map}
+use Rattle.std.proofs.lemmas.List.Edits.{length-insert}
+use Rattle.std.proofs.lemmas.List.Elements.{All-cons, All-from_get_or, All-nil, All-pop, All-take}
+use Rattle.std.proofs.lemmas.List.Sorted.{All-permutation, IsPermutation-insert}
+use Rattle.std.proofs.lemmas.Slice.Zip.{AllZip-long}
 use Rattle.std.proofs.Math.Seq.{drop-append_seam}
 use Rattle.work.specs.declared.rule.Job.{Job}
 use Rattle.work.specs.Hands.{weigh}
@@ -21,13 +25,8 @@ use Rattle.workers.specs.NetSights.{Net}
 use Rattle.workers.specs.Nets.{AllElsewhere, AllGrownNets, IsDone, IsHostState, IsGreatest, NoNet, denied, done_since, gained, heard_since, nets_of, nets_with, over_nets, over_seats}
 use Rattle.workers.specs.Numbers.{AllAbove, AllLack, IsNumbered, IsRising, Lacks, number_of}
 use Rattle.workers.proofs.Numbers.{IsPlace, lacks_at}
+use Rattle.workers.proofs.Pairs.{zip-last, zip-same}
 use Rattle.workers.proofs.Worked.{grown_none, hosted_grown}
-
-pub hosted_len : {S H P : Type 0} → (cs : List CellSight) (bs : List (SpareSeats S H P)) → AllHosted cs bs → length bs ≡ length cs
-hosted_len [] [] all = refl
-hosted_len [] (b ∷ bs) all = absurd all
-hosted_len (c ∷ cs) [] all = absurd all
-hosted_len (c ∷ cs) (b ∷ bs) all = ap suc (hosted_len cs bs all.1)
 
 pub nets_len : {S H P : Type 0} → (cs : List CellSight) (bs : List (SpareSeats S H P)) → AllHosted cs bs → length (nets_of cs bs) ≡ length cs
 nets_len [] bs all = refl
@@ -37,42 +36,24 @@ nets_len (c ∷ cs) (b ∷ bs) all = ap suc (nets_len cs bs all.1)
 no_net : {S H P : Type 0} → (cs : List CellSight) (bs : List (SpareSeats S H P)) (x : ℕ) → Lacks cs x → NoNet (nets_of cs bs) x
 no_net [] bs x l = tt
 no_net (c ∷ cs) [] x l = tt
-no_net (c ∷ cs) (b ∷ bs) x l = (l.0, no_net cs bs x l.1)
+no_net (c ∷ cs) (b ∷ bs) x l = (l 0 c (omega arith), no_net cs bs x (λ k d lt. l (suc k) d (omega arith)))
 
 elsewhere : {S H P : Type 0} → (cs : List CellSight) (bs : List (SpareSeats S H P)) (js : List Job) → AllLack cs js → AllElsewhere (nets_of cs bs) js
-elsewhere cs bs [] all = tt
-elsewhere cs bs (j ∷ js) all = (no_net cs bs j.network all.0, elsewhere cs bs js all.1)
-
-map_len : (cs : List CellSight) → length (map number_of cs) ≡ length cs
-map_len [] = refl
-map_len (c ∷ cs) = ap suc (map_len cs)
+elsewhere cs bs js all k d lt = no_net cs bs (get_or js k d).network (all k d lt)
 
 -- one network more
 
-above_all : (x : ℕ) (cs : List CellSight) → ((k : ℕ) → k < length (map number_of cs) → x < get_or (map number_of cs) k 0) → AllAbove x (map number_of cs)
-above_all x [] all = tt
-above_all x (c ∷ cs) all = (all 0 (omega arith), above_all x cs (λ k lt. all (suc k) (omega arith)))
-
-above_insert : (x : ℕ) (cs : List CellSight) (i : ℕ) (c : CellSight) → AllAbove x (map number_of cs) → x < number_of c → AllAbove x (map number_of (insert cs i c))
-above_insert x [] zero c all lt = (lt, tt)
-above_insert x [] (suc i) c all lt = (lt, tt)
-above_insert x (d ∷ cs) zero c all lt = (lt, all)
-above_insert x (d ∷ cs) (suc i) c all lt = (all.0, above_insert x cs i c all.1 lt)
-
-rising_insert : (cs : List CellSight) (i : ℕ) (c : CellSight) → IsRising (map number_of cs) → IsPlace (map number_of cs) (number_of c) i → IsRising (map number_of (insert cs i c))
-rising_insert [] zero c up p = (tt, tt)
-rising_insert [] (suc i) c up p = (tt, tt)
-rising_insert (d ∷ cs) zero c up p = ((p.2 0 (omega arith) (omega arith), above_all (number_of c) cs (λ k lt. p.2 (suc k) (omega arith) (omega arith))), up)
-rising_insert (d ∷ cs) (suc i) c up p = (
-  above_insert (number_of d) cs i c up.0 (p.1 0 (omega arith)),
-  rising_insert cs i c up.1 ((let l = p.0 in omega arith), (λ k lt. p.1 (suc k) (omega arith)), (λ k le lt. p.2 (suc k) (omega arith) (omega arith))),
+rising_insert : (ns : List ℕ) (i x : ℕ) → IsRising ns → IsPlace ns x i → IsRising (insert ns i x)
+rising_insert [] zero x up p = (All-nil (λ y. x < y), tt)
+rising_insert [] (suc i) x up p = (All-nil (λ y. x < y), tt)
+rising_insert (n ∷ ns) zero x up p = (All-from_get_or (λ y. x < y) (n ∷ ns) 0 (λ k lt. p.2 k (omega arith) lt), up)
+rising_insert (n ∷ ns) (suc i) x up p = (
+  All-permutation (λ y. n < y) (x ∷ ns) (insert ns i x) (IsPermutation-insert ns i x) (All-cons (λ y. n < y) x ns (p.1 0 (omega arith)) up.0),
+  rising_insert ns i x up.1 ((let l = p.0 in omega arith), (λ k lt. p.1 (suc k) (omega arith)), (λ k le lt. p.2 (suc k) (omega arith) (omega arith))),
 )
 
 insert_numbers : (cs : List CellSight) (i : ℕ) (c : CellSight) → insert (map number_of cs) i (number_of c) ≡ map number_of (insert cs i c)
-insert_numbers [] zero c = refl
-insert_numbers [] (suc i) c = refl
-insert_numbers (d ∷ cs) zero c = refl
-insert_numbers (d ∷ cs) (suc i) c = ap (λ l. number_of d ∷ l) (insert_numbers cs i c)
+insert_numbers cs i c = (λ j. take-map number_of i cs j ++ number_of c ∷ drop-map number_of i cs j) ∙ sym (map-append number_of (take i cs) (c ∷ drop i cs))
 
 insert_hosted : {S H P : Type 0} → (cs : List CellSight) (bs : List (SpareSeats S H P)) (i : ℕ) (c : CellSight) (b : (SpareSeats S H P)) → i ≤ length cs → AllHosted cs bs → IsHosted c b.seats.items → AllHosted (insert cs i c) (insert bs i b)
 insert_hosted [] [] zero c b le all one = (one, tt)
@@ -103,19 +84,13 @@ insert_nets (d ∷ cs) (x ∷ bs) (suc i) c b all p =
     ap (λ l. m ∷ l) (insert_nets cs bs i c b all.1 ((let l = p.0 in omega arith), (λ k lt. p.1 (suc k) (omega arith)), (λ k le lt. p.2 (suc k) (omega arith) (omega arith))))
     ∙ sym (ap (λ (t : Bool). if t then m ∷ nets_with n (nets_of cs bs) else n ∷ m ∷ nets_of cs bs) (is_below (number_of d) (number_of c) (p.1 0 (omega arith))))
 
-insert_len : (cs : List CellSight) (i : ℕ) (c : CellSight) → length (insert cs i c) ≤ suc (length cs)
-insert_len [] zero c = omega arith
-insert_len [] (suc i) c = omega arith
-insert_len (d ∷ cs) zero c = omega arith
-insert_len (d ∷ cs) (suc i) c = let r = insert_len cs i c in omega arith
-
 pub place_fits : {S H P : Type 0} → (f g : (HostState S H P)) (x i : ℕ) → IsHostState f → IsSameHostState f g → IsPlace f.shared.numbers.items x i → (i ≤ length g.shared.numbers.items) × (i ≤ length g.shared.cells.items) × (i ≤ length g.spares.items)
 place_fits f g x i is same p =
     let a = ap (λ (l : List ℕ). length l) same.numbers in
     let b = ap (λ (l : List CellSight). length l) same.cells in
     let c = ap (λ (l : List (SpareSeats _ _ _)). length l) same.spares in
-    let n = ap (λ (l : List ℕ). length l) is.numbered.0 ∙ map_len f.shared.cells.items in
-    let h = hosted_len f.shared.cells.items f.spares.items is.hosted in
+    let n = ap (λ (l : List ℕ). length l) is.numbered.0 ∙ length-map f.shared.cells.items number_of in
+    let h = AllZip-long _ f.shared.cells.items f.spares.items is.hosted in
     let le = p.0 in
     (omega arith, omega arith, omega arith)
 
@@ -126,15 +101,18 @@ joins f g h i c seats is same p few hosted put =
     let cs = f.shared.cells.items in
     let bs = f.spares.items in
     let q : IsPlace (map number_of cs) (number_of c) i = subst (λ (l : List ℕ). IsPlace l (number_of c) i) is.numbered.0 p in
-    let numbers : h.shared.numbers.items ≡ map number_of (insert cs i c) = put.numbers ∙ ap (λ l. insert l i (number_of c)) (same.numbers ∙ is.numbered.0) ∙ insert_numbers cs i c in
+    let numbers : h.shared.numbers.items ≡ insert f.shared.numbers.items i (number_of c) = put.numbers ∙ ap (λ l. insert l i (number_of c)) same.numbers in
     let cells : h.shared.cells.items ≡ insert cs i c = put.cells ∙ ap (λ l. insert l i c) same.cells in
     let spares : h.spares.items ≡ insert bs i put.spare = put.spares ∙ ap (λ l. insert l i put.spare) same.spares in
-    let le : i ≤ length cs = let a = q.0 in let b = map_len cs in omega arith in
-    let n = ap (λ (l : List ℕ). length l) is.numbered.0 ∙ map_len cs in
-    let len = insert_len cs i c in
+    let le : i ≤ length cs = let a = q.0 in let b = length-map cs number_of in omega arith in
+    let n = ap (λ (l : List ℕ). length l) is.numbered.0 ∙ length-map cs number_of in
+    let len = length-insert cs i c le in
     let many = ap (λ (l : List CellSight). length l) cells in (
       record {
-        numbered = (numbers ∙ sym (ap (map number_of) cells), subst IsRising (sym numbers) (rising_insert cs i c (subst IsRising is.numbered.0 is.numbered.1) q));
+        numbered = (
+          numbers ∙ ap (λ l. insert l i (number_of c)) is.numbered.0 ∙ insert_numbers cs i c ∙ sym (ap (map number_of) cells),
+          subst IsRising (sym numbers) (rising_insert f.shared.numbers.items i (number_of c) is.numbered.1 p),
+        );
         hosted = subst (λ (z : List CellSight). AllHosted z h.spares.items) (sym cells) (subst (AllHosted (insert cs i c)) (sym spares) (insert_hosted cs bs i c put.spare le is.hosted (subst (IsHosted c) (sym put.own) hosted)));
         few = omega arith;
         closed = put.queue ∙ same.queue ∙ is.closed;
@@ -146,34 +124,23 @@ pub joins_fresh : {S H P : Type 0} → (f : (HostState S H P)) (nets : List Net)
 joins_fresh f nets x i view is p few = subst (λ (l : List Net). NoNet l x × (length l < 4096)) view (
   no_net f.shared.cells.items f.spares.items x (lacks_at f.shared.numbers.items f.shared.cells.items x i is.numbered p),
   (let a = nets_len f.shared.cells.items f.spares.items is.hosted in
-      let n = ap (λ (l : List ℕ). length l) is.numbered.0 ∙ map_len f.shared.cells.items in omega arith),
+      let n = ap (λ (l : List ℕ). length l) is.numbered.0 ∙ length-map f.shared.cells.items number_of in omega arith),
 )
 
 -- the last network leaves
 
-above_front : (n : ℕ) (xs : List ℕ) (x : ℕ) → AllAbove n (xs ++ x ∷ []) → AllAbove n xs
-above_front n [] x all = tt
-above_front n (y ∷ xs) x all = (all.0, above_front n xs x all.1)
-
-above_last : (n : ℕ) (xs : List ℕ) (x : ℕ) → AllAbove n (xs ++ x ∷ []) → n < x
-above_last n [] x all = all.0
-above_last n (y ∷ xs) x all = above_last n xs x all.1
+above_both : (n : ℕ) (xs : List ℕ) (x : ℕ) → AllAbove n (xs ++ x ∷ []) → AllAbove n xs × (n < x)
+above_both n xs x all = All-pop (λ y. n < y) (xs ++ x ∷ []) xs (Some x) refl all
 
 rising_front : (xs : List ℕ) (x : ℕ) → IsRising (xs ++ x ∷ []) → IsRising xs
 rising_front [] x up = tt
-rising_front (y ∷ xs) x up = (above_front y xs x up.0, rising_front xs x up.1)
-
-numbers_last : (cs : List CellSight) (c : CellSight) → map number_of (cs ++ c ∷ []) ≡ map number_of cs ++ number_of c ∷ []
-numbers_last [] c = refl
-numbers_last (d ∷ cs) c = ap (λ l. number_of d ∷ l) (numbers_last cs c)
+rising_front (y ∷ xs) x up = ((above_both y xs x up.0).0, rising_front xs x up.1)
 
 hosted_last : {S H P : Type 0} → (cs : List CellSight) (bs : List (SpareSeats S H P)) (c : CellSight) (b : (SpareSeats S H P)) → AllHosted (cs ++ c ∷ []) (bs ++ b ∷ []) → AllHosted cs bs × IsHosted c b.seats.items
-hosted_last [] [] c b all = (tt, all.0)
-hosted_last [] (x ∷ []) c b all = absurd all.1
-hosted_last [] (x ∷ y ∷ bs) c b all = absurd all.1
-hosted_last (d ∷ []) [] c b all = absurd all.1
-hosted_last (d ∷ e ∷ cs) [] c b all = absurd all.1
-hosted_last (d ∷ cs) (x ∷ bs) c b all = let r = hosted_last cs bs c b all.1 in ((all.0, r.0), r.1)
+hosted_last cs bs c b all =
+    let l = zip-last (λ (d : CellSight) (x : SpareSeats _ _ _). IsHosted d x.seats.items) (cs ++ c ∷ []) bs b all in
+    let same = same_from_push cs l.0 c l.1 l.2 in
+    (subst (λ (z : List CellSight). AllHosted z bs) (sym same.0) l.3, subst (λ (d : CellSight). IsHosted d b.seats.items) (sym same.1) l.4)
 
 nets_last : {S H P : Type 0} → (cs : List CellSight) (bs : List (SpareSeats S H P)) (c : CellSight) (b : (SpareSeats S H P)) → AllHosted cs bs → nets_of (cs ++ c ∷ []) (bs ++ b ∷ []) ≡ nets_of cs bs ++ record { cell = c; seats = b.seats.items } ∷ []
 nets_last [] [] c b all = refl
@@ -184,7 +151,7 @@ nets_last (d ∷ cs) (x ∷ bs) c b all = ap (λ l. record { cell = d; seats = x
 greatest : {S H P : Type 0} → (c : CellSight) (seats : List SeatSight) (cs : List CellSight) (bs : List (SpareSeats S H P)) → IsRising (map number_of cs ++ number_of c ∷ []) → IsGreatest (record { cell = c; seats = seats }) (nets_of cs bs)
 greatest c seats [] bs up = tt
 greatest c seats (d ∷ cs) [] up = tt
-greatest c seats (d ∷ cs) (b ∷ bs) up = (above_last (number_of d) (map number_of cs) (number_of c) up.0, greatest c seats cs bs up.1)
+greatest c seats (d ∷ cs) (b ∷ bs) up = ((above_both (number_of d) (map number_of cs) (number_of c) up.0).1, greatest c seats cs bs up.1)
 
 pub leaves : {S H P : Type 0} → (f g : (HostState S H P)) (c : CellSight) (seats : List SeatSight) → IsHostState f → IsRemoved f c seats g
     → IsHostState g × IsHosted c seats × IsGreatest (record { cell = c; seats = seats }) (nets_of g.shared.cells.items g.spares.items)
@@ -194,7 +161,7 @@ leaves {S} {H} {P} f g c seats is gone =
     let cs = g.shared.cells.items in
     let bs = g.spares.items in
     let both = hosted_last cs bs c gone.spare (subst (λ (z : List CellSight × List (SpareSeats S H P)). AllHosted z.0 z.1) (λ i. (gone.cells i, gone.spares i)) is.hosted) in
-    let same : ns ++ gone.number ∷ [] ≡ map number_of cs ++ number_of c ∷ [] = sym gone.numbers ∙ is.numbered.0 ∙ ap (map number_of) gone.cells ∙ numbers_last cs c in
+    let same : ns ++ gone.number ∷ [] ≡ map number_of cs ++ number_of c ∷ [] = sym gone.numbers ∙ is.numbered.0 ∙ ap (map number_of) gone.cells ∙ map_push number_of cs c in
     let up : IsRising (ns ++ gone.number ∷ []) = subst IsRising gone.numbers is.numbered.1 in
     let n = ap (λ (l : List CellSight). length l) gone.cells ∙ length-append cs (c ∷ []) in
     let few = is.few in (
@@ -211,11 +178,6 @@ leaves {S} {H} {P} f g c seats is gone =
 
 -- networks part
 
-above_take : (n k : ℕ) (xs : List ℕ) → AllAbove n xs → AllAbove n (take k xs)
-above_take n zero xs all = tt
-above_take n (suc k) [] all = all
-above_take n (suc k) (x ∷ xs) all = (all.0, above_take n k xs all.1)
-
 rising_drop : (k : ℕ) (xs : List ℕ) → IsRising xs → IsRising (drop k xs)
 rising_drop zero xs up = up
 rising_drop (suc k) [] up = up
@@ -224,17 +186,7 @@ rising_drop (suc k) (x ∷ xs) up = rising_drop k xs up.1
 rising_take : (k : ℕ) (xs : List ℕ) → IsRising xs → IsRising (take k xs)
 rising_take zero xs up = tt
 rising_take (suc k) [] up = up
-rising_take (suc k) (x ∷ xs) up = (above_take x k xs up.0, rising_take k xs up.1)
-
-numbers_drop : (k : ℕ) (cs : List CellSight) → drop k (map number_of cs) ≡ map number_of (drop k cs)
-numbers_drop zero cs = refl
-numbers_drop (suc k) [] = refl
-numbers_drop (suc k) (c ∷ cs) = numbers_drop k cs
-
-numbers_take : (k : ℕ) (cs : List CellSight) → take k (map number_of cs) ≡ map number_of (take k cs)
-numbers_take zero cs = refl
-numbers_take (suc k) [] = refl
-numbers_take (suc k) (c ∷ cs) = ap (λ l. number_of c ∷ l) (numbers_take k cs)
+rising_take (suc k) (x ∷ xs) up = (All-take (λ y. x < y) k xs up.0, rising_take k xs up.1)
 
 hosted_drop : {S H P : Type 0} → (k : ℕ) (cs : List CellSight) (bs : List (SpareSeats S H P)) → AllHosted cs bs → AllHosted (drop k cs) (drop k bs)
 hosted_drop zero cs bs all = all
@@ -264,16 +216,6 @@ nets_take (suc k) [] (b ∷ bs) all = absurd all
 nets_take (suc k) (c ∷ cs) [] all = absurd all
 nets_take (suc k) (c ∷ cs) (b ∷ bs) all = ap (λ l. record { cell = c; seats = b.seats.items } ∷ l) (nets_take k cs bs all.1)
 
-cells_drop : (k : ℕ) (cs : List CellSight) → length (drop k cs) ≤ length cs
-cells_drop zero cs = omega arith
-cells_drop (suc k) [] = omega arith
-cells_drop (suc k) (c ∷ cs) = let r = cells_drop k cs in omega arith
-
-cells_take : (k : ℕ) (cs : List CellSight) → length (take k cs) ≤ length cs
-cells_take zero cs = omega arith
-cells_take (suc k) [] = omega arith
-cells_take (suc k) (c ∷ cs) = let r = cells_take k cs in omega arith
-
 -- the state of a host as its lists are said to be
 host_state_by : {S H P : Type 0} → (f : (HostState S H P)) (ns : List ℕ) (cs : List CellSight) (bs : List (SpareSeats S H P)) → f.shared.numbers.items ≡ ns → f.shared.cells.items ≡ cs → f.spares.items ≡ bs
     → IsNumbered ns cs → AllHosted cs bs → length cs ≤ 4096 → f.shared.queue ≡ None → IsHostState f
@@ -292,12 +234,11 @@ parted f g h k is parts =
     let cs = f.shared.cells.items in
     let bs = f.spares.items in
     let few = is.few in
-    let front = cells_take k cs in
-    let back = cells_drop k cs in (
+    let both = sym (length-append (take k cs) (drop k cs)) ∙ ap (λ (l : List CellSight). length l) (take-append-drop k cs) in (
       host_state_by g (take k ns) (take k cs) (take k bs) parts.first_numbers parts.first_cells parts.first_spares
-          (ap (take k) is.numbered.0 ∙ numbers_take k cs, rising_take k ns is.numbered.1) (hosted_take k cs bs is.hosted) (omega arith) (parts.queue ∙ is.closed),
+          (ap (take k) is.numbered.0 ∙ take-map number_of k cs, rising_take k ns is.numbered.1) (hosted_take k cs bs is.hosted) (omega arith) (parts.queue ∙ is.closed),
       host_state_by h (drop k ns) (drop k cs) (drop k bs) parts.numbers parts.cells parts.spares
-          (ap (drop k) is.numbered.0 ∙ numbers_drop k cs, rising_drop k ns is.numbered.1) (hosted_drop k cs bs is.hosted) (omega arith) parts.none,
+          (ap (drop k) is.numbered.0 ∙ drop-map number_of k cs, rising_drop k ns is.numbered.1) (hosted_drop k cs bs is.hosted) (omega arith) parts.none,
       (λ i. nets_of (parts.first_cells i) (parts.first_spares i)) ∙ nets_take k cs bs is.hosted,
       (λ i. nets_of (parts.cells i) (parts.spares i)) ∙ nets_drop k cs bs is.hosted,
     )
@@ -308,8 +249,8 @@ pub parts_fit : {S H P : Type 0} → (f : (HostState S H P)) (nets : List Net) (
 parts_fit f nets k view is le =
     let a = ap (λ (l : List Net). length l) view in
     let m = nets_len f.shared.cells.items f.spares.items is.hosted in
-    let b = hosted_len f.shared.cells.items f.spares.items is.hosted in
-    let n = ap (λ (l : List ℕ). length l) is.numbered.0 ∙ map_len f.shared.cells.items in
+    let b = AllZip-long _ f.shared.cells.items f.spares.items is.hosted in
+    let n = ap (λ (l : List ℕ). length l) is.numbered.0 ∙ length-map f.shared.cells.items number_of in
     (omega arith, omega arith, omega arith)
 
 -- what was gained
@@ -371,7 +312,7 @@ grown_nets : {S H P : Type 0} → (cs : List CellSight) (xs ys : List (SpareSeat
 grown_nets [] xs ys hosted all = tt
 grown_nets (c ∷ cs) [] ys hosted all = absurd hosted
 grown_nets (c ∷ cs) (x ∷ xs) [] hosted all = absurd all
-grown_nets (c ∷ cs) (x ∷ xs) (y ∷ ys) hosted all = (refl, all.0.0, grown_nets cs xs ys hosted.1 all.1)
+grown_nets (c ∷ cs) (x ∷ xs) (y ∷ ys) hosted all = ((refl, all.0.0), grown_nets cs xs ys hosted.1 all.1)
 
 pub grown_host_state : {S H P : Type 0} → (cs ds : List CellSight) (xs ys : List (SpareSeats S H P)) → ds ≡ cs → AllHosted cs xs → AllGrownSpares xs ys → AllGrownNets (nets_of cs xs) (nets_of ds ys)
 grown_host_state cs ds xs ys is hosted all = subst (λ (l : List CellSight). AllGrownNets (nets_of cs xs) (nets_of l ys)) (sym is) (grown_nets cs xs ys hosted all)
@@ -385,11 +326,10 @@ host_state_after f g is numbers cells queue grown = record {
 }
 
 pub numbered_len : (ns : List ℕ) (cs : List CellSight) → IsNumbered ns cs → length ns ≡ length cs
-numbered_len ns cs n = ap (λ (l : List ℕ). length l) n.0 ∙ map_len cs
+numbered_len ns cs n = ap (λ (l : List ℕ). length l) n.0 ∙ length-map cs number_of
 
 pub nets_same : (ns : List Net) → AllGrownNets ns ns
-nets_same [] = tt
-nets_same (n ∷ ns) = (refl, grown_none n.seats, nets_same ns)
+nets_same ns = zip-same (λ (a b : Net). (b.cell ≡ a.cell) × AllGrown a.seats b.seats) (λ n. (refl, grown_none n.seats)) ns
 
 pub done_after : {S H P : Type 0} → (f g : (HostState S H P)) (nets : List Net) (came went : (Job → ℕ) → ℕ) (r : Report) → IsHostState f → nets_of f.shared.cells.items f.spares.items ≡ nets → g.shared.cells ≡ f.shared.cells → AllGrownSpares f.spares.items g.spares.items → IsWorked f.shared.cells.items f.spares.items g.spares.items came went r → IsDone nets (nets_of g.shared.cells.items g.spares.items) came went r
 done_after f g nets came went r is view cells grown w =

@@ -1,20 +1,17 @@
 -- Numbers that rise.
-use Rattle.std.proofs.Common.{◌≡◌, ◌<◌, ◌≤◌, ℕ, zero, suc, List, [], ◌∷◌, length, map, get_or, arith, subst, Result, Ok, Err}
+use Rattle.std.proofs.Common.{◌≡◌, ◌<◌, ◌≤◌, ℕ, zero, suc, List, [], ◌∷◌, length, map, get_or, arith, subst, sym, ◌∙◌, ⊎_elim, Result, Ok, Err}
+use Rattle.std.proofs.lemmas.Bool.{cases_lt}
+use Rattle.std.proofs.lemmas.List.{get_or-map, length-map}
 use Rattle.std.specs.Ordering.{nat_cmp}
 use Rattle.std.specs.List.Sorted.{IsBinarySearchResult}
 use Rattle.std.proofs.lemmas.List.Sorted.{searched}
 use Rattle.cells.specs.Sights.{CellSight}
-use Rattle.workers.specs.Numbers.{AllAbove, IsRising, IsNumbered, IsNumberAt, Lacks, number_of}
-
-above_at : (x : ℕ) (xs : List ℕ) (j : ℕ) → AllAbove x xs → j < length xs → x < get_or xs j 0
-above_at x [] j all lt = absurd (omega arith)
-above_at x (y ∷ ys) zero all lt = all.0
-above_at x (y ∷ ys) (suc j) all lt = above_at x ys j all.1 (omega arith)
+use Rattle.workers.specs.Numbers.{IsRising, IsNumbered, IsNumberAt, Lacks, number_of}
 
 rising_at : (xs : List ℕ) → IsRising xs → (i j : ℕ) → i ≤ j → j < length xs → get_or xs i 0 ≤ get_or xs j 0
 rising_at [] up i j le lt = absurd (omega arith)
 rising_at (x ∷ xs) up zero zero le lt = omega arith
-rising_at (x ∷ xs) up zero (suc j) le lt = let a = above_at x xs j up.0 (omega arith) in omega arith
+rising_at (x ∷ xs) up zero (suc j) le lt = let a = up.0 j 0 (omega arith) in omega arith
 rising_at (x ∷ xs) up (suc i) zero le lt = absurd (omega arith)
 rising_at (x ∷ xs) up (suc i) (suc j) le lt = rising_at xs up.1 i j (omega arith) (omega arith)
 
@@ -30,15 +27,10 @@ found ns cs x k numbered result =
     number_there cs k x t.0 t.1
 
 lacks_by : (cs : List CellSight) (x i : ℕ) → ((k : ℕ) → k < i → get_or (map number_of cs) k 0 < x) → ((k : ℕ) → i ≤ k → k < length (map number_of cs) → x < get_or (map number_of cs) k 0) → Lacks cs x
-lacks_by [] x i low high = tt
-lacks_by (c ∷ cs) x zero low high = (
-  (λ e. let m = high 0 (omega arith) (omega arith) in omega arith),
-  lacks_by cs x zero (λ k lt. absurd (omega arith)) (λ k le lt. high (suc k) (omega arith) (omega arith)),
-)
-lacks_by (c ∷ cs) x (suc i) low high = (
-  (λ e. let m = low 0 (omega arith) in omega arith),
-  lacks_by cs x i (λ k lt. low (suc k) (omega arith)) (λ k le lt. high (suc k) (omega arith) (omega arith)),
-)
+lacks_by cs x i low high k d lt e =
+    let here : get_or (map number_of cs) k 0 ≡ x = get_or-map number_of cs k d 0 lt ∙ sym e in
+    let within = length-map cs number_of in
+    ⊎_elim (λ (less : k < i). let m = low k less in omega arith) (λ (le : i ≤ k). let m = high k le (omega arith) in omega arith) (cases_lt k i)
 
 -- where a number would stand
 abbrev pub IsPlace : List ℕ → ℕ → ℕ → Type 0

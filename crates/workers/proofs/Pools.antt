@@ -1,7 +1,8 @@
 -- The sums of all workers, when the queue is closed.
-use Rattle.std.proofs.Common.{◌≡◌, ◌<◌, ◌+◌, ℕ, zero, suc, List, [], ◌∷◌, ◌++◌, length, length-append, take, drop, map, get_or, slice_set, refl, sym, ap, ◌∙◌, subst, arith, Option, Some, None, append_assoc, append-nil}
+use Rattle.std.proofs.Common.{◌≡◌, ◌<◌, ◌+◌, ℕ, List, [], ◌∷◌, ◌++◌, length, length-append, take, map, get_or, slice_set, refl, sym, ap, ◌∙◌, subst, arith, Option, Some, None, append_assoc, append-nil}
 use Rattle.std.specs.Option.{option_to_list}
 use Rattle.std.proofs.lemmas.List.{take_more}
+use Rattle.std.proofs.lemmas.List.Elements.{All-append, All-cons, All-map, All-nil, All-tail}
 use Rattle.crossbeam_queue.specs.Passes.{Pass, view}
 use Rattle.work.specs.declared.rule.Job.{Job}
 use Rattle.work.specs.declared.rule.Hand.{Hand}
@@ -12,12 +13,12 @@ use Rattle.work.proofs.Balances.{weigh-append}
 use Rattle.cells.specs.Sights.{CellSight}
 use Rattle.workers.specs.declared.worker.Worker.{Worker}
 use Rattle.workers.specs.Sums.{AllLaterWorkers, AllPassing, AllReady, IsClosed, KeepsSums, IsPassing, IsReady, IsSummed, told, at_rest, denials_of, done, hand_of, applied_by, refused_by, parts_of, passes_of, put, receipts_of, taken}
-use Rattle.workers.proofs.Sums.{all_lack_both, all_later_both, all_later_none, all_of}
+use Rattle.workers.specs.Numbers.{IsElsewhere}
+use Rattle.workers.proofs.Pairs.{zip-then}
+use Rattle.workers.proofs.Sums.{all_later_both, all_later_none}
 
 pub ready_at : {S H P : Type 0} → (cs : List CellSight) (q : Option Queue) (ws : List (Worker S H P)) (k : ℕ) (w : (Worker S H P)) → AllReady cs q ws → k < length ws → w ≡ get_or ws k w → IsReady cs q w
-ready_at cs q [] k w all lt at = absurd (omega arith)
-ready_at cs q (x ∷ xs) zero w all lt at = subst (IsReady cs q) (sym at) all.0
-ready_at cs q (x ∷ xs) (suc k) w all lt at = ready_at cs q xs k w all.1 (omega arith) at
+ready_at cs q ws k w all lt at = subst (IsReady cs q) (sym at) (all k w lt)
 
 -- the passes of the workers
 
@@ -27,14 +28,6 @@ passes_of-append (x ∷ xs) w = ap (λ l. option_to_list x.pass ++ l) (passes_of
 
 pub passes_more : {S H P : Type 0} → (xs : List (Worker S H P)) (i : ℕ) (w : (Worker S H P)) → i < length xs → w ≡ get_or xs i w → passes_of (take (i + 1) xs) ≡ passes_of (take i xs) ++ option_to_list w.pass
 passes_more xs i w lt at = ap passes_of (take_more xs i w lt ∙ ap (λ (y : (Worker _ _ _)). take i xs ++ y ∷ []) (sym at)) ∙ passes_of-append (take i xs) w
-
-seam_at : {S H P : Type 0} (xs : List (Worker S H P)) (i : ℕ) (d : Worker S H P) → i < length xs → get_or (map at_rest (take i xs) ++ drop i xs) i d ≡ get_or xs i d
-seam_at [] i d lt = absurd (omega arith)
-seam_at (x ∷ xs) zero d lt = refl
-seam_at (x ∷ xs) (suc i) d lt = seam_at xs i d (omega arith)
-
-pub seam_read : {S H P : Type 0} (xs ys : List (Worker S H P)) (i : ℕ) (d : Worker S H P) → i < length xs → ys ≡ map at_rest (take i xs) ++ drop i xs → get_or ys i d ≡ get_or xs i d
-seam_read xs ys i d lt is = ap (λ l. get_or l i d) is ∙ seam_at xs i d lt
 
 one_weighs : (f : Pass Job Hand → ℕ) (g : Hand → ℕ) → ((p : Pass Job Hand) → f p ≡ g (view p)) → g (hand_of None) ≡ 0 → (o : Option (Pass Job Hand)) → weigh f (option_to_list o) ≡ g (hand_of o)
 one_weighs f g same none None = sym none
@@ -68,26 +61,24 @@ all_parts_of ws = all_weigh parts (λ (v : Hand). v.parts) (λ p. refl) refl ws
 pub parts_all : {S H P : Type 0} → (ps qs : List (Pass Job Hand)) (ws : List (Worker S H P)) → qs ≡ ps ++ passes_of ws → parts_by ps + weigh parts_of ws ≡ all_parts → parts_by qs ≡ all_parts
 parts_all ps qs ws is all = ap parts_by is ∙ weigh-append parts ps (passes_of ws) ∙ (let a = all_parts_of ws in omega arith)
 
-pub passing_append : (q : Option Queue) (ps qs : List (Pass Job Hand)) → AllPassing q ps → AllPassing q qs → AllPassing q (ps ++ qs)
-passing_append q [] qs a b = b
-passing_append q (p ∷ ps) qs a b = (a.0, passing_append q ps qs a.1 b)
-
 pub passing_one : (q : Option Queue) (o : Option (Pass Job Hand)) → IsPassing q o → AllPassing q (option_to_list o)
-passing_one q None p = tt
-passing_one q (Some x) p = (p, tt)
+passing_one q None p = All-nil (λ r. IsPassing q (Some r))
+passing_one q (Some x) p = All-cons (λ r. IsPassing q (Some r)) x [] p (All-nil (λ r. IsPassing q (Some r)))
 
 passing_workers : {S H P : Type 0} → (cs : List CellSight) (q : Option Queue) (ws : List (Worker S H P)) → AllReady cs q ws → AllPassing q (passes_of ws)
-passing_workers cs q [] all = tt
-passing_workers cs q (w ∷ ws) all = passing_append q (option_to_list w.pass) (passes_of ws) (passing_one q w.pass all.0.passing) (passing_workers cs q ws all.1)
+passing_workers cs q [] all = All-nil (λ r. IsPassing q (Some r))
+passing_workers cs q (w ∷ ws) all =
+    All-append (λ r. IsPassing q (Some r)) (option_to_list w.pass) (passes_of ws) (passing_one q w.pass (all 0 w (omega arith)).passing)
+    (passing_workers cs q ws (All-tail (IsReady cs q) w ws all))
 
 pub all_pass : {S H P : Type 0} → (cs : List CellSight) (o : Option Queue) (q : Queue) (ps qs : List (Pass Job Hand)) (ws : List (Worker S H P)) → o ≡ Some q → qs ≡ ps ++ passes_of ws → AllPassing o ps → AllReady cs o ws → AllPasses (IsOf q) qs
-all_pass cs o q ps qs ws some is p r = all_of q qs (subst (λ x. AllPassing x qs) some (subst (AllPassing o) (sym is) (passing_append o ps (passes_of ws) p (passing_workers cs o ws r))))
+all_pass cs o q ps qs ws some is p r =
+    subst (λ x. AllPassing x qs) some (subst (AllPassing o) (sym is) (All-append (λ x. IsPassing o (Some x)) ps (passes_of ws) p (passing_workers cs o ws r)))
 
 -- workers without passes
 
 pub rest_ready : {S H P : Type 0} → (cs : List CellSight) (q : Option Queue) (ws : List (Worker S H P)) → AllReady cs q ws → AllReady cs None (map at_rest ws)
-rest_ready cs q [] all = tt
-rest_ready cs q (w ∷ ws) all = (record { seated = all.0.seated; passing = tt; past = all.0.past }, rest_ready cs q ws all.1)
+rest_ready cs q ws all = All-map (IsReady cs None) at_rest ws (λ k d lt. let r = all k d lt in record { seated = r.seated; passing = tt; past = r.past })
 
 weigh_rest : {S H P : Type 0} → (f : (Worker S H P) → ℕ) (ws : List (Worker S H P)) → weigh f (map at_rest ws) ≡ weigh (λ (w : (Worker S H P)). f (at_rest w)) ws
 weigh_rest f [] = refl
@@ -102,15 +93,7 @@ no_put h None n = (refl, refl)
 no_put h (Some p) n = absurd n
 
 pub later_workers_both : {S H P : Type 0} → (xs ys zs : List (Worker S H P)) → AllLaterWorkers xs ys → AllLaterWorkers ys zs → AllLaterWorkers xs zs
-later_workers_both [] [] zs a b = b
-later_workers_both [] (y ∷ ys) zs a b = absurd a
-later_workers_both (x ∷ xs) [] zs a b = absurd a
-later_workers_both (x ∷ xs) (y ∷ ys) [] a b = absurd b
-later_workers_both (x ∷ xs) (y ∷ ys) (z ∷ zs) a b = (all_later_both x.walks.items y.walks.items z.walks.items a.0 b.0, later_workers_both xs ys zs a.1 b.1)
-
-pub first_ready : {S H P : Type 0} → (cs : List CellSight) (ws : List (Worker S H P)) (w : (Worker S H P)) → AllReady cs None ws → IsReady cs None w → AllReady cs None (slice_set ws 0 w)
-first_ready cs [] w all one = tt
-first_ready cs (x ∷ xs) w all one = (one, all.1)
+later_workers_both xs ys zs a b = zip-then _ _ _ (λ (x y z : Worker _ _ _). all_later_both x.walks.items y.walks.items z.walks.items) xs ys zs a b
 
 -- what the first worker does at the end closes the sums of all
 pub closed : {S H P : Type 0} → (cs : List CellSight) (xs zs : List (Worker S H P)) (ps qs : List (Pass Job Hand)) (a c : (Worker S H P)) (left : List Job)
@@ -141,7 +124,7 @@ closed cs (x ∷ xs) zs ps qs a c left lt at after all close nc kept =
 pub closed_after : {S H P : Type 0} → (cs : List CellSight) (ps : List (Pass Job Hand)) (xs ys zs : List (Worker S H P)) → IsSummed cs xs ys → IsClosed cs ps ys zs → IsClosed cs ps xs zs
 closed_after cs ps xs ys zs s e = record {
   lacking = s.lacking ++ e.lacking;
-  elsewhere = all_lack_both cs s.lacking e.lacking s.elsewhere e.elsewhere;
+  elsewhere = All-append (IsElsewhere cs) s.lacking e.lacking s.elsewhere e.elsewhere;
   sum = λ h. let x = s.sum h in let y = e.sum h in let z = weigh-append h s.lacking e.lacking in omega arith;
   applied = let x = s.applied in let y = e.applied in omega arith;
   refused = let x = s.refused in let y = e.refused in let z = length-append s.lacking e.lacking in omega arith;
@@ -150,7 +133,7 @@ closed_after cs ps xs ys zs s e = record {
 
 pub rest_first : {S H P : Type 0} → (cs : List CellSight) (q : Option Queue) (xs ys : List (Worker S H P)) (d : (Worker S H P)) → 0 < length xs → ys ≡ map at_rest xs → AllReady cs q xs → IsReady cs None (get_or ys 0 d)
 rest_first cs q [] ys d lt is all = absurd (omega arith)
-rest_first cs q (x ∷ xs) ys d lt is all = subst (λ (l : List (Worker _ _ _)). IsReady cs None (get_or l 0 d)) (sym is) (record { seated = all.0.seated; passing = tt; past = all.0.past })
+rest_first cs q (x ∷ xs) ys d lt is all = subst (λ (l : List (Worker _ _ _)). IsReady cs None (get_or l 0 d)) (sym is) (rest_ready cs q (x ∷ xs) all 0 d (omega arith))
 
 rest_is : {S H P : Type 0} → (xs ys : List (Worker S H P)) (d : (Worker S H P)) → 0 < length xs → ys ≡ map at_rest xs → get_or ys 0 d ≡ get_or (map at_rest xs) 0 (get_or ys 0 d)
 rest_is [] ys d lt is = absurd (omega arith)

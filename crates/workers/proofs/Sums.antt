@@ -4,7 +4,10 @@ use Rattle.types.specs.declared.event.Out.{Out}
 use Rattle.types.specs.declared.event.Out.TheVariants.{ArmNomination, ArmBallot, Emit, Externalized}
 use Rattle.protocol.specs.Networks.{HostedNode}
 use Rattle.workers.specs.declared.walk.SlotEmission.{SlotEmission}
-use Rattle.std.proofs.lemmas.List.{take-append-le, take_more, reverse-append, at_drop_more, at_drop_all}
+use Rattle.std.proofs.lemmas.Bool.{cases_eq}
+use Rattle.std.proofs.lemmas.List.{take-append-le, take_more, reverse-append, at_drop_more, at_drop_all, get_or_default, get_or-set_other, length-set}
+use Rattle.std.proofs.lemmas.List.Elements.{All-append, All-cons, All-nil}
+use Rattle.std.proofs.lemmas.Slice.Zip.{AllZip-long}
 use Rattle.std.proofs.Common.{reverse}
 use Rattle.std.proofs.Math.ListN.{get_or-append}
 use Rattle.std.proofs.Common.{drop}
@@ -12,7 +15,7 @@ use Rattle.protocol.specs.Hosts.{Config}
 use Rattle.work.specs.declared.rule.Job.{Job}
 use Rattle.work.specs.declared.rule.Hand.{Hand}
 use Rattle.work.specs.Hands.{weigh}
-use Rattle.work.proofs.Balances.{weigh-append}
+use Rattle.work.proofs.Balances.{weigh-append, weigh-snoc}
 use Rattle.cells.specs.Receipts.{AppliedEvent}
 use Rattle.cells.specs.Views.{Denial}
 use Rattle.cells.specs.Sights.{CellSight}
@@ -20,18 +23,12 @@ use Rattle.cells.specs.Cells.{IsSeatOf}
 use Rattle.cells.specs.Sights.{SeatSight}
 use Rattle.workers.specs.declared.walk.Walk.{Walk}
 use Rattle.workers.specs.declared.worker.Worker.{Worker}
-use Rattle.workers.specs.Numbers.{Lacks, AllLack, IsNumberAt}
-use Rattle.workers.specs.Sums.{job, hears, applied_of, refused_of, heard_of, done_by, told_by, applied_many, refused_many, seat_done, hand_of, IsWalk, AllSeated, IsLater, AllLater, IsDone, done, told, put, taken, KeepsSums, with_put, with_taken, AllPast, AllPastBut, hear_by, hears_of, hears_from, emission_in, IsNext, IsShort, SamePlaces, IsThrough, AllReady, IsSummed, IsReady, IsBusy}
+use Rattle.workers.specs.Numbers.{IsElsewhere, Lacks, IsNumberAt}
+use Rattle.workers.proofs.Pairs.{zip-at, zip-same, zip-set, zip-then}
+use Rattle.workers.specs.Sums.{job, hears, applied_of, refused_of, heard_of, done_by, told_by, applied_many, refused_many, seat_done, hand_of, IsWalk, AllSeated, IsLater, AllLater, IsDone, done, told, put, taken, KeepsSums, with_put, with_taken, AllPast, AllPastBut, IsPast, hear_by, hears_of, hears_from, emission_in, IsNext, IsShort, SamePlaces, IsThrough, IsSummed, IsReady, IsBusy}
 use Rattle.work.specs.declared.line.Queue.{Queue}
-use Rattle.std.proofs.Common.{Option, Some, None}
-use Rattle.crossbeam_queue.specs.Passes.{Pass}
-use Rattle.work.specs.Queues.{AllPasses, IsOf}
-use Rattle.workers.specs.Sums.{AllPassing, IsPassing}
-
-pub get_or_same : {X : Type 0} (ws : List X) (k : ℕ) (d e : X) → k < length ws → get_or ws k d ≡ get_or ws k e
-get_or_same [] k d e lt = absurd (omega arith)
-get_or_same (w ∷ ws) zero d e lt = refl
-get_or_same (w ∷ ws) (suc k) d e lt = get_or_same ws k d e (omega arith)
+use Rattle.std.proofs.Common.{Option, Some, None, ⊎_elim}
+use Rattle.workers.specs.Sums.{IsPassing}
 
 -- lists with one element changed
 
@@ -39,24 +36,6 @@ pub weigh_set : {S H P : Type 0} → (f : (Walk S H P) → ℕ) (ws : List (Walk
 weigh_set f [] k old w lt is = absurd (omega arith)
 weigh_set f (x ∷ xs) zero old w lt is = let s : f old ≡ f x = ap f is in omega arith
 weigh_set f (x ∷ xs) (suc k) old w lt is = let s = weigh_set f xs k old w (omega arith) is in omega arith
-
-pub seated_at : {S H P : Type 0} → (cs : List CellSight) (ws : List (Walk S H P)) (k : ℕ) (c : CellSight) (w : (Walk S H P)) → AllSeated cs ws → k < length cs → c ≡ get_or cs k c → w ≡ get_or ws k w → IsWalk c w
-seated_at [] ws k c w all lt is at = absurd (omega arith)
-seated_at (x ∷ xs) [] k c w all lt is at = absurd all
-seated_at (x ∷ xs) (y ∷ ys) zero c w all lt is at = subst (λ (z : CellSight). IsWalk z w) (sym is) (subst (λ (z : Walk _ _ _). IsWalk x z) (sym at) all.0)
-seated_at (x ∷ xs) (y ∷ ys) (suc k) c w all lt is at = seated_at xs ys k c w all.1 (omega arith) is at
-
-pub seated_many : {S H P : Type 0} → (cs : List CellSight) (ws : List (Walk S H P)) → AllSeated cs ws → length ws ≡ length cs
-seated_many [] [] all = refl
-seated_many [] (w ∷ ws) all = absurd all
-seated_many (c ∷ cs) [] all = absurd all
-seated_many (c ∷ cs) (w ∷ ws) all = ap suc (seated_many cs ws all.1)
-
-pub seated_set : {S H P : Type 0} → (cs : List CellSight) (ws : List (Walk S H P)) (k : ℕ) (c : CellSight) (w : (Walk S H P)) → AllSeated cs ws → k < length cs → c ≡ get_or cs k c → IsWalk c w → AllSeated cs (slice_set ws k w)
-seated_set [] ws k c w all lt is now = absurd (omega arith)
-seated_set (x ∷ xs) [] k c w all lt is now = absurd all
-seated_set (x ∷ xs) (y ∷ ys) zero c w all lt is now = (subst (λ (z : CellSight). IsWalk z w) is now, all.1)
-seated_set (x ∷ xs) (y ∷ ys) (suc k) c w all lt is now = (all.0, seated_set xs ys k c w all.1 (omega arith) is now)
 
 -- the same seat later
 
@@ -77,50 +56,24 @@ later_both a b c x y = record {
 }
 
 pub all_later_none : {S H P : Type 0} → (ws : List (Walk S H P)) → AllLater ws ws
-all_later_none [] = tt
-all_later_none (w ∷ ws) = (later_none w.seat, all_later_none ws)
+all_later_none ws = zip-same (λ (a b : Walk _ _ _). IsLater a.seat b.seat) (λ w. later_none w.seat) ws
 
 pub all_later_both : {S H P : Type 0} → (xs ys zs : List (Walk S H P)) → AllLater xs ys → AllLater ys zs → AllLater xs zs
-all_later_both [] [] cs x y = y
-all_later_both [] (b ∷ bs) cs x y = absurd x
-all_later_both (a ∷ xs) [] cs x y = absurd x
-all_later_both (a ∷ xs) (b ∷ ys) [] x y = absurd y
-all_later_both (a ∷ xs) (b ∷ ys) (c ∷ zs) x y = (later_both a.seat b.seat c.seat x.0 y.0, all_later_both xs ys zs x.1 y.1)
+all_later_both xs ys zs x y = zip-then _ _ _ (λ (a b c : Walk _ _ _). later_both a.seat b.seat c.seat) xs ys zs x y
 
 pub all_later_set : {S H P : Type 0} → (ws : List (Walk S H P)) (k : ℕ) (old w : (Walk S H P)) → k < length ws → old ≡ get_or ws k old → IsLater old.seat w.seat → AllLater ws (slice_set ws k w)
-all_later_set [] k old w lt is l = absurd (omega arith)
-all_later_set (x ∷ xs) zero old w lt is l = (subst (λ (z : (Walk _ _ _)). IsLater z.seat w.seat) is l, all_later_none xs)
-all_later_set (x ∷ xs) (suc k) old w lt is l = (later_none x.seat, all_later_set xs k old w (omega arith) is l)
-
-pub later_at : {S H P : Type 0} → (xs ys : List (Walk S H P)) (k : ℕ) (a b : (Walk S H P)) → AllLater xs ys → k < length xs → a ≡ get_or xs k a → b ≡ get_or ys k b → IsLater a.seat b.seat
-later_at [] ys k a b all lt is at = absurd (omega arith)
-later_at (x ∷ xs) [] k a b all lt is at = absurd all
-later_at (x ∷ xs) (y ∷ ys) zero a b all lt is at = subst (λ (z : Walk _ _ _). IsLater z.seat b.seat) (sym is) (subst (λ (z : Walk _ _ _). IsLater x.seat z.seat) (sym at) all.0)
-later_at (x ∷ xs) (y ∷ ys) (suc k) a b all lt is at = later_at xs ys k a b all.1 (omega arith) is at
+all_later_set ws k old w lt is l = zip-set (λ (a b : Walk _ _ _). IsLater a.seat b.seat) ws ws k old w (all_later_none ws) lt is l
 
 -- places that stay
 
 pub places_none : {S H P : Type 0} → (ws : List (Walk S H P)) → SamePlaces ws ws
-places_none [] = tt
-places_none (w ∷ ws) = (refl, places_none ws)
+places_none ws = zip-same (λ (a b : Walk _ _ _). b.place ≡ a.place) (λ w. refl) ws
 
 pub places_both : {S H P : Type 0} → (xs ys zs : List (Walk S H P)) → SamePlaces xs ys → SamePlaces ys zs → SamePlaces xs zs
-places_both [] [] zs x y = y
-places_both [] (b ∷ bs) zs x y = absurd x
-places_both (a ∷ xs) [] zs x y = absurd x
-places_both (a ∷ xs) (b ∷ ys) [] x y = absurd y
-places_both (a ∷ xs) (b ∷ ys) (c ∷ zs) x y = (y.0 ∙ x.0, places_both xs ys zs x.1 y.1)
+places_both xs ys zs x y = zip-then _ _ _ (λ (a b c : Walk _ _ _) (p : b.place ≡ a.place) (q : c.place ≡ b.place). q ∙ p) xs ys zs x y
 
 pub places_set : {S H P : Type 0} → (ws : List (Walk S H P)) (k : ℕ) (old w : (Walk S H P)) → k < length ws → old ≡ get_or ws k old → w.place ≡ old.place → SamePlaces ws (slice_set ws k w)
-places_set [] k old w lt is e = absurd (omega arith)
-places_set (x ∷ xs) zero old w lt is e = (e ∙ ap (λ (z : (Walk _ _ _)). z.place) is, places_none xs)
-places_set (x ∷ xs) (suc k) old w lt is e = (refl, places_set xs k old w (omega arith) is e)
-
-pub place_at : {S H P : Type 0} → (xs ys : List (Walk S H P)) (k : ℕ) (a b : (Walk S H P)) → SamePlaces xs ys → k < length xs → a ≡ get_or xs k a → b ≡ get_or ys k b → b.place ≡ a.place
-place_at [] ys k a b all lt is at = absurd (omega arith)
-place_at (x ∷ xs) [] k a b all lt is at = absurd all
-place_at (x ∷ xs) (y ∷ ys) zero a b all lt is at = ap (λ (z : (Walk _ _ _)). z.place) at ∙ all.0 ∙ sym (ap (λ (z : (Walk _ _ _)). z.place) is)
-place_at (x ∷ xs) (y ∷ ys) (suc k) a b all lt is at = place_at xs ys k a b all.1 (omega arith) is at
+places_set ws k old w lt is e = zip-set (λ (a b : Walk _ _ _). b.place ≡ a.place) ws ws k old w (places_none ws) lt is e
 
 -- the receipt at the place stays, and there are no fewer
 pub next_later : {S H P : Type 0} → (a b : (Walk S H P)) (r : AppliedEvent) → IsLater a.seat b.seat → b.place ≡ a.place → a.place < length a.seat.me.receipts → IsNext a r → IsNext b r × (b.place < length b.seat.me.receipts)
@@ -135,7 +88,9 @@ pub short_at : {S H P : Type 0} → (ws : List (Walk S H P)) (k : ℕ) (w : (Wal
 short_at ws k w short is = subst (λ (v : (Walk _ _ _)). v.place < length v.seat.me.receipts) (sym is) (short.1 w)
 
 pub still_next : {S H P : Type 0} → (xs ys : List (Walk S H P)) (k : ℕ) (a b : (Walk S H P)) (r : AppliedEvent) → IsShort xs k → a ≡ get_or xs k a → b ≡ get_or ys k b → SamePlaces xs ys → AllLater xs ys → IsNext a r → IsNext b r × (b.place < length b.seat.me.receipts)
-still_next xs ys k a b r short is at places later next = next_later a b r (later_at xs ys k a b later short.0 is at) (place_at xs ys k a b places short.0 is at) (short_at xs k a short is) next
+still_next xs ys k a b r short is at places later next =
+    next_later a b r (zip-at (λ (u v : Walk _ _ _). IsLater u.seat v.seat) xs ys k a b later short.0 is at)
+    (zip-at (λ (u v : Walk _ _ _). v.place ≡ u.place) xs ys k a b places short.0 is at) (short_at xs k a short is) next
 
 pub moved_walk : {S H P : Type 0} → (c : CellSight) (w v : (Walk S H P)) → IsWalk c w → w.place < length w.seat.me.receipts → v.seat ≡ w.seat → v.place ≡ w.place + 1 → IsWalk c v
 moved_walk c w v walk lt seat place = (subst (IsSeatOf c) (sym seat) walk.0, (let l : length v.seat.me.receipts ≡ length w.seat.me.receipts = ap (λ (s : SeatSight). length s.me.receipts) seat in omega arith))
@@ -204,7 +159,7 @@ found_network n (Emit s) (Some m) e is = sym (ap (λ (x : SlotEmission). x.netwo
     some_same e = cc
 
 pub number_at : (cs : List CellSight) (k : ℕ) (c : CellSight) (n m : ℕ) → k < length cs → c ≡ get_or cs k c → n ≡ c.config.number → m ≡ n → IsNumberAt cs k m
-number_at cs k c n m lt at is same = λ d. ap (λ (x : CellSight). x.config.number) (get_or_same cs k d c lt ∙ sym at) ∙ sym (same ∙ is)
+number_at cs k c n m lt at is same = λ d. ap (λ (x : CellSight). x.config.number) (get_or_default cs k d c lt ∙ sym at) ∙ sym (same ∙ is)
 
 -- all outs of the receipt were handed on
 pub hears_whole : {S H P : Type 0} (c : CellSight) (w : Walk S H P) (config : Config) (r : AppliedEvent) (index mark : ℕ) (handed : List Job) → IsWalk c w → config ≡ c.config → length r.outs ≤ index → handed ++ hears_from config (drop index r.outs) (drop mark r.marks) ≡ hears config r → handed ≡ hears w.seat.me.config r
@@ -215,20 +170,15 @@ hears_whole c w config r index mark handed walk is le all =
 
 -- past all receipts but one seat's
 
-pub past_but : {S H P : Type 0} → (ws : List (Walk S H P)) (k : ℕ) → AllPast ws → AllPastBut k ws
-past_but [] k all = tt
-past_but (w ∷ ws) zero all = all.1
-past_but (w ∷ ws) (suc k) all = (all.0, past_but ws k all.1)
-
 pub past_set : {S H P : Type 0} → (ws : List (Walk S H P)) (k : ℕ) (v : (Walk S H P)) → AllPastBut k ws → AllPastBut k (slice_set ws k v)
-past_set [] k v all = tt
-past_set (w ∷ ws) zero v all = all
-past_set (w ∷ ws) (suc k) v all = (all.0, past_set ws k v all.1)
+past_set ws k v all i d apart lt = subst IsPast (sym (get_or-set_other ws k i v d apart)) (all i d apart (omega (arith, lt, length-set ws k v)))
 
 pub past_all : {S H P : Type 0} → (ws : List (Walk S H P)) (k : ℕ) (w : (Walk S H P)) → AllPastBut k ws → w ≡ get_or ws k w → length w.seat.me.receipts ≤ w.place → AllPast ws
-past_all [] k w all is one = tt
-past_all (x ∷ xs) zero w all is one = (subst (λ (y : (Walk _ _ _)). length y.seat.me.receipts ≤ y.place) is one, all)
-past_all (x ∷ xs) (suc k) w all is one = (all.0, past_all xs k w all.1 is one)
+past_all ws k w all is one i d lt =
+    ⊎_elim
+    (λ (e : i ≡ k). subst IsPast (is ∙ get_or_default ws k w d (subst (λ j. j < length ws) e lt) ∙ ap (λ j. get_or ws j d) (sym e)) one)
+    (λ apart. all i d apart lt)
+    (cases_eq i k)
 
 -- one job by one seat
 
@@ -278,17 +228,13 @@ done_ill a b c j x here walk seat place number event unchanged more =
 
 -- what a worker keeps
 
-pub all_lack_both : (cs : List CellSight) (xs ys : List Job) → AllLack cs xs → AllLack cs ys → AllLack cs (xs ++ ys)
-all_lack_both cs [] ys a b = b
-all_lack_both cs (x ∷ xs) ys a b = (a.0, all_lack_both cs xs ys a.1 b)
-
 pub kept_none : {S H P : Type 0} → (cs : List CellSight) (a : (Worker S H P)) → KeepsSums cs [] a a
-kept_none cs a = record { lacking = []; elsewhere = tt; sum = λ h. omega arith; applied = omega arith; refused = omega arith; later = all_later_none a.walks.items; parts = refl }
+kept_none cs a = record { lacking = []; elsewhere = All-nil (IsElsewhere cs); sum = λ h. omega arith; applied = omega arith; refused = omega arith; later = all_later_none a.walks.items; parts = refl }
 
 pub kept_both : {S H P : Type 0} → (cs : List CellSight) (xs ys : List Job) (a b c : (Worker S H P)) → KeepsSums cs xs a b → KeepsSums cs ys b c → KeepsSums cs (xs ++ ys) a c
 kept_both cs xs ys a b c k l = record {
   lacking = k.lacking ++ l.lacking;
-  elsewhere = all_lack_both cs k.lacking l.lacking k.elsewhere l.elsewhere;
+  elsewhere = All-append (IsElsewhere cs) k.lacking l.lacking k.elsewhere l.elsewhere;
   sum = λ h. let x = k.sum h in let y = l.sum h in let z = weigh-append h k.lacking l.lacking in let w = weigh-append h xs ys in omega arith;
   applied = let x = k.applied in let y = l.applied in omega arith;
   refused = let x = k.refused in let y = l.refused in let z = length-append k.lacking l.lacking in omega arith;
@@ -300,7 +246,7 @@ kept_both cs xs ys a b c k l = record {
 pub kept_lacking : {S H P : Type 0} → (cs : List CellSight) (a b : (Worker S H P)) (j : Job) → Lacks cs j.network → b.walks.items ≡ a.walks.items → b.pass ≡ a.pass → b.applied ≡ a.applied → b.refused ≡ a.refused + 1 → KeepsSums cs (j ∷ []) a b
 kept_lacking cs a b j lacks walks pass applied refused = record {
   lacking = j ∷ [];
-  elsewhere = (lacks, tt);
+  elsewhere = All-cons (IsElsewhere cs) j [] lacks (All-nil (IsElsewhere cs));
   sum = λ h.
       let d : done h b ≡ done h a = ap (weigh (done_by h)) walks in
       let k : told h b ≡ told h a = ap (weigh (told_by h)) walks in
@@ -320,7 +266,7 @@ pub kept_done : {S H P : Type 0} → (cs : List CellSight) (a b : (Worker S H P)
     → KeepsSums cs (j ∷ []) a b
 kept_done cs a b j k old new well lt at one walks pass applied refused = record {
   lacking = [];
-  elsewhere = tt;
+  elsewhere = All-nil (IsElsewhere cs);
   sum = λ h.
       let d : done h b ≡ weigh (done_by h) (slice_set a.walks.items k new) = ap (weigh (done_by h)) walks in
       let s = weigh_set (done_by h) a.walks.items k old new lt at in
@@ -349,7 +295,7 @@ kept_put cs a b j walks applied refused pass =
     let items : b.walks.items ≡ a.walks.items = ap (λ v. v.items) walks in
     record {
       lacking = [];
-      elsewhere = tt;
+      elsewhere = All-nil (IsElsewhere cs);
       sum = λ h.
           let d : done h b ≡ done h a = ap (weigh (done_by h)) items in
           let k : told h b ≡ told h a = ap (weigh (told_by h)) items in
@@ -432,12 +378,12 @@ kept_moved cs a b c k w v r xs lt at next short is seat place walks pass applied
     }
 
 summed_none : {S H P : Type 0} (cs : List CellSight) → IsSummed {S = S} {H = H} {P = P} cs [] []
-summed_none cs = record { lacking = []; elsewhere = tt; sum = λ h. refl; applied = refl; refused = refl; later = tt; parts = refl }
+summed_none cs = record { lacking = []; elsewhere = All-nil (IsElsewhere cs); sum = λ h. refl; applied = refl; refused = refl; later = tt; parts = refl }
 
 summed_one : {S H P : Type 0} → (cs : List CellSight) (a b : (Worker S H P)) (xs ys : List (Worker S H P)) → KeepsSums cs [] a b → IsSummed cs xs ys → IsSummed cs (a ∷ xs) (b ∷ ys)
 summed_one cs a b xs ys k s = record {
   lacking = k.lacking ++ s.lacking;
-  elsewhere = all_lack_both cs k.lacking s.lacking k.elsewhere s.elsewhere;
+  elsewhere = All-append (IsElsewhere cs) k.lacking s.lacking k.elsewhere s.elsewhere;
   sum = λ h. let x = k.sum h in let y = s.sum h in let z = weigh-append h k.lacking s.lacking in omega arith;
   applied = let x = k.applied in let y = s.applied in omega arith;
   refused = let x = k.refused in let y = s.refused in let z = length-append k.lacking s.lacking in omega arith;
@@ -446,19 +392,16 @@ summed_one cs a b xs ys k s = record {
 }
 
 -- the workers' sums are added up
-pub summed : {S H P : Type 0} → (cs : List CellSight) (q : Option Queue) (xs ys : List (Worker S H P)) → length ys ≡ length xs → ((i : ℕ) (d : (Worker S H P)) → i < length xs → IsThrough cs q (get_or xs i d) (get_or ys i d)) → IsSummed cs xs ys × AllReady cs q ys
-summed cs q [] [] len all = (summed_none cs, tt)
+pub summed : {S H P : Type 0} → (cs : List CellSight) (q : Option Queue) (xs ys : List (Worker S H P)) → length ys ≡ length xs → ((i : ℕ) (d : (Worker S H P)) → i < length xs → IsThrough cs q (get_or xs i d) (get_or ys i d)) → IsSummed cs xs ys
+summed cs q [] [] len all = summed_none cs
 summed cs q [] (y ∷ ys) len all = absurd (omega arith)
 summed cs q (x ∷ xs) [] len all = absurd (omega arith)
-summed cs q (x ∷ xs) (y ∷ ys) len all =
-    let t = all 0 x (omega arith) in
-    let r = summed cs q xs ys (omega arith) (λ i d lt. all (suc i) d (omega arith)) in
-    (summed_one cs x y xs ys t.kept r.0, (t.ready, r.1))
+summed cs q (x ∷ xs) (y ∷ ys) len all = summed_one cs x y xs ys (all 0 x (omega arith)).kept (summed cs q xs ys (omega arith) (λ i d lt. all (suc i) d (omega arith)))
 
 -- the last of a list
 
 pub weigh-last : {X : Type 0} (f : X → ℕ) (before after : List X) (x : X) → before ≡ after ++ x ∷ [] → weigh f before ≡ weigh f after + f x
-weigh-last f before after x is = ap (weigh f) is ∙ weigh-append f after (x ∷ []) ∙ omega arith
+weigh-last f before after x is = ap (weigh f) is ∙ weigh-snoc f after x
 
 -- one job more was handed out, the last of those that were left
 pub one_handed : {S H P : Type 0} → (cs : List CellSight) (all left now handed : List Job) (j : Job) (a b c : (Worker S H P)) → left ≡ now ++ j ∷ []
@@ -470,17 +413,13 @@ one_handed cs all left now handed j a b c is sum kept one = (
   kept_both cs handed (j ∷ []) a b c kept one,
 )
 
-pub all_of : (q : Queue) (ps : List (Pass Job Hand)) → AllPassing (Some q) ps → AllPasses (IsOf q) ps
-all_of q [] all = tt
-all_of q (p ∷ ps) all = (all.0, all_of q ps all.1)
-
 -- states between two jobs
 
 pub is_seated : {S H P : Type 0} → (cs : List CellSight) (q : Option Queue) (k : ℕ) (w : (Worker S H P)) → IsBusy cs q k w → k < length w.walks.items
-is_seated cs q k w b = let m = seated_many cs w.walks.items b.seated in let lt = b.there in omega arith
+is_seated cs q k w b = let m = AllZip-long IsWalk cs w.walks.items b.seated in let lt = b.there in omega arith
 
 pub busy : {S H P : Type 0} → (cs : List CellSight) (q : Option Queue) (k : ℕ) (w : (Worker S H P)) → k < length cs → IsReady cs q w → IsBusy cs q k w
-busy cs q k w lt r = record { seated = r.seated; passing = r.passing; there = lt; past = past_but w.walks.items k r.past }
+busy cs q k w lt r = record { seated = r.seated; passing = r.passing; there = lt; past = λ i d apart. r.past i d }
 
 pub settled : {S H P : Type 0} → (cs : List CellSight) (q : Option Queue) (k : ℕ) (w : (Worker S H P)) (v : (Walk S H P)) → IsBusy cs q k w → v ≡ get_or w.walks.items k v → length v.seat.me.receipts ≤ v.place → IsReady cs q w
 settled cs q k w v b is past = record { seated = b.seated; passing = b.passing; past = past_all w.walks.items k v b.past is past }
@@ -494,14 +433,14 @@ ready_same cs q a b walks passing r =
 -- one walk was changed
 pub busy_set : {S H P : Type 0} → (cs : List CellSight) (q : Option Queue) (k : ℕ) (a b : (Worker S H P)) (c : CellSight) (v : (Walk S H P)) → b.walks.items ≡ slice_set a.walks.items k v → b.pass ≡ a.pass → c ≡ get_or cs k c → IsWalk c v → IsBusy cs q k a → IsBusy cs q k b
 busy_set cs q k a b c v items pass at walk r = record {
-  seated = subst (AllSeated cs) (sym items) (seated_set cs a.walks.items k c v r.seated r.there at walk);
+  seated = subst (AllSeated cs) (sym items) (zip-set IsWalk cs a.walks.items k c v r.seated r.there at walk);
   passing = subst (IsPassing q) (sym pass) r.passing;
   there = r.there;
   past = subst (AllPastBut k) (sym items) (past_set a.walks.items k v r.past);
 }
 
 pub short_of : {S H P : Type 0} → (ws : List (Walk S H P)) (k : ℕ) (w : (Walk S H P)) → k < length ws → w ≡ get_or ws k w → w.place < length w.seat.me.receipts → IsShort ws k
-short_of ws k w lt at short = (lt, λ d. subst (λ (v : (Walk _ _ _)). v.place < length v.seat.me.receipts) (at ∙ get_or_same ws k w d lt) short)
+short_of ws k w lt at short = (lt, λ d. subst (λ (v : (Walk _ _ _)). v.place < length v.seat.me.receipts) (at ∙ get_or_default ws k w d lt) short)
 
 weigh-reverse : {X : Type 0} (h : X → ℕ) (xs : List X) → weigh h (reverse xs) ≡ weigh h xs
 weigh-reverse h [] = refl

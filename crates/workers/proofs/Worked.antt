@@ -1,5 +1,9 @@
 -- What a run did, over all seats.
-use Rattle.std.proofs.Common.{◌≡◌, ◌≤◌, ◌<◌, ◌+◌, ℕ, zero, suc, List, [], ◌∷◌, ◌++◌, length, get_or, take, drop, refl, sym, ap, ◌∙◌, subst, arith, Option, Some, None, slice_get}
+use Rattle.std.proofs.Common.{◌≡◌, ◌≤◌, ◌<◌, ◌+◌, ℕ, suc, List, [], ◌∷◌, ◌++◌, length, get_or, take, drop, refl, sym, ap, ◌∙◌, subst, arith, Option, Some, None, slice_get, vec_capacity}
+use Rattle.std.specs.List.{AllZip}
+use Rattle.std.proofs.lemmas.List.Elements.{All-append, All-cons, All-head, All-nil, All-pop, All-tail, AllZip-get_or, AllZip-push}
+use Rattle.std.proofs.lemmas.Option.{get_or_from_slice_get, slice_get-get_or, slice_get_within}
+use Rattle.std.proofs.lemmas.Slice.Zip.{AllZip-long}
 use Rattle.std.proofs.lemmas.List.{take_all, take_more}
 use Rattle.std.proofs.Math.Seq.{take-append_seam}
 use Rattle.crossbeam_queue.specs.Passes.{Pass, view}
@@ -8,7 +12,7 @@ use Rattle.work.specs.declared.rule.Hand.{Hand}
 use Rattle.work.specs.declared.line.Queue.{Queue}
 use Rattle.work.specs.Hands.{weigh}
 use Rattle.work.specs.Queues.{put_by, taken_by, parts_by}
-use Rattle.work.proofs.Balances.{weigh-append}
+use Rattle.work.proofs.Balances.{weigh-append, weigh-snoc}
 use Rattle.cells.specs.Sights.{CellSight}
 use Rattle.cells.specs.Cells.{IsSeatOf}
 use Rattle.cells.specs.Closing.{AllSeats}
@@ -17,25 +21,23 @@ use Rattle.workers.specs.declared.deal.SpareSeats.{SpareSeats}
 use Rattle.workers.specs.declared.running.Report.{Report}
 use Rattle.workers.specs.declared.walk.Walk.{Walk}
 use Rattle.workers.specs.declared.worker.Worker.{Worker}
-use Rattle.workers.specs.Sums.{AllLater, AllLaterWorkers, AllPassing, AllPast, AllReady, AllSeated, IsClosed, IsLater, IsReady, applied_by, told, told_by, denials_of, done, heard_of, parts_of, put, receipts_of, refused_by, seat_applied, seat_done, seat_heard, seat_refused, taken}
-use Rattle.workers.specs.Spares.{AllFresh, AllGrown, AllGrownSpares, AllHave, AllHold, AllHosted, AllRoomy, IsCounted, IsDealt, IsDealtAll, IsGiven, IsSplit, IsWorked, at_work, on_spares}
+use Rattle.workers.specs.Sums.{AllLater, AllLaterWorkers, AllPassing, AllPast, AllReady, AllSeated, IsClosed, IsPast, IsLater, IsReady, applied_by, told, told_by, denials_of, done, heard_of, parts_of, put, receipts_of, refused_by, seat_applied, seat_done, seat_heard, seat_refused, taken}
+use Rattle.workers.specs.Spares.{AllFresh, AllGrown, AllGrownSpares, AllHave, AllHold, AllHosted, AllRoomy, IsCounted, IsHosted, IsDealt, IsDealtAll, IsGiven, IsSplit, IsWorked, at_work, on_spares}
+use Rattle.workers.proofs.Pairs.{zip-same, zip-then}
 use Rattle.workers.proofs.Sums.{later_none}
 use Rattle.workers.proofs.Deals.{dealt_all_sum, dealt_len, dealt_sum, given_sum, passing_cut}
-use Rattle.workers.proofs.Pools.{parts_weigh, passing_append, passing_one, put_weighs, taken_weighs}
+use Rattle.workers.proofs.Pools.{parts_weigh, passing_one, put_weighs, taken_weighs}
 use Rattle.std.specs.Option.{option_to_list}
 use Rattle.workers.specs.Sums.{KeepsSums, IsPassing}
 use Rattle.work.specs.Queues.{parts}
 
 pub weigh_more : {X : Type 0} (f : X → ℕ) (xs : List X) (i : ℕ) (x : X) → i < length xs → x ≡ get_or xs i x → weigh f (take (i + 1) xs) ≡ weigh f (take i xs) + f x
-weigh_more f xs i x lt at = ap (weigh f) (take_more xs i x lt ∙ ap (λ y. take i xs ++ y ∷ []) (sym at)) ∙ weigh-append f (take i xs) (x ∷ []) ∙ omega arith
+weigh_more f xs i x lt at = ap (weigh f) (take_more xs i x lt ∙ ap (λ y. take i xs ++ y ∷ []) (sym at)) ∙ weigh-snoc f (take i xs) x
 
 -- own seats of each cell
 
 abbrev pub AllOwn : {S H P : Type 0} → List CellSight → List (SpareSeats S H P) → Type 0
-AllOwn [] [] = Unit {0}
-AllOwn [] (b ∷ bs) = ⊥
-AllOwn (c ∷ cs) [] = ⊥
-AllOwn (c ∷ cs) (b ∷ bs) = AllSeats (IsSeatOf c) b.seats.items × AllOwn cs bs
+AllOwn cs bs = AllZip (λ (c : CellSight) (b : SpareSeats _ _ _). AllSeats (IsSeatOf c) b.seats.items) cs bs
 
 own : {S H P : Type 0} → (cs : List CellSight) (bs : List (SpareSeats S H P)) → AllHosted cs bs → AllOwn cs bs
 own [] [] all = tt
@@ -43,12 +45,8 @@ own [] (b ∷ bs) all = absurd all
 own (c ∷ cs) [] all = absurd all
 own (c ∷ cs) (b ∷ bs) all = (all.0.own, own cs bs all.1)
 
-seats_front : (P : SeatSight → Type 0) (xs : List SeatSight) (s : SeatSight) → AllSeats P (xs ++ s ∷ []) → AllSeats P xs × P s
-seats_front P [] s all = (tt, all.0)
-seats_front P (x ∷ xs) s all = let r = seats_front P xs s all.1 in ((all.0, r.0), r.1)
-
 own_dealt : {S H P : Type 0} → (cs : List CellSight) (xs : List (SpareSeats S H P)) (ws : List (Walk S H P)) (ys : List (SpareSeats S H P)) → AllOwn cs xs → IsDealt xs ws ys → AllOwn cs ys × AllSeated cs ws × AllPast ws
-own_dealt [] [] [] [] o d = (tt, tt, tt)
+own_dealt [] [] [] [] o d = (tt, tt, All-nil IsPast)
 own_dealt [] [] [] (y ∷ ys) o d = absurd d
 own_dealt [] [] (w ∷ ws) ys o d = absurd d
 own_dealt [] (x ∷ xs) ws ys o d = absurd o
@@ -56,16 +54,16 @@ own_dealt (c ∷ cs) [] ws ys o d = absurd o
 own_dealt (c ∷ cs) (x ∷ xs) [] ys o d = absurd d
 own_dealt (c ∷ cs) (x ∷ xs) (w ∷ ws) [] o d = absurd d
 own_dealt (c ∷ cs) (x ∷ xs) (w ∷ ws) (y ∷ ys) o d =
-    let f = seats_front (IsSeatOf c) y.seats.items w.seat (subst (AllSeats (IsSeatOf c)) d.0.seats o.0) in
+    let f = All-pop (IsSeatOf c) x.seats.items y.seats.items (Some w.seat) d.0.seats o.0 in
     let r = own_dealt cs xs ws ys o.1 d.1 in
     let p = d.0.place in
-    ((f.0, r.0), ((f.1, omega arith), r.1), (omega arith, r.2))
+    ((f.0, r.0), ((f.1, omega arith), r.1), All-cons IsPast w ws (omega arith) r.2)
 
 ready_all : {S H P : Type 0} → (cs : List CellSight) (q : Option Queue) (before : List (SpareSeats S H P)) (ws : List (Worker S H P)) (after : List (SpareSeats S H P)) → AllOwn cs before → AllHold q ws → IsDealtAll before ws after → AllReady cs q ws
-ready_all cs q before [] after o h d = tt
+ready_all cs q before [] after o h d = All-nil (IsReady cs q)
 ready_all cs q before (w ∷ ws) after o h d =
     let r = own_dealt cs before w.walks.items d.0 o d.1 in
-    (record { seated = r.1; passing = h.0; past = r.2 }, ready_all cs q d.0 ws after r.0 h.1 d.2)
+    All-cons (IsReady cs q) w ws (record { seated = r.1; passing = h 0 w (omega arith); past = r.2 }) (ready_all cs q d.0 ws after r.0 (λ k v lt. h (suc k) v (omega arith)) d.2)
 
 pub dealt_ready : {S H P : Type 0} → (cs : List CellSight) (q : Option Queue) (before : List (SpareSeats S H P)) (ws : List (Worker S H P)) (after : List (SpareSeats S H P)) → AllHosted cs before → AllHold q ws → IsDealtAll before ws after → AllReady cs q ws
 dealt_ready cs q before ws after hosted h d = ready_all cs q before ws after (own cs before hosted) h d
@@ -73,36 +71,11 @@ dealt_ready cs q before ws after hosted h d = ready_all cs q before ws after (ow
 -- seats that have grown
 
 pub grown_none : (xs : List SeatSight) → AllGrown xs xs
-grown_none [] = tt
-grown_none (x ∷ xs) = (later_none x, grown_none xs)
+grown_none xs = zip-same IsLater later_none xs
 
 pub grown_spares_none : {S H P : Type 0} → (bs : List (SpareSeats S H P)) → AllGrownSpares bs bs
-grown_spares_none [] = tt
-grown_spares_none (b ∷ bs) = ((grown_none b.seats.items, refl), grown_spares_none bs)
-
-grown_snoc : (xs ys : List SeatSight) (a b : SeatSight) → AllGrown xs ys → IsLater a b → AllGrown (xs ++ a ∷ []) (ys ++ b ∷ [])
-grown_snoc [] [] a b all one = (one, tt)
-grown_snoc [] (y ∷ ys) a b all one = absurd all
-grown_snoc (x ∷ xs) [] a b all one = absurd all
-grown_snoc (x ∷ xs) (y ∷ ys) a b all one = (all.0, grown_snoc xs ys a b all.1 one)
-
-grown_len : (xs ys : List SeatSight) → AllGrown xs ys → length ys ≡ length xs
-grown_len [] [] all = refl
-grown_len [] (y ∷ ys) all = absurd all
-grown_len (x ∷ xs) [] all = absurd all
-grown_len (x ∷ xs) (y ∷ ys) all = ap suc (grown_len xs ys all.1)
-
-grown_spares_len : {S H P : Type 0} → (xs ys : List (SpareSeats S H P)) → AllGrownSpares xs ys → length ys ≡ length xs
-grown_spares_len [] [] all = refl
-grown_spares_len [] (y ∷ ys) all = absurd all
-grown_spares_len (x ∷ xs) [] all = absurd all
-grown_spares_len (x ∷ xs) (y ∷ ys) all = ap suc (grown_spares_len xs ys all.1)
-
-later_len : {S H P : Type 0} → (ws zs : List (Walk S H P)) → AllLater ws zs → length zs ≡ length ws
-later_len [] [] all = refl
-later_len [] (z ∷ zs) all = absurd all
-later_len (w ∷ ws) [] all = absurd all
-later_len (w ∷ ws) (z ∷ zs) all = ap suc (later_len ws zs all.1)
+grown_spares_none bs =
+    zip-same (λ (a b : SpareSeats _ _ _). AllGrown a.seats.items b.seats.items × (vec_capacity b.seats ≡ vec_capacity a.seats)) (λ b. (grown_none b.seats.items, refl)) bs
 
 pub given_grown : {S H P : Type 0} → (before : List (SpareSeats S H P)) (ws : List (Walk S H P)) (mid : List (SpareSeats S H P)) (zs : List (Walk S H P)) (cur after : List (SpareSeats S H P)) → IsDealt before ws mid → AllGrownSpares mid cur → AllLater ws zs → IsGiven cur zs after → AllGrownSpares before after
 given_grown [] [] [] [] [] [] d g l b = tt
@@ -118,47 +91,36 @@ given_grown (x ∷ before) (w ∷ ws) (m ∷ mid) [] (u ∷ cur) after d g l b =
 given_grown (x ∷ before) (w ∷ ws) (m ∷ mid) (z ∷ zs) (u ∷ cur) [] d g l b = absurd b
 given_grown (x ∷ before) (w ∷ ws) (m ∷ mid) (z ∷ zs) (u ∷ cur) (a ∷ after) d g l b = (
   (
-    subst (λ (p : List SeatSight × List SeatSight). AllGrown p.0 p.1) (λ i. (sym d.0.seats i, sym b.0.seats i)) (grown_snoc m.seats.items u.seats.items w.seat z.seat g.0.0 l.0),
+    subst (λ (p : List SeatSight × List SeatSight). AllGrown p.0 p.1) (λ i. (sym d.0.seats i, sym b.0.seats i)) (AllZip-push IsLater m.seats.items u.seats.items w.seat z.seat g.0.0 l.0),
     b.0.capacity ∙ g.0.1 ∙ d.0.capacity,
   ),
   given_grown before ws mid zs cur after d.1 g.1 l.1 b.1,
 )
 
 pub grown_roomy : {S H P : Type 0} → (before : List (SpareSeats S H P)) (ws : List (Walk S H P)) (mid cur : List (SpareSeats S H P)) → IsDealt before ws mid → AllGrownSpares mid cur → AllRoomy cur
-grown_roomy before ws mid [] d g = tt
+grown_roomy before ws mid [] d g = All-nil (λ (s : SpareSeats _ _ _). length s.seats.items < vec_capacity s.seats)
 grown_roomy before ws [] (u ∷ cur) d g = absurd g
 grown_roomy [] [] (m ∷ mid) (u ∷ cur) d g = absurd d
 grown_roomy [] (w ∷ ws) (m ∷ mid) (u ∷ cur) d g = absurd d
 grown_roomy (x ∷ before) [] (m ∷ mid) (u ∷ cur) d g = absurd d
-grown_roomy (x ∷ before) (w ∷ ws) (m ∷ mid) (u ∷ cur) d g = (
-  (let l = grown_len m.seats.items u.seats.items g.0.0 in let r = d.0.room in let c = g.0.1 in omega arith),
-  grown_roomy before ws mid cur d.1 g.1,
-)
+grown_roomy (x ∷ before) (w ∷ ws) (m ∷ mid) (u ∷ cur) d g =
+    All-cons (λ (s : SpareSeats _ _ _). length s.seats.items < vec_capacity s.seats) u cur
+    (let l = AllZip-long IsLater m.seats.items u.seats.items g.0.0 in let r = d.0.room in let c = g.0.1 in omega arith) (grown_roomy before ws mid cur d.1 g.1)
 
 pub given_many : {S H P : Type 0} → (before : List (SpareSeats S H P)) (ws : List (Walk S H P)) (mid cur : List (SpareSeats S H P)) (zs : List (Walk S H P)) → IsDealt before ws mid → AllGrownSpares mid cur → AllLater ws zs → length zs ≡ length cur
 given_many before ws mid cur zs d g l =
     let a = dealt_len before ws mid d in
     let a0 = a.0 in let a1 = a.1 in
-    let b = grown_spares_len mid cur g in
-    let e = later_len ws zs l in omega arith
+    let b = AllZip-long _ mid cur g in
+    let e = AllZip-long _ ws zs l in omega arith
 
--- the last of the workers
-pub later_last : {S H P : Type 0} → (ws zs : List (Worker S H P)) (z : (Worker S H P)) → AllLaterWorkers ws (zs ++ z ∷ []) → (xs : List (Worker S H P)) × (x : (Worker S H P)) × (ws ≡ xs ++ x ∷ []) × AllLaterWorkers xs zs × AllLater x.walks.items z.walks.items
-later_last [] [] z all = absurd all
-later_last [] (y ∷ zs) z all = absurd all
-later_last (w ∷ []) [] z all = ([], w, refl, tt, all.0)
-later_last (w ∷ v ∷ ws) [] z all = absurd all.1
-later_last (w ∷ ws) (y ∷ zs) z all =
-    let r = later_last ws zs z all.1 in
-    (w ∷ r.0, r.1, ap (λ l. w ∷ l) r.2, (all.0, r.3), r.4)
-
-later_none_left : {S H P : Type 0} → (ws : List (Worker S H P)) → AllLaterWorkers ws [] → ws ≡ []
-later_none_left [] all = refl
-later_none_left (w ∷ ws) all = absurd all
+pub empty : {X : Type 0} (xs : List X) → length xs ≡ 0 → xs ≡ []
+empty [] len = refl
+empty (x ∷ xs) len = absurd (omega arith)
 
 pub all_given : {S H P : Type 0} → (before : List (SpareSeats S H P)) (ws : List (Worker S H P)) (mid cur : List (SpareSeats S H P)) (zs : List (Worker S H P)) → IsDealtAll before ws mid → AllLaterWorkers ws zs → zs ≡ [] → AllGrownSpares mid cur → AllGrownSpares before cur
 all_given before ws mid cur zs d l none g =
-    let e = later_none_left ws (subst (AllLaterWorkers ws) none l) in
+    let e = empty ws (sym (AllZip-long _ ws zs l) ∙ ap (λ (v : List (Worker _ _ _)). length v) none) in
     let m : mid ≡ before = subst (λ (v : List (Worker _ _ _)). IsDealtAll before v mid) e d in
     subst (λ (b : List (SpareSeats _ _ _)). AllGrownSpares b cur) m g
 
@@ -167,21 +129,21 @@ all_given before ws mid cur zs d l none g =
 fresh_sums : {S H P : Type 0} → (ws : List (Worker S H P)) → AllFresh ws → (weigh applied_by ws ≡ 0) × (weigh refused_by ws ≡ 0)
 fresh_sums [] all = (refl, refl)
 fresh_sums (w ∷ ws) all =
-    let r = fresh_sums ws all.2 in
-    let r0 = r.0 in let r1 = r.1 in let a = all.0 in let b = all.1 in
-    (omega arith, omega arith)
+    let r = fresh_sums ws (λ k v lt. all (suc k) v (omega arith)) in
+    let one = all 0 w (omega arith) in
+    (omega (arith, r.0, one.0), omega (arith, r.1, one.1))
 
 told_past : {S H P : Type 0} → (h : Job → ℕ) (ws : List (Walk S H P)) → AllPast ws → weigh (told_by h) ws ≡ weigh (λ (v : (Walk S H P)). seat_heard h v.seat) ws
 told_past h [] all = refl
 told_past h (w ∷ ws) all =
-    let r = told_past h ws all.1 in
-    let e : told_by h w ≡ seat_heard h w.seat = ap (heard_of h w.seat.me.config) (take_all w.place w.seat.me.receipts all.0) in omega arith
+    let r = told_past h ws (All-tail IsPast w ws all) in
+    let e : told_by h w ≡ seat_heard h w.seat = ap (heard_of h w.seat.me.config) (take_all w.place w.seat.me.receipts (All-head IsPast w ws all)) in omega arith
 
 told_all : {S H P : Type 0} → (cs : List CellSight) (q : Option Queue) (h : Job → ℕ) (ws : List (Worker S H P)) → AllReady cs q ws → weigh (told h) ws ≡ at_work (seat_heard h) ws
 told_all cs q h [] all = refl
 told_all cs q h (w ∷ ws) all =
-    let r = told_all cs q h ws all.1 in
-    let e = told_past h w.walks.items all.0.past in omega arith
+    let r = told_all cs q h ws (All-tail (IsReady cs q) w ws all) in
+    let e = told_past h w.walks.items (All-head (IsReady cs q) w ws all).past in omega arith
 
 pub worked : {S H P : Type 0} → (cs : List CellSight) (q : Option Queue) (xs mid ys : List (SpareSeats S H P)) (ws zs : List (Worker S H P)) (ps qs : List (Pass Job Hand)) (r : Report)
     → IsDealtAll xs ws mid → ((f : SeatSight → ℕ) → on_spares f ys ≡ on_spares f mid + at_work f zs) → AllFresh ws → IsSplit ps ws qs → AllReady cs q ws → AllReady cs None zs
@@ -225,77 +187,56 @@ worked cs q xs mid ys ws zs ps qs r dealt given fresh split ready rest closed co
 -- hosted as before
 
 own_grown : (c : CellSight) (xs ys : List SeatSight) → AllGrown xs ys → AllSeats (IsSeatOf c) xs → AllSeats (IsSeatOf c) ys
-own_grown c [] [] g all = tt
-own_grown c [] (y ∷ ys) g all = absurd g
-own_grown c (x ∷ xs) [] g all = absurd g
-own_grown c (x ∷ xs) (y ∷ ys) g all = (
-  record { cell = g.0.cell ∙ all.0.cell; config = g.0.config ∙ all.0.config; seats = g.0.seats ∙ all.0.seats; open_yet = g.0.closed ∙ all.0.open_yet },
-  own_grown c xs ys g.1 all.1,
-)
+own_grown c xs ys g all k d lt =
+    let within : k < length xs = omega (arith, lt, AllZip-long IsLater xs ys g) in
+    let a = all k d within in
+    let b = AllZip-get_or IsLater xs ys k d d g within in
+    record { cell = b.cell ∙ a.cell; config = b.config ∙ a.config; seats = b.seats ∙ a.seats; open_yet = b.closed ∙ a.open_yet }
 
 grown_at : (xs ys : List SeatSight) (i : ℕ) (s : SeatSight) → AllGrown xs ys → slice_get xs i ≡ Some s → (t : SeatSight) × (slice_get ys i ≡ Some t) × (t.me.number ≡ s.me.number)
-grown_at xs ys i s g at = go xs ys i g at
-  where
-    go : (xs ys : List SeatSight) (i : ℕ) → AllGrown xs ys → slice_get xs i ≡ Some s → (t : SeatSight) × (slice_get ys i ≡ Some t) × (t.me.number ≡ s.me.number)
-    go [] ys i g at = absurd (cc)
-    go (x ∷ xs) [] i g at = absurd g
-    go (x ∷ xs) (y ∷ ys) zero g at = (y, refl, g.0.number ∙ ap (λ (v : SeatSight). v.me.number) (let is : x ≡ s = cc in is))
-    go (x ∷ xs) (y ∷ ys) (suc i) g at = go xs ys i g.1 at
+grown_at xs ys i s g at =
+    let lt = slice_get_within xs i s at in (
+      get_or ys i s,
+      slice_get-get_or ys i s (omega (arith, lt, AllZip-long IsLater xs ys g)),
+      (AllZip-get_or IsLater xs ys i s s g lt).number ∙ ap (λ (v : SeatSight). v.me.number) (get_or_from_slice_get xs i s s at),
+    )
 
 pub hosted_grown : {S H P : Type 0} → (cs : List CellSight) (xs ys : List (SpareSeats S H P)) → AllHosted cs xs → AllGrownSpares xs ys → AllHosted cs ys
-hosted_grown [] [] [] all g = tt
-hosted_grown [] [] (y ∷ ys) all g = absurd g
-hosted_grown [] (x ∷ xs) ys all g = absurd all
-hosted_grown (c ∷ cs) [] ys all g = absurd all
-hosted_grown (c ∷ cs) (x ∷ xs) [] all g = absurd g
-hosted_grown (c ∷ cs) (x ∷ xs) (y ∷ ys) all g = (
-  record {
-    own = own_grown c x.seats.items y.seats.items g.0.0 all.0.own;
-    some = all.0.some;
-    all = λ k lt. (let h = all.0.all k lt in let t = grown_at x.seats.items y.seats.items h.0 h.1 g.0.0 h.2 in (h.0, t.0, t.1, t.2 ∙ h.3));
-  },
-  hosted_grown cs xs ys all.1 g.1,
-)
-
-later_workers_len : {S H P : Type 0} → (ws zs : List (Worker S H P)) → AllLaterWorkers ws zs → length zs ≡ length ws
-later_workers_len [] [] all = refl
-later_workers_len [] (z ∷ zs) all = absurd all
-later_workers_len (w ∷ ws) [] all = absurd all
-later_workers_len (w ∷ ws) (z ∷ zs) all = ap suc (later_workers_len ws zs all.1)
+hosted_grown cs xs ys all g =
+    zip-then _ _ _
+    (λ (c : CellSight) (x y : SpareSeats _ _ _) (h : IsHosted c x.seats.items) (l : AllGrown x.seats.items y.seats.items × (vec_capacity y.seats ≡ vec_capacity x.seats)). record {
+      own = own_grown c x.seats.items y.seats.items l.0 h.own;
+      some = h.some;
+      all = λ k lt. (let n = h.all k lt in let t = grown_at x.seats.items y.seats.items n.0 n.1 l.0 n.2 in (n.0, t.0, t.1, t.2 ∙ n.3));
+    })
+    cs xs ys all g
 
 -- the workers that a call wrote back stand where they stood
 pub written_back : {S H P : Type 0} → (n : ℕ) (xs ys : List (Worker S H P)) → AllLaterWorkers xs ys → n ≡ length xs → take n (ys ++ drop (length ys) xs) ≡ ys
-written_back n xs ys later is = ap (λ (k : ℕ). take k (ys ++ drop (length ys) xs)) (is ∙ sym (later_workers_len xs ys later)) ∙ take-append_seam ys (drop (length ys) xs)
-
-pub empty : {X : Type 0} (xs : List X) → length xs ≡ 0 → xs ≡ []
-empty [] len = refl
-empty (x ∷ xs) len = absurd (omega arith)
+written_back n xs ys later is = ap (λ (k : ℕ). take k (ys ++ drop (length ys) xs)) (is ∙ sym (AllZip-long _ xs ys later)) ∙ take-append_seam ys (drop (length ys) xs)
 
 has_one : (xs : List SeatSight) (i : ℕ) (s : SeatSight) → slice_get xs i ≡ Some s → 1 ≤ length xs
 has_one [] i s e = absurd (cc)
 has_one (x ∷ xs) i s e = omega arith
 
 pub hosted_have : {S H P : Type 0} → (cs : List CellSight) (bs : List (SpareSeats S H P)) → AllHosted cs bs → AllHave 1 bs
-hosted_have [] [] all = tt
+hosted_have [] [] all = All-nil (λ (s : SpareSeats _ _ _). 1 ≤ length s.seats.items)
 hosted_have [] (b ∷ bs) all = absurd all
 hosted_have (c ∷ cs) [] all = absurd all
-hosted_have (c ∷ cs) (b ∷ bs) all = (let h = all.0.all 0 all.0.some in has_one b.seats.items h.0 h.1 h.2, hosted_have cs bs all.1)
-
-pub many_ones : {X : Type 0} (xs : List X) → weigh (λ _. 1) xs ≡ length xs
-many_ones [] = refl
-many_ones (x ∷ xs) = let r = many_ones xs in omega arith
+hosted_have (c ∷ cs) (b ∷ bs) all =
+    All-cons (λ (s : SpareSeats _ _ _). 1 ≤ length s.seats.items) b bs (let h = all.0.all 0 all.0.some in has_one b.seats.items h.0 h.1 h.2) (hosted_have cs bs all.1)
 
 -- jobs that one worker put
 
 one_ready : {S H P : Type 0} (cs : List CellSight) (q : Option Queue) (xs mid : List (SpareSeats S H P)) (w : Worker S H P) → AllHosted cs xs → IsPassing q w.pass → IsDealt xs w.walks.items mid → IsReady cs q w
-one_ready cs q xs mid w hosted passing d = (dealt_ready cs q xs (w ∷ []) mid hosted (passing, tt) (mid, d, refl)).0
+one_ready cs q xs mid w hosted passing d = let r = own_dealt cs xs w.walks.items mid (own cs xs hosted) d in record { seated = r.1; passing = passing; past = r.2 }
 
 pub popped_ready : {S H P : Type 0} (cs : List CellSight) (q : Option Queue) (xs mid : List (SpareSeats S H P)) (w : Worker S H P) (ps qs : List (Pass Job Hand)) → AllHosted cs xs → AllPassing q ps → ps ≡ qs ++ option_to_list w.pass → IsDealt xs w.walks.items mid → IsReady cs q w
 popped_ready cs q xs mid w ps qs hosted all is d = one_ready cs q xs mid w hosted (passing_cut q qs w.pass (subst (AllPassing q) is all)).1 d
 
 pub passing_back : {S H P : Type 0} (cs : List CellSight) (q : Option Queue) (w v : Worker S H P) (ps qs rs : List (Pass Job Hand)) → AllPassing q ps → ps ≡ qs ++ option_to_list w.pass → rs ≡ qs ++ option_to_list v.pass → IsReady cs q v → parts_of v ≡ parts_of w → AllPassing q rs × (parts_by rs ≡ parts_by ps)
 passing_back cs q w v ps qs rs all is back ready same = (
-  subst (AllPassing q) (sym back) (passing_append q qs (option_to_list v.pass) (passing_cut q qs w.pass (subst (AllPassing q) is all)).0 (passing_one q v.pass ready.passing)),
+  subst (AllPassing q) (sym back) (All-append (λ p. IsPassing q (Some p)) qs (option_to_list v.pass) (passing_cut q qs w.pass (subst (AllPassing q) is all)).0 (passing_one q v.pass ready.passing)),
   (let a : parts_by rs ≡ parts_by qs + parts_of v = ap parts_by back ∙ weigh-append parts qs (option_to_list v.pass) ∙ ap (λ n. parts_by qs + n) (parts_weigh v.pass) in
       let b : parts_by ps ≡ parts_by qs + parts_of w = ap parts_by is ∙ weigh-append parts qs (option_to_list w.pass) ∙ ap (λ n. parts_by qs + n) (parts_weigh w.pass) in omega arith),
 )

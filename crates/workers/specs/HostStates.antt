@@ -18,7 +18,8 @@ pub record HasRoom {S H P : Type 0} (f : (HostState S H P)) : Type 0 where
   pub spares : vec_len f.spares < vec_capacity f.spares
 
 -- a network stands at the place
-pub record IsPut {S H P : Type 0} (a : (HostState S H P)) (place : ℕ) (c : CellSight) (seats : List SeatSight) (b : (HostState S H P)) : Type 0 where
+pub record IsPut {S H P : Type 0} (a : (HostState S H P)) (place : ℕ) (c : CellSight) (seats : List SeatSight)
+    (b : (HostState S H P)) : Type 0 where
   pub numbers : b.shared.numbers.items ≡ insert a.shared.numbers.items place c.config.number
   pub cells : b.shared.cells.items ≡ insert a.shared.cells.items place c
   pub spare : (SpareSeats S H P)
@@ -27,7 +28,8 @@ pub record IsPut {S H P : Type 0} (a : (HostState S H P)) (place : ℕ) (c : Cel
   pub queue : b.shared.queue ≡ a.shared.queue
 
 -- the last network is gone
-pub record IsRemoved {S H P : Type 0} (a : (HostState S H P)) (c : CellSight) (seats : List SeatSight) (b : (HostState S H P)) : Type 0 where
+pub record IsRemoved {S H P : Type 0} (a : (HostState S H P)) (c : CellSight) (seats : List SeatSight)
+    (b : (HostState S H P)) : Type 0 where
   pub number : ℕ
   pub numbers : a.shared.numbers.items ≡ b.shared.numbers.items ++ number ∷ []
   pub cells : a.shared.cells.items ≡ b.shared.cells.items ++ c ∷ []

@@ -1,5 +1,6 @@
 -- The networks of a host, and what a run makes of them.
 use Rattle.std.specs.Prelude.{◌≡◌, ◌<◌, ◌≤◌, ◌+◌, ◌⊎◌, ◌≢◌, nat_lt, ℕ, List, [], ◌∷◌, length, drop, map, if◌then◌else◌, None}
+use Rattle.std.specs.List.{All, AllZip}
 use Rattle.hoststep.specs.Logs.{Log}
 use Rattle.work.specs.declared.rule.Job.{Job}
 use Rattle.work.specs.Hands.{weigh}
@@ -72,14 +73,10 @@ over_nets f (a ∷ xs) (b ∷ ys) = over_seats f a.seats b.seats + over_nets f x
 
 -- the same networks with the same seats, which have gained receipts and denials
 abbrev pub AllGrownNets : List Net → List Net → Type 0
-AllGrownNets [] [] = Unit {0}
-AllGrownNets [] (b ∷ bs) = ⊥
-AllGrownNets (a ∷ xs) [] = ⊥
-AllGrownNets (a ∷ xs) (b ∷ ys) = (b.cell ≡ a.cell) × AllGrown a.seats b.seats × AllGrownNets xs ys
+AllGrownNets xs ys = AllZip (λ (a b : Net). (b.cell ≡ a.cell) × AllGrown a.seats b.seats) xs ys
 
 abbrev pub AllElsewhere : List Net → List Job → Type 0
-AllElsewhere nets [] = Unit {0}
-AllElsewhere nets (j ∷ js) = NoNet nets j.network × AllElsewhere nets js
+AllElsewhere nets js = All (λ (j : Job). NoNet nets j.network) js
 
 -- the events of the receipts and denials that a seat gained, as jobs of its network, weighed
 abbrev pub done_since : (Job → ℕ) → SeatSight → SeatSight → ℕ
@@ -89,11 +86,14 @@ done_since h a b = applied_of h a.me.config (gained a b) + refused_of h a.me.con
 abbrev pub heard_since : (Job → ℕ) → SeatSight → SeatSight → ℕ
 heard_since h a b = heard_of h a.me.config (gained a b)
 
--- However jobs are weighed: those that came in, and one for each emission that was gained and each other hosted node of its network, are those that went out, the events that were gained as receipts and as denials, and those of networks that are not here; and the report has the numbers of these.
+-- However jobs are weighed: those that came in, and one for each emission that was gained and each other hosted node of
+-- its network, are those that went out, the events that were gained as receipts and as denials, and those of networks
+-- that are not here; and the report has the numbers of these.
 pub record IsDone (xs ys : List Net) (came went : (Job → ℕ) → ℕ) (r : Report) : Type 0 where
   pub lacking : List Job
   pub elsewhere : AllElsewhere xs lacking
-  pub sum : (h : Job → ℕ) → came h + over_nets (heard_since h) xs ys ≡ went h + over_nets (done_since h) xs ys + weigh h lacking
+  pub sum : (h : Job → ℕ)
+      → came h + over_nets (heard_since h) xs ys ≡ went h + over_nets (done_since h) xs ys + weigh h lacking
   pub applied : r.applied ≡ over_nets (λ a b. length (gained a b)) xs ys
   pub refused : r.refused ≡ over_nets (λ a b. length (denied a b)) xs ys + length lacking
   pub unrun : r.unrun ≡ 0

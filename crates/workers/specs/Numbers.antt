@@ -1,5 +1,6 @@
 -- Cells by the numbers of their networks.
 use Rattle.std.specs.Prelude.{◌≡◌, ◌≢◌, ◌<◌, ℕ, List, [], ◌∷◌, map, slice_index_or}
+use Rattle.std.specs.List.{All}
 use Rattle.work.specs.declared.rule.Job.{Job}
 use Rattle.cells.specs.Sights.{CellSight}
 
@@ -7,8 +8,7 @@ abbrev pub number_of : CellSight → ℕ
 number_of c = c.config.number
 
 abbrev pub AllAbove : ℕ → List ℕ → Type 0
-AllAbove n [] = Unit {0}
-AllAbove n (x ∷ xs) = (n < x) × AllAbove n xs
+AllAbove n xs = All (λ x. n < x) xs
 
 -- each number is below the next
 abbrev pub IsRising : List ℕ → Type 0
@@ -25,9 +25,11 @@ IsNumberAt cells k number = (d : CellSight) → (slice_index_or cells k d).confi
 
 -- no cell has this network
 abbrev pub Lacks : List CellSight → ℕ → Type 0
-Lacks [] number = Unit {0}
-Lacks (c ∷ cs) number = (number ≢ c.config.number) × Lacks cs number
+Lacks cs number = All (λ (c : CellSight). number ≢ c.config.number) cs
+
+-- a job of none of these networks
+abbrev pub IsElsewhere : List CellSight → Job → Type 0
+IsElsewhere cells j = Lacks cells j.network
 
 abbrev pub AllLack : List CellSight → List Job → Type 0
-AllLack cells [] = Unit {0}
-AllLack cells (j ∷ js) = Lacks cells j.network × AllLack cells js
+AllLack cells js = All (IsElsewhere cells) js

@@ -1,5 +1,6 @@
 -- Seats dealt to workers, and given back.
 use Rattle.std.specs.Prelude.{◌≡◌, ◌≤◌, ◌<◌, ◌+◌, ℕ, List, [], ◌∷◌, ◌++◌, length, vec_capacity, Option}
+use Rattle.std.specs.List.{All, AllZip}
 use Rattle.crossbeam_queue.specs.Passes.{Pass}
 use Rattle.work.specs.declared.rule.Job.{Job}
 use Rattle.work.specs.declared.rule.Hand.{Hand}
@@ -21,18 +22,18 @@ use Rattle.workers.specs.declared.worker.Worker.{Worker}
 
 -- each cell has so many spare seats
 abbrev pub AllHave : {S H P : Type 0} → ℕ → List (SpareSeats S H P) → Type 0
-AllHave n [] = Unit {0}
-AllHave n (b ∷ bs) = (n ≤ length b.seats.items) × AllHave n bs
+AllHave n bs = All (λ (b : SpareSeats _ _ _). n ≤ length b.seats.items) bs
 
 -- beside the spare seats of each cell there is room for one more
 abbrev pub AllRoomy : {S H P : Type 0} → List (SpareSeats S H P) → Type 0
-AllRoomy [] = Unit {0}
-AllRoomy (b ∷ bs) = (length b.seats.items < vec_capacity b.seats) × AllRoomy bs
+AllRoomy bs = All (λ (b : SpareSeats _ _ _). length b.seats.items < vec_capacity b.seats) bs
 
--- empty rooms for so many walks each
+-- an empty room for so many walks
+abbrev pub IsBlank : {S H P : Type 0} → ℕ → (Room S H P) → Type 0
+IsBlank n r = (r.walks.items ≡ []) × (n ≤ vec_capacity r.walks)
+
 abbrev pub AllBlank : {S H P : Type 0} → ℕ → List (Room S H P) → Type 0
-AllBlank n [] = Unit {0}
-AllBlank n (r ∷ rs) = ((r.walks.items ≡ []) × (n ≤ vec_capacity r.walks)) × AllBlank n rs
+AllBlank n rs = All (IsBlank n) rs
 
 -- rooms for so many workers at so many cells
 pub record IsWorkerRoom {S H P : Type 0} (workers cells : ℕ) (c : (WorkerRoom S H P)) : Type 0 where
@@ -42,7 +43,8 @@ pub record IsWorkerRoom {S H P : Type 0} (workers cells : ℕ) (c : (WorkerRoom 
   pub room : workers ≤ vec_capacity c.workers
 
 -- the last spare seat is a walk's, at its place behind all its receipts
-pub record IsDealtSeat {S H P : Type 0} (a : (SpareSeats S H P)) (w : (Walk S H P)) (b : (SpareSeats S H P)) : Type 0 where
+pub record IsDealtSeat {S H P : Type 0} (a : (SpareSeats S H P)) (w : (Walk S H P)) (b : (SpareSeats S H P))
+    : Type 0 where
   pub seats : a.seats.items ≡ b.seats.items ++ w.seat ∷ []
   pub place : w.place ≡ length w.seat.me.receipts
   pub capacity : vec_capacity b.seats ≡ vec_capacity a.seats
@@ -58,12 +60,15 @@ IsDealt (a ∷ xs) (w ∷ ws) [] = ⊥
 IsDealt (a ∷ xs) (w ∷ ws) (b ∷ ys) = IsDealtSeat a w b × IsDealt xs ws ys
 
 -- one worker after another was dealt a seat at each cell
-abbrev pub IsDealtAll : {S H P : Type 0} → List (SpareSeats S H P) → List (Worker S H P) → List (SpareSeats S H P) → Type 0
+abbrev pub IsDealtAll : {S H P : Type 0} → List (SpareSeats S H P) → List (Worker S H P) → List (SpareSeats S H P)
+    → Type 0
 IsDealtAll before [] after = after ≡ before
-IsDealtAll before (w ∷ ws) after = (mid : List (SpareSeats _ _ _)) × IsDealt before w.walks.items mid × IsDealtAll mid ws after
+IsDealtAll before (w ∷ ws) after =
+    (mid : List (SpareSeats _ _ _)) × IsDealt before w.walks.items mid × IsDealtAll mid ws after
 
 -- a walk's seat is the last of the spare ones
-pub record IsGivenSeat {S H P : Type 0} (a : (SpareSeats S H P)) (w : (Walk S H P)) (b : (SpareSeats S H P)) : Type 0 where
+pub record IsGivenSeat {S H P : Type 0} (a : (SpareSeats S H P)) (w : (Walk S H P)) (b : (SpareSeats S H P))
+    : Type 0 where
   pub seats : b.seats.items ≡ a.seats.items ++ w.seat ∷ []
   pub capacity : vec_capacity b.seats ≡ vec_capacity a.seats
 
@@ -77,16 +82,15 @@ IsGiven (a ∷ xs) (w ∷ ws) (b ∷ ys) = IsGivenSeat a w b × IsGiven xs ws ys
 
 -- nothing was counted yet
 abbrev pub AllFresh : {S H P : Type 0} → List (Worker S H P) → Type 0
-AllFresh [] = Unit {0}
-AllFresh (w ∷ ws) = (w.applied ≡ 0) × (w.refused ≡ 0) × AllFresh ws
+AllFresh ws = All (λ (w : Worker _ _ _). (w.applied ≡ 0) × (w.refused ≡ 0)) ws
 
 -- each worker's pass is of this queue
 abbrev pub AllHold : {S H P : Type 0} → Option Queue → List (Worker S H P) → Type 0
-AllHold q [] = Unit {0}
-AllHold q (w ∷ ws) = IsPassing q w.pass × AllHold q ws
+AllHold q ws = All (λ (w : Worker _ _ _). IsPassing q w.pass) ws
 
 -- some of the passes are the workers', the others lie beside them
-pub record IsSplit {S H P : Type 0} (before : List (Pass Job Hand)) (ws : List (Worker S H P)) (after : List (Pass Job Hand)) : Type 0 where
+pub record IsSplit {S H P : Type 0} (before : List (Pass Job Hand)) (ws : List (Worker S H P))
+    (after : List (Pass Job Hand)) : Type 0 where
   pub passing : (q : Option Queue) → AllPassing q before → AllPassing q after × AllHold q ws
   pub put_all : (h : Job → ℕ) → put_by h before ≡ put_by h after + weigh (put h) ws
   pub taken_all : (h : Job → ℕ) → taken_by h before ≡ taken_by h after + weigh (taken h) ws
@@ -94,16 +98,11 @@ pub record IsSplit {S H P : Type 0} (before : List (Pass Job Hand)) (ws : List (
 
 -- seats that have gained receipts and denials, one by one
 abbrev pub AllGrown : List SeatSight → List SeatSight → Type 0
-AllGrown [] [] = Unit {0}
-AllGrown [] (b ∷ bs) = ⊥
-AllGrown (a ∷ xs) [] = ⊥
-AllGrown (a ∷ xs) (b ∷ ys) = IsLater a b × AllGrown xs ys
+AllGrown xs ys = AllZip IsLater xs ys
 
 abbrev pub AllGrownSpares : {S H P : Type 0} → List (SpareSeats S H P) → List (SpareSeats S H P) → Type 0
-AllGrownSpares [] [] = Unit {0}
-AllGrownSpares [] (b ∷ bs) = ⊥
-AllGrownSpares (a ∷ xs) [] = ⊥
-AllGrownSpares (a ∷ xs) (b ∷ ys) = (AllGrown a.seats.items b.seats.items × (vec_capacity b.seats ≡ vec_capacity a.seats)) × AllGrownSpares xs ys
+AllGrownSpares xs ys =
+    AllZip (λ (a b : SpareSeats _ _ _). AllGrown a.seats.items b.seats.items × (vec_capacity b.seats ≡ vec_capacity a.seats)) xs ys
 
 -- all seats of the cell are there, and no others
 pub record IsHosted (c : CellSight) (seats : List SeatSight) : Type 0 where
@@ -112,10 +111,7 @@ pub record IsHosted (c : CellSight) (seats : List SeatSight) : Type 0 where
   pub all : (k : ℕ) → k < c.seats → HasNumber seats k
 
 abbrev pub AllHosted : {S H P : Type 0} → List CellSight → List (SpareSeats S H P) → Type 0
-AllHosted [] [] = Unit {0}
-AllHosted [] (b ∷ bs) = ⊥
-AllHosted (c ∷ cs) [] = ⊥
-AllHosted (c ∷ cs) (b ∷ bs) = IsHosted c b.seats.items × AllHosted cs bs
+AllHosted cs bs = AllZip (λ (c : CellSight) (b : SpareSeats _ _ _). IsHosted c b.seats.items) cs bs
 
 -- all spare seats, weighed
 abbrev pub on_spares : {S H P : Type 0} → (SeatSight → ℕ) → List (SpareSeats S H P) → ℕ
@@ -131,11 +127,15 @@ pub record IsCounted {S H P : Type 0} (ws : List (Worker S H P)) (r : Report) : 
   pub refused : r.refused ≡ weigh refused_by ws
   pub unrun : r.unrun ≡ 0
 
--- the seats before and after: what came in and what they were made to hear is what they did, what went out, and what lies elsewhere
-pub record IsWorked {S H P : Type 0} (cells : List CellSight) (xs ys : List (SpareSeats S H P)) (came went : (Job → ℕ) → ℕ) (r : Report) : Type 0 where
+-- the seats before and after: what came in and what they were made to hear is what they did, what went out, and what
+-- lies elsewhere
+pub record IsWorked {S H P : Type 0} (cells : List CellSight) (xs ys : List (SpareSeats S H P))
+    (came went : (Job → ℕ) → ℕ) (r : Report) : Type 0 where
   pub lacking : List Job
   pub elsewhere : AllLack cells lacking
-  pub sum : (h : Job → ℕ) → came h + on_spares (seat_done h) xs + on_spares (seat_heard h) ys ≡ went h + on_spares (seat_done h) ys + on_spares (seat_heard h) xs + weigh h lacking
+  pub sum : (h : Job → ℕ)
+      → came h + on_spares (seat_done h) xs + on_spares (seat_heard h) ys
+      ≡ went h + on_spares (seat_done h) ys + on_spares (seat_heard h) xs + weigh h lacking
   pub applied : r.applied + on_spares seat_applied xs ≡ on_spares seat_applied ys
   pub refused : r.refused + on_spares seat_refused xs ≡ on_spares seat_refused ys + length lacking
   pub unrun : r.unrun ≡ 0

@@ -1,5 +1,6 @@
 -- What workers have done, weighed: any weight of jobs is counted on both sides.
-use Rattle.std.specs.Prelude.{◌≡◌, ◌==◌, ℕ, zero, suc, ◌+◌, ◌≤◌, ◌<◌, List, [], ◌∷◌, ◌++◌, length, take, Bool, if◌then◌else◌, Option, Some, None, slice_index_or}
+use Rattle.std.specs.Prelude.{◌≡◌, ◌≢◌, ◌==◌, ℕ, ◌+◌, ◌≤◌, ◌<◌, List, [], ◌∷◌, ◌++◌, length, take, Bool, if◌then◌else◌, Option, Some, None, slice_index_or}
+use Rattle.std.specs.List.{All, AllZip}
 use Rattle.std.specs.Option.{option_to_list}
 use Rattle.crossbeam_queue.specs.Passes.{Pass, view}
 use Rattle.types.specs.declared.event.Event.{Event}
@@ -41,7 +42,8 @@ emission_in network (ArmNomination r) m = None
 emission_in network (ArmBallot n) m = None
 emission_in network (Externalized v) m = None
 emission_in network (Emit e) None = None
-emission_in network (Emit e) (Some m) = Some (record { network = network; slot = e.slot; from = e.sender; kind = kind_of e.body; number = m })
+emission_in network (Emit e) (Some m) =
+    Some (record { network = network; slot = e.slot; from = e.sender; kind = kind_of e.body; number = m })
 
 -- for each emission of these outs, with the marks in order
 abbrev pub hears_from : Config → List Out → List ℕ → List Job
@@ -50,7 +52,9 @@ hears_from config (ArmNomination r ∷ os) ms = hears_from config os ms
 hears_from config (ArmBallot n ∷ os) ms = hears_from config os ms
 hears_from config (Externalized v ∷ os) ms = hears_from config os ms
 hears_from config (Emit e ∷ os) [] = hears_from config os []
-hears_from config (Emit e ∷ os) (m ∷ ms) = hears_of (record { network = config.number; slot = e.slot; from = e.sender; kind = kind_of e.body; number = m }) config.hosts ++ hears_from config os ms
+hears_from config (Emit e ∷ os) (m ∷ ms) =
+    hears_of (record { network = config.number; slot = e.slot; from = e.sender; kind = kind_of e.body; number = m }) config.hosts
+    ++ hears_from config os ms
 
 -- what a receipt makes the other nodes of its network hear
 abbrev pub hears : Config → AppliedEvent → List Job
@@ -110,10 +114,7 @@ IsWalk c w = IsSeatOf c w.seat × (w.place ≤ length w.seat.me.receipts)
 
 -- a seat in each cell
 abbrev pub AllSeated : {S H P : Type 0} → List CellSight → List (Walk S H P) → Type 0
-AllSeated [] [] = Unit {0}
-AllSeated [] (w ∷ ws) = ⊥
-AllSeated (c ∷ cs) [] = ⊥
-AllSeated (c ∷ cs) (w ∷ ws) = IsWalk c w × AllSeated cs ws
+AllSeated cs ws = AllZip IsWalk cs ws
 
 -- the same seat later: it has gained receipts and denials
 pub record IsLater (a b : SeatSight) : Type 0 where
@@ -128,21 +129,18 @@ pub record IsLater (a b : SeatSight) : Type 0 where
   pub refused : b.me.denials ≡ a.me.denials ++ denials
 
 abbrev pub AllLater : {S H P : Type 0} → List (Walk S H P) → List (Walk S H P) → Type 0
-AllLater [] [] = Unit {0}
-AllLater [] (w ∷ ws) = ⊥
-AllLater (a ∷ xs) [] = ⊥
-AllLater (a ∷ xs) (b ∷ ys) = IsLater a.seat b.seat × AllLater xs ys
+AllLater xs ys = AllZip (λ (a b : Walk _ _ _). IsLater a.seat b.seat) xs ys
 
--- no place is short of its receipts
+-- the place is not short of its receipts
+abbrev pub IsPast : {S H P : Type 0} → (Walk S H P) → Type 0
+IsPast w = length w.seat.me.receipts ≤ w.place
+
 abbrev pub AllPast : {S H P : Type 0} → List (Walk S H P) → Type 0
-AllPast [] = Unit {0}
-AllPast (w ∷ ws) = (length w.seat.me.receipts ≤ w.place) × AllPast ws
+AllPast ws = All IsPast ws
 
 -- all but the one there
 abbrev pub AllPastBut : {S H P : Type 0} → ℕ → List (Walk S H P) → Type 0
-AllPastBut k [] = Unit {0}
-AllPastBut zero (w ∷ ws) = AllPast ws
-AllPastBut (suc k) (w ∷ ws) = (length w.seat.me.receipts ≤ w.place) × AllPastBut k ws
+AllPastBut k ws = (i : ℕ) (d : (Walk _ _ _)) → i ≢ k → i < length ws → IsPast (slice_index_or ws i d)
 
 -- one job more is done by a seat
 pub record IsDone {S H P : Type 0} (a b : (Walk S H P)) (j : Job) (well : Bool) : Type 0 where
@@ -172,11 +170,14 @@ receipts_of w = weigh applied_many w.walks.items
 abbrev pub denials_of : {S H P : Type 0} → (Worker S H P) → ℕ
 denials_of w = weigh refused_many w.walks.items
 
--- from one moment of a worker to another: what it took, what its receipts made heard and what it was handed were as often put, applied, refused or of no network here
+-- from one moment of a worker to another: what it took, what its receipts made heard and what it was handed were as
+-- often put, applied, refused or of no network here
 pub record KeepsSums {S H P : Type 0} (cells : List CellSight) (handed : List Job) (a b : (Worker S H P)) : Type 0 where
   pub lacking : List Job
   pub elsewhere : AllLack cells lacking
-  pub sum : (h : Job → ℕ) → done h b + put h b + weigh h lacking + told h a + taken h a ≡ done h a + put h a + told h b + taken h b + weigh h handed
+  pub sum : (h : Job → ℕ)
+      → done h b + put h b + weigh h lacking + told h a + taken h a
+      ≡ done h a + put h a + told h b + taken h b + weigh h handed
   pub applied : b.applied + receipts_of a ≡ a.applied + receipts_of b
   pub refused : b.refused + denials_of a ≡ a.refused + denials_of b + length lacking
   pub later : AllLater a.walks.items b.walks.items
@@ -195,7 +196,8 @@ pub record IsReady {S H P : Type 0} (cells : List CellSight) (queue : Option Que
   pub past : AllPast w.walks.items
 
 -- while the receipts of one seat are gone through
-pub record IsBusy {S H P : Type 0} (cells : List CellSight) (queue : Option Queue) (k : ℕ) (w : (Worker S H P)) : Type 0 where
+pub record IsBusy {S H P : Type 0} (cells : List CellSight) (queue : Option Queue) (k : ℕ) (w : (Worker S H P))
+    : Type 0 where
   pub seated : AllSeated cells w.walks.items
   pub passing : IsPassing queue w.pass
   pub there : k < length cells
@@ -207,28 +209,24 @@ IsNext w r = r ≡ slice_index_or w.seat.me.receipts w.place r
 
 -- the walk there is not past its receipts
 abbrev pub IsShort : {S H P : Type 0} → List (Walk S H P) → ℕ → Type 0
-IsShort ws k = (k < length ws) × ((d : (Walk _ _ _)) → (slice_index_or ws k d).place < length (slice_index_or ws k d).seat.me.receipts)
+IsShort ws k =
+    (k < length ws)
+    × ((d : (Walk _ _ _)) → (slice_index_or ws k d).place < length (slice_index_or ws k d).seat.me.receipts)
 
 abbrev pub SamePlaces : {S H P : Type 0} → List (Walk S H P) → List (Walk S H P) → Type 0
-SamePlaces [] [] = Unit {0}
-SamePlaces [] (w ∷ ws) = ⊥
-SamePlaces (a ∷ xs) [] = ⊥
-SamePlaces (a ∷ xs) (b ∷ ys) = (b.place ≡ a.place) × SamePlaces xs ys
+SamePlaces xs ys = AllZip (λ (a b : Walk _ _ _). b.place ≡ a.place) xs ys
 
 -- at work's end
-pub record IsThrough {S H P : Type 0} (cells : List CellSight) (queue : Option Queue) (a b : (Worker S H P)) : Type 0 where
+pub record IsThrough {S H P : Type 0} (cells : List CellSight) (queue : Option Queue) (a b : (Worker S H P))
+    : Type 0 where
   pub ready : IsReady cells queue b
   pub kept : KeepsSums cells [] a b
 
 abbrev pub AllReady : {S H P : Type 0} → List CellSight → Option Queue → List (Worker S H P) → Type 0
-AllReady cells queue [] = Unit {0}
-AllReady cells queue (w ∷ ws) = IsReady cells queue w × AllReady cells queue ws
+AllReady cells queue ws = All (IsReady cells queue) ws
 
 abbrev pub AllLaterWorkers : {S H P : Type 0} → List (Worker S H P) → List (Worker S H P) → Type 0
-AllLaterWorkers [] [] = Unit {0}
-AllLaterWorkers [] (w ∷ ws) = ⊥
-AllLaterWorkers (a ∷ xs) [] = ⊥
-AllLaterWorkers (a ∷ xs) (b ∷ ys) = AllLater a.walks.items b.walks.items × AllLaterWorkers xs ys
+AllLaterWorkers xs ys = AllZip (λ (a b : Worker _ _ _). AllLater a.walks.items b.walks.items) xs ys
 
 abbrev pub parts_of : {S H P : Type 0} → (Worker S H P) → ℕ
 parts_of w = (hand_of w.pass).parts
@@ -243,7 +241,9 @@ refused_by w = w.refused
 pub record IsSummed {S H P : Type 0} (cells : List CellSight) (xs ys : List (Worker S H P)) : Type 0 where
   pub lacking : List Job
   pub elsewhere : AllLack cells lacking
-  pub sum : (h : Job → ℕ) → weigh (done h) ys + weigh (put h) ys + weigh h lacking + weigh (told h) xs + weigh (taken h) xs ≡ weigh (done h) xs + weigh (put h) xs + weigh (told h) ys + weigh (taken h) ys
+  pub sum : (h : Job → ℕ)
+      → weigh (done h) ys + weigh (put h) ys + weigh h lacking + weigh (told h) xs + weigh (taken h) xs
+      ≡ weigh (done h) xs + weigh (put h) xs + weigh (told h) ys + weigh (taken h) ys
   pub applied : weigh applied_by ys + weigh receipts_of xs ≡ weigh applied_by xs + weigh receipts_of ys
   pub refused : weigh refused_by ys + weigh denials_of xs ≡ weigh refused_by xs + weigh denials_of ys + length lacking
   pub later : AllLaterWorkers xs ys
@@ -254,8 +254,7 @@ abbrev pub at_rest : {S H P : Type 0} → (Worker S H P) → (Worker S H P)
 at_rest w = record w { pass = None }
 
 abbrev pub AllPassing : Option Queue → List (Pass Job Hand) → Type 0
-AllPassing q [] = Unit {0}
-AllPassing q (p ∷ ps) = IsPassing q (Some p) × AllPassing q ps
+AllPassing q ps = All (λ p. IsPassing q (Some p)) ps
 
 -- the passes of the workers
 abbrev pub passes_of : {S H P : Type 0} → List (Worker S H P) → List (Pass Job Hand)
@@ -263,10 +262,13 @@ passes_of [] = []
 passes_of (w ∷ ws) = option_to_list w.pass ++ passes_of ws
 
 -- the same sums, when the queue is closed and all that it had is done; some passes lay beside the workers
-pub record IsClosed {S H P : Type 0} (cells : List CellSight) (ps : List (Pass Job Hand)) (xs zs : List (Worker S H P)) : Type 0 where
+pub record IsClosed {S H P : Type 0} (cells : List CellSight) (ps : List (Pass Job Hand)) (xs zs : List (Worker S H P))
+    : Type 0 where
   pub lacking : List Job
   pub elsewhere : AllLack cells lacking
-  pub sum : (h : Job → ℕ) → weigh (done h) zs + weigh h lacking + weigh (told h) xs + weigh (taken h) xs + taken_by h ps ≡ weigh (done h) xs + weigh (put h) xs + weigh (told h) zs + put_by h ps
+  pub sum : (h : Job → ℕ)
+      → weigh (done h) zs + weigh h lacking + weigh (told h) xs + weigh (taken h) xs + taken_by h ps
+      ≡ weigh (done h) xs + weigh (put h) xs + weigh (told h) zs + put_by h ps
   pub applied : weigh applied_by zs + weigh receipts_of xs ≡ weigh applied_by xs + weigh receipts_of zs
   pub refused : weigh refused_by zs + weigh denials_of xs ≡ weigh refused_by xs + weigh denials_of zs + length lacking
   pub later : AllLaterWorkers xs zs

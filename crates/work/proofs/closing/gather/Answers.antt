@@ -1,11 +1,11 @@
-use Rattle.std.proofs.Common.{◌≡◌, ◌+◌, ap, ◌∙◌, subst, arith, List, [], ◌∷◌, ◌++◌}
+use Rattle.std.proofs.Common.{◌≡◌, ◌+◌, ap, ◌∙◌, arith, List, [], ◌∷◌, ◌++◌, Some}
+use Rattle.std.proofs.lemmas.List.Elements.{All-pop}
 use Rattle.crossbeam_queue.specs.Passes.{Pass, view}
 use Rattle.work.specs.declared.rule.Hand.{Hand}
 use Rattle.work.specs.declared.rule.Job.{Job}
 use Rattle.work.specs.Hands.{weigh}
-use Rattle.work.specs.Queues.{AllPasses, parts, parts_by, put_by, taken_by}
-use Rattle.work.proofs.Balances.{merges, weigh-append}
-use Rattle.work.proofs.Many.{all_passes_front, weigh-snoc}
+use Rattle.work.specs.Queues.{IsOn, parts, parts_by, put_by, taken_by}
+use Rattle.work.proofs.Balances.{merges, weigh-append, weigh-snoc}
 use Rattle.work.proofs.closing.gather.Goals as goal
 
 pub loop-pass-init : goal.loop-pass-init
@@ -14,7 +14,7 @@ loop-pass-init c =
     let after : List (Pass Job Hand) = c.pop.new.self.items in
     let last = c.in-Some.whole in
     let is : before ≡ after ++ last ∷ [] = c.in-Some.ensures.items in
-    let all = all_passes_front _ after last (subst (AllPasses _) is c.requires.passes) in
+    let all = All-pop (IsOn c.args.line.now) before after (Some last) is c.requires.passes in
     let sum = c.requires.all in
     let split : parts_by before ≡ parts_by after + parts last = ap parts_by is ∙ weigh-snoc parts after last in (
       all.1.queue,
@@ -30,7 +30,7 @@ loop-pass-init c =
 pub absorb-requires-clause-queue : goal.absorb-requires-clause-queue
 absorb-requires-clause-queue c =
     let i = c.loop-pass.invariant in
-    let all = all_passes_front _ c.pop-in-loop-pass.new.self.items c.in-Some-pop.pass (subst (AllPasses _) c.in-Some-pop.ensures.items i.4) in
+    let all = All-pop (IsOn c.args.line.now) c.loop-pass.passes.items c.pop-in-loop-pass.new.self.items (Some c.in-Some-pop.pass) c.in-Some-pop.ensures.items i.4 in
     (i.0, all.1.queue)
 
 pub absorb-requires-clause-rule : goal.absorb-requires-clause-rule
@@ -45,7 +45,7 @@ loop-pass-preserved c =
     let was = c.loop-pass.whole in
     let now = c.absorb.new.pass in
     let is : before ≡ after ++ last ∷ [] = c.in-Some-pop.ensures.items in
-    let all = all_passes_front _ after last (subst (AllPasses _) is i.4) in
+    let all = All-pop (IsOn c.args.line.now) before after (Some last) is i.4 in
     let q = c.absorb.ensures.queue in
     let r = c.absorb.ensures.rule in
     let both : parts now ≡ parts was + parts last = ap (λ (v : Hand). v.parts) r in

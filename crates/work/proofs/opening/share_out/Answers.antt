@@ -1,11 +1,14 @@
-use Rattle.std.proofs.Common.{◌≡◌, ◌+◌, ◌-◌, ap, sym, ◌∙◌, subst, arith, rules, []}
+use Rattle.std.proofs.Common.{ℕ, ◌≡◌, ◌+◌, ◌-◌, ap, sym, ◌∙◌, subst, arith, rules, []}
+use Rattle.std.proofs.lemmas.List.Elements.{All-push}
 use Rattle.crossbeam_queue.specs.Passes.{view}
 use Rattle.work.specs.declared.rule.Hand.{Hand}
 use Rattle.work.specs.Hands.{hand}
-use Rattle.work.specs.Queues.{AllPasses, parts, parts_by}
-use Rattle.work.proofs.Balances.{forks}
-use Rattle.work.proofs.Many.{all_passes_snoc, all_passes_map, weigh-snoc, fewer}
+use Rattle.work.specs.Queues.{AllPasses, IsFreshOn, parts, parts_by}
+use Rattle.work.proofs.Balances.{forks, weigh-snoc}
 use Rattle.work.proofs.opening.share_out.Goals as goal
+
+fewer : (n : ℕ) → hand ((65 - n) - 1) [] [] ≡ hand (65 - (n + 1)) [] []
+fewer n = ap (λ (k : ℕ). hand k [] []) (omega arith)
 
 pub another-requires-clause-rule : goal.another-requires-clause-rule
 another-requires-clause-rule c =
@@ -29,7 +32,8 @@ loop-made-preserved c =
       search rules,
       search rules,
       omega arith,
-      subst (AllPasses _) (sym c.push_reserved.ensures.items) (all_passes_snoc _ c.loop-made.room.items c.another.result i.5 (q.queue.1, omega arith, ap (λ (v : Hand). v.put) is, ap (λ (v : Hand). v.taken) is)),
+      subst (AllPasses (IsFreshOn c.args.line.now)) (sym c.push_reserved.ensures.items) (All-push (IsFreshOn c.args.line.now) c.loop-made.room.items c.another.result i.5
+          (record { own = record { queue = q.queue.1; part = omega arith }; put = ap (λ (v : Hand). v.put) is; taken = ap (λ (v : Hand). v.taken) is })),
     )
 
 pub returns-clause-passes : goal.returns-clause-passes
@@ -64,6 +68,5 @@ returns-clause-fresh c =
     let le = a._made-end r.0 in
     let t = c.loop-made-test.false in
     let mine : parts c.loop-made.first ≡ 65 - c.loop-made._made = ap (λ (v : Hand). v.parts) i.1 in
-    subst (AllPasses _) (sym c.push_reserved-2.ensures.items) (all_passes_snoc _ c.loop-made.room.items c.loop-made.first
-    (all_passes_map _ _ c.loop-made.room.items (λ p h. record { own = record { queue = h.0; part = h.1 }; put = h.2; taken = h.3 }) i.5)
+    subst (AllPasses (IsFreshOn c.args.line.now)) (sym c.push_reserved-2.ensures.items) (All-push (IsFreshOn c.args.line.now) c.loop-made.room.items c.loop-made.first i.5
     (record { own = record { queue = i.0; part = omega arith }; put = ap (λ (v : Hand). v.put) i.1; taken = ap (λ (v : Hand). v.taken) i.1 }))

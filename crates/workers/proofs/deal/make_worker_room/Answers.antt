@@ -1,7 +1,7 @@
 use Rattle.std.proofs.Common.{◌+◌, ◌∷◌, [], List, ap, sym, ◌∙◌, subst, arith, length, length-append}
-use Rattle.workers.specs.Spares.{AllBlank}
+use Rattle.std.proofs.lemmas.List.Elements.{All-push}
+use Rattle.workers.specs.Spares.{AllBlank, IsBlank}
 use Rattle.workers.specs.declared.deal.Room.{Room}
-use Rattle.workers.proofs.Deals.{blank_snoc}
 use Rattle.workers.proofs.deal.make_worker_room.Goals as goal
 
 pub loop-made-preserved : goal.loop-made-preserved
@@ -13,5 +13,5 @@ loop-made-preserved g c =
       p.len ∙ ap (λ n. n + 1) i.0,
       (let a = p.capacity in let b = i.1 in omega arith),
       (let l = ap (λ (x : List (Room _ _ _)). length x) p.items ∙ length-append c.loop-made.rooms.items (r ∷ []) in let b = i.2 in omega arith),
-      subst (AllBlank c.args.cells) (sym p.items) (blank_snoc c.args.cells c.loop-made.rooms.items r i.3 w.items w.capacity),
+      subst (AllBlank c.args.cells) (sym p.items) (All-push (IsBlank c.args.cells) c.loop-made.rooms.items r i.3 (w.items, w.capacity)),
     )

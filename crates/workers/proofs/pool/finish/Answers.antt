@@ -1,6 +1,7 @@
 use Rattle.std.proofs.Common.{None, subst, sym, ◌∙◌, get_or}
+use Rattle.std.proofs.lemmas.List.Elements.{All-set}
 use Rattle.workers.specs.Sums.{AllReady, IsPassing, IsReady}
-use Rattle.workers.proofs.Pools.{all_pass, closed_by, first_ready, parts_all, rest_first, rest_ready}
+use Rattle.workers.proofs.Pools.{all_pass, closed_by, parts_all, rest_first, rest_ready}
 use Rattle.workers.proofs.pool.finish.Goals as goal
 
 pub close-left-requires-clause-all : goal.close-left-requires-clause-all
@@ -19,9 +20,8 @@ serve_all-requires-clause-ready g c =
 pub returns-clause-ready : goal.returns-clause-ready
 returns-clause-ready g c =
     let cs = c.args.shared.now.cells.items in
-    first_ready cs c.collect.new.workers c.serve_all.new.self
+    All-set (IsReady cs None) c.collect.new.workers 0 c.serve_all.new.self (subst (λ q. IsReady cs q c.serve_all.new.self) c.take.ensures.after c.serve_all.ensures.ready)
     (subst (AllReady cs None) (sym c.collect.ensures.rest) (rest_ready cs c.args.shared.now.queue c.args.workers.now c.requires.ready))
-    (subst (λ q. IsReady cs q c.serve_all.new.self) c.take.ensures.after c.serve_all.ensures.ready)
 
 pub returns-clause-closed : goal.returns-clause-closed
 returns-clause-closed g c =

@@ -4,7 +4,7 @@ use Rattle.work.specs.declared.rule.Job.{Job}
 use Rattle.workers.specs.declared.shared.Shared.{Shared}
 use Rattle.workers.proofs.Nets.{done_after, host_state_after, grown_after, nets_same}
 use Rattle.workers.proofs.Offers.{all_left}
-use Rattle.workers.proofs.Worked.{many_ones}
+use Rattle.work.proofs.Balances.{ones}
 use Rattle.workers.proofs.running.offer.Goals as goal
 
 pub invariant_of-host : goal.invariant_of-host
@@ -27,10 +27,10 @@ returns-in-Err-clause-same g c = nets_same c.args.host.now
 
 pub returns-in-Err-clause-offered : goal.returns-in-Err-clause-offered
 returns-in-Err-clause-offered g c =
-    let ones : weigh (λ (_ : Job). 1) c.args.jobs.items ≡ c.len-in-Err.result = (let m = many_ones c.args.jobs.items in let n = c.len-in-Err.ensures in let ok = c.args.jobs.ok.0 in omega arith) in
+    let same : weigh (λ (_ : Job). 1) c.args.jobs.items ≡ c.len-in-Err.result = (let m = ones c.args.jobs.items in let n = c.len-in-Err.ensures in let ok = c.args.jobs.ok.0 in omega arith) in
     inr (record {
       same = refl;
       applied = refl;
       refused = refl;
-      left = all_left _ _ _ _ ones;
+      left = all_left _ _ _ _ same;
     })

@@ -7,8 +7,9 @@ use Rattle.workers.specs.declared.worker.Worker.{Worker}
 use Rattle.workers.specs.Spares.{IsCounted, IsDealtAll, at_work, on_spares}
 use Rattle.workers.specs.Sums.{AllLaterWorkers, AllReady, IsClosed, parts_of}
 use Rattle.workers.proofs.Deals.{dealt_all_last, given_sum}
+use Rattle.workers.proofs.Pairs.{zip-last}
 use Rattle.workers.proofs.Sums.{weigh-last}
-use Rattle.workers.proofs.Worked.{all_given, dealt_ready, empty, given_grown, given_many, grown_spares_none, grown_roomy, later_last, worked, written_back}
+use Rattle.workers.proofs.Worked.{all_given, dealt_ready, empty, given_grown, given_many, grown_spares_none, grown_roomy, worked, written_back}
 use Rattle.workers.proofs.running.run_workers.Goals as goal
 
 pub work_through-requires-clause-queue : goal.work_through-requires-clause-queue
@@ -39,14 +40,14 @@ loop-worker-init g c =
 pub give_back-requires-clause-room : goal.give_back-requires-clause-room
 give_back-requires-clause-room g c =
     let i = c.loop-worker.invariant.2 in
-    let l = later_last i.0 c.pop.new.self.items c.in-Some.worker (subst (AllLaterWorkers i.0) c.in-Some.ensures.items i.3) in
+    let l = zip-last _ i.0 c.pop.new.self.items c.in-Some.worker (subst (AllLaterWorkers i.0) c.in-Some.ensures.items i.3) in
     let d = dealt_all_last c.args.host_state.now.spares.items l.0 l.1 i.1 (subst (λ (v : List (Worker _ _ _)). IsDealtAll c.args.host_state.now.spares.items v i.1) l.2 i.2) in
     grown_roomy d.0 l.1.walks.items i.1 c.loop-worker.host_state.spares.items d.2 i.4
 
 pub give_back-requires-clause-seats : goal.give_back-requires-clause-seats
 give_back-requires-clause-seats g c =
     let i = c.loop-worker.invariant.2 in
-    let l = later_last i.0 c.pop.new.self.items c.in-Some.worker (subst (AllLaterWorkers i.0) c.in-Some.ensures.items i.3) in
+    let l = zip-last _ i.0 c.pop.new.self.items c.in-Some.worker (subst (AllLaterWorkers i.0) c.in-Some.ensures.items i.3) in
     let d = dealt_all_last c.args.host_state.now.spares.items l.0 l.1 i.1 (subst (λ (v : List (Worker _ _ _)). IsDealtAll c.args.host_state.now.spares.items v i.1) l.2 i.2) in
     given_many d.0 l.1.walks.items i.1 c.loop-worker.host_state.spares.items c.in-Some.worker.walks.items d.2 i.4 l.4
 
@@ -55,7 +56,7 @@ loop-worker-preserved g c =
     let i = c.loop-worker.invariant.2 in
     let cur = c.loop-worker.host_state.spares.items in
     let z : (Worker _ _ _) = c.in-Some.worker in
-    let l = later_last i.0 c.pop.new.self.items z (subst (AllLaterWorkers i.0) c.in-Some.ensures.items i.3) in
+    let l = zip-last _ i.0 c.pop.new.self.items z (subst (AllLaterWorkers i.0) c.in-Some.ensures.items i.3) in
     let d = dealt_all_last c.args.host_state.now.spares.items l.0 l.1 i.1 (subst (λ (v : List (Worker _ _ _)). IsDealtAll c.args.host_state.now.spares.items v i.1) l.2 i.2) in (
       c.loop-worker.invariant.0,
       (λ (f : SeatSight → ℕ).

@@ -2,11 +2,9 @@ use Rattle.std.proofs.Common.{◌≡◌, ap, ◌∙◌, sym, subst, refl, rules,
 use Rattle.std.proofs.lemmas.List.{length-map}
 use Rattle.std.proofs.lemmas.Option.{slice_get_within}
 use Rattle.hoststep.specs.Logs.{Log}
-use Rattle.cells.specs.Cells.{IsSeatOf}
 use Rattle.cells.specs.Closing.{AllSeats, ended_sight, Gathered, IsOneHistory, HasNumber}
 use Rattle.cells.specs.Sights.{CellSight, SeatSight}
-use Rattle.cells.proofs.Closing.{all_map, one_history, has_ended, written_back}
-use Rattle.cells.proofs.Seats.{seats_from_all}
+use Rattle.cells.proofs.Closing.{one_history, has_ended, written_back}
 use Rattle.cells.proofs.cell.Cell.close_watched.Goals as goal
 
 pub returns-then-not-has_all-clause-missing : goal.returns-then-not-has_all-clause-missing
@@ -23,7 +21,7 @@ gather-cell_state-requires-clause-some g c =
 pub gather-cell_state-requires-clause-seats : goal.gather-cell_state-requires-clause-seats
 gather-cell_state-requires-clause-seats g c =
     let P : CellSight → SeatSight → Type 0 = λ x s. (s.cell ≡ x.cell) × (s.me.config ≡ x.config) × (s.me.seats ≡ x.seats) in
-    subst (λ (y : CellSight × List SeatSight). AllSeats (P y.0) y.1) (λ i. (sym c.self.view_is i, sym c.as_mut_slice.ensures.value i)) (all_map (IsSeatOf c.args.self) (P c.args.self) _ (λ s h. (h.cell, h.config, h.seats)) (seats_from_all (IsSeatOf c.args.self) _ c.requires))
+    subst (λ (y : CellSight × List SeatSight). AllSeats (P y.0) y.1) (λ i. (sym c.self.view_is i, sym c.as_mut_slice.ensures.value i)) (λ k d lt. let h = c.requires k d lt in (h.cell, h.config, h.seats))
 
 pub returns-clause-history : goal.returns-clause-history
 returns-clause-history g c =

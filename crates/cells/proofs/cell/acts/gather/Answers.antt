@@ -5,7 +5,7 @@ use Rattle.cells.specs.Sights.{SeatSight}
 use Rattle.cells.specs.Views.{Knowledge}
 use Rattle.cells.specs.Rule.{note_of}
 use Rattle.cells.specs.Closing.{ended_sight}
-use Rattle.cells.proofs.Closing.{keeps_shown, one_more_seat, gathered, all_get_or, seam_read}
+use Rattle.cells.proofs.Closing.{keeps_shown, one_more_seat, gathered, seam_read}
 use Rattle.cells.proofs.cell.acts.gather.Goals as goal
 
 pub loop-seat-preserved : goal.loop-seat-preserved
@@ -21,9 +21,9 @@ loop-seat-preserved g c =
     let same : xs ≡ old = ap (set old 0) c.closer_from-keeper.ensures.same ∙ set-get_or old 0 c.index-seats-0.result in
     let lt : n < length xs = let t = c.loop-seat-test.true in let a = c.loop-seat.auto.seats in omega arith in
     let lt' : n < length old = subst (λ (l : List SeatSight). n < length l) same lt in
-    let first = all_get_or _ old 0 c.index-seats-0.result c.requires.seats c.requires.some in
-    let mine = all_get_or _ old n item c.requires.seats lt' in
-    let here : item ≡ get_or old n item = at ∙ seam_read xs c.loop-seat.seats n item lt i.2 ∙ ap (λ (l : List SeatSight). get_or l n item) same in
+    let first = c.requires.seats 0 c.index-seats-0.result c.requires.some in
+    let mine = c.requires.seats n item lt' in
+    let here : item ≡ get_or old n item = at ∙ seam_read ended_sight xs c.loop-seat.seats n item lt i.2 ∙ ap (λ (l : List SeatSight). get_or l n item) same in
     let base : (view c.take-cell_state.new.pass).config ≡ c.args.config.now = ap (λ (v : Knowledge). v.config) c.take-cell_state.ensures.rule.now ∙ ap (λ (v : Knowledge). v.config) c.closer_from-keeper.ensures.pass.1 ∙ first.1 in
     let config : item.me.config ≡ (view c.take-cell_state.new.pass).config = ap (λ (s : SeatSight). s.me.config) here ∙ mine.1 ∙ sym base in
     let rest = one_more_seat (view c.take-cell_state.new.pass) (view c.loop-seat.keeper) (view c.end_seat.new.keeper) xs c.loop-seat.seats n item c.end_seat.new.seat lt i.2 at now i.1 e.told e.sound config i.3 in
@@ -33,7 +33,7 @@ pub returns-clause-gathered : goal.returns-clause-gathered
 returns-clause-gathered g c =
     let i = c.loop-seat.invariant in
     let closer = c.closer_from-keeper.ensures.pass.1 in
-    let first = all_get_or _ c.args.seats.now 0 c.index-seats-0.result c.requires.seats c.requires.some in
+    let first = c.requires.seats 0 c.index-seats-0.result c.requires.some in
     let xs : List SeatSight = set c.args.seats.now 0 c.closer_from-keeper.new.seat in
     let all : length xs ≤ c.loop-seat.seat-index = let t = c.loop-seat-test.false in let a = c.loop-seat.auto.seats in omega arith in
     gathered c.args.config.now c.args.count c.take-cell_state.result (view c.closer_from-keeper.result) (view c.take-cell_state.new.pass) xs c.loop-seat.seats c.loop-seat.seat-index c.take-cell_state.ensures.rule
@@ -49,5 +49,5 @@ end_seat-requires-clause-seat g c =
     let same : xs ≡ old = ap (set old 0) c.closer_from-keeper.ensures.same ∙ set-get_or old 0 c.index-seats-0.result in
     let lt : n < length xs = let t = c.loop-seat-test.true in let a = c.loop-seat.auto.seats in omega arith in
     let lt' : n < length old = subst (λ (l : List SeatSight). n < length l) same lt in
-    let mine = all_get_or _ old n item c.requires.seats lt' in
-    ap (λ (s : SeatSight). s.cell) (seam_read xs c.loop-seat.seats n item lt i.2 ∙ ap (λ (l : List SeatSight). get_or l n item) same) ∙ mine.0
+    let mine = c.requires.seats n item lt' in
+    ap (λ (s : SeatSight). s.cell) (seam_read ended_sight xs c.loop-seat.seats n item lt i.2 ∙ ap (λ (l : List SeatSight). get_or l n item) same) ∙ mine.0

@@ -1,11 +1,12 @@
 use Rattle.std.proofs.Common.{◌<◌, length, sym, ◌∙◌, arith}
-use Rattle.workers.proofs.Nets.{hosted_len, leaves, numbered_len}
+use Rattle.std.proofs.lemmas.Slice.Zip.{AllZip-long}
+use Rattle.workers.proofs.Nets.{leaves, numbered_len}
 use Rattle.workers.proofs.host.Host.close_last.Goals as goal
 
 pub remove_last-cell-requires : goal.remove_last-cell-requires
 remove_last-cell-requires g c =
     let f = c.self.inside.host_state in
-    let h = hosted_len f.shared.cells.items f.spares.items c.self.invariant.hosted in
+    let h = AllZip-long _ f.shared.cells.items f.spares.items c.self.invariant.hosted in
     let n = numbered_len f.shared.numbers.items f.shared.cells.items c.self.invariant.numbered in
     let ok = f.shared.cells.ok.0 in
     let some : 0 < length f.shared.cells.items = grind (arith, c.is_empty.ensures, c.if-is_empty.false, ok) in

@@ -1,14 +1,15 @@
 use Rattle.std.proofs.Common.{List, ap, arith, subst, sym}
-use Rattle.workers.specs.Sums.{SamePlaces}
+use Rattle.workers.specs.Sums.{IsWalk, SamePlaces}
+use Rattle.workers.proofs.Pairs.{zip-at}
 use Rattle.workers.specs.declared.walk.Walk.{Walk}
-use Rattle.workers.proofs.Sums.{busy_set, is_seated, kept_done, places_set, seated_at}
+use Rattle.workers.proofs.Sums.{busy_set, is_seated, kept_done, places_set}
 use Rattle.workers.proofs.worker.Worker.apply_at.Goals as goal
 
 pub index_mut-requires : goal.index_mut-requires
 index_mut-requires g c = let lt = is_seated _ _ _ _ c.requires.busy in let ok = c.args.self.now.walks.ok.0 in omega arith
 
 pub apply_by-is_applied-requires-clause-walk : goal.apply_by-is_applied-requires-clause-walk
-apply_by-is_applied-requires-clause-walk g c = seated_at c.args.workplace.now.shared.now.cells.items c.args.self.now.walks.items c.args.k c.index.result.now c.index_mut.result.now c.requires.busy.seated c.requires.busy.there c.index.ensures c.index_mut.ensures.value
+apply_by-is_applied-requires-clause-walk g c = zip-at IsWalk c.args.workplace.now.shared.now.cells.items c.args.self.now.walks.items c.args.k c.index.result.now c.index_mut.result.now c.requires.busy.seated c.requires.busy.there c.index.ensures c.index_mut.ensures.value
 
 pub returns-clause-busy : goal.returns-clause-busy
 returns-clause-busy g c =

@@ -3,8 +3,9 @@ use Rattle.work.specs.declared.rule.Job.{Job}
 use Rattle.types.specs.declared.event.Out.{Out}
 use Rattle.types.specs.declared.event.Out.TheVariants.{ArmBallot}
 use Rattle.protocol.specs.Hosts.{Config}
-use Rattle.workers.specs.Sums.{IsBusy, KeepsSums, SamePlaces, emission_in, hears, hears_from, hears_of}
-use Rattle.workers.proofs.Sums.{busy_set, found_network, found_none, found_some, is_seated, kept_none, kept_both, kept_moved, number_at, places_none, places_both, still_next, seated_at, hears_whole, moved_walk}
+use Rattle.workers.proofs.Pairs.{zip-at}
+use Rattle.workers.specs.Sums.{IsBusy, IsWalk, KeepsSums, SamePlaces, emission_in, hears, hears_from, hears_of}
+use Rattle.workers.proofs.Sums.{busy_set, found_network, found_none, found_some, is_seated, kept_none, kept_both, kept_moved, number_at, places_none, places_both, still_next, hears_whole, moved_walk}
 use Rattle.workers.proofs.worker.Worker.tell_one.Goals as goal
 use Rattle.workers.proofs.worker.Worker.tell_one.Goals.{in-Some, in-None}
 
@@ -89,7 +90,7 @@ returns-clause-busy g c =
     let w = c.index_mut.result.now in
     let d = c.index.result.now in
     let next = still_next c.args.self.now.walks.items c.loop-index.self.walks.items c.args.k c.index-2.result.now w c.read-receipt.result.0.value c.requires.place c.index-2.ensures c.index_mut.ensures.value i.1 i.3.2.later c.read-receipt.ensures.0 in
-    let walk = seated_at cs c.loop-index.self.walks.items c.args.k d w i.0.seated i.0.there c.index.ensures c.index_mut.ensures.value in
+    let walk = zip-at IsWalk cs c.loop-index.self.walks.items c.args.k d w i.0.seated i.0.there c.index.ensures c.index_mut.ensures.value in
     busy_set cs _ c.args.k c.loop-index.self _ d c.move_on.new.walk refl refl c.index.ensures (moved_walk d w c.move_on.new.walk walk next.1 c.move_on.ensures.0 c.move_on.ensures.1) i.0
 
 pub returns-clause-kept : goal.returns-clause-kept
@@ -100,7 +101,7 @@ returns-clause-kept g c =
     let r = c.read-receipt.result.0.value in
     let d = c.index.result.now in
     let next = still_next c.args.self.now.walks.items c.loop-index.self.walks.items c.args.k c.index-2.result.now w r c.requires.place c.index-2.ensures c.index_mut.ensures.value i.1 i.3.2.later c.read-receipt.ensures.0 in
-    let walk = seated_at cs c.loop-index.self.walks.items c.args.k d w i.0.seated i.0.there c.index.ensures c.index_mut.ensures.value in
+    let walk = zip-at IsWalk cs c.loop-index.self.walks.items c.args.k d w i.0.seated i.0.there c.index.ensures c.index_mut.ensures.value in
     let many = c.read-receipt.ensures.1 in
     let le : length r.outs ≤ c.loop-index.index = let t = c.loop-index-test.false in omega arith in
     kept_moved cs c.args.self.now c.loop-index.self _ c.args.k w c.move_on.new.walk r _ (is_seated _ _ _ _ i.0) c.index_mut.ensures.value next.0 next.1

@@ -3,8 +3,8 @@ use Rattle.std.specs.Option.{option_to_list}
 use Rattle.protocol.specs.Hosts.{Config}
 use Rattle.cells.specs.Sights.{CellSight}
 use Rattle.workers.specs.Sums.{IsBusy, KeepsSums, SamePlaces, hears_of}
-use Rattle.workers.proofs.Sums.{get_or_same, hears_more, kept_none, kept_both, places_none, places_both}
-use Rattle.std.proofs.lemmas.List.{take_all}
+use Rattle.workers.proofs.Sums.{hears_more, kept_none, kept_both, places_none, places_both}
+use Rattle.std.proofs.lemmas.List.{get_or_default, take_all}
 use Rattle.workers.proofs.worker.Worker.tell_others.Goals as goal
 use Rattle.workers.proofs.worker.Worker.tell_others.Goals.{in-Some, in-None}
 
@@ -46,6 +46,6 @@ returns-clause-kept g c = λ d at.
     (let i = c.loop-host.invariant in
     let cs = c.args.workplace.now.shared.now.cells.items in
     let le : length c.hosts-hosts.result.now ≤ c.loop-host.host-index = let t = c.loop-host-test.false in omega arith in
-    let cell : c.index.result.now ≡ d = c.index.ensures ∙ get_or_same cs c.args.k c.index.result.now d c.requires.busy.there ∙ sym at in
+    let cell : c.index.result.now ≡ d = c.index.ensures ∙ get_or_default cs c.args.k c.index.result.now d c.requires.busy.there ∙ sym at in
     let hosts = take_all c.loop-host.host-index c.hosts-hosts.result.now le ∙ c.hosts-hosts.ensures.value ∙ ap (λ (k : Config). k.hosts) c.config.ensures ∙ ap (λ (x : CellSight). x.config.hosts) cell in
     subst (λ l. KeepsSums cs (hears_of c.args.emission l) c.args.self.now c.loop-host.self) hosts i.2)
