@@ -12,7 +12,6 @@ use Rattle.protocol.specs.Nodes.{Node, is_externalized, step}
 use Rattle.protocol.specs.Passes.{pass, pass_rules, while_open}
 use Rattle.protocol.specs.Views.{Seen, seen}
 use Rattle.protocol.specs.Limits.{ComesOfEvents}
-use Rattle.protocol.specs.Limits.ComesOfEvents.{next}
 use Rattle.std.specs.Prelude.{IsFalse, IsTrue}
 use Rattle.protocol.specs.Sets.{among}
 use Rattle.protocol.specs.Rows.{is_taken, table_with_offer, with_row}
@@ -73,8 +72,3 @@ pub row-step : (n : Node) (h k : Heard) (inputs : Inputs) (votes : Votes) (x : S
     → step n (Take x) ≡ (node_of k inputs votes, [])
 row-step n h k inputs votes x is alone c t =
     alone x refl ∙ ap {B = Node × List Out} (λ (m : Node). (record m { table = table_with_offer m.table x }, [])) is ∙ ap {B = Node × List Out} (λ (m : Node). (m, [])) (table_with_offer-to h k inputs votes x c t)
-
--- and events led to the node after it
-pub row-reached : (n : Node) (h k : Heard) (inputs : Inputs) (votes : Votes) (x : Sent) → n ≡ node_of h inputs votes → AddsRowAlone n x.sender → ComesOfEvents (node_of h inputs votes) → k.configured ≡ h.configured → sents_of k.table ≡ table_with_offer (sents_of h.table) x
-    → ComesOfEvents (node_of k inputs votes)
-row-reached n h k inputs votes x is alone r c t = subst (λ (p : Node × List Out). ComesOfEvents p.0) (row-step n h k inputs votes x is alone c t) (next (subst ComesOfEvents (sym is) r) (Take x))

@@ -1,5 +1,5 @@
 -- How an answer leads to the step's: the votes that settle, and what the node of them sends.
-use Rattle.std.proofs.Common.{refl, ◌≡◌, ℕ, ◌+◌, ◌<◌, Bool, true, false, not, ◌&&◌, ◌==◌, nat_lt, List, Option, Some, None, Result, Ok, Err, IfOk, OnOk, option_map, is_some, if◌then◌else◌, subst, ◌∙◌, sym, ap, ◌⊎◌, arith}
+use Rattle.std.proofs.Common.{refl, ◌≡◌, ℕ, ◌+◌, ◌<◌, Bool, true, false, not, ◌&&◌, ◌==◌, nat_lt, List, [], Option, Some, None, Result, Ok, Err, IfOk, OnOk, option_map, is_some, if◌then◌else◌, subst, ◌∙◌, sym, ap, ◌⊎◌, arith}
 use Rattle.std.specs.Prelude.{IfSome, IsFalse, IsTrue}
 use Rattle.std.proofs.lemmas.Bool.{and_parts, eqb-true}
 use Rattle.std.proofs.lemmas.Bool.Decides.{nat_tests}
@@ -11,7 +11,7 @@ use Rattle.types.specs.declared.event.NodeEvent.TheVariants.{Propose, Take, Nomi
 use Rattle.types.specs.declared.event.Out.{Out}
 use Rattle.types.specs.declared.state.Inputs.{Inputs}
 use Rattle.types.specs.declared.state.Votes.{Votes}
-use Rattle.protocol.specs.Rows.{is_taken, row, with_row}
+use Rattle.protocol.specs.Rows.{row, with_row}
 use Rattle.protocol.specs.States.{counter_of}
 use Rattle.protocol.specs.Timers.{is_nomination_timer_live, is_ballot_timer_live}
 use Rattle.protocol.specs.Nodes.{Node, after_pass, settle, change, with_settled_votes, after_change, node_and_outs, outs, step, in_round, with_timeout, at_next_counter, is_externalized, most_passes}
@@ -26,7 +26,7 @@ use Rattle.protocol.specs.Sets.{Names, among}
 use Rattle.envstore.specs.declared.filed.Filed.{Filed}
 use Rattle.envstore.specs.Archives.{sents_of}
 use Rattle.latest.specs.declared.table.Put.{Put}
-use Rattle.latest.specs.declared.table.Put.TheVariants.{Added, Replaced}
+use Rattle.latest.specs.declared.table.Put.TheVariants.{Added, Replaced, Stale}
 use Rattle.latest.specs.Puts.{IsPut}
 use Rattle.listening.specs.declared.configured.Configured.{Configured}
 use Rattle.listening.proofs.Offers.{put-takes}
@@ -34,22 +34,23 @@ use Rattle.listening.specs.Listening.{Heard}
 use Rattle.slot.specs.Listening.{Held, node_of}
 use Rattle.slot.specs.declared.filed.GivenOut.{GivenOut}
 use Rattle.slot.specs.Filings.{outs_of}
-use Rattle.slot.specs.Wholes.{whole, led, SendWellFormed}
+use Rattle.slot.specs.declared.changes.Changed.{Changed}
+use Rattle.slot.specs.Wholes.{ChangesTo, IsChange, SendWellFormed, led, whole, with_changed}
 
 -- the node that is held
 abbrev pub node_in : Held → Node
 node_in h = h.node
 
 -- the votes that an event changes settle within the limit
-pub settles-after : (n m : Node) (e : NodeEvent) → ComesOfEvents n → change n e ≡ Some m → IsTrue (is_some (settle most_passes (after_pass m) m.votes))
-settles-after n m e r h = never_limited n r e m h
+pub settles_of : (m : Node) → IsChange m → IsTrue (is_some (settle most_passes (after_pass m) m.votes))
+settles_of m d = never_limited d.before d.reached d.event m d.is
 
 -- what they send once they settle is well formed
-pub sends-after : (n m : Node) (e : NodeEvent) → ComesOfEvents n → change n e ≡ Some m → IfSome (settle most_passes (after_pass m) m.votes) SendWellFormed
+pub sends_of : (m : Node) → IsChange m → IfSome (settle most_passes (after_pass m) m.votes) SendWellFormed
 unfolding step
-sends-after n m e r h = go (settle most_passes (after_pass m) m.votes) (subst (λ (o : Option Node). ComesOfEvents (node_and_outs n (after_change o)).0) h (next r e))
+sends_of m d = go (settle most_passes (after_pass m) m.votes) (subst (λ (o : Option Node). ComesOfEvents (node_and_outs d.before (after_change o)).0) d.is (next d.reached d.event))
   where
-    go : (o : Option Votes) → ComesOfEvents (node_and_outs n (with_settled_votes m o)).0 → IfSome o SendWellFormed
+    go : (o : Option Votes) → ComesOfEvents (node_and_outs d.before (with_settled_votes m o)).0 → IfSome o SendWellFormed
     go None r = tt
     go (Some w) r = sends-of-events r
 
@@ -58,58 +59,46 @@ pub step-is : (n : Node) (e : NodeEvent) (o : Option Node) → change n e ≡ o 
 unfolding step
 step-is n e o h = ap (λ (o : Option Node). node_and_outs n (after_change o)) h
 
--- ---- the changes, part by part
+-- ---- the changes, from the parts of the node
+-- what is made of a node is made of each that is the same
+made-of : (m n : Node) (event : NodeEvent) (a d : Changed) → m ≡ n → change m event ≡ Some (with_changed m a) → d ≡ a → ChangesTo n event (Some d)
+made-of m n event a d e made is = ap (λ x. change x event) (sym e) ∙ made ∙ (λ i. Some (with_changed (e i) (sym is i)))
+
 -- a round begins with the same leader where the same is configured
-pub led-by : (k c : Configured) (g inputs : Inputs) (round : ℕ) → k ≡ c → g ≡ led k inputs round → g ≡ led c inputs round
-led-by k c g inputs round e is = is ∙ ap (λ (x : Configured). led x inputs round) e
+led-by : (k c : Configured) (inputs : Inputs) (votes : Votes) (round : ℕ) (d : Changed) → k ≡ c → d ≡ record { inputs = led k inputs round; votes = votes } → d ≡ record { inputs = led c inputs round; votes = votes }
+led-by k c inputs votes round d same is = is ∙ (λ i. record { inputs = led (same i) inputs round; votes = votes })
 
-pub change-propose : (c : Configured) (inputs g : Inputs) (votes w : Votes) (table : List Sent) (n : Node) (x : List ℕ) → n ≡ whole c inputs votes table
-    → g ≡ led c (record inputs { proposal = Some x }) 1 → w ≡ votes → change n (Propose x) ≡ Some (record n { inputs = g; votes = w })
+pub change-propose : (k : Configured) (h : Heard) (inputs : Inputs) (votes : Votes) (n : Node) (x : List ℕ) (d : Changed) → node_of h inputs votes ≡ n → k ≡ h.configured
+    → d ≡ record { inputs = led k (record inputs { proposal = Some x }) 1; votes = votes } → ChangesTo n (Propose x) (Some d)
 unfolding change
-change-propose c inputs g votes w table n x e eg ew = ap (λ m. change m (Propose x)) e ∙ (λ i. Some (record (sym e i) { inputs = sym eg i; votes = sym ew i }))
+change-propose k h inputs votes n x d e same is =
+    made-of (node_of h inputs votes) n (Propose x) (record { inputs = led h.configured (record inputs { proposal = Some x }) 1; votes = votes }) d e refl (led-by k h.configured (record inputs { proposal = Some x }) votes 1 d same is)
 
-pub change-round : (c : Configured) (inputs g : Inputs) (votes w : Votes) (table : List Sent) (n : Node) (r : ℕ) → n ≡ whole c inputs votes table
-    → is_nomination_timer_live r inputs.round (is_some votes.confirmed_prepared) ≡ true → g ≡ led c inputs (r + 1) → w ≡ votes → change n (NominationTimer r) ≡ Some (record n { inputs = g; votes = w })
+pub change-round : (k : Configured) (h : Heard) (inputs : Inputs) (votes : Votes) (n : Node) (r : ℕ) (d : Changed) → node_of h inputs votes ≡ n → is_nomination_timer_live r inputs.round (is_some votes.confirmed_prepared) ≡ true
+    → k ≡ h.configured → d ≡ record { inputs = led k inputs (r + 1); votes = votes } → ChangesTo n (NominationTimer r) (Some d)
 unfolding change
-change-round c inputs g votes w table n r e live eg ew =
-    ap (λ m. change m (NominationTimer r)) e
-    ∙ ap (λ b. if b then Some (in_round (whole c inputs votes table) (r + 1)) else None) live
-    ∙ (λ i. Some (record (sym e i) { inputs = sym eg i; votes = sym ew i }))
+change-round k h inputs votes n r d e live same is =
+    let m = node_of h inputs votes in
+    made-of m n (NominationTimer r) (record { inputs = led h.configured inputs (r + 1); votes = votes }) d e (ap (λ b. if b then Some (in_round m (r + 1)) else None) live) (led-by k h.configured inputs votes (r + 1) d same is)
 
-pub change-no_round : (c : Configured) (inputs : Inputs) (votes : Votes) (table : List Sent) (n : Node) (r : ℕ) → n ≡ whole c inputs votes table
-    → is_nomination_timer_live r inputs.round (is_some votes.confirmed_prepared) ≡ false → change n (NominationTimer r) ≡ None
+pub change-no_round : (h : Heard) (inputs : Inputs) (votes : Votes) (n : Node) (r : ℕ) → node_of h inputs votes ≡ n → is_nomination_timer_live r inputs.round (is_some votes.confirmed_prepared) ≡ false → change n (NominationTimer r) ≡ None
 unfolding change
-change-no_round c inputs votes table n r e dead = ap (λ m. change m (NominationTimer r)) e ∙ ap (λ b. if b then Some (in_round (whole c inputs votes table) (r + 1)) else None) dead
-
-pub change-take : (c : Configured) (inputs : Inputs) (votes w : Votes) (table t : List Sent) (n : Node) (x : Sent) → n ≡ whole c inputs votes table
-    → is_taken table x ≡ true → t ≡ with_row x table → w ≡ votes → change n (Take x) ≡ Some (whole c inputs w t)
-unfolding change
-change-take c inputs votes w table t n x e taken et ew =
-    ap (λ m. change m (Take x)) e
-    ∙ ap (λ b. if b then Some (whole c inputs votes (with_row x table)) else None) taken
-    ∙ (λ i. Some (whole c inputs (sym ew i) (sym et i)))
-
-pub change-stale : (c : Configured) (inputs : Inputs) (votes : Votes) (table : List Sent) (n : Node) (x : Sent) → n ≡ whole c inputs votes table → is_taken table x ≡ false → change n (Take x) ≡ None
-unfolding change
-change-stale c inputs votes table n x e stale = ap (λ m. change m (Take x)) e ∙ ap (λ b. if b then Some (whole c inputs votes (with_row x table)) else None) stale
+change-no_round h inputs votes n r e dead = ap (λ m. change m (NominationTimer r)) (sym e) ∙ ap (λ b. if b then Some (in_round (node_of h inputs votes) (r + 1)) else None) dead
 
 -- the counter of a ballot, where there is one
 abbrev pub counter_in : Option Ballot → Option ℕ
 counter_in o = option_map (λ (b : Ballot). b.counter) o
 
-pub change-counter : (c : Configured) (inputs g : Inputs) (votes w : Votes) (table : List Sent) (n : Node) (k : ℕ) → n ≡ whole c inputs votes table
-    → is_ballot_timer_live k votes.armed (counter_in votes.ballot) (is_externalized votes.phase) ≡ true → g ≡ record inputs { ballot_timeouts = inputs.ballot_timeouts + 1 } → w ≡ at_next_counter votes votes.ballot
-    → change n (BallotTimer k) ≡ Some (record n { inputs = g; votes = w })
+pub change-counter : (h : Heard) (inputs : Inputs) (votes : Votes) (n : Node) (k : ℕ) (d : Changed) → node_of h inputs votes ≡ n → is_ballot_timer_live k votes.armed (counter_in votes.ballot) (is_externalized votes.phase) ≡ true
+    → d ≡ record { inputs = record inputs { ballot_timeouts = inputs.ballot_timeouts + 1 }; votes = at_next_counter votes votes.ballot } → ChangesTo n (BallotTimer k) (Some d)
 unfolding change
-change-counter c inputs g votes w table n k e live eg ew =
-    ap (λ m. change m (BallotTimer k)) e
-    ∙ ap (λ b. if b then Some (with_timeout (whole c inputs votes table)) else None) live
-    ∙ (λ i. Some (record (sym e i) { inputs = sym eg i; votes = sym ew i }))
+change-counter h inputs votes n k d e live is =
+    let m = node_of h inputs votes in
+    made-of m n (BallotTimer k) (record { inputs = record inputs { ballot_timeouts = inputs.ballot_timeouts + 1 }; votes = at_next_counter votes votes.ballot }) d e (ap (λ b. if b then Some (with_timeout m) else None) live) is
 
-pub change-no_counter : (c : Configured) (inputs : Inputs) (votes : Votes) (table : List Sent) (n : Node) (k : ℕ) → n ≡ whole c inputs votes table
-    → is_ballot_timer_live k votes.armed (counter_in votes.ballot) (is_externalized votes.phase) ≡ false → change n (BallotTimer k) ≡ None
+pub change-no_counter : (h : Heard) (inputs : Inputs) (votes : Votes) (n : Node) (k : ℕ) → node_of h inputs votes ≡ n → is_ballot_timer_live k votes.armed (counter_in votes.ballot) (is_externalized votes.phase) ≡ false → change n (BallotTimer k) ≡ None
 unfolding change
-change-no_counter c inputs votes table n k e dead = ap (λ m. change m (BallotTimer k)) e ∙ ap (λ b. if b then Some (with_timeout (whole c inputs votes table)) else None) dead
+change-no_counter h inputs votes n k e dead = ap (λ m. change m (BallotTimer k)) (sym e) ∙ ap (λ b. if b then Some (with_timeout (node_of h inputs votes)) else None) dead
 
 -- a ballot timer is live below the last counter alone
 pub live-below : (k armed : ℕ) (o : Option Ballot) (over : Bool) → is_ballot_timer_live k armed (counter_in o) over ≡ true → counter_of o < 4294967295
@@ -123,38 +112,75 @@ live-below k armed (Some b) over h =
     under m e = grind (arith, nat_tests)
 
 -- ---- envelopes
-pub change-put : (h k : Heard) (inputs : Inputs) (votes w : Votes) (n : Node) (x : Sent) (p : Put) → n ≡ node_of h inputs votes
-    → IsPut h.table x p k.table → k.configured ≡ h.configured → (p ≡ Added) ⊎ ((y : Filed) × (p ≡ Replaced y)) → w ≡ votes → change n (Take x) ≡ Some (node_of k inputs w)
-change-put h k inputs votes w n x p e put same is ew =
+pub change-put : (h k : Heard) (inputs : Inputs) (votes : Votes) (n : Node) (x : Sent) (p : Put) → node_of h inputs votes ≡ n → IsPut h.table x p k.table → k.configured ≡ h.configured → (p ≡ Added) ⊎ ((y : Filed) × (p ≡ Replaced y))
+    → change n (Take x) ≡ Some (node_of k inputs votes)
+unfolding change
+change-put h k inputs votes n x p e put same is =
     let taken = put-takes h.table k.table x p put is in
-    change-take h.configured inputs votes w (sents_of h.table) (sents_of k.table) n x e taken.0 taken.1 ew ∙ ap (λ (c : Configured). Some (whole c inputs w (sents_of k.table))) (sym same)
+    ap (λ m. change m (Take x)) (sym e)
+    ∙ ap (λ b. if b then Some (whole h.configured inputs votes (with_row x (sents_of h.table))) else None) taken.0
+    ∙ (λ i. Some (whole (sym same i) inputs votes (sym taken.1 i)))
 
 -- two listeners with the same parts
-pub heard-same : (h k : Heard) → k.configured ≡ h.configured → k.table ≡ h.table → k ≡ h
+heard-same : (h k : Heard) → k.configured ≡ h.configured → k.table ≡ h.table → k ≡ h
 heard-same h k c t = λ i. record { configured = c i; table = t i }
+
+-- a stale one leaves the node as it is
+pub stale-put : (h k : Heard) (inputs : Inputs) (votes : Votes) (n : Node) (x : Sent) (p : Put) → node_of h inputs votes ≡ n → IsPut h.table x p k.table → k.configured ≡ h.configured → p ≡ Stale → step n (Take x) ≡ (node_of k inputs votes, [])
+unfolding change
+stale-put h k inputs votes n x p e put same is =
+    let left = subst (λ (q : Put). IsPut h.table x q k.table) is put in
+    let idle : change n (Take x) ≡ None = ap (λ m. change m (Take x)) (sym e) ∙ ap (λ b. if b then Some (whole h.configured inputs votes (with_row x (sents_of h.table))) else None) left.0 in
+    step-is n (Take x) None idle ∙ ap {B = Node × List Out} (λ (m : Node). (m, [])) (sym e ∙ ap (λ (l : Heard). node_of l inputs votes) (sym (heard-same h k same left.1)))
 
 -- ---- slices
 -- the listener with new slices is that of the node with them
 abbrev pub with_slices : Heard → Slices → Heard
 with_slices h q = record h { configured = record h.configured { slices = q } }
 
-pub change-slices : (h k : Heard) (inputs : Inputs) (votes w : Votes) (n : Node) (q : Slices) → n ≡ node_of h inputs votes → k ≡ with_slices h q → w ≡ votes
-    → change n (Reslice q) ≡ Some (node_of k inputs w)
+pub change-slices : (h k : Heard) (inputs : Inputs) (votes : Votes) (n : Node) (q : Slices) → node_of h inputs votes ≡ n → k ≡ with_slices h q → change n (Reslice q) ≡ Some (node_of k inputs votes)
 unfolding change
-change-slices h k inputs votes w n q e ek ew = ap (λ m. change m (Reslice q)) e ∙ (λ i. Some (node_of (sym ek i) inputs (sym ew i)))
+change-slices h k inputs votes n q e is = ap (λ m. change m (Reslice q)) (sym e) ∙ (λ i. Some (node_of (sym is i) inputs votes))
 
--- what is given out does not depend on the slices before the event
-pub outs-by_new : (c d : Configured) (inputs : Inputs) (votes : Votes) (before table : List Sent) (new : Node) → outs (whole c inputs votes before) new ≡ outs (whole d inputs votes table) new
+-- ---- inputs and votes
+-- those that an event set, as the change of the node that they are of
+abbrev pub change-of : (h : Heard) (inputs : Inputs) (votes : Votes) (n : Node) (event : NodeEvent) (o : Option Changed) (d : Changed) → node_of h inputs votes ≡ n → ComesOfEvents (node_of h inputs votes) → o ≡ Some d → ChangesTo n event o → IsChange (node_of h d.inputs d.votes)
+change-of h inputs votes n event o d e reached is made = record {
+  before = n;
+  event = event;
+  reached = subst ComesOfEvents e reached;
+  is = made ∙ ap (option_map (with_changed n)) is ∙ ap (λ (m : Node). Some (with_changed m d)) (sym e);
+}
+
+-- none was set
+pub step-none : (n : Node) (event : NodeEvent) (o : Option Changed) → o ≡ None → ChangesTo n event o → step n event ≡ (n, [])
+step-none n event o is made = step-is n event None (made ∙ ap (option_map (with_changed n)) is)
+
+-- ---- once the votes have settled
+step-some : (m : Node) (d : IsChange m) (w : Votes) → settle most_passes (after_pass m) m.votes ≡ Some w → step d.before d.event ≡ node_and_outs d.before (Some (record m { votes = w }))
+step-some m d w h = step-is d.before d.event (Some m) d.is ∙ ap (λ (o : Option Votes). node_and_outs d.before (with_settled_votes m o)) h
+
+-- the node that is held then is the step's
+pub node-after : (k : Heard) (inputs : Inputs) (votes : Votes) (d : IsChange (node_of k inputs votes)) (h : Heard) (u w : Votes) → settle most_passes (after_pass (node_of k inputs votes)) votes ≡ Some w → h ≡ k → u ≡ w → node_of h inputs u ≡ (step d.before d.event).0
+node-after k inputs votes d h u w settled same set =
+    let held : node_of h inputs u ≡ node_of k inputs w = λ i. node_of (same i) inputs (set i) in
+    held ∙ sym (ap (λ (p : Node × List Out). p.0) (step-some (node_of k inputs votes) d w settled))
+
+pub reached-after : (k : Heard) (inputs : Inputs) (votes : Votes) (d : IsChange (node_of k inputs votes)) (h : Heard) (u w : Votes) → settle most_passes (after_pass (node_of k inputs votes)) votes ≡ Some w → h ≡ k → u ≡ w → ComesOfEvents (node_of h inputs u)
+reached-after k inputs votes d h u w settled same set = subst ComesOfEvents (sym (node-after k inputs votes d h u w settled same set)) (next d.reached d.event)
+
+-- and what is given out is the step's: it does not depend on the slices and rows before the event
+outs-by_new : (c d : Configured) (inputs : Inputs) (votes : Votes) (before table : List Sent) (new : Node) → outs (whole c inputs votes before) new ≡ outs (whole d inputs votes table) new
 unfolding outs
 outs-by_new c d inputs votes before table new = refl
 
--- ---- whole steps
--- the votes settle
-pub step-some : (n m : Node) (e : NodeEvent) (w : Votes) → change n e ≡ Some m → settle most_passes (after_pass m) m.votes ≡ Some w → step n e ≡ node_and_outs n (Some (record m { votes = w }))
-step-some n m e w h s = step-is n e (Some m) h ∙ ap (λ (o : Option Votes). node_and_outs n (with_settled_votes m o)) s
-
-pub reached-some : (n m : Node) (e : NodeEvent) (w : Votes) → ComesOfEvents n → change n e ≡ Some m → settle most_passes (after_pass m) m.votes ≡ Some w → ComesOfEvents (record m { votes = w })
-reached-some n m e w r h s = subst (λ (p : Node × List Out). ComesOfEvents p.0) (step-some n m e w h s) (next r e)
+pub outs-after : (k : Heard) (inputs : Inputs) (votes : Votes) (d : IsChange (node_of k inputs votes)) (h : Heard) (a : Inputs) (v w : Votes) (os : List Out) → settle most_passes (after_pass (node_of k inputs votes)) votes ≡ Some w → node_of h a v ≡ d.before
+    → ((before after : List Sent) → os ≡ outs (whole k.configured a v before) (whole k.configured inputs w after)) → os ≡ (step d.before d.event).1
+outs-after k inputs votes d h a v w os settled is given =
+    given (sents_of k.table) (sents_of k.table)
+    ∙ outs-by_new k.configured h.configured a v (sents_of k.table) (sents_of h.table) (node_of k inputs w)
+    ∙ ap (λ (x : Node). outs x (node_of k inputs w)) is
+    ∙ sym (ap (λ (p : Node × List Out). p.1) (step-some (node_of k inputs votes) d w settled))
 
 -- ---- quiet
 -- an envelope from outside of a set that holds the node's reach, and not from a leader

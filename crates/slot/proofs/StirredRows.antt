@@ -1,12 +1,10 @@
 -- The rules that an envelope stirs: where the reach stays, those of its kind alone.
-use Rattle.std.proofs.Common.{◌≡◌, List, Some, sym, subst}
+use Rattle.std.proofs.Common.{◌≡◌, List, sym, subst}
 use Rattle.types.specs.Statements.{Sent}
-use Rattle.types.specs.declared.event.NodeEvent.{NodeEvent}
-use Rattle.types.specs.declared.event.NodeEvent.TheVariants.{Take}
 use Rattle.types.specs.declared.state.Inputs.{Inputs}
 use Rattle.types.specs.declared.state.Votes.{Votes}
 use Rattle.protocol.specs.Limits.{ComesOfEvents}
-use Rattle.protocol.specs.Nodes.{Node, change}
+use Rattle.protocol.specs.Nodes.{Node}
 use Rattle.protocol.specs.Rows.{with_row}
 use Rattle.protocol.specs.Stirring.{ReachesSame}
 use Rattle.protocol.proofs.Passes.Stirring.{ballot_rows_stir_ballots, nomination_rests_after_a_pass, nomination_rows_stir_nomination}
@@ -15,13 +13,14 @@ use Rattle.slot.specs.declared.stirring.Stirred.{Stirred}
 use Rattle.slot.specs.declared.stirring.Stirred.TheVariants.{All, Ballots, Nominations}
 use Rattle.listening.specs.Listening.{Heard}
 use Rattle.slot.specs.Listening.{node_of}
-use Rattle.slot.specs.Stirrings.{IsStirred, StirsIn}
-use Rattle.slot.specs.Wholes.{whole}
+use Rattle.slot.specs.Stirrings.{IsStart, IsStirred, StirsIn}
+use Rattle.slot.specs.Wholes.{IsChange, whole}
+use Rattle.slot.proofs.Answered.{sends_of, settles_of}
 
 -- ---- what is stirred
 -- a node after an event of whatever kind
-pub stirs-all : (n m : Node) (e : NodeEvent) → ComesOfEvents n → change n e ≡ Some m → StirsIn All m
-stirs-all n m e r made = nomination_rests_after_a_pass n r e m made
+stirs-all : (m : Node) → IsChange m → StirsIn All m
+stirs-all m d = nomination_rests_after_a_pass d.before d.reached d.event m d.is
 
 -- the listener after a row
 row-in : (h k : Heard) (inputs : Inputs) (votes : Votes) (x : Sent) → k.configured ≡ h.configured → sents_of k.table ≡ with_row x (sents_of h.table) → whole h.configured inputs votes (with_row x (sents_of h.table)) ≡ node_of k inputs votes
@@ -31,8 +30,19 @@ kept-row : (h k : Heard) (x : Sent) → sents_of k.table ≡ with_row x (sents_o
 kept-row h k x t kept = subst (λ (table : List Sent). ReachesSame h.configured.name h.configured.slices (sents_of h.table) table) t kept
 
 -- a node after a row
-pub stirs-row : (h k : Heard) (inputs : Inputs) (votes : Votes) (x : Sent) (stirred : Stirred) → ComesOfEvents (node_of h inputs votes) → k.configured ≡ h.configured → sents_of k.table ≡ with_row x (sents_of h.table)
-    → change (node_of h inputs votes) (Take x) ≡ Some (node_of k inputs votes) → IsStirred stirred h.configured (sents_of h.table) x (sents_of k.table) → StirsIn stirred (node_of k inputs votes)
-stirs-row h k inputs votes x All r c t made is = stirs-all (node_of h inputs votes) (node_of k inputs votes) (Take x) r made
-stirs-row h k inputs votes x Ballots r c t made is = subst (StirsIn Ballots) (row-in h k inputs votes x c t) (ballot_rows_stir_ballots (node_of h inputs votes) r x is.0 (kept-row h k x t is.1))
-stirs-row h k inputs votes x Nominations r c t made is = subst (StirsIn Nominations) (row-in h k inputs votes x c t) (nomination_rows_stir_nomination (node_of h inputs votes) r x is.0 (kept-row h k x t is.1))
+stirs-row : (h k : Heard) (inputs : Inputs) (votes : Votes) (x : Sent) (stirred : Stirred) → ComesOfEvents (node_of h inputs votes) → k.configured ≡ h.configured → sents_of k.table ≡ with_row x (sents_of h.table)
+    → IsChange (node_of k inputs votes) → IsStirred stirred h.configured (sents_of h.table) x (sents_of k.table) → StirsIn stirred (node_of k inputs votes)
+stirs-row h k inputs votes x All r c t d is = stirs-all (node_of k inputs votes) d
+stirs-row h k inputs votes x Ballots r c t d is = subst (StirsIn Ballots) (row-in h k inputs votes x c t) (ballot_rows_stir_ballots (node_of h inputs votes) r x is.0 (kept-row h k x t is.1))
+stirs-row h k inputs votes x Nominations r c t d is = subst (StirsIn Nominations) (row-in h k inputs votes x c t) (nomination_rows_stir_nomination (node_of h inputs votes) r x is.0 (kept-row h k x t is.1))
+
+-- ---- where passes start
+start-of : (stirred : Stirred) (m : Node) → IsChange m → StirsIn stirred m → IsStart stirred m
+start-of stirred m d stirs = record { stirs = stirs; settles = settles_of m d; sends = sends_of m d }
+
+pub start-all : (m : Node) → IsChange m → IsStart All m
+start-all m d = start-of All m d (stirs-all m d)
+
+pub start-row : (h k : Heard) (inputs : Inputs) (votes : Votes) (x : Sent) (stirred : Stirred) → ComesOfEvents (node_of h inputs votes) → k.configured ≡ h.configured → sents_of k.table ≡ with_row x (sents_of h.table)
+    → IsChange (node_of k inputs votes) → IsStirred stirred h.configured (sents_of h.table) x (sents_of k.table) → IsStart stirred (node_of k inputs votes)
+start-row h k inputs votes x stirred r c t d is = start-of stirred (node_of k inputs votes) d (stirs-row h k inputs votes x stirred r c t d is)

@@ -1,16 +1,17 @@
 -- The rules that an event of a node may stir.
-use Rattle.std.specs.Prelude.{◌≡◌, ℕ, Bool, ◌&&◌, List, Option, is_some, ⊤}
+use Rattle.std.specs.Prelude.{◌≡◌, ℕ, Bool, ◌&&◌, IfSome, IsTrue, List, Option, is_some, ⊤}
 use Rattle.types.specs.Statements.{Sent, kind_of}
 use Rattle.types.specs.declared.kind.Kind.{Kind}
 use Rattle.types.specs.declared.kind.Kind.TheVariants.{Nomination}
 use Rattle.types.specs.declared.state.Inputs.{Inputs}
 use Rattle.types.specs.declared.state.Votes.{Votes}
-use Rattle.protocol.specs.Nodes.{Node, settle, most_passes}
+use Rattle.protocol.specs.Nodes.{Node, after_pass, settle, most_passes}
 use Rattle.protocol.specs.Passes.{balloted_in, nominated_in, pass}
 use Rattle.protocol.specs.Stirring.{ReachesSame, seen_by, settle_all, settle_ballots, settle_nominations}
 use Rattle.protocol.specs.Views.{Seen}
 use Rattle.listening.specs.declared.configured.Configured.{Configured}
 use Rattle.view.specs.declared.known_reach.KnownReach.{KnownReach}
+use Rattle.slot.specs.Wholes.{SendWellFormed}
 use Rattle.slot.specs.declared.stirring.Stirred.{Stirred}
 use Rattle.slot.specs.declared.stirring.Stirred.TheVariants.{All, Ballots, Nominations}
 
@@ -38,6 +39,12 @@ Stirs stirred own seen g w = settled_by stirred own seen g w ≡ settle most_pas
 -- of a node that an event changed
 abbrev pub StirsIn : Stirred → Node → Type 0
 StirsIn stirred n = Stirs stirred n.name (seen_by n) n.inputs n.votes
+
+-- passes may start with these rules: the votes settle, and what is sent then is well formed
+pub record IsStart (stirred : Stirred) (n : Node) : Type 0 where
+  pub stirs : StirsIn stirred n
+  pub settles : IsTrue (is_some (settle most_passes (after_pass n) n.votes))
+  pub sends : IfSome (settle most_passes (after_pass n) n.votes) SendWellFormed
 
 -- a table that took an envelope: the envelope is of one kind, and the nodes that are reached stay
 abbrev pub IsStirred : Stirred → Configured → List Sent → Sent → List Sent → Type 0

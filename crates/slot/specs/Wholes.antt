@@ -1,5 +1,5 @@
 -- A node of the definitions, from the parts of the one here.
-use Rattle.std.specs.Prelude.{◌≡◌, ℕ, ◌++◌, ◌∷◌, [], List, Option, Some, None, IfSome, if◌then◌else◌}
+use Rattle.std.specs.Prelude.{◌≡◌, ℕ, ◌++◌, ◌∷◌, [], List, Option, Some, None, IfSome, option_map, if◌then◌else◌}
 use Rattle.types.specs.Statements.{Sent, IsEnvelope, IsWellFormed}
 use Rattle.types.specs.declared.event.NodeEvent.{NodeEvent}
 use Rattle.types.specs.declared.event.Out.{Out}
@@ -11,15 +11,19 @@ use Rattle.protocol.specs.Leaders.{leader}
 use Rattle.protocol.specs.Sameness.{same_sent}
 use Rattle.protocol.specs.States.{sent_nomination, sent_vote}
 use Rattle.protocol.specs.Nodes.{Node, change}
+use Rattle.protocol.specs.Limits.{ComesOfEvents}
 use Rattle.listening.specs.declared.configured.Configured.{Configured}
+use Rattle.slot.specs.declared.changes.Changed.{Changed}
 
 -- who it is with its slices, its inputs, its votes, and the table
 abbrev pub whole : Configured → Inputs → Votes → List Sent → Node
-whole c inputs votes table = record { name = c.name; slot = c.slot; slices = c.slices; inputs = inputs; votes = votes; table = table }
+whole c inputs votes table =
+    record { name = c.name; slot = c.slot; slices = c.slices; inputs = inputs; votes = votes; table = table }
 
 -- the inputs as a round begins with its leader
 abbrev pub led : Configured → Inputs → ℕ → Inputs
-led c inputs round = record inputs { round = round; leaders = inputs.leaders ++ leader c.slot round c.name c.slices ∷ [] }
+led c inputs round =
+    record inputs { round = round; leaders = inputs.leaders ++ leader c.slot round c.name c.slices ∷ [] }
 
 -- a statement as the node sends it
 abbrev pub sent_by : Configured → Statement → Sent
@@ -34,12 +38,23 @@ emitted_by c old (Some s) = if same_sent old (Some s) then [] else Emit (sent_by
 abbrev pub SendWellFormed : Votes → Type 0
 SendWellFormed w = IfSome (sent_nomination w) IsWellFormed × IfSome (sent_vote w) IsWellFormed
 
--- some event's own change makes the one node of the other
-pub record IsChange (old new : Node) : Type 0 where
-  pub event : NodeEvent
-  pub is : change old event ≡ Some new
+-- the node with these inputs and votes
+abbrev pub with_changed : Node → Changed → Node
+with_changed n d = record n { inputs = d.inputs; votes = d.votes }
 
--- the envelope is the node's own: it carries the node's name, its slot and the slices that are configured at this moment, and it keeps the widths and the rules of an envelope
+-- the event's own change sets these inputs and votes; none where it changes nothing
+abbrev pub ChangesTo : Node → NodeEvent → Option Changed → Type 0
+ChangesTo n event o = change n event ≡ option_map (with_changed n) o
+
+-- events led to a node of which some event's own change makes this one: passes are still to come
+pub record IsChange (new : Node) : Type 0 where
+  pub before : Node
+  pub event : NodeEvent
+  pub reached : ComesOfEvents before
+  pub is : change before event ≡ Some new
+
+-- the envelope is the node's own: it carries the node's name, its slot and the slices that are configured at this
+-- moment, and it keeps the widths and the rules of an envelope
 pub record IsSentBy (n : Node) (e : Sent) : Type 0 where
   pub sender : e.sender ≡ n.name
   pub slot : e.slot ≡ n.slot

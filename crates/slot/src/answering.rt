@@ -9,7 +9,8 @@ ghost use Rattle.types.specs.declared.state.Inputs.{Inputs};
 ghost use Rattle.types.specs.declared.state.Phase.TheVariants.{Externalized};
 
 use crate::filed::GivenOut;
-use crate::settling::{PassContext, settle_from};
+use crate::passing::PassContext;
+use crate::settling::settle_from;
 use crate::stirring::Stirred;
 use fedvote::Sight;
 use listening::Configured;

@@ -1,12 +1,12 @@
 //! What a node makes of what its listener has: passes by what is known of the reach, and outs.
 
-ghost use Rattle.std.specs.Prelude.{◌≡◌, IfOk, IfSome, IsTrue, List, OnOk, Some, box_value, is_some, unwrap_or};
+ghost use Rattle.std.specs.Prelude.{◌≡◌, IfOk, IsTrue, List, OnOk, Some, box_value, unwrap_or};
 ghost use Rattle.envstore.specs.Archives.{AreFiled};
 ghost use Rattle.listening.specs.Listening.{IsKnownOf};
 ghost use Rattle.protocol.specs.Nodes.{most_passes, outs, after_pass, settle};
 ghost use Rattle.slot.specs.Listening.{node_of};
-ghost use Rattle.slot.specs.Stirrings.{StirsIn, is_listed};
-ghost use Rattle.slot.specs.Wholes.{SendWellFormed, whole};
+ghost use Rattle.slot.specs.Stirrings.{IsStart, is_listed};
+ghost use Rattle.slot.specs.Wholes.{whole};
 ghost use Rattle.types.specs.Statements.{Sent};
 ghost use Rattle.view.specs.Knowing.{IsKnown};
 
@@ -30,9 +30,7 @@ pub(crate) fn answer<S: Places>(
     start: &Start<'_>,
 ) -> Result<Answer, AllocError>
     requires rows { AreFiled archive.now listener.old.table }
-    requires stirs { StirsIn start.now.stirred (node_of listener.old start.now.inputs.now start.now.votes.now) }
-    requires settles { IsTrue (is_some (settle most_passes (after_pass (node_of listener.old start.now.inputs.now start.now.votes.now)) start.now.votes.now)) }
-    requires sends { IfSome (settle most_passes (after_pass (node_of listener.old start.now.inputs.now start.now.votes.now)) start.now.votes.now) SendWellFormed }
+    requires start { IsStart start.now.stirred (node_of listener.old start.now.inputs.now start.now.votes.now) }
     ensures votes { IfOk result (λ a. settle most_passes (after_pass (node_of listener.old start.now.inputs.now start.now.votes.now)) start.now.votes.now ≡ Some a.votes) }
     ensures outs { IfOk result (λ a. (before after : List Sent) → a.outs.items ≡ outs (whole listener.old.configured old.now.inputs.now old.now.votes.now before) (whole listener.old.configured start.now.inputs.now a.votes after)) }
     ensures same { listener.new ≡ listener.old }
@@ -56,8 +54,7 @@ pub(crate) fn votes_after<S: Places>(
     start: &Start<'_>,
 ) -> Result<Option<Votes>, AllocError>
     requires rows { AreFiled archive.now listener.old.table }
-    requires stirs { StirsIn start.now.stirred (node_of listener.old start.now.inputs.now start.now.votes.now) }
-    requires settles { IsTrue (is_some (settle most_passes (after_pass (node_of listener.old start.now.inputs.now start.now.votes.now)) start.now.votes.now)) }
+    requires start { IsStart start.now.stirred (node_of listener.old start.now.inputs.now start.now.votes.now) }
     ensures votes { IfOk result (λ o. settle most_passes (after_pass (node_of listener.old start.now.inputs.now start.now.votes.now)) start.now.votes.now ≡ Some (unwrap_or o start.now.votes.now)) }
     ensures same { listener.new ≡ listener.old }
 {
@@ -129,8 +126,7 @@ fn votes_within<S: Places>(
 ) -> Result<Option<Votes>, AllocError>
     requires rows { AreFiled archive.now listener.now.table }
     requires reach { IsKnownOf listener.now reach.now }
-    requires stirs { StirsIn start.now.stirred (node_of listener.now start.now.inputs.now start.now.votes.now) }
-    requires settles { IsTrue (is_some (settle most_passes (after_pass (node_of listener.now start.now.inputs.now start.now.votes.now)) start.now.votes.now)) }
+    requires start { IsStart start.now.stirred (node_of listener.now start.now.inputs.now start.now.votes.now) }
     ensures { IfOk result (λ o. settle most_passes (after_pass (node_of listener.now start.now.inputs.now start.now.votes.now)) start.now.votes.now ≡ Some (unwrap_or o start.now.votes.now)) }
 {
     let configured = listener.configuration();

@@ -39,39 +39,44 @@ pub(crate) fn is_counter_live(votes: &Votes, counter: u32) -> bool
     ballot_is_live(counter, votes.armed, current, is_externalized(votes.phase))
 }
 
-/// The inputs once the node is to propose a value: round 1 begins with its leader. An error says
+/// Inputs and votes once the node is to propose a value: round 1 begins with its leader. An error says
 /// that memory is short.
 pub(crate) fn with_proposal(
     alloc: Global,
     configured: &Configured,
     inputs: &Inputs,
+    votes: &Votes,
     value: Value,
-) -> Result<Inputs, AllocError>
-    ensures { IfOk result (λ g. g ≡ led configured.now (record inputs.now { proposal = Some value }) 1) }
+) -> Result<Changed, AllocError>
+    ensures { IfOk result (λ d. d ≡ record { inputs = led configured.now (record inputs.now { proposal = Some value }) 1; votes = votes.now }) }
 {
     let copy = inputs.try_copy(alloc)?;
-    in_round(
-        configured,
-        Inputs {
-            proposal: Some(value),
-            ..copy
-        },
-        1,
-    )
+    let inputs = Inputs {
+        proposal: Some(value),
+        ..copy
+    };
+    Ok(Changed {
+        inputs: in_round(configured, inputs, 1)?,
+        votes: votes.try_copy()?,
+    })
 }
 
-/// The inputs once the timer of this round has fired: the next round begins with its leader. An
+/// Inputs and votes once the timer of this round has fired: the next round begins with its leader. An
 /// error says that memory is short.
 pub(crate) fn in_next_round(
     alloc: Global,
     configured: &Configured,
     inputs: &Inputs,
+    votes: &Votes,
     round: u32,
-) -> Result<Inputs, AllocError>
+) -> Result<Changed, AllocError>
     requires { round < 4294967295 }
-    ensures { IfOk result (λ g. g ≡ led configured.now inputs.now (round + 1)) }
+    ensures { IfOk result (λ d. d ≡ record { inputs = led configured.now inputs.now (round + 1); votes = votes.now }) }
 {
-    in_round(configured, inputs.try_copy(alloc)?, round + 1)
+    Ok(Changed {
+        inputs: in_round(configured, inputs.try_copy(alloc)?, round + 1)?,
+        votes: votes.try_copy()?,
+    })
 }
 
 /// The round begins with its leader; earlier leaders stay.
@@ -85,19 +90,27 @@ fn in_round(configured: &Configured, inputs: Inputs, round: u32) -> Result<Input
     Ok(inputs)
 }
 
-/// The inputs once one more ballot timer has fired. An error says that memory is short.
-pub(crate) fn with_timeout(alloc: Global, inputs: &Inputs) -> Result<Inputs, AllocError>
-    requires { inputs.now.ballot_timeouts < 4294967295 }
-    ensures { IfOk result (λ g. g ≡ record inputs.now { ballot_timeouts = inputs.now.ballot_timeouts + 1 }) }
+/// Inputs and votes once one more ballot timer has fired. An error says that memory is short.
+pub(crate) fn with_timeout(
+    alloc: Global,
+    inputs: &Inputs,
+    votes: &Votes,
+) -> Result<Changed, AllocError>
+    requires timeouts { inputs.now.ballot_timeouts < 4294967295 }
+    requires counter { counter_of votes.now.ballot < 4294967295 }
+    ensures { IfOk result (λ d. d ≡ record { inputs = record inputs.now { ballot_timeouts = inputs.now.ballot_timeouts + 1 }; votes = at_next_counter votes.now votes.now.ballot }) }
 {
     let mut inputs = inputs.try_copy(alloc)?;
     inputs.ballot_timeouts += 1;
-    Ok(inputs)
+    Ok(Changed {
+        inputs,
+        votes: votes_at_next_counter(votes)?,
+    })
 }
 
 /// The votes with the ballot one counter up, its value chosen as after a raise. It takes no memory; an error
 /// says that a value has too many owners.
-pub(crate) fn votes_at_next_counter(votes: &Votes) -> Result<Votes, AllocError>
+fn votes_at_next_counter(votes: &Votes) -> Result<Votes, AllocError>
     requires { counter_of votes.now.ballot < 4294967295 }
     ensures { IfOk result (λ w. w ≡ at_next_counter votes.now votes.now.ballot) }
 {

@@ -1,8 +1,8 @@
 //! A node at a slot.
 
-ghost use Rattle.std.specs.Prelude.{[], ◌≡◌, IfOk, IfSome, IsFalse, IsTrue, List, None, OnErr, OnOk, Some, is_ok, is_some, unwrap_or};
+ghost use Rattle.std.specs.Prelude.{[], ◌≡◌, IfOk, IsFalse, IsTrue, List, None, OnErr, OnOk, Some, is_ok, unwrap_or};
 ghost use Rattle.std.specs.List.{Contains};
-ghost use Rattle.protocol.specs.Nodes.{Calm, after_change, node_and_outs, change, fresh, outs, after_pass, settle, step, most_passes};
+ghost use Rattle.protocol.specs.Nodes.{Calm, change, fresh, outs, after_pass, settle, step, most_passes};
 ghost use Rattle.protocol.specs.Claims.{IsQuiet};
 ghost use Rattle.protocol.specs.Reach.{HoldsReach};
 ghost use Rattle.protocol.specs.Limits.{ComesOfEvents};
@@ -10,8 +10,8 @@ ghost use Rattle.protocol.specs.Sets.{Names, among};
 ghost use Rattle.envstore.specs.Archives.{AreFiled, IsFiled, Keeps, sent_of};
 ghost use Rattle.slot.specs.Filings.{AreFiledOuts, HasCopies, IsFiledEvent, event_of, outs_of};
 ghost use Rattle.slot.specs.Listening.{AddsRowAlone, node_of};
-ghost use Rattle.slot.specs.Stirrings.{StirsIn};
-ghost use Rattle.slot.specs.Wholes.{IsChange, IsSentBy, SendWellFormed, whole};
+ghost use Rattle.slot.specs.Stirrings.{IsStart};
+ghost use Rattle.slot.specs.Wholes.{ChangesTo, IsSentBy, whole};
 ghost use Rattle.types.specs.Statements.{Sent};
 ghost use Rattle.types.specs.declared.event.NodeEvent.{NodeEvent};
 ghost use Rattle.types.specs.declared.event.Out.TheVariants.{Emit};
@@ -19,8 +19,7 @@ ghost use Rattle.types.specs.declared.event.Out.TheVariants.{Emit};
 use crate::answering::{FiledAnswer, Start, State, set_settled};
 use crate::by_region::{answer, votes_after};
 use crate::changes::{
-    Changed, in_next_round, is_counter_live, is_round_live, votes_at_next_counter, with_proposal,
-    with_timeout,
+    Changed, in_next_round, is_counter_live, is_round_live, with_proposal, with_timeout,
 };
 use crate::filed::{FiledEvent, FiledOut, GivenOut};
 use crate::filing::{file_copied, nothing};
@@ -188,15 +187,14 @@ impl Node {
         ensures kept { Keeps archive.old archive.new }
     {
         self.comes_of_events();
-        match event {
-            FiledEvent::Propose(value) => self.propose(alloc, archive, value, copies),
-            FiledEvent::Take(envelope) => self.take(alloc, archive, envelope, copies),
-            FiledEvent::NominationTimer(round) => self.nomination_timer(
-                alloc, archive, round, copies,
-            ),
-            FiledEvent::BallotTimer(counter) => self.ballot_timer(alloc, archive, counter, copies),
-            FiledEvent::Reslice(slices) => self.reslice(alloc, archive, slices, copies),
-        }
+        let changed = match event {
+            FiledEvent::Take(envelope) => return self.take(alloc, archive, envelope, copies),
+            FiledEvent::Reslice(slices) => return self.reslice(alloc, archive, slices, copies),
+            FiledEvent::Propose(value) => Some(self.changed_by_proposal(alloc, value)?),
+            FiledEvent::NominationTimer(round) => self.changed_by_nomination_timer(alloc, round)?,
+            FiledEvent::BallotTimer(counter) => self.changed_by_ballot_timer(alloc, counter)?,
+        };
+        self.settle(alloc, archive, changed, copies)
     }
 
     /// The node after one event, as by [`Node::advance`], and what it gives out; this node stays as it
@@ -227,78 +225,56 @@ impl Node {
         let _inputs = &self.inputs;
     }
 
-    /// The proposal is set, and round 1 begins.
-    fn propose<S: Shelf>(
-        &mut self,
-        alloc: Global,
-        archive: &mut Archive<S>,
-        value: Value,
-        copies: usize,
-    ) -> Result<GivenOut, AllocError>
-        requires rows { AreFiled archive.old self.old.rows }
-        ensures node { OnOk result (self.new.node ≡ (step self.old.node (NodeEvent.Propose value)).0) }
-        ensures outs { IfOk result (λ v. outs_of v.outs.items ≡ (step self.old.node (NodeEvent.Propose value)).1) }
-        ensures err { OnErr result (self.new ≡ self.old) }
-        ensures rows { AreFiled archive.new self.new.rows }
-        ensures filed { IfOk result (λ v. AreFiledOuts archive.new v.outs.items) }
-        ensures copies { IfOk result (HasCopies copies) }
-        ensures kept { Keeps archive.old archive.new }
+    /// What a proposal changes: it is set, and round 1 begins.
+    fn changed_by_proposal(&self, alloc: Global, value: Value) -> Result<Changed, AllocError>
+        ensures { IfOk result (λ d. ChangesTo self.now.node (NodeEvent.Propose value) (Some d)) }
     {
-        let inputs = with_proposal(alloc, self.listener.configuration(), &self.inputs, value)?;
-        let votes = self.votes.try_copy()?;
-        self.settle(alloc, archive, Changed { inputs, votes }, copies)
+        let changed = with_proposal(
+            alloc,
+            self.listener.configuration(),
+            &self.inputs,
+            &self.votes,
+            value,
+        )?;
+        Ok(changed)
     }
 
-    /// A nomination timer fires: the next round begins where it is live.
-    fn nomination_timer<S: Shelf>(
-        &mut self,
+    /// What a nomination timer changes: the next round begins where it is live.
+    fn changed_by_nomination_timer(
+        &self,
         alloc: Global,
-        archive: &mut Archive<S>,
         round: u32,
-        copies: usize,
-    ) -> Result<GivenOut, AllocError>
-        requires rows { AreFiled archive.old self.old.rows }
-        ensures node { OnOk result (self.new.node ≡ (step self.old.node (NodeEvent.NominationTimer round)).0) }
-        ensures outs { IfOk result (λ v. outs_of v.outs.items ≡ (step self.old.node (NodeEvent.NominationTimer round)).1) }
-        ensures err { OnErr result (self.new ≡ self.old) }
-        ensures idle { change self.old.node (NodeEvent.NominationTimer round) ≡ None → IsTrue (is_ok result) }
-        ensures rows { AreFiled archive.new self.new.rows }
-        ensures filed { IfOk result (λ v. AreFiledOuts archive.new v.outs.items) }
-        ensures copies { IfOk result (HasCopies copies) }
-        ensures kept { Keeps archive.old archive.new }
+    ) -> Result<Option<Changed>, AllocError>
+        ensures changed { IfOk result (ChangesTo self.now.node (NodeEvent.NominationTimer round)) }
+        ensures idle { change self.now.node (NodeEvent.NominationTimer round) ≡ None → IsTrue (is_ok result) }
     {
         if !is_round_live(&self.inputs, &self.votes, round) {
-            return Ok(nothing(alloc));
+            return Ok(None);
         }
-        let inputs = in_next_round(alloc, self.listener.configuration(), &self.inputs, round)?;
-        let votes = self.votes.try_copy()?;
-        self.settle(alloc, archive, Changed { inputs, votes }, copies)
+        let changed = in_next_round(
+            alloc,
+            self.listener.configuration(),
+            &self.inputs,
+            &self.votes,
+            round,
+        )?;
+        Ok(Some(changed))
     }
 
-    /// A ballot timer fires: the ballot goes one counter up where it is live.
-    fn ballot_timer<S: Shelf>(
-        &mut self,
+    /// What a ballot timer changes: the ballot goes one counter up where it is live.
+    fn changed_by_ballot_timer(
+        &self,
         alloc: Global,
-        archive: &mut Archive<S>,
         counter: u32,
-        copies: usize,
-    ) -> Result<GivenOut, AllocError>
-        requires rows { AreFiled archive.old self.old.rows }
-        ensures node { OnOk result (self.new.node ≡ (step self.old.node (NodeEvent.BallotTimer counter)).0) }
-        ensures outs { IfOk result (λ v. outs_of v.outs.items ≡ (step self.old.node (NodeEvent.BallotTimer counter)).1) }
-        ensures err { OnErr result (self.new ≡ self.old) }
-        ensures idle { change self.old.node (NodeEvent.BallotTimer counter) ≡ None → IsTrue (is_ok result) }
-        ensures rows { AreFiled archive.new self.new.rows }
-        ensures filed { IfOk result (λ v. AreFiledOuts archive.new v.outs.items) }
-        ensures copies { IfOk result (HasCopies copies) }
-        ensures kept { Keeps archive.old archive.new }
+    ) -> Result<Option<Changed>, AllocError>
+        ensures changed { IfOk result (ChangesTo self.now.node (NodeEvent.BallotTimer counter)) }
+        ensures idle { change self.now.node (NodeEvent.BallotTimer counter) ≡ None → IsTrue (is_ok result) }
     {
         if !is_counter_live(&self.votes, counter) {
-            return Ok(nothing(alloc));
+            return Ok(None);
         }
-        let inputs = with_timeout(alloc, &self.inputs)?;
-        let votes = votes_at_next_counter(&self.votes)?;
-        self.settle(alloc, archive, Changed { inputs, votes }, copies)
+        let changed = with_timeout(alloc, &self.inputs, &self.votes)?;
+        Ok(Some(changed))
     }
 
     /// The configured slices are these from now on, and passes follow. Those that were are put back where
@@ -348,7 +324,9 @@ impl Node {
         self.listener.is_stranger(sender) && !leads(sender, &self.inputs)
     }
 
-    /// An envelope reaches the node. One that is no more than a row is offered to the table.
+    /// An envelope reaches the node. One that is no more than a row is offered to the table. Any other that is
+    /// newer than its sender's row of its kind is the row now, and passes follow; it is taken back out where a
+    /// later growth finds no memory.
     fn take<S: Shelf>(
         &mut self,
         alloc: Global,
@@ -372,29 +350,6 @@ impl Node {
             self.listener.offer(alloc, archive, envelope)?;
             return Ok(nothing(alloc));
         }
-        self.take_and_settle(alloc, archive, envelope, copies)
-    }
-
-    /// An envelope that is newer than its sender's row of its kind is the row now, and passes follow. It
-    /// is taken back out where a later growth finds no memory.
-    fn take_and_settle<S: Shelf>(
-        &mut self,
-        alloc: Global,
-        archive: &mut Archive<S>,
-        envelope: Filed,
-        copies: usize,
-    ) -> Result<GivenOut, AllocError>
-        requires rows { AreFiled archive.old self.old.rows }
-        requires envelope { IsFiled archive.old envelope }
-        ensures node { OnOk result (self.new.node ≡ (step self.old.node (NodeEvent.Take (sent_of envelope))).0) }
-        ensures outs { IfOk result (λ v. outs_of v.outs.items ≡ (step self.old.node (NodeEvent.Take (sent_of envelope))).1) }
-        ensures err { OnErr result (self.new ≡ self.old) }
-        ensures idle { change self.old.node (NodeEvent.Take (sent_of envelope)) ≡ None → IsTrue (is_ok result) }
-        ensures rows { AreFiled archive.new self.new.rows }
-        ensures filed { IfOk result (λ v. AreFiledOuts archive.new v.outs.items) }
-        ensures copies { IfOk result (HasCopies copies) }
-        ensures kept { Keeps archive.old archive.new }
-    {
         let (put, stirred) = put_row(alloc, archive, &mut self.listener, envelope);
         match put {
             Put::Stale => Ok(nothing(alloc)),
@@ -421,25 +376,29 @@ impl Node {
         }
     }
 
-    /// Passes, from what an event's own change made on, and what is given out. An error says that memory is
-    /// short, and the node is as it was.
+    /// Passes, from what an event's own change made of inputs and votes on, and what is given out; nothing
+    /// where it changed nothing. An error says that memory is short, and the node is as it was.
     fn settle<S: Shelf>(
         &mut self,
         alloc: Global,
         archive: &mut Archive<S>,
-        changed: Changed,
+        changed: Option<Changed>,
         copies: usize,
     ) -> Result<GivenOut, AllocError>
         requires rows { AreFiled archive.old self.old.rows }
-        requires change { IsChange self.old.node (record self.old.node { inputs = changed.inputs; votes = changed.votes }) }
-        ensures node { OnOk result (self.new.node ≡ (node_and_outs self.old.node (after_change (Some (record self.old.node { inputs = changed.inputs; votes = changed.votes })))).0) }
-        ensures outs { IfOk result (λ v. outs_of v.outs.items ≡ (node_and_outs self.old.node (after_change (Some (record self.old.node { inputs = changed.inputs; votes = changed.votes })))).1) }
+        requires change { (event : NodeEvent) × ChangesTo self.old.node event changed }
+        ensures node { (event : NodeEvent) → ChangesTo self.old.node event changed → OnOk result (self.new.node ≡ (step self.old.node event).0) }
+        ensures outs { (event : NodeEvent) → ChangesTo self.old.node event changed → IfOk result (λ v. outs_of v.outs.items ≡ (step self.old.node event).1) }
         ensures err { OnErr result (self.new ≡ self.old) }
+        ensures idle { (event : NodeEvent) → ChangesTo self.old.node event changed → change self.old.node event ≡ None → IsTrue (is_ok result) }
         ensures rows { AreFiled archive.new self.new.rows }
         ensures filed { IfOk result (λ v. AreFiledOuts archive.new v.outs.items) }
         ensures copies { IfOk result (HasCopies copies) }
         ensures kept { Keeps archive.old archive.new }
     {
+        let Some(changed) = changed else {
+            return Ok(nothing(alloc));
+        };
         let Changed { inputs, votes } = changed;
         let old = State {
             inputs: &self.inputs,
@@ -471,9 +430,7 @@ fn answer_anew<S: Shelf>(
     copies: usize,
 ) -> Result<FiledAnswer, AllocError>
     requires rows { AreFiled archive.old listener.old.table }
-    requires stirs { StirsIn start.now.stirred (node_of listener.old start.now.inputs.now start.now.votes.now) }
-    requires settles { IsTrue (is_some (settle most_passes (after_pass (node_of listener.old start.now.inputs.now start.now.votes.now)) start.now.votes.now)) }
-    requires sends { IfSome (settle most_passes (after_pass (node_of listener.old start.now.inputs.now start.now.votes.now)) start.now.votes.now) SendWellFormed }
+    requires start { IsStart start.now.stirred (node_of listener.old start.now.inputs.now start.now.votes.now) }
     ensures votes { IfOk result (λ a. settle most_passes (after_pass (node_of listener.old start.now.inputs.now start.now.votes.now)) start.now.votes.now ≡ Some (unwrap_or a.votes start.now.votes.now)) }
     ensures outs { IfOk result (λ a. (before after : List Sent) → outs_of a.given_out.outs.items ≡ outs (whole listener.old.configured start.now.inputs.now start.now.votes.now before) (whole listener.old.configured start.now.inputs.now (unwrap_or a.votes start.now.votes.now) after)) }
     ensures same { listener.new ≡ listener.old }

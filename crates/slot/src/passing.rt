@@ -1,11 +1,13 @@
-//! One pass of the rules.
+//! One pass of the rules, or a part of one.
 //!
 //! Where a function here answers an error, memory is short.
 
 ghost use Rattle.std.specs.Prelude.{◌≡◌, OnOk};
 ghost use Rattle.drafts.specs.Drafted.{after};
-ghost use Rattle.protocol.specs.Passes.{balloted_in, balloting, counting, nominated_in, pass, pass_rules, voting};
+ghost use Rattle.protocol.specs.Passes.{balloting, counting, pass_rules, voting};
+ghost use Rattle.slot.specs.Stirrings.{part};
 
+use crate::stirring::Stirred;
 use ballot::{accept_commit, accept_prepared, arm, confirm_commit, confirm_prepared, raise, start};
 use drafts::Draft;
 use fedvote::Sight;
@@ -13,55 +15,42 @@ use nomination::nominate;
 use std::alloc::{AllocError, Global};
 use types::{Inputs, NodeId, Phase};
 
-/// One pass: all rules in their order, each with what the one before it made. In
+/// What the rules of a pass read beside the votes.
+#[derive(Drop)]
+pub(crate) struct PassContext<'a, S> {
+    /// The node's own name.
+    pub own: &'a NodeId,
+    /// What it sees of its table.
+    pub sight: &'a S,
+    /// What events alone set.
+    pub inputs: &'a Inputs,
+}
+
+/// The part of a pass that is these rules, in their order, each with what the one before it made. In
 /// [`Phase::Externalized`] nothing changes (the Stellar Consensus Protocol draft; the order is this
 /// host's profile).
-#[tactic(auto, unfolding(protocol::specs::Passes::pass))]
-pub(crate) fn pass<S: Sight>(
+#[tactic(auto, unfolding(protocol::specs::Passes::pass, protocol::specs::Passes::balloted_in, protocol::specs::Passes::nominated_in))]
+pub(crate) fn apply_part<S: Sight>(
     alloc: Global,
-    own: &NodeId,
-    sight: &S,
-    inputs: &Inputs,
+    context: &PassContext<'_, S>,
+    rules: Stirred,
     draft: &mut Draft<'_>,
 ) -> Result<(), AllocError>
-    ensures { OnOk result (draft.new ≡ after (pass own.now (S.seen sight.now) inputs.now) draft.old) }
+    ensures { OnOk result (draft.new ≡ after (part rules context.now.own.now (S.seen context.now.sight.now) context.now.inputs.now) draft.old) }
 {
     match draft.votes().phase {
         Phase::Externalized => Ok(()),
-        Phase::Preparing | Phase::Committing => pass_rules(alloc, own, sight, inputs, draft),
-    }
-}
-
-/// The part of a pass that is nomination.
-#[tactic(auto, unfolding(protocol::specs::Passes::nominated_in))]
-pub(crate) fn nominate_unless_over<S: Sight>(
-    alloc: Global,
-    own: &NodeId,
-    sight: &S,
-    inputs: &Inputs,
-    draft: &mut Draft<'_>,
-) -> Result<(), AllocError>
-    ensures { OnOk result (draft.new ≡ after (nominated_in own.now (S.seen sight.now) inputs.now) draft.old) }
-{
-    match draft.votes().phase {
-        Phase::Externalized => Ok(()),
-        Phase::Preparing | Phase::Committing => nominate(alloc, own, sight, inputs, draft),
-    }
-}
-
-/// The part of a pass that is balloting.
-#[tactic(auto, unfolding(protocol::specs::Passes::balloted_in))]
-pub(crate) fn ballot_unless_over<S: Sight>(
-    alloc: Global,
-    sight: &S,
-    inputs: &Inputs,
-    draft: &mut Draft<'_>,
-) -> Result<(), AllocError>
-    ensures { OnOk result (draft.new ≡ after (balloted_in (S.seen sight.now) inputs.now) draft.old) }
-{
-    match draft.votes().phase {
-        Phase::Externalized => Ok(()),
-        Phase::Preparing | Phase::Committing => balloting(alloc, sight, inputs, draft),
+        Phase::Preparing | Phase::Committing => match rules {
+            Stirred::All => pass_rules(alloc, context, draft),
+            Stirred::Ballots => balloting(alloc, context.sight, context.inputs, draft),
+            Stirred::Nominations => nominate(
+                alloc,
+                context.own,
+                context.sight,
+                context.inputs,
+                draft,
+            ),
+        },
     }
 }
 
@@ -69,15 +58,13 @@ pub(crate) fn ballot_unless_over<S: Sight>(
 #[tactic(auto, unfolding(protocol::specs::Passes::pass_rules))]
 fn pass_rules<S: Sight>(
     alloc: Global,
-    own: &NodeId,
-    sight: &S,
-    inputs: &Inputs,
+    context: &PassContext<'_, S>,
     draft: &mut Draft<'_>,
 ) -> Result<(), AllocError>
-    ensures { OnOk result (draft.new ≡ after (pass_rules own.now (S.seen sight.now) inputs.now) draft.old) }
+    ensures { OnOk result (draft.new ≡ after (pass_rules context.now.own.now (S.seen context.now.sight.now) context.now.inputs.now) draft.old) }
 {
-    nominate(alloc, own, sight, inputs, draft)?;
-    balloting(alloc, sight, inputs, draft)
+    nominate(alloc, context.own, context.sight, context.inputs, draft)?;
+    balloting(alloc, context.sight, context.inputs, draft)
 }
 
 /// The first ballot, voting, and counters unless a value was externalized by then.

@@ -2,34 +2,22 @@
 //!
 //! Where a function here answers an error, memory is short.
 
-ghost use Rattle.std.specs.Prelude.{◌≡◌, ◌-◌, IfOk, IsTrue, OnOk, Some, is_some, unwrap_or};
-ghost use Rattle.drafts.specs.Drafted.{after};
+ghost use Rattle.std.specs.Prelude.{◌≡◌, ◌-◌, IfOk, IsTrue, Some, is_some, unwrap_or};
 ghost use Rattle.protocol.specs.Nodes.{settle, most_passes};
 ghost use Rattle.protocol.specs.Passes.{balloted_in, nominated_in, pass};
 ghost use Rattle.protocol.specs.Stirring.{settle_after, settle_nominations};
 ghost use Rattle.slot.specs.Differences.{IsDifference};
 ghost use Rattle.slot.specs.Stirrings.{Stirs, part};
 
-use crate::passing::{ballot_unless_over, nominate_unless_over, pass};
+use crate::passing::{PassContext, apply_part};
 use crate::stirring::Stirred;
 use drafts::Draft;
 use fedvote::Sight;
 use std::alloc::{AllocError, Global};
-use types::{Inputs, NodeId, Votes};
+use types::Votes;
 
 /// How many passes are tried after an event, `most_passes` of the definitions; none needs more than four.
 const MOST_PASSES: u32 = 64;
-
-/// What the rules of a pass read beside the votes.
-#[derive(Drop)]
-pub(crate) struct PassContext<'a, S> {
-    /// The node's own name.
-    pub own: &'a NodeId,
-    /// What it sees of its table.
-    pub sight: &'a S,
-    /// What events alone set.
-    pub inputs: &'a Inputs,
-}
 
 /// The votes after passes, from votes that stay, until one changes nothing; the event before them stirs these
 /// rules alone. `None` where the first changes nothing, as after most events: then votes are not even copied, and else
@@ -154,28 +142,6 @@ fn difference_by<S: Sight>(
     let changed = draft.into_changed();
     let difference = unless_same(changed, votes);
     Ok(difference)
-}
-
-/// The part of a pass with these rules.
-fn apply_part<S: Sight>(
-    alloc: Global,
-    context: &PassContext<'_, S>,
-    rules: Stirred,
-    draft: &mut Draft<'_>,
-) -> Result<(), AllocError>
-    ensures { OnOk result (draft.new ≡ after (part rules context.now.own.now (S.seen context.now.sight.now) context.now.inputs.now) draft.old) }
-{
-    match rules {
-        Stirred::All => pass(alloc, context.own, context.sight, context.inputs, draft),
-        Stirred::Ballots => ballot_unless_over(alloc, context.sight, context.inputs, draft),
-        Stirred::Nominations => nominate_unless_over(
-            alloc,
-            context.own,
-            context.sight,
-            context.inputs,
-            draft,
-        ),
-    }
 }
 
 /// Votes that were changed, unless they are the same as before after all.
