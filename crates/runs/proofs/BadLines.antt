@@ -1,6 +1,6 @@
--- A line that is bad is none that is run.
-use Rattle.std.proofs.Common.{◌≡◌, ◌∙◌, ℕ, List, [], ◌∷◌, Bool, Option, Some, None, true, false, refl, sym, ap, subst}
-use Rattle.std.specs.Prelude.{option_map}
+-- A line that is bad is none that is told.
+use Rattle.std.proofs.Common.{◌≡◌, ◌∙◌, ℕ, List, [], ◌∷◌, Option, Some, None, refl, sym, subst}
+use Rattle.std.specs.Prelude.{IfSome, option_map}
 use Rattle.std.proofs.lemmas.Bool.{false≢true}
 use Rattle.scripts.specs.Script.{Bytes}
 use Rattle.scripts.specs.Names.{word_name}
@@ -10,8 +10,7 @@ use Rattle.types.specs.declared.event.Event.TheVariants as event
 use Rattle.protocol.specs.Networks.{Budgets}
 use Rattle.protocol.specs.Rosters.{Shares}
 use Rattle.configuration.specs.declared.roster.Reservation.{Reservation}
-use Rattle.runs.specs.declared.requests.Declaration.{Declaration}
-use Rattle.runs.specs.declared.requests.Declaration.TheVariants.{Net, Node, Roster}
+use Rattle.runs.specs.declared.requests.Declaration.TheVariants.{Roster}
 use Rattle.runs.specs.declared.requests.Request.{Request}
 use Rattle.runs.specs.declared.requests.Request.TheVariants.{Declare, Apply, Settle}
 use Rattle.runs.specs.declared.verbs.Verb.{Verb}
@@ -21,226 +20,145 @@ use Rattle.runs.specs.declared.verbs.EventVerb.TheVariants as ask
 use Rattle.runs.specs.Outlines.{Outlined, Waiting, waiting_at}
 use Rattle.runs.specs.Joining.{NetworkIsNamedAt, Joins}
 use Rattle.runs.specs.Naming.{Named}
+use Rattle.runs.specs.Preparing.{IsPrepared}
 use Rattle.runs.specs.Taking.{takes}
-use Rattle.runs.specs.Lines.{AsksResliceOf, AsksSayOf, IsAsked, IsResliced, IsSaid, five, slot_and_node_in, three, verb_in}
-use Rattle.runs.specs.Requests.{AreAllowed, AsksNode, IsNode, IsRequest, IsRequestOf, IsRequested, IsReserved, budgets_in, shares_in}
-use Rattle.runs.specs.Telling.{HasNoNode, IsBad, IsBadRequest, IsBare, Refuses}
+use Rattle.runs.specs.Lines.{AsksReslice, AsksResliceOf, AsksSay, AsksSayOf, IsAsked, IsRead, IsResliced, IsSaid, five, slot_and_node_in, three, verb_in}
+use Rattle.runs.specs.Requests.{AreAllowed, AsksNode, AsksRoster, IsNode, IsRequest, IsRequestOf, IsRequested, IsReserved, budgets_in, shares_in}
+use Rattle.runs.specs.Telling.{Allowed, HasNoNode, IsBadRequest, IsBare, Refuses}
 use Rattle.runs.specs.Followed.{also_followed}
 use Rattle.runs.specs.Hosting.{Hosting, IsBegun, logs_joined}
-use Rattle.runs.specs.Running.{BadLinesTellNothing, Tells}
+use Rattle.runs.specs.Running.{BadLinesTellNothing, all_allowed}
 use Rattle.runs.specs.Running.Tells.{declared, answered, settled}
+use Rattle.runs.specs.Submitting.{BadLinesSubmitNothing, IsDeclared, Submitting, declared_once, no_settling}
+use Rattle.runs.specs.Submitting.Submits.{declares as submits_declaration, submits}
+use Rattle.runs.specs.Plans.{Plan}
+use Rattle.runs.specs.Putting.{BadLinesPutNothing, IsJobOrOpening, IsNoJob, only_jobs}
+use Rattle.runs.specs.Putting.Puts.{declares as puts_declaration, plans}
 
--- ---- two readings of one line ask for the same, as far as it is bad
+-- ---- of two readings of one line, what the one asks for is bad where what the other asks for is
 
--- the event closes a slot
-abbrev pub is-closing : Event → Bool
-is-closing (event.CloseSlot slot) = true
-is-closing _ = false
+-- what holds of one of these holds of each
+abbrev pub AreAlike : {X : Type 0} → (X → Type 0) → (Option X → Type 0) → Type 0
+AreAlike {X} asks P = (x y : X) → asks x → asks y → P (Some y) → P (Some x)
 
-abbrev pub Alike : Request → Request → Type 0
-Alike (Declare d) (Declare e) = (ws : Waiting) (n : Named) (g : ℕ) → takes ws n g d ≡ takes ws n g e
-Alike (Apply e) (Apply f) = is-closing e ≡ is-closing f
-Alike (Settle i) (Settle j) = Unit {0}
-Alike r q = ⊥
+-- the same of any two readings of them, one of which may read nothing
+by-reading : {X : Type 0} (asks : X → Type 0) (P : Option X → Type 0) → P None → AreAlike asks P → (o p : Option X) → IsRead asks o → IsRead asks p → P p → P o
+by-reading asks P nothing alike None p h k bad = nothing
+by-reading asks P nothing alike (Some x) None h k bad = absurd (k x h)
+by-reading asks P nothing alike (Some x) (Some y) h k bad = alike x y h k bad
 
-alike-self : (r : Request) → Alike r r
-alike-self (Declare d) = λ ws n g. refl
-alike-self (Apply e) = refl
-alike-self (Settle i) = tt
+same-names : (o : Option (List ℕ)) (us vs : List ℕ) → o ≡ Some us → o ≡ Some vs → us ≡ vs
+same-names o us vs e f = cc
 
-alike-as : (r q s t : Request) → r ≡ s → q ≡ t → Alike s t → Alike r q
-alike-as r q s t e f h = subst (λ x. Alike x q) (sym e) (subst (λ y. Alike s y) (sym f) h)
+module _ (a : Allowed) (ws : Waiting) (n : Named) where
+  -- what is asked for, if anything, is bad
+  abbrev IsBad : Option (ℕ × Request) → Type 0
+  IsBad asked = IfSome asked (λ r. IsBadRequest a ws n r.0 r.1)
 
-two-nets : (o : Option Budgets) (r q : Request) → AreAllowed o r → AreAllowed o q → Alike r q
-two-nets None r q h k = absurd h
-two-nets (Some b) r q h k = alike-as r q (Declare (Net b)) (Declare (Net b)) h.1 k.1 (λ ws n g. refl)
+  module _ (g : ℕ) where
+    -- the same of the network of a number
+    abbrev IsBadHere : Option Request → Type 0
+    IsBadHere o = IsBad (option_map (λ r. (g, r)) o)
 
-two-named : (o : Option ℕ) (slices : Bytes) (r q : Request) → IsNode o slices r → IsNode o slices q → Alike r q
-two-named None slices r q h k = absurd h
-two-named (Some u) slices r q h k = alike-as r q (Declare (Node u h.0)) (Declare (Node u k.0)) h.2 k.2 (λ ws n g. refl)
+    -- the same of an event
+    abbrev IsBadEvent : Option Event → Type 0
+    IsBadEvent o = IsBadHere (option_map (λ e. Apply e) o)
 
-two-nodes : (fields : List Bytes) (r q : Request) → AsksNode fields r → AsksNode fields q → Alike r q
-two-nodes [] r q h k = absurd h
-two-nodes (name ∷ []) r q h k = absurd h
-two-nodes (name ∷ slices ∷ []) r q h k = two-named (word_name name) slices r q h k
-two-nodes (name ∷ slices ∷ field ∷ more) r q h k = absurd h
+    two-nets : (o : Option Budgets) → AreAlike (AreAllowed o) IsBadHere
+    two-nets None r q h k bad = absurd h
+    two-nets (Some b) r q h k bad = subst (IsBadRequest a ws n g) (k.1 ∙ sym h.1) bad
 
-abbrev names-of-some : Option (List ℕ) → List ℕ
-names-of-some None = []
-names-of-some (Some us) = us
+    two-named : (o : Option ℕ) (slices : Bytes) → AreAlike (IsNode o slices) IsBadHere
+    two-named None slices r q h k bad = absurd h
+    two-named (Some u) slices r q h k bad = subst (IsBadRequest a ws n g) (sym h.2) (subst (IsBadRequest a ws n g) k.2 bad)
 
-same-rosters : (d e : Reservation) → d.names.items ≡ e.names.items → d.shares ≡ e.shares → Alike (Declare (Roster d)) (Declare (Roster e))
-same-rosters d e names shares = λ ws n g. rw (names, shares) refl
+    two-nodes : (fields : List Bytes) → AreAlike (AsksNode fields) IsBadHere
+    two-nodes (name ∷ slices ∷ []) r q h k bad = two-named (word_name name) slices r q h k bad
+    two-nodes _ r q h k bad = absurd h
 
-two-rosters : (o : Option (Shares × List Bytes)) (r q : Request) → IsReserved o r → IsReserved o q → Alike r q
-two-rosters None r q h k = absurd h
-two-rosters (Some w) r q h k =
-    alike-as r q (Declare (Roster h.0)) (Declare (Roster k.0)) h.3 k.3 (same-rosters h.0 k.0 (ap names-of-some (sym h.1 ∙ k.1)) (h.2 ∙ sym k.2))
+    same-rosters : (d e : Reservation) → d.names.items ≡ e.names.items → d.shares ≡ e.shares → takes ws n g (Roster d) ≡ takes ws n g (Roster e)
+    same-rosters d e names shares = rw (names, shares) refl
 
-abbrev request-of-some : Request → Option Request → Request
-request-of-some r None = r
-request-of-some r (Some q) = q
+    two-rosters : (o : Option (Shares × List Bytes)) → AreAlike (IsReserved o) IsBadHere
+    two-rosters None r q h k bad = absurd h
+    two-rosters (Some w) r q h k bad =
+        subst (IsBadRequest a ws n g) (sym h.3) (same-rosters h.0 k.0 (same-names _ _ _ h.1 k.1) (h.2 ∙ sym k.2) ∙ subst (IsBadRequest a ws n g) k.3 bad)
 
-no-some : (r : Request) → Some r ≡ None → ⊥
-no-some r e = cc
+    two-said : (o : Option ℕ) (w : Bytes × Bytes × Bytes × Bytes × Bytes) → AreAlike (IsSaid o w) IsBadEvent
+    two-said None w e f h k bad = absurd h
+    two-said (Some u) w e f h k bad = subst (λ x. IsBadEvent (Some x)) (sym h.2) (subst (λ x. IsBadEvent (Some x)) k.2 bad)
 
-two-settles : (o : Option Request) (r q : Request) → Some r ≡ o → Some q ≡ o → Alike r q
-two-settles o r q e f = alike-as r q q q (ap (request-of-some r) (e ∙ sym f)) refl (alike-self q)
+    two-sayings : (o : Option (Bytes × Bytes × Bytes × Bytes × Bytes)) → AreAlike (AsksSayOf o) IsBadEvent
+    two-sayings None e f h k bad = absurd h
+    two-sayings (Some w) e f h k bad = two-said (word_name w.0) w e f h k bad
 
-an-event : (o : Option Event) (r : Request) → Some r ≡ option_map (λ e. Apply e) o → (e : Event) × (o ≡ Some e) × (r ≡ Apply e)
-an-event None r h = absurd (no-some r h)
-an-event (Some e) r h = (e, refl, ap (request-of-some r) h)
+    two-resliced : (o : Option (ℕ × ℕ)) (slices : Bytes) → AreAlike (IsResliced o slices) IsBadEvent
+    two-resliced None slices e f h k bad = absurd h
+    two-resliced (Some at) slices e f h k bad = subst (λ x. IsBadEvent (Some x)) (sym h.2) (subst (λ x. IsBadEvent (Some x)) k.2 bad)
 
-no-event : (o : Option Event) → ◌≡◌ {A = Option Request} None (option_map (λ e. Apply e) o) → o ≡ None
-no-event None h = refl
-no-event (Some e) h = absurd (no-some (Apply e) (sym h))
+    two-reslices : (o : Option (Bytes × Bytes × Bytes)) → AreAlike (AsksResliceOf o) IsBadEvent
+    two-reslices None e f h k bad = absurd h
+    two-reslices (Some w) e f h k bad = two-resliced (slot_and_node_in w.0 w.1) w.2 e f h k bad
 
-abbrev closing-of-some : Bool → Option Event → Bool
-closing-of-some b None = b
-closing-of-some b (Some e) = is-closing e
+    two-events : (v : EventVerb) (fields : List Bytes) (o p : Option Event) → IsAsked v fields o → IsAsked v fields p → IsBadEvent p → IsBadEvent o
+    two-events ask.Say fields o p h k bad = by-reading (AsksSay fields) IsBadEvent tt (two-sayings (five fields)) o p h k bad
+    two-events ask.Reslice fields o p h k bad = by-reading (AsksReslice fields) IsBadEvent tt (two-reslices (three fields)) o p h k bad
+    two-events _ fields o p h k bad = subst IsBadEvent (k ∙ sym h) bad
 
-one-event : (o : Option Event) (e f : Event) → Some e ≡ o → Some f ≡ o → is-closing e ≡ is-closing f
-one-event o e f h k = ap (closing-of-some false) (h ∙ sym k)
+    two-requests : (v : Verb) (fields : List Bytes) (o p : Option Request) → IsRequest v fields o → IsRequest v fields p → IsBadHere p → IsBadHere o
+    two-requests verb.Net fields o p h k bad = by-reading (AreAllowed (budgets_in fields)) IsBadHere tt (two-nets (budgets_in fields)) o p h k bad
+    two-requests verb.Node fields o p h k bad = by-reading (AsksNode fields) IsBadHere tt (two-nodes fields) o p h k bad
+    two-requests verb.Roster fields o p h k bad = by-reading (AsksRoster fields) IsBadHere tt (two-rosters (shares_in fields)) o p h k bad
+    two-requests verb.Settle fields o p h k bad = subst IsBadHere (k ∙ sym h) bad
+    two-requests (verb.Event v) fields o p h k bad = subst IsBadHere (sym h.2) (two-events v fields h.0 k.0 h.1 k.1 (subst IsBadHere k.2 bad))
 
-said-to : (o : Option ℕ) (w : Bytes × Bytes × Bytes × Bytes × Bytes) (e : Event) → IsSaid o w e → is-closing e ≡ false
-said-to None w e h = absurd h
-said-to (Some u) w e h = ap is-closing h.2
+  two-readings-of : (v : Option Verb) (number : Option ℕ) (fields : List Bytes) (o p : Option (ℕ × Request)) → IsRequestOf v number fields o → IsRequestOf v number fields p
+      → IsBad p → IsBad o
+  two-readings-of (Some v) (Some g) fields o p h k bad = subst IsBad (sym h.2) (two-requests g v fields h.0 k.0 h.1 k.1 (subst IsBad k.2 bad))
+  two-readings-of _ _ fields o p h k bad = subst IsBad (k ∙ sym h) bad
 
-said-of : (o : Option (Bytes × Bytes × Bytes × Bytes × Bytes)) (e : Event) → AsksSayOf o e → is-closing e ≡ false
-said-of None e h = absurd h
-said-of (Some w) e h = said-to (word_name w.0) w e h
+  two-readings : (fields : List Bytes) (o p : Option (ℕ × Request)) → IsRequested fields o → IsRequested fields p → IsBad p → IsBad o
+  two-readings (word ∷ number ∷ fields) o p h k bad = two-readings-of (verb_in word) (word_counter number) fields o p h k bad
+  two-readings _ o p h k bad = subst IsBad (k ∙ sym h) bad
 
-resliced-at : (o : Option (ℕ × ℕ)) (slices : Bytes) (e : Event) → IsResliced o slices e → is-closing e ≡ false
-resliced-at None slices e h = absurd h
-resliced-at (Some at) slices e h = ap is-closing h.2
+  -- ---- no line is bad that asks for what is not
 
-resliced-of : (o : Option (Bytes × Bytes × Bytes)) (e : Event) → AsksResliceOf o e → is-closing e ≡ false
-resliced-of None e h = absurd h
-resliced-of (Some w) e h = resliced-at (slot_and_node_in w.0 w.1) w.2 e h
+  not-bad : (fields : List Bytes) (g : ℕ) (r : Request) → IsRequested fields (Some (g, r)) → ¬ IsBadRequest a ws n g r → ¬ Refuses a ws n fields
+  not-bad fields g r asked fine bad = fine (two-readings fields (Some (g, r)) bad.0 asked bad.1 bad.2)
 
-two-events : (v : EventVerb) (fields : List Bytes) (e f : Event) → IsAsked v fields (Some e) → IsAsked v fields (Some f) → is-closing e ≡ is-closing f
-two-events ask.Open fields e f h k = one-event _ e f h k
-two-events ask.Close fields e f h k = one-event _ e f h k
-two-events ask.Propose fields e f h k = one-event _ e f h k
-two-events ask.Deliver fields e f h k = one-event _ e f h k
-two-events ask.Say fields e f h k = said-of (five fields) e h ∙ sym (said-of (five fields) f k)
-two-events ask.Hear fields e f h k = one-event _ e f h k
-two-events ask.NominationTimer fields e f h k = one-event _ e f h k
-two-events ask.BallotTimer fields e f h k = one-event _ e f h k
-two-events ask.Reslice fields e f h k = resliced-of (three fields) e h ∙ sym (resliced-of (three fields) f k)
-
-two-requests : (v : Verb) (fields : List Bytes) (r q : Request) → IsRequest v fields (Some r) → IsRequest v fields (Some q) → Alike r q
-two-requests verb.Net fields r q h k = two-nets (budgets_in fields) r q h k
-two-requests verb.Node fields r q h k = two-nodes fields r q h k
-two-requests verb.Roster fields r q h k = two-rosters (shares_in fields) r q h k
-two-requests verb.Settle fields r q h k = two-settles _ r q h k
-two-requests (verb.Event v) fields r q h k =
-    let one = an-event h.0 r h.2 in
-    let other = an-event k.0 q k.2 in
-    alike-as r q (Apply one.0) (Apply other.0) one.2 other.2
-    (two-events v fields one.0 other.0 (subst (IsAsked v fields) one.1 h.1) (subst (IsAsked v fields) other.1 k.1))
-
--- ---- what asks for something asks not for nothing
-
-none-of-some : (o : Option Event) (e : Event) → Some e ≡ o → None ≡ o → ⊥
-none-of-some o e h k = cc
-
-asks-something : (v : EventVerb) (fields : List Bytes) (e : Event) → IsAsked v fields (Some e) → IsAsked v fields None → ⊥
-asks-something ask.Open fields e h k = none-of-some _ e h k
-asks-something ask.Close fields e h k = none-of-some _ e h k
-asks-something ask.Propose fields e h k = none-of-some _ e h k
-asks-something ask.Deliver fields e h k = none-of-some _ e h k
-asks-something ask.Say fields e h k = k e h
-asks-something ask.Hear fields e h k = none-of-some _ e h k
-asks-something ask.NominationTimer fields e h k = none-of-some _ e h k
-asks-something ask.BallotTimer fields e h k = none-of-some _ e h k
-asks-something ask.Reslice fields e h k = k e h
-
-requests-something : (v : Verb) (fields : List Bytes) (r : Request) → IsRequest v fields (Some r) → IsRequest v fields None → ⊥
-requests-something verb.Net fields r h k = k r h
-requests-something verb.Node fields r h k = k r h
-requests-something verb.Roster fields r h k = k r h
-requests-something verb.Settle fields r h k = no-some r (h ∙ sym k)
-requests-something (verb.Event v) fields r h k =
-    let one = an-event h.0 r h.2 in
-    asks-something v fields one.0 (subst (IsAsked v fields) one.1 h.1) (subst (IsAsked v fields) (no-event k.0 k.2) k.1)
-
--- ---- the same of the whole line
-
-abbrev number-of-some : ℕ → Option (ℕ × Request) → ℕ
-number-of-some g None = g
-number-of-some g (Some p) = p.0
-
-abbrev asked-of-some : Request → Option (ℕ × Request) → Request
-asked-of-some r None = r
-asked-of-some r (Some p) = p.1
-
-no-pair : (p : ℕ × Request) → Some p ≡ None → ⊥
-no-pair p e = cc
-
--- another reading asks for something like this of the same network
-abbrev pub AsksAlike : ℕ → Request → Option (ℕ × Request) → Type 0
-AsksAlike g r asked = (q : Request) × Alike r q × (asked ≡ Some (g, q))
-
-alike-pairs : (v : Verb) (fields : List Bytes) (m g : ℕ) (r : Request) (asked : Option (ℕ × Request)) (o p : Option Request) → IsRequest v fields o → IsRequest v fields p
-    → ◌≡◌ {A = Option (ℕ × Request)} (Some (g, r)) (option_map (λ x. (m, x)) o) → asked ≡ option_map (λ x. (m, x)) p → AsksAlike g r asked
-alike-pairs v fields m g r asked None p h k e f = absurd (no-pair (g, r) e)
-alike-pairs v fields m g r asked (Some s) None h k e f = absurd (requests-something v fields s h k)
-alike-pairs v fields m g r asked (Some s) (Some q) h k e f =
-    (q, alike-as r q s q (ap (asked-of-some r) e) refl (two-requests v fields s q h k), f ∙ ap (λ n. Some (n, q)) (sym (ap (number-of-some g) e)))
-
-asks-alike-of : (v : Option Verb) (number : Option ℕ) (fields : List Bytes) (g : ℕ) (r : Request) (asked : Option (ℕ × Request))
-    → IsRequestOf v number fields (Some (g, r)) → IsRequestOf v number fields asked → AsksAlike g r asked
-asks-alike-of None number fields g r asked h k = absurd (no-pair (g, r) h)
-asks-alike-of (Some v) None fields g r asked h k = absurd (no-pair (g, r) h)
-asks-alike-of (Some v) (Some m) fields g r asked h k = alike-pairs v fields m g r asked h.0 k.0 h.1 k.1 h.2 k.2
-
-pub asks-alike : (fields : List Bytes) (g : ℕ) (r : Request) (asked : Option (ℕ × Request)) → IsRequested fields (Some (g, r)) → IsRequested fields asked → AsksAlike g r asked
-asks-alike [] g r asked h k = absurd (no-pair (g, r) h)
-asks-alike (word ∷ []) g r asked h k = absurd (no-pair (g, r) h)
-asks-alike (word ∷ number ∷ fields) g r asked h k = asks-alike-of (verb_in word) (word_counter number) fields g r asked h k
+  taken : (fields : List Bytes) (us : Waiting) → IsPrepared fields n ws us → ¬ Refuses a ws n fields
+  taken fields us h = not-bad fields h.0 (Declare h.1) h.2 (λ bad. false≢true (sym bad ∙ h.3))
 
 -- ---- what is told is not bad
 
-pub bare-joins-nothing : {S : Type 0} (joins : Joins S) (g : ℕ) (o : Option Outlined) (ws us : Waiting) (old new : S) → IsBare o → NetworkIsNamedAt joins g o ws us old new → ⊥
-bare-joins-nothing joins g None ws us old new h k = h
-bare-joins-nothing joins g (Some d) ws us old new h k = k.1.1.some_nodes h
+named-has-nodes : {S : Type 0} (joins : Joins S) (g : ℕ) (o : Option Outlined) (ws us : Waiting) (old new : S) → NetworkIsNamedAt joins g o ws us old new → ¬ IsBare o
+named-has-nodes joins g None ws us old new h bare = bare
+named-has-nodes joins g (Some d) ws us old new h bare = h.1.1.some_nodes bare
 
-pub not-taken : (o t : Bool) → o ≡ t → o ≡ true → t ≡ false → ⊥
-not-taken o t e h k = false≢true (sym k ∙ sym e ∙ h)
+begun-has-nodes : (g : ℕ) (old new : Hosting) → IsBegun g old new → ¬ HasNoNode old.waiting g
+begun-has-nodes g old new begun =
+    named-has-nodes (also_followed logs_joined) g (waiting_at old.waiting g) old.waiting new.waiting (old.logs, old.followed) (new.logs, new.followed) begun.0
 
-bad-declaration : (ws : Waiting) (n : Named) (g : ℕ) (d : Declaration) (q : Request) → Alike (Declare d) q → takes ws n g d ≡ true → IsBadRequest ws n g q → ⊥
-bad-declaration ws n g d (Declare e) same h bad = not-taken (takes ws n g d) (takes ws n g e) (same ws n g) h bad
-bad-declaration ws n g d (Apply e) same h bad = absurd same
-bad-declaration ws n g d (Settle i) same h bad = absurd same
+declared-has-nodes : (g : ℕ) (old new : Submitting) → IsDeclared g old new → ¬ HasNoNode old.waiting g
+declared-has-nodes g old new named = named-has-nodes declared_once g (waiting_at old.waiting g) old.waiting new.waiting old.history new.history named.0
 
-bad-event : (ws : Waiting) (n : Named) (g : ℕ) (e : Event) (q : Request) → Alike (Apply e) q → IsBadRequest ws n g q → HasNoNode ws g
-bad-event ws n g e (Declare d) same bad = absurd same
-bad-event ws n g e (Apply f) same bad = bad
-bad-event ws n g e (Settle i) same bad = absurd same
-
-bad-settle : (ws : Waiting) (n : Named) (g i : ℕ) (q : Request) → Alike (Settle i) q → IsBadRequest ws n g q → HasNoNode ws g
-bad-settle ws n g i (Declare d) same bad = absurd same
-bad-settle ws n g i (Apply f) same bad = absurd same
-bad-settle ws n g i (Settle j) same bad = bad
-
-bad-as : (ws : Waiting) (n : Named) (g : ℕ) (q : Request) (asked : Option (ℕ × Request)) → asked ≡ Some (g, q) → IsBad ws n asked → IsBadRequest ws n g q
-bad-as ws n g q asked e bad = subst (IsBad ws n) e bad
-
-begun-has-nodes : (g : ℕ) (old new : Hosting) → HasNoNode old.waiting g → IsBegun g old new → ⊥
-begun-has-nodes g old new bare begun =
-    bare-joins-nothing (also_followed logs_joined) g (waiting_at old.waiting g) old.waiting new.waiting (old.logs, old.followed) (new.logs, new.followed) bare begun.0
-
-none-both : (old new : Hosting) (fields : List Bytes) (printed : Option Bytes) → Refuses old.waiting old.named fields → Tells old fields printed new → ⊥
-none-both old new fields printed bad (declared h same kept logs) =
-    let like = asks-alike fields h.0 (Declare h.1) bad.0 h.2 bad.1 in
-    bad-declaration old.waiting old.named h.0 h.1 like.0 like.1 h.3 (bad-as old.waiting old.named h.0 like.0 bad.0 like.2 bad.2)
-none-both old new fields printed bad (answered g e h put) =
-    let like = asks-alike fields g (Apply e) bad.0 h bad.1 in
-    begun-has-nodes g old put.0 (bad-event old.waiting old.named g e like.0 like.1 (bad-as old.waiting old.named g like.0 bad.0 like.2 bad.2)) put.2
-none-both old new fields printed bad (settled g i h done) =
-    let like = asks-alike fields g (Settle i) bad.0 h bad.1 in
-    begun-has-nodes g old done.0 (bad-settle old.waiting old.named g i like.0 like.1 (bad-as old.waiting old.named g like.0 bad.0 like.2 bad.2)) done.1
+planned-is-job : (g : ℕ) (e : Event) (old new : Plan) → IsJobOrOpening g e old new → ¬ IsNoJob old.submitted.waiting g e
+planned-is-job g (event.OpenSlot i) old new h = declared-has-nodes g old.submitted new.submitted h.0
+planned-is-job g (event.CloseSlot i) old new h = absurd h
+planned-is-job g _ old new h = declared-has-nodes g old.submitted h.0.0 h.0.1
 
 pub bad_lines_tell_nothing : BadLinesTellNothing
-bad_lines_tell_nothing old new fields printed bad told = none-both old new fields printed bad told
+bad_lines_tell_nothing old new fields printed bad (declared h named followed logs) = taken all_allowed old.waiting old.named fields new.waiting h bad
+bad_lines_tell_nothing old new fields printed bad (answered g e asked h) = not-bad all_allowed old.waiting old.named fields g (Apply e) asked (begun-has-nodes g old h.0 h.2) bad
+bad_lines_tell_nothing old new fields printed bad (settled g i asked h) = not-bad all_allowed old.waiting old.named fields g (Settle i) asked (begun-has-nodes g old h.0 h.1) bad
+
+pub bad_lines_submit_nothing : BadLinesSubmitNothing
+bad_lines_submit_nothing old new fields printed bad (submits_declaration h named history) = taken no_settling old.waiting old.named fields new.waiting h bad
+bad_lines_submit_nothing old new fields printed bad (submits g e asked h) =
+    not-bad no_settling old.waiting old.named fields g (Apply e) asked (declared-has-nodes g old h.0 h.1) bad
+
+pub bad_lines_put_nothing : BadLinesPutNothing
+bad_lines_put_nothing old new fields printed bad (puts_declaration h named history opens) =
+    taken only_jobs old.submitted.waiting old.submitted.named fields new.submitted.waiting h bad
+bad_lines_put_nothing old new fields printed bad (plans g e asked h) =
+    not-bad only_jobs old.submitted.waiting old.submitted.named fields g (Apply e) asked (planned-is-job g e old new h) bad

@@ -65,38 +65,47 @@ module _ {X : Type 0} (n : ℕ) where
   pub at-later : (e : ℕ × X) (es : List (ℕ × X)) → (n == e.0) ≡ false → at_number (e ∷ es) n ≡ at_number es n
   at-later e es h = rw (is-at n e.0, h) refl
 
+  -- what stands at each number of a list with one more in front
+  at-front : (k : ℕ) (v : X) (es : List (ℕ × X)) → at_number ((k, v) ∷ es) n ≡ (if k == n then Some v else at_number es n)
+  at-front k v es = go (k == n) refl
+    where
+      go : (b : Bool) → (k == n) ≡ b → at_number ((k, v) ∷ es) n ≡ (if b then Some v else at_number es n)
+      go true h = at-first (k, v) es (equal-flip n k ∙ h)
+      go false h = at-later (k, v) es (equal-flip n k ∙ h)
+
+  -- of one whose first stands at the number k, and is replaced
+  at-own : (k : ℕ) (v : X) (e : ℕ × X) (es : List (ℕ × X)) → (k == e.0) ≡ true → at_number ((e.0, v) ∷ es) n ≡ (if k == n then Some v else at_number (e ∷ es) n)
+  at-own k v e es eq = go (k == n) refl
+    where
+      go : (b : Bool) → (k == n) ≡ b → at_number ((e.0, v) ∷ es) n ≡ (if b then Some v else at_number (e ∷ es) n)
+      go true h = at-first (e.0, v) es (equal-flip n e.0 ∙ sym (equal-as k e.0 n eq) ∙ h)
+      go false h =
+          let other : (n == e.0) ≡ false = equal-flip n e.0 ∙ sym (equal-as k e.0 n eq) ∙ h in
+          at-later (e.0, v) es other ∙ sym (at-later e es other)
+
+  -- of one whose first stands at another, and stays, where behind it this stands at k from now on
+  at-behind : (k : ℕ) (o : Option X) (e : ℕ × X) (es now : List (ℕ × X)) → (k == e.0) ≡ false → at_number now n ≡ (if k == n then o else at_number es n)
+      → at_number (e ∷ now) n ≡ (if k == n then o else at_number (e ∷ es) n)
+  at-behind k o e es now eq rest = go (n == e.0) refl
+    where
+      go : (b : Bool) → (n == e.0) ≡ b → at_number (e ∷ now) n ≡ (if k == n then o else at_number (e ∷ es) n)
+      go true h =
+          let other : (k == n) ≡ false = equal-flip k n ∙ equal-as n e.0 k h ∙ equal-flip e.0 k ∙ eq in
+          at-first e now h ∙ rw other (sym (at-first e es h))
+      go false h = at-later e now h ∙ rest ∙ ap (λ p. if k == n then o else p) (sym (at-later e es h))
+
 -- ---- one more
 
 module _ {X : Type 0} (k : ℕ) (v : X) where
   pub at-inserted : (n : ℕ) (es : List (ℕ × X)) → at_number (insert_entry nat_cmp es k v) n ≡ (if k == n then Some v else at_number es n)
-  at-inserted n [] = go (k == n) refl
-    where
-      go : (b : Bool) → (k == n) ≡ b → at_number ((k, v) ∷ []) n ≡ (if b then Some v else None)
-      go true h = at-first n (k, v) [] (equal-flip n k ∙ h)
-      go false h = at-later n (k, v) [] (equal-flip n k ∙ h)
+  at-inserted n [] = at-front n k v []
   at-inserted n (e ∷ es) = by (stands k e.0) (at-inserted n es)
     where
       by : Stands k e.0 → at_number (insert_entry nat_cmp es k v) n ≡ (if k == n then Some v else at_number es n)
           → at_number (insert_entry nat_cmp (e ∷ es) k v) n ≡ (if k == n then Some v else at_number (e ∷ es) n)
-      by (before lt eq) ih = rw (lt) (go (k == n) refl)
-        where
-          go : (b : Bool) → (k == n) ≡ b → at_number ((k, v) ∷ e ∷ es) n ≡ (if b then Some v else at_number (e ∷ es) n)
-          go true h = at-first n (k, v) (e ∷ es) (equal-flip n k ∙ h)
-          go false h = at-later n (k, v) (e ∷ es) (equal-flip n k ∙ h)
-      by (same lt eq) ih = rw (lt, eq) (go (k == n) refl)
-        where
-          go : (b : Bool) → (k == n) ≡ b → at_number ((e.0, v) ∷ es) n ≡ (if b then Some v else at_number (e ∷ es) n)
-          go true h = at-first n (e.0, v) es (equal-flip n e.0 ∙ sym (equal-as k e.0 n eq) ∙ h)
-          go false h =
-              let other : (n == e.0) ≡ false = equal-flip n e.0 ∙ sym (equal-as k e.0 n eq) ∙ h in
-              at-later n (e.0, v) es other ∙ sym (at-later n e es other)
-      by (behind lt eq) ih = rw (lt, eq) (go (n == e.0) refl)
-        where
-          go : (b : Bool) → (n == e.0) ≡ b → at_number (e ∷ insert_entry nat_cmp es k v) n ≡ (if k == n then Some v else at_number (e ∷ es) n)
-          go true h =
-              let other : (k == n) ≡ false = equal-flip k n ∙ equal-as n e.0 k h ∙ equal-flip e.0 k ∙ eq in
-              at-first n e (insert_entry nat_cmp es k v) h ∙ rw other (sym (at-first n e es h))
-          go false h = at-later n e (insert_entry nat_cmp es k v) h ∙ ih ∙ ap (λ o. if k == n then Some v else o) (sym (at-later n e es h))
+      by (before lt eq) ih = rw (lt) (at-front n k v (e ∷ es))
+      by (same lt eq) ih = rw (lt, eq) (at-own n k v e es eq)
+      by (behind lt eq) ih = rw (lt, eq) (at-behind n k (Some v) e es (insert_entry nat_cmp es k v) eq ih)
 
   pub once-inserted : (es : List (ℕ × X)) → at_number es k ≡ None → StandOnce es → StandOnce (insert_entry nat_cmp es k v)
   once-inserted [] none once = (refl, tt)
@@ -129,23 +138,9 @@ module _ {X : Type 0} (k : ℕ) where
     where
       by : (b : Bool) → (k == e.0) ≡ b → (is_some (at_number es k) ≡ true → at_number (set_value (is_at (nat_cmp k)) es w) n ≡ (if k == n then Some w else at_number es n))
           → at_number (set_value (is_at (nat_cmp k)) (e ∷ es) w) n ≡ (if k == n then Some w else at_number (e ∷ es) n)
-      by true eq ih = rw (is-at k e.0, eq) (go (k == n) refl)
-        where
-          go : (b : Bool) → (k == n) ≡ b → at_number ((e.0, w) ∷ es) n ≡ (if b then Some w else at_number (e ∷ es) n)
-          go true h = at-first n (e.0, w) es (equal-flip n e.0 ∙ sym (equal-as k e.0 n eq) ∙ h)
-          go false h =
-              let other : (n == e.0) ≡ false = equal-flip n e.0 ∙ sym (equal-as k e.0 n eq) ∙ h in
-              at-later n (e.0, w) es other ∙ sym (at-later n e es other)
-      by false eq ih = rw (is-at k e.0, eq) (go (n == e.0) refl)
-        where
-          rest : at_number (set_value (is_at (nat_cmp k)) es w) n ≡ (if k == n then Some w else at_number es n)
-          rest = ih (sym (ap (λ o. is_some o) (at-later k e es eq)) ∙ there)
-
-          go : (b : Bool) → (n == e.0) ≡ b → at_number (e ∷ set_value (is_at (nat_cmp k)) es w) n ≡ (if k == n then Some w else at_number (e ∷ es) n)
-          go true h =
-              let other : (k == n) ≡ false = equal-flip k n ∙ equal-as n e.0 k h ∙ equal-flip e.0 k ∙ eq in
-              at-first n e (set_value (is_at (nat_cmp k)) es w) h ∙ rw other (sym (at-first n e es h))
-          go false h = at-later n e (set_value (is_at (nat_cmp k)) es w) h ∙ rest ∙ ap (λ o. if k == n then Some w else o) (sym (at-later n e es h))
+      by true eq ih = rw (is-at k e.0, eq) (at-own n k w e es eq)
+      by false eq ih =
+          rw (is-at k e.0, eq) (at-behind n k (Some w) e es (set_value (is_at (nat_cmp k)) es w) eq (ih (sym (ap (λ o. is_some o) (at-later k e es eq)) ∙ there)))
 
   -- what stands at each number after what stands at one was changed
   pub at-changed : (change : X → X) (n : ℕ) (es : List (ℕ × X)) → at_number (changed_at es k change) n ≡ (if k == n then option_map change (at_number es n) else at_number es n)
@@ -202,13 +197,7 @@ module _ {X : Type 0} (k : ℕ) where
           go : (b : Bool) → (k == n) ≡ b → at_number es n ≡ (if b then None else at_number (e ∷ es) n)
           go true h = ap (at_number es) (sym (eqb-true k n h) ∙ eqb-true k e.0 eq) ∙ once.0
           go false h = sym (at-later n e es (equal-flip n e.0 ∙ sym (equal-as k e.0 n eq) ∙ h))
-      by false eq ih = rw (is-at k e.0, eq) (go (n == e.0) refl)
-        where
-          go : (b : Bool) → (n == e.0) ≡ b → at_number (e ∷ remove_entry (is_at (nat_cmp k)) es) n ≡ (if k == n then None else at_number (e ∷ es) n)
-          go true h =
-              let other : (k == n) ≡ false = equal-flip k n ∙ equal-as n e.0 k h ∙ equal-flip e.0 k ∙ eq in
-              at-first n e (remove_entry (is_at (nat_cmp k)) es) h ∙ rw other (sym (at-first n e es h))
-          go false h = at-later n e (remove_entry (is_at (nat_cmp k)) es) h ∙ ih ∙ ap (λ o. if k == n then None else o) (sym (at-later n e es h))
+      by false eq ih = rw (is-at k e.0, eq) (at-behind n k None e es (remove_entry (is_at (nat_cmp k)) es) eq ih)
 
   pub once-removed : (es : List (ℕ × X)) → StandOnce es → StandOnce (remove_entry (is_at (nat_cmp k)) es)
   once-removed [] once = tt

@@ -42,16 +42,24 @@ count_among u k es = length (filter (is_row_of u k) es)
 -- each of these by its node, its kind and its number among those of its node and kind, of which others came before
 abbrev pub numbered_behind : List Sent → List Sent → List Emission
 numbered_behind before [] = []
-numbered_behind before (e ∷ es) = record { from = e.sender; kind = kind_of e.body; number = count_among e.sender (kind_of e.body) before + 1 } ∷ numbered_behind (before ++ e ∷ []) es
+numbered_behind before (e ∷ es) =
+    record { from = e.sender; kind = kind_of e.body; number = count_among e.sender (kind_of e.body) before + 1 }
+    ∷ numbered_behind (before ++ e ∷ []) es
 
--- a node at a slot where this was emitted, in order, and this is what the node decided: how often it emitted of each kind, and the value that it decided last
+-- a node at a slot where this was emitted, in order, and this is what the node decided: how often it emitted of each
+-- kind, and the value that it decided last
 abbrev pub speaker_of : List Sent → (ℕ → Option (List ℕ)) → ℕ → Speaker
-speaker_of es decided u = record { name = u; nominations = count_among u Nomination es; ballots = count_among u Kind.Ballot es; decided = decided u }
+speaker_of es decided u = record {
+  name = u;
+  nominations = count_among u Nomination es;
+  ballots = count_among u Kind.Ballot es;
+  decided = decided u;
+}
 
 -- ---- what is kept
 
--- of a slot with these nodes, by the entries since it was opened: what each node has emitted and decided, and all emissions in order, of which no more have been handed on
--- than there are
+-- of a slot with these nodes, by the entries since it was opened: what each node has emitted and decided, and all
+-- emissions in order, of which no more have been handed on than there are
 pub record IsSlotBy (names : List ℕ) (i : ℕ) (since : List Entry) (o : OpenSlot) : Type 0 where
   pub speakers : o.speakers ≡ map (speaker_of (sent_at i since) (λ u. last_or None (values_at i u since))) names
   pub emissions : o.emissions ≡ numbered_behind [] (sent_at i since)
@@ -62,7 +70,8 @@ abbrev pub StandOnce : {X : Type 0} → List (ℕ × X) → Type 0
 StandOnce [] = Unit {0}
 StandOnce (x ∷ xs) = (at_number xs x.0 ≡ None) × StandOnce xs
 
--- of a network, by its configuration and the entries of its journal: its hosted nodes, and the slots that are open, each by the entries since it was opened
+-- of a network, by its configuration and the entries of its journal: its hosted nodes, and the slots that are open,
+-- each by the entries since it was opened
 pub record AreSlotsBy (config : Config) (entries : List Entry) (m : OpenSlots) : Type 0 where
   pub names : m.names ≡ names_of config.hosts
   pub single : all_differ m.names ≡ true
@@ -70,7 +79,8 @@ pub record AreSlotsBy (config : Config) (entries : List Entry) (m : OpenSlots) :
   pub opens : (i : ℕ) → is_some (at_number m.slots i) ≡ is_open (state_of config entries) i
   pub kept : (i : ℕ) (o : OpenSlot) → at_number m.slots i ≡ Some o → IsSlotBy m.names i (since_opened i entries) o
 
--- of the network of a number, by its journal, which is a run: where there is a journal, the network is followed, and where there is none, it is not
+-- of the network of a number, by its journal, which is a run: where there is a journal, the network is followed, and
+-- where there is none, it is not
 abbrev pub AreSlotsAt : Option Log → Option OpenSlots → Type 0
 AreSlotsAt None None = Unit {0}
 AreSlotsAt None (Some m) = ⊥
@@ -81,7 +91,8 @@ AreSlotsAt (Some l) (Some m) = IsRun l.config l.entries × AreSlotsBy l.config l
 abbrev pub AreFollowed : List Log → Followed → Type 0
 AreFollowed logs f = (g : ℕ) → AreSlotsAt (log_at logs g) (at_number f g)
 
--- each network that has joined was declared before an event named it, none that waits has joined, and there is room for all that wait
+-- each network that has joined was declared before an event named it, none that waits has joined, and there is room for
+-- all that wait
 pub record HaveRoom (ws : Waiting) (n : Named) (logs : List Log) : Type 0 where
   pub joined : (g : ℕ) → is_some (log_at logs g) ≡ true → is_in n.running g ≡ true
   pub counted : length logs ≤ length n.running
@@ -89,21 +100,29 @@ pub record HaveRoom (ws : Waiting) (n : Named) (logs : List Log) : Type 0 where
   pub once : StandOnce ws
   pub few : length ws + length n.running ≤ 4096
 
--- the networks of a script, in a state in which what is kept of open slots is what their journals have. (Those that join after the last line are not followed: no line comes that could settle.)
+-- the networks of a script, in a state in which what is kept of open slots is what their journals have. (Those that
+-- join after the last line are not followed: no line comes that could settle.)
 pub record FollowsJournals (h : Hosting) : Type 0 where
   pub room : HaveRoom h.waiting h.named h.logs
   pub slots : AreFollowed h.logs h.followed
 
 -- so it is before the first line, and each line that is run keeps it
 abbrev pub LinesFollowJournals : Type 0
-LinesFollowJournals = FollowsJournals unhosted × ((old new : Hosting) (fields : List Bytes) (printed : Option Bytes) → FollowsJournals old → Tells old fields printed new → FollowsJournals new)
+LinesFollowJournals =
+    FollowsJournals unhosted
+    × ((old new : Hosting) (fields : List Bytes) (printed : Option Bytes) → FollowsJournals old → Tells old fields printed new → FollowsJournals new)
 
 -- so it is after the lines of any text, all of which were run from the first one on
 abbrev pub RunsFollowJournals : Type 0
-RunsFollowJournals = (text : Bytes) (before after : Option Bytes) (new : Hosting) → HasRun Tells RefusesLine unhosted text before after (Ok tt) new → FollowsJournals new
+RunsFollowJournals =
+    (text : Bytes) (before after : Option Bytes) (new : Hosting)
+    → HasRun Tells RefusesLine unhosted text before after (Ok tt) new → FollowsJournals new
 
--- in such a state each emission that is kept of an open slot is found by its number among what its node has emitted there, as the one that the entries emitted; so that is what a node
--- gets that hears it
+-- in such a state each emission that is kept of an open slot is found by its number among what its node has emitted
+-- there, as the one that the entries emitted; so that is what a node gets that hears it
 abbrev pub KeptAreFound : Type 0
-KeptAreFound = (h : Hosting) → FollowsJournals h → (g i n : ℕ) (l : Log) (o : OpenSlot) (e : Emission) → log_at h.logs g ≡ Some l → open_slot h.followed g i ≡ Some o → slice_get o.emissions n ≡ Some e
-    → (x : Sent) × (slice_get (sent_at i (since_opened i l.entries)) n ≡ Some x) × (emission (node_where_open (places_at (state_of l.config l.entries).slots i) e.from) e.kind e.number ≡ Some x)
+KeptAreFound =
+    (h : Hosting) → FollowsJournals h → (g i n : ℕ) (l : Log) (o : OpenSlot) (e : Emission) → log_at h.logs g ≡ Some l
+    → open_slot h.followed g i ≡ Some o → slice_get o.emissions n ≡ Some e
+    → (x : Sent) × (slice_get (sent_at i (since_opened i l.entries)) n ≡ Some x)
+    × (emission (node_where_open (places_at (state_of l.config l.entries).slots i) e.from) e.kind e.number ≡ Some x)

@@ -11,7 +11,8 @@ use Rattle.types.specs.declared.kind.Kind.TheVariants.{Nomination}
 use Rattle.network.specs.declared.plan.Emission.{Emission}
 use Rattle.runs.specs.declared.emissions.Speaker.{Speaker}
 
--- an open slot: its nodes, ascending, what they have emitted since it was opened, in the order of the journal, and how many of these emissions have been handed on
+-- an open slot: its nodes, ascending, what they have emitted since it was opened, in the order of the journal, and how
+-- many of these emissions have been handed on
 pub record OpenSlot : Type 0 where
   pub speakers : List Speaker
   pub emissions : List Emission
@@ -94,7 +95,10 @@ numbered u k (Some n) = record { from = u; kind = k; number = n } ∷ []
 
 -- a node has emitted: the emission, by its number, stands behind the others
 abbrev pub emitted : ℕ → Kind → OpenSlot → OpenSlot
-emitted u k o = record o { speakers = with_speaker u (with_emission k) o.speakers; emissions = o.emissions ++ numbered u k (next_number o.speakers u k) }
+emitted u k o = record o {
+  speakers = with_speaker u (with_emission k) o.speakers;
+  emissions = o.emissions ++ numbered u k (next_number o.speakers u k);
+}
 
 -- an event of a node has given this out
 abbrev pub given_out : ℕ → OpenSlot → Out → OpenSlot

@@ -13,7 +13,8 @@ use Rattle.runs.specs.Joining.{HaveJoined, NetworkIsNamed, Joins}
 use Rattle.runs.specs.Naming.{Named, named_with, unnamed}
 use Rattle.runs.specs.Replies.{IsReply}
 
--- the networks that wait for an event that names them, the numbers that events have named, and of the networks that joined what is kept for lines that settle, and the journals
+-- the networks that wait for an event that names them, the numbers that events have named, and of the networks that
+-- joined what is kept for lines that settle, and the journals
 pub record Hosting : Type 0 where
   pub waiting : Waiting
   pub named : Named
@@ -34,9 +35,11 @@ has_room logs g = not (is_some (log_at logs g)) && nat_lt (length logs) 4096
 abbrev pub logs_joined : Joins (List Log)
 logs_joined c logs = if has_room logs c.number then logs_with (record { config = c; entries = [] }) logs else logs
 
--- the network of a number is named: where the line is the first that does, the network joins, and what its nodes emit is followed from then on
+-- the network of a number is named: where the line is the first that does, the network joins, and what its nodes emit
+-- is followed from then on
 abbrev pub IsBegun : ℕ → Hosting → Hosting → Type 0
-IsBegun g old new = NetworkIsNamed (also_followed logs_joined) g old.waiting new.waiting (old.logs, old.followed) (new.logs, new.followed)
+IsBegun g old new =
+    NetworkIsNamed (also_followed logs_joined) g old.waiting new.waiting (old.logs, old.followed) (new.logs, new.followed)
     × (new.named ≡ named_with g (waiting_at old.waiting g) old.named)
 
 -- after the last line all networks that wait and have nodes have joined
@@ -49,15 +52,20 @@ IsFinished old new = HaveJoined logs_joined old.waiting old.logs new.logs
 abbrev pub DeclaresNothing : Hosting → Hosting → Type 0
 DeclaresNothing old new = (new.waiting ≡ old.waiting) × (new.named ≡ old.named)
 
--- an event of the network of a number has been answered: what is kept of its slots follows what it gave out, and a refusal changes nothing
+-- an event of the network of a number has been answered: what is kept of its slots follows what it gave out, and a
+-- refusal changes nothing
 abbrev pub noted_answer : ℕ → Event → Result (List Out) Refusal → Followed → Followed
 noted_answer g e (Ok outs) f = noted g (turn_of e) outs f
 noted_answer g e (Err r) f = f
 
 -- an event is put to the network of a number, and answered
 abbrev pub IsApplied : ℕ → Event → Result (Vec Out Global) Refusal → Hosting → Hosting → Type 0
-IsApplied g e r old new = IsAnswered old.logs g e r new.logs × (new.followed ≡ noted_answer g e (items_of r) old.followed) × DeclaresNothing old new
+IsApplied g e r old new =
+    IsAnswered old.logs g e r new.logs × (new.followed ≡ noted_answer g e (items_of r) old.followed)
+    × DeclaresNothing old new
 
 -- the same where the event may be the first that names the network, and the answer is printed
 abbrev pub IsPut : ℕ → Event → Hosting → Bytes → Hosting → Type 0
-IsPut g e old text new = (begun : Hosting) × (r : Result (Vec Out Global) Refusal) × IsBegun g old begun × IsApplied g e r begun new × IsReply (items_of r) text
+IsPut g e old text new =
+    (begun : Hosting) × (r : Result (Vec Out Global) Refusal) × IsBegun g old begun × IsApplied g e r begun new
+    × IsReply (items_of r) text

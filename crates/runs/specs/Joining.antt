@@ -10,7 +10,8 @@ Joins S = Config → S → S
 -- an event names a network: where it waits, it joins and waits no more; else nothing changes
 abbrev pub NetworkIsNamedAt : {S : Type 0} → Joins S → ℕ → Option Outlined → Waiting → Waiting → S → S → Type 0
 NetworkIsNamedAt joins g None ws us old new = (us ≡ ws) × (new ≡ old)
-NetworkIsNamedAt joins g (Some d) ws us old new = (us ≡ waiting_without ws g) × ((c : Config) × IsConfigOf g d c × (new ≡ joins c old))
+NetworkIsNamedAt joins g (Some d) ws us old new =
+    (us ≡ waiting_without ws g) × ((c : Config) × IsConfigOf g d c × (new ≡ joins c old))
 
 abbrev pub NetworkIsNamed : {S : Type 0} → Joins S → ℕ → Waiting → Waiting → S → S → Type 0
 NetworkIsNamed joins g ws us old new = NetworkIsNamedAt joins g (waiting_at ws g) ws us old new
@@ -28,5 +29,6 @@ HasJoined joins g d old new = ((d.nodes ≡ []) × (new ≡ old)) ⊎ ((c : Conf
 -- all that wait and have nodes join, in the order of their numbers, and no others
 pub data HaveJoined {S : Type 0} (joins : Joins S) : Waiting → S → S → Type 0 where
   none : {s : S} → HaveJoined joins [] s s
-  next : {g : ℕ} {d : Outlined} {more : Waiting} {old now new : S} → HasJoined joins g d old now → HaveJoined joins more now new
+  next : {g : ℕ} {d : Outlined} {more : Waiting} {old now new : S} → HasJoined joins g d old now
+      → HaveJoined joins more now new
       → HaveJoined joins ((g, d) ∷ more) old new

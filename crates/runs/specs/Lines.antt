@@ -28,10 +28,14 @@ meaning_in table word = lookup (λ known. pointwise nat_eq word known) table
 -- the first word of the lines of each kind
 abbrev pub verbs : List (Bytes × Verb)
 verbs =
-    (codes "net", verb.Net) ∷ (codes "node", verb.Node) ∷ (codes "roster", verb.Roster) ∷ (codes "open", verb.Event ask.Open)
-    ∷ (codes "close", verb.Event ask.Close) ∷ (codes "propose", verb.Event ask.Propose) ∷ (codes "deliver", verb.Event ask.Deliver)
-    ∷ (codes "say", verb.Event ask.Say) ∷ (codes "hear", verb.Event ask.Hear) ∷ (codes "ntimer", verb.Event ask.NominationTimer)
-    ∷ (codes "btimer", verb.Event ask.BallotTimer) ∷ (codes "reslice", verb.Event ask.Reslice) ∷ (codes "settle", verb.Settle) ∷ []
+    (codes "net", verb.Net) ∷ (codes "node", verb.Node) ∷ (codes "roster", verb.Roster)
+    ∷ (codes "open", verb.Event ask.Open)
+    ∷ (codes "close", verb.Event ask.Close) ∷ (codes "propose", verb.Event ask.Propose)
+    ∷ (codes "deliver", verb.Event ask.Deliver)
+    ∷ (codes "say", verb.Event ask.Say) ∷ (codes "hear", verb.Event ask.Hear)
+    ∷ (codes "ntimer", verb.Event ask.NominationTimer)
+    ∷ (codes "btimer", verb.Event ask.BallotTimer) ∷ (codes "reslice", verb.Event ask.Reslice)
+    ∷ (codes "settle", verb.Settle) ∷ []
 
 -- the kind of the lines that begin with a word
 abbrev pub verb_in : Bytes → Option Verb
@@ -95,11 +99,13 @@ closed fields = None
 
 -- of a slot, a node and a value
 abbrev pub proposed : List Bytes → Option Event
-proposed fields = option_and_then (λ w. option_and_then (λ at. option_map (λ x. Propose at.0 at.1 x) (word_proposal w.2)) (slot_and_node_in w.0 w.1)) (three fields)
+proposed fields =
+    option_and_then (λ w. option_and_then (λ at. option_map (λ x. Propose at.0 at.1 x) (word_proposal w.2)) (slot_and_node_in w.0 w.1)) (three fields)
 
 -- of a node and bytes
 abbrev pub delivered : List Bytes → Option Event
-delivered (name ∷ digits ∷ []) = option_and_then (λ u. option_map (λ bytes. Deliver u bytes) (octets_in digits)) (word_name name)
+delivered (name ∷ digits ∷ []) =
+    option_and_then (λ u. option_map (λ bytes. Deliver u bytes) (octets_in digits)) (word_name name)
 delivered fields = None
 
 -- of a slot, a node and an emission
@@ -109,11 +115,13 @@ heard fields =
 
 -- of a slot, a node and a round
 abbrev pub nomination_timed : List Bytes → Option Event
-nomination_timed fields = option_and_then (λ w. option_and_then (λ at. option_map (λ r. NominationTimer at.0 at.1 r) (word_counter w.2)) (slot_and_node_in w.0 w.1)) (three fields)
+nomination_timed fields =
+    option_and_then (λ w. option_and_then (λ at. option_map (λ r. NominationTimer at.0 at.1 r) (word_counter w.2)) (slot_and_node_in w.0 w.1)) (three fields)
 
 -- of a slot, a node and a counter
 abbrev pub ballot_timed : List Bytes → Option Event
-ballot_timed fields = option_and_then (λ w. option_and_then (λ at. option_map (λ n. BallotTimer at.0 at.1 n) (word_counter w.2)) (slot_and_node_in w.0 w.1)) (three fields)
+ballot_timed fields =
+    option_and_then (λ w. option_and_then (λ at. option_map (λ n. BallotTimer at.0 at.1 n) (word_counter w.2)) (slot_and_node_in w.0 w.1)) (three fields)
 
 -- at this slot and node, if any, the slices that the word spells
 abbrev pub IsResliced : Option (ℕ × ℕ) → Bytes → Event → Type 0
@@ -131,7 +139,8 @@ AsksReslice fields e = AsksResliceOf (three fields) e
 -- the bytes spell an envelope of the sender, slot, slices and statement that the words spell
 abbrev pub AreSaid : Bytes → Bytes → Bytes → Bytes → Bytes → Type 0
 AreSaid bytes from i slices statement =
-    (e : Sent) × Spells bytes e × (saying_in from i statement ≡ Some (e.sender, e.slot, e.body)) × AreSlices slices (Some e.slices)
+    (e : Sent) × Spells bytes e × (saying_in from i statement ≡ Some (e.sender, e.slot, e.body))
+    × AreSlices slices (Some e.slices)
 
 -- to this node, if any, the bytes of the envelope that the words spell
 abbrev pub IsSaid : Option ℕ → Bytes × Bytes × Bytes × Bytes × Bytes → Event → Type 0

@@ -6,7 +6,8 @@ use Rattle.std.specs.BTreeMap.{is_at}
 use Rattle.std.specs.BTreeSet.{insert_key}
 use Rattle.runs.specs.Outlines.{Outlined}
 
--- the numbers that an event or a line that settles has named, and those of them whose network was declared by then; both ascending
+-- the numbers that an event or a line that settles has named, and those of them whose network was declared by then;
+-- both ascending
 pub record Named : Type 0 where
   pub numbers : List ℕ
   pub running : List ℕ

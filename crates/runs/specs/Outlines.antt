@@ -13,7 +13,8 @@ use Rattle.configuration.specs.Configs.{names_of}
 use Rattle.configuration.specs.Faults.{first_fault, roster_tests}
 use Rattle.configuration.specs.Rosters.{HasRosterOf}
 
--- what lines have declared of a network: its budgets, its nodes in the order of their lines, and the names and the shares of its roster
+-- what lines have declared of a network: its budgets, its nodes in the order of their lines, and the names and the
+-- shares of its roster
 pub record Outlined : Type 0 where
   pub budgets : Budgets
   pub nodes : List HostedNode

@@ -2,7 +2,8 @@
 use Rattle.std.specs.Prelude.{ℕ, List, []}
 use Rattle.runs.specs.Submitting.{Submitting, unsubmitted}
 
--- the networks with the jobs, which are what the script submits, and the slots that are opened first with the numbers of their networks
+-- the networks with the jobs, which are what the script submits, and the slots that are opened first with the numbers
+-- of their networks
 pub record Plan : Type 0 where
   pub submitted : Submitting
   pub opens : List (ℕ × ℕ)

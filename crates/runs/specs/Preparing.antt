@@ -17,4 +17,6 @@ Prepares g (Roster r) old new = IsRevised g (λ d. with_roster d r.names.items r
 
 -- the line declares that, and it is taken
 abbrev pub IsPrepared : List Bytes → Named → Waiting → Waiting → Type 0
-IsPrepared fields n old new = (g : ℕ) × (d : Declaration) × IsRequested fields (Some (g, Declare d)) × (takes old n g d ≡ true) × Prepares g d old new
+IsPrepared fields n old new =
+    (g : ℕ) × (d : Declaration) × IsRequested fields (Some (g, Declare d)) × (takes old n g d ≡ true)
+    × Prepares g d old new

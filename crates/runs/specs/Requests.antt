@@ -23,7 +23,8 @@ use Rattle.runs.specs.Lines.{IsAsked, IsRead, slot_in, verb_in}
 
 -- a number behind its word, and the fields that follow
 abbrev pub counted : Bytes → List Bytes → Option (ℕ × List Bytes)
-counted name (word ∷ number ∷ more) = if pointwise nat_eq word name then option_map (λ n. (n, more)) (word_number (2 ^ 64) number) else None
+counted name (word ∷ number ∷ more) =
+    if pointwise nat_eq word name then option_map (λ n. (n, more)) (word_number (2 ^ 64) number) else None
 counted name fields = None
 
 abbrev pub budgets_of : ℕ → ℕ → ℕ × List Bytes → Option Budgets
@@ -68,7 +69,8 @@ only_names fields = None
 -- these shares, if any, are reserved for the names that the fields behind them spell
 abbrev pub IsReserved : Option (Shares × List Bytes) → Request → Type 0
 IsReserved None r = ⊥
-IsReserved (Some w) r = (d : Reservation) × (only_names w.1 ≡ Some d.names.items) × (d.shares ≡ w.0) × (r ≡ Declare (Roster d))
+IsReserved (Some w) r =
+    (d : Reservation) × (only_names w.1 ≡ Some d.names.items) × (d.shares ≡ w.0) × (r ≡ Declare (Roster d))
 
 -- shares and names
 abbrev pub AsksRoster : List Bytes → Request → Type 0
@@ -87,13 +89,15 @@ IsRequest verb.Net fields asked = IsRead (AreAllowed (budgets_in fields)) asked
 IsRequest verb.Node fields asked = IsRead (AsksNode fields) asked
 IsRequest verb.Roster fields asked = IsRead (AsksRoster fields) asked
 IsRequest verb.Settle fields asked = asked ≡ settled fields
-IsRequest (verb.Event v) fields asked = (event : Option Event) × IsAsked v fields event × (asked ≡ option_map (λ e. Apply e) event)
+IsRequest (verb.Event v) fields asked =
+    (event : Option Event) × IsAsked v fields event × (asked ≡ option_map (λ e. Apply e) event)
 
 -- a line of this kind, if it is one, asks for that of the network of this number, if it is one
 abbrev pub IsRequestOf : Option Verb → Option ℕ → List Bytes → Option (ℕ × Request) → Type 0
 IsRequestOf None number fields asked = asked ≡ None
 IsRequestOf (Some v) None fields asked = asked ≡ None
-IsRequestOf (Some v) (Some g) fields asked = (r : Option Request) × IsRequest v fields r × (asked ≡ option_map (λ x. (g, x)) r)
+IsRequestOf (Some v) (Some g) fields asked =
+    (r : Option Request) × IsRequest v fields r × (asked ≡ option_map (λ x. (g, x)) r)
 
 -- a line asks for this of the network of a number, or has none of the forms
 abbrev pub IsRequested : List Bytes → Option (ℕ × Request) → Type 0

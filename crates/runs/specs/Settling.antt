@@ -24,12 +24,15 @@ hearing slot u e = Hear slot u e.from e.kind e.number
 abbrev pub others : Emission → List ℕ → List ℕ
 others e names = filter (λ u. not (u == e.from)) names
 
--- nodes hear an emission, one after the other, each by an event of the network; the first hearing that is refused is the last
+-- nodes hear an emission, one after the other, each by an event of the network; the first hearing that is refused is
+-- the last
 pub data IsHeardBy (g slot : ℕ) (e : Emission) : List ℕ → Hosting → Option Refusal → Hosting → Type 0 where
   by_all : {h : Hosting} → IsHeardBy g slot e [] h None h
-  by_one : {u : ℕ} {us : List ℕ} {old now new : Hosting} {ended : Option Refusal} (outs : Vec Out Global) → IsApplied g (hearing slot u e) (Ok outs) old now
+  by_one : {u : ℕ} {us : List ℕ} {old now new : Hosting} {ended : Option Refusal} (outs : Vec Out Global)
+      → IsApplied g (hearing slot u e) (Ok outs) old now
       → IsHeardBy g slot e us now ended new → IsHeardBy g slot e (u ∷ us) old ended new
-  refused : {u : ℕ} {us : List ℕ} {old new : Hosting} (r : Refusal) → IsApplied g (hearing slot u e) (Err r) old new → IsHeardBy g slot e (u ∷ us) old (Some r) new
+  refused : {u : ℕ} {us : List ℕ} {old new : Hosting} (r : Refusal) → IsApplied g (hearing slot u e) (Err r) old new
+      → IsHeardBy g slot e (u ∷ us) old (Some r) new
 
 -- ---- all that wait
 
@@ -40,24 +43,32 @@ handed_over g slot (Some r) h = h
 
 -- an emission is handed on: all other nodes hear it, in the order of the names, unless one of the hearings is refused
 abbrev pub IsHanded : ℕ → ℕ → Emission → List ℕ → Hosting → Option Refusal → Hosting → Type 0
-IsHanded g slot e names old ended new = (now : Hosting) × IsHeardBy g slot e (others e names) old ended now × (new ≡ handed_over g slot ended now)
+IsHanded g slot e names old ended new =
+    (now : Hosting) × IsHeardBy g slot e (others e names) old ended now × (new ≡ handed_over g slot ended now)
 
--- what waits at a slot is handed on, the first emission first, until none waits; those that come meanwhile wait behind the others. The first hearing that is refused ends it.
+-- what waits at a slot is handed on, the first emission first, until none waits; those that come meanwhile wait behind
+-- the others. The first hearing that is refused ends it.
 pub data AreHandedOn (g slot : ℕ) (names : List ℕ) : Hosting → Option Refusal → Hosting → Type 0 where
   none_waits : {h : Hosting} → waiting h.followed g slot ≡ None → AreHandedOn g slot names h None h
-  one_waits : {old now new : Hosting} {ended : Option Refusal} (e : Emission) → waiting old.followed g slot ≡ Some e → IsHanded g slot e names old None now
+  one_waits : {old now new : Hosting} {ended : Option Refusal} (e : Emission) → waiting old.followed g slot ≡ Some e
+      → IsHanded g slot e names old None now
       → AreHandedOn g slot names now ended new → AreHandedOn g slot names old ended new
-  cut_short : {old new : Hosting} (e : Emission) (r : Refusal) → waiting old.followed g slot ≡ Some e → IsHanded g slot e names old (Some r) new
+  cut_short : {old new : Hosting} (e : Emission) (r : Refusal) → waiting old.followed g slot ≡ Some e
+      → IsHanded g slot e names old (Some r) new
       → AreHandedOn g slot names old (Some r) new
 
 -- while nodes hear the emission that waits first, it goes on waiting first, and as many have been handed on as before
 abbrev pub HeardWaitsOn : Type 0
-HeardWaitsOn = (g slot : ℕ) (e : Emission) (us : List ℕ) (old now : Hosting) (ended : Option Refusal) → waiting old.followed g slot ≡ Some e → IsHeardBy g slot e us old ended now
+HeardWaitsOn =
+    (g slot : ℕ) (e : Emission) (us : List ℕ) (old now : Hosting) (ended : Option Refusal)
+    → waiting old.followed g slot ≡ Some e → IsHeardBy g slot e us old ended now
     → (waiting now.followed g slot ≡ Some e) × (handed_at now.followed g slot ≡ handed_at old.followed g slot)
 
 -- so the one that is handed on is the one that was heard, and it is one more
 abbrev pub HandedOnIsCounted : Type 0
-HandedOnIsCounted = (g slot : ℕ) (e : Emission) (names : List ℕ) (old now : Hosting) → waiting old.followed g slot ≡ Some e → IsHanded g slot e names old None now
+HandedOnIsCounted =
+    (g slot : ℕ) (e : Emission) (names : List ℕ) (old now : Hosting) → waiting old.followed g slot ≡ Some e
+    → IsHanded g slot e names old None now
     → handed_at now.followed g slot ≡ handed_at old.followed g slot + 1
 
 -- ---- what is printed
@@ -69,16 +80,18 @@ line_of (Some r) o = refusal_text r
 
 -- ---- what a line that settles does
 
--- by the names of the nodes of the network, if it is there, and the slot, if it is open: where either is wanting, that is the refusal, and nobody hears anything; else what
--- waits is handed on
+-- by the names of the nodes of the network, if it is there, and the slot, if it is open: where either is wanting, that
+-- is the refusal, and nobody hears anything; else what waits is handed on
 abbrev pub HasSettledAt : ℕ → ℕ → Option (List ℕ) → Option OpenSlot → Hosting → Bytes → Hosting → Type 0
 HasSettledAt g slot None o old text new = (new ≡ old) × (text ≡ refusal_text NoSuchNetwork)
 HasSettledAt g slot (Some names) None old text new = (new ≡ old) × (text ≡ refusal_text SlotNotOpen)
 HasSettledAt g slot (Some names) (Some o) old text new =
-    (ended : Option Refusal) × AreHandedOn g slot names old ended new × (text ≡ line_of ended (open_slot new.followed g slot))
+    (ended : Option Refusal) × AreHandedOn g slot names old ended new
+    × (text ≡ line_of ended (open_slot new.followed g slot))
 
 abbrev pub HasSettled : ℕ → ℕ → Hosting → Bytes → Hosting → Type 0
-HasSettled g slot old text new = HasSettledAt g slot (names_at old.followed g) (open_slot old.followed g slot) old text new
+HasSettled g slot old text new =
+    HasSettledAt g slot (names_at old.followed g) (open_slot old.followed g slot) old text new
 
 -- the same where the line may be the first that names the network
 abbrev pub IsSettled : ℕ → ℕ → Hosting → Bytes → Hosting → Type 0

@@ -11,7 +11,8 @@ use Rattle.runs.specs.Hosting.{Hosting, IsApplied, IsBegun, IsFinished}
 use Rattle.runs.specs.Running.{RefusesLine, Tells}
 use Rattle.runs.specs.Telling.{NamesNet}
 
--- for each line that was run, in order, the network that it names, and how many entries the journal of that one has after it
+-- for each line that was run, in order, the network that it names, and how many entries the journal of that one has
+-- after it
 abbrev pub Trace : Type 0
 Trace = List (ℕ × ℕ)
 
@@ -20,13 +21,15 @@ pub record Unprinted : Type 0 where
   pub hosting : Hosting
   pub trace : Option Trace
 
--- the line names the network of a number, and the networks after it are those after it in a script whose answers are printed
+-- the line names the network of a number, and the networks after it are those after it in a script whose answers are
+-- printed
 abbrev pub IsRunBy : ℕ → List Bytes → Hosting → Hosting → Type 0
 IsRunBy g fields old new = NamesNet fields g × (printed : Option Bytes) × Tells old fields printed new
 
 -- an event is put to the network of a number, whatever it answers
 abbrev pub IsPutUnprinted : ℕ → Event → Hosting → Hosting → Type 0
-IsPutUnprinted g e old new = (begun : Hosting) × (r : Result (Vec Out Global) Refusal) × IsBegun g old begun × IsApplied g e r begun new
+IsPutUnprinted g e old new =
+    (begun : Hosting) × (r : Result (Vec Out Global) Refusal) × IsBegun g old begun × IsApplied g e r begun new
 
 -- how many entries a journal has
 abbrev pub entries_in : Option Log → ℕ
@@ -47,7 +50,8 @@ TellsUnprinted old fields printed new = (g : ℕ) × (printed ≡ None) × IsRun
 abbrev pub RefusesUnprinted : Unprinted → List Bytes → Type 0
 RefusesUnprinted old fields = RefusesLine old.hosting fields
 
--- the line that an entry of a network comes from, counted from 0: the first one after which the network has more entries than come before it
+-- the line that an entry of a network comes from, counted from 0: the first one after which the network has more
+-- entries than come before it
 abbrev pub origin_in : Option Trace → ℕ → ℕ → Option ℕ
 origin_in None g n = None
 origin_in (Some t) g n = position (λ line. (line.0 == g) && nat_lt n line.1) t

@@ -111,7 +111,7 @@ impl LineRunner for JobRun {
 
 /// A law: no line is both bad and planned. So a line is called bad exactly where it is, but for want of
 /// memory.
-#[tactic(auto, using(crate::proofs::BadSubmissions::bad_lines_put_nothing))]
+#[tactic(auto, using(crate::proofs::BadLines::bad_lines_put_nothing))]
 pub fn bad_lines_put_nothing()
     ensures { BadLinesPutNothing }
 {}

@@ -115,7 +115,7 @@ impl LineRunner for SubmissionRun {
             }
             Request::Settle(_) => Err(LineError::Bad),
             Request::Declare(declaration) => {
-                self.nets.prepare(number, declaration)?;
+                self.prepare(number, declaration)?;
                 Ok(None)
             }
         }
@@ -124,7 +124,7 @@ impl LineRunner for SubmissionRun {
 
 /// A law: no line is both bad and submitted. So a line is called bad exactly where it is, but for want of
 /// memory.
-#[tactic(auto, using(crate::proofs::BadSubmissions::bad_lines_submit_nothing))]
+#[tactic(auto, using(crate::proofs::BadLines::bad_lines_submit_nothing))]
 pub fn bad_lines_submit_nothing()
     ensures { BadLinesSubmitNothing }
 {}

@@ -1,8 +1,12 @@
-use Rattle.runs.proofs.PlannedLines.{puts-declaration, puts-event}
+use Rattle.std.proofs.Common.{refl}
+use Rattle.runs.specs.Putting.Puts.{declares, plans}
 use Rattle.runs.proofs.job_run.JobRunLineRunner.line.Goals as goal
 
 pub returns-in_ok-put-in-Apply-clause-told : goal.returns-in_ok-put-in-Apply-clause-told
-returns-in_ok-put-in-Apply-clause-told c = puts-event _ _ _ c.in_ok-number.number c.in_ok-number.request c.in-Apply.event c.in-Apply.is c.in_ok-number.ensures.asked c.in_ok-put-in-Apply.ensures.planned
+returns-in_ok-put-in-Apply-clause-told c = plans _ _ (rw c.in-Apply.is at c.in_ok-number.ensures.asked) c.in_ok-put-in-Apply.ensures.planned
 
 pub returns-in_ok-prepare-in-Declare-clause-told : goal.returns-in_ok-prepare-in-Declare-clause-told
-returns-in_ok-prepare-in-Declare-clause-told c = puts-declaration _ _ _ _ _ c.in_ok-number.number c.in_ok-number.request c.in-Declare.declaration c.self.view_is c.in-Declare.is c.in_ok-number.ensures.asked c.in_ok-prepare-in-Declare.ensures.taken c.in_ok-prepare-in-Declare.ensures.prepared c.prepare.ensures.named c.prepare.ensures.same
+returns-in_ok-prepare-in-Declare-clause-told c =
+    rw (← c.self.view_is)
+    (declares (_, _, rw c.in-Declare.is at c.in_ok-number.ensures.asked, c.in_ok-prepare-in-Declare.ensures.taken, c.in_ok-prepare-in-Declare.ensures.prepared)
+    c.prepare.ensures.named c.prepare.ensures.same refl)
