@@ -19,9 +19,11 @@ pub record AnnouncedSlices : Type 0 where
   pub sender : ℕ
   pub slices : Slices
 
--- a delivery announces the slices of its envelope, and a node to which new slices are given announces them to itself; no other event announces anything
+-- a delivery announces the slices of its envelope, and a node to which new slices are given announces them to itself;
+-- no other event announces anything
 abbrev pub announced_by : Step → Option AnnouncedSlices
-announced_by (Delivers u size (Read e)) = Some (record { slot = e.slot; receiver = u; sender = e.sender; slices = e.slices })
+announced_by (Delivers u size (Read e)) =
+    Some (record { slot = e.slot; receiver = u; sender = e.sender; slices = e.slices })
 announced_by (Reslices j u q) = Some (record { slot = j; receiver = u; sender = u; slices = q })
 announced_by _ = None
 
@@ -38,10 +40,13 @@ announced_at entries n = announced_in (slice_get entries n)
 abbrev pub slices_then : List HostedNode → ℕ → List Entry → ℕ → Option Slices
 slices_then hosts i run u = option_map (λ q. slices_at_end i u q run) (slices_of hosts u)
 
--- A node w names u: by its configured slices where it is hosted, or by slices that it announces at the slot to one of the members: by a delivery, or as a member that is given new ones.
+-- A node w names u: by its configured slices where it is hosted, or by slices that it announces at the slot to one of
+-- the members: by a delivery, or as a member that is given new ones.
 pub data IsNamedBy (hosts : List HostedNode) (i : ℕ) (run : List Entry) (members : Names) (w u : ℕ) : Type 0 where
-  configured : (q : Slices) → slices_of hosts w ≡ Some q → IsTrue (among (names q) u) → IsNamedBy hosts i run members w u
-  learnt : (n : ℕ) (a : AnnouncedSlices) → announced_at run n ≡ Some a → a.slot ≡ i → a.sender ≡ w → IsTrue (members a.receiver) → IsTrue (among (names a.slices) u) → IsNamedBy hosts i run members w u
+  configured : (q : Slices) → slices_of hosts w ≡ Some q → IsTrue (among (names q) u)
+      → IsNamedBy hosts i run members w u
+  learnt : (n : ℕ) (a : AnnouncedSlices) → announced_at run n ≡ Some a → a.slot ≡ i → a.sender ≡ w
+      → IsTrue (members a.receiver) → IsTrue (among (names a.slices) u) → IsNamedBy hosts i run members w u
 
 -- members in order, each with the place of the member that named it
 abbrev pub MemberList : Type 0
@@ -52,7 +57,8 @@ abbrev pub names_of : MemberList → List ℕ
 names_of list = map (λ m. m.0) list
 
 -- the member at a place is named by one before it, announcements counting to members before it
-pub record IsNamedBefore (hosts : List HostedNode) (i : ℕ) (run : List Entry) (list : MemberList) (place : ℕ) (m : ℕ × ℕ) : Type 0 where
+pub record IsNamedBefore (hosts : List HostedNode) (i : ℕ) (run : List Entry) (list : MemberList) (place : ℕ)
+    (m : ℕ × ℕ) : Type 0 where
   pub namer : ℕ
   pub there : slice_get (names_of list) m.1 ≡ Some namer
   pub before : m.1 < place
@@ -63,7 +69,8 @@ pub record IsChained (hosts : List HostedNode) (i v : ℕ) (run : List Entry) (l
   pub first : slice_get list 0 ≡ Some (v, 0)
   pub later : (k : ℕ) (m : ℕ × ℕ) → slice_get list (suc k) ≡ Some m → IsNamedBefore hosts i run list (suc k) m
 
--- The closure of v as a list: v first, each member once, each later one with an earlier one that names it, and exactly its members.
+-- The closure of v as a list: v first, each member once, each later one with an earlier one that names it, and exactly
+-- its members.
 pub record IsClosureList (hosts : List HostedNode) (i v : ℕ) (run : List Entry) (list : MemberList) : Type 0 where
   pub chained : IsChained hosts i v run list
   pub once : IsDistinct (λ x y. x == y) (names_of list)

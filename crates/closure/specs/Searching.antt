@@ -13,7 +13,9 @@ use Rattle.closure.specs.Sweeps.{Swept}
 
 -- the rows of a kind that these nodes have, but for one of them, stand in a table at these places
 abbrev pub ArePlacesBut : ℕ → List Sent → Kind → List ℕ → List (Option ℕ) → Type 0
-ArePlacesBut sender table kind nodes places = (i : ℕ) → i < length nodes → get_or nodes i 0 ≢ sender → get_or places i None ≡ place_of table (get_or nodes i 0) kind
+ArePlacesBut sender table kind nodes places =
+    (i : ℕ) → i < length nodes → get_or nodes i 0 ≢ sender
+    → get_or places i None ≡ place_of table (get_or nodes i 0) kind
 
 -- known nodes ascend, and their rows stand at these places, but for those of one of them
 pub record AreKnown (table : List Sent) (k : KnownNodes) : Type 0 where
@@ -52,7 +54,8 @@ pending_in s u = at_places s.known.nodes.now s.places.items u || among s.others.
 abbrev pub done_in : Search → Names
 done_in s u = found_in s u && not (pending_in s u)
 
--- a mark or none for each known node, none of which is among the others; what is pending are places of known nodes, and others that were found
+-- a mark or none for each known node, none of which is among the others; what is pending are places of known nodes, and
+-- others that were found
 pub record IsSearchOf (k : KnownNodes) (marks : List Bool) (pending : List ℕ) (others : Swept) : Type 0 where
   pub known : IsAscending k.nodes.now
   pub sized : length marks ≡ length k.nodes.now
@@ -71,8 +74,10 @@ pub record Finds (old new : Search) (set : Names) : Type 0 where
   pub found : (u : ℕ) → found_in new u ≡ (set u || found_in old u)
   pub pending : (u : ℕ) → IsTrue (pending_in new u) → IsTrue (set u || pending_in old u)
   pub done : AreWithin (done_in new) (done_in old)
-  pub marks : count_unmarked new.marks.items + length new.places.items ≡ count_unmarked old.marks.items + length old.places.items
-  pub counted : length new.others.found + length old.others.pending ≡ length old.others.found + length new.others.pending
+  pub marks : count_unmarked new.marks.items + length new.places.items
+      ≡ count_unmarked old.marks.items + length old.places.items
+  pub counted : length new.others.found + length old.others.pending
+      ≡ length old.others.found + length new.others.pending
 
 -- a pending node was taken, to look at its rows
 pub record IsTakenFrom (old new : Search) (u : ℕ) : Type 0 where
@@ -83,7 +88,8 @@ pub record IsTakenFrom (old new : Search) (u : ℕ) : Type 0 where
   pub others : AreWithin (pending_in new) (pending_in old)
   pub done : AreWithin (done_in new) (also u (done_in old))
   pub same : new.others.found ≡ old.others.found
-  pub counted : count_unmarked new.marks.items + length new.places.items + length new.others.pending + 1 ≡ count_unmarked old.marks.items + length old.places.items + length old.others.pending
+  pub counted : count_unmarked new.marks.items + length new.places.items + length new.others.pending + 1
+      ≡ count_unmarked old.marks.items + length old.places.items + length old.others.pending
 
 -- these are the rows of a node
 pub record AreRowsOf (table : List Sent) (u : ℕ) (rows : SenderRows) : Type 0 where

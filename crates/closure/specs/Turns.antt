@@ -1,4 +1,5 @@
--- How a closure is found: announcements by sender and by receiver, those that are ready for a turn, and the turns of members.
+-- How a closure is found: announcements by sender and by receiver, those that are ready for a turn, and the turns of
+-- members.
 use Rattle.std.specs.Prelude.{◌≡◌, ◌⊎◌, ℕ, zero, suc, ◌<◌, ◌≤◌, Bool, false, ◌==◌, ◌&&◌, List, [], ◌∷◌, ◌++◌, length, take, get_or, Option, Some, None, if◌then◌else◌, IsTrue, IsFalse, slice_get, flat_map}
 use Rattle.types.specs.Trees.{Slices}
 use Rattle.protocol.specs.Sets.{Names, among}
@@ -42,13 +43,16 @@ pub record PartyIndex : Type 0 where
 abbrev pub IsIndexedTo : PartyIndex → PartyIndex → Option ℕ → Type 0
 IsIndexedTo old new None = (new.latest ≡ old.latest) × (new.earlier ≡ old.earlier ++ None ∷ [])
 IsIndexedTo old new (Some w) =
-    ((u : ℕ) → found_by new.latest u ≡ (if w == u then Some (length old.earlier) else found_by old.latest u)) × (new.earlier ≡ old.earlier ++ found_by old.latest w ∷ [])
+    ((u : ℕ) → found_by new.latest u ≡ (if w == u then Some (length old.earlier) else found_by old.latest u))
+    × (new.earlier ≡ old.earlier ++ found_by old.latest w ∷ [])
 
 -- the announcements among the first n entries, by a party
-pub record IsIndex (party : Option AnnouncedSlices → Option ℕ) (run : List Entry) (n : ℕ) (d : PartyIndex) : Type 0 where
+pub record IsIndex (party : Option AnnouncedSlices → Option ℕ) (run : List Entry) (n : ℕ) (d : PartyIndex)
+    : Type 0 where
   pub counted : length d.earlier ≡ n
   pub latest : (w : ℕ) → found_by d.latest w ≡ last_below party run w n
-  pub earlier : (k w : ℕ) → k < n → party (announced_at run k) ≡ Some w → get_or d.earlier k None ≡ last_below party run w k
+  pub earlier : (k w : ℕ) → k < n → party (announced_at run k) ≡ Some w
+      → get_or d.earlier k None ≡ last_below party run w k
 
 -- the announcements by sender, and by receiver
 pub record AnnouncementIndex : Type 0 where
@@ -83,10 +87,12 @@ abbrev pub known_names : Option Slices → List ℕ
 known_names None = []
 known_names (Some q) = names q
 
--- the names that an announcement adds in the turn of w: those of its slices where it is one of w at the slot to a member
+-- the names that an announcement adds in the turn of w: those of its slices where it is one of w at the slot to a
+-- member
 abbrev pub added_names : ℕ → List ℕ → ℕ → Option AnnouncedSlices → List ℕ
 added_names i members w None = []
-added_names i members w (Some a) = if a.slot == i && (a.sender == w && among members a.receiver) then names a.slices else []
+added_names i members w (Some a) =
+    if a.slot == i && (a.sender == w && among members a.receiver) then names a.slices else []
 
 -- the names that the entries with these numbers add
 abbrev pub all_added : ℕ → List Entry → List ℕ → ℕ → List ℕ → List ℕ
@@ -94,11 +100,13 @@ all_added i run members w numbers = flat_map (λ n. added_names i members w (ann
 
 -- all that w names, announcements counting to the receivers, is among the members
 abbrev pub NamesAreMembers : List HostedNode → ℕ → List Entry → List ℕ → List ℕ → ℕ → Type 0
-NamesAreMembers hosts i run members receivers w = (u : ℕ) → IsNamedBy hosts i run (among receivers) w u → IsTrue (among members u)
+NamesAreMembers hosts i run members receivers w =
+    (u : ℕ) → IsNamedBy hosts i run (among receivers) w u → IsTrue (among members u)
 
 -- all that the members name is among them, announcements counting to the receivers
 abbrev pub AllNamesAreMembers : List HostedNode → ℕ → List Entry → List ℕ → List ℕ → Type 0
-AllNamesAreMembers hosts i run members receivers = (j w : ℕ) → slice_get members j ≡ Some w → NamesAreMembers hosts i run members receivers w
+AllNamesAreMembers hosts i run members receivers =
+    (j w : ℕ) → slice_get members j ≡ Some w → NamesAreMembers hosts i run members receivers w
 
 -- one of the numbers is that of an announcement at the slot from w to a member, of slices that name u
 pub record IsDue (i : ℕ) (run : List Entry) (members : Names) (numbers : List ℕ) (w u : ℕ) : Type 0 where
@@ -111,19 +119,23 @@ pub record IsDue (i : ℕ) (run : List Entry) (members : Names) (numbers : List 
   pub receiver : IsTrue (members announcement.receiver)
   pub named : IsTrue (among (names announcement.slices) u)
 
--- Each member that had a turn has a list of numbers. All that such a member names is a member, or its list has the announcement
--- of it, or it is one of the names that are given in a turn that is underway.
-pub record AreCovered (hosts : List HostedNode) (i : ℕ) (run : List Entry) (members : List ℕ) (ready : List (List ℕ)) (place : ℕ) (given : List ℕ) : Type 0 where
+-- Each member that had a turn has a list of numbers. All that such a member names is a member, or its list has the
+-- announcement of it, or it is one of the names that are given in a turn that is underway.
+pub record AreCovered (hosts : List HostedNode) (i : ℕ) (run : List Entry) (members : List ℕ) (ready : List (List ℕ))
+    (place : ℕ) (given : List ℕ) : Type 0 where
   pub within : length ready ≤ length members
-  pub covered : (j w u : ℕ) → j < length ready → slice_get members j ≡ Some w → IsNamedBy hosts i run (among members) w u
-      → IsTrue (among members u) ⊎ (IsDue i run (among members) (ready_at ready j) w u ⊎ ((j ≡ place) × IsTrue (among given u)))
+  pub covered : (j w u : ℕ) → j < length ready → slice_get members j ≡ Some w
+      → IsNamedBy hosts i run (among members) w u
+      → IsTrue (among members u)
+      ⊎ (IsDue i run (among members) (ready_at ready j) w u ⊎ ((j ≡ place) × IsTrue (among given u)))
 
 -- and no turn is underway
 abbrev pub IsReady : List HostedNode → ℕ → List Entry → List ℕ → List (List ℕ) → Type 0
 IsReady hosts i run members ready = AreCovered hosts i run members ready 0 []
 
 -- the names that w gives in its turn: nothing but what it names, and all of that, save what is a member already
-pub record IsGiven (hosts : List HostedNode) (i : ℕ) (run : List Entry) (members : List ℕ) (w : ℕ) (given : List ℕ) : Type 0 where
+pub record IsGiven (hosts : List HostedNode) (i : ℕ) (run : List Entry) (members : List ℕ) (w : ℕ) (given : List ℕ)
+    : Type 0 where
   pub sound : (u : ℕ) → IsTrue (among given u) → IsNamedBy hosts i run (among members) w u
   pub complete : (u : ℕ) → IsNamedBy hosts i run (among members) w u → IsTrue (among members u) ⊎ IsTrue (among given u)
 
@@ -139,14 +151,19 @@ pub record AreMore (old new : List (List ℕ)) : Type 0 where
 
 -- the entry with this number is ready for its sender, where that is a member that had a turn
 abbrev pub IsFor : List ℕ → List (List ℕ) → ℕ → Option AnnouncedSlices → Type 0
-IsFor members ready n o = (a : AnnouncedSlices) (j : ℕ) → o ≡ Some a → slice_get members j ≡ Some a.sender → j < length ready → IsTrue (among (ready_at ready j) n)
+IsFor members ready n o =
+    (a : AnnouncedSlices) (j : ℕ) → o ≡ Some a → slice_get members j ≡ Some a.sender → j < length ready
+    → IsTrue (among (ready_at ready j) n)
 
 -- each announcement at the slot to a node is ready for its sender, where that is a member that had a turn
 abbrev pub AreWoken : ℕ → List Entry → List ℕ → List (List ℕ) → ℕ → Type 0
-AreWoken i run members ready u = (n : ℕ) (a : AnnouncedSlices) → announced_at run n ≡ Some a → a.slot ≡ i → a.receiver ≡ u → IsFor members ready n (Some a)
+AreWoken i run members ready u =
+    (n : ℕ) (a : AnnouncedSlices) → announced_at run n ≡ Some a → a.slot ≡ i → a.receiver ≡ u
+    → IsFor members ready n (Some a)
 
 -- a name joins, unless it is there: the announcements to it become ready
-pub record IsJoined (i : ℕ) (run : List Entry) (old new : MemberList) (before after : List (List ℕ)) (u place : ℕ) : Type 0 where
+pub record IsJoined (i : ℕ) (run : List Entry) (old new : MemberList) (before after : List (List ℕ)) (u place : ℕ)
+    : Type 0 where
   pub members : new ≡ with_member old u place
   pub more : AreMore before after
   pub woken : IsFalse (among (names_of old) u) → AreWoken i run (names_of new) after u

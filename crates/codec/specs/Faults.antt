@@ -1,4 +1,5 @@
--- What is said of a part once it is read: its fault, or None where it stands. Where several could be named, the first is.
+-- What is said of a part once it is read: its fault, or None where it stands. Where several could be named, the first
+-- is.
 use Rattle.std.specs.Prelude.{◌≡◌, ℕ, List, [], ◌∷◌, length, Option, Some, None, Bool, nat_lt, ◌==◌, if◌then◌else◌}
 use Rattle.std.specs.List.{list_any}
 use Rattle.codec.specs.declared.error.Fault.{Fault}
@@ -34,7 +35,9 @@ HasOtherKind (v ∷ k ∷ rest) = (version_fault v ≡ None) × (kind_fault k �
 
 -- a threshold that is 0 or above the count; then a count above 64
 abbrev pub header_fault : ℕ × ℕ → Option Fault
-header_fault h = if h.0 == 0 then Some BadSlices else if nat_lt h.1 h.0 then Some BadSlices else if nat_lt most_members h.1 then Some Limit else None
+header_fault h =
+    if h.0 == 0 then Some BadSlices else if nat_lt h.1 h.0 then Some BadSlices
+    else if nat_lt most_members h.1 then Some Limit else None
 
 -- whether a name stands in a list
 abbrev pub is_among : List ℕ → ℕ → Bool

@@ -22,7 +22,8 @@ ValidThen V W x = V x.0 × W x.0 x.1
 
 -- the first part shows it, or a valid first part is spelled and what comes after it shows it
 abbrev pub ShowsThen : {A : Type 0} → (A → List ℕ) → (A → Type 0) → Fronts → (A → Fronts) → Fronts
-ShowsThen {A} text V S T front f = S front f ⊎ ((a : A) × V a × (later : List ℕ) × (front ≡ text a ++ later) × T a later f)
+ShowsThen {A} text V S T front f =
+    S front f ⊎ ((a : A) × V a × (later : List ℕ) × (front ≡ text a ++ later) × T a later f)
 
 -- ---- a part that is judged once it is read
 -- it is valid, and no fault is found in it
@@ -46,7 +47,8 @@ IsStrayTag m n front = (tag : ℕ) × (front ≡ tag ∷ []) × (tag == m ≡ fa
 -- the tag shows the fault by being neither, or what stands behind a tag shows it
 abbrev pub ShowsEither : ℕ → Fronts → ℕ → Fronts → Fault → Fronts
 ShowsEither m S n T fault front f =
-    (IsStrayTag m n front × (f ≡ fault)) ⊎ (((later : List ℕ) × (front ≡ m ∷ later) × S later f) ⊎ ((later : List ℕ) × (front ≡ n ∷ later) × T later f))
+    (IsStrayTag m n front × (f ≡ fault))
+    ⊎ (((later : List ℕ) × (front ≡ m ∷ later) × S later f) ⊎ ((later : List ℕ) × (front ≡ n ∷ later) × T later f))
 
 -- ---- nothing may stand there
 -- it shows at once

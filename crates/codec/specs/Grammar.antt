@@ -146,7 +146,8 @@ ShowsPart ShowsInside seen = ShowsEither 0 (ShowsName seen) 1 (ShowsInside seen)
 -- one of so many members shows it, after others that may stand there
 unfoldable pub ShowsParts : ℕ → (List ℕ → Fronts) → ℕ → List ℕ → Fronts
 ShowsParts levels ShowsInside zero seen front f = ⊥
-ShowsParts levels ShowsInside (suc n) seen front f = ShowsThen part (IsPart levels seen) (ShowsPart ShowsInside seen) (λ m. ShowsParts levels ShowsInside n (seen ++ part_names m)) front f
+ShowsParts levels ShowsInside (suc n) seen front f =
+    ShowsThen part (IsPart levels seen) (ShowsPart ShowsInside seen) (λ m. ShowsParts levels ShowsInside n (seen ++ part_names m)) front f
 
 -- the threshold and the count of a set show it, or one of its members
 abbrev pub ShowsSet : ℕ → (List ℕ → Fronts) → List ℕ → Fronts
@@ -192,7 +193,8 @@ ShowsKind = ShowsJudged byte IsByte NoFault kind_fault
 
 -- behind the version and the kind, the sender and the slot: the slices show it, or the statement
 abbrev pub ShowsRest : ℕ → ℕ → Fronts
-ShowsRest v k = ShowsThen name IsName NoFault (λ u. ShowsThen (to_be_bytes w64) IsLong NoFault (λ n. ShowsThen slices (IsInVersion v) (ShowsSlices v) (λ q. ShowsStatement k)))
+ShowsRest v k =
+    ShowsThen name IsName NoFault (λ u. ShowsThen (to_be_bytes w64) IsLong NoFault (λ n. ShowsThen slices (IsInVersion v) (ShowsSlices v) (λ q. ShowsStatement k)))
 
 -- the version shows it, or the kind, the slices or the statement
 abbrev pub ShowsFault : Fronts

@@ -27,7 +27,8 @@ name_of x = x.0 * 2 ^ 192 + x.1.0 * 2 ^ 128 + x.1.1.0 * 2 ^ 64 + x.1.1.1
 
 -- a name
 unfoldable pub name_at : Reads ℕ
-name_at = read_as (read_then (number_at w64) (λ a. read_then (number_at w64) (λ b. read_then (number_at w64) (λ c. number_at w64)))) name_of
+name_at =
+    read_as (read_then (number_at w64) (λ a. read_then (number_at w64) (λ b. read_then (number_at w64) (λ c. number_at w64)))) name_of
 
 -- a length that a value may have, and so many bytes
 unfoldable pub value_at : Reads (List ℕ)
@@ -58,7 +59,8 @@ member_at set_of seen = read_either 0 (new_name_at seen) 1 (set_of seen) BadSlic
 -- so many members, one after another
 unfoldable pub members_at : (List ℕ → Reads Slices) → ℕ → List ℕ → Reads Members
 members_at set_of zero seen bytes = Ok (none, bytes)
-members_at set_of (suc n) seen bytes = read_as (read_then (member_at set_of seen) (λ m. members_at set_of n (seen ++ part_names m))) (λ x. put x.0 x.1) bytes
+members_at set_of (suc n) seen bytes =
+    read_as (read_then (member_at set_of seen) (λ m. members_at set_of n (seen ++ part_names m))) (λ x. put x.0 x.1) bytes
 
 -- a threshold and a count
 unfoldable pub header_at : Reads (ℕ × ℕ)
@@ -66,7 +68,8 @@ header_at = read_judged (read_then byte_at (λ k. byte_at)) header_fault
 
 -- a threshold, a count and the members, where set_of reads inner sets
 unfoldable pub set_with : (List ℕ → Reads Slices) → List ℕ → Reads Slices
-set_with set_of seen = read_as (read_then header_at (λ h. members_at set_of h.1 seen)) (λ x. record { threshold = x.0.0; members = x.1 })
+set_with set_of seen =
+    read_as (read_then header_at (λ h. members_at set_of h.1 seen)) (λ x. record { threshold = x.0.0; members = x.1 })
 
 -- what stands behind a 1, with so many levels of inner sets left
 unfoldable pub inner_at : ℕ → List ℕ → Reads Slices
@@ -97,11 +100,13 @@ nominate_at = read_as (read_then nominated_at (λ v. nominated_at)) (λ x. Nomin
 
 -- the fields of PREPARE
 unfoldable pub prepare_at : Reads Statement
-prepare_at = read_as (read_then ballot_at (λ b. read_then optional_at (λ p. read_then (number_at w32) (λ a. read_then (number_at w32) (λ h. number_at w32))))) (λ x. Prepare x.0 x.1.0 x.1.1.0 x.1.1.1.0 x.1.1.1.1)
+prepare_at =
+    read_as (read_then ballot_at (λ b. read_then optional_at (λ p. read_then (number_at w32) (λ a. read_then (number_at w32) (λ h. number_at w32))))) (λ x. Prepare x.0 x.1.0 x.1.1.0 x.1.1.1.0 x.1.1.1.1)
 
 -- the fields of COMMIT
 unfoldable pub commit_at : Reads Statement
-commit_at = read_as (read_then ballot_at (λ b. read_then (number_at w32) (λ p. read_then (number_at w32) (λ h. number_at w32)))) (λ x. Commit x.0 x.1.0 x.1.1.0 x.1.1.1)
+commit_at =
+    read_as (read_then ballot_at (λ b. read_then (number_at w32) (λ p. read_then (number_at w32) (λ h. number_at w32)))) (λ x. Commit x.0 x.1.0 x.1.1.0 x.1.1.1)
 
 -- the fields of EXTERNALIZE
 unfoldable pub externalize_at : Reads Statement
@@ -109,7 +114,9 @@ externalize_at = read_as (read_then ballot_at (λ b. number_at w32)) (λ x. Exte
 
 -- the fields of a statement of the kind
 unfoldable pub body_at : ℕ → Reads Statement
-body_at kind bytes = if kind == 1 then nominate_at bytes else if kind == 2 then prepare_at bytes else if kind == 3 then commit_at bytes else externalize_at bytes
+body_at kind bytes =
+    if kind == 1 then nominate_at bytes else if kind == 2 then prepare_at bytes else if kind == 3 then commit_at bytes
+    else externalize_at bytes
 
 -- a statement that keeps its rules
 unfoldable pub statement_at : ℕ → Reads Statement
@@ -134,7 +141,8 @@ sent_of x = record { sender = x.1.1.0; slot = x.1.1.1.0; slices = x.1.1.1.1.0; b
 
 -- what stands behind the version and the kind: sender, slot, slices and statement
 unfoldable pub parts_at : ℕ → ℕ → Reads (ℕ × (ℕ × (Slices × Statement)))
-parts_at v k = read_then name_at (λ sender. read_then (number_at w64) (λ slot. read_then (slices_at v) (λ q. statement_at k)))
+parts_at v k =
+    read_then name_at (λ sender. read_then (number_at w64) (λ slot. read_then (slices_at v) (λ q. statement_at k)))
 
 -- an envelope
 unfoldable pub envelope_at : Reads Sent
@@ -142,4 +150,6 @@ envelope_at = read_as (read_then version_at (λ v. read_then kind_at (λ k. part
 
 -- all of the bytes
 unfoldable pub decoded : List ℕ → Result Sent Fault
-decoded bytes = if nat_lt most_bytes (length bytes) then Err Limit else (envelope_at bytes >>= λ e. if length e.1 == 0 then Ok e.0 else Err TrailingBytes)
+decoded bytes =
+    if nat_lt most_bytes (length bytes) then Err Limit
+    else (envelope_at bytes >>= λ e. if length e.1 == 0 then Ok e.0 else Err TrailingBytes)

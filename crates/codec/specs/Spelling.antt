@@ -14,7 +14,9 @@ byte n = n ∷ []
 
 -- a name: its four words of 64 bits
 unfoldable pub name : ℕ → List ℕ
-name u = to_be_bytes w64 (u / 2 ^ 192) ++ (to_be_bytes w64 (u / 2 ^ 128 % 2 ^ 64) ++ (to_be_bytes w64 (u / 2 ^ 64 % 2 ^ 64) ++ to_be_bytes w64 (u % 2 ^ 64)))
+name u =
+    to_be_bytes w64 (u / 2 ^ 192)
+    ++ (to_be_bytes w64 (u / 2 ^ 128 % 2 ^ 64) ++ (to_be_bytes w64 (u / 2 ^ 64 % 2 ^ 64) ++ to_be_bytes w64 (u % 2 ^ 64)))
 
 -- a value: two bytes of length, and that many bytes
 abbrev pub value : List ℕ → List ℕ
@@ -67,7 +69,8 @@ version_of q = if nat_le (depth_of q.members) first_levels then 1 else 2
 
 -- the version of the slices, the kind, the sender, the slot, the slices and the statement
 abbrev pub spelling : Sent → List ℕ
-spelling e = version_of e.slices ∷ kind e.body ∷ name e.sender ++ to_be_bytes w64 e.slot ++ slices e.slices ++ body e.body
+spelling e =
+    version_of e.slices ∷ kind e.body ∷ name e.sender ++ to_be_bytes w64 e.slot ++ slices e.slices ++ body e.body
 
 -- the most bytes that a text may have
 abbrev pub most_bytes : ℕ

@@ -39,7 +39,9 @@ byte_at (b ∷ rest) = Ok (b, rest)
 
 -- a number of so many bits
 abbrev pub number_at : Width → List ℕ → Result (ℕ × List ℕ) Fault
-number_at w bytes = if nat_lt (length bytes) (byte_len w) then Err Truncated else Ok (from_be_bytes w (take (byte_len w) bytes), drop (byte_len w) bytes)
+number_at w bytes =
+    if nat_lt (length bytes) (byte_len w) then Err Truncated
+    else Ok (from_be_bytes w (take (byte_len w) bytes), drop (byte_len w) bytes)
 
 -- so many bytes
 abbrev pub bytes_at : ℕ → List ℕ → Result (List ℕ × List ℕ) Fault
@@ -69,7 +71,9 @@ read_as r to bytes = r bytes >>= λ a. Ok (to a.0, a.1)
 
 -- a tag, and one of two parts behind it
 abbrev pub read_either : {A B : Type 0} → ℕ → Reads A → ℕ → Reads B → Fault → Reads (A ⊎ B)
-read_either m r n s fault bytes = byte_at bytes >>= λ tag. if tag.0 == m then (r tag.1 >>= λ a. Ok (inl a.0, a.1)) else if tag.0 == n then (s tag.1 >>= λ b. Ok (inr b.0, b.1)) else Err fault
+read_either m r n s fault bytes =
+    byte_at bytes >>= λ tag. if tag.0 == m then (r tag.1 >>= λ a. Ok (inl a.0, a.1))
+    else if tag.0 == n then (s tag.1 >>= λ b. Ok (inr b.0, b.1)) else Err fault
 
 -- nothing may stand there
 abbrev pub read_fail : {A : Type 0} → Fault → Reads A

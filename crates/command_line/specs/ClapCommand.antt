@@ -23,7 +23,8 @@ wanting name operand = with_rule (new_app name) (operand_rule operand)
 
 -- a command that wants a subject
 abbrev pub with_subject : App → App
-with_subject a = with_rule (with_rule (with_rule a (operand_rule (codes "NET"))) (operand_rule (codes "SLOT"))) (operand_rule (codes "NODE"))
+with_subject a =
+    with_rule (with_rule (with_rule a (operand_rule (codes "NET"))) (operand_rule (codes "SLOT"))) (operand_rule (codes "NODE"))
 
 abbrev pub table_command : App
 table_command = wanting (codes "table") (codes "FILE")
@@ -32,7 +33,8 @@ abbrev pub run_command : App
 run_command = with_rule (wanting (codes "run") (codes "SCRIPT")) (option_rule (codes "N") (codes "workers"))
 
 abbrev pub closure_command : App
-closure_command = with_rule (with_subject (wanting (codes "closure") (codes "SCRIPT"))) (option_rule (codes "FORM") (codes "format"))
+closure_command =
+    with_rule (with_subject (wanting (codes "closure") (codes "SCRIPT"))) (option_rule (codes "FORM") (codes "format"))
 
 -- a command that wants two scripts and a subject
 abbrev pub comparing : Text → App

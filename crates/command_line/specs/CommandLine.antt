@@ -13,15 +13,19 @@ use Rattle.command_line.specs.declared.subject.Format.{Format}
 -- the words are this call
 abbrev pub IsCall : List Text → Call → Type 0
 IsCall words (Table file) = HasForm words (codes "table") (file ∷ [])
-IsCall words (Run script workers) = (options : List Text) × AsksWorkers options workers × HasFormWith words (codes "run") options (script ∷ [])
+IsCall words (Run script workers) =
+    (options : List Text) × AsksWorkers options workers × HasFormWith words (codes "run") options (script ∷ [])
 IsCall words (Closure script subject format) =
-    (net : Text) × (slot : Text) × (node : Text) × (options : List Text) × IsSubject net slot node subject × AsksFormat options format
+    (net : Text) × (slot : Text) × (node : Text) × (options : List Text) × IsSubject net slot node subject
+    × AsksFormat options format
     × HasFormWith words (codes "closure") options (script ∷ net ∷ slot ∷ node ∷ [])
 IsCall words (Compare one other subject explain) =
-    (net : Text) × (slot : Text) × (node : Text) × (options : List Text) × IsSubject net slot node subject × AsksExplanation options explain
+    (net : Text) × (slot : Text) × (node : Text) × (options : List Text) × IsSubject net slot node subject
+    × AsksExplanation options explain
     × HasFormWith words (codes "compare") options (one ∷ other ∷ net ∷ slot ∷ node ∷ [])
 IsCall words (Crowd one other subject) =
-    (net : Text) × (slot : Text) × (node : Text) × IsSubject net slot node subject × HasForm words (codes "crowd") (one ∷ other ∷ net ∷ slot ∷ node ∷ [])
+    (net : Text) × (slot : Text) × (node : Text) × IsSubject net slot node subject
+    × HasForm words (codes "crowd") (one ∷ other ∷ net ∷ slot ∷ node ∷ [])
 
 -- the call of `table` with these operands, if they are a file
 abbrev pub table_of : List Text → Option Call
@@ -43,7 +47,8 @@ run_with rest = option_and_then (λ found. run_of found.0 found.1) (pool_in rest
 
 -- the call of `closure` with this form and these operands, if they are a script and a subject
 abbrev pub closure_of : Format → List Text → Option Call
-closure_of format (script ∷ net ∷ slot ∷ node ∷ []) = option_map (λ subject. Closure script subject format) (subject_in net slot node)
+closure_of format (script ∷ net ∷ slot ∷ node ∷ []) =
+    option_map (λ subject. Closure script subject format) (subject_in net slot node)
 closure_of format operands = None
 
 -- the call of `closure` with these words behind it, if it is one
@@ -52,7 +57,8 @@ closure_with rest = option_and_then (λ found. closure_of found.0 found.1) (form
 
 -- the call of `compare` with these operands, if they are two scripts and a subject
 abbrev pub compare_of : Bool → List Text → Option Call
-compare_of explain (one ∷ other ∷ net ∷ slot ∷ node ∷ []) = option_map (λ subject. Compare one other subject explain) (subject_in net slot node)
+compare_of explain (one ∷ other ∷ net ∷ slot ∷ node ∷ []) =
+    option_map (λ subject. Compare one other subject explain) (subject_in net slot node)
 compare_of explain operands = None
 
 -- the call of `compare` with these words behind it, if it is one
@@ -61,7 +67,8 @@ compare_with rest = option_and_then (λ found. compare_of found.0 found.1) (expl
 
 -- the call of `crowd` with these operands, if they are two scripts and a subject
 abbrev pub crowd_of : List Text → Option Call
-crowd_of (one ∷ other ∷ net ∷ slot ∷ node ∷ []) = option_map (λ subject. Crowd one other subject) (subject_in net slot node)
+crowd_of (one ∷ other ∷ net ∷ slot ∷ node ∷ []) =
+    option_map (λ subject. Crowd one other subject) (subject_in net slot node)
 crowd_of operands = None
 
 -- the call of `crowd` with these words behind it, if it is one

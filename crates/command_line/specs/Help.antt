@@ -16,7 +16,9 @@ asks_by_letter (x ∷ y ∷ more) = x == 45 && (y == 104 || y == 86)
 
 -- the word asks for help or for the version: `help`, `--help`, `--version`, `-h` or `-V`
 abbrev pub asks_for_help : Text → Bool
-asks_for_help word = bytes_eq word (codes "help") || (bytes_eq word (codes "--help") || (bytes_eq word (codes "--version") || asks_by_letter word))
+asks_for_help word =
+    bytes_eq word (codes "help")
+    || (bytes_eq word (codes "--help") || (bytes_eq word (codes "--version") || asks_by_letter word))
 
 -- some word does
 abbrev pub ask_for_help : List Text → Bool

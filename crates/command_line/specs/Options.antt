@@ -9,8 +9,8 @@ use Rattle.command_line.specs.declared.subject.Format.TheVariants as format
 
 -- ---- the forms
 
--- the words are a command with options and operands: the options stand first, and a `--` may end them; or they follow operands that are no
--- options
+-- the words are a command with options and operands: the options stand first, and a `--` may end them; or they follow
+-- operands that are no options
 abbrev pub HasFormWith : List Text → Text → List Text → List Text → Type 0
 HasFormWith words command options operands =
     ((words ≡ command ∷ options ++ operands) × (list_all is_plain operands ≡ true))

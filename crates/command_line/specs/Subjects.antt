@@ -11,11 +11,13 @@ use Rattle.command_line.specs.declared.subject.Format.TheVariants as format
 -- the words are the number of a network, a slot and the name of a node, as in scripts
 abbrev pub IsSubject : Text → Text → Text → Subject → Type 0
 IsSubject net slot node subject =
-    (word_number (2 ^ 32) net ≡ Some subject.net) × (word_number (2 ^ 64) slot ≡ Some subject.slot) × (word_name node ≡ Some subject.node)
+    (word_number (2 ^ 32) net ≡ Some subject.net) × (word_number (2 ^ 64) slot ≡ Some subject.slot)
+    × (word_name node ≡ Some subject.node)
 
 -- the subject that three words name
 abbrev pub subject_in : Text → Text → Text → Option Subject
-subject_in net slot node = option_and_then (λ g. option_and_then (λ i. option_map (λ v. record { net = g; slot = i; node = v }) (word_name node))
+subject_in net slot node =
+    option_and_then (λ g. option_and_then (λ i. option_map (λ v. record { net = g; slot = i; node = v }) (word_name node))
     (word_number (2 ^ 64) slot)) (word_number (2 ^ 32) net)
 
 -- the form that a word names

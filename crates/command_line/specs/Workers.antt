@@ -15,7 +15,8 @@ AreWorkers word n = (word_number (2 ^ 64) word ≡ Some n) × (0 < n) × (n < 65
 abbrev pub AsksWorkers : List Text → Option ℕ → Type 0
 AsksWorkers options None = options ≡ []
 AsksWorkers options (Some n) =
-    (word : Text) × AreWorkers word n × ((options ≡ codes "--workers" ∷ word ∷ []) ⊎ (options ≡ (codes "--workers=" ++ word) ∷ []))
+    (word : Text) × AreWorkers word n
+    × ((options ≡ codes "--workers" ∷ word ∷ []) ⊎ (options ≡ (codes "--workers=" ++ word) ∷ []))
 
 -- ---- as they are found
 
@@ -44,7 +45,8 @@ workers_named (word ∷ rest) = option_map (λ n. (n, rest)) (workers_in word)
 abbrev pub workers_before : List Text → Option (ℕ × List Text)
 workers_before [] = None
 workers_before (option ∷ rest) =
-    if bytes_eq option (codes "--workers") then workers_named rest else option_map (λ n. (n, rest)) (attached_workers option)
+    if bytes_eq option (codes "--workers") then workers_named rest
+    else option_map (λ n. (n, rest)) (attached_workers option)
 
 -- no workers, and the operands
 abbrev pub without_workers : List Text → Option (Option ℕ × List Text)

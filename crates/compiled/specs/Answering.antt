@@ -16,7 +16,8 @@ AreAnswers n given old now = (i : ℕ) → bit_of now i ≡ 1 → (bit_of old i 
 abbrev pub IsNothing : Answers → Type 0
 IsNothing a = (i : ℕ) → (bit_of a.met i ≡ 0) × (bit_of a.unmet i ≡ 0)
 
--- the answer is an earlier one for the form's number, or what holds of its set at these places; what is kept then is what was kept before, and this answer
+-- the answer is an earlier one for the form's number, or what holds of its set at these places; what is kept then is
+-- what was kept before, and this answer
 pub record IsAnswer (f : Numbered) (ws : List ℕ) (old now : Answers) (answer : Bool) : Type 0 where
   pub kept_met : AreAnswers f.number (met f.set ws ≡ true) old.met now.met
   pub kept_unmet : AreAnswers f.number (met f.set ws ≡ false) old.unmet now.unmet

@@ -9,6 +9,8 @@ pub record ArePassing (passing : ℕ → Bool) (ws : List ℕ) : Type 0 where
   pub bits : (i : ℕ) → bit_of ws i ≡ one_where (passing i)
   pub short : length ws ≤ 2 ^ 58
 
--- so many passed of so many that are asked, or it is known without: whatever passes of what is asked later, it is enough by the tally now where it was by the one before
+-- so many passed of so many that are asked, or it is known without: whatever passes of what is asked later, it is
+-- enough by the tally now where it was by the one before
 abbrev pub IsAsked : ℕ → ℕ → Tally → Tally → Type 0
-IsAsked passed asked old now = (x y : ℕ) → x ≤ y → asked + y ≤ old.left → (nat_le now.missing x ≡ nat_le old.missing (passed + x)) × (y ≤ now.left)
+IsAsked passed asked old now =
+    (x y : ℕ) → x ≤ y → asked + y ≤ old.left → (nat_le now.missing x ≡ nat_le old.missing (passed + x)) × (y ≤ now.left)

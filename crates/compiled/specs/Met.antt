@@ -43,7 +43,8 @@ IsCompiled blocking us q c = (ws : List ℕ) → met c ws ≡ meets blocking q (
 
 -- a place is out, and all others are as they were
 abbrev pub IsCleared : ℕ → List ℕ → List ℕ → Type 0
-IsCleared place old now = (length now ≡ length old) × ((i : ℕ) → bit_of now i ≡ (if place == i then 0 else bit_of old i))
+IsCleared place old now =
+    (length now ≡ length old) × ((i : ℕ) → bit_of now i ≡ (if place == i then 0 else bit_of old i))
 
 -- a place is in, and all others are as they were
 abbrev pub IsAdded : ℕ → List ℕ → List ℕ → Type 0

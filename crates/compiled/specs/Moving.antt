@@ -4,7 +4,8 @@ use Rattle.protocol.specs.Sets.{IsAscending, among}
 use Rattle.compiled.specs.Places.{bit_of, Compiled}
 use Rattle.compiled.specs.Met.{met}
 
--- one set of places is the other before it moved: each place is in it where the one to which it moves is in the other, and no more
+-- one set of places is the other before it moved: each place is in it where the one to which it moves is in the other,
+-- and no more
 pub record IsBefore (places ws vs : List ℕ) : Type 0 where
   pub within : (i : ℕ) → i < length places → bit_of ws i ≡ bit_of vs (get_or places i 0)
   pub beyond : (i : ℕ) → length places ≤ i → bit_of ws i ≡ 0
@@ -20,4 +21,5 @@ pub record AreMoved (us vs places : List ℕ) : Type 0 where
   pub now : IsAscending vs
   pub counted : length places ≡ length us
   pub few : length us < 2 ^ 64
-  pub stands : (i : ℕ) → i < length us → IsTrue (among vs (get_or us i 0)) → (get_or places i 0 < length vs) × (get_or vs (get_or places i 0) 0 ≡ get_or us i 0)
+  pub stands : (i : ℕ) → i < length us → IsTrue (among vs (get_or us i 0))
+      → (get_or places i 0 < length vs) × (get_or vs (get_or places i 0) 0 ≡ get_or us i 0)

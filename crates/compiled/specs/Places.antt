@@ -64,7 +64,8 @@ most_le (c ∷ cs) = omega (arith, most_le cs)
 
 -- ---- a code: the sets as a list of tokens, each a number and masks
 abbrev pub mask_code : Coded Mask
-mask_code = code_by (ℕ × ℕ) (coded× coded_ℕ coded_ℕ) (λ m. (m.index, m.bits)) (λ p. record { index = p.0; bits = p.1 }) (λ _. refl)
+mask_code =
+    code_by (ℕ × ℕ) (coded× coded_ℕ coded_ℕ) (λ m. (m.index, m.bits)) (λ p. record { index = p.0; bits = p.1 }) (λ _. refl)
 
 abbrev pub Token : Type 0
 Token = ℕ × List Mask
@@ -78,13 +79,15 @@ abbrev pub sets_at : ℕ → List Token → Sets × List Token
 sets_at zero ts = (none, ts)
 sets_at (suc fuel) [] = (none, [])
 sets_at (suc fuel) ((zero, ms) ∷ ts) = (none, ts)
-sets_at (suc fuel) ((suc k, ms) ∷ ts) = (set k ms (sets_at fuel ts).0 (sets_at fuel (sets_at fuel ts).1).0, (sets_at fuel (sets_at fuel ts).1).1)
+sets_at (suc fuel) ((suc k, ms) ∷ ts) =
+    (set k ms (sets_at fuel ts).0 (sets_at fuel (sets_at fuel ts).1).0, (sets_at fuel (sets_at fuel ts).1).1)
 
 length-tokens : (s : Sets) (after : List Token) → length (tokens s after) ≡ weight_of_sets s + length after
 length-tokens none after = omega arith
 length-tokens (set k ms own rest) after = omega (arith, length-tokens own (tokens rest after), length-tokens rest after)
 
-sets-again : (s : Sets) (fuel : ℕ) (after : List Token) → weight_of_sets s ≤ fuel → sets_at fuel (tokens s after) ≡ (s, after)
+sets-again : (s : Sets) (fuel : ℕ) (after : List Token) → weight_of_sets s ≤ fuel
+    → sets_at fuel (tokens s after) ≡ (s, after)
 sets-again none zero after h = absurd (omega arith)
 sets-again none (suc fuel) after h = refl
 sets-again (set k ms own rest) zero after h = absurd (omega arith)
@@ -100,10 +103,12 @@ abbrev pub sets_from : List Token → Sets
 sets_from ts = (sets_at (length ts) ts).0
 
 pub sets_from-tokens_of : (s : Sets) → sets_from (tokens_of s) ≡ s
-sets_from-tokens_of s = ap (λ (p : Sets × List Token). p.0) (sets-again s (length (tokens_of s)) [] (omega (arith, length-tokens s [])))
+sets_from-tokens_of s =
+    ap (λ (p : Sets × List Token). p.0) (sets-again s (length (tokens_of s)) [] (omega (arith, length-tokens s [])))
 
 abbrev pub sets_code : Coded Sets
-sets_code = code_by (List Token) (coded_list (coded× coded_ℕ (coded_list mask_code))) tokens_of sets_from sets_from-tokens_of
+sets_code =
+    code_by (List Token) (coded_list (coded× coded_ℕ (coded_list mask_code))) tokens_of sets_from sets_from-tokens_of
 
 abbrev pub compiled_code : Coded Compiled
 compiled_code =
@@ -111,4 +116,5 @@ compiled_code =
     (λ p. record { needed = p.0; masks = p.1.0; inner = p.1.1 }) (λ _. refl)
 
 abbrev pub numbered_code : Coded Numbered
-numbered_code = code_by (ℕ × Compiled) (coded× coded_ℕ compiled_code) (λ f. (f.number, f.set)) (λ p. record { number = p.0; set = p.1 }) (λ _. refl)
+numbered_code =
+    code_by (ℕ × Compiled) (coded× coded_ℕ compiled_code) (λ f. (f.number, f.set)) (λ p. record { number = p.0; set = p.1 }) (λ _. refl)

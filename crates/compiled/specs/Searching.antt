@@ -18,12 +18,16 @@ stays_at cs ws i = (bit_of ws i == 1) && met_at (get_or cs i None) ws
 
 -- forms of one number are of one set
 abbrev pub AreAgreed : List (Option Numbered) → Type 0
-AreAgreed fs = (i j : ℕ) (f g : Numbered) → get_or fs i None ≡ Some f → get_or fs j None ≡ Some g → f.number ≡ g.number → f.set ≡ g.set
+AreAgreed fs =
+    (i j : ℕ) (f g : Numbered) → get_or fs i None ≡ Some f → get_or fs j None ≡ Some g → f.number ≡ g.number
+    → f.set ≡ g.set
 
--- each node's compiled slices stand at its place, those of one number the same: places meet them exactly where the nodes at those places satisfy its slices
+-- each node's compiled slices stand at its place, those of one number the same: places meet them exactly where the
+-- nodes at those places satisfy its slices
 pub record AreCompiled (us : List ℕ) (slices_at : ℕ → Option Slices) (cs : List (Option Numbered)) : Type 0 where
   pub as_many : length cs ≡ length us
-  pub each : (i : ℕ) → i < length us → (ws : List ℕ) → met_at (get_or cs i None) ws ≡ is_satisfied sat (slices_at (get_or us i 0)) (among (picked us ws))
+  pub each : (i : ℕ) → i < length us → (ws : List ℕ)
+      → met_at (get_or cs i None) ws ≡ is_satisfied sat (slices_at (get_or us i 0)) (among (picked us ws))
   pub agreed : AreAgreed cs
 
 -- no quorum among the supporters has lost a node

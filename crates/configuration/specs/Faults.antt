@@ -24,7 +24,9 @@ first_fault (t ∷ ts) = if t.0 then Some t.1 else first_fault ts
 
 -- what is tested of nodes, in this order
 abbrev pub node_tests : List HostedNode → List (Bool × ConfigError)
-node_tests nodes = (not (all_differ (names_of nodes)), NodeTwice) ∷ (length nodes == 0, NoNodes) ∷ (nat_lt 256 (length nodes), TooManyNodes) ∷ []
+node_tests nodes =
+    (not (all_differ (names_of nodes)), NodeTwice) ∷ (length nodes == 0, NoNodes)
+    ∷ (nat_lt 256 (length nodes), TooManyNodes) ∷ []
 
 -- some share is above the limit
 abbrev pub is_too_large : Shares → Bool
@@ -32,7 +34,9 @@ is_too_large s = nat_lt (2 ^ 40) s.own || nat_lt (2 ^ 40) s.pair || nat_lt (2 ^ 
 
 -- what is tested of a roster, in this order
 abbrev pub roster_tests : List ℕ → Shares → List (Bool × ConfigError)
-roster_tests names shares = (not (all_differ names), RosterTwice) ∷ (nat_lt 1024 (length names), RosterTooLong) ∷ (is_too_large shares, ShareTooLarge) ∷ []
+roster_tests names shares =
+    (not (all_differ names), RosterTwice) ∷ (nat_lt 1024 (length names), RosterTooLong)
+    ∷ (is_too_large shares, ShareTooLarge) ∷ []
 
 -- what an error says of what was given: want of memory comes only where no test holds
 abbrev pub fault_of : ConfigError → Option ConfigError

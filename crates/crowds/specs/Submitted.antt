@@ -59,7 +59,8 @@ marked (b ∷ bs) (c ∷ cs) = if b then step_of c.1 ∷ marked bs cs else marke
 
 -- no marked event delivers bytes that are no envelope
 abbrev pub AreReadable : List Bool → List (ℕ × Event) → Type 0
-AreReadable marks calls = (k : ℕ) (c : ℕ × Event) → slice_get marks k ≡ Some true → slice_get calls k ≡ Some c → IsReadable (step_of c.1)
+AreReadable marks calls =
+    (k : ℕ) (c : ℕ × Event) → slice_get marks k ≡ Some true → slice_get calls k ≡ Some c → IsReadable (step_of c.1)
 
 -- the event with this number is the first from a number on that is marked
 pub record IsNextMarked (marks : List Bool) (from k : ℕ) : Type 0 where

@@ -7,7 +7,8 @@ use Rattle.decisions.specs.declared.decision.Decision.{Decision}
 
 -- what is published begins with what each has seen
 abbrev pub BeginsWithSeen : List Decision → List (List Decision) → Type 0
-BeginsWithSeen published views = (seat : ℕ) (seen : List Decision) → get_elem? views seat ≡ some seen → IsPrefix seen published
+BeginsWithSeen published views =
+    (seat : ℕ) (seen : List Decision) → get_elem? views seat ≡ some seen → IsPrefix seen published
 
 -- who had seen a list sees all of the one that is now published, which begins with it
 abbrev pub SeesWhole : List Decision → List Decision → List Decision → List Decision → Type 0

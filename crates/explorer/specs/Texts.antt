@@ -7,7 +7,8 @@ use Rattle.scripts.specs.Names.{text_of_name}
 use Rattle.closure.specs.Announcing.{MemberList}
 use Rattle.explorer.specs.Reports.{Shown}
 
--- the place of the member that named the one at a place, behind a space (32), with a line feed (10); the first one has a hyphen
+-- the place of the member that named the one at a place, behind a space (32), with a line feed (10); the first one has
+-- a hyphen
 abbrev pub text_of_namer : ℕ → ℕ → Bytes
 text_of_namer place namer = if place == 0 then codes " -\n" else codes " " ++ (decimal namer ++ 10 ∷ [])
 

@@ -45,4 +45,6 @@ next_counter n statements = least_above n (filter_map counter_by statements)
 
 -- the blocking test gets one answer for questions that agree on the rows of the others that are reached
 pub record IsHonest (seen : Seen) : Type 0 where
-  pub blocking : (kind : Kind) (own : Bool) (test other : Statement → Bool) → AllByRecursion (λ s. test s ≡ other s) (seen.rows kind) → seen.blocking kind own test ≡ seen.blocking kind own other
+  pub blocking : (kind : Kind) (own : Bool) (test other : Statement → Bool)
+      → AllByRecursion (λ s. test s ≡ other s) (seen.rows kind)
+      → seen.blocking kind own test ≡ seen.blocking kind own other

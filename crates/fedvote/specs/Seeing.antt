@@ -18,14 +18,17 @@ standing own table kind position test = passing_with own table kind (passes test
 
 -- accepted by what a node sees: it accepts by the rows of its table, some quorum or some blocking set being there
 abbrev pub AcceptedByRows : Type 0
-AcceptedByRows = (own : ℕ) (configured : Slices) (leaders : List ℕ) (table : List Sent) (kind : Kind) (position : Option Statement) (backs accepts : Statement → Bool)
+AcceptedByRows =
+    (own : ℕ) (configured : Slices) (leaders : List ℕ) (table : List Sent) (kind : Kind) (position : Option Statement) (backs accepts : Statement → Bool)
     → IsTrue (accepted (seen own configured leaders table) kind position backs accepts)
     ↔ Accepted sat (slices_by own configured table kind) (standing own table kind position backs) (standing own table kind position accepts) own
 
 -- confirmed by what a node sees: some quorum that contains it all accepts by the rows
 abbrev pub ConfirmedByRows : Type 0
-ConfirmedByRows = (own : ℕ) (configured : Slices) (leaders : List ℕ) (table : List Sent) (kind : Kind) (position : Option Statement) (accepts : Statement → Bool)
-    → IsTrue (confirmed (seen own configured leaders table) kind position accepts) ↔ Confirmed sat (slices_by own configured table kind) (standing own table kind position accepts) own
+ConfirmedByRows =
+    (own : ℕ) (configured : Slices) (leaders : List ℕ) (table : List Sent) (kind : Kind) (position : Option Statement) (accepts : Statement → Bool)
+    → IsTrue (confirmed (seen own configured leaders table) kind position accepts)
+    ↔ Confirmed sat (slices_by own configured table kind) (standing own table kind position accepts) own
 
 -- whose table is looked at: the node's name, its slices and its leaders, and the table
 pub record Standpoint : Type 0 where
@@ -38,13 +41,15 @@ pub record Standpoint : Type 0 where
 abbrev pub seen_from : Standpoint → Seen
 seen_from at = seen at.own at.configured at.leaders at.table
 
--- the node, in this position, accepts the claim by the rows of its table: some quorum that contains it all votes for or accepts the claim, or those who accept it block the node's slices
+-- the node, in this position, accepts the claim by the rows of its table: some quorum that contains it all votes for or
+-- accepts the claim, or those who accept it block the node's slices
 abbrev pub AcceptsClaim : Standpoint → Option Statement → Claim → Type 0
 AcceptsClaim at position claim =
     let kind = kind_of_claim claim in
     Accepted sat (slices_by at.own at.configured at.table kind) (standing at.own at.table kind position (backs claim)) (standing at.own at.table kind position (accepts claim)) at.own
 
--- the node, in this position, confirms the claim by the rows of its table: some quorum that contains it all accepts the claim
+-- the node, in this position, confirms the claim by the rows of its table: some quorum that contains it all accepts the
+-- claim
 abbrev pub ConfirmsClaim : Standpoint → Option Statement → Claim → Type 0
 ConfirmsClaim at position claim =
     let kind = kind_of_claim claim in

@@ -42,8 +42,8 @@ IsReadable _ = ⊤
 unfoldable pub spelled_size : Sent → ℕ
 spelled_size e = length (spelling e)
 
--- the nodes stand at their places among the hosts; the archive has the envelope that was delivered, and as many bytes came as its
--- spelling has; what lies in a box is large
+-- the nodes stand at their places among the hosts; the archive has the envelope that was delivered, and as many bytes
+-- came as its spelling has; what lies in a box is large
 abbrev pub IsKeptEvent : List HostedNode → List Sent → KeptEvent → Type 0
 IsKeptEvent hosts archive (OpenSlot i) = ⊤
 IsKeptEvent hosts archive (CloseSlot i) = ⊤
@@ -61,7 +61,8 @@ pub record AreListed (lists : List EntryOuts) (xs : List StoredEntry) : Type 0 w
 
 -- that of each entry; the archive has what was emitted, and what was given out is listed
 abbrev pub AreKept : List HostedNode → List Sent → List EntryOuts → List StoredEntry → Type 0
-AreKept hosts archive lists xs = All (λ x. IsKeptEvent hosts archive x.event × AreFiledOuts archive (kept_outs x.outs)) xs × AreListed lists xs
+AreKept hosts archive lists xs =
+    All (λ x. IsKeptEvent hosts archive x.event × AreFiledOuts archive (kept_outs x.outs)) xs × AreListed lists xs
 
 -- an entry that is read in place
 abbrev pub lent_entry : LentEntry → Entry

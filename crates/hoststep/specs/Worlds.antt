@@ -40,7 +40,9 @@ logs_set l (k ∷ ks) = if k.config.number == l.config.number then l ∷ ks else
 -- the place of a network; or it is not there, and this is where it would stand
 abbrev pub IsPlaceOf : List Log → ℕ → Result ℕ ℕ → Type 0
 IsPlaceOf ls g (Ok k) = (index_in (numbers_of ls) g ≡ Some k) × (k < length ls)
-IsPlaceOf ls g (Err i) = (index_in (numbers_of ls) g ≡ None) × (i ≤ length ls) × IsAscending (insert (numbers_of ls) i g) × ((l : Log) → l.config.number ≡ g → logs_with l ls ≡ insert ls i l)
+IsPlaceOf ls g (Err i) =
+    (index_in (numbers_of ls) g ≡ None) × (i ≤ length ls) × IsAscending (insert (numbers_of ls) i g)
+    × ((l : Log) → l.config.number ≡ g → logs_with l ls ≡ insert ls i l)
 
 -- why a network of this number is not added
 abbrev pub IsNotAdded : List Log → ℕ → WorldError → Type 0
@@ -64,9 +66,13 @@ joined c h = record { configs = configs_with c h.configs; calls = filter (λ x. 
 
 -- a history where one more network is there with what another history does to it, behind all else
 abbrev pub adopted : Config → History → History → History
-adopted c own h = record h { configs = configs_with c h.configs; calls = filter (λ x. not (x.0 == c.number)) h.calls ++ filter (λ x. x.0 == c.number) own.calls }
+adopted c own h = record h {
+  configs = configs_with c h.configs;
+  calls = filter (λ x. not (x.0 == c.number)) h.calls ++ filter (λ x. x.0 == c.number) own.calls;
+}
 
--- the journals are those of a history: its configurations, and of each network the entries that the history applies to it
+-- the journals are those of a history: its configurations, and of each network the entries that the history applies to
+-- it
 pub record AreJournalsOf (h : History) (logs : List Log) : Type 0 where
   pub configs : map (λ l. l.config) logs ≡ h.configs
   pub entries : (g : ℕ) (l : Log) → log_at logs g ≡ Some l → l.entries ≡ entries reading h g

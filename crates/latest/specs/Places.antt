@@ -57,7 +57,9 @@ found (p ∷ ps) u k = if p.sender == u then place_in p k else found ps u k
 -- an index in which a sender's row of a kind has this place
 abbrev pub noted : List Places → ℕ → Kind → ℕ → List Places
 noted [] u k n = only_place u k n ∷ []
-noted (p ∷ ps) u k n = if nat_lt p.sender u then p ∷ noted ps u k n else (if p.sender == u then with_place p k n ∷ ps else only_place u k n ∷ p ∷ ps)
+noted (p ∷ ps) u k n =
+    if nat_lt p.sender u then p
+    ∷ noted ps u k n else (if p.sender == u then with_place p k n ∷ ps else only_place u k n ∷ p ∷ ps)
 
 -- ---- one place less
 abbrev pub without_place : Places → Kind → Places
@@ -71,7 +73,9 @@ is_vacant p = is_none p.nomination && is_none p.ballot
 -- an index without the place of a sender's row of a kind; a sender that has no other row leaves it
 abbrev pub forgotten : List Places → ℕ → Kind → List Places
 forgotten [] u k = []
-forgotten (p ∷ ps) u k = if p.sender == u then (if is_vacant (without_place p k) then ps else without_place p k ∷ ps) else p ∷ forgotten ps u k
+forgotten (p ∷ ps) u k =
+    if p.sender == u then (if is_vacant (without_place p k) then ps else without_place p k ∷ ps) else p
+    ∷ forgotten ps u k
 
 -- ---- an index as the code keeps it
 -- these places, as those of a sender

@@ -13,8 +13,12 @@ use Rattle.latest.specs.Places.{place_of}
 abbrev pub IsPut : List Filed → Sent → Put → List Filed → Type 0
 IsPut old e Stale new = (is_taken (sents_of old) e ≡ false) × (new ≡ old)
 IsPut old e NoMemory new = (row (sents_of old) e.sender (kind_of e.body) ≡ None) × (new ≡ old)
-IsPut old e Added new = (row (sents_of old) e.sender (kind_of e.body) ≡ None) × (is_taken (sents_of old) e ≡ true) × (sents_of new ≡ with_row e (sents_of old))
-IsPut old e (Replaced r) new = (row (sents_of old) e.sender (kind_of e.body) ≡ Some (sent_of r)) × (is_taken (sents_of old) e ≡ true) × (sents_of new ≡ with_row e (sents_of old))
+IsPut old e Added new =
+    (row (sents_of old) e.sender (kind_of e.body) ≡ None) × (is_taken (sents_of old) e ≡ true)
+    × (sents_of new ≡ with_row e (sents_of old))
+IsPut old e (Replaced r) new =
+    (row (sents_of old) e.sender (kind_of e.body) ≡ Some (sent_of r)) × (is_taken (sents_of old) e ≡ true)
+    × (sents_of new ≡ with_row e (sents_of old))
 
 -- the archive has the row that was replaced
 abbrev pub IsFiledPut : List Sent → Put → Type 0

@@ -19,12 +19,16 @@ weight_for v q u = if u == v then Some whole else weight q u
 -- ---- laws
 -- the neighbours are the nodes that are near by what they weigh for the node, which weighs all for itself
 abbrev pub NeighboursAreNear : Type 0
-NeighboursAreNear = (slot round v : ℕ) (q : Slices) (u : ℕ) → among (neighbours slot round v q) u ≡ is_near (weight_for v q u) (hash slot 1 round u)
+NeighboursAreNear =
+    (slot round v : ℕ) (q : Slices) (u : ℕ)
+    → among (neighbours slot round v q) u ≡ is_near (weight_for v q u) (hash slot 1 round u)
 
 -- there is one leader at most
 abbrev pub LeadersAreUnique : Type 0
-LeadersAreUnique = (slot round v : ℕ) (q : Slices) (u w : ℕ) → IsLeader slot round v q u → IsLeader slot round v q w → u ≡ w
+LeadersAreUnique =
+    (slot round v : ℕ) (q : Slices) (u w : ℕ) → IsLeader slot round v q u → IsLeader slot round v q w → u ≡ w
 
 -- the leader is the node itself or one of the names of its slices
 abbrev pub LeadersAreKnown : Type 0
-LeadersAreKnown = (slot round v : ℕ) (q : Slices) (u : ℕ) → IsLeader slot round v q u → IsTrue (also v (among (names q)) u)
+LeadersAreKnown =
+    (slot round v : ℕ) (q : Slices) (u : ℕ) → IsLeader slot round v q u → IsTrue (also v (among (names q)) u)

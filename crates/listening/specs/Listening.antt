@@ -47,7 +47,8 @@ abbrev pub KnowsLists : Configured → List Sent → Option KnownReach → Type 
 KnowsLists c table known =
     IfSome known (λ k. IfSome k.ballots (λ b. AreBallotsOf c.name table k.region.nodes.items b) × IfSome k.values (λ v. AreValuesOf c.name table k.region.nodes.items v))
 
--- what an envelope does to the region that such a node knows where the table takes it: nothing, one entry is set, the reach is of some extent then and the region one of before, or it is not known any more
+-- what an envelope does to the region that such a node knows where the table takes it: nothing, one entry is set, the
+-- reach is of some extent then and the region one of before, or it is not known any more
 abbrev pub IsEffect : Configured → List Sent → Sent → Option Region → Effect → Type 0
 IsEffect c table e region Nothing = KnowsRegion c table region → KnowsRegion c (with_row e table) region
 IsEffect c table e region (Sets x) = IfSome region (λ r. IsEntry c.name c.slices table e r x)

@@ -15,8 +15,8 @@ abbrev pub delivered_of : Step → Option Sent
 delivered_of (Delivers u size (Read e)) = Some e
 delivered_of _ = None
 
--- The event is the network's step, with what that gives out, its marks, and so many whole copies; the archive has what was given out
--- and what was delivered.
+-- The event is the network's step, with what that gives out, its marks, and so many whole copies; the archive has what
+-- was given out and what was delivered.
 pub record IsApplied (old : Standing) (e : Step) (count : ℕ) (new : Standing) (a : Outcome) : Type 0 where
   pub step : IsStep (machine_of old) e (outs_of a.outs.items) (machine_of new)
   pub marks : (net : Net) → StandsFor (machine_of old) net → a.marks.items ≡ marks_in net e

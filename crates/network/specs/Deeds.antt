@@ -36,7 +36,8 @@ node_at (Some s) n = slice_get s.places n
 
 -- ---- what is done, by places
 abbrev pub acted : List Slot → ℕ → ℕ → NodeEvent → List Slot
-acted slots k h e = changed_at {X = Slot} k (λ (s : Slot). record s { places = changed_at h (after_event e) s.places }) slots
+acted slots k h e =
+    changed_at {X = Slot} k (λ (s : Slot). record s { places = changed_at h (after_event e) s.places }) slots
 
 abbrev pub slots_after : List Slot → Deed → List Slot
 slots_after slots (Open s) = slots ++ slot_of (seats_of s) ∷ []
@@ -65,7 +66,8 @@ IsThere archive slots (Hand k h e) = IsNodeThere slots k h
 -- the node of this slot and name is the one at these places
 abbrev pub IsNodeOf : Machine → Option (ℕ × ℕ) → ℕ → ℕ → Type 0
 IsNodeOf m None k h = ⊥
-IsNodeOf m (Some at) k h = (index_of_slot (map slot_of m.slots) at.0 ≡ Some k) × (index_of_name m.config.hosts at.1 ≡ Some h)
+IsNodeOf m (Some at) k h =
+    (index_of_slot (map slot_of m.slots) at.0 ≡ Some k) × (index_of_name m.config.hosts at.1 ≡ Some h)
 
 -- the event opens this slot, closes one, or is one of the node at these places
 abbrev pub IsEventOf : Machine → Step → Deed → Type 0
@@ -92,11 +94,15 @@ IsSeatThere m k h = (y : Seat) × IsSeat m k h y
 abbrev pub IsDrawn : Machine → Drawn → Source → Type 0
 IsDrawn m Budgets s = s ≡ OfBudgets
 IsDrawn m Opens s = (r : Roster) × (m.config.roster ≡ Some r) × (s ≡ OfOpens r.shares)
-IsDrawn m (Own k h) s = (r : Roster) × (x : Seats) × (y : Seat) × (m.config.roster ≡ Some r) × (slice_get m.slots k ≡ Some x) × (slice_get x.seats h ≡ Some y) × (s ≡ OfShare r.shares x.number (OwnShare y.place.node.name))
+IsDrawn m (Own k h) s =
+    (r : Roster) × (x : Seats) × (y : Seat) × (m.config.roster ≡ Some r) × (slice_get m.slots k ≡ Some x)
+    × (slice_get x.seats h ≡ Some y) × (s ≡ OfShare r.shares x.number (OwnShare y.place.node.name))
 IsDrawn m (Pair k h u) s =
-    (r : Roster) × (x : Seats) × (y : Seat) × (m.config.roster ≡ Some r) × (slice_get m.slots k ≡ Some x) × (slice_get x.seats h ≡ Some y) × (s ≡ OfShare r.shares x.number (PairShare y.place.node.name u))
+    (r : Roster) × (x : Seats) × (y : Seat) × (m.config.roster ≡ Some r) × (slice_get m.slots k ≡ Some x)
+    × (slice_get x.seats h ≡ Some y) × (s ≡ OfShare r.shares x.number (PairShare y.place.node.name u))
 
--- a plan for an event that nothing refuses, whatever network the machine stands for: what is done by places is what the event does
+-- a plan for an event that nothing refuses, whatever network the machine stands for: what is done by places is what the
+-- event does
 pub record IsPlan (m : Standing) (e : Step) (plan : Plan) : Type 0 where
   pub allowed : (net : Net) → StandsFor (machine_of m) net → first_that (tests net e) ≡ None
   pub slots : (net : Net) → StandsFor (machine_of m) net → slots_after net.slots plan.deed ≡ (effect net e).0.slots
@@ -116,7 +122,8 @@ IsPlanned m e (Err r) = IsRefusal (machine_of m) e r
 abbrev pub IsDrawnThere : Machine → Drawn → Type 0
 IsDrawnThere m d = (s : Source) × IsDrawn m d s
 
--- there is room on it for one more event, or there is none and this is the refusal, whatever network the machine stands for
+-- there is room on it for one more event, or there is none and this is the refusal, whatever network the machine stands
+-- for
 abbrev pub HasRoom : Machine → Drawn → Type 0
 HasRoom m d = (s : Source) (net : Net) → IsDrawn m d s → StandsFor m net → (room_test net s).0 ≡ false
 
@@ -125,10 +132,12 @@ HasNoRoom m d r = (s : Source) (net : Net) → IsDrawn m d s → StandsFor m net
 
 -- the same of so many bytes more
 abbrev pub HasRoomForBytes : Machine → Drawn → ℕ → Type 0
-HasRoomForBytes m d size = (s : Source) (net : Net) → IsDrawn m d s → StandsFor m net → (bytes_test net s size).0 ≡ false
+HasRoomForBytes m d size =
+    (s : Source) (net : Net) → IsDrawn m d s → StandsFor m net → (bytes_test net s size).0 ≡ false
 
 abbrev pub HasNoRoomForBytes : Machine → Drawn → ℕ → Refusal → Type 0
-HasNoRoomForBytes m d size r = (s : Source) (net : Net) → IsDrawn m d s → StandsFor m net → bytes_test net s size ≡ (true, r)
+HasNoRoomForBytes m d size r =
+    (s : Source) (net : Net) → IsDrawn m d s → StandsFor m net → bytes_test net s size ≡ (true, r)
 
 -- what comes to a node draws on the budgets or on what it gets from a name
 abbrev pub IsPaired : Drawn → Type 0
@@ -150,7 +159,9 @@ pair_source (Some r) i u from = share_or_budgets r i (PairShare u from)
 
 -- on what is drawn, where there is room on it for one more event, or the refusal where there is none
 abbrev pub IsRoom : Standing → (Option Roster → Source) → Result Drawn Refusal → Type 0
-IsRoom m of (Ok d) = IsDrawn (machine_of m) d (of m.config.roster) × ((net : Net) → StandsFor (machine_of m) net → (room_test net (of net.roster)).0 ≡ false)
+IsRoom m of (Ok d) =
+    IsDrawn (machine_of m) d (of m.config.roster)
+    × ((net : Net) → StandsFor (machine_of m) net → (room_test net (of net.roster)).0 ≡ false)
 IsRoom m of (Err r) = (net : Net) → StandsFor (machine_of m) net → room_test net (of net.roster) ≡ (true, r)
 
 -- the slot stands there
@@ -171,7 +182,9 @@ pub record IsSpot (m : Standing) (i u : ℕ) (s : Spot) : Type 0 where
 
 -- the node is not hosted, or the slot is not open
 abbrev pub IsSpotRefused : Standing → ℕ → ℕ → Refusal → Type 0
-IsSpotRefused m i u r = (net : Net) → StandsFor (machine_of m) net → (ts : List (Bool × Refusal)) → first_that (hosted_test net u ∷ open_test net i ∷ ts) ≡ Some r
+IsSpotRefused m i u r =
+    (net : Net) → StandsFor (machine_of m) net → (ts : List (Bool × Refusal))
+    → first_that (hosted_test net u ∷ open_test net i ∷ ts) ≡ Some r
 
 -- all of them, in their order
 abbrev pub own_tests : Net → ℕ → ℕ → List (Bool × Refusal)

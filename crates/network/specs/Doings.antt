@@ -24,8 +24,8 @@ use Rattle.network.specs.declared.plan.Deed.TheVariants.{Open, Close, Act, Hand}
 abbrev pub slots_of : List Lodgings → List Slot
 slots_of slots = map slot_of (map seats_of slots)
 
--- what is read at its places is there, and the archive has what it speaks of; no open slot has the number of one that is opened, and no
--- two have one number where one is closed
+-- what is read at its places is there, and the archive has what it speaks of; no open slot has the number of one that
+-- is opened, and no two have one number where one is closed
 abbrev pub IsDoable : List Sent → Charge → List Lodgings → Deed → Type 0
 IsDoable archive c slots (Open s) = All (IsLodged archive) s.places × (index_in (numbers_of slots) s.number ≡ None)
 IsDoable archive c slots (Close k) = (k < length slots) × (all_differ (numbers_of slots) ≡ true)
@@ -43,11 +43,14 @@ IsDone c (Hand k h e) old new = IsChangedAt (IsSlotActed c h (NodeEvent.Take e))
 abbrev pub marks_after : List Slot → Deed → List ℕ
 marks_after slots (Open s) = []
 marks_after slots (Close k) = []
-marks_after slots (Act k h e) = numbered (emitted_at (node_at (slice_get slots k) h)) (emissions (outs_after slots (Act k h e)))
-marks_after slots (Hand k h e) = numbered (emitted_at (node_at (slice_get slots k) h)) (emissions (outs_after slots (Hand k h e)))
+marks_after slots (Act k h e) =
+    numbered (emitted_at (node_at (slice_get slots k) h)) (emissions (outs_after slots (Act k h e)))
+marks_after slots (Hand k h e) =
+    numbered (emitted_at (node_at (slice_get slots k) h)) (emissions (outs_after slots (Hand k h e)))
 
 -- what is given out, its marks, so many whole copies, and what was filed
-pub record IsAnswer (outs : List Out) (marks : List ℕ) (delivered : Option Sent) (count : ℕ) (archive : List Sent) (a : Outcome) : Type 0 where
+pub record IsAnswer (outs : List Out) (marks : List ℕ) (delivered : Option Sent) (count : ℕ) (archive : List Sent)
+    (a : Outcome) : Type 0 where
   pub outs_are : outs_of a.outs.items ≡ outs
   pub marks_are : a.marks.items ≡ marks
   pub copies : map (λ v. v.items) a.copies.items ≡ copies_of count outs

@@ -11,4 +11,5 @@ at_key key val (x ∷ xs) u = if key x == u then Some (val x) else at_key key va
 -- the place of a key; or nothing has it, and this is where one would keep the keys ascending
 abbrev pub IsKeyPlace : {X : Type 0} → (X → ℕ) → List X → ℕ → Result ℕ ℕ → Type 0
 IsKeyPlace key xs u (Ok at) = (index_in (map key xs) u ≡ Some at) × (at < length xs)
-IsKeyPlace key xs u (Err at) = (index_in (map key xs) u ≡ None) × (at ≤ length xs) × IsAscending (insert (map key xs) at u)
+IsKeyPlace key xs u (Err at) =
+    (index_in (map key xs) u ≡ None) × (at ≤ length xs) × IsAscending (insert (map key xs) at u)

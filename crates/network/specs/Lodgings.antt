@@ -16,7 +16,8 @@ use Rattle.network.specs.declared.emission_log.NumberedOuts.{NumberedOuts}
 use Rattle.network.specs.declared.emission_log.PlacesByKind.{PlacesByKind}
 
 -- ---- a node at a slot
--- a node and what it has emitted, as they were filed; how many of its own events it drew, and what it drew from each other name
+-- a node and what it has emitted, as they were filed; how many of its own events it drew, and what it drew from each
+-- other name
 pub record Lodging : Type 0 where
   pub held : Held
   pub emitted : List Filed
@@ -90,7 +91,8 @@ pub record IsGiven (outs : List Out) (marks : List ℕ) (count : ℕ) (a : Numbe
   pub copies : map (λ v. v.items) a.copies.items ≡ copies_of count outs
 
 -- ---- room that is made before an event
-pub record HaveRoom (count : ℕ) (emitted : Vec Filed Global) (places : PlacesByKind) (marks : Vec ℕ Global) : Type 0 where
+pub record HaveRoom (count : ℕ) (emitted : Vec Filed Global) (places : PlacesByKind) (marks : Vec ℕ Global)
+    : Type 0 where
   pub emissions : vec_len emitted + count ≤ vec_capacity emitted
   pub nominations_room : vec_len places.nominations + count ≤ vec_capacity places.nominations
   pub ballots_room : vec_len places.ballots + count ≤ vec_capacity places.ballots

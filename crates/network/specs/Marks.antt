@@ -31,7 +31,8 @@ emitted_before net (Some at) = emitted_at (node_where_open (places_at net.slots 
 -- the number of each emission among those of its kind, after these
 unfoldable pub numbered : List Sent → List Sent → List ℕ
 numbered emitted [] = []
-numbered emitted (e ∷ es) = suc (length (filter (λ x. is_kind (kind_of e.body) (kind_of x.body)) emitted)) ∷ numbered (emitted ++ e ∷ []) es
+numbered emitted (e ∷ es) =
+    suc (length (filter (λ x. is_kind (kind_of e.body) (kind_of x.body)) emitted)) ∷ numbered (emitted ++ e ∷ []) es
 
 -- the marks of an event that is not refused: by which number a Hear names each of its emissions
 abbrev pub marks_in : Net → Step → List ℕ

@@ -31,7 +31,8 @@ pub record Standing : Type 0 where
   pub opens : ℕ
 
 abbrev pub machine_of : Standing → Machine
-machine_of m = record { config = m.config; slots = map seats_of m.slots; events = m.events; bytes = m.bytes; opens = m.opens }
+machine_of m =
+    record { config = m.config; slots = map seats_of m.slots; events = m.events; bytes = m.bytes; opens = m.opens }
 
 -- the network, where this was drawn
 abbrev pub net_of : Machine → List Draw → Net
@@ -47,13 +48,14 @@ net_of m draws = record {
   draws = draws;
 }
 
--- It stands for a network that has its parts and whose draws come to its counts. Networks for which one machine stands differ in the
--- order and the closed slots of their draws alone, which no test and no effect reads.
+-- It stands for a network that has its parts and whose draws come to its counts. Networks for which one machine stands
+-- differ in the order and the closed slots of their draws alone, which no test and no effect reads.
 pub record StandsFor (m : Machine) (net : Net) : Type 0 where
   pub is : net ≡ net_of m net.draws
   pub tallied : AreTallied net.draws m.slots
 
--- no name is hosted twice; the hosted nodes stand in their order at each open slot; no slot is open twice; the bytes keep the budget
+-- no name is hosted twice; the hosted nodes stand in their order at each open slot; no slot is open twice; the bytes
+-- keep the budget
 pub record IsTidy (m : Machine) : Type 0 where
   pub single : all_differ (names_of m.config.hosts) ≡ true
   pub names : AllByRecursion (λ s. map (λ x. x.place.node.name) s.seats ≡ names_of m.config.hosts) m.slots
@@ -71,14 +73,16 @@ pub record IsStanding (m : Standing) : Type 0 where
   pub stood : IsStood (machine_of m)
 
 -- ---- what is read of a node
--- the slices of a node at a slot of a network, as they are now; there are none where the slot is not open, and where the node is not hosted
+-- the slices of a node at a slot of a network, as they are now; there are none where the slot is not open, and where
+-- the node is not hosted
 abbrev pub slices_at : Net → ℕ → ℕ → Option Slices
 slices_at net i u = option_map (λ p. p.node.slices) (node_where_open (places_at net.slots i) u)
 
 -- ---- what an event is answered
 -- it is the network's step, for each network for which the machine stands
 abbrev pub IsStep : Machine → Step → List Out → Machine → Type 0
-IsStep old e os new = (net : Net) → StandsFor old net → StandsFor new (net_step net e).0 × ((net_step net e).1 ≡ Done os)
+IsStep old e os new =
+    (net : Net) → StandsFor old net → StandsFor new (net_step net e).0 × ((net_step net e).1 ≡ Done os)
 
 -- memory is wanting, or this is the first refusal that applies
 abbrev pub IsRefusal : Machine → Step → Refusal → Type 0

@@ -1,4 +1,5 @@
--- Lists, tests, numbers, and sets of finitely many names: what is among them, and the least set that keeps a list of rules.
+-- Lists, tests, numbers, and sets of finitely many names: what is among them, and the least set that keeps a list of
+-- rules.
 pub mod Finite
 pub mod Lists
 pub mod Least

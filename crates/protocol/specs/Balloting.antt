@@ -91,7 +91,8 @@ accept_prepared seen b w =
 -- ---- confirmed as prepared, in PREPARE
 -- the greatest of the highest confirmed ballot and the named ballots whose prepare is confirmed
 unfoldable pub raise_confirmed_prepared : Seen → Votes → Votes
-raise_confirmed_prepared seen w = record w { confirmed_prepared = greatest w.confirmed_prepared (filter (is_confirmed seen w) (named seen w)) }
+raise_confirmed_prepared seen w =
+    record w { confirmed_prepared = greatest w.confirmed_prepared (filter (is_confirmed seen w) (named seen w)) }
 
 -- the ballot is never below the highest confirmed one
 abbrev pub at_least : Option Ballot → Ballot → Ballot

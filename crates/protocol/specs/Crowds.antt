@@ -25,7 +25,8 @@ pub record IsFirstOutside (R : Names) (names : List ℕ) (u : ℕ) : Type 0 wher
 
 -- Of two networks, by their configurations, by the journal of the first and by what was submitted to each of them: the
 -- first that applies, in this order.
-abbrev pub IsCrowdOf : List HostedNode → List HostedNode → Option Config → Option Config → List Entry → List Answer → List Answer
+abbrev pub IsCrowdOf : List HostedNode → List HostedNode → Option Config → Option Config → List Entry → List Answer
+    → List Answer
     → ℕ → ℕ → Crowd → Type 0
 IsCrowdOf one other config configs run xs ys i v (CastDiffers u) = IsFirstUnlike (closure one i v run) v one other u
 IsCrowdOf one other config configs run xs ys i v RosterDiffers =

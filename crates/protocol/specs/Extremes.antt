@@ -38,7 +38,8 @@ pub record IsLowest (test : ℕ → Bool) (x : List ℕ) (low : ℕ) (ts : List 
 
 -- what the rules call the lowest counter is that
 abbrev pub LowestIsExact : Type 0
-LowestIsExact = (test : ℕ → Bool) (x : List ℕ) (low : ℕ) (ts : List Ballot) → IsLowest test x low ts (lowest test x low ts)
+LowestIsExact =
+    (test : ℕ → Bool) (x : List ℕ) (low : ℕ) (ts : List Ballot) → IsLowest test x low ts (lowest test x low ts)
 
 -- from n on the first number that passes, or n + fuel where none before it does
 pub record IsLeastFrom (test : ℕ → Bool) (fuel n found : ℕ) : Type 0 where

@@ -105,7 +105,8 @@ AreNamedOnce hosts = (h : HostedNode) → Contains hosts h → slices_of hosts h
 -- Where the casts are the same and so are the kept steps, the closure of v is the same set of names in both worlds,
 -- whatever entries they have: those of two runs, or of a network in two histories.
 abbrev pub SameClosures : Type 0
-SameClosures = (one other : List HostedNode) (runs others : List Entry) (i v : ℕ) → AreNamedOnce one → AreNamedOnce other →
+SameClosures =
+    (one other : List HostedNode) (runs others : List Entry) (i v : ℕ) → AreNamedOnce one → AreNamedOnce other →
     let R = closure one i v runs in
     SameCast R v one other → kept_of R i runs ≡ kept_of R i others
     → (u : ℕ) → closure other i v others u ≡ R u

@@ -87,7 +87,10 @@ at_next_counter w (Some b) = record w { ballot = Some (ballot_at_counter w b (b.
 
 -- one more ballot timer has fired, and the ballot is one counter up
 abbrev pub with_timeout : Node → Node
-with_timeout n = record n { inputs = record n.inputs { ballot_timeouts = n.inputs.ballot_timeouts + 1 }; votes = at_next_counter n.votes n.votes.ballot }
+with_timeout n = record n {
+  inputs = record n.inputs { ballot_timeouts = n.inputs.ballot_timeouts + 1 };
+  votes = at_next_counter n.votes n.votes.ballot;
+}
 
 -- from now on these are the configured slices; all else is as it was, its leaders too
 abbrev pub with_slices : Node → Slices → Node

@@ -45,4 +45,5 @@ confirm_values seen w = record w { confirms = all_with (filter (is_value_confirm
 
 -- The rules of nomination, in order, each with what the one before it made; while no ballot is confirmed as prepared.
 unfoldable pub nominate : ℕ → Seen → Inputs → Votes → Votes
-nominate own seen g w = if is_none w.confirmed_prepared then confirm_values seen (accept_values seen (echo own seen g w)) else w
+nominate own seen g w =
+    if is_none w.confirmed_prepared then confirm_values seen (accept_values seen (echo own seen g w)) else w

@@ -26,7 +26,8 @@ use Rattle.types.specs.declared.subject.Subject.{Subject}
 
 -- the whole answer is written, with 1 for a difference, or a write failed
 abbrev pub IsPrinted : Answer → Option Bytes → Option Bytes → ℕ → Type 0
-IsPrinted a old new status = ((status ≡ (if a.differs then 1 else 0)) × Appends old new (string_bytes a.text)) ⊎ (status ≡ 4)
+IsPrinted a old new status =
+    ((status ≡ (if a.differs then 1 else 0)) × Appends old new (string_bytes a.text)) ⊎ (status ≡ 4)
 
 -- nothing is written: a script is at fault, or there was no memory; or a write failed
 abbrev pub IsGivenUp : Option Bytes → Option Bytes → ℕ → Type 0
@@ -38,7 +39,8 @@ HasAnswered P old new status = ((a : Answer) × P a × IsPrinted a old new statu
 
 -- the answer is the report of a node after a script
 abbrev pub IsReported : Format → Subject → Option Bytes → Answer → Type 0
-IsReported format subject script a = (story : Story) × IsTold false script story × IsReport format subject story.run.hosting.logs a
+IsReported format subject script a =
+    (story : Story) × IsTold false script story × IsReport format subject story.run.hosting.logs a
 
 -- the answer compares what becomes of the networks of two scripts, in this order
 abbrev pub IsCompared : Bool → Subject → Option Bytes → Option Bytes → Answer → Type 0
@@ -56,36 +58,53 @@ IsPooled workers script a =
     (plan : Plan) × IsPlannedBy script plan × (a.differs ≡ false)
     × IsPoolText plan.submitted.history.configs plan.submitted.history.calls plan.opens workers (string_bytes a.text)
 
--- the lines of a script are run in order, from this state on, and what they print is written; the status says how the run ended
-abbrev pub HasRunLines : {S : Type 0} → Telling S → Refusing S → S → Option Bytes → Option Bytes → Option Bytes → ℕ → Type 0
+-- the lines of a script are run in order, from this state on, and what they print is written; the status says how the
+-- run ended
+abbrev pub HasRunLines : {S : Type 0} → Telling S → Refusing S → S → Option Bytes → Option Bytes → Option Bytes → ℕ
+    → Type 0
 HasRunLines {S = S} tells refuses start script old new status =
-    (end : Result (Unit {0}) Stop) × (last : S) × IsStatusOf end status × HasRunScript tells refuses start script old new end last
+    (end : Result (Unit {0}) Stop) × (last : S) × IsStatusOf end status
+    × HasRunScript tells refuses start script old new end last
 
 -- what a call does with its files: it runs the lines of one, or prints the answer
 abbrev pub IsPerformed : Call → Option Bytes → Option Bytes → Option Bytes → Option Bytes → ℕ → Type 0
-IsPerformed (Table file) first second old new status = HasRunLines TableLines.Tells TableLines.Refuses None first old new status
-IsPerformed (Run script None) first second old new status = HasRunLines Running.Tells Running.RefusesLine unhosted first old new status
-IsPerformed (Run script (Some workers)) first second old new status = HasAnswered (IsPooled workers first) old new status
-IsPerformed (Closure script subject format) first second old new status = HasAnswered (IsReported format subject first) old new status
-IsPerformed (Compare one other subject explain) first second old new status = HasAnswered (IsCompared explain subject first second) old new status
-IsPerformed (Crowd one other subject) first second old new status = HasAnswered (IsCrowd subject first second) old new status
+IsPerformed (Table file) first second old new status =
+    HasRunLines TableLines.Tells TableLines.Refuses None first old new status
+IsPerformed (Run script None) first second old new status =
+    HasRunLines Running.Tells Running.RefusesLine unhosted first old new status
+IsPerformed (Run script (Some workers)) first second old new status =
+    HasAnswered (IsPooled workers first) old new status
+IsPerformed (Closure script subject format) first second old new status =
+    HasAnswered (IsReported format subject first) old new status
+IsPerformed (Compare one other subject explain) first second old new status =
+    HasAnswered (IsCompared explain subject first second) old new status
+IsPerformed (Crowd one other subject) first second old new status =
+    HasAnswered (IsCrowd subject first second) old new status
 
 -- the same of lines each of which is answered before the next one is read
-abbrev pub HasRunAsTheyCome : {S : Type 0} → Telling S → Refusing S → S → Option Bytes → Option Bytes → Option Bytes → ℕ → Type 0
+abbrev pub HasRunAsTheyCome : {S : Type 0} → Telling S → Refusing S → S → Option Bytes → Option Bytes → Option Bytes → ℕ
+    → Type 0
 HasRunAsTheyCome {S = S} tells refuses start input old new status =
-    (end : Result (Unit {0}) Stop) × (last : S) × IsStatusOf end status × HasRunStream longest_script tells refuses start input old new end last
+    (end : Result (Unit {0}) Stop) × (last : S) × IsStatusOf end status
+    × HasRunStream longest_script tells refuses start input old new end last
 
 -- what a call does with the standard input: it runs its lines as they come, or is performed on all of it
 abbrev pub IsPerformedAsItComes : Call → Option Bytes → Option Bytes → Option Bytes → ℕ → Type 0
-IsPerformedAsItComes (Table file) input old new status = HasRunAsTheyCome TableLines.Tells TableLines.Refuses None input old new status
-IsPerformedAsItComes (Run script None) input old new status = HasRunAsTheyCome Running.Tells Running.RefusesLine unhosted input old new status
-IsPerformedAsItComes (Run script (Some workers)) input old new status = IsPerformed (Run script (Some workers)) input (Some []) old new status
-IsPerformedAsItComes (Closure script subject format) input old new status = IsPerformed (Closure script subject format) input (Some []) old new status
-IsPerformedAsItComes (Compare one other subject explain) input old new status = IsPerformed (Compare one other subject explain) input (Some []) old new status
-IsPerformedAsItComes (Crowd one other subject) input old new status = IsPerformed (Crowd one other subject) input (Some []) old new status
+IsPerformedAsItComes (Table file) input old new status =
+    HasRunAsTheyCome TableLines.Tells TableLines.Refuses None input old new status
+IsPerformedAsItComes (Run script None) input old new status =
+    HasRunAsTheyCome Running.Tells Running.RefusesLine unhosted input old new status
+IsPerformedAsItComes (Run script (Some workers)) input old new status =
+    IsPerformed (Run script (Some workers)) input (Some []) old new status
+IsPerformedAsItComes (Closure script subject format) input old new status =
+    IsPerformed (Closure script subject format) input (Some []) old new status
+IsPerformedAsItComes (Compare one other subject explain) input old new status =
+    IsPerformed (Compare one other subject explain) input (Some []) old new status
+IsPerformedAsItComes (Crowd one other subject) input old new status =
+    IsPerformed (Crowd one other subject) input (Some []) old new status
 
--- what answers words that are no call: help is printed whole, or a write failed (4); else nothing is printed, and the words are
--- at fault (2), or there was no memory (3)
+-- what answers words that are no call: help is printed whole, or a write failed (4); else nothing is printed, and the
+-- words are at fault (2), or there was no memory (3)
 abbrev pub HasAnsweredUsage : Usage → Option Bytes → Option Bytes → ℕ → Type 0
 HasAnsweredUsage (Help text) old new status = ((status ≡ 0) × Appends old new (string_bytes text)) ⊎ (status ≡ 4)
 HasAnsweredUsage (Bad text) old new status = (status ≡ 2) × Keeps old new

@@ -11,7 +11,8 @@ use Rattle.runs.specs.Putting.{IsCompletePlan, Puts, RefusesToPut}
 use Rattle.runs.specs.Submitting.{IsComplete, RefusesToSubmit, Submits, Submitting, unsubmitted}
 
 -- all lines of a text are run in order, and none is bad
-pub record HaveRun {S : Type 0} (tells : Telling S) (refuses : Refusing S) (start : S) (text : Bytes) (end : S) : Type 0 where
+pub record HaveRun {S : Type 0} (tells : Telling S) (refuses : Refusing S) (start : S) (text : Bytes) (end : S)
+    : Type 0 where
   pub lines : List Bytes
   pub printed : Bytes
   pub are_lines : AreLines text lines
@@ -48,7 +49,9 @@ IsTold traced file story = IsTextOf file story.text × HasEnded (start_of traced
 
 -- the line with a number, counted from 0, among those of a text that are run: neither empty lines nor comments are
 abbrev pub IsLineOf : Bytes → ℕ → Option (ℕ × Bytes) → Type 0
-IsLineOf text k line = (lines : List Bytes) × AreLines text lines × (line ≡ slice_get (filter (λ l. not (is_no_record l.1)) (enumerate_from 1 lines)) k)
+IsLineOf text k line =
+    (lines : List Bytes) × AreLines text lines
+    × (line ≡ slice_get (filter (λ l. not (is_no_record l.1)) (enumerate_from 1 lines)) k)
 
 -- the line that an entry comes from
 abbrev pub IsLineAt : Bytes → Option ℕ → Option (ℕ × Bytes) → Type 0
@@ -57,7 +60,8 @@ IsLineAt text (Some k) line = IsLineOf text k line
 
 -- ---- for what is submitted
 
--- the lines of a file are run in order, and after the last one the networks that are declared with nodes have been declared
+-- the lines of a file are run in order, and after the last one the networks that are declared with nodes have been
+-- declared
 pub record IsSubmittedBy (file : Option Bytes) (run : Submitting) : Type 0 where
   pub text : Bytes
   pub is_text : IsTextOf file text
@@ -67,7 +71,8 @@ pub record IsSubmittedBy (file : Option Bytes) (run : Submitting) : Type 0 where
 
 -- ---- for the jobs of a pool
 
--- the lines of a file are read in order, and after the last one the networks that are declared with nodes have been declared
+-- the lines of a file are read in order, and after the last one the networks that are declared with nodes have been
+-- declared
 pub record IsPlannedBy (file : Option Bytes) (plan : Plan) : Type 0 where
   pub text : Bytes
   pub is_text : IsTextOf file text

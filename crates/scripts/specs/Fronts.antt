@@ -49,12 +49,14 @@ member_front inner text = member_with (inner text) (word_name (plain_part text))
 -- further members behind a comma (44), or none where the closing bracket (93) follows
 abbrev pub with_more : Member → Bytes → (Bytes → Option (List Member × Bytes)) → Option (List Member × Bytes)
 with_more m [] more = None
-with_more m (b ∷ rest) more = if b == 44 then option_map (λ r. (m ∷ r.0, r.1)) (more rest) else if b == 93 then Some (m ∷ [], rest) else None
+with_more m (b ∷ rest) more =
+    if b == 44 then option_map (λ r. (m ∷ r.0, r.1)) (more rest) else if b == 93 then Some (m ∷ [], rest) else None
 
 -- at most so many members, up to the closing bracket
 abbrev pub members_front : SetReader → ℕ → Bytes → Option (List Member × Bytes)
 members_front inner zero text = None
-members_front inner (suc room) text = option_and_then (λ r. with_more r.0 r.1 (members_front inner room)) (member_front inner text)
+members_front inner (suc room) text =
+    option_and_then (λ r. with_more r.0 r.1 (members_front inner room)) (member_front inner text)
 
 -- at most 64
 unfoldable pub members_in : SetReader → Bytes → Option (List Member × Bytes)
@@ -65,7 +67,8 @@ set_of k ms = record { threshold = k; members = members_of ms }
 
 -- a set of at most 64 members, whose inner sets are read so
 abbrev pub set_front : SetReader → SetReader
-set_front inner text = option_and_then (λ t. option_map (λ r. (set_of t.0 r.0, r.1)) (members_in inner t.1)) (threshold_front text)
+set_front inner text =
+    option_and_then (λ t. option_map (λ r. (set_of t.0 r.0, r.1)) (members_in inner t.1)) (threshold_front text)
 
 -- a set where so many levels of sets may be, none for 0
 abbrev pub inner_front : ℕ → SetReader

@@ -11,7 +11,9 @@ use Rattle.scripts.specs.Values.{is_plain, is_lower_hex}
 
 -- the 32 bytes of a name: four words of 64 bits
 unfoldable pub bytes_of_name : ℕ → Bytes
-bytes_of_name u = to_be_bytes w64 (u / 2 ^ 192) ++ (to_be_bytes w64 (u / 2 ^ 128 % 2 ^ 64) ++ (to_be_bytes w64 (u / 2 ^ 64 % 2 ^ 64) ++ to_be_bytes w64 (u % 2 ^ 64)))
+bytes_of_name u =
+    to_be_bytes w64 (u / 2 ^ 192)
+    ++ (to_be_bytes w64 (u / 2 ^ 128 % 2 ^ 64) ++ (to_be_bytes w64 (u / 2 ^ 64 % 2 ^ 64) ++ to_be_bytes w64 (u % 2 ^ 64)))
 
 -- the number of the eight bytes from a place on
 abbrev pub long_at : Bytes → ℕ → ℕ
@@ -19,7 +21,8 @@ long_at bytes from = from_be_bytes w64 (take 8 (drop from bytes))
 
 -- the name of 32 bytes
 unfoldable pub name_of_bytes : Bytes → ℕ
-name_of_bytes bytes = long_at bytes 0 * 2 ^ 192 + long_at bytes 8 * 2 ^ 128 + long_at bytes 16 * 2 ^ 64 + long_at bytes 24
+name_of_bytes bytes =
+    long_at bytes 0 * 2 ^ 192 + long_at bytes 8 * 2 ^ 128 + long_at bytes 16 * 2 ^ 64 + long_at bytes 24
 
 -- ---- printed
 
@@ -61,8 +64,8 @@ octets_in word =
     else if (length word == 1) && (slice_index word 0 == 45) then Some []
     else digits_bytes word
 
--- the bytes of the name that a word spells: 64 lower-case hexadecimal digits, or one to 32 letters or digits, which stand for themselves with
--- zero bytes after them
+-- the bytes of the name that a word spells: 64 lower-case hexadecimal digits, or one to 32 letters or digits, which
+-- stand for themselves with zero bytes after them
 abbrev pub word_bytes : Bytes → Option Bytes
 word_bytes word =
     if length word == 64 then digits_bytes word

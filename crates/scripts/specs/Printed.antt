@@ -60,7 +60,8 @@ behind_comma n = 44 ∷ decimal n
 -- the fields of a statement, each after a comma but for the first, and a bar (124) between voted and accepted values
 abbrev pub fields_of_statement : Statement → Bytes
 fields_of_statement (Nominate voted accepted) = text_of_values voted ++ 124 ∷ text_of_values accepted
-fields_of_statement (Prepare b p a h c) = text_of_ballot b ++ 44 ∷ (text_of_optional p ++ (behind_comma a ++ (behind_comma h ++ behind_comma c)))
+fields_of_statement (Prepare b p a h c) =
+    text_of_ballot b ++ 44 ∷ (text_of_optional p ++ (behind_comma a ++ (behind_comma h ++ behind_comma c)))
 fields_of_statement (Commit b p h c) = text_of_ballot b ++ (behind_comma p ++ (behind_comma h ++ behind_comma c))
 fields_of_statement (Externalize b h) = text_of_ballot b ++ behind_comma h
 

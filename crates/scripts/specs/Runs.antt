@@ -22,25 +22,31 @@ on_a_line (Some text) = text ++ 10 ∷ []
 -- a line is run: it writes this, and leaves that state
 pub data Passes {S : Type 0} (tells : Telling S) : S → Bytes → Bytes → S → Type 0 where
   skipped : {s : S} {line : Bytes} → IsSkipped line → Passes tells s line [] s
-  told : {s t : S} {line : Bytes} {fields : List Bytes} {printed : Option Bytes} → AreFields line fields → tells s fields printed t
+  told : {s t : S} {line : Bytes} {fields : List Bytes} {printed : Option Bytes} → AreFields line fields
+      → tells s fields printed t
       → Passes tells s line (on_a_line printed) t
 
 -- a line is bad
 pub data Fails {S : Type 0} (refuses : Refusing S) : S → Bytes → Type 0 where
   no_fields : {s : S} {line : Bytes} → IsBad line → Fails refuses s line
-  refused : {s : S} {line : Bytes} {fields : List Bytes} → AreFields line fields → refuses s fields → Fails refuses s line
+  refused : {s : S} {line : Bytes} {fields : List Bytes} → AreFields line fields → refuses s fields
+      → Fails refuses s line
 
--- a run of numbered lines: what it writes, how it ends and the state that it leaves. It goes on to the first bad line, and names it.
--- Want of memory may end it before any line, and then nothing is said of the state.
-pub data Runs {S : Type 0} (tells : Telling S) (refuses : Refusing S) : S → List (ℕ × Bytes) → Bytes → Result (Unit {0}) Stop → S → Type 0 where
+-- a run of numbered lines: what it writes, how it ends and the state that it leaves. It goes on to the first bad line,
+-- and names it. Want of memory may end it before any line, and then nothing is said of the state.
+pub data Runs {S : Type 0} (tells : Telling S) (refuses : Refusing S) : S → List (ℕ × Bytes) → Bytes → Result
+    (Unit {0}) Stop → S → Type 0 where
   ends : {s : S} → Runs tells refuses s [] [] (Ok tt) s
   next : {s t u : S} {n : ℕ} {line : Bytes} {more : List (ℕ × Bytes)} {written others : Bytes} {end : Result (Unit {0}) Stop}
-      → Passes tells s line written t → Runs tells refuses t more others end u → Runs tells refuses s ((n, line) ∷ more) (written ++ others) end u
-  bad : {s t : S} {n : ℕ} {line : Bytes} {more : List (ℕ × Bytes)} → Fails refuses s line → Runs tells refuses s ((n, line) ∷ more) [] (Err (stop.BadLine n)) t
+      → Passes tells s line written t → Runs tells refuses t more others end u
+      → Runs tells refuses s ((n, line) ∷ more) (written ++ others) end u
+  bad : {s t : S} {n : ℕ} {line : Bytes} {more : List (ℕ × Bytes)} → Fails refuses s line
+      → Runs tells refuses s ((n, line) ∷ more) [] (Err (stop.BadLine n)) t
   short : {s t : S} {lines : List (ℕ × Bytes)} → Runs tells refuses s lines [] (Err stop.NoMemory) t
 
 -- the lines of a text were run, and a writer took what they print
-pub record HasRun {S : Type 0} (tells : Telling S) (refuses : Refusing S) (s : S) (text : Bytes) (old new : Option Bytes) (end : Result (Unit {0}) Stop) (t : S) : Type 0 where
+pub record HasRun {S : Type 0} (tells : Telling S) (refuses : Refusing S) (s : S) (text : Bytes)
+    (old new : Option Bytes) (end : Result (Unit {0}) Stop) (t : S) : Type 0 where
   pub lines : List Bytes
   pub printed : Bytes
   pub are_lines : AreLines text lines
@@ -48,8 +54,10 @@ pub record HasRun {S : Type 0} (tells : Telling S) (refuses : Refusing S) (s : S
   pub written : Appends old new printed
 
 -- one numbered line was run so, and a writer took what it prints
-abbrev pub HasRunLine : {S : Type 0} → Telling S → Refusing S → S → ℕ → Bytes → Option Bytes → Option Bytes → Result (Unit {0}) Stop → S → Type 0
-HasRunLine tells refuses s n line old new (Ok _) t = (written : Bytes) × Passes tells s line written t × Appends old new written
+abbrev pub HasRunLine : {S : Type 0} → Telling S → Refusing S → S → ℕ → Bytes → Option Bytes → Option Bytes
+    → Result (Unit {0}) Stop → S → Type 0
+HasRunLine tells refuses s n line old new (Ok _) t =
+    (written : Bytes) × Passes tells s line written t × Appends old new written
 HasRunLine tells refuses s n line old new (Err (stop.BadLine m)) t = (m ≡ n) × Fails refuses s line × Keeps old new
 HasRunLine tells refuses s n line old new (Err stop.NoMemory) t = Keeps old new
 HasRunLine tells refuses s n line old new (Err stop.CannotWrite) t = Unit {0}
@@ -57,16 +65,21 @@ HasRunLine tells refuses s n line old new (Err stop.CannotRead) t = ⊥
 HasRunLine tells refuses s n line old new (Err stop.TooLong) t = ⊥
 
 -- a text was run so; where a write failed, nothing is said of what was written
-abbrev pub HasRunText : {S : Type 0} → Telling S → Refusing S → S → Bytes → Option Bytes → Option Bytes → Result (Unit {0}) Stop → S → Type 0
+abbrev pub HasRunText : {S : Type 0} → Telling S → Refusing S → S → Bytes → Option Bytes → Option Bytes
+    → Result (Unit {0}) Stop → S → Type 0
 HasRunText tells refuses s text old new (Ok r) t = HasRun tells refuses s text old new (Ok r) t
-HasRunText tells refuses s text old new (Err (stop.BadLine n)) t = HasRun tells refuses s text old new (Err (stop.BadLine n)) t
-HasRunText tells refuses s text old new (Err stop.NoMemory) t = HasRun tells refuses s text old new (Err stop.NoMemory) t
+HasRunText tells refuses s text old new (Err (stop.BadLine n)) t =
+    HasRun tells refuses s text old new (Err (stop.BadLine n)) t
+HasRunText tells refuses s text old new (Err stop.NoMemory) t =
+    HasRun tells refuses s text old new (Err stop.NoMemory) t
 HasRunText tells refuses s text old new (Err stop.CannotWrite) t = Unit {0}
 HasRunText tells refuses s text old new (Err stop.CannotRead) t = ⊥
 HasRunText tells refuses s text old new (Err stop.TooLong) t = ⊥
 
 -- a script was run so, which is this text where it is known; one that could not be read, or is too long, ran no line
-abbrev pub HasRunScript : {S : Type 0} → Telling S → Refusing S → S → Option Bytes → Option Bytes → Option Bytes → Result (Unit {0}) Stop → S → Type 0
+abbrev pub HasRunScript : {S : Type 0} → Telling S → Refusing S → S → Option Bytes → Option Bytes → Option Bytes
+    → Result (Unit {0}) Stop → S → Type 0
 HasRunScript tells refuses s script old new (Err stop.CannotRead) t = Keeps old new × (t ≡ s)
 HasRunScript tells refuses s script old new (Err stop.TooLong) t = Keeps old new × (t ≡ s)
-HasRunScript tells refuses s script old new end t = (text : Bytes) × IfSome script (λ left. text ≡ left) × HasRunText tells refuses s text old new end t
+HasRunScript tells refuses s script old new end t =
+    (text : Bytes) × IfSome script (λ left. text ≡ left) × HasRunText tells refuses s text old new end t

@@ -6,12 +6,15 @@ use Rattle.scripts.specs.Names.{word_name}
 use Rattle.scripts.specs.Words.{word_threshold}
 use Rattle.scripts.specs.Printed.{text_of_slices}
 
--- the text spells these members, each with a comma (44) before it: a name, or a threshold and in brackets (91 and 93) again members
+-- the text spells these members, each with a comma (44) before it: a name, or a threshold and in brackets (91 and 93)
+-- again members
 pub data SpellsMembers : Members → Bytes → Type 0 where
   nobody : SpellsMembers none []
-  name : {u : ℕ} {rest : Members} {text : Bytes} (word more : Bytes) → text ≡ 44 ∷ (word ++ more) → word_name word ≡ Some u → SpellsMembers rest more
+  name : {u : ℕ} {rest : Members} {text : Bytes} (word more : Bytes) → text ≡ 44 ∷ (word ++ more)
+      → word_name word ≡ Some u → SpellsMembers rest more
       → SpellsMembers (node u rest) text
-  set : {k : ℕ} {own rest : Members} {text : Bytes} (digits inside more : Bytes) → text ≡ 44 ∷ (digits ++ 91 ∷ (inside ++ 93 ∷ more)) → word_threshold digits ≡ Some k
+  set : {k : ℕ} {own rest : Members} {text : Bytes} (digits inside more : Bytes)
+      → text ≡ 44 ∷ (digits ++ 91 ∷ (inside ++ 93 ∷ more)) → word_threshold digits ≡ Some k
       → SpellsMembers own (44 ∷ inside) → SpellsMembers rest more → SpellsMembers (inner k own rest) text
 
 -- the word spells these slices: a threshold, and in brackets the members with a comma between each and the next
@@ -29,7 +32,8 @@ AreSlices word None = (q : Slices) → SpellsSlices q word → ¬ (IsNested q)
 
 -- a word spells no two slices that keep the rules
 abbrev pub SlicesSpelledOnce : Type 0
-SlicesSpelledOnce = (p q : Slices) (word : Bytes) → SpellsSlices p word → IsNested p → SpellsSlices q word → IsNested q → p ≡ q
+SlicesSpelledOnce =
+    (p q : Slices) (word : Bytes) → SpellsSlices p word → IsNested p → SpellsSlices q word → IsNested q → p ≡ q
 
 -- slices are what their printed word is read as
 abbrev pub SlicesReadBack : Type 0

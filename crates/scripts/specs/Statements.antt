@@ -25,7 +25,8 @@ behind head word = if pointwise nat_eq (take (length head) word) head then Some 
 
 -- what stands before a closing bracket (41) at the end
 abbrev pub before_bracket : Bytes → Option Bytes
-before_bracket text = if pointwise nat_eq (drop (length text - 1) text) (41 ∷ []) then Some (take (length text - 1) text) else None
+before_bracket text =
+    if pointwise nat_eq (drop (length text - 1) text) (41 ∷ []) then Some (take (length text - 1) text) else None
 
 -- what stands between a front and a closing bracket at the end
 abbrev pub enclosed : Bytes → Bytes → Option Bytes
@@ -52,7 +53,8 @@ abbrev pub nomination : Option (List Bytes) → Option (List Bytes) → Option S
 nomination voted accepted = option_and_then (λ v. option_map (λ a. Nominate v a) accepted) voted
 
 abbrev pub prepare : Option (ℕ × ℕ × ℕ) → Option Ballot → Option (Option Ballot) → Option Statement
-prepare counters ballot prepared = option_and_then (λ n. option_and_then (λ b. option_map (λ p. Prepare b p n.0 n.1 n.2) prepared) ballot) counters
+prepare counters ballot prepared =
+    option_and_then (λ n. option_and_then (λ b. option_map (λ p. Prepare b p n.0 n.1 n.2) prepared) ballot) counters
 
 abbrev pub commit : Option (ℕ × ℕ × ℕ) → Option Ballot → Option Statement
 commit counters ballot = option_and_then (λ n. option_map (λ b. Commit b n.0 n.1 n.2) ballot) counters
@@ -66,7 +68,8 @@ nomination_in fields = option_and_then (λ w. nomination (word_values w.0) (word
 
 -- the ballot, the prepared one, and three counters
 abbrev pub prepare_in : Bytes → Option Statement
-prepare_in fields = option_and_then (λ w. prepare (three_counters w.2) (word_ballot w.0) (word_optional w.1)) (split_twice 44 fields)
+prepare_in fields =
+    option_and_then (λ w. prepare (three_counters w.2) (word_ballot w.0) (word_optional w.1)) (split_twice 44 fields)
 
 -- the ballot and three counters
 abbrev pub commit_in : Bytes → Option Statement
@@ -88,7 +91,8 @@ of_kinds None None None None = None
 
 -- the statement that a word spells: the word of its kind, and in brackets its fields
 abbrev pub word_statement : Bytes → Option Statement
-word_statement word = of_kinds (enclosed (codes "nom(") word) (enclosed (codes "prep(") word) (enclosed (codes "comm(") word) (enclosed (codes "ext(") word)
+word_statement word =
+    of_kinds (enclosed (codes "nom(") word) (enclosed (codes "prep(") word) (enclosed (codes "comm(") word) (enclosed (codes "ext(") word)
 
 -- ---- read back
 

@@ -25,22 +25,32 @@ pub record IsFrontOf (text script : Bytes) : Type 0 where
   pub whole : IsWhole text ⊎ (rest ≡ [])
 
 -- what was read is lines of a script, all of which were run
-abbrev pub HasRunFront : {S : Type 0} → ℕ → Telling S → Refusing S → S → Option Bytes → Option Bytes → Option Bytes → S → Type 0
+abbrev pub HasRunFront : {S : Type 0} → ℕ → Telling S → Refusing S → S → Option Bytes → Option Bytes → Option Bytes → S
+    → Type 0
 HasRunFront limit tells refuses s script old new t =
-    (text : Bytes) × IfSome script (λ left. IsFrontOf text left) × (length text ≤ limit) × IsWhole text × HasRun tells refuses s text old new (Ok tt) t
+    (text : Bytes) × IfSome script (λ left. IsFrontOf text left) × (length text ≤ limit) × IsWhole text
+    × HasRun tells refuses s text old new (Ok tt) t
 
 -- a run ended early, at what was read
-abbrev pub HasRunRead : {S : Type 0} → ℕ → Telling S → Refusing S → S → Option Bytes → Option Bytes → Option Bytes → Stop → S → Type 0
+abbrev pub HasRunRead : {S : Type 0} → ℕ → Telling S → Refusing S → S → Option Bytes → Option Bytes → Option Bytes
+    → Stop → S → Type 0
 HasRunRead limit tells refuses s script old new why t =
-    (text : Bytes) × IfSome script (λ left. IsFrontOf text left) × (length text ≤ limit) × HasRun tells refuses s text old new (Err why) t
+    (text : Bytes) × IfSome script (λ left. IsFrontOf text left) × (length text ≤ limit)
+    × HasRun tells refuses s text old new (Err why) t
 
--- a script of so many bytes at most was run line by line as it was read. Where a read failed, or the script is too long, the lines before were
--- run; where a write failed, nothing is said.
-abbrev pub HasRunStream : {S : Type 0} → ℕ → Telling S → Refusing S → S → Option Bytes → Option Bytes → Option Bytes → Result (Unit {0}) Stop → S → Type 0
+-- a script of so many bytes at most was run line by line as it was read. Where a read failed, or the script is too
+-- long, the lines before were run; where a write failed, nothing is said.
+abbrev pub HasRunStream : {S : Type 0} → ℕ → Telling S → Refusing S → S → Option Bytes → Option Bytes → Option Bytes
+    → Result (Unit {0}) Stop → S → Type 0
 HasRunStream limit tells refuses s script old new (Ok r) t =
-    (text : Bytes) × IfSome script (λ left. text ≡ left) × (length text ≤ limit) × HasRun tells refuses s text old new (Ok r) t
-HasRunStream limit tells refuses s script old new (Err (stop.BadLine n)) t = HasRunRead limit tells refuses s script old new (stop.BadLine n) t
-HasRunStream limit tells refuses s script old new (Err stop.NoMemory) t = HasRunRead limit tells refuses s script old new stop.NoMemory t
+    (text : Bytes) × IfSome script (λ left. text ≡ left) × (length text ≤ limit)
+    × HasRun tells refuses s text old new (Ok r) t
+HasRunStream limit tells refuses s script old new (Err (stop.BadLine n)) t =
+    HasRunRead limit tells refuses s script old new (stop.BadLine n) t
+HasRunStream limit tells refuses s script old new (Err stop.NoMemory) t =
+    HasRunRead limit tells refuses s script old new stop.NoMemory t
 HasRunStream limit tells refuses s script old new (Err stop.CannotWrite) t = Unit {0}
-HasRunStream limit tells refuses s script old new (Err stop.CannotRead) t = HasRunFront limit tells refuses s script old new t
-HasRunStream limit tells refuses s script old new (Err stop.TooLong) t = HasRunFront limit tells refuses s script old new t
+HasRunStream limit tells refuses s script old new (Err stop.CannotRead) t =
+    HasRunFront limit tells refuses s script old new t
+HasRunStream limit tells refuses s script old new (Err stop.TooLong) t =
+    HasRunFront limit tells refuses s script old new t

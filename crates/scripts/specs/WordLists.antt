@@ -5,4 +5,5 @@ use Rattle.scripts.specs.Script.{Bytes}
 -- what the words spell, where each spells something
 abbrev pub each_word : {A : Type 0} → (Bytes → Option A) → List Bytes → Option (List A)
 each_word spelled [] = Some []
-each_word spelled (word ∷ more) = option_and_then (λ x. option_map (λ xs. x ∷ xs) (each_word spelled more)) (spelled word)
+each_word spelled (word ∷ more) =
+    option_and_then (λ x. option_map (λ xs. x ∷ xs) (each_word spelled more)) (spelled word)

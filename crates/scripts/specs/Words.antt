@@ -15,7 +15,8 @@ split_once at text = option_map (λ n. (take n text, drop (n + 1) text)) (positi
 
 -- decimal digits, of which the first is no 0 where there are several
 abbrev pub is_decimal : Bytes → Bool
-is_decimal word = (nat_lt 0 (length word) && list_all is_digit word) && (nat_le (length word) 1 || not (slice_index word 0 == 48))
+is_decimal word =
+    (nat_lt 0 (length word) && list_all is_digit word) && (nat_le (length word) 1 || not (slice_index word 0 == 48))
 
 -- the number that a word spells, where it is below a bound
 abbrev pub word_number : ℕ → Bytes → Option ℕ

@@ -15,4 +15,5 @@ pub record HeardRows : Type 0 where
 
 -- the node is in a quorum whose ballot rows all vote for or accept that the ballot is prepared
 abbrev pub IsBacked : HeardRows → Ballot → Type 0
-IsBacked h b = HasQuorum sat (slices_by h.configured.name h.configured.slices h.rows Kind.Ballot) (backing_prepare h.rows b) h.configured.name
+IsBacked h b =
+    HasQuorum sat (slices_by h.configured.name h.configured.slices h.rows Kind.Ballot) (backing_prepare h.rows b) h.configured.name

@@ -27,13 +27,16 @@ entries_in (Some l) = l.entries
 
 -- A verdict is right of what two worlds have of a network, for the closure of v at slot i in the first.
 abbrev pub IsVerdictOn : Option Log → Option Log → ℕ → ℕ → Verdict → Type 0
-IsVerdictOn one other i v verdict = verdicts.IsVerdict (hosts_in one) (hosts_in other) (entries_in one) (entries_in other) i v (meant verdict)
+IsVerdictOn one other i v verdict =
+    verdicts.IsVerdict (hosts_in one) (hosts_in other) (entries_in one) (entries_in other) i v (meant verdict)
 
 -- It is right of a network in two histories, whose bytes are read as the codec reads them.
 abbrev pub IsVerdictBetween : History → History → ℕ → ℕ → ℕ → Verdict → Type 0
-IsVerdictBetween h k g i v verdict = verdicts.IsVerdict (hosts_of h.configs g) (hosts_of k.configs g) (entries reading h g) (entries reading k g) i v (meant verdict)
+IsVerdictBetween h k g i v verdict =
+    verdicts.IsVerdict (hosts_of h.configs g) (hosts_of k.configs g) (entries reading h g) (entries reading k g) i v (meant verdict)
 
--- Where both worlds have the same cast for the closure of v in the first, and the same kept steps, each member gave out the same in both.
+-- Where both worlds have the same cast for the closure of v in the first, and the same kept steps, each member gave out
+-- the same in both.
 abbrev pub AreIsolated : Option Log → Option Log → ℕ → ℕ → Type 0
 AreIsolated one other i v =
     let R = closure (hosts_in one) i v (entries_in one) in

@@ -14,11 +14,14 @@ outs_of_each i run list = map (λ u. (u, outs_of i u run)) list
 abbrev pub hosted_in : Names → List HostedNode → List ℕ
 hosted_in R hosts = filter R (map (λ h. h.name) hosts)
 
--- What an entry adds to a list of nodes with their outs: its own to the node that it is of, where that is one of the names.
+-- What an entry adds to a list of nodes with their outs: its own to the node that it is of, where that is one of the
+-- names.
 pub data IsNoted (i : ℕ) (x : Entry) (list : List ℕ) (old new : List (ℕ × List Out)) : Type 0 where
   nobody : ((k u : ℕ) → slice_get list k ≡ Some u → IsFalse (is_of i u x.event)) → new ≡ old → IsNoted i x list old new
-  somebody : (k w : ℕ) → slice_get list k ≡ Some w → IsTrue (is_of i w x.event) → ((j u : ℕ) → slice_get list j ≡ Some u → j ≢ k → IsFalse (is_of i u x.event))
-      → ((p : ℕ × List Out) → slice_get old k ≡ Some p → new ≡ slice_set old k (p.0, p.1 ++ x.outs)) → IsNoted i x list old new
+  somebody : (k w : ℕ) → slice_get list k ≡ Some w → IsTrue (is_of i w x.event)
+      → ((j u : ℕ) → slice_get list j ≡ Some u → j ≢ k → IsFalse (is_of i u x.event))
+      → ((p : ℕ × List Out) → slice_get old k ≡ Some p → new ≡ slice_set old k (p.0, p.1 ++ x.outs))
+      → IsNoted i x list old new
 
 -- the entry with this number, if there is one, adds what it gave out
 abbrev pub IsNotedAt : ℕ → List Entry → ℕ → List ℕ → List (ℕ × List Out) → List (ℕ × List Out) → Type 0

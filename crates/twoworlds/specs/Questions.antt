@@ -10,7 +10,8 @@ use Rattle.twoworlds.specs.declared.verdict.Verdict.{Verdict}
 
 -- There is one verdict a subject, and that at the subject's place is right of what the two worlds have of its network.
 abbrev pub AreVerdictsOn : List Log → List Log → List Subject → List Verdict → Type 0
-AreVerdictsOn one other subjects verdicts = AllZip (λ s r. IsVerdictOn (log_at one s.net) (log_at other s.net) s.slot s.node r) subjects verdicts
+AreVerdictsOn one other subjects verdicts =
+    AllZip (λ s r. IsVerdictOn (log_at one s.net) (log_at other s.net) s.slot s.node r) subjects verdicts
 
 -- It is right of its network in two histories.
 abbrev pub AreVerdictsBetween : History → History → List Subject → List Verdict → Type 0
@@ -18,4 +19,5 @@ AreVerdictsBetween h k subjects verdicts = AllZip (λ s r. IsVerdictBetween h k 
 
 -- Each subject is isolated.
 abbrev pub AreAllIsolated : List Log → List Log → List Subject → Type 0
-AreAllIsolated one other subjects = All (λ s. AreIsolated (log_at one s.net) (log_at other s.net) s.slot s.node) subjects
+AreAllIsolated one other subjects =
+    All (λ s. AreIsolated (log_at one s.net) (log_at other s.net) s.slot s.node) subjects

@@ -1,4 +1,5 @@
--- Which steps of a run are kept, what is kept of them, and whose they are: the definitions of kept steps and outs, cut in two.
+-- Which steps of a run are kept, what is kept of them, and whose they are: the definitions of kept steps and outs, cut
+-- in two.
 use Rattle.std.specs.Prelude.{◌≡◌, ℕ, ◌+◌, ◌<◌, ◌≤◌, Bool, false, ◌&&◌, ◌==◌, List, ◌∷◌, Option, Some, None, option_map, drop, take, length, if◌then◌else◌, slice_get, IsTrue}
 use Rattle.types.specs.declared.event.NodeEvent.TheVariants.{Propose, Take, NominationTimer, BallotTimer, Reslice}
 use Rattle.protocol.specs.Sets.{Names}
@@ -66,9 +67,11 @@ node_in i (Some s) = node_of i s
 pub record IsNextKept (R : Names) (i : ℕ) (run : List Entry) (from k : ℕ) : Type 0 where
   pub inside : k < length run
   pub after : from ≤ k
-  pub splits : (x : Entry) → slice_get run k ≡ Some x → kept_of R i (drop from run) ≡ core x.event ∷ kept_of R i (drop (k + 1) run)
+  pub splits : (x : Entry) → slice_get run k ≡ Some x
+      → kept_of R i (drop from run) ≡ core x.event ∷ kept_of R i (drop (k + 1) run)
 
--- the entry with this number is the kept step at a place, counted from 0 on: so many kept steps are before it, and what is kept of it is what is kept at the place
+-- the entry with this number is the kept step at a place, counted from 0 on: so many kept steps are before it, and what
+-- is kept of it is what is kept at the place
 pub record IsKeptEntry (R : Names) (i : ℕ) (run : List Entry) (place k : ℕ) : Type 0 where
   pub entry : Entry
   pub there : slice_get run k ≡ Some entry

@@ -30,7 +30,8 @@ same_value = pointwise nat_eq
 -- an ascending list with this value too
 unfoldable pub with_value : List ℕ → List (List ℕ) → List (List ℕ)
 with_value x [] = x ∷ []
-with_value x (y ∷ ys) = if is_lt (bytes_cmp x y) then x ∷ y ∷ ys else (if same_value y x then y ∷ ys else y ∷ with_value x ys)
+with_value x (y ∷ ys) =
+    if is_lt (bytes_cmp x y) then x ∷ y ∷ ys else (if same_value y x then y ∷ ys else y ∷ with_value x ys)
 
 -- ---- the same as tests
 abbrev pub is_ascending : List (List ℕ) → Bool

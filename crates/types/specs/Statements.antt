@@ -83,7 +83,10 @@ is_up_to None b = true
 is_up_to (Some a) b = not (is_gt (ballot_cmp a b))
 
 abbrev pub is_well_formed : Statement → Bool
-is_well_formed (Nominate voted accepted) = is_nomination_set voted && (is_nomination_set accepted && nat_lt 0 (length voted + length accepted))
-is_well_formed (Prepare ballot prepared a h c) = nat_le 1 ballot.counter && (is_up_to prepared ballot && (nat_le a ballot.counter && (nat_le c h && nat_le h ballot.counter)))
+is_well_formed (Nominate voted accepted) =
+    is_nomination_set voted && (is_nomination_set accepted && nat_lt 0 (length voted + length accepted))
+is_well_formed (Prepare ballot prepared a h c) =
+    nat_le 1 ballot.counter
+    && (is_up_to prepared ballot && (nat_le a ballot.counter && (nat_le c h && nat_le h ballot.counter)))
 is_well_formed (Commit ballot prepared h c) = nat_le 1 c && (nat_le c h && nat_le h ballot.counter)
 is_well_formed (Externalize commit h) = nat_le 1 commit.counter && nat_le commit.counter h

@@ -97,7 +97,8 @@ length-tokens none after = omega arith
 length-tokens (node u rest) after = omega (arith, length-tokens rest after)
 length-tokens (inner k own rest) after = omega (arith, length-tokens own (tokens rest after), length-tokens rest after)
 
-pub members-again : (m : Members) (fuel : ℕ) (after : List Token) → weight_of m ≤ fuel → members_at fuel (tokens m after) ≡ (m, after)
+pub members-again : (m : Members) (fuel : ℕ) (after : List Token) → weight_of m ≤ fuel
+    → members_at fuel (tokens m after) ≡ (m, after)
 members-again none zero after h = absurd (omega arith)
 members-again none (suc fuel) after h = refl
 members-again (node u rest) zero after h = absurd (omega arith)
@@ -116,7 +117,8 @@ abbrev pub members_from : List Token → Members
 members_from ts = (members_at (length ts) ts).0
 
 pub members_from-tokens_of : (m : Members) → members_from (tokens_of m) ≡ m
-members_from-tokens_of m = ap (λ (p : Members × List Token). p.0) (members-again m (length (tokens_of m)) [] (omega (arith, length-tokens m [])))
+members_from-tokens_of m =
+    ap (λ (p : Members × List Token). p.0) (members-again m (length (tokens_of m)) [] (omega (arith, length-tokens m [])))
 
 abbrev pub members_code : Coded Members
 members_code = code_by (List Token) (coded_list (coded× coded_ℕ coded_ℕ)) tokens_of members_from members_from-tokens_of

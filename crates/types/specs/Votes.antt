@@ -1,4 +1,5 @@
--- What a statement votes for and what it accepts: prepare ballot by ballot, commit counter by counter, nominate value by value.
+-- What a statement votes for and what it accepts: prepare ballot by ballot, commit counter by counter, nominate value
+-- by value.
 use Rattle.std.specs.Prelude.{◌≡◌, ℕ, ◌≤◌, List, Bool, true, false, ◌&&◌, ◌||◌, ◌==◌, not, nat_le, nat_lt, Option, Some, None}
 use Rattle.std.specs.List.{list_any}
 pub use Rattle.types.specs.Nominations.{same_value}
@@ -82,6 +83,7 @@ accepts_ends (Externalize commit h) x low high = same_value commit.value x && na
 
 abbrev pub votes_or_accepts_ends : Statement → List ℕ → ℕ → ℕ → Bool
 votes_or_accepts_ends (Nominate voted accepted) x low high = false
-votes_or_accepts_ends (Prepare ballot p a h c) x low high = not (c == 0) && (same_value ballot.value x && (nat_le c low && nat_le high h))
+votes_or_accepts_ends (Prepare ballot p a h c) x low high =
+    not (c == 0) && (same_value ballot.value x && (nat_le c low && nat_le high h))
 votes_or_accepts_ends (Commit ballot p h c) x low high = same_value ballot.value x && nat_le c low
 votes_or_accepts_ends (Externalize commit h) x low high = same_value commit.value x && nat_le commit.counter low

@@ -25,12 +25,14 @@ Fits f fs = (i : ℕ) (g : Numbered) → get_or fs i None ≡ Some g → g.numbe
 
 -- the first of these nodes have these forms, of their slices, and each number is below how many there are
 pub record ArePart (us : List ℕ) (slices_at : ℕ → Option Slices) (fs : List (Option Numbered)) : Type 0 where
-  pub each : (i : ℕ) → i < length fs → (ws : List ℕ) → met_at (get_or fs i None) ws ≡ is_satisfied sat (slices_at (get_or us i 0)) (among (picked us ws))
+  pub each : (i : ℕ) → i < length fs → (ws : List ℕ)
+      → met_at (get_or fs i None) ws ≡ is_satisfied sat (slices_at (get_or us i 0)) (among (picked us ws))
   pub agreed : AreAgreed fs
   pub below : AreBelow (length fs) fs
 
 -- the form stands in the list at the place of a node with these slices
-pub record IsTwin (us : List ℕ) (slices_at : ℕ → Option Slices) (fs : List (Option Numbered)) (q : Slices) (f : Numbered) : Type 0 where
+pub record IsTwin (us : List ℕ) (slices_at : ℕ → Option Slices) (fs : List (Option Numbered)) (q : Slices)
+    (f : Numbered) : Type 0 where
   pub place : ℕ
   pub listed : place < length us
   pub inside : place < length fs
@@ -43,7 +45,8 @@ IsFound us slices_at fs n q f = IsTwin us slices_at fs q f ⊎ ((f.number ≡ n)
 
 -- the same where the slices of a new one name these nodes alone
 abbrev pub IsFoundWithin : List ℕ → (ℕ → Option Slices) → List (Option Numbered) → ℕ → Slices → Numbered → Type 0
-IsFoundWithin us slices_at fs n q f = IsTwin us slices_at fs q f ⊎ ((f.number ≡ n) × IsCompiled false us q f.set × IsTrue (within (names q) (among us)))
+IsFoundWithin us slices_at fs n q f =
+    IsTwin us slices_at fs q f ⊎ ((f.number ≡ n) × IsCompiled false us q f.set × IsTrue (within (names q) (among us)))
 
 -- the form is of these slices, may join the list, and its number is below this one
 pub record MayJoin (us : List ℕ) (fs : List (Option Numbered)) (n : ℕ) (q : Slices) (f : Numbered) : Type 0 where
@@ -55,14 +58,19 @@ pub record MayJoin (us : List ℕ) (fs : List (Option Numbered)) (n : ℕ) (q : 
 -- these nodes, but for one of them, have these forms, of their slices
 abbrev pub AreFormsBut : ℕ → List ℕ → (ℕ → Option Slices) → List (Option Numbered) → Type 0
 AreFormsBut sender us slices_at fs =
-    (i : ℕ) → i < length us → get_or us i 0 ≢ sender → (ws : List ℕ) → met_at (get_or fs i None) ws ≡ is_satisfied sat (slices_at (get_or us i 0)) (among (picked us ws))
+    (i : ℕ) → i < length us → get_or us i 0 ≢ sender → (ws : List ℕ)
+    → met_at (get_or fs i None) ws ≡ is_satisfied sat (slices_at (get_or us i 0)) (among (picked us ws))
 
 -- the slices of these nodes, but for one of them, name no others
 abbrev pub NameWithinBut : ℕ → List ℕ → (ℕ → Option Slices) → Type 0
-NameWithinBut sender us slices_at = (u : ℕ) (q : Slices) → IsTrue (among us u) → u ≢ sender → slices_at u ≡ Some q → AreWithin (among (names q)) (among us)
+NameWithinBut sender us slices_at =
+    (u : ℕ) (q : Slices) → IsTrue (among us u) → u ≢ sender → slices_at u ≡ Some q
+    → AreWithin (among (names q)) (among us)
 
--- nodes with the forms of their slices, which name no others, but for those of one node; where they stand among all; and the slices of all name none but these
-pub record IsFormer (all : List ℕ) (slices_at : ℕ → Option Slices) (us : List ℕ) (fs : List (Option Numbered)) (places : List ℕ) (sender : ℕ) : Type 0 where
+-- nodes with the forms of their slices, which name no others, but for those of one node; where they stand among all;
+-- and the slices of all name none but these
+pub record IsFormer (all : List ℕ) (slices_at : ℕ → Option Slices) (us : List ℕ) (fs : List (Option Numbered))
+    (places : List ℕ) (sender : ℕ) : Type 0 where
   pub moved : AreMoved us all places
   pub forms : AreFormsBut sender us slices_at fs
   pub within : NameWithinBut sender us slices_at

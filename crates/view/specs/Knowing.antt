@@ -17,7 +17,8 @@ use Rattle.view.specs.Watching.{rows_of_others, values_in}
 use Rattle.view.specs.declared.known_reach.KnownReach.{KnownReach}
 use Rattle.view.specs.declared.reached_ballots.ReachedBallots.{ReachedBallots}
 
--- listed are the ballots that the ballot rows of the others of these nodes name, and those at whose counters these rows speak of commit
+-- listed are the ballots that the ballot rows of the others of these nodes name, and those at whose counters these rows
+-- speak of commit
 pub record AreBallotsOf (own : ℕ) (table : List Sent) (nodes : List ℕ) (b : ReachedBallots) : Type 0 where
   pub named : AreListed b.named (named_in (rows_of_others own Kind.Ballot table nodes))
   pub committed : AreListed b.committed (committed_in (rows_of_others own Kind.Ballot table nodes))
@@ -34,7 +35,8 @@ listed_as Committed b = b.committed
 -- each search among listed ballots finds what it would find among those that the rows of a kind speak of
 abbrev pub AreSearched : ℕ → Kind → List Sent → List ℕ → ReachedBallots → Type 0
 AreSearched own kind table nodes b =
-    FindsAsAmong b.named (named_in (rows_of_others own kind table nodes)) × FindsAsAmong b.committed (committed_in (rows_of_others own kind table nodes))
+    FindsAsAmong b.named (named_in (rows_of_others own kind table nodes))
+    × FindsAsAmong b.committed (committed_in (rows_of_others own kind table nodes))
 
 -- the region of a node, and the ballots and nominated values in it where they are listed
 pub record IsKnown (own : ℕ) (configured : Slices) (table : List Sent) (k : KnownReach) : Type 0 where
@@ -42,7 +44,8 @@ pub record IsKnown (own : ℕ) (configured : Slices) (table : List Sent) (k : Kn
   pub ballots : IfSome k.ballots (AreBallotsOf own table k.region.nodes.items)
   pub values : IfSome k.values (AreValuesOf own table k.region.nodes.items)
 
--- a table took an envelope, newer than its sender's row of its kind: its row is this one now, and there was this one before
+-- a table took an envelope, newer than its sender's row of its kind: its row is this one now, and there was this one
+-- before
 pub record IsTaken (old new : List Sent) (e : Sent) (before : Option Sent) : Type 0 where
   pub now : new ≡ with_row e old
   pub replaced : before ≡ row old e.sender (kind_of e.body)
@@ -57,7 +60,8 @@ abbrev pub is_heard : Kind → ℕ → List ℕ → Sent → Bool
 is_heard kind own nodes e = is_kind kind (kind_of e.body) && is_of_another own nodes e
 
 -- a table took such an envelope of ballots: what it says, and what the row before it said
-pub record IsHeard (own : ℕ) (nodes : List ℕ) (old new : List Sent) (now : Statement) (before : Option Statement) : Type 0 where
+pub record IsHeard (own : ℕ) (nodes : List ℕ) (old new : List Sent) (now : Statement) (before : Option Statement)
+    : Type 0 where
   pub envelope : Sent
   pub row : Option Sent
   pub heard : IsTrue (is_heard Kind.Ballot own nodes envelope)

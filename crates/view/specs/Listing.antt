@@ -16,7 +16,8 @@ AreListed listed ts = (t : Ballot) → Contains listed t ↔ Contains ts t
 
 -- of the ballots in a list those are left that are among the ones that stay, or none of those that may go
 abbrev pub AreLeft : List Ballot → List Ballot → List Ballot → List Ballot → Type 0
-AreLeft staying going old new = (t : Ballot) → Contains new t ↔ (Contains old t × (Contains staying t ⊎ (Contains going t → ⊥)))
+AreLeft staying going old new =
+    (t : Ballot) → Contains new t ↔ (Contains old t × (Contains staying t ⊎ (Contains going t → ⊥)))
 
 -- whether a ballot is one of these
 abbrev pub is_one_of : List Ballot → Ballot → Bool

@@ -54,7 +54,8 @@ abbrev pub forms_of : Kind → Region → List (Option Numbered)
 forms_of Nomination r = r.nominations.items
 forms_of Kind.Ballot r = r.ballots.items
 
--- what the configuration and the table give: the reach, the node's own place, what blocks it, and of all that are reached the slices, in forms whose numbers are below those to come, and where their rows stand
+-- what the configuration and the table give: the reach, the node's own place, what blocks it, and of all that are
+-- reached the slices, in forms whose numbers are below those to come, and where their rows stand
 pub record IsRegion (own : ℕ) (configured : Slices) (table : List Sent) (r : Region) : Type 0 where
   pub reach : IsReach own configured table r.nodes.items
   pub within : r.place < length r.nodes.items
@@ -78,19 +79,23 @@ pub record IsCopy (old new : Region) : Type 0 where
   pub nomination_rows : new.nomination_rows.items ≡ old.nomination_rows.items
   pub numbers : new.numbers ≡ old.numbers
 
--- what a region has to have once a row of another node came that leaves the reach as it is: the row's slices, compiled, for its kind and at its sender's place, and where the row then stands
-pub record IsEntry (own : ℕ) (configured : Slices) (table : List Sent) (e : Sent) (r : Region) (x : RegionEntry) : Type 0 where
+-- what a region has to have once a row of another node came that leaves the reach as it is: the row's slices, compiled,
+-- for its kind and at its sender's place, and where the row then stands
+pub record IsEntry (own : ℕ) (configured : Slices) (table : List Sent) (e : Sent) (r : Region) (x : RegionEntry)
+    : Type 0 where
   pub reach : IsReach own configured table r.nodes.items → IsReach own configured (with_row e table) r.nodes.items
   pub within : x.place < length r.nodes.items
   pub sender : get_or r.nodes.items x.place 0 ≡ e.sender
   pub kind : x.kind ≡ kind_of e.body
   pub another : x.place ≢ r.place
   pub numbers : r.numbers < x.numbers
-  pub form : AreCompiled r.nodes.items (slices_by own configured table (kind_of e.body)) (forms_of (kind_of e.body) r) → AreBelow r.numbers (forms_of (kind_of e.body) r)
+  pub form : AreCompiled r.nodes.items (slices_by own configured table (kind_of e.body)) (forms_of (kind_of e.body) r)
+      → AreBelow r.numbers (forms_of (kind_of e.body) r)
       → MayJoin r.nodes.items (forms_of (kind_of e.body) r) x.numbers e.slices x.slices
   pub row : place_of (with_row e table) e.sender (kind_of e.body) ≡ x.row
 
--- The region of an earlier table, of which the rows of one reached node may be others since: the slices of the other nodes are compiled, and name no other nodes, and the places of their rows are kept.
+-- The region of an earlier table, of which the rows of one reached node may be others since: the slices of the other
+-- nodes are compiled, and name no other nodes, and the places of their rows are kept.
 pub record IsKeptRegion (own : ℕ) (configured : Slices) (table : List Sent) (sender : ℕ) (r : Region) : Type 0 where
   pub ascending : IsAscending r.nodes.items
   pub ballots : AreFormsBut sender r.nodes.items (slices_by own configured table Kind.Ballot) r.ballots.items
@@ -105,13 +110,17 @@ abbrev pub IsOfExtent : ℕ → Slices → List Sent → ℕ → List ℕ → Ex
 IsOfExtent own configured table sender nodes Wider = IsNarrow own configured table sender nodes
 IsOfExtent own configured table sender nodes Other = ⊤
 
--- a region of other nodes: where its nodes stand among all, and their slices, compiled, which name none but these; but for one of them
-pub record IsFormerRegion (own : ℕ) (configured : Slices) (table : List Sent) (nodes : List ℕ) (f : FormerRegion) : Type 0 where
+-- a region of other nodes: where its nodes stand among all, and their slices, compiled, which name none but these; but
+-- for one of them
+pub record IsFormerRegion (own : ℕ) (configured : Slices) (table : List Sent) (nodes : List ℕ) (f : FormerRegion)
+    : Type 0 where
   pub ballots : IsFormer nodes (slices_by own configured table Kind.Ballot) f.region.now.nodes.items f.region.now.ballots.items f.places.now f.sender.now
   pub nominations : IsFormer nodes (slices_by own configured table Nomination) f.region.now.nodes.items f.region.now.nominations.items f.places.now f.sender.now
 
--- what an envelope of another reached node changes in a region where the table takes it: an entry is set, or the reach is of this extent, and the region one of before
+-- what an envelope of another reached node changes in a region where the table takes it: an entry is set, or the reach
+-- is of this extent, and the region one of before
 abbrev pub IsChange : ℕ → Slices → List Sent → Sent → Region → Change → Type 0
 IsChange own configured table e r (Sets x) = IsEntry own configured table e r x
 IsChange own configured table e r (Reach extent) =
-    IsRegion own configured table r → IsKeptRegion own configured (with_row e table) e.sender r × IsOfExtent own configured (with_row e table) e.sender r.nodes.items extent
+    IsRegion own configured table r → IsKeptRegion own configured (with_row e table) e.sender r
+    × IsOfExtent own configured (with_row e table) e.sender r.nodes.items extent

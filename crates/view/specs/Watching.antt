@@ -17,19 +17,23 @@ pub record RowsOfNodes : Type 0 where
 
 -- the first of these nodes, of whom places are kept, have their rows of a kind there
 abbrev pub ArePlaces : List Sent → Kind → List ℕ → List (Option ℕ) → Type 0
-ArePlaces table kind nodes places = (i : ℕ) → i < length places → get_or places i None ≡ place_of table (get_or nodes i 0) kind
+ArePlaces table kind nodes places =
+    (i : ℕ) → i < length places → get_or places i None ≡ place_of table (get_or nodes i 0) kind
 
 -- the rows of a kind that these nodes have, in the order of the nodes: nothing for a node without one
 abbrev pub rows_at : Kind → List Sent → List ℕ → List (Option Sent)
 rows_at kind table nodes = map (λ u. row table u kind) nodes
 
--- whether the node at a place passes a test: the one at the own place where its position does, another where its row does
+-- whether the node at a place passes a test: the one at the own place where its position does, another where its row
+-- does
 abbrev pub passes_at : RowsOfNodes → ℕ → Bool → (Statement → Bool) → ℕ → Bool
-passes_at rows own_place own_passes test i = passing_with (get_or rows.nodes own_place 0) rows.table rows.kind own_passes test (get_or rows.nodes i 0)
+passes_at rows own_place own_passes test i =
+    passing_with (get_or rows.nodes own_place 0) rows.table rows.kind own_passes test (get_or rows.nodes i 0)
 
 -- the same where there is a node at the place: at none other a test is passed
 abbrev pub passes_within : RowsOfNodes → ℕ → Bool → (Statement → Bool) → ℕ → Bool
-passes_within rows own_place own_passes test i = nat_lt i (length rows.nodes) && passes_at rows own_place own_passes test i
+passes_within rows own_place own_passes test i =
+    nat_lt i (length rows.nodes) && passes_at rows own_place own_passes test i
 
 -- the row at a place in a table: nothing without a place
 abbrev pub row_where : List Sent → Option ℕ → Option Sent

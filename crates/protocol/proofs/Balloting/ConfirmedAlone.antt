@@ -59,13 +59,15 @@ module _ (vo ac : List (List ℕ)) where
       record w { voted = vo; accepts = ac; prepared = p; aborted = aborted_by w.prepared p w.aborted })
       (position-sets w)
 
-  high-sets : (s : Seen) (w : Votes) → raise_confirmed_prepared s (with_sets w) ≡ with_sets (raise_confirmed_prepared s w)
+  high-sets : (s : Seen) (w : Votes)
+      → raise_confirmed_prepared s (with_sets w) ≡ with_sets (raise_confirmed_prepared s w)
   unfolding raise_confirmed_prepared named
   high-sets s w = ap {B = Votes} (λ (o : Option Statement).
       record w {
         voted = vo;
         accepts = ac;
-        confirmed_prepared = greatest w.confirmed_prepared (filter (prepare_confirmed s o) (named_in (s.rows Kind.Ballot ++ option_to_list o)));
+        confirmed_prepared =
+            greatest w.confirmed_prepared (filter (prepare_confirmed s o) (named_in (s.rows Kind.Ballot ++ option_to_list o)));
       }) (position-sets w)
 
   commit-sets : (w : Votes) → set_commit (with_sets w) ≡ with_sets (set_commit w)
@@ -262,6 +264,7 @@ module _ (vo ac : List (List ℕ)) where
       ap (λ (x : Votes). while_open x.phase (counting s g) x) same
       ∙ open-sets (counting s g) (counting-sets s g) (voting s (start s w)).phase (voting s (start s w))
 
-  pub balloted-sets : (s : Seen) (g : Inputs) (w : Votes) → balloted_in s g (with_sets w) ≡ with_sets (balloted_in s g w)
+  pub balloted-sets : (s : Seen) (g : Inputs) (w : Votes)
+      → balloted_in s g (with_sets w) ≡ with_sets (balloted_in s g w)
   unfolding balloted_in
   balloted-sets s g w = open-sets (balloting s g) (balloting-sets s g) w.phase w

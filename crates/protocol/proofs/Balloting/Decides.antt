@@ -54,7 +54,8 @@ decides s b w sound = go (greatest None (filter test (commits s w))) refl
       };
       is = rw e refl;
       phase = refl;
-      sound = record { aborted = sound.aborted; confirmed_prepared = sound.confirmed_prepared; committing = λ (c : Externalized ≡ Committing). cc };
+      sound =
+          record { aborted = sound.aborted; confirmed_prepared = sound.confirmed_prepared; committing = λ (c : Externalized ≡ Committing). cc };
       voted = refl;
       accepts = refl;
       confirms = refl;

@@ -1,5 +1,5 @@
--- What a fresh place has and each step keeps, each place in a network's run has; so events lead to each node there. The law
--- `four_passes_are_enough` and `Sending` stand on it.
+-- What a fresh place has and each step keeps, each place in a network's run has; so events lead to each node there. The
+-- law `four_passes_are_enough` and `Sending` stand on it.
 use Rattle.types.specs.declared.event.NodeEvent.{NodeEvent}
 use Rattle.std.proofs.Common.{ℕ, Bool, true, false, not, cond, ◌==◌, Option, Some, None, List, [], ◌∷◌, ◌++◌, filter, if◌then◌else◌}
 use Rattle.types.specs.Statements.{Sent}

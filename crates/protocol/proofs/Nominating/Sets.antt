@@ -59,7 +59,8 @@ nominate-is v s g w e =
     ∙ (ap (λ x. confirm_values s (accept_values s x)) (echo-is v s g w)
     ∙ rest-is s (record w { voted = new_voted v s g w.voted w.confirms }))
 
-pub nominate-not : (v : ℕ) (s : Seen) (g : Inputs) (w : Votes) → is_none w.confirmed_prepared ≡ false → nominate v s g w ≡ w
+pub nominate-not : (v : ℕ) (s : Seen) (g : Inputs) (w : Votes) → is_none w.confirmed_prepared ≡ false
+    → nominate v s g w ≡ w
 unfolding nominate
 nominate-not v s g w e = ap (λ b. if b then confirm_values s (accept_values s (echo v s g w)) else w) e
 

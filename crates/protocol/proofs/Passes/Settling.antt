@@ -1,5 +1,5 @@
--- No event of a node that events lead to meets the limit of passes: its votes are fit, and each step keeps them so. The law
--- `four_passes_are_enough`, `Nodes` and the crate `slot` stand on it.
+-- No event of a node that events lead to meets the limit of passes: its votes are fit, and each step keeps them so. The
+-- law `four_passes_are_enough`, `Nodes` and the crate `slot` stand on it.
 use Rattle.types.specs.declared.event.NodeEvent.{NodeEvent}
 use Rattle.std.proofs.Common.{◌≡◌, ℕ, suc, ◌+◌, Option, Some, None, refl, subst, arith}
 use Rattle.types.specs.Trees.{Slices}

@@ -158,14 +158,16 @@ closure-keeps hosts i v entries =
     least-keeps (map host_rule hosts ++ flat_map (λ x. announcement_rules i x.event) entries) v
 
 -- what the closure of a run says of its hosted members, and of what is delivered among them
-pub hosts-closed : (hosts : List HostedNode) (i v : ℕ) (entries : List Entry) → HostsIn (closure hosts i v entries) hosts
+pub hosts-closed : (hosts : List HostedNode) (i v : ℕ) (entries : List Entry)
+    → HostsIn (closure hosts i v entries) hosts
 hosts-closed hosts i v entries =
     let R = closure hosts i v entries in
     hosts-in R hosts
     (all-left (keeps R) (map host_rule hosts) (flat_map (λ x. announcement_rules i x.event) entries)
     (closure-keeps hosts i v entries))
 
-pub events-closed : (hosts : List HostedNode) (i v : ℕ) (entries : List Entry) → AllIn (closure hosts i v entries) i entries
+pub events-closed : (hosts : List HostedNode) (i v : ℕ) (entries : List Entry)
+    → AllIn (closure hosts i v entries) i entries
 events-closed hosts i v entries =
     let R = closure hosts i v entries in
     events-in R i entries

@@ -27,7 +27,8 @@ past-counter a b h = below-parts a b ∙ over a.counter b.counter (less a.value 
     over m n false h = grind (arith, nat_tests)
 
 -- a counter that is not lowered keeps what is placed
-ballot_at_counter-placed : (p : Phase) (w : Votes) (b : Ballot) (confirmed_prepared : Option Ballot) (n low high : ℕ) → b.counter ≤ n
+ballot_at_counter-placed : (p : Phase) (w : Votes) (b : Ballot) (confirmed_prepared : Option Ballot) (n low high : ℕ)
+    → b.counter ≤ n
     → IsPlaced p (Some b) confirmed_prepared low high
     → IsPlaced p (Some (ballot_at_counter w b n)) confirmed_prepared low high
 ballot_at_counter-placed Preparing w b None n low high k h = tt
@@ -57,7 +58,8 @@ ballot_at_counter-keeps timeouts more w b n e k l h = record {
   counted =
       subst (λ m. 1 ≤ m) (sym (ballot_at_counter-counter w b n))
       (through 1 b.counter n (subst (λ o. IfSome o (λ b. 1 ≤ b.counter)) e h.counted) k);
-  placed = ballot_at_counter-placed w.phase w b w.confirmed_prepared n w.low w.high k (subst (λ o. IsPlaced w.phase o w.confirmed_prepared w.low w.high) e h.placed);
+  placed =
+      ballot_at_counter-placed w.phase w b w.confirmed_prepared n w.low w.high k (subst (λ o. IsPlaced w.phase o w.confirmed_prepared w.low w.high) e h.placed);
 }
 
 module _ (timeouts : ℕ) where

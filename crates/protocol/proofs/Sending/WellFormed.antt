@@ -65,7 +65,8 @@ prepared_as_sent-up-to b p c = go (below b p) refl
     go true e = at (not (is_gt (bytes_cmp p.value b.value))) refl
     go false e = up-to p b e
 
-high-up-to : (b : Ballot) (confirmed_prepared : Option Ballot) → Under confirmed_prepared (Some b) → counter_for b confirmed_prepared ≤ b.counter
+high-up-to : (b : Ballot) (confirmed_prepared : Option Ballot) → Under confirmed_prepared (Some b)
+    → counter_for b confirmed_prepared ≤ b.counter
 high-up-to b None h = omega arith
 high-up-to b (Some x) h = go (same_value x.value b.value) (not_below-counter b x h)
   where
@@ -82,7 +83,8 @@ commit-up-to most b (Some c) = go (same_value c.value b.value) (nat_le c.counter
     go true false e = omega arith
     go false k e = omega arith
 
-vote-sends-in : (w : Votes) (b : Ballot) (p : Phase) → 1 ≤ b.counter → IsPlaced p (Some b) w.confirmed_prepared w.low w.high
+vote-sends-in : (w : Votes) (b : Ballot) (p : Phase) → 1 ≤ b.counter
+    → IsPlaced p (Some b) w.confirmed_prepared w.low w.high
     → IsWellFormed (sent_in p w b)
 unfolding sent_in high_counter commit_counter
 vote-sends-in w b Preparing c h = record {

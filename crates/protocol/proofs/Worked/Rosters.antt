@@ -79,7 +79,8 @@ narrow = record {
 
 pub each_draws_on_its_own : replies narrow
     (Opens 1 ∷ NominationTimerFires 1 A 1 ∷ NominationTimerFires 1 A 1 ∷ from Z ∷ from B ∷ Closes 1 ∷ Opens 1 ∷ NominationTimerFires 1 A 1 ∷ Closes 1 ∷ [])
-    ≡ Done [] ∷ Done [] ∷ Refused ShareFull ∷ Refused JournalFull ∷ Done [] ∷ Done [] ∷ Done [] ∷ Done [] ∷ Refused ShareFull ∷ []
+    ≡ Done [] ∷ Done [] ∷ Refused ShareFull ∷ Refused JournalFull ∷ Done [] ∷ Done [] ∷ Done [] ∷ Done []
+    ∷ Refused ShareFull ∷ []
 unfolding everything
 each_draws_on_its_own = refl
 
