@@ -105,14 +105,14 @@ same_read {A} a b xs ys e = (ap (λ (p : A × List Text). p.0) same, ap (λ (p :
     same = cc
 
 -- the options are found in front
-abbrev Told : List Text → Format → List Text → Type 0
-Told words f more = (options : List Text) × AsksFormat options f × (words ≡ options ++ more)
+abbrev HasFormat : List Text → Format → List Text → Type 0
+HasFormat words f more = (options : List Text) × AsksFormat options f × (words ≡ options ++ more)
 
-told_named : (option : Text) (rest : List Text) (f : Format) (more : List Text) → option ≡ codes "--format" → form_named rest ≡ Some (f, more) → Told (option ∷ rest) f more
+told_named : (option : Text) (rest : List Text) (f : Format) (more : List Text) → option ≡ codes "--format" → form_named rest ≡ Some (f, more) → HasFormat (option ∷ rest) f more
 told_named option [] f more is e = cc
 told_named option (name ∷ rest) f more is e = told_by (format_in name) refl e
   where
-    told_by : (r : Option Format) → format_in name ≡ r → option_map (with_words rest) r ≡ Some (f, more) → Told (option ∷ name ∷ rest) f more
+    told_by : (r : Option Format) → format_in name ≡ r → option_map (with_words rest) r ≡ Some (f, more) → HasFormat (option ∷ name ∷ rest) f more
     told_by None by e' = cc
     told_by (Some g) by e' =
         let g_is : g ≡ f = (same_read g f rest more e').0 in
@@ -121,7 +121,7 @@ told_named option (name ∷ rest) f more is e = told_by (format_in name) refl e
         (codes "--format" ∷ name_of_format f ∷ [], inr (inl refl), rw (is, name_is, rest_is) refl)
 
 told_attached : (option : Text) (rest : List Text) (f : Format) (more : List Text) (r : Option Format) → attached_form option ≡ r
-    → option_map (with_words rest) r ≡ Some (f, more) → Told (option ∷ rest) f more
+    → option_map (with_words rest) r ≡ Some (f, more) → HasFormat (option ∷ rest) f more
 told_attached option rest f more None by e = cc
 told_attached option rest f more (Some g) by e =
     let g_is : g ≡ f = (same_read g f rest more e).0 in
@@ -130,11 +130,11 @@ told_attached option rest f more (Some g) by e =
     (word_of_format f ∷ [], inr (inr refl), rw (option_is, rest_is) refl)
 
 told_first : (option : Text) (rest : List Text) (f : Format) (more : List Text) (is_format : Bool) → bytes_eq option (codes "--format") ≡ is_format
-    → (if is_format then form_named rest else option_map (with_words rest) (attached_form option)) ≡ Some (f, more) → Told (option ∷ rest) f more
+    → (if is_format then form_named rest else option_map (with_words rest) (attached_form option)) ≡ Some (f, more) → HasFormat (option ∷ rest) f more
 told_first option rest f more true is e = told_named option rest f more (same_bytes option (codes "--format") is) e
 told_first option rest f more false is e = told_attached option rest f more (attached_form option) refl e
 
-before_sound : (words : List Text) (f : Format) (more : List Text) → form_before words ≡ Some (f, more) → Told words f more
+before_sound : (words : List Text) (f : Format) (more : List Text) → form_before words ≡ Some (f, more) → HasFormat words f more
 before_sound [] f more e = cc
 before_sound (option ∷ rest) f more e = told_first option rest f more (bytes_eq option (codes "--format")) refl e
 
@@ -153,7 +153,7 @@ alone_text rest f operands (Some found) is e =
 text_sound : (rest : List Text) (f : Format) (operands : List Text) → form_or_text rest ≡ Some (f, operands) → Understood rest f operands
 text_sound rest f operands e = alone_text rest f operands (operands_in rest) refl e
 
-plain_behind : (g f : Format) (front options operands : List Text) (plain : Bool) → Told options g [] → list_all is_plain front ≡ plain
+plain_behind : (g f : Format) (front options operands : List Text) (plain : Bool) → HasFormat options g [] → list_all is_plain front ≡ plain
     → (if plain then Some (g, front) else form_or_text (front ++ options)) ≡ Some (f, operands) → Understood (front ++ options) f operands
 plain_behind g f front options operands true told plain e =
     let g_is : g ≡ f = (same_read g f front operands e).0 in
@@ -178,7 +178,7 @@ behind_sound (a ∷ b ∷ []) f operands e = text_sound (a ∷ b ∷ []) f opera
 behind_sound (a ∷ b ∷ d ∷ []) f operands e = text_sound (a ∷ b ∷ d ∷ []) f operands e
 behind_sound (a ∷ b ∷ d ∷ h ∷ options) f operands e = chosen_sound f (a ∷ b ∷ d ∷ h ∷ []) options operands (form_before options) refl e
 
-with_found : (rest more : List Text) (g f : Format) (operands : List Text) (r : Option (List Text)) → Told rest g more → operands_in more ≡ r
+with_found : (rest more : List Text) (g f : Format) (operands : List Text) (r : Option (List Text)) → HasFormat rest g more → operands_in more ≡ r
     → option_map (beside g) r ≡ Some (f, operands) → Understood rest f operands
 with_found rest more g f operands None told is e = cc
 with_found rest more g f operands (Some found) told is e =

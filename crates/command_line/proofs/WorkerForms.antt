@@ -121,36 +121,36 @@ behind_sound : (front word rest : Text) → behind front word ≡ Some rest → 
 behind_sound front word rest e = behind_by front word rest (bytes_eq (take (length front) word) front) refl e
 
 -- the options are found in front
-abbrev Told : List Text → ℕ → List Text → Type 0
-Told words n more = (options : List Text) × AsksWorkers options (Some n) × (words ≡ options ++ more)
+abbrev HasWorkers : List Text → ℕ → List Text → Type 0
+HasWorkers words n more = (options : List Text) × AsksWorkers options (Some n) × (words ≡ options ++ more)
 
 told_by : (words front rest : List Text) (word : Text) (options : List Text) (n : ℕ) (more : List Text) (r : Option ℕ) → workers_in word ≡ r
-    → option_map (with_rest rest) r ≡ Some (n, more) → (AreWorkers word n → AsksWorkers options (Some n)) → words ≡ options ++ rest → Told words n more
+    → option_map (with_rest rest) r ≡ Some (n, more) → (AreWorkers word n → AsksWorkers options (Some n)) → words ≡ options ++ rest → HasWorkers words n more
 told_by words front rest word options n more None by e asks is = cc
 told_by words front rest word options n more (Some m) by e asks is =
     let same = some_pair_parts m n rest more e in
     (options, asks (count_sound word n (by ∙ ap Some same.0)), is ∙ ap (λ xs. options ++ xs) same.1)
 
 told_named : (option : Text) (rest : List Text) (n : ℕ) (more : List Text) → option ≡ codes "--workers" → workers_named rest ≡ Some (n, more)
-    → Told (option ∷ rest) n more
+    → HasWorkers (option ∷ rest) n more
 told_named option [] n more is e = cc
 told_named option (word ∷ rest) n more is e =
     told_by (option ∷ word ∷ rest) [] rest word (codes "--workers" ∷ word ∷ []) n more (workers_in word) refl e
     (λ h. (word, h, inl refl)) (ap (λ o. o ∷ word ∷ rest) is)
 
 told_attached : (option : Text) (rest : List Text) (n : ℕ) (more : List Text) (r : Option Text) → behind (codes "--workers=") option ≡ r
-    → option_map (with_rest rest) (option_and_then workers_in r) ≡ Some (n, more) → Told (option ∷ rest) n more
+    → option_map (with_rest rest) (option_and_then workers_in r) ≡ Some (n, more) → HasWorkers (option ∷ rest) n more
 told_attached option rest n more None by e = cc
 told_attached option rest n more (Some word) by e =
     told_by (option ∷ rest) [] rest word ((codes "--workers=" ++ word) ∷ []) n more (workers_in word) refl e
     (λ h. (word, h, inr refl)) (ap (λ o. o ∷ rest) (behind_sound (codes "--workers=") option word by))
 
 told_first : (option : Text) (rest : List Text) (n : ℕ) (more : List Text) (is_option : Bool) → bytes_eq option (codes "--workers") ≡ is_option
-    → (if is_option then workers_named rest else option_map (with_rest rest) (attached_workers option)) ≡ Some (n, more) → Told (option ∷ rest) n more
+    → (if is_option then workers_named rest else option_map (with_rest rest) (attached_workers option)) ≡ Some (n, more) → HasWorkers (option ∷ rest) n more
 told_first option rest n more true is e = told_named option rest n more (same_bytes option (codes "--workers") is) e
 told_first option rest n more false is e = told_attached option rest n more (behind (codes "--workers=") option) refl e
 
-before_sound : (words : List Text) (n : ℕ) (more : List Text) → workers_before words ≡ Some (n, more) → Told words n more
+before_sound : (words : List Text) (n : ℕ) (more : List Text) → workers_before words ≡ Some (n, more) → HasWorkers words n more
 before_sound [] n more e = cc
 before_sound (option ∷ rest) n more e = told_first option rest n more (bytes_eq option (codes "--workers")) refl e
 
@@ -169,7 +169,7 @@ without_by rest None operands (Some found) is e =
 without_sound : (rest : List Text) (workers : Option ℕ) (operands : List Text) → without_workers rest ≡ Some (workers, operands) → Pooled rest workers operands
 without_sound rest workers operands e = without_by rest workers operands (operands_in rest) refl e
 
-alone_sound : (n : ℕ) (script : Text) (options : List Text) (workers : Option ℕ) (operands : List Text) (plain : Bool) → Told options n []
+alone_sound : (n : ℕ) (script : Text) (options : List Text) (workers : Option ℕ) (operands : List Text) (plain : Bool) → HasWorkers options n []
     → list_all is_plain (script ∷ []) ≡ plain
     → (if plain then Some (Some n, script ∷ []) else without_workers (script ∷ options)) ≡ Some (workers, operands)
     → Pooled (script ∷ options) workers operands
@@ -195,7 +195,7 @@ behind_found : (rest : List Text) (workers : Option ℕ) (operands : List Text) 
 behind_found [] workers operands e = without_sound [] workers operands e
 behind_found (script ∷ options) workers operands e = chosen_sound script options workers operands (workers_before options) refl e
 
-with_found : (rest more : List Text) (n : ℕ) (workers : Option ℕ) (operands : List Text) (r : Option (List Text)) → Told rest n more → operands_in more ≡ r
+with_found : (rest more : List Text) (n : ℕ) (workers : Option ℕ) (operands : List Text) (r : Option (List Text)) → HasWorkers rest n more → operands_in more ≡ r
     → option_map (paired (Some n)) r ≡ Some (workers, operands) → Pooled rest workers operands
 with_found rest more n workers operands None told is e = cc
 with_found rest more n workers operands (Some found) told is e =

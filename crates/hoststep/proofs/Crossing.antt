@@ -37,7 +37,7 @@ use Rattle.configuration.specs.contracts.hosted_node.HostedNode as HostedNode
 use Rattle.configuration.specs.contracts.config.NetConfig as NetConfig
 use Rattle.network.specs.contracts.tallies.Tallies as Tallies
 use Rattle.network.specs.contracts.emission_log.EmissionLog as EmissionLog
-use Rattle.network.specs.contracts.place.Place as Place
+use Rattle.network.specs.contracts.instance.Instance as Instance
 use Rattle.network.specs.contracts.open_slot.OpenSlot as OpenSlot
 use Rattle.network.specs.contracts.slot_index.SlotIndex as SlotIndex
 use Rattle.network.specs.contracts.open_slots.OpenSlots as OpenSlots
@@ -154,17 +154,17 @@ tallies_sync = search (sendable, crosses, tally.the_sync) depth 40
 tallies_send : IsSend (Tallies.the_row)
 tallies_send = search (sendable, crosses, tally.the_send) depth 40
 
-place_sync : IsSync (Place.the_row)
-place_sync = search (sendable, crosses, node_sync, told_sync, tallies_sync) depth 40
+instance_sync : IsSync (Instance.the_row)
+instance_sync = search (sendable, crosses, node_sync, told_sync, tallies_sync) depth 40
 
-place_send : IsSend (Place.the_row)
-place_send = search (sendable, crosses, node_send, told_send, tallies_send) depth 40
+instance_send : IsSend (Instance.the_row)
+instance_send = search (sendable, crosses, node_send, told_send, tallies_send) depth 40
 
 slot_sync : IsSync (OpenSlot.the_row)
-slot_sync = search (sendable, crosses, place_sync) depth 40
+slot_sync = search (sendable, crosses, instance_sync) depth 40
 
 slot_send : IsSend (OpenSlot.the_row)
-slot_send = search (sendable, crosses, place_send) depth 40
+slot_send = search (sendable, crosses, instance_send) depth 40
 
 slot_index_sync : IsSync (SlotIndex.the_row)
 slot_index_sync = search (sendable, crosses, slot_place.the_sync) depth 40

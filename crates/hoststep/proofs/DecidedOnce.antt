@@ -8,7 +8,7 @@ use Rattle.types.specs.declared.event.Out.{Out}
 use Rattle.types.specs.declared.event.Out.TheVariants.{ArmNomination, ArmBallot, Emit, Externalized}
 use Rattle.types.specs.Statements.{Sent}
 use Rattle.protocol.specs.Hosts.{Config, Entry}
-use Rattle.protocol.specs.Networks.{Net, Place, Step, act, act_known, effect, emission, node_where_open, outs_at, places_at}
+use Rattle.protocol.specs.Networks.{Net, Instance, Step, act, act_known, effect, emission, node_where_open, outs_at, instances_at}
 use Rattle.protocol.specs.Networks.Reading.{Read, Fault}
 use Rattle.protocol.specs.Networks.Step.{Opens, Closes, Proposes, Delivers, Hears, NominationTimerFires, BallotTimerFires, Reslices}
 use Rattle.protocol.specs.Nodes.{Node, after_change, node_and_outs, change, externalization, emission_between, is_externalized, outs, step, when}
@@ -78,14 +78,14 @@ by-node old (Some new) =
     (no-values-emitted new (sent_nomination old.votes) (sent_nomination new.votes)) (no-values-emitted new (sent_vote old.votes) (sent_vote new.votes))
     (value is_now new.votes.ballot)
 
-at-place : (e : NodeEvent) (p : Option Place) → AtMostOne (outs_at e p)
+at-place : (e : NodeEvent) (p : Option Instance) → AtMostOne (outs_at e p)
 unfolding step
 at-place e None = none-there
 at-place e (Some p) = by-node p.node (after_change (change p.node e))
 
 by-act : (net : Net) (i u : ℕ) (e : NodeEvent) → AtMostOne (act net i u e).1
 unfolding act
-by-act net i u e = at-place e (node_where_open (places_at net.slots i) u)
+by-act net i u e = at-place e (node_where_open (instances_at net.slots i) u)
 
 by-hearing : (net : Net) (i u : ℕ) (e : Option Sent) → AtMostOne (act_known net i u e).1
 by-hearing net i u None = none-there
@@ -98,7 +98,7 @@ by-event net (Closes i) = none-there
 by-event net (Proposes i u x) = by-act net i u (Propose x)
 by-event net (Delivers u size (Read e)) = by-act net e.slot u (Take e)
 by-event net (Delivers u size (Fault n)) = none-there
-by-event net (Hears i u from kind k) = by-hearing net i u (emission (node_where_open (places_at net.slots i) from) kind k)
+by-event net (Hears i u from kind k) = by-hearing net i u (emission (node_where_open (instances_at net.slots i) from) kind k)
 by-event net (NominationTimerFires i u r) = by-act net i u (NominationTimer r)
 by-event net (BallotTimerFires i u n) = by-act net i u (BallotTimer n)
 by-event net (Reslices i u q) = by-act net i u (Reslice q)

@@ -5,13 +5,13 @@ use Rattle.std.proofs.lemmas.Bool.{and_parts, eqb-true, false≢true}
 use Rattle.types.specs.Trees.{Slices}
 use Rattle.types.specs.declared.event.Refusal.{Refusal}
 use Rattle.types.specs.declared.event.Refusal.TheVariants.{NoSuchNode, SlotNotOpen}
-use Rattle.protocol.specs.Networks.{Net, Place, Slot, Step, with_draw, effect, first_that, room_test, is_hosted, is_open, node_where_open, net_step, nodes_of_new_slot, places_at, state_and_reply, size_of, slices_of, source, tests}
+use Rattle.protocol.specs.Networks.{Net, Instance, Slot, Step, with_draw, effect, first_that, room_test, is_hosted, is_open, node_where_open, net_step, nodes_of_new_slot, instances_at, state_and_reply, size_of, slices_of, source, tests}
 use Rattle.protocol.specs.Networks.Step.{Opens, Closes, Proposes, Delivers, Hears, NominationTimerFires, BallotTimerFires, Reslices}
 use Rattle.protocol.specs.Hosts.{Config, Entry, journal_with, journal, new_net}
 use Rattle.protocol.specs.Runs.{IsRun, net_after, state_of}
 use Rattle.protocol.specs.Reslices.{slices_at_end, slices_next, slices_since}
 use Rattle.protocol.proofs.Networks.Effects.{effect-keeps, numbers, opened_after}
-use Rattle.protocol.proofs.Networks.OpenSlots.{places_at-drop_other, places_at-push_other}
+use Rattle.protocol.proofs.Networks.OpenSlots.{instances_at-drop_other, instances_at-push_other}
 use Rattle.protocol.proofs.Networks.Journals.{runs_are_journals}
 use Rattle.protocol.proofs.Networks.SlicesOfRuns.{slices_follow_runs}
 use Rattle.closure.specs.Announcing.{slices_then}
@@ -19,11 +19,11 @@ use Rattle.network.specs.Standing.{slices_at}
 
 -- ---- open slots
 -- a slot is open where its number is among those of the open ones
-pub open-numbers : (ss : List Slot) (i : ℕ) → is_some (places_at ss i) ≡ list_any (λ n. n == i) (numbers ss)
+pub open-numbers : (ss : List Slot) (i : ℕ) → is_some (instances_at ss i) ≡ list_any (λ n. n == i) (numbers ss)
 open-numbers [] i = refl
 open-numbers (s ∷ ss) i = go (s.number == i) (open-numbers ss i)
   where
-    go : (b : Bool) → is_some (places_at ss i) ≡ list_any (λ n. n == i) (numbers ss) → is_some (if b then Some s.places else places_at ss i) ≡ (b || list_any (λ n. n == i) (numbers ss))
+    go : (b : Bool) → is_some (instances_at ss i) ≡ list_any (λ n. n == i) (numbers ss) → is_some (if b then Some s.instances else instances_at ss i) ≡ (b || list_any (λ n. n == i) (numbers ss))
     go true h = refl
     go false h = h
 
@@ -51,16 +51,16 @@ module _ (i u : ℕ) (q : Slices) where
   rests-effect now net (Opens j) free h = go (j == i) refl
     where
       slot : Slot
-      slot = record { number = j; places = nodes_of_new_slot net.hosts j }
+      slot = record { number = j; instances = nodes_of_new_slot net.hosts j }
 
-      go : (b : Bool) → (j == i) ≡ b → is_some (places_at (net.slots ++ slot ∷ []) i) ≡ false → (if b then q else now) ≡ q
+      go : (b : Bool) → (j == i) ≡ b → is_some (instances_at (net.slots ++ slot ∷ []) i) ≡ false → (if b then q else now) ≡ q
       go true y k = refl
-      go false o k = h (ap is_some (sym (places_at-push_other net.slots slot i o)) ∙ k)
+      go false o k = h (ap is_some (sym (instances_at-push_other net.slots slot i o)) ∙ k)
   rests-effect now net (Closes j) free h = go (j == i) refl
     where
-      go : (b : Bool) → (j == i) ≡ b → is_some (places_at (filter (λ s. not (s.number == j)) net.slots) i) ≡ false → (if b then q else now) ≡ q
+      go : (b : Bool) → (j == i) ≡ b → is_some (instances_at (filter (λ s. not (s.number == j)) net.slots) i) ≡ false → (if b then q else now) ≡ q
       go true y k = refl
-      go false o k = h (ap is_some (sym (places_at-drop_other net.slots j i o)) ∙ k)
+      go false o k = h (ap is_some (sym (instances_at-drop_other net.slots j i o)) ∙ k)
   rests-effect now net (Proposes j w x) free h = λ k. h (sym (still-open net (Proposes j w x) i refl) ∙ k)
   rests-effect now net (Delivers w size d) free h = λ k. h (sym (still-open net (Delivers w size d) i refl) ∙ k)
   rests-effect now net (Hears j w from kind n) free h = λ k. h (sym (still-open net (Hears j w from kind n) i refl) ∙ k)
@@ -102,9 +102,9 @@ closed-then config run i u q is closed =
 -- ---- as they are looked up
 -- those of the node at an open slot are its slices then
 pub open_then : (config : Config) (run : List Entry) (i u : ℕ) (now : Slices) → IsRun config run → Some now ≡ slices_at (state_of config run) i u → true ≡ (is_open (state_of config run) i && is_some (slices_of config.hosts u)) → Some now ≡ slices_then config.hosts i run u
-open_then config run i u now is there hosted = go (slices_of config.hosts u) (node_where_open (places_at (state_of config run).slots i) u) refl refl there hosted
+open_then config run i u now is there hosted = go (slices_of config.hosts u) (node_where_open (instances_at (state_of config run).slots i) u) refl refl there hosted
   where
-    go : (o : Option Slices) (p : Option Place) → slices_of config.hosts u ≡ o → node_where_open (places_at (state_of config run).slots i) u ≡ p → Some now ≡ option_map (λ x. x.node.slices) p → true ≡ (is_open (state_of config run) i && is_some o) → Some now ≡ option_map (λ q. slices_at_end i u q run) o
+    go : (o : Option Slices) (p : Option Instance) → slices_of config.hosts u ≡ o → node_where_open (instances_at (state_of config run).slots i) u ≡ p → Some now ≡ option_map (λ x. x.node.slices) p → true ≡ (is_open (state_of config run) i && is_some o) → Some now ≡ option_map (λ q. slices_at_end i u q run) o
     go None p a b c d = absurd (false≢true (and_parts (is_open (state_of config run) i) false (sym d)).1)
     go (Some q) None a b c d = absurd (cc)
     go (Some q) (Some p) a b c d = c ∙ ap (λ (s : Slices). Some s) (slices_follow_runs config run i u q p is a b)

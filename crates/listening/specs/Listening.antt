@@ -18,7 +18,7 @@ use Rattle.listening.specs.declared.known.Effect.{Effect}
 use Rattle.listening.specs.declared.known.Effect.TheVariants.{Nothing, Sets, Reach, Forgets}
 
 -- a node, and the table of the envelopes that it took, as they were filed
-pub record Heard : Type 0 where
+pub record ListenerState : Type 0 where
   pub configured : Configured
   pub table : List Filed
 
@@ -31,7 +31,7 @@ abbrev pub region_of : Option KnownReach → Option Region
 region_of = option_map (λ k. k.region)
 
 -- what such a node knows of its reach
-abbrev pub IsKnownOf : Heard → KnownReach → Type 0
+abbrev pub IsKnownOf : ListenerState → KnownReach → Type 0
 IsKnownOf h k = IsKnown h.configured.name h.configured.slices (sents_of h.table) k
 
 -- what is known is what the configuration and the table give
@@ -57,7 +57,7 @@ IsEffect c table e region (Reach extent) =
 IsEffect c table e region Forgets = ⊤
 
 -- a node that is not among those that are reached
-pub record IsStranger (h : Heard) (u : ℕ) : Type 0 where
+pub record IsStranger (h : ListenerState) (u : ℕ) : Type 0 where
   pub reach : List ℕ
   pub is : IsReach h.configured.name h.configured.slices (sents_of h.table) reach
   pub outside : IsFalse (among reach u)

@@ -43,9 +43,9 @@ impl Model for Listener {
     ghost use Rattle.std.specs.Coded.{codes};
     ghost use Rattle.types.specs.Trees.{members_code};
     ghost use Rattle.envstore.specs.Archives.{sents_of};
-    ghost use Rattle.listening.specs.Listening.{Heard, KnowsReach, reach_in};
+    ghost use Rattle.listening.specs.Listening.{ListenerState, KnowsReach, reach_in};
 
-    ghost Value = { Heard };
+    ghost Value = { ListenerState };
 
     ghost coded = { Prim.hlevel (codes, members_code) };
 

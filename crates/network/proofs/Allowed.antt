@@ -8,7 +8,7 @@ use Rattle.network.specs.Deeds.{IsSlotThere, index_of_slot}
 use Rattle.network.specs.Lodgings.{slot_of}
 use Rattle.network.specs.Standing.{Standing, StandsFor, machine_of}
 use Rattle.network.proofs.Indexes.{at-index, at-none, index-within, mapped-length}
-use Rattle.network.proofs.Plans.{places_at-is, slices_of-is}
+use Rattle.network.proofs.Plans.{instances_at-is, slices_of-is}
 
 -- ---- lists of tests
 pub stops : (t : Bool × Refusal) (r : Refusal) (ts : List (Bool × Refusal)) → t ≡ (true, r) → first_that (t ∷ ts) ≡ Some r
@@ -37,10 +37,10 @@ hosted-not net u q = ap is_some (slices_of-is net.hosts u ∙ at-none (λ (x : H
 pub opened_at : (net : Net) (i k : ℕ) → index_of_slot net.slots i ≡ Some k → is_open net i ≡ true
 opened_at net i k q =
     let l : k < length net.slots = subst (λ n. k < n) (mapped-length (λ (x : Slot). x.number) net.slots) (index-within (map (λ (x : Slot). x.number) net.slots) i k q) in
-    ap is_some (places_at-is net.slots i ∙ at-index (λ (x : Slot). x.number) (λ (x : Slot). x.places) net.slots i k q) ∙ is_some-map (λ (x : Slot). x.places) net.slots k l
+    ap is_some (instances_at-is net.slots i ∙ at-index (λ (x : Slot). x.number) (λ (x : Slot). x.instances) net.slots i k q) ∙ is_some-map (λ (x : Slot). x.instances) net.slots k l
 
 pub opened_not : (net : Net) (i : ℕ) → index_of_slot net.slots i ≡ None → is_open net i ≡ false
-opened_not net i q = ap is_some (places_at-is net.slots i ∙ at-none (λ (x : Slot). x.number) (λ (x : Slot). x.places) net.slots i q)
+opened_not net i q = ap is_some (instances_at-is net.slots i ∙ at-none (λ (x : Slot). x.number) (λ (x : Slot). x.instances) net.slots i q)
 
 -- ---- the networks for which a machine stands
 pub host-in : (m : Standing) (net : Net) (u : ℕ) → StandsFor (machine_of m) net → index_in (names_of net.hosts) u ≡ index_of_name m.config.hosts u

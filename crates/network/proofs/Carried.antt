@@ -8,7 +8,7 @@ use Rattle.types.specs.Statements.{Sent}
 use Rattle.types.specs.Trees.{all_differ}
 use Rattle.types.specs.declared.event.NodeEvent.{NodeEvent}
 use Rattle.types.specs.declared.event.Out.{Out}
-use Rattle.protocol.specs.Networks.{Net, Place, Reply, Slot, Step, effect, emissions, first_that, is_open, node_where_open, after_event, net_step, on_budgets, on_opens, node_named, places_at, state_and_reply, size_of, source, tests}
+use Rattle.protocol.specs.Networks.{Net, Instance, Reply, Slot, Step, effect, emissions, first_that, is_open, node_where_open, after_event, net_step, on_budgets, on_opens, node_named, instances_at, state_and_reply, size_of, source, tests}
 use Rattle.protocol.specs.Networks.Reply.{Done}
 use Rattle.protocol.specs.Networks.Step.{Opens, Closes, Proposes, Delivers, Hears, NominationTimerFires, BallotTimerFires, Reslices}
 use Rattle.protocol.specs.Rosters.{Draw, Roster, Share, Source, bytes_drawn, events_drawn}
@@ -27,7 +27,7 @@ use Rattle.network.specs.Changes.{IsChangedAt, changed_at}
 use Rattle.network.specs.Charges.{HasRoomInCounts, HasRoomOnNetwork, IsActed, IsReady, IsSlotActed, on_budgets_of, on_opens_of}
 use Rattle.network.specs.Deeds.{IsDrawn, IsEventOf, IsNodeOf, IsPlan, IsThere, acted, handed, node_at, outs_after, slots_after}
 use Rattle.network.specs.Doings.{IsAnswer, IsDoable, IsDone, marks_after, slots_of}
-use Rattle.network.specs.Lodgings.{AreTallied, IsLodged, IsTallied, IsUncounted, Lodging, Lodgings, Seat, Seats, bytes_from, events_from, place_in, seat_of, seats_of, slot_of}
+use Rattle.network.specs.Lodgings.{AreTallied, IsLodged, IsTallied, IsUncounted, Lodging, Lodgings, Seat, Seats, bytes_from, events_from, instance_in, seat_of, seats_of, slot_of}
 use Rattle.network.specs.Marks.{marks_in, numbered, slot_and_node_of, emitted_at, emitted_before}
 use Rattle.network.specs.Standing.{IsStanding, IsStep, IsTidy, Machine, Standing, StandsFor, machine_of, net_of}
 use Rattle.network.specs.declared.applied.Outcome.{Outcome}
@@ -43,7 +43,7 @@ use Rattle.network.proofs.KeyPlaces.{map-remove}
 use Rattle.network.proofs.SlotPlaceLaws.{numbers-are}
 use Rattle.network.proofs.Tidiness.{IsFresh, Neat, absent, fresh-of, after_event-name, names_at, neat, same-test, slot_numbers}
 use Rattle.types.proofs.Bools.{not_is}
-use Rattle.network.proofs.Plans.{at-place, node_named-is, places_at-is, same-option}
+use Rattle.network.proofs.Plans.{at-place, node_named-is, instances_at-is, same-option}
 use Rattle.network.proofs.Emitted.{all-at}
 use Rattle.protocol.proofs.Equality.Sameness.{eqb-refl}
 
@@ -96,8 +96,8 @@ all-changed key R P Q i (suc k) (x ∷ xs) (y ∷ ys) o r miss hit a =
     All-cons Q y ys (subst Q r.0 (miss x o.0 (All-head P x xs a))) (all-changed key R P Q i k xs ys o.1 r.1 miss hit (All-tail P x xs a))
 
 -- ---- slots without numbers of archives and counts
-abbrev node_of : Seat → Place
-node_of x = x.place
+abbrev node_of : Seat → Instance
+node_of x = x.instance
 
 abbrev name_at : Lodging → ℕ
 name_at l = l.held.node.name
@@ -105,7 +105,7 @@ name_at l = l.held.node.name
 abbrev number_at : Lodgings → ℕ
 number_at s = s.number
 
-names-are : (ps : List Lodging) → map (λ (x : Seat). x.place.node.name) (map seat_of ps) ≡ map name_at ps
+names-are : (ps : List Lodging) → map (λ (x : Seat). x.instance.node.name) (map seat_of ps) ≡ map name_at ps
 names-are [] = refl
 names-are (p ∷ ps) = ap (λ (ns : List ℕ). name_at p ∷ ns) (names-are ps)
 
@@ -113,17 +113,17 @@ seat-numbers : (ss : List Lodgings) → map (λ (s : Seats). s.number) (map seat
 seat-numbers [] = refl
 seat-numbers (s ∷ ss) = ap (λ (ns : List ℕ). s.number ∷ ns) (seat-numbers ss)
 
-acted-places : (c : Charge) (e : NodeEvent) (h : ℕ) (old new : List Lodging) → IsChangedAt (IsActed c e) h old new → map node_of (map seat_of new) ≡ changed_at h (after_event e) (map node_of (map seat_of old))
-acted-places c e h [] new r = absurd r
-acted-places c e h (x ∷ xs) [] r = absurd r
-acted-places c e zero (x ∷ xs) (y ∷ ys) r = ap₂ (λ (p : Place) (ps : List Place). p ∷ ps) r.0.place (sym (ap (λ (zs : List Lodging). map node_of (map seat_of zs)) r.1))
-acted-places c e (suc h) (x ∷ xs) (y ∷ ys) r = ap₂ (λ (p : Place) (ps : List Place). p ∷ ps) (sym (ap place_in r.0)) (acted-places c e h xs ys r.1)
+acted-instances : (c : Charge) (e : NodeEvent) (h : ℕ) (old new : List Lodging) → IsChangedAt (IsActed c e) h old new → map node_of (map seat_of new) ≡ changed_at h (after_event e) (map node_of (map seat_of old))
+acted-instances c e h [] new r = absurd r
+acted-instances c e h (x ∷ xs) [] r = absurd r
+acted-instances c e zero (x ∷ xs) (y ∷ ys) r = ap₂ (λ (p : Instance) (ps : List Instance). p ∷ ps) r.0.instance (sym (ap (λ (zs : List Lodging). map node_of (map seat_of zs)) r.1))
+acted-instances c e (suc h) (x ∷ xs) (y ∷ ys) r = ap₂ (λ (p : Instance) (ps : List Instance). p ∷ ps) (sym (ap instance_in r.0)) (acted-instances c e h xs ys r.1)
 
 acted-slots : (c : Charge) (e : NodeEvent) (h k : ℕ) (old new : List Lodgings) → IsChangedAt (IsSlotActed c h e) k old new → slots_of new ≡ acted (slots_of old) k h e
 acted-slots c e h k [] new r = absurd r
 acted-slots c e h k (x ∷ xs) [] r = absurd r
 acted-slots c e h zero (x ∷ xs) (y ∷ ys) r =
-    ap₂ {C = List Slot} (λ (s : Slot) (ss : List Slot). s ∷ ss) (λ j. record { number = r.0.number j; places = acted-places c e h x.places y.places r.0.places j }) (sym (ap slots_of r.1))
+    ap₂ {C = List Slot} (λ (s : Slot) (ss : List Slot). s ∷ ss) (λ j. record { number = r.0.number j; instances = acted-instances c e h x.instances y.instances r.0.instances j }) (sym (ap slots_of r.1))
 acted-slots c e h (suc k) (x ∷ xs) (y ∷ ys) r = ap₂ {C = List Slot} (λ (s : Slot) (ss : List Slot). s ∷ ss) (sym (ap (λ (s : Lodgings). slot_of (seats_of s)) r.0)) (acted-slots c e h k xs ys r.1)
 
 pub done-slots : (c : Charge) (d : Deed) (old new : List Lodgings) → IsDone c d old new → slots_of new ≡ slots_after (slots_of old) d
@@ -147,9 +147,9 @@ opens-are m (ByPair k h u) s q = ap on_opens q.6
 
 -- ---- what is counted at the nodes
 -- the hosted nodes stand in their order at each slot
-names-all : (ns : List ℕ) (ss : List Lodgings) → AllByRecursion (λ (s : Seats). map (λ (x : Seat). x.place.node.name) s.seats ≡ ns) (map seats_of ss) → All (λ (s : Lodgings). map name_at s.places ≡ ns) ss
-names-all ns [] a = All-nil (λ (s : Lodgings). map name_at s.places ≡ ns)
-names-all ns (s ∷ ss) a = All-cons (λ (s : Lodgings). map name_at s.places ≡ ns) s ss (sym (names-are s.places) ∙ a.0) (names-all ns ss a.1)
+names-all : (ns : List ℕ) (ss : List Lodgings) → AllByRecursion (λ (s : Seats). map (λ (x : Seat). x.instance.node.name) s.seats ≡ ns) (map seats_of ss) → All (λ (s : Lodgings). map name_at s.instances ≡ ns) ss
+names-all ns [] a = All-nil (λ (s : Lodgings). map name_at s.instances ≡ ns)
+names-all ns (s ∷ ss) a = All-cons (λ (s : Lodgings). map name_at s.instances ≡ ns) s ss (sym (names-are s.instances) ∙ a.0) (names-all ns ss a.1)
 
 unmapped : {X Y : Type 0} (P : X → Type 0) (f : Y → X) (ys : List Y) → All P (map f ys) → All (λ y. P (f y)) ys
 unmapped P f [] a = All-nil (λ y. P (f y))
@@ -160,43 +160,43 @@ both-all P Q [] a b = All-nil (λ x. P x × Q x)
 both-all P Q (x ∷ xs) a b = All-cons (λ x. P x × Q x) x xs (All-head P x xs a, All-head Q x xs b) (both-all P Q xs (All-tail P x xs a) (All-tail Q x xs b))
 
 abbrev AreCounted : List Draw → Lodgings → Type 0
-AreCounted draws s = All (λ (l : Lodging). IsTallied s.number draws (seat_of l)) s.places
+AreCounted draws s = All (λ (l : Lodging). IsTallied s.number draws (seat_of l)) s.instances
 
 counted-from : (draws : List Draw) (ss : List Lodgings) → AreTallied draws (map seats_of ss) → All (AreCounted draws) ss
 counted-from draws ss a =
-    All-weaker (λ (s : Lodgings). All (IsTallied s.number draws) (map seat_of s.places)) (AreCounted draws) (λ s b. unmapped (IsTallied s.number draws) seat_of s.places b) ss
+    All-weaker (λ (s : Lodgings). All (IsTallied s.number draws) (map seat_of s.instances)) (AreCounted draws) (λ s b. unmapped (IsTallied s.number draws) seat_of s.instances b) ss
     (unmapped (λ (s : Seats). All (IsTallied s.number draws) s.seats) seats_of ss a)
 
 counted-to : (draws : List Draw) (ss : List Lodgings) → All (AreCounted draws) ss → AreTallied draws (map seats_of ss)
 counted-to draws ss a =
     All-map (λ (s : Seats). All (IsTallied s.number draws) s.seats) seats_of ss
-    (All-weaker (AreCounted draws) (λ (s : Lodgings). All (IsTallied s.number draws) (map seat_of s.places)) (λ s b. All-map (IsTallied s.number draws) seat_of s.places b) ss a)
+    (All-weaker (AreCounted draws) (λ (s : Lodgings). All (IsTallied s.number draws) (map seat_of s.instances)) (λ s b. All-map (IsTallied s.number draws) seat_of s.instances b) ss a)
 
 -- an event of a node
 module _ (net after : Net) (e : Step) (c : IsCountedAfter net e after) (i u : ℕ) (o : (n : ℕ) → is_opening n e ≡ false) (q : IsSourceOf i u (source net.roster e)) where
   spared-here : (s : Lodgings) → (s.number == i) ≡ false → AreCounted net.draws s → AreCounted after.draws s
   spared-here s d a =
       All-weaker (λ (l : Lodging). IsTallied s.number net.draws (seat_of l)) (λ (l : Lodging). IsTallied s.number after.draws (seat_of l))
-      (λ l t. stays net after e s.number (seat_of l) c (o s.number) (spared-slot i u s.number l.held.node.name (source net.roster e) q d) t) s.places a
+      (λ l t. stays net after e s.number (seat_of l) c (o s.number) (spared-slot i u s.number l.held.node.name (source net.roster e) q d) t) s.instances a
 
   module _ (g : Charge) (ev : NodeEvent) (size : g.size ≡ size_of e) (agree : Agrees i u g.drawn (source net.roster e)) where
-    moved-here : (h : ℕ) (x y : Lodgings) → x.number ≡ i → IsSlotActed g h ev x y → IsOnlyAt u h (map name_at x.places) → AreCounted net.draws x → AreCounted after.draws y
+    moved-here : (h : ℕ) (x y : Lodgings) → x.number ≡ i → IsSlotActed g h ev x y → IsOnlyAt u h (map name_at x.instances) → AreCounted net.draws x → AreCounted after.draws y
     moved-here h x y same r only a =
-        subst (λ n. All (λ (l : Lodging). IsTallied n after.draws (seat_of l)) y.places) (sym r.number)
-        (all-changed name_at (IsActed g ev) (λ (l : Lodging). IsTallied x.number net.draws (seat_of l)) (λ (l : Lodging). IsTallied x.number after.draws (seat_of l)) u h x.places y.places only r.places
+        subst (λ n. All (λ (l : Lodging). IsTallied n after.draws (seat_of l)) y.instances) (sym r.number)
+        (all-changed name_at (IsActed g ev) (λ (l : Lodging). IsTallied x.number net.draws (seat_of l)) (λ (l : Lodging). IsTallied x.number after.draws (seat_of l)) u h x.instances y.instances only r.instances
         (λ l d t. stays net after e x.number (seat_of l) c (o x.number) (spared-name i u x.number l.held.node.name (source net.roster e) q d) t)
         (λ l k w acted t. moves net after e x.number g l k c (o x.number)
         (subst (λ m. Agrees m l.held.node.name g.drawn (source net.roster e)) (sym same) (subst (λ m. Agrees i m g.drawn (source net.roster e)) (sym w) agree))
-        size (ap (λ (p : Place). p.node.name) acted.place ∙ after_event-name ev (place_in l)) acted.charged t)
+        size (ap (λ (p : Instance). p.node.name) acted.instance ∙ after_event-name ev (instance_in l)) acted.charged t)
         a)
 
-    counted-act : (ns : List ℕ) (h k : ℕ) (old new : List Lodgings) → IsOnlyAt i k (map number_at old) → IsOnlyAt u h ns → All (λ (s : Lodgings). map name_at s.places ≡ ns) old → IsChangedAt (IsSlotActed g h ev) k old new
+    counted-act : (ns : List ℕ) (h k : ℕ) (old new : List Lodgings) → IsOnlyAt i k (map number_at old) → IsOnlyAt u h ns → All (λ (s : Lodgings). map name_at s.instances ≡ ns) old → IsChangedAt (IsSlotActed g h ev) k old new
         → All (AreCounted net.draws) old → All (AreCounted after.draws) new
     counted-act ns h k old new at only names r a =
-        all-changed number_at (IsSlotActed g h ev) (λ (s : Lodgings). AreCounted net.draws s × (map name_at s.places ≡ ns)) (AreCounted after.draws) i k old new at r
+        all-changed number_at (IsSlotActed g h ev) (λ (s : Lodgings). AreCounted net.draws s × (map name_at s.instances ≡ ns)) (AreCounted after.draws) i k old new at r
         (λ s d b. spared-here s d b.0)
         (λ x y w acted b. moved-here h x y w acted (subst (IsOnlyAt u h) (sym b.1) only) b.0)
-        (both-all (AreCounted net.draws) (λ (s : Lodgings). map name_at s.places ≡ ns) old a names)
+        (both-all (AreCounted net.draws) (λ (s : Lodgings). map name_at s.instances ≡ ns) old a names)
 
 -- an opening draws on no share, and nothing is drawn on those of its slot
 openings-draw : (o : Option Roster) (i m : ℕ) (t : Share) → is_of_share m t (source o (Opens i)) ≡ false
@@ -214,21 +214,21 @@ fresh-tallied net after i l c u = record {
   bytes = λ v. ap (λ ts. bytes_from ts v) u.heard ∙ sym (c.renewed i (Pair l.held.node.name v) (eqb-refl i)).1;
 }
 
-counted-open : (net after : Net) (s : Lodgings) (old : List Lodgings) → IsCountedAfter net (Opens s.number) after → AllByRecursion (λ m. (m == s.number) ≡ false) (map number_at old) → All IsUncounted s.places
+counted-open : (net after : Net) (s : Lodgings) (old : List Lodgings) → IsCountedAfter net (Opens s.number) after → AllByRecursion (λ m. (m == s.number) ≡ false) (map number_at old) → All IsUncounted s.instances
     → All (AreCounted net.draws) old → All (AreCounted after.draws) (old ++ s ∷ [])
 counted-open net after s old c out fresh a =
     All-append (AreCounted after.draws) old (s ∷ [])
     (others number_at (AreCounted net.draws) (AreCounted after.draws) s.number old out
     (λ x d b. All-weaker (λ (l : Lodging). IsTallied x.number net.draws (seat_of l)) (λ (l : Lodging). IsTallied x.number after.draws (seat_of l))
-    (λ l t. stays net after (Opens s.number) x.number (seat_of l) c (same-test s.number x.number ∙ d) (spared-none x.number l.held.node.name (source net.roster (Opens s.number)) (openings-draw net.roster s.number)) t) x.places b)
+    (λ l t. stays net after (Opens s.number) x.number (seat_of l) c (same-test s.number x.number ∙ d) (spared-none x.number l.held.node.name (source net.roster (Opens s.number)) (openings-draw net.roster s.number)) t) x.instances b)
     a)
-    (All-cons (AreCounted after.draws) s [] (All-weaker IsUncounted (λ (l : Lodging). IsTallied s.number after.draws (seat_of l)) (λ l u. fresh-tallied net after s.number l c u) s.places fresh) (All-nil (AreCounted after.draws)))
+    (All-cons (AreCounted after.draws) s [] (All-weaker IsUncounted (λ (l : Lodging). IsTallied s.number after.draws (seat_of l)) (λ l u. fresh-tallied net after s.number l c u) s.instances fresh) (All-nil (AreCounted after.draws)))
 
 counted-close : (net after : Net) (i k : ℕ) (old : List Lodgings) → IsCountedAfter net (Closes i) after → All (AreCounted net.draws) old → All (AreCounted after.draws) (remove old k)
 counted-close net after i k old c a =
     let b = All-weaker (AreCounted net.draws) (AreCounted after.draws)
     (λ x b. All-weaker (λ (l : Lodging). IsTallied x.number net.draws (seat_of l)) (λ (l : Lodging). IsTallied x.number after.draws (seat_of l))
-    (λ l t. stays net after (Closes i) x.number (seat_of l) c refl (spared-none x.number l.held.node.name (source net.roster (Closes i)) (closings-draw net.roster i)) t) x.places b)
+    (λ l t. stays net after (Closes i) x.number (seat_of l) c refl (spared-none x.number l.held.node.name (source net.roster (Closes i)) (closings-draw net.roster i)) t) x.instances b)
     old a in
     All-append (AreCounted after.draws) (take k old) (drop (suc k) old) (All-take (AreCounted after.draws) k old b) (All-drop (AreCounted after.draws) (suc k) old b)
 
@@ -255,15 +255,15 @@ node-named m e k h n = go (slot_and_node_of e) refl n
     go (Some at) q n = (at.0, at.1, q, n.0, n.1)
 
 -- ---- networks without counts
-node-names : (xs : List Seat) → names_at (map node_of xs) ≡ map (λ (x : Seat). x.place.node.name) xs
+node-names : (xs : List Seat) → names_at (map node_of xs) ≡ map (λ (x : Seat). x.instance.node.name) xs
 node-names [] = refl
-node-names (x ∷ xs) = ap (λ (ns : List ℕ). x.place.node.name ∷ ns) (node-names xs)
+node-names (x ∷ xs) = ap (λ (ns : List ℕ). x.instance.node.name ∷ ns) (node-names xs)
 
-to-names : (ns : List ℕ) (ss : List Seats) → AllByRecursion (λ (s : Seats). map (λ (x : Seat). x.place.node.name) s.seats ≡ ns) ss → AllByRecursion (λ (s : Slot). names_at s.places ≡ ns) (map slot_of ss)
+to-names : (ns : List ℕ) (ss : List Seats) → AllByRecursion (λ (s : Seats). map (λ (x : Seat). x.instance.node.name) s.seats ≡ ns) ss → AllByRecursion (λ (s : Slot). names_at s.instances ≡ ns) (map slot_of ss)
 to-names ns [] a = tt
 to-names ns (s ∷ ss) a = (node-names s.seats ∙ a.0, to-names ns ss a.1)
 
-from-names : (ns : List ℕ) (ss : List Seats) → AllByRecursion (λ (s : Slot). names_at s.places ≡ ns) (map slot_of ss) → AllByRecursion (λ (s : Seats). map (λ (x : Seat). x.place.node.name) s.seats ≡ ns) ss
+from-names : (ns : List ℕ) (ss : List Seats) → AllByRecursion (λ (s : Slot). names_at s.instances ≡ ns) (map slot_of ss) → AllByRecursion (λ (s : Seats). map (λ (x : Seat). x.instance.node.name) s.seats ≡ ns) ss
 from-names ns [] a = tt
 from-names ns (s ∷ ss) a = (sym (node-names s.seats) ∙ a.0, from-names ns ss a.1)
 
@@ -278,21 +278,21 @@ neat-of m t = record { names = to-names (names_of m.config.hosts) m.slots t.name
 abbrev number_of : Slot → ℕ
 number_of s = s.number
 
-abbrev nodes_of : Slot → List Place
-nodes_of s = s.places
+abbrev nodes_of : Slot → List Instance
+nodes_of s = s.instances
 
-abbrev name_of : Place → ℕ
+abbrev name_of : Instance → ℕ
 name_of p = p.node.name
 
-known-place : (ns : List ℕ) (ps : List Place) (u h : ℕ) → names_at ps ≡ ns → index_in ns u ≡ Some h → node_named ps u ≡ slice_get ps h
-known-place ns ps u h e q = node_named-is ps u ∙ at-index name_of (λ p. p) ps u h (ap (λ ms. index_in ms u) e ∙ q) ∙ same-option (slice_get ps h)
+known-instance : (ns : List ℕ) (ps : List Instance) (u h : ℕ) → names_at ps ≡ ns → index_in ns u ≡ Some h → node_named ps u ≡ slice_get ps h
+known-instance ns ps u h e q = node_named-is ps u ∙ at-index name_of (λ p. p) ps u h (ap (λ ms. index_in ms u) e ∙ q) ∙ same-option (slice_get ps h)
 
-node_where_open-at : (ns : List ℕ) (slots : List Slot) (i u k h : ℕ) → AllByRecursion (λ (s : Slot). names_at s.places ≡ ns) slots → index_in (slot_numbers slots) i ≡ Some k → index_in ns u ≡ Some h → node_where_open (places_at slots i) u ≡ node_at (slice_get slots k) h
-node_where_open-at ns slots i u k h names q r = ap (λ o. node_where_open o u) (places_at-is slots i ∙ at-index number_of nodes_of slots i k q) ∙ go (slice_get slots k) refl
+node_where_open-at : (ns : List ℕ) (slots : List Slot) (i u k h : ℕ) → AllByRecursion (λ (s : Slot). names_at s.instances ≡ ns) slots → index_in (slot_numbers slots) i ≡ Some k → index_in ns u ≡ Some h → node_where_open (instances_at slots i) u ≡ node_at (slice_get slots k) h
+node_where_open-at ns slots i u k h names q r = ap (λ o. node_where_open o u) (instances_at-is slots i ∙ at-index number_of nodes_of slots i k q) ∙ go (slice_get slots k) refl
   where
     go : (o : Option Slot) → slice_get slots k ≡ o → node_where_open (option_map nodes_of o) u ≡ node_at o h
     go None e = refl
-    go (Some s) e = known-place ns s.places u h (at-place (λ (s : Slot). names_at s.places ≡ ns) slots k s names e) r
+    go (Some s) e = known-instance ns s.instances u h (at-place (λ (s : Slot). names_at s.instances ≡ ns) slots k s names e) r
 
 -- ---- the step
 abbrev pub charge_of : Plan → Charge
@@ -503,14 +503,14 @@ module _ {m : Standing} {e : Step} {p : Plan} (known : IsCarriable m e p) where
   node-room ByOpens i u x y q s xn yn tl = tt
   node-room (ByOwn k h) i u x y q s xn yn tl =
       let f = subst (IsSourceOf i u) q.6 s in
-      let l : events_drawn q.1.number (Own q.2.place.node.name) known.standing.stood.0 < q.0.shares.own = subst (HasRoomForEvents stood) q.6 (room-events stood e room) in
+      let l : events_drawn q.1.number (Own q.2.instance.node.name) known.standing.stood.0 < q.0.shares.own = subst (HasRoomForEvents stood) q.6 (room-events stood e room) in
       let same = ap₂ (λ a b. events_drawn a (Own b) known.standing.stood.0) (f.0 ∙ sym xn) (f.1 ∙ sym yn) in
       let o = tl.own in
       let b = (known.shares q.0 q.3).few_own in
       omega (arith, l, same, o, b)
   node-room (ByPair k h w) i u x y q s xn yn tl =
       let f = subst (IsSourceOf i u) q.6 s in
-      let l : events_drawn q.1.number (Pair q.2.place.node.name w) known.standing.stood.0 < q.0.shares.pair = subst (HasRoomForEvents stood) q.6 (room-events stood e room) in
+      let l : events_drawn q.1.number (Pair q.2.instance.node.name w) known.standing.stood.0 < q.0.shares.pair = subst (HasRoomForEvents stood) q.6 (room-events stood e room) in
       let same = ap₂ (λ a b. events_drawn a (Pair b w) known.standing.stood.0) (f.0 ∙ sym xn) (f.1 ∙ sym yn) in
       let size-same = ap₂ (λ a b. bytes_drawn a (Pair b w) known.standing.stood.0) (f.0 ∙ sym xn) (f.1 ∙ sym yn) in
       let o = tl.events w in
@@ -520,7 +520,7 @@ module _ {m : Standing} {e : Step} {p : Plan} (known : IsCarriable m e p) where
       let z = known.plan.size in (
         omega (arith, l, same, o, b),
         elim (room-bytes stood e room) [
-          | inl g ↦ inl (let k : bytes_drawn q.1.number (Pair q.2.place.node.name w) known.standing.stood.0 + size_of e ≤ q.0.shares.bytes = subst (λ a. HasRoomForBytes stood a (size_of e)) q.6 g in omega (arith, k, size-same, r, c, z))
+          | inl g ↦ inl (let k : bytes_drawn q.1.number (Pair q.2.instance.node.name w) known.standing.stood.0 + size_of e ≤ q.0.shares.bytes = subst (λ a. HasRoomForBytes stood a (size_of e)) q.6 g in omega (arith, k, size-same, r, c, z))
           | inr g ↦ inr (z ∙ g)
         ],
       )
@@ -529,10 +529,10 @@ module _ {m : Standing} {e : Step} {p : Plan} (known : IsCarriable m e p) where
   ready k h nm =
       let a = node-named (machine_of m) e k h nm in
       let x = keyed number_at m.slots k a.0 (index-gives (map number_at m.slots) a.0 k (ap (λ ns. index_in ns a.0) (sym (numbers-are m.slots)) ∙ a.3)) in
-      let names = all-at (λ (s : Lodgings). map name_at s.places ≡ names_of m.config.hosts) m.slots k x.it (names-all (names_of m.config.hosts) m.slots known.standing.tidy.names) x.is in
-      let y = keyed name_at x.it.places h a.1 (index-gives (map name_at x.it.places) a.1 h (ap (λ ns. index_in ns a.1) names ∙ a.4)) in
-      let tl = all-at (λ (l : Lodging). IsTallied x.it.number known.standing.stood.0 (seat_of l)) x.it.places h y.it (all-at (AreCounted known.standing.stood.0) m.slots k x.it (counted-from known.standing.stood.0 m.slots known.standing.stood.1) x.is) y.is in
-      record { slot = x.it; place = y.it; slot_is = x.is; place_is = y.is; room = node-room p.drawn a.0 a.1 x.it y.it known.plan.drawn (source-of m.config.roster e a.0 a.1 a.2) x.named y.named tl }
+      let names = all-at (λ (s : Lodgings). map name_at s.instances ≡ names_of m.config.hosts) m.slots k x.it (names-all (names_of m.config.hosts) m.slots known.standing.tidy.names) x.is in
+      let y = keyed name_at x.it.instances h a.1 (index-gives (map name_at x.it.instances) a.1 h (ap (λ ns. index_in ns a.1) names ∙ a.4)) in
+      let tl = all-at (λ (l : Lodging). IsTallied x.it.number known.standing.stood.0 (seat_of l)) x.it.instances h y.it (all-at (AreCounted known.standing.stood.0) m.slots k x.it (counted-from known.standing.stood.0 m.slots known.standing.stood.1) x.is) y.is in
+      record { slot = x.it; instance = y.it; slot_is = x.is; instance_is = y.is; room = node-room p.drawn a.0 a.1 x.it y.it known.plan.drawn (source-of m.config.roster e a.0 a.1 a.2) x.named y.named tl }
 
   doable-by : (d : Deed) → IsEventOf (machine_of m) e d → IsThere m.archive (slots_of m.slots) d → IsDoable m.archive (charge_of p) m.slots d
   doable-by (Open s) nm th = (th.0, none-index (map number_at m.slots) s.number (out-of m e p known.standing known.plan known.standing.stood.0 known.standing.stood.1 s.number nm))
@@ -547,7 +547,7 @@ module _ {m : Standing} {e : Step} {p : Plan} (known : IsCarriable m e p) where
   pub doable : IsDoable m.archive (charge_of p) m.slots p.deed
   doable = doable-by p.deed known.plan.named known.plan.there
 
-  module _ (new : List Lodgings) (archive : List Sent) (done : IsDone (charge_of p) p.deed m.slots new) (lodged : All (λ (s : Lodgings). All (IsLodged archive) s.places) new) where
+  module _ (new : List Lodgings) (archive : List Sent) (done : IsDone (charge_of p) p.deed m.slots new) (lodged : All (λ (s : Lodgings). All (IsLodged archive) s.instances) new) where
     tidy-after : IsTidy (carried m p new)
     tidy-after =
         let n = neat-after m e p known.standing known.plan known.standing.stood.0 known.standing.stood.1 new done in

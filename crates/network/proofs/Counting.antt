@@ -125,18 +125,18 @@ agrees m ByOpens s i u q h = subst (Agrees i u ByOpens) (sym q.2) (record { own 
 agrees m (ByOwn k n) s i u q h =
     let is = q.6 in
     let f = subst (IsSourceOf i u) is h in
-    subst (Agrees i u (ByOwn k n)) (sym is) (own-agrees q.0.shares i u q.1.number q.2.place.node.name k n f.0 f.1)
+    subst (Agrees i u (ByOwn k n)) (sym is) (own-agrees q.0.shares i u q.1.number q.2.instance.node.name k n f.0 f.1)
 agrees m (ByPair k n w) s i u q h =
     let is = q.6 in
     let f = subst (IsSourceOf i u) is h in
-    subst (Agrees i u (ByPair k n w)) (sym is) (pair-agrees q.0.shares i u q.1.number q.2.place.node.name k n w f.0 f.1)
+    subst (Agrees i u (ByPair k n w)) (sym is) (pair-agrees q.0.shares i u q.1.number q.2.instance.node.name k n w f.0 f.1)
 
 -- ---- the counts after an event
-pub stays : (net after : Net) (e : Step) (n : ℕ) (x : Seat) → IsCountedAfter net e after → is_opening n e ≡ false → Spared n x.place.node.name (source net.roster e) → IsTallied n net.draws x → IsTallied n after.draws x
+pub stays : (net after : Net) (e : Step) (n : ℕ) (x : Seat) → IsCountedAfter net e after → is_opening n e ≡ false → Spared n x.instance.node.name (source net.roster e) → IsTallied n net.draws x → IsTallied n after.draws x
 stays net after e n x c o s t = record {
-  own = let a = t.own in let b = c.share_events n (Own x.place.node.name) o in let z = ap {B = ℕ} (λ b. if b then 1 else 0) s.own in omega (arith, a, b, z);
-  events = λ u. let a = t.events u in let b = c.share_events n (Pair x.place.node.name u) o in let z = ap {B = ℕ} (λ b. if b then 1 else 0) (s.pair u) in omega (arith, a, b, z);
-  bytes = λ u. let a = t.bytes u in let b = c.share_bytes n (Pair x.place.node.name u) o in let z = ap {B = ℕ} (λ b. if b then size_of e else 0) (s.pair u) in omega (arith, a, b, z);
+  own = let a = t.own in let b = c.share_events n (Own x.instance.node.name) o in let z = ap {B = ℕ} (λ b. if b then 1 else 0) s.own in omega (arith, a, b, z);
+  events = λ u. let a = t.events u in let b = c.share_events n (Pair x.instance.node.name u) o in let z = ap {B = ℕ} (λ b. if b then 1 else 0) (s.pair u) in omega (arith, a, b, z);
+  bytes = λ u. let a = t.bytes u in let b = c.share_bytes n (Pair x.instance.node.name u) o in let z = ap {B = ℕ} (λ b. if b then size_of e else 0) (s.pair u) in omega (arith, a, b, z);
 }
 
 pub moves : (net after : Net) (e : Step) (n : ℕ) (c : Charge) (x y : Lodging) → IsCountedAfter net e after → is_opening n e ≡ false → Agrees n x.held.node.name c.drawn (source net.roster e) → c.size ≡ size_of e

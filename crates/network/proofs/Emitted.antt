@@ -19,11 +19,11 @@ filed-at archive fs k None a e = tt
 filed-at archive fs k (Some f) a e = all-at (IsFiled archive) fs k f.now a (sym e)
 
 -- a node that is read there is lodged
-pub lodged-at : (archive : List Sent) (slots : List Lodgings) (k h : ℕ) (x : Lodgings) (ps : List Lodging) (p : Lodging) (s : Seats) (y : Seat) → AreLodged archive slots → slice_get (map seats_of slots) k ≡ Some s → slice_get s.seats h ≡ Some y → x ≡ get_or slots k x → ps ≡ x.places → p ≡ get_or ps h p
+pub lodged-at : (archive : List Sent) (slots : List Lodgings) (k h : ℕ) (x : Lodgings) (ps : List Lodging) (p : Lodging) (s : Seats) (y : Seat) → AreLodged archive slots → slice_get (map seats_of slots) k ≡ Some s → slice_get s.seats h ≡ Some y → x ≡ get_or slots k x → ps ≡ x.instances → p ≡ get_or ps h p
     → IsLodged archive p
 lodged-at archive slots k h x ps p s y all a b xe pe ye =
     let l : k < length slots = subst (λ n. k < n) (mapped-length seats_of slots) (slice_get_within (map seats_of slots) k s a) in
     let e : seats_of x ≡ s = same_Some (seats_of x) s (sym (slice_get-map seats_of slots k ∙ ap (option_map seats_of) (slice_get_read slots (length slots) k x refl l xe)) ∙ a) in
-    let lh : h < length x.places = subst (λ n. h < n) (mapped-length seat_of x.places) (slice_get_within (map seat_of x.places) h y (ap (λ (z : Seats). slice_get z.seats h) e ∙ b)) in
-    let one : All (IsLodged archive) x.places = subst (λ (z : Lodgings). All (IsLodged archive) z.places) (sym xe) (all k x l) in
+    let lh : h < length x.instances = subst (λ n. h < n) (mapped-length seat_of x.instances) (slice_get_within (map seat_of x.instances) h y (ap (λ (z : Seats). slice_get z.seats h) e ∙ b)) in
+    let one : All (IsLodged archive) x.instances = subst (λ (z : Lodgings). All (IsLodged archive) z.instances) (sym xe) (all k x l) in
     subst (IsLodged archive) (sym ye) (subst (λ (qs : List Lodging). IsLodged archive (get_or qs h p)) (sym pe) (one h p lh))

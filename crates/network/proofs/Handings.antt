@@ -5,7 +5,7 @@ use Rattle.types.specs.Statements.{Sent}
 use Rattle.types.specs.declared.kind.Kind.{Kind}
 use Rattle.types.specs.declared.event.Refusal.{Refusal}
 use Rattle.types.specs.declared.event.Refusal.TheVariants.{BadEnvelope, HostedSender, NoSuchNode, NotEmitted, SlotNotOpen}
-use Rattle.protocol.specs.Networks.{Net, Place, Reading, act_known, effect, emission, first_that, room_test, bytes_test, is_hosted, hosted_test, open_test, node_where_open, places_at, source, tests}
+use Rattle.protocol.specs.Networks.{Net, Instance, Reading, act_known, effect, emission, first_that, room_test, bytes_test, is_hosted, hosted_test, open_test, node_where_open, instances_at, source, tests}
 use Rattle.protocol.specs.Networks.Reading.{Read, Fault}
 use Rattle.protocol.specs.Networks.Step.{Delivers, Hears}
 use Rattle.protocol.specs.Rosters.{Roster, Source}
@@ -129,7 +129,7 @@ abbrev apart : Net → ℕ → ℕ → Bool
 apart net u w = not (is_hosted net u) || not (is_hosted net w) || (u == w)
 
 abbrev after_nodes : Net → ℕ → ℕ → Kind → ℕ → Source → List (Bool × Refusal)
-after_nodes net i w kind n src = open_test net i ∷ (is_none (emission (node_where_open (places_at net.slots i) w) kind n), NotEmitted) ∷ room_test net src ∷ []
+after_nodes net i w kind n src = open_test net i ∷ (is_none (emission (node_where_open (instances_at net.slots i) w) kind n), NotEmitted) ∷ room_test net src ∷ []
 
 hears-are : (net : Net) (i u w : ℕ) (kind : Kind) (n : ℕ) → first_that (tests net (Hears i u w kind n)) ≡ first_that ((apart net u w, NoSuchNode) ∷ after_nodes net i w kind n (pair_source net.roster i u w))
 hears-are net i u w kind n = ap (λ src. first_that ((apart net u w, NoSuchNode) ∷ after_nodes net i w kind n src)) (hears-source net.roster i u w kind n)
@@ -170,16 +170,16 @@ two-there m net i u h w j kind n two s =
 
 pub hears-closed : (m : Standing) (i u h w j : ℕ) (kind : Kind) (n : ℕ) → AreTwo m u h w j → index_of_slot (map slot_of (machine_of m).slots) i ≡ None → IsRefusal (machine_of m) (Hears i u w kind n) SlotNotOpen
 hears-closed m i u h w j kind n two c =
-    inr (λ net s. two-there m net i u h w j kind n two s ∙ not_open m net i ((is_none (emission (node_where_open (places_at net.slots i) w) kind n), NotEmitted) ∷ room_test net (pair_source net.roster i u w) ∷ []) s c)
+    inr (λ net s. two-there m net i u h w j kind n two s ∙ not_open m net i ((is_none (emission (node_where_open (instances_at net.slots i) w) kind n), NotEmitted) ∷ room_test net (pair_source net.roster i u w) ∷ []) s c)
 
 -- what it has emitted
-emitted-nth : (p : Place) (kind : Kind) (n : ℕ) → emission (Some p) kind n ≡ nth_of kind n p.emitted
+emitted-nth : (p : Instance) (kind : Kind) (n : ℕ) → emission (Some p) kind n ≡ nth_of kind n p.emitted
 emitted-nth p kind zero = refl
 emitted-nth p kind (suc n) = refl
 
 emission-is : (m : Standing) (net : Net) (i w k j : ℕ) (kind : Kind) (n : ℕ) (y : Seat) (o : Option (Bor Filed)) → IsStanding m → StandsFor (machine_of m) net → IsSlotThere m i k → index_of_name m.config.hosts w ≡ Some j → IsSeat (machine_of m) k j y
-    → option_map (λ f. sent_of f.now) o ≡ nth_of kind n y.place.emitted → emission (node_where_open (places_at net.slots i) w) kind n ≡ option_map (λ f. sent_of f.now) o
-emission-is m net i w k j kind n y o st s q r is e = ap (λ x. emission x kind n) (node_where_open-seat m net i w k j y st s q r is) ∙ emitted-nth y.place kind n ∙ sym e
+    → option_map (λ f. sent_of f.now) o ≡ nth_of kind n y.instance.emitted → emission (node_where_open (instances_at net.slots i) w) kind n ≡ option_map (λ f. sent_of f.now) o
+emission-is m net i w k j kind n y o st s q r is e = ap (λ x. emission x kind n) (node_where_open-seat m net i w k j y st s q r is) ∙ emitted-nth y.instance kind n ∙ sym e
 
 -- and the slot is open
 pub record IsHearing (m : Standing) (i u h w j k : ℕ) (kind : Kind) (n : ℕ) (y : Seat) (o : Option (Bor Filed)) : Type 0 where
@@ -187,17 +187,17 @@ pub record IsHearing (m : Standing) (i u h w j k : ℕ) (kind : Kind) (n : ℕ) 
   pub two : AreTwo m u h w j
   pub slot : IsSlotThere m i k
   pub seat : IsSeat (machine_of m) k j y
-  pub sent : option_map (λ f. sent_of f.now) o ≡ nth_of kind n y.place.emitted
+  pub sent : option_map (λ f. sent_of f.now) o ≡ nth_of kind n y.instance.emitted
 
 pub hearing : {s : Standing} (m : Standing) (i u h w j k : ℕ) (kind : Kind) (n : ℕ) (y : Seat) (o : Option (Bor Filed)) → s ≡ m → IsStanding s → index_of_name m.config.hosts u ≡ Some h → index_of_name m.config.hosts w ≡ Some j → (u == w) ≡ false → IsSlotThere m i k → IsSeat (machine_of m) k j y
-    → option_map (λ f. sent_of f.now) o ≡ nth_of kind n y.place.emitted → IsHearing m i u h w j k kind n y o
+    → option_map (λ f. sent_of f.now) o ≡ nth_of kind n y.instance.emitted → IsHearing m i u h w j k kind n y o
 hearing m i u h w j k kind n y o seen st q r differ c is e = record { standing = subst IsStanding seen st; two = record { node = q; from = r; differ = differ }; slot = c; seat = is; sent = e }
 
 heard-at : (m : Standing) (net : Net) (i u h w j k : ℕ) (kind : Kind) (n : ℕ) (y : Seat) (o : Option (Bor Filed)) → IsHearing m i u h w j k kind n y o → StandsFor (machine_of m) net
     → first_that (tests net (Hears i u w kind n)) ≡ first_that ((is_none (option_map (λ f. sent_of f.now) o), NotEmitted) ∷ room_test net (pair_source net.roster i u w) ∷ [])
 heard-at m net i u h w j k kind n y o x s =
     let ts : List (Bool × Refusal) = room_test net (pair_source net.roster i u w) ∷ [] in
-    two-there m net i u h w j kind n x.two s ∙ open_then m net i k ((is_none (emission (node_where_open (places_at net.slots i) w) kind n), NotEmitted) ∷ ts) s x.slot
+    two-there m net i u h w j kind n x.two s ∙ open_then m net i k ((is_none (emission (node_where_open (instances_at net.slots i) w) kind n), NotEmitted) ∷ ts) s x.slot
     ∙ ap (λ z. first_that ((is_none z, NotEmitted) ∷ ts)) (emission-is m net i w k j kind n y o x.standing s x.slot x.two.from x.seat x.sent)
 
 pub hears-nothing : {m : Standing} {i u h w j k : ℕ} {kind : Kind} {n : ℕ} {y : Seat} {o : Option (Bor Filed)} → IsHearing m i u h w j k kind n y o → o ≡ None

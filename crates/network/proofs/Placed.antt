@@ -9,7 +9,7 @@ use Rattle.types.specs.declared.event.NodeEvent.{NodeEvent}
 use Rattle.std.proofs.Math.Seq.{drop-cons}
 use Rattle.std.proofs.lemmas.List.{map-append}
 use Rattle.protocol.specs.Nodes.{fresh}
-use Rattle.protocol.specs.Networks.{HostedNode, Place, nodes_of_new_slot}
+use Rattle.protocol.specs.Networks.{HostedNode, Instance, nodes_of_new_slot}
 use Rattle.envstore.specs.declared.filed.Filed.{Filed}
 use Rattle.envstore.specs.Archives.{AreFiled, IsFiled, Keeps}
 use Rattle.protocol.specs.Hosts.{Config}
@@ -20,15 +20,15 @@ use Rattle.network.specs.declared.plan.Charge.{Charge}
 use Rattle.configuration.specs.Configs.{names_of}
 use Rattle.network.specs.Standing.{IsStanding}
 use Rattle.configuration.proofs.Names.{names-differ}
-use Rattle.network.specs.Lodgings.{IsLodged, IsTallied, IsUncounted, Lodging, Lodgings, Seats, place_in}
+use Rattle.network.specs.Lodgings.{IsLodged, IsTallied, IsUncounted, Lodging, Lodgings, Seats, instance_in}
 use Rattle.network.proofs.Indexes.{changed-set}
 
-mapped : (xs : List Lodging) → length (map place_in xs) ≡ length xs
+mapped : (xs : List Lodging) → length (map instance_in xs) ≡ length xs
 mapped [] = refl
 mapped (x ∷ xs) = ap suc (mapped xs)
 
-here : (old : List Lodging) (at : ℕ) (x : Lodging) → at < length old → x ≡ get_or old at x → place_in x ≡ get_or (map place_in old) at (place_in x)
-here old at x l is = ap place_in is ∙ sym (get_or-map place_in old at x (place_in x) l)
+here : (old : List Lodging) (at : ℕ) (x : Lodging) → at < length old → x ≡ get_or old at x → instance_in x ≡ get_or (map instance_in old) at (instance_in x)
+here old at x l is = ap instance_in is ∙ sym (get_or-map instance_in old at x (instance_in x) l)
 
 pub placed : {A E : Type 0} (r : Result A E) (c : Charge) (e : NodeEvent) (old : List Lodging) (at : ℕ) (x y : Lodging) → at < length old → x ≡ get_or old at x → OnOk r (IsActed c e x y) → OnOk r (IsChangedAt (IsActed c e) at old (set old at y))
 placed (Ok a) c e old at x y l is h = changed-set (IsActed c e) old at x y l is h
@@ -37,8 +37,8 @@ placed (Err a) c e old at x y l is h = tt
 pub stands : (old : List Lodging) (at : ℕ) (x : Lodging) → at < length old → x ≡ get_or old at x → slice_get old at ≡ Some x
 stands old at x l is = slice_get_read old (length old) at x refl l is
 
-pub got : (old : List Lodging) (at : ℕ) (x : Lodging) → at < length old → x ≡ get_or old at x → slice_get (map place_in old) at ≡ Some (place_in x)
-got old at x l is = slice_get_read (map place_in old) (length (map place_in old)) at (place_in x) refl (subst (λ n. at < n) (sym (mapped old)) l) (here old at x l is)
+pub got : (old : List Lodging) (at : ℕ) (x : Lodging) → at < length old → x ≡ get_or old at x → slice_get (map instance_in old) at ≡ Some (instance_in x)
+got old at x l is = slice_get_read (map instance_in old) (length (map instance_in old)) at (instance_in x) refl (subst (λ n. at < n) (sym (mapped old)) l) (here old at x l is)
 
 -- what is lodged stays so
 pub lodged-still : (old new : List Sent) (x : Lodging) → Keeps old new → IsLodged old x → IsLodged new x
@@ -66,20 +66,20 @@ one-more-uncounted xs ys x is own heard all =
     subst (λ (zs : List Lodging). All IsUncounted zs) (sym is) (All-append IsUncounted xs (x ∷ []) all (All-cons IsUncounted x [] one (All-nil IsUncounted)))
 
 -- one host more
-pub nodes_of_new_slot-more : (old new : List Lodging) (start : List Place) (hosts : List HostedNode) (i n : ℕ) (h : HostedNode) (x : Lodging) → i < length hosts → h ≡ get_or hosts i h → new ≡ old ++ x ∷ []
-    → place_in x ≡ record { node = fresh n h.name h.slices; emitted = [] } → map place_in old ++ nodes_of_new_slot (drop i hosts) n ≡ start → map place_in new ++ nodes_of_new_slot (drop (i + 1) hosts) n ≡ start
+pub nodes_of_new_slot-more : (old new : List Lodging) (start : List Instance) (hosts : List HostedNode) (i n : ℕ) (h : HostedNode) (x : Lodging) → i < length hosts → h ≡ get_or hosts i h → new ≡ old ++ x ∷ []
+    → instance_in x ≡ record { node = fresh n h.name h.slices; emitted = [] } → map instance_in old ++ nodes_of_new_slot (drop i hosts) n ≡ start → map instance_in new ++ nodes_of_new_slot (drop (i + 1) hosts) n ≡ start
 unfolding nodes_of_new_slot
 nodes_of_new_slot-more old new start hosts i n h x l is more made before =
     let z : suc i ≡ i + 1 = omega arith in
     let rest = nodes_of_new_slot (drop (i + 1) hosts) n in
-    let next : nodes_of_new_slot (drop i hosts) n ≡ place_in x ∷ rest = ap (λ (hs : List HostedNode). nodes_of_new_slot hs n) (drop-cons hosts i h l ∙ (λ j. sym is j ∷ drop (z j) hosts)) ∙ ap (λ (q : Place). q ∷ rest) (sym made) in
-    ap (λ (ls : List Lodging). map place_in ls ++ rest) more ∙ ap (λ (ps : List Place). ps ++ rest) (map-append place_in old (x ∷ [])) ∙ append_assoc (map place_in old) (place_in x ∷ []) rest
-    ∙ sym (ap (λ (ps : List Place). map place_in old ++ ps) next) ∙ before
+    let next : nodes_of_new_slot (drop i hosts) n ≡ instance_in x ∷ rest = ap (λ (hs : List HostedNode). nodes_of_new_slot hs n) (drop-cons hosts i h l ∙ (λ j. sym is j ∷ drop (z j) hosts)) ∙ ap (λ (q : Instance). q ∷ rest) (sym made) in
+    ap (λ (ls : List Lodging). map instance_in ls ++ rest) more ∙ ap (λ (ps : List Instance). ps ++ rest) (map-append instance_in old (x ∷ [])) ∙ append_assoc (map instance_in old) (instance_in x ∷ []) rest
+    ∙ sym (ap (λ (ps : List Instance). map instance_in old ++ ps) next) ∙ before
 
 -- a network where nothing has happened
 pub fresh-standing : (config : Config) (archive : List Sent) (slots : List Lodgings) → slots ≡ [] → IsAscending (names_of config.hosts) → IsStanding (record { config = config; archive = archive; slots = slots; events = 0; bytes = 0; opens = 0 })
 fresh-standing config archive slots none up = subst (λ (ss : List Lodgings). IsStanding (record { config = config; archive = archive; slots = ss; events = 0; bytes = 0; opens = 0 })) (sym none) (record {
-  lodged = All-nil (λ (s : Lodgings). All (IsLodged archive) s.places);
+  lodged = All-nil (λ (s : Lodgings). All (IsLodged archive) s.instances);
   tidy = record { single = names-differ (names_of config.hosts) up; names = tt; apart = refl; bytes = omega arith };
   stood = ([], All-nil (λ (s : Seats). All (IsTallied s.number []) s.seats));
 })

@@ -5,7 +5,7 @@ use Rattle.types.specs.declared.event.NodeEvent.{NodeEvent}
 use Rattle.types.specs.declared.event.Out.{Out}
 use Rattle.types.specs.declared.event.Refusal.{Refusal}
 use Rattle.types.specs.declared.event.Refusal.TheVariants.{BadValue, ProposedAlready}
-use Rattle.protocol.specs.Networks.{Net, Step, act, effect, first_that, has_proposal, is_bad_value, room_test, hosted_test, open_test, node_where_open, outs_at, places_at, size_of, source, tests}
+use Rattle.protocol.specs.Networks.{Net, Step, act, effect, first_that, has_proposal, is_bad_value, room_test, hosted_test, open_test, node_where_open, outs_at, instances_at, size_of, source, tests}
 use Rattle.protocol.specs.Rosters.{Roster, Source}
 use Rattle.slot.specs.Filings.{IsFiledEvent, event_of}
 use Rattle.slot.specs.declared.filed.FiledEvent.{FiledEvent}
@@ -22,7 +22,7 @@ use Rattle.network.specs.declared.plan.Deed.TheVariants.{Act, Hand}
 use Rattle.network.specs.declared.plan.Drawn.{Drawn}
 use Rattle.network.specs.declared.plan.Spot.{Spot}
 use Rattle.network.proofs.Allowed.{host_then, host-in, open_then, passes, refuses, slot-in, stops}
-use Rattle.network.proofs.Plans.{acted-is, node_where_open-node, neat-net, node-there, outs-are, seat-place, seat-there}
+use Rattle.network.proofs.Plans.{acted-is, node_where_open-node, neat-net, node-there, outs-are, seat-instance, seat-there}
 
 -- ---- one event of one node
 -- what is done by places is what the event does, in each network for which the machine stands
@@ -125,7 +125,7 @@ room-err m of d r drawn full = λ net s. full (of net.roster) net (subst (λ o. 
 -- ---- a proposal
 -- its tests, on what they draw
 abbrev asks_tests : Net → ℕ → ℕ → List ℕ → Source → List (Bool × Refusal)
-asks_tests net i u x s = hosted_test net u ∷ open_test net i ∷ (is_bad_value x, BadValue) ∷ (has_proposal (node_where_open (places_at net.slots i) u), ProposedAlready) ∷ room_test net s ∷ []
+asks_tests net i u x s = hosted_test net u ∷ open_test net i ∷ (is_bad_value x, BadValue) ∷ (has_proposal (node_where_open (instances_at net.slots i) u), ProposedAlready) ∷ room_test net s ∷ []
 
 asks-source : (o : Option Roster) (i u : ℕ) (x : List ℕ) → source o (Proposes i u x) ≡ own_source o i u
 asks-source None i u x = refl
@@ -136,39 +136,39 @@ asks-are net i u x = ap (λ s. first_that (asks_tests net i u x s)) (asks-source
 
 -- what is tested once the node is there
 asks-there : (m : Standing) (net : Net) (i u : ℕ) (x : List ℕ) (sp : Spot) → IsSpot m i u sp → StandsFor (machine_of m) net
-    → first_that (tests net (Proposes i u x)) ≡ first_that ((is_bad_value x, BadValue) ∷ (has_proposal (node_where_open (places_at net.slots i) u), ProposedAlready) ∷ room_test net (own_source net.roster i u) ∷ [])
+    → first_that (tests net (Proposes i u x)) ≡ first_that ((is_bad_value x, BadValue) ∷ (has_proposal (node_where_open (instances_at net.slots i) u), ProposedAlready) ∷ room_test net (own_source net.roster i u) ∷ [])
 asks-there m net i u x sp at s =
-    let ts : List (Bool × Refusal) = (is_bad_value x, BadValue) ∷ (has_proposal (node_where_open (places_at net.slots i) u), ProposedAlready) ∷ room_test net (own_source net.roster i u) ∷ [] in
+    let ts : List (Bool × Refusal) = (is_bad_value x, BadValue) ∷ (has_proposal (node_where_open (instances_at net.slots i) u), ProposedAlready) ∷ room_test net (own_source net.roster i u) ∷ [] in
     asks-are net i u x ∙ host_then m net u sp.host_at (open_test net i ∷ ts) s at.host ∙ open_then m net i sp.slot_at ts s at.slot
 
 pub asks-nowhere : (m : Standing) (i u : ℕ) (x : List ℕ) (r : Refusal) → IsSpotRefused m i u r → IsRefusal (machine_of m) (Proposes i u x) r
-asks-nowhere m i u x r nowhere = inr (λ net s. asks-are net i u x ∙ nowhere net s ((is_bad_value x, BadValue) ∷ (has_proposal (node_where_open (places_at net.slots i) u), ProposedAlready) ∷ room_test net (own_source net.roster i u) ∷ []))
+asks-nowhere m i u x r nowhere = inr (λ net s. asks-are net i u x ∙ nowhere net s ((is_bad_value x, BadValue) ∷ (has_proposal (node_where_open (instances_at net.slots i) u), ProposedAlready) ∷ room_test net (own_source net.roster i u) ∷ []))
 
 pub asks-bad : (m : Standing) (i u : ℕ) (x : List ℕ) (sp : Spot) → IsSpot m i u sp → is_bad_value x ≡ true → IsRefusal (machine_of m) (Proposes i u x) BadValue
-asks-bad m i u x sp at bad = inr (λ net s. asks-there m net i u x sp at s ∙ refuses (is_bad_value x) BadValue ((has_proposal (node_where_open (places_at net.slots i) u), ProposedAlready) ∷ room_test net (own_source net.roster i u) ∷ []) bad)
+asks-bad m i u x sp at bad = inr (λ net s. asks-there m net i u x sp at s ∙ refuses (is_bad_value x) BadValue ((has_proposal (node_where_open (instances_at net.slots i) u), ProposedAlready) ∷ room_test net (own_source net.roster i u) ∷ []) bad)
 
 -- the node at the place of a name and an open slot
-pub node_where_open-seat : (m : Standing) (net : Net) (i u k h : ℕ) (y : Seat) → IsStanding m → StandsFor (machine_of m) net → IsSlotThere m i k → index_of_name m.config.hosts u ≡ Some h → IsSeat (machine_of m) k h y → node_where_open (places_at net.slots i) u ≡ Some y.place
+pub node_where_open-seat : (m : Standing) (net : Net) (i u k h : ℕ) (y : Seat) → IsStanding m → StandsFor (machine_of m) net → IsSlotThere m i k → index_of_name m.config.hosts u ≡ Some h → IsSeat (machine_of m) k h y → node_where_open (instances_at net.slots i) u ≡ Some y.instance
 node_where_open-seat m net i u k h y st s q r is =
     node_where_open-node net.hosts net.slots i u k h (neat-net (machine_of m) net st.tidy s) (slot-in m net i s ∙ q) (host-in m net u s ∙ r)
-    ∙ ap (λ (n : Net). node_at (slice_get n.slots k) h) s.is ∙ seat-place (machine_of m) k h y is
+    ∙ ap (λ (n : Net). node_at (slice_get n.slots k) h) s.is ∙ seat-instance (machine_of m) k h y is
 
-asks-good : (m : Standing) (net : Net) (i u : ℕ) (x : List ℕ) (sp : Spot) (y : Seat) (b : Bool) → IsStanding m → IsSpot m i u sp → IsSeat (machine_of m) sp.slot_at sp.host_at y → is_bad_value x ≡ false → b ≡ has_proposal (Some y.place) → StandsFor (machine_of m) net
+asks-good : (m : Standing) (net : Net) (i u : ℕ) (x : List ℕ) (sp : Spot) (y : Seat) (b : Bool) → IsStanding m → IsSpot m i u sp → IsSeat (machine_of m) sp.slot_at sp.host_at y → is_bad_value x ≡ false → b ≡ has_proposal (Some y.instance) → StandsFor (machine_of m) net
     → first_that (tests net (Proposes i u x)) ≡ first_that ((b, ProposedAlready) ∷ room_test net (own_source net.roster i u) ∷ [])
 asks-good m net i u x sp y b st at is good given s =
     let ts : List (Bool × Refusal) = room_test net (own_source net.roster i u) ∷ [] in
-    asks-there m net i u x sp at s ∙ passes (is_bad_value x, BadValue) ((has_proposal (node_where_open (places_at net.slots i) u), ProposedAlready) ∷ ts) good
+    asks-there m net i u x sp at s ∙ passes (is_bad_value x, BadValue) ((has_proposal (node_where_open (instances_at net.slots i) u), ProposedAlready) ∷ ts) good
     ∙ ap (λ (c : Bool). first_that ((c, ProposedAlready) ∷ ts)) (ap has_proposal (node_where_open-seat m net i u sp.slot_at sp.host_at y st s at.slot at.host is) ∙ sym given)
 
-pub asks-again : (m : Standing) (i u : ℕ) (x : List ℕ) (sp : Spot) (y : Seat) (b : Bool) → IsStanding m → IsSpot m i u sp → IsSeat (machine_of m) sp.slot_at sp.host_at y → is_bad_value x ≡ false → b ≡ has_proposal (Some y.place) → b ≡ true → IsRefusal (machine_of m) (Proposes i u x) ProposedAlready
+pub asks-again : (m : Standing) (i u : ℕ) (x : List ℕ) (sp : Spot) (y : Seat) (b : Bool) → IsStanding m → IsSpot m i u sp → IsSeat (machine_of m) sp.slot_at sp.host_at y → is_bad_value x ≡ false → b ≡ has_proposal (Some y.instance) → b ≡ true → IsRefusal (machine_of m) (Proposes i u x) ProposedAlready
 asks-again m i u x sp y b st at is good given has = inr (λ net s. asks-good m net i u x sp y b st at is good given s ∙ refuses b ProposedAlready (room_test net (own_source net.roster i u) ∷ []) has)
 
-pub asks-full : (m : Standing) (i u : ℕ) (x : List ℕ) (sp : Spot) (y : Seat) (b : Bool) (r : Refusal) → IsStanding m → IsSpot m i u sp → IsSeat (machine_of m) sp.slot_at sp.host_at y → is_bad_value x ≡ false → b ≡ has_proposal (Some y.place) → b ≡ false → IsRoom m (λ o. own_source o i u) (Err r)
+pub asks-full : (m : Standing) (i u : ℕ) (x : List ℕ) (sp : Spot) (y : Seat) (b : Bool) (r : Refusal) → IsStanding m → IsSpot m i u sp → IsSeat (machine_of m) sp.slot_at sp.host_at y → is_bad_value x ≡ false → b ≡ has_proposal (Some y.instance) → b ≡ false → IsRoom m (λ o. own_source o i u) (Err r)
     → IsRefusal (machine_of m) (Proposes i u x) r
 asks-full m i u x sp y b r st at is good given has full =
     inr (λ net s. asks-good m net i u x sp y b st at is good given s ∙ passes (b, ProposedAlready) (room_test net (own_source net.roster i u) ∷ []) has ∙ stops (room_test net (own_source net.roster i u)) r [] (full net s))
 
-pub asks-plan : (m : Standing) (i u : ℕ) (x : List ℕ) (sp : Spot) (y : Seat) (b : Bool) (d : Drawn) → IsStanding m → IsSpot m i u sp → IsSeat (machine_of m) sp.slot_at sp.host_at y → is_bad_value x ≡ false → b ≡ has_proposal (Some y.place) → b ≡ false → IsRoom m (λ o. own_source o i u) (Ok d)
+pub asks-plan : (m : Standing) (i u : ℕ) (x : List ℕ) (sp : Spot) (y : Seat) (b : Bool) (d : Drawn) → IsStanding m → IsSpot m i u sp → IsSeat (machine_of m) sp.slot_at sp.host_at y → is_bad_value x ≡ false → b ≡ has_proposal (Some y.instance) → b ≡ false → IsRoom m (λ o. own_source o i u) (Ok d)
     → IsPlan m (Proposes i u x) (record { deed = Act sp.slot_at sp.host_at (events.Propose x); drawn = d; size = 0 })
 unfolding effect
 asks-plan m i u x sp y b d st at is good given has room =

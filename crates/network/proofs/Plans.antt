@@ -5,7 +5,7 @@ use Rattle.std.proofs.lemmas.Option.{slice_get-map, slice_get_within}
 use Rattle.std.proofs.lemmas.Bool.{eqb-true, false≢true, and_parts}
 use Rattle.types.specs.Trees.{all_differ}
 use Rattle.types.specs.declared.event.NodeEvent.{NodeEvent}
-use Rattle.protocol.specs.Networks.{HostedNode, Net, Place, Slot, act, act_in, node_where_open, after_event, outs_at, node_named, places_at, slices_of}
+use Rattle.protocol.specs.Networks.{HostedNode, Net, Instance, Slot, act, act_in, node_where_open, after_event, outs_at, node_named, instances_at, slices_of}
 use Rattle.configuration.specs.Configs.{index_in, index_of_name, names_of}
 use Rattle.network.specs.Changes.{changed_at}
 use Rattle.network.specs.Deeds.{IsNodeThere, IsSeat, acted, index_of_slot, node_at}
@@ -18,14 +18,14 @@ use Rattle.types.proofs.Bools.{not_is}
 abbrev number_of : Slot → ℕ
 number_of s = s.number
 
-abbrev places_of : Slot → List Place
-places_of s = s.places
+abbrev places_of : Slot → List Instance
+places_of s = s.instances
 
-abbrev name_of : Place → ℕ
+abbrev name_of : Instance → ℕ
 name_of p = p.node.name
 
 abbrev seat_name : Seat → ℕ
-seat_name x = x.place.node.name
+seat_name x = x.instance.node.name
 
 -- ---- looking up
 -- what stands at the place of a key has it
@@ -38,11 +38,11 @@ index-get {X} key (x ∷ xs) u k h = go (key x == u) (index_in (map key xs) u) (
     go false None ih y e q = absurd (cc)
     go false (Some j) ih y e q = let z : suc j ≡ k = cc in let r = ih j e in (r.0, ap (λ n. slice_get (x ∷ xs) n) (sym z) ∙ r.1, r.2)
 
-pub places_at-is : (slots : List Slot) (i : ℕ) → places_at slots i ≡ at_key number_of places_of slots i
-places_at-is [] i = refl
-places_at-is (s ∷ ss) i = ap (λ o. if s.number == i then Some s.places else o) (places_at-is ss i)
+pub instances_at-is : (slots : List Slot) (i : ℕ) → instances_at slots i ≡ at_key number_of places_of slots i
+instances_at-is [] i = refl
+instances_at-is (s ∷ ss) i = ap (λ o. if s.number == i then Some s.instances else o) (instances_at-is ss i)
 
-pub node_named-is : (ps : List Place) (u : ℕ) → node_named ps u ≡ at_key name_of (λ p. p) ps u
+pub node_named-is : (ps : List Instance) (u : ℕ) → node_named ps u ≡ at_key name_of (λ p. p) ps u
 node_named-is [] u = refl
 node_named-is (p ∷ ps) u = ap (λ o. if p.node.name == u then Some p else o) (node_named-is ps u)
 
@@ -64,18 +64,18 @@ at-place P (y ∷ ys) (suc k) x a h = at-place P ys k x a.1 h
 -- no name is hosted twice; the hosted nodes stand in their order at each open slot; no slot is open twice
 pub record IsNeat (hosts : List HostedNode) (slots : List Slot) : Type 0 where
   pub single : all_differ (names_of hosts) ≡ true
-  pub names : AllByRecursion (λ s. map name_of s.places ≡ names_of hosts) slots
+  pub names : AllByRecursion (λ s. map name_of s.instances ≡ names_of hosts) slots
   pub apart : all_differ (map number_of slots) ≡ true
 
 pub numbers-same : (slots : List Seats) → map number_of (map slot_of slots) ≡ map (λ s. s.number) slots
 numbers-same [] = refl
 numbers-same (s ∷ ss) = ap (λ (ns : List ℕ). s.number ∷ ns) (numbers-same ss)
 
-names-same : (seats : List Seat) → map name_of (map (λ x. x.place) seats) ≡ map seat_name seats
+names-same : (seats : List Seat) → map name_of (map (λ x. x.instance) seats) ≡ map seat_name seats
 names-same [] = refl
-names-same (x ∷ xs) = ap (λ (ns : List ℕ). x.place.node.name ∷ ns) (names-same xs)
+names-same (x ∷ xs) = ap (λ (ns : List ℕ). x.instance.node.name ∷ ns) (names-same xs)
 
-all-names : (ns : List ℕ) (slots : List Seats) → AllByRecursion (λ s. map seat_name s.seats ≡ ns) slots → AllByRecursion (λ s. map name_of s.places ≡ ns) (map slot_of slots)
+all-names : (ns : List ℕ) (slots : List Seats) → AllByRecursion (λ s. map seat_name s.seats ≡ ns) slots → AllByRecursion (λ s. map name_of s.instances ≡ ns) (map slot_of slots)
 all-names ns [] a = tt
 all-names ns (s ∷ ss) a = (names-same s.seats ∙ a.0, all-names ns ss a.1)
 
@@ -91,49 +91,49 @@ neat-net m net t s = subst (λ (n : Net). IsNeat n.hosts n.slots) (sym s.is) (ne
 
 -- the node at the place of a hosted name and an open slot
 pub seat-there : (m : Machine) (i u k h : ℕ) → IsTidy m → index_of_slot (map slot_of m.slots) i ≡ Some k → index_of_name m.config.hosts u ≡ Some h
-    → (x : Seats) × (y : Seat) × (slice_get m.slots k ≡ Some x) × (slice_get x.seats h ≡ Some y) × (x.number ≡ i) × (y.place.node.name ≡ u)
+    → (x : Seats) × (y : Seat) × (slice_get m.slots k ≡ Some x) × (slice_get x.seats h ≡ Some y) × (x.number ≡ i) × (y.instance.node.name ≡ u)
 seat-there m i u k h t q r =
     let a = index-get (λ (s : Seats). s.number) m.slots i k (ap (λ ns. index_in ns i) (sym (numbers-same m.slots)) ∙ q) in
     let b = index-get seat_name a.0.seats u h (ap (λ ns. index_in ns u) (at-place (λ (s : Seats). map seat_name s.seats ≡ names_of m.config.hosts) m.slots k a.0 t.names a.1) ∙ r) in
     (a.0, b.0, a.1, b.1, a.2, b.2)
 
--- a seat is a place of the slot
-pub seat-place : (m : Machine) (k h : ℕ) (y : Seat) → IsSeat m k h y → node_at (slice_get (map slot_of m.slots) k) h ≡ Some y.place
-seat-place m k h y is =
+-- a seat is an instance of the slot
+pub seat-instance : (m : Machine) (k h : ℕ) (y : Seat) → IsSeat m k h y → node_at (slice_get (map slot_of m.slots) k) h ≡ Some y.instance
+seat-instance m k h y is =
     ap (λ o. node_at o h) (slice_get-map slot_of m.slots k ∙ ap (option_map slot_of) is.1)
-    ∙ slice_get-map (λ (x : Seat). x.place) is.0.seats h ∙ ap (option_map (λ (x : Seat). x.place)) is.2
+    ∙ slice_get-map (λ (x : Seat). x.instance) is.0.seats h ∙ ap (option_map (λ (x : Seat). x.instance)) is.2
 
 pub node-there : (m : Machine) (k h : ℕ) (y : Seat) → IsSeat m k h y → IsNodeThere (map slot_of m.slots) k h
 node-there m k h y is =
-    let e = seat-place m k h y is in
+    let e = seat-instance m k h y is in
     let at : slice_get (map slot_of m.slots) k ≡ Some (slot_of is.0) = slice_get-map slot_of m.slots k ∙ ap (option_map slot_of) is.1 in
-    (slot_of is.0, at, slice_get_within (map (λ (x : Seat). x.place) is.0.seats) h y.place (slice_get-map (λ (x : Seat). x.place) is.0.seats h ∙ ap (option_map (λ (x : Seat). x.place)) is.2))
+    (slot_of is.0, at, slice_get_within (map (λ (x : Seat). x.instance) is.0.seats) h y.instance (slice_get-map (λ (x : Seat). x.instance) is.0.seats h ∙ ap (option_map (λ (x : Seat). x.instance)) is.2))
 
 -- ---- the node of a name at a slot
-pub known-place : (hosts : List HostedNode) (ps : List Place) (u h : ℕ) → map name_of ps ≡ names_of hosts → index_in (names_of hosts) u ≡ Some h → node_named ps u ≡ slice_get ps h
-known-place hosts ps u h e q = node_named-is ps u ∙ at-index name_of (λ p. p) ps u h (ap (λ ns. index_in ns u) e ∙ q) ∙ same-option (slice_get ps h)
+pub known-instance : (hosts : List HostedNode) (ps : List Instance) (u h : ℕ) → map name_of ps ≡ names_of hosts → index_in (names_of hosts) u ≡ Some h → node_named ps u ≡ slice_get ps h
+known-instance hosts ps u h e q = node_named-is ps u ∙ at-index name_of (λ p. p) ps u h (ap (λ ns. index_in ns u) e ∙ q) ∙ same-option (slice_get ps h)
 
-pub node_where_open-node : (hosts : List HostedNode) (slots : List Slot) (i u k h : ℕ) → IsNeat hosts slots → index_of_slot slots i ≡ Some k → index_in (names_of hosts) u ≡ Some h → node_where_open (places_at slots i) u ≡ node_at (slice_get slots k) h
-node_where_open-node hosts slots i u k h t q r = ap (λ o. node_where_open o u) (places_at-is slots i ∙ at-index number_of places_of slots i k q) ∙ go (slice_get slots k) refl
+pub node_where_open-node : (hosts : List HostedNode) (slots : List Slot) (i u k h : ℕ) → IsNeat hosts slots → index_of_slot slots i ≡ Some k → index_in (names_of hosts) u ≡ Some h → node_where_open (instances_at slots i) u ≡ node_at (slice_get slots k) h
+node_where_open-node hosts slots i u k h t q r = ap (λ o. node_where_open o u) (instances_at-is slots i ∙ at-index number_of places_of slots i k q) ∙ go (slice_get slots k) refl
   where
     go : (o : Option Slot) → slice_get slots k ≡ o → node_where_open (option_map places_of o) u ≡ node_at o h
     go None e = refl
-    go (Some s) e = known-place hosts s.places u h (at-place (λ (s : Slot). map name_of s.places ≡ names_of hosts) slots k s t.names e) r
+    go (Some s) e = known-instance hosts s.instances u h (at-place (λ (s : Slot). map name_of s.instances ≡ names_of hosts) slots k s t.names e) r
 
 -- ---- one event of one node
-same-nodes : (hosts : List HostedNode) (ps : List Place) (u h : ℕ) (e : NodeEvent) → all_differ (names_of hosts) ≡ true → map name_of ps ≡ names_of hosts → index_in (names_of hosts) u ≡ Some h → changed_at h (after_event e) ps ≡ act_in u e ps
+same-nodes : (hosts : List HostedNode) (ps : List Instance) (u h : ℕ) (e : NodeEvent) → all_differ (names_of hosts) ≡ true → map name_of ps ≡ names_of hosts → index_in (names_of hosts) u ≡ Some h → changed_at h (after_event e) ps ≡ act_in u e ps
 same-nodes hosts ps u h e d q r = changed-map name_of (after_event e) ps u h (ap (λ ns. index_in ns u) q ∙ r) (ap all_differ q ∙ d)
 
-same-slots : (hosts : List HostedNode) (slots : List Slot) (i u h : ℕ) (e : NodeEvent) → all_differ (names_of hosts) ≡ true → AllByRecursion (λ s. map name_of s.places ≡ names_of hosts) slots → index_in (names_of hosts) u ≡ Some h
-    → map {B = Slot} (λ (s : Slot). if s.number == i then record s { places = changed_at h (after_event e) s.places } else s) slots ≡ map {B = Slot} (λ (s : Slot). if s.number == i then record s { places = act_in u e s.places } else s) slots
+same-slots : (hosts : List HostedNode) (slots : List Slot) (i u h : ℕ) (e : NodeEvent) → all_differ (names_of hosts) ≡ true → AllByRecursion (λ s. map name_of s.instances ≡ names_of hosts) slots → index_in (names_of hosts) u ≡ Some h
+    → map {B = Slot} (λ (s : Slot). if s.number == i then record s { instances = changed_at h (after_event e) s.instances } else s) slots ≡ map {B = Slot} (λ (s : Slot). if s.number == i then record s { instances = act_in u e s.instances } else s) slots
 same-slots hosts [] i u h e d a r = refl
 same-slots hosts (s ∷ ss) i u h e d a r =
-    ap₂ {C = List Slot} (λ (ps : List Place) (ts : List Slot). (if s.number == i then record s { places = ps } else s) ∷ ts) (same-nodes hosts s.places u h e d a.0 r) (same-slots hosts ss i u h e d a.1 r)
+    ap₂ {C = List Slot} (λ (ps : List Instance) (ts : List Slot). (if s.number == i then record s { instances = ps } else s) ∷ ts) (same-nodes hosts s.instances u h e d a.0 r) (same-slots hosts ss i u h e d a.1 r)
 
 pub acted-is : (net : Net) (i u k h : ℕ) (e : NodeEvent) → IsNeat net.hosts net.slots → index_of_slot net.slots i ≡ Some k → index_in (names_of net.hosts) u ≡ Some h → acted net.slots k h e ≡ (act net i u e).0.slots
 unfolding act
 acted-is net i u k h e t q r =
-    changed-map number_of (λ (s : Slot). record s { places = changed_at h (after_event e) s.places }) net.slots i k q t.apart ∙ same-slots net.hosts net.slots i u h e t.single t.names r
+    changed-map number_of (λ (s : Slot). record s { instances = changed_at h (after_event e) s.instances }) net.slots i k q t.apart ∙ same-slots net.hosts net.slots i u h e t.single t.names r
 
 pub outs-are : (net : Net) (i u k h : ℕ) (e : NodeEvent) → IsNeat net.hosts net.slots → index_of_slot net.slots i ≡ Some k → index_in (names_of net.hosts) u ≡ Some h → outs_at e (node_at (slice_get net.slots k) h) ≡ (act net i u e).1
 unfolding act

@@ -8,30 +8,30 @@ use Rattle.types.specs.Statements.{Sent}
 use Rattle.types.specs.declared.event.NodeEvent.{NodeEvent}
 use Rattle.types.specs.declared.event.NodeEvent.TheVariants.{Propose, Take, NominationTimer, BallotTimer, Reslice}
 use Rattle.protocol.specs.Nodes.{fresh}
-use Rattle.protocol.specs.Networks.{HostedNode, Net, Place, Slot, Step, act, act_in, act_known, effect, emission, first_that, room_test, is_open, node_where_open, after_event, nodes_of_new_slot, places_at, source, tests}
+use Rattle.protocol.specs.Networks.{HostedNode, Net, Instance, Slot, Step, act, act_in, act_known, effect, emission, first_that, room_test, is_open, node_where_open, after_event, nodes_of_new_slot, instances_at, source, tests}
 use Rattle.types.specs.declared.event.Refusal.TheVariants.{SlotOpenAlready, TooManySlots}
 use Rattle.protocol.specs.Networks.Reading.{Read, Fault}
 use Rattle.protocol.specs.Networks.Step.{Opens, Closes, Proposes, Delivers, Hears, NominationTimerFires, BallotTimerFires, Reslices}
 use Rattle.protocol.proofs.Nodes.Emitted.{step-self}
 use Rattle.configuration.specs.Configs.{names_of}
 
-abbrev pub names_at : List Place → List ℕ
-names_at ps = map (λ (p : Place). p.node.name) ps
+abbrev pub names_at : List Instance → List ℕ
+names_at ps = map (λ (p : Instance). p.node.name) ps
 
 abbrev pub slot_numbers : List Slot → List ℕ
 slot_numbers ss = map (λ (s : Slot). s.number) ss
 
 -- the names at each slot, and the numbers of the slots
 pub record Neat (hosts : List HostedNode) (slots : List Slot) : Type 0 where
-  pub names : AllByRecursion (λ s. names_at s.places ≡ names_of hosts) slots
+  pub names : AllByRecursion (λ s. names_at s.instances ≡ names_of hosts) slots
   pub apart : all_differ (slot_numbers slots) ≡ true
 
 -- ---- an event of one node
-pub after_event-name : (e : NodeEvent) (p : Place) → (after_event e p).node.name ≡ p.node.name
+pub after_event-name : (e : NodeEvent) (p : Instance) → (after_event e p).node.name ≡ p.node.name
 unfolding after_event
 after_event-name e p = step-self p.node e
 
-act-names : (u : ℕ) (e : NodeEvent) (ps : List Place) → names_at (act_in u e ps) ≡ names_at ps
+act-names : (u : ℕ) (e : NodeEvent) (ps : List Instance) → names_at (act_in u e ps) ≡ names_at ps
 act-names u e [] = refl
 act-names u e (p ∷ ps) = ap₂ (λ (n : ℕ) (ns : List ℕ). n ∷ ns) (one (p.node.name == u)) (act-names u e ps)
   where
@@ -40,22 +40,22 @@ act-names u e (p ∷ ps) = ap₂ (λ (n : ℕ) (ns : List ℕ). n ∷ ns) (one (
     one false = refl
 
 abbrev acted : ℕ → ℕ → NodeEvent → List Slot → List Slot
-acted i u e slots = map {B = Slot} (λ (s : Slot). if s.number == i then record s { places = act_in u e s.places } else s) slots
+acted i u e slots = map {B = Slot} (λ (s : Slot). if s.number == i then record s { instances = act_in u e s.instances } else s) slots
 
 acted-numbers : (i u : ℕ) (e : NodeEvent) (slots : List Slot) → slot_numbers (acted i u e slots) ≡ slot_numbers slots
 acted-numbers i u e [] = refl
 acted-numbers i u e (s ∷ ss) = ap₂ (λ (n : ℕ) (ns : List ℕ). n ∷ ns) (one (s.number == i)) (acted-numbers i u e ss)
   where
-    one : (b : Bool) → (if b then record s { places = act_in u e s.places } else s).number ≡ s.number
+    one : (b : Bool) → (if b then record s { instances = act_in u e s.instances } else s).number ≡ s.number
     one true = refl
     one false = refl
 
-acted-names : (ns : List ℕ) (i u : ℕ) (e : NodeEvent) (slots : List Slot) → AllByRecursion (λ s. names_at s.places ≡ ns) slots → AllByRecursion (λ s. names_at s.places ≡ ns) (acted i u e slots)
+acted-names : (ns : List ℕ) (i u : ℕ) (e : NodeEvent) (slots : List Slot) → AllByRecursion (λ s. names_at s.instances ≡ ns) slots → AllByRecursion (λ s. names_at s.instances ≡ ns) (acted i u e slots)
 acted-names ns i u e [] h = tt
 acted-names ns i u e (s ∷ ss) h = (one (s.number == i), acted-names ns i u e ss h.1)
   where
-    one : (b : Bool) → names_at (if b then record s { places = act_in u e s.places } else s).places ≡ ns
-    one true = act-names u e s.places ∙ h.0
+    one : (b : Bool) → names_at (if b then record s { instances = act_in u e s.instances } else s).instances ≡ ns
+    one true = act-names u e s.instances ∙ h.0
     one false = h.0
 
 neat-act : (net : Net) (i u : ℕ) (e : NodeEvent) → Neat net.hosts net.slots → Neat net.hosts (act net i u e).0.slots
@@ -77,11 +77,11 @@ push-names P [] s h k = (k, tt)
 push-names P (x ∷ xs) s h k = (h.0, push-names P xs s h.1 k)
 
 -- a slot that is not open has no number among them
-pub absent : (ss : List Slot) (i : ℕ) → is_some (places_at ss i) ≡ false → list_any (λ w. w == i) (slot_numbers ss) ≡ false
+pub absent : (ss : List Slot) (i : ℕ) → is_some (instances_at ss i) ≡ false → list_any (λ w. w == i) (slot_numbers ss) ≡ false
 absent [] i h = refl
 absent (s ∷ ss) i h = go (s.number == i) h (absent ss i)
   where
-    go : (b : Bool) → is_some (if b then Some s.places else places_at ss i) ≡ false → (is_some (places_at ss i) ≡ false → list_any (λ w. w == i) (slot_numbers ss) ≡ false) → (b || list_any (λ w. w == i) (slot_numbers ss)) ≡ false
+    go : (b : Bool) → is_some (if b then Some s.instances else instances_at ss i) ≡ false → (is_some (instances_at ss i) ≡ false → list_any (λ w. w == i) (slot_numbers ss) ≡ false) → (b || list_any (λ w. w == i) (slot_numbers ss)) ≡ false
     go true h ih = h
     go false h ih = ih h
 
@@ -121,11 +121,11 @@ push-numbers : (ss : List Slot) (s : Slot) → slot_numbers (ss ++ s ∷ []) ≡
 push-numbers [] s = refl
 push-numbers (x ∷ xs) s = ap (λ (ns : List ℕ). x.number ∷ ns) (push-numbers xs s)
 
-neat-open : (net : Net) (i : ℕ) → is_open net i ≡ false → Neat net.hosts net.slots → Neat net.hosts (net.slots ++ record { number = i; places = nodes_of_new_slot net.hosts i } ∷ [])
+neat-open : (net : Net) (i : ℕ) → is_open net i ≡ false → Neat net.hosts net.slots → Neat net.hosts (net.slots ++ record { number = i; instances = nodes_of_new_slot net.hosts i } ∷ [])
 neat-open net i out n =
-    let s : Slot = record { number = i; places = nodes_of_new_slot net.hosts i } in
+    let s : Slot = record { number = i; instances = nodes_of_new_slot net.hosts i } in
     record {
-      names = push-names (λ s. names_at s.places ≡ names_of net.hosts) net.slots s n.names (fresh-names net.hosts i);
+      names = push-names (λ s. names_at s.instances ≡ names_of net.hosts) net.slots s n.names (fresh-names net.hosts i);
       apart = ap all_differ (push-numbers net.slots s) ∙ push-apart (slot_numbers net.slots) i n.apart (absent net.slots i out);
     }
 
@@ -160,7 +160,7 @@ filter-apart test (s ∷ ss) h = go (test s) (filter-apart test ss p.1)
     go false k = k
 
 neat-close : (net : Net) (i : ℕ) → Neat net.hosts net.slots → Neat net.hosts (filter (λ s. not (s.number == i)) net.slots)
-neat-close net i n = record { names = filter-names (λ s. names_at s.places ≡ names_of net.hosts) (λ s. not (s.number == i)) net.slots n.names; apart = filter-apart (λ s. not (s.number == i)) net.slots n.apart }
+neat-close net i n = record { names = filter-names (λ s. names_at s.instances ≡ names_of net.hosts) (λ s. not (s.number == i)) net.slots n.names; apart = filter-apart (λ s. not (s.number == i)) net.slots n.apart }
 
 -- ---- any event
 -- a slot is opened only where it is not open
@@ -175,7 +175,7 @@ neat net (Closes i) f n = neat-close net i n
 neat net (Proposes i u x) f n = neat-act net i u (Propose x) n
 neat net (Delivers u size (Read e)) f n = neat-act net e.slot u (Take e) n
 neat net (Delivers u size (Fault m)) f n = n
-neat net (Hears i u from kind k) f n = neat-known net i u (emission (node_where_open (places_at net.slots i) from) kind k) n
+neat net (Hears i u from kind k) f n = neat-known net i u (emission (node_where_open (instances_at net.slots i) from) kind k) n
 neat net (NominationTimerFires i u r) f n = neat-act net i u (NominationTimer r) n
 neat net (BallotTimerFires i u c) f n = neat-act net i u (BallotTimer c) n
 neat net (Reslices i u q) f n = neat-act net i u (Reslice q) n

@@ -3,7 +3,7 @@ use Rattle.std.specs.Prelude.{◌≡◌, ◌⊎◌, ℕ, ◌<◌, ◌≤◌, ◌
 use Rattle.types.specs.declared.event.NodeEvent.{NodeEvent}
 use Rattle.protocol.specs.Networks.{after_event}
 use Rattle.network.specs.Changes.{IsChangedAt}
-use Rattle.network.specs.Lodgings.{Lodging, Lodgings, bytes_from, events_from, place_in}
+use Rattle.network.specs.Lodgings.{Lodging, Lodgings, bytes_from, events_from, instance_in}
 use Rattle.network.specs.TallyBooks.{TallyBook}
 use Rattle.network.specs.declared.plan.Charge.{Charge}
 use Rattle.network.specs.declared.plan.Drawn.{Drawn}
@@ -64,19 +64,19 @@ HasRoomToTally _ b = ⊤
 
 -- one event of the node, which is counted
 pub record IsActed (c : Charge) (e : NodeEvent) (old new : Lodging) : Type 0 where
-  pub place : place_in new ≡ after_event e (place_in old)
+  pub instance : instance_in new ≡ after_event e (instance_in old)
   pub charged : IsCharged c old new
 
 -- ---- at the open slots
 -- one event of the node at this place of the slot, which is counted
 pub record IsSlotActed (c : Charge) (h : ℕ) (e : NodeEvent) (old new : Lodgings) : Type 0 where
   pub number : new.number ≡ old.number
-  pub places : IsChangedAt (IsActed c e) h old.places new.places
+  pub instances : IsChangedAt (IsActed c e) h old.instances new.instances
 
 -- there is a node at these places, whose counts stay below their widths
 pub record IsReady (c : Charge) (slots : List Lodgings) (k h : ℕ) : Type 0 where
   pub slot : Lodgings
-  pub place : Lodging
+  pub instance : Lodging
   pub slot_is : slice_get slots k ≡ Some slot
-  pub place_is : slice_get slot.places h ≡ Some place
-  pub room : HasRoomFor c place
+  pub instance_is : slice_get slot.instances h ≡ Some instance
+  pub room : HasRoomFor c instance

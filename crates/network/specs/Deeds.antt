@@ -5,7 +5,7 @@ use Rattle.types.specs.Statements.{Sent}
 use Rattle.types.specs.declared.event.NodeEvent.{NodeEvent}
 use Rattle.types.specs.declared.event.Out.{Out}
 use Rattle.types.specs.declared.event.Refusal.{Refusal}
-use Rattle.protocol.specs.Networks.{Net, Place, Slot, Step, act, room_test, bytes_test, hosted_test, open_test, effect, first_that, after_event, outs_at, size_of, source, tests}
+use Rattle.protocol.specs.Networks.{Net, Instance, Slot, Step, act, room_test, bytes_test, hosted_test, open_test, effect, first_that, after_event, outs_at, size_of, source, tests}
 use Rattle.protocol.specs.Networks.Step.{Opens as StepOpens, Closes as StepCloses}
 use Rattle.slot.specs.declared.filed.FiledEvent.{FiledEvent}
 use Rattle.protocol.specs.Rosters.{Roster, Source, share_or_budgets}
@@ -30,14 +30,14 @@ abbrev pub index_of_slot : List Slot → ℕ → Option ℕ
 index_of_slot slots i = index_in (map (λ s. s.number) slots) i
 
 -- the node at a place of a slot
-abbrev pub node_at : Option Slot → ℕ → Option Place
+abbrev pub node_at : Option Slot → ℕ → Option Instance
 node_at None n = None
-node_at (Some s) n = slice_get s.places n
+node_at (Some s) n = slice_get s.instances n
 
 -- ---- what is done, by places
 abbrev pub acted : List Slot → ℕ → ℕ → NodeEvent → List Slot
 acted slots k h e =
-    changed_at {X = Slot} k (λ (s : Slot). record s { places = changed_at h (after_event e) s.places }) slots
+    changed_at {X = Slot} k (λ (s : Slot). record s { instances = changed_at h (after_event e) s.instances }) slots
 
 abbrev pub slots_after : List Slot → Deed → List Slot
 slots_after slots (Open s) = slots ++ slot_of (seats_of s) ∷ []
@@ -53,11 +53,11 @@ outs_after slots (Hand k h e) = outs_at (NodeEvent.Take e) (node_at (slice_get s
 
 -- the places of a node are there
 abbrev pub IsNodeThere : List Slot → ℕ → ℕ → Type 0
-IsNodeThere slots k h = (s : Slot) × (slice_get slots k ≡ Some s) × (h < length s.places)
+IsNodeThere slots k h = (s : Slot) × (slice_get slots k ≡ Some s) × (h < length s.instances)
 
 -- the places are there; the nodes of a slot that is opened have drawn nothing
 abbrev pub IsThere : List Sent → List Slot → Deed → Type 0
-IsThere archive slots (Open s) = All (IsLodged archive) s.places × All IsUncounted s.places
+IsThere archive slots (Open s) = All (IsLodged archive) s.instances × All IsUncounted s.instances
 IsThere archive slots (Close k) = k < length slots
 IsThere archive slots (Act k h e) = IsNodeThere slots k h × IsFiledEvent archive e
 IsThere archive slots (Hand k h e) = IsNodeThere slots k h
@@ -96,10 +96,10 @@ IsDrawn m Budgets s = s ≡ OfBudgets
 IsDrawn m Opens s = (r : Roster) × (m.config.roster ≡ Some r) × (s ≡ OfOpens r.shares)
 IsDrawn m (Own k h) s =
     (r : Roster) × (x : Seats) × (y : Seat) × (m.config.roster ≡ Some r) × (slice_get m.slots k ≡ Some x)
-    × (slice_get x.seats h ≡ Some y) × (s ≡ OfShare r.shares x.number (OwnShare y.place.node.name))
+    × (slice_get x.seats h ≡ Some y) × (s ≡ OfShare r.shares x.number (OwnShare y.instance.node.name))
 IsDrawn m (Pair k h u) s =
     (r : Roster) × (x : Seats) × (y : Seat) × (m.config.roster ≡ Some r) × (slice_get m.slots k ≡ Some x)
-    × (slice_get x.seats h ≡ Some y) × (s ≡ OfShare r.shares x.number (PairShare y.place.node.name u))
+    × (slice_get x.seats h ≡ Some y) × (s ≡ OfShare r.shares x.number (PairShare y.instance.node.name u))
 
 -- a plan for an event that nothing refuses, whatever network the machine stands for: what is done by places is what the
 -- event does

@@ -27,7 +27,7 @@ slots_of slots = map slot_of (map seats_of slots)
 -- what is read at its places is there, and the archive has what it speaks of; no open slot has the number of one that
 -- is opened, and no two have one number where one is closed
 abbrev pub IsDoable : List Sent → Charge → List Lodgings → Deed → Type 0
-IsDoable archive c slots (Open s) = All (IsLodged archive) s.places × (index_in (numbers_of slots) s.number ≡ None)
+IsDoable archive c slots (Open s) = All (IsLodged archive) s.instances × (index_in (numbers_of slots) s.number ≡ None)
 IsDoable archive c slots (Close k) = (k < length slots) × (all_differ (numbers_of slots) ≡ true)
 IsDoable archive c slots (Act k h e) = IsReady c slots k h × IsFiledEvent archive e
 IsDoable archive c slots (Hand k h e) = IsReady c slots k h

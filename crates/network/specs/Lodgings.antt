@@ -4,7 +4,7 @@ use Rattle.std.specs.Global.{Global}
 use Rattle.std.specs.List.{All}
 use Rattle.types.specs.Statements.{Sent}
 use Rattle.types.specs.declared.event.Out.{Out}
-use Rattle.protocol.specs.Networks.{Place, Slot}
+use Rattle.protocol.specs.Networks.{Instance, Slot}
 use Rattle.protocol.specs.Rosters.{Draw, bytes_drawn, events_drawn}
 use Rattle.protocol.specs.Rosters.Share.{Own, Pair}
 use Rattle.envstore.specs.Archives.{AreFiled, sents_of}
@@ -26,15 +26,15 @@ pub record Lodging : Type 0 where
 
 -- the same with whole envelopes
 pub record Seat : Type 0 where
-  pub place : Place
+  pub instance : Instance
   pub own : ℕ
   pub heard : List Tally
 
-abbrev pub place_in : Lodging → Place
-place_in l = record { node = l.held.node; emitted = sents_of l.emitted }
+abbrev pub instance_in : Lodging → Instance
+instance_in l = record { node = l.held.node; emitted = sents_of l.emitted }
 
 abbrev pub seat_of : Lodging → Seat
-seat_of l = record { place = place_in l; own = l.own; heard = l.heard }
+seat_of l = record { instance = instance_in l; own = l.own; heard = l.heard }
 
 -- it has drawn nothing
 pub record IsUncounted (l : Lodging) : Type 0 where
@@ -49,20 +49,20 @@ pub record IsLodged (archive : List Sent) (l : Lodging) : Type 0 where
 -- ---- an open slot
 pub record Lodgings : Type 0 where
   pub number : ℕ
-  pub places : List Lodging
+  pub instances : List Lodging
 
 pub record Seats : Type 0 where
   pub number : ℕ
   pub seats : List Seat
 
 abbrev pub seats_of : Lodgings → Seats
-seats_of s = record { number = s.number; seats = map seat_of s.places }
+seats_of s = record { number = s.number; seats = map seat_of s.instances }
 
 abbrev pub slot_of : Seats → Slot
-slot_of s = record { number = s.number; places = map (λ x. x.place) s.seats }
+slot_of s = record { number = s.number; instances = map (λ x. x.instance) s.seats }
 
 abbrev pub AreLodged : List Sent → List Lodgings → Type 0
-AreLodged archive slots = All (λ s. All (IsLodged archive) s.places) slots
+AreLodged archive slots = All (λ s. All (IsLodged archive) s.instances) slots
 
 -- ---- what was drawn on shares
 -- how many events, and how many bytes, were drawn from a name
@@ -76,9 +76,9 @@ bytes_from (t ∷ ts) u = if t.from == u then t.bytes else bytes_from ts u
 
 -- the counts of a node are what was drawn on its shares of the slot
 pub record IsTallied (i : ℕ) (draws : List Draw) (x : Seat) : Type 0 where
-  pub own : x.own ≡ events_drawn i (Own x.place.node.name) draws
-  pub events : (u : ℕ) → events_from x.heard u ≡ events_drawn i (Pair x.place.node.name u) draws
-  pub bytes : (u : ℕ) → bytes_from x.heard u ≡ bytes_drawn i (Pair x.place.node.name u) draws
+  pub own : x.own ≡ events_drawn i (Own x.instance.node.name) draws
+  pub events : (u : ℕ) → events_from x.heard u ≡ events_drawn i (Pair x.instance.node.name u) draws
+  pub bytes : (u : ℕ) → bytes_from x.heard u ≡ bytes_drawn i (Pair x.instance.node.name u) draws
 
 abbrev pub AreTallied : List Draw → List Seats → Type 0
 AreTallied draws slots = All (λ s. All (IsTallied s.number draws) s.seats) slots

@@ -2,7 +2,7 @@
 use Rattle.std.specs.Prelude.{ℕ, suc, List, [], ◌∷◌, ◌++◌, length, filter, Option, Some, None}
 use Rattle.types.specs.Statements.{Sent, kind_of}
 use Rattle.protocol.specs.Rows.{is_kind}
-use Rattle.protocol.specs.Networks.{Net, Place, Step, effect, emissions, node_where_open, places_at}
+use Rattle.protocol.specs.Networks.{Net, Instance, Step, effect, emissions, node_where_open, instances_at}
 use Rattle.protocol.specs.Networks.Reading.{Read, Fault}
 use Rattle.protocol.specs.Networks.Step.{Opens, Closes, Proposes, Delivers, Hears, NominationTimerFires, BallotTimerFires, Reslices}
 
@@ -19,14 +19,14 @@ slot_and_node_of (BallotTimerFires i u n) = Some (i, u)
 slot_and_node_of (Reslices i u q) = Some (i, u)
 
 -- what a node has emitted
-abbrev pub emitted_at : Option Place → List Sent
+abbrev pub emitted_at : Option Instance → List Sent
 emitted_at None = []
 emitted_at (Some p) = p.emitted
 
 -- what the node of an event has emitted before it, since its slot was opened
 abbrev pub emitted_before : Net → Option (ℕ × ℕ) → List Sent
 emitted_before net None = []
-emitted_before net (Some at) = emitted_at (node_where_open (places_at net.slots at.0) at.1)
+emitted_before net (Some at) = emitted_at (node_where_open (instances_at net.slots at.0) at.1)
 
 -- the number of each emission among those of its kind, after these
 unfoldable pub numbered : List Sent → List Sent → List ℕ

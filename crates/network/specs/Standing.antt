@@ -7,7 +7,7 @@ use Rattle.types.specs.declared.event.Out.{Out}
 use Rattle.types.specs.declared.event.Refusal.{Refusal}
 use Rattle.types.specs.declared.event.Refusal.TheVariants.{NoMemory}
 use Rattle.protocol.specs.Hosts.{Config}
-use Rattle.protocol.specs.Networks.{Net, Step, first_that, node_where_open, net_step, places_at, tests}
+use Rattle.protocol.specs.Networks.{Net, Step, first_that, node_where_open, net_step, instances_at, tests}
 use Rattle.protocol.specs.Networks.Reply.{Done}
 use Rattle.protocol.specs.Rosters.{Draw}
 use Rattle.configuration.specs.Configs.{names_of}
@@ -58,7 +58,7 @@ pub record StandsFor (m : Machine) (net : Net) : Type 0 where
 -- keep the budget
 pub record IsTidy (m : Machine) : Type 0 where
   pub single : all_differ (names_of m.config.hosts) ≡ true
-  pub names : AllByRecursion (λ s. map (λ x. x.place.node.name) s.seats ≡ names_of m.config.hosts) m.slots
+  pub names : AllByRecursion (λ s. map (λ x. x.instance.node.name) s.seats ≡ names_of m.config.hosts) m.slots
   pub apart : all_differ (map (λ s. s.number) m.slots) ≡ true
   pub bytes : m.bytes ≤ m.config.budgets.bytes
 
@@ -76,7 +76,7 @@ pub record IsStanding (m : Standing) : Type 0 where
 -- the slices of a node at a slot of a network, as they are now; there are none where the slot is not open, and where
 -- the node is not hosted
 abbrev pub slices_at : Net → ℕ → ℕ → Option Slices
-slices_at net i u = option_map (λ p. p.node.slices) (node_where_open (places_at net.slots i) u)
+slices_at net i u = option_map (λ p. p.node.slices) (node_where_open (instances_at net.slots i) u)
 
 -- ---- what an event is answered
 -- it is the network's step, for each network for which the machine stands

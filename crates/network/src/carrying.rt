@@ -165,7 +165,7 @@ fn open<S: Shelf>(
     slot: OpenSlot,
 ) -> Result<Outcome, AllocError>
     requires lodged { AreLodged archive.now slots.old }
-    requires slot { All (IsLodged archive.now) slot.places }
+    requires slot { All (IsLodged archive.now) slot.instances }
     requires fresh { index_in (numbers_of slots.old) slot.number ≡ None }
     ensures done { OnOk result (slots.new ≡ slots.old ++ slot ∷ []) }
     ensures answer { (count : ℕ) → IfOk result (IsAnswer [] [] None count archive.now) }

@@ -77,7 +77,7 @@ impl<S: Shelf> Network<S> {
         }
         let slot_at = self.open_slot(slot)?;
         let Some(emitted) = self
-            .place(slot_at, from_at)
+            .instance(slot_at, from_at)
             .emission(emission.kind, emission.number)
         else {
             return Err(Refusal::NotEmitted);

@@ -8,8 +8,8 @@ ghost use Rattle.network.specs.Deeds.{IsSeat, IsSeatThere, index_of_slot};
 ghost use Rattle.network.specs.Lodgings.{IsLodged, seat_of, slot_of};
 ghost use Rattle.network.specs.Standing.{StandsFor, machine_of, slices_at};
 
+use crate::instance::Instance;
 use crate::open_slots::OpenSlots;
-use crate::place::Place;
 use configuration::NetConfig;
 use envstore::{Archive, Filed, Shelf};
 use std::alloc::Global;
@@ -99,7 +99,7 @@ impl<S: Shelf> Network<S> {
             None => None,
             Some(slot_at) => match self.config.place(node) {
                 None => None,
-                Some(host_at) => Some(self.place(slot_at, host_at).slices()),
+                Some(host_at) => Some(self.instance(slot_at, host_at).slices()),
             },
         }
     }
@@ -126,11 +126,11 @@ impl<S: Shelf> Network<S> {
     }
 
     /// The node at these places.
-    pub(crate) fn place(&self, slot_at: usize, host_at: usize) -> &Place
+    pub(crate) fn instance(&self, slot_at: usize, host_at: usize) -> &Instance
         requires { IsSeatThere (machine_of self.now) slot_at host_at }
         ensures seat { IsSeat (machine_of self.now) slot_at host_at (seat_of result.now) }
         ensures lodged { IsLodged self.now.archive result.now }
     {
-        &self.slots.slot(slot_at).places()[host_at]
+        &self.slots.slot(slot_at).instances()[host_at]
     }
 }

@@ -8,11 +8,11 @@ ghost use Rattle.network.specs.Marks.{numbered, emitted_at};
 ghost use Rattle.slot.specs.Filings.{AreFiledOuts, IsFiledEvent, event_of};
 ghost use Rattle.network.specs.Changes.{IsChangedAt};
 ghost use Rattle.network.specs.Charges.{HasRoomFor, IsActed};
-ghost use Rattle.network.specs.Lodgings.{IsGiven, IsLodged, IsUncounted, place_in};
+ghost use Rattle.network.specs.Lodgings.{IsGiven, IsLodged, IsUncounted, instance_in};
 ghost use Rattle.types.specs.Statements.{Sent};
 
 use crate::emission_log::NumberedOuts;
-use crate::place::Place;
+use crate::instance::Instance;
 use crate::plan::Terms;
 use configuration::{HostedNode, NetConfig};
 use envstore::{Archive, Shelf};
@@ -24,7 +24,7 @@ use std::marker::Model;
 #[derive(Drop)]
 pub(crate) struct OpenSlot {
     number: u64,
-    places: Vec<Place>,
+    instances: Vec<Instance>,
 }
 
 impl Model for OpenSlot {
@@ -36,7 +36,7 @@ impl Model for OpenSlot {
 
     ghost coded = { Prim.hlevel (codes, members_code) };
 
-    ghost view = { λ s. record { number = s.number; places = s.places.items } };
+    ghost view = { λ s. record { number = s.number; instances = s.instances.items } };
 }
 
 impl OpenSlot {
@@ -48,12 +48,12 @@ impl OpenSlot {
         config: &NetConfig,
     ) -> Result<OpenSlot, AllocError>
         ensures number { IfOk result (λ s. s.number ≡ number) }
-        ensures places { IfOk result (λ s. map place_in s.places ≡ nodes_of_new_slot config.now.hosts number) }
-        ensures lodged { IfOk result (λ s. (archive : List Sent) → All (IsLodged archive) s.places) }
-        ensures counts { IfOk result (λ s. All IsUncounted s.places) }
+        ensures instances { IfOk result (λ s. map instance_in s.instances ≡ nodes_of_new_slot config.now.hosts number) }
+        ensures lodged { IfOk result (λ s. (archive : List Sent) → All (IsLodged archive) s.instances) }
+        ensures counts { IfOk result (λ s. All IsUncounted s.instances) }
     {
-        let places = fresh_places(alloc, number, config.hosts())?;
-        Ok(OpenSlot { number, places })
+        let instances = fresh_instances(alloc, number, config.hosts())?;
+        Ok(OpenSlot { number, instances })
     }
 
     /// The number of the slot.
@@ -64,13 +64,13 @@ impl OpenSlot {
     }
 
     /// The hosted nodes.
-    pub(crate) fn places(&self) -> &[Place]
-        ensures { result.now ≡ self.now.places }
+    pub(crate) fn instances(&self) -> &[Instance]
+        ensures { result.now ≡ self.now.instances }
     {
-        &self.places
+        &self.instances
     }
 
-    /// One event of the node at this place, as by [`Place::act`].
+    /// One event of the node at this place, as by [`Instance::act`].
     pub(crate) fn act<S: Shelf>(
         &mut self,
         archive: &mut Archive<S>,
@@ -78,33 +78,37 @@ impl OpenSlot {
         event: FiledEvent,
         terms: &Terms,
     ) -> Result<NumberedOuts, AllocError>
-        requires at { at < length self.old.places }
-        requires lodged { All (IsLodged archive.old) self.old.places }
+        requires at { at < length self.old.instances }
+        requires lodged { All (IsLodged archive.old) self.old.instances }
         requires event { IsFiledEvent archive.old event }
-        requires room { IfSome (slice_get self.old.places at) (HasRoomFor terms.now.charge) }
-        ensures acted { OnOk result (IsChangedAt (IsActed terms.now.charge (event_of event)) at self.old.places self.new.places) }
-        ensures applied { IfOk result (IsGiven (outs_at (event_of event) (slice_get (map place_in self.old.places) at)) (numbered (emitted_at (slice_get (map place_in self.old.places) at)) (emissions (outs_at (event_of event) (slice_get (map place_in self.old.places) at)))) terms.now.copies) }
+        requires room { IfSome (slice_get self.old.instances at) (HasRoomFor terms.now.charge) }
+        ensures acted { OnOk result (IsChangedAt (IsActed terms.now.charge (event_of event)) at self.old.instances self.new.instances) }
+        ensures applied { IfOk result (IsGiven (outs_at (event_of event) (slice_get (map instance_in self.old.instances) at)) (numbered (emitted_at (slice_get (map instance_in self.old.instances) at)) (emissions (outs_at (event_of event) (slice_get (map instance_in self.old.instances) at)))) terms.now.copies) }
         ensures err { OnErr result (self.new ≡ self.old) }
         ensures number { self.new.number ≡ self.old.number }
-        ensures lodged { All (IsLodged archive.new) self.new.places }
+        ensures lodged { All (IsLodged archive.new) self.new.instances }
         ensures filed { IfOk result (λ a. AreFiledOuts archive.new a.outs.items) }
         ensures kept { Keeps archive.old archive.new }
     {
-        self.places[at].act(archive, event, terms)
+        self.instances[at].act(archive, event, terms)
     }
 }
 
 /// A fresh node for each host. An error says that memory is short.
 #[tactic(auto, unfolding(protocol::specs::Networks::nodes_of_new_slot))]
-fn fresh_places(alloc: Global, number: u64, hosts: &[HostedNode]) -> Result<Vec<Place>, AllocError>
-    ensures places { IfOk result (λ v. map place_in v.items ≡ nodes_of_new_slot hosts.now number) }
+fn fresh_instances(
+    alloc: Global,
+    number: u64,
+    hosts: &[HostedNode],
+) -> Result<Vec<Instance>, AllocError>
+    ensures instances { IfOk result (λ v. map instance_in v.items ≡ nodes_of_new_slot hosts.now number) }
     ensures lodged { IfOk result (λ v. (archive : List Sent) → All (IsLodged archive) v.items) }
     ensures counts { IfOk result (λ v. All IsUncounted v.items) }
 {
-    let mut places = Vec::with_capacity(alloc, hosts.len())?;
+    let mut instances = Vec::with_capacity(alloc, hosts.len())?;
     for host in hosts {
         let slices = host.slices().try_copy()?;
-        places.push(Place::new(alloc, *host.name(), number, slices))?;
+        instances.push(Instance::new(alloc, *host.name(), number, slices))?;
     }
-    Ok(places)
+    Ok(instances)
 }

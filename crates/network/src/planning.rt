@@ -108,7 +108,7 @@ impl<S: Shelf> Network<S> {
         if is_bad(value) {
             return Err(Refusal::BadValue);
         }
-        if self.place(spot.slot_at, spot.host_at).has_proposal() {
+        if self.instance(spot.slot_at, spot.host_at).has_proposal() {
             return Err(Refusal::ProposedAlready);
         }
         let drawn = self.own_room(&spot, node)?;

@@ -95,7 +95,7 @@ impl<S: Shelf> Network<S> {
         requires { IsDrawnThere (machine_of self.now) (Own slot_at host_at) }
         ensures { MatchResult result (λ _. HasRoom (machine_of self.now) (Own slot_at host_at)) (λ r. HasNoRoom (machine_of self.now) (Own slot_at host_at) r) }
     {
-        let used = self.place(slot_at, host_at).own_events();
+        let used = self.instance(slot_at, host_at).own_events();
         keeps_within(used, 1, self.shares().own(), Refusal::ShareFull)
     }
 
@@ -104,7 +104,7 @@ impl<S: Shelf> Network<S> {
         requires { IsDrawnThere (machine_of self.now) (Pair slot_at host_at from.now) }
         ensures { MatchResult result (λ _. HasRoom (machine_of self.now) (Pair slot_at host_at from.now)) (λ r. HasNoRoom (machine_of self.now) (Pair slot_at host_at from.now) r) }
     {
-        let used = self.place(slot_at, host_at).events_from(from);
+        let used = self.instance(slot_at, host_at).events_from(from);
         keeps_within(used, 1, self.shares().pair(), Refusal::ShareFull)
     }
 
@@ -143,7 +143,7 @@ impl<S: Shelf> Network<S> {
         requires { IsDrawnThere (machine_of self.now) (Pair slot_at host_at from.now) }
         ensures { MatchResult result (λ _. HasRoomForBytes (machine_of self.now) (Pair slot_at host_at from.now) size) (λ r. HasNoRoomForBytes (machine_of self.now) (Pair slot_at host_at from.now) size r) }
     {
-        let used = self.place(slot_at, host_at).bytes_from(from);
+        let used = self.instance(slot_at, host_at).bytes_from(from);
         keeps_within(used, size, self.shares().bytes(), Refusal::ShareBytesFull)
     }
 

@@ -22,8 +22,8 @@ use Rattle.workers.specs.contracts.host.Host as Host
 use Rattle.workers.proofs.Crossing.{host_send}
 use Rattle.workers.proofs.Handles.{handle_send}
 use Rattle.hoststep.proofs.Crossing.{config_send}
-use Rattle.pooled.specs.contracts.hosting.Opened as Opened
-use Rattle.pooled.specs.contracts.joining.Unopened as Unopened
+use Rattle.pooled.specs.contracts.hosting.OpenNetwork as OpenNetwork
+use Rattle.pooled.specs.contracts.joining.UnopenedNetworks as UnopenedNetworks
 
 -- where an envelope was put
 abbrev place : RattleType
@@ -35,7 +35,7 @@ place_send = placed.the_send Envelope.the_row Anything.the_row Global.the_row (k
 pub part_send : (R : RattleType) (w : WaitGhosts R.Denot) → IsSend R → IsSync R → IsSend (Host.the_row (SharedHandle.the_row R) R place (shelf.ghosts R w shelf.no_dict) (places.ghosts R) w)
 part_send R w s y = host_send (SharedHandle.the_row R) R place (places.ghosts R) (shelf.ghosts R w shelf.no_dict) w (handle_send R s y) s place_send
 
-pub opened_send : (R : RattleType) (w : WaitGhosts R.Denot) → IsSend R → IsSync R → IsSend (Opened.the_row R w)
+pub opened_send : (R : RattleType) (w : WaitGhosts R.Denot) → IsSend R → IsSync R → IsSend (OpenNetwork.the_row R w)
 opened_send R w s y =
     let cell = cell_send (SharedHandle.the_row R) R place (places.ghosts R) (shelf.ghosts R w shelf.no_dict) w (handle_send R s y) s place_send in
     let seat = seat_send (SharedHandle.the_row R) R place (places.ghosts R) (handle_send R s y) s place_send in
@@ -45,5 +45,5 @@ opened_send R w s y =
 pub answer_send : (T : RattleType) → IsSend T → IsSend (Result.the_row (Vec.the_row T Global.the_row frees.ghosts) AllocError.the_row)
 answer_send T s = search (sendable, crosses) depth 20
 
-pub unopened_send : (R : RattleType) → IsSend R → IsSync R → IsSend (Unopened.the_row R)
+pub unopened_send : (R : RattleType) → IsSend R → IsSync R → IsSend (UnopenedNetworks.the_row R)
 unopened_send R s y = let handle = handle_send R s y in search (sendable, crosses, config_send) depth 40

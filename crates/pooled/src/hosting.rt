@@ -21,12 +21,12 @@ use workers::Host;
 ///
 /// The seats are all that the cell has: of a cell of two seats, 0 and 1 are here.
 #[derive(Drop)]
-pub struct Opened<R: Wait + Drop> {
+pub struct OpenNetwork<R: Wait + Drop> {
     cell: Cell<SharedHandle<R>, R>,
     seats: Vec<Seat<SharedHandle<R>, R>>,
 }
 
-impl<R: Wait + Drop> Model for Opened<R> {
+impl<R: Wait + Drop> Model for OpenNetwork<R> {
     ghost use Rattle.std.specs.Coded.{codes};
     ghost use Rattle.types.specs.Trees.{members_code};
     ghost use Rattle.workers.specs.Spares.{IsHosted};
@@ -41,13 +41,13 @@ impl<R: Wait + Drop> Model for Opened<R> {
     ghost invariant = { λ o. IsHosted o.cell o.seats.items };
 }
 
-impl<R: Wait + Drop> Opened<R> {
+impl<R: Wait + Drop> OpenNetwork<R> {
     /// It joins a host. An error says that there is no room for it.
     pub fn join(self, host: &mut Host<SharedHandle<R>, R>) -> Result<(), AllocError>
         ensures ok { OnOk result (host.new ≡ nets_with self host.old) }
         ensures fresh { OnOk result (NoNet host.old self.cell.config.number) }
     {
-        let Opened { cell, seats } = self;
+        let OpenNetwork { cell, seats } = self;
         match host.add(cell, seats) {
             Ok(()) => Ok(()),
             // Memory: the host has no room; numbers and their count were tested line by line.
@@ -64,7 +64,7 @@ pub fn open_network<R: Wait + Drop + Copy>(
     alloc: Global,
     network: (NetConfig, SharedHandle<R>, u64),
     opens: &[(u32, u64)],
-) -> Result<Opened<R>, AllocError>
+) -> Result<OpenNetwork<R>, AllocError>
     requires some { 0 < network.2 }
     requires few { network.2 ≤ 64 }
     requires rising { IsNonDecreasingBy (λ o. o.0) opens.now }
@@ -74,7 +74,7 @@ pub fn open_network<R: Wait + Drop + Copy>(
     let own = own_opens(config.number(), opens);
     let (cell, mut seats) = Cell::open_on(rt, alloc, config, seats, handle)?;
     open_slots(rt, &cell, &mut seats[0], own);
-    Ok(Opened { cell, seats })
+    Ok(OpenNetwork { cell, seats })
 }
 
 /// Those that are of the network of a number, of openings that stand ascending by network.

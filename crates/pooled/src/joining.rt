@@ -7,7 +7,7 @@ ghost use Rattle.std.specs.List.Sorted.{IsNonDecreasingBy};
 ghost use Rattle.std.specs.Thread.{IsSend, IsSync};
 ghost use Rattle.pooled.specs.Opening.{AreReady, JoinInTurn};
 
-use crate::hosting::{Opened, open_network};
+use crate::hosting::{OpenNetwork, open_network};
 use configuration::NetConfig;
 use envstore::SharedHandle;
 use std::alloc::{AllocError, Global};
@@ -19,34 +19,34 @@ use workers::Host;
 /// Networks that are to be opened: their configurations, in order, a handle on the store of all, how many seats
 /// each has, and the slots that are opened first, each with the number of its network, ascending by network.
 #[derive(Drop)]
-pub struct Unopened<R: Wait + Drop> {
+pub struct UnopenedNetworks<R: Wait + Drop> {
     pub configs: Vec<NetConfig>,
     pub handle: SharedHandle<R>,
     pub seats: u64,
     pub opens: Vec<(u32, u64)>,
 }
 
-impl<R: Wait + Copy + Drop> Unopened<R> {
+impl<R: Wait + Copy + Drop> UnopenedNetworks<R> {
     /// The first half of the networks, and the others.
-    fn halves(self) -> Result<(Unopened<R>, Unopened<R>), AllocError>
+    fn halves(self) -> Result<(UnopenedNetworks<R>, UnopenedNetworks<R>), AllocError>
         ensures networks { IfOk result (λ r. self.configs.items ≡ r.0.configs.items ++ r.1.configs.items) }
         ensures seats { IfOk result (λ r. (r.0.seats ≡ self.seats) × (r.1.seats ≡ self.seats)) }
         ensures opens { IfOk result (λ r. (r.0.opens.items ≡ self.opens.items) × (r.1.opens.items ≡ self.opens.items)) }
     {
-        let Unopened {
+        let UnopenedNetworks {
             mut configs,
             handle,
             seats,
             opens,
         } = self;
         let count = configs.len() / 2;
-        let others = Unopened {
+        let others = UnopenedNetworks {
             configs: configs.split_off(count)?,
             handle: handle.try_copy()?,
             seats,
             opens: opens.clone()?,
         };
-        let first = Unopened {
+        let first = UnopenedNetworks {
             configs,
             handle,
             seats,
@@ -63,9 +63,9 @@ impl<R: Wait + Copy + Drop> Unopened<R> {
 pub fn open_by<R: Threads + Wait + Sync + Send + Copy + Drop>(
     rt: &R,
     alloc: Global,
-    nets: Unopened<R>,
+    nets: UnopenedNetworks<R>,
     threads: usize,
-) -> Result<Vec<Opened<R>>, AllocError>
+) -> Result<Vec<OpenNetwork<R>>, AllocError>
     requires some { 0 < nets.seats }
     requires few { nets.seats ≤ 64 }
     requires rising { IsNonDecreasingBy (λ o. o.0) nets.opens.items }
@@ -77,11 +77,11 @@ pub fn open_by<R: Threads + Wait + Sync + Send + Copy + Drop>(
     let (low, high) = nets.halves()?;
     let fewer = threads / 2;
     let more = threads - fewer;
-    let open_low = move || -> Result<Vec<Opened<R>>, AllocError>
+    let open_low = move || -> Result<Vec<OpenNetwork<R>>, AllocError>
         requires { IsSync R.row × IsSend R.row × (0 < low.seats) × (low.seats ≤ 64) × IsNonDecreasingBy (λ o. o.0) low.opens.items }
         ensures { IfOk result (λ opened. AreReady low.seats low.opens.items low.configs.items opened.items) }
     { open_by(rt, alloc, low, fewer) };
-    let open_high = move || -> Result<Vec<Opened<R>>, AllocError>
+    let open_high = move || -> Result<Vec<OpenNetwork<R>>, AllocError>
         requires { IsSync R.row × IsSend R.row × (0 < high.seats) × (high.seats ≤ 64) × IsNonDecreasingBy (λ o. o.0) high.opens.items }
         ensures { IfOk result (λ opened. AreReady high.seats high.opens.items high.configs.items opened.items) }
     { open_by(rt, alloc, high, more) };
@@ -92,9 +92,9 @@ pub fn open_by<R: Threads + Wait + Sync + Send + Copy + Drop>(
 
 /// Some networks, and then others.
 fn concat<R: Wait + Drop>(
-    mut first: Vec<Opened<R>>,
-    mut others: Vec<Opened<R>>,
-) -> Result<Vec<Opened<R>>, AllocError>
+    mut first: Vec<OpenNetwork<R>>,
+    mut others: Vec<OpenNetwork<R>>,
+) -> Result<Vec<OpenNetwork<R>>, AllocError>
     ensures { IfOk result (λ nets. nets.items ≡ first.items ++ others.items) }
 {
     first.append(&mut others)?;
@@ -105,14 +105,14 @@ fn concat<R: Wait + Drop>(
 fn open_alone<R: Wait + Copy + Drop>(
     rt: &R,
     alloc: Global,
-    nets: Unopened<R>,
-) -> Result<Vec<Opened<R>>, AllocError>
+    nets: UnopenedNetworks<R>,
+) -> Result<Vec<OpenNetwork<R>>, AllocError>
     requires some { 0 < nets.seats }
     requires few { nets.seats ≤ 64 }
     requires rising { IsNonDecreasingBy (λ o. o.0) nets.opens.items }
     ensures { IfOk result (λ opened. AreReady nets.seats nets.opens.items nets.configs.items opened.items) }
 {
-    let Unopened {
+    let UnopenedNetworks {
         configs,
         handle,
         seats,
@@ -130,7 +130,7 @@ fn open_alone<R: Wait + Copy + Drop>(
 /// A host that the networks have joined, one after the other.
 pub fn join_all<R: Wait + Drop>(
     alloc: Global,
-    nets: Vec<Opened<R>>,
+    nets: Vec<OpenNetwork<R>>,
 ) -> Result<Host<SharedHandle<R>, R>, AllocError>
     ensures { IfOk result (JoinInTurn nets.items []) }
 {

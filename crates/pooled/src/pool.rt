@@ -8,7 +8,7 @@ ghost use Rattle.pooled.specs.PoolLines.{report_line};
 ghost use Rattle.pooled.specs.Pooling.{AreClosed, AreDone, AreJournalLines, IsPoolText, IsToldMore, IsToldOf, jobs_of};
 
 use crate::gate::Open;
-use crate::joining::{Unopened, join_all, open_by};
+use crate::joining::{UnopenedNetworks, join_all, open_by};
 use crate::lines::{push_decided, push_length, push_report};
 use configuration::NetConfig;
 use crowds::Submission;
@@ -78,7 +78,7 @@ fn host_networks<R: Threads + Wait + Sync + Send + Copy + Drop>(
 {
     let opens = by_network(opens)?;
     let handle = SharedHandle::new(alloc, *rt)?;
-    let unopened = Unopened {
+    let unopened = UnopenedNetworks {
         configs,
         handle,
         seats,

@@ -1,7 +1,7 @@
 -- Networks and their journals: what runs lead to, and what they count.
 pub mod Journals
 pub mod Effects
-pub mod Places
+pub mod Instances
 pub mod SlicesOfRuns
 pub mod Counts
 pub mod Room

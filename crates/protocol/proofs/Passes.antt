@@ -7,4 +7,4 @@ pub mod RulesOfKinds
 pub mod Stirring
 pub mod OnePass
 pub mod FourPasses
-pub mod Kept
+pub mod KeptByPasses

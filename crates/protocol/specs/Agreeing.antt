@@ -6,46 +6,46 @@ use Rattle.types.specs.Trees.{Slices}
 use Rattle.protocol.specs.Sets.{Names, within}
 use Rattle.protocol.specs.Satisfaction.{names}
 use Rattle.protocol.specs.Nodes.{Calm}
-use Rattle.protocol.specs.Networks.{Step, Place, Net, slices_of, places_at, node_where_open, net_step}
+use Rattle.protocol.specs.Networks.{Step, Instance, Net, slices_of, instances_at, node_where_open, net_step}
 use Rattle.protocol.specs.Networks.Reply.{Done}
 use Rattle.protocol.specs.Hosts.{Entry, Config, new_net}
 use Rattle.protocol.specs.Runs.{IsRun, state_of}
-use Rattle.protocol.specs.Isolation.{Kept, kept_step, is_of, closure}
-use Rattle.protocol.specs.Isolation.Kept.{Opened, Closed, Told, Heard}
+use Rattle.protocol.specs.Isolation.{KeptStep, kept_step, is_of, closure}
+use Rattle.protocol.specs.Isolation.KeptStep.{Opening, Closing, EventAt, Hearing}
 use Rattle.protocol.specs.Claims.{IsClosedFor, IsOfMembers, AgreeOn}
 
 -- the node at an open slot, where the network hosts it and the slot is open
-abbrev pub place_in : Net → ℕ → ℕ → Option Place
-place_in net i u = node_where_open (places_at net.slots i) u
+abbrev pub instance_in : Net → ℕ → ℕ → Option Instance
+instance_in net i u = node_where_open (instances_at net.slots i) u
 
 -- A set is closed for a network at a slot: its members' configured slices name members alone, it is closed for their
 -- nodes, which are at rest, and each node has told of itself alone, the members naming members.
 pub record IsClosedIn (R : Names) (i : ℕ) (net : Net) : Type 0 where
   pub hosts : (u : ℕ) (q : Slices) → slices_of net.hosts u ≡ Some q → IsTrue (R u) → IsTrue (within (names q) R)
-  pub nodes : (u : ℕ) (p : Place) → place_in net i u ≡ Some p → IsTrue (R u) → IsClosedFor R p.node
-  pub calm : (u : ℕ) (p : Place) → place_in net i u ≡ Some p → IsTrue (R u) → Calm p.node
-  pub emitted : (u : ℕ) (p : Place) → place_in net i u ≡ Some p
+  pub nodes : (u : ℕ) (p : Instance) → instance_in net i u ≡ Some p → IsTrue (R u) → IsClosedFor R p.node
+  pub calm : (u : ℕ) (p : Instance) → instance_in net i u ≡ Some p → IsTrue (R u) → Calm p.node
+  pub emitted : (u : ℕ) (p : Instance) → instance_in net i u ≡ Some p
       → IsTrue (list_all (λ e. (e.sender == u) && (not (R e.sender) || within (names e.slices) R)) p.emitted)
 
 -- a member in two networks: it is in neither, or its nodes are one in state and agree on the rows of members, and have
 -- told the same
-abbrev pub ArePlacesAlike : Names → Option Place → Option Place → Type 0
-ArePlacesAlike R None None = Unit {0}
-ArePlacesAlike R None (Some q) = ⊥
-ArePlacesAlike R (Some p) None = ⊥
-ArePlacesAlike R (Some p) (Some q) = AgreeOn R p.node q.node × (p.emitted ≡ q.emitted)
+abbrev pub AreInstancesAlike : Names → Option Instance → Option Instance → Type 0
+AreInstancesAlike R None None = Unit {0}
+AreInstancesAlike R None (Some q) = ⊥
+AreInstancesAlike R (Some p) None = ⊥
+AreInstancesAlike R (Some p) (Some q) = AgreeOn R p.node q.node × (p.emitted ≡ q.emitted)
 
 -- two networks agree on a set at a slot: they host its members with the same slices, and each member is alike in both
 pub record AgreeIn (R : Names) (i : ℕ) (one other : Net) : Type 0 where
   pub cast : (u : ℕ) → IsTrue (R u) → slices_of one.hosts u ≡ slices_of other.hosts u
-  pub places : (u : ℕ) → IsTrue (R u) → ArePlacesAlike R (place_in one i u) (place_in other i u)
+  pub instances : (u : ℕ) → IsTrue (R u) → AreInstancesAlike R (instance_in one i u) (instance_in other i u)
 
 -- of what is kept of a step, what is delivered and the slices that are given name members alone
-abbrev pub IsKeptOfMembers : Names → Kept → Type 0
-IsKeptOfMembers R Opened = Unit {0}
-IsKeptOfMembers R Closed = Unit {0}
-IsKeptOfMembers R (Told u e) = IsOfMembers R e
-IsKeptOfMembers R (Heard u from kind k) = Unit {0}
+abbrev pub IsKeptOfMembers : Names → KeptStep → Type 0
+IsKeptOfMembers R Opening = Unit {0}
+IsKeptOfMembers R Closing = Unit {0}
+IsKeptOfMembers R (EventAt u e) = IsOfMembers R e
+IsKeptOfMembers R (Hearing u from kind k) = Unit {0}
 
 -- what a node at the slot gives out, of what a step gives out
 abbrev pub given_by : ℕ → ℕ → Step → List Out → List Out

@@ -11,7 +11,7 @@ use Rattle.protocol.specs.Rows.{row}
 use Rattle.protocol.specs.Reach.{reached}
 use Rattle.protocol.specs.Nodes.{Node, step, Calm}
 use Rattle.types.specs.declared.event.NodeEvent.TheVariants.{Propose, Take, NominationTimer, BallotTimer, Reslice}
-use Rattle.protocol.specs.Networks.{HostedNode, Place, places_at, node_where_open}
+use Rattle.protocol.specs.Networks.{HostedNode, Instance, instances_at, node_where_open}
 use Rattle.protocol.specs.Hosts.{Entry, Config}
 use Rattle.protocol.specs.Runs.{IsRun, state_of}
 use Rattle.protocol.specs.Isolation.{closure}
@@ -51,7 +51,7 @@ PrefixOfReach =
 abbrev pub PrefixOfWholeRun : Type 0
 PrefixOfWholeRun = (config : Config) (run : List Entry) (i v : ℕ) → IsRun config run →
     let R = closure config.hosts i v run in
-    (n u : ℕ) (p : Place) → IsTrue (R u) → node_where_open (places_at (state_of config (take n run)).slots i) u ≡ Some p
+    (n u : ℕ) (p : Instance) → IsTrue (R u) → node_where_open (instances_at (state_of config (take n run)).slots i) u ≡ Some p
     → IsClosedFor R p.node × AreWithin (reached p.node.name p.node.slices p.node.table) R
 
 -- ---- agreement of two worlds

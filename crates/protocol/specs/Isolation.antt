@@ -33,32 +33,32 @@ closure hosts i v run = in_least (map host_rule hosts ++ flat_map (λ x. announc
 
 -- ---- kept steps
 -- what is kept of a run: of a Hear not what it hands over
-pub data Kept : Type 0 where
-  Opened : Kept
-  Closed : Kept
-  Told : ℕ → NodeEvent → Kept
-  Heard : ℕ → ℕ → Kind → ℕ → Kept
+pub data KeptStep : Type 0 where
+  Opening : KeptStep
+  Closing : KeptStep
+  EventAt : ℕ → NodeEvent → KeptStep
+  Hearing : ℕ → ℕ → Kind → ℕ → KeptStep
 
 -- a step is kept where the test holds
-abbrev pub when_kept : Bool → Kept → Option Kept
+abbrev pub when_kept : Bool → KeptStep → Option KeptStep
 when_kept true k = Some k
 when_kept false k = None
 
 -- at the slot: its opening and closing, what happens to members, new slices of members with them, and what members send
 -- to members
-abbrev pub kept_step : Names → ℕ → Step → Option Kept
-kept_step R i (Opens j) = when_kept (j == i) Opened
-kept_step R i (Closes j) = when_kept (j == i) Closed
-kept_step R i (Proposes j u x) = when_kept ((j == i) && R u) (Told u (Propose x))
-kept_step R i (Delivers u size (Read e)) = when_kept ((e.slot == i) && R u && R e.sender) (Told u (Take e))
+abbrev pub kept_step : Names → ℕ → Step → Option KeptStep
+kept_step R i (Opens j) = when_kept (j == i) Opening
+kept_step R i (Closes j) = when_kept (j == i) Closing
+kept_step R i (Proposes j u x) = when_kept ((j == i) && R u) (EventAt u (Propose x))
+kept_step R i (Delivers u size (Read e)) = when_kept ((e.slot == i) && R u && R e.sender) (EventAt u (Take e))
 kept_step R i (Delivers u size (Fault n)) = None
-kept_step R i (Hears j u from kind k) = when_kept ((j == i) && R u && R from) (Heard u from kind k)
-kept_step R i (NominationTimerFires j u r) = when_kept ((j == i) && R u) (Told u (NominationTimer r))
-kept_step R i (BallotTimerFires j u n) = when_kept ((j == i) && R u) (Told u (BallotTimer n))
-kept_step R i (Reslices j u q) = when_kept ((j == i) && R u) (Told u (Reslice q))
+kept_step R i (Hears j u from kind k) = when_kept ((j == i) && R u && R from) (Hearing u from kind k)
+kept_step R i (NominationTimerFires j u r) = when_kept ((j == i) && R u) (EventAt u (NominationTimer r))
+kept_step R i (BallotTimerFires j u n) = when_kept ((j == i) && R u) (EventAt u (BallotTimer n))
+kept_step R i (Reslices j u q) = when_kept ((j == i) && R u) (EventAt u (Reslice q))
 
 -- the kept steps of a run, in order
-unfoldable pub kept_of : Names → ℕ → List Entry → List Kept
+unfoldable pub kept_of : Names → ℕ → List Entry → List KeptStep
 kept_of R i run = filter_map (λ x. kept_step R i x.event) run
 
 -- ---- what a node gave out

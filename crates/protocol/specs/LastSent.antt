@@ -8,7 +8,7 @@ use Rattle.types.specs.declared.state.Votes.{Votes}
 use Rattle.types.specs.Statements.{Sent, kind_of}
 use Rattle.protocol.specs.Rows.{is_kind}
 use Rattle.protocol.specs.States.{sent_vote, sent_nomination}
-use Rattle.protocol.specs.Networks.{Place}
+use Rattle.protocol.specs.Networks.{Instance}
 use Rattle.protocol.specs.Hosts.{Entry, Config}
 use Rattle.protocol.specs.Runs.{state_of}
 
@@ -22,7 +22,7 @@ sent_as Nomination w = sent_nomination w
 sent_as Kind.Ballot w = sent_vote w
 
 -- of each kind, what a node emitted last is what it would send now, and it emitted none where it would send none
-abbrev pub SendsItsLast : Place → Type 0
+abbrev pub SendsItsLast : Instance → Type 0
 SendsItsLast p = (kind : Kind) → last_of kind p.emitted ≡ sent_as kind p.node.votes
 
 -- so it is with each hosted node at each open slot, after any entries: what differs from the last one emitted is what
@@ -30,4 +30,4 @@ SendsItsLast p = (kind : Kind) → last_of kind p.emitted ≡ sent_as kind p.nod
 -- Statements are compared, not envelopes, since slices may change after the last one.
 abbrev pub LastIsSent : Type 0
 LastIsSent = (config : Config) (before : List Entry)
-    → AllByRecursion (λ s. AllByRecursion SendsItsLast s.places) (state_of config before).slots
+    → AllByRecursion (λ s. AllByRecursion SendsItsLast s.instances) (state_of config before).slots

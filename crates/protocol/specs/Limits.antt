@@ -31,7 +31,7 @@ WithinFour = SettlesWithin 4
 
 -- to each node at each open slot of a network events lead
 abbrev pub AllComeOfEvents : List Slot → Type 0
-AllComeOfEvents slots = AllByRecursion (λ s. AllByRecursion (λ p. ComesOfEvents p.node) s.places) slots
+AllComeOfEvents slots = AllByRecursion (λ s. AllByRecursion (λ p. ComesOfEvents p.node) s.instances) slots
 
 -- after any entries, of whatever configuration
 abbrev pub RunsComeOfEvents : Type 0

@@ -58,14 +58,14 @@ pub record Budgets : Type 0 where
   pub slots : ℕ
 
 -- a hosted node at a slot, and what it has emitted since the slot was opened
-pub record Place : Type 0 where
+pub record Instance : Type 0 where
   pub node : Node
   pub emitted : List Sent
 
 -- an open slot
 pub record Slot : Type 0 where
   pub number : ℕ
-  pub places : List Place
+  pub instances : List Instance
 
 -- a network, with the events and the delivered bytes that drew on its budgets so far, the openings and closings that
 -- drew on theirs,
@@ -87,17 +87,17 @@ slices_of [] u = None
 slices_of (h ∷ hs) u = if h.name == u then Some h.slices else slices_of hs u
 
 -- the nodes at an open slot
-abbrev pub places_at : List Slot → ℕ → Option (List Place)
-places_at [] i = None
-places_at (s ∷ ss) i = if s.number == i then Some s.places else places_at ss i
+abbrev pub instances_at : List Slot → ℕ → Option (List Instance)
+instances_at [] i = None
+instances_at (s ∷ ss) i = if s.number == i then Some s.instances else instances_at ss i
 
 -- the node of a name among them
-abbrev pub node_named : List Place → ℕ → Option Place
+abbrev pub node_named : List Instance → ℕ → Option Instance
 node_named [] u = None
 node_named (p ∷ ps) u = if p.node.name == u then Some p else node_named ps u
 
 -- the node of a name, where the slot is open
-abbrev pub node_where_open : Option (List Place) → ℕ → Option Place
+abbrev pub node_where_open : Option (List Instance) → ℕ → Option Instance
 node_where_open None u = None
 node_where_open (Some ps) u = node_named ps u
 
@@ -113,23 +113,23 @@ abbrev pub emissions : List Out → List Sent
 emissions os = filter_map emission_of os
 
 -- the k-th emission of the kind since the slot was opened, k from 1
-abbrev pub emission : Option Place → Kind → ℕ → Option Sent
+abbrev pub emission : Option Instance → Kind → ℕ → Option Sent
 emission None kind k = None
 emission (Some p) kind zero = None
 emission (Some p) kind (suc k) = slice_get (filter (λ e. is_kind kind (kind_of e.body)) p.emitted) k
 
 -- ---- what an event does
--- the node's step at its place
-unfoldable pub after_event : NodeEvent → Place → Place
+-- the node's step
+unfoldable pub after_event : NodeEvent → Instance → Instance
 after_event e p = record { node = (step p.node e).0; emitted = p.emitted ++ emissions (step p.node e).1 }
 
 -- what the node's step gives out
-abbrev pub outs_at : NodeEvent → Option Place → List Out
+abbrev pub outs_at : NodeEvent → Option Instance → List Out
 outs_at e None = []
 outs_at e (Some p) = (step p.node e).1
 
 -- the step of one node among those of a slot
-abbrev pub act_in : ℕ → NodeEvent → List Place → List Place
+abbrev pub act_in : ℕ → NodeEvent → List Instance → List Instance
 act_in u e ps = map (λ p. if p.node.name == u then after_event e p else p) ps
 
 -- a step of one node at one slot
@@ -137,11 +137,11 @@ unfoldable pub act : Net → ℕ → ℕ → NodeEvent → Net × List Out
 act net i u e = (
   record net {
     slots = map {B = Slot} (λ (s : Slot). if s.number == i then record s {
-      places =
-          act_in u e s.places;
+      instances =
+          act_in u e s.instances;
     } else s) net.slots;
   },
-  outs_at e (node_where_open (places_at net.slots i) u),
+  outs_at e (node_where_open (instances_at net.slots i) u),
 )
 
 -- nothing happens where there is nothing to hand over
@@ -150,7 +150,7 @@ act_known net i u None = (net, [])
 act_known net i u (Some e) = act net i u (Take e)
 
 -- opening a slot makes each hosted node anew, with the slices of its configuration
-unfoldable pub nodes_of_new_slot : List HostedNode → ℕ → List Place
+unfoldable pub nodes_of_new_slot : List HostedNode → ℕ → List Instance
 nodes_of_new_slot hosts i = map (λ h. record { node = fresh i h.name h.slices; emitted = [] }) hosts
 
 -- nothing is drawn yet on the shares of a slot that is opened
@@ -161,7 +161,7 @@ renewed i draws = filter (λ d. not (d.slot == i)) draws
 unfoldable pub effect : Net → Step → Net × List Out
 effect net (Opens i) = (
   record net {
-    slots = net.slots ++ record { number = i; places = nodes_of_new_slot net.hosts i } ∷ [];
+    slots = net.slots ++ record { number = i; instances = nodes_of_new_slot net.hosts i } ∷ [];
     draws = renewed i net.draws;
   },
   [],
@@ -170,7 +170,7 @@ effect net (Closes i) = (record net { slots = filter (λ s. not (s.number == i))
 effect net (Proposes i u x) = act net i u (Propose x)
 effect net (Delivers u size (Read e)) = act net e.slot u (Take e)
 effect net (Delivers u size (Fault n)) = (net, [])
-effect net (Hears i u from kind k) = act_known net i u (emission (node_where_open (places_at net.slots i) from) kind k)
+effect net (Hears i u from kind k) = act_known net i u (emission (node_where_open (instances_at net.slots i) from) kind k)
 effect net (NominationTimerFires i u r) = act net i u (NominationTimer r)
 effect net (BallotTimerFires i u n) = act net i u (BallotTimer n)
 effect net (Reslices i u q) = act net i u (Reslice q)
@@ -203,10 +203,10 @@ is_hosted net u = is_some (slices_of net.hosts u)
 
 -- the slot is open
 abbrev pub is_open : Net → ℕ → Bool
-is_open net i = is_some (places_at net.slots i)
+is_open net i = is_some (instances_at net.slots i)
 
 -- the node has been told to propose a value
-abbrev pub has_proposal : Option Place → Bool
+abbrev pub has_proposal : Option Instance → Bool
 has_proposal None = false
 has_proposal (Some p) = is_some p.node.inputs.proposal
 
@@ -245,7 +245,7 @@ tests_on net s (Opens i) =
 tests_on net s (Closes i) = open_test net i ∷ room_test net s ∷ []
 tests_on net s (Proposes i u x) =
     hosted_test net u ∷ open_test net i ∷ (is_bad_value x, BadValue) ∷ (
-      has_proposal (node_where_open (places_at net.slots i) u),
+      has_proposal (node_where_open (instances_at net.slots i) u),
       ProposedAlready,
     ) ∷ room_test net s ∷ []
 tests_on net s (Delivers u size (Fault n)) = hosted_test net u ∷ (true, BadEnvelope n) ∷ []
@@ -256,7 +256,7 @@ tests_on net s (Delivers u size (Read e)) =
     ) ∷ open_test net e.slot ∷ room_test net s ∷ bytes_test net s size ∷ []
 tests_on net s (Hears i u from kind k) =
     (not (is_hosted net u) || not (is_hosted net from) || (u == from), NoSuchNode) ∷ open_test net i ∷
-    (is_none (emission (node_where_open (places_at net.slots i) from) kind k), NotEmitted) ∷ room_test net s ∷ []
+    (is_none (emission (node_where_open (instances_at net.slots i) from) kind k), NotEmitted) ∷ room_test net s ∷ []
 tests_on net s (NominationTimerFires i u r) = hosted_test net u ∷ open_test net i ∷ room_test net s ∷ []
 tests_on net s (BallotTimerFires i u n) = hosted_test net u ∷ open_test net i ∷ room_test net s ∷ []
 tests_on net s (Reslices i u q) = hosted_test net u ∷ open_test net i ∷ room_test net s ∷ []

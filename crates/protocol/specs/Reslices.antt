@@ -5,7 +5,7 @@ use Rattle.types.specs.declared.event.NodeEvent.{NodeEvent}
 use Rattle.types.specs.declared.event.NodeEvent.TheVariants.{Propose, Take, NominationTimer, BallotTimer, Reslice}
 use Rattle.protocol.specs.Nodes.{Node, step}
 use Rattle.protocol.specs.Limits.{ComesOfEvents}
-use Rattle.protocol.specs.Networks.{Step, Place, slices_of, places_at, node_where_open}
+use Rattle.protocol.specs.Networks.{Step, Instance, slices_of, instances_at, node_where_open}
 use Rattle.protocol.specs.Networks.Step.{Opens, Closes, Proposes, Delivers, Hears, NominationTimerFires, BallotTimerFires, Reslices}
 use Rattle.protocol.specs.Hosts.{Config, Entry}
 use Rattle.protocol.specs.Runs.{IsRun, state_of}
@@ -62,7 +62,7 @@ slices_at_end i u configured run = slices_since i u configured configured run
 
 -- they are the slices of the node in the state that the run leads to, wherever the slot is open there
 abbrev pub SlicesFollowRuns : Type 0
-SlicesFollowRuns = (config : Config) (run : List Entry) (i u : ℕ) (configured : Slices) (p : Place) → IsRun config run
+SlicesFollowRuns = (config : Config) (run : List Entry) (i u : ℕ) (configured : Slices) (p : Instance) → IsRun config run
     → slices_of config.hosts u ≡ Some configured
-    → node_where_open (places_at (state_of config run).slots i) u ≡ Some p
+    → node_where_open (instances_at (state_of config run).slots i) u ≡ Some p
     → p.node.slices ≡ slices_at_end i u configured run

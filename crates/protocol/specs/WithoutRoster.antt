@@ -3,7 +3,7 @@
 use Rattle.types.specs.declared.event.Refusal.{Refusal}
 use Rattle.types.specs.declared.event.Refusal.TheVariants.{NoSuchNode, SlotOpenAlready, TooManySlots, BadEnvelope, HostedSender, NotEmitted, JournalFull, BytesFull, BadValue, ProposedAlready}
 use Rattle.std.specs.Prelude.{◌≡◌, Bool, true, not, ◌||◌, ◌+◌, ◌==◌, nat_lt, length, List, [], ◌∷◌, Option, Some, None, is_none}
-use Rattle.protocol.specs.Networks.{Net, Step, Reply, places_at, node_where_open, emission, effect, is_hosted, is_open, has_proposal, is_bad_value, hosted_test, open_test, first_that, size_of, net_step}
+use Rattle.protocol.specs.Networks.{Net, Step, Reply, instances_at, node_where_open, emission, effect, is_hosted, is_open, has_proposal, is_bad_value, hosted_test, open_test, first_that, size_of, net_step}
 use Rattle.protocol.specs.Networks.Reading.{Read, Fault}
 use Rattle.protocol.specs.Networks.Step.{Opens, Closes, Proposes, Delivers, Hears, NominationTimerFires, BallotTimerFires, Reslices}
 use Rattle.protocol.specs.Networks.Reply.{Done, Refused}
@@ -24,7 +24,7 @@ tests_without net (Opens i) =
 tests_without net (Closes i) = open_test net i ∷ is_journal_full net ∷ []
 tests_without net (Proposes i u x) =
     hosted_test net u ∷ open_test net i ∷ (is_bad_value x, BadValue) ∷ (
-      has_proposal (node_where_open (places_at net.slots i) u),
+      has_proposal (node_where_open (instances_at net.slots i) u),
       ProposedAlready,
     ) ∷ is_journal_full net ∷ []
 tests_without net (Delivers u size (Fault n)) = hosted_test net u ∷ (true, BadEnvelope n) ∷ []
@@ -33,7 +33,7 @@ tests_without net (Delivers u size (Read e)) =
     (nat_lt net.budgets.bytes (net.bytes + size), BytesFull) ∷ []
 tests_without net (Hears i u from kind k) =
     (not (is_hosted net u) || not (is_hosted net from) || (u == from), NoSuchNode) ∷ open_test net i ∷
-    (is_none (emission (node_where_open (places_at net.slots i) from) kind k), NotEmitted) ∷ is_journal_full net ∷ []
+    (is_none (emission (node_where_open (instances_at net.slots i) from) kind k), NotEmitted) ∷ is_journal_full net ∷ []
 tests_without net (NominationTimerFires i u r) = hosted_test net u ∷ open_test net i ∷ is_journal_full net ∷ []
 tests_without net (BallotTimerFires i u n) = hosted_test net u ∷ open_test net i ∷ is_journal_full net ∷ []
 tests_without net (Reslices i u q) = hosted_test net u ∷ open_test net i ∷ is_journal_full net ∷ []

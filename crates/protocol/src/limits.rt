@@ -6,7 +6,7 @@ ghost use Rattle.protocol.specs.Stirring.{BallotRowsStirBallots, NominationRests
 /// Four passes are enough for each event of a node that events lead to, the last of which changes
 /// nothing: so no event is undone by the limit of 64 passes. And each node in a network's run is one
 /// that events lead to.
-#[tactic(auto, using(crate::proofs::Passes::Settling::never_limited, crate::proofs::Passes::Settling::within_four, crate::proofs::Networks::Places::runs_come_of_events))]
+#[tactic(auto, using(crate::proofs::Passes::Settling::never_limited, crate::proofs::Passes::Settling::within_four, crate::proofs::Networks::Instances::runs_come_of_events))]
 pub fn four_passes_are_enough()
     ensures limit { NeverLimited }
     ensures four { WithinFour }

@@ -12,14 +12,14 @@ use Rattle.types.specs.declared.event.Out.{Out}
 use Rattle.types.specs.declared.event.Refusal.{Refusal}
 use Rattle.protocol.specs.Nodes.{fresh}
 use Rattle.protocol.specs.Rows.{is_kind, is_row_of}
-use Rattle.protocol.specs.Networks.{HostedNode, Net, Place, Slot, Step, act, act_known, with_draw, effect, emission, emissions, first_that, is_open, node_where_open, after_event, net_step, nodes_of_new_slot, outs_at, node_named, places_at, state_and_reply, size_of, source, tests}
+use Rattle.protocol.specs.Networks.{HostedNode, Net, Instance, Slot, Step, act, act_known, with_draw, effect, emission, emissions, first_that, is_open, node_where_open, after_event, net_step, nodes_of_new_slot, outs_at, node_named, instances_at, state_and_reply, size_of, source, tests}
 use Rattle.protocol.specs.Networks.Reading.{Read, Fault}
 use Rattle.protocol.specs.Networks.Step.{Opens, Closes, Proposes, Delivers, Hears, NominationTimerFires, BallotTimerFires, Reslices}
 use Rattle.protocol.specs.Counts.{is_opening, since_opened}
 use Rattle.protocol.specs.Hosts.{Entry, new_net, Config}
 use Rattle.protocol.specs.Runs.{net_after, IsRun}
 use Rattle.protocol.proofs.Networks.Effects.{effect-keeps, numbers, opened_after}
-use Rattle.protocol.proofs.Networks.OpenSlots.{places_at-drop, places_at-drop_other, places_at-push, places_at-push_other}
+use Rattle.protocol.proofs.Networks.OpenSlots.{instances_at-drop, instances_at-drop_other, instances_at-push, instances_at-push_other}
 use Rattle.protocol.proofs.Runs.Sights.{node_where_open-elsewhere, node_where_open-other, node_where_open-same}
 use Rattle.protocol.proofs.Statements.Offers.{is_kind-itself}
 use Rattle.network.specs.Marks.{emitted_at}
@@ -39,7 +39,7 @@ abbrev by_node : ℕ → List Sent → List Sent
 by_node u es = filter (λ e. e.sender == u) es
 
 abbrev IsTold : List Entry → Net → Type 0
-IsTold before net = (i u : ℕ) → is_open net i ≡ true → emitted_at (node_where_open (places_at net.slots i) u) ≡ by_node u (sent_at i (since_opened i before))
+IsTold before net = (i u : ℕ) → is_open net i ≡ true → emitted_at (node_where_open (instances_at net.slots i) u) ≡ by_node u (sent_at i (since_opened i before))
 
 by-itself : (i u : ℕ) (es : List Sent) → AreFrom i u es → by_node u es ≡ es
 by-itself i u [] all = refl
@@ -63,19 +63,19 @@ module _ (before : List Entry) (e : Step) (os : List Out) where
   told-same i w not_opened none =
       sym (told-more i w not_opened ∙ (ap (λ (xs : List Sent). by_node w (sent_at i (since_opened i before)) ++ xs) none ∙ append-nil (by_node w (sent_at i (since_opened i before)))))
 
-  -- nothing is given out, and the places are as they were
+  -- nothing is given out, and the instances are as they were
   silent-tells : (net next : Net) → os ≡ [] → ((i : ℕ) → is_opening i e ≡ false) → next.slots ≡ net.slots → IsTold before net → IsTold (before ++ entry ∷ []) next
   silent-tells net next none not_opening same told i w opened_there =
-      ap (λ (ss : List Slot). emitted_at (node_where_open (places_at ss i) w)) same
-      ∙ (told i w (ap (λ (ss : List Slot). is_some (places_at ss i)) (sym same) ∙ opened_there)
+      ap (λ (ss : List Slot). emitted_at (node_where_open (instances_at ss i) w)) same
+      ∙ (told i w (ap (λ (ss : List Slot). is_some (instances_at ss i)) (sym same) ∙ opened_there)
       ∙ told-same i w (not_opening i) (ap (λ (xs : List Out). by_node w (filter (λ x. x.slot == i) (emissions xs))) none))
 
-after_event-tells : (e : NodeEvent) (o : Option Place) → emitted_at (option_map (after_event e) o) ≡ emitted_at o ++ emissions (outs_at e o)
+after_event-tells : (e : NodeEvent) (o : Option Instance) → emitted_at (option_map (after_event e) o) ≡ emitted_at o ++ emissions (outs_at e o)
 unfolding after_event
 after_event-tells e None = refl
 after_event-tells e (Some p) = refl
 
-act-outs : (net : Net) (j u : ℕ) (e : NodeEvent) → (act net j u e).1 ≡ outs_at e (node_where_open (places_at net.slots j) u)
+act-outs : (net : Net) (j u : ℕ) (e : NodeEvent) → (act net j u e).1 ≡ outs_at e (node_where_open (instances_at net.slots j) u)
 unfolding act
 act-outs net j u e = refl
 
@@ -90,20 +90,20 @@ module _ (before : List Entry) (e : Step) (net : Net) (j u : ℕ) (x : NodeEvent
   all_from : AreFrom j u (emissions given)
   all_from = (act-given net j u x placed).from
 
-  act-elsewhere : (i w : ℕ) → is_open net i ≡ true → (j == i) ≡ false → emitted_at (node_where_open (places_at (act net j u x).0.slots i) w) ≡ by_node w (sent_at i (since_opened i (before ++ more ∷ [])))
+  act-elsewhere : (i w : ℕ) → is_open net i ≡ true → (j == i) ≡ false → emitted_at (node_where_open (instances_at (act net j u x).0.slots i) w) ≡ by_node w (sent_at i (since_opened i (before ++ more ∷ [])))
   act-elsewhere i w opened_there other =
       ap emitted_at (node_where_open-elsewhere net j i u w x other)
       ∙ (told i w opened_there ∙ told-same before e given i w (not_opening i) (ap (by_node w) (sent-elsewhere i j u (emissions given) all_from other)))
 
-  act-other : (w : ℕ) → is_open net j ≡ true → (w == u) ≡ false → emitted_at (node_where_open (places_at (act net j u x).0.slots j) w) ≡ by_node w (sent_at j (since_opened j (before ++ more ∷ [])))
+  act-other : (w : ℕ) → is_open net j ≡ true → (w == u) ≡ false → emitted_at (node_where_open (instances_at (act net j u x).0.slots j) w) ≡ by_node w (sent_at j (since_opened j (before ++ more ∷ [])))
   act-other w opened_there other =
       ap emitted_at (node_where_open-other net j u w x other)
       ∙ (told j w opened_there ∙ told-same before e given j w (not_opening j) (ap (by_node w) (sent-there j u (emissions given) all_from) ∙ by-nobody j u w (emissions given) all_from other))
 
-  act-itself : is_open net j ≡ true → emitted_at (node_where_open (places_at (act net j u x).0.slots j) u) ≡ by_node u (sent_at j (since_opened j (before ++ more ∷ [])))
+  act-itself : is_open net j ≡ true → emitted_at (node_where_open (instances_at (act net j u x).0.slots j) u) ≡ by_node u (sent_at j (since_opened j (before ++ more ∷ [])))
   act-itself opened_there =
       ap emitted_at (node_where_open-same net j u x)
-      ∙ (after_event-tells x (node_where_open (places_at net.slots j) u)
+      ∙ (after_event-tells x (node_where_open (instances_at net.slots j) u)
       ∙ (ap₂ (λ (a b : List Sent). a ++ b) (told j u opened_there) (ap (λ (os : List Out). emissions os) (sym (act-outs net j u x))
       ∙ sym (ap (by_node u) (sent-there j u (emissions given) all_from) ∙ by-itself j u (emissions given) all_from))
       ∙ sym (told-more before e given j u (not_opening j))))
@@ -114,15 +114,15 @@ module _ (before : List Entry) (e : Step) (net : Net) (j u : ℕ) (x : NodeEvent
       was : is_open net i ≡ true
       was = sym (same i) ∙ opened_there
 
-      go : (a : Bool) → (j == i) ≡ a → (b : Bool) → (w == u) ≡ b → emitted_at (node_where_open (places_at (act net j u x).0.slots i) w) ≡ by_node w (sent_at i (since_opened i (before ++ more ∷ [])))
+      go : (a : Bool) → (j == i) ≡ a → (b : Bool) → (w == u) ≡ b → emitted_at (node_where_open (instances_at (act net j u x).0.slots i) w) ≡ by_node w (sent_at i (since_opened i (before ++ more ∷ [])))
       go false f b h = act-elsewhere i w was f
       go true f false h =
           let there : j ≡ i = eqb-true j i f in
-          subst (λ k. emitted_at (node_where_open (places_at (act net j u x).0.slots k) w) ≡ by_node w (sent_at k (since_opened k (before ++ more ∷ [])))) there (act-other w (ap (is_open net) there ∙ was) h)
+          subst (λ k. emitted_at (node_where_open (instances_at (act net j u x).0.slots k) w) ≡ by_node w (sent_at k (since_opened k (before ++ more ∷ [])))) there (act-other w (ap (is_open net) there ∙ was) h)
       go true f true h =
           let there : j ≡ i = eqb-true j i f in
-          subst (λ v. emitted_at (node_where_open (places_at (act net j u x).0.slots i) v) ≡ by_node v (sent_at i (since_opened i (before ++ more ∷ [])))) (sym (eqb-true w u h))
-          (subst (λ k. emitted_at (node_where_open (places_at (act net j u x).0.slots k) u) ≡ by_node u (sent_at k (since_opened k (before ++ more ∷ [])))) there (act-itself (ap (is_open net) there ∙ was)))
+          subst (λ v. emitted_at (node_where_open (instances_at (act net j u x).0.slots i) v) ≡ by_node v (sent_at i (since_opened i (before ++ more ∷ [])))) (sym (eqb-true w u h))
+          (subst (λ k. emitted_at (node_where_open (instances_at (act net j u x).0.slots k) u) ≡ by_node u (sent_at k (since_opened k (before ++ more ∷ [])))) there (act-itself (ap (is_open net) there ∙ was)))
 
 -- ---- a run
 
@@ -143,37 +143,37 @@ unfolding effect
 effect-tells before net (Opens j) free placed told = λ i w there. go i w there (j == i) refl
   where
     slot : Slot
-    slot = record { number = j; places = nodes_of_new_slot net.hosts j }
+    slot = record { number = j; instances = nodes_of_new_slot net.hosts j }
 
-    closed : places_at net.slots j ≡ None
-    closed = is-none (places_at net.slots j) (passes-first (tests net (Opens j)) free)
+    closed : instances_at net.slots j ≡ None
+    closed = is-none (instances_at net.slots j) (passes-first (tests net (Opens j)) free)
 
     next : List Entry
     next = before ++ record { event = Opens j; outs = [] } ∷ []
 
-    go : (i w : ℕ) → is_some (places_at (net.slots ++ slot ∷ []) i) ≡ true → (b : Bool) → (j == i) ≡ b → emitted_at (node_where_open (places_at (net.slots ++ slot ∷ []) i) w) ≡ by_node w (sent_at i (since_opened i next))
+    go : (i w : ℕ) → is_some (instances_at (net.slots ++ slot ∷ []) i) ≡ true → (b : Bool) → (j == i) ≡ b → emitted_at (node_where_open (instances_at (net.slots ++ slot ∷ []) i) w) ≡ by_node w (sent_at i (since_opened i next))
     go i w there true h =
         let same : j ≡ i = eqb-true j i h in
         let anew : since_opened i next ≡ [] = since-more i before (record { event = Opens j; outs = [] }) ∙ ap (λ b. if b then [] else since_opened i before ++ record { event = Opens j; outs = [] } ∷ []) h in
-        ap (λ (o : Option (List Place)). emitted_at (node_where_open o w)) (places_at-push net.slots slot i h (ap (places_at net.slots) (sym same) ∙ closed))
+        ap (λ (o : Option (List Instance)). emitted_at (node_where_open o w)) (instances_at-push net.slots slot i h (ap (instances_at net.slots) (sym same) ∙ closed))
         ∙ (nobody-told net.hosts j w ∙ sym (ap (λ (xs : List Entry). by_node w (sent_at i xs)) anew))
     go i w there false h =
-        ap (λ (o : Option (List Place)). emitted_at (node_where_open o w)) (places_at-push_other net.slots slot i h)
-        ∙ (told i w (ap (λ (o : Option (List Place)). is_some o) (sym (places_at-push_other net.slots slot i h)) ∙ there) ∙ told-same before (Opens j) [] i w h refl)
+        ap (λ (o : Option (List Instance)). emitted_at (node_where_open o w)) (instances_at-push_other net.slots slot i h)
+        ∙ (told i w (ap (λ (o : Option (List Instance)). is_some o) (sym (instances_at-push_other net.slots slot i h)) ∙ there) ∙ told-same before (Opens j) [] i w h refl)
 effect-tells before net (Closes j) free placed told = λ i w there. go i w there (j == i) refl
   where
     left : List Slot
     left = filter (λ s. not (s.number == j)) net.slots
 
-    go : (i w : ℕ) → is_some (places_at left i) ≡ true → (b : Bool) → (j == i) ≡ b → emitted_at (node_where_open (places_at left i) w) ≡ by_node w (sent_at i (since_opened i (before ++ record { event = Closes j; outs = [] } ∷ [])))
-    go i w there true h = absurd (false≢true (sym (ap (λ k. is_some (places_at left k)) (sym (eqb-true j i h)) ∙ ap (λ (o : Option (List Place)). is_some o) (places_at-drop net.slots j)) ∙ there))
+    go : (i w : ℕ) → is_some (instances_at left i) ≡ true → (b : Bool) → (j == i) ≡ b → emitted_at (node_where_open (instances_at left i) w) ≡ by_node w (sent_at i (since_opened i (before ++ record { event = Closes j; outs = [] } ∷ [])))
+    go i w there true h = absurd (false≢true (sym (ap (λ k. is_some (instances_at left k)) (sym (eqb-true j i h)) ∙ ap (λ (o : Option (List Instance)). is_some o) (instances_at-drop net.slots j)) ∙ there))
     go i w there false h =
-        ap (λ (o : Option (List Place)). emitted_at (node_where_open o w)) (places_at-drop_other net.slots j i h)
-        ∙ (told i w (ap (λ (o : Option (List Place)). is_some o) (sym (places_at-drop_other net.slots j i h)) ∙ there) ∙ told-same before (Closes j) [] i w refl refl)
+        ap (λ (o : Option (List Instance)). emitted_at (node_where_open o w)) (instances_at-drop_other net.slots j i h)
+        ∙ (told i w (ap (λ (o : Option (List Instance)). is_some o) (sym (instances_at-drop_other net.slots j i h)) ∙ there) ∙ told-same before (Closes j) [] i w refl refl)
 effect-tells before net (Proposes j u x) free placed told = act-tells before (Proposes j u x) net j u (Propose x) placed told (λ i. refl) (numbers-stay net (Proposes j u x) refl)
 effect-tells before net (Delivers u size (Read e)) free placed told = act-tells before (Delivers u size (Read e)) net e.slot u (Take e) placed told (λ i. refl) (numbers-stay net (Delivers u size (Read e)) refl)
 effect-tells before net (Delivers u size (Fault n)) free placed told = silent-tells before (Delivers u size (Fault n)) [] net net refl (λ i. refl) refl told
-effect-tells before net (Hears j u from kind k) free placed told = go (emission (node_where_open (places_at net.slots j) from) kind k) (numbers-stay net (Hears j u from kind k) refl)
+effect-tells before net (Hears j u from kind k) free placed told = go (emission (node_where_open (instances_at net.slots j) from) kind k) (numbers-stay net (Hears j u from kind k) refl)
   where
     go : (o : Option Sent) → ((i : ℕ) → is_open (act_known net j u o).0 i ≡ is_open net i) → IsTold (before ++ record { event = Hears j u from kind k; outs = (act_known net j u o).1 } ∷ []) (act_known net j u o).0
     go None same = silent-tells before (Hears j u from kind k) [] net net refl (λ i. refl) refl told
@@ -248,12 +248,12 @@ of-both u k (e ∷ es) = go (e.sender == u) (is_kind k (kind_of e.body)) refl (o
     go true false h ih = rw h ih
     go false b h ih = ih
 
-emission-at : (o : Option Place) (k : Kind) (n : ℕ) → emission o k (suc n) ≡ slice_get (filter (λ e. is_kind k (kind_of e.body)) (emitted_at o)) n
+emission-at : (o : Option Instance) (k : Kind) (n : ℕ) → emission o k (suc n) ≡ slice_get (filter (λ e. is_kind k (kind_of e.body)) (emitted_at o)) n
 emission-at None k n = refl
 emission-at (Some p) k n = refl
 
 abbrev IsFoundIn : Config → List Entry → ℕ → ℕ → Emission → Type 0
-IsFoundIn config entries i n e = (x : Sent) × (slice_get (sent_at i (since_opened i entries)) n ≡ Some x) × (emission (node_where_open (places_at (net_after (new_net config) entries).slots i) e.from) e.kind e.number ≡ Some x)
+IsFoundIn config entries i n e = (x : Sent) × (slice_get (sent_at i (since_opened i entries)) n ≡ Some x) × (emission (node_where_open (instances_at (net_after (new_net config) entries).slots i) e.from) e.kind e.number ≡ Some x)
 
 found-in : (config : Config) (entries : List Entry) (m : OpenSlots) → IsRun config entries → AreSlotsBy config entries m → (i n : ℕ) (o : OpenSlot) (e : Emission) → at_number m.slots i ≡ Some o → slice_get o.emissions n ≡ Some e
     → IsFoundIn config entries i n e
@@ -263,7 +263,7 @@ found-in config entries m run s i n o e at is =
     let slot = s.kept i o at in
     let found = found-numbered (sent_at i (since_opened i entries)) [] n e (ap (λ (xs : List Emission). slice_get xs n) (sym slot.emissions) ∙ is) in
     let there : is_open (net_after (new_net config) entries) i ≡ true = sym (s.opens i) ∙ ap (λ (x : Option OpenSlot). is_some x) at in
-    let place : Option Place = node_where_open (places_at (net_after (new_net config) entries).slots i) e.from in (
+    let place : Option Instance = node_where_open (instances_at (net_after (new_net config) entries).slots i) e.from in (
       found.0,
       found.1,
       ap (emission place e.kind) found.2.number

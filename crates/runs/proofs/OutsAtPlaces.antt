@@ -19,7 +19,7 @@ use Rattle.protocol.specs.Rows.{is_taken, with_row}
 use Rattle.protocol.specs.States.{counter_of, sent_in, sent_nomination, sent_vote}
 use Rattle.protocol.specs.Sameness.{same_sent}
 use Rattle.protocol.specs.Nodes.{Node, after_change, node_and_outs, change, externalization, emission_between, fresh, in_round, is_counter_live, is_externalized, is_round_live, outs, after_pass, with_slices, settle, with_settled_votes, step, with_timeout, when, most_passes}
-use Rattle.protocol.specs.Networks.{HostedNode, Net, Place, Slot, Step, act, act_in, act_known, effect, emission, emissions, first_that, node_where_open, after_event, net_step, nodes_of_new_slot, outs_at, node_named, places_at, state_and_reply, tests}
+use Rattle.protocol.specs.Networks.{HostedNode, Net, Instance, Slot, Step, act, act_in, act_known, effect, emission, emissions, first_that, node_where_open, after_event, net_step, nodes_of_new_slot, outs_at, node_named, instances_at, state_and_reply, tests}
 use Rattle.protocol.specs.Networks.Reading.{Read, Fault}
 use Rattle.protocol.specs.Networks.Step.{Opens, Closes, Proposes, Delivers, Hears, NominationTimerFires, BallotTimerFires, Reslices}
 use Rattle.protocol.specs.Hosts.{Entry}
@@ -154,25 +154,25 @@ step-stays n (NominationTimer k) = stays n (is_round_live n k) (in_round n (k + 
 step-stays n (BallotTimer c) = stays n (is_counter_live n c) (with_timeout n) refl refl
 step-stays n (Reslice q) = stays n true (with_slices n q) refl refl
 
--- ---- the places of a network
+-- ---- the instances of a network
 
 -- at each open slot stand nodes of that slot
-abbrev pub AreAt : ℕ → List Place → Type 0
+abbrev pub AreAt : ℕ → List Instance → Type 0
 AreAt i ps = AllByRecursion (λ p. p.node.slot ≡ i) ps
 
 abbrev pub AreInPlace : List Slot → Type 0
-AreInPlace ss = AllByRecursion (λ s. AreAt s.number s.places) ss
+AreInPlace ss = AllByRecursion (λ s. AreAt s.number s.instances) ss
 
 nodes_of_new_slot-in-place : (hosts : List HostedNode) (i : ℕ) → AreAt i (nodes_of_new_slot hosts i)
 unfolding nodes_of_new_slot fresh
 nodes_of_new_slot-in-place [] i = tt
 nodes_of_new_slot-in-place (h ∷ hs) i = (refl, nodes_of_new_slot-in-place hs i)
 
-after_event-in-place : (i : ℕ) (e : NodeEvent) (p : Place) → p.node.slot ≡ i → (after_event e p).node.slot ≡ i
+after_event-in-place : (i : ℕ) (e : NodeEvent) (p : Instance) → p.node.slot ≡ i → (after_event e p).node.slot ≡ i
 unfolding after_event
 after_event-in-place i e p at = (step-stays p.node e).slot ∙ at
 
-acted-in-place : (i u : ℕ) (e : NodeEvent) (ps : List Place) → AreAt i ps → AreAt i (act_in u e ps)
+acted-in-place : (i u : ℕ) (e : NodeEvent) (ps : List Instance) → AreAt i ps → AreAt i (act_in u e ps)
 acted-in-place i u e [] h = tt
 acted-in-place i u e (p ∷ ps) h = (one (p.node.name == u), acted-in-place i u e ps h.1)
   where
@@ -184,15 +184,15 @@ act-in-place : (net : Net) (i u : ℕ) (e : NodeEvent) → AreInPlace net.slots 
 unfolding act
 act-in-place net i u e h = each net.slots h
   where
-    each : (ss : List Slot) → AreInPlace ss → AreInPlace (map {B = Slot} (λ (s : Slot). if s.number == i then record s { places = act_in u e s.places } else s) ss)
+    each : (ss : List Slot) → AreInPlace ss → AreInPlace (map {B = Slot} (λ (s : Slot). if s.number == i then record s { instances = act_in u e s.instances } else s) ss)
     each [] h = tt
     each (s ∷ ss) h = (one (s.number == i), each ss h.1)
       where
-        one : (b : Bool) → AreAt (if b then record s { places = act_in u e s.places } else s).number (if b then record s { places = act_in u e s.places } else s).places
-        one true = acted-in-place s.number u e s.places h.0
+        one : (b : Bool) → AreAt (if b then record s { instances = act_in u e s.instances } else s).number (if b then record s { instances = act_in u e s.instances } else s).instances
+        one true = acted-in-place s.number u e s.instances h.0
         one false = h.0
 
-pushed-in-place : (ss : List Slot) (s : Slot) → AreInPlace ss → AreAt s.number s.places → AreInPlace (ss ++ s ∷ [])
+pushed-in-place : (ss : List Slot) (s : Slot) → AreInPlace ss → AreAt s.number s.instances → AreInPlace (ss ++ s ∷ [])
 pushed-in-place [] s h k = (k, tt)
 pushed-in-place (x ∷ xs) s h k = (h.0, pushed-in-place xs s h.1 k)
 
@@ -206,12 +206,12 @@ left-in-place p (s ∷ ss) h = go (p s) (left-in-place p ss h.1)
 
 pub effect-in-place : (net : Net) (e : Step) → AreInPlace net.slots → AreInPlace (effect net e).0.slots
 unfolding effect
-effect-in-place net (Opens i) h = pushed-in-place net.slots (record { number = i; places = nodes_of_new_slot net.hosts i }) h (nodes_of_new_slot-in-place net.hosts i)
+effect-in-place net (Opens i) h = pushed-in-place net.slots (record { number = i; instances = nodes_of_new_slot net.hosts i }) h (nodes_of_new_slot-in-place net.hosts i)
 effect-in-place net (Closes i) h = left-in-place (λ s. not (s.number == i)) net.slots h
 effect-in-place net (Proposes i u x) h = act-in-place net i u (Propose x) h
 effect-in-place net (Delivers u size (Read e)) h = act-in-place net e.slot u (Take e) h
 effect-in-place net (Delivers u size (Fault n)) h = h
-effect-in-place net (Hears i u from kind k) h = heard (emission (node_where_open (places_at net.slots i) from) kind k)
+effect-in-place net (Hears i u from kind k) h = heard (emission (node_where_open (instances_at net.slots i) from) kind k)
   where
     heard : (o : Option Sent) → AreInPlace (act_known net i u o).0.slots
     heard None = h
@@ -235,27 +235,27 @@ run-in-place net (x ∷ xs) h = run-in-place (net_step net x.event).0 xs (step-i
 
 -- ---- what an event gives out
 
-named-so : (ps : List Place) (u : ℕ) (p : Place) (i : ℕ) → node_named ps u ≡ Some p → AreAt i ps → (p.node.name ≡ u) × (p.node.slot ≡ i)
+named-so : (ps : List Instance) (u : ℕ) (p : Instance) (i : ℕ) → node_named ps u ≡ Some p → AreAt i ps → (p.node.name ≡ u) × (p.node.slot ≡ i)
 named-so [] u p i at h = absurd (cc)
 named-so (q ∷ ps) u p i at h = go (q.node.name == u) refl at (λ k. named-so ps u p i k h.1)
   where
     go : (b : Bool) → (q.node.name == u) ≡ b → (if b then Some q else node_named ps u) ≡ Some p → (node_named ps u ≡ Some p → (p.node.name ≡ u) × (p.node.slot ≡ i)) → (p.node.name ≡ u) × (p.node.slot ≡ i)
-    go true e k rest = let same : q ≡ p = cc in (sym (ap (λ (x : Place). x.node.name) same) ∙ eqb-true q.node.name u e, sym (ap (λ (x : Place). x.node.slot) same) ∙ h.0)
+    go true e k rest = let same : q ≡ p = cc in (sym (ap (λ (x : Instance). x.node.name) same) ∙ eqb-true q.node.name u e, sym (ap (λ (x : Instance). x.node.slot) same) ∙ h.0)
     go false e k rest = rest k
 
-node_where_open-so : (ss : List Slot) (i u : ℕ) (p : Place) → node_where_open (places_at ss i) u ≡ Some p → AreInPlace ss → (p.node.name ≡ u) × (p.node.slot ≡ i)
+node_where_open-so : (ss : List Slot) (i u : ℕ) (p : Instance) → node_where_open (instances_at ss i) u ≡ Some p → AreInPlace ss → (p.node.name ≡ u) × (p.node.slot ≡ i)
 node_where_open-so [] i u p at h = absurd (cc)
 node_where_open-so (s ∷ ss) i u p at h = go (s.number == i) refl at (λ k. node_where_open-so ss i u p k h.1)
   where
-    go : (b : Bool) → (s.number == i) ≡ b → node_where_open (if b then Some s.places else places_at ss i) u ≡ Some p → (node_where_open (places_at ss i) u ≡ Some p → (p.node.name ≡ u) × (p.node.slot ≡ i)) → (p.node.name ≡ u) × (p.node.slot ≡ i)
-    go true e k rest = let so = named-so s.places u p s.number k h.0 in (so.0, so.1 ∙ eqb-true s.number i e)
+    go : (b : Bool) → (s.number == i) ≡ b → node_where_open (if b then Some s.instances else instances_at ss i) u ≡ Some p → (node_where_open (instances_at ss i) u ≡ Some p → (p.node.name ≡ u) × (p.node.slot ≡ i)) → (p.node.name ≡ u) × (p.node.slot ≡ i)
+    go true e k rest = let so = named-so s.instances u p s.number k h.0 in (so.0, so.1 ∙ eqb-true s.number i e)
     go false e k rest = rest k
 
 pub act-given : (net : Net) (i u : ℕ) (e : NodeEvent) → AreInPlace net.slots → IsGivenBy i u (act net i u e).1
 unfolding act
-act-given net i u e h = go (node_where_open (places_at net.slots i) u) refl
+act-given net i u e h = go (node_where_open (instances_at net.slots i) u) refl
   where
-    go : (o : Option Place) → node_where_open (places_at net.slots i) u ≡ o → IsGivenBy i u (outs_at e o)
+    go : (o : Option Instance) → node_where_open (instances_at net.slots i) u ≡ o → IsGivenBy i u (outs_at e o)
     go None k = nothing-given i u
     go (Some p) k =
         let so = node_where_open-so net.slots i u p k h in
@@ -272,7 +272,7 @@ effect-given net (Closes i) h = refl
 effect-given net (Proposes i u x) h = act-given net i u (Propose x) h
 effect-given net (Delivers u size (Read e)) h = act-given net e.slot u (Take e) h
 effect-given net (Delivers u size (Fault n)) h = refl
-effect-given net (Hears i u from kind k) h = heard-given net i u (emission (node_where_open (places_at net.slots i) from) kind k) h
+effect-given net (Hears i u from kind k) h = heard-given net i u (emission (node_where_open (instances_at net.slots i) from) kind k) h
 effect-given net (NominationTimerFires i u r) h = act-given net i u (NominationTimer r) h
 effect-given net (BallotTimerFires i u n) h = act-given net i u (BallotTimer n) h
 effect-given net (Reslices i u q) h = act-given net i u (Reslice q) h

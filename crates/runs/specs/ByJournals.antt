@@ -6,7 +6,7 @@ use Rattle.types.specs.Trees.{all_differ}
 use Rattle.types.specs.declared.kind.Kind.{Kind}
 use Rattle.types.specs.declared.kind.Kind.TheVariants.{Nomination}
 use Rattle.protocol.specs.Rows.{is_row_of}
-use Rattle.protocol.specs.Networks.{emission, emissions, is_open, node_where_open, places_at}
+use Rattle.protocol.specs.Networks.{emission, emissions, is_open, node_where_open, instances_at}
 use Rattle.protocol.specs.Hosts.{Config, Entry}
 use Rattle.protocol.specs.Runs.{IsRun, state_of}
 use Rattle.protocol.specs.Counts.{since_opened}
@@ -125,4 +125,4 @@ KeptAreFound =
     (h : Hosting) → FollowsJournals h → (g i n : ℕ) (l : Log) (o : OpenSlot) (e : Emission) → log_at h.logs g ≡ Some l
     → open_slot h.followed g i ≡ Some o → slice_get o.emissions n ≡ Some e
     → (x : Sent) × (slice_get (sent_at i (since_opened i l.entries)) n ≡ Some x)
-    × (emission (node_where_open (places_at (state_of l.config l.entries).slots i) e.from) e.kind e.number ≡ Some x)
+    × (emission (node_where_open (instances_at (state_of l.config l.entries).slots i) e.from) e.kind e.number ≡ Some x)

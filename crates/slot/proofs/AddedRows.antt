@@ -18,7 +18,7 @@ use Rattle.protocol.specs.Rows.{is_taken, table_with_offer, with_row}
 use Rattle.protocol.proofs.Nodes.Quiet.{row-alone, step-stale}
 use Rattle.protocol.proofs.Nodes.Strangers.{strangers_add_rows}
 use Rattle.listening.proofs.Offers.{table_with_offer-stale, table_with_offer-taken}
-use Rattle.listening.specs.Listening.{Heard, IsStranger}
+use Rattle.listening.specs.Listening.{ListenerState, IsStranger}
 use Rattle.slot.specs.Listening.{AddsRowAlone, node_of}
 use Rattle.envstore.specs.Archives.{sents_of}
 use Rattle.slot.specs.Wholes.{whole}
@@ -29,7 +29,7 @@ untrue true h = sym h
 untrue false h = refl
 
 -- ---- a stranger's
-stranger-there : (h : Heard) (inputs : Inputs) (votes : Votes) (u : ℕ) → IsStranger h u → IsFalse (among inputs.leaders u) → ComesOfEvents (node_of h inputs votes) → AddsRowAlone (node_of h inputs votes) u
+stranger-there : (h : ListenerState) (inputs : Inputs) (votes : Votes) (u : ℕ) → IsStranger h u → IsFalse (among inputs.leaders u) → ComesOfEvents (node_of h inputs votes) → AddsRowAlone (node_of h inputs votes) u
 stranger-there h inputs votes u s l r = λ e from.
     let n : Node = node_of h inputs votes in
     let outside : IsFalse (among s.reach e.sender) = subst (λ w. IsFalse (among s.reach w)) (sym from) s.outside in
@@ -39,7 +39,7 @@ stranger-there h inputs votes u s l r = λ e from.
       | inr f ↦ step-stale n e f ∙ ap {B = Node × List Out} (λ (rows : List Sent). (record n { table = rows }, [])) (sym (table_with_offer-stale n.table e f))
     ]
 
-pub stranger-row : (n : Node) (h : Heard) (inputs : Inputs) (votes : Votes) (u : ℕ) → n ≡ node_of h inputs votes → IsStranger h u → IsFalse (among inputs.leaders u) → ComesOfEvents (node_of h inputs votes) → AddsRowAlone n u
+pub stranger-row : (n : Node) (h : ListenerState) (inputs : Inputs) (votes : Votes) (u : ℕ) → n ≡ node_of h inputs votes → IsStranger h u → IsFalse (among inputs.leaders u) → ComesOfEvents (node_of h inputs votes) → AddsRowAlone n u
 stranger-row n h inputs votes u is s l r = subst (λ (m : Node). AddsRowAlone m u) (sym is) (stranger-there h inputs votes u s l r)
 
 -- ---- after a value was externalized
@@ -64,11 +64,11 @@ over-row n u over = λ e from.
 
 -- ---- the step
 -- the listener after an offer
-table_with_offer-to : (h k : Heard) (inputs : Inputs) (votes : Votes) (x : Sent) → k.configured ≡ h.configured → sents_of k.table ≡ table_with_offer (sents_of h.table) x → whole h.configured inputs votes (table_with_offer (sents_of h.table) x) ≡ node_of k inputs votes
+table_with_offer-to : (h k : ListenerState) (inputs : Inputs) (votes : Votes) (x : Sent) → k.configured ≡ h.configured → sents_of k.table ≡ table_with_offer (sents_of h.table) x → whole h.configured inputs votes (table_with_offer (sents_of h.table) x) ≡ node_of k inputs votes
 table_with_offer-to h k inputs votes x c t = λ i. whole (sym c i) inputs votes (sym t i)
 
 -- the step offers the envelope, and gives nothing out
-pub row-step : (n : Node) (h k : Heard) (inputs : Inputs) (votes : Votes) (x : Sent) → n ≡ node_of h inputs votes → AddsRowAlone n x.sender → k.configured ≡ h.configured → sents_of k.table ≡ table_with_offer (sents_of h.table) x
+pub row-step : (n : Node) (h k : ListenerState) (inputs : Inputs) (votes : Votes) (x : Sent) → n ≡ node_of h inputs votes → AddsRowAlone n x.sender → k.configured ≡ h.configured → sents_of k.table ≡ table_with_offer (sents_of h.table) x
     → step n (Take x) ≡ (node_of k inputs votes, [])
 row-step n h k inputs votes x is alone c t =
     alone x refl ∙ ap {B = Node × List Out} (λ (m : Node). (record m { table = table_with_offer m.table x }, [])) is ∙ ap {B = Node × List Out} (λ (m : Node). (m, [])) (table_with_offer-to h k inputs votes x c t)

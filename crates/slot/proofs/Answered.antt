@@ -30,7 +30,7 @@ use Rattle.latest.specs.declared.table.Put.TheVariants.{Added, Replaced, Stale}
 use Rattle.latest.specs.Puts.{IsPut}
 use Rattle.listening.specs.declared.configured.Configured.{Configured}
 use Rattle.listening.proofs.Offers.{put-takes}
-use Rattle.listening.specs.Listening.{Heard}
+use Rattle.listening.specs.Listening.{ListenerState}
 use Rattle.slot.specs.Listening.{Held, node_of}
 use Rattle.slot.specs.declared.filed.GivenOut.{GivenOut}
 use Rattle.slot.specs.Filings.{outs_of}
@@ -68,20 +68,20 @@ made-of m n event a d e made is = ap (λ x. change x event) (sym e) ∙ made ∙
 led-by : (k c : Configured) (inputs : Inputs) (votes : Votes) (round : ℕ) (d : Changed) → k ≡ c → d ≡ record { inputs = led k inputs round; votes = votes } → d ≡ record { inputs = led c inputs round; votes = votes }
 led-by k c inputs votes round d same is = is ∙ (λ i. record { inputs = led (same i) inputs round; votes = votes })
 
-pub change-propose : (k : Configured) (h : Heard) (inputs : Inputs) (votes : Votes) (n : Node) (x : List ℕ) (d : Changed) → node_of h inputs votes ≡ n → k ≡ h.configured
+pub change-propose : (k : Configured) (h : ListenerState) (inputs : Inputs) (votes : Votes) (n : Node) (x : List ℕ) (d : Changed) → node_of h inputs votes ≡ n → k ≡ h.configured
     → d ≡ record { inputs = led k (record inputs { proposal = Some x }) 1; votes = votes } → ChangesTo n (Propose x) (Some d)
 unfolding change
 change-propose k h inputs votes n x d e same is =
     made-of (node_of h inputs votes) n (Propose x) (record { inputs = led h.configured (record inputs { proposal = Some x }) 1; votes = votes }) d e refl (led-by k h.configured (record inputs { proposal = Some x }) votes 1 d same is)
 
-pub change-round : (k : Configured) (h : Heard) (inputs : Inputs) (votes : Votes) (n : Node) (r : ℕ) (d : Changed) → node_of h inputs votes ≡ n → is_nomination_timer_live r inputs.round (is_some votes.confirmed_prepared) ≡ true
+pub change-round : (k : Configured) (h : ListenerState) (inputs : Inputs) (votes : Votes) (n : Node) (r : ℕ) (d : Changed) → node_of h inputs votes ≡ n → is_nomination_timer_live r inputs.round (is_some votes.confirmed_prepared) ≡ true
     → k ≡ h.configured → d ≡ record { inputs = led k inputs (r + 1); votes = votes } → ChangesTo n (NominationTimer r) (Some d)
 unfolding change
 change-round k h inputs votes n r d e live same is =
     let m = node_of h inputs votes in
     made-of m n (NominationTimer r) (record { inputs = led h.configured inputs (r + 1); votes = votes }) d e (ap (λ b. if b then Some (in_round m (r + 1)) else None) live) (led-by k h.configured inputs votes (r + 1) d same is)
 
-pub change-no_round : (h : Heard) (inputs : Inputs) (votes : Votes) (n : Node) (r : ℕ) → node_of h inputs votes ≡ n → is_nomination_timer_live r inputs.round (is_some votes.confirmed_prepared) ≡ false → change n (NominationTimer r) ≡ None
+pub change-no_round : (h : ListenerState) (inputs : Inputs) (votes : Votes) (n : Node) (r : ℕ) → node_of h inputs votes ≡ n → is_nomination_timer_live r inputs.round (is_some votes.confirmed_prepared) ≡ false → change n (NominationTimer r) ≡ None
 unfolding change
 change-no_round h inputs votes n r e dead = ap (λ m. change m (NominationTimer r)) (sym e) ∙ ap (λ b. if b then Some (in_round (node_of h inputs votes) (r + 1)) else None) dead
 
@@ -89,14 +89,14 @@ change-no_round h inputs votes n r e dead = ap (λ m. change m (NominationTimer 
 abbrev pub counter_in : Option Ballot → Option ℕ
 counter_in o = option_map (λ (b : Ballot). b.counter) o
 
-pub change-counter : (h : Heard) (inputs : Inputs) (votes : Votes) (n : Node) (k : ℕ) (d : Changed) → node_of h inputs votes ≡ n → is_ballot_timer_live k votes.armed (counter_in votes.ballot) (is_externalized votes.phase) ≡ true
+pub change-counter : (h : ListenerState) (inputs : Inputs) (votes : Votes) (n : Node) (k : ℕ) (d : Changed) → node_of h inputs votes ≡ n → is_ballot_timer_live k votes.armed (counter_in votes.ballot) (is_externalized votes.phase) ≡ true
     → d ≡ record { inputs = record inputs { ballot_timeouts = inputs.ballot_timeouts + 1 }; votes = at_next_counter votes votes.ballot } → ChangesTo n (BallotTimer k) (Some d)
 unfolding change
 change-counter h inputs votes n k d e live is =
     let m = node_of h inputs votes in
     made-of m n (BallotTimer k) (record { inputs = record inputs { ballot_timeouts = inputs.ballot_timeouts + 1 }; votes = at_next_counter votes votes.ballot }) d e (ap (λ b. if b then Some (with_timeout m) else None) live) is
 
-pub change-no_counter : (h : Heard) (inputs : Inputs) (votes : Votes) (n : Node) (k : ℕ) → node_of h inputs votes ≡ n → is_ballot_timer_live k votes.armed (counter_in votes.ballot) (is_externalized votes.phase) ≡ false → change n (BallotTimer k) ≡ None
+pub change-no_counter : (h : ListenerState) (inputs : Inputs) (votes : Votes) (n : Node) (k : ℕ) → node_of h inputs votes ≡ n → is_ballot_timer_live k votes.armed (counter_in votes.ballot) (is_externalized votes.phase) ≡ false → change n (BallotTimer k) ≡ None
 unfolding change
 change-no_counter h inputs votes n k e dead = ap (λ m. change m (BallotTimer k)) (sym e) ∙ ap (λ b. if b then Some (with_timeout (node_of h inputs votes)) else None) dead
 
@@ -112,7 +112,7 @@ live-below k armed (Some b) over h =
     under m e = grind (arith, nat_tests)
 
 -- ---- envelopes
-pub change-put : (h k : Heard) (inputs : Inputs) (votes : Votes) (n : Node) (x : Sent) (p : Put) → node_of h inputs votes ≡ n → IsPut h.table x p k.table → k.configured ≡ h.configured → (p ≡ Added) ⊎ ((y : Filed) × (p ≡ Replaced y))
+pub change-put : (h k : ListenerState) (inputs : Inputs) (votes : Votes) (n : Node) (x : Sent) (p : Put) → node_of h inputs votes ≡ n → IsPut h.table x p k.table → k.configured ≡ h.configured → (p ≡ Added) ⊎ ((y : Filed) × (p ≡ Replaced y))
     → change n (Take x) ≡ Some (node_of k inputs votes)
 unfolding change
 change-put h k inputs votes n x p e put same is =
@@ -122,29 +122,29 @@ change-put h k inputs votes n x p e put same is =
     ∙ (λ i. Some (whole (sym same i) inputs votes (sym taken.1 i)))
 
 -- two listeners with the same parts
-heard-same : (h k : Heard) → k.configured ≡ h.configured → k.table ≡ h.table → k ≡ h
+heard-same : (h k : ListenerState) → k.configured ≡ h.configured → k.table ≡ h.table → k ≡ h
 heard-same h k c t = λ i. record { configured = c i; table = t i }
 
 -- a stale one leaves the node as it is
-pub stale-put : (h k : Heard) (inputs : Inputs) (votes : Votes) (n : Node) (x : Sent) (p : Put) → node_of h inputs votes ≡ n → IsPut h.table x p k.table → k.configured ≡ h.configured → p ≡ Stale → step n (Take x) ≡ (node_of k inputs votes, [])
+pub stale-put : (h k : ListenerState) (inputs : Inputs) (votes : Votes) (n : Node) (x : Sent) (p : Put) → node_of h inputs votes ≡ n → IsPut h.table x p k.table → k.configured ≡ h.configured → p ≡ Stale → step n (Take x) ≡ (node_of k inputs votes, [])
 unfolding change
 stale-put h k inputs votes n x p e put same is =
     let left = subst (λ (q : Put). IsPut h.table x q k.table) is put in
     let idle : change n (Take x) ≡ None = ap (λ m. change m (Take x)) (sym e) ∙ ap (λ b. if b then Some (whole h.configured inputs votes (with_row x (sents_of h.table))) else None) left.0 in
-    step-is n (Take x) None idle ∙ ap {B = Node × List Out} (λ (m : Node). (m, [])) (sym e ∙ ap (λ (l : Heard). node_of l inputs votes) (sym (heard-same h k same left.1)))
+    step-is n (Take x) None idle ∙ ap {B = Node × List Out} (λ (m : Node). (m, [])) (sym e ∙ ap (λ (l : ListenerState). node_of l inputs votes) (sym (heard-same h k same left.1)))
 
 -- ---- slices
 -- the listener with new slices is that of the node with them
-abbrev pub with_slices : Heard → Slices → Heard
+abbrev pub with_slices : ListenerState → Slices → ListenerState
 with_slices h q = record h { configured = record h.configured { slices = q } }
 
-pub change-slices : (h k : Heard) (inputs : Inputs) (votes : Votes) (n : Node) (q : Slices) → node_of h inputs votes ≡ n → k ≡ with_slices h q → change n (Reslice q) ≡ Some (node_of k inputs votes)
+pub change-slices : (h k : ListenerState) (inputs : Inputs) (votes : Votes) (n : Node) (q : Slices) → node_of h inputs votes ≡ n → k ≡ with_slices h q → change n (Reslice q) ≡ Some (node_of k inputs votes)
 unfolding change
 change-slices h k inputs votes n q e is = ap (λ m. change m (Reslice q)) (sym e) ∙ (λ i. Some (node_of (sym is i) inputs votes))
 
 -- ---- inputs and votes
 -- those that an event set, as the change of the node that they are of
-abbrev pub change-of : (h : Heard) (inputs : Inputs) (votes : Votes) (n : Node) (event : NodeEvent) (o : Option Changed) (d : Changed) → node_of h inputs votes ≡ n → ComesOfEvents (node_of h inputs votes) → o ≡ Some d → ChangesTo n event o → IsChange (node_of h d.inputs d.votes)
+abbrev pub change-of : (h : ListenerState) (inputs : Inputs) (votes : Votes) (n : Node) (event : NodeEvent) (o : Option Changed) (d : Changed) → node_of h inputs votes ≡ n → ComesOfEvents (node_of h inputs votes) → o ≡ Some d → ChangesTo n event o → IsChange (node_of h d.inputs d.votes)
 change-of h inputs votes n event o d e reached is made = record {
   before = n;
   event = event;
@@ -161,12 +161,12 @@ step-some : (m : Node) (d : IsChange m) (w : Votes) → settle most_passes (afte
 step-some m d w h = step-is d.before d.event (Some m) d.is ∙ ap (λ (o : Option Votes). node_and_outs d.before (with_settled_votes m o)) h
 
 -- the node that is held then is the step's
-pub node-after : (k : Heard) (inputs : Inputs) (votes : Votes) (d : IsChange (node_of k inputs votes)) (h : Heard) (u w : Votes) → settle most_passes (after_pass (node_of k inputs votes)) votes ≡ Some w → h ≡ k → u ≡ w → node_of h inputs u ≡ (step d.before d.event).0
+pub node-after : (k : ListenerState) (inputs : Inputs) (votes : Votes) (d : IsChange (node_of k inputs votes)) (h : ListenerState) (u w : Votes) → settle most_passes (after_pass (node_of k inputs votes)) votes ≡ Some w → h ≡ k → u ≡ w → node_of h inputs u ≡ (step d.before d.event).0
 node-after k inputs votes d h u w settled same set =
     let held : node_of h inputs u ≡ node_of k inputs w = λ i. node_of (same i) inputs (set i) in
     held ∙ sym (ap (λ (p : Node × List Out). p.0) (step-some (node_of k inputs votes) d w settled))
 
-pub reached-after : (k : Heard) (inputs : Inputs) (votes : Votes) (d : IsChange (node_of k inputs votes)) (h : Heard) (u w : Votes) → settle most_passes (after_pass (node_of k inputs votes)) votes ≡ Some w → h ≡ k → u ≡ w → ComesOfEvents (node_of h inputs u)
+pub reached-after : (k : ListenerState) (inputs : Inputs) (votes : Votes) (d : IsChange (node_of k inputs votes)) (h : ListenerState) (u w : Votes) → settle most_passes (after_pass (node_of k inputs votes)) votes ≡ Some w → h ≡ k → u ≡ w → ComesOfEvents (node_of h inputs u)
 reached-after k inputs votes d h u w settled same set = subst ComesOfEvents (sym (node-after k inputs votes d h u w settled same set)) (next d.reached d.event)
 
 -- and what is given out is the step's: it does not depend on the slices and rows before the event
@@ -174,7 +174,7 @@ outs-by_new : (c d : Configured) (inputs : Inputs) (votes : Votes) (before table
 unfolding outs
 outs-by_new c d inputs votes before table new = refl
 
-pub outs-after : (k : Heard) (inputs : Inputs) (votes : Votes) (d : IsChange (node_of k inputs votes)) (h : Heard) (a : Inputs) (v w : Votes) (os : List Out) → settle most_passes (after_pass (node_of k inputs votes)) votes ≡ Some w → node_of h a v ≡ d.before
+pub outs-after : (k : ListenerState) (inputs : Inputs) (votes : Votes) (d : IsChange (node_of k inputs votes)) (h : ListenerState) (a : Inputs) (v w : Votes) (os : List Out) → settle most_passes (after_pass (node_of k inputs votes)) votes ≡ Some w → node_of h a v ≡ d.before
     → ((before after : List Sent) → os ≡ outs (whole k.configured a v before) (whole k.configured inputs w after)) → os ≡ (step d.before d.event).1
 outs-after k inputs votes d h a v w os settled is given =
     given (sents_of k.table) (sents_of k.table)

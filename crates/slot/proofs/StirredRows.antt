@@ -11,7 +11,7 @@ use Rattle.protocol.proofs.Passes.Stirring.{ballot_rows_stir_ballots, nomination
 use Rattle.envstore.specs.Archives.{sents_of}
 use Rattle.slot.specs.declared.stirring.Stirred.{Stirred}
 use Rattle.slot.specs.declared.stirring.Stirred.TheVariants.{All, Ballots, Nominations}
-use Rattle.listening.specs.Listening.{Heard}
+use Rattle.listening.specs.Listening.{ListenerState}
 use Rattle.slot.specs.Listening.{node_of}
 use Rattle.slot.specs.Stirrings.{IsStart, IsStirred, StirsIn}
 use Rattle.slot.specs.Wholes.{IsChange, whole}
@@ -23,14 +23,14 @@ stirs-all : (m : Node) → IsChange m → StirsIn All m
 stirs-all m d = nomination_rests_after_a_pass d.before d.reached d.event m d.is
 
 -- the listener after a row
-row-in : (h k : Heard) (inputs : Inputs) (votes : Votes) (x : Sent) → k.configured ≡ h.configured → sents_of k.table ≡ with_row x (sents_of h.table) → whole h.configured inputs votes (with_row x (sents_of h.table)) ≡ node_of k inputs votes
+row-in : (h k : ListenerState) (inputs : Inputs) (votes : Votes) (x : Sent) → k.configured ≡ h.configured → sents_of k.table ≡ with_row x (sents_of h.table) → whole h.configured inputs votes (with_row x (sents_of h.table)) ≡ node_of k inputs votes
 row-in h k inputs votes x c t = λ i. whole (sym c i) inputs votes (sym t i)
 
-kept-row : (h k : Heard) (x : Sent) → sents_of k.table ≡ with_row x (sents_of h.table) → ReachesSame h.configured.name h.configured.slices (sents_of h.table) (sents_of k.table) → ReachesSame h.configured.name h.configured.slices (sents_of h.table) (with_row x (sents_of h.table))
+kept-row : (h k : ListenerState) (x : Sent) → sents_of k.table ≡ with_row x (sents_of h.table) → ReachesSame h.configured.name h.configured.slices (sents_of h.table) (sents_of k.table) → ReachesSame h.configured.name h.configured.slices (sents_of h.table) (with_row x (sents_of h.table))
 kept-row h k x t kept = subst (λ (table : List Sent). ReachesSame h.configured.name h.configured.slices (sents_of h.table) table) t kept
 
 -- a node after a row
-stirs-row : (h k : Heard) (inputs : Inputs) (votes : Votes) (x : Sent) (stirred : Stirred) → ComesOfEvents (node_of h inputs votes) → k.configured ≡ h.configured → sents_of k.table ≡ with_row x (sents_of h.table)
+stirs-row : (h k : ListenerState) (inputs : Inputs) (votes : Votes) (x : Sent) (stirred : Stirred) → ComesOfEvents (node_of h inputs votes) → k.configured ≡ h.configured → sents_of k.table ≡ with_row x (sents_of h.table)
     → IsChange (node_of k inputs votes) → IsStirred stirred h.configured (sents_of h.table) x (sents_of k.table) → StirsIn stirred (node_of k inputs votes)
 stirs-row h k inputs votes x All r c t d is = stirs-all (node_of k inputs votes) d
 stirs-row h k inputs votes x Ballots r c t d is = subst (StirsIn Ballots) (row-in h k inputs votes x c t) (ballot_rows_stir_ballots (node_of h inputs votes) r x is.0 (kept-row h k x t is.1))
@@ -43,6 +43,6 @@ start-of stirred m d stirs = record { stirs = stirs; settles = settles_of m d; s
 pub start-all : (m : Node) → IsChange m → IsStart All m
 start-all m d = start-of All m d (stirs-all m d)
 
-pub start-row : (h k : Heard) (inputs : Inputs) (votes : Votes) (x : Sent) (stirred : Stirred) → ComesOfEvents (node_of h inputs votes) → k.configured ≡ h.configured → sents_of k.table ≡ with_row x (sents_of h.table)
+pub start-row : (h k : ListenerState) (inputs : Inputs) (votes : Votes) (x : Sent) (stirred : Stirred) → ComesOfEvents (node_of h inputs votes) → k.configured ≡ h.configured → sents_of k.table ≡ with_row x (sents_of h.table)
     → IsChange (node_of k inputs votes) → IsStirred stirred h.configured (sents_of h.table) x (sents_of k.table) → IsStart stirred (node_of k inputs votes)
 start-row h k inputs votes x stirred r c t d is = start-of stirred (node_of k inputs votes) d (stirs-row h k inputs votes x stirred r c t d is)

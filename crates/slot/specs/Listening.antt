@@ -8,7 +8,7 @@ use Rattle.protocol.specs.Nodes.{Node, step}
 use Rattle.protocol.specs.Rows.{table_with_offer}
 use Rattle.envstore.specs.declared.filed.Filed.{Filed}
 use Rattle.envstore.specs.Archives.{sents_of}
-use Rattle.listening.specs.Listening.{Heard}
+use Rattle.listening.specs.Listening.{ListenerState}
 use Rattle.slot.specs.Wholes.{whole}
 
 -- the node of the definitions, and the rows of its table as they were filed
@@ -17,7 +17,7 @@ pub record Held : Type 0 where
   pub rows : List Filed
 
 -- what a listener has, with inputs and votes
-abbrev pub node_of : Heard → Inputs → Votes → Node
+abbrev pub node_of : ListenerState → Inputs → Votes → Node
 node_of h inputs votes = whole h.configured inputs votes (sents_of h.table)
 
 -- an envelope of this sender is no more than a row: where it is newer than that which stands it takes its place, and

@@ -9,13 +9,13 @@ use Rattle.protocol.specs.Networks.{Step}
 use Rattle.protocol.specs.Networks.Reading.{Read, Fault}
 use Rattle.protocol.specs.Networks.Step.{Opens, Closes, Proposes, Delivers, Hears, NominationTimerFires, BallotTimerFires, Reslices}
 use Rattle.protocol.specs.Hosts.{Entry}
-use Rattle.protocol.specs.Isolation.{Kept, kept_step, kept_of, when_kept}
+use Rattle.protocol.specs.Isolation.{KeptStep, kept_step, kept_of, when_kept}
 use Rattle.protocol.specs.Verdicts.{IsFirstDifference}
 use Rattle.differences.proofs.Places.{at_seam, front_at, rest_at, there_is}
 use Rattle.differences.proofs.SideBySide.{IsAgreed, agreed_at_first, agreed_more, parts_at_end, parts_at_other_end, parts_unlike}
 use Rattle.twoworlds.specs.Steps.{event_at, is_kept, is_kept_in, core, IsNextKept, IsKeptEntry}
 
-when_is : (b : Bool) (k : Kept) → when_kept b k ≡ (if b then Some k else None)
+when_is : (b : Bool) (k : KeptStep) → when_kept b k ≡ (if b then Some k else None)
 when_is true k = refl
 when_is false k = refl
 
@@ -33,7 +33,7 @@ kept_is R i (Reslices j u q) = when_is ((j == i) && R u) (core (Reslices j u q))
 pub core_at : (run : List Entry) (n : ℕ) (x : Entry) → slice_get run n ≡ Some x → option_map core (event_at run n) ≡ Some (core x.event)
 core_at run n x e = ap (λ (o : Option Entry). option_map core (option_map (λ (y : Entry). y.event) o)) e
 
-is_one : (z w : Kept) → Some z ≡ Some w → z ≡ w
+is_one : (z w : KeptStep) → Some z ≡ Some w → z ≡ w
 is_one z w e = cc
 
 module _ (R : Names) (i : ℕ) where
@@ -81,7 +81,7 @@ module _ (R : Names) (i : ℕ) where
   unfolding kept_of
   nothing_kept = refl
 
-  count_one : (xs ys : List Kept) → length (xs ++ ys) ≡ length xs + length ys
+  count_one : (xs ys : List KeptStep) → length (xs ++ ys) ≡ length xs + length ys
   count_one [] ys = omega arith
   count_one (z ∷ zs) ys = let r = count_one zs ys in omega arith
 
@@ -92,8 +92,8 @@ module _ (R : Names) (i : ℕ) where
   pub counts_one : (run : List Entry) (n before : ℕ) → n < length run → is_kept_in R i (event_at run n) ≡ true → before ≡ length (kept_of R i (take n run)) → before + 1 ≡ length (kept_of R i (take (n + 1) run))
   counts_one run n before l h was =
       let p = there_is run n l in
-      let one : kept_of R i (p.0 ∷ []) ≡ core p.0.event ∷ [] = kept_head p.0 [] true (here_is run n p.0 p.1 true h) ∙ ap (λ (ys : List Kept). core p.0.event ∷ ys) nothing_kept in
-      let now = ap (λ (ys : List Kept). length ys) (front_is run n p.0 p.1 ∙ ap (λ (ys : List Kept). kept_of R i (take n run) ++ ys) one) in
+      let one : kept_of R i (p.0 ∷ []) ≡ core p.0.event ∷ [] = kept_head p.0 [] true (here_is run n p.0 p.1 true h) ∙ ap (λ (ys : List KeptStep). core p.0.event ∷ ys) nothing_kept in
+      let now = ap (λ (ys : List KeptStep). length ys) (front_is run n p.0 p.1 ∙ ap (λ (ys : List KeptStep). kept_of R i (take n run) ++ ys) one) in
       let sum = count_one (kept_of R i (take n run)) (core p.0.event ∷ []) in
       omega (arith, was, now, sum)
 
@@ -101,7 +101,7 @@ module _ (R : Names) (i : ℕ) where
   counts_none run n before l h was =
       let p = there_is run n l in
       let none : kept_of R i (p.0 ∷ []) ≡ [] = kept_head p.0 [] false (here_is run n p.0 p.1 false h) ∙ nothing_kept in
-      was ∙ sym (ap (λ (ys : List Kept). length ys) (front_is run n p.0 p.1 ∙ (ap (λ (ys : List Kept). kept_of R i (take n run) ++ ys) none ∙ append-nil (kept_of R i (take n run)))))
+      was ∙ sym (ap (λ (ys : List KeptStep). length ys) (front_is run n p.0 p.1 ∙ (ap (λ (ys : List KeptStep). kept_of R i (take n run) ++ ys) none ∙ append-nil (kept_of R i (take n run)))))
 
   whole_is : (run : List Entry) (n : ℕ) → kept_of R i run ≡ kept_of R i (take n run) ++ kept_of R i (drop n run)
   unfolding kept_of
@@ -119,7 +119,7 @@ module _ (R : Names) (i : ℕ) where
         concerns = is;
         before = sym was;
         step = ap (λ k. slice_get (kept_of R i run) k) was
-            ∙ (ap (λ (ys : List Kept). slice_get ys (length (kept_of R i (take n run)))) (whole_is run n ∙ ap (λ (ys : List Kept). kept_of R i (take n run) ++ ys) rest)
+            ∙ (ap (λ (ys : List KeptStep). slice_get ys (length (kept_of R i (take n run)))) (whole_is run n ∙ ap (λ (ys : List KeptStep). kept_of R i (take n run) ++ ys) rest)
             ∙ (seam ∙ sym (kept_is R i p.0.event ∙ ap (λ b. if b then Some (core p.0.event) else None) is)));
       }
 
@@ -131,7 +131,7 @@ module _ (R : Names) (i : ℕ) where
 
   -- ---- two runs side by side
   -- what is kept of a run from a number on
-  abbrev pub kept_from : List Entry → ℕ → List Kept
+  abbrev pub kept_from : List Entry → ℕ → List KeptStep
   kept_from run n = kept_of R i (drop n run)
 
   -- the kept steps before these numbers are the same, and this many
@@ -155,7 +155,7 @@ module _ (R : Names) (i : ℕ) where
           let x = there_is one k a.inside in
           let y = there_is other m b.inside in
           parts_unlike (kept_from one) (kept_from other) (length one) (length other) here there place way (core x.0.event) (core y.0.event) (kept_from one (k + 1)) (kept_from other (m + 1)) (a.splits x.0 x.1) (b.splits y.0 y.1)
-          (λ e. unlike (core_at one k x.0 x.1 ∙ (ap (λ (z : Kept). Some z) e ∙ sym (core_at other m y.0 y.1))))
+          (λ e. unlike (core_at one k x.0 x.1 ∙ (ap (λ (z : KeptStep). Some z) e ∙ sym (core_at other m y.0 y.1))))
 
     pub ended_there : (k : ℕ) → IsNextKept R i one here k → kept_from other there ≡ [] → IsFirstDifference (kept_of R i one) (kept_of R i other) place
     ended_there k a none =

@@ -7,8 +7,8 @@ use Rattle.protocol.specs.Networks.{Step}
 use Rattle.protocol.specs.Networks.Reading.{Read, Fault}
 use Rattle.protocol.specs.Networks.Step.{Opens, Closes, Proposes, Delivers, Hears, NominationTimerFires, BallotTimerFires, Reslices}
 use Rattle.protocol.specs.Hosts.{Entry}
-use Rattle.protocol.specs.Isolation.{Kept, kept_step, kept_of}
-use Rattle.protocol.specs.Isolation.Kept.{Opened, Closed, Told, Heard}
+use Rattle.protocol.specs.Isolation.{KeptStep, kept_step, kept_of}
+use Rattle.protocol.specs.Isolation.KeptStep.{Opening, Closing, EventAt, Hearing}
 
 -- the event of the entry with this number, if there is one
 abbrev pub event_at : List Entry → ℕ → Option Step
@@ -32,16 +32,16 @@ is_kept_in R i None = false
 is_kept_in R i (Some s) = is_kept R i s
 
 -- what is kept of a step that is
-abbrev pub core : Step → Kept
-core (Opens j) = Opened
-core (Closes j) = Closed
-core (Proposes j u x) = Told u (Propose x)
-core (Delivers u size (Read e)) = Told u (Take e)
-core (Delivers u size (Fault n)) = Opened
-core (Hears j u from kind k) = Heard u from kind k
-core (NominationTimerFires j u r) = Told u (NominationTimer r)
-core (BallotTimerFires j u n) = Told u (BallotTimer n)
-core (Reslices j u q) = Told u (Reslice q)
+abbrev pub core : Step → KeptStep
+core (Opens j) = Opening
+core (Closes j) = Closing
+core (Proposes j u x) = EventAt u (Propose x)
+core (Delivers u size (Read e)) = EventAt u (Take e)
+core (Delivers u size (Fault n)) = Opening
+core (Hears j u from kind k) = Hearing u from kind k
+core (NominationTimerFires j u r) = EventAt u (NominationTimer r)
+core (BallotTimerFires j u n) = EventAt u (BallotTimer n)
+core (Reslices j u q) = EventAt u (Reslice q)
 
 -- the node of a step at the slot
 abbrev pub at_slot : Bool → ℕ → Option ℕ

@@ -2,7 +2,7 @@
 
 ghost use Rattle.std.specs.Prelude.{◌≡◌, ◌↔◌, IsTrue, option_map};
 ghost use Rattle.types.specs.declared.event.NodeEvent.TheVariants.{Propose, Take, NominationTimer, BallotTimer, Reslice};
-ghost use Rattle.protocol.specs.Isolation.Kept.{Closed, Heard, Opened, Told};
+ghost use Rattle.protocol.specs.Isolation.KeptStep.{Closing, Hearing, Opening, EventAt};
 ghost use Rattle.hoststep.specs.Lending.{lent_step};
 ghost use Rattle.twoworlds.specs.Steps.{core, event_at};
 
@@ -51,21 +51,21 @@ fn is_same(one: &LentEvent<'_>, other: &LentEvent<'_>) -> bool
 
 /// Whether of a step is kept that the slot is opened.
 fn is_opening(step: &LentEvent<'_>) -> bool
-    ensures { IsTrue result ↔ Opened ≡ core (lent_step step.now) }
+    ensures { IsTrue result ↔ Opening ≡ core (lent_step step.now) }
 {
     matches!(step, LentEvent::OpenSlot { .. })
 }
 
 /// Whether of a step is kept that the slot is closed.
 fn is_closing(step: &LentEvent<'_>) -> bool
-    ensures { IsTrue result ↔ Closed ≡ core (lent_step step.now) }
+    ensures { IsTrue result ↔ Closing ≡ core (lent_step step.now) }
 {
     matches!(step, LentEvent::CloseSlot { .. })
 }
 
 /// Whether of a step is kept that this value is proposed to this node.
 fn is_proposal(step: &LentEvent<'_>, sought: &NodeId, sought_value: &Bytes) -> bool
-    ensures { IsTrue result ↔ Told sought.now (Propose sought_value.now) ≡ core (lent_step step.now) }
+    ensures { IsTrue result ↔ EventAt sought.now (Propose sought_value.now) ≡ core (lent_step step.now) }
 {
     match step {
         LentEvent::Propose { node, value, .. } => {
@@ -77,7 +77,7 @@ fn is_proposal(step: &LentEvent<'_>, sought: &NodeId, sought_value: &Bytes) -> b
 
 /// Whether of a step is kept that this node takes this envelope.
 fn is_delivery(step: &LentEvent<'_>, sought: &NodeId, sought_envelope: &Envelope) -> bool
-    ensures { IsTrue result ↔ Told sought.now (Take sought_envelope.now) ≡ core (lent_step step.now) }
+    ensures { IsTrue result ↔ EventAt sought.now (Take sought_envelope.now) ≡ core (lent_step step.now) }
 {
     match step {
         LentEvent::Deliver { node, envelope, .. } => {
@@ -105,7 +105,7 @@ fn is_hearing(
     sought_kind: Kind,
     sought_number: u64,
 ) -> bool
-    ensures { IsTrue result ↔ Heard sought.now sought_from.now sought_kind sought_number ≡ core (lent_step step.now) }
+    ensures { IsTrue result ↔ Hearing sought.now sought_from.now sought_kind sought_number ≡ core (lent_step step.now) }
 {
     match step {
         LentEvent::Hear {
@@ -126,7 +126,7 @@ fn is_hearing(
 
 /// Whether of a step is kept that the nomination timer of this round fires for this node.
 fn is_nomination_timer(step: &LentEvent<'_>, sought: &NodeId, sought_round: u32) -> bool
-    ensures { IsTrue result ↔ Told sought.now (NominationTimer sought_round) ≡ core (lent_step step.now) }
+    ensures { IsTrue result ↔ EventAt sought.now (NominationTimer sought_round) ≡ core (lent_step step.now) }
 {
     match step {
         LentEvent::NominationTimer { node, round, .. } => {
@@ -138,7 +138,7 @@ fn is_nomination_timer(step: &LentEvent<'_>, sought: &NodeId, sought_round: u32)
 
 /// Whether of a step is kept that the ballot timer of this counter fires for this node.
 fn is_ballot_timer(step: &LentEvent<'_>, sought: &NodeId, sought_counter: u32) -> bool
-    ensures { IsTrue result ↔ Told sought.now (BallotTimer sought_counter) ≡ core (lent_step step.now) }
+    ensures { IsTrue result ↔ EventAt sought.now (BallotTimer sought_counter) ≡ core (lent_step step.now) }
 {
     match step {
         LentEvent::BallotTimer { node, counter, .. } => {
@@ -150,7 +150,7 @@ fn is_ballot_timer(step: &LentEvent<'_>, sought: &NodeId, sought_counter: u32) -
 
 /// Whether of a step is kept that this node gets these slices.
 fn is_change_of_slices(step: &LentEvent<'_>, sought: &NodeId, sought_slices: &Nested) -> bool
-    ensures { IsTrue result ↔ Told sought.now (Reslice sought_slices.now) ≡ core (lent_step step.now) }
+    ensures { IsTrue result ↔ EventAt sought.now (Reslice sought_slices.now) ≡ core (lent_step step.now) }
 {
     match step {
         LentEvent::Reslice { node, slices, .. } => {

@@ -9,32 +9,32 @@ use Rattle.protocol.specs.Sets.{Names, among}
 use Rattle.protocol.specs.Rosters.{Shares, Roster, Share, Source, Draw, is_on, share_or_budgets, events_of}
 use Rattle.protocol.specs.Rosters.Share.{Own, Pair}
 use Rattle.protocol.specs.Rosters.Source.{OfBudgets, OfOpens, OfShare}
-use Rattle.protocol.specs.Networks.{Place, Slot, Net, Step, slices_of, places_at, node_where_open, emission, has_proposal, is_hosted, is_bad_value, source, source_by, hosted_test, open_test, room_test, bytes_test, tests, tests_on, size_of, on_shares}
+use Rattle.protocol.specs.Networks.{Instance, Slot, Net, Step, slices_of, instances_at, node_where_open, emission, has_proposal, is_hosted, is_bad_value, source, source_by, hosted_test, open_test, room_test, bytes_test, tests, tests_on, size_of, on_shares}
 use Rattle.protocol.specs.Networks.Reading.{Read, Fault}
 use Rattle.protocol.specs.Networks.Step.{Opens, Closes, Proposes, Delivers, Hears, NominationTimerFires, BallotTimerFires, Reslices}
-use Rattle.protocol.specs.Isolation.{Kept, when_kept}
+use Rattle.protocol.specs.Isolation.{KeptStep, when_kept}
 use Rattle.protocol.specs.Submissions.{concerns}
 use Rattle.protocol.proofs.Sets.Tests.{and_joined}
 use Rattle.protocol.proofs.Sets.Lists.{filter_swap}
-use Rattle.protocol.proofs.Runs.Sights.{sight, cut_place}
+use Rattle.protocol.proofs.Runs.Sights.{sight, cut_instance}
 use Rattle.protocol.proofs.Runs.Openings.{cast_of}
 use Rattle.protocol.proofs.Runs.Hearings.{emission-cut}
 use Rattle.protocol.proofs.Networks.Effects.{numbers, left}
 use Rattle.protocol.proofs.Crowds.Views.{bytes_full_in, drawn-ours, frame, full_in, is_ours, of_members, share_of, tests_in, view}
 
-pub open-same : (ss : List Slot) (j : ℕ) → is_some (places_at ss j) ≡ among (numbers ss) j
+pub open-same : (ss : List Slot) (j : ℕ) → is_some (instances_at ss j) ≡ among (numbers ss) j
 open-same [] j = refl
 open-same (s ∷ ss) j = go (s.number == j) (open-same ss j)
   where
-    go : (b : Bool) → is_some (places_at ss j) ≡ among (numbers ss) j
-        → is_some (if b then Some s.places else places_at ss j) ≡ (b || among (numbers ss) j)
+    go : (b : Bool) → is_some (instances_at ss j) ≡ among (numbers ss) j
+        → is_some (if b then Some s.instances else instances_at ss j) ≡ (b || among (numbers ss) j)
     go true e = refl
     go false e = e
 
 pub length-numbers : (ss : List Slot) → length ss ≡ length (numbers ss)
 length-numbers ss = sym (length-map ss (λ s. s.number))
 
-proposal-cut : (R : Names) (o : Option Place) → has_proposal o ≡ has_proposal (option_map (cut_place R) o)
+proposal-cut : (R : Names) (o : Option Instance) → has_proposal o ≡ has_proposal (option_map (cut_instance R) o)
 proposal-cut R None = refl
 proposal-cut R (Some p) = refl
 
@@ -43,19 +43,19 @@ module _ (R : Names) (i : ℕ) (net : Net) where
   hosted u r = ap (λ b. is_some (if b then slices_of net.hosts u else None)) (sym r)
 
   seen_at : (j u : ℕ) → (j == i) ≡ true → R u ≡ true
-      → sight R i net u ≡ option_map (cut_place R) (node_where_open (places_at net.slots j) u)
-  seen_at j u e r = ap (λ b. if b then option_map (cut_place R) (node_where_open (places_at net.slots i) u) else None) r
-      ∙ ap (λ x. option_map (cut_place R) (node_where_open (places_at net.slots x) u)) (sym (eqb-true j i e))
+      → sight R i net u ≡ option_map (cut_instance R) (node_where_open (instances_at net.slots j) u)
+  seen_at j u e r = ap (λ b. if b then option_map (cut_instance R) (node_where_open (instances_at net.slots i) u) else None) r
+      ∙ ap (λ x. option_map (cut_instance R) (node_where_open (instances_at net.slots x) u)) (sym (eqb-true j i e))
 
   proposal : (j u : ℕ) → (j == i) ≡ true → R u ≡ true
-      → has_proposal (node_where_open (places_at net.slots j) u) ≡ has_proposal (sight R i net u)
+      → has_proposal (node_where_open (instances_at net.slots j) u) ≡ has_proposal (sight R i net u)
   proposal j u e r =
-      proposal-cut R (node_where_open (places_at net.slots j) u) ∙ ap has_proposal (sym (seen_at j u e r))
+      proposal-cut R (node_where_open (instances_at net.slots j) u) ∙ ap has_proposal (sym (seen_at j u e r))
 
   emitted : (j u : ℕ) (kind : Kind) (k : ℕ) → (j == i) ≡ true → R u ≡ true
-      → emission (node_where_open (places_at net.slots j) u) kind k ≡ emission (sight R i net u) kind k
+      → emission (node_where_open (instances_at net.slots j) u) kind k ≡ emission (sight R i net u) kind k
   emitted j u kind k e r =
-      sym (emission-cut R (node_where_open (places_at net.slots j) u) kind k)
+      sym (emission-cut R (node_where_open (instances_at net.slots j) u) kind k)
       ∙ ap (λ o. emission o kind k) (sym (seen_at j u e r))
 
   full : (shares : Shares) (j : ℕ) (s : Share) → (j == i) ≡ true → of_members R s ≡ true
@@ -85,11 +85,11 @@ module _ (R : Names) (i : ℕ) (r : Roster) (on : (u : ℕ) → R u ≡ true →
     pub draws : source net.roster e ≡ share_of r.shares e
     pub tested : tests net e ≡ tests_in (frame R r net) (view R i net) e
 
-pub kept-true : (b : Bool) (k : Kept) → is_some (when_kept b k) ≡ true → b ≡ true
+pub kept-true : (b : Bool) (k : KeptStep) → is_some (when_kept b k) ≡ true → b ≡ true
 kept-true true k h = refl
 kept-true false k h = absurd (false≢true h)
 
-pub kept-false : (b : Bool) (k : Kept) → is_some (when_kept b k) ≡ false → b ≡ false
+pub kept-false : (b : Bool) (k : KeptStep) → is_some (when_kept b k) ≡ false → b ≡ false
 kept-false true k h = absurd (true≢false h)
 kept-false false k h = refl
 

@@ -8,22 +8,22 @@ use Rattle.protocol.specs.Rosters.{Roster}
 use Rattle.protocol.specs.Networks.{HostedNode, Net, Step, Reply, slices_of, tests, first_that, state_and_reply, net_step}
 use Rattle.protocol.specs.Networks.Reply.{Done, Refused}
 use Rattle.protocol.specs.Hosts.{Config, Entry, journal_with, journal, new_net, nets, hosts_of, steps_of, entries}
-use Rattle.protocol.specs.Isolation.{Kept, kept_step, kept_of, closure, outs_of, SameCast}
+use Rattle.protocol.specs.Isolation.{KeptStep, kept_step, kept_of, closure, outs_of, SameCast}
 use Rattle.protocol.specs.Submissions.{Answer, net_run, answers, concerns, concerning, concerning_steps, replied_to, config_of, SameRoster, SameReserves, names_on, roster_names, MembersAreNeverCrowdedOut, MembersOfRunsAreNeverCrowdedOut}
 use Rattle.protocol.proofs.Runs.Openings.{HostsIn}
 use Rattle.protocol.proofs.Runs.KeptWithin.{hosts-closed, events-closed, closure-start}
-use Rattle.protocol.proofs.Runs.SameSteps.{casts-same, hosts-other, no-places, journals-agree}
+use Rattle.protocol.proofs.Runs.SameSteps.{casts-same, hosts-other, no-instances, journals-agree}
 use Rattle.protocol.proofs.Runs.Hosts.{steps_to, applied-journal, answers-run, HasNet, find_net, nobody}
 use Rattle.protocol.proofs.Crowds.Views.{view, Frame, frame, replies_in}
 use Rattle.protocol.proofs.Crowds.Others.{others-kept}
 use Rattle.protocol.proofs.Crowds.Runs.{AllGood, Shows, shows}
 
 -- ---- what is kept of a run follows from the answers to what concerns R
-abbrev if_done : Reply → Option Kept → Option Kept
+abbrev if_done : Reply → Option KeptStep → Option KeptStep
 if_done (Done os) k = k
 if_done (Refused n) k = None
 
-abbrev kept_answer : Names → ℕ → Answer → Option Kept
+abbrev kept_answer : Names → ℕ → Answer → Option KeptStep
 kept_answer R i x = if_done x.reply (kept_step R i x.step)
 
 kept_step-answers : (R : Names) (i : ℕ) (es : List Step) (net : Net)
@@ -45,7 +45,7 @@ kept_step-answers R i (e ∷ es) net =
     go true c None ih = ap (λ ks. cons_option (kept_step R i e) ks) (ih (state_and_reply net e None).0)
     go false c (Some n) ih = ih net
     go false c None ih =
-        ap (λ (k : Option Kept). cons_option k (kept_of R i (journal (state_and_reply net e None).0 es)))
+        ap (λ (k : Option KeptStep). cons_option k (kept_of R i (journal (state_and_reply net e None).0 es)))
         (others-kept R i e c)
         ∙ ih (state_and_reply net e None).0
 
@@ -78,7 +78,7 @@ replies-agree config config' r r' i v es es' h h' cast names shares slots on sam
     let closed : HostsIn R config.hosts = hosts-closed config.hosts i v run in
     let on' : (u : ℕ) → R u ≡ true → among r'.names u ≡ true = λ u m. sym (names u) ∙ on u m in
     let one : Shows R i r on (new_net config) (concerning R i (net_run (new_net config) es)) run =
-    shows R i r on es (new_net config) (record { places = no-places R i config; hosts = closed; roster = h })
+    shows R i r on es (new_net config) (record { instances = no-instances R i config; hosts = closed; roster = h })
     (inl (events-closed config.hosts i v run)) in
     let frames : frame R r (new_net config) ≡ frame R r' (new_net config') =
     λ j. record { cast = casts-same R v config.hosts config'.hosts cast j; shares = shares j; slots = slots j } in
@@ -90,7 +90,7 @@ replies-agree config config' r r' i v es es' h h' cast names shares slots on sam
     (journal (new_net config') es') =
     shows R i r' on' es' (new_net config')
     (record {
-      places = no-places R i config';
+      instances = no-instances R i config';
       hosts = hosts-other R v config.hosts config'.hosts cast closed;
       roster = h';
     }) (inr good) in

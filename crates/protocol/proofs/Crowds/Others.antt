@@ -8,7 +8,7 @@ use Rattle.protocol.specs.Rosters.Source.{OfBudgets, OfShare}
 use Rattle.protocol.specs.Networks.{Step, source, size_of, on_shares, on_opens}
 use Rattle.protocol.specs.Networks.Reading.{Read, Fault}
 use Rattle.protocol.specs.Networks.Step.{Opens, Closes, Proposes, Delivers, Hears, NominationTimerFires, BallotTimerFires, Reslices}
-use Rattle.protocol.specs.Isolation.{Kept, kept_step}
+use Rattle.protocol.specs.Isolation.{KeptStep, kept_step}
 use Rattle.protocol.specs.Submissions.{concerns}
 use Rattle.protocol.proofs.Networks.Effects.{opened_after, left}
 use Rattle.protocol.proofs.Crowds.Concerned.{kept-false}
@@ -65,7 +65,7 @@ module _ (R : Names) (i : ℕ) where
   others-numbers (Closes j) c ns = absurd (true≢false c)
   others-numbers _ c ns = refl
 
-  unkept : (o : Option Kept) → is_some o ≡ false → o ≡ None
+  unkept : (o : Option KeptStep) → is_some o ≡ false → o ≡ None
   unkept None h = refl
   unkept (Some k) h = absurd (true≢false h)
 

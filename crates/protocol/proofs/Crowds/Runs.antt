@@ -11,11 +11,11 @@ use Rattle.protocol.specs.Networks.Reading.{Read, Fault}
 use Rattle.protocol.specs.Networks.Step.{Opens, Closes, Proposes, Delivers, Hears, NominationTimerFires, BallotTimerFires, Reslices}
 use Rattle.protocol.specs.Networks.Reply.{Done, Refused}
 use Rattle.protocol.specs.Hosts.{Entry, journal_with, journal}
-use Rattle.protocol.specs.Isolation.{Kept, when_kept, kept_step, is_of}
-use Rattle.protocol.specs.Isolation.Kept.{Opened, Closed}
+use Rattle.protocol.specs.Isolation.{KeptStep, when_kept, kept_step, is_of}
+use Rattle.protocol.specs.Isolation.KeptStep.{Opening, Closing}
 use Rattle.protocol.specs.Submissions.{Answer, net_run, concerns, concerning}
 use Rattle.protocol.proofs.Equality.Sameness.{eqb-refl}
-use Rattle.protocol.proofs.Runs.Sights.{Sight, sight, AllPlaces, play, reply}
+use Rattle.protocol.proofs.Runs.Sights.{Sight, sight, AllInstances, play, reply}
 use Rattle.protocol.proofs.Runs.Follows.{Follows}
 use Rattle.protocol.proofs.Runs.Events.{IsWithin, follows}
 use Rattle.protocol.proofs.Runs.Openings.{HostsIn, cast_of}
@@ -37,7 +37,7 @@ plus_nothing n = omega arith
 
 -- what an applied step gives out, whose node is a member
 module _ (R : Names) (i : ℕ) where
-  outs-opened : (s : Sight) (b : Bool) (k : Kept) → ((w : ℕ) → reply s (Some k) w ≡ []) → [] ≡ reply s (when_kept b k) 0
+  outs-opened : (s : Sight) (b : Bool) (k : KeptStep) → ((w : ℕ) → reply s (Some k) w ≡ []) → [] ≡ reply s (when_kept b k) 0
   outs-opened s true k f = sym (f 0)
   outs-opened s false k f = refl
 
@@ -45,8 +45,8 @@ module _ (R : Names) (i : ℕ) where
       → Follows R (cast_of R net.hosts) i net (effect net e) (λ w. is_of i w e) (kept_step R i e)
       → (effect net e).1 ≡ reply (sight R i net) (kept_step R i e) (node_of e)
   unfolding effect
-  outs-of net (Opens j) c f = outs-opened (sight R i net) (j == i) Opened (λ w. refl)
-  outs-of net (Closes j) c f = outs-opened (sight R i net) (j == i) Closed (λ w. refl)
+  outs-of net (Opens j) c f = outs-opened (sight R i net) (j == i) Opening (λ w. refl)
+  outs-of net (Closes j) c f = outs-opened (sight R i net) (j == i) Closing (λ w. refl)
   outs-of net (Proposes j u x) c f =
       let m = and_parts (j == i) (R u) (kept-true ((j == i) && R u) _ c) in
       sym (ap (λ b. if b then (effect net (Proposes j u x)).1 else []) (and_from (j == i) (u == u) m.0 (eqb-refl u)))
@@ -79,20 +79,20 @@ module _ (R : Names) (i : ℕ) where
 module _ (R : Names) (i : ℕ) (r : Roster) (on : (u : ℕ) → R u ≡ true → among r.names u ≡ true) where
   -- a network of which R is known to see enough
   pub record Stands (net : Net) : Type 0 where
-    pub places : AllPlaces R i net
+    pub instances : AllInstances R i net
     pub hosts : HostsIn R net.hosts
     pub roster : net.roster ≡ Some r
 
   follows-here : (net : Net) (e : Step) → Stands net → first_that (tests net e) ≡ None → IsWithin R i e
       → Follows R (cast_of R net.hosts) i net (effect net e) (λ w. is_of i w e) (kept_step R i e)
-  follows-here net e s q f = follows R i net e s.places s.hosts (is_new net e q) f
+  follows-here net e s q f = follows R i net e s.instances s.hosts (is_new net e q) f
 
   stands-next : (net : Net) (e : Step) → Stands net → first_that (tests net e) ≡ None → IsWithin R i e
       → Stands (next net e)
   stands-next net e s q f =
       let k = effect-keeps net e in
       record {
-        places = (follows-here net e s q f).places;
+        instances = (follows-here net e s q f).instances;
         hosts = subst (HostsIn R) (sym k.hosts) s.hosts;
         roster = k.roster ∙ s.roster;
       }

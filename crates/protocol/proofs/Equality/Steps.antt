@@ -9,8 +9,8 @@ use Rattle.types.specs.declared.event.NodeEvent.TheVariants.{Propose, Take, Nomi
 use Rattle.protocol.specs.Networks.{Reading, Step}
 use Rattle.protocol.specs.Networks.Reading.{Read, Fault}
 use Rattle.protocol.specs.Networks.Step.{Opens, Closes, Proposes, Delivers, Hears, NominationTimerFires, BallotTimerFires, Reslices}
-use Rattle.protocol.specs.Isolation.{Kept}
-use Rattle.protocol.specs.Isolation.Kept.{Opened, Closed, Told, Heard}
+use Rattle.protocol.specs.Isolation.{KeptStep}
+use Rattle.protocol.specs.Isolation.KeptStep.{Opening, Closing, EventAt, Hearing}
 use Rattle.protocol.proofs.Equality.Decisions.{IsDecided, by_image, decided_kind, decided_list, decided_sent, decided_slices, decided_ℕ, decided×, decided⊎}
 
 abbrev NodeParts : Type 0
@@ -43,21 +43,21 @@ decided_event =
 abbrev KeptParts : Type 0
 KeptParts = Bool ⊎ ((ℕ × NodeEvent) ⊎ ((ℕ × ℕ) × (Kind × ℕ)))
 
-kept_parts : Kept → KeptParts
-kept_parts Opened = inl true
-kept_parts Closed = inl false
-kept_parts (Told u e) = inr (inl (u, e))
-kept_parts (Heard u from kind k) = inr (inr ((u, from), (kind, k)))
+kept_parts : KeptStep → KeptParts
+kept_parts Opening = inl true
+kept_parts Closing = inl false
+kept_parts (EventAt u e) = inr (inl (u, e))
+kept_parts (Hearing u from kind k) = inr (inr ((u, from), (kind, k)))
 
-kept_from : KeptParts → Kept
-kept_from (inl true) = Opened
-kept_from (inl false) = Closed
-kept_from (inr (inl p)) = Told p.0 p.1
-kept_from (inr (inr p)) = Heard p.0.0 p.0.1 p.1.0 p.1.1
+kept_from : KeptParts → KeptStep
+kept_from (inl true) = Opening
+kept_from (inl false) = Closing
+kept_from (inr (inl p)) = EventAt p.0 p.1
+kept_from (inr (inr p)) = Hearing p.0.0 p.0.1 p.1.0 p.1.1
 
-kept_back : (k : Kept) → kept_from (kept_parts k) ≡ k
+kept_back : (k : KeptStep) → kept_from (kept_parts k) ≡ k
 unfolding kept_parts kept_from
-kept_back Opened = refl
+kept_back Opening = refl
 kept_back _ = refl
 
 pub decided_bool : IsDecided Bool
@@ -66,7 +66,7 @@ decided_bool true false = inr (λ q. true≢false q)
 decided_bool false true = inr (λ q. false≢true q)
 decided_bool false false = inl refl
 
-pub decided_kept : IsDecided Kept
+pub decided_kept : IsDecided KeptStep
 decided_kept =
     by_image kept_parts kept_from kept_back
     (decided⊎ decided_bool (decided⊎ (decided× decided_ℕ decided_event)

@@ -5,7 +5,7 @@ use Rattle.std.proofs.Common.{◌≡◌, ℕ, Bool, true, false, not, ◌==◌, 
 use Rattle.std.proofs.lemmas.List.{map-append}
 use Rattle.types.specs.Statements.{Sent}
 use Rattle.protocol.specs.Rosters.{Draw}
-use Rattle.protocol.specs.Networks.{Slot, Place, Net, Step, effect, act, act_in, act_known, emission, node_where_open, places_at, renewed, source, size_of, tests, first_that, with_draw, state_and_reply, net_step}
+use Rattle.protocol.specs.Networks.{Slot, Instance, Net, Step, effect, act, act_in, act_known, emission, node_where_open, instances_at, renewed, source, size_of, tests, first_that, with_draw, state_and_reply, net_step}
 use Rattle.protocol.specs.Hosts.{Entry}
 use Rattle.protocol.specs.Runs.{net_after}
 use Rattle.types.specs.declared.event.Refusal.{Refusal}
@@ -38,16 +38,16 @@ pub record Keeps (net : Net) (open_slots : List ℕ) (kept_draws : List Draw) (n
   pub draws : next.draws ≡ kept_draws
   pub slots : numbers next.slots ≡ open_slots
 
--- slots, with the places of one changed
-abbrev pub at_slot : (List Place → List Place) → ℕ → List Slot → List Slot
-at_slot f i ss = map {B = Slot} (λ (s : Slot). if s.number == i then record s { places = f s.places } else s) ss
+-- slots, with the instances of one changed
+abbrev pub at_slot : (List Instance → List Instance) → ℕ → List Slot → List Slot
+at_slot f i ss = map {B = Slot} (λ (s : Slot). if s.number == i then record s { instances = f s.instances } else s) ss
 
-numbers-act : (f : List Place → List Place) (i : ℕ) (ss : List Slot) → numbers (at_slot f i ss) ≡ numbers ss
+numbers-act : (f : List Instance → List Instance) (i : ℕ) (ss : List Slot) → numbers (at_slot f i ss) ≡ numbers ss
 numbers-act f i [] = refl
 numbers-act f i (s ∷ ss) = go (s.number == i) (numbers-act f i ss)
   where
     go : (b : Bool) → numbers (at_slot f i ss) ≡ numbers ss
-        → (if b then record s { places = f s.places } else s).number ∷ numbers (at_slot f i ss)
+        → (if b then record s { instances = f s.instances } else s).number ∷ numbers (at_slot f i ss)
         ≡ s.number ∷ numbers ss
     go true e = ap (λ ns. s.number ∷ ns) e
     go false e = ap (λ ns. s.number ∷ ns) e
@@ -93,7 +93,7 @@ effect-keeps net (Closes j) = keeps-slots net _ net.draws _ (numbers-drop j net.
 effect-keeps net (Proposes j u x) = keeps-act net j u _
 effect-keeps net (Delivers u size (Read e)) = keeps-act net e.slot u _
 effect-keeps net (Delivers u size (Fault n)) = keeps-self net
-effect-keeps net (Hears j u from kind k) = go (emission (node_where_open (places_at net.slots j) from) kind k)
+effect-keeps net (Hears j u from kind k) = go (emission (node_where_open (instances_at net.slots j) from) kind k)
   where
     go : (o : Option Sent) → Keeps net (numbers net.slots) net.draws (act_known net j u o).0
     go None = keeps-self net

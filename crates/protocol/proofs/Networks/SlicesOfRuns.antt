@@ -11,7 +11,7 @@ use Rattle.std.proofs.lemmas.Option.{none-some}
 use Rattle.protocol.specs.Nodes.{fresh}
 use Rattle.protocol.specs.Limits.{ComesOfEvents}
 use Rattle.protocol.specs.Limits.ComesOfEvents.{begin, next}
-use Rattle.protocol.specs.Networks.{Net, Step, Place, Slot, slices_of, places_at, node_where_open, emission, after_event, act, act_known, nodes_of_new_slot, renewed, effect, source, size_of, tests, first_that, with_draw, state_and_reply, net_step}
+use Rattle.protocol.specs.Networks.{Net, Step, Instance, Slot, slices_of, instances_at, node_where_open, emission, after_event, act, act_known, nodes_of_new_slot, renewed, effect, source, size_of, tests, first_that, with_draw, state_and_reply, net_step}
 use Rattle.protocol.specs.Networks.Reading.{Read, Fault}
 use Rattle.protocol.specs.Networks.Step.{Opens, Closes, Proposes, Delivers, Hears, NominationTimerFires, BallotTimerFires, Reslices}
 use Rattle.protocol.specs.Hosts.{Entry, journal_with, journal, new_net}
@@ -20,7 +20,7 @@ use Rattle.protocol.specs.Reslices.{slices_after, slices_next, slices_since, Sli
 use Rattle.protocol.proofs.Networks.Effects.{effect-keeps}
 use Rattle.protocol.proofs.Runs.Sights.{node_where_open-same, node_where_open-other, node_where_open-elsewhere}
 use Rattle.protocol.proofs.Runs.Events.{IsNew}
-use Rattle.protocol.proofs.Networks.OpenSlots.{places_at-push, places_at-push_other, places_at-drop, places_at-drop_other}
+use Rattle.protocol.proofs.Networks.OpenSlots.{instances_at-push, instances_at-push_other, instances_at-drop, instances_at-drop_other}
 use Rattle.protocol.proofs.Runs.Openings.{node_named-opened}
 use Rattle.protocol.proofs.Runs.KeptSteps.{is_new}
 use Rattle.protocol.proofs.Networks.Journals.{runs_are_journals}
@@ -30,7 +30,7 @@ module _ (i u : ℕ) (q : Slices) where
   -- wherever the node is at the slot, it has these slices, and events led to it
   abbrev Has : Slices → Net → Type 0
   Has now net =
-      (p : Place) → node_where_open (places_at net.slots i) u ≡ Some p → (p.node.slices ≡ now) × ComesOfEvents p.node
+      (p : Instance) → node_where_open (instances_at net.slots i) u ≡ Some p → (p.node.slices ≡ now) × ComesOfEvents p.node
 
   -- a step of another node, or at another slot
   has-other : (now : Slices) (net : Net) (j w : ℕ) (e : NodeEvent) → ((j == i) && (w == u)) ≡ false → Has now net
@@ -40,22 +40,22 @@ module _ (i u : ℕ) (q : Slices) where
     | inl y ↦ h p (sym (node_where_open-other net i w u e (elim (cases_Bool (u == w)) [
       | inl z ↦ absurd (true≢false (sym (and_from (j == i) (w == u) y (eq-eqb w u (sym (eqb-true u w z)))) ∙ o))
       | inr n ↦ n
-    ])) ∙ subst (λ x. node_where_open (places_at (act net x w e).0.slots i) u ≡ Some p) (eqb-true j i y) k)
+    ])) ∙ subst (λ x. node_where_open (instances_at (act net x w e).0.slots i) u ≡ Some p) (eqb-true j i y) k)
   ]
 
   -- a step of the node
   has-own : (now : Slices) (net : Net) (e : NodeEvent) → Has now net → Has (slices_after e now) (act net i u e).0
   unfolding after_event
   has-own now net e h p k =
-      go (node_where_open (places_at net.slots i) u) refl (sym (node_where_open-same net i u e) ∙ k)
+      go (node_where_open (instances_at net.slots i) u) refl (sym (node_where_open-same net i u e) ∙ k)
     where
-      go : (o : Option Place) → node_where_open (places_at net.slots i) u ≡ o → option_map (after_event e) o ≡ Some p
+      go : (o : Option Instance) → node_where_open (instances_at net.slots i) u ≡ o → option_map (after_event e) o ≡ Some p
           → (p.node.slices ≡ slices_after e now) × ComesOfEvents p.node
       go None x y = cc
       go (Some m) x y =
           let same : after_event e m ≡ p = cc in
           let a = h m x in
-          subst (λ (z : Place). (z.node.slices ≡ slices_after e now) × ComesOfEvents z.node) same
+          subst (λ (z : Instance). (z.node.slices ≡ slices_after e now) × ComesOfEvents z.node) same
           (slices_follow_events m.node a.1 e ∙ ap (slices_after e) a.0, next a.1 e)
 
   -- any step
@@ -82,32 +82,32 @@ module _ (i u : ℕ) (q : Slices) where
 
   -- opening the slot, or another one
   has-opened : (now : Slices) (net : Net) (j : ℕ) → slices_of net.hosts u ≡ Some q
-      → places_at net.slots j ≡ None → Has now net
+      → instances_at net.slots j ≡ None → Has now net
       → Has (if j == i then q else now)
       (record net {
-        slots = net.slots ++ record { number = j; places = nodes_of_new_slot net.hosts j } ∷ [];
+        slots = net.slots ++ record { number = j; instances = nodes_of_new_slot net.hosts j } ∷ [];
         draws = renewed j net.draws;
       })
   unfolding fresh
   has-opened now net j hosted n h = go (j == i) refl
     where
       slot : Slot
-      slot = record { number = j; places = nodes_of_new_slot net.hosts j }
+      slot = record { number = j; instances = nodes_of_new_slot net.hosts j }
 
       go : (b : Bool) → (j == i) ≡ b
           → Has (if b then q else now) (record net { slots = net.slots ++ slot ∷ []; draws = renewed j net.draws })
-      go false o p k = h p (ap (λ x. node_where_open x u) (sym (places_at-push_other net.slots slot i o)) ∙ k)
+      go false o p k = h p (ap (λ x. node_where_open x u) (sym (instances_at-push_other net.slots slot i o)) ∙ k)
       go true y p k =
-          let there : node_where_open (places_at (net.slots ++ slot ∷ []) i) u
+          let there : node_where_open (instances_at (net.slots ++ slot ∷ []) i) u
           ≡ option_map (λ x. record { node = fresh j u x; emitted = [] }) (slices_of net.hosts u) =
           ap (λ x. node_where_open x u)
-          (places_at-push net.slots slot i y (ap (places_at net.slots) (sym (eqb-true j i y)) ∙ n))
+          (instances_at-push net.slots slot i y (ap (instances_at net.slots) (sym (eqb-true j i y)) ∙ n))
           ∙ node_named-opened net.hosts j u in
-          let same : ◌≡◌ {A = Option Place} (Some (record { node = fresh j u q; emitted = [] })) (Some p) =
+          let same : ◌≡◌ {A = Option Instance} (Some (record { node = fresh j u q; emitted = [] })) (Some p) =
           ap (option_map (λ (x : Slices). record { node = fresh j u x; emitted = [] })) (sym hosted)
           ∙ (sym there ∙ k) in
           let is : record { node = fresh j u q; emitted = [] } ≡ p = cc in
-          subst (λ (z : Place). (z.node.slices ≡ q) × ComesOfEvents z.node) is (refl, begin j u q)
+          subst (λ (z : Instance). (z.node.slices ≡ q) × ComesOfEvents z.node) is (refl, begin j u q)
 
   -- closing the slot, or another one
   has-closed : (now : Slices) (net : Net) (j : ℕ) → Has now net
@@ -116,11 +116,11 @@ module _ (i u : ℕ) (q : Slices) where
     where
       go : (b : Bool) → (j == i) ≡ b
           → Has (if b then q else now) (record net { slots = filter (λ s. not (s.number == j)) net.slots })
-      go false o p k = h p (ap (λ x. node_where_open x u) (sym (places_at-drop_other net.slots j i o)) ∙ k)
+      go false o p k = h p (ap (λ x. node_where_open x u) (sym (instances_at-drop_other net.slots j i o)) ∙ k)
       go true y p k =
           absurd (none-some p (sym (ap (λ x. node_where_open x u)
-          (ap (λ x. places_at (filter (λ s. not (s.number == x)) net.slots) i) (eqb-true j i y)
-          ∙ places_at-drop net.slots i)) ∙ k))
+          (ap (λ x. instances_at (filter (λ s. not (s.number == x)) net.slots) i) (eqb-true j i y)
+          ∙ instances_at-drop net.slots i)) ∙ k))
 
   -- each applied event
   has-effect : (now : Slices) (net : Net) (e : Step) → slices_of net.hosts u ≡ Some q → IsNew net e → Has now net
@@ -132,7 +132,7 @@ module _ (i u : ℕ) (q : Slices) where
   has-effect now net (Delivers w size (Read e)) hosted n h = has-still now net e.slot w (Take e) refl h
   has-effect now net (Delivers w size (Fault f)) hosted n h = h
   has-effect now net (Hears j w from kind k) hosted n h =
-      go (emission (node_where_open (places_at net.slots j) from) kind k)
+      go (emission (node_where_open (instances_at net.slots j) from) kind k)
     where
       go : (o : Option Sent) → Has now (act_known net j w o).0
       go None = h

@@ -13,12 +13,12 @@ use Rattle.protocol.specs.Rows.{is_row_of, with_row, is_taken}
 use Rattle.protocol.specs.Leaders.{leader, best, neighbours, is_near, hash, beats}
 use Rattle.protocol.specs.Nodes.{Node, change, step, in_round, with_timeout}
 use Rattle.types.specs.declared.event.NodeEvent.TheVariants.{Propose, Take, NominationTimer, BallotTimer, Reslice}
-use Rattle.protocol.proofs.Nodes.Views.{announces_in, Closed}
+use Rattle.protocol.proofs.Nodes.Views.{announces_in, Closing}
 use Rattle.protocol.proofs.Nodes.Made.{if_node, if_node-if, step-keeps}
 
 -- R is closed for the node: it has its name, the names of its slices, its leaders, and what its senders in R announced
 pub record Good (R : Names) (n : Node) : Type 0 where
-  pub closed : Closed R n.name n.slices n.table
+  pub closed : Closing R n.name n.slices n.table
   pub leaders : within n.inputs.leaders R ≡ true
 
 pub all-with : (P : Sent → Bool) (e : Sent) (table : List Sent) → list_all P table ≡ true → P e ≡ true

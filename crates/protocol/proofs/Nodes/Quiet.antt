@@ -22,7 +22,7 @@ use Rattle.protocol.proofs.Equality.Sameness.{eqb-refl, same_sent-refl}
 use Rattle.protocol.proofs.Sets.Finite.{within-at}
 use Rattle.protocol.proofs.Sets.Numbers.{turned}
 use Rattle.protocol.proofs.Statements.Offers.{row-with}
-use Rattle.protocol.proofs.Nodes.Views.{cut, announces_in, Closed, seen-cut}
+use Rattle.protocol.proofs.Nodes.Views.{cut, announces_in, Closing, seen-cut}
 use Rattle.protocol.proofs.Nodes.Agreement.{cut_node}
 use Rattle.protocol.proofs.Nodes.Closed.{Good, all-with}
 use Rattle.protocol.proofs.Nodes.Calm.{settle-still}
@@ -93,7 +93,7 @@ led_by-other (u ∷ us) table e l =
     (led_by-other us table e p.1)
 
 -- a row of a sender that is neither in R nor a leader is not seen
-seen-outside : (R : Names) (v : ℕ) (q : Slices) (leaders : List ℕ) (table : List Sent) (e : Sent) → Closed R v q table
+seen-outside : (R : Names) (v : ℕ) (q : Slices) (leaders : List ℕ) (table : List Sent) (e : Sent) → Closing R v q table
     → R e.sender ≡ false → among leaders e.sender ≡ false
     → seen v q leaders (with_row e table) ≡ seen v q leaders table
 unfolding seen
@@ -105,7 +105,7 @@ seen-outside R v q leaders table e c o l =
       blocking = (bare i).blocking;
     }
   where
-    more : Closed R v q (with_row e table)
+    more : Closing R v q (with_row e table)
     more = record {
       has = c.has;
       own = c.own;
@@ -119,7 +119,7 @@ seen-outside R v q leaders table e c o l =
 
 -- an envelope that the table takes is a row more where its sender is neither in R nor a leader: nothing else changes,
 -- and nothing is given out
-pub step-outside : (R : Names) (n : Node) (e : Sent) → Closed R n.name n.slices n.table → Calm n → R e.sender ≡ false
+pub step-outside : (R : Names) (n : Node) (e : Sent) → Closing R n.name n.slices n.table → Calm n → R e.sender ≡ false
     → among n.inputs.leaders e.sender ≡ false → is_taken n.table e ≡ true
     → step n (Take e) ≡ (record n { table = with_row e n.table }, [])
 step-outside R n e h c o l t =

@@ -20,7 +20,7 @@ use Rattle.protocol.specs.Strangers.HasNamed.{begin, next}
 use Rattle.protocol.proofs.Sets.Finite.{all_from}
 use Rattle.protocol.proofs.Sets.Contained.{all_from_contained}
 use Rattle.protocol.proofs.Reach.Chains.{reached-holds}
-use Rattle.protocol.proofs.Nodes.Views.{Closed, announces_in, row-cut}
+use Rattle.protocol.proofs.Nodes.Views.{Closing, announces_in, row-cut}
 use Rattle.protocol.proofs.Nodes.Quiet.{cut-push_other, step-outside, step-stale}
 use Rattle.protocol.proofs.Nodes.Made.{if_node, if_node-if, step-keeps}
 use Rattle.protocol.proofs.Nodes.Closed.{all-push, leader-in}
@@ -68,7 +68,7 @@ pub leaders_are_near : LeadersAreNear
 leaders_are_near R n r = (near-named R r).leaders
 
 -- ---- sets that are closed for a node
-held-closed : (R : Names) (n : Node) → HoldsReach n.name n.slices n.table R → Closed R n.name n.slices n.table
+held-closed : (R : Names) (n : Node) → HoldsReach n.name n.slices n.table R → Closing R n.name n.slices n.table
 held-closed R n held = record {
   has = held.itself;
   own = all_from R (names n.slices) held.configuration;

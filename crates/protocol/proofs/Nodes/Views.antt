@@ -59,7 +59,7 @@ row-all P (e ∷ es) u k h =
     go false i p f = f
 
 -- R holds v, the names of v's slices, and the names that senders in R announced
-pub record Closed (R : Names) (v : ℕ) (q : Slices) (table : List Sent) : Type 0 where
+pub record Closing (R : Names) (v : ℕ) (q : Slices) (table : List Sent) : Type 0 where
   pub has : R v ≡ true
   pub own : within (names q) R ≡ true
   pub rows : list_all (announces_in R) table ≡ true
@@ -97,7 +97,7 @@ row-within R e a i = elim (or_cases (not (R e.sender)) (within (names e.slices) 
 ]
 
 -- Reach lies in R
-pub reached-in : (R : Names) (v : ℕ) (q : Slices) (table : List Sent) → Closed R v q table → (u : ℕ)
+pub reached-in : (R : Names) (v : ℕ) (q : Slices) (table : List Sent) → Closing R v q table → (u : ℕ)
     → reached v q table u ≡ true → R u ≡ true
 unfolding reached
 reached-in R v q table c u h = least-in (first ∷ map rule_of table) v R c.has
@@ -114,7 +114,7 @@ reached-in R v q table c u h = least-in (first ∷ map rule_of table) v R c.has
         (keeps-from R (rule_of e) (λ w. row-within R e p.0 (one_in R e.sender w))) (go es p.1)
 
 -- Reach is the same of the rows of R alone
-pub reached-cut : (R : Names) (v : ℕ) (q : Slices) (table : List Sent) → Closed R v q table → (u : ℕ)
+pub reached-cut : (R : Names) (v : ℕ) (q : Slices) (table : List Sent) → Closing R v q table → (u : ℕ)
     → reached v q table u ≡ reached v q (cut R table) u
 unfolding reached
 reached-cut R v q table c u = same_test _ _ less more
@@ -172,7 +172,7 @@ reached-cut R v q table c u = same_test _ _ less more
         (and_from (keeps S first) (list_all (keeps S) (map rule_of (cut R table))) p.0 (down S table p.1)) u h)
 
 -- the rows that are seen
-rows_seen-cut : (R : Names) (v : ℕ) (q : Slices) (table : List Sent) → Closed R v q table → (k : Kind)
+rows_seen-cut : (R : Names) (v : ℕ) (q : Slices) (table : List Sent) → Closing R v q table → (k : Kind)
     → rows_seen v q table k ≡ rows_seen v q (cut R table) k
 unfolding rows_seen
 rows_seen-cut R v q table c k =
@@ -238,7 +238,7 @@ lists v q table k u p h = go (v == u) (row table u k) refl refl h
     go false (Some x) e r s = row-sender table u k x r
 
 -- the slices that are known of a node in R lie in R
-known_in : (R : Names) (v : ℕ) (q : Slices) (table : List Sent) → Closed R v q table → (k : Kind)
+known_in : (R : Names) (v : ℕ) (q : Slices) (table : List Sent) → Closing R v q table → (k : Kind)
     → NamesWithin names (slices_by v q table k) R
 known_in R v q table c k u p i h y n = go (v == u) (row table u k) (row-names R table c.rows u k i) h
   where
@@ -251,7 +251,7 @@ known_in R v q table c k u p i h y n = go (v == u) (row table u k) (row-names R 
         let e : x.slices ≡ p = cc in
         within-at (names x.slices) R y w (subst (λ (t : Slices). among (names t) y ≡ true) (sym e) n)
 
-quorum_passes-cut : (R : Names) (v : ℕ) (q : Slices) (table : List Sent) → Closed R v q table
+quorum_passes-cut : (R : Names) (v : ℕ) (q : Slices) (table : List Sent) → Closing R v q table
     → (k : Kind) (own : Bool) (test : Statement → Bool)
     → quorum_passes v q table k own test ≡ quorum_passes v q (cut R table) k own test
 unfolding quorum_passes
@@ -284,7 +284,7 @@ pub is_blocked-local : (q : Slices) (a b : Names) → ((u : ℕ) → among (name
 is_blocked-local q a b f = not_alike (is_blocked q a) (is_blocked q b)
     (sym (sat_outside q a) ∙ (sat_local q (outside a) (outside b) (λ u n. ap not (f u n)) ∙ sat_outside q b))
 
-blocking_passes-cut : (R : Names) (v : ℕ) (q : Slices) (table : List Sent) → Closed R v q table
+blocking_passes-cut : (R : Names) (v : ℕ) (q : Slices) (table : List Sent) → Closing R v q table
     → (k : Kind) (own : Bool) (test : Statement → Bool)
     → blocking_passes v q table k own test ≡ blocking_passes v q (cut R table) k own test
 unfolding blocking_passes
@@ -293,7 +293,7 @@ blocking_passes-cut R v q table c k own test =
     (λ u n. passing_with-cut R v table k own test u (within-at (names q) R u c.own n))
 
 -- What a node sees of its table is what it sees of the rows of R: all that the rules read.
-pub seen-cut : (R : Names) (v : ℕ) (q : Slices) (leaders : List ℕ) (table : List Sent) → Closed R v q table
+pub seen-cut : (R : Names) (v : ℕ) (q : Slices) (leaders : List ℕ) (table : List Sent) → Closing R v q table
     → within leaders R ≡ true → seen v q leaders table ≡ seen v q leaders (cut R table)
 unfolding seen
 seen-cut R v q leaders table c w = λ i. record {

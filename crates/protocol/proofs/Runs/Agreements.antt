@@ -9,16 +9,16 @@ use Rattle.std.proofs.lemmas.Bool.{eqb-true}
 use Rattle.types.specs.Statements.{Sent}
 use Rattle.protocol.specs.Sets.{Names}
 use Rattle.protocol.specs.Nodes.{Node}
-use Rattle.protocol.specs.Networks.{Place, Net, Step, slices_of, places_at, node_named, node_where_open, effect, source, size_of, with_draw, tests, first_that, state_and_reply, net_step}
+use Rattle.protocol.specs.Networks.{Instance, Net, Step, slices_of, instances_at, node_named, node_where_open, effect, source, size_of, with_draw, tests, first_that, state_and_reply, net_step}
 use Rattle.protocol.specs.Networks.Reply.{Done}
 use Rattle.protocol.specs.Runs.{state_of}
-use Rattle.protocol.specs.Isolation.{Kept, kept_step, is_of, closure}
-use Rattle.protocol.specs.Isolation.Kept.{Told}
-use Rattle.protocol.specs.Agreeing.{place_in, IsClosedIn, ArePlacesAlike, AgreeIn, IsKeptOfMembers, given_by, NewNetworksAgree, RunsStayClosedIn, StepsAgree, OtherStepsLeave, StaysClosedIn}
+use Rattle.protocol.specs.Isolation.{KeptStep, kept_step, is_of, closure}
+use Rattle.protocol.specs.Isolation.KeptStep.{EventAt}
+use Rattle.protocol.specs.Agreeing.{instance_in, IsClosedIn, AreInstancesAlike, AgreeIn, IsKeptOfMembers, given_by, NewNetworksAgree, RunsStayClosedIn, StepsAgree, OtherStepsLeave, StaysClosedIn}
 use Rattle.protocol.proofs.Networks.Effects.{effect-keeps}
 use Rattle.protocol.proofs.Runs.Claims.{good}
 use Rattle.protocol.proofs.Runs.Prefixes.{closed_for, holds-after}
-use Rattle.protocol.proofs.Runs.Sights.{cut_place, Sight, sight, play, reply, AllPlaces}
+use Rattle.protocol.proofs.Runs.Sights.{cut_instance, Sight, sight, play, reply, AllInstances}
 use Rattle.protocol.proofs.Runs.Follows.{Follows}
 use Rattle.protocol.proofs.Runs.Events.{IsNew, follows}
 use Rattle.protocol.proofs.Runs.Openings.{HostsIn, cast_of}
@@ -26,29 +26,29 @@ use Rattle.protocol.proofs.Runs.KeptSteps.{is_new}
 use Rattle.protocol.proofs.Runs.KeptWithin.{if_kept, IsKeptIn, kept_step-to}
 
 -- ---- what a set sees, and agreement
-place-name : (ps : List Place) (u : ℕ) (p : Place) → node_named ps u ≡ Some p → p.node.name ≡ u
-place-name [] u p h = cc
-place-name (x ∷ xs) u p h = go (x.node.name == u) refl h (place-name xs u p)
+instance-name : (ps : List Instance) (u : ℕ) (p : Instance) → node_named ps u ≡ Some p → p.node.name ≡ u
+instance-name [] u p h = cc
+instance-name (x ∷ xs) u p h = go (x.node.name == u) refl h (instance-name xs u p)
   where
     go : (b : Bool) → (x.node.name == u) ≡ b → (if b then Some x else node_named xs u) ≡ Some p
         → (node_named xs u ≡ Some p → p.node.name ≡ u) → p.node.name ≡ u
-    go true e k ih = let same : x ≡ p = cc in ap (λ (y : Place). y.node.name) (sym same) ∙ eqb-true x.node.name u e
+    go true e k ih = let same : x ≡ p = cc in ap (λ (y : Instance). y.node.name) (sym same) ∙ eqb-true x.node.name u e
     go false e k ih = ih k
 
-node_where_open-name : (o : Option (List Place)) (u : ℕ) (p : Place) → node_where_open o u ≡ Some p → p.node.name ≡ u
+node_where_open-name : (o : Option (List Instance)) (u : ℕ) (p : Instance) → node_where_open o u ≡ Some p → p.node.name ≡ u
 node_where_open-name None u p h = cc
-node_where_open-name (Some ps) u p h = place-name ps u p h
+node_where_open-name (Some ps) u p h = instance-name ps u p h
 
 module _ (R : Names) (i : ℕ) where
-  all_places : (net : Net) → IsClosedIn R i net → AllPlaces R i net
-  all_places net c u p k = record {
-    name = node_where_open-name (places_at net.slots i) u p k;
+  all_instances : (net : Net) → IsClosedIn R i net → AllInstances R i net
+  all_instances net c u p k = record {
+    name = node_where_open-name (instances_at net.slots i) u p k;
     good = λ r. good R p.node (c.nodes u p k r);
     calm = λ r. c.calm u p k r;
     emitted = c.emitted u p k;
   }
 
-  closed_in : (net : Net) → HostsIn R net.hosts → AllPlaces R i net → IsClosedIn R i net
+  closed_in : (net : Net) → HostsIn R net.hosts → AllInstances R i net → IsClosedIn R i net
   closed_in net hosts h = record {
     hosts = hosts;
     nodes = λ u p k r. closed_for R p.node ((h u p k).good r);
@@ -56,37 +56,37 @@ module _ (R : Names) (i : ℕ) where
     emitted = λ u p k. (h u p k).emitted;
   }
 
-  alike-cut : (a b : Option Place) → ArePlacesAlike R a b → option_map (cut_place R) a ≡ option_map (cut_place R) b
+  alike-cut : (a b : Option Instance) → AreInstancesAlike R a b → option_map (cut_instance R) a ≡ option_map (cut_instance R) b
   alike-cut None None h = refl
   alike-cut None (Some q) h = absurd h
   alike-cut (Some p) None h = absurd h
   alike-cut (Some p) (Some q) h =
-      ap₂ {C = Option Place} (λ (n : Node) (es : List Sent). Some (record { node = n; emitted = es })) h.0 h.1
+      ap₂ {C = Option Instance} (λ (n : Node) (es : List Sent). Some (record { node = n; emitted = es })) h.0 h.1
 
-  cut-alike : (a b : Option Place) → option_map (cut_place R) a ≡ option_map (cut_place R) b → ArePlacesAlike R a b
+  cut-alike : (a b : Option Instance) → option_map (cut_instance R) a ≡ option_map (cut_instance R) b → AreInstancesAlike R a b
   cut-alike None None h = tt
   cut-alike None (Some q) h = cc
   cut-alike (Some p) None h = cc
   cut-alike (Some p) (Some q) h =
-      let same : cut_place R p ≡ cut_place R q = cc in
-      (ap (λ (x : Place). x.node) same, ap (λ (x : Place). x.emitted) same)
+      let same : cut_instance R p ≡ cut_instance R q = cc in
+      (ap (λ (x : Instance). x.node) same, ap (λ (x : Instance). x.emitted) same)
 
   agree-sights : (one other : Net) → AgreeIn R i one other → sight R i one ≡ sight R i other
   agree-sights one other a = fun_ext (λ u. go u (R u) refl)
     where
       go : (u : ℕ) (b : Bool) → R u ≡ b
-          → (if b then option_map (cut_place R) (place_in one i u) else None)
-          ≡ (if b then option_map (cut_place R) (place_in other i u) else None)
-      go u true r = alike-cut (place_in one i u) (place_in other i u) (a.places u r)
+          → (if b then option_map (cut_instance R) (instance_in one i u) else None)
+          ≡ (if b then option_map (cut_instance R) (instance_in other i u) else None)
+      go u true r = alike-cut (instance_in one i u) (instance_in other i u) (a.instances u r)
       go u false r = refl
 
   sights-alike : (one other : Net) → sight R i one ≡ sight R i other → (u : ℕ) → R u ≡ true
-      → ArePlacesAlike R (place_in one i u) (place_in other i u)
+      → AreInstancesAlike R (instance_in one i u) (instance_in other i u)
   sights-alike one other s u r =
-      cut-alike (place_in one i u) (place_in other i u) (seen one ∙ (ap (λ (x : Sight). x u) s ∙ sym (seen other)))
+      cut-alike (instance_in one i u) (instance_in other i u) (seen one ∙ (ap (λ (x : Sight). x u) s ∙ sym (seen other)))
     where
-      seen : (net : Net) → option_map (cut_place R) (place_in net i u) ≡ sight R i net u
-      seen net = sym (ap (λ b. if b then option_map (cut_place R) (place_in net i u) else None) r)
+      seen : (net : Net) → option_map (cut_instance R) (instance_in net i u) ≡ sight R i net u
+      seen net = sym (ap (λ b. if b then option_map (cut_instance R) (instance_in net i u) else None) r)
 
   agree-casts : (one other : Net) → AgreeIn R i one other → cast_of R one.hosts ≡ cast_of R other.hosts
   agree-casts one other a = fun_ext (λ u. go u (R u) refl)
@@ -97,12 +97,12 @@ module _ (R : Names) (i : ℕ) where
       go u false r = refl
 
   -- what is kept lies in the set
-  kept_in : (k : Kept) → IsKeptOfMembers R k → IsKeptIn R k
-  kept_in (Told u (Take e)) h = λ r s. h.1
-  kept_in (Told u (Reslice q)) h = λ r. h
+  kept_in : (k : KeptStep) → IsKeptOfMembers R k → IsKeptIn R k
+  kept_in (EventAt u (Take e)) h = λ r s. h.1
+  kept_in (EventAt u (Reslice q)) h = λ r. h
   kept_in _ h = tt
 
-  some_kept-in : (o : Option Kept) → IfSome o (IsKeptOfMembers R) → if_kept R o
+  some_kept-in : (o : Option KeptStep) → IfSome o (IsKeptOfMembers R) → if_kept R o
   some_kept-in None h = tt
   some_kept-in (Some k) h = kept_in k h
 
@@ -131,7 +131,7 @@ module _ (R : Names) (i : ℕ) where
         fresh = is_new net e q;
       }
 
-  -- what the set sees after it, what its members give out, and what holds of the places
+  -- what the set sees after it, what its members give out, and what holds of the instances
   record Seen (net : Net) (e : Step) (os : List Out) : Type 0 where
     sights : sight R i (net_step net e).0 ≡ play (cast_of R net.hosts) i (sight R i net) (kept_step R i e)
     replies : (u : ℕ) → R u ≡ true → given_by i u e os ≡ reply (sight R i net) (kept_step R i e) u
@@ -144,16 +144,16 @@ module _ (R : Names) (i : ℕ) where
       let a = applied net e os d in
       let hosts : HostsIn R net.hosts = c.hosts in
       let f : Follows R (cast_of R net.hosts) i net (effect net e) (λ w. is_of i w e) (kept_step R i e) =
-      follows R i net e (all_places net c) hosts a.fresh (kept_step-to R R i e (λ u r. r) k) in
+      follows R i net e (all_instances net c) hosts a.fresh (kept_step-to R R i e (λ u r. r) k) in
       let slots = ap (λ (n : Net). n.slots) a.is ∙ a.slots in
       let same_hosts = ap (λ (n : Net). n.hosts) a.is ∙ a.hosts in
       record {
-        sights = fun_ext (λ u. ap (λ ss. if R u then option_map (cut_place R)
-            (node_where_open (places_at ss i) u) else None) slots) ∙ f.sights;
+        sights = fun_ext (λ u. ap (λ ss. if R u then option_map (cut_instance R)
+            (node_where_open (instances_at ss i) u) else None) slots) ∙ f.sights;
         replies = λ u r. ap (λ xs. given_by i u e xs) a.outs ∙ f.replies u r;
         hosts = same_hosts;
         closed = closed_in (net_step net e).0 (subst (λ hs. HostsIn R hs) (sym same_hosts) hosts)
-            (λ u p h. f.places u p (ap (λ ss. node_where_open (places_at ss i) u) (sym slots) ∙ h));
+            (λ u p h. f.instances u p (ap (λ ss. node_where_open (instances_at ss i) u) (sym slots) ∙ h));
       }
 
 -- ---- the laws
@@ -168,7 +168,7 @@ steps_agree R i one other e d os ps c c_there a done done_there same k =
     s.sights ∙ ((λ j. play (casts j) i (now j) (same j)) ∙ sym t.sights) in (
       record {
         cast = λ u r. ap (λ hs. slices_of hs u) s.hosts ∙ (a.cast u r ∙ ap (λ hs. slices_of hs u) (sym t.hosts));
-        places = sights-alike R i (net_step one e).0 (net_step other d).0 both;
+        instances = sights-alike R i (net_step one e).0 (net_step other d).0 both;
       },
       λ u r. s.replies u r ∙ ((λ j. reply (now j) (same j) u) ∙ sym (t.replies u r)),
     )
@@ -180,7 +180,7 @@ other_steps_leave R i one other e os c a done none =
     s.sights ∙ (ap (λ o. play (cast_of R one.hosts) i (sight R i one) o) none ∙ agree-sights R i one other a) in (
       record {
         cast = λ u r. ap (λ hs. slices_of hs u) s.hosts ∙ a.cast u r;
-        places = sights-alike R i (net_step one e).0 other still;
+        instances = sights-alike R i (net_step one e).0 other still;
       },
       λ u r. s.replies u r ∙ ap (λ o. reply (sight R i one) o u) none,
     )
@@ -189,7 +189,7 @@ pub stays_closed_in : StaysClosedIn
 stays_closed_in R i net e os c done k = (seen_step R i net e os c done (some_kept-in R i (kept_step R i e) k)).closed
 
 pub new_networks_agree : NewNetworksAgree
-new_networks_agree R i one other same = record { cast = same; places = λ u r. tt }
+new_networks_agree R i one other same = record { cast = same; instances = λ u r. tt }
 
 pub runs_stay_closed_in : RunsStayClosedIn
 runs_stay_closed_in config run i v n is =

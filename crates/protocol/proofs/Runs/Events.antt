@@ -8,31 +8,31 @@ use Rattle.types.specs.Statements.{Sent}
 use Rattle.protocol.specs.Sets.{Names, within}
 use Rattle.protocol.specs.Satisfaction.{names}
 use Rattle.types.specs.declared.event.NodeEvent.TheVariants.{Propose, Take, NominationTimer, BallotTimer, Reslice}
-use Rattle.protocol.specs.Networks.{Net, Step, places_at, act, effect}
+use Rattle.protocol.specs.Networks.{Net, Step, instances_at, act, effect}
 use Rattle.protocol.specs.Networks.Reading.{Read, Fault}
 use Rattle.protocol.specs.Networks.Step.{Opens, Closes, Proposes, Delivers, Hears, NominationTimerFires, BallotTimerFires, Reslices}
-use Rattle.protocol.specs.Isolation.{Kept, when_kept, kept_step, is_of}
-use Rattle.protocol.specs.Isolation.Kept.{Told}
+use Rattle.protocol.specs.Isolation.{KeptStep, when_kept, kept_step, is_of}
+use Rattle.protocol.specs.Isolation.KeptStep.{EventAt}
 use Rattle.protocol.proofs.Nodes.Agreement.{IsKept}
 use Rattle.protocol.proofs.Nodes.Closed.{IsFit}
-use Rattle.protocol.proofs.Runs.Sights.{AllPlaces}
+use Rattle.protocol.proofs.Runs.Sights.{AllInstances}
 use Rattle.protocol.proofs.Runs.Follows.{Follows, unseen, member_kept, member_quiet}
 use Rattle.protocol.proofs.Runs.Hearings.{heard}
 use Rattle.protocol.proofs.Runs.Openings.{HostsIn, cast_of, closes, opens}
 use Rattle.protocol.proofs.Runs.Unkept.{stays}
 
 -- an event of one node that hands over no envelope
-asked : (R : Names) (cast : ℕ → Option Slices) (i : ℕ) (net : Net) (j u : ℕ) (e : NodeEvent) → AllPlaces R i net
+asked : (R : Names) (cast : ℕ → Option Slices) (i : ℕ) (net : Net) (j u : ℕ) (e : NodeEvent) → AllInstances R i net
     → ((j == i) ≡ true → R u ≡ true → IsFit R e) → IsKept R e
-    → Follows R cast i net (act net j u e) (λ w. (j == i) && (u == w)) (when_kept ((j == i) && R u) (Told u e))
+    → Follows R cast i net (act net j u e) (λ w. (j == i) && (u == w)) (when_kept ((j == i) && R u) (EventAt u e))
 asked R cast i net j u e h f k = elim (cases_Bool ((j == i) && R u)) [
   | inl y ↦ let p = and_parts (j == i) (R u) y in
-      subst (λ (x : Option Kept). Follows R cast i net (act net j u e) (λ w. (j == i) && (u == w)) x)
-      (sym (ap (λ b. when_kept b (Told u e)) y))
-      (subst (λ x. Follows R cast i net (act net x u e) (λ w. (x == i) && (u == w)) (Some (Told u e)))
+      subst (λ (x : Option KeptStep). Follows R cast i net (act net j u e) (λ w. (j == i) && (u == w)) x)
+      (sym (ap (λ b. when_kept b (EventAt u e)) y))
+      (subst (λ x. Follows R cast i net (act net x u e) (λ w. (x == i) && (u == w)) (Some (EventAt u e)))
       (sym (eqb-true j i p.0)) (member_kept R cast i net u e h p.1 (f p.0 p.1) k))
-  | inr o ↦ subst (λ (x : Option Kept). Follows R cast i net (act net j u e) (λ w. (j == i) && (u == w)) x)
-      (sym (ap (λ b. when_kept b (Told u e)) o)) (unseen R cast i net j u e h o)
+  | inr o ↦ subst (λ (x : Option KeptStep). Follows R cast i net (act net j u e) (λ w. (j == i) && (u == w)) x)
+      (sym (ap (λ b. when_kept b (EventAt u e)) o)) (unseen R cast i net j u e h o)
 ]
 
 -- what a delivery to a member from a member announces lies in R, and so do the names of a member's new slices
@@ -42,45 +42,45 @@ IsWithin R i (Delivers u size (Read e)) =
 IsWithin R i (Reslices j u q) = (j == i) ≡ true → R u ≡ true → within (names q) R ≡ true
 IsWithin R i _ = Unit {0}
 
-delivered : (R : Names) (cast : ℕ → Option Slices) (i : ℕ) (net : Net) (u : ℕ) (e : Sent) → AllPlaces R i net
+delivered : (R : Names) (cast : ℕ → Option Slices) (i : ℕ) (net : Net) (u : ℕ) (e : Sent) → AllInstances R i net
     → ((e.slot == i) ≡ true → R u ≡ true → R e.sender ≡ true → within (names e.slices) R ≡ true)
     → Follows R cast i net (act net e.slot u (Take e))
-    (λ w. (e.slot == i) && (u == w)) (when_kept ((e.slot == i) && R u && R e.sender) (Told u (Take e)))
+    (λ w. (e.slot == i) && (u == w)) (when_kept ((e.slot == i) && R u && R e.sender) (EventAt u (Take e)))
 delivered R cast i net u e h f = elim (cases_Bool ((e.slot == i) && R u)) [
   | inr o ↦ by_kept ((e.slot == i) && R u && R e.sender) None
-      (ap (λ b. when_kept b (Told u (Take e))) (and_left ((e.slot == i) && R u) (R e.sender) o))
+      (ap (λ b. when_kept b (EventAt u (Take e))) (and_left ((e.slot == i) && R u) (R e.sender) o))
       (unseen R cast i net e.slot u (Take e) h o)
   | inl y ↦ let p = and_parts (e.slot == i) (R u) y in elim (cases_Bool (R e.sender)) [
-    | inl r ↦ by_kept ((e.slot == i) && R u && R e.sender) (Some (Told u (Take e)))
-        (ap (λ b. when_kept b (Told u (Take e))) (and_from ((e.slot == i) && R u) (R e.sender) y r))
+    | inl r ↦ by_kept ((e.slot == i) && R u && R e.sender) (Some (EventAt u (Take e)))
+        (ap (λ b. when_kept b (EventAt u (Take e))) (and_from ((e.slot == i) && R u) (R e.sender) y r))
         (at i (eqb-true e.slot i p.0) (member_kept R cast i net u (Take e) h p.1
         (or_right (not (R e.sender)) (within (names e.slices) R) (f p.0 p.1 r)) (r, f p.0 p.1 r)))
     | inr o ↦ by_kept ((e.slot == i) && R u && R e.sender) None
-        (ap (λ b. when_kept b (Told u (Take e))) (and_right ((e.slot == i) && R u) (R e.sender) o))
+        (ap (λ b. when_kept b (EventAt u (Take e))) (and_right ((e.slot == i) && R u) (R e.sender) o))
         (at i (eqb-true e.slot i p.0) (member_quiet R cast i net u e h p.1 o))
   ]
 ]
   where
-    by_kept : (b : Bool) (k : Option Kept) → when_kept b (Told u (Take e)) ≡ k
+    by_kept : (b : Bool) (k : Option KeptStep) → when_kept b (EventAt u (Take e)) ≡ k
         → Follows R cast i net (act net e.slot u (Take e)) (λ w. (e.slot == i) && (u == w)) k
         → Follows R cast i net (act net e.slot u (Take e))
-        (λ w. (e.slot == i) && (u == w)) (when_kept b (Told u (Take e)))
+        (λ w. (e.slot == i) && (u == w)) (when_kept b (EventAt u (Take e)))
     by_kept b k q x =
-        subst (λ (y : Option Kept). Follows R cast i net (act net e.slot u (Take e))
+        subst (λ (y : Option KeptStep). Follows R cast i net (act net e.slot u (Take e))
         (λ w. (e.slot == i) && (u == w)) y) (sym q) x
 
-    at : {k : Option Kept} (x : ℕ) → e.slot ≡ x
+    at : {k : Option KeptStep} (x : ℕ) → e.slot ≡ x
         → Follows R cast i net (act net x u (Take e)) (λ w. (x == i) && (u == w)) k
         → Follows R cast i net (act net e.slot u (Take e)) (λ w. (e.slot == i) && (u == w)) k
     at {k} x q y = subst (λ z. Follows R cast i net (act net z u (Take e)) (λ w. (z == i) && (u == w)) k) (sym q) y
 
 -- a slot that is opened was not open
 abbrev pub IsNew : Net → Step → Type 0
-IsNew net (Opens j) = places_at net.slots j ≡ None
+IsNew net (Opens j) = instances_at net.slots j ≡ None
 IsNew net _ = Unit {0}
 
 -- Each applied event is followed.
-pub follows : (R : Names) (i : ℕ) (net : Net) (e : Step) → AllPlaces R i net → HostsIn R net.hosts → IsNew net e
+pub follows : (R : Names) (i : ℕ) (net : Net) (e : Step) → AllInstances R i net → HostsIn R net.hosts → IsNew net e
     → IsWithin R i e
     → Follows R (cast_of R net.hosts) i net (effect net e) (λ w. is_of i w e) (kept_step R i e)
 unfolding effect

@@ -5,23 +5,23 @@ use Rattle.std.proofs.Common.{◌≡◌, ℕ, Bool, true, not, Option, Some, Non
 use Rattle.std.specs.List.{AllByRecursion, cons_option}
 use Rattle.types.specs.Trees.{Slices}
 use Rattle.protocol.specs.Sets.{Names}
-use Rattle.protocol.specs.Networks.{HostedNode, Place, Net, Step, places_at, effect, tests, first_that, source, room_test, size_of, with_draw, state_and_reply, net_step}
+use Rattle.protocol.specs.Networks.{HostedNode, Instance, Net, Step, instances_at, effect, tests, first_that, source, room_test, size_of, with_draw, state_and_reply, net_step}
 use Rattle.types.specs.declared.event.Refusal.TheVariants.{SlotOpenAlready, TooManySlots}
 use Rattle.protocol.specs.Networks.Step.{Opens}
 use Rattle.protocol.specs.Hosts.{Entry, journal_with, journal}
-use Rattle.protocol.specs.Isolation.{Kept, kept_step, is_of, kept_of, outs_of}
+use Rattle.protocol.specs.Isolation.{KeptStep, kept_step, is_of, kept_of, outs_of}
 use Rattle.protocol.proofs.Networks.Effects.{effect-keeps}
-use Rattle.protocol.proofs.Runs.Sights.{Sight, sight, play, reply, AllPlaces}
+use Rattle.protocol.proofs.Runs.Sights.{Sight, sight, play, reply, AllInstances}
 use Rattle.protocol.proofs.Runs.Follows.{Follows}
 use Rattle.protocol.proofs.Runs.Events.{IsWithin, IsNew, follows}
 use Rattle.protocol.proofs.Runs.Openings.{HostsIn, cast_of}
 
 -- the outs that the kept steps give a node
-abbrev pub answers : (ℕ → Option Slices) → ℕ → Sight → ℕ → List Kept → List Out
+abbrev pub answers : (ℕ → Option Slices) → ℕ → Sight → ℕ → List KeptStep → List Out
 answers cast i s u [] = []
 answers cast i s u (k ∷ ks) = reply s (Some k) u ++ answers cast i (play cast i s (Some k)) u ks
 
-answers-option : (cast : ℕ → Option Slices) (i : ℕ) (s : Sight) (u : ℕ) (o : Option Kept) (ks : List Kept)
+answers-option : (cast : ℕ → Option Slices) (i : ℕ) (s : Sight) (u : ℕ) (o : Option KeptStep) (ks : List KeptStep)
     → answers cast i s u (cons_option o ks) ≡ reply s o u ++ answers cast i (play cast i s o) u ks
 answers-option cast i s u None ks = refl
 answers-option cast i s u (Some k) ks = refl
@@ -29,9 +29,9 @@ answers-option cast i s u (Some k) ks = refl
 pub is_new : (net : Net) (e : Step) → first_that (tests net e) ≡ None → IsNew net e
 is_new net (Opens j) h =
     go ((not (nat_lt (length net.slots) net.budgets.slots), TooManySlots) ∷ room_test net
-    (source net.roster (Opens j)) ∷ []) (places_at net.slots j) h
+    (source net.roster (Opens j)) ∷ []) (instances_at net.slots j) h
   where
-    go : (ts : List (Bool × Refusal)) (o : Option (List Place))
+    go : (ts : List (Bool × Refusal)) (o : Option (List Instance))
         → first_that ((is_some o, SlotOpenAlready) ∷ ts) ≡ None → o ≡ None
     go ts None h = refl
     go ts (Some x) h = cc
@@ -41,7 +41,7 @@ abbrev pub AllIn : Names → ℕ → List Entry → Type 0
 AllIn R i entries = AllByRecursion (λ x. IsWithin R i x.event) entries
 
 -- one history, by its applied events
-pub run-sight : (R : Names) (i u : ℕ) → R u ≡ true → (es : List Step) (net : Net) → AllPlaces R i net
+pub run-sight : (R : Names) (i u : ℕ) → R u ≡ true → (es : List Step) (net : Net) → AllInstances R i net
     → HostsIn R net.hosts → AllIn R i (journal net es)
     → outs_of i u (journal net es) ≡ answers (cast_of R net.hosts) i (sight R i net) u (kept_of R i (journal net es))
 unfolding journal net_step outs_of kept_of
@@ -49,7 +49,7 @@ run-sight R i u r [] net h hosts f = refl
 run-sight R i u r (e ∷ es) net h hosts f = go (first_that (tests net e)) refl f (λ n. run-sight R i u r es n)
   where
     Claim : Net → Type 0
-    Claim n = AllPlaces R i n → HostsIn R n.hosts → AllIn R i (journal n es)
+    Claim n = AllInstances R i n → HostsIn R n.hosts → AllIn R i (journal n es)
         → outs_of i u (journal n es) ≡ answers (cast_of R n.hosts) i (sight R i n) u (kept_of R i (journal n es))
 
     go : (o : Option Refusal) → first_that (tests net e) ≡ o
@@ -64,7 +64,7 @@ run-sight R i u r (e ∷ es) net h hosts f = go (first_that (tests net e)) refl 
         let step : Follows R (cast_of R net.hosts) i net (effect net e) (λ w. is_of i w e) (kept_step R i e) =
         follows R i net e h hosts (is_new net e q) f.0 in
         let same : next.hosts ≡ net.hosts = (effect-keeps net e).hosts in
-        let rest = ih next step.places (subst (HostsIn R) (sym same) hosts) f.1 in
+        let rest = ih next step.instances (subst (HostsIn R) (sym same) hosts) f.1 in
         ap₂ (λ (xs ys : List Out). xs ++ ys) (step.replies u r)
         (rest ∙ ap₂ (λ (hs : List HostedNode) (s : Sight). answers (cast_of R hs) i s u
         (kept_of R i (journal next es))) same step.sights)

@@ -12,8 +12,8 @@ use Rattle.protocol.specs.Networks.{HostedNode, Step, slices_of}
 use Rattle.protocol.specs.Networks.Reading.{Read, Fault}
 use Rattle.protocol.specs.Networks.Step.{Opens, Closes, Proposes, Delivers, Hears, NominationTimerFires, BallotTimerFires, Reslices}
 use Rattle.protocol.specs.Hosts.{Entry}
-use Rattle.protocol.specs.Isolation.{Kept, when_kept, kept_step, kept_of, host_rule, announcement_rules, closure}
-use Rattle.protocol.specs.Isolation.Kept.{Opened, Closed, Told, Heard}
+use Rattle.protocol.specs.Isolation.{KeptStep, when_kept, kept_step, kept_of, host_rule, announcement_rules, closure}
+use Rattle.protocol.specs.Isolation.KeptStep.{Opening, Closing, EventAt, Hearing}
 use Rattle.protocol.proofs.Sets.Least.{keeps-at}
 use Rattle.protocol.proofs.Sets.RuleLists.{least-keeps, least-start}
 use Rattle.protocol.proofs.Runs.Events.{IsWithin}
@@ -70,57 +70,57 @@ events-in R i (x ∷ xs) h = (
     one _ k = tt
 
 -- what was delivered to members of a set by members, and which slices were given to them, as the kept steps have it
-abbrev pub IsKeptIn : Names → Kept → Type 0
-IsKeptIn S (Told u (Take e)) = S u ≡ true → S e.sender ≡ true → within (names e.slices) S ≡ true
-IsKeptIn S (Told u (Reslice q)) = S u ≡ true → within (names q) S ≡ true
+abbrev pub IsKeptIn : Names → KeptStep → Type 0
+IsKeptIn S (EventAt u (Take e)) = S u ≡ true → S e.sender ≡ true → within (names e.slices) S ≡ true
+IsKeptIn S (EventAt u (Reslice q)) = S u ≡ true → within (names q) S ≡ true
 IsKeptIn S _ = Unit {0}
 
-abbrev pub if_kept : Names → Option Kept → Type 0
+abbrev pub if_kept : Names → Option KeptStep → Type 0
 if_kept S None = Unit {0}
 if_kept S (Some k) = IsKeptIn S k
 
-all-option : (S : Names) (o : Option Kept) (ks : List Kept) → if_kept S o → AllByRecursion (IsKeptIn S) ks
+all-option : (S : Names) (o : Option KeptStep) (ks : List KeptStep) → if_kept S o → AllByRecursion (IsKeptIn S) ks
     → AllByRecursion (IsKeptIn S) (cons_option o ks)
 all-option S None ks h k = k
 all-option S (Some x) ks h k = (h, k)
 
-option-all : (S : Names) (o : Option Kept) (ks : List Kept) → AllByRecursion (IsKeptIn S) (cons_option o ks)
+option-all : (S : Names) (o : Option KeptStep) (ks : List KeptStep) → AllByRecursion (IsKeptIn S) (cons_option o ks)
     → if_kept S o × AllByRecursion (IsKeptIn S) ks
 option-all S None ks h = (tt, h)
 option-all S (Some x) ks h = (h.0, h.1)
 
 -- a kept step, of which nothing is asked
-free : (S : Names) (b : Bool) (k : Kept) → IsKeptIn S k → if_kept S (when_kept b k)
+free : (S : Names) (b : Bool) (k : KeptStep) → IsKeptIn S k → if_kept S (when_kept b k)
 free S true k h = h
 free S false k h = tt
 
 -- what is kept for one set, of what lies in another
 kept_step-from : (R S : Names) (i : ℕ) (e : Step) → IsWithin S i e → if_kept S (kept_step R i e)
-kept_step-from R S i (Opens j) h = free S (j == i) Opened tt
-kept_step-from R S i (Closes j) h = free S (j == i) Closed tt
-kept_step-from R S i (Proposes j u x) h = free S ((j == i) && R u) (Told u (Propose x)) tt
+kept_step-from R S i (Opens j) h = free S (j == i) Opening tt
+kept_step-from R S i (Closes j) h = free S (j == i) Closing tt
+kept_step-from R S i (Proposes j u x) h = free S ((j == i) && R u) (EventAt u (Propose x)) tt
 kept_step-from R S i (Delivers u size (Read e)) h = go ((e.slot == i) && R u && R e.sender) refl
   where
-    go : (b : Bool) → ((e.slot == i) && R u && R e.sender) ≡ b → if_kept S (when_kept b (Told u (Take e)))
+    go : (b : Bool) → ((e.slot == i) && R u && R e.sender) ≡ b → if_kept S (when_kept b (EventAt u (Take e)))
     go true y = h (and_parts (e.slot == i) (R u) (and_parts ((e.slot == i) && R u) (R e.sender) y).0).0
     go false y = tt
 kept_step-from R S i (Delivers u size (Fault n)) h = tt
-kept_step-from R S i (Hears j u from kind k) h = free S ((j == i) && R u && R from) (Heard u from kind k) tt
-kept_step-from R S i (NominationTimerFires j u r) h = free S ((j == i) && R u) (Told u (NominationTimer r)) tt
-kept_step-from R S i (BallotTimerFires j u n) h = free S ((j == i) && R u) (Told u (BallotTimer n)) tt
+kept_step-from R S i (Hears j u from kind k) h = free S ((j == i) && R u && R from) (Hearing u from kind k) tt
+kept_step-from R S i (NominationTimerFires j u r) h = free S ((j == i) && R u) (EventAt u (NominationTimer r)) tt
+kept_step-from R S i (BallotTimerFires j u n) h = free S ((j == i) && R u) (EventAt u (BallotTimer n)) tt
 kept_step-from R S i (Reslices j u q) h = go ((j == i) && R u) refl
   where
-    go : (b : Bool) → ((j == i) && R u) ≡ b → if_kept S (when_kept b (Told u (Reslice q)))
+    go : (b : Bool) → ((j == i) && R u) ≡ b → if_kept S (when_kept b (EventAt u (Reslice q)))
     go true y = h (and_parts (j == i) (R u) y).0
     go false y = tt
 
 -- and back, where the other lies in the one
 pub kept_step-to : (R S : Names) (i : ℕ) (e : Step) → AreWithin S R → if_kept S (kept_step R i e) → IsWithin S i e
 kept_step-to R S i (Delivers u size (Read e)) w h = λ y r s.
-    (subst (λ b. if_kept S (when_kept b (Told u (Take e))))
+    (subst (λ b. if_kept S (when_kept b (EventAt u (Take e))))
     (and_from ((e.slot == i) && R u) (R e.sender) (and_from (e.slot == i) (R u) y (w u r)) (w e.sender s)) h) r s
 kept_step-to R S i (Reslices j u q) w h =
-    λ y r. (subst (λ b. if_kept S (when_kept b (Told u (Reslice q)))) (and_from (j == i) (R u) y (w u r)) h) r
+    λ y r. (subst (λ b. if_kept S (when_kept b (EventAt u (Reslice q)))) (and_from (j == i) (R u) y (w u r)) h) r
 kept_step-to R S i _ w h = tt
 
 pub all_kept-from : (R S : Names) (i : ℕ) (entries : List Entry) → AllIn S i entries

@@ -7,13 +7,13 @@ use Rattle.std.proofs.lemmas.Option.{none-some}
 use Rattle.protocol.specs.Sets.{Names, within}
 use Rattle.protocol.specs.Satisfaction.{names}
 use Rattle.protocol.specs.Nodes.{fresh}
-use Rattle.protocol.specs.Networks.{HostedNode, Place, Slot, Net, slices_of, places_at, node_named, node_where_open, nodes_of_new_slot, renewed}
+use Rattle.protocol.specs.Networks.{HostedNode, Instance, Slot, Net, slices_of, instances_at, node_named, node_where_open, nodes_of_new_slot, renewed}
 use Rattle.protocol.specs.Isolation.{when_kept}
-use Rattle.protocol.specs.Isolation.Kept.{Opened, Closed}
-use Rattle.protocol.proofs.Runs.Sights.{cut_place, IsPlace, AllPlaces}
+use Rattle.protocol.specs.Isolation.KeptStep.{Opening, Closing}
+use Rattle.protocol.proofs.Runs.Sights.{cut_instance, IsInstance, AllInstances}
 use Rattle.protocol.proofs.Runs.Follows.{Follows}
 use Rattle.protocol.proofs.Nodes.Calm.{fresh-calm}
-use Rattle.protocol.proofs.Networks.OpenSlots.{places_at-drop, places_at-drop_other, places_at-push, places_at-push_other}
+use Rattle.protocol.proofs.Networks.OpenSlots.{instances_at-drop, instances_at-drop_other, instances_at-push, instances_at-push_other}
 
 -- Opening and closing
 
@@ -31,17 +31,17 @@ node_named-opened (h ∷ hs) i u = go (h.name == u) refl (node_named-opened hs i
         (nodes_of_new_slot hs i) u)
         ≡ option_map (λ q. record { node = fresh i u q; emitted = [] }) (if b then Some h.slices else slices_of hs u)
     go true e ih =
-        ap {B = Option Place} (λ x. Some (record { node = fresh i x h.slices; emitted = [] })) (eqb-true h.name u e)
+        ap {B = Option Instance} (λ x. Some (record { node = fresh i x h.slices; emitted = [] })) (eqb-true h.name u e)
     go false e ih = ih
 
 -- what the hosted members announce lies in R
 abbrev pub HostsIn : Names → List HostedNode → Type 0
 HostsIn R hosts = (u : ℕ) (q : Slices) → slices_of hosts u ≡ Some q → R u ≡ true → within (names q) R ≡ true
 
-fresh-place : (R : Names) (i u : ℕ) (q : Slices) → (R u ≡ true → within (names q) R ≡ true)
-    → IsPlace R u (record { node = fresh i u q; emitted = [] })
+fresh-instance : (R : Names) (i u : ℕ) (q : Slices) → (R u ≡ true → within (names q) R ≡ true)
+    → IsInstance R u (record { node = fresh i u q; emitted = [] })
 unfolding fresh
-fresh-place R i u q f = record {
+fresh-instance R i u q f = record {
   name = refl;
   good = λ r. record { closed = record { has = r; own = f r; rows = refl }; leaders = refl };
   calm = λ r. fresh-calm i u q;
@@ -49,7 +49,7 @@ fresh-place R i u q f = record {
 }
 
 fresh-cut : (R : Names) (i u : ℕ) (o : Option Slices)
-    → option_map (cut_place R) (option_map (λ q. record { node = fresh i u q; emitted = [] }) o)
+    → option_map (cut_instance R) (option_map (λ q. record { node = fresh i u q; emitted = [] }) o)
     ≡ option_map (λ q. record { node = fresh i u q; emitted = [] }) o
 unfolding fresh
 fresh-cut R i u None = refl
@@ -59,82 +59,82 @@ abbrev pub cast_of : Names → List HostedNode → ℕ → Option Slices
 cast_of R hosts u = if R u then slices_of hosts u else None
 
 -- a change of the slots that R doesn't see
-other_slot : (R : Names) (cast : ℕ → Option Slices) (i : ℕ) (net net' : Net) → AllPlaces R i net
-    → places_at net'.slots i ≡ places_at net.slots i → Follows R cast i net (net', []) (λ w. false) None
+other_slot : (R : Names) (cast : ℕ → Option Slices) (i : ℕ) (net net' : Net) → AllInstances R i net
+    → instances_at net'.slots i ≡ instances_at net.slots i → Follows R cast i net (net', []) (λ w. false) None
 other_slot R cast i net net' h e = record {
-  sights = fun_ext (λ u. ap (λ o. if R u then option_map (cut_place R) (node_where_open o u) else None) e);
+  sights = fun_ext (λ u. ap (λ o. if R u then option_map (cut_instance R) (node_where_open o u) else None) e);
   replies = λ w r. refl;
-  places = λ u p k. h u p (ap (λ o. node_where_open o u) (sym e) ∙ k);
+  instances = λ u p k. h u p (ap (λ o. node_where_open o u) (sym e) ∙ k);
 }
 
-pub opens : (R : Names) (i : ℕ) (net : Net) (j : ℕ) → AllPlaces R i net → HostsIn R net.hosts
-    → places_at net.slots j ≡ None
+pub opens : (R : Names) (i : ℕ) (net : Net) (j : ℕ) → AllInstances R i net → HostsIn R net.hosts
+    → instances_at net.slots j ≡ None
     → Follows R (cast_of R net.hosts) i net (
       record net {
-        slots = net.slots ++ record { number = j; places = nodes_of_new_slot net.hosts j } ∷ [];
+        slots = net.slots ++ record { number = j; instances = nodes_of_new_slot net.hosts j } ∷ [];
         draws = renewed j net.draws;
       },
       [],
-    ) (λ w. false) (when_kept (j == i) Opened)
+    ) (λ w. false) (when_kept (j == i) Opening)
 opens R i net j h hosts n = go (j == i) refl
   where
     slot : ℕ → Slot
-    slot x = record { number = x; places = nodes_of_new_slot net.hosts x }
+    slot x = record { number = x; instances = nodes_of_new_slot net.hosts x }
 
     now : Net
     now = record net { slots = net.slots ++ slot j ∷ []; draws = renewed j net.draws }
 
-    go : (b : Bool) → (j == i) ≡ b → Follows R (cast_of R net.hosts) i net (now, []) (λ w. false) (when_kept b Opened)
-    go false o = other_slot R (cast_of R net.hosts) i net now h (places_at-push_other net.slots (slot j) i o)
+    go : (b : Bool) → (j == i) ≡ b → Follows R (cast_of R net.hosts) i net (now, []) (λ w. false) (when_kept b Opening)
+    go false o = other_slot R (cast_of R net.hosts) i net now h (instances_at-push_other net.slots (slot j) i o)
     go true y = record {
       sights = fun_ext (λ u. see u (R u) refl);
       replies = λ w r. refl;
-      places = λ u p k. place u p (slices_of net.hosts u) refl (sym (there u) ∙ k);
+      instances = λ u p k. place u p (slices_of net.hosts u) refl (sym (there u) ∙ k);
     }
       where
         ji : j ≡ i
         ji = eqb-true j i y
 
         there : (u : ℕ)
-            → node_where_open (places_at now.slots i) u
+            → node_where_open (instances_at now.slots i) u
             ≡ option_map (λ q. record { node = fresh i u q; emitted = [] }) (slices_of net.hosts u)
         there u = ap (λ o. node_where_open o u)
-            (places_at-push net.slots (slot j) i y (ap (places_at net.slots) (sym ji) ∙ n))
+            (instances_at-push net.slots (slot j) i y (ap (instances_at net.slots) (sym ji) ∙ n))
             ∙ (ap (λ x. node_named (nodes_of_new_slot net.hosts x) u) ji ∙ node_named-opened net.hosts i u)
 
         see : (u : ℕ) (b : Bool) → R u ≡ b
-            → (if b then option_map (cut_place R) (node_where_open (places_at now.slots i) u) else None)
+            → (if b then option_map (cut_instance R) (node_where_open (instances_at now.slots i) u) else None)
             ≡ option_map (λ q. record { node = fresh i u q; emitted = [] }) (if b then slices_of net.hosts u else None)
-        see u true r = ap (option_map (cut_place R)) (there u) ∙ fresh-cut R i u (slices_of net.hosts u)
+        see u true r = ap (option_map (cut_instance R)) (there u) ∙ fresh-cut R i u (slices_of net.hosts u)
         see u false r = refl
 
-        place : (u : ℕ) (p : Place) (o : Option Slices) → slices_of net.hosts u ≡ o
-            → option_map (λ q. record { node = fresh i u q; emitted = [] }) o ≡ Some p → IsPlace R u p
+        place : (u : ℕ) (p : Instance) (o : Option Slices) → slices_of net.hosts u ≡ o
+            → option_map (λ q. record { node = fresh i u q; emitted = [] }) o ≡ Some p → IsInstance R u p
         place u p None s q = cc
         place u p (Some x) s q =
             let m : record { node = fresh i u x; emitted = [] } ≡ p = cc in
-            subst (λ y. IsPlace R u y) m (fresh-place R i u x (λ r. hosts u x s r))
+            subst (λ y. IsInstance R u y) m (fresh-instance R i u x (λ r. hosts u x s r))
 
-pub closes : (R : Names) (cast : ℕ → Option Slices) (i : ℕ) (net : Net) (j : ℕ) → AllPlaces R i net
+pub closes : (R : Names) (cast : ℕ → Option Slices) (i : ℕ) (net : Net) (j : ℕ) → AllInstances R i net
     → Follows R cast i net (record net { slots = filter (λ s. not (s.number == j)) net.slots }, []) (λ w. false)
-    (when_kept (j == i) Closed)
+    (when_kept (j == i) Closing)
 closes R cast i net j h = go (j == i) refl
   where
     now : Net
     now = record net { slots = filter (λ s. not (s.number == j)) net.slots }
 
-    go : (b : Bool) → (j == i) ≡ b → Follows R cast i net (now, []) (λ w. false) (when_kept b Closed)
-    go false o = other_slot R cast i net now h (places_at-drop_other net.slots j i o)
+    go : (b : Bool) → (j == i) ≡ b → Follows R cast i net (now, []) (λ w. false) (when_kept b Closing)
+    go false o = other_slot R cast i net now h (instances_at-drop_other net.slots j i o)
     go true y = record {
       sights = fun_ext (λ u. see (R u) (gone u));
       replies = λ w r. refl;
-      places = λ u p k. absurd (none-some p (sym (gone u) ∙ k));
+      instances = λ u p k. absurd (none-some p (sym (gone u) ∙ k));
     }
       where
-        gone : (u : ℕ) → node_where_open (places_at now.slots i) u ≡ None
+        gone : (u : ℕ) → node_where_open (instances_at now.slots i) u ≡ None
         gone u =
-            ap (λ o. node_where_open o u) (ap (places_at now.slots) (sym (eqb-true j i y)) ∙ places_at-drop net.slots j)
+            ap (λ o. node_where_open o u) (ap (instances_at now.slots) (sym (eqb-true j i y)) ∙ instances_at-drop net.slots j)
 
-        see : (b : Bool) {o : Option Place} → o ≡ None → (if b then option_map (cut_place R) o else None) ≡ None
-        see true e = ap (option_map (cut_place R)) e
+        see : (b : Bool) {o : Option Instance} → o ≡ None → (if b then option_map (cut_instance R) o else None) ≡ None
+        see true e = ap (option_map (cut_instance R)) e
         see false e = refl

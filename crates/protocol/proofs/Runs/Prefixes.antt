@@ -12,27 +12,27 @@ use Rattle.protocol.specs.Claims.{IsClosedFor, PrefixOfWholeRun}
 use Rattle.protocol.proofs.Networks.Effects.{effect-keeps}
 use Rattle.protocol.proofs.Nodes.Views.{reached-in}
 use Rattle.protocol.proofs.Nodes.Closed.{Good}
-use Rattle.protocol.proofs.Runs.Sights.{AllPlaces}
+use Rattle.protocol.proofs.Runs.Sights.{AllInstances}
 use Rattle.protocol.proofs.Runs.Openings.{HostsIn}
 use Rattle.protocol.proofs.Runs.Events.{follows}
 use Rattle.protocol.proofs.Runs.KeptSteps.{AllIn, is_new}
-use Rattle.protocol.proofs.Runs.SameSteps.{no-places}
+use Rattle.protocol.proofs.Runs.SameSteps.{no-instances}
 use Rattle.protocol.proofs.Runs.KeptWithin.{hosts-closed, events-closed}
 use Rattle.protocol.proofs.Networks.Journals.{runs_are_journals}
 
 pub closed_for : (R : Names) (n : Node) → Good R n → IsClosedFor R n
 closed_for R n g = record { has = g.closed.has; own = g.closed.own; leaders = g.leaders; rows = g.closed.rows }
 
--- what holds of hosts and places holds after each beginning of a journal
+-- what holds of hosts and instances holds after each beginning of a journal
 abbrev pub Holds : Names → ℕ → Net → Type 0
-Holds R i net = AllPlaces R i net × HostsIn R net.hosts
+Holds R i net = AllInstances R i net × HostsIn R net.hosts
 
-places-after : (R : Names) (i : ℕ) (es : List Step) (net : Net) → Holds R i net → AllIn R i (journal net es) → (n : ℕ)
+instances-after : (R : Names) (i : ℕ) (es : List Step) (net : Net) → Holds R i net → AllIn R i (journal net es) → (n : ℕ)
     → Holds R i (net_after net (take n (journal net es)))
 unfolding journal net_step net_after
-places-after R i [] net h f zero = h
-places-after R i [] net h f (suc n) = h
-places-after R i (e ∷ es) net h f n = go (first_that (tests net e)) refl f (λ x. places-after R i es x) n
+instances-after R i [] net h f zero = h
+instances-after R i [] net h f (suc n) = h
+instances-after R i (e ∷ es) net h f n = go (first_that (tests net e)) refl f (λ x. instances-after R i es x) n
   where
     Claim : Net → List Entry → Type 0
     Claim x run = (n : ℕ) → Holds R i (net_after x (take n run))
@@ -47,7 +47,7 @@ places-after R i (e ∷ es) net h f n = go (first_that (tests net e)) refl f (λ
         let after : Net = with_draw (source net.roster e) (size_of e) (effect net e).0 in
         subst (λ o. Holds R i (net_after (state_and_reply net e o).0 (take n (journal after es)))) (sym q)
         (ih after (
-          (follows R i net e h.0 h.1 (is_new net e q) f.0).places,
+          (follows R i net e h.0 h.1 (is_new net e q) f.0).instances,
           subst (HostsIn R) (sym (effect-keeps net e).hosts) h.1,
         ) f.1 n)
 
@@ -59,8 +59,8 @@ holds-after config run i v n is =
     let all =
     subst (λ (es : List Entry). AllIn R i es → Holds R i (net_after net (take n es)))
     (sym (runs_are_journals config run is))
-    (λ f. places-after R i (map (λ (x : Entry). x.event) run) net (
-      no-places R i config,
+    (λ f. instances-after R i (map (λ (x : Entry). x.event) run) net (
+      no-instances R i config,
       hosts-closed config.hosts i v run,
     ) f n) in
     all (events-closed config.hosts i v run)

@@ -5,8 +5,8 @@ use Rattle.types.specs.Trees.{Slices}
 use Rattle.protocol.specs.Sets.{Names}
 use Rattle.protocol.specs.Networks.{HostedNode, Step, slices_of}
 use Rattle.protocol.specs.Hosts.{Entry, Config, journal, new_net}
-use Rattle.protocol.specs.Isolation.{Kept, kept_of, outs_of, closure, SameCast}
-use Rattle.protocol.proofs.Runs.Sights.{sight, AllPlaces}
+use Rattle.protocol.specs.Isolation.{KeptStep, kept_of, outs_of, closure, SameCast}
+use Rattle.protocol.proofs.Runs.Sights.{sight, AllInstances}
 use Rattle.protocol.proofs.Runs.Openings.{HostsIn, cast_of}
 use Rattle.protocol.proofs.Runs.KeptSteps.{AllIn, answers, run-sight}
 use Rattle.protocol.proofs.Runs.KeptWithin.{all_in-other, events-closed, hosts-closed}
@@ -25,8 +25,8 @@ pub hosts-other : (R : Names) (v : ℕ) (hosts hosts' : List HostedNode) → Sam
     → HostsIn R hosts'
 hosts-other R v hosts hosts' cast h w q e s = h w q (cast.same w s ∙ e) s
 
-pub no-places : (R : Names) (i : ℕ) (config : Config) → AllPlaces R i (new_net config)
-no-places R i config w p k = absurd (nothing p k)
+pub no-instances : (R : Names) (i : ℕ) (config : Config) → AllInstances R i (new_net config)
+no-instances R i config w p k = absurd (nothing p k)
   where
     nothing : {A : Type 0} (p : A) → ◌≡◌ {A = Option A} None (Some p) → ⊥
     nothing p e = cc
@@ -39,10 +39,10 @@ pub journals-agree : (config config' : Config) (i v : ℕ) (es es' : List Step) 
     SameCast R v config.hosts config'.hosts → kept_of R i one ≡ kept_of R i other → (u : ℕ) → R u ≡ true
     → outs_of i u one ≡ outs_of i u other
 journals-agree config config' i v es es' cast same u r =
-    run-sight R i u r es (new_net config) (no-places R i config) in_one all_one
-    ∙ (ap₂ (λ (c : ℕ → Option Slices) (ks : List Kept). answers c i (sight R i (new_net config)) u ks)
+    run-sight R i u r es (new_net config) (no-instances R i config) in_one all_one
+    ∙ (ap₂ (λ (c : ℕ → Option Slices) (ks : List KeptStep). answers c i (sight R i (new_net config)) u ks)
     (casts-same R v config.hosts config'.hosts cast) same
-    ∙ sym (run-sight R i u r es' (new_net config') (no-places R i config')
+    ∙ sym (run-sight R i u r es' (new_net config') (no-instances R i config')
     (hosts-other R v config.hosts config'.hosts cast in_one) all_other))
   where
     one : List Entry

@@ -11,9 +11,9 @@ use Rattle.protocol.specs.Sets.{Names, within}
 use Rattle.protocol.specs.Satisfaction.{names}
 use Rattle.protocol.specs.Nodes.{step, Calm, fresh}
 use Rattle.types.specs.declared.event.NodeEvent.TheVariants.{Take}
-use Rattle.protocol.specs.Networks.{Place, Slot, Net, places_at, node_named, emissions, emission, node_where_open, after_event, outs_at, act_in, act}
-use Rattle.protocol.specs.Isolation.{Kept}
-use Rattle.protocol.specs.Isolation.Kept.{Opened, Closed, Told, Heard}
+use Rattle.protocol.specs.Networks.{Instance, Slot, Net, instances_at, node_named, emissions, emission, node_where_open, after_event, outs_at, act_in, act}
+use Rattle.protocol.specs.Isolation.{KeptStep}
+use Rattle.protocol.specs.Isolation.KeptStep.{Opening, Closing, EventAt, Hearing}
 use Rattle.protocol.proofs.Sets.Lists.{all-append}
 use Rattle.protocol.proofs.Networks.Effects.{at_slot}
 use Rattle.protocol.proofs.Nodes.Views.{announces_in}
@@ -22,15 +22,15 @@ use Rattle.protocol.proofs.Nodes.Closed.{Good, IsFit, good-step}
 use Rattle.protocol.proofs.Nodes.Calm.{calm-step}
 use Rattle.protocol.proofs.Nodes.Emitted.{step-self, step-emit}
 
-abbrev pub cut_place : Names → Place → Place
-cut_place R p = record { node = cut_node R p.node; emitted = p.emitted }
+abbrev pub cut_instance : Names → Instance → Instance
+cut_instance R p = record { node = cut_node R p.node; emitted = p.emitted }
 
--- each member's place, with the rows of R alone
+-- each member's instance, with the rows of R alone
 abbrev pub Sight : Type 0
-Sight = ℕ → Option Place
+Sight = ℕ → Option Instance
 
 abbrev pub sight : Names → ℕ → Net → Sight
-sight R i net = λ u. if R u then option_map (cut_place R) (node_where_open (places_at net.slots i) u) else None
+sight R i net = λ u. if R u then option_map (cut_instance R) (node_where_open (instances_at net.slots i) u) else None
 
 -- The machine of the kept steps alone
 
@@ -45,40 +45,40 @@ abbrev pub outs_heard : Sight → ℕ → Option Sent → List Out
 outs_heard s u None = []
 outs_heard s u (Some e) = outs_at (Take e) (s u)
 
-abbrev pub play : (ℕ → Option Slices) → ℕ → Sight → Option Kept → Sight
+abbrev pub play : (ℕ → Option Slices) → ℕ → Sight → Option KeptStep → Sight
 play cast i s None = s
-play cast i s (Some Opened) = λ u. option_map (λ q. record { node = fresh i u q; emitted = [] }) (cast u)
-play cast i s (Some Closed) = λ u. None
-play cast i s (Some (Told u e)) = told_to s u e
-play cast i s (Some (Heard u from kind k)) = heard_to s u (emission (s from) kind k)
+play cast i s (Some Opening) = λ u. option_map (λ q. record { node = fresh i u q; emitted = [] }) (cast u)
+play cast i s (Some Closing) = λ u. None
+play cast i s (Some (EventAt u e)) = told_to s u e
+play cast i s (Some (Hearing u from kind k)) = heard_to s u (emission (s from) kind k)
 
-abbrev pub reply : Sight → Option Kept → ℕ → List Out
+abbrev pub reply : Sight → Option KeptStep → ℕ → List Out
 reply s None w = []
-reply s (Some Opened) w = []
-reply s (Some Closed) w = []
-reply s (Some (Told u e)) w = if u == w then outs_at e (s u) else []
-reply s (Some (Heard u from kind k)) w = if u == w then outs_heard s u (emission (s from) kind k) else []
+reply s (Some Opening) w = []
+reply s (Some Closing) w = []
+reply s (Some (EventAt u e)) w = if u == w then outs_at e (s u) else []
+reply s (Some (Hearing u from kind k)) w = if u == w then outs_heard s u (emission (s from) kind k) else []
 
--- What holds of each place
+-- What holds of each instance
 
-pub record IsPlace (R : Names) (u : ℕ) (p : Place) : Type 0 where
+pub record IsInstance (R : Names) (u : ℕ) (p : Instance) : Type 0 where
   pub name : p.node.name ≡ u
   pub good : R u ≡ true → Good R p.node
   pub calm : R u ≡ true → Calm p.node
   pub emitted : list_all (λ e. (e.sender == u) && announces_in R e) p.emitted ≡ true
 
-abbrev pub AllPlaces : Names → ℕ → Net → Type 0
-AllPlaces R i net = (u : ℕ) (p : Place) → node_where_open (places_at net.slots i) u ≡ Some p → IsPlace R u p
+abbrev pub AllInstances : Names → ℕ → Net → Type 0
+AllInstances R i net = (u : ℕ) (p : Instance) → node_where_open (instances_at net.slots i) u ≡ Some p → IsInstance R u p
 
-pub after_event-name : (e : NodeEvent) (p : Place) → (after_event e p).node.name ≡ p.node.name
+pub after_event-name : (e : NodeEvent) (p : Instance) → (after_event e p).node.name ≡ p.node.name
 unfolding after_event
 after_event-name e p = step-self p.node e
 
 -- a step keeps it
-pub place-moved : (R : Names) (u : ℕ) (p : Place) (e : NodeEvent) → (R u ≡ true → IsFit R e) → IsPlace R u p
-    → IsPlace R u (after_event e p)
+pub instance-moved : (R : Names) (u : ℕ) (p : Instance) (e : NodeEvent) → (R u ≡ true → IsFit R e) → IsInstance R u p
+    → IsInstance R u (after_event e p)
 unfolding after_event
-place-moved R u p e fit h = record {
+instance-moved R u p e fit h = record {
   name = step-self p.node e ∙ h.name;
   good = λ i. good-step R p.node e (h.good i) (fit i);
   calm = λ i. calm-step p.node e (h.calm i);
@@ -96,7 +96,7 @@ place-moved R u p e fit h = record {
 
 -- Looking up after a step
 
-node_named-same : (u : ℕ) (e : NodeEvent) (ps : List Place)
+node_named-same : (u : ℕ) (e : NodeEvent) (ps : List Instance)
     → node_named (act_in u e ps) u ≡ option_map (after_event e) (node_named ps u)
 node_named-same u e [] = refl
 node_named-same u e (p ∷ ps) = go (p.node.name == u) refl (node_named-same u e ps)
@@ -108,7 +108,7 @@ node_named-same u e (p ∷ ps) = go (p.node.name == u) refl (node_named-same u e
     go true h ih = rw (ap (λ x. x == u) (after_event-name e p) ∙ h)
     go false h ih = rw h ih
 
-node_named-other : (u w : ℕ) (e : NodeEvent) (ps : List Place) → (w == u) ≡ false
+node_named-other : (u w : ℕ) (e : NodeEvent) (ps : List Instance) → (w == u) ≡ false
     → node_named (act_in u e ps) w ≡ node_named ps w
 node_named-other u w e [] o = refl
 node_named-other u w e (p ∷ ps) o = go (p.node.name == u) refl (node_named-other u w e ps o)
@@ -125,52 +125,52 @@ node_named-other u w e (p ∷ ps) o = go (p.node.name == u) refl (node_named-oth
         rw (ap (λ x. x == w) (after_event-name e p) ∙ no, no) ih
     go false h ih = ap (λ o. if p.node.name == w then Some p else o) ih
 
-places_at-same : (f : List Place → List Place) (ss : List Slot) (i : ℕ)
-    → places_at (at_slot f i ss) i ≡ option_map f (places_at ss i)
-places_at-same f [] i = refl
-places_at-same f (s ∷ ss) i = go (s.number == i) refl (places_at-same f ss i)
+instances_at-same : (f : List Instance → List Instance) (ss : List Slot) (i : ℕ)
+    → instances_at (at_slot f i ss) i ≡ option_map f (instances_at ss i)
+instances_at-same f [] i = refl
+instances_at-same f (s ∷ ss) i = go (s.number == i) refl (instances_at-same f ss i)
   where
-    go : (b : Bool) → (s.number == i) ≡ b → places_at (at_slot f i ss) i ≡ option_map f (places_at ss i)
-        → places_at ((if b then record s { places = f s.places } else s) ∷ at_slot f i ss) i
-        ≡ option_map f (if b then Some s.places else places_at ss i)
+    go : (b : Bool) → (s.number == i) ≡ b → instances_at (at_slot f i ss) i ≡ option_map f (instances_at ss i)
+        → instances_at ((if b then record s { instances = f s.instances } else s) ∷ at_slot f i ss) i
+        ≡ option_map f (if b then Some s.instances else instances_at ss i)
     go true h ih = rw h
     go false h ih = rw h ih
 
-places_at-other : (f : List Place → List Place) (ss : List Slot) (j i : ℕ) → (j == i) ≡ false
-    → places_at (at_slot f j ss) i ≡ places_at ss i
-places_at-other f [] j i o = refl
-places_at-other f (s ∷ ss) j i o = go (s.number == j) refl (places_at-other f ss j i o)
+instances_at-other : (f : List Instance → List Instance) (ss : List Slot) (j i : ℕ) → (j == i) ≡ false
+    → instances_at (at_slot f j ss) i ≡ instances_at ss i
+instances_at-other f [] j i o = refl
+instances_at-other f (s ∷ ss) j i o = go (s.number == j) refl (instances_at-other f ss j i o)
   where
-    go : (b : Bool) → (s.number == j) ≡ b → places_at (at_slot f j ss) i ≡ places_at ss i
-        → places_at ((if b then record s { places = f s.places } else s) ∷ at_slot f j ss) i
-        ≡ (if s.number == i then Some s.places else places_at ss i)
+    go : (b : Bool) → (s.number == j) ≡ b → instances_at (at_slot f j ss) i ≡ instances_at ss i
+        → instances_at ((if b then record s { instances = f s.instances } else s) ∷ at_slot f j ss) i
+        ≡ (if s.number == i then Some s.instances else instances_at ss i)
     go true h ih =
         let no : (s.number == i) ≡ false = ap (λ x. x == i) (eqb-true s.number j h) ∙ o in rw no ih
-    go false h ih = ap (λ o. if s.number == i then Some s.places else o) ih
+    go false h ih = ap (λ o. if s.number == i then Some s.instances else o) ih
 
 pub node_where_open-same : (net : Net) (i u : ℕ) (e : NodeEvent)
-    → node_where_open (places_at (act net i u e).0.slots i) u
-    ≡ option_map (after_event e) (node_where_open (places_at net.slots i) u)
+    → node_where_open (instances_at (act net i u e).0.slots i) u
+    ≡ option_map (after_event e) (node_where_open (instances_at net.slots i) u)
 unfolding act
 node_where_open-same net i u e =
-    ap (λ o. node_where_open o u) (places_at-same (act_in u e) net.slots i) ∙ go (places_at net.slots i)
+    ap (λ o. node_where_open o u) (instances_at-same (act_in u e) net.slots i) ∙ go (instances_at net.slots i)
   where
-    go : (o : Option (List Place))
+    go : (o : Option (List Instance))
         → node_where_open (option_map (act_in u e) o) u ≡ option_map (after_event e) (node_where_open o u)
     go None = refl
     go (Some ps) = node_named-same u e ps
 
 pub node_where_open-other : (net : Net) (i u w : ℕ) (e : NodeEvent) → (w == u) ≡ false
-    → node_where_open (places_at (act net i u e).0.slots i) w ≡ node_where_open (places_at net.slots i) w
+    → node_where_open (instances_at (act net i u e).0.slots i) w ≡ node_where_open (instances_at net.slots i) w
 unfolding act
 node_where_open-other net i u w e o =
-    ap (λ x. node_where_open x w) (places_at-same (act_in u e) net.slots i) ∙ go (places_at net.slots i)
+    ap (λ x. node_where_open x w) (instances_at-same (act_in u e) net.slots i) ∙ go (instances_at net.slots i)
   where
-    go : (x : Option (List Place)) → node_where_open (option_map (act_in u e) x) w ≡ node_where_open x w
+    go : (x : Option (List Instance)) → node_where_open (option_map (act_in u e) x) w ≡ node_where_open x w
     go None = refl
     go (Some ps) = node_named-other u w e ps o
 
 pub node_where_open-elsewhere : (net : Net) (j i u w : ℕ) (e : NodeEvent) → (j == i) ≡ false
-    → node_where_open (places_at (act net j u e).0.slots i) w ≡ node_where_open (places_at net.slots i) w
+    → node_where_open (instances_at (act net j u e).0.slots i) w ≡ node_where_open (instances_at net.slots i) w
 unfolding act
-node_where_open-elsewhere net j i u w e o = ap (λ x. node_where_open x w) (places_at-other (act_in u e) net.slots j i o)
+node_where_open-elsewhere net j i u w e o = ap (λ x. node_where_open x w) (instances_at-other (act_in u e) net.slots j i o)

@@ -4,13 +4,13 @@ use Rattle.std.proofs.Common.{◌≡◌, ℕ, Bool, true, false, Option, None, [
 use Rattle.types.specs.Trees.{Slices}
 use Rattle.protocol.specs.Sets.{Names}
 use Rattle.protocol.specs.Networks.{Net}
-use Rattle.protocol.proofs.Runs.Sights.{AllPlaces}
+use Rattle.protocol.proofs.Runs.Sights.{AllInstances}
 use Rattle.protocol.proofs.Runs.Follows.{Follows}
 
 -- nothing happens, and nothing is kept
-pub stays : (R : Names) (cast : ℕ → Option Slices) (i : ℕ) (net : Net) (of : ℕ → Bool) → AllPlaces R i net
+pub stays : (R : Names) (cast : ℕ → Option Slices) (i : ℕ) (net : Net) (of : ℕ → Bool) → AllInstances R i net
     → Follows R cast i net (net, []) of None
-stays R cast i net of h = record { sights = refl; replies = λ w r. nothing (of w); places = h }
+stays R cast i net of h = record { sights = refl; replies = λ w r. nothing (of w); instances = h }
   where
     nothing : (b : Bool) → (if b then [] else []) ≡ ◌++◌ {A = Out} [] []
     nothing true = refl

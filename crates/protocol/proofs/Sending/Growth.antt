@@ -20,7 +20,7 @@ use Rattle.protocol.proofs.Nodes.Made.{if_node, if_node-if, with_settled_votes-k
 use Rattle.protocol.proofs.Balloting.Counters.{arm-moves}
 use Rattle.protocol.proofs.Nominating.Lengths.{all-longer}
 use Rattle.protocol.proofs.Nominating.Sets.{nominate-is, nominate-not, echoes, sources}
-use Rattle.protocol.proofs.Passes.Kept.{kept-by_pass}
+use Rattle.protocol.proofs.Passes.KeptByPasses.{kept-by_pass}
 use Rattle.protocol.proofs.Sets.Numbers.{through}
 
 -- no set of nominations is shorter than it was, and there is a ballot where there was one

@@ -20,13 +20,13 @@ use Rattle.protocol.specs.Rows.{is_kind}
 use Rattle.protocol.specs.Sameness.{same_sent}
 use Rattle.protocol.specs.States.{counter_of, sent_in, sent_vote, sent_nomination}
 use Rattle.protocol.specs.Nodes.{Node, fresh, change, after_change, node_and_outs, step, when, emission_between, externalization, outs, is_externalized}
-use Rattle.protocol.specs.Networks.{HostedNode, Place, emission_of, emissions, after_event}
+use Rattle.protocol.specs.Networks.{HostedNode, Instance, emission_of, emissions, after_event}
 use Rattle.protocol.specs.Hosts.{new_net}
 use Rattle.protocol.specs.LastSent.{last_of, sent_as, SendsItsLast, LastIsSent}
 use Rattle.protocol.proofs.Equality.Sameness.{same_sent-true}
 use Rattle.protocol.proofs.Nodes.Made.{if_node, said_by}
 use Rattle.protocol.proofs.Sending.Growth.{Grows, event-grows}
-use Rattle.protocol.proofs.Networks.Places.{run-all}
+use Rattle.protocol.proofs.Networks.Instances.{run-all}
 
 -- ---- lists
 pub last-append : {A : Type 0} (o : Option A) (xs ys : List A) → last_or o (xs ++ ys) ≡ last_or (last_or o xs) ys
@@ -191,7 +191,7 @@ last_of-more kind emitted os =
     (last-append None (filter (λ e. is_kind kind (kind_of e.body)) emitted)
     (filter (λ e. is_kind kind (kind_of e.body)) (emissions os)))
 
-after_event-sends : (e : NodeEvent) (p : Place) → SendsItsLast p → SendsItsLast (after_event e p)
+after_event-sends : (e : NodeEvent) (p : Instance) → SendsItsLast p → SendsItsLast (after_event e p)
 unfolding after_event step
 after_event-sends e p h kind =
     last_of-more kind p.emitted (node_and_outs p.node (after_change (change p.node e))).1

@@ -4,7 +4,7 @@ use Rattle.types.specs.declared.state.Inputs.{Inputs}
 use Rattle.types.specs.declared.state.Votes.{Votes}
 use Rattle.protocol.specs.Views.{Seen}
 use Rattle.protocol.specs.Passes.{pass}
-use Rattle.protocol.proofs.Passes.Kept.{kept-by_pass}
+use Rattle.protocol.proofs.Passes.KeptByPasses.{kept-by_pass}
 use Rattle.protocol.proofs.Sending.Sendable.{IsSendable}
 use Rattle.protocol.proofs.Sending.SendableBallots.{accept-keeps, confirm-keeps, confirmed-keeps, nominate-keeps, prepared-keeps, start-keeps}
 use Rattle.protocol.proofs.Sending.SendableCounters.{arm-keeps, raise-keeps}

@@ -49,9 +49,9 @@ not_before : {A : Type 0} (one other : List A) (p q : ℕ) → IsFirstDifference
 not_before one other p q a b l =
     a.there (sym (get_taken one p q l) ∙ (ap (λ xs. slice_get xs p) b.before ∙ get_taken other p q l))
 
-pub one_place : {A : Type 0} (one other : List A) (p q : ℕ) → IsFirstDifference one other p
+pub one_instance : {A : Type 0} (one other : List A) (p q : ℕ) → IsFirstDifference one other p
     → IsFirstDifference one other q → p ≡ q
-one_place one other p q a b = elim (cases_order p q) [
+one_instance one other p q a b = elim (cases_order p q) [
   | inl e ↦ e
   | inr (inl l) ↦ absurd (not_before one other p q a b l)
   | inr (inr l) ↦ absurd (not_before one other q p b a l)
@@ -84,7 +84,7 @@ verdicts_are_unique one other runs others i v (InputsDiffer p) (CastDiffers u) h
     absurd (not_unlike (closure one i v runs) v one other u k h.0)
 verdicts_are_unique one other runs others i v (InputsDiffer p) (InputsDiffer q) h k =
     ap {B = Verdict} InputsDiffer
-    (one_place (kept_of (closure one i v runs) i runs) (kept_of (closure one i v runs) i others) p q h.1 k.1)
+    (one_instance (kept_of (closure one i v runs) i runs) (kept_of (closure one i v runs) i others) p q h.1 k.1)
 verdicts_are_unique one other runs others i v (InputsDiffer p) (Same xs) h k =
     absurd (h.1.there (ap (λ ks. slice_get ks p) k.1.0))
 verdicts_are_unique one other runs others i v (Same xs) (CastDiffers u) h k =

@@ -11,7 +11,7 @@ use Rattle.protocol.specs.Verdicts.{IsFirstUnlike, IsFirstDifference}
 use Rattle.protocol.specs.Submissions.{answers, concerning_steps, replied_to, config_of, SameRoster, SameReserves, roster_names}
 use Rattle.protocol.specs.Crowds.{Crowd, IsFirstOutside, IsCrowd, CrowdsExist, CrowdsAreUnique}
 use Rattle.protocol.specs.Crowds.Crowd.{CastDiffers, RosterDiffers, OutsideRoster, InputsDiffer, Same}
-use Rattle.protocol.proofs.Verdicts.Determined.{one_place, one_unlike, not_unlike}
+use Rattle.protocol.proofs.Verdicts.Determined.{one_instance, one_unlike, not_unlike}
 use Rattle.protocol.proofs.Equality.Decisions.{decided_ℕ, decided_shares}
 use Rattle.protocol.proofs.Equality.Steps.{decided_bool, decided_step}
 use Rattle.protocol.proofs.Equality.FirstDifference.{first_difference}
@@ -184,7 +184,7 @@ crowds_are_unique decode one other g i v a b h k = go a b h k
     go (OutsideRoster u) _ h k = absurd (outside u h.1.1 k.1.1.0)
     go _ (OutsideRoster w) h k = absurd (outside w k.1.1 h.1.1.0)
     go (InputsDiffer p) (InputsDiffer q) h k =
-        ap {B = Crowd} InputsDiffer (one_place (steps one) (steps other) p q h.1.1.1 k.1.1.1)
+        ap {B = Crowd} InputsDiffer (one_instance (steps one) (steps other) p q h.1.1.1 k.1.1.1)
     go (InputsDiffer p) (Same rs) h k = absurd (differ p h.1.1.1 k.1.1.1.0)
     go (Same rs) (InputsDiffer q) h k = absurd (differ q k.1.1.1 h.1.1.1.0)
     go (Same rs) (Same ss) h k = ap {B = Crowd} Same (h.1.1.1.1.0 ∙ sym k.1.1.1.1.0)

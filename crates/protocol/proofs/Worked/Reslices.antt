@@ -11,8 +11,8 @@ use Rattle.protocol.specs.Networks.{Step}
 use Rattle.protocol.specs.Networks.Step.{Opens, Closes, Proposes, Hears, Reslices}
 use Rattle.protocol.specs.Networks.Reply.{Done, Refused}
 use Rattle.protocol.specs.Hosts.{Config, Entry, nets, host_run}
-use Rattle.protocol.specs.Isolation.{Kept, closure, kept_of}
-use Rattle.protocol.specs.Isolation.Kept.{Opened, Told}
+use Rattle.protocol.specs.Isolation.{KeptStep, closure, kept_of}
+use Rattle.protocol.specs.Isolation.KeptStep.{Opening, EventAt}
 use Rattle.protocol.proofs.Worked.Everything.{everything}
 use Rattle.protocol.proofs.Worked.Letters.{A, B, C, E, Z, k, m, q, x, at, just, two_of_bcd, by, to_A, net_of_A, one_net, host, in_one, replies, hosts_A, run_A, members}
 
@@ -55,15 +55,15 @@ other_slots_name_nobody = refl
 abbrev with_new : List Entry
 with_new = run_A (unnamed ++ Reslices 1 A two_of_bcz ∷ [])
 
-abbrev four_kept : List Kept
+abbrev four_kept : List KeptStep
 four_kept =
-    Opened ∷ Told A (Take (by B (just B) (Prepare (at 9 m) (Some (at 9 m)) 6 0 0))) ∷ Told A
-    (Take (by C (just C) (Prepare (at 8 k) (Some (at 8 k)) 6 0 0))) ∷ Told A
+    Opening ∷ EventAt A (Take (by B (just B) (Prepare (at 9 m) (Some (at 9 m)) 6 0 0))) ∷ EventAt A
+    (Take (by C (just C) (Prepare (at 8 k) (Some (at 8 k)) 6 0 0))) ∷ EventAt A
     (Take (by Z (just Z) (Prepare (at 5 q) None 0 0 0))) ∷ []
 
 -- new slices are a kept step: a run with them agrees with the run before them at four places, and at no fifth
 pub new_slices_are_kept : kept_of (closure hosts_A 1 A with_new) 1 with_new ≡ four_kept
-    ++ Told A (Reslice two_of_bcz) ∷ []
+    ++ EventAt A (Reslice two_of_bcz) ∷ []
 unfolding everything closure kept_of
 new_slices_are_kept = refl
 

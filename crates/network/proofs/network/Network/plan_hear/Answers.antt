@@ -36,8 +36,8 @@ returns-in_err-slot_at g c =
     let e : c.from_residual-in_err-slot_at.result ≡ Err SlotNotOpen = search rules in
     subst (IsPlanned m (Hears i u w c.args.emission.now.kind c.args.emission.now.number)) (sym e) (hears-closed m i u h w j c.args.emission.now.kind c.args.emission.now.number two c.in_err-slot_at.ensures.1)
 
-pub place-requires : goal.place-requires
-place-requires g c =
+pub instance-requires : goal.instance-requires
+instance-requires g c =
     let m = c.args.self.now in
     let st : IsStanding m = subst IsStanding c.self.view_is c.self.invariant in
     let y = seat-there (machine_of m) c.args.slot c.args.emission.now.from c.in_ok-slot_at.slot_at c.in_ok-from_at.from_at st.tidy c.in_ok-slot_at.ensures c.in_ok-from_at.ensures in
@@ -46,15 +46,15 @@ place-requires g c =
 pub returns-in_default : goal.returns-in_default
 returns-in_default g c =
     let a = c.args in
-    let x = hearing a.self.now a.slot a.node.now c.in_ok-host_at.host_at a.emission.now.from c.in_ok-from_at.from_at c.in_ok-slot_at.slot_at a.emission.now.kind a.emission.now.number (seat_of c.place.result.now) c.emission.result
-    c.self.view_is c.self.invariant c.in_ok-host_at.ensures c.in_ok-from_at.ensures (search rules) c.in_ok-slot_at.ensures c.place.ensures.seat c.emission.ensures.sent in
+    let x = hearing a.self.now a.slot a.node.now c.in_ok-host_at.host_at a.emission.now.from c.in_ok-from_at.from_at c.in_ok-slot_at.slot_at a.emission.now.kind a.emission.now.number (seat_of c.instance.result.now) c.emission.result
+    c.self.view_is c.self.invariant c.in_ok-host_at.ensures c.in_ok-from_at.ensures (search rules) c.in_ok-slot_at.ensures c.instance.ensures.seat c.emission.ensures.sent in
     hears-nothing x c.in_default.is
 
 pub returns-in_err-drawn : goal.returns-in_err-drawn
 returns-in_err-drawn g c =
     let a = c.args in
-    let x = hearing a.self.now a.slot a.node.now c.in_ok-host_at.host_at a.emission.now.from c.in_ok-from_at.from_at c.in_ok-slot_at.slot_at a.emission.now.kind a.emission.now.number (seat_of c.place.result.now) c.emission.result
-    c.self.view_is c.self.invariant c.in_ok-host_at.ensures c.in_ok-from_at.ensures (search rules) c.in_ok-slot_at.ensures c.place.ensures.seat c.emission.ensures.sent in
+    let x = hearing a.self.now a.slot a.node.now c.in_ok-host_at.host_at a.emission.now.from c.in_ok-from_at.from_at c.in_ok-slot_at.slot_at a.emission.now.kind a.emission.now.number (seat_of c.instance.result.now) c.emission.result
+    c.self.view_is c.self.invariant c.in_ok-host_at.ensures c.in_ok-from_at.ensures (search rules) c.in_ok-slot_at.ensures c.instance.ensures.seat c.emission.ensures.sent in
     let r = c.in_err-drawn.field-0.0 in
     let e : c.from_residual-in_err-drawn.result ≡ Err r = search rules in
     subst (IsPlanned a.self.now (Hears a.slot a.node.now a.emission.now.from a.emission.now.kind a.emission.now.number)) (sym e)
@@ -63,9 +63,9 @@ returns-in_err-drawn g c =
 pub returns : goal.returns
 returns g c =
     let a = c.args in
-    let x = hearing a.self.now a.slot a.node.now c.in_ok-host_at.host_at a.emission.now.from c.in_ok-from_at.from_at c.in_ok-slot_at.slot_at a.emission.now.kind a.emission.now.number (seat_of c.place.result.now) c.emission.result
-    c.self.view_is c.self.invariant c.in_ok-host_at.ensures c.in_ok-from_at.ensures (search rules) c.in_ok-slot_at.ensures c.place.ensures.seat c.emission.ensures.sent in
+    let x = hearing a.self.now a.slot a.node.now c.in_ok-host_at.host_at a.emission.now.from c.in_ok-from_at.from_at c.in_ok-slot_at.slot_at a.emission.now.kind a.emission.now.number (seat_of c.instance.result.now) c.emission.result
+    c.self.view_is c.self.invariant c.in_ok-host_at.ensures c.in_ok-from_at.ensures (search rules) c.in_ok-slot_at.ensures c.instance.ensures.seat c.emission.ensures.sent in
     let d = c.in_ok-drawn.drawn in
-    let filed = c.in-Some.ensures.filed a.self.now.archive c.place.ensures.lodged in
+    let filed = c.in-Some.ensures.filed a.self.now.archive c.instance.ensures.lodged in
     let plan = hears-plan c.in-Some.emitted d x c.in-Some.is filed (c.in_ok-drawn.ensures.room a.slot c.in_ok-slot_at.ensures) in
     subst (λ (f : Filed). IsPlan a.self.now (Hears a.slot a.node.now a.emission.now.from a.emission.now.kind a.emission.now.number) (record { deed = Act c.in_ok-slot_at.slot_at c.in_ok-host_at.host_at (events.Take f); drawn = d; size = 0 })) (sym c.copy_of.ensures) plan

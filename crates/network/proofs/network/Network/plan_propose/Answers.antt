@@ -24,8 +24,8 @@ returns-then-is_bad g c =
     let bad : is_bad_value c.args.value.now ≡ true = search rules in
     asks-bad c.args.self.now c.args.slot c.args.node.now c.args.value.now c.in_ok-spot.spot c.in_ok-spot.ensures bad
 
-pub place-requires : goal.place-requires
-place-requires g c =
+pub instance-requires : goal.instance-requires
+instance-requires g c =
     let m = c.args.self.now in
     let st : IsStanding m = subst IsStanding c.self.view_is c.self.invariant in
     let y = seat-there (machine_of m) c.args.slot c.args.node.now c.in_ok-spot.spot.slot_at c.in_ok-spot.spot.host_at st.tidy c.in_ok-spot.ensures.slot c.in_ok-spot.ensures.host in
@@ -36,7 +36,7 @@ returns-then-has_proposal g c =
     let m = c.args.self.now in
     let st : IsStanding m = subst IsStanding c.self.view_is c.self.invariant in
     let bad : is_bad_value c.args.value.now ≡ false = search rules in
-    asks-again m c.args.slot c.args.node.now c.args.value.now c.in_ok-spot.spot (seat_of c.place.result.now) c.has_proposal.result st c.in_ok-spot.ensures c.place.ensures.seat bad c.has_proposal.ensures c.if-has_proposal.true
+    asks-again m c.args.slot c.args.node.now c.args.value.now c.in_ok-spot.spot (seat_of c.instance.result.now) c.has_proposal.result st c.in_ok-spot.ensures c.instance.ensures.seat bad c.has_proposal.ensures c.if-has_proposal.true
 
 pub own_room-requires-clause-slot : goal.own_room-requires-clause-slot
 own_room-requires-clause-slot g c = (c.args.slot, c.in_ok-spot.ensures.slot)
@@ -49,13 +49,13 @@ returns-in_err-drawn g c =
     let e : c.from_residual-in_err-drawn.result ≡ Err r = search rules in
     let bad : is_bad_value c.args.value.now ≡ false = search rules in
     subst (IsPlanned m (Proposes c.args.slot c.args.node.now c.args.value.now)) (sym e)
-    (asks-full m c.args.slot c.args.node.now c.args.value.now c.in_ok-spot.spot (seat_of c.place.result.now) c.has_proposal.result r st c.in_ok-spot.ensures c.place.ensures.seat bad c.has_proposal.ensures c.if-has_proposal.false (c.in_err-drawn.ensures c.args.slot c.in_ok-spot.ensures.slot))
+    (asks-full m c.args.slot c.args.node.now c.args.value.now c.in_ok-spot.spot (seat_of c.instance.result.now) c.has_proposal.result r st c.in_ok-spot.ensures c.instance.ensures.seat bad c.has_proposal.ensures c.if-has_proposal.false (c.in_err-drawn.ensures c.args.slot c.in_ok-spot.ensures.slot))
 
 pub returns-in-Ok : goal.returns-in-Ok
 returns-in-Ok g c =
     let m = c.args.self.now in
     let st : IsStanding m = subst IsStanding c.self.view_is c.self.invariant in
     let bad : is_bad_value c.args.value.now ≡ false = search rules in
-    let plan = asks-plan m c.args.slot c.args.node.now c.args.value.now c.in_ok-spot.spot (seat_of c.place.result.now) c.has_proposal.result c.in_ok-drawn.drawn st c.in_ok-spot.ensures c.place.ensures.seat bad c.has_proposal.ensures c.if-has_proposal.false (c.in_ok-drawn.ensures c.args.slot c.in_ok-spot.ensures.slot) in
+    let plan = asks-plan m c.args.slot c.args.node.now c.args.value.now c.in_ok-spot.spot (seat_of c.instance.result.now) c.has_proposal.result c.in_ok-drawn.drawn st c.in_ok-spot.ensures c.instance.ensures.seat bad c.has_proposal.ensures c.if-has_proposal.false (c.in_ok-drawn.ensures c.args.slot c.in_ok-spot.ensures.slot) in
     let e : c.plan_at.result ≡ record { deed = Act c.in_ok-spot.spot.slot_at c.in_ok-spot.spot.host_at (events.Propose c.args.value.now); drawn = c.in_ok-drawn.drawn; size = 0 } = c.plan_at.ensures ∙ ap (λ (x : List ℕ). record { deed = Act c.in_ok-spot.spot.slot_at c.in_ok-spot.spot.host_at (events.Propose x); drawn = c.in_ok-drawn.drawn; size = 0 }) c.in-Ok.ensures in
     subst (λ (p : Plan). IsPlan m (Proposes c.args.slot c.args.node.now c.args.value.now) p) (sym e) plan

@@ -6,8 +6,8 @@ use Rattle.network.proofs.Plans.{seat-there}
 use Rattle.network.proofs.SlicesAt.{closed-none, closed-not, found-there, found-value, stranger-none, stranger-not}
 use Rattle.network.proofs.network.Network.slices.Goals as goal
 
-pub place-requires-in-Some-place : goal.place-requires-in-Some-place
-place-requires-in-Some-place g c =
+pub instance-requires : goal.instance-requires
+instance-requires g c =
     let m = c.args.self.now in
     let st : IsStanding m = subst IsStanding c.self.view_is c.self.invariant in
     let host : index_of_name m.config.hosts c.args.node.now ≡ Some c.in-Some-place.host_at = ap (λ (x : Standing). index_of_name x.config.hosts c.args.node.now) (sym c.self.view_is) ∙ (sym c.place.ensures ∙ c.in-Some-place.is) in
@@ -38,7 +38,7 @@ returns-in-Some-place-clause-value g c =
     let m = c.args.self.now in
     let st : IsStanding m = subst IsStanding c.self.view_is c.self.invariant in
     let host : index_of_name m.config.hosts c.args.node.now ≡ Some c.in-Some-place.host_at = ap (λ (x : Standing). index_of_name x.config.hosts c.args.node.now) (sym c.self.view_is) ∙ (sym c.place.ensures ∙ c.in-Some-place.is) in
-    found-value m c.args.slot c.args.node.now c.in-Some.slot_at c.in-Some-place.host_at (seat_of c.place-in-Some-place.result.now) c.slices.result.now st (sym c.slot_at.ensures ∙ c.in-Some.is) host c.place-in-Some-place.ensures.seat c.slices.ensures
+    found-value m c.args.slot c.args.node.now c.in-Some.slot_at c.in-Some-place.host_at (seat_of c.instance.result.now) c.slices.result.now st (sym c.slot_at.ensures ∙ c.in-Some.is) host c.instance.ensures.seat c.slices.ensures
 
 pub returns-in-Some-place-clause-there : goal.returns-in-Some-place-clause-there
 returns-in-Some-place-clause-there g c =

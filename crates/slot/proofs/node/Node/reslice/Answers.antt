@@ -3,7 +3,7 @@ use Rattle.types.specs.declared.event.NodeEvent.TheVariants.{Reslice}
 use Rattle.protocol.specs.Limits.{ComesOfEvents}
 use Rattle.envstore.specs.Archives.{AreFiled}
 use Rattle.envstore.proofs.Growing.{keeps_all}
-use Rattle.listening.specs.Listening.{Heard}
+use Rattle.listening.specs.Listening.{ListenerState}
 use Rattle.slot.specs.Listening.{Held, node_of}
 use Rattle.slot.specs.Wholes.{IsChange}
 use Rattle.slot.proofs.Answered.{change-slices, node-after, node_in, outs-after, reached-after}
@@ -49,4 +49,4 @@ returns-in-Ok-clause-rows g c =
     let i = c.self.inside in
     let before = subst (λ (h : Held). AreFiled c.args.archive.now h.rows) (sym c.self.view_is) c.requires.rows in
     let kept = keeps_all c.args.archive.now c.answer_anew.new.archive i.listener.table c.answer_anew.ensures.kept before in
-    subst (λ (h : Heard). AreFiled c.answer_anew.new.archive h.table) (sym (c.answer_anew.ensures.same ∙ c.exchange_slices-old_slices.ensures.now)) kept
+    subst (λ (h : ListenerState). AreFiled c.answer_anew.new.archive h.table) (sym (c.answer_anew.ensures.same ∙ c.exchange_slices-old_slices.ensures.now)) kept

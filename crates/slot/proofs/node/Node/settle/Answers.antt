@@ -5,7 +5,7 @@ use Rattle.protocol.specs.Nodes.{Node}
 use Rattle.protocol.specs.Limits.{ComesOfEvents}
 use Rattle.envstore.specs.Archives.{AreFiled}
 use Rattle.envstore.proofs.Growing.{keeps_all}
-use Rattle.listening.specs.Listening.{Heard}
+use Rattle.listening.specs.Listening.{ListenerState}
 use Rattle.slot.specs.Filings.{outs_of}
 use Rattle.slot.specs.Listening.{Held, node_of}
 use Rattle.slot.specs.Wholes.{ChangesTo, IsChange}
@@ -24,7 +24,7 @@ pub answer-answered-requires-clause-start : goal.answer-answered-requires-clause
 answer-answered-requires-clause-start g c = start-all _ (changed g (goal.at.answer-answered-requires-clause-start g c).After-self c.requires.change.0 c.requires.change.1)
 
 pub invariant_of-self : goal.invariant_of-self
-invariant_of-self g c = subst (λ (h : Heard). ComesOfEvents (node_of h c.self.inside.inputs c.self.inside.votes)) (sym c.answer-answered.ensures.same) c.self.invariant
+invariant_of-self g c = subst (λ (h : ListenerState). ComesOfEvents (node_of h c.self.inside.inputs c.self.inside.votes)) (sym c.answer-answered.ensures.same) c.self.invariant
 
 pub invariant_of-self-2 : goal.invariant_of-self-2
 invariant_of-self-2 g c =
@@ -60,10 +60,10 @@ pub returns-in_err-given_out-clause-rows : goal.returns-in_err-given_out-clause-
 returns-in_err-given_out-clause-rows g c =
     let rows = c.self.inside.listener.table in
     let before = subst (λ (h : Held). AreFiled c.args.archive.now h.rows) (sym c.self.view_is) c.requires.rows in
-    subst (λ (h : Heard). AreFiled c.file_copied.new.archive h.table) (sym c.answer-answered.ensures.same) (keeps_all c.args.archive.now c.file_copied.new.archive rows c.file_copied.ensures.kept before)
+    subst (λ (h : ListenerState). AreFiled c.file_copied.new.archive h.table) (sym c.answer-answered.ensures.same) (keeps_all c.args.archive.now c.file_copied.new.archive rows c.file_copied.ensures.kept before)
 
 pub returns-clause-rows : goal.returns-clause-rows
 returns-clause-rows g c =
     let rows = c.self.inside.listener.table in
     let before = subst (λ (h : Held). AreFiled c.args.archive.now h.rows) (sym c.self.view_is) c.requires.rows in
-    subst (λ (h : Heard). AreFiled c.file_copied.new.archive h.table) (sym c.answer-answered.ensures.same) (keeps_all c.args.archive.now c.file_copied.new.archive rows c.file_copied.ensures.kept before)
+    subst (λ (h : ListenerState). AreFiled c.file_copied.new.archive h.table) (sym c.answer-answered.ensures.same) (keeps_all c.args.archive.now c.file_copied.new.archive rows c.file_copied.ensures.kept before)

@@ -6,7 +6,7 @@ use Rattle.types.specs.declared.event.Out.{Out}
 use Rattle.protocol.specs.Nodes.{Node, step}
 use Rattle.protocol.specs.Limits.{ComesOfEvents}
 use Rattle.protocol.specs.Limits.ComesOfEvents.{next}
-use Rattle.listening.specs.Listening.{Heard}
+use Rattle.listening.specs.Listening.{ListenerState}
 use Rattle.slot.specs.Listening.{AddsRowAlone, node_of}
 use Rattle.slot.specs.Filings.{outs_of}
 use Rattle.envstore.specs.Archives.{sent_of, sents_of}
@@ -30,7 +30,7 @@ row g c =
     row-step c.args.self.now.node i.listener c.offer.new.self i.inputs i.votes (sent_of c.args.envelope) (sym (ap node_in c.self.view_is)) alone c.offer.ensures.same c.in_ok-offer.ensures.offered
 
 pub invariant_of-self : goal.invariant_of-self
-invariant_of-self g c = subst (λ (h : Heard). ComesOfEvents (node_of h c.self.inside.inputs c.self.inside.votes)) (sym c.in_err-offer.ensures.err) c.self.invariant
+invariant_of-self g c = subst (λ (h : ListenerState). ComesOfEvents (node_of h c.self.inside.inputs c.self.inside.votes)) (sym c.in_err-offer.ensures.err) c.self.invariant
 
 pub invariant_of-self-then-adds_row_alone : goal.invariant_of-self-then-adds_row_alone
 invariant_of-self-then-adds_row_alone g c =

@@ -8,7 +8,7 @@ ghost use Rattle.protocol.specs.Nodes.{fresh, step};
 ghost use Rattle.network.specs.Marks.{numbered};
 ghost use Rattle.slot.specs.Filings.{AreFiledOuts, IsFiledEvent, event_of};
 ghost use Rattle.network.specs.Charges.{HasRoomFor, IsActed};
-ghost use Rattle.network.specs.Lodgings.{IsGiven, IsLodged, bytes_from, events_from, place_in};
+ghost use Rattle.network.specs.Lodgings.{IsGiven, IsLodged, bytes_from, events_from, instance_in};
 ghost use Rattle.network.specs.EmissionsByKind.{nth_of};
 
 use crate::emission_log::{EmissionLog, NumberedOuts};
@@ -22,14 +22,14 @@ use types::{Kind, Nested, NodeId};
 
 /// A hosted node at a slot, what it has emitted since the slot was opened, and what it drew on its shares.
 #[derive(Drop)]
-pub(crate) struct Place {
+pub(crate) struct Instance {
     node: Node,
     emitted: EmissionLog,
     own: u64,
     heard: Tallies,
 }
 
-impl Model for Place {
+impl Model for Instance {
     ghost use Rattle.std.specs.Coded.{codes};
     ghost use Rattle.types.specs.Trees.{members_code};
     ghost use Rattle.network.specs.Lodgings.{Lodging};
@@ -41,16 +41,16 @@ impl Model for Place {
     ghost view = { λ p. record { held = p.node; emitted = p.emitted; own = p.own; heard = p.heard.tallies } };
 }
 
-impl Place {
+impl Instance {
     /// A node to which nothing has happened. It takes no memory.
-    pub(crate) fn new(alloc: Global, name: NodeId, slot: u64, slices: Nested) -> Place
-        ensures place { place_in result ≡ record { node = fresh slot name slices; emitted = [] } }
+    pub(crate) fn new(alloc: Global, name: NodeId, slot: u64, slices: Nested) -> Instance
+        ensures instance { instance_in result ≡ record { node = fresh slot name slices; emitted = [] } }
         ensures rows { result.held.rows ≡ [] }
         ensures emitted { result.emitted ≡ [] }
         ensures own { result.own ≡ 0 }
         ensures heard { result.heard ≡ [] }
     {
-        Place {
+        Instance {
             node: Node::new(alloc, name, slot, slices),
             emitted: EmissionLog::nothing(alloc),
             own: 0,
@@ -60,21 +60,21 @@ impl Place {
 
     /// Whether the node has been told to propose a value.
     pub(crate) fn has_proposal(&self) -> bool
-        ensures { result ≡ has_proposal (Some (place_in self.now)) }
+        ensures { result ≡ has_proposal (Some (instance_in self.now)) }
     {
         self.node.inputs().proposal.is_some()
     }
 
     /// The slices of the node, as they are now.
     pub(crate) fn slices(&self) -> &Nested
-        ensures { result.now ≡ (place_in self.now).node.slices }
+        ensures { result.now ≡ (instance_in self.now).node.slices }
     {
         self.node.slices()
     }
 
     /// The node's emission of a kind with this number, from 1 on.
     pub(crate) fn emission(&self, kind: Kind, number: u64) -> Option<&Filed>
-        ensures sent { option_map (λ f. sent_of f.now) result ≡ nth_of kind number (place_in self.now).emitted }
+        ensures sent { option_map (λ f. sent_of f.now) result ≡ nth_of kind number (instance_in self.now).emitted }
         ensures filed { (archive : List Sent) → IsLodged archive self.now → IfSome result (λ f. IsFiled archive f.now) }
     {
         self.emitted.emission(kind, number)
@@ -114,13 +114,13 @@ impl Place {
         requires event { IsFiledEvent archive.old event }
         requires room { HasRoomFor terms.now.charge self.old }
         ensures acted { OnOk result (IsActed terms.now.charge (event_of event) self.old self.new) }
-        ensures applied { IfOk result (IsGiven (step (place_in self.old).node (event_of event)).1 (numbered (place_in self.old).emitted (emissions (step (place_in self.old).node (event_of event)).1)) terms.now.copies) }
+        ensures applied { IfOk result (IsGiven (step (instance_in self.old).node (event_of event)).1 (numbered (instance_in self.old).emitted (emissions (step (instance_in self.old).node (event_of event)).1)) terms.now.copies) }
         ensures err { OnErr result (self.new ≡ self.old) }
         ensures lodged { IsLodged archive.new self.new }
         ensures filed { IfOk result (λ a. AreFiledOuts archive.new a.outs.items) }
         ensures kept { Keeps archive.old archive.new }
     {
-        let Place {
+        let Instance {
             node,
             emitted,
             own,

@@ -1,10 +1,10 @@
--- What a fresh place has and each step keeps, each place in a network's run has; so events lead to each node there. The
--- law `four_passes_are_enough` and `Sending` stand on it.
+-- What a fresh instance has and each step keeps, each instance in a network's run has; so events lead to each node
+-- there. The law `four_passes_are_enough` and `Sending` stand on it.
 use Rattle.types.specs.declared.event.NodeEvent.{NodeEvent}
 use Rattle.std.proofs.Common.{ℕ, Bool, true, false, not, cond, ◌==◌, Option, Some, None, List, [], ◌∷◌, ◌++◌, filter, if◌then◌else◌}
 use Rattle.types.specs.Statements.{Sent}
 use Rattle.types.specs.declared.event.NodeEvent.TheVariants.{Propose, Take, NominationTimer, BallotTimer, Reslice}
-use Rattle.protocol.specs.Networks.{Net, Slot, Place, HostedNode, Step, after_event, act_in, act, act_known, nodes_of_new_slot, effect, emission, node_where_open, places_at}
+use Rattle.protocol.specs.Networks.{Net, Slot, Instance, HostedNode, Step, after_event, act_in, act, act_known, nodes_of_new_slot, effect, emission, node_where_open, instances_at}
 use Rattle.protocol.specs.Networks.Step.{Opens, Closes, Proposes, Delivers, Hears, NominationTimerFires, BallotTimerFires, Reslices}
 use Rattle.protocol.specs.Networks.Reading.{Read, Fault}
 use Rattle.protocol.specs.Nodes.{fresh}
@@ -15,20 +15,20 @@ use Rattle.std.specs.List.{AllByRecursion}
 use Rattle.protocol.specs.Runs.{net_after}
 use Rattle.protocol.specs.Hosts.{Entry, new_net}
 
-module _ (P : Place → Type 0) (new : (i : ℕ) (h : HostedNode) → P (record { node = fresh i h.name h.slices; emitted = [] }))
-    (more : (e : NodeEvent) (p : Place) → P p → P (after_event e p)) where
-  abbrev AllAt : List Place → Type 0
+module _ (P : Instance → Type 0) (new : (i : ℕ) (h : HostedNode) → P (record { node = fresh i h.name h.slices; emitted = [] }))
+    (more : (e : NodeEvent) (p : Instance) → P p → P (after_event e p)) where
+  abbrev AllAt : List Instance → Type 0
   AllAt ps = AllByRecursion P ps
 
   abbrev AllSlots : List Slot → Type 0
-  AllSlots ss = AllByRecursion (λ s. AllByRecursion P s.places) ss
+  AllSlots ss = AllByRecursion (λ s. AllByRecursion P s.instances) ss
 
   nodes_of_new_slot-all : (hosts : List HostedNode) (i : ℕ) → AllAt (nodes_of_new_slot hosts i)
   unfolding nodes_of_new_slot
   nodes_of_new_slot-all [] i = tt
   nodes_of_new_slot-all (h ∷ hs) i = (new i h, nodes_of_new_slot-all hs i)
 
-  act_in-all : (u : ℕ) (e : NodeEvent) (ps : List Place) → AllAt ps → AllAt (act_in u e ps)
+  act_in-all : (u : ℕ) (e : NodeEvent) (ps : List Instance) → AllAt ps → AllAt (act_in u e ps)
   act_in-all u e [] h = tt
   act_in-all u e (p ∷ ps) h = (one (p.node.name == u), act_in-all u e ps h.1)
     where
@@ -44,11 +44,11 @@ module _ (P : Place → Type 0) (new : (i : ℕ) (h : HostedNode) → P (record 
       each [] h = tt
       each (s ∷ ss) h = (one (s.number == i), each ss h.1)
         where
-          one : (b : Bool) → AllAt (if b then record s { places = act_in u e s.places } else s).places
-          one true = act_in-all u e s.places h.0
+          one : (b : Bool) → AllAt (if b then record s { instances = act_in u e s.instances } else s).instances
+          one true = act_in-all u e s.instances h.0
           one false = h.0
 
-  push-all : (ss : List Slot) (s : Slot) → AllSlots ss → AllAt s.places → AllSlots (ss ++ s ∷ [])
+  push-all : (ss : List Slot) (s : Slot) → AllSlots ss → AllAt s.instances → AllSlots (ss ++ s ∷ [])
   push-all [] s h k = (k, tt)
   push-all (x ∷ xs) s h k = (h.0, push-all xs s h.1 k)
 
@@ -63,13 +63,13 @@ module _ (P : Place → Type 0) (new : (i : ℕ) (h : HostedNode) → P (record 
   effect-all : (net : Net) (e : Step) → AllSlots net.slots → AllSlots (effect net e).0.slots
   unfolding effect
   effect-all net (Opens i) h =
-      push-all net.slots (record { number = i; places = nodes_of_new_slot net.hosts i }) h
+      push-all net.slots (record { number = i; instances = nodes_of_new_slot net.hosts i }) h
       (nodes_of_new_slot-all net.hosts i)
   effect-all net (Closes i) h = filter-all (λ s. not (s.number == i)) net.slots h
   effect-all net (Proposes i u x) h = act-all net i u (Propose x) h
   effect-all net (Delivers u size (Read e)) h = act-all net e.slot u (Take e) h
   effect-all net (Delivers u size (Fault n)) h = h
-  effect-all net (Hears i u from kind k) h = heard (emission (node_where_open (places_at net.slots i) from) kind k)
+  effect-all net (Hears i u from kind k) h = heard (emission (node_where_open (instances_at net.slots i) from) kind k)
     where
       heard : (o : Option Sent) → AllSlots (act_known net i u o).0.slots
       heard None = h
@@ -81,7 +81,7 @@ module _ (P : Place → Type 0) (new : (i : ℕ) (h : HostedNode) → P (record 
   pub run-all : (net : Net) (entries : List Entry) → AllSlots net.slots → AllSlots (net_after net entries).slots
   run-all net entries h = run-keeps (λ n. AllSlots n.slots) (λ n e q k. effect-all n e k) entries net h
 
-after_event-comes : (e : NodeEvent) (p : Place) → ComesOfEvents p.node → ComesOfEvents (after_event e p).node
+after_event-comes : (e : NodeEvent) (p : Instance) → ComesOfEvents p.node → ComesOfEvents (after_event e p).node
 unfolding after_event
 after_event-comes e p r = next r e
 
